@@ -1,4 +1,4 @@
-use Rattle.std.proofs.Common.{◌≡◌, ℕ, ◌+◌, ◌≤◌, length, take, List, Some, vec_len}
+use Rattle.std.proofs.Common.{◌≡◌, ℕ, ◌+◌, ◌≤◌, take, List, Some, vec_len}
 use Rattle.bridge_io.specs.Outside.{Told, content_of, RoseBy}
 use Rattle.bridge_io.proofs.reading.gather.Given as goal
 

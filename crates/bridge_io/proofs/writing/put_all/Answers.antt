@@ -1,5 +1,4 @@
 use Rattle.std.proofs.Common.{ℕ, ◌+◌, ◌-◌, length, take, drop, ap, ◌∙◌, arith, add_assoc, length-drop, length-take}
-use Rattle.std.proofs.lemmas.List.{take_rest}
 use Rattle.bridge_io.specs.Outside.{appended}
 use Rattle.bridge_io.proofs.Appends.{appended-front}
 use Rattle.bridge_io.proofs.writing.put_all.Goals as goal
