@@ -9,7 +9,7 @@ Told = List (List ℕ × List ℕ)
 -- the bytes of the file of a name, if there is one
 abbrev pub content_of : Told → List ℕ → Option (List ℕ)
 content_of [] name = None
-content_of (file ∷ files) name = if bytes_eq file.0 name then Some file.1 else content_of files name
+content_of (file ∷ files) name = if bytes_eq name file.0 then Some file.1 else content_of files name
 
 -- the last value of a count, which it keeps once it is there
 abbrev pub last_count : ℕ
