@@ -2,10 +2,16 @@
 #![tactic(auto)]
 
 mod memory_files;
+mod memory_sink;
 mod reading;
+mod steady_files;
+mod steady_sink;
 mod stored;
 mod writing;
 
 pub use memory_files::MemFiles;
+pub use memory_sink::MemSink;
 pub use reading::{Files, GatherFault, ReadAnswer, gather};
+pub use steady_files::SteadyFiles;
+pub use steady_sink::SteadySink;
 pub use writing::{Failed, Sink, put_all};
