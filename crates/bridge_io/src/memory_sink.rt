@@ -26,15 +26,15 @@ impl Model for MemSink {
     ghost Value = { SinkState };
 
     ghost view = { λ a. record {
-        bytes = a.written.items;
-        room = a.space;
-        piece = a.most;
-        listed = a.fails.items;
-        calls = a.writes;
-        faults = a.failed;
+      bytes = a.written.items;
+      room = a.space;
+      piece = a.most;
+      listed = a.fails.items;
+      calls = a.writes;
+      faults = a.failed;
     } };
 
-    ghost invariant = { λ a. (0 < a.most) × (a.space ≤ vec_capacity a.written) × (a.failed ≤ last_count) };
+    ghost invariant = { λ a. (0 < a.most) × (vec_len a.written ≤ a.space) × (a.space ≤ vec_capacity a.written) × (a.failed ≤ last_count) };
 }
 
 impl MemSink {
@@ -88,10 +88,8 @@ impl Sink for MemSink {
         ensures within { IfOk result (λ n. n ≤ length bytes.now) }
         ensures progress { IfOk result (λ n. 0 < length bytes.now → 0 < n) }
         ensures appends { IfOk result (λ n. Some self.new.bytes ≡ appended (Some self.old.bytes) (take n bytes.now)) }
-        ensures room { IfOk result (λ n. (more : ℕ) → Unit {0} → Unit {0}) }
         ensures failed { OnErr result (Rose self.old.faults self.new.faults) }
         ensures unchanged { OnErr result (self.new.bytes ≡ self.old.bytes) }
-        ensures room_stays { OnErr result ((more : ℕ) → Unit {0} → Unit {0}) }
 
         // Exactly the listed writes fail, and those that don't fit.
         ensures refused { let n = min self.old.piece (length bytes.now) in
@@ -105,11 +103,12 @@ impl Sink for MemSink {
     {
         self.writes = self.writes.saturating_add(1);
         let n = self.most.min(bytes.len());
-        let fits = self.written.len() <= self.space && n <= self.space - self.written.len();
-        if self.fails.contains(&self.writes) || !fits || self.written.extend_from_slice(&bytes[..n]).is_err() {
+        if self.fails.contains(&self.writes) || n > self.space - self.written.len() {
             self.failed = self.failed.saturating_add(1);
             return Err(Failed);
         }
+        // There is room, so no memory is asked for.
+        self.written.extend_from_slice(&bytes[..n]).unwrap();
         Ok(n)
     }
 }

@@ -26,10 +26,10 @@ impl Model for SteadyFiles {
     ghost Value = { SteadyFilesState };
 
     ghost view = { λ a. record {
-        files = files_of a.stored;
-        calls = a.reads;
-        absences = a.missed;
-        given = a.handed;
+      files = files_of a.stored;
+      calls = a.reads;
+      absences = a.missed;
+      given = a.handed;
     } };
 
     // What a `u64` is anyway, said for the counts that a call doesn't touch.
@@ -79,7 +79,6 @@ impl Files for SteadyFiles {
         requires { 0 < length buf.old }
 
         ensures told { self.new.files ≡ self.old.files }
-        ensures faults { NeverFalls 0 0 }
         ensures absences { NeverFalls self.old.absences self.new.absences }
         ensures given { NeverFalls self.old.given self.new.given }
         ensures calls { self.new.calls ≤ self.old.calls + 1 }
