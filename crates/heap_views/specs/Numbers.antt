@@ -1,5 +1,9 @@
 -- Numbers as bytes, the lowest byte first: ECMA-262 6th edition, 24.1.1.5 and 24.1.1.6, little-endian; WebAssembly Core 1.0, 4.3.1.
-use Rattle.std.specs.Prelude.{ℕ, zero, suc, ◌+◌, ◌-◌, ◌*◌, ◌/◌, ◌%◌, ◌^◌, List, [], ◌∷◌, ℤ, pos, ◌-ℤ◌, nat_lt, if◌then◌else◌}
+use Rattle.std.specs.Prelude.{ℕ, zero, suc, ◌<◌, ◌+◌, ◌-◌, ◌*◌, ◌/◌, ◌%◌, ◌^◌, List, [], ◌∷◌, ℤ, pos, ◌-ℤ◌, nat_lt, if◌then◌else◌, All}
+
+-- each number is a byte
+abbrev pub IsBytes : List ℕ → Type 0
+IsBytes bytes = All (λ b. b < 256) bytes
 
 -- the number that bytes stand for: b0 + 256 b1 + 256^2 b2 + ..
 abbrev pub little_endian : List ℕ → ℕ

@@ -77,6 +77,7 @@ impl Heap {
         self.run(u64::from(at), u64::from(len))
     }
 
+    #[tactic(auto, unfolding(crate::specs::Heap::run_at))]
     fn run(&self, at: u64, len: u64) -> Option<&[u8]>
         ensures { option_copied result ≡ run_at at len self.now }
     {
@@ -90,6 +91,7 @@ impl Heap {
     }
 
     /// The number of the `size` bytes from `at` on; `None` where they pass the end.
+    #[tactic(auto, unfolding(crate::specs::Heap::load_bytes, crate::specs::Heap::run_at))]
     pub fn load_le(&self, at: u64, size: u32) -> Option<u64>
         requires { IsWordSize size }
         ensures number { result ≡ load_bytes at size self.now }
@@ -101,6 +103,7 @@ impl Heap {
 
     /// Writes the low bits of the word into the `size` bytes from `at` on.
     /// False, and nothing is changed, where they pass the end.
+    #[tactic(auto, unfolding(crate::specs::Heap::store_bytes, crate::specs::Heap::with_run))]
     pub fn store_le(&mut self, at: u64, size: u32, word: u64) -> bool
         requires { IsWordSize size }
         ensures stored { self.new ≡ store_bytes at size word self.old }
@@ -117,6 +120,7 @@ impl Heap {
     }
 
     /// Writes the bytes from `at` on. False, and nothing is changed, where they pass the end.
+    #[tactic(auto, unfolding(crate::specs::Heap::with_run))]
     pub fn put(&mut self, at: u32, bytes: &[u8]) -> bool
         ensures stored { self.new ≡ with_run at bytes.now self.old }
         ensures inside { result ≡ is_inside at (length bytes.now) self.old }
@@ -133,6 +137,7 @@ impl Heap {
 
     /// Copies `len` bytes from `from` on to the places from `to` on, as the bytes stood before.
     /// False, and nothing is changed, where either range passes the end.
+    #[tactic(auto, unfolding(crate::specs::Heap::copied, crate::specs::Heap::with_run))]
     pub fn copy_run(&mut self, to: u32, from: u32, len: u32) -> bool
         ensures copied { self.new ≡ copied to from len self.old }
         ensures inside { result ≡ can_copy to from len self.old }
@@ -150,6 +155,7 @@ impl Heap {
 
     /// Writes the byte into the `len` places from `at` on.
     /// False, and nothing is changed, where they pass the end.
+    #[tactic(auto, unfolding(crate::specs::Heap::filled, crate::specs::Heap::with_run))]
     pub fn fill(&mut self, at: u32, len: u32, byte: u8) -> bool
         ensures filled { self.new ≡ filled at len byte self.old }
         ensures inside { result ≡ is_inside at len self.old }
@@ -165,6 +171,7 @@ impl Heap {
     }
 
     /// The place of element `index` of the view of the kind; `None` where there is no such element.
+    #[tactic(auto, unfolding(crate::specs::Heap::place_of))]
     fn place(&self, kind: ViewKind, index: i64) -> Option<u64>
         ensures { result ≡ place_of kind index self.now }
     {
@@ -177,6 +184,7 @@ impl Heap {
     }
 
     /// Element `index` of the view of the kind; `None` where it is negative or passes the end.
+    #[tactic(auto, using(crate::proofs::HeapLemmas::load_at_place, crate::proofs::HeapLemmas::load_without_place))]
     pub(crate) fn element(&self, kind: ViewKind, index: i64) -> Option<i64>
         ensures element { result ≡ load kind index self.now }
         ensures in_range { IfSome result (IsElement kind) }
@@ -188,6 +196,7 @@ impl Heap {
 
     /// Writes the low bits of the word into element `index` of the view of the kind.
     /// False, and nothing is changed, where there is no such element.
+    #[tactic(auto, using(crate::proofs::HeapLemmas::set_steps))]
     pub(crate) fn set_element(&mut self, kind: ViewKind, index: i64, word: u32) -> bool
         ensures stored { self.new ≡ store kind index word self.old }
         ensures inside { result ≡ is_some (load kind index self.old) }

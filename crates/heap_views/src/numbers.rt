@@ -1,11 +1,12 @@
 //! Numbers as bytes, the lowest byte first.
-ghost use Rattle.std.specs.Prelude.{◌≡◌, ◌≤◌, length};
+ghost use Rattle.std.specs.Prelude.{◌≡◌, ◌<◌, ◌≤◌, ◌^◌, length};
 ghost use Rattle.heap_views.specs.Numbers.{little_endian, bytes_of};
 
 /// The number that the bytes stand for.
 pub fn read_number(bytes: &[u8]) -> u64
     requires { length bytes.now ≤ 8 }
-    ensures { result ≡ little_endian bytes.now }
+    ensures number { result ≡ little_endian bytes.now }
+    ensures bounded { result < 256 ^ length bytes.now }
 {
     let mut number = 0;
     let mut left = bytes.len();
