@@ -1,13 +1,15 @@
 //! The heap, and its accesses by byte places.
-ghost use Rattle.std.specs.Prelude.{◌≡◌, ◌≤◌, ◌<◌, ◌%◌, ◌^◌, length, replicate, IfOk, IfSome, is_some, option_copied};
+ghost use Rattle.std.specs.Prelude.{◌≡◌, ◌≤◌, ◌<◌, ◌^◌, length, replicate, IfOk, IfSome, is_some, option_copied};
 ghost use Rattle.std.specs.Bool.{OnFalse};
-ghost use Rattle.heap_views.specs.Heap.{load, store, load_bytes, store_bytes, run_at, with_run, copied, can_copy, filled, is_inside, place_of, IsWordSize, IsElement};
+ghost use Rattle.heap_views.specs.Numbers.{IsBytes};
+ghost use Rattle.heap_views.specs.Heap.{load, store, load_bytes, store_bytes, run_at, with_run, copied, can_copy, filled, is_inside, place_of, IsWordSize, IsElement, IsHeapLength};
 
 use std::alloc::AllocError;
 use std::alloc::Global;
 use std::marker::Model;
 
 use crate::kind::ViewKind;
+use crate::numbers::in_range;
 use crate::numbers::read_number;
 use crate::numbers::write_number;
 use crate::views::View;
@@ -20,18 +22,20 @@ pub struct Heap {
 }
 
 impl Model for Heap {
-    ghost use Rattle.std.specs.Prelude.{ℕ, List};
+    ghost use Rattle.std.specs.Prelude.{ℕ, List, vec_len};
+    ghost use Rattle.heap_views.specs.Heap.{IsHeapLength};
 
     ghost Value = { List ℕ };
 
     ghost view = { λ heap. heap.bytes.items };
+
+    ghost invariant = { λ heap. IsHeapLength (vec_len heap.bytes) };
 }
 
 impl Heap {
     /// A heap of `len` bytes, all 0.
     pub fn new(alloc: Global, len: u32) -> Result<Heap, AllocError>
-        requires whole_words { len % 4 ≡ 0 }
-        requires within_limit { len ≤ 2 ^ 28 }
+        requires { IsHeapLength len }
         ensures zeros { IfOk result (λ heap. heap ≡ replicate len 0) }
     {
         let bytes = vec![in alloc; 0; len as usize]?;
@@ -57,9 +61,11 @@ impl Heap {
 
     /// All bytes.
     pub fn bytes(&self) -> &[u8]
-        ensures { result.now ≡ self.now }
+        ensures bytes { result.now ≡ self.now }
+        ensures are_bytes { IsBytes self.now }
+        ensures heap_length { IsHeapLength (length self.now) }
     {
-        self.bytes.as_slice()
+        in_range(&self.bytes)
     }
 
     /// Whether `len` bytes from `at` on lie in the heap.
@@ -176,11 +182,11 @@ impl Heap {
         ensures { result ≡ place_of kind index self.now }
     {
         let size = u64::from(kind.size());
-        if index < 0 || index as u64 >= self.bytes.len() as u64 / size {
-            None
-        } else {
-            Some(index as u64 * size)
+        if index < 0 || index as u64 >= self.bytes.len() as u64 {
+            return None;
         }
+        let at = index as u64 * size;
+        if self.holds(at, size) { Some(at) } else { None }
     }
 
     /// Element `index` of the view of the kind; `None` where it is negative or passes the end.

@@ -1,6 +1,6 @@
 //! Numbers as bytes, the lowest byte first.
 ghost use Rattle.std.specs.Prelude.{◌≡◌, ◌<◌, ◌≤◌, ◌^◌, length};
-ghost use Rattle.heap_views.specs.Numbers.{little_endian, bytes_of};
+ghost use Rattle.heap_views.specs.Numbers.{little_endian, bytes_of, IsBytes};
 
 /// The number that the bytes stand for.
 pub fn read_number(bytes: &[u8]) -> u64
@@ -26,4 +26,12 @@ pub fn write_number(bytes: &mut [u8], number: u64)
         *byte = (rest % 0x100) as u8;
         rest /= 0x100;
     }
+}
+
+/// The bytes as they are, each of them below 256.
+pub fn in_range(bytes: &[u8]) -> &[u8]
+    ensures same { result.now ≡ bytes.now }
+    ensures are_bytes { IsBytes bytes.now }
+{
+    bytes
 }
