@@ -1,6 +1,6 @@
 -- Numbers and their bytes.
-use Rattle.std.proofs.Common.{◌≡◌, refl, sym, ap, subst, ◌∙◌, ℕ, zero, suc, ◌+◌, ◌-◌, ◌*◌, ◌/◌, ◌%◌, ◌^◌, ◌<◌, ◌≤◌, List, [], ◌∷◌, ◌++◌, length, get_or, take, drop, set, replicate, All, arith, lit<}
-use Rattle.std.proofs.Math.Nat.{pow-suc, pow-le-pow_right, one-le-pow}
+use Rattle.std.proofs.Common.{◌≡◌, refl, sym, ap, subst, ◌∙◌, ℕ, zero, suc, ◌+◌, ◌-◌, ◌*◌, ◌/◌, ◌%◌, ◌^◌, ◌<◌, ◌≤◌, List, [], ◌∷◌, ◌++◌, length, get_or, take, drop, set, replicate, All, zero-add, arith, lit<}
+use Rattle.std.proofs.Math.Nat.{pow-suc, pow-succ', pow-le-pow_right, one-le-pow, div-div-eq-div-mul}
 use Rattle.std.proofs.Math.Arith.{mod-mul}
 use Rattle.std.proofs.lemmas.Nat.{mod_below}
 use Rattle.std.proofs.lemmas.List.Elements.{All-head, All-tail, All-cons, All-nil, All-drop}
@@ -51,3 +51,29 @@ bytes_written_more bytes i rest number lt so_far =
     let next : length bytes - i ≡ suc (length bytes - (i + 1)) = omega arith in
     let here = rw next at so_far in
     rw (length-set, take_more_set bytes i (rest % 256) lt, append_assoc) here
+
+-- ---- words in parts
+
+-- the bytes of the low bits
+pub bytes_of-mod : (size word : ℕ) → bytes_of size (word % 256 ^ size) ≡ bytes_of size word
+bytes_of-mod size word =
+    rw (length-bytes_of, little_endian-bytes_of) at (bytes_of-little_endian (bytes_of size word) (IsBytes-bytes_of size word))
+
+pub bytes_of-add : (m n word : ℕ) → bytes_of (m + n) word ≡ bytes_of m word ++ bytes_of n (word / 256 ^ m)
+bytes_of-add zero n word = let whole : word / 1 ≡ word = omega arith in rw (zero-add, whole)
+bytes_of-add (suc m) n word =
+    let next : suc m + n ≡ suc (m + n) = omega arith in
+    let high : word / 256 ^ suc m ≡ word / 256 / 256 ^ m = rw pow-succ' (sym (div-div-eq-div-mul word 256 (256 ^ m))) in
+    rw (next, high) (ap (λ bs. (word % 256) ∷ bs) (bytes_of-add m n (word / 256)))
+
+pub little_endian-append : (xs ys : List ℕ) → little_endian (xs ++ ys) ≡ little_endian xs + 256 ^ length xs * little_endian ys
+little_endian-append [] ys = omega arith
+little_endian-append (x ∷ xs) ys = rw pow-suc (omega (arith, little_endian-append xs ys))
+
+pub bytes_of-zero : (size : ℕ) → bytes_of size 0 ≡ replicate size 0
+bytes_of-zero zero = refl
+bytes_of-zero (suc size) = ap (λ bs. 0 ∷ bs) (bytes_of-zero size)
+
+pub little_endian-zeros : (size : ℕ) → little_endian (replicate size 0) ≡ 0
+little_endian-zeros zero = refl
+little_endian-zeros (suc size) = omega (arith, little_endian-zeros size)

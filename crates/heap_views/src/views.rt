@@ -51,10 +51,3 @@ impl ViewMut<'_> {
         self.heap.set_element(self.kind, index, word)
     }
 }
-
-fn store_word(heap: &mut Heap, index: i64, word: u32) -> bool
-    ensures stored { heap.new ≡ store ViewKind.I32 index word heap.old }
-    ensures inside { result ≡ is_some (load ViewKind.I32 index heap.old) }
-{
-    heap.view_mut(ViewKind::I32).set(index, word)
-}

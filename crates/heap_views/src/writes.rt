@@ -16,16 +16,16 @@ pub enum WordSize {
 /// One write: through a view of a kind, or by byte places.
 #[derive(Clone, Copy)]
 pub enum Write<'a> {
-    /// The view's kind, the element's index and the word.
-    Set(ViewKind, i64, u32),
-    /// The place, the size and the word.
-    StoreLe(u64, WordSize, u64),
-    /// The place and the bytes.
-    Put(u32, &'a [u8]),
-    /// The place to copy to, the place to copy from and the length.
-    CopyRun(u32, u32, u32),
-    /// The place, the length and the byte.
-    Fill(u32, u32, u8),
+    /// Through a view of the kind: the word's low bits into element `index`.
+    Set { kind: ViewKind, index: i64, word: u32 },
+    /// The word's low bits into the bytes from `at` on.
+    StoreLe { at: u64, size: WordSize, word: u64 },
+    /// The bytes into the places from `at` on.
+    Put { at: u32, bytes: &'a [u8] },
+    /// The `len` bytes from `from` on into the places from `to` on.
+    CopyRun { to: u32, from: u32, len: u32 },
+    /// The byte into the `len` places from `at` on.
+    Fill { at: u32, len: u32, byte: u8 },
 }
 
 impl WordSize {
@@ -50,19 +50,19 @@ fn apply_one(heap: &mut Heap, write: &Write<'_>)
     ensures { heap.new ≡ after_write write.now heap.old }
 {
     match *write {
-        Write::Set(kind, index, word) => {
+        Write::Set { kind, index, word } => {
             let _ = heap.view_mut(kind).set(index, word);
         }
-        Write::StoreLe(at, size, word) => {
+        Write::StoreLe { at, size, word } => {
             let _ = heap.store_le(at, size.bytes(), word);
         }
-        Write::Put(at, bytes) => {
+        Write::Put { at, bytes } => {
             let _ = heap.put(at, bytes);
         }
-        Write::CopyRun(to, from, len) => {
+        Write::CopyRun { to, from, len } => {
             let _ = heap.copy_run(to, from, len);
         }
-        Write::Fill(at, len, byte) => {
+        Write::Fill { at, len, byte } => {
             let _ = heap.fill(at, len, byte);
         }
     }
