@@ -35,11 +35,11 @@ load_bytes_below at size heap n all is =
     ⊎_elim
     (λ past. let none = load_bytes_past at size heap past in absurd (cc))
     (λ within.
-        let run = take size (drop at heap) in
-        let some = load_bytes_within at size heap within in
-        let same : n ≡ little_endian run = cc in
-        let long : length run ≡ size = simp (length-take, length-drop) (omega arith) in
-        rw same (rw long at (little_endian-below run (All-take (λ b. b < 256) size (drop at heap) (All-drop (λ b. b < 256) at heap all)))))
+    let run = take size (drop at heap) in
+    let some = load_bytes_within at size heap within in
+    let same : n ≡ little_endian run = cc in
+    let long : length run ≡ size = simp (length-take, length-drop) (omega arith) in
+    rw same (rw long at (little_endian-below run (All-take (λ b. b < 256) size (drop at heap) (All-drop (λ b. b < 256) at heap all)))))
     (cases_lt (length heap) (at + size))
 
 pub store_bytes_past : (at size word : ℕ) (heap : List ℕ) → length heap < at + size → store_bytes at size word heap ≡ heap

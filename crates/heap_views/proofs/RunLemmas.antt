@@ -55,9 +55,9 @@ pub IsBytes-with_run : (at : ℕ) (bytes heap : List ℕ) → IsBytes bytes → 
 IsBytes-with_run at bytes heap few all =
     cases_within at (length bytes) heap
     (λ within. rw (with_run_within at bytes heap within)
-        (All-append (λ b. b < 256) (take at heap ++ bytes) (drop (at + length bytes) heap)
-            (All-append (λ b. b < 256) (take at heap) bytes (All-take (λ b. b < 256) at heap all) few)
-            (All-drop (λ b. b < 256) (at + length bytes) heap all)))
+    (All-append (λ b. b < 256) (take at heap ++ bytes) (drop (at + length bytes) heap)
+    (All-append (λ b. b < 256) (take at heap) bytes (All-take (λ b. b < 256) at heap all) few)
+    (All-drop (λ b. b < 256) (at + length bytes) heap all)))
     (λ past. rw (with_run_past at bytes heap past) all)
 
 -- the run that was written is read
@@ -65,8 +65,8 @@ pub run_at-with_run_same : (at : ℕ) (bytes heap : List ℕ) → at + length by
 run_at-with_run_same at bytes heap within =
     let same_length = length-with_run at bytes heap in
     run_at_within at (length bytes) (with_run at bytes heap) (omega arith) ∙ ap Some (
-        rw (with_run_within at bytes heap within)
-        (same_lists (take (length bytes) (drop at (take at heap ++ bytes ++ drop (at + length bytes) heap))) bytes (search (rules, places)) (λ k d h. grind (arith, places))))
+    rw (with_run_within at bytes heap within)
+    (same_lists (take (length bytes) (drop at (take at heap ++ bytes ++ drop (at + length bytes) heap))) bytes (search (rules, places)) (λ k d h. grind (arith, places))))
 
 -- a run with no byte in common with the one that was written stays
 pub run_at-with_run_apart : (at len to : ℕ) (bytes heap : List ℕ) → (at + len ≤ to) ⊎ (to + length bytes ≤ at) → run_at at len (with_run to bytes heap) ≡ run_at at len heap
@@ -74,11 +74,11 @@ run_at-with_run_apart at len to bytes heap apart =
     let same_length = length-with_run to bytes heap in
     cases_within to (length bytes) heap
     (λ written. cases_within at len heap
-        (λ within. run_at_within at len (with_run to bytes heap) (omega arith) ∙ (ap Some (
-            rw (with_run_within to bytes heap written)
-            (same_lists (take len (drop at (take to heap ++ bytes ++ drop (to + length bytes) heap))) (take len (drop at heap)) (search (rules, places)) (λ k d h. grind (arith, places))))
-            ∙ sym (run_at_within at len heap within)))
-        (λ past. run_at_past at len (with_run to bytes heap) (omega arith) ∙ sym (run_at_past at len heap past)))
+    (λ within. run_at_within at len (with_run to bytes heap) (omega arith) ∙ (ap Some (
+    rw (with_run_within to bytes heap written)
+    (same_lists (take len (drop at (take to heap ++ bytes ++ drop (to + length bytes) heap))) (take len (drop at heap)) (search (rules, places)) (λ k d h. grind (arith, places))))
+    ∙ sym (run_at_within at len heap within)))
+    (λ past. run_at_past at len (with_run to bytes heap) (omega arith) ∙ sym (run_at_past at len heap past)))
     (λ past. ap (run_at at len) (with_run_past to bytes heap past))
 
 -- one byte after a write
@@ -97,8 +97,8 @@ get_or-with_run_apart at bytes heap k apart =
 pub run_at-append : (at len : ℕ) (heap more : List ℕ) → at + len ≤ length heap → run_at at len (heap ++ more) ≡ run_at at len heap
 run_at-append at len heap more within =
     run_at_within at len (heap ++ more) (simp length-append (omega arith)) ∙ (ap Some (
-        rw (drop-append-le at heap more (omega arith))
-        (take-append-le len (drop at heap) more (simp length-drop (omega arith))))
+    rw (drop-append-le at heap more (omega arith))
+    (take-append-le len (drop at heap) more (simp length-drop (omega arith))))
     ∙ sym (run_at_within at len heap within))
 
 pub with_run-append : (at : ℕ) (bytes heap more : List ℕ) → at + length bytes ≤ length heap → with_run at bytes (heap ++ more) ≡ with_run at bytes heap ++ more
@@ -120,7 +120,7 @@ pub IsBytes-copied : (to from len : ℕ) (heap : List ℕ) → IsBytes heap → 
 unfolding copied
 IsBytes-copied to from len heap all =
     elim (can_copy to from len heap) as (λ v. IsBytes (cond v (with_run to (take len (drop from heap)) heap) heap)) [
-        true ↦ IsBytes-with_run to (take len (drop from heap)) heap (All-take (λ b. b < 256) len (drop from heap) (All-drop (λ b. b < 256) from heap all)) all
+      | true ↦ IsBytes-with_run to (take len (drop from heap)) heap (All-take (λ b. b < 256) len (drop from heap) (All-drop (λ b. b < 256) from heap all)) all
       | false ↦ all
     ]
 
@@ -145,5 +145,5 @@ with_run-append_bytes at low high heap within =
     same_lists (with_run at (low ++ high) heap) (with_run (at + length low) high (with_run at low heap))
     (length-with_run at (low ++ high) heap ∙ sym (length-with_run (at + length low) high (with_run at low heap) ∙ length-with_run at low heap))
     (λ k d h.
-        rw (with_run_within at (low ++ high) heap (simp length-append (omega arith)), with_run_within (at + length low) high (with_run at low heap) (omega arith), with_run_within at low heap (omega arith))
-        (grind (arith, places)))
+    rw (with_run_within at (low ++ high) heap (simp length-append (omega arith)), with_run_within (at + length low) high (with_run at low heap) (omega arith), with_run_within at low heap (omega arith))
+    (grind (arith, places)))

@@ -4,16 +4,11 @@ ghost use Rattle.std.specs.Bool.{OnFalse};
 ghost use Rattle.heap_views.specs.Numbers.{IsBytes};
 ghost use Rattle.heap_views.specs.Heap.{load, store, load_bytes, store_bytes, run_at, with_run, copied, can_copy, filled, is_inside, place_of, IsWordSize, IsElement, IsHeapLength};
 
-use std::alloc::AllocError;
-use std::alloc::Global;
-use std::marker::Model;
-
 use crate::kind::ViewKind;
-use crate::numbers::in_range;
-use crate::numbers::read_number;
-use crate::numbers::write_number;
-use crate::views::View;
-use crate::views::ViewMut;
+use crate::numbers::{in_range, read_number, write_number};
+use crate::views::{View, ViewMut};
+use std::alloc::{AllocError, Global};
+use std::marker::Model;
 
 /// A list of bytes of a fixed length.
 #[derive(Drop)]

@@ -46,19 +46,31 @@ fn signed_byte(number: u64) -> i64
     requires { number < 256 }
     ensures { result ≡ signed_reading 8 number }
 {
-    if number < 0x80 { number as i64 } else { number as i64 - 0x100 }
+    if number < 0x80 {
+        number as i64
+    } else {
+        number as i64 - 0x100
+    }
 }
 
 fn signed_half(number: u64) -> i64
     requires { number < 65536 }
     ensures { result ≡ signed_reading 16 number }
 {
-    if number < 0x8000 { number as i64 } else { number as i64 - 0x1_0000 }
+    if number < 0x8000 {
+        number as i64
+    } else {
+        number as i64 - 0x1_0000
+    }
 }
 
 fn signed_word(number: u64) -> i64
     requires { number < 4294967296 }
     ensures { result ≡ signed_reading 32 number }
 {
-    if number < 0x8000_0000 { number as i64 } else { number as i64 - 0x1_0000_0000 }
+    if number < 0x8000_0000 {
+        number as i64
+    } else {
+        number as i64 - 0x1_0000_0000
+    }
 }

@@ -13,8 +13,8 @@ mod writes;
 
 pub use heap::Heap;
 pub use kind::ViewKind;
-pub use views::View;
-pub use views::ViewMut;
-pub use writes::Write;
-pub use writes::WordSize;
-pub use writes::apply;
+pub use views::{View, ViewMut};
+pub use writes::{WordSize, Write, apply};
+
+#[cfg(test)]
+mod tests;

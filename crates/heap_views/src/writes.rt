@@ -17,15 +17,34 @@ pub enum WordSize {
 #[derive(Clone, Copy)]
 pub enum Write<'a> {
     /// Through a view of the kind: the word's low bits into element `index`.
-    Set { kind: ViewKind, index: i64, word: u32 },
+    Set {
+        kind: ViewKind,
+        index: i64,
+        word: u32,
+    },
     /// The word's low bits into the bytes from `at` on.
-    StoreLe { at: u64, size: WordSize, word: u64 },
+    StoreLe {
+        at: u64,
+        size: WordSize,
+        word: u64,
+    },
     /// The bytes into the places from `at` on.
-    Put { at: u32, bytes: &'a [u8] },
+    Put {
+        at: u32,
+        bytes: &'a [u8],
+    },
     /// The `len` bytes from `from` on into the places from `to` on.
-    CopyRun { to: u32, from: u32, len: u32 },
+    CopyRun {
+        to: u32,
+        from: u32,
+        len: u32,
+    },
     /// The byte into the `len` places from `at` on.
-    Fill { at: u32, len: u32, byte: u8 },
+    Fill {
+        at: u32,
+        len: u32,
+        byte: u8,
+    },
 }
 
 impl WordSize {
