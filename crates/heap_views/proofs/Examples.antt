@@ -1,6 +1,6 @@
 -- Worked examples of the definitions, computed by the checker.
-use Rattle.std.proofs.Common.{◌≡◌, refl, ℕ, List, [], ◌∷◌, replicate, ℤ, pos, negsuc, Option, Some, None}
-use Rattle.heap_views.specs.declared.kind.ViewKind.TheVariants.{I8, U8, I16, U16, I32, U32}
+use Rattle.std.proofs.Common.{◌≡◌, refl, ℕ, List, [], ◌∷◌, pos, negsuc, Some, None}
+use Rattle.heap_views.specs.declared.kind.ViewKind.TheVariants.{I8, U8, U16, I32, U32}
 use Rattle.heap_views.specs.Numbers.{little_endian, bytes_of, signed_reading}
 use Rattle.heap_views.specs.Heap.{run_at, with_run, load_bytes, store_bytes, load, store, copied, filled}
 

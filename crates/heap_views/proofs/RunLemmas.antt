@@ -1,8 +1,9 @@
 -- Runs of bytes of a heap, read and written.
-use Rattle.std.proofs.Common.{◌≡◌, refl, sym, ap, subst, ◌∙◌, ◌⊎◌, ⊎_elim, ℕ, ◌+◌, ◌-◌, ◌*◌, ◌^◌, ◌<◌, ◌≤◌, Bool, true, false, cond, List, [], ◌∷◌, ◌++◌, length, get_or, take, drop, take-add, replicate, Option, Some, None, is_some, arith, rules}
+use Rattle.std.proofs.Common.{◌≡◌, refl, sym, ap, ◌∙◌, ◌⊎◌, ⊎_elim, ℕ, ◌+◌, ◌-◌, ◌<◌, ◌≤◌, true, false, cond, List, [], ◌∷◌, ◌++◌, length, get_or, take, drop, take-add, replicate, Some, None, is_some, arith, rules, inl, inr, add-zero, add-one, suc}
 use Rattle.std.proofs.lemmas.Bool.{cases_lt}
-use Rattle.std.proofs.lemmas.List.{length-take, length-drop, length-append, length-replicate, places, same_lists, take-append-le, drop-append-le, append_assoc, drop-drop}
+use Rattle.std.proofs.lemmas.List.{length-take, length-drop, length-append, length-replicate, places, same_lists, take-append-le, drop-append-le, append_assoc, drop-drop, append-nil, take-append-drop, take_more, drop_more, get_or-drop}
 use Rattle.std.proofs.lemmas.List.Elements.{All-append, All-take, All-drop, All-replicate}
+use Rattle.std.proofs.lemmas.Grind.{replicate_next}
 use Rattle.heap_views.specs.Numbers.{IsBytes}
 use Rattle.heap_views.specs.Heap.{is_inside, run_at, with_run, can_copy, copied, filled}
 
@@ -147,3 +148,71 @@ with_run-append_bytes at low high heap within =
     (λ k d h.
     rw (with_run_within at (low ++ high) heap (simp length-append (omega arith)), with_run_within (at + length low) high (with_run at low heap) (omega arith), with_run_within at low heap (omega arith))
     (grind (arith, places)))
+
+-- writes with no byte in common may be made in either order
+pub with_run-with_run_apart : (at to : ℕ) (bytes more heap : List ℕ) → (at + length bytes ≤ to) ⊎ (to + length more ≤ at) → at + length bytes ≤ length heap → to + length more ≤ length heap → with_run at bytes (with_run to more heap) ≡ with_run to more (with_run at bytes heap)
+with_run-with_run_apart at to bytes more heap apart one two =
+    let first_length = length-with_run at bytes heap in
+    let second_length = length-with_run to more heap in
+    same_lists (with_run at bytes (with_run to more heap)) (with_run to more (with_run at bytes heap))
+    (length-with_run at bytes (with_run to more heap) ∙ (second_length ∙ sym (length-with_run to more (with_run at bytes heap) ∙ first_length)))
+    (λ k d h.
+    rw (with_run_within at bytes (with_run to more heap) (omega arith), with_run_within to more (with_run at bytes heap) (omega arith), with_run_within at bytes heap one, with_run_within to more heap two)
+    (grind (arith, places)))
+
+-- ---- fills and copies, a byte at a time
+
+pub with_run_none : (at : ℕ) (heap : List ℕ) → with_run at [] heap ≡ heap
+with_run_none at heap =
+    cases_within at 0 heap
+    (λ within. rw (with_run_within at [] heap within, append-nil, add-zero) (take-append-drop at heap))
+    (λ past. with_run_past at [] heap past)
+
+pub filled_none : (at byte : ℕ) (heap : List ℕ) → filled at 0 byte heap ≡ heap
+unfolding filled
+filled_none at byte heap = with_run_none at heap
+
+pub filled_more : (at len byte : ℕ) (heap : List ℕ) → at + (len + 1) ≤ length heap → filled at (len + 1) byte heap ≡ with_run (at + len) (byte ∷ []) (filled at len byte heap)
+unfolding filled
+filled_more at len byte heap within =
+    let long = length-replicate len byte in
+    rw (replicate_next len byte)
+    (with_run-append_bytes at (replicate len byte) (byte ∷ []) heap (rw long within)
+    ∙ ap (λ n. with_run (at + n) (byte ∷ []) (with_run at (replicate len byte) heap)) long)
+
+pub copied_within : (to from len : ℕ) (heap : List ℕ) → to + len ≤ length heap → from + len ≤ length heap → copied to from len heap ≡ with_run to (take len (drop from heap)) heap
+unfolding copied
+copied_within to from len heap there here = grind arith
+
+pub copied_none : (to from : ℕ) (heap : List ℕ) → copied to from 0 heap ≡ heap
+unfolding copied
+copied_none to from heap =
+    elim (can_copy to from 0 heap) as (λ v. cond v (with_run to [] heap) heap ≡ heap) [ true ↦ with_run_none to heap | false ↦ refl ]
+
+-- upwards, where the bytes are copied to places before them
+pub copied_up_more : (to from len : ℕ) (heap : List ℕ) → to ≤ from → from + (len + 1) ≤ length heap → copied to from (len + 1) heap ≡ with_run (to + len) (get_or (copied to from len heap) (from + len) 0 ∷ []) (copied to from len heap)
+copied_up_more to from len heap up here =
+    let run = take len (drop from heap) in
+    let byte = get_or heap (from + len) 0 in
+    let long : length run ≡ len = simp (length-take, length-drop) (omega arith) in
+    let so_far : copied to from len heap ≡ with_run to run heap = copied_within to from len heap (omega arith) (omega arith) in
+    let left : length (drop from heap) ≡ length heap - from = length-drop from heap in
+    let more : take (len + 1) (drop from heap) ≡ run ++ byte ∷ [] = take_more (drop from heap) len 0 (omega arith) ∙ ap (λ b. run ++ b ∷ []) (get_or-drop from heap len 0) in
+    let stays : get_or (with_run to run heap) (from + len) 0 ≡ byte = get_or-with_run_apart to run heap (from + len) (inr (omega arith)) in
+    rw (so_far, copied_within to from (len + 1) heap (omega arith) here, more, stays)
+    (with_run-append_bytes to run (byte ∷ []) heap (omega arith) ∙ ap (λ n. with_run (to + n) (byte ∷ []) (with_run to run heap)) long)
+
+-- downwards, where the bytes are copied to places after them
+pub copied_down_more : (to from len : ℕ) (heap : List ℕ) → from ≤ to → to + (len + 1) ≤ length heap → copied to from (len + 1) heap ≡ with_run to (get_or (copied (to + 1) (from + 1) len heap) from 0 ∷ []) (copied (to + 1) (from + 1) len heap)
+copied_down_more to from len heap down there =
+    let run = take len (drop (from + 1) heap) in
+    let byte = get_or heap from 0 in
+    let long : length run ≡ len = simp (length-take, length-drop) (omega arith) in
+    let so_far : copied (to + 1) (from + 1) len heap ≡ with_run (to + 1) run heap = copied_within (to + 1) (from + 1) len heap (omega arith) (omega arith) in
+    let first : drop from heap ≡ byte ∷ drop (from + 1) heap = drop_more heap from 0 (omega arith) in
+    let next : len + 1 ≡ suc len = add-one len in
+    let more : take (len + 1) (drop from heap) ≡ byte ∷ run = rw (first, next) in
+    let stays : get_or (with_run (to + 1) run heap) from 0 ≡ byte = get_or-with_run_apart (to + 1) run heap from (inl (omega arith)) in
+    rw (so_far, copied_within to from (len + 1) heap there (omega arith), more, stays)
+    (with_run-append_bytes to (byte ∷ []) run heap (omega arith)
+    ∙ sym (with_run-with_run_apart to (to + 1) (byte ∷ []) run heap (inl (omega arith)) (omega arith) (omega arith)))
