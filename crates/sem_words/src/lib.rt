@@ -7,10 +7,16 @@
 
 mod js_value;
 mod list;
+mod signed;
 mod text;
 mod word;
+mod words32;
+mod words64;
 
 pub use js_value::{JsOp, JsUnary, JsValue};
 pub use list::List;
+pub use signed::{signed32, signed64, word32, word64};
 pub use text::Text;
 pub use word::{Bin, Rel, TrapKind, Un, Word};
+pub use words32::{bin32, rel32, un32};
+pub use words64::{bin64, rel64, un64};

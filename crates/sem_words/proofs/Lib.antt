@@ -1,0 +1,3 @@
+mod WordExamples
+pub mod Counts
+pub mod Rotations
