@@ -1,3 +1,4 @@
 mod WordExamples
 pub mod Counts
 pub mod Rotations
+pub mod Quotients

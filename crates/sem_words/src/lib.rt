@@ -5,7 +5,9 @@
 //! powers of two on whole numbers.
 #![tactic(auto)]
 
+mod js_convert;
 mod js_value;
+mod js_whole;
 mod list;
 mod signed;
 mod text;
@@ -13,6 +15,7 @@ mod word;
 mod words32;
 mod words64;
 
+pub use js_convert::{to_int32, to_uint32, truthy};
 pub use js_value::{JsOp, JsUnary, JsValue};
 pub use list::List;
 pub use signed::{signed32, signed64, word32, word64};
