@@ -33,7 +33,7 @@ neg-neg (pos (suc n)) = refl
 neg-neg (negsuc n) = refl
 
 rem-neg : (x y : ℤ) → int_rem (neg_ℤ x) (neg_ℤ y) ≡ neg_ℤ (int_rem x y)
-rem-neg (pos zero) y = rw zero-mod (rw zero-mod refl)
+rem-neg (pos zero) y = ap pos (zero-mod (unsigned_abs (neg_ℤ y))) ∙ ap (λ (n : ℕ). neg_ℤ (pos n)) (sym (zero-mod (unsigned_abs y)))
 rem-neg (pos (suc a)) y = ap (λ (n : ℕ). neg_ℤ (pos (suc a % n))) (abs-neg y)
 rem-neg (negsuc a) y = ap (λ (n : ℕ). pos (suc a % n)) (abs-neg y) ∙ sym (neg-neg (pos (suc a % unsigned_abs y)))
 

@@ -31,9 +31,9 @@ whole_of PosInf = None
 whole_of NegInf = None
 whole_of Undef = None
 
--- an operator that takes whole numbers and booleans
-abbrev pub on_wholes : (ℤ → ℤ → Option JsValue) → JsValue → JsValue → Option JsValue
-on_wholes f a b = option_and_then (λ x. option_and_then (f x) (whole_of b)) (whole_of a)
+-- two whole numbers or booleans
+abbrev pub wholes_of : JsValue → JsValue → Option (ℤ × ℤ)
+wholes_of a b = option_and_then (λ x. option_map (λ y. (x, y)) (whole_of b)) (whole_of a)
 
 abbrev pub is_signed : ℤ → Bool
 is_signed z = int_le (negsuc (2 ^ 31 - 1)) z && int_lt z (pos (2 ^ 31))
@@ -45,10 +45,10 @@ is_unsigned z = int_le (pos 0) z && int_lt z (pos (2 ^ 32))
 abbrev pub are_alike : ℤ → ℤ → Bool
 are_alike x y = (is_signed x && is_signed y) || (is_unsigned x && is_unsigned y)
 
--- an operator that takes 32-bit numbers, both signed or both unsigned
-abbrev pub on_alike : (ℤ → ℤ → JsValue) → JsValue → JsValue → Option JsValue
-on_alike f (Whole x) (Whole y) = if are_alike x y then Some (f x y) else None
-on_alike f _ _ = None
+-- two whole numbers of 32 bits, both signed or both unsigned
+abbrev pub alike_of : JsValue → JsValue → Option (ℤ × ℤ)
+alike_of (Whole x) (Whole y) = if are_alike x y then Some (x, y) else None
+alike_of _ _ = None
 
 -- ---- results
 
@@ -96,11 +96,11 @@ unsigned_value a = Whole (pos a)
 
 abbrev pub js_binary_of : JsOp → JsValue → JsValue → Option JsValue
 -- sections 12.7.5 and 12.6.3
-js_binary_of Add a b = on_wholes (λ x y. exact_of (x +ℤ y)) a b
-js_binary_of Sub a b = on_wholes (λ x y. exact_of (x -ℤ y)) a b
-js_binary_of Mul a b = on_wholes product_of a b
-js_binary_of Div a b = on_alike quotient_of a b
-js_binary_of Rem a b = on_alike remainder_of a b
+js_binary_of Add a b = option_and_then (λ (x, y). exact_of (x +ℤ y)) (wholes_of a b)
+js_binary_of Sub a b = option_and_then (λ (x, y). exact_of (x -ℤ y)) (wholes_of a b)
+js_binary_of Mul a b = option_and_then (λ (x, y). product_of x y) (wholes_of a b)
+js_binary_of Div a b = option_map (λ (x, y). quotient_of x y) (alike_of a b)
+js_binary_of Rem a b = option_map (λ (x, y). remainder_of x y) (alike_of a b)
 -- section 12.11.3: on the bits of ToInt32, which are those of ToUint32
 js_binary_of Or a b = Some (signed_value (bit_or (to_uint32_of a) (to_uint32_of b)))
 js_binary_of And a b = Some (signed_value (bit_and (to_uint32_of a) (to_uint32_of b)))
@@ -110,12 +110,12 @@ js_binary_of Shl a b = Some (signed_value (shl_of 32 (to_uint32_of a) (to_uint32
 js_binary_of Sar a b = Some (Whole (int_shr (to_int32_of a) (to_uint32_of b % 32)))
 js_binary_of Shr a b = Some (unsigned_value (shr_u_of 32 (to_uint32_of a) (to_uint32_of b)))
 -- sections 12.9.3 and 12.10.3, by 7.2.11 and 7.2.12
-js_binary_of Lt a b = on_alike (λ x y. Boolean (int_lt x y)) a b
-js_binary_of Le a b = on_alike (λ x y. Boolean (int_le x y)) a b
-js_binary_of Gt a b = on_alike (λ x y. Boolean (int_lt y x)) a b
-js_binary_of Ge a b = on_alike (λ x y. Boolean (int_le y x)) a b
-js_binary_of Eq a b = on_alike (λ x y. Boolean (is_zero (x -ℤ y))) a b
-js_binary_of Ne a b = on_alike (λ x y. Boolean (not (is_zero (x -ℤ y)))) a b
+js_binary_of Lt a b = option_map (λ (x, y). Boolean (int_lt x y)) (alike_of a b)
+js_binary_of Le a b = option_map (λ (x, y). Boolean (int_le x y)) (alike_of a b)
+js_binary_of Gt a b = option_map (λ (x, y). Boolean (int_lt y x)) (alike_of a b)
+js_binary_of Ge a b = option_map (λ (x, y). Boolean (int_le y x)) (alike_of a b)
+js_binary_of Eq a b = option_map (λ (x, y). Boolean (is_zero (x -ℤ y))) (alike_of a b)
+js_binary_of Ne a b = option_map (λ (x, y). Boolean (not (is_zero (x -ℤ y)))) (alike_of a b)
 
 -- section 12.5.10: -0 for 0
 abbrev pub negated_of : ℤ → JsValue
@@ -131,7 +131,7 @@ js_unary_of Plus a = None
 
 -- Math.imul (section 20.2.2.19), on whole numbers and booleans
 abbrev pub js_imul_of : JsValue → JsValue → Option JsValue
-js_imul_of a b = on_wholes (λ _ _. Some (signed_value (mul_of 32 (to_uint32_of a) (to_uint32_of b)))) a b
+js_imul_of a b = option_map (λ _. signed_value (mul_of 32 (to_uint32_of a) (to_uint32_of b))) (wholes_of a b)
 
 -- Math.clz32 (section 20.2.2.11), on whole numbers and booleans
 abbrev pub js_clz32_of : JsValue → Option JsValue

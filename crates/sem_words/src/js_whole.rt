@@ -1,5 +1,5 @@
 //! JavaScript's arithmetic on whole numbers (ECMA-262 6th edition, sections 12.5 to 12.7).
-ghost use Rattle.std.specs.Prelude.{◌≡◌, ◌≢◌, ◌≤◌, ◌^◌, IfSome, IsTrue, int_rem, pos, unsigned_abs};
+ghost use Rattle.std.specs.Prelude.{◌≡◌, ◌+ℤ◌, ◌-ℤ◌, ◌≢◌, ◌≤◌, ◌^◌, IfSome, IsTrue, int_rem, pos, unsigned_abs};
 ghost use Rattle.sem_words.specs.JsOperators.{are_alike, by_zero_of, exact_of, fraction_of, is_signed, is_unsigned, is_zero, negated_of, product_of, quotient_of, remainder_of, whole_quotient_of};
 ghost use Rattle.sem_words.specs.JsValues.{IsValue};
 
@@ -8,7 +8,7 @@ use crate::js_value::JsValue;
 const LARGEST: u64 = 1 << 53;
 
 // The whole number, unless it is past 2^53 in magnitude.
-pub(crate) fn exact(z: i64) -> Option<JsValue>
+fn exact(z: i64) -> Option<JsValue>
     ensures value { result ≡ exact_of z }
     ensures keeps { IfSome result IsValue }
 {
@@ -17,6 +17,26 @@ pub(crate) fn exact(z: i64) -> Option<JsValue>
     } else {
         None
     }
+}
+
+// A sum, unless it is past 2^53 in magnitude.
+pub(crate) fn sum(x: i64, y: i64) -> Option<JsValue>
+    requires x_small { unsigned_abs x ≤ 2 ^ 53 }
+    requires y_small { unsigned_abs y ≤ 2 ^ 53 }
+    ensures value { result ≡ exact_of (x +ℤ y) }
+    ensures keeps { IfSome result IsValue }
+{
+    exact(x + y)
+}
+
+// A difference, unless it is past 2^53 in magnitude.
+pub(crate) fn difference(x: i64, y: i64) -> Option<JsValue>
+    requires x_small { unsigned_abs x ≤ 2 ^ 53 }
+    requires y_small { unsigned_abs y ≤ 2 ^ 53 }
+    ensures value { result ≡ exact_of (x -ℤ y) }
+    ensures keeps { IfSome result IsValue }
+{
+    exact(x - y)
 }
 
 // A product, unless it is past 2^53 in magnitude. 0 times a negative number is -0.
@@ -125,7 +145,7 @@ pub(crate) fn remainder(x: i64, y: i64) -> JsValue
 }
 
 // Whether both are signed 32-bit numbers, or both are unsigned ones.
-pub(crate) fn alike(x: i64, y: i64) -> bool
+pub(crate) fn are_alike(x: i64, y: i64) -> bool
     ensures { result ≡ are_alike x y }
 {
     (signed(x) && signed(y)) || (unsigned(x) && unsigned(y))

@@ -6,6 +6,7 @@
 #![tactic(auto)]
 
 mod js_convert;
+mod js_operator;
 mod js_value;
 mod js_whole;
 mod list;
@@ -16,6 +17,7 @@ mod words32;
 mod words64;
 
 pub use js_convert::{to_int32, to_uint32, truthy};
+pub use js_operator::{js_binary, js_clz32, js_imul, js_unary};
 pub use js_value::{JsOp, JsUnary, JsValue};
 pub use list::List;
 pub use signed::{signed32, signed64, word32, word64};
