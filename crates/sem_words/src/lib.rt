@@ -20,7 +20,7 @@ pub use js_convert::{to_int32, to_uint32, truthy};
 pub use js_operator::{js_binary, js_clz32, js_imul, js_unary};
 pub use js_value::{JsOp, JsUnary, JsValue};
 pub use list::List;
-pub use signed::{signed32, signed64, word32, word64};
+pub use signed::{extend32, extend64, signed32, signed64, word32, word64};
 pub use text::Text;
 pub use word::{Bin, Rel, TrapKind, Un, Word};
 pub use words32::{bin32, rel32, un32};

@@ -1,5 +1,5 @@
 //! Words and their signed readings.
-ghost use Rattle.std.specs.Prelude.{◌≡◌, ◌≤◌, ◌<◌};
+ghost use Rattle.std.specs.Prelude.{◌≡◌, ◌<◌};
 ghost use Rattle.sem_words.specs.Words.{extend_of, signed_of, word_of};
 
 /// The signed reading of a 32-bit word (WebAssembly Core 1.0, section 4.3.1).
@@ -28,4 +28,33 @@ pub fn word64(z: i64) -> u64
     ensures { result ≡ word_of 64 z }
 {
     z.cast_unsigned()
+}
+
+/// The 32-bit word whose signed reading is that of its `bits` low bits (WebAssembly Core 2.0,
+/// section 4.3.2, `iextendM_s`).
+pub fn extend32(bits: u32, a: u32) -> u32
+    requires some { 0 < bits }
+    requires fewer { bits < 32 }
+    ensures { result ≡ extend_of 32 bits a }
+{
+    let low = a % (1 << bits);
+    if low < 1 << (bits - 1) {
+        low
+    } else {
+        low.wrapping_sub(1 << bits)
+    }
+}
+
+/// The 64-bit word whose signed reading is that of its `bits` low bits.
+pub fn extend64(bits: u32, a: u64) -> u64
+    requires some { 0 < bits }
+    requires fewer { bits < 64 }
+    ensures { result ≡ extend_of 64 bits a }
+{
+    let low = a % (1 << bits);
+    if low < 1 << (bits - 1) {
+        low
+    } else {
+        low.wrapping_sub(1 << bits)
+    }
 }
