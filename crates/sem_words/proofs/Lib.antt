@@ -1,4 +1,5 @@
 mod WordExamples
+mod JsExamples
 pub mod Counts
-pub mod Rotations
 pub mod Quotients
+pub mod Rotations
