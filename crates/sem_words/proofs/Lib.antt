@@ -3,3 +3,4 @@ mod JsExamples
 pub mod Counts
 pub mod Quotients
 pub mod Rotations
+pub mod WordLaws
