@@ -1,8 +1,8 @@
 -- The counts of bits and the rotations are those of std.
-use Rattle.std.proofs.Common.{◌≡◌, ℕ, zero, suc, ◌+◌, ◌-◌, ◌*◌, ◌/◌, ◌%◌, ◌^◌, ◌<◌, ◌≤◌, Bool, true, false, cond, ltb, eqb, refl, sym, ap, ◌∙◌, subst, arith, rules}
+use Rattle.std.proofs.Common.{◌≡◌, ℕ, zero, suc, ◌+◌, ◌*◌, ◌/◌, ◌%◌, ◌^◌, ◌<◌, ◌≤◌, cond, eqb, refl, sym, ap, ◌∙◌, subst, arith}
 use Rattle.std.proofs.Math.Nat.{zero-add, suc-add, pow-suc}
 use Rattle.std.proofs.Math.Pow.{pow_mono}
-use Rattle.std.proofs.lemmas.Nat.{pow_pos, leading_top, ones_cat, or_shifted, div-add-mod', mod_below}
+use Rattle.std.proofs.lemmas.Nat.{pow_pos, leading_top, ones_cat, div-add-mod'}
 use Rattle.std.proofs.lemmas.Bool.Decides.{nat_tests}
 use Rattle.std.specs.Int.Count.{count_leading_zeros, count_trailing_zeros, ones, ones_in, under}
 use Rattle.sem_words.specs.Words.{leading_zeros_of, trailing_zeros_of, set_bits_of}

@@ -4,7 +4,7 @@ use Rattle.sem_words.specs.Words.{leading_zeros_of}
 use Rattle.sem_words.specs.JsValues.{to_int32_of, to_uint32_of, truthy_of}
 use Rattle.sem_words.specs.JsOperators.{js_binary_of, js_unary_of, js_imul_of, js_clz32_of}
 use Rattle.sem_words.specs.declared.js_value.JsValue.TheVariants.{Whole, Frac, NegZero, NaN, PosInf, NegInf, Bool as Boolean, Undef}
-use Rattle.sem_words.specs.declared.js_value.JsOp.TheVariants.{Add, Sub, Mul, Div, Rem, Or, And, Xor, Shl, Sar, Shr, Lt, Le, Gt, Ge, Eq, Ne}
+use Rattle.sem_words.specs.declared.js_value.JsOp.TheVariants.{Add, Sub, Mul, Div, Rem, Or, And, Xor, Shl, Sar, Shr, Lt, Gt, Ge, Eq, Ne}
 use Rattle.sem_words.specs.declared.js_value.JsUnary.TheVariants.{Neg, BitNot, Not, Plus}
 
 -- ---- conversions

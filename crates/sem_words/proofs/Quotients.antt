@@ -1,11 +1,10 @@
 -- Numbers of 32 bits, and what is left of their quotients.
-use Rattle.std.proofs.Common.{◌≡◌, ◌≢◌, ℕ, zero, suc, ◌+◌, ◌-◌, ◌*◌, ◌/◌, ◌%◌, ◌^◌, ◌<◌, ◌≤◌, Bool, true, false, cond, T, refl, sym, ap, ◌∙◌, subst, arith, rules, ℤ, pos, negsuc, neg_ℤ, ◌≤ℤ◌, ◌<ℤ◌}
+use Rattle.std.proofs.Common.{◌≡◌, ℕ, zero, suc, ◌-◌, ◌%◌, ◌^◌, refl, sym, ap, ◌∙◌, arith, ℤ, pos, negsuc, neg_ℤ, ◌≤ℤ◌, ◌<ℤ◌}
 use Rattle.std.proofs.Math.Nat.{zero-mod}
-use Rattle.std.specs.Prelude.{IsTrue, int_rem, int_div, unsigned_abs, FitsSigned}
-use Rattle.std.specs.Int.{w64}
+use Rattle.std.specs.Prelude.{IsTrue, int_rem, unsigned_abs}
 use Rattle.std.proofs.lemmas.Int.{ints}
 use Rattle.std.proofs.lemmas.Bool.Decides.{nat_tests}
-use Rattle.sem_words.specs.JsOperators.{are_alike, is_signed, is_unsigned}
+use Rattle.sem_words.specs.JsOperators.{are_alike}
 use Rattle.sem_words.specs.JsValues.{IsFrac}
 
 -- both lie in the range of all 32-bit numbers

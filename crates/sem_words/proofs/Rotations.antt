@@ -1,5 +1,5 @@
 -- The rotations of std are sums of what stays in the word and what leaves it.
-use Rattle.std.proofs.Common.{◌≡◌, ℕ, zero, suc, ◌+◌, ◌-◌, ◌*◌, ◌/◌, ◌%◌, ◌^◌, ◌<◌, ◌≤◌, bit_or, refl, sym, ap, ◌∙◌, subst, arith, rules, add_comm}
+use Rattle.std.proofs.Common.{◌≡◌, ℕ, zero, suc, ◌+◌, ◌-◌, ◌*◌, ◌/◌, ◌%◌, ◌^◌, ◌<◌, bit_or, refl, ◌∙◌, arith, add_comm}
 use Rattle.std.proofs.Math.Nat.{mul-mod_left, mod-eq_of_lt, div-eq_of_lt, div-one, mul-one, add-zero, mod_self}
 use Rattle.std.proofs.lemmas.Nat.{mod-pow-add, shl-shr, or_shifted, or_comm, shr_below}
 use Rattle.std.specs.Int.Bits.{or_self}

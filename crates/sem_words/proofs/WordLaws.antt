@@ -1,5 +1,5 @@
 -- Laws of words and their signed readings. `bits w32` is 32, and `bits w64` is 64.
-use Rattle.std.proofs.Common.{◌≡◌, ℕ, zero, suc, ◌+◌, ◌-◌, ◌*◌, ◌/◌, ◌%◌, ◌^◌, ◌<◌, ◌≤◌, ℤ, pos, negsuc, neg_ℤ, ◌+ℤ◌, ◌-ℤ◌, ◌*ℤ◌, Bool, true, false, cond, Ok, Err, refl, sym, ap, ◌∙◌, arith}
+use Rattle.std.proofs.Common.{◌≡◌, ℕ, ◌+◌, ◌-◌, ◌*◌, ◌/◌, ◌%◌, ◌^◌, ◌<◌, ◌≤◌, ℤ, pos, negsuc, neg_ℤ, ◌+ℤ◌, ◌-ℤ◌, ◌*ℤ◌, Bool, true, false, cond, Ok, Err, refl, sym, ap, ◌∙◌, arith}
 use Rattle.std.specs.Prelude.{FitsSigned, unsigned_abs, int_div, int_rem, ◌==◌, IfOk}
 use Rattle.std.specs.Int.{Width, w32, w64, cast_signed, cast_unsigned, int_wrap, int_rem_euclid, int_shr}
 use mir.Val.{bits}
@@ -26,6 +26,7 @@ div_s_of-IsWord n a b = either (b == 0) (is_least_by_minus_one n a b)
   where
     q : ℕ
     q = word_of n (int_div (signed_of n a) (signed_of n b))
+
     either : (c d : Bool) → IfOk {E = TrapKind} (cond c (Err ZeroDivisor) (cond d (Err Overflow) (Ok q))) (λ r. r < 2 ^ n)
     either true d = tt
     either false true = tt
@@ -94,7 +95,7 @@ word_of-add w x y =
     let b = word_of (bits w) y in
     let low = mod_below (a + b) (2 ^ bits w) (pow_pos (bits w)) in
     let parts : int_wrap w (x +ℤ y) ≡ int_wrap w (cast_signed w a +ℤ cast_signed w b) =
-        sym (int_wrap-add_left w x y) ∙ sym (int_wrap-add_right w (int_wrap w x) y) ∙ ap (λ (z : ℤ). int_wrap w (z +ℤ int_wrap w y)) (wrap_is w x) ∙ ap (λ (z : ℤ). int_wrap w (cast_signed w a +ℤ z)) (wrap_is w y) in
+    sym (int_wrap-add_left w x y) ∙ sym (int_wrap-add_right w (int_wrap w x) y) ∙ ap (λ (z : ℤ). int_wrap w (z +ℤ int_wrap w y)) (wrap_is w x) ∙ ap (λ (z : ℤ). int_wrap w (cast_signed w a +ℤ z)) (wrap_is w y) in
     let whole = parts ∙ sym (wrapping_add-bits w a b (word_of-IsWord (bits w) x) (word_of-IsWord (bits w) y)) in
     word_is w (x +ℤ y) ∙ ap (cast_unsigned w) whole ∙ of_z-to_z w ((a + b) % 2 ^ bits w) low
 
@@ -104,7 +105,7 @@ word_of-sub w x y =
     let b = word_of (bits w) y in
     let low = mod_below (a + (2 ^ bits w - b)) (2 ^ bits w) (pow_pos (bits w)) in
     let parts : int_wrap w (x -ℤ y) ≡ int_wrap w (cast_signed w a -ℤ cast_signed w b) =
-        sym (int_wrap-add_left w x (neg_ℤ y)) ∙ sym (int_wrap-sub_right w (int_wrap w x) y) ∙ ap (λ (z : ℤ). int_wrap w (z -ℤ int_wrap w y)) (wrap_is w x) ∙ ap (λ (z : ℤ). int_wrap w (cast_signed w a -ℤ z)) (wrap_is w y) in
+    sym (int_wrap-add_left w x (neg_ℤ y)) ∙ sym (int_wrap-sub_right w (int_wrap w x) y) ∙ ap (λ (z : ℤ). int_wrap w (z -ℤ int_wrap w y)) (wrap_is w x) ∙ ap (λ (z : ℤ). int_wrap w (cast_signed w a -ℤ z)) (wrap_is w y) in
     let whole = parts ∙ sym (wrapping_sub-bits w a b (word_of-IsWord (bits w) x) (word_of-IsWord (bits w) y)) in
     word_is w (x -ℤ y) ∙ ap (cast_unsigned w) whole ∙ of_z-to_z w ((a + (2 ^ bits w - b)) % 2 ^ bits w) low
 
@@ -114,7 +115,7 @@ word_of-mul w x y =
     let b = word_of (bits w) y in
     let low = mod_below (a * b) (2 ^ bits w) (pow_pos (bits w)) in
     let parts : int_wrap w (x *ℤ y) ≡ int_wrap w (cast_signed w a *ℤ cast_signed w b) =
-        sym (int_wrap-mul_left w x y) ∙ sym (int_wrap-mul_right w (int_wrap w x) y) ∙ ap (λ (z : ℤ). int_wrap w (z *ℤ int_wrap w y)) (wrap_is w x) ∙ ap (λ (z : ℤ). int_wrap w (cast_signed w a *ℤ z)) (wrap_is w y) in
+    sym (int_wrap-mul_left w x y) ∙ sym (int_wrap-mul_right w (int_wrap w x) y) ∙ ap (λ (z : ℤ). int_wrap w (z *ℤ int_wrap w y)) (wrap_is w x) ∙ ap (λ (z : ℤ). int_wrap w (cast_signed w a *ℤ z)) (wrap_is w y) in
     let whole = parts ∙ sym (wrapping_mul-bits w a b (word_of-IsWord (bits w) x) (word_of-IsWord (bits w) y)) in
     word_is w (x *ℤ y) ∙ ap (cast_unsigned w) whole ∙ of_z-to_z w (a * b % 2 ^ bits w) low
 

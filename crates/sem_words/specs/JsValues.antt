@@ -3,7 +3,7 @@
 -- fraction and to ask whether it is 0, and the nearest double answers alike: a quotient of magnitude 2 ^ e or more of a number
 -- below 2 ^ 32 has a divisor below 2 ^ (32 - e), so where it isn't whole it lies more than 2 ^ (e - 32) away from each whole
 -- number, and the nearest double of one below 2 ^ (e + 1) lies at most 2 ^ (e - 53) away from it.
-use Rattle.std.specs.Prelude.{◌≡◌, ℕ, ◌+◌, ◌-◌, ◌%◌, ◌^◌, ◌≤◌, Bool, true, false, not, ◌==◌, ℤ, pos, negsuc, ◌≤ℤ◌, ◌<ℤ◌, int_div, int_rem, unsigned_abs}
+use Rattle.std.specs.Prelude.{◌≡◌, ℕ, ◌-◌, ◌^◌, ◌≤◌, Bool, true, false, not, ◌==◌, ℤ, pos, negsuc, ◌≤ℤ◌, ◌<ℤ◌, int_div, int_rem, unsigned_abs}
 use Rattle.sem_words.specs.declared.js_value.JsValue.{JsValue}
 use Rattle.sem_words.specs.declared.js_value.JsValue.TheVariants.{Whole, Frac, NegZero, NaN, PosInf, NegInf, Bool as Boolean, Undef}
 use Rattle.sem_words.specs.Words.{signed_of, word_of}

@@ -5,7 +5,7 @@ ghost use Rattle.sem_words.specs.Lists.{list_items};
 use std::alloc::Global;
 
 /// A list of values that owns them. It may stand inside the type of its own values.
-#[derive(Drop)]
+#[derive(PartialEq, Eq, Debug, Drop)]
 pub struct List<T> {
     items: Vec<T>,
 }

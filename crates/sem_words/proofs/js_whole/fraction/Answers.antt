@@ -2,7 +2,7 @@
 use Rattle.std.proofs.Common.{◌≡◌, neg_ℤ, pos, ◌-ℤ◌, ◌<ℤ◌, arith}
 use Rattle.std.specs.Int.{w64, cast_signed, cast_unsigned}
 use Rattle.std.proofs.lemmas.Int.{ints}
-use Rattle.sem_words.proofs.Quotients.{AreIn, within, turned}
+use Rattle.sem_words.proofs.Quotients.{within, turned}
 use Rattle.sem_words.proofs.js_whole.fraction.Goals as goal
 
 pub returns-then-y-lt0-clause-keeps : goal.returns-then-y-lt0-clause-keeps
