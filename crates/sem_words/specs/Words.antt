@@ -15,7 +15,7 @@ use Rattle.sem_words.specs.declared.word.TrapKind.TheVariants.{Unreachable, Memo
 abbrev pub IsWord : ℕ → ℕ → Type 0
 IsWord n a = a < 2 ^ n
 
--- ---- signed readings (section 4.3.1)
+-- ---- signed readings ("Sign Interpretation")
 
 -- the signed reading of a word: the upper half of the words stands for the negative numbers
 abbrev pub signed_of : ℕ → ℕ → ℤ
@@ -26,7 +26,7 @@ abbrev pub word_of : ℕ → ℤ → ℕ
 word_of n (pos m) = m % 2 ^ n
 word_of n (negsuc m) = 2 ^ n - 1 - m % 2 ^ n
 
--- ---- sums, differences, products and quotients
+-- ---- `iadd`, `isub`, `imul`, `idiv_u`, `irem_u`, `idiv_s`, `irem_s`
 
 abbrev pub add_of : ℕ → ℕ → ℕ → ℕ
 add_of n a b = (a + b) % 2 ^ n
@@ -58,7 +58,7 @@ div_s_of n a b =
 abbrev pub rem_s_of : ℕ → ℕ → ℕ → Result ℕ TrapKind
 rem_s_of n a b = if b == 0 then Err ZeroDivisor else Ok (word_of n (int_rem (signed_of n a) (signed_of n b)))
 
--- ---- shifts and rotations: the count is taken modulo n
+-- ---- `ishl`, `ishr_u`, `ishr_s`, `irotl`, `irotr`: the count is taken modulo n
 
 abbrev pub shl_of : ℕ → ℕ → ℕ → ℕ
 shl_of n a b = a * 2 ^ (b % n) % 2 ^ n
@@ -77,7 +77,7 @@ rotl_of n a b = a * 2 ^ (b % n) % 2 ^ n + a / 2 ^ (n - b % n)
 abbrev pub rotr_of : ℕ → ℕ → ℕ → ℕ
 rotr_of n a b = a / 2 ^ (b % n) + a * 2 ^ (n - b % n) % 2 ^ n
 
--- ---- counts of bits
+-- ---- `iclz`, `ictz`, `ipopcnt`
 
 -- how many of the k low bits stand above the highest that is set
 unfoldable pub leading_zeros_of : ℕ → ℕ → ℕ
@@ -96,7 +96,7 @@ set_bits_of (suc k) a = a % 2 + set_bits_of k (a / 2)
 
 -- ---- the operators
 
--- two operands: a word, or a trap
+-- two operands (`iand`, `ior` and `ixor` go bit by bit): a word, or a trap
 abbrev pub bin_of : ℕ → Bin → ℕ → ℕ → Result ℕ TrapKind
 bin_of n Add a b = Ok (add_of n a b)
 bin_of n Sub a b = Ok (sub_of n a b)
@@ -120,7 +120,7 @@ un_of n Clz a = leading_zeros_of n a
 un_of n Ctz a = trailing_zeros_of n a
 un_of n Popcnt a = set_bits_of n a
 
--- a comparison: of the numbers, or of their signed readings
+-- a comparison (`ieq`, `ine`, `ilt_s` and so on): of the numbers, or of their signed readings
 abbrev pub rel_of : ℕ → Rel → ℕ → ℕ → Bool
 rel_of n Eq a b = a == b
 rel_of n Ne a b = not (a == b)

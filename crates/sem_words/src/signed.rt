@@ -2,7 +2,8 @@
 ghost use Rattle.std.specs.Prelude.{◌≡◌, ◌<◌};
 ghost use Rattle.sem_words.specs.Words.{extend_of, signed_of, word_of};
 
-/// The signed reading of a 32-bit word (WebAssembly Core 1.0, section 4.3.1).
+/// The signed reading of a 32-bit word (WebAssembly Core 1.0, section 4.3.2, "Sign
+/// Interpretation").
 pub fn signed32(a: u32) -> i32
     ensures { result ≡ signed_of 32 a }
 {
