@@ -1,2 +1,3 @@
 mod Examples
 pub mod Order
+pub mod Sound

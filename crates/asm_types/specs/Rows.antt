@@ -8,39 +8,66 @@ use Rattle.asm_types.specs.declared.value_type.ValueType.{ValueType}
 use Rattle.asm_types.specs.declared.value_type.ValueType.TheVariants.{Signed, Unsigned, Int, Intish}
 use Rattle.asm_types.specs.Types.{is_below}
 
--- both operands are of this type
+-- what an operator takes: operands that are all below a type, or two that are both below signed or both below unsigned
+pub data Operands : Type 0 where
+  each : ValueType → Operands
+  alike : Operands
+
 abbrev pub are_below : ValueType → ValueType → ValueType → Bool
 are_below a b top = is_below a top && is_below b top
 
--- both operands are signed, or both are unsigned
-abbrev pub are_alike : ValueType → ValueType → Bool
-are_alike a b = are_below a b Signed || are_below a b Unsigned
+abbrev pub accepts : Operands → ValueType → ValueType → Bool
+accepts (each top) a b = are_below a b top
+accepts alike a b = are_below a b Signed || are_below a b Unsigned
 
--- the result's type, where the operands have theirs
+-- the operands and the result of each operator of two operands (section 8.2; `+` and `-` by the rows of a chain, and `*` by that of
+-- a product with a literal, section 6.8)
+abbrev pub takes_of : JsOp → Operands
+takes_of Add = each Int
+takes_of Sub = each Int
+takes_of Mul = each Int
+takes_of Div = alike
+takes_of Rem = alike
+takes_of Or = each Intish
+takes_of And = each Intish
+takes_of Xor = each Intish
+takes_of Shl = each Intish
+takes_of Sar = each Intish
+takes_of Shr = each Intish
+takes_of Lt = alike
+takes_of Le = alike
+takes_of Gt = alike
+takes_of Ge = alike
+takes_of Eq = alike
+takes_of Ne = alike
+
+abbrev pub gives_of : JsOp → ValueType
+gives_of Add = Intish
+gives_of Sub = Intish
+gives_of Mul = Intish
+gives_of Div = Intish
+gives_of Rem = Intish
+gives_of Or = Signed
+gives_of And = Signed
+gives_of Xor = Signed
+gives_of Shl = Signed
+gives_of Sar = Signed
+gives_of Shr = Unsigned
+gives_of Lt = Int
+gives_of Le = Int
+gives_of Gt = Int
+gives_of Ge = Int
+gives_of Eq = Int
+gives_of Ne = Int
+
+-- a row: the result's type, where the operands are of the types that the operator takes
 abbrev pub row : Bool → ValueType → Option ValueType
-row test t = if test then Some t else None
+row accepted result = if accepted then Some result else None
 
--- section 8.2; `+` and `-` by the rows of a chain, and `*` by that of a product with a literal (section 6.8)
 abbrev pub binary_row_of : JsOp → ValueType → ValueType → Option ValueType
-binary_row_of Add a b = row (are_below a b Int) Intish
-binary_row_of Sub a b = row (are_below a b Int) Intish
-binary_row_of Mul a b = row (are_below a b Int) Intish
-binary_row_of Div a b = row (are_alike a b) Intish
-binary_row_of Rem a b = row (are_alike a b) Intish
-binary_row_of Or a b = row (are_below a b Intish) Signed
-binary_row_of And a b = row (are_below a b Intish) Signed
-binary_row_of Xor a b = row (are_below a b Intish) Signed
-binary_row_of Shl a b = row (are_below a b Intish) Signed
-binary_row_of Sar a b = row (are_below a b Intish) Signed
-binary_row_of Shr a b = row (are_below a b Intish) Unsigned
-binary_row_of Lt a b = row (are_alike a b) Int
-binary_row_of Le a b = row (are_alike a b) Int
-binary_row_of Gt a b = row (are_alike a b) Int
-binary_row_of Ge a b = row (are_alike a b) Int
-binary_row_of Eq a b = row (are_alike a b) Int
-binary_row_of Ne a b = row (are_alike a b) Int
+binary_row_of op a b = row (accepts (takes_of op) a b) (gives_of op)
 
--- section 8.1; the row of `+` gives a double
+-- the prefix operators (section 8.1); the row of `+` gives a double
 abbrev pub unary_row_of : JsUnary → ValueType → Option ValueType
 unary_row_of Neg a = row (is_below a Int) Intish
 unary_row_of BitNot a = row (is_below a Intish) Signed

@@ -1,6 +1,6 @@
 //! The rows of the operators.
 ghost use Rattle.std.specs.Prelude.{◌≡◌};
-ghost use Rattle.asm_types.specs.Rows.{are_alike, are_below, binary_row_of, unary_row_of};
+ghost use Rattle.asm_types.specs.Rows.{accepts, alike, are_below, binary_row_of, unary_row_of};
 
 use crate::value_type::{ValueType, below};
 use sem_words::{JsOp, JsUnary};
@@ -46,7 +46,7 @@ fn are_below(a: ValueType, b: ValueType, top: ValueType) -> bool
 }
 
 fn are_alike(a: ValueType, b: ValueType) -> bool
-    ensures { result ≡ are_alike a b }
+    ensures { result ≡ accepts alike a b }
 {
     are_below(a, b, ValueType::Signed) || are_below(a, b, ValueType::Unsigned)
 }
