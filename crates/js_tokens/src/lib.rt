@@ -1,13 +1,19 @@
-// A library with one function.
+//! The tokens of asm.js: a text is cut into gaps and tokens, each token the longest that begins at its place.
 #![tactic(auto)]
 
-ghost use Rattle.std.specs.Prelude.{◌≡◌};
-ghost use Rattle.js_tokens.specs.Echo.{echo_of};
+mod bytes;
+mod comments;
+mod fault;
+mod front;
+mod numbers;
+mod punctuators;
+mod quoted;
+mod reading;
+mod token;
 
-// The `ensures` clause is the contract: what `echo` returns is `echo_of` of its argument, a definition
-// in `specs/Echo.antt`, which a caller's clause can cite too.
-pub fn echo(x: usize) -> usize
-    ensures { result ≡ echo_of x }
-{
-    x
-}
+pub use fault::TokenFault;
+pub use reading::tokens;
+pub use token::{Token, TokenKind};
+
+#[cfg(test)]
+mod tests;

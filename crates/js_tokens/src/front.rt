@@ -1,0 +1,139 @@
+//! What stands at the front of a text.
+
+ghost use Rattle.std.specs.Prelude.{◌≡◌, ◌≤◌, ◌<◌, MatchOption, IfSome, length};
+ghost use Rattle.std.specs.List.{prefix_len};
+ghost use Rattle.asm_lexical.specs.Bytes.{is_name_byte};
+ghost use Rattle.asm_lexical.specs.Text.{token_len, comment_len, front_of, token_at, comment_at, is_numeric, runs_on};
+ghost use Rattle.js_tokens.specs.Scan.{IsToken, front_view, IsInside};
+ghost use Rattle.js_tokens.specs.Views.{kind_view};
+
+use crate::bytes::{begins_name, is_ascii, is_digit, is_gap_byte, is_name_byte, is_quote};
+use crate::comments::{close_at, line_len, separator_at};
+use crate::numbers::{digits_len, numeral_at};
+use crate::punctuators::punct_len;
+use crate::quoted::quoted_len;
+use crate::token::TokenKind;
+
+/// What is wrong with a text.
+#[derive(Clone, Copy, Debug, PartialEq, Eq)]
+pub enum Flaw {
+    NonAscii,
+    BadToken,
+    OpenComment,
+    LiteralForm,
+}
+
+/// What stands at the front of a text: a gap or a token of some bytes, or a flaw some bytes on.
+#[derive(Clone, Copy, Debug)]
+pub enum Front {
+    Gap(usize),
+    Token(TokenKind, usize),
+    Flaw(Flaw, usize),
+}
+
+/// How many name bytes stand at the front.
+fn name_len(s: &[u8]) -> usize
+    ensures { result ≡ prefix_len is_name_byte s.now }
+{
+    let mut n = 0;
+    while n < s.len() && is_name_byte(s[n]) {
+        n += 1;
+    }
+    n
+}
+
+/// The longest token at the front, if one begins there.
+fn longest_token(s: &[u8]) -> Option<(TokenKind, usize)>
+    ensures { MatchOption result (token_len s.now ≡ 0) (λ t. IsToken s.now t.0 t.1) }
+{
+    let (first, rest) = s.split_first()?;
+    if begins_name(*first) {
+        Some((TokenKind::Name, name_len(s)))
+    } else if is_digit(*first) {
+        Some(numeral_at(s))
+    } else if is_quote(*first) {
+        match quoted_len(*first, rest) {
+            0 => None,
+            n => Some((TokenKind::Quoted, n + 1)),
+        }
+    } else {
+        sign_at(*first, rest, s)
+    }
+}
+
+/// The longest decimal that begins with a dot, or punctuator.
+fn sign_at(first: u8, rest: &[u8], s: &[u8]) -> Option<(TokenKind, usize)> {
+    if first == b'.' {
+        let n = digits_len(rest);
+        if n > 0 {
+            return Some((TokenKind::Decimal, n + 1));
+        }
+    }
+    match punct_len(s) {
+        0 => None,
+        n => Some((TokenKind::Punct, n)),
+    }
+}
+
+/// Whether a number or a decimal is followed at once by a name byte or a dot.
+fn runs_on(kind: TokenKind, after: &[u8]) -> bool {
+    let numeric = matches!(kind, TokenKind::Number(_) | TokenKind::Decimal);
+    numeric && begins_run_on(after)
+}
+
+fn begins_run_on(s: &[u8]) -> bool
+    ensures { result ≡ runs_on s.now }
+{
+    match s {
+        [] => false,
+        [b, ..] => is_name_byte(*b) || *b == b'.',
+    }
+}
+
+/// The token at the front, or its flaw.
+fn token_front(s: &[u8]) -> Front {
+    match longest_token(s) {
+        None => Front::Flaw(Flaw::BadToken, 0),
+        Some((kind, n)) => {
+            let (_, after) = s.split_at(n);
+            if runs_on(kind, after) {
+                Front::Flaw(Flaw::LiteralForm, 0)
+            } else {
+                Front::Token(kind, n)
+            }
+        }
+    }
+}
+
+/// The comment at the front, or its flaw.
+fn comment_front(comment: &[u8]) -> Front {
+    match separator_at(comment) {
+        None => Front::Gap(comment.len()),
+        Some(n) => Front::Flaw(Flaw::NonAscii, n),
+    }
+}
+
+/// What stands at the front of a text that isn't empty.
+pub fn front_of(s: &[u8]) -> Front
+    requires { 0 < length s.now }
+    ensures front { front_view result ≡ front_of s.now }
+    ensures inside { IsInside result (length s.now) }
+{
+    match s {
+        [b'/', b'/', rest @ ..] => comment_front(&s[..2 + line_len(rest)]),
+        [b'/', b'*', rest @ ..] => match close_at(rest) {
+            None => Front::Flaw(Flaw::OpenComment, 0),
+            Some(n) => comment_front(&s[..n + 4]),
+        },
+        [b, ..] => {
+            if is_gap_byte(*b) {
+                Front::Gap(1)
+            } else if is_ascii(*b) {
+                token_front(s)
+            } else {
+                Front::Flaw(Flaw::NonAscii, 0)
+            }
+        }
+        [] => Front::Flaw(Flaw::BadToken, 0),
+    }
+}
