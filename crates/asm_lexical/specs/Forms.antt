@@ -1,8 +1,12 @@
 -- The forms of tokens and comments, each as a test of a whole list of bytes (ECMA-262, 6th edition, sections 11.4 and 11.6
 -- to 11.8, without escapes, exponents, octal and binary numbers, templates and regular expressions).
-use Rattle.std.specs.Prelude.{ℕ, ◌+◌, ◌*◌, ◌^◌, Bool, false, ◌&&◌, ◌||◌, not, List, [], ◌∷◌, length, codes, bytes_eq, nat_lt, ◌==◌, if◌then◌else◌}
+use Rattle.std.specs.Prelude.{ℕ, ◌+◌, ◌*◌, ◌^◌, Bool, true, false, ◌&&◌, ◌||◌, not, List, [], ◌∷◌, drop, codes, bytes_eq, nat_lt, ◌==◌, if◌then◌else◌}
 use Rattle.std.specs.List.{list_all, list_any}
 use Rattle.asm_lexical.specs.Bytes.{is_digit, is_hexadecimal_digit, digit_value, begins_name, is_name_byte, is_line_end, is_hexadecimal_mark, is_quote, may_be_quoted}
+
+abbrev pub is_empty : List ℕ → Bool
+is_empty [] = true
+is_empty (b ∷ bs) = false
 
 -- one byte or more, each of which passes
 abbrev pub is_some_of : (ℕ → Bool) → List ℕ → Bool
@@ -23,7 +27,7 @@ value_in base n (d ∷ ds) = value_in base (base * n + digit_value d) ds
 -- `0`, or digits that don't begin with 0
 abbrev pub is_plain : List ℕ → Bool
 is_plain [] = false
-is_plain (d ∷ ds) = if d == 48 then length ds == 0 else is_some_of is_digit (d ∷ ds)
+is_plain (d ∷ ds) = if d == 48 then is_empty ds else is_some_of is_digit (d ∷ ds)
 
 -- `0x` or `0X`, and hexadecimal digits
 abbrev pub is_hexadecimal : List ℕ → Bool
@@ -61,7 +65,7 @@ is_decimal (b ∷ bs) = if b == 46 then is_some_of is_digit bs else (if b == 48 
 -- what may be quoted, and at last the quote q
 abbrev pub ends_quoted : ℕ → List ℕ → Bool
 ends_quoted q [] = false
-ends_quoted q (b ∷ bs) = if length bs == 0 then b == q else may_be_quoted q b && ends_quoted q bs
+ends_quoted q (b ∷ bs) = if is_empty bs then b == q else may_be_quoted q b && ends_quoted q bs
 
 abbrev pub is_quoted : List ℕ → Bool
 is_quoted [] = false
@@ -110,7 +114,7 @@ begins_close (a ∷ b ∷ bs) = (a == 42) && (b == 47)
 -- bytes up to the first `*/`, and no further
 abbrev pub is_up_to_close : List ℕ → Bool
 is_up_to_close [] = false
-is_up_to_close (b ∷ bs) = if begins_close (b ∷ bs) then length bs == 1 else is_up_to_close bs
+is_up_to_close (b ∷ bs) = if begins_close (b ∷ bs) then is_empty (drop 1 bs) else is_up_to_close bs
 
 -- `//` and no line end, or `/*` up to the next `*/`
 abbrev pub is_comment : List ℕ → Bool

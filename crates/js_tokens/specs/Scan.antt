@@ -1,5 +1,5 @@
 -- What the scanning functions find. Only private contracts name these.
-use Rattle.std.specs.Prelude.{◌≡◌, ℕ, zero, suc, ◌+◌, ◌*◌, ◌^◌, ◌<◌, ◌≤◌, Bool, true, false, ◌&&◌, ◌||◌, List, [], ◌∷◌, length, take, drop, nat_le, nat_lt, ◌==◌, if◌then◌else◌}
+use Rattle.std.specs.Prelude.{◌≡◌, ℕ, zero, suc, ◌+◌, ◌*◌, ◌^◌, ◌<◌, ◌≤◌, Bool, true, false, ◌&&◌, ◌||◌, not, List, [], ◌∷◌, length, take, drop, nat_le, nat_lt, ◌==◌, if◌then◌else◌}
 use Rattle.std.specs.List.{prefix_len}
 use Rattle.js_tokens.specs.declared.token.TokenKind.{TokenKind}
 use Rattle.js_tokens.specs.declared.numbers.Base.{Base}
@@ -8,7 +8,7 @@ use Rattle.js_tokens.specs.declared.front.Flaw.{Flaw}
 use Rattle.js_tokens.specs.declared.front.Flaw.TheVariants.{NonAscii, BadToken, OpenComment, LiteralForm}
 use Rattle.js_tokens.specs.declared.front.Front.{Front}
 use Rattle.js_tokens.specs.declared.front.Front.TheVariants as fronts
-use Rattle.asm_lexical.specs.Bytes.{is_digit, is_hexadecimal_digit, digit_value, may_be_quoted}
+use Rattle.asm_lexical.specs.Bytes.{is_digit, is_hexadecimal_digit, digit_value, is_hexadecimal_mark, may_be_quoted}
 use Rattle.asm_lexical.specs.Forms.{kind_of}
 use Rattle.asm_lexical.specs.Text as text
 use Rattle.asm_lexical.specs.Text.{Fault, non_ascii, bad_token, open_comment, literal_form, token_len}
@@ -30,6 +30,15 @@ fits_in base n b = is_digit_in base b && nat_lt (number_of base * n + digit_valu
 abbrev pub value_len : Base → ℕ → List ℕ → ℕ
 value_len base n [] = 0
 value_len base n (b ∷ bs) = if fits_in base n b then suc (value_len base (number_of base * n + digit_value b) bs) else 0
+
+abbrev pub begins_mark : List ℕ → Bool
+begins_mark [] = false
+begins_mark (b ∷ bs) = is_hexadecimal_mark b
+
+-- a digit other than 0
+abbrev pub begins_nonzero : List ℕ → Bool
+begins_nonzero [] = false
+begins_nonzero (b ∷ bs) = is_digit b && not (b == 48)
 
 -- how many bytes a dot at the front and the digits after it take
 abbrev pub fraction_len : List ℕ → ℕ

@@ -1,7 +1,7 @@
 //! Classes of bytes.
 
 ghost use Rattle.std.specs.Prelude.{◌≡◌, true};
-ghost use Rattle.asm_lexical.specs.Bytes.{is_ascii, is_digit, is_hexadecimal_digit, digit_value, begins_name, is_name_byte, is_line_end, is_gap_byte, is_quote, may_be_quoted};
+ghost use Rattle.asm_lexical.specs.Bytes.{is_ascii, is_digit, is_hexadecimal_digit, digit_value, begins_name, is_name_byte, is_line_end, is_gap_byte, is_hexadecimal_mark, is_quote, may_be_quoted};
 
 pub fn is_ascii(b: u8) -> bool
     ensures { result ≡ is_ascii b }
@@ -60,6 +60,13 @@ pub fn is_gap_byte(b: u8) -> bool
     ensures { result ≡ is_gap_byte b }
 {
     b == b' ' || (b >= b'\t' && b <= b'\r')
+}
+
+/// `x` or `X`.
+pub fn is_hexadecimal_mark(b: u8) -> bool
+    ensures { result ≡ is_hexadecimal_mark b }
+{
+    b == b'x' || b == b'X'
 }
 
 pub fn is_quote(b: u8) -> bool

@@ -50,7 +50,7 @@ fn longest_token(s: &[u8]) -> Option<(TokenKind, usize)>
     if begins_name(*first) {
         Some((TokenKind::Name, name_len(s)))
     } else if is_digit(*first) {
-        Some(numeral_at(s))
+        Some(numeral_at(*first, rest, s))
     } else if is_quote(*first) {
         match quoted_len(*first, rest) {
             0 => None,
@@ -62,7 +62,13 @@ fn longest_token(s: &[u8]) -> Option<(TokenKind, usize)>
 }
 
 /// The longest decimal that begins with a dot, or punctuator.
-fn sign_at(first: u8, rest: &[u8], s: &[u8]) -> Option<(TokenKind, usize)> {
+fn sign_at(first: u8, rest: &[u8], s: &[u8]) -> Option<(TokenKind, usize)>
+    requires whole { s.now ≡ first ∷ rest.now }
+    requires name { begins_name first ≡ false }
+    requires digit { is_digit first ≡ false }
+    requires quote { is_quote first ≡ false }
+    ensures { MatchOption result (token_len s.now ≡ 0) (λ t. IsToken s.now t.0 t.1) }
+{
     if first == b'.' {
         let n = digits_len(rest);
         if n > 0 {

@@ -1,12 +1,13 @@
 //! Numbers and decimals at the front of a text.
 
-ghost use Rattle.std.specs.Prelude.{◌≡◌, ◌≤◌, ◌<◌, ◌+◌, ◌*◌, ◌^◌, ◌&&◌, MatchOption, nat_lt, true, false, length, take, slice_index};
+ghost use Rattle.std.specs.Prelude.{◌≡◌, ◌≤◌, ◌<◌, ◌+◌, ◌*◌, MatchOption, true, false, ◌∷◌, length, take};
+ghost use Rattle.std.specs.Bool.{OnTrue};
 ghost use Rattle.std.specs.List.{prefix_len};
 ghost use Rattle.asm_lexical.specs.Bytes.{is_digit, digit_value};
 ghost use Rattle.asm_lexical.specs.Forms.{value_in};
-ghost use Rattle.js_tokens.specs.Scan.{is_digit_in, number_of, fits_in, value_len, fraction_len, IsToken};
+ghost use Rattle.js_tokens.specs.Scan.{is_digit_in, number_of, fits_in, value_len, fraction_len, begins_mark, begins_nonzero, IsToken};
 
-use crate::bytes::{digit_value, is_digit, is_hexadecimal_digit};
+use crate::bytes::{digit_value, is_digit, is_hexadecimal_digit, is_hexadecimal_mark};
 use crate::token::TokenKind;
 
 /// The base in which a number is written.
@@ -89,34 +90,61 @@ fn fraction_len(s: &[u8]) -> usize
     }
 }
 
-/// The longest number or decimal at the front, which begins with a digit.
-pub fn numeral_at(s: &[u8]) -> (TokenKind, usize)
-    requires some { 0 < length s.now }
-    requires digit { is_digit (slice_index s.now 0) ≡ true }
-    ensures { IsToken s.now result.0 result.1 }
+/// The longest number or decimal at the front of a `0` and what follows it.
+fn zero_at(rest: &[u8]) -> (TokenKind, usize)
+    ensures { IsToken (48 ∷ rest.now) result.0 result.1 }
 {
-    match s {
-        [b'0', b'x' | b'X', rest @ ..] => {
-            let (value, n) = value_at(Base::Sixteen, rest);
-            if n == 0 {
-                (TokenKind::Number(0), 1)
-            } else {
-                (TokenKind::Number(value), n + 2)
-            }
+    if begins_mark(rest) {
+        let (_, digits) = rest.split_at(1);
+        let (value, n) = value_at(Base::Sixteen, digits);
+        if n == 0 {
+            (TokenKind::Number(0), 1)
+        } else {
+            (TokenKind::Number(value), n + 2)
         }
-        [b'0', rest @ ..] => match fraction_len(rest) {
+    } else {
+        match fraction_len(rest) {
             0 => (TokenKind::Number(0), 1),
             n => (TokenKind::Decimal, n + 1),
-        },
-        _ => {
-            let whole = digits_len(s);
-            match fraction_len(&s[whole..]) {
-                0 => {
-                    let (value, n) = value_at(Base::Ten, s);
-                    (TokenKind::Number(value), n)
-                }
-                n => (TokenKind::Decimal, whole + n),
-            }
         }
+    }
+}
+
+fn begins_mark(s: &[u8]) -> bool
+    ensures value { result ≡ begins_mark s.now }
+    ensures some { OnTrue result (0 < length s.now) }
+{
+    match s {
+        [] => false,
+        [b, ..] => is_hexadecimal_mark(*b),
+    }
+}
+
+/// The longest number or decimal at the front, which begins with another digit than 0.
+fn digits_at(s: &[u8]) -> (TokenKind, usize)
+    requires { begins_nonzero s.now ≡ true }
+    ensures { IsToken s.now result.0 result.1 }
+{
+    let whole = digits_len(s);
+    let (_, after) = s.split_at(whole);
+    match fraction_len(after) {
+        0 => {
+            let (value, n) = value_at(Base::Ten, s);
+            (TokenKind::Number(value), n)
+        }
+        n => (TokenKind::Decimal, whole + n),
+    }
+}
+
+/// The longest number or decimal at the front of a text that begins with this digit.
+pub fn numeral_at(first: u8, rest: &[u8], s: &[u8]) -> (TokenKind, usize)
+    requires whole { s.now ≡ first ∷ rest.now }
+    requires digit { is_digit first ≡ true }
+    ensures { IsToken s.now result.0 result.1 }
+{
+    if first == b'0' {
+        zero_at(rest)
+    } else {
+        digits_at(s)
     }
 }
