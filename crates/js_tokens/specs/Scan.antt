@@ -8,7 +8,7 @@ use Rattle.js_tokens.specs.declared.front.Flaw.{Flaw}
 use Rattle.js_tokens.specs.declared.front.Flaw.TheVariants.{NonAscii, BadToken, OpenComment, LiteralForm}
 use Rattle.js_tokens.specs.declared.front.Front.{Front}
 use Rattle.js_tokens.specs.declared.front.Front.TheVariants as fronts
-use Rattle.asm_lexical.specs.Bytes.{is_digit, is_hexadecimal_digit, digit_value, is_hexadecimal_mark, may_be_quoted}
+use Rattle.asm_lexical.specs.Bytes.{is_digit, is_hexadecimal_digit, digit_value, begins_name, is_hexadecimal_mark, is_quote, may_be_quoted}
 use Rattle.asm_lexical.specs.Forms.{kind_of}
 use Rattle.asm_lexical.specs.Text as text
 use Rattle.asm_lexical.specs.Text.{Fault, non_ascii, bad_token, open_comment, literal_form, token_len}
@@ -52,6 +52,11 @@ begins_with q (b ∷ bs) = b == q
 -- how many bytes stand up to the quote q, with it, as long as they may be quoted
 abbrev pub quoted_len : ℕ → List ℕ → ℕ
 quoted_len q bs = if begins_with q (drop (prefix_len (may_be_quoted q) bs) bs) then suc (prefix_len (may_be_quoted q) bs) else 0
+
+-- a byte that begins no name, number, decimal or quoted text
+abbrev pub begins_sign : List ℕ → Bool
+begins_sign [] = false
+begins_sign (b ∷ bs) = not (((begins_name b || is_digit b) || is_quote b) || (b == 46))
 
 -- ---- punctuators by their length
 

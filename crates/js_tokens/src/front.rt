@@ -1,10 +1,10 @@
 //! What stands at the front of a text.
 
-ghost use Rattle.std.specs.Prelude.{◌≡◌, ◌≤◌, ◌<◌, MatchOption, IfSome, length};
+ghost use Rattle.std.specs.Prelude.{◌≡◌, ◌<◌, MatchOption, true, ◌∷◌, length};
 ghost use Rattle.std.specs.List.{prefix_len};
 ghost use Rattle.asm_lexical.specs.Bytes.{is_name_byte};
 ghost use Rattle.asm_lexical.specs.Text.{token_len, comment_len, front_of, token_at, comment_at, is_numeric, runs_on};
-ghost use Rattle.js_tokens.specs.Scan.{IsToken, front_view, IsInside};
+ghost use Rattle.js_tokens.specs.Scan.{IsToken, begins_sign, front_view, IsInside};
 ghost use Rattle.js_tokens.specs.Views.{kind_view};
 
 use crate::bytes::{begins_name, is_ascii, is_digit, is_gap_byte, is_name_byte, is_quote};
@@ -56,25 +56,28 @@ fn longest_token(s: &[u8]) -> Option<(TokenKind, usize)>
             0 => None,
             n => Some((TokenKind::Quoted, n + 1)),
         }
+    } else if *first == b'.' {
+        Some(dot_at(rest))
     } else {
-        sign_at(*first, rest, s)
+        punct_at(s)
     }
 }
 
-/// The longest decimal that begins with a dot, or punctuator.
-fn sign_at(first: u8, rest: &[u8], s: &[u8]) -> Option<(TokenKind, usize)>
-    requires whole { s.now ≡ first ∷ rest.now }
-    requires name { begins_name first ≡ false }
-    requires digit { is_digit first ≡ false }
-    requires quote { is_quote first ≡ false }
+/// The longest token at the front of a dot and what follows it.
+fn dot_at(rest: &[u8]) -> (TokenKind, usize)
+    ensures { IsToken (46 ∷ rest.now) result.0 result.1 }
+{
+    match digits_len(rest) {
+        0 => (TokenKind::Punct, 1),
+        n => (TokenKind::Decimal, n + 1),
+    }
+}
+
+/// The longest punctuator at the front of a text that begins with neither a dot nor a token of another kind.
+fn punct_at(s: &[u8]) -> Option<(TokenKind, usize)>
+    requires { begins_sign s.now ≡ true }
     ensures { MatchOption result (token_len s.now ≡ 0) (λ t. IsToken s.now t.0 t.1) }
 {
-    if first == b'.' {
-        let n = digits_len(rest);
-        if n > 0 {
-            return Some((TokenKind::Decimal, n + 1));
-        }
-    }
     match punct_len(s) {
         0 => None,
         n => Some((TokenKind::Punct, n)),
