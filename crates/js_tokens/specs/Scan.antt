@@ -46,8 +46,8 @@ fraction_len [] = 0
 fraction_len (b ∷ bs) = if b == 46 then suc (prefix_len is_digit bs) else 0
 
 abbrev pub begins_with : ℕ → List ℕ → Bool
-begins_with q [] = false
-begins_with q (b ∷ bs) = b == q
+begins_with a [] = false
+begins_with a (b ∷ bs) = b == a
 
 -- how many bytes stand up to the quote q, with it, as long as they may be quoted
 abbrev pub quoted_len : ℕ → List ℕ → ℕ

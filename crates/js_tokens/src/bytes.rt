@@ -2,6 +2,7 @@
 
 ghost use Rattle.std.specs.Prelude.{◌≡◌, true};
 ghost use Rattle.asm_lexical.specs.Bytes.{is_ascii, is_digit, is_hexadecimal_digit, digit_value, begins_name, is_name_byte, is_line_end, is_gap_byte, is_hexadecimal_mark, is_quote, may_be_quoted};
+ghost use Rattle.js_tokens.specs.Scan.{begins_with};
 
 pub fn is_ascii(b: u8) -> bool
     ensures { result ≡ is_ascii b }
@@ -80,4 +81,14 @@ pub fn may_be_quoted(quote: u8, b: u8) -> bool
     ensures { result ≡ may_be_quoted quote b }
 {
     is_ascii(b) && b != quote && !(b == b'\\' || is_line_end(b))
+}
+
+/// Whether the text begins with this byte.
+pub fn begins_with(b: u8, s: &[u8]) -> bool
+    ensures { result ≡ begins_with b s.now }
+{
+    match s {
+        [] => false,
+        [first, ..] => *first == b,
+    }
 }

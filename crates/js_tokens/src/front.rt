@@ -1,13 +1,14 @@
 //! What stands at the front of a text.
 
-ghost use Rattle.std.specs.Prelude.{◌≡◌, ◌<◌, MatchOption, true, ◌∷◌, length};
+ghost use Rattle.std.specs.Prelude.{◌≡◌, ◌<◌, ◌&&◌, MatchOption, true, ◌∷◌, length};
 ghost use Rattle.std.specs.List.{prefix_len};
 ghost use Rattle.asm_lexical.specs.Bytes.{is_name_byte};
-ghost use Rattle.asm_lexical.specs.Text.{token_len, comment_len, front_of, token_at, comment_at, is_numeric, runs_on};
+ghost use Rattle.asm_lexical.specs.Forms.{begins_separator};
+ghost use Rattle.asm_lexical.specs.Text.{token_len, first_place, front_of, token_at, gap_without, is_numeric, runs_on};
 ghost use Rattle.js_tokens.specs.Scan.{IsToken, begins_sign, front_view, IsInside};
 ghost use Rattle.js_tokens.specs.Views.{kind_view};
 
-use crate::bytes::{begins_name, is_ascii, is_digit, is_gap_byte, is_name_byte, is_quote};
+use crate::bytes::{begins_name, begins_with, is_ascii, is_digit, is_gap_byte, is_name_byte, is_quote};
 use crate::comments::{close_at, line_len, separator_at};
 use crate::numbers::{digits_len, numeral_at};
 use crate::punctuators::punct_len;
@@ -84,10 +85,20 @@ fn punct_at(s: &[u8]) -> Option<(TokenKind, usize)>
     }
 }
 
-/// Whether a number or a decimal is followed at once by a name byte or a dot.
-fn runs_on(kind: TokenKind, after: &[u8]) -> bool {
-    let numeric = matches!(kind, TokenKind::Number(_) | TokenKind::Decimal);
-    numeric && begins_run_on(after)
+/// Whether it is a number or a decimal that is followed at once by a name byte or a dot.
+fn runs_on(kind: TokenKind, after: &[u8]) -> bool
+    ensures { result ≡ (is_numeric (kind_view kind) && runs_on after.now) }
+{
+    is_numeric(kind) && begins_run_on(after)
+}
+
+fn is_numeric(kind: TokenKind) -> bool
+    ensures { result ≡ is_numeric (kind_view kind) }
+{
+    match kind {
+        TokenKind::Number(_) | TokenKind::Decimal => true,
+        TokenKind::Name | TokenKind::Quoted | TokenKind::Punct => false,
+    }
 }
 
 fn begins_run_on(s: &[u8]) -> bool
@@ -100,7 +111,11 @@ fn begins_run_on(s: &[u8]) -> bool
 }
 
 /// The token at the front, or its flaw.
-fn token_front(s: &[u8]) -> Front {
+#[tactic(auto, using(crate::proofs::Fronts::tokens))]
+fn token_front(s: &[u8]) -> Front
+    ensures front { front_view result ≡ token_at (token_len s.now) s.now }
+    ensures inside { IsInside result (length s.now) }
+{
     match longest_token(s) {
         None => Front::Flaw(Flaw::BadToken, 0),
         Some((kind, n)) => {
@@ -114,35 +129,58 @@ fn token_front(s: &[u8]) -> Front {
     }
 }
 
-/// The comment at the front, or its flaw.
-fn comment_front(comment: &[u8]) -> Front {
+/// A comment is a gap, but for a line separator in it.
+fn comment_front(comment: &[u8]) -> Front
+    requires { 0 < length comment.now }
+    ensures front { front_view result ≡ gap_without (length comment.now) (first_place begins_separator comment.now) }
+    ensures inside { IsInside result (length comment.now) }
+{
     match separator_at(comment) {
         None => Front::Gap(comment.len()),
         Some(n) => Front::Flaw(Flaw::NonAscii, n),
     }
 }
 
-/// What stands at the front of a text that isn't empty.
-pub fn front_of(s: &[u8]) -> Front
-    requires { 0 < length s.now }
+/// What stands at the front of a text that begins with a slash.
+fn slash_front(rest: &[u8], s: &[u8]) -> Front
+    requires { s.now ≡ 47 ∷ rest.now }
     ensures front { front_view result ≡ front_of s.now }
     ensures inside { IsInside result (length s.now) }
 {
-    match s {
-        [b'/', b'/', rest @ ..] => comment_front(&s[..2 + line_len(rest)]),
-        [b'/', b'*', rest @ ..] => match close_at(rest) {
+    if begins_with(b'/', rest) {
+        let (comment, _) = s.split_at(1 + line_len(rest));
+        comment_front(comment)
+    } else if begins_with(b'*', rest) {
+        let (_, inner) = rest.split_at(1);
+        match close_at(inner) {
             None => Front::Flaw(Flaw::OpenComment, 0),
-            Some(n) => comment_front(&s[..n + 4]),
-        },
-        [b, ..] => {
-            if is_gap_byte(*b) {
+            Some(n) => {
+                let (comment, _) = s.split_at(n + 4);
+                comment_front(comment)
+            }
+        }
+    } else {
+        token_front(s)
+    }
+}
+
+/// What stands at the front of a text.
+pub fn front_of(s: &[u8]) -> Front
+    ensures front { front_view result ≡ front_of s.now }
+    ensures inside { IsInside result (length s.now) }
+{
+    match s.split_first() {
+        None => Front::Flaw(Flaw::BadToken, 0),
+        Some((first, rest)) => {
+            if is_gap_byte(*first) {
                 Front::Gap(1)
-            } else if is_ascii(*b) {
+            } else if *first == b'/' {
+                slash_front(rest, s)
+            } else if is_ascii(*first) {
                 token_front(s)
             } else {
                 Front::Flaw(Flaw::NonAscii, 0)
             }
         }
-        [] => Front::Flaw(Flaw::BadToken, 0),
     }
 }

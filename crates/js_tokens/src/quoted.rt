@@ -3,9 +3,9 @@
 ghost use Rattle.std.specs.Prelude.{◌≡◌, ◌≤◌, length};
 ghost use Rattle.std.specs.List.{prefix_len};
 ghost use Rattle.asm_lexical.specs.Bytes.{may_be_quoted};
-ghost use Rattle.js_tokens.specs.Scan.{begins_with, quoted_len};
+ghost use Rattle.js_tokens.specs.Scan.{quoted_len};
 
-use crate::bytes::may_be_quoted;
+use crate::bytes::{begins_with, may_be_quoted};
 
 /// How many bytes that may be quoted stand at the front.
 fn inner_len(quote: u8, s: &[u8]) -> usize
@@ -27,13 +27,4 @@ pub fn quoted_len(quote: u8, s: &[u8]) -> usize
     let n = inner_len(quote, s);
     let (_, after) = s.split_at(n);
     if begins_with(quote, after) { n + 1 } else { 0 }
-}
-
-fn begins_with(quote: u8, s: &[u8]) -> bool
-    ensures { result ≡ begins_with quote s.now }
-{
-    match s {
-        [] => false,
-        [b, ..] => *b == quote,
-    }
 }
