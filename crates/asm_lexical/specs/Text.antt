@@ -1,9 +1,9 @@
 -- A text as gaps and tokens, each token the longest that begins at its place, or the first fault of the text
 -- (ECMA-262, 6th edition, section 11).
-use Rattle.std.specs.Prelude.{◌≡◌, ℕ, zero, suc, ◌+◌, Bool, true, false, ◌&&◌, ◌||◌, List, [], ◌∷◌, length, take, drop, Option, Some, None, Result, Ok, Err, ◌==◌, if◌then◌else◌}
+use Rattle.std.specs.Prelude.{◌≡◌, ℕ, zero, suc, ◌+◌, Bool, true, false, ◌&&◌, ◌||◌, List, [], ◌∷◌, ◌++◌, length, take, drop, Option, Some, None, is_none, Result, Ok, Err, ◌==◌, if◌then◌else◌}
 use Rattle.std.specs.List.{list_any}
 use Rattle.asm_lexical.specs.Bytes.{is_ascii, is_name_byte, is_line_end, is_gap_byte}
-use Rattle.asm_lexical.specs.Forms.{is_token, Kind, name, number, decimal, quoted, punctuator, kind_of, is_comment, begins_separator}
+use Rattle.asm_lexical.specs.Forms.{is_empty, is_token, Kind, name, number, decimal, quoted, punctuator, kind_of, is_comment, begins_separator}
 
 -- the greatest length up to n at which the front passes, or 0
 abbrev pub longest : (List ℕ → Bool) → List ℕ → ℕ → ℕ
@@ -26,6 +26,11 @@ next_place (Some n) = Some (suc n)
 abbrev pub first_place : (List ℕ → Bool) → List ℕ → Option ℕ
 first_place test [] = None
 first_place test (b ∷ bs) = if test (b ∷ bs) then Some 0 else next_place (first_place test bs)
+
+-- one byte, or a comment without a line separator
+abbrev pub is_gap : List ℕ → Bool
+is_gap [] = false
+is_gap (b ∷ bs) = (is_gap_byte b && is_empty bs) || (is_comment (b ∷ bs) && is_none (first_place begins_separator (b ∷ bs)))
 
 -- ---- what stands at the front of a text
 
@@ -117,6 +122,11 @@ IsReading source r = Reads 0 false source r
 
 -- ---- what follows for each token and for all together
 
+-- the fact holds of the tokens, if there is no fault
+abbrev pub OfTokens : (List PlacedToken → Type 0) → Result (List PlacedToken) PlacedFault → Type 0
+OfTokens P (Ok ts) = P ts
+OfTokens P (Err f) = Unit {0}
+
 -- the token's text is the source's at its place
 abbrev pub IsAt : List ℕ → PlacedToken → Type 0
 IsAt source t = t.text ≡ take (length t.text) (drop t.at source)
@@ -124,3 +134,9 @@ IsAt source t = t.text ≡ take (length t.text) (drop t.at source)
 -- the token's text has the form of its kind
 abbrev pub HasForm : PlacedToken → Type 0
 HasForm t = (is_token t.text ≡ true) × (kind_of t.text ≡ t.kind)
+
+-- gaps and the tokens' texts, joined in order, are the text
+pub data IsJoined : List ℕ → List PlacedToken → Type 0 where
+  nothing : IsJoined [] []
+  gap_first : (g : List ℕ) {bs xs : List ℕ} {ts : List PlacedToken} → is_gap g ≡ true → g ++ bs ≡ xs → IsJoined bs ts → IsJoined xs ts
+  token_first : {bs xs : List ℕ} {t : PlacedToken} {ts : List PlacedToken} → t.text ++ bs ≡ xs → IsJoined bs ts → IsJoined xs (t ∷ ts)
