@@ -4,3 +4,4 @@ pub mod Words
 pub mod Signs
 pub mod Gaps
 pub mod Fronts
+pub mod GoingOn

@@ -4,6 +4,8 @@ use Rattle.std.specs.List.{prefix_len}
 use Rattle.js_tokens.specs.declared.token.TokenKind.{TokenKind}
 use Rattle.js_tokens.specs.declared.numbers.Base.{Base}
 use Rattle.js_tokens.specs.declared.numbers.Base.TheVariants.{Ten, Sixteen}
+use Rattle.js_tokens.specs.declared.fault.TokenFault.{TokenFault}
+use Rattle.js_tokens.specs.declared.fault.TokenFault.TheVariants as faults
 use Rattle.js_tokens.specs.declared.front.Flaw.{Flaw}
 use Rattle.js_tokens.specs.declared.front.Flaw.TheVariants.{NonAscii, BadToken, OpenComment, LiteralForm}
 use Rattle.js_tokens.specs.declared.front.Front.{Front}
@@ -117,3 +119,11 @@ abbrev pub IsInside : Front → ℕ → Type 0
 IsInside (fronts.Gap n) len = (0 < n) × (n ≤ len)
 IsInside (fronts.Token k n) len = (0 < n) × (n ≤ len)
 IsInside (fronts.Flaw f n) len = n ≤ len
+
+-- the fault is this flaw at this place
+abbrev pub IsFlaw : TokenFault → Flaw → ℕ → Type 0
+IsFlaw (faults.NonAscii at) flaw place = (flaw_view flaw ≡ non_ascii) × (at ≡ place)
+IsFlaw (faults.BadToken at) flaw place = (flaw_view flaw ≡ bad_token) × (at ≡ place)
+IsFlaw (faults.OpenComment at) flaw place = (flaw_view flaw ≡ open_comment) × (at ≡ place)
+IsFlaw (faults.LiteralForm at) flaw place = (flaw_view flaw ≡ literal_form) × (at ≡ place)
+IsFlaw faults.Memory flaw place = ⊥

@@ -2,7 +2,8 @@
 
 ghost use Rattle.std.specs.Prelude.{◌≡◌, IfOk, IfErr, Ok, List, Result};
 ghost use Rattle.std.specs.List.{AllByRecursion};
-ghost use Rattle.asm_lexical.specs.Text.{PlacedToken, PlacedFault, IsReading, IsAt, HasForm};
+ghost use Rattle.asm_lexical.specs.Text.{PlacedToken, PlacedFault, IsReading, IsAt, HasForm, IsJoined};
+ghost use Rattle.js_tokens.specs.Scan.{IsFlaw};
 ghost use Rattle.js_tokens.specs.Views.{placed_tokens, IsFault, Tells};
 
 use crate::comments::has_line_end;
@@ -11,7 +12,9 @@ use crate::front::{Flaw, Front, front_of};
 use crate::token::Token;
 use std::alloc::Global;
 
-fn fault_at(flaw: Flaw, at: u64) -> TokenFault {
+fn fault_at(flaw: Flaw, at: u64) -> TokenFault
+    ensures { IsFlaw result flaw at }
+{
     match flaw {
         Flaw::NonAscii => TokenFault::NonAscii { at },
         Flaw::BadToken => TokenFault::BadToken { at },
@@ -32,7 +35,7 @@ fn all_tokens<'a>(alloc: Global, source: &'a [u8]) -> Result<Vec<Token<'a>>, Tok
         match front_of(rest) {
             Front::Gap(n) => {
                 let (gap, after) = rest.split_at(n);
-                line_before = line_before || has_line_end(gap);
+                line_before |= has_line_end(gap);
                 at += n as u64;
                 rest = after;
             }
@@ -69,6 +72,8 @@ pub fn tokens<'a>(alloc: Global, source: &'a [u8]) -> Result<Vec<Token<'a>>, Tok
     ensures places { IfOk result (λ v. AllByRecursion (IsAt source.now) (placed_tokens v.items)) }
     // Each text has the form of its token's kind.
     ensures forms { IfOk result (λ v. AllByRecursion HasForm (placed_tokens v.items)) }
+    // Gaps and the texts, joined, are the source.
+    ensures joined { IfOk result (λ v. IsJoined source.now (placed_tokens v.items)) }
 {
     all_tokens(alloc, source)
 }
