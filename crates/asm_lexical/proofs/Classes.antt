@@ -1,9 +1,9 @@
 -- The forms that a token may have, by its first byte.
-use Rattle.std.proofs.Common.{◌≡◌, ℕ, Bool, true, false, ◌&&◌, ◌||◌, List, [], ◌∷◌, refl, ap, ◌∙◌, arith, eqb}
-use Rattle.std.specs.List.{list_all, list_any}
-use Rattle.std.proofs.lemmas.Bool.{and_left, and_right, or_from, or_parts, or_left, or_right}
+use Rattle.std.proofs.Common.{◌≡◌, ℕ, Bool, true, false, ◌||◌, List, [], ◌∷◌, refl, arith, eqb}
+use Rattle.std.specs.List.{list_all}
+use Rattle.std.proofs.lemmas.Bool.{and_left, or_from, or_parts, or_left, or_right}
 use Rattle.std.proofs.lemmas.Bool.Decides.{nat_tests}
-use Rattle.asm_lexical.specs.Bytes.{is_digit, begins_name, is_name_byte, is_quote, may_be_quoted}
+use Rattle.asm_lexical.specs.Bytes.{is_digit, begins_name, is_name_byte, is_quote}
 use Rattle.asm_lexical.specs.Forms.{is_name, is_plain, is_hexadecimal, is_number, is_decimal, is_quoted, is_punctuator, is_token, ends_quoted}
 use Rattle.asm_lexical.proofs.Table.{begins_word, no_word_is_punctuator}
 

@@ -1,12 +1,12 @@
 -- Readings of a text.
-use Rattle.std.proofs.Common.{◌≡◌, ℕ, zero, suc, ◌+◌, ◌-◌, ◌≤◌, ◌<◌, Bool, true, false, ◌&&◌, ◌||◌, cond, List, [], ◌∷◌, ◌++◌, length, take, drop, Option, Some, None, Result, Ok, Err, refl, sym, ap, subst, ◌∙◌, arith, length-drop}
+use Rattle.std.proofs.Common.{◌≡◌, ℕ, zero, suc, ◌+◌, ◌≤◌, ◌<◌, Bool, true, false, ◌&&◌, ◌||◌, cond, List, [], ◌∷◌, ◌++◌, length, take, drop, Option, Some, None, Result, Ok, Err, refl, sym, ap, subst, ◌∙◌, arith, length-drop}
 use Rattle.std.specs.Prelude.{is_none}
 use Rattle.std.specs.List.{AllByRecursion, list_any}
 use Rattle.std.proofs.lemmas.Bool.{or_left, or_right, and_from}
 use Rattle.std.proofs.lemmas.List.{take_at, take-append-drop, drop-drop}
 use Rattle.asm_lexical.specs.Bytes.{is_ascii, is_line_end, is_gap_byte}
 use Rattle.asm_lexical.specs.Forms.{is_token, Kind, kind_of, is_comment, begins_separator}
-use Rattle.asm_lexical.specs.Text.{longest, token_len, comment_len, first_place, is_gap, Fault, literal_form, non_ascii, Front, gap, token, fault, gap_without, comment_at, is_numeric, runs_on, token_at, begins_comment, front_of, PlacedToken, PlacedFault, with_first, Reads, the_end, a_fault, a_gap, a_token, OfTokens, IsAt, HasForm, IsJoined, nothing, gap_first, token_first}
+use Rattle.asm_lexical.specs.Text.{longest, token_len, comment_len, first_place, is_gap, literal_form, non_ascii, Front, gap, token, fault, gap_without, comment_at, is_numeric, runs_on, token_at, begins_comment, front_of, PlacedToken, PlacedFault, with_first, Reads, the_end, a_fault, a_gap, a_token, OfTokens, IsAt, HasForm, IsJoined, nothing, gap_first, token_first}
 
 -- ---- a text reads in one way
 

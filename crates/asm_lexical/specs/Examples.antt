@@ -1,7 +1,7 @@
 -- Worked examples that the check computes.
-use Rattle.std.specs.Prelude.{◌≡◌, true, false, [], ◌∷◌, codes, refl}
-use Rattle.asm_lexical.specs.Forms.{is_name, is_number, number_value, is_decimal, is_quoted, is_punctuator, is_comment, number, decimal}
-use Rattle.asm_lexical.specs.Text.{token_len, comment_len, front_of, gap, token, fault, non_ascii, bad_token, open_comment, literal_form}
+use Rattle.std.specs.Prelude.{◌≡◌, true, false, [], ◌∷◌, Ok, Err, codes, refl}
+use Rattle.asm_lexical.specs.Forms.{is_name, is_number, number_value, is_decimal, is_quoted, is_punctuator, is_comment, name, number, decimal, punctuator}
+use Rattle.asm_lexical.specs.Text.{token_len, comment_len, front_of, gap, token, fault, non_ascii, bad_token, open_comment, literal_form, the_end, a_fault, a_gap, a_token, IsReading}
 
 -- ---- forms
 
@@ -109,3 +109,26 @@ byte_above_ascii_is_refused = refl
 pub quoted_byte_above_ascii_is_refused : front_of (39 ∷ 195 ∷ 169 ∷ 39 ∷ []) ≡ fault bad_token 0
 unfolding is_punctuator
 quoted_byte_above_ascii_is_refused = refl
+
+-- ---- whole texts
+
+pub assignment_and_decrement : IsReading (codes "a>>>=b--c") (Ok (
+    record { kind = name; text = codes "a"; at = 0; line_before = false }
+    ∷ record { kind = punctuator; text = codes ">>>="; at = 1; line_before = false }
+    ∷ record { kind = name; text = codes "b"; at = 5; line_before = false }
+    ∷ record { kind = punctuator; text = codes "--"; at = 6; line_before = false }
+    ∷ record { kind = name; text = codes "c"; at = 8; line_before = false } ∷ []))
+unfolding is_punctuator
+assignment_and_decrement = a_token refl (a_token refl (a_token refl (a_token refl (a_token refl the_end))))
+
+-- a line end within a block comment counts, and one before the last token does not count for the next one
+pub line_ends_before_tokens : IsReading (codes "a/*\n*/b c") (Ok (
+    record { kind = name; text = codes "a"; at = 0; line_before = false }
+    ∷ record { kind = name; text = codes "b"; at = 6; line_before = true }
+    ∷ record { kind = name; text = codes "c"; at = 8; line_before = false } ∷ []))
+unfolding is_punctuator
+line_ends_before_tokens = a_token refl (a_gap refl (a_token refl (a_gap refl (a_token refl the_end))))
+
+pub first_fault_of_two : IsReading (codes "a 08 @") (Err (record { fault = literal_form; at = 2 }))
+unfolding is_punctuator
+first_fault_of_two = a_token refl (a_gap refl (a_fault refl))

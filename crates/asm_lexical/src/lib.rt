@@ -9,8 +9,7 @@ ghost use Rattle.asm_lexical.specs.Text.{PlacedToken, PlacedFault, IsReading, Is
 pub fn readings_of_a_text()
     ensures some { (source : List ℕ) → (r : Result (List PlacedToken) PlacedFault) × IsReading source r }
     ensures one { (source : List ℕ) (r s : Result (List PlacedToken) PlacedFault) → IsReading source r → IsReading source s → r ≡ s }
-{
-}
+{}
 
 /// What a reading says of its tokens: each text stands at its place and has the form of its kind, and gaps and texts joined are
 /// the text.
@@ -18,5 +17,4 @@ pub fn tokens_of_a_reading()
     ensures places { (source : List ℕ) (r : Result (List PlacedToken) PlacedFault) → IsReading source r → OfTokens (AllByRecursion (IsAt source)) r }
     ensures forms { (source : List ℕ) (r : Result (List PlacedToken) PlacedFault) → IsReading source r → OfTokens (AllByRecursion HasForm) r }
     ensures joined { (source : List ℕ) (r : Result (List PlacedToken) PlacedFault) → IsReading source r → OfTokens (IsJoined source) r }
-{
-}
+{}

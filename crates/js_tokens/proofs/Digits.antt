@@ -1,5 +1,5 @@
 -- Numbers and decimals at the front of a text.
-use Rattle.std.proofs.Common.{◌≡◌, ℕ, zero, suc, ◌+◌, ◌-◌, ◌*◌, ◌^◌, ◌≤◌, ◌<◌, Bool, true, false, ◌&&◌, ◌||◌, not, cond, List, [], ◌∷◌, ◌++◌, length, get_or, take, drop, refl, sym, ap, subst, ◌∙◌, inl, inr, arith, eqb, ltb, leb, length-drop, add-one, lit<, length-take-le}
+use Rattle.std.proofs.Common.{◌≡◌, ℕ, zero, suc, ◌+◌, ◌-◌, ◌*◌, ◌^◌, ◌≤◌, ◌<◌, Bool, true, false, ◌&&◌, ◌||◌, not, cond, List, [], ◌∷◌, ◌++◌, length, get_or, take, drop, refl, sym, ap, subst, ◌∙◌, inl, inr, arith, eqb, ltb, leb, length-drop, lit<}
 use Rattle.std.specs.List.{list_all, prefix_len}
 use Rattle.std.proofs.lemmas.Bool.{cases_Bool, and_from, and_parts, and_left, and_right, and_cases, or_left, or_right, or_from, both_ways, lt-ltb, leb-true, ltb-true, ltb-false, le-ltb, not-true}
 use Rattle.std.proofs.lemmas.Bool.Decides.{nat_tests}
@@ -9,7 +9,6 @@ use Rattle.asm_lexical.specs.Bytes.{is_digit, is_hexadecimal_digit, digit_value,
 use Rattle.asm_lexical.specs.Forms.{is_empty, is_name, is_some_of, value_in, is_number, number_value, is_fraction, ends_in_fraction, is_decimal, is_token, kind_of, number, decimal}
 use Rattle.asm_lexical.proofs.Longest.{prefix_len-yes, prefix_len-no, front_passes, longer_fails}
 use Rattle.asm_lexical.proofs.Classes.{digit_not_name, digit_not_dot, name_needs, word_is_numeral}
-use Rattle.js_tokens.specs.declared.token.TokenKind.{TokenKind}
 use Rattle.js_tokens.specs.declared.token.TokenKind.TheVariants.{Number, Decimal}
 use Rattle.js_tokens.specs.declared.numbers.Base.{Base}
 use Rattle.js_tokens.specs.declared.numbers.Base.TheVariants.{Ten, Sixteen}

@@ -1,11 +1,11 @@
 -- What stands at the front of a text.
-use Rattle.std.proofs.Common.{◌≡◌, ℕ, zero, suc, ◌+◌, ◌≤◌, ◌<◌, Bool, true, false, ◌&&◌, ◌||◌, List, [], ◌∷◌, length, take, drop, not, Some, None, refl, sym, ap, ◌∙◌, arith, eqb, length-take-le}
+use Rattle.std.proofs.Common.{◌≡◌, ℕ, zero, suc, ◌+◌, ◌≤◌, ◌<◌, true, false, ◌&&◌, ◌||◌, List, [], ◌∷◌, length, take, drop, not, Some, None, refl, sym, ap, ◌∙◌, arith, length-take-le}
 use Rattle.std.specs.List.{position_or_len}
-use Rattle.std.proofs.lemmas.Bool.{or_left, or_right, or_from, and_left}
+use Rattle.std.proofs.lemmas.Bool.{or_left, or_right}
 use Rattle.std.proofs.lemmas.List.Sums.{prefix_len-le-length}
-use Rattle.asm_lexical.specs.Bytes.{is_line_end, is_gap_byte, is_ascii}
+use Rattle.asm_lexical.specs.Bytes.{is_line_end}
 use Rattle.asm_lexical.specs.Forms.{kind_of, begins_close, begins_separator}
-use Rattle.asm_lexical.specs.Text.{Front, first_place, comment_len, gap_without, comment_at, token_len, token_at, is_numeric, runs_on, begins_comment, front_of, gap, token, fault, non_ascii, bad_token, open_comment, literal_form}
+use Rattle.asm_lexical.specs.Text.{first_place, comment_len, gap_without, comment_at, token_len, token_at, is_numeric, runs_on, front_of, token, fault, bad_token, open_comment, literal_form}
 use Rattle.js_tokens.specs.declared.token.TokenKind.{TokenKind}
 use Rattle.js_tokens.specs.Views.{kind_view}
 use Rattle.js_tokens.specs.Scan.{IsToken, begins_with}

@@ -1,12 +1,12 @@
 -- Comments at the front of a text.
-use Rattle.std.proofs.Common.{◌≡◌, ℕ, zero, suc, ◌+◌, ◌≤◌, ◌<◌, Bool, true, false, ◌&&◌, ◌||◌, not, List, [], ◌∷◌, length, take, drop, Option, Some, None, refl, sym, ap, subst, ◌∙◌, inl, inr, arith, eqb, length-take-le}
+use Rattle.std.proofs.Common.{◌≡◌, ℕ, zero, suc, ◌+◌, ◌≤◌, ◌<◌, Bool, true, false, ◌||◌, not, List, [], ◌∷◌, length, take, drop, Option, Some, None, refl, sym, ap, subst, ◌∙◌, inl, inr, arith, eqb}
 use Rattle.std.specs.List.{list_all, prefix_len, position_or_len}
-use Rattle.std.proofs.lemmas.Bool.{cases_Bool, and_parts, eqb-true, or_left, or_right}
+use Rattle.std.proofs.lemmas.Bool.{cases_Bool}
 use Rattle.std.proofs.lemmas.Bool.Decides.{nat_tests}
 use Rattle.std.proofs.lemmas.List.Sums.{prefix_len-le-length}
-use Rattle.asm_lexical.specs.Bytes.{is_line_end, is_gap_byte, is_ascii}
-use Rattle.asm_lexical.specs.Forms.{is_empty, begins_close, is_up_to_close, is_comment, begins_separator}
-use Rattle.asm_lexical.specs.Text.{next_place, first_place, comment_len, gap_without, comment_at, token_at, token_len, begins_comment, front_of, gap, fault, non_ascii, open_comment}
+use Rattle.asm_lexical.specs.Bytes.{is_line_end}
+use Rattle.asm_lexical.specs.Forms.{begins_close, is_up_to_close, is_comment}
+use Rattle.asm_lexical.specs.Text.{next_place, first_place, comment_len}
 use Rattle.asm_lexical.proofs.Longest.{longest_is, prefix_len-yes, front_passes, longer_fails}
 use Rattle.js_tokens.specs.Scan.{begins_with}
 

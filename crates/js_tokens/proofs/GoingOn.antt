@@ -1,13 +1,13 @@
 -- Reading on from where the loop stands.
-use Rattle.std.proofs.Common.{◌≡◌, ℕ, ◌+◌, ◌<◌, ◌≤◌, Bool, true, false, ◌||◌, List, [], ◌∷◌, ◌++◌, length, take, drop, Result, Ok, Err, refl, sym, ap, subst, ◌∙◌, append_assoc, arith, length-drop}
+use Rattle.std.proofs.Common.{◌≡◌, ℕ, ◌+◌, ◌<◌, ◌≤◌, Bool, false, ◌||◌, List, [], ◌∷◌, ◌++◌, length, take, drop, Result, Ok, Err, refl, sym, ap, subst, append_assoc, arith, length-drop}
 use Rattle.std.proofs.lemmas.List.{append-nil}
 use Rattle.std.specs.Prelude.{IfOk, IfErr}
-use Rattle.std.specs.List.{AllByRecursion, list_any}
+use Rattle.std.specs.List.{list_any}
 use Rattle.std.specs.Global.{Vec}
 use Rattle.asm_lexical.specs.Bytes.{is_line_end}
 use Rattle.asm_lexical.specs.Forms.{Kind}
-use Rattle.asm_lexical.specs.Text.{Fault, gap, token, fault, front_of, PlacedToken, PlacedFault, with_first, Reads, the_end, a_fault, a_gap, a_token, IsReading, OfTokens, IsAt, HasForm, IsJoined}
-use Rattle.asm_lexical.proofs.Readings.{same_reading, places_of, forms_of, joined_of}
+use Rattle.asm_lexical.specs.Text.{Fault, gap, token, fault, front_of, PlacedToken, PlacedFault, with_first, Reads, the_end, a_fault, a_gap, a_token, IsReading, OfTokens}
+use Rattle.asm_lexical.proofs.Readings.{same_reading}
 use Rattle.js_tokens.specs.declared.token.Token.{Token}
 use Rattle.js_tokens.specs.declared.fault.TokenFault.{TokenFault}
 use Rattle.js_tokens.specs.declared.fault.TokenFault.TheVariants as faults

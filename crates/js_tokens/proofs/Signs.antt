@@ -1,7 +1,7 @@
 -- Punctuators, and decimals that begin with a dot, at the front of a text.
-use Rattle.std.proofs.Common.{◌≡◌, ℕ, zero, suc, ◌+◌, ◌-◌, ◌≤◌, ◌<◌, Bool, true, false, ◌&&◌, ◌||◌, not, List, [], ◌∷◌, length, take, refl, sym, ap, subst, ◌∙◌, inl, inr, arith, eqb, leb, add-one, add-zero, length-take-le}
-use Rattle.std.specs.List.{list_all, prefix_len}
-use Rattle.std.proofs.lemmas.Bool.{cases_Bool, agree_below_at, and_from, and_parts, and_left, and_right, or_cases, or_parts, or_left, or_right, or_from, both_ways, leb-true, eqb-true, not-true, false_from_ne_true}
+use Rattle.std.proofs.Common.{◌≡◌, ℕ, zero, suc, ◌+◌, ◌-◌, ◌≤◌, ◌<◌, Bool, true, false, ◌&&◌, ◌||◌, not, List, [], ◌∷◌, length, take, refl, sym, ap, subst, ◌∙◌, inl, inr, arith, eqb, add-one, add-zero, length-take-le}
+use Rattle.std.specs.List.{prefix_len}
+use Rattle.std.proofs.lemmas.Bool.{agree_below_at, and_parts, or_cases, or_parts, or_left, or_from, both_ways, eqb-true, not-true, false_from_ne_true}
 use Rattle.std.proofs.lemmas.Bool.Decides.{nat_tests}
 use Rattle.std.proofs.lemmas.List.{take-take}
 use Rattle.std.proofs.lemmas.List.Sums.{prefix_len-le-length}
@@ -11,7 +11,6 @@ use Rattle.asm_lexical.specs.Text.{token_len}
 use Rattle.asm_lexical.proofs.Longest.{longest_is, front_passes, longer_fails}
 use Rattle.asm_lexical.proofs.Table.{of_punctuators, front_is_punctuator}
 use Rattle.asm_lexical.proofs.Classes.{name_needs, number_needs, decimal_needs, quoted_needs, word_is_sign}
-use Rattle.js_tokens.specs.declared.token.TokenKind.{TokenKind}
 use Rattle.js_tokens.specs.declared.token.TokenKind.TheVariants.{Decimal, Punct}
 use Rattle.js_tokens.specs.Scan.{is_punct, is_punct1, takes_equals, doubles, is_punct2, is_punct3, is_punct4, begins_sign, IsToken}
 use Rattle.js_tokens.proofs.Words.{is_found}

@@ -1,10 +1,10 @@
 -- Names and quoted texts at the front of a text.
-use Rattle.std.proofs.Common.{◌≡◌, ℕ, zero, suc, ◌+◌, ◌≤◌, ◌<◌, Bool, true, false, ◌&&◌, not, cond, List, [], ◌∷◌, length, get_or, take, drop, refl, sym, ap, subst, ◌∙◌, inl, inr, arith, eqb, add-one, length-take-le}
-use Rattle.std.specs.List.{list_all, prefix_len}
-use Rattle.std.proofs.lemmas.Bool.{cases_Bool, cases_lt, and_from, and_parts, and_left, and_right, or_left, both_ways, eqb-true, eq-eqb, ne_eqb, not-true}
+use Rattle.std.proofs.Common.{◌≡◌, ℕ, zero, suc, ◌+◌, ◌≤◌, ◌<◌, Bool, true, false, ◌&&◌, not, List, [], ◌∷◌, length, take, drop, refl, sym, ap, subst, ◌∙◌, inl, inr, arith, eqb, add-one, length-take-le}
+use Rattle.std.specs.List.{prefix_len}
+use Rattle.std.proofs.lemmas.Bool.{cases_Bool, cases_lt, and_from, and_parts, and_right, or_left, both_ways, not-true}
 use Rattle.std.proofs.lemmas.List.{drop_all}
 use Rattle.std.proofs.lemmas.List.Sums.{prefix_len-le-length}
-use Rattle.asm_lexical.specs.Bytes.{is_digit, begins_name, is_name_byte, is_ascii, is_line_end, is_quote, may_be_quoted}
+use Rattle.asm_lexical.specs.Bytes.{is_digit, begins_name, is_name_byte, is_ascii, is_quote, may_be_quoted}
 use Rattle.asm_lexical.specs.Forms.{is_name, is_quoted, ends_quoted, is_token, kind_of}
 use Rattle.asm_lexical.specs.Text.{token_len}
 use Rattle.asm_lexical.proofs.Longest.{longest_is, prefix_len-yes, prefix_len-no, front_passes, longer_fails}

@@ -8,7 +8,9 @@ ghost use Rattle.asm_lexical.specs.Text.{token_len, first_place, front_of, token
 ghost use Rattle.js_tokens.specs.Scan.{IsToken, begins_sign, front_view, IsInside};
 ghost use Rattle.js_tokens.specs.Views.{kind_view};
 
-use crate::bytes::{begins_name, begins_with, is_ascii, is_digit, is_gap_byte, is_name_byte, is_quote};
+use crate::bytes::{
+    begins_name, begins_with, is_ascii, is_digit, is_gap_byte, is_name_byte, is_quote,
+};
 use crate::comments::{close_at, line_len, separator_at};
 use crate::numbers::{digits_len, numeral_at};
 use crate::punctuators::punct_len;

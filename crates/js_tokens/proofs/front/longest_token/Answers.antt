@@ -1,4 +1,4 @@
-use Rattle.std.proofs.Common.{sym, ap, ◌∙◌, arith}
+use Rattle.std.proofs.Common.{sym, ◌∙◌, arith}
 use Rattle.js_tokens.proofs.Words.{name_at_front, quoted_at_front, no_quoted_at_front}
 use Rattle.js_tokens.proofs.front.longest_token.Goals as goal
 

@@ -1,10 +1,8 @@
-use Rattle.std.proofs.Common.{◌+◌, ◌<◌, ◌||◌, sym, ap, ◌∙◌, subst, arith, length, take, drop, false-eqb}
-use Rattle.std.specs.List.{list_any}
+use Rattle.std.proofs.Common.{◌<◌, sym, ◌∙◌, arith, length, false-eqb}
 use Rattle.std.proofs.lemmas.Bool.{eqb-true}
 use Rattle.std.proofs.lemmas.List.{map_push}
-use Rattle.asm_lexical.specs.Bytes.{is_line_end}
 use Rattle.js_tokens.specs.Views.{placed_token, placed_tokens, kind_view}
-use Rattle.js_tokens.proofs.GoingOn.{GoesOn, after_gap, after_token, at_fault, at_the_end}
+use Rattle.js_tokens.proofs.GoingOn.{after_gap, after_token, at_fault, at_the_end}
 use Rattle.js_tokens.proofs.reading.all_tokens.Goals as goal
 
 pub loop-rest-preserved-in-Gap : goal.loop-rest-preserved-in-Gap
