@@ -1,16 +1,16 @@
 -- Readings of a text.
-use Rattle.std.proofs.Common.{◌≡◌, ℕ, zero, suc, ◌+◌, ◌≤◌, ◌<◌, Bool, true, false, ◌&&◌, ◌||◌, cond, List, [], ◌∷◌, ◌++◌, length, take, drop, Option, Some, None, Result, Ok, Err, refl, sym, ap, subst, ◌∙◌, arith, length-drop}
+use Rattle.std.proofs.Common.{◌≡◌, ℕ, zero, suc, ◌+◌, ◌≤◌, ◌<◌, Bool, true, false, ◌&&◌, ◌||◌, cond, List, [], ◌∷◌, ◌++◌, length, take, drop, Option, Some, None, Ok, Err, refl, sym, ap, subst, ◌∙◌, arith, length-drop}
 use Rattle.std.specs.Prelude.{is_none}
 use Rattle.std.specs.List.{AllByRecursion, list_any}
 use Rattle.std.proofs.lemmas.Bool.{or_left, or_right, and_from}
 use Rattle.std.proofs.lemmas.List.{take_at, take-append-drop, drop-drop}
 use Rattle.asm_lexical.specs.Bytes.{is_ascii, is_line_end, is_gap_byte}
 use Rattle.asm_lexical.specs.Forms.{is_token, Kind, kind_of, is_comment, begins_separator}
-use Rattle.asm_lexical.specs.Text.{longest, token_len, comment_len, first_place, is_gap, literal_form, non_ascii, Front, gap, token, fault, gap_without, comment_at, is_numeric, runs_on, token_at, begins_comment, front_of, PlacedToken, PlacedFault, with_first, Reads, the_end, a_fault, a_gap, a_token, OfTokens, IsAt, HasForm, IsJoined, nothing, gap_first, token_first}
+use Rattle.asm_lexical.specs.Text.{longest, token_len, comment_len, first_place, is_gap, literal_form, non_ascii, Front, gap, token, fault, gap_without, comment_at, is_numeric, runs_on, token_at, begins_comment, front_of, PlacedToken, Reading, with_first, Reads, the_end, a_fault, a_gap, a_token, OfTokens, IsAt, HasForm, IsJoined, nothing, gap_first, token_first}
 
 -- ---- a text reads in one way
 
-pub same_reading : {at : ℕ} {line : Bool} {xs : List ℕ} {r s : Result (List PlacedToken) PlacedFault} → Reads at line xs r → Reads at line xs s → r ≡ s
+pub same_reading : {at : ℕ} {line : Bool} {xs : List ℕ} {r s : Reading} → Reads at line xs r → Reads at line xs s → r ≡ s
 same_reading the_end the_end = refl
 same_reading (a_fault {at = at} {n = n} {f = f} e) (a_fault {n = m} {f = g} h) = let same : f ≡ g = cc in let place : n ≡ m = cc in λ i. Err (record { fault = same i; at = at + place i })
 same_reading (a_fault e) (a_gap f h) = absurd cc
@@ -112,11 +112,11 @@ front_token b bs k n e =
 
 -- ---- what holds of the tokens of a reading
 
-one_more : (P : PlacedToken → Type 0) (t : PlacedToken) (r : Result (List PlacedToken) PlacedFault) → P t → OfTokens (AllByRecursion P) r → OfTokens (AllByRecursion P) (with_first t r)
+one_more : (P : PlacedToken → Type 0) (t : PlacedToken) (r : Reading) → P t → OfTokens (AllByRecursion P) r → OfTokens (AllByRecursion P) (with_first t r)
 one_more P t (Ok ts) h hs = (h, hs)
 one_more P t (Err f) h hs = tt
 
-pub forms_of : {at : ℕ} {line : Bool} {xs : List ℕ} {r : Result (List PlacedToken) PlacedFault} → Reads at line xs r → OfTokens (AllByRecursion HasForm) r
+pub forms_of : {at : ℕ} {line : Bool} {xs : List ℕ} {r : Reading} → Reads at line xs r → OfTokens (AllByRecursion HasForm) r
 forms_of the_end = tt
 forms_of (a_fault e) = tt
 forms_of (a_gap e h) = forms_of h
@@ -127,22 +127,22 @@ forms_of (a_token {at = at} {b = b} {n = n} {line = line} {bs = bs} {k = k} {r =
 take_again : (n : ℕ) (xs : List ℕ) → take (length (take n xs)) xs ≡ take n xs
 take_again n xs = ap (take (length (take n xs))) (sym (take-append-drop n xs)) ∙ take_at (take n xs) (drop n xs) (length (take n xs)) refl
 
-pub places_of : (source : List ℕ) {at : ℕ} {line : Bool} {xs : List ℕ} {r : Result (List PlacedToken) PlacedFault} → Reads at line xs r → xs ≡ drop at source → OfTokens (AllByRecursion (IsAt source)) r
+pub places_of : (source : List ℕ) {at : ℕ} {line : Bool} {xs : List ℕ} {r : Reading} → Reads at line xs r → xs ≡ drop at source → OfTokens (AllByRecursion (IsAt source)) r
 places_of source the_end e = tt
 places_of source (a_fault f) e = tt
 places_of source (a_gap {at = at} {n = n} f h) e = places_of source h (ap (drop n) e ∙ drop-drop n at source)
 places_of source (a_token {at = at} {b = b} {n = n} {line = line} {bs = bs} {k = k} {r = r} f h) e =
     one_more (IsAt source) (record { kind = k; text = take n (b ∷ bs); at = at; line_before = line }) r (sym (ap (take (length (take n (b ∷ bs)))) (sym e) ∙ take_again n (b ∷ bs))) (places_of source h (ap (drop n) e ∙ drop-drop n at source))
 
-gap_joined : (g bs xs : List ℕ) (r : Result (List PlacedToken) PlacedFault) → is_gap g ≡ true → g ++ bs ≡ xs → OfTokens (IsJoined bs) r → OfTokens (IsJoined xs) r
+gap_joined : (g bs xs : List ℕ) (r : Reading) → is_gap g ≡ true → g ++ bs ≡ xs → OfTokens (IsJoined bs) r → OfTokens (IsJoined xs) r
 gap_joined g bs xs (Ok ts) h e j = gap_first g h e j
 gap_joined g bs xs (Err f) h e j = tt
 
-token_joined : (t : PlacedToken) (bs xs : List ℕ) (r : Result (List PlacedToken) PlacedFault) → t.text ++ bs ≡ xs → OfTokens (IsJoined bs) r → OfTokens (IsJoined xs) (with_first t r)
+token_joined : (t : PlacedToken) (bs xs : List ℕ) (r : Reading) → t.text ++ bs ≡ xs → OfTokens (IsJoined bs) r → OfTokens (IsJoined xs) (with_first t r)
 token_joined t bs xs (Ok ts) e j = token_first e j
 token_joined t bs xs (Err f) e j = tt
 
-pub joined_of : {at : ℕ} {line : Bool} {xs : List ℕ} {r : Result (List PlacedToken) PlacedFault} → Reads at line xs r → OfTokens (IsJoined xs) r
+pub joined_of : {at : ℕ} {line : Bool} {xs : List ℕ} {r : Reading} → Reads at line xs r → OfTokens (IsJoined xs) r
 joined_of the_end = nothing
 joined_of (a_fault e) = tt
 joined_of (a_gap {b = b} {n = n} {bs = bs} {r = r} e h) = gap_joined (take n (b ∷ bs)) (drop n (b ∷ bs)) (b ∷ bs) r (front_gap b bs n e).1 (take-append-drop n (b ∷ bs)) (joined_of h)
@@ -151,12 +151,12 @@ joined_of (a_token {at = at} {b = b} {n = n} {line = line} {bs = bs} {k = k} {r 
 
 -- ---- each text has a reading
 
-read_within : (m at : ℕ) (line : Bool) (xs : List ℕ) → length xs ≤ m → (r : Result (List PlacedToken) PlacedFault) × Reads at line xs r
+read_within : (m at : ℕ) (line : Bool) (xs : List ℕ) → length xs ≤ m → (r : Reading) × Reads at line xs r
 read_within m at line [] le = (Ok [], the_end)
 read_within zero at line (b ∷ bs) le = absurd (omega arith)
 read_within (suc m) at line (b ∷ bs) le =
     let xs : List ℕ = b ∷ bs in
-    let P : Front → Type 0 = λ f. front_of xs ≡ f → (r : Result (List PlacedToken) PlacedFault) × Reads at line xs r in
+    let P : Front → Type 0 = λ f. front_of xs ≡ f → (r : Reading) × Reads at line xs r in
     let each : P (front_of xs) = elim (front_of xs) as P [
       | gap n ↦ λ e. let rest = read_within m (at + n) (line || list_any is_line_end (take n xs)) (drop n xs) (shorter b bs n m (front_gap b bs n e).0 le) in (rest.0, a_gap e rest.1)
       | token k n ↦ λ e. let rest = read_within m (at + n) false (drop n xs) (shorter b bs n m (front_token b bs k n e).0 le) in (with_first (record { kind = k; text = take n xs; at = at; line_before = line }) rest.0, a_token e rest.1)
@@ -167,5 +167,5 @@ read_within (suc m) at line (b ∷ bs) le =
     shorter : (b : ℕ) (bs : List ℕ) (n m : ℕ) → 0 < n → length (b ∷ bs) ≤ suc m → length (drop n (b ∷ bs)) ≤ m
     shorter b bs n m lt le = omega (arith, length-drop n (b ∷ bs))
 
-pub reading_of : (source : List ℕ) → (r : Result (List PlacedToken) PlacedFault) × Reads 0 false source r
+pub reading_of : (source : List ℕ) → (r : Reading) × Reads 0 false source r
 reading_of source = read_within (length source) 0 false source (omega arith)

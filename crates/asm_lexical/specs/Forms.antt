@@ -58,7 +58,9 @@ ends_in_fraction (b ∷ bs) = is_fraction (b ∷ bs) || (is_digit b && ends_in_f
 -- `.` and at least one digit; or `0` or digits that don't begin with 0, and a fraction
 abbrev pub is_decimal : List ℕ → Bool
 is_decimal [] = false
-is_decimal (b ∷ bs) = if b == 46 then is_some_of is_digit bs else (if b == 48 then is_fraction bs else is_digit b && ends_in_fraction bs)
+is_decimal (b ∷ bs) =
+    if b == 46 then is_some_of is_digit bs
+    else (if b == 48 then is_fraction bs else is_digit b && ends_in_fraction bs)
 
 -- ---- quoted texts
 
@@ -101,7 +103,10 @@ pub data Kind : Type 0 where
 -- what kind a token is of
 abbrev pub kind_of : List ℕ → Kind
 kind_of bs =
-    if is_name bs then name else (if is_number bs then number (number_value bs) else (if is_decimal bs then decimal else (if is_quoted bs then quoted else punctuator)))
+    if is_name bs then name
+    else (if is_number bs then number (number_value bs)
+    else (if is_decimal bs then decimal
+    else (if is_quoted bs then quoted else punctuator)))
 
 -- ---- comments
 
@@ -120,7 +125,8 @@ is_up_to_close (b ∷ bs) = if begins_close (b ∷ bs) then is_empty (drop 1 bs)
 abbrev pub is_comment : List ℕ → Bool
 is_comment [] = false
 is_comment (a ∷ []) = false
-is_comment (a ∷ b ∷ bs) = (a == 47) && (((b == 47) && list_all (λ c. not (is_line_end c)) bs) || ((b == 42) && is_up_to_close bs))
+is_comment (a ∷ b ∷ bs) =
+    (a == 47) && (((b == 47) && list_all (λ c. not (is_line_end c)) bs) || ((b == 42) && is_up_to_close bs))
 
 -- U+2028 or U+2029, the other line ends of ECMA-262, in UTF-8
 abbrev pub begins_separator : List ℕ → Bool

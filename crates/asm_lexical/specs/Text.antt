@@ -30,7 +30,8 @@ first_place test (b ∷ bs) = if test (b ∷ bs) then Some 0 else next_place (fi
 -- one byte, or a comment without a line separator
 abbrev pub is_gap : List ℕ → Bool
 is_gap [] = false
-is_gap (b ∷ bs) = (is_gap_byte b && is_empty bs) || (is_comment (b ∷ bs) && is_none (first_place begins_separator (b ∷ bs)))
+is_gap (b ∷ bs) =
+    (is_gap_byte b && is_empty bs) || (is_comment (b ∷ bs) && is_none (first_place begins_separator (b ∷ bs)))
 
 -- ---- what stands at the front of a text
 
@@ -72,7 +73,8 @@ runs_on (b ∷ bs) = is_name_byte b || (b == 46)
 abbrev pub token_at : ℕ → List ℕ → Front
 token_at zero bs = fault bad_token 0
 token_at (suc n) bs =
-    if is_numeric (kind_of (take (suc n) bs)) && runs_on (drop (suc n) bs) then fault literal_form 0 else token (kind_of (take (suc n) bs)) (suc n)
+    if is_numeric (kind_of (take (suc n) bs)) && runs_on (drop (suc n) bs) then fault literal_form 0
+    else token (kind_of (take (suc n) bs)) (suc n)
 
 -- `//` or `/*`
 abbrev pub begins_comment : List ℕ → Bool
@@ -80,7 +82,7 @@ begins_comment [] = false
 begins_comment (a ∷ []) = false
 begins_comment (a ∷ b ∷ bs) = (a == 47) && ((b == 47) || (b == 42))
 
--- a gap is taken where one begins
+-- A gap is taken where one begins. No reading asks for the front of an empty text.
 abbrev pub front_of : List ℕ → Front
 front_of [] = fault bad_token 0
 front_of (b ∷ bs) =
@@ -101,29 +103,34 @@ pub record PlacedFault : Type 0 where
   pub fault : Fault
   pub at : ℕ
 
-abbrev pub with_first : PlacedToken → Result (List PlacedToken) PlacedFault → Result (List PlacedToken) PlacedFault
+-- the tokens of a text, or its first fault
+abbrev pub Reading : Type 0
+Reading = Result (List PlacedToken) PlacedFault
+
+abbrev pub with_first : PlacedToken → Reading → Reading
 with_first t (Ok ts) = Ok (t ∷ ts)
 with_first t (Err f) = Err f
 
 -- The text from an offset on is these tokens with gaps round them, or has this fault as its first. `line` says whether a line
 -- end stands before it, after the last token.
-pub data Reads : ℕ → Bool → List ℕ → Result (List PlacedToken) PlacedFault → Type 0 where
+pub data Reads : ℕ → Bool → List ℕ → Reading → Type 0 where
   the_end : {at : ℕ} {line : Bool} → Reads at line [] (Ok [])
-  a_fault : {at b n : ℕ} {line : Bool} {bs : List ℕ} {f : Fault} → front_of (b ∷ bs) ≡ fault f n → Reads at line (b ∷ bs) (Err (record { fault = f; at = at + n }))
-  a_gap : {at b n : ℕ} {line : Bool} {bs : List ℕ} {r : Result (List PlacedToken) PlacedFault} → front_of (b ∷ bs) ≡ gap n
-      → Reads (at + n) (line || list_any is_line_end (take n (b ∷ bs))) (drop n (b ∷ bs)) r → Reads at line (b ∷ bs) r
-  a_token : {at b n : ℕ} {line : Bool} {bs : List ℕ} {k : Kind} {r : Result (List PlacedToken) PlacedFault} → front_of (b ∷ bs) ≡ token k n
+  a_fault : {at b n : ℕ} {line : Bool} {bs : List ℕ} {f : Fault} → front_of (b ∷ bs) ≡ fault f n
+      → Reads at line (b ∷ bs) (Err (record { fault = f; at = at + n }))
+  a_gap : {at b n : ℕ} {line : Bool} {bs : List ℕ} {r : Reading} → front_of (b ∷ bs) ≡ gap n
+      → Reads (at + n) (line || list_any is_line_end (take n (b ∷ bs))) (drop n (b ∷ bs)) r
+      → Reads at line (b ∷ bs) r
+  a_token : {at b n : ℕ} {line : Bool} {bs : List ℕ} {k : Kind} {r : Reading} → front_of (b ∷ bs) ≡ token k n
       → Reads (at + n) false (drop n (b ∷ bs)) r
       → Reads at line (b ∷ bs) (with_first (record { kind = k; text = take n (b ∷ bs); at = at; line_before = line }) r)
 
--- the tokens of a text, or its first fault
-abbrev pub IsReading : List ℕ → Result (List PlacedToken) PlacedFault → Type 0
+abbrev pub IsReading : List ℕ → Reading → Type 0
 IsReading source r = Reads 0 false source r
 
 -- ---- what follows for each token and for all together
 
 -- the fact holds of the tokens, if there is no fault
-abbrev pub OfTokens : (List PlacedToken → Type 0) → Result (List PlacedToken) PlacedFault → Type 0
+abbrev pub OfTokens : (List PlacedToken → Type 0) → Reading → Type 0
 OfTokens P (Ok ts) = P ts
 OfTokens P (Err f) = Unit {0}
 
@@ -138,5 +145,7 @@ HasForm t = (is_token t.text ≡ true) × (kind_of t.text ≡ t.kind)
 -- gaps and the tokens' texts, joined in order, are the text
 pub data IsJoined : List ℕ → List PlacedToken → Type 0 where
   nothing : IsJoined [] []
-  gap_first : (g : List ℕ) {bs xs : List ℕ} {ts : List PlacedToken} → is_gap g ≡ true → g ++ bs ≡ xs → IsJoined bs ts → IsJoined xs ts
-  token_first : {bs xs : List ℕ} {t : PlacedToken} {ts : List PlacedToken} → t.text ++ bs ≡ xs → IsJoined bs ts → IsJoined xs (t ∷ ts)
+  gap_first : (g : List ℕ) {bs xs : List ℕ} {ts : List PlacedToken} → is_gap g ≡ true → g ++ bs ≡ xs → IsJoined bs ts
+      → IsJoined xs ts
+  token_first : {bs xs : List ℕ} {t : PlacedToken} {ts : List PlacedToken} → t.text ++ bs ≡ xs → IsJoined bs ts
+      → IsJoined xs (t ∷ ts)

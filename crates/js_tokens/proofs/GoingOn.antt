@@ -6,7 +6,7 @@ use Rattle.std.specs.List.{list_any}
 use Rattle.std.specs.Global.{Vec}
 use Rattle.asm_lexical.specs.Bytes.{is_line_end}
 use Rattle.asm_lexical.specs.Forms.{Kind}
-use Rattle.asm_lexical.specs.Text.{Fault, gap, token, fault, front_of, PlacedToken, PlacedFault, with_first, Reads, the_end, a_fault, a_gap, a_token, IsReading, OfTokens}
+use Rattle.asm_lexical.specs.Text.{Fault, gap, token, fault, front_of, PlacedToken, Reading, with_first, Reads, the_end, a_fault, a_gap, a_token, IsReading, OfTokens}
 use Rattle.asm_lexical.proofs.Readings.{same_reading}
 use Rattle.js_tokens.specs.declared.token.Token.{Token}
 use Rattle.js_tokens.specs.declared.fault.TokenFault.{TokenFault}
@@ -15,31 +15,31 @@ use Rattle.js_tokens.specs.declared.front.Flaw.{Flaw}
 use Rattle.js_tokens.specs.Views.{placed_tokens, HasFault, IsFault, Tells}
 use Rattle.js_tokens.specs.Scan.{flaw_view, IsFlaw}
 
-abbrev pub with_front : List PlacedToken → Result (List PlacedToken) PlacedFault → Result (List PlacedToken) PlacedFault
+abbrev pub with_front : List PlacedToken → Reading → Reading
 with_front ts (Ok us) = Ok (ts ++ us)
 with_front ts (Err f) = Err f
 
 -- what the text from here on is, the whole text is, with the tokens so far before it
 pub record GoesOn (source : List ℕ) (so_far : List PlacedToken) (at : ℕ) (line : Bool) (rest : List ℕ) : Type 0 where
   pub place : at + length rest ≡ length source
-  pub reads : (r : Result (List PlacedToken) PlacedFault) → Reads at line rest r → IsReading source (with_front so_far r)
+  pub reads : (r : Reading) → Reads at line rest r → IsReading source (with_front so_far r)
 
-front_of_none : (r : Result (List PlacedToken) PlacedFault) → with_front [] r ≡ r
+front_of_none : (r : Reading) → with_front [] r ≡ r
 front_of_none (Ok ts) = refl
 front_of_none (Err f) = refl
 
-front_more : (ts : List PlacedToken) (t : PlacedToken) (r : Result (List PlacedToken) PlacedFault) → with_front ts (with_first t r) ≡ with_front (ts ++ t ∷ []) r
-front_more ts t (Ok us) = ap (λ (x : List PlacedToken). let y : Result (List PlacedToken) PlacedFault = Ok x in y) (sym (append_assoc ts (t ∷ []) us))
+front_more : (ts : List PlacedToken) (t : PlacedToken) (r : Reading) → with_front ts (with_first t r) ≡ with_front (ts ++ t ∷ []) r
+front_more ts t (Ok us) = ap (λ (x : List PlacedToken). let y : Reading = Ok x in y) (sym (append_assoc ts (t ∷ []) us))
 front_more ts t (Err f) = refl
 
 pub begins : (source : List ℕ) → GoesOn source [] 0 false source
 begins source = record { place = omega arith; reads = λ r h. subst (IsReading source) (sym (front_of_none r)) h }
 
-gap_of : (at n : ℕ) (line : Bool) (xs : List ℕ) (r : Result (List PlacedToken) PlacedFault) → 0 < length xs → gap n ≡ front_of xs → Reads (at + n) (line || list_any is_line_end (take n xs)) (drop n xs) r → Reads at line xs r
+gap_of : (at n : ℕ) (line : Bool) (xs : List ℕ) (r : Reading) → 0 < length xs → gap n ≡ front_of xs → Reads (at + n) (line || list_any is_line_end (take n xs)) (drop n xs) r → Reads at line xs r
 gap_of at n line [] r lt e h = absurd (omega arith)
 gap_of at n line (b ∷ bs) r lt e h = a_gap (sym e) h
 
-token_of : (at n : ℕ) (line : Bool) (k : Kind) (xs : List ℕ) (r : Result (List PlacedToken) PlacedFault) → 0 < length xs → token k n ≡ front_of xs → Reads (at + n) false (drop n xs) r
+token_of : (at n : ℕ) (line : Bool) (k : Kind) (xs : List ℕ) (r : Reading) → 0 < length xs → token k n ≡ front_of xs → Reads (at + n) false (drop n xs) r
     → Reads at line xs (with_first (record { kind = k; text = take n xs; at = at; line_before = line }) r)
 token_of at n line k [] r lt e h = absurd (omega arith)
 token_of at n line k (b ∷ bs) r lt e h = a_token (sym e) h
@@ -80,7 +80,7 @@ at_the_end source so_far at line (b ∷ bs) g e = absurd (omega arith)
 
 -- ---- what the answer says
 
-pub tells : (source : List ℕ) (result : Result (Vec Token) TokenFault) (r : Result (List PlacedToken) PlacedFault) → IfOk result (λ v. IsReading source (Ok (placed_tokens v.items))) → IfErr result (λ e. IsFault source e) → IsReading source r → Tells r result
+pub tells : (source : List ℕ) (result : Result (Vec Token) TokenFault) (r : Reading) → IfOk result (λ v. IsReading source (Ok (placed_tokens v.items))) → IfErr result (λ e. IsFault source e) → IsReading source r → Tells r result
 tells source (Ok v) r found wrong h = same_reading h found
 tells source (Err (faults.NonAscii at)) r found wrong h = same_reading h wrong
 tells source (Err (faults.BadToken at)) r found wrong h = same_reading h wrong
@@ -88,6 +88,6 @@ tells source (Err (faults.OpenComment at)) r found wrong h = same_reading h wron
 tells source (Err (faults.LiteralForm at)) r found wrong h = same_reading h wrong
 tells source (Err faults.Memory) r found wrong h = tt
 
-pub of_found : (source : List ℕ) (P : List PlacedToken → Type 0) (result : Result (Vec Token) TokenFault) → ((r : Result (List PlacedToken) PlacedFault) → IsReading source r → OfTokens P r) → IfOk result (λ v. IsReading source (Ok (placed_tokens v.items))) → IfOk result (λ v. P (placed_tokens v.items))
+pub of_found : (source : List ℕ) (P : List PlacedToken → Type 0) (result : Result (Vec Token) TokenFault) → ((r : Reading) → IsReading source r → OfTokens P r) → IfOk result (λ v. IsReading source (Ok (placed_tokens v.items))) → IfOk result (λ v. P (placed_tokens v.items))
 of_found source P (Ok v) law h = law (Ok (placed_tokens v.items)) h
 of_found source P (Err e) law h = tt

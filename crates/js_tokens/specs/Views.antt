@@ -7,7 +7,7 @@ use Rattle.js_tokens.specs.declared.token.Token.{Token}
 use Rattle.js_tokens.specs.declared.fault.TokenFault.{TokenFault}
 use Rattle.js_tokens.specs.declared.fault.TokenFault.TheVariants as faults
 use Rattle.asm_lexical.specs.Forms.{Kind, name, number, decimal, quoted, punctuator}
-use Rattle.asm_lexical.specs.Text.{Fault, non_ascii, bad_token, open_comment, literal_form, PlacedToken, PlacedFault, IsReading}
+use Rattle.asm_lexical.specs.Text.{Fault, non_ascii, bad_token, open_comment, literal_form, PlacedToken, Reading, IsReading}
 
 abbrev pub kind_view : TokenKind → Kind
 kind_view kinds.Name = name
@@ -35,7 +35,7 @@ IsFault source (faults.LiteralForm at) = HasFault source literal_form at
 IsFault source faults.Memory = Unit {0}
 
 -- what was returned is this, unless memory ran out
-abbrev pub Tells : Result (List PlacedToken) PlacedFault → Result (Vec Token) TokenFault → Type 0
+abbrev pub Tells : Reading → Result (Vec Token) TokenFault → Type 0
 Tells r (Ok v) = r ≡ Ok (placed_tokens v.items)
 Tells r (Err (faults.NonAscii at)) = r ≡ Err (record { fault = non_ascii; at = at })
 Tells r (Err (faults.BadToken at)) = r ≡ Err (record { fault = bad_token; at = at })

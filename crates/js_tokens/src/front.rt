@@ -134,7 +134,8 @@ fn token_front(s: &[u8]) -> Front
 /// A comment is a gap, but for a line separator in it.
 fn comment_front(comment: &[u8]) -> Front
     requires { 0 < length comment.now }
-    ensures front { front_view result ≡ gap_without (length comment.now) (first_place begins_separator comment.now) }
+    ensures front { front_view result
+        ≡ gap_without (length comment.now) (first_place begins_separator comment.now) }
     ensures inside { IsInside result (length comment.now) }
 {
     match separator_at(comment) {

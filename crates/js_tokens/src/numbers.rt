@@ -39,7 +39,8 @@ impl Base {
 
 /// The value with one more digit, if this is a digit and the value stays below 2^64.
 fn with_digit(base: Base, value: u64, b: u8) -> Option<u64>
-    ensures { MatchOption result (fits_in base value b ≡ false) (λ next. (fits_in base value b ≡ true) × (next ≡ number_of base * value + digit_value b)) }
+    ensures { MatchOption result (fits_in base value b ≡ false)
+        (λ next. (fits_in base value b ≡ true) × (next ≡ number_of base * value + digit_value b)) }
 {
     if !base.has_digit(b) {
         return None;

@@ -1,8 +1,8 @@
 //! A text cut into its tokens.
 
-ghost use Rattle.std.specs.Prelude.{◌≡◌, IfOk, IfErr, Ok, List, Result};
+ghost use Rattle.std.specs.Prelude.{◌≡◌, IfOk, IfErr, Ok};
 ghost use Rattle.std.specs.List.{AllByRecursion};
-ghost use Rattle.asm_lexical.specs.Text.{PlacedToken, PlacedFault, IsReading, IsAt, HasForm, IsJoined};
+ghost use Rattle.asm_lexical.specs.Text.{Reading, IsReading, IsAt, HasForm, IsJoined};
 ghost use Rattle.js_tokens.specs.Scan.{IsFlaw};
 ghost use Rattle.js_tokens.specs.Views.{placed_tokens, IsFault, Tells};
 
@@ -67,7 +67,7 @@ pub fn tokens<'a>(alloc: Global, source: &'a [u8]) -> Result<Vec<Token<'a>>, Tok
     // A fault is the first of the text.
     ensures fault { IfErr result (λ e. IsFault source.now e) }
     // What the text is, the answer says, unless memory runs out: so a text has one list of tokens or one fault.
-    ensures only { (r : Result (List PlacedToken) PlacedFault) → IsReading source.now r → Tells r result }
+    ensures only { (r : Reading) → IsReading source.now r → Tells r result }
     // Each text is the source's at its place.
     ensures places { IfOk result (λ v. AllByRecursion (IsAt source.now) (placed_tokens v.items)) }
     // Each text has the form of its token's kind.
