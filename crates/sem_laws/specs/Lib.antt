@@ -1,0 +1,7 @@
+pub mod Script
+pub mod Observation
+pub mod Imports
+pub mod Names
+pub mod Simulation
+pub mod CallingForms
+pub mod Views

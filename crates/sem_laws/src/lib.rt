@@ -1,0 +1,9 @@
+//! The language in which every statement about runs is said: scripts, observations, simulation, and
+//! the calling forms of the two translations with their names.
+#![tactic(auto)]
+
+mod observation;
+mod script;
+
+pub use observation::{End, Event, Observation};
+pub use script::{CallLine, CallShape, GlobalLine, Misfit, Reply, ReplyLine, Script, WriteLine};
