@@ -2,8 +2,10 @@
 //! the calling forms of the two translations with their names.
 #![tactic(auto)]
 
+mod naming;
 mod observation;
 mod script;
 
+pub use naming::{export_name, import_name};
 pub use observation::{End, Event, Observation};
 pub use script::{CallLine, CallShape, GlobalLine, Misfit, Reply, ReplyLine, Script, WriteLine};
