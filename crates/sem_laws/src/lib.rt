@@ -2,10 +2,12 @@
 //! the calling forms of the two translations with their names.
 #![tactic(auto)]
 
+mod comparing;
 mod naming;
 mod observation;
 mod script;
 
+pub use comparing::below;
 pub use naming::{export_name, import_name};
 pub use observation::{End, Event, Observation};
 pub use script::{CallLine, CallShape, GlobalLine, Misfit, Reply, ReplyLine, Script, WriteLine};
