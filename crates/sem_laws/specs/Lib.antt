@@ -5,3 +5,4 @@ pub mod Names
 pub mod Simulation
 pub mod CallingForms
 pub mod Views
+pub mod ShapeTable

@@ -6,8 +6,10 @@ mod comparing;
 mod naming;
 mod observation;
 mod script;
+mod splitting;
 
 pub use comparing::below;
 pub use naming::{export_name, import_name};
 pub use observation::{End, Event, Observation};
+pub use splitting::split_script;
 pub use script::{CallLine, CallShape, GlobalLine, Misfit, Reply, ReplyLine, Script, WriteLine};
