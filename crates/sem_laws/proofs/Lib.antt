@@ -1,2 +1,7 @@
 pub mod Examples
 pub mod Fronts
+pub mod BelowLaws
+pub mod Sides
+pub mod Runs
+pub mod Composing
+pub mod Forms

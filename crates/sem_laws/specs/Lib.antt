@@ -6,3 +6,4 @@ pub mod Simulation
 pub mod CallingForms
 pub mod Views
 pub mod ShapeTable
+pub mod Laws
