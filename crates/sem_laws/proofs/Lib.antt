@@ -5,3 +5,4 @@ pub mod Sides
 pub mod Runs
 pub mod Composing
 pub mod Forms
+pub mod NameLaws

@@ -3,6 +3,7 @@
 #![tactic(auto)]
 
 mod comparing;
+pub mod laws;
 mod naming;
 mod observation;
 mod script;
