@@ -1,10 +1,9 @@
 -- What is seen earlier or later: prefixes, below, and the two sides of a comparison.
-use Rattle.std.proofs.Common.{◌≡◌, ℕ, zero, suc, ◌+◌, ◌-◌, ◌<◌, ◌≤◌, List, [], ◌∷◌, ◌++◌, length, take, drop, Option, Some, None, option_map, is_some, true, false, refl, sym, ap, ◌∙◌, subst, inl, inr, ⊎_elim, arith}
+use Rattle.std.proofs.Common.{◌≡◌, ℕ, zero, suc, ◌≤◌, List, [], ◌++◌, Option, Some, None, option_map, refl, sym, ap, ◌∙◌, subst, ⊎_elim, arith}
 use Rattle.std.proofs.lemmas.Bool.{cases_lt}
 use Rattle.std.proofs.lemmas.List.{append-nil, append_assoc}
 use Rattle.sem_laws.specs.Observation.{EventPlain, EndPlain, ObservationPlain, as_stop, IsPrefix, IsSame, BelowFrom, IsBelow}
-use Rattle.sem_laws.specs.Simulation.{Session, IsMonotone, HeapsAgree, Comparison, IsSameAs, SourceBelowFrom, SourceIsBelow, TargetBelowFrom, TargetIsBelow, Sim}
-use Rattle.sem_laws.specs.Laws.{BelowIsReflexive, BelowIsTransitive, MonotoneSessionsGrow, KeepsPrefixes, KeepsOrder, GoesWithBelow, ComparisonsGoWithBelow, IsMatched, MatchedSessionsSimulate, IsFollowed, FollowedSessionsSimulate}
+use Rattle.sem_laws.specs.Laws.{BelowIsReflexive, BelowIsTransitive, MonotoneSessionsGrow}
 
 -- ---- prefixes
 
@@ -62,9 +61,9 @@ below_is_transitive x y z h k =
     below_from x z
     (λ is. prefix_trans x.events y.events z.events (below_prefix x y h) (below_prefix y z k))
     (λ e is.
-      let s = below_ended x y e h is in
-      let there = ended_too as_stop as_stop x.end y.end e s.end is in
-      same_trans x y z s (below_ended y z there.0 k there.1))
+    let s = below_ended x y e h is in
+    let there = ended_too as_stop as_stop x.end y.end e s.end is in
+    same_trans x y z s (below_ended y z there.0 k there.1))
 
 pub monotone_sessions_grow : MonotoneSessionsGrow
 monotone_sessions_grow session monotone n m le = go m le
@@ -77,6 +76,6 @@ monotone_sessions_grow session monotone n m le = go m le
         ⊎_elim
         (λ lt. below_is_transitive (session n) (session m) (session (suc m)) (go m (omega arith)) (monotone m))
         (λ ge.
-          let e : n ≡ suc m = omega arith in
-          subst (λ k. IsBelow (session n) (session k)) e (below_is_reflexive (session n)))
+        let e : n ≡ suc m = omega arith in
+        subst (λ k. IsBelow (session n) (session k)) e (below_is_reflexive (session n)))
         (cases_lt n (suc m))

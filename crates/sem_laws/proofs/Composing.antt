@@ -1,9 +1,9 @@
 -- One simulation after another.
-use Rattle.std.proofs.Common.{◌≡◌, ℕ, ◌+◌, ◌-◌, ◌<◌, ◌≤◌, min, List, [], ◌∷◌, ◌++◌, length, take, drop, map, Option, Some, None, option_map, refl, sym, ap, ◌∙◌, subst, ⊎_elim, arith}
+use Rattle.std.proofs.Common.{◌≡◌, ℕ, ◌+◌, ◌-◌, ◌<◌, ◌≤◌, List, ◌++◌, length, take, drop, sym, ap, ◌∙◌, subst, ⊎_elim, arith}
 use Rattle.std.proofs.lemmas.Bool.{cases_lt}
-use Rattle.std.proofs.lemmas.List.{append_assoc, take-take, take-append-drop, drop-append-le, drop_all, length-take, length-drop, length-append}
-use Rattle.sem_laws.specs.Observation.{EventPlain, EndPlain, ObservationPlain, as_stop, IsPrefix}
-use Rattle.sem_laws.specs.Simulation.{Session, HeapsAgree, Comparison, IsSameAs, SourceIsBelow, TargetIsBelow, Sim}
+use Rattle.std.proofs.lemmas.List.{take-take, take-append-drop, drop-append-le, drop_all, length-take, length-drop, length-append}
+use Rattle.sem_laws.specs.Observation.{EventPlain, ObservationPlain, IsPrefix}
+use Rattle.sem_laws.specs.Simulation.{Comparison, IsSameAs, SourceIsBelow, TargetIsBelow}
 use Rattle.sem_laws.specs.Laws.{KeepsOrder, HeapsCompose, composed, SimulationsCompose}
 use Rattle.sem_laws.proofs.BelowLaws.{prefix_trans, stops_go_over}
 use Rattle.sem_laws.proofs.Sides.{source_from, source_ended, source_prefix, target_from, target_ended, target_prefix, target_too, source_too}
@@ -29,6 +29,7 @@ past_the_source n fm m ft e len = ⊎_elim longer within (cases_lt (length fm) n
         ap (λ k. drop n fm ++ drop k ft) same
         ∙ sym (drop-append-le n fm (drop (length fm) ft) le)
         ∙ ap (drop n) (sym (split_at_front fm ft e))
+
     longer : length fm < n → drop n fm ++ drop (length m) ft ≡ drop n ft
     longer lt =
         let same : length m ≡ n = omega arith in
@@ -64,23 +65,23 @@ module _ (first second : Comparison) (untouched : (events : List EventPlain) →
   source_composed x y z h k =
       source_from (composed first second) x z
       (λ is.
-        let p : IsPrefix (first.source_events x.events) y.events = subst (λ events. IsPrefix (first.source_events x.events) events) (untouched y.events) (source_prefix first x y h) in
-        prefix_trans (second.source_events (first.source_events x.events)) (second.source_events y.events) (second.target_events z.events) (keeps.source (first.source_events x.events) y.events p) (source_prefix second y z k))
+      let p : IsPrefix (first.source_events x.events) y.events = subst (λ events. IsPrefix (first.source_events x.events) events) (untouched y.events) (source_prefix first x y h) in
+      prefix_trans (second.source_events (first.source_events x.events)) (second.source_events y.events) (second.target_events z.events) (keeps.source (first.source_events x.events) y.events p) (source_prefix second y z k))
       (λ e is.
-        let s = source_ended first x y e h is in
-        let there = target_too first x y e s is in
-        same_composed x y z s (source_ended second y z there.0 k there.1))
+      let s = source_ended first x y e h is in
+      let there = target_too first x y e s is in
+      same_composed x y z s (source_ended second y z there.0 k there.1))
 
   target_composed : (z y x : ObservationPlain) → TargetIsBelow second z y → TargetIsBelow first y x → TargetIsBelow (composed first second) z x
   target_composed z y x h k =
       target_from (composed first second) z x
       (λ is.
-        let p : IsPrefix y.events (first.source_events x.events) = subst (λ events. IsPrefix events (first.source_events x.events)) (untouched y.events) (target_prefix first y x k) in
-        prefix_trans (second.target_events z.events) (second.source_events y.events) (second.source_events (first.source_events x.events)) (target_prefix second z y h) (keeps.source y.events (first.source_events x.events) p))
+      let p : IsPrefix y.events (first.source_events x.events) = subst (λ events. IsPrefix events (first.source_events x.events)) (untouched y.events) (target_prefix first y x k) in
+      prefix_trans (second.target_events z.events) (second.source_events y.events) (second.source_events (first.source_events x.events)) (target_prefix second z y h) (keeps.source y.events (first.source_events x.events) p))
       (λ e is.
-        let t = target_ended second z y e h is in
-        let there = source_too second y z e t is in
-        same_composed x y z (target_ended first y x there.0 k there.1) t)
+      let t = target_ended second z y e h is in
+      let there = source_too second y z e t is in
+      same_composed x y z (target_ended first y x there.0 k there.1) t)
 
 pub simulations_compose : SimulationsCompose
 simulations_compose first second untouched keeps begins source middle target there back = record {

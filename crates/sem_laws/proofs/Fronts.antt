@@ -1,5 +1,5 @@
 -- Lists that begin with others, place by place.
-use Rattle.std.proofs.Common.{◌≡◌, ℕ, ◌+◌, ◌<◌, ◌≤◌, List, ◌++◌, length, get_or, take, drop, map, refl, sym, ap, ◌∙◌, arith}
+use Rattle.std.proofs.Common.{◌≡◌, ℕ, ◌+◌, ◌<◌, ◌≤◌, List, ◌++◌, length, get_or, take, drop, map, sym, ap, ◌∙◌, arith}
 use Rattle.std.proofs.lemmas.List.{get_or-map, take_all, take-append-drop, take_more_same, length-map}
 use Rattle.std.proofs.lemmas.List.Prefix.{front_reads}
 use Rattle.sem_laws.specs.Observation.{EventPlain, IsPrefix}

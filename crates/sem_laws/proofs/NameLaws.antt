@@ -1,9 +1,9 @@
 -- Names are plain, different names stay different, and the fixed names are kept.
-use Rattle.std.proofs.Common.{◌≡◌, ◌≢◌, ℕ, suc, ◌+◌, ◌/◌, ◌%◌, ◌<◌, ◌==◌, nat_eq, Bool, true, false, ◌&&◌, not, if◌then◌else◌, cond, List, [], ◌∷◌, ◌++◌, drop, length, slice_index, codes, Ok, refl, sym, ap, ◌∙◌, subst, arith}
+use Rattle.std.proofs.Common.{◌≡◌, ◌≢◌, ℕ, suc, ◌/◌, ◌%◌, ◌<◌, ◌==◌, nat_eq, Bool, true, false, ◌&&◌, not, if◌then◌else◌, List, [], ◌∷◌, ◌++◌, drop, slice_index, codes, refl, sym, ap, ◌∙◌, arith}
 use Rattle.std.specs.List.{list_all, starts_with}
 use Rattle.std.specs.Str.{bytes_eq}
 use Rattle.std.proofs.lemmas.Bool.{and_parts, false≢true}
-use Rattle.std.proofs.lemmas.List.{append_assoc, append_cancel_left}
+use Rattle.std.proofs.lemmas.List.{append_assoc}
 use Rattle.std.proofs.lemmas.List.Folds.{list_all-append}
 use Rattle.std.proofs.lemmas.List.Sums.{AllPass-from_list_all}
 use Rattle.std.proofs.lemmas.Slice.Eq.{bytes_eq-Decides}
@@ -106,13 +106,13 @@ pub different_imports_have_different_names : DifferentImportsHaveDifferentNames
 different_imports_have_different_names m f m' f' bm bf bm' bf' =
     of_both (λ name. name ≡ import_name m' f' → (m ≡ m') × (f ≡ f')) (is_own_name m f) f (marked_import m f)
     (λ own.
-      of_both (λ name. f ≡ name → (m ≡ m') × (f ≡ f')) (is_own_name m' f') f' (marked_import m' f')
-      (λ other e. ((own_name m f own).from_env ∙ sym (own_name m' f' other).from_env, e))
-      (λ other e. absurd ((own_name m f own).unmarked (marked_starts m' f' f e))))
+    of_both (λ name. f ≡ name → (m ≡ m') × (f ≡ f')) (is_own_name m' f') f' (marked_import m' f')
+    (λ other e. ((own_name m f own).from_env ∙ sym (own_name m' f' other).from_env, e))
+    (λ other e. absurd ((own_name m f own).unmarked (marked_starts m' f' f e))))
     (λ own.
-      of_both (λ name. marked_import m f ≡ name → (m ≡ m') × (f ≡ f')) (is_own_name m' f') f' (marked_import m' f')
-      (λ other e. absurd ((own_name m' f' other).unmarked (marked_starts m f f' (sym e))))
-      (λ other e. marked_injective m f m' f' bm bf bm' bf' e))
+    of_both (λ name. marked_import m f ≡ name → (m ≡ m') × (f ≡ f')) (is_own_name m' f') f' (marked_import m' f')
+    (λ other e. absurd ((own_name m' f' other).unmarked (marked_starts m f f' (sym e))))
+    (λ other e. marked_injective m f m' f' bm bf bm' bf' e))
 
 -- ---- exports
 
@@ -131,13 +131,13 @@ pub different_exports_have_different_names : DifferentExportsHaveDifferentNames
 different_exports_have_different_names n n' b b' =
     of_both (λ name. name ≡ export_name n' → n ≡ n') (is_own_export n) n (marked_export n)
     (λ own.
-      of_both (λ name. n ≡ name → n ≡ n') (is_own_export n') n' (marked_export n')
-      (λ other e. e)
-      (λ other e. absurd ((own_export n own).1 (ap (λ name. starts_with nat_eq name (codes "$")) e))))
+    of_both (λ name. n ≡ name → n ≡ n') (is_own_export n') n' (marked_export n')
+    (λ other e. e)
+    (λ other e. absurd ((own_export n own).1 (ap (λ name. starts_with nat_eq name (codes "$")) e))))
     (λ own.
-      of_both (λ name. marked_export n ≡ name → n ≡ n') (is_own_export n') n' (marked_export n')
-      (λ other e. absurd ((own_export n' other).1 (ap (λ name. starts_with nat_eq name (codes "$")) (sym e))))
-      (λ other e. hex_injective n n' b b' (ap (drop 2) e)))
+    of_both (λ name. marked_export n ≡ name → n ≡ n') (is_own_export n') n' (marked_export n')
+    (λ other e. absurd ((own_export n' other).1 (ap (λ name. starts_with nat_eq name (codes "$")) (sym e))))
+    (λ other e. hex_injective n n' b b' (ap (drop 2) e)))
 
 -- ---- plain names
 

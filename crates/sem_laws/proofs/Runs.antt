@@ -1,11 +1,11 @@
 -- Both halves of a simulation from one of the two runs.
-use Rattle.std.proofs.Common.{◌≡◌, ℕ, ◌<◌, ◌≤◌, Option, Some, None, is_some, refl, ap, ◌∙◌, ⊎_elim, arith}
+use Rattle.std.proofs.Common.{◌≡◌, ℕ, ◌<◌, ◌≤◌, Option, Some, None, is_some, refl, ap, ⊎_elim, arith}
 use Rattle.std.proofs.lemmas.Bool.{cases_lt}
-use Rattle.sem_laws.specs.Observation.{EndPlain, IsBelow}
-use Rattle.sem_laws.specs.Simulation.{Session, IsMonotone, Comparison, SourceIsBelow, TargetIsBelow, Sim}
+use Rattle.sem_laws.specs.Observation.{EndPlain}
+use Rattle.sem_laws.specs.Simulation.{Session, IsMonotone, Comparison, SourceIsBelow, TargetIsBelow}
 use Rattle.sem_laws.specs.Laws.{KeepsOrder, IsMatched, MatchedSessionsSimulate, IsFollowed, FollowedSessionsSimulate}
 use Rattle.sem_laws.proofs.BelowLaws.{monotone_sessions_grow}
-use Rattle.sem_laws.proofs.Sides.{source_ended, source_same, target_ended, target_same, target_too, source_too, comparisons_go_with_below}
+use Rattle.sem_laws.proofs.Sides.{source_ended, source_same, target_ended, target_same, comparisons_go_with_below}
 
 module _ (by : Comparison) (keeps : KeepsOrder by) (source target : Session) where
   module _ (grows : IsMonotone target) (bound : ℕ → ℕ) (matched : (n : ℕ) → IsMatched by source target bound n) where
@@ -16,6 +16,7 @@ module _ (by : Comparison) (keeps : KeepsOrder by) (source target : Session) whe
         within le =
             (comparisons_go_with_below by keeps).less_of_target (target n) (target (matched n).budget) (source n)
             (monotone_sessions_grow target grows n (matched n).budget le) (matched n).no_more
+
         past : (matched n).budget < n → TargetIsBelow by (target n) (source n)
         past lt = go (source n).end refl
           where
@@ -24,8 +25,8 @@ module _ (by : Comparison) (keeps : KeepsOrder by) (source target : Session) whe
             go (Some e) is =
                 target_same by (source n) (target n)
                 (source_ended by (source n) (target n) e
-                  ((comparisons_go_with_below by keeps).more_of_target (source n) (target (matched n).budget) (target n) (matched n).no_less (monotone_sessions_grow target grows (matched n).budget n (omega arith)))
-                  is)
+                ((comparisons_go_with_below by keeps).more_of_target (source n) (target (matched n).budget) (target n) (matched n).no_less (monotone_sessions_grow target grows (matched n).budget n (omega arith)))
+                is)
 
     matched_no_less : (n : ℕ) → SourceIsBelow by (source n) (target (bound n))
     matched_no_less n =
@@ -38,8 +39,10 @@ module _ (by : Comparison) (keeps : KeepsOrder by) (source target : Session) whe
       where
         low : ℕ
         low = (followed (worth m)).low
+
         high : ℕ
         high = (followed (worth m)).high
+
         go : (o : Option EndPlain) → (target (worth m)).end ≡ o → SourceIsBelow by (source m) (target (worth m))
         go None is =
             (comparisons_go_with_below by keeps).less_of_source (source m) (source (followed (worth m)).low) (target (worth m))
@@ -52,12 +55,13 @@ module _ (by : Comparison) (keeps : KeepsOrder by) (source target : Session) whe
                 (comparisons_go_with_below by keeps).less_of_source (source m) (source (followed (worth m)).high) (target (worth m))
                 (monotone_sessions_grow source grows m (followed (worth m)).high le)
                 (source_same by (source (followed (worth m)).high) (target (worth m)) (target_ended by (target (worth m)) (source (followed (worth m)).high) e (followed (worth m)).no_more is))
+
             past : (followed (worth m)).high < m → SourceIsBelow by (source m) (target (worth m))
             past lt =
                 source_same by (source m) (target (worth m))
                 (target_ended by (target (worth m)) (source m) e
-                  ((comparisons_go_with_below by keeps).more_of_source (target (worth m)) (source (followed (worth m)).high) (source m) (followed (worth m)).no_more (monotone_sessions_grow source grows (followed (worth m)).high m (omega arith)))
-                  is)
+                ((comparisons_go_with_below by keeps).more_of_source (target (worth m)) (source (followed (worth m)).high) (source m) (followed (worth m)).no_more (monotone_sessions_grow source grows (followed (worth m)).high m (omega arith)))
+                is)
 
 pub matched_sessions_simulate : MatchedSessionsSimulate
 matched_sessions_simulate by keeps source target grows bound matched = (

@@ -1,10 +1,9 @@
 -- The two sides of a comparison, and both halves of a simulation from one of the two runs.
-use Rattle.std.proofs.Common.{◌≡◌, ℕ, ◌<◌, ◌≤◌, List, Option, Some, None, option_map, refl, sym, ap, ◌∙◌, subst, ⊎_elim, arith}
-use Rattle.std.proofs.lemmas.Bool.{cases_lt}
-use Rattle.sem_laws.specs.Observation.{EventPlain, EndPlain, ObservationPlain, as_stop, IsPrefix, IsSame, IsBelow}
-use Rattle.sem_laws.specs.Simulation.{Session, IsMonotone, HeapsAgree, Comparison, IsSameAs, SourceBelowFrom, SourceIsBelow, TargetBelowFrom, TargetIsBelow, Sim}
-use Rattle.sem_laws.specs.Laws.{KeepsOrder, GoesWithBelow, ComparisonsGoWithBelow, IsMatched, MatchedSessionsSimulate, IsFollowed, FollowedSessionsSimulate}
-use Rattle.sem_laws.proofs.BelowLaws.{prefix_same, prefix_trans, ended_too, stops_go_over, below_from, below_ended, below_prefix, monotone_sessions_grow}
+use Rattle.std.proofs.Common.{◌≡◌, Option, Some, None, refl, sym, ap, ◌∙◌, subst}
+use Rattle.sem_laws.specs.Observation.{EndPlain, ObservationPlain, as_stop, IsPrefix, IsSame, IsBelow}
+use Rattle.sem_laws.specs.Simulation.{HeapsAgree, Comparison, IsSameAs, SourceBelowFrom, SourceIsBelow, TargetBelowFrom, TargetIsBelow}
+use Rattle.sem_laws.specs.Laws.{KeepsOrder, ComparisonsGoWithBelow}
+use Rattle.sem_laws.proofs.BelowLaws.{prefix_same, prefix_trans, ended_too, stops_go_over, below_ended, below_prefix}
 
 module _ (by : Comparison) where
   -- ---- the source below the target
@@ -83,36 +82,36 @@ module _ (by : Comparison) where
         source_from x y
         (λ is. prefix_trans (by.source_events x.events) (by.source_events more.events) (by.target_events y.events) (keeps.source x.events more.events (below_prefix x more h)) (source_prefix more y k))
         (λ e is.
-          let s = below_ended x more e h is in
-          let there = ended_too as_stop as_stop x.end more.end e s.end is in
-          same_source x more y s (source_ended more y there.0 k there.1))
+        let s = below_ended x more e h is in
+        let there = ended_too as_stop as_stop x.end more.end e s.end is in
+        same_source x more y s (source_ended more y there.0 k there.1))
 
     more_of_target : (x y more : ObservationPlain) → SourceIsBelow by x y → IsBelow y more → SourceIsBelow by x more
     more_of_target x y more h k =
         source_from x more
         (λ is. prefix_trans (by.source_events x.events) (by.target_events y.events) (by.target_events more.events) (source_prefix x y h) (keeps.target y.events more.events (below_prefix y more k)))
         (λ e is.
-          let s = source_ended x y e h is in
-          let there = target_too x y e s is in
-          same_target x y more s (below_ended y more there.0 k there.1))
+        let s = source_ended x y e h is in
+        let there = target_too x y e s is in
+        same_target x y more s (below_ended y more there.0 k there.1))
 
     less_of_target : (y more x : ObservationPlain) → IsBelow y more → TargetIsBelow by more x → TargetIsBelow by y x
     less_of_target y more x h k =
         target_from y x
         (λ is. prefix_trans (by.target_events y.events) (by.target_events more.events) (by.source_events x.events) (keeps.target y.events more.events (below_prefix y more h)) (target_prefix more x k))
         (λ e is.
-          let s = below_ended y more e h is in
-          let there = ended_too as_stop as_stop y.end more.end e s.end is in
-          same_target x more y (target_ended more x there.0 k there.1) (same_sym y more s))
+        let s = below_ended y more e h is in
+        let there = ended_too as_stop as_stop y.end more.end e s.end is in
+        same_target x more y (target_ended more x there.0 k there.1) (same_sym y more s))
 
     more_of_source : (y x more : ObservationPlain) → TargetIsBelow by y x → IsBelow x more → TargetIsBelow by y more
     more_of_source y x more h k =
         target_from y more
         (λ is. prefix_trans (by.target_events y.events) (by.source_events x.events) (by.source_events more.events) (target_prefix y x h) (keeps.source x.events more.events (below_prefix x more k)))
         (λ e is.
-          let s = target_ended y x e h is in
-          let there = source_too x y e s is in
-          same_source more x y (same_sym x more (below_ended x more there.0 k there.1)) s)
+        let s = target_ended y x e h is in
+        let there = source_too x y e s is in
+        same_source more x y (same_sym x more (below_ended x more there.0 k there.1)) s)
 
 pub comparisons_go_with_below : ComparisonsGoWithBelow
 comparisons_go_with_below by keeps = record {

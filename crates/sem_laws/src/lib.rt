@@ -8,9 +8,11 @@ mod naming;
 mod observation;
 mod script;
 mod splitting;
+#[cfg(test)]
+mod tests;
 
 pub use comparing::below;
 pub use naming::{export_name, import_name};
 pub use observation::{End, Event, Observation};
-pub use splitting::split_script;
 pub use script::{CallLine, CallShape, GlobalLine, Misfit, Reply, ReplyLine, Script, WriteLine};
+pub use splitting::split_script;

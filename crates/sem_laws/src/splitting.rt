@@ -120,7 +120,10 @@ fn split_args(alloc: Global, wide: &[bool], args: &[i128]) -> Result<List<i128>,
 }
 
 // The shape of each name. Of two shapes with one key the first counts.
-fn shape_table<'a>(alloc: Global, shapes: &'a [CallShape]) -> Result<HashMap<&'a [u8], &'a CallShape>, AllocError>
+fn shape_table<'a>(
+    alloc: Global,
+    shapes: &'a [CallShape],
+) -> Result<HashMap<&'a [u8], &'a CallShape>, AllocError>
     ensures { IfOk result (λ table. HasShapes table (map shape_of shapes.now)) }
 {
     let mut table = HashMap::new(alloc);
@@ -140,16 +143,17 @@ fn push_split_call(
 ) -> Result<(), AllocError>
     ensures { OnOk result (map call_of calls.new.items ≡ map call_of calls.old.items ++ split_call_by (Some (shape_of shape.now)) (call_of call.now)) }
 {
+    let line = call.line;
     calls.push(CallLine {
         name: export_name(alloc, call.name.as_bytes())?,
         args: split_args(alloc, shape.wide.as_slice(), call.args.as_slice())?,
-        line: call.line,
+        line,
     })?;
     if shape.wide_result {
         calls.push(CallLine {
             name: Text::from_bytes(alloc, b"$hi")?,
             args: List::new(alloc),
-            line: call.line,
+            line,
         })?;
     }
     Ok(())

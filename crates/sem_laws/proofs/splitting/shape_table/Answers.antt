@@ -5,7 +5,7 @@ use Rattle.std.specs.HashMap.{HashMap, UpdatesBy, get_by}
 use Rattle.std.specs.Str.{bytes_eq}
 use Rattle.sem_laws.specs.declared.script.CallShape.{CallShape}
 use Rattle.sem_laws.specs.CallingForms.{ShapePlain, shape_of_name}
-use Rattle.sem_laws.specs.ShapeTable.{shape_at, HasShapes}
+use Rattle.sem_laws.specs.ShapeTable.{HasShapes}
 use Rattle.sem_laws.specs.Views.{shape_of}
 use Rattle.sem_laws.proofs.splitting.shape_table.Goals as goal
 

@@ -1,4 +1,4 @@
-use Rattle.std.proofs.Common.{◌≡◌, drop, map}
+use Rattle.std.proofs.Common.{drop, map}
 use Rattle.sem_laws.specs.ShapeTable.{HasShapes}
 use Rattle.sem_laws.specs.Views.{shape_of}
 use Rattle.sem_laws.proofs.splitting.shape_table.Given as goal
