@@ -31,7 +31,8 @@ fn same_words(x: &[Word], y: &[Word]) -> bool
 
 // Whether both name the same call.
 fn same_call(f: &Text, xs: &List<Word>, g: &Text, ys: &List<Word>) -> bool
-    ensures { IsTrue result ↔ ((text_bytes f.now ≡ text_bytes g.now) × (list_items xs.now ≡ list_items ys.now)) }
+    ensures { IsTrue result
+        ↔ ((text_bytes f.now ≡ text_bytes g.now) × (list_items xs.now ≡ list_items ys.now)) }
 {
     same_text(f, g) && same_words(xs.as_slice(), ys.as_slice())
 }
@@ -86,7 +87,8 @@ fn are_trap_args(args: &[Word], kind: TrapKind) -> bool
 
 // Whether the call of that import stands for the trap.
 fn is_trap_call(name: &Text, args: &List<Word>, kind: TrapKind) -> bool
-    ensures { IsTrue result ↔ (as_stop (stopped (text_bytes name.now) (list_items args.now)) ≡ as_stop (trapped kind)) }
+    ensures { IsTrue result
+        ↔ (as_stop (stopped (text_bytes name.now) (list_items args.now)) ≡ as_stop (trapped kind)) }
 {
     is_trap_name(name) && are_trap_args(args.as_slice(), kind)
 }
@@ -106,8 +108,9 @@ fn same_end(x: &End, y: &End) -> bool
     }
 }
 
-/// Whether `x` has ended and `y` has the same events, end and heap, or `x` hasn't ended and its events
-/// are a prefix of those of `y`. A trap equals the call of the import `$trap` with its number.
+/// Whether `x` has ended and `y` has the same events, end and heap, or `x` hasn't ended and its
+/// events are a prefix of those of `y`. A trap equals the call of the import `$trap` with its
+/// number.
 pub fn below(x: &Observation, y: &Observation) -> bool
     ensures { IsTrue result ↔ IsBelow (observation_of x.now) (observation_of y.now) }
 {

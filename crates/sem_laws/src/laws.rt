@@ -1,5 +1,5 @@
-//! Laws of observations, simulation and names, for every session, comparison and name. Each function
-//! does nothing, and its contract is the law.
+//! Laws of observations, simulation and names, for every session, comparison and name. Each
+//! function does nothing, and its contract is the law.
 ghost use Rattle.sem_laws.specs.Laws.{BelowIsReflexive, BelowIsTransitive, MonotoneSessionsGrow, CallingFormsKeepOrder, ComparisonsGoWithBelow, MatchedSessionsSimulate, FollowedSessionsSimulate, HeapsCompose, SimulationsCompose, RoundTripSimulates, DifferentImportsHaveDifferentNames, DifferentExportsHaveDifferentNames, NamesArePlain, FixedNamesAreKept};
 
 /// Each observation is below itself.
@@ -22,8 +22,8 @@ pub fn calling_forms_keep_order()
     ensures { CallingFormsKeepOrder }
 {}
 
-/// Under a comparison that keeps the order, what is below stays below where less is seen of the one
-/// session or more of the other.
+/// Under a comparison that keeps the order, what is below stays below where less is seen of the
+/// one session or more of the other.
 pub fn comparisons_go_with_below()
     ensures { ComparisonsGoWithBelow }
 {}

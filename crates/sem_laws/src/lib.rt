@@ -1,5 +1,5 @@
-//! The language in which every statement about runs is said: scripts, observations, simulation, and
-//! the calling forms of the two translations with their names.
+//! The language in which every statement about runs is said: scripts, observations, simulation,
+//! and the calling forms of the two translations with their names.
 #![tactic(auto)]
 
 mod comparing;

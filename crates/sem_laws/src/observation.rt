@@ -10,8 +10,8 @@ pub enum Event {
     Returned,
 }
 
-/// How a session ended. `Stopped` names the import that threw, or `$trap`; `NoReply` names the import
-/// that was called when no reply was left.
+/// How a session ended. `Stopped` names the import that threw, or `$trap`; `NoReply` names the
+/// import that was called when no reply was left.
 #[derive(Drop)]
 pub enum End {
     Done,
@@ -20,8 +20,8 @@ pub enum End {
     Trap(TrapKind),
 }
 
-/// The events so far, then perhaps the end with the heap's bytes. While there is no end the session is
-/// still running, and `heap` is empty.
+/// The events so far, then perhaps the end with the heap's bytes. While there is no end the
+/// session is still running, and `heap` is empty.
 #[derive(Drop)]
 pub struct Observation {
     pub events: List<Event>,

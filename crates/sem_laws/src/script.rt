@@ -1,4 +1,5 @@
-//! What the host gives to a session: values of imported globals, bytes for the heap, calls and replies.
+//! What the host gives to a session: values of imported globals, bytes for the heap, calls and
+//! replies.
 
 use sem_words::{List, Text};
 

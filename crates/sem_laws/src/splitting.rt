@@ -134,14 +134,18 @@ fn shape_table<'a>(
     Ok(table)
 }
 
-// Puts the call in its new form at the end, and after it the call of `$hi` where its result is wide.
+// Puts the call in its new form at the end, and after it the call of `$hi` where its result is
+// wide.
 fn push_split_call(
     alloc: Global,
     calls: &mut Vec<CallLine>,
     shape: &CallShape,
     call: &CallLine,
 ) -> Result<(), AllocError>
-    ensures { OnOk result (map call_of calls.new.items ≡ map call_of calls.old.items ++ split_call_by (Some (shape_of shape.now)) (call_of call.now)) }
+    ensures { OnOk result
+        (map call_of calls.new.items
+        ≡ map call_of calls.old.items
+        ++ split_call_by (Some (shape_of shape.now)) (call_of call.now)) }
 {
     let line = call.line;
     calls.push(CallLine {
@@ -164,7 +168,9 @@ fn push_renamed_call(
     calls: &mut Vec<CallLine>,
     call: &CallLine,
 ) -> Result<(), AllocError>
-    ensures { OnOk result (map call_of calls.new.items ≡ map call_of calls.old.items ++ split_call_by None (call_of call.now)) }
+    ensures { OnOk result
+        (map call_of calls.new.items
+        ≡ map call_of calls.old.items ++ split_call_by None (call_of call.now)) }
 {
     calls.push(CallLine {
         name: export_name(alloc, call.name.as_bytes())?,
@@ -180,7 +186,10 @@ fn push_call(
     shape: Option<&CallShape>,
     call: &CallLine,
 ) -> Result<(), AllocError>
-    ensures { OnOk result (map call_of calls.new.items ≡ map call_of calls.old.items ++ split_call_by (option_map (λ s. shape_of s.now) shape.entry) (call_of call.now)) }
+    ensures { OnOk result
+        (map call_of calls.new.items
+        ≡ map call_of calls.old.items
+        ++ split_call_by (option_map (λ s. shape_of s.now) shape.entry) (call_of call.now)) }
 {
     match shape {
         Some(shape) => push_split_call(alloc, calls, shape, call),
@@ -209,7 +218,9 @@ fn split_calls(
     calls: &[CallLine],
     shapes: &[CallShape],
 ) -> Result<List<CallLine>, AllocError>
-    ensures { IfOk result (λ lines. map call_of (list_items lines) ≡ init_call ∷ flat_map (split_call (map shape_of shapes.now)) (map call_of calls.now)) }
+    ensures { IfOk result
+        (λ lines. map call_of (list_items lines)
+        ≡ init_call ∷ flat_map (split_call (map shape_of shapes.now)) (map call_of calls.now)) }
 {
     let table = shape_table(alloc, shapes)?;
     let mut lines = Vec::new(alloc);
@@ -221,16 +232,18 @@ fn split_calls(
     Ok(List::from_vec(lines))
 }
 
-/// The script in the calling form of the translation to asm.js. It begins with a call of `$init`. Each
-/// call follows under its name as `export_name` gives it, with each 64-bit argument as its low and its
-/// high word, and directly after one with a 64-bit result comes a call of `$hi`. The rest stays as it
-/// is. A shape says which arguments and results are 64-bit words; of two with one key the first counts.
+/// The script in the calling form of the translation to asm.js. It begins with a call of `$init`.
+/// Each call follows under its name as `export_name` gives it, with each 64-bit argument as its
+/// low and its high word, and directly after one with a 64-bit result comes a call of `$hi`. The
+/// rest stays as it is. A shape says which arguments and results are 64-bit words; of two with
+/// one key the first counts.
 pub fn split_script(
     alloc: Global,
     script: &Script,
     shapes: &[CallShape],
 ) -> Result<Script, AllocError>
-    ensures { IfOk result (λ target. script_of target ≡ split (map shape_of shapes.now) (script_of script.now)) }
+    ensures { IfOk result
+        (λ target. script_of target ≡ split (map shape_of shapes.now) (script_of script.now)) }
 {
     Ok(Script {
         globals: copy_globals(alloc, script.globals.as_slice())?,
