@@ -7,8 +7,8 @@ use Rattle.sem_laws.specs.Script.{give, throw, ScriptPlain}
 use Rattle.sem_laws.specs.Observation.{import_called, call_gave, call_returned, done, stopped, no_reply, trapped, running, ended, IsBelow}
 use Rattle.sem_laws.specs.Imports.{goes_on, ends, answer_import}
 use Rattle.sem_laws.specs.Names.{is_plain_name, import_name, export_name}
-use Rattle.sem_laws.specs.Simulation.{HeapsAgree}
-use Rattle.sem_laws.specs.CallingForms.{ShapePlain, script_to_wasm, split, split_args, split_event, without_init}
+use Rattle.sem_laws.specs.Simulation.{HeapsAgree, SourceIsBelow, TargetIsBelow}
+use Rattle.sem_laws.specs.CallingForms.{ShapePlain, script_to_wasm, split, split_args, split_event, without_init, comparison_to_asm}
 
 -- ---- names
 
@@ -128,3 +128,13 @@ foreign_global_renamed = refl
 -- ---- heaps: two bytes of the source's, and past them what was there first
 page_past_the_heap : HeapsAgree (0 ∷ 0 ∷ 0 ∷ 5 ∷ []) (7 ∷ 8 ∷ []) (7 ∷ 8 ∷ 0 ∷ 5 ∷ [])
 page_past_the_heap = record { same = refl; kept = refl }
+
+-- ---- a WebAssembly session and its asm.js session: a 64-bit result, and then a trap with a heap of two bytes in four
+trap_shown_in_asm : SourceIsBelow (comparison_to_asm (0 ∷ 0 ∷ 0 ∷ 5 ∷ []))
+    (ended (call_gave (W64 8589934590) ∷ []) (trapped Memory) (7 ∷ 8 ∷ []))
+    (ended (call_returned ∷ call_gave (W32 4294967294) ∷ call_gave (W32 1) ∷ []) (stopped (codes "$trap") (W32 2 ∷ [])) (7 ∷ 8 ∷ 0 ∷ 5 ∷ []))
+trap_shown_in_asm = record { events = refl; end = refl; heap = record { same = refl; kept = refl } }
+
+-- between the low and the high word the asm.js session has shown a part of what the other shows
+low_word_shown_first : TargetIsBelow (comparison_to_asm []) (running (call_returned ∷ call_gave (W32 4294967294) ∷ [])) (running (call_gave (W64 8589934590) ∷ []))
+low_word_shown_first = (call_gave (W32 1) ∷ [], refl)
