@@ -1,0 +1,13 @@
+//! WebAssembly modules as values, their opcodes, and the numbers and instructions of the binary format.
+//!
+//! `specs/Views.antt` says which plain module, instruction or list each value stands for.
+#![tactic(auto)]
+
+mod code;
+mod instr;
+mod module;
+
+pub use code::{Bytes, Code};
+pub use instr::Instr;
+pub use module::{Body, Element, FuncType, GlobalDef, Import, Module, Segment, WasmExport};
+pub use wasm_lang::{ExportKind, Fault, GlobalType, ImportKind, Limits, MemOp, Row, ValType};
