@@ -7,3 +7,4 @@ pub mod Limits
 pub mod Shape
 pub mod Reading
 pub mod ReadingCode
+pub mod ReadingModule

@@ -73,7 +73,7 @@ abbrev pub opcodes : List (ℕ × Instruction)
 opcodes = control_opcodes ++ map (λ row. (row.0, plain row.1)) plain_opcodes
 
 -- the form whose opcode the byte is
-abbrev pub form_at : ℕ → Option Instruction
+unfoldable pub form_at : ℕ → Option Instruction
 form_at byte = lookup (λ b. b == byte) opcodes
 
 abbrev pub plain_form_of : Plain → Plain

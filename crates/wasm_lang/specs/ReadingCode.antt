@@ -21,7 +21,7 @@ is_float_opcode b =
     is_within least most = nat_le least b && nat_le b most
 
 -- why a byte is no opcode
-abbrev pub opcode_fault : ℕ → Row
+unfoldable pub opcode_fault : ℕ → Row
 opcode_fault b = if is_float_opcode b then Float else (if b == 0x40 then MemoryGrow else UnknownByte)
 
 -- the form whose opcode a byte is
@@ -73,7 +73,7 @@ immediates (call_indirect t) i = u32 i >>= λ t. exactly 0 t.1 >>= λ b. Ok (cal
 immediates (plain p) i = onto plain (plain_immediates p i)
 immediates form i = Ok (form, i)
 
-abbrev pub instruction_field : Input → Field Instruction
+unfoldable pub instruction_field : Input → Field Instruction
 instruction_field i = opcode_field i >>= λ form. immediates form.0 form.1
 
 -- ---- expressions
@@ -133,5 +133,5 @@ spelled_within (suc n) i = by (instruction_field i) (λ j. spelled_within n j)
     by (Err e) rest = []
 
 -- the instructions one after another, up to the end or to bytes that are none
-abbrev pub spelled : List ℕ → List Instruction
+unfoldable pub spelled : List ℕ → List Instruction
 spelled bytes = spelled_within (length bytes) (record { at = 0; bytes = bytes })
