@@ -4,10 +4,13 @@
 #![tactic(auto)]
 
 mod code;
+mod input;
 mod instr;
+mod leb;
 mod module;
 
 pub use code::{Bytes, Code};
+pub use input::Input;
 pub use instr::Instr;
 pub use module::{Body, Element, FuncType, GlobalDef, Import, Module, Segment, WasmExport};
 pub use wasm_lang::{ExportKind, Fault, GlobalType, ImportKind, Limits, MemOp, Row, ValType};
