@@ -6,7 +6,9 @@
 #![tactic(auto)]
 
 mod fault;
+mod laws;
 mod types;
 
 pub use fault::{Fault, NumberFault, Row};
+pub use laws::number_laws;
 pub use types::{ExportKind, GlobalType, ImportKind, Limits, MemOp, ValType};

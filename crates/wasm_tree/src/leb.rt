@@ -1,8 +1,65 @@
 //! Numbers of the binary format (WebAssembly Core 1.0, section 5.2.2).
-ghost use Rattle.std.specs.Prelude.{◌≡◌, ℕ, ◌+◌, ◌-◌, ◌*◌, ◌^◌, ◌<◌, ◌≤◌, length, IsTrue, ◌↔◌, IfOk, MatchResult, Ok, Err};
+ghost use Rattle.std.specs.Prelude.{◌≡◌, ℕ, List, ◌+◌, ◌-◌, ◌*◌, ◌^◌, ◌<◌, ◌≤◌, length, drop, IsTrue, ◌↔◌, IfOk, IfSome, IfNone, MatchResult, Ok, Err};
+ghost use Rattle.std.specs.Int.{cast_signed, w32, w64};
+ghost use Rattle.wasm_lang.specs.Numbers.{IsUnsigned, IsInteger};
 ghost use Rattle.wasm_lang.specs.Reading.{unsigned_at, integer_at};
 
-use wasm_lang::NumberFault;
+use wasm_lang::{NumberFault, number_laws};
+
+/// The unsigned number of 32 bits that stands at a place, and the place after it. None exactly where no
+/// legal one stands there: LEB128 in at most five bytes, with no bit beyond the 32 in the fifth.
+pub fn leb_u32(bytes: &[u8], at: usize) -> Option<(u32, usize)>
+    ensures found { IfSome result (λ x. (at < x.1) × (x.1 ≤ length bytes.now) × IsUnsigned 32 x.0 (drop at bytes.now) (drop x.1 bytes.now)) }
+    ensures none { IfNone result ((n : ℕ) (ys : List ℕ) → ¬ IsUnsigned 32 n (drop at bytes.now) ys) }
+{
+    number_laws();
+    let rest = from_place(bytes, at);
+    match unsigned(rest, 32) {
+        Ok((n, after)) => Some((n as u32, bytes.len() - after.len())),
+        Err(_) => None,
+    }
+}
+
+/// The signed number of 32 bits that stands at a place, and the place after it. None exactly where no
+/// legal one stands there: LEB128 in at most five bytes, where the bits of the fifth beyond the 32 are
+/// copies of the sign.
+pub fn leb_s32(bytes: &[u8], at: usize) -> Option<(i32, usize)>
+    ensures found { IfSome result (λ x. (at < x.1) × (x.1 ≤ length bytes.now) × (word : ℕ) × IsInteger 32 word (drop at bytes.now) (drop x.1 bytes.now) × (x.0 ≡ cast_signed w32 word)) }
+    ensures none { IfNone result ((word : ℕ) (ys : List ℕ) → ¬ IsInteger 32 word (drop at bytes.now) ys) }
+{
+    number_laws();
+    let rest = from_place(bytes, at);
+    match integer(rest, 32) {
+        Ok((word, after)) => Some(((word as u32).cast_signed(), bytes.len() - after.len())),
+        Err(_) => None,
+    }
+}
+
+/// The same for 64 bits, in at most ten bytes.
+pub fn leb_s64(bytes: &[u8], at: usize) -> Option<(i64, usize)>
+    ensures found { IfSome result (λ x. (at < x.1) × (x.1 ≤ length bytes.now) × (word : ℕ) × IsInteger 64 word (drop at bytes.now) (drop x.1 bytes.now) × (x.0 ≡ cast_signed w64 word)) }
+    ensures none { IfNone result ((word : ℕ) (ys : List ℕ) → ¬ IsInteger 64 word (drop at bytes.now) ys) }
+{
+    number_laws();
+    let rest = from_place(bytes, at);
+    match integer(rest, 64) {
+        Ok((word, after)) => Some((word.cast_signed(), bytes.len() - after.len())),
+        Err(_) => None,
+    }
+}
+
+// The bytes from a place on, none where it is past the end.
+fn from_place(bytes: &[u8], at: usize) -> &[u8]
+    ensures { result.now ≡ drop at bytes.now }
+{
+    if at <= bytes.len() {
+        let (_, rest) = bytes.split_at(at);
+        rest
+    } else {
+        let (_, rest) = bytes.split_at(bytes.len());
+        rest
+    }
+}
 
 /// The unsigned number of at most so many bits that the bytes begin with, and the bytes after it.
 pub fn unsigned(bytes: &[u8], bits: u32) -> Result<(u64, &[u8]), NumberFault>
