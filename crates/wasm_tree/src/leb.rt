@@ -148,7 +148,11 @@ fn is_positive(byte: u64, bits: u32) -> bool
     requires bits { (0 < bits) × (bits ≤ 64) }
     ensures { IsTrue result ↔ byte < 2 ^ (bits - 1) }
 {
-    if bits >= 7 { true } else { byte < 1 << (bits - 1) }
+    if bits >= 7 {
+        true
+    } else {
+        byte < 1 << (bits - 1)
+    }
 }
 
 // Whether a last byte that stands for itself less 128 is a signed number of so many bits.

@@ -8,10 +8,12 @@ mod input;
 mod instr;
 mod leb;
 mod module;
+mod opcodes;
 
 pub use code::{Bytes, Code};
 pub use input::Input;
 pub use instr::Instr;
 pub use leb::{leb_s32, leb_s64, leb_u32};
 pub use module::{Body, Element, FuncType, GlobalDef, Import, Module, Segment, WasmExport};
+pub use opcodes::{opcode, plain_instr};
 pub use wasm_lang::{ExportKind, Fault, GlobalType, ImportKind, Limits, MemOp, Row, ValType};
