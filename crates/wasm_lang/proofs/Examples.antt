@@ -11,7 +11,7 @@ use Rattle.wasm_lang.specs.Instructions.{plain, local_get, bin64, end_mark}
 use Rattle.wasm_lang.specs.Modules.{WasmModule}
 use Rattle.wasm_lang.specs.Opcodes.{form_at}
 use Rattle.wasm_lang.specs.Reading.{unsigned_at, integer_at}
-use Rattle.wasm_lang.specs.ReadingCode.{instruction_field}
+use Rattle.wasm_lang.specs.ReadingCode.{after_opcode}
 use Rattle.wasm_lang.specs.ReadingModule.{read_module}
 
 -- 624485 is spelled in three bytes, and padding may follow
@@ -48,5 +48,5 @@ adds : read_module adding_module ≡ Ok (record {
   bodies = record { locals = []; code = plain (local_get 0) ∷ plain (local_get 1) ∷ plain (bin64 Add) ∷ end_mark ∷ [] } ∷ [];
   segments = [];
 })
-unfolding read_module instruction_field form_at is_utf8 chars encode_utf8
+unfolding read_module after_opcode form_at is_utf8 chars encode_utf8
 adds = refl

@@ -24,17 +24,9 @@ is_float_opcode b =
 unfoldable pub opcode_fault : ℕ → Row
 opcode_fault b = if is_float_opcode b then Float else (if b == 0x40 then MemoryGrow else UnknownByte)
 
--- the form whose opcode a byte is
-abbrev pub opcode_field : Input → Field Instruction
-opcode_field i = byte i >>= λ b. known b.0 (form_at b.0) >>= λ form. Ok (form, b.1)
-  where
-    known : ℕ → Option Instruction → Result Instruction Fault
-    known b None = fault (opcode_fault b) i.at
-    known b (Some form) = Ok form
-
 -- an alignment and an offset
-abbrev pub memory_immediate : (ℕ → ℕ → Plain) → Input → Field Plain
-memory_immediate f i = u32 i >>= λ align. u32 align.1 >>= λ offset. Ok (f align.0 offset.0, offset.1)
+abbrev pub access_field : Input → Field (ℕ × ℕ)
+access_field i = u32 i >>= λ align. u32 align.1 >>= λ offset. Ok ((align.0, offset.0), offset.1)
 
 -- the number after 0xfc, and the bytes 0 after that
 abbrev pub copy_or_fill : Input → Field Plain
@@ -53,8 +45,8 @@ plain_immediates (local_set x) i = onto local_set (u32 i)
 plain_immediates (local_tee x) i = onto local_tee (u32 i)
 plain_immediates (global_get x) i = onto global_get (u32 i)
 plain_immediates (global_set x) i = onto global_set (u32 i)
-plain_immediates (load op align offset) i = memory_immediate (load op) i
-plain_immediates (store op align offset) i = memory_immediate (store op) i
+plain_immediates (load op align offset) i = onto (λ access. load op access.0 access.1) (access_field i)
+plain_immediates (store op align offset) i = onto (λ access. store op access.0 access.1) (access_field i)
 plain_immediates memory_size i = onto (λ b. memory_size) (exactly 0 i)
 plain_immediates memory_copy i = copy_or_fill i
 plain_immediates (const32 word) i = onto const32 (integer 32 i)
@@ -73,8 +65,16 @@ immediates (call_indirect t) i = u32 i >>= λ t. exactly 0 t.1 >>= λ b. Ok (cal
 immediates (plain p) i = onto plain (plain_immediates p i)
 immediates form i = Ok (form, i)
 
-unfoldable pub instruction_field : Input → Field Instruction
-instruction_field i = opcode_field i >>= λ form. immediates form.0 form.1
+-- what follows a byte that stands at a place, where it is an opcode
+unfoldable pub after_opcode : (at byte : ℕ) → Input → Field Instruction
+after_opcode at b i = by (form_at b)
+  where
+    by : Option Instruction → Field Instruction
+    by None = fault (opcode_fault b) at
+    by (Some form) = immediates form i
+
+abbrev pub instruction_field : Input → Field Instruction
+instruction_field i = byte i >>= λ b. after_opcode i.at b.0 b.1
 
 -- ---- expressions
 

@@ -1,3 +1,4 @@
 pub mod Powers
 pub mod Places
 pub mod Table
+pub mod Items

@@ -4,8 +4,8 @@
 
 ghost use Rattle.std.specs.Prelude.{◌≡◌, ℕ, ◌+◌, ◌<◌, ◌≤◌, false, slice_get, MatchOption, Some, option_map};
 ghost use Rattle.wasm_lang.specs.Instructions as plain;
-ghost use Rattle.wasm_lang.specs.Opcodes.{IsOpcode, HasNoOpcode, bare_at, comparisons, counts, operators};
-ghost use Rattle.wasm_tree.specs.Operators.{is_operator};
+ghost use Rattle.wasm_lang.specs.Opcodes.{IsOpcode, HasNoOpcode, bare_at, form_at, comparisons, counts, operators};
+ghost use Rattle.wasm_tree.specs.Operators.{is_operator, is_load, is_store};
 ghost use Rattle.wasm_tree.specs.Views.{instr_of};
 
 use crate::instr::Instr;
@@ -147,6 +147,49 @@ fn load_opcode(op: MemOp) -> Option<u8>
         (true, false, 4) => Some(0x35),
         _ => None,
     }
+}
+
+// The load whose opcode a byte is.
+pub fn load_at(byte: u8) -> Option<MemOp>
+    ensures { MatchOption result (is_load byte ≡ false) (λ op. form_at byte ≡ Some (plain.plain (plain.load op 0 0))) }
+{
+    match byte {
+        0x28 => Some(memory_op(false, 4, false)),
+        0x29 => Some(memory_op(true, 8, false)),
+        0x2c => Some(memory_op(false, 1, true)),
+        0x2d => Some(memory_op(false, 1, false)),
+        0x2e => Some(memory_op(false, 2, true)),
+        0x2f => Some(memory_op(false, 2, false)),
+        0x30 => Some(memory_op(true, 1, true)),
+        0x31 => Some(memory_op(true, 1, false)),
+        0x32 => Some(memory_op(true, 2, true)),
+        0x33 => Some(memory_op(true, 2, false)),
+        0x34 => Some(memory_op(true, 4, true)),
+        0x35 => Some(memory_op(true, 4, false)),
+        _ => None,
+    }
+}
+
+// The store whose opcode a byte is.
+pub fn store_at(byte: u8) -> Option<MemOp>
+    ensures { MatchOption result (is_store byte ≡ false) (λ op. form_at byte ≡ Some (plain.plain (plain.store op 0 0))) }
+{
+    match byte {
+        0x36 => Some(memory_op(false, 4, false)),
+        0x37 => Some(memory_op(true, 8, false)),
+        0x3a => Some(memory_op(false, 1, false)),
+        0x3b => Some(memory_op(false, 2, false)),
+        0x3c => Some(memory_op(true, 1, false)),
+        0x3d => Some(memory_op(true, 2, false)),
+        0x3e => Some(memory_op(true, 4, false)),
+        _ => None,
+    }
+}
+
+fn memory_op(wide: bool, size: u32, signed: bool) -> MemOp
+    ensures { result ≡ record { wide = wide; size = size; signed = signed } }
+{
+    MemOp { wide, size, signed }
 }
 
 // The opcode of a store.
