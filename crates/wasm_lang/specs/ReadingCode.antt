@@ -65,13 +65,14 @@ immediates (call_indirect t) i = u32 i >>= λ t. exactly 0 t.1 >>= λ b. Ok (cal
 immediates (plain p) i = onto plain (plain_immediates p i)
 immediates form i = Ok (form, i)
 
--- what follows a byte that stands at a place, where it is an opcode
+-- what follows an opcode of a form; a byte of no form is refused at its place
+abbrev pub by_form : (at byte : ℕ) → Option Instruction → Input → Field Instruction
+by_form at b None i = fault (opcode_fault b) at
+by_form at b (Some form) i = immediates form i
+
+-- what follows a byte that stands at a place
 unfoldable pub after_opcode : (at byte : ℕ) → Input → Field Instruction
-after_opcode at b i = by (form_at b)
-  where
-    by : Option Instruction → Field Instruction
-    by None = fault (opcode_fault b) at
-    by (Some form) = immediates form i
+after_opcode at b i = by_form at b (form_at b) i
 
 abbrev pub instruction_field : Input → Field Instruction
 instruction_field i = byte i >>= λ b. after_opcode i.at b.0 b.1

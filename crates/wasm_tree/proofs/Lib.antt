@@ -2,3 +2,4 @@ pub mod Powers
 pub mod Places
 pub mod Table
 pub mod Items
+pub mod Forms

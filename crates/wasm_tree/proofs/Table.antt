@@ -148,11 +148,11 @@ is_none (Some i) = false
 abbrev sorted_out : ℕ → Bool
 sorted_out b = cond (is_single b) true (cond (is_operator b) true (is_none (bare_at b)))
 
-abbrev below : ℕ → (ℕ → Bool) → Bool
+abbrev pub below : ℕ → (ℕ → Bool) → Bool
 below zero p = true
 below (suc n) p = cond (p n) (below n p) false
 
-below_is : (n : ℕ) (p : ℕ → Bool) → below n p ≡ true → (k : ℕ) → k < n → p k ≡ true
+pub below_is : (n : ℕ) (p : ℕ → Bool) → below n p ≡ true → (k : ℕ) → k < n → p k ≡ true
 below_is zero p all k lt = absurd (omega arith)
 below_is (suc n) p all k lt = by (λ a l. below_is n p a k l) (p n) refl (cases_eq k n)
   where
