@@ -1,2 +1,6 @@
 pub mod Examples
 pub mod Numbers
+pub mod ReadingLaws
+pub mod ReadingLawsTypes
+pub mod ReadingLawsCode
+pub mod ReadingLawsNesting

@@ -7,8 +7,10 @@
 
 mod fault;
 mod laws;
+mod reading_laws;
 mod types;
 
 pub use fault::{Fault, NumberFault, Row};
 pub use laws::number_laws;
+pub use reading_laws::scratch_laws;
 pub use types::{ExportKind, GlobalType, ImportKind, Limits, MemOp, ValType};
