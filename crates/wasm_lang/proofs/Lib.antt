@@ -4,3 +4,4 @@ pub mod ReadingLaws
 pub mod ReadingLawsTypes
 pub mod ReadingLawsCode
 pub mod ReadingLawsNesting
+pub mod ReadingLawsExpressions
