@@ -5,3 +5,6 @@ pub mod ReadingLawsTypes
 pub mod ReadingLawsCode
 pub mod ReadingLawsNesting
 pub mod ReadingLawsExpressions
+pub mod ReadingLawsEntries
+pub mod ReadingLawsSections
+pub mod ReadingLawsModule

@@ -24,7 +24,7 @@ use Rattle.wasm_lang.proofs.ReadingLawsNesting.{Scans, expression_scans, scans_e
 front_shrinks : (xs front ys : List ℕ) → xs ≡ front ++ ys → length ys ≤ length xs
 front_shrinks xs front ys e = omega (arith, ap length e, length-append front ys)
 
-u32_shrinks : (n : ℕ) (xs ys : List ℕ) → IsU32 n xs ys → length ys ≤ length xs
+pub u32_shrinks : (n : ℕ) (xs ys : List ℕ) → IsU32 n xs ys → length ys ≤ length xs
 u32_shrinks n xs ys h = let f = unsigned_front 32 n xs ys h in front_shrinks xs f.0 ys f.1
 
 integer_shrinks : (bits n : ℕ) (xs ys : List ℕ) → IsInteger bits n xs ys → length ys ≤ length xs

@@ -44,7 +44,7 @@ all_are (v ∷ vs) = (tt, all_are vs)
 
 -- ---- bytes, names, sized parts
 
-fits : (bs ys : List ℕ) → leb (length bs) (length (bs ++ ys)) ≡ true
+pub fits : (bs ys : List ℕ) → leb (length bs) (length (bs ++ ys)) ≡ true
 fits bs ys = le-leb (length bs) (length (bs ++ ys)) (omega (arith, length-append bs ys))
 
 cut_gives : (at : ℕ) (bs ys : List ℕ) → Gives {X = List ℕ × Input} (Ok (take (length bs) (bs ++ ys), record { at = at; bytes = drop (length bs) (bs ++ ys) })) (leaves bs ys)
@@ -73,7 +73,7 @@ name_only i =
     expects_only Utf8 n.1.at _ (λ u.
     ok_only (record { bytes = bytes_of n.0 i.bytes n.1.bytes c (leb-true n.0 (length n.1.bytes) t); utf8 = IsUtf8-from_is_utf8 (take n.0 n.1.bytes) u }))))
 
-sized_gives : {X : Type 0} {v : X} (c : Input → Field X) (bs ys : List ℕ) (at : ℕ) → ((at : ℕ) → Gives (c (from at bs)) (leaves v [])) → Gives (sized (length bs) c (from at (bs ++ ys))) (leaves v ys)
+pub sized_gives : {X : Type 0} {v : X} (c : Input → Field X) (bs ys : List ℕ) (at : ℕ) → ((at : ℕ) → Gives (c (from at bs)) (leaves v [])) → Gives (sized (length bs) c (from at (bs ++ ys))) (leaves v ys)
 sized_gives {v = v} c bs ys at h =
     bind_gives _ (equal_gives (ap (λ l. c (from at l)) (take-append_seam bs ys)) (h at)) (λ k.
     record { place = at + length bs; is = ap (λ l. Ok (v, from (at + length bs) l)) (drop-append_seam bs ys) })
@@ -102,11 +102,11 @@ sized_of {n = n} {xs = xs} {rest = rest} c t p e = record {
 }
 
 -- a section's size and content; what is read of it may be another value
-pub section_gives : {X Y : Type 0} {P : Spelling X} {v : X} {xs ys : List ℕ} (w : Y) (c : Input → Field Y) → ((bs : List ℕ) (at : ℕ) → P v bs [] → Gives (c (from at bs)) (leaves w []))
-    → IsSized P v xs ys → (at : ℕ) → Gives (section_field c (from at xs)) (leaves w ys)
-section_gives {ys = ys} w c h s at =
+pub section_gives : {X Y : Type 0} {P : Spelling X} {v : X} {xs ys : List ℕ} (w : Y) (c : Input → Field Y) (s : IsSized P v xs ys) → ((at : ℕ) → Gives (c (from at s.content)) (leaves w []))
+    → (at : ℕ) → Gives (section_field c (from at xs)) (leaves w ys)
+section_gives {ys = ys} w c s h at =
     bind_gives _ (u32_gives Truncated at (size_count s)) (λ k.
-    expects_gives Truncated _ _ (fits s.content ys) (sized_gives c s.content ys k (λ at. h s.content at s.is)))
+    expects_gives Truncated _ _ (fits s.content ys) (sized_gives c s.content ys k h))
 
 pub section_only : {X : Type 0} (P : Spelling X) (Q : X → Type 0) (c : Input → Field X) → ((i : Input) → Only (c i) (λ x. P x.0 i.bytes x.1.bytes × Q x.0))
     → (i : Input) → Only (section_field c i) (λ x. IsSized P x.0 i.bytes x.1.bytes × Q x.0)
