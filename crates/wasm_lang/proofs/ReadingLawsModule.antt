@@ -12,7 +12,7 @@ use Rattle.wasm_lang.specs.Numbers.{IsU32}
 use Rattle.wasm_lang.specs.Limits.{most_types, most_functions, most_params, most_locals, most_levels, most_globals, most_entries, function_imports, global_imports, params_of, levels, MayImport, IsWithinReader}
 use Rattle.wasm_lang.specs.Grammar.{Spelling, Items, IsVec, IsSized, IsFunctionType, IsImport, IsTable, IsLimits, IsGlobal, IsExport, IsElement, IsFunctionBody, IsSegment, IsSection, IsNumberSection, IsCustoms, no_custom, header, IsModuleBytes}
 use Rattle.wasm_lang.specs.Grammar as grammar
-use Rattle.wasm_lang.specs.Reading.{Input, Field, ◌>>=◌, u32, onto, vec_field}
+use Rattle.wasm_lang.specs.Reading.{Input, Field, ◌>>=◌, u32, onto, items_field, vec_field}
 use Rattle.wasm_lang.specs.ReadingModule.{function_type_field, table_field, memory_field, global_field, export_field, element_field, segment_field, types_content, imports_content, functions_content, globals_content, bodies_content, counts, segments_content, header_field, end_field, read_module}
 use Rattle.wasm_lang.proofs.ReadingLaws.{from, leaves, Gives, Only, inner, ok_gives, equal_gives, bind_gives, expects_gives, ok_only, err_only, bind_only, expects_only, weaker_only, u32_gives, u32_only, items_gives, items_only, vec_gives, vec_of, vec_only}
 use Rattle.wasm_lang.proofs.ReadingLawsTypes.{all_are, counted_gives, counted_only, function_type_gives, function_type_only, memory_gives, memory_only, table_gives, table_only}
@@ -98,7 +98,7 @@ segments_gives c ss bs at e q v =
 segments_only : (c : Option ℕ) (i : Input) → Only (segments_content c i) (λ x. IsVec IsSegment x.0 i.bytes x.1.bytes × AllByRecursion (λ s. levels s.offset ≤ most_levels) x.0)
 segments_only c i =
     bind_only _ (u32_only SectionSize i) (λ n u.
-    expects_only Counts i.at _ (λ t.
+    expects_only {c = counts c n.0} Counts i.at (λ u. items_field segment_field n.0 n.1) (λ t.
     weaker_only (items_only segment_field segment_only n.0 n.1) (λ x p. (vec_of u p.0 p.1, p.2))))
 
 -- ---- limits of bodies
@@ -120,11 +120,67 @@ levels_fit types (f ∷ fs) (b ∷ bs) e p = (p.0.1, levels_fit types fs bs (let
 
 -- ---- what is spelled is read
 
-reads : (after : List ℕ) (m : WasmModule) → IsModuleBytes (header ++ after) m → IsWithinReader m → Gives (read_module (header ++ after)) (λ at. m)
+reads : (bytes : List ℕ) (m : WasmModule) (b : IsModuleBytes bytes m) → IsWithinReader m → Gives (read_module (header ++ b.after_header)) (λ at. m)
 unfolding read_module
-reads after m b w = ?
+reads bytes m b w =
+    let imports_fit : ImportsFit m.imports =
+    ((let l = w.functions in omega (arith, l)), (let l = w.globals in omega (arith, l)), recursion_from_All _ m.imports w.imported_tables) in
+    let s11 : Comes [] b.after_segments = ([], b.ends, refl) in
+    let s10 : Comes (11 ∷ []) b.after_bodies = part_comes 11 (IsVec IsSegment) [] m.segments b.after_bodies b.after_segments [] (section_part b.segments) s11 in
+    let s12 : Comes (10 ∷ 11 ∷ []) b.after_data_count = part_comes 10 (IsVec (IsSized IsFunctionBody)) [] m.bodies b.after_data_count b.after_bodies (11 ∷ []) (section_part b.bodies) s10 in
+    let s9 : Comes (12 ∷ 10 ∷ 11 ∷ []) b.after_elements = part_comes 12 (IsSome) None b.data_count b.after_elements b.after_data_count (10 ∷ 11 ∷ []) (number_part b.data_count_section) s12 in
+    let s8 : Comes (9 ∷ 12 ∷ 10 ∷ 11 ∷ []) b.after_start = part_comes 9 (IsVec IsElement) [] m.elements b.after_start b.after_elements (12 ∷ 10 ∷ 11 ∷ []) (section_part b.elements) s9 in
+    let s7 : Comes (8 ∷ 9 ∷ 12 ∷ 10 ∷ 11 ∷ []) b.after_exports = part_comes 8 (IsSome) None m.start b.after_exports b.after_start (9 ∷ 12 ∷ 10 ∷ 11 ∷ []) (number_part b.start) s8 in
+    let s6 : Comes (7 ∷ 8 ∷ 9 ∷ 12 ∷ 10 ∷ 11 ∷ []) b.after_globals = part_comes 7 (IsVec IsExport) [] m.exports b.after_globals b.after_exports (8 ∷ 9 ∷ 12 ∷ 10 ∷ 11 ∷ []) (section_part b.exports) s7 in
+    let s5 : Comes (6 ∷ 7 ∷ 8 ∷ 9 ∷ 12 ∷ 10 ∷ 11 ∷ []) b.after_memories = part_comes 6 (IsVec IsGlobal) [] m.globals b.after_memories b.after_globals (7 ∷ 8 ∷ 9 ∷ 12 ∷ 10 ∷ 11 ∷ []) (section_part b.globals) s6 in
+    let s4 : Comes (5 ∷ 6 ∷ 7 ∷ 8 ∷ 9 ∷ 12 ∷ 10 ∷ 11 ∷ []) b.after_tables = part_comes 5 (IsVec IsLimits) [] m.memories b.after_tables b.after_memories (6 ∷ 7 ∷ 8 ∷ 9 ∷ 12 ∷ 10 ∷ 11 ∷ []) (section_part b.memories) s5 in
+    let s3 : Comes (4 ∷ 5 ∷ 6 ∷ 7 ∷ 8 ∷ 9 ∷ 12 ∷ 10 ∷ 11 ∷ []) b.after_functions = part_comes 4 (IsVec IsTable) [] m.tables b.after_functions b.after_tables (5 ∷ 6 ∷ 7 ∷ 8 ∷ 9 ∷ 12 ∷ 10 ∷ 11 ∷ []) (section_part b.tables) s4 in
+    let s2 : Comes (3 ∷ 4 ∷ 5 ∷ 6 ∷ 7 ∷ 8 ∷ 9 ∷ 12 ∷ 10 ∷ 11 ∷ []) b.after_imports = part_comes 3 (IsVec IsU32) [] m.functions b.after_imports b.after_functions (4 ∷ 5 ∷ 6 ∷ 7 ∷ 8 ∷ 9 ∷ 12 ∷ 10 ∷ 11 ∷ []) (section_part b.functions) s3 in
+    let s1 : Comes (2 ∷ 3 ∷ 4 ∷ 5 ∷ 6 ∷ 7 ∷ 8 ∷ 9 ∷ 12 ∷ 10 ∷ 11 ∷ []) b.after_types = part_comes 2 (IsVec IsImport) [] m.imports b.after_types b.after_imports (3 ∷ 4 ∷ 5 ∷ 6 ∷ 7 ∷ 8 ∷ 9 ∷ 12 ∷ 10 ∷ 11 ∷ []) (section_part b.imports) s2 in
+    let p1 = part_gives {P = IsVec IsFunctionType} {absent = []} {v = m.types} {xs = b.after_header} {ys = b.after_types} {rs = b.after_header} 1 (2 ∷ 3 ∷ 4 ∷ 5 ∷ 6 ∷ 7 ∷ 8 ∷ 9 ∷ 12 ∷ 10 ∷ 11 ∷ []) types_content refl refl refl (λ bs at v. types_gives m.types bs at w.types (recursion_from_All _ m.types w.params) v) (section_part b.types) no_custom s1 in
+    let p2 = part_gives {P = IsVec IsImport} {absent = []} {v = m.imports} {xs = b.after_types} {ys = b.after_imports} {rs = p1.0} 2 (3 ∷ 4 ∷ 5 ∷ 6 ∷ 7 ∷ 8 ∷ 9 ∷ 12 ∷ 10 ∷ 11 ∷ []) imports_content refl refl refl (λ bs at v. import_content_gives m.imports bs at imports_fit v) (section_part b.imports) p1.1 s2 in
+    let p3 = part_gives {P = IsVec IsU32} {absent = []} {v = m.functions} {xs = b.after_imports} {ys = b.after_functions} {rs = p2.0} 3 (4 ∷ 5 ∷ 6 ∷ 7 ∷ 8 ∷ 9 ∷ 12 ∷ 10 ∷ 11 ∷ []) (functions_content m.imports) refl refl refl (λ bs at v. functions_gives m.imports m.functions bs at w.functions v) (section_part b.functions) p2.1 s3 in
+    let p4 = part_gives {P = IsVec IsTable} {absent = []} {v = m.tables} {xs = b.after_functions} {ys = b.after_tables} {rs = p3.0} 4 (5 ∷ 6 ∷ 7 ∷ 8 ∷ 9 ∷ 12 ∷ 10 ∷ 11 ∷ []) (vec_field table_field) refl refl refl (λ bs at v. tables_gives m.tables bs at (recursion_from_All _ m.tables w.tables) v) (section_part b.tables) p3.1 s4 in
+    let p5 = part_gives {P = IsVec IsLimits} {absent = []} {v = m.memories} {xs = b.after_tables} {ys = b.after_memories} {rs = p4.0} 5 (6 ∷ 7 ∷ 8 ∷ 9 ∷ 12 ∷ 10 ∷ 11 ∷ []) (vec_field memory_field) refl refl refl (λ bs at v. memories_gives m.memories bs at v) (section_part b.memories) p4.1 s5 in
+    let p6 = part_gives {P = IsVec IsGlobal} {absent = []} {v = m.globals} {xs = b.after_memories} {ys = b.after_globals} {rs = p5.0} 6 (7 ∷ 8 ∷ 9 ∷ 12 ∷ 10 ∷ 11 ∷ []) (globals_content m.imports) refl refl refl (λ bs at v. globals_gives m.imports m.globals bs at (w.globals, recursion_from_All _ m.globals w.global_levels) v) (section_part b.globals) p5.1 s6 in
+    let p7 = part_gives {P = IsVec IsExport} {absent = []} {v = m.exports} {xs = b.after_globals} {ys = b.after_exports} {rs = p6.0} 7 (8 ∷ 9 ∷ 12 ∷ 10 ∷ 11 ∷ []) (vec_field export_field) refl refl refl (λ bs at v. exports_gives m.exports bs at v) (section_part b.exports) p6.1 s7 in
+    let p8 = part_gives {P = IsSome} {absent = None} {v = m.start} {xs = b.after_exports} {ys = b.after_start} {rs = p7.0} 8 (9 ∷ 12 ∷ 10 ∷ 11 ∷ []) (λ i. onto Some (u32 i)) refl refl refl (λ bs at v. number_gives m.start bs at v) (number_part b.start) p7.1 s8 in
+    let p9 = part_gives {P = IsVec IsElement} {absent = []} {v = m.elements} {xs = b.after_start} {ys = b.after_elements} {rs = p8.0} 9 (12 ∷ 10 ∷ 11 ∷ []) (vec_field element_field) refl refl refl (λ bs at v. elements_gives m.elements bs at (recursion_from_All _ m.elements w.element_levels) v) (section_part b.elements) p8.1 s9 in
+    let p12 = part_gives {P = IsSome} {absent = None} {v = b.data_count} {xs = b.after_elements} {ys = b.after_data_count} {rs = p9.0} 12 (10 ∷ 11 ∷ []) (λ i. onto Some (u32 i)) refl refl refl (λ bs at v. number_gives b.data_count bs at v) (number_part b.data_count_section) p9.1 s12 in
+    let p10 = part_gives {P = IsVec (IsSized IsFunctionBody)} {absent = []} {v = m.bodies} {xs = b.after_data_count} {ys = b.after_bodies} {rs = p12.0} 10 (11 ∷ []) (bodies_content m.types m.functions) refl refl refl (λ bs at v. body_content_gives m.types m.functions m.bodies bs at b.bodies_match (bodies_fit m.types m.functions m.bodies (recursion_from_All _ (zip m.functions m.bodies) w.locals) (recursion_from_All _ m.bodies w.body_levels)) v) (section_part b.bodies) p12.1 s10 in
+    let p11 = part_gives {P = IsVec IsSegment} {absent = []} {v = m.segments} {xs = b.after_bodies} {ys = b.after_segments} {rs = p10.0} 11 [] (segments_content b.data_count) refl refl refl (λ bs at v. segments_gives b.data_count m.segments bs at b.segments_match (recursion_from_All _ m.segments w.segment_levels) v) (section_part b.segments) p10.1 s11 in
+    bind_gives _ (p1.2 8) (λ at.
+    bind_gives _ (p2.2 at) (λ at.
+    bind_gives _ (p3.2 at) (λ at.
+    bind_gives _ (p4.2 at) (λ at.
+    bind_gives _ (p5.2 at) (λ at.
+    bind_gives _ (p6.2 at) (λ at.
+    bind_gives _ (p7.2 at) (λ at.
+    bind_gives _ (p8.2 at) (λ at.
+    bind_gives _ (p9.2 at) (λ at.
+    bind_gives _ (p12.2 at) (λ at.
+    bind_gives _ (p10.2 at) (λ at.
+    bind_gives _ (p11.2 at) (λ at.
+    bind_gives _ (last_gives p11.0 at (rest_is p11.1 b.ends)) (λ at.
+    expects_gives Counts at _ (eq-eqb (length m.bodies) (length m.functions) (sym b.bodies_match))
+    (expects_gives {c = counts b.data_count (length m.segments)} Counts at _ (counts_are b.data_count (length m.segments) b.segments_match) (ok_gives at))
+    )))))))))))))
+
+pub reads_what_is_spelled : (bytes : List ℕ) (m : WasmModule) → IsModuleBytes bytes m → IsWithinReader m → read_module bytes ≡ Ok m
+reads_what_is_spelled bytes m b w = ap read_module b.begins ∙ (reads bytes m b w).is
 
 -- ---- and only that
+
+end_only : (i : Input) → Only (end_field i) (λ at. i.bytes ≡ [])
+end_only i = record { holds = by i.bytes }
+  where
+    by : (bytes : List ℕ) (at : ℕ) → end_field (from i.at bytes) ≡ Ok at → bytes ≡ []
+    by [] at q = refl
+    by (b ∷ bs) at q = cc
+
+none_fit : (types : List FunctionType) (fs : List ℕ) → BodiesFit types (zip fs [])
+none_fit types [] = tt
+none_fit types (f ∷ fs) = tt
 
 abbrev IsRead : List ℕ → WasmModule → Type 0
 IsRead bytes m = IsModuleBytes bytes m × IsWithinReader m
@@ -132,8 +188,73 @@ IsRead bytes m = IsModuleBytes bytes m × IsWithinReader m
 only : (bytes : List ℕ) → All (λ b. b < 256) bytes → Only (read_module bytes) (IsRead bytes)
 unfolding read_module
 only bytes all =
-    bind_only _ (header_only Magic (0x00 ∷ 0x61 ∷ 0x73 ∷ 0x6d ∷ []) (from 0 bytes)) (λ i h1.
-    bind_only _ (header_only Version (0x01 ∷ 0x00 ∷ 0x00 ∷ 0x00 ∷ []) i) (λ i h2.
+    bind_only _ (header_only Magic (0x00 ∷ 0x61 ∷ 0x73 ∷ 0x6d ∷ []) (from 0 bytes)) (λ h h1.
+    bind_only _ (header_only Version (0x01 ∷ 0x00 ∷ 0x00 ∷ 0x00 ∷ []) h) (λ i h2.
     bind_only _ (part_only (IsVec IsFunctionType) TypesFit [] 1 types_content (tt, (let l : 0 + 0 ≤ most_types = omega arith in l)) types_only i) (λ types p1.
     bind_only _ (part_only (IsVec IsImport) ImportsFit [] 2 imports_content ((let l : 0 + 0 ≤ most_functions = omega arith in l), (let l : 0 + 0 ≤ most_globals = omega arith in l), tt) import_content_only types.1) (λ is p2.
-    ?))))
+    bind_only _ (part_only (IsVec IsU32) (λ fs. function_imports is.0 + length fs ≤ most_functions) [] 3 (functions_content is.0) (let l = p2.1.0 in omega (arith, l)) (functions_only is.0) is.1) (λ functions p3.
+    bind_only _ (part_only (IsVec IsTable) (λ ls. AllByRecursion (λ l. l.min ≤ most_entries) ls) [] 4 (vec_field table_field) tt (vec_only table_field table_only) functions.1) (λ tables p4.
+    bind_only _ (part_only (IsVec IsLimits) (λ ls. AllByRecursion (λ l. Unit {0}) ls) [] 5 (vec_field memory_field) tt (vec_only memory_field (λ i. weaker_only (memory_only i) (λ x h. (h, tt)))) tables.1) (λ memories p5.
+    bind_only _ (part_only (IsVec IsGlobal) (GlobalsFit is.0) [] 6 (globals_content is.0) ((let l = p2.1.1 in omega (arith, l)), tt) (globals_only is.0) memories.1) (λ globals p6.
+    bind_only _ (part_only (IsVec IsExport) (λ es. AllByRecursion (λ e. Unit {0}) es) [] 7 (vec_field export_field) tt (vec_only export_field (λ i. weaker_only (export_only i) (λ x h. (h, tt)))) globals.1) (λ es p7.
+    bind_only _ (part_only IsSome (λ n. Unit {0}) None 8 (λ i. onto Some (u32 i)) tt number_only es.1) (λ start p8.
+    bind_only _ (part_only (IsVec IsElement) (λ es. AllByRecursion (λ e. levels e.offset ≤ most_levels) es) [] 9 (vec_field element_field) tt (vec_only element_field element_only) start.1) (λ elements p9.
+    bind_only _ (part_only IsSome (λ n. Unit {0}) None 12 (λ i. onto Some (u32 i)) tt number_only elements.1) (λ count p12.
+    bind_only _ (part_only (IsVec (IsSized IsFunctionBody)) (λ bs. BodiesFit types.0 (zip functions.0 bs)) [] 10 (bodies_content types.0 functions.0) (none_fit types.0 functions.0) (body_content_only types.0 functions.0 (params_within types.0 p1.1.0)) count.1) (λ bodies p10.
+    bind_only _ (part_only (IsVec IsSegment) (λ ss. AllByRecursion (λ s. levels s.offset ≤ most_levels) ss) [] 11 (segments_content count.0) tt (segments_only count.0) bodies.1) (λ segments p11.
+    bind_only _ (last_only segments.1) (λ last c.
+    bind_only _ (end_only last) (λ at e.
+    expects_only Counts at _ (λ t.
+    expects_only {c = counts count.0 (length segments.0)} Counts at _ (λ u.
+    let matched : length functions.0 ≡ length bodies.0 = sym (eqb-true (length bodies.0) (length functions.0) t) in
+    ok_only (
+      record {
+        after_header = i.bytes;
+        after_types = types.1.bytes;
+        after_imports = is.1.bytes;
+        after_functions = functions.1.bytes;
+        after_tables = tables.1.bytes;
+        after_memories = memories.1.bytes;
+        after_globals = globals.1.bytes;
+        after_exports = es.1.bytes;
+        after_start = start.1.bytes;
+        after_elements = elements.1.bytes;
+        after_data_count = count.1.bytes;
+        after_bodies = bodies.1.bytes;
+        after_segments = segments.1.bytes;
+        data_count = count.0;
+        are_bytes = all;
+        begins = h1 ∙ ap (λ l. 0x00 ∷ 0x61 ∷ 0x73 ∷ 0x6d ∷ l) h2;
+        types = part_section 1 IsFunctionType types.0 i.bytes types.1.bytes p1.0;
+        imports = part_section 2 IsImport is.0 types.1.bytes is.1.bytes p2.0;
+        functions = part_section 3 IsU32 functions.0 is.1.bytes functions.1.bytes p3.0;
+        tables = part_section 4 IsTable tables.0 functions.1.bytes tables.1.bytes p4.0;
+        memories = part_section 5 IsLimits memories.0 tables.1.bytes memories.1.bytes p5.0;
+        globals = part_section 6 IsGlobal globals.0 memories.1.bytes globals.1.bytes p6.0;
+        exports = part_section 7 IsExport es.0 globals.1.bytes es.1.bytes p7.0;
+        start = part_number 8 start.0 es.1.bytes start.1.bytes p8.0;
+        elements = part_section 9 IsElement elements.0 start.1.bytes elements.1.bytes p9.0;
+        data_count_section = part_number 12 count.0 elements.1.bytes count.1.bytes p12.0;
+        bodies = part_section 10 (IsSized IsFunctionBody) bodies.0 count.1.bytes bodies.1.bytes p10.0;
+        segments = part_section 11 IsSegment segments.0 bodies.1.bytes segments.1.bytes p11.0;
+        ends = subst (λ l. IsCustoms segments.1.bytes l) e c;
+        bodies_match = matched;
+        segments_match = are_counts count.0 (length segments.0) u;
+      },
+      record {
+        types = (let l = p1.1.1 in omega (arith, l));
+        params = All-from_recursion _ types.0 p1.1.0;
+        functions = p3.1;
+        globals = p6.1.0;
+        imported_tables = All-from_recursion _ is.0 p2.1.2;
+        tables = All-from_recursion _ tables.0 p4.1;
+        locals = All-from_recursion _ (zip functions.0 bodies.0) (locals_fit types.0 functions.0 bodies.0 p10.1);
+        body_levels = All-from_recursion _ bodies.0 (levels_fit types.0 functions.0 bodies.0 matched p10.1);
+        global_levels = All-from_recursion _ globals.0 p6.1.1;
+        element_levels = All-from_recursion _ elements.0 p9.1;
+        segment_levels = All-from_recursion _ segments.0 p11.1;
+      },
+    )))))))))))))))))))
+
+pub spelled_as_read : (bytes : List ℕ) (m : WasmModule) → All (λ b. b < 256) bytes → read_module bytes ≡ Ok m → IsModuleBytes bytes m × IsWithinReader m
+spelled_as_read bytes m all q = (only bytes all).holds m q
