@@ -1,6 +1,6 @@
 -- The two laws of whole modules.
 use Rattle.std.proofs.Common.{◌≡◌, ℕ, zero, suc, ◌+◌, ◌-◌, ◌<◌, ◌≤◌, Bool, true, false, cond, eqb, leb, List, [], ◌∷◌, ◌++◌, length, Option, Some, None, refl, sym, ap, ap₂, ◌∙◌, subst, arith, append_assoc}
-use Rattle.std.specs.Prelude.{Result, Ok, Err, All}
+use Rattle.std.specs.Prelude.{Result, Ok, Err, All, MatchResult}
 use Rattle.std.specs.List.{AllByRecursion, zip}
 use Rattle.std.proofs.lemmas.List.Elements.{All-from_recursion, recursion_from_All}
 use Rattle.std.proofs.lemmas.Bool.{eqb-true, eq-eqb}
@@ -17,7 +17,7 @@ use Rattle.wasm_lang.specs.ReadingModule.{function_type_field, table_field, memo
 use Rattle.wasm_lang.proofs.ReadingLaws.{from, leaves, Gives, Only, inner, ok_gives, equal_gives, bind_gives, expects_gives, ok_only, err_only, bind_only, expects_only, weaker_only, u32_gives, u32_only, items_gives, items_only, vec_gives, vec_of, vec_only}
 use Rattle.wasm_lang.proofs.ReadingLawsTypes.{all_are, counted_gives, counted_only, function_type_gives, function_type_only, memory_gives, memory_only, table_gives, table_only}
 use Rattle.wasm_lang.proofs.ReadingLawsEntries.{imports_gives, imports_only, global_gives, global_only, export_gives, export_only, numbers_gives, numbers_only, element_gives, element_only, segment_gives, segment_only, BodyFits, BodiesFit, bodies_gives, bodies_only, params_within}
-use Rattle.wasm_lang.proofs.ReadingLawsSections.{IsPart, IsSome, Comes, section_part, part_section, number_part, part_number, part_comes, part_gives, part_only, number_gives, number_only, header_only, last_gives, last_only, rest_is}
+use Rattle.wasm_lang.proofs.ReadingLawsSections.{IsPart, IsSome, Comes, section_part, part_section, number_part, part_number, part_comes, part_then, part_only, number_gives, number_only, header_only, last_gives, last_only, rest_is}
 
 -- ---- contents of sections
 
@@ -120,11 +120,23 @@ levels_fit types (f ∷ fs) (b ∷ bs) e p = (p.0.1, levels_fit types fs bs (let
 
 -- ---- what is spelled is read
 
-reads : (bytes : List ℕ) (m : WasmModule) (b : IsModuleBytes bytes m) → IsWithinReader m → Gives (read_module (header ++ b.after_header)) (λ at. m)
-unfolding read_module
-reads bytes m b w =
-    let imports_fit : ImportsFit m.imports =
-    ((let l = w.functions in omega (arith, l)), (let l = w.globals in omega (arith, l)), recursion_from_All _ m.imports w.imported_tables) in
+-- what comes after each section
+record Comings {bytes : List ℕ} {m : WasmModule} (b : IsModuleBytes bytes m) : Type 0 where
+  pub after_types : Comes (2 ∷ 3 ∷ 4 ∷ 5 ∷ 6 ∷ 7 ∷ 8 ∷ 9 ∷ 12 ∷ 10 ∷ 11 ∷ []) b.after_types
+  pub after_imports : Comes (3 ∷ 4 ∷ 5 ∷ 6 ∷ 7 ∷ 8 ∷ 9 ∷ 12 ∷ 10 ∷ 11 ∷ []) b.after_imports
+  pub after_functions : Comes (4 ∷ 5 ∷ 6 ∷ 7 ∷ 8 ∷ 9 ∷ 12 ∷ 10 ∷ 11 ∷ []) b.after_functions
+  pub after_tables : Comes (5 ∷ 6 ∷ 7 ∷ 8 ∷ 9 ∷ 12 ∷ 10 ∷ 11 ∷ []) b.after_tables
+  pub after_memories : Comes (6 ∷ 7 ∷ 8 ∷ 9 ∷ 12 ∷ 10 ∷ 11 ∷ []) b.after_memories
+  pub after_globals : Comes (7 ∷ 8 ∷ 9 ∷ 12 ∷ 10 ∷ 11 ∷ []) b.after_globals
+  pub after_exports : Comes (8 ∷ 9 ∷ 12 ∷ 10 ∷ 11 ∷ []) b.after_exports
+  pub after_start : Comes (9 ∷ 12 ∷ 10 ∷ 11 ∷ []) b.after_start
+  pub after_elements : Comes (12 ∷ 10 ∷ 11 ∷ []) b.after_elements
+  pub after_data_count : Comes (10 ∷ 11 ∷ []) b.after_data_count
+  pub after_bodies : Comes (11 ∷ []) b.after_bodies
+  pub after_segments : Comes [] b.after_segments
+
+comings : (bytes : List ℕ) (m : WasmModule) (b : IsModuleBytes bytes m) → Comings b
+comings bytes m b =
     let s11 : Comes [] b.after_segments = ([], b.ends, refl) in
     let s10 : Comes (11 ∷ []) b.after_bodies = part_comes 11 (IsVec IsSegment) [] m.segments b.after_bodies b.after_segments [] (section_part b.segments) s11 in
     let s12 : Comes (10 ∷ 11 ∷ []) b.after_data_count = part_comes 10 (IsVec (IsSized IsFunctionBody)) [] m.bodies b.after_data_count b.after_bodies (11 ∷ []) (section_part b.bodies) s10 in
@@ -137,37 +149,33 @@ reads bytes m b w =
     let s3 : Comes (4 ∷ 5 ∷ 6 ∷ 7 ∷ 8 ∷ 9 ∷ 12 ∷ 10 ∷ 11 ∷ []) b.after_functions = part_comes 4 (IsVec IsTable) [] m.tables b.after_functions b.after_tables (5 ∷ 6 ∷ 7 ∷ 8 ∷ 9 ∷ 12 ∷ 10 ∷ 11 ∷ []) (section_part b.tables) s4 in
     let s2 : Comes (3 ∷ 4 ∷ 5 ∷ 6 ∷ 7 ∷ 8 ∷ 9 ∷ 12 ∷ 10 ∷ 11 ∷ []) b.after_imports = part_comes 3 (IsVec IsU32) [] m.functions b.after_imports b.after_functions (4 ∷ 5 ∷ 6 ∷ 7 ∷ 8 ∷ 9 ∷ 12 ∷ 10 ∷ 11 ∷ []) (section_part b.functions) s3 in
     let s1 : Comes (2 ∷ 3 ∷ 4 ∷ 5 ∷ 6 ∷ 7 ∷ 8 ∷ 9 ∷ 12 ∷ 10 ∷ 11 ∷ []) b.after_types = part_comes 2 (IsVec IsImport) [] m.imports b.after_types b.after_imports (3 ∷ 4 ∷ 5 ∷ 6 ∷ 7 ∷ 8 ∷ 9 ∷ 12 ∷ 10 ∷ 11 ∷ []) (section_part b.imports) s2 in
-    let p1 = part_gives {P = IsVec IsFunctionType} {absent = []} {v = m.types} {xs = b.after_header} {ys = b.after_types} {rs = b.after_header} 1 (2 ∷ 3 ∷ 4 ∷ 5 ∷ 6 ∷ 7 ∷ 8 ∷ 9 ∷ 12 ∷ 10 ∷ 11 ∷ []) types_content refl refl refl (λ bs at v. types_gives m.types bs at w.types (recursion_from_All _ m.types w.params) v) (section_part b.types) no_custom s1 in
-    let p2 = part_gives {P = IsVec IsImport} {absent = []} {v = m.imports} {xs = b.after_types} {ys = b.after_imports} {rs = p1.0} 2 (3 ∷ 4 ∷ 5 ∷ 6 ∷ 7 ∷ 8 ∷ 9 ∷ 12 ∷ 10 ∷ 11 ∷ []) imports_content refl refl refl (λ bs at v. import_content_gives m.imports bs at imports_fit v) (section_part b.imports) p1.1 s2 in
-    let p3 = part_gives {P = IsVec IsU32} {absent = []} {v = m.functions} {xs = b.after_imports} {ys = b.after_functions} {rs = p2.0} 3 (4 ∷ 5 ∷ 6 ∷ 7 ∷ 8 ∷ 9 ∷ 12 ∷ 10 ∷ 11 ∷ []) (functions_content m.imports) refl refl refl (λ bs at v. functions_gives m.imports m.functions bs at w.functions v) (section_part b.functions) p2.1 s3 in
-    let p4 = part_gives {P = IsVec IsTable} {absent = []} {v = m.tables} {xs = b.after_functions} {ys = b.after_tables} {rs = p3.0} 4 (5 ∷ 6 ∷ 7 ∷ 8 ∷ 9 ∷ 12 ∷ 10 ∷ 11 ∷ []) (vec_field table_field) refl refl refl (λ bs at v. tables_gives m.tables bs at (recursion_from_All _ m.tables w.tables) v) (section_part b.tables) p3.1 s4 in
-    let p5 = part_gives {P = IsVec IsLimits} {absent = []} {v = m.memories} {xs = b.after_tables} {ys = b.after_memories} {rs = p4.0} 5 (6 ∷ 7 ∷ 8 ∷ 9 ∷ 12 ∷ 10 ∷ 11 ∷ []) (vec_field memory_field) refl refl refl (λ bs at v. memories_gives m.memories bs at v) (section_part b.memories) p4.1 s5 in
-    let p6 = part_gives {P = IsVec IsGlobal} {absent = []} {v = m.globals} {xs = b.after_memories} {ys = b.after_globals} {rs = p5.0} 6 (7 ∷ 8 ∷ 9 ∷ 12 ∷ 10 ∷ 11 ∷ []) (globals_content m.imports) refl refl refl (λ bs at v. globals_gives m.imports m.globals bs at (w.globals, recursion_from_All _ m.globals w.global_levels) v) (section_part b.globals) p5.1 s6 in
-    let p7 = part_gives {P = IsVec IsExport} {absent = []} {v = m.exports} {xs = b.after_globals} {ys = b.after_exports} {rs = p6.0} 7 (8 ∷ 9 ∷ 12 ∷ 10 ∷ 11 ∷ []) (vec_field export_field) refl refl refl (λ bs at v. exports_gives m.exports bs at v) (section_part b.exports) p6.1 s7 in
-    let p8 = part_gives {P = IsSome} {absent = None} {v = m.start} {xs = b.after_exports} {ys = b.after_start} {rs = p7.0} 8 (9 ∷ 12 ∷ 10 ∷ 11 ∷ []) (λ i. onto Some (u32 i)) refl refl refl (λ bs at v. number_gives m.start bs at v) (number_part b.start) p7.1 s8 in
-    let p9 = part_gives {P = IsVec IsElement} {absent = []} {v = m.elements} {xs = b.after_start} {ys = b.after_elements} {rs = p8.0} 9 (12 ∷ 10 ∷ 11 ∷ []) (vec_field element_field) refl refl refl (λ bs at v. elements_gives m.elements bs at (recursion_from_All _ m.elements w.element_levels) v) (section_part b.elements) p8.1 s9 in
-    let p12 = part_gives {P = IsSome} {absent = None} {v = b.data_count} {xs = b.after_elements} {ys = b.after_data_count} {rs = p9.0} 12 (10 ∷ 11 ∷ []) (λ i. onto Some (u32 i)) refl refl refl (λ bs at v. number_gives b.data_count bs at v) (number_part b.data_count_section) p9.1 s12 in
-    let p10 = part_gives {P = IsVec (IsSized IsFunctionBody)} {absent = []} {v = m.bodies} {xs = b.after_data_count} {ys = b.after_bodies} {rs = p12.0} 10 (11 ∷ []) (bodies_content m.types m.functions) refl refl refl (λ bs at v. body_content_gives m.types m.functions m.bodies bs at b.bodies_match (bodies_fit m.types m.functions m.bodies (recursion_from_All _ (zip m.functions m.bodies) w.locals) (recursion_from_All _ m.bodies w.body_levels)) v) (section_part b.bodies) p12.1 s10 in
-    let p11 = part_gives {P = IsVec IsSegment} {absent = []} {v = m.segments} {xs = b.after_bodies} {ys = b.after_segments} {rs = p10.0} 11 [] (segments_content b.data_count) refl refl refl (λ bs at v. segments_gives b.data_count m.segments bs at b.segments_match (recursion_from_All _ m.segments w.segment_levels) v) (section_part b.segments) p10.1 s11 in
-    bind_gives _ (p1.2 8) (λ at.
-    bind_gives _ (p2.2 at) (λ at.
-    bind_gives _ (p3.2 at) (λ at.
-    bind_gives _ (p4.2 at) (λ at.
-    bind_gives _ (p5.2 at) (λ at.
-    bind_gives _ (p6.2 at) (λ at.
-    bind_gives _ (p7.2 at) (λ at.
-    bind_gives _ (p8.2 at) (λ at.
-    bind_gives _ (p9.2 at) (λ at.
-    bind_gives _ (p12.2 at) (λ at.
-    bind_gives _ (p10.2 at) (λ at.
-    bind_gives _ (p11.2 at) (λ at.
-    bind_gives _ (last_gives p11.0 at (rest_is p11.1 b.ends)) (λ at.
+    record { after_types = s1; after_imports = s2; after_functions = s3; after_tables = s4; after_memories = s5; after_globals = s6; after_exports = s7; after_start = s8; after_elements = s9; after_data_count = s12; after_bodies = s10; after_segments = s11 }
+
+imports_fit : (m : WasmModule) → IsWithinReader m → ImportsFit m.imports
+imports_fit m w = ((let l = w.functions in omega (arith, l)), (let l = w.globals in omega (arith, l)), recursion_from_All _ m.imports w.imported_tables)
+
+reads : (bytes : List ℕ) (m : WasmModule) (b : IsModuleBytes bytes m) → IsWithinReader m → Comings b → Gives (read_module (header ++ b.after_header)) (λ at. m)
+unfolding read_module
+reads bytes m b w s =
+    part_then {P = IsVec IsFunctionType} {absent = []} {v = m.types} {xs = b.after_header} {ys = b.after_types} {rs = b.after_header} 1 (2 ∷ 3 ∷ 4 ∷ 5 ∷ 6 ∷ 7 ∷ 8 ∷ 9 ∷ 12 ∷ 10 ∷ 11 ∷ []) types_content _ refl refl refl (λ bs at v. types_gives m.types bs at w.types (recursion_from_All _ m.types w.params) v) (section_part b.types) no_custom s.after_types 8 (λ q1 c1 at.
+    part_then {P = IsVec IsImport} {absent = []} {v = m.imports} {xs = b.after_types} {ys = b.after_imports} {rs = q1} 2 (3 ∷ 4 ∷ 5 ∷ 6 ∷ 7 ∷ 8 ∷ 9 ∷ 12 ∷ 10 ∷ 11 ∷ []) imports_content _ refl refl refl (λ bs at v. import_content_gives m.imports bs at (imports_fit m w) v) (section_part b.imports) c1 s.after_imports at (λ q2 c2 at.
+    part_then {P = IsVec IsU32} {absent = []} {v = m.functions} {xs = b.after_imports} {ys = b.after_functions} {rs = q2} 3 (4 ∷ 5 ∷ 6 ∷ 7 ∷ 8 ∷ 9 ∷ 12 ∷ 10 ∷ 11 ∷ []) (functions_content m.imports) _ refl refl refl (λ bs at v. functions_gives m.imports m.functions bs at w.functions v) (section_part b.functions) c2 s.after_functions at (λ q3 c3 at.
+    part_then {P = IsVec IsTable} {absent = []} {v = m.tables} {xs = b.after_functions} {ys = b.after_tables} {rs = q3} 4 (5 ∷ 6 ∷ 7 ∷ 8 ∷ 9 ∷ 12 ∷ 10 ∷ 11 ∷ []) (vec_field table_field) _ refl refl refl (λ bs at v. tables_gives m.tables bs at (recursion_from_All _ m.tables w.tables) v) (section_part b.tables) c3 s.after_tables at (λ q4 c4 at.
+    part_then {P = IsVec IsLimits} {absent = []} {v = m.memories} {xs = b.after_tables} {ys = b.after_memories} {rs = q4} 5 (6 ∷ 7 ∷ 8 ∷ 9 ∷ 12 ∷ 10 ∷ 11 ∷ []) (vec_field memory_field) _ refl refl refl (λ bs at v. memories_gives m.memories bs at v) (section_part b.memories) c4 s.after_memories at (λ q5 c5 at.
+    part_then {P = IsVec IsGlobal} {absent = []} {v = m.globals} {xs = b.after_memories} {ys = b.after_globals} {rs = q5} 6 (7 ∷ 8 ∷ 9 ∷ 12 ∷ 10 ∷ 11 ∷ []) (globals_content m.imports) _ refl refl refl (λ bs at v. globals_gives m.imports m.globals bs at (w.globals, recursion_from_All _ m.globals w.global_levels) v) (section_part b.globals) c5 s.after_globals at (λ q6 c6 at.
+    part_then {P = IsVec IsExport} {absent = []} {v = m.exports} {xs = b.after_globals} {ys = b.after_exports} {rs = q6} 7 (8 ∷ 9 ∷ 12 ∷ 10 ∷ 11 ∷ []) (vec_field export_field) _ refl refl refl (λ bs at v. exports_gives m.exports bs at v) (section_part b.exports) c6 s.after_exports at (λ q7 c7 at.
+    part_then {P = IsSome} {absent = None} {v = m.start} {xs = b.after_exports} {ys = b.after_start} {rs = q7} 8 (9 ∷ 12 ∷ 10 ∷ 11 ∷ []) (λ i. onto Some (u32 i)) _ refl refl refl (λ bs at v. number_gives m.start bs at v) (number_part b.start) c7 s.after_start at (λ q8 c8 at.
+    part_then {P = IsVec IsElement} {absent = []} {v = m.elements} {xs = b.after_start} {ys = b.after_elements} {rs = q8} 9 (12 ∷ 10 ∷ 11 ∷ []) (vec_field element_field) _ refl refl refl (λ bs at v. elements_gives m.elements bs at (recursion_from_All _ m.elements w.element_levels) v) (section_part b.elements) c8 s.after_elements at (λ q9 c9 at.
+    part_then {P = IsSome} {absent = None} {v = b.data_count} {xs = b.after_elements} {ys = b.after_data_count} {rs = q9} 12 (10 ∷ 11 ∷ []) (λ i. onto Some (u32 i)) _ refl refl refl (λ bs at v. number_gives b.data_count bs at v) (number_part b.data_count_section) c9 s.after_data_count at (λ q12 c12 at.
+    part_then {P = IsVec (IsSized IsFunctionBody)} {absent = []} {v = m.bodies} {xs = b.after_data_count} {ys = b.after_bodies} {rs = q12} 10 (11 ∷ []) (bodies_content m.types m.functions) _ refl refl refl (λ bs at v. body_content_gives m.types m.functions m.bodies bs at b.bodies_match (bodies_fit m.types m.functions m.bodies (recursion_from_All _ (zip m.functions m.bodies) w.locals) (recursion_from_All _ m.bodies w.body_levels)) v) (section_part b.bodies) c12 s.after_bodies at (λ q10 c10 at.
+    part_then {P = IsVec IsSegment} {absent = []} {v = m.segments} {xs = b.after_bodies} {ys = b.after_segments} {rs = q10} 11 [] (segments_content b.data_count) _ refl refl refl (λ bs at v. segments_gives b.data_count m.segments bs at b.segments_match (recursion_from_All _ m.segments w.segment_levels) v) (section_part b.segments) c10 s.after_segments at (λ q11 c11 at.
+    bind_gives _ (last_gives q11 at (rest_is c11 b.ends)) (λ at.
     expects_gives Counts at _ (eq-eqb (length m.bodies) (length m.functions) (sym b.bodies_match))
     (expects_gives {c = counts b.data_count (length m.segments)} Counts at _ (counts_are b.data_count (length m.segments) b.segments_match) (ok_gives at))
     )))))))))))))
 
 pub reads_what_is_spelled : (bytes : List ℕ) (m : WasmModule) → IsModuleBytes bytes m → IsWithinReader m → read_module bytes ≡ Ok m
-reads_what_is_spelled bytes m b w = ap read_module b.begins ∙ (reads bytes m b w).is
+reads_what_is_spelled bytes m b w = ap read_module b.begins ∙ (reads bytes m b w (comings bytes m b)).is
 
 -- ---- and only that
 
@@ -258,3 +266,13 @@ only bytes all =
 
 pub spelled_as_read : (bytes : List ℕ) (m : WasmModule) → All (λ b. b < 256) bytes → read_module bytes ≡ Ok m → IsModuleBytes bytes m × IsWithinReader m
 spelled_as_read bytes m all q = (only bytes all).holds m q
+
+abbrev Found : List ℕ → Result WasmModule Fault → Type 0
+Found bytes r = MatchResult r (λ m. IsModuleBytes bytes m × IsWithinReader m × ((n : WasmModule) → IsModuleBytes bytes n → IsWithinReader n → m ≡ n)) (λ f. (n : WasmModule) → IsModuleBytes bytes n → ¬ IsWithinReader n)
+
+pub module_or_fault : (bytes : List ℕ) → All (λ b. b < 256) bytes → Found bytes (read_module bytes)
+module_or_fault bytes all = by (read_module bytes) refl
+  where
+    by : (r : Result WasmModule Fault) → read_module bytes ≡ r → Found bytes r
+    by (Ok m) e = let h = spelled_as_read bytes m all e in (h.0, h.1, λ n b w. inner (sym e ∙ reads_what_is_spelled bytes n b w))
+    by (Err f) e = λ n b w. let q : Err f ≡ Ok n = sym e ∙ reads_what_is_spelled bytes n b w in cc

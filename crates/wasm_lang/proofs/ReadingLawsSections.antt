@@ -159,6 +159,13 @@ part_gives {absent = absent} {v = v} {ys = ys} {rs = rs} id ids content nonzero 
     equal_gives (ap (λ b. cond b (section_field content (from (at + 1) zs)) (Ok (absent, from at (id ∷ zs)))) (eq-eqb id id refl))
     (section_gives v content p.2 (λ at. h p.2.content at p.2.is) (at + 1))))
 
+-- the same, and what is read after it
+pub part_then : {X Y : Type 0} {P : Spelling X} {absent v : X} {xs ys rs : List ℕ} {y : ℕ → Y} (id : ℕ) (ids : List ℕ) (content : Input → Field X) (g : X × Input → Result Y Fault)
+    → eqb id 0 ≡ false → member ids id ≡ false → member ids 0 ≡ false → ((bs : List ℕ) (at : ℕ) → P v bs [] → Gives (content (from at bs)) (leaves v [])) → IsPart id P absent v xs ys → IsCustoms xs rs → Comes ids ys
+    → (at : ℕ) → ((qs : List ℕ) → IsCustoms ys qs → (at : ℕ) → Gives (g (leaves v qs at)) y) → Gives (part_field id absent content (from at rs) >>= g) y
+part_then id ids content g nonzero apart zero_apart h p r c at k =
+    let q = part_gives id ids content nonzero apart zero_apart h p r c in bind_gives g (q.2 at) (λ at. k q.0 q.1 at)
+
 -- and only that
 pub part_only : {X : Type 0} (P : Spelling X) (Q : X → Type 0) (absent : X) (id : ℕ) (content : Input → Field X) → Q absent → ((i : Input) → Only (content i) (λ x. P x.0 i.bytes x.1.bytes × Q x.0))
     → (i : Input) → Only (part_field id absent content i) (λ x. IsPart id P absent x.0 i.bytes x.1.bytes × Q x.0)

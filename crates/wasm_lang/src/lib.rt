@@ -12,5 +12,5 @@ mod types;
 
 pub use fault::{Fault, NumberFault, Row};
 pub use laws::number_laws;
-pub use reading_laws::scratch_laws;
+pub use reading_laws::module_laws;
 pub use types::{ExportKind, GlobalType, ImportKind, Limits, MemOp, ValType};

@@ -1,8 +1,14 @@
-//! What is spelled is read, and only that, as contracts of functions that do nothing.
-ghost use Rattle.std.specs.Prelude.{◌≡◌, ℕ, List, Ok};
-ghost use Rattle.wasm_lang.specs.Numbers.{IsU32};
-ghost use Rattle.wasm_lang.specs.Reading.{Input, u32};
+//! The reading function against the binary format, as contracts of a function that does nothing.
+ghost use Rattle.std.specs.Prelude.{◌≡◌, ℕ, List, ◌<◌, All, Ok, MatchResult};
+ghost use Rattle.wasm_lang.specs.Grammar.{IsModuleBytes};
+ghost use Rattle.wasm_lang.specs.Limits.{IsWithinReader};
+ghost use Rattle.wasm_lang.specs.Modules.{WasmModule};
+ghost use Rattle.wasm_lang.specs.ReadingModule.{read_module};
 
-pub fn scratch_laws()
-    ensures { (n at : ℕ) (xs ys : List ℕ) → IsU32 n xs ys → (place : ℕ) × (u32 (record { at = at; bytes = xs }) ≡ Ok (n, record { at = place; bytes = ys })) }
+/// A module within the reader's limits is read from each of its spellings, and what is read is spelled so. So bytes have a
+/// module within the limits, and only this one, or there is a first field that can't be read, and then they have none.
+pub fn module_laws()
+    ensures reads_what_is_spelled { (bytes : List ℕ) (m : WasmModule) → IsModuleBytes bytes m → IsWithinReader m → read_module bytes ≡ Ok m }
+    ensures spelled_as_read { (bytes : List ℕ) (m : WasmModule) → All (λ b. b < 256) bytes → read_module bytes ≡ Ok m → IsModuleBytes bytes m × IsWithinReader m }
+    ensures module_or_fault { (bytes : List ℕ) → All (λ b. b < 256) bytes → MatchResult (read_module bytes) (λ m. IsModuleBytes bytes m × IsWithinReader m × ((n : WasmModule) → IsModuleBytes bytes n → IsWithinReader n → m ≡ n)) (λ f. (n : WasmModule) → IsModuleBytes bytes n → ¬ IsWithinReader n) }
 {}
