@@ -8,3 +8,4 @@ pub mod ReadingLawsExpressions
 pub mod ReadingLawsEntries
 pub mod ReadingLawsSections
 pub mod ReadingLawsModule
+pub mod ReadingLawsOne

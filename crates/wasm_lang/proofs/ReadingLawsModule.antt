@@ -1,6 +1,6 @@
 -- The two laws of whole modules.
 use Rattle.std.proofs.Common.{◌≡◌, ℕ, zero, suc, ◌+◌, ◌-◌, ◌<◌, ◌≤◌, Bool, true, false, cond, eqb, leb, List, [], ◌∷◌, ◌++◌, length, Option, Some, None, refl, sym, ap, ap₂, ◌∙◌, subst, arith, append_assoc}
-use Rattle.std.specs.Prelude.{Result, Ok, Err, All, MatchResult}
+use Rattle.std.specs.Prelude.{Result, Ok, Err, All}
 use Rattle.std.specs.List.{AllByRecursion, zip}
 use Rattle.std.proofs.lemmas.List.Elements.{All-from_recursion, recursion_from_All}
 use Rattle.std.proofs.lemmas.Bool.{eqb-true, eq-eqb}
@@ -121,7 +121,7 @@ levels_fit types (f ∷ fs) (b ∷ bs) e p = (p.0.1, levels_fit types fs bs (let
 -- ---- what is spelled is read
 
 -- what comes after each section
-record Comings {bytes : List ℕ} {m : WasmModule} (b : IsModuleBytes bytes m) : Type 0 where
+pub record Comings {bytes : List ℕ} {m : WasmModule} (b : IsModuleBytes bytes m) : Type 0 where
   pub after_types : Comes (2 ∷ 3 ∷ 4 ∷ 5 ∷ 6 ∷ 7 ∷ 8 ∷ 9 ∷ 12 ∷ 10 ∷ 11 ∷ []) b.after_types
   pub after_imports : Comes (3 ∷ 4 ∷ 5 ∷ 6 ∷ 7 ∷ 8 ∷ 9 ∷ 12 ∷ 10 ∷ 11 ∷ []) b.after_imports
   pub after_functions : Comes (4 ∷ 5 ∷ 6 ∷ 7 ∷ 8 ∷ 9 ∷ 12 ∷ 10 ∷ 11 ∷ []) b.after_functions
@@ -135,7 +135,7 @@ record Comings {bytes : List ℕ} {m : WasmModule} (b : IsModuleBytes bytes m) :
   pub after_bodies : Comes (11 ∷ []) b.after_bodies
   pub after_segments : Comes [] b.after_segments
 
-comings : (bytes : List ℕ) (m : WasmModule) (b : IsModuleBytes bytes m) → Comings b
+pub comings : (bytes : List ℕ) (m : WasmModule) (b : IsModuleBytes bytes m) → Comings b
 comings bytes m b =
     let s11 : Comes [] b.after_segments = ([], b.ends, refl) in
     let s10 : Comes (11 ∷ []) b.after_bodies = part_comes 11 (IsVec IsSegment) [] m.segments b.after_bodies b.after_segments [] (section_part b.segments) s11 in
@@ -266,13 +266,3 @@ only bytes all =
 
 pub spelled_as_read : (bytes : List ℕ) (m : WasmModule) → All (λ b. b < 256) bytes → read_module bytes ≡ Ok m → IsModuleBytes bytes m × IsWithinReader m
 spelled_as_read bytes m all q = (only bytes all).holds m q
-
-abbrev Found : List ℕ → Result WasmModule Fault → Type 0
-Found bytes r = MatchResult r (λ m. IsModuleBytes bytes m × IsWithinReader m × ((n : WasmModule) → IsModuleBytes bytes n → IsWithinReader n → m ≡ n)) (λ f. (n : WasmModule) → IsModuleBytes bytes n → ¬ IsWithinReader n)
-
-pub module_or_fault : (bytes : List ℕ) → All (λ b. b < 256) bytes → Found bytes (read_module bytes)
-module_or_fault bytes all = by (read_module bytes) refl
-  where
-    by : (r : Result WasmModule Fault) → read_module bytes ≡ r → Found bytes r
-    by (Ok m) e = let h = spelled_as_read bytes m all e in (h.0, h.1, λ n b w. inner (sym e ∙ reads_what_is_spelled bytes n b w))
-    by (Err f) e = λ n b w. let q : Err f ≡ Ok n = sym e ∙ reads_what_is_spelled bytes n b w in cc

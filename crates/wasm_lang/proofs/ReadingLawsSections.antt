@@ -30,11 +30,11 @@ custom_only i = weaker_only (section_only IsNamed (λ v. Unit {0}) custom_conten
     content : (i : Input) → Only (custom_content i) (λ x. IsNamed x.0 i.bytes x.1.bytes × Unit {0})
     content i = bind_only _ (name_only i) (λ n h. ok_only ((n.1.bytes, subst (λ l. IsName n.0 i.bytes l) (sym (append-nil n.1.bytes)) h), tt))
 
-customs_on : {xs ys zs : List ℕ} → IsCustoms xs ys → IsCustoms ys zs → IsCustoms xs zs
+pub customs_on : {xs ys zs : List ℕ} → IsCustoms xs ys → IsCustoms ys zs → IsCustoms xs zs
 customs_on no_custom d = d
 customs_on (custom s c) d = custom s (customs_on c d)
 
-customs_are : {xs zs : List ℕ} → IsCustoms xs zs → (xs ≡ zs) ⊎ ((rest bs ys : List ℕ) × (xs ≡ 0 ∷ bs) × IsSized IsCustom rest bs ys × IsCustoms ys zs)
+pub customs_are : {xs zs : List ℕ} → IsCustoms xs zs → (xs ≡ zs) ⊎ ((rest bs ys : List ℕ) × (xs ≡ 0 ∷ bs) × IsSized IsCustom rest bs ys × IsCustoms ys zs)
 customs_are no_custom = inl refl
 customs_are (custom {rest = rest} {xs = bs} {ys = ys} s c) = inr (rest, bs, ys, refl, s, c)
 
@@ -49,7 +49,7 @@ tail_is : {b c : ℕ} {bs cs : List ℕ} → ◌≡◌ {A = List ℕ} (b ∷ bs)
 tail_is e = ap (drop 1) e
 
 -- some of the custom sections, and then the others
-customs_between : {xs ys zs : List ℕ} → IsCustoms xs ys → IsCustoms xs zs → begins_with 0 zs ≡ false → IsCustoms ys zs
+pub customs_between : {xs ys zs : List ℕ} → IsCustoms xs ys → IsCustoms xs zs → begins_with 0 zs ≡ false → IsCustoms ys zs
 customs_between no_custom d e = d
 customs_between {ys = ks} {zs = zs} (custom {rest = rest} {xs = bs} {ys = ms} s c) d e = by (λ d. customs_between c d e) (customs_are d)
   where
@@ -95,7 +95,7 @@ heads ids (b ∷ bs) = member ids b
 abbrev pub Comes : List ℕ → List ℕ → Type 0
 Comes ids xs = (zs : List ℕ) × IsCustoms xs zs × (heads ids zs ≡ true)
 
-not_begins : (ids : List ℕ) (id : ℕ) (zs : List ℕ) → member ids id ≡ false → heads ids zs ≡ true → begins_with id zs ≡ false
+pub not_begins : (ids : List ℕ) (id : ℕ) (zs : List ℕ) → member ids id ≡ false → heads ids zs ≡ true → begins_with id zs ≡ false
 not_begins ids id [] e h = refl
 not_begins ids id (b ∷ bs) e h = by (eqb b id) refl
   where
