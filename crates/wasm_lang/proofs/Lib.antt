@@ -1,2 +1,4 @@
 pub mod Examples
 pub mod Numbers
+pub mod Fields
+pub mod Spelled

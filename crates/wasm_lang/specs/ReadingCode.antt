@@ -28,15 +28,15 @@ opcode_fault b = if is_float_opcode b then Float else (if b == 0x40 then MemoryG
 abbrev pub access_field : Input → Field (ℕ × ℕ)
 access_field i = u32 i >>= λ align. u32 align.1 >>= λ offset. Ok ((align.0, offset.0), offset.1)
 
--- the number after 0xfc, and the bytes 0 after that
+-- the bytes 0 after the number that stands after 0xfc, at a place
+abbrev pub copy_or_fill_on : (at number : ℕ) → Input → Field Plain
+copy_or_fill_on at n i =
+    if n == 10 then (exactly 0 i >>= λ a. onto (λ b. memory_copy) (exactly 0 a.1))
+    else (if n == 11 then onto (λ a. memory_fill) (exactly 0 i)
+    else fault UnknownByte at)
+
 abbrev pub copy_or_fill : Input → Field Plain
-copy_or_fill i = u32 i >>= λ n. by_number n.0 n.1
-  where
-    by_number : ℕ → Input → Field Plain
-    by_number n j =
-        if n == 10 then (exactly 0 j >>= λ a. onto (λ b. memory_copy) (exactly 0 a.1))
-        else (if n == 11 then onto (λ a. memory_fill) (exactly 0 j)
-        else fault UnknownByte i.at)
+copy_or_fill i = u32 i >>= λ n. copy_or_fill_on i.at n.0 n.1
 
 -- what follows the opcode of a form
 abbrev pub plain_immediates : Plain → Input → Field Plain
