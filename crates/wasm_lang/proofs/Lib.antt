@@ -2,3 +2,4 @@ pub mod Examples
 pub mod Numbers
 pub mod Fields
 pub mod Spelled
+pub mod Table

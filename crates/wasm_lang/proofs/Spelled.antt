@@ -7,7 +7,7 @@ use Rattle.wasm_lang.specs.Numbers.{IsU32}
 use Rattle.wasm_lang.specs.Grammar.{Items, no_item, item, IsMemoryImmediate, ArePlainImmediates, AreImmediates, IsInstruction, instruction, IsCode}
 use Rattle.wasm_lang.specs.Reading.{Input, Field, ◌>>=◌, u32, integer, exactly, onto, vec_field}
 use Rattle.wasm_lang.specs.ReadingCode.{access_field, copy_or_fill_on, plain_immediates, immediates, by_form, after_opcode, instruction_field, spelled, spelled_within, spelled_on}
-use Rattle.wasm_lang.proofs.Fields.{ReadsAs, u32_reads, word_reads, onto_reads, vec_reads, block_type_reads, unsigned_shrinks, integer_shrinks, vec_shrinks, block_type_shrinks}
+use Rattle.wasm_lang.proofs.Fields.{ReadsAs, u32_reads, word_reads, onto_reads, vec_reads, block_type_reads, unsigned_shrinks, integer_shrinks, vec_shrinks, block_type_shrinks, items_shrink}
 
 access_reads : (align offset : ℕ) (xs zs : List ℕ) → IsMemoryImmediate align offset xs zs → ReadsAs access_field (align, offset) xs zs
 access_reads align offset xs zs h at =
@@ -88,3 +88,20 @@ immediates_shrink i xs ys h = let k = ap length h in omega arith
 
 pub instruction_shrinks : (i : Instruction) (xs ys : List ℕ) → IsInstruction i xs ys → length ys < length xs
 instruction_shrinks i xs ys (instruction {byte = b} {xs = bs} op h) = let k = immediates_shrink i bs ys h in omega arith
+
+-- ---- the instructions that bytes spell
+
+pub instructions_shrink : (code : List Instruction) (xs ys : List ℕ) → Items IsInstruction code xs ys → length code + length ys ≤ length xs
+instructions_shrink code xs ys h = items_shrink IsInstruction instruction_shrinks code xs ys h
+
+spelled_within_is : (n at : ℕ) (code : List Instruction) (xs : List ℕ) → Items IsInstruction code xs [] → length code ≤ n → spelled_within n (record { at = at; bytes = xs }) ≡ code
+spelled_within_is zero at code xs no_item le = refl
+spelled_within_is (suc n) at code xs no_item le = refl
+spelled_within_is zero at code xs (item {v = i} {vs = is} {ys = ys} h hs) le = absurd (omega arith)
+spelled_within_is (suc n) at code xs (item {v = i} {vs = is} {ys = ys} h hs) le =
+    let e = instruction_reads i xs ys h at in
+    ap (λ r. spelled_on r (λ j. spelled_within n j)) e.1 ∙ ap (λ (l : List Instruction). i ∷ l) (spelled_within_is n e.0 is ys hs (omega arith))
+
+pub spelled_is : (code : List Instruction) (bytes : List ℕ) → Items IsInstruction code bytes [] → spelled bytes ≡ code
+unfolding spelled
+spelled_is code bytes h = spelled_within_is (length bytes) 0 code bytes h (let k = instructions_shrink code bytes [] h in omega arith)
