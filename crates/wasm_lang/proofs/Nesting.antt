@@ -1,7 +1,7 @@
 -- A list of instructions that closes open blocks.
 use Rattle.std.proofs.Common.{◌≡◌, ◌⊎◌, inl, inr, ℕ, Bool, true, false, List, [], ◌∷◌, ◌++◌, refl, sym, ap, subst, ◌∙◌, append_assoc}
 use Rattle.std.specs.Prelude.{Option, Some, None}
-use Rattle.std.proofs.lemmas.List.{append-nil}
+use Rattle.std.proofs.lemmas.Bool.{false≢true}
 use Rattle.wasm_lang.specs.declared.types.ValType.{ValType}
 use Rattle.wasm_lang.specs.Instructions.{Plain, Instruction, unreachable, block, loop, if_block, else_mark, end_mark, br, br_if, br_table, return, call, call_indirect, plain, is_simple, Nested, empty, simple, in_block, in_loop, in_if, in_arms, IsExpression}
 use Rattle.wasm_lang.specs.ReadingCode.{Opening, straight, first_arm, may_turn, opened}
@@ -77,3 +77,112 @@ put_arms T r code a =
 
 at_once : (T : List Instruction → Type 0) (code : List Instruction) → T code → Begun T code
 at_once T code t = record { inner = []; tail = code; is = refl; nested = empty; then = t }
+
+-- what the rest has to close after an instruction, by the blocks that then stand open
+abbrev pub Onward : Option (List Opening) → List Instruction → Type 0
+Onward None code = code ≡ []
+Onward (Some os) code = Completes os code
+
+-- an else stands in the first arm of an if
+abbrev pub TurnsWell : List Opening → Instruction → Type 0
+TurnsWell os else_mark = may_turn os ≡ true
+TurnsWell os i = Unit {0}
+
+pub comes : (os : List Opening) (i : Instruction) (code : List Instruction) → TurnsWell os i → Onward (opened os i) code → Completes os (i ∷ code)
+comes os (block r) code t h = put_closed (Tail os) (block r) code (λ body n. in_block n empty) h
+comes os (loop r) code t h = put_closed (Tail os) (loop r) code (λ body n. in_loop n empty) h
+comes os (if_block r) code t h = by h.then
+  where
+    by : Tail (first_arm ∷ os) h.tail → Completes os (if_block r ∷ code)
+    by (inl x) = put_closed (Tail os) (if_block r) code (λ body n. in_if n empty) (record { inner = h.inner; tail = h.tail; is = h.is; nested = h.nested; then = x })
+    by (inr x) = put_arms (Tail os) r code (record { inner = h.inner; tail = h.tail; is = h.is; nested = h.nested; then = x })
+comes [] else_mark code t h = absurd (false≢true t)
+comes (straight ∷ os) else_mark code t h = absurd (false≢true t)
+comes (first_arm ∷ os) else_mark code t h = at_once (Tail (first_arm ∷ os)) (else_mark ∷ code) (inr (record { rest = code; is = refl; then = h }))
+comes [] end_mark code t h = at_once (Tail []) (end_mark ∷ code) (ap (λ (l : List Instruction). end_mark ∷ l) h)
+comes (straight ∷ os) end_mark code t h = at_once (Tail (straight ∷ os)) (end_mark ∷ code) (record { rest = code; is = refl; then = h })
+comes (first_arm ∷ os) end_mark code t h = at_once (Tail (first_arm ∷ os)) (end_mark ∷ code) (inl (record { rest = code; is = refl; then = h }))
+comes os i code t h = put_simple (Tail os) i code refl h
+
+simple_opens : (os : List Opening) (i : Instruction) → is_simple i ≡ true → opened os i ≡ Some os
+simple_opens os (block r) s = absurd (false≢true s)
+simple_opens os (loop r) s = absurd (false≢true s)
+simple_opens os (if_block r) s = absurd (false≢true s)
+simple_opens os else_mark s = absurd (false≢true s)
+simple_opens os end_mark s = absurd (false≢true s)
+simple_opens os i s = refl
+
+simple_turns : (os : List Opening) (i : Instruction) → is_simple i ≡ true → TurnsWell os i
+simple_turns os else_mark s = absurd (false≢true s)
+simple_turns os i s = tt
+
+-- what an instruction that completes blocks with this rest says
+abbrev GoesOn : List Opening → Instruction → List Instruction → Type 0
+GoesOn os i code = Onward (opened os i) code × TurnsWell os i
+
+heads : {X : Type 0} {x y : X} {xs ys : List X} → ◌≡◌ {A = List X} (x ∷ xs) (y ∷ ys) → x ≡ y
+heads e = cc
+
+tails : {X : Type 0} {x y : X} {xs ys : List X} → ◌≡◌ {A = List X} (x ∷ xs) (y ∷ ys) → xs ≡ ys
+tails e = cc
+
+goes_at : (os : List Opening) (i k : Instruction) (code rest : List Instruction) → i ∷ code ≡ k ∷ rest → GoesOn os k rest → GoesOn os i code
+goes_at os i k code rest e h = subst (λ c. GoesOn os i c) (sym (tails e)) (subst (λ i. GoesOn os i rest) (sym (heads e)) h)
+
+goes_tail : (os : List Opening) (i : Instruction) (code : List Instruction) → Tail os (i ∷ code) → GoesOn os i code
+goes_tail [] i code t = goes_at [] i end_mark code [] t (refl, tt)
+goes_tail (straight ∷ os) i code t = goes_at (straight ∷ os) i end_mark code t.rest t.is (t.then, tt)
+goes_tail (first_arm ∷ os) i code (inl t) = goes_at (first_arm ∷ os) i end_mark code t.rest t.is (t.then, tt)
+goes_tail (first_arm ∷ os) i code (inr t) = goes_at (first_arm ∷ os) i else_mark code t.rest t.is (t.then, refl)
+
+-- the rest after a block's end
+after_end : (os : List Opening) (rest tail : List Instruction) → Nested rest → Tail os tail → After end_mark (Begun (Tail os)) (end_mark ∷ (rest ++ tail))
+after_end os rest tail n t = record { rest = rest ++ tail; is = refl; then = record { inner = rest; tail = tail; is = refl; nested = n; then = t } }
+
+goes_by : (os : List Opening) (i : Instruction) (code inner tail : List Instruction) → Nested inner → i ∷ code ≡ inner ++ tail → Tail os tail → GoesOn os i code
+goes_by os i code inner tail empty e t = goes_tail os i code (subst (Tail os) (sym e) t)
+goes_by os i code inner tail (simple {i = k} {rest = rest} s n) e t =
+    let h : Completes os (rest ++ tail) = record { inner = rest; tail = tail; is = refl; nested = n; then = t } in
+    goes_at os i k code (rest ++ tail) e (subst (λ o. Onward o (rest ++ tail)) (sym (simple_opens os k s)) h, simple_turns os k s)
+goes_by os i code inner tail (in_block {r = r} {body = body} {rest = rest} m n) e t =
+    let h : Completes (straight ∷ os) ((body ++ end_mark ∷ rest) ++ tail) = record { inner = body; tail = end_mark ∷ (rest ++ tail); is = append_assoc body (end_mark ∷ rest) tail; nested = m; then = after_end os rest tail n t } in
+    goes_at os i (block r) code ((body ++ end_mark ∷ rest) ++ tail) e (h, tt)
+goes_by os i code inner tail (in_loop {r = r} {body = body} {rest = rest} m n) e t =
+    let h : Completes (straight ∷ os) ((body ++ end_mark ∷ rest) ++ tail) = record { inner = body; tail = end_mark ∷ (rest ++ tail); is = append_assoc body (end_mark ∷ rest) tail; nested = m; then = after_end os rest tail n t } in
+    goes_at os i (loop r) code ((body ++ end_mark ∷ rest) ++ tail) e (h, tt)
+goes_by os i code inner tail (in_if {r = r} {body = body} {rest = rest} m n) e t =
+    let h : Completes (first_arm ∷ os) ((body ++ end_mark ∷ rest) ++ tail) = record { inner = body; tail = end_mark ∷ (rest ++ tail); is = append_assoc body (end_mark ∷ rest) tail; nested = m; then = inl (after_end os rest tail n t) } in
+    goes_at os i (if_block r) code ((body ++ end_mark ∷ rest) ++ tail) e (h, tt)
+goes_by os i code inner tail (in_arms {r = r} {first = first} {second = second} {rest = rest} m l n) e t =
+    let arm : Begun (After end_mark (Begun (Tail os))) ((second ++ end_mark ∷ rest) ++ tail) = record { inner = second; tail = end_mark ∷ (rest ++ tail); is = append_assoc second (end_mark ∷ rest) tail; nested = l; then = after_end os rest tail n t } in
+    let h : Completes (first_arm ∷ os) ((first ++ else_mark ∷ (second ++ end_mark ∷ rest)) ++ tail) = record {
+      inner = first;
+      tail = else_mark ∷ ((second ++ end_mark ∷ rest) ++ tail);
+      is = append_assoc first (else_mark ∷ (second ++ end_mark ∷ rest)) tail;
+      nested = m;
+      then = inr (record { rest = (second ++ end_mark ∷ rest) ++ tail; is = refl; then = arm });
+    } in
+    goes_at os i (if_block r) code ((first ++ else_mark ∷ (second ++ end_mark ∷ rest)) ++ tail) e (h, tt)
+
+pub goes : (os : List Opening) (i : Instruction) (code : List Instruction) → Completes os (i ∷ code) → Onward (opened os i) code × TurnsWell os i
+goes os i code h = goes_by os i code h.inner h.tail h.nested h.is h.then
+
+-- no instruction at all closes nothing
+pub not_empty : (os : List Opening) → ¬ Completes os []
+not_empty os h = by os h.inner h.tail h.nested h.is h.then
+  where
+    no_tail : (os : List Opening) → ¬ Tail os []
+    no_tail [] t = cc
+    no_tail (straight ∷ os) t = let e = t.is in cc
+    no_tail (first_arm ∷ os) (inl t) = let e = t.is in cc
+    no_tail (first_arm ∷ os) (inr t) = let e = t.is in cc
+    by : (os : List Opening) (inner tail : List Instruction) → Nested inner → [] ≡ inner ++ tail → Tail os tail → ⊥
+    by os [] tail n e t = no_tail os (subst (Tail os) (sym e) t)
+    by os (i ∷ inner) tail n e t = cc
+
+-- an expression closes itself
+pub expression_completes : (code : List Instruction) → IsExpression code → Completes [] code
+expression_completes code h = record { inner = h.0; tail = end_mark ∷ []; is = h.1; nested = h.2; then = refl }
+
+pub completes_expression : (code : List Instruction) → Completes [] code → IsExpression code
+completes_expression code h = (h.inner, h.is ∙ ap (λ (l : List Instruction). h.inner ++ l) h.then, h.nested)
