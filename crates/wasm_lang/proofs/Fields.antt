@@ -1,12 +1,10 @@
 -- Fields that are spelled so are read so.
-use Rattle.std.proofs.Common.{◌≡◌, ℕ, suc, ◌+◌, ◌-◌, ◌<◌, ◌≤◌, List, [], ◌∷◌, ◌++◌, length, refl, sym, ap, subst, ◌∙◌, arith, length-append}
-use Rattle.std.specs.Prelude.{Result, Ok, Err, Option, Some, None}
-use Rattle.wasm_lang.specs.declared.fault.Fault.{Fault}
-use Rattle.wasm_lang.specs.declared.fault.NumberFault.{NumberFault}
+use Rattle.std.proofs.Common.{◌≡◌, ℕ, ◌+◌, ◌-◌, ◌<◌, ◌≤◌, List, ◌∷◌, length, refl, ap, ◌∙◌, arith}
+use Rattle.std.specs.Prelude.{Ok, Option}
 use Rattle.wasm_lang.specs.declared.types.ValType.{ValType}
 use Rattle.wasm_lang.specs.Numbers.{IsUnsigned, last_unsigned, more_unsigned, IsInteger, last_positive, last_negative, more_integer, IsU32}
 use Rattle.wasm_lang.specs.Grammar.{Spelling, Items, no_item, item, IsVec, IsValType, i32_type, i64_type, IsBlockType, no_result, one_result}
-use Rattle.wasm_lang.specs.Reading.{Input, Field, ◌>>=◌, number_field, unsigned_at, integer_at, u32, integer, onto, items_field, vec_field, val_type_field, block_type_field}
+use Rattle.wasm_lang.specs.Reading.{Input, Field, ◌>>=◌, number_field, u32, integer, onto, items_field, vec_field, val_type_field, block_type_field}
 use Rattle.wasm_lang.specs.declared.fault.Row.TheVariants.{SectionSize}
 use Rattle.wasm_lang.proofs.Numbers.{unsigned_reads, integer_reads}
 

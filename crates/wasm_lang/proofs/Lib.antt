@@ -6,3 +6,4 @@ pub mod Table
 pub mod Inversion
 pub mod ReadInstructions
 pub mod Nesting
+pub mod Expressions

@@ -1,9 +1,9 @@
 -- A list of instructions that closes open blocks.
-use Rattle.std.proofs.Common.{◌≡◌, ◌⊎◌, inl, inr, ℕ, Bool, true, false, List, [], ◌∷◌, ◌++◌, refl, sym, ap, subst, ◌∙◌, append_assoc}
+use Rattle.std.proofs.Common.{◌≡◌, ◌⊎◌, inl, inr, true, List, [], ◌∷◌, ◌++◌, refl, sym, ap, subst, ◌∙◌, append_assoc}
 use Rattle.std.specs.Prelude.{Option, Some, None}
 use Rattle.std.proofs.lemmas.Bool.{false≢true}
 use Rattle.wasm_lang.specs.declared.types.ValType.{ValType}
-use Rattle.wasm_lang.specs.Instructions.{Plain, Instruction, unreachable, block, loop, if_block, else_mark, end_mark, br, br_if, br_table, return, call, call_indirect, plain, is_simple, Nested, empty, simple, in_block, in_loop, in_if, in_arms, IsExpression}
+use Rattle.wasm_lang.specs.Instructions.{Instruction, block, loop, if_block, else_mark, end_mark, is_simple, Nested, empty, simple, in_block, in_loop, in_if, in_arms, IsExpression}
 use Rattle.wasm_lang.specs.ReadingCode.{Opening, straight, first_arm, may_turn, opened}
 
 -- an instruction, and then such a list
@@ -69,9 +69,9 @@ put_arms T r code a =
     let front : List Instruction = if_block r ∷ (a.inner ++ else_mark ∷ (b.inner ++ end_mark ∷ [])) in
     let e : if_block r ∷ code ≡ front ++ b.then.rest =
     ap (λ (l : List Instruction). if_block r ∷ l) (
-      a.is
-      ∙ ap (λ (l : List Instruction). a.inner ++ l) (a.then.is ∙ ap (λ (l : List Instruction). else_mark ∷ l) (b.is ∙ ap (λ (l : List Instruction). b.inner ++ l) b.then.is ∙ sym (append_assoc b.inner (end_mark ∷ []) b.then.rest)))
-      ∙ sym (append_assoc a.inner (else_mark ∷ (b.inner ++ end_mark ∷ [])) b.then.rest)
+    a.is
+    ∙ ap (λ (l : List Instruction). a.inner ++ l) (a.then.is ∙ ap (λ (l : List Instruction). else_mark ∷ l) (b.is ∙ ap (λ (l : List Instruction). b.inner ++ l) b.then.is ∙ sym (append_assoc b.inner (end_mark ∷ []) b.then.rest)))
+    ∙ sym (append_assoc a.inner (else_mark ∷ (b.inner ++ end_mark ∷ [])) b.then.rest)
     ) in
     subst (Begun T) (sym e) (put T front b.then.rest (in_arms a.nested b.nested empty) b.then.then)
 
@@ -176,6 +176,7 @@ not_empty os h = by os h.inner h.tail h.nested h.is h.then
     no_tail (straight ∷ os) t = let e = t.is in cc
     no_tail (first_arm ∷ os) (inl t) = let e = t.is in cc
     no_tail (first_arm ∷ os) (inr t) = let e = t.is in cc
+
     by : (os : List Opening) (inner tail : List Instruction) → Nested inner → [] ≡ inner ++ tail → Tail os tail → ⊥
     by os [] tail n e t = no_tail os (subst (Tail os) (sym e) t)
     by os (i ∷ inner) tail n e t = cc

@@ -1,6 +1,6 @@
 -- Instructions that are read so are spelled so.
-use Rattle.std.proofs.Common.{◌≡◌, ℕ, zero, suc, Bool, true, false, eqb, List, [], ◌∷◌, refl, sym, ap, subst, ◌∙◌}
-use Rattle.std.specs.Prelude.{Result, Ok, Err, Option, Some, None}
+use Rattle.std.proofs.Common.{◌≡◌, ℕ, Bool, true, false, eqb, List, [], ◌∷◌, refl, sym, ap, subst, ◌∙◌}
+use Rattle.std.specs.Prelude.{Ok, Option, Some, None}
 use Rattle.std.proofs.lemmas.Bool.{eqb-true}
 use Rattle.wasm_lang.specs.declared.fault.Fault.{Fault}
 use Rattle.wasm_lang.specs.declared.fault.Row.TheVariants.{SectionSize, UnknownByte}
@@ -8,7 +8,7 @@ use Rattle.wasm_lang.specs.Instructions.{Plain, local_get, local_set, local_tee,
 use Rattle.wasm_lang.specs.Opcodes.{form_at, form_of, plain_form_of}
 use Rattle.wasm_lang.specs.Numbers.{IsU32}
 use Rattle.wasm_lang.specs.Grammar.{IsMemoryImmediate, ArePlainImmediates, AreImmediates, IsInstruction, instruction}
-use Rattle.wasm_lang.specs.Reading.{Input, Field, ◌>>=◌, fault, byte, u32, integer, exactly, onto, vec_field, block_type_field}
+use Rattle.wasm_lang.specs.Reading.{Input, Field, fault, byte, u32, integer, exactly, onto, vec_field, block_type_field}
 use Rattle.wasm_lang.specs.ReadingCode.{access_field, copy_or_fill_on, copy_or_fill, plain_immediates, immediates, by_form, after_opcode, instruction_field}
 use Rattle.wasm_lang.proofs.Numbers.{ok_is}
 use Rattle.wasm_lang.proofs.Inversion.{bind_ok, byte_is, u32_is, word_is, exactly_is, onto_is, vec_is, block_type_is}

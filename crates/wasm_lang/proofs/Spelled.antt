@@ -1,11 +1,11 @@
 -- Instructions that are spelled so are read so.
-use Rattle.std.proofs.Common.{◌≡◌, ℕ, zero, suc, ◌+◌, ◌-◌, ◌<◌, ◌≤◌, List, [], ◌∷◌, ◌++◌, length, refl, sym, ap, subst, ◌∙◌, arith}
-use Rattle.std.specs.Prelude.{Result, Ok, Err, Option, Some, None}
+use Rattle.std.proofs.Common.{◌≡◌, ℕ, zero, suc, ◌+◌, ◌<◌, ◌≤◌, List, [], ◌∷◌, length, refl, ap, ◌∙◌, arith}
+use Rattle.std.specs.Prelude.{Ok}
 use Rattle.wasm_lang.specs.Instructions.{Plain, local_get, local_set, local_tee, global_get, global_set, load, store, memory_size, memory_copy, memory_fill, const32, const64, Instruction, block, loop, if_block, br, br_if, br_table, call, call_indirect, plain}
-use Rattle.wasm_lang.specs.Opcodes.{form_at, form_of, plain_form_of}
+use Rattle.wasm_lang.specs.Opcodes.{form_of, plain_form_of}
 use Rattle.wasm_lang.specs.Numbers.{IsU32}
-use Rattle.wasm_lang.specs.Grammar.{Items, no_item, item, IsMemoryImmediate, ArePlainImmediates, AreImmediates, IsInstruction, instruction, IsCode}
-use Rattle.wasm_lang.specs.Reading.{Input, Field, ◌>>=◌, u32, integer, exactly, onto, vec_field}
+use Rattle.wasm_lang.specs.Grammar.{Items, no_item, item, IsMemoryImmediate, ArePlainImmediates, AreImmediates, IsInstruction, instruction}
+use Rattle.wasm_lang.specs.Reading.{◌>>=◌, u32, integer, exactly, onto}
 use Rattle.wasm_lang.specs.ReadingCode.{access_field, copy_or_fill_on, plain_immediates, immediates, by_form, after_opcode, instruction_field, spelled, spelled_within, spelled_on}
 use Rattle.wasm_lang.proofs.Fields.{ReadsAs, u32_reads, word_reads, onto_reads, vec_reads, block_type_reads, unsigned_shrinks, integer_shrinks, vec_shrinks, block_type_shrinks, items_shrink}
 

@@ -10,5 +10,5 @@ mod laws;
 mod types;
 
 pub use fault::{Fault, NumberFault, Row};
-pub use laws::number_laws;
+pub use laws::{code_laws, number_laws};
 pub use types::{ExportKind, GlobalType, ImportKind, Limits, MemOp, ValType};

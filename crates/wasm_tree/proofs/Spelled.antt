@@ -1,10 +1,10 @@
 -- The instructions that bytes spell, one after another.
-use Rattle.std.proofs.Common.{◌≡◌, ℕ, suc, ◌+◌, ◌-◌, ◌<◌, List, [], ◌∷◌, ◌++◌, length, refl, sym, ap, ◌∙◌, arith, append_assoc}
+use Rattle.std.proofs.Common.{◌≡◌, ℕ, suc, ◌+◌, ◌-◌, ◌<◌, List, [], ◌∷◌, ◌++◌, length, sym, ap, ◌∙◌, arith, append_assoc}
 use Rattle.std.specs.Prelude.{Ok, Err}
 use Rattle.std.proofs.lemmas.List.{append-nil}
 use Rattle.wasm_lang.specs.declared.fault.Fault.{Fault}
 use Rattle.wasm_lang.specs.Instructions.{Instruction}
-use Rattle.wasm_lang.specs.Reading.{Input, Field}
+use Rattle.wasm_lang.specs.Reading.{Input}
 use Rattle.wasm_lang.specs.ReadingCode.{instruction_field, spelled, spelled_within, spelled_on}
 
 -- one more

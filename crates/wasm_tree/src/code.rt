@@ -2,7 +2,7 @@
 ghost use Rattle.std.specs.Prelude.{◌≡◌, ℕ, map, IfOk};
 ghost use Rattle.sem_words.specs.Lists.{list_items};
 ghost use Rattle.wasm_lang.specs.ReadingCode.{spelled};
-ghost use Rattle.wasm_tree.specs.Views.{instr_of, bytes_of, code_of};
+ghost use Rattle.wasm_tree.specs.Views.{instr_of, bytes_of, code_of, IsOnlyCodeOf};
 
 use crate::error::ReadError;
 use crate::input::Input;
@@ -10,6 +10,7 @@ use crate::instr::{Instr, copied};
 use crate::read::read_instr;
 use sem_words::{List, Text};
 use std::alloc::{AllocError, Global};
+use wasm_lang::code_laws;
 
 /// Bytes, lent or owned.
 #[derive(Drop)]
@@ -41,8 +42,10 @@ impl Code<'_> {
     /// The instructions, one after another. Those of lent bytes are read up to the end, or up to bytes
     /// that are no instruction; so the bytes of an expression give all of it.
     pub fn instrs(&self, alloc: Global) -> Result<List<Instr>, AllocError>
-        ensures { IfOk result (λ list. map instr_of (list_items list) ≡ code_of self.now) }
+        ensures value { IfOk result (λ list. map instr_of (list_items list) ≡ code_of self.now) }
+        ensures expression { IfOk result (λ list. IsOnlyCodeOf self.now (map instr_of (list_items list))) }
     {
+        code_laws();
         match self {
             Code::Lent(bytes) => read_all(alloc, bytes),
             Code::Own(list) => copied_list(alloc, list.as_slice()),
@@ -82,4 +85,24 @@ fn copied_list(alloc: Global, list: &[Instr]) -> Result<List<Instr>, AllocError>
         }
     }
     Ok(copy)
+}
+
+#[cfg(test)]
+mod tests {
+    use super::*;
+    use std::test::Fail;
+
+    #[test]
+    fn lent_and_owned_code(rt: HostRuntime) -> Result<(), Fail> {
+        // local.get 0, br_table [0] 0, end
+        let bytes = [0x20, 0x00, 0x0e, 0x01, 0x00, 0x00, 0x0b];
+        let lent = Code::Lent(&bytes);
+        let list = lent.instrs(rt.alloc())?;
+        assert_eq!(rt; list.len(), 3);
+        let owned = Code::Own(list);
+        let copy = owned.instrs(rt.alloc())?;
+        assert!(rt; matches!(copy.get(1), Some(Instr::BrTable(_, 0))));
+        assert!(rt; matches!(copy.get(2), Some(Instr::End)));
+        Ok(())
+    }
 }
