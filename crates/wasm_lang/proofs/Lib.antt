@@ -1,10 +1,15 @@
 pub mod Examples
 pub mod Numbers
+pub mod Fields
+pub mod Spelled
+pub mod Table
+pub mod Inversion
+pub mod ReadInstructions
+pub mod Nesting
+pub mod Expressions
 pub mod ReadingLaws
 pub mod ReadingLawsTypes
 pub mod ReadingLawsCode
-pub mod ReadingLawsNesting
-pub mod ReadingLawsExpressions
 pub mod ReadingLawsEntries
 pub mod ReadingLawsSections
 pub mod ReadingLawsModule

@@ -22,7 +22,7 @@ use Rattle.wasm_lang.specs.Reading.{Input, Field, ◌>>=◌, u32}
 use Rattle.wasm_lang.specs.ReadingModule.{import_kind_field, import_field, imports_field, global_field, export_kind_field, export_field, element_field, segment_field, runs_field, body_content, body_field, bodies_field}
 use Rattle.wasm_lang.proofs.ReadingLaws.{from, leaves, Gives, Only, ok_gives, bind_gives, expects_gives, onto_gives, ok_only, err_only, bind_only, expects_only, onto_only, if_only, weaker_only, byte_only, u32_gives, u32_only, vec_gives, vec_of, vec_only}
 use Rattle.wasm_lang.proofs.ReadingLawsTypes.{all_are, count_gives, count_only, bytes_gives, bytes_only, name_gives, name_only, fits, sized_gives, sized_only, size_count, sized_of, val_type_gives, val_type_only, memory_gives, memory_only, table_gives, table_only, global_type_gives, global_type_only}
-use Rattle.wasm_lang.proofs.ReadingLawsExpressions.{code_gives, code_only}
+use Rattle.wasm_lang.proofs.ReadingLawsCode.{code_gives, code_only}
 
 -- ---- imports
 

@@ -10,18 +10,18 @@ use Rattle.wasm_lang.specs.declared.types.Limits.{Limits}
 use Rattle.wasm_lang.specs.declared.types.GlobalType.{GlobalType}
 use Rattle.wasm_lang.specs.declared.types.ImportKind.{ImportKind}
 use Rattle.wasm_lang.specs.declared.types.ImportKind.TheVariants as imports
-use Rattle.wasm_lang.specs.Instructions.{Instruction, block, loop, if_block, else_mark, end_mark}
+use Rattle.wasm_lang.specs.Instructions.{Instruction}
 use Rattle.wasm_lang.specs.Modules.{FunctionType, Imported, GlobalEntry, Exported, ElementSegment, DataSegment, FunctionBody, WasmModule}
 use Rattle.wasm_lang.specs.Numbers.{IsU32}
 use Rattle.wasm_lang.specs.Limits.{IsWithinReader}
 use Rattle.wasm_lang.specs.Grammar.{Spelling, Items, no_item, item, IsVec, IsBytes, IsName, IsSized, IsValType, IsFunctionType, function_type, IsLimits, IsTable, a_table, IsGlobalType, IsInstruction, IsCode, IsImportKind, function_import, table_import, memory_import, global_import, IsImport, an_import, IsGlobal, a_global, IsExport, IsElement, an_element, locals_of, IsRun, a_run, IsFunctionBody, a_body, IsSegment, a_segment, IsCustom, IsCustoms, no_custom, header, IsModuleBytes}
 use Rattle.wasm_lang.specs.Reading.{Input, Field, ◌>>=◌, fault, byte, u32, exactly, onto, vec_field, bytes_field, name_field, val_type_field}
-use Rattle.wasm_lang.specs.ReadingCode.{Opening, straight, first_arm, instruction_field}
+use Rattle.wasm_lang.specs.ReadingCode.{Opening, opened, instruction_field}
 use Rattle.wasm_lang.specs.ReadingModule.{memory_field, global_type_field, export_field, begins_with, read_module}
 use Rattle.wasm_lang.proofs.ReadingLaws.{from, leaves, Gives, inner, ok_gives, bind_gives, onto_gives, u32_gives, vec_gives}
 use Rattle.wasm_lang.proofs.ReadingLawsTypes.{all_are, bytes_gives, name_gives, val_type_gives, memory_gives, global_type_gives}
 use Rattle.wasm_lang.proofs.ReadingLawsCode.{instruction_gives}
-use Rattle.wasm_lang.proofs.ReadingLawsNesting.{Scans, expression_scans}
+use Rattle.wasm_lang.proofs.Nesting.{Completes, Onward, goes, not_empty, expression_completes}
 use Rattle.wasm_lang.proofs.ReadingLawsEntries.{export_gives}
 use Rattle.wasm_lang.proofs.ReadingLawsSections.{member, heads, Comes, IsPart, IsSome, customs_on, customs_are, customs_between, not_begins, section_part, number_part}
 use Rattle.wasm_lang.proofs.ReadingLawsModule.{comings, reads_what_is_spelled, spelled_as_read}
@@ -144,37 +144,30 @@ sized_one P one v w xs ys zs p q =
 
 -- ---- expressions, and entries with them
 
--- the instructions after the same one close the same blocks
-scans_after : (i : Instruction) (os : List Opening) (is js : List Instruction) → Scans os (i ∷ is) → Scans os (i ∷ js) → ((is ≡ []) × (js ≡ [])) ⊎ ((os : List Opening) × Scans os is × Scans os js)
-scans_after (block r) os is js a b = inr (straight ∷ os, a, b)
-scans_after (loop r) os is js a b = inr (straight ∷ os, a, b)
-scans_after (if_block r) os is js a b = inr (first_arm ∷ os, a, b)
-scans_after else_mark (first_arm ∷ os) is js a b = inr (straight ∷ os, a, b)
-scans_after else_mark (straight ∷ os) is js a b = absurd a
-scans_after else_mark [] is js a b = absurd a
-scans_after end_mark (o ∷ os) is js a b = inr (os, a, b)
-scans_after end_mark [] is js a b = inl (a, b)
-scans_after i os is js a b = inr (os, a, b)
+-- the instructions after the same one close the same blocks, or are none
+same_onward : (os : Option (List Opening)) (is js : List Instruction) → Onward os is → Onward os js → ((is ≡ []) × (js ≡ [])) ⊎ ((os : List Opening) × Completes os is × Completes os js)
+same_onward None is js a b = inl (a, b)
+same_onward (Some os) is js a b = inr (os, a, b)
 
 nothing_more : {xs ys : List ℕ} {is : List Instruction} → Items IsInstruction is xs ys → is ≡ [] → xs ≡ ys
 nothing_more no_item e = refl
 nothing_more (item p ps) e = cc
 
-instructions_one : (os : List Opening) (is js : List Instruction) (xs ys zs : List ℕ) → Items IsInstruction is xs ys → Items IsInstruction js xs zs → Scans os is → Scans os js → (is ≡ js) × (ys ≡ zs)
-instructions_one os is js xs ys zs no_item q s t = absurd s
-instructions_one os is js xs ys zs (item p ps) no_item s t = absurd t
+instructions_one : (os : List Opening) (is js : List Instruction) (xs ys zs : List ℕ) → Items IsInstruction is xs ys → Items IsInstruction js xs zs → Completes os is → Completes os js → (is ≡ js) × (ys ≡ zs)
+instructions_one os is js xs ys zs no_item q s t = absurd (not_empty os s)
+instructions_one os is js xs ys zs (item p ps) no_item s t = absurd (not_empty os t)
 instructions_one os is js xs ys zs (item {v = i} {vs = us} {ys = ms} p ps) (item {v = j} {vs = ts} {ys = ns} q qs) s t =
     let h = instruction_one i j xs ms ns p q in
     let rs = subst (λ l. Items IsInstruction ts l zs) (sym h.1) qs in
-    let r = by (λ os a b. instructions_one os us ts ms ys zs ps rs a b) rs (scans_after i os us ts s (subst (λ i. Scans os (i ∷ ts)) (sym h.0) t)) in
+    let r = by (λ os a b. instructions_one os us ts ms ys zs ps rs a b) rs (same_onward (opened os i) us ts (goes os i us s).0 (goes os i ts (subst (λ i. Completes os (i ∷ ts)) (sym h.0) t)).0) in
     (ap₂ (λ i l. i ∷ l) h.0 r.0, r.1)
   where
-    by : ((os : List Opening) → Scans os us → Scans os ts → (us ≡ ts) × (ys ≡ zs)) → Items IsInstruction ts ms zs → ((us ≡ []) × (ts ≡ [])) ⊎ ((os : List Opening) × Scans os us × Scans os ts) → (us ≡ ts) × (ys ≡ zs)
+    by : ((os : List Opening) → Completes os us → Completes os ts → (us ≡ ts) × (ys ≡ zs)) → Items IsInstruction ts ms zs → ((us ≡ []) × (ts ≡ [])) ⊎ ((os : List Opening) × Completes os us × Completes os ts) → (us ≡ ts) × (ys ≡ zs)
     by f rs (inl e) = (e.0 ∙ sym e.1, sym (nothing_more ps e.0) ∙ nothing_more rs e.1)
     by f rs (inr x) = f x.0 x.1 x.2
 
 code_one : One IsCode
-code_one is js xs ys zs p q = instructions_one [] is js xs ys zs p.instructions q.instructions (expression_scans is p.expression) (expression_scans js q.expression)
+code_one is js xs ys zs p q = instructions_one [] is js xs ys zs p.instructions q.instructions (expression_completes is p.expression) (expression_completes js q.expression)
 
 global_one : One IsGlobal
 global_one v w xs ys zs (a_global {t = t} {code = c} {ys = ms} a b) (a_global {t = u} {code = d} {ys = ns} e f) =

@@ -11,7 +11,7 @@ use Rattle.wasm_lang.specs.Reading.{Input, Field, ◌>>=◌, u32, onto}
 use Rattle.wasm_lang.specs.ReadingModule.{section_field, custom_content, begins_with, after_id, customs_within, customs_field, part_field, header_field}
 use Rattle.wasm_lang.proofs.ReadingLaws.{from, leaves, Gives, Only, inner, ok_gives, equal_gives, bind_gives, onto_gives, ok_only, bind_only, expects_only, onto_only, if_only, weaker_only, byte_only, u32_gives, u32_only}
 use Rattle.wasm_lang.proofs.ReadingLawsTypes.{name_gives, name_only, section_gives, section_only}
-use Rattle.wasm_lang.proofs.ReadingLawsExpressions.{u32_shrinks}
+use Rattle.wasm_lang.proofs.Fields.{unsigned_shrinks}
 
 -- ---- custom sections
 
@@ -66,7 +66,7 @@ customs_gives {zs = zs} no_custom e (suc n) le at =
 customs_gives (custom {xs = bs} s c) e zero le at = let l : length (0 ∷ bs) ≤ 0 = le in absurd (omega arith)
 customs_gives (custom {rest = rest} {xs = bs} {ys = ms} s c) e (suc n) le at =
     let l : length (0 ∷ bs) ≤ suc n = le in
-    let k : length ms ≤ n = omega (arith, u32_shrinks (length s.content) bs s.after_size s.size, ap length s.stands, length-append s.content ms) in
+    let k : length ms ≤ n = omega (arith, unsigned_shrinks 32 (length s.content) bs s.after_size s.size, ap length s.stands, length-append s.content ms) in
     bind_gives _ (custom_gives rest bs ms s (at + 1)) (λ at. customs_gives c e n k at)
 
 begins_is : (id : ℕ) (bs : List ℕ) → begins_with id bs ≡ true → id ∷ drop 1 bs ≡ bs
