@@ -1,14 +1,10 @@
 -- The two laws of the entries of sections.
-use Rattle.std.proofs.Common.{◌≡◌, ℕ, zero, suc, ◌+◌, ◌-◌, ◌<◌, ◌≤◌, Bool, true, false, cond, eqb, leb, List, [], ◌∷◌, ◌++◌, length, replicate, Option, Some, None, refl, sym, ap, ap₂, ◌∙◌, subst, arith, length-append, le_trans}
-use Rattle.std.specs.Prelude.{Result, Ok, Err, slice_get}
+use Rattle.std.proofs.Common.{◌≡◌, ℕ, zero, suc, ◌+◌, ◌≤◌, true, eqb, List, [], ◌∷◌, ◌++◌, length, replicate, refl, sym, ap, ◌∙◌, subst, arith, length-append}
 use Rattle.std.specs.List.{AllByRecursion, zip}
 use Rattle.std.proofs.lemmas.List.{length-replicate}
 use Rattle.std.proofs.lemmas.Bool.{eqb-true, leb-true, le-leb}
-use Rattle.wasm_lang.specs.declared.fault.Fault.{Fault}
-use Rattle.wasm_lang.specs.declared.fault.Row.TheVariants.{SectionSize, UnknownByte, Limit}
+use Rattle.wasm_lang.specs.declared.fault.Row.TheVariants.{SectionSize, Limit}
 use Rattle.wasm_lang.specs.declared.types.ValType.{ValType}
-use Rattle.wasm_lang.specs.declared.types.Limits.{Limits}
-use Rattle.wasm_lang.specs.declared.types.GlobalType.{GlobalType}
 use Rattle.wasm_lang.specs.declared.types.ImportKind.{ImportKind}
 use Rattle.wasm_lang.specs.declared.types.ImportKind.TheVariants as imports
 use Rattle.wasm_lang.specs.declared.types.ExportKind.{ExportKind}
@@ -17,8 +13,8 @@ use Rattle.wasm_lang.specs.Instructions.{Instruction}
 use Rattle.wasm_lang.specs.Modules.{FunctionType, Imported, GlobalEntry, Exported, ElementSegment, DataSegment, FunctionBody}
 use Rattle.wasm_lang.specs.Numbers.{IsU32}
 use Rattle.wasm_lang.specs.Limits.{most_functions, most_globals, most_params, most_locals, most_levels, function_imports, global_imports, levels, params_of, MayImport}
-use Rattle.wasm_lang.specs.Grammar.{Spelling, Items, no_item, item, IsVec, IsSized, IsImportKind, function_import, table_import, memory_import, global_import, IsImport, an_import, IsGlobal, a_global, IsExportKind, function_export, table_export, memory_export, global_export, IsExport, an_export, IsElement, an_element, locals_of, IsRun, a_run, IsFunctionBody, a_body, IsSegment, a_segment}
-use Rattle.wasm_lang.specs.Reading.{Input, Field, ◌>>=◌, u32}
+use Rattle.wasm_lang.specs.Grammar.{Items, no_item, item, IsSized, IsImportKind, function_import, table_import, memory_import, global_import, IsImport, an_import, IsGlobal, a_global, IsExportKind, function_export, table_export, memory_export, global_export, IsExport, an_export, IsElement, an_element, locals_of, IsRun, a_run, IsFunctionBody, a_body, IsSegment, a_segment}
+use Rattle.wasm_lang.specs.Reading.{Input, u32}
 use Rattle.wasm_lang.specs.ReadingModule.{import_kind_field, import_field, imports_field, global_field, export_kind_field, export_field, element_field, segment_field, runs_field, body_content, body_field, bodies_field}
 use Rattle.wasm_lang.proofs.ReadingLaws.{from, leaves, Gives, Only, ok_gives, bind_gives, expects_gives, onto_gives, ok_only, err_only, bind_only, expects_only, onto_only, if_only, weaker_only, byte_only, u32_gives, u32_only, vec_gives, vec_of, vec_only}
 use Rattle.wasm_lang.proofs.ReadingLawsTypes.{all_are, count_gives, count_only, bytes_gives, bytes_only, name_gives, name_only, fits, sized_gives, sized_only, size_count, sized_of, val_type_gives, val_type_only, memory_gives, memory_only, table_gives, table_only, global_type_gives, global_type_only}

@@ -1,21 +1,20 @@
 -- Bytes have at most one module, whatever the limits.
-use Rattle.std.proofs.Common.{◌≡◌, ◌⊎◌, inl, inr, ℕ, zero, suc, ◌+◌, ◌<◌, ◌≤◌, Bool, true, false, cond, eqb, List, [], ◌∷◌, ◌++◌, length, take, drop, Option, Some, None, refl, sym, ap, ap₂, ◌∙◌, subst, arith}
+use Rattle.std.proofs.Common.{◌≡◌, ◌⊎◌, inl, inr, ℕ, ◌+◌, ◌<◌, true, false, cond, eqb, List, [], ◌∷◌, ◌++◌, length, take, drop, Option, Some, None, refl, sym, ap, ap₂, ◌∙◌, subst, arith}
 use Rattle.std.specs.Prelude.{Result, Ok, Err, All, MatchResult}
 use Rattle.std.proofs.lemmas.Bool.{false≢true, eq-eqb}
 use Rattle.std.proofs.Math.Seq.{take-append_seam, drop-append_seam}
 use Rattle.wasm_lang.specs.declared.fault.Fault.{Fault}
-use Rattle.wasm_lang.specs.declared.fault.Row.TheVariants.{SectionSize, UnknownByte}
+use Rattle.wasm_lang.specs.declared.fault.Row.TheVariants.{SectionSize}
 use Rattle.wasm_lang.specs.declared.types.ValType.{ValType}
 use Rattle.wasm_lang.specs.declared.types.Limits.{Limits}
-use Rattle.wasm_lang.specs.declared.types.GlobalType.{GlobalType}
 use Rattle.wasm_lang.specs.declared.types.ImportKind.{ImportKind}
 use Rattle.wasm_lang.specs.declared.types.ImportKind.TheVariants as imports
 use Rattle.wasm_lang.specs.Instructions.{Instruction}
-use Rattle.wasm_lang.specs.Modules.{FunctionType, Imported, GlobalEntry, Exported, ElementSegment, DataSegment, FunctionBody, WasmModule}
+use Rattle.wasm_lang.specs.Modules.{FunctionType, Imported, WasmModule}
 use Rattle.wasm_lang.specs.Numbers.{IsU32}
 use Rattle.wasm_lang.specs.Limits.{IsWithinReader}
-use Rattle.wasm_lang.specs.Grammar.{Spelling, Items, no_item, item, IsVec, IsBytes, IsName, IsSized, IsValType, IsFunctionType, function_type, IsLimits, IsTable, a_table, IsGlobalType, IsInstruction, IsCode, IsImportKind, function_import, table_import, memory_import, global_import, IsImport, an_import, IsGlobal, a_global, IsExport, IsElement, an_element, locals_of, IsRun, a_run, IsFunctionBody, a_body, IsSegment, a_segment, IsCustom, IsCustoms, no_custom, header, IsModuleBytes}
-use Rattle.wasm_lang.specs.Reading.{Input, Field, ◌>>=◌, fault, byte, u32, exactly, onto, vec_field, bytes_field, name_field, val_type_field}
+use Rattle.wasm_lang.specs.Grammar.{Spelling, Items, no_item, item, IsVec, IsBytes, IsSized, IsFunctionType, function_type, IsLimits, IsTable, a_table, IsGlobalType, IsInstruction, IsCode, IsImportKind, function_import, table_import, memory_import, global_import, IsImport, an_import, IsGlobal, a_global, IsExport, IsElement, an_element, locals_of, IsRun, a_run, IsFunctionBody, a_body, IsSegment, a_segment, IsCustom, IsCustoms, no_custom, header, IsModuleBytes}
+use Rattle.wasm_lang.specs.Reading.{Input, Field, ◌>>=◌, byte, u32, exactly, onto, vec_field, bytes_field, name_field, val_type_field}
 use Rattle.wasm_lang.specs.ReadingCode.{Opening, opened, instruction_field}
 use Rattle.wasm_lang.specs.ReadingModule.{memory_field, global_type_field, export_field, begins_with, read_module}
 use Rattle.wasm_lang.proofs.ReadingLaws.{from, leaves, Gives, inner, ok_gives, bind_gives, onto_gives, u32_gives, vec_gives}
@@ -23,7 +22,7 @@ use Rattle.wasm_lang.proofs.ReadingLawsTypes.{all_are, bytes_gives, name_gives, 
 use Rattle.wasm_lang.proofs.ReadingLawsCode.{instruction_gives}
 use Rattle.wasm_lang.proofs.Nesting.{Completes, Onward, goes, not_empty, expression_completes}
 use Rattle.wasm_lang.proofs.ReadingLawsEntries.{export_gives}
-use Rattle.wasm_lang.proofs.ReadingLawsSections.{member, heads, Comes, IsPart, IsSome, customs_on, customs_are, customs_between, not_begins, section_part, number_part}
+use Rattle.wasm_lang.proofs.ReadingLawsSections.{member, Comes, IsPart, IsSome, customs_on, customs_are, customs_between, not_begins, section_part, number_part}
 use Rattle.wasm_lang.proofs.ReadingLawsModule.{comings, reads_what_is_spelled, spelled_as_read}
 
 -- bytes spell at most one value, and it has one end

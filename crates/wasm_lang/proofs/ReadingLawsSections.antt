@@ -1,6 +1,6 @@
 -- The two laws of sections, between which custom sections may stand.
-use Rattle.std.proofs.Common.{◌≡◌, ◌⊎◌, inl, inr, ℕ, zero, suc, ◌+◌, ◌-◌, ◌<◌, ◌≤◌, Bool, true, false, cond, eqb, leb, List, [], ◌∷◌, ◌++◌, length, drop, Option, Some, None, refl, sym, ap, ap₂, ◌∙◌, subst, arith, length-append, append-nil, le_refl}
-use Rattle.std.specs.Prelude.{Result, Ok, Err}
+use Rattle.std.proofs.Common.{◌≡◌, ◌⊎◌, inl, inr, ℕ, zero, suc, ◌+◌, ◌≤◌, Bool, true, false, cond, eqb, List, [], ◌∷◌, ◌++◌, length, drop, Option, Some, None, refl, sym, ap, ap₂, ◌∙◌, subst, arith, length-append, append-nil, le_refl}
+use Rattle.std.specs.Prelude.{Result, Ok}
 use Rattle.std.proofs.lemmas.Bool.{false≢true, eqb-true, eq-eqb}
 use Rattle.wasm_lang.specs.declared.fault.Fault.{Fault}
 use Rattle.wasm_lang.specs.declared.fault.Row.{Row}
@@ -148,16 +148,22 @@ pub part_gives : {X : Type 0} {P : Spelling X} {absent v : X} {xs ys rs : List �
     → (qs : List ℕ) × IsCustoms ys qs × ((at : ℕ) → Gives (part_field id absent content (from at rs)) (leaves v qs))
 part_gives {absent = absent} {v = v} {rs = rs} id ids content nonzero apart zero_apart h (inl p) r c =
     let zs = c.0 in
-    let e = not_begins ids 0 zs zero_apart c.2 in
-    (zs, c.1, λ at.
-    bind_gives _ (customs_gives (customs_between r (customs_on p.1 c.1) e) e (length rs) (le_refl (length rs)) at) (λ at.
-    record { place = at; is = ap₂ (λ b v. cond b (section_field content (after_id (from at zs))) (Ok (v, from at zs))) (not_begins ids id zs apart c.2) (sym p.0) }))
+    let e = not_begins ids 0 zs zero_apart c.2 in (
+      zs,
+      c.1,
+      λ at.
+          bind_gives _ (customs_gives (customs_between r (customs_on p.1 c.1) e) e (length rs) (le_refl (length rs)) at) (λ at.
+          record { place = at; is = ap₂ (λ b v. cond b (section_field content (after_id (from at zs))) (Ok (v, from at zs))) (not_begins ids id zs apart c.2) (sym p.0) }),
+    )
 part_gives {absent = absent} {v = v} {ys = ys} {rs = rs} id ids content nonzero apart zero_apart h (inr p) r c =
-    let zs = p.0 in
-    (ys, no_custom, λ at.
-    bind_gives _ (customs_gives (customs_between r p.1 nonzero) nonzero (length rs) (le_refl (length rs)) at) (λ at.
-    equal_gives (ap (λ b. cond b (section_field content (from (at + 1) zs)) (Ok (absent, from at (id ∷ zs)))) (eq-eqb id id refl))
-    (section_gives v content p.2 (λ at. h p.2.content at p.2.is) (at + 1))))
+    let zs = p.0 in (
+      ys,
+      no_custom,
+      λ at.
+          bind_gives _ (customs_gives (customs_between r p.1 nonzero) nonzero (length rs) (le_refl (length rs)) at) (λ at.
+          equal_gives (ap (λ b. cond b (section_field content (from (at + 1) zs)) (Ok (absent, from at (id ∷ zs)))) (eq-eqb id id refl))
+          (section_gives v content p.2 (λ at. h p.2.content at p.2.is) (at + 1))),
+    )
 
 -- the same, and what is read after it
 pub part_then : {X Y : Type 0} {P : Spelling X} {absent v : X} {xs ys rs : List ℕ} {y : ℕ → Y} (id : ℕ) (ids : List ℕ) (content : Input → Field X) (g : X × Input → Result Y Fault)
