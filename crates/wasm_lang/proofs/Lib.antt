@@ -14,3 +14,4 @@ pub mod ReadingLawsEntries
 pub mod ReadingLawsSections
 pub mod ReadingLawsModule
 pub mod ReadingLawsOne
+pub mod ReadingLawsPlaces

@@ -69,7 +69,7 @@ customs_gives (custom {rest = rest} {xs = bs} {ys = ms} s c) e (suc n) le at =
     let k : length ms ≤ n = omega (arith, unsigned_shrinks 32 (length s.content) bs s.after_size s.size, ap length s.stands, length-append s.content ms) in
     bind_gives _ (custom_gives rest bs ms s (at + 1)) (λ at. customs_gives c e n k at)
 
-begins_is : (id : ℕ) (bs : List ℕ) → begins_with id bs ≡ true → id ∷ drop 1 bs ≡ bs
+pub begins_is : (id : ℕ) (bs : List ℕ) → begins_with id bs ≡ true → id ∷ drop 1 bs ≡ bs
 begins_is id [] e = cc
 begins_is id (b ∷ bs) e = ap (λ b. b ∷ bs) (sym (eqb-true b id e))
 

@@ -165,7 +165,7 @@ limits_gives Q min h l xs ys at q (only_min {n = n} {xs = bs} c) = bind_gives _ 
 limits_gives Q min h l xs ys at q (min_and_max {n = n} {xs = bs} {ys = ms} c d) =
     bind_gives _ (h n bs ms (at + 1) q c) (λ at. bind_gives _ (u32_gives SectionSize at d) (λ at. ok_gives at))
 
-abbrev max_if : Bool → ℕ → Input → Field Limits
+abbrev pub max_if : Bool → ℕ → Input → Field Limits
 max_if false n j = Ok (record { min = n; max = None }, j)
 max_if true n j = u32 j >>= λ m. Ok (record { min = n; max = Some m.0 }, m.1)
 
