@@ -1,5 +1,5 @@
 -- The two laws of the entries of sections.
-use Rattle.std.proofs.Common.{◌≡◌, ℕ, zero, suc, ◌+◌, ◌≤◌, true, eqb, List, [], ◌∷◌, ◌++◌, length, replicate, refl, sym, ap, ◌∙◌, subst, arith, length-append}
+use Rattle.std.proofs.Common.{◌≡◌, ℕ, zero, suc, ◌+◌, ◌≤◌, ◌<◌, ◌^◌, true, eqb, List, [], ◌∷◌, ◌++◌, length, replicate, refl, sym, ap, ◌∙◌, subst, arith, length-append}
 use Rattle.std.specs.List.{AllByRecursion, zip}
 use Rattle.std.proofs.lemmas.List.{length-replicate}
 use Rattle.std.proofs.lemmas.Bool.{eqb-true, leb-true, le-leb}
@@ -199,7 +199,7 @@ abbrev pub BodyFits : ℕ → FunctionBody → Type 0
 BodyFits params b = (params + length b.locals ≤ most_locals) × (levels b.code ≤ most_levels)
 
 content_gives : (params : ℕ) (b : FunctionBody) (xs ys : List ℕ) (at : ℕ) → BodyFits params b → IsFunctionBody b xs ys → Gives (body_content params (from at xs)) (leaves b ys)
-content_gives params b xs ys at f (a_body {runs = runs} {code = code} {ys = ms} v c) =
+content_gives params b xs ys at f (a_body {runs = runs} {code = code} {ys = ms} v c few) =
     bind_gives _ (u32_gives SectionSize at v.count) (λ at.
     bind_gives _ (runs_gives runs params v.after_count ms f.0 v.items at) (λ at.
     bind_gives _ (code_gives code ms ys at f.1 c) (λ at. ok_gives at)))
@@ -207,12 +207,16 @@ content_gives params b xs ys at f (a_body {runs = runs} {code = code} {ys = ms} 
 body_of : (runs : List (ℕ × ValType)) {locals : List ValType} {code : List Instruction} {xs zs : List ℕ} → IsFunctionBody (record { locals = locals_of runs; code = code }) xs zs → locals_of runs ≡ locals → IsFunctionBody (record { locals = locals; code = code }) xs zs
 body_of runs {code = code} {xs = xs} {zs = zs} h e = subst (λ l. IsFunctionBody (record { locals = l; code = code }) xs zs) e h
 
+-- within the reader's limit there are fewer than 2 ^ 32
+few_locals : (params : ℕ) (runs : List (ℕ × ValType)) (locals : List ValType) → locals_of runs ≡ locals → params + length locals ≤ most_locals → length (locals_of runs) < 2 ^ 32
+few_locals params runs locals e fits = let n : length (locals_of runs) ≡ length locals = ap length e in omega arith
+
 content_only : (params : ℕ) (i : Input) → params ≤ most_locals → Only (body_content params i) (λ x. IsFunctionBody x.0 i.bytes x.1.bytes × BodyFits params x.0)
 content_only params i le =
     bind_only _ (u32_only SectionSize i) (λ n c.
     bind_only _ (runs_only params n.0 n.1 le) (λ locals r.
     bind_only _ (code_only locals.1) (λ code b.
-    ok_only (body_of r.0 (a_body (vec_of c r.1 r.2) b.0) r.3, (r.4, b.1)))))
+    ok_only (body_of r.0 (a_body (vec_of c r.1 r.2) b.0 (few_locals params r.0 locals.0 r.3 r.4)) r.3, (r.4, b.1)))))
 
 body_gives : (params : ℕ) (b : FunctionBody) (xs ys : List ℕ) (at : ℕ) → BodyFits params b → IsSized IsFunctionBody b xs ys → Gives (body_field params (from at xs)) (leaves b ys)
 body_gives params b xs ys at f s =

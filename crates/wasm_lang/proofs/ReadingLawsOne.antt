@@ -189,7 +189,7 @@ segment_one v w xs ys zs (a_segment {m = t} {code = c} {bytes = fs} {ys = ms} {z
     (ap₂ (λ (t : ℕ) x. record { memory = t; offset = x.0; bytes = x.1 }) one.0 (ap₂ {C = List Instruction × List ℕ} (λ c fs. (c, fs)) two.0 three.0), three.1)
 
 body_one : One IsFunctionBody
-body_one v w xs ys zs (a_body {runs = rs} {code = c} {ys = ms} a b) (a_body {runs = qs} {code = d} {ys = ns} e f) =
+body_one v w xs ys zs (a_body {runs = rs} {code = c} {ys = ms} a b few) (a_body {runs = qs} {code = d} {ys = ns} e f few') =
     let one = vec_one IsRun run_one rs qs xs ms ns a e in
     let two = code_one c d ms ys zs b (subst (λ l. IsCode d l zs) (sym one.1) f) in
     (ap₂ (λ rs c. record { locals = locals_of rs; code = c }) one.0 two.0, two.1)
