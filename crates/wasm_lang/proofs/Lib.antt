@@ -1,0 +1,17 @@
+pub mod Examples
+pub mod Numbers
+pub mod Fields
+pub mod Spelled
+pub mod Table
+pub mod Inversion
+pub mod ReadInstructions
+pub mod Nesting
+pub mod Expressions
+pub mod ReadingLaws
+pub mod ReadingLawsTypes
+pub mod ReadingLawsCode
+pub mod ReadingLawsEntries
+pub mod ReadingLawsSections
+pub mod ReadingLawsModule
+pub mod ReadingLawsOne
+pub mod ReadingLawsPlaces

@@ -1,0 +1,10 @@
+pub mod Instructions
+pub mod Modules
+pub mod Opcodes
+pub mod Numbers
+pub mod Grammar
+pub mod Limits
+pub mod Shape
+pub mod Reading
+pub mod ReadingCode
+pub mod ReadingModule

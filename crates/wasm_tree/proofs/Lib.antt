@@ -1,0 +1,6 @@
+pub mod Powers
+pub mod Places
+pub mod Table
+pub mod Items
+pub mod Forms
+pub mod Spelled
