@@ -1,7 +1,8 @@
 -- What the words and the files ask for: the first refusal in the order words, file, text; or the output.
 use Rattle.std.specs.Prelude.{◌≡◌, ◌<◌, ◌≤◌, ℕ, List, Option, Some, None, IfSome, IsSomeAnd, length}
 use Rattle.bridge_io.specs.Outside.{Told, content_of}
-use Rattle.bridge_cmd.specs.Command.{file_named}
+use Rattle.bridge_cmd.specs.Checking.{IsCounted, IsNoModule, IsInvalid}
+use Rattle.bridge_cmd.specs.Command.{Asked, asm_to_wasm, check_wasm, file_of, asked}
 use Rattle.bridge_cmd.specs.Form.{FormTree}
 use Rattle.bridge_cmd.specs.FormText.{IsFirstForm}
 use Rattle.bridge_cmd.specs.FormModule.{module_bytes}
@@ -33,18 +34,20 @@ Holds told file text = IfSome told (λ map. content_of map file ≡ Some text)
 abbrev pub IsTooLong : Option Told → List ℕ → Type 0
 IsTooLong told file = IfSome told (λ map. IsSomeAnd (content_of map file) (λ text. file_limit < length text))
 
+-- what a command makes of its file's bytes
+pub data IsTextJob : Asked → List ℕ → Job → Type 0 where
+  other_text : {file text : List ℕ} → ((tree : FormTree) → IsFirstForm text tree → ⊥) → IsTextJob (asm_to_wasm file) text (refused not_of_the_form)
+  translated : {file text output : List ℕ} → IsTranslation text output → IsTextJob (asm_to_wasm file) text (written output)
+  no_module : {file text : List ℕ} {reason : Reason} → IsNoModule text reason → IsTextJob (check_wasm file) text (refused reason)
+  invalid : {file text : List ℕ} {reason : Reason} → IsInvalid text reason → IsTextJob (check_wasm file) text (refused reason)
+  counted : {file text output : List ℕ} → IsCounted text output → IsTextJob (check_wasm file) text (written output)
+
 pub data IsJob : List (List ℕ) → Option Told → Job → Type 0 where
-  no_command : {words : List (List ℕ)} {told : Option Told}
-      → file_named words ≡ None → IsJob words told (refused faulty_words)
-  no_file : {words : List (List ℕ)} {told : Option Told} (file : List ℕ)
-      → file_named words ≡ Some file → IsAbsent told file → IsJob words told (refused (missing file))
-  long_file : {words : List (List ℕ)} {told : Option Told} (file : List ℕ)
-      → file_named words ≡ Some file → IsTooLong told file → IsJob words told (refused (too_large file))
-  other_text : {words : List (List ℕ)} {told : Option Told} (file text : List ℕ)
-      → file_named words ≡ Some file → Holds told file text → length text ≤ file_limit
-      → ((tree : FormTree) → IsFirstForm text tree → ⊥)
-      → IsJob words told (refused not_of_the_form)
-  translated : {words : List (List ℕ)} {told : Option Told} (file text output : List ℕ)
-      → file_named words ≡ Some file → Holds told file text → length text ≤ file_limit
-      → IsTranslation text output
-      → IsJob words told (written output)
+  no_command : {words : List (List ℕ)} {told : Option Told} → asked words ≡ None → IsJob words told (refused faulty_words)
+  no_file : {words : List (List ℕ)} {told : Option Told} (a : Asked)
+      → asked words ≡ Some a → IsAbsent told (file_of a) → IsJob words told (refused (missing (file_of a)))
+  long_file : {words : List (List ℕ)} {told : Option Told} (a : Asked)
+      → asked words ≡ Some a → IsTooLong told (file_of a) → IsJob words told (refused (too_large (file_of a)))
+  of_text : {words : List (List ℕ)} {told : Option Told} {job : Job} (a : Asked) (text : List ℕ)
+      → asked words ≡ Some a → Holds told (file_of a) text → length text ≤ file_limit
+      → IsTextJob a text job → IsJob words told job

@@ -1,3 +1,4 @@
+pub mod Asking
 pub mod Code
 pub mod Command
 pub mod Form

@@ -1,13 +1,31 @@
-//! Writing the line of a refusal.
-ghost use Rattle.std.specs.Prelude.{ℕ, ◌≤◌, OnOk, OnErr};
-ghost use Rattle.bridge_cmd.specs.Reason.{line_of};
+//! Writing the line of a refusal, in pieces that take no memory.
+ghost use Rattle.std.specs.Prelude.{ℕ, ◌≤◌, ◌++◌, ◌∷◌, [], OnOk, OnErr, map, codes, decimal};
+ghost use Rattle.std.specs.List.{concat};
+ghost use Rattle.bridge_cmd.specs.Reason.{line_of, binary_name as spec_name};
 ghost use Rattle.bridge_cmd.specs.Refused.{reason_of};
-ghost use Rattle.bridge_cmd.specs.Sinks.{Seen, seen, Gains, GainsFront};
+ghost use Rattle.bridge_cmd.specs.Sinks.{seen, Gains, GainsFront, now_of};
 
-use crate::refusal::Refusal;
+use crate::refusal::{Refusal, binary_name};
 use bridge_io::{Failed, Sink, put_all};
+use itoa::Buffer;
 
-/// Writes the line of a refusal, in pieces that take no memory.
+/// Writes pieces, one after the other.
+fn put_pieces<E: Sink>(report: &mut E, pieces: &[&[u8]]) -> Result<(), Failed>
+    requires { (n : ℕ) → E.takes report.old n }
+
+    ensures never_falls { E.faults report.old ≤ E.faults report.new }
+    ensures whole { OnOk result (Gains (concat (map now_of pieces.now))
+        (seen (E.told report.old) (E.faults report.old)) (seen (E.told report.new) (E.faults report.new))) }
+    ensures front { OnErr result (GainsFront (concat (map now_of pieces.now))
+        (seen (E.told report.old) (E.faults report.old)) (seen (E.told report.new) (E.faults report.new))) }
+{
+    for piece in pieces {
+        put_all(report, piece)?;
+    }
+    Ok(())
+}
+
+/// Writes the line of a refusal.
 pub(crate) fn write_line<E: Sink>(report: &mut E, refusal: Refusal<'_>) -> Result<(), Failed>
     requires { (n : ℕ) → E.takes report.old n }
 
@@ -17,9 +35,78 @@ pub(crate) fn write_line<E: Sink>(report: &mut E, refusal: Refusal<'_>) -> Resul
     ensures front { OnErr result (GainsFront (line_of (reason_of refusal.entry))
         (seen (E.told report.old) (E.faults report.old)) (seen (E.told report.new) (E.faults report.new))) }
 {
-    let text = refusal.text();
-    put_all(report, text.words.as_bytes())?;
-    put_all(report, text.name.as_bytes())?;
-    put_all(report, b"\n")?;
-    Ok(())
+    match refusal {
+        Refusal::FaultyWords => put_pieces(
+            report,
+            &[b"usage: bridge COMMAND [--heap N] [--steps N] [FILE] [SCRIPT]".as_slice(), b"\n".as_slice()],
+        ),
+        Refusal::NotOfTheForm => put_pieces(report, &[b"asm.js refused: A0 NotYet at 0".as_slice(), b"\n".as_slice()]),
+        Refusal::NotABinary { number, at } => put_binary(report, number, at),
+        Refusal::NotValid {
+            rule,
+            section,
+            index,
+            instruction,
+        } => put_invalid(report, rule, section, index, instruction),
+        Refusal::ReadFault => put_pieces(report, &[b"read fault".as_slice(), b"\n".as_slice()]),
+        Refusal::Missing(file) => put_pieces(report, &[b"missing: ".as_slice(), file.as_bytes(), b"\n".as_slice()]),
+        Refusal::TooLarge(file) => put_pieces(report, &[b"too large: ".as_slice(), file.as_bytes(), b"\n".as_slice()]),
+        Refusal::OutOfMemory => put_pieces(report, &[b"out of memory".as_slice(), b"\n".as_slice()]),
+    }
+}
+
+/// The line of bytes that aren't of the binary format.
+fn put_binary<E: Sink>(report: &mut E, number: u8, at: u64) -> Result<(), Failed>
+    requires { (n : ℕ) → E.takes report.old n }
+
+    ensures never_falls { E.faults report.old ≤ E.faults report.new }
+    ensures whole { OnOk result (Gains (concat (codes "wasm refused: " ∷ spec_name number ∷ codes " at " ∷ decimal at ∷ codes "\n" ∷ []))
+        (seen (E.told report.old) (E.faults report.old)) (seen (E.told report.new) (E.faults report.new))) }
+    ensures front { OnErr result (GainsFront (concat (codes "wasm refused: " ∷ spec_name number ∷ codes " at " ∷ decimal at ∷ codes "\n" ∷ []))
+        (seen (E.told report.old) (E.faults report.old)) (seen (E.told report.new) (E.faults report.new))) }
+{
+    let mut digits = Buffer::new();
+    let at = digits.format(at);
+    put_pieces(
+        report,
+        &[b"wasm refused: ".as_slice(), binary_name(number).as_bytes(), b" at ".as_slice(), at.as_bytes(), b"\n".as_slice()],
+    )
+}
+
+/// The line of a module that isn't valid.
+fn put_invalid<E: Sink>(
+    report: &mut E,
+    rule: u8,
+    section: u8,
+    index: u64,
+    instruction: u64,
+) -> Result<(), Failed>
+    requires { (n : ℕ) → E.takes report.old n }
+
+    ensures never_falls { E.faults report.old ≤ E.faults report.new }
+    ensures whole { OnOk result (Gains (concat (codes "wasm refused: B13 Invalid V" ∷ decimal rule ∷ codes " at section " ∷ decimal section
+        ∷ codes " index " ∷ decimal index ∷ codes " instruction " ∷ decimal instruction ∷ codes "\n" ∷ []))
+        (seen (E.told report.old) (E.faults report.old)) (seen (E.told report.new) (E.faults report.new))) }
+    ensures front { OnErr result (GainsFront (concat (codes "wasm refused: B13 Invalid V" ∷ decimal rule ∷ codes " at section " ∷ decimal section
+        ∷ codes " index " ∷ decimal index ∷ codes " instruction " ∷ decimal instruction ∷ codes "\n" ∷ []))
+        (seen (E.told report.old) (E.faults report.old)) (seen (E.told report.new) (E.faults report.new))) }
+{
+    let mut rule_digits = Buffer::new();
+    let mut section_digits = Buffer::new();
+    let mut index_digits = Buffer::new();
+    let mut instruction_digits = Buffer::new();
+    put_pieces(
+        report,
+        &[
+            b"wasm refused: B13 Invalid V".as_slice(),
+            rule_digits.format(rule).as_bytes(),
+            b" at section ".as_slice(),
+            section_digits.format(section).as_bytes(),
+            b" index ".as_slice(),
+            index_digits.format(index).as_bytes(),
+            b" instruction ".as_slice(),
+            instruction_digits.format(instruction).as_bytes(),
+            b"\n".as_slice(),
+        ],
+    )
 }

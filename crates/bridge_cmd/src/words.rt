@@ -1,21 +1,51 @@
 //! The words of the command line.
-ghost use Rattle.std.specs.Prelude.{◌≡◌, map, string_bytes, not, option_map};
+ghost use Rattle.std.specs.Prelude.{◌≡◌, map, string_bytes, option_map};
 ghost use Rattle.bridge_cmd.specs.Command as spec;
+ghost use Rattle.bridge_cmd.specs.Asking.{asked_by};
 
-/// Whether a word stands for itself, and doesn't begin like an option.
-fn is_operand(word: &str) -> bool
-    ensures { result ≡ not (spec.begins_with_dash word.now) }
-{
-    !matches!(word.as_bytes(), [b'-', ..])
+/// A command, with the name of its file.
+#[derive(Clone, Copy)]
+pub(crate) enum Command<'w> {
+    AsmToWasm(&'w str),
+    CheckWasm(&'w str),
 }
 
-/// The file to translate, where the words are the program's name, `asm2wasm` and a file.
-pub(crate) fn file_named(words: &[String]) -> Option<&str>
-    ensures { option_map (λ s. s.now) result ≡ spec.file_named (map string_bytes words.now) }
+impl<'w> Command<'w> {
+    /// The name of the file that is read.
+    pub(crate) fn file(self) -> &'w str
+        ensures { result.now ≡ spec.file_of (asked_by self.entry) }
+    {
+        match self {
+            Command::AsmToWasm(file) => file,
+            Command::CheckWasm(file) => file,
+        }
+    }
+
+    fn named<'a>(name: &str, file: &'a str) -> Option<Command<'a>>
+        ensures { option_map asked_by result ≡ spec.command_named name.now file.now }
+    {
+        match name {
+            "asm2wasm" => Some(Command::AsmToWasm(file)),
+            "check-wasm" => Some(Command::CheckWasm(file)),
+            _ => None,
+        }
+    }
+}
+
+/// Whether a word begins like an option.
+fn begins_with_dash(word: &str) -> bool
+    ensures { result ≡ spec.begins_with_dash word.now }
+{
+    matches!(word.as_bytes(), [b'-', ..])
+}
+
+/// What the words ask for: the program's name, a command and a file.
+pub(crate) fn asked(words: &[String]) -> Option<Command<'_>>
+    ensures { option_map asked_by result ≡ spec.asked (map string_bytes words.now) }
 {
     match words {
-        [_, command, file] if command.as_str() == "asm2wasm" && is_operand(file.as_str()) => {
-            Some(file.as_str())
+        [_, name, file] if !begins_with_dash(file.as_str()) => {
+            Command::named(name.as_str(), file.as_str())
         }
         _ => None,
     }
