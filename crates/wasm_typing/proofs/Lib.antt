@@ -1,0 +1,4 @@
+pub mod Main
+pub mod Nests
+pub mod Rest
+pub mod Stands

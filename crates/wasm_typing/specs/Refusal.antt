@@ -1,0 +1,16 @@
+-- The place of a refusal of a body.
+use Rattle.std.specs.Prelude.{◌≡◌, ℕ, ◌+◌, List, ◌++◌, take, Some, slice_get}
+use Rattle.wasm_lang.specs.Instructions.{Instruction}
+use Rattle.wasm_typing.specs.declared.rule.Rule.{Rule}
+use Rattle.wasm_typing.specs.Typing.{Context, IsValid}
+
+-- a valid body begins with these instructions
+abbrev pub BeginsValid : Context → List Instruction → Type 0
+BeginsValid base start = (more : List Instruction) × IsValid base (start ++ more)
+
+-- no valid body begins with the instructions up to this one, and one begins with those before it
+pub record RefusesAt (base : Context) (code : List Instruction) (place : ℕ) : Type 0 where
+  pub instr : Instruction
+  pub stands : slice_get code place ≡ Some instr
+  pub before : BeginsValid base (take place code)
+  pub here : BeginsValid base (take (place + 1) code) → ⊥
