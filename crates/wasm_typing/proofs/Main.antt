@@ -1,6 +1,7 @@
 -- What one pass over a body tells of it.
-use Rattle.std.proofs.Common.{◌≡◌, ℕ, zero, suc, ◌+◌, List, [], ◌∷◌, ◌++◌, take, add-one, Some, None, refl, sym, ap, ◌∙◌, subst}
+use Rattle.std.proofs.Common.{◌≡◌, ℕ, zero, suc, ◌+◌, ◌≤◌, List, [], ◌∷◌, ◌++◌, length, take, drop, add-one, Some, None, refl, sym, ap, ◌∙◌, subst}
 use Rattle.std.proofs.lemmas.List.{append-nil}
+use Rattle.std.proofs.Math.ListN.{drop_of_length-le, take-append-drop}
 use Rattle.std.specs.Prelude.{Result, Ok, Err, slice_get}
 use Rattle.wasm_typing.specs.declared.rule.Opening.TheVariants.{Straight}
 use Rattle.wasm_typing.specs.declared.rule.Rule.{Rule}
@@ -97,6 +98,9 @@ module _ (base : Context) where
         here = λ v. begins_none ls (take place code) i rule q r (subst (λ s. BeginsValid base s) (one_longer code place i at) v);
       }
 
+  pub goes_on : (code : List Instruction) (place : ℕ) (i : Instruction) (ls next : List Level) → slice_get code place ≡ Some i → steps base (at_start base.returns) (take place code) ≡ Ok ls → step base ls i ≡ Ok next → steps base (at_start base.returns) (take (place + 1) code) ≡ Ok next
+  goes_on code place i ls next at q r = rw (one_longer code place i at) (one_more (at_start base.returns) ls (take place code) i q ∙ r)
+
   -- what the instructions still close after those that were taken
   scans_all : (ls next : List Level) (start rest : List Instruction) → Scans (openings ls) (start ++ rest) → steps base ls start ≡ Ok next → Scans (openings next) rest
   scans_all ls next [] rest s q = subst (λ n. Scans (openings n) rest) (ok_is q) s
@@ -105,7 +109,9 @@ module _ (base : Context) where
       scans_all a.0 next is rest (scans_on base ls a.0 i (is ++ rest) s a.1) a.2
 
   -- a pass over an expression that comes to its end
-  pub valid : (code : List Instruction) (last : List Level) → IsExpression code → steps base (at_start base.returns) code ≡ Ok last → IsValid base code
-  valid code last b q =
+  pub valid : (code : List Instruction) (place : ℕ) (last : List Level) → IsExpression code → length code ≤ place → steps base (at_start base.returns) (take place code) ≡ Ok last → IsValid base code
+  valid code place last b le p =
+      let whole : take place code ≡ code = sym (append-nil (take place code)) ∙ ap (λ l. take place code ++ l) (sym (drop_of_length-le code le)) ∙ take-append-drop place code in
+      let q = ap (λ c. steps base (at_start base.returns) c) (sym whole) ∙ p in
       let s : Scans (openings last) [] = scans_all (at_start base.returns) last code [] (subst (λ c. Scans (Straight ∷ []) c) (sym (append-nil code)) (body_scans code b)) q in
       valid_where code (q ∙ ap (λ ls. Ok ls) (none_open last s))

@@ -103,9 +103,13 @@ ended [] = Err Nesting
 ended (l ∷ ls) =
     onward (closes l.result l.endless l.operands) (λ _. onward (may_end l.opening l.result) (λ _. Ok (given l.result ls)))
 
+-- an instruction of this shape in the innermost block, if its numbers exist and it breaks no rule of a higher number
+abbrev pub applied : Result Shape Rule → Result (Unit {0}) Rule → List Level → Result (List Level) Rule
+applied shaped last ls = onward shaped (λ s. onward (on_top s ls) (λ next. onward last (λ _. Ok next)))
+
 -- an instruction that opens and closes nothing
 abbrev pub plainly : Context → Instruction → List Level → Result (List Level) Rule
-plainly c i ls = onward (shape c i) (λ s. onward (on_top s ls) (λ next. onward (late c i) (λ _. Ok next)))
+plainly c i ls = applied (shape c i) (late c i) ls
 
 -- the open blocks after one more instruction, the innermost first
 abbrev pub step : Context → List Level → Instruction → Result (List Level) Rule

@@ -1,13 +1,11 @@
-// A library with one function.
+//! Validation of WebAssembly modules (WebAssembly Core 1.0, part 3).
 #![tactic(auto)]
 
-ghost use Rattle.std.specs.Prelude.{◌≡◌};
-ghost use Rattle.wasm_validate.specs.Echo.{echo_of};
-
-// The `ensures` clause is the contract: what `echo` returns is `echo_of` of its argument, a definition
-// in `specs/Echo.antt`, which a caller's clause can cite too.
-pub fn echo(x: usize) -> usize
-    ensures { result ≡ echo_of x }
-{
-    x
-}
+mod blocks;
+mod body;
+mod fault;
+mod frame;
+mod frames;
+mod instructions;
+mod operands;
+mod scope;

@@ -1,4 +1,4 @@
-use Rattle.wasm_typing.proofs.Main.{valid, valid_only, refuses}
+use Rattle.wasm_typing.proofs.Main.{valid, valid_only, refuses, goes_on}
 use Rattle.wasm_typing.proofs.laws.body_laws.Goals as goal
 
 pub returns-clause-valid : goal.returns-clause-valid
@@ -9,3 +9,6 @@ returns-clause-only c = valid_only
 
 pub returns-clause-refuses : goal.returns-clause-refuses
 returns-clause-refuses c = refuses
+
+pub returns-clause-goes_on : goal.returns-clause-goes_on
+returns-clause-goes_on c = goes_on
