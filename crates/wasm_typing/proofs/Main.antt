@@ -9,7 +9,10 @@ use Rattle.wasm_lang.specs.Instructions.{Instruction, end_mark}
 use Rattle.wasm_typing.specs.Typing.{Context, onward, listed, Typed, IsValid}
 use Rattle.wasm_typing.specs.State.{Level, around, step, steps, at_start}
 use Rattle.wasm_lang.specs.Instructions.{IsExpression}
-use Rattle.wasm_typing.specs.Refusal.{BeginsValid, RefusesAt}
+use Rattle.wasm_typing.specs.Refusal.{BeginsValid, Refuses}
+use Rattle.wasm_typing.specs.Rules.{IsRule}
+use Rattle.wasm_typing.proofs.Ranks.{rule_is}
+use Rattle.wasm_typing.proofs.Named.{step_named, err_named}
 use Rattle.wasm_typing.proofs.Nests.{Scans, openings, body_scans, scans_on, none_open}
 use Rattle.wasm_typing.proofs.Stands.{ok_is, onward_ok}
 use Rattle.wasm_typing.proofs.Rest.{Completes, After, Closes, ends, none_stands, goes, comes, some_rest}
@@ -22,6 +25,11 @@ one_longer {A = A} xs place x e = rw add-one (by xs place e)
     by [] place e = cc
     by (y ∷ ys) zero e = let h : y ≡ x = cc in ap (λ z. z ∷ []) h
     by (y ∷ ys) (suc n) e = ap (λ zs. y ∷ zs) (by ys n e)
+
+drop_at : {A : Type 0} (xs : List A) (place : ℕ) (x : A) → slice_get xs place ≡ Some x → drop place xs ≡ x ∷ drop (suc place) xs
+drop_at [] place x e = cc
+drop_at (y ∷ ys) zero x e = let h : y ≡ x = cc in ap (λ z. z ∷ ys) h
+drop_at (y ∷ ys) (suc n) x e = drop_at ys n x e
 
 module _ (base : Context) where
   starts : (code : List Instruction) → IsValid base code → Completes base (at_start base.returns) code
@@ -89,15 +97,6 @@ module _ (base : Context) where
       let e : Ok a.0 ≡ Err rule = sym a.1 ∙ one_more (at_start base.returns) ls start i q ∙ r in
       cc
 
-  pub refuses : (code : List Instruction) (place : ℕ) (i : Instruction) (ls : List Level) (rule : Rule) → slice_get code place ≡ Some i → steps base (at_start base.returns) (take place code) ≡ Ok ls → step base ls i ≡ Err rule → RefusesAt base code place
-  refuses code place i ls rule at q r =
-      record {
-        instr = i;
-        stands = at;
-        before = begins_valid ls (take place code) q;
-        here = λ v. begins_none ls (take place code) i rule q r (subst (λ s. BeginsValid base s) (one_longer code place i at) v);
-      }
-
   pub goes_on : (code : List Instruction) (place : ℕ) (i : Instruction) (ls next : List Level) → slice_get code place ≡ Some i → steps base (at_start base.returns) (take place code) ≡ Ok ls → step base ls i ≡ Ok next → steps base (at_start base.returns) (take (place + 1) code) ≡ Ok next
   goes_on code place i ls next at q r = rw (one_longer code place i at) (one_more (at_start base.returns) ls (take place code) i q ∙ r)
 
@@ -115,3 +114,20 @@ module _ (base : Context) where
       let q = ap (λ c. steps base (at_start base.returns) c) (sym whole) ∙ p in
       let s : Scans (openings last) [] = scans_all (at_start base.returns) last code [] (subst (λ c. Scans (Straight ∷ []) c) (sym (append-nil code)) (body_scans code b)) q in
       valid_where code (q ∙ ap (λ ls. Ok ls) (none_open last s))
+
+  -- the rule, where some block is open
+  rule_of : (ls : List Level) (start rest : List Instruction) (i : Instruction) (rule : Rule) → Scans (openings ls) (i ∷ rest) → steps base (at_start base.returns) start ≡ Ok ls → step base ls i ≡ Err rule → IsRule base start i rule
+  rule_of [] start rest i rule s q r = absurd s
+  rule_of (l ∷ ls) start rest i rule s q r = rule_is base l ls start i rule q r (err_named (step base (l ∷ ls) i) rule (step_named base (l ∷ ls) i rest s) r)
+
+  pub refuses : (code : List Instruction) (place : ℕ) (i : Instruction) (ls : List Level) (rule : Rule) → IsExpression code → slice_get code place ≡ Some i → steps base (at_start base.returns) (take place code) ≡ Ok ls → step base ls i ≡ Err rule → Refuses base code place rule
+  refuses code place i ls rule b at q r =
+      let whole : Scans (Straight ∷ []) (take place code ++ drop place code) = subst (λ c. Scans (Straight ∷ []) c) (sym (take-append-drop place code)) (body_scans code b) in
+      let rest : Scans (openings ls) (i ∷ drop (suc place) code) = subst (λ l. Scans (openings ls) l) (drop_at code place i at) (scans_all (at_start base.returns) ls (take place code) (drop place code) whole q) in
+      record {
+        instr = i;
+        stands = at;
+        before = begins_valid ls (take place code) q;
+        here = λ v. begins_none ls (take place code) i rule q r (subst (λ s. BeginsValid base s) (one_longer code place i at) v);
+        broken = rule_of ls (take place code) (drop (suc place) code) i rule rest q r;
+      }

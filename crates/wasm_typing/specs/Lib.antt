@@ -1,3 +1,4 @@
 pub mod Typing
+pub mod Rules
 pub mod Refusal
 pub mod State

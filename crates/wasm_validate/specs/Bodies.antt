@@ -2,7 +2,7 @@
 use Rattle.std.specs.Prelude.{ℕ, List}
 use Rattle.wasm_lang.specs.Instructions.{Instruction}
 use Rattle.wasm_typing.specs.Typing.{Context}
-use Rattle.wasm_typing.specs.Refusal.{RefusesAt}
+use Rattle.wasm_typing.specs.Refusal.{Refuses}
 use Rattle.wasm_validate.specs.declared.fault.Fault.{Fault}
 use Rattle.wasm_validate.specs.declared.fault.Fault.TheVariants.{Broken as FaultBroken, Memory as FaultMemory}
 use Rattle.wasm_validate.specs.declared.fault.BodyFault.{BodyFault}
@@ -10,7 +10,7 @@ use Rattle.wasm_validate.specs.declared.fault.BodyFault.TheVariants.{Broken, Mem
 
 -- want of memory, or a refusal of this place by this rule
 abbrev pub IsRefusal : Context → List Instruction → BodyFault → Type 0
-IsRefusal base code (Broken rule place) = RefusesAt base code place
+IsRefusal base code (Broken rule place) = Refuses base code place rule
 IsRefusal base code Memory = Unit {0}
 
 -- a fault at this place

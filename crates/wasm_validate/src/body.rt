@@ -16,7 +16,7 @@ use wasm_tree::Instr;
 use wasm_typing::body_laws;
 
 /// Says whether a body is valid. If it isn't, the refusal has the first instruction such that no valid body
-/// begins with the instructions up to it.
+/// begins with the instructions up to it, and of the rules that it breaks the one of the least number.
 pub fn check_body(alloc: Global, scope: &Scope<'_>, code: &[Instr]) -> Result<(), BodyFault>
     requires { IsExpression (map instr_of code.now) }
     ensures { MatchResult result (λ _. IsValid (outside scope.now) (map instr_of code.now)) (λ e. IsRefusal (outside scope.now) (map instr_of code.now) e) }

@@ -12,7 +12,7 @@ returns-in-Err-check c =
     let at = c.index-code-i in
     let stands = instr_at c.args.code.now c.loop-i.i at.result at.is c.loop-i-test.true in
     rw c.refusal.ensures
-    (is_refusal base code c.loop-i.i (step base c.loop-i.blocks (instr_of at.result)) _ (λ rule q. c.body_laws.ensures.refuses base code c.loop-i.i (instr_of at.result) c.loop-i.blocks rule stands c.loop-i.invariant q) c.in-Err-check.ensures)
+    (is_refusal base code c.loop-i.i (step base c.loop-i.blocks (instr_of at.result)) _ (λ rule q. c.body_laws.ensures.refuses base code c.loop-i.i (instr_of at.result) c.loop-i.blocks rule c.requires stands c.loop-i.invariant q) c.in-Err-check.ensures)
 
 pub loop-i-preserved : goal.loop-i-preserved
 loop-i-preserved c =
