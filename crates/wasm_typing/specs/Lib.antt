@@ -2,3 +2,5 @@ pub mod Typing
 pub mod Rules
 pub mod Refusal
 pub mod State
+pub mod ModuleRules
+pub mod Validity

@@ -7,6 +7,8 @@
 
 mod laws;
 mod rule;
+mod section;
 
 pub use laws::body_laws;
 pub use rule::{Opening, Rule};
+pub use section::Section;

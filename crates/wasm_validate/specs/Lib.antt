@@ -1,3 +1,5 @@
 pub mod Blocks
 pub mod Bodies
 pub mod Scopes
+pub mod Facts
+pub mod Sections

@@ -15,3 +15,10 @@ pub enum BodyFault {
     Broken { rule: Rule, instruction: usize },
     Memory,
 }
+
+/// Why a section isn't taken: its first item that breaks a rule, or want of memory.
+#[derive(Clone, Copy, PartialEq, Eq, Debug)]
+pub enum ItemFault {
+    Broken { index: usize, rule: Rule },
+    Memory,
+}

@@ -3,9 +3,14 @@
 
 mod blocks;
 mod body;
+mod exports;
+mod facts;
 mod fault;
 mod frame;
 mod frames;
 mod instructions;
+mod imports;
+mod items;
 mod operands;
+mod rules;
 mod scope;
