@@ -9,15 +9,18 @@ use Rattle.wasm_typing.specs.Typing.{Context, IsValid, result_of}
 use Rattle.wasm_typing.specs.Refusal.{Refuses}
 use Rattle.wasm_typing.specs.ModuleRules.{function_types, global_types, has_table, has_memory, item_rule}
 
--- the type of a function that the module defines, by its place among those; of no type where its number is none
+abbrev pub no_type : FunctionType
+no_type = record { params = []; results = [] }
+
+-- the type of a function that the module defines, by its place among those; that of nothing where its number is none
 abbrev pub own_type : WasmModule → ℕ → FunctionType
 own_type m i = numbered (slice_get m.functions i)
   where
     found : Option FunctionType → FunctionType
-    found None = record { params = []; results = [] }
+    found None = no_type
     found (Some t) = t
     numbered : Option ℕ → FunctionType
-    numbered None = found None
+    numbered None = no_type
     numbered (Some t) = found (slice_get m.types t)
 
 -- the context outside the outermost block of the body at this place

@@ -2,7 +2,7 @@
 use Rattle.std.proofs.Common.{◌≡◌, ℕ, zero, suc, ◌+◌, ◌<◌, Bool, true, false, ◌||◌, List, [], ◌∷◌, ◌++◌, length, get_or, take, map, Option, Some, None, add-one, refl, sym, ap, ◌∙◌, subst, arith}
 use Rattle.std.specs.Prelude.{slice_get}
 use Rattle.std.specs.Option.{option_map}
-use Rattle.std.proofs.lemmas.Option.{slice_get-get_or, slice_get-map}
+use Rattle.std.proofs.lemmas.Option.{slice_get-get_or, slice_get-map, slice_get_within, get_or_from_slice_get}
 use Rattle.wasm_lang.specs.Modules.{Imported, WasmModule}
 use Rattle.wasm_typing.specs.declared.section.Section.{Section}
 use Rattle.wasm_typing.specs.declared.section.Section.TheVariants as sections
@@ -61,11 +61,6 @@ module _ (m : WasmModule) (i : ℕ) (x : Imported) (table memory : Bool) (stands
   pub import_memory : memory || is_memory x.kind ≡ imports_memory (take (i + 1) m.imports)
   import_memory = ap (λ b. b || is_memory x.kind) on.has_memory ∙ sym (memory_more (take i m.imports) x) ∙ ap imports_memory (sym (one_longer m.imports i x stands))
 
-within : {A : Type 0} (xs : List A) (i : ℕ) (x : A) → slice_get xs i ≡ Some x → i < length xs
-within [] i x e = cc
-within (y ∷ ys) zero x e = omega arith
-within (y ∷ ys) (suc n) x e = let h = within ys n x e in omega arith
-
 -- the first item that breaks a rule
 pub item_fault : {A : Type 0} (m : WasmModule) (s : Section) (xs : List A) (i : ℕ) (x : A) (rule : Rule) → slice_get xs i ≡ Some x → FineItems m s i → item_rule m s i ≡ Some rule → IsItemFault m s (length xs) (Broken i rule)
-item_fault m s xs i x rule stands fine here = (within xs i x stands, fine, here)
+item_fault m s xs i x rule stands fine here = (slice_get_within xs i x stands, fine, here)

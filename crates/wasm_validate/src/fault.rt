@@ -1,6 +1,7 @@
-// Why a pass over a body stops.
+// Why a module, a section or a body is not taken.
 
-use wasm_typing::Rule;
+use thiserror::Error;
+use wasm_typing::{Rule, Section};
 
 /// A rule that the instruction breaks, or want of memory.
 #[derive(Clone, Copy, Debug)]
@@ -20,5 +21,32 @@ pub enum BodyFault {
 #[derive(Clone, Copy, PartialEq, Eq, Debug)]
 pub enum ItemFault {
     Broken { index: usize, rule: Rule },
+    Memory,
+}
+
+/// Why the code section isn't taken: the first instruction that breaks a rule in its first body that isn't
+/// valid, or want of memory.
+#[derive(Clone, Copy, PartialEq, Eq, Debug)]
+pub enum CodeFault {
+    Broken {
+        index: usize,
+        rule: Rule,
+        instruction: usize,
+    },
+    Memory,
+}
+
+/// Why a module isn't valid: the rule that is broken first, the section, the number of the item in it and, in
+/// code, the number of the instruction in its body, else 0; or want of memory.
+#[derive(Clone, Copy, PartialEq, Eq, Debug, Error)]
+pub enum Invalid {
+    #[error("a rule of validity is broken")]
+    Rule {
+        rule: Rule,
+        section: Section,
+        index: usize,
+        instruction: usize,
+    },
+    #[error("out of memory")]
     Memory,
 }

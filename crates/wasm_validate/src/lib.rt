@@ -3,6 +3,7 @@
 
 mod blocks;
 mod body;
+mod code_section;
 mod exports;
 mod facts;
 mod fault;
@@ -14,3 +15,4 @@ mod items;
 mod operands;
 mod rules;
 mod scope;
+mod valid;
