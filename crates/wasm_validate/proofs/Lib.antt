@@ -1,0 +1,7 @@
+pub mod CodeItems
+pub mod Sections
+pub mod Bodies
+pub mod Names
+pub mod Over
+pub mod Places
+pub mod Views

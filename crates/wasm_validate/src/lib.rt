@@ -1,0 +1,18 @@
+//! Validation of WebAssembly modules (WebAssembly Core 1.0, part 3).
+#![tactic(auto)]
+
+mod blocks;
+mod body;
+mod code_section;
+mod exports;
+mod facts;
+mod fault;
+mod frame;
+mod frames;
+mod instructions;
+mod imports;
+mod items;
+mod operands;
+mod rules;
+mod scope;
+mod valid;
