@@ -1,16 +1,21 @@
 -- Which job the words and the files have, and that it is one.
-use Rattle.std.proofs.Common.{◌≡◌, ℕ, ◌<◌, ◌≤◌, List, length, refl, subst, arith, inl, inr}
-use Rattle.std.specs.Prelude.{◌⊎◌, Option, Some, None, IsSome, IsSomeAnd}
+use Rattle.std.proofs.Common.{◌≡◌, ℕ, ◌<◌, ◌≤◌, List, length, refl, sym, ap, subst, arith, ◌∙◌, inl, inr}
+use Rattle.std.specs.Prelude.{◌⊎◌, Option, Some, None, IsSome, IfSome, IsSomeAnd, Ok, Err}
 use Rattle.bridge_io.specs.Outside.{Told, content_of}
-use Rattle.bridge_cmd.specs.Command.{file_named}
-use Rattle.bridge_cmd.specs.Reason.{Reason}
 use Rattle.bridge_io.specs.declared.reading.GatherFault.{GatherFault}
 use Rattle.bridge_io.specs.declared.reading.GatherFault.TheVariants.{Read, Missing, TooLarge, Memory}
+use Rattle.wasm_lang.specs.Modules.{WasmModule}
+use Rattle.bridge_cmd.specs.Checking.{IsRead, IsCounted, IsNoModule, IsInvalid}
+use Rattle.bridge_cmd.specs.Command.{Asked, asm_to_wasm, check_wasm, file_of, asked}
+use Rattle.bridge_cmd.specs.Reason.{Reason, faulty_words, not_of_the_form, not_a_binary, not_valid, read_fault, missing, too_large, out_of_memory}
 use Rattle.bridge_cmd.specs.Refused.{status_of, reason_at}
 use Rattle.bridge_cmd.specs.FormText.{IsFirstForm}
-use Rattle.bridge_cmd.specs.Job.{Job, refused, written, file_limit, IsTranslation, IsAbsent, Holds, IsTooLong, IsJob, no_command, no_file, long_file, other_text, translated}
-use Rattle.bridge_cmd.specs.Outcome.{status_of_job, IsCutShort, by_a_read, by_memory, MayReport, a_refusal, a_read_fault, no_memory, IsNoText, not_one, no_room}
-use Rattle.bridge_cmd.specs.declared.status.Status.TheVariants.{Usage}
+use Rattle.bridge_cmd.specs.Job.{Job, refused, written, file_limit, IsTranslation, IsAbsent, Holds, IsTooLong, IsTextJob, other_text, translated, no_module, invalid, counted, IsJob, no_command, no_file, long_file, of_text, IsAnswered, by_its_job, by_memory}
+use Rattle.bridge_cmd.specs.Outcome.{EndsAs, Ends, IsValidityRefusal, at_a_rule, IsCutShort, by_a_read, by_a_write, by_want, MayReport, a_refusal, a_read_fault, no_memory}
+use Rattle.bridge_cmd.specs.declared.status.Status.{Status}
+use Rattle.bridge_cmd.specs.declared.status.Status.TheVariants.{Done, Usage}
+use Rattle.bridge_cmd.specs.RuleNumbers.{row_number}
+use Rattle.bridge_cmd.proofs.Validity.{not_invalid_too}
 
 pub holds : (told : Option Told) (file text : List ℕ) → ((map : Told) → told ≡ Some map → content_of map file ≡ Some text) → Holds told file text
 holds None file text content = tt
@@ -36,96 +41,134 @@ long_text None there = absurd there
 long_text (Some text) there = (text, refl, there)
 
 -- a text of a told file isn't both longer than the limit and within it
-not_both : (map : Told) (file other text : List ℕ) (words : List (List ℕ)) → file_named words ≡ Some file → file_named words ≡ Some other
-    → IsTooLong (Some map) file → content_of map other ≡ Some text → length text ≤ file_limit → ⊥
-not_both map file other text words named named' long held within =
-    let there = long_text (content_of map file) long in
-    let found : content_of map file ≡ Some there.0 = there.1 in
+not_both : (map : Told) (a b : Asked) (text : List ℕ) (words : List (List ℕ)) → asked words ≡ Some a → asked words ≡ Some b
+    → IsTooLong (Some map) (file_of a) → content_of map (file_of b) ≡ Some text → length text ≤ file_limit → ⊥
+not_both map a b text words named named' long held within =
+    let there = long_text (content_of map (file_of a)) long in
+    let found : content_of map (file_of a) ≡ Some there.0 = there.1 in
     let same : there.0 ≡ text = cc in
     let longer : file_limit < length text = subst (λ t. file_limit < length t) same there.2 in
     omega arith
 
-not_absent : (map : Told) (file other text : List ℕ) (words : List (List ℕ)) → file_named words ≡ Some file → file_named words ≡ Some other
-    → content_of map file ≡ None → content_of map other ≡ Some text → ⊥
-not_absent map file other text words named named' absent held = cc
+not_absent : (map : Told) (a b : Asked) (text : List ℕ) (words : List (List ℕ)) → asked words ≡ Some a → asked words ≡ Some b
+    → content_of map (file_of a) ≡ None → content_of map (file_of b) ≡ Some text → ⊥
+not_absent map a b text words named named' absent held = cc
 
-not_absent_long : (map : Told) (file other : List ℕ) (words : List (List ℕ)) → file_named words ≡ Some file → file_named words ≡ Some other
-    → content_of map file ≡ None → IsTooLong (Some map) other → ⊥
-not_absent_long map file other words named named' absent long =
-    let there = long_text (content_of map other) long in
-    not_absent map file other there.0 words named named' absent there.1
+not_absent_long : (map : Told) (a b : Asked) (words : List (List ℕ)) → asked words ≡ Some a → asked words ≡ Some b
+    → content_of map (file_of a) ≡ None → IsTooLong (Some map) (file_of b) → ⊥
+not_absent_long map a b words named named' absent long =
+    let there = long_text (content_of map (file_of b)) long in
+    not_absent map a b there.0 words named named' absent there.1
 
--- a text isn't both of the form and not of it
-not_of_both : (map : Told) (file other text text' output : List ℕ) (words : List (List ℕ)) → file_named words ≡ Some file → file_named words ≡ Some other
-    → content_of map file ≡ Some text → content_of map other ≡ Some text'
-    → ((tree : _) → IsFirstForm text tree → ⊥) → IsTranslation text' output → ⊥
-not_of_both map file other text text' output words named named' held held' no_form is =
-    let same : text' ≡ text = cc in
-    no_form is.tree (subst (λ t. IsFirstForm t is.tree) same is.read)
+-- a reason's own status is an end for it
+pub own_end : (reason : Reason) → Ends reason (status_of reason)
+own_end faulty_words = refl
+own_end not_of_the_form = refl
+own_end (not_a_binary number at) = refl
+own_end (not_valid rule section index instruction) = at_a_rule
+own_end read_fault = refl
+own_end (missing file) = refl
+own_end (too_large file) = refl
+own_end out_of_memory = refl
 
--- the words and told files have one job, as far as its status goes
-pub same_status : (words : List (List ℕ)) (told : Option Told) (j k : Job) → IsSome told → IsJob words told j → IsJob words told k → status_of_job j ≡ status_of_job k
-same_status words None j k some a b = absurd cc
-same_status words (Some map) j k some (no_command e) (no_command e') = refl
-same_status words (Some map) j k some (no_command e) (no_file f n a) = absurd cc
-same_status words (Some map) j k some (no_command e) (long_file f n l) = absurd cc
-same_status words (Some map) j k some (no_command e) (other_text f t n h w x) = absurd cc
-same_status words (Some map) j k some (no_command e) (translated f t o n h w i) = absurd cc
-same_status words (Some map) j k some (no_file f n a) (no_command e) = absurd cc
-same_status words (Some map) j k some (no_file f n a) (no_file f' n' a') = refl
-same_status words (Some map) j k some (no_file f n a) (long_file f' n' l) = absurd (not_absent_long map f f' words n n' a l)
-same_status words (Some map) j k some (no_file f n a) (other_text f' t n' h w x) = absurd (not_absent map f f' t words n n' a h)
-same_status words (Some map) j k some (no_file f n a) (translated f' t o n' h w i) = absurd (not_absent map f f' t words n n' a h)
-same_status words (Some map) j k some (long_file f n l) (no_command e) = absurd cc
-same_status words (Some map) j k some (long_file f n l) (no_file f' n' a) = absurd (not_absent_long map f' f words n' n a l)
-same_status words (Some map) j k some (long_file f n l) (long_file f' n' l') = refl
-same_status words (Some map) j k some (long_file f n l) (other_text f' t n' h w x) = absurd (not_both map f f' t words n n' l h w)
-same_status words (Some map) j k some (long_file f n l) (translated f' t o n' h w i) = absurd (not_both map f f' t words n n' l h w)
-same_status words (Some map) j k some (other_text f t n h w x) (no_command e) = absurd cc
-same_status words (Some map) j k some (other_text f t n h w x) (no_file f' n' a) = absurd (not_absent map f' f t words n' n a h)
-same_status words (Some map) j k some (other_text f t n h w x) (long_file f' n' l) = absurd (not_both map f' f t words n' n l h w)
-same_status words (Some map) j k some (other_text f t n h w x) (other_text f' t' n' h' w' x') = refl
-same_status words (Some map) j k some (other_text f t n h w x) (translated f' t' o n' h' w' i) = absurd (not_of_both map f f' t t' o words n n' h h' x i)
-same_status words (Some map) j k some (translated f t o n h w i) (no_command e) = absurd cc
-same_status words (Some map) j k some (translated f t o n h w i) (no_file f' n' a) = absurd (not_absent map f' f t words n' n a h)
-same_status words (Some map) j k some (translated f t o n h w i) (long_file f' n' l) = absurd (not_both map f' f t words n' n l h w)
-same_status words (Some map) j k some (translated f t o n h w i) (other_text f' t' n' h' w' x) = absurd (not_of_both map f' f t' t o words n' n h' h x i)
-same_status words (Some map) j k some (translated f t o n h w i) (translated f' t' o' n' h' w' i') = refl
+abbrev own_status : Job → Status
+own_status (refused reason) = status_of reason
+own_status (written output) = Done
+
+ends_by : (r q : Reason) → r ≡ q → Ends q (status_of r)
+ends_by r q e = subst (λ x. Ends q (status_of x)) (sym e) (own_end q)
+
+-- the end of a module that isn't valid, at any rule of another one
+invalid_end : (text : List ℕ) (r q : Reason) → IsInvalid text r → IsInvalid text q → Ends q (status_of r)
+invalid_end text r q i j = subst (λ x. Ends x (status_of r)) (sym j.is) (subst (λ x. IsValidityRefusal (status_of x)) (sym i.is) at_a_rule)
+
+-- where no module can be read the first field is one
+no_module_once : (text : List ℕ) (r q : Reason) → IsNoModule text r → IsNoModule text q → r ≡ q
+no_module_once text r q i j =
+    let e : Err i.fault ≡ Err j.fault = sym i.first ∙ j.first in
+    let f : i.fault ≡ j.fault = cc in
+    i.is ∙ ap (λ x. not_a_binary (row_number x.row) x.at) f ∙ sym j.is
+
+-- a command makes one thing of a text, as far as its end goes
+text_ends : (a : Asked) (text : List ℕ) (j k : Job) → IsTextJob a text j → IsTextJob a text k → EndsAs k (own_status j)
+text_ends a text j k (other_text x) (other_text y) = refl
+text_ends a text j k (other_text x) (translated i) = absurd (x i.tree i.read)
+text_ends a text j k (translated i) (other_text x) = absurd (x i.tree i.read)
+text_ends a text j k (translated i) (translated i') = refl
+text_ends a text j k (no_module {reason = r} i) (no_module {reason = q} i') = ends_by r q (no_module_once text r q i i')
+text_ends a text j k (no_module i) (invalid v) = absurd (i.none v.«module» v.read)
+text_ends a text j k (no_module i) (counted c) = absurd (i.none c.«module» c.read)
+text_ends a text j k (invalid v) (no_module i) = absurd (i.none v.«module» v.read)
+text_ends a text j k (invalid {reason = r} v) (invalid {reason = q} v') = invalid_end text r q v v'
+text_ends a text j k (invalid v) (counted c) = absurd (not_invalid_too text v c)
+text_ends a text j k (counted c) (no_module i) = absurd (i.none c.«module» c.read)
+text_ends a text j k (counted c) (invalid v) = absurd (not_invalid_too text v c)
+text_ends a text j k (counted c) (counted c') = refl
+
+-- .. of a told file's text, under one command
+told_ends : (map : Told) (words : List (List ℕ)) (a b : Asked) (text text' : List ℕ) (j k : Job) → asked words ≡ Some a → asked words ≡ Some b
+    → content_of map (file_of a) ≡ Some text → content_of map (file_of b) ≡ Some text'
+    → IsTextJob a text j → IsTextJob b text' k → EndsAs k (own_status j)
+told_ends map words a b text text' j k named named' held held' is of =
+    let same_command : b ≡ a = cc in
+    let same_text : text' ≡ text = cc in
+    text_ends a text j k is (subst (λ t. IsTextJob a t k) same_text (subst (λ x. IsTextJob x text' k) same_command of))
+
+-- the words and told files have one job, as far as its end goes
+pub one_end : (words : List (List ℕ)) (told : Option Told) (j k : Job) → IsSome told → IsJob words told j → IsJob words told k → EndsAs k (own_status j)
+one_end words None j k some x y = absurd cc
+one_end words (Some map) j k some (no_command e) (no_command e') = refl
+one_end words (Some map) j k some (no_command e) (no_file a n x) = absurd cc
+one_end words (Some map) j k some (no_command e) (long_file a n l) = absurd cc
+one_end words (Some map) j k some (no_command e) (of_text a t n h w i) = absurd cc
+one_end words (Some map) j k some (no_file a n x) (no_command e) = absurd cc
+one_end words (Some map) j k some (no_file a n x) (no_file b m y) = refl
+one_end words (Some map) j k some (no_file a n x) (long_file b m l) = absurd (not_absent_long map a b words n m x l)
+one_end words (Some map) j k some (no_file a n x) (of_text b t m h w i) = absurd (not_absent map a b t words n m x h)
+one_end words (Some map) j k some (long_file a n l) (no_command e) = absurd cc
+one_end words (Some map) j k some (long_file a n l) (no_file b m x) = absurd (not_absent_long map b a words m n x l)
+one_end words (Some map) j k some (long_file a n l) (long_file b m l') = refl
+one_end words (Some map) j k some (long_file a n l) (of_text b t m h w i) = absurd (not_both map a b t words n m l h w)
+one_end words (Some map) j k some (of_text a t n h w i) (no_command e) = absurd cc
+one_end words (Some map) j k some (of_text a t n h w i) (no_file b m x) = absurd (not_absent map b a t words m n x h)
+one_end words (Some map) j k some (of_text a t n h w i) (long_file b m l) = absurd (not_both map b a t words m n l h w)
+one_end words (Some map) j k some (of_text a t n h w i) (of_text b t' m h' w' i') = told_ends map words a b t t' j k n m h h' i i'
 
 -- what is reported is the job's refusal, or the end is cut short
 pub reported_exactly : (words : List (List ℕ)) (told : Option Told) (reason : Reason) → MayReport words told reason
-    → (job : Job) → IsSome told → IsJob words told job → (status_of reason ≡ status_of_job job) ⊎ IsCutShort (status_of reason)
-reported_exactly words told reason (a_refusal is) job some of = inl (same_status words told (refused reason) job some is of)
+    → (job : Job) → IsSome told → IsJob words told job → EndsAs job (status_of reason) ⊎ IsCutShort (status_of reason)
+reported_exactly words told reason (a_refusal is) job some of = inl (one_end words told (refused reason) job some is of)
 reported_exactly words told reason a_read_fault job some of = inr by_a_read
-reported_exactly words told reason no_memory job some of = inr by_memory
+reported_exactly words told reason no_memory job some of = inr by_want
 
-usage_job : (words : List (List ℕ)) (told : Option Told) (reason : Reason) → IsJob words told (refused reason) → status_of reason ≡ Usage → file_named words ≡ None
+text_usage : (a : Asked) (text : List ℕ) (reason : Reason) → IsTextJob a text (refused reason) → status_of reason ≡ Usage → ⊥
+text_usage a text reason (other_text x) is = cc
+text_usage a text reason (no_module i) is = let e = sym (ap status_of i.is) ∙ is in cc
+text_usage a text reason (invalid v) is = let e = sym (ap status_of v.is) ∙ is in cc
+
+usage_job : (words : List (List ℕ)) (told : Option Told) (reason : Reason) → IsJob words told (refused reason) → status_of reason ≡ Usage → asked words ≡ None
 usage_job words told reason (no_command e) is = e
-usage_job words told reason (no_file f n a) is = absurd cc
-usage_job words told reason (long_file f n l) is = absurd cc
-usage_job words told reason (other_text f t n h w x) is = absurd cc
+usage_job words told reason (no_file a n x) is = absurd cc
+usage_job words told reason (long_file a n l) is = absurd cc
+usage_job words told reason (of_text a t n h w i) is = absurd (text_usage a t reason i is)
 
-pub usage_words : (words : List (List ℕ)) (told : Option Told) (reason : Reason) → MayReport words told reason → status_of reason ≡ Usage → file_named words ≡ None
+pub usage_words : (words : List (List ℕ)) (told : Option Told) (reason : Reason) → MayReport words told reason → status_of reason ≡ Usage → asked words ≡ None
 usage_words words told reason (a_refusal job) is = usage_job words told reason job is
 usage_words words told reason a_read_fault is = absurd cc
 usage_words words told reason no_memory is = absurd cc
 
--- an output comes of words that name a file
-pub written_named : (words : List (List ℕ)) (told : Option Told) (output : List ℕ) → IsJob words told (written output) → file_named words ≡ None → ⊥
-written_named words told output (translated f t o n h w i) none = cc
-
 -- no output of a text that was read is its refusal, or want of memory
-pub no_output : (words : List (List ℕ)) (told : Option Told) (file text : List ℕ) (reason : Reason)
-    → file_named words ≡ Some file → Holds told file text → length text ≤ file_limit → IsNoText text reason → MayReport words told reason
-no_output words told file text reason named held within (not_one x) = a_refusal (other_text file text named held within x)
-no_output words told file text reason named held within no_room = no_memory
+pub no_output : (words : List (List ℕ)) (told : Option Told) (a : Asked) (text : List ℕ) (reason : Reason)
+    → asked words ≡ Some a → Holds told (file_of a) text → length text ≤ file_limit → IsAnswered a text reason → MayReport words told reason
+no_output words told a text reason named held within (by_its_job i) = a_refusal (of_text a text named held within i)
+no_output words told a text reason named held within by_memory = no_memory
 
 -- why a named file wasn't gathered may be reported
-pub not_gathered : (words : List (List ℕ)) (told : Option Told) (file : List ℕ) (fault : GatherFault) → file_named words ≡ Some file
-    → ((map : Told) → told ≡ Some map → fault ≡ Missing → content_of map file ≡ None)
-    → ((map : Told) → told ≡ Some map → fault ≡ TooLarge → (text : List ℕ) × (content_of map file ≡ Some text) × (file_limit < length text))
-    → MayReport words told (reason_at fault file)
-not_gathered words told file Read named absent long = a_read_fault
-not_gathered words told file Missing named absent long = a_refusal (no_file file named (is_absent told file (λ map e. absent map e refl)))
-not_gathered words told file TooLarge named absent long = a_refusal (long_file file named (is_too_long told file (λ map e. long map e refl)))
-not_gathered words told file Memory named absent long = no_memory
+pub not_gathered : (words : List (List ℕ)) (told : Option Told) (a : Asked) (fault : GatherFault) → asked words ≡ Some a
+    → ((map : Told) → told ≡ Some map → fault ≡ Missing → content_of map (file_of a) ≡ None)
+    → ((map : Told) → told ≡ Some map → fault ≡ TooLarge → (text : List ℕ) × (content_of map (file_of a) ≡ Some text) × (file_limit < length text))
+    → MayReport words told (reason_at fault (file_of a))
+not_gathered words told a Read named absent long = a_read_fault
+not_gathered words told a Missing named absent long = a_refusal (no_file a named (is_absent told (file_of a) (λ map e. absent map e refl)))
+not_gathered words told a TooLarge named absent long = a_refusal (long_file a named (is_too_long told (file_of a) (λ map e. long map e refl)))
+not_gathered words told a Memory named absent long = no_memory

@@ -11,3 +11,5 @@ pub mod FormTexts
 pub mod Gaining
 pub mod Jobs
 pub mod LebSteps
+pub mod Pieces
+pub mod Validity

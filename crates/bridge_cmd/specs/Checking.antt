@@ -6,7 +6,10 @@ use Rattle.wasm_lang.specs.Limits.{IsWithinReader}
 use Rattle.wasm_lang.specs.Modules.{WasmModule}
 use Rattle.wasm_lang.specs.ReadingModule.{read_module}
 use Rattle.wasm_lang.specs.declared.fault.Fault.{Fault}
-use Rattle.bridge_cmd.specs.StubValidity.{IsValidModule, Rule, RefusesModule, rule_number, section_number, Section, row_number}
+use Rattle.wasm_typing.specs.declared.rule.Rule.{Rule}
+use Rattle.wasm_typing.specs.declared.section.Section.{Section}
+use Rattle.wasm_typing.specs.Validity.{id, IsValidModule, RefusesModule}
+use Rattle.bridge_cmd.specs.RuleNumbers.{row_number, rule_number}
 use Rattle.bridge_cmd.specs.Reason.{Reason, not_a_binary, not_valid}
 
 -- the functions that the module defines, its imports and its exports
@@ -42,4 +45,4 @@ pub record IsInvalid (text : List ℕ) (reason : Reason) : Type 0 where
   pub index : ℕ
   pub instruction : ℕ
   pub refuses : RefusesModule «module» rule section index instruction
-  pub is : reason ≡ not_valid (rule_number rule) (section_number section) index instruction
+  pub is : reason ≡ not_valid (rule_number rule) (id section) index instruction

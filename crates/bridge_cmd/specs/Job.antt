@@ -6,7 +6,7 @@ use Rattle.bridge_cmd.specs.Command.{Asked, asm_to_wasm, check_wasm, file_of, as
 use Rattle.bridge_cmd.specs.Form.{FormTree}
 use Rattle.bridge_cmd.specs.FormText.{IsFirstForm}
 use Rattle.bridge_cmd.specs.FormModule.{module_bytes}
-use Rattle.bridge_cmd.specs.Reason.{Reason, faulty_words, not_of_the_form, missing, too_large}
+use Rattle.bridge_cmd.specs.Reason.{Reason, faulty_words, not_of_the_form, missing, too_large, out_of_memory}
 
 pub data Job : Type 0 where
   refused : Reason → Job
@@ -51,3 +51,8 @@ pub data IsJob : List (List ℕ) → Option Told → Job → Type 0 where
   of_text : {words : List (List ℕ)} {told : Option Told} {job : Job} (a : Asked) (text : List ℕ)
       → asked words ≡ Some a → Holds told (file_of a) text → length text ≤ file_limit
       → IsTextJob a text job → IsJob words told job
+
+-- what a command may answer in place of an output: the refusal of its job, or want of memory
+pub data IsAnswered : Asked → List ℕ → Reason → Type 0 where
+  by_its_job : {a : Asked} {text : List ℕ} {reason : Reason} → IsTextJob a text (refused reason) → IsAnswered a text reason
+  by_memory : {a : Asked} {text : List ℕ} → IsAnswered a text out_of_memory

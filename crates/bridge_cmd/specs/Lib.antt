@@ -1,4 +1,5 @@
 pub mod Asking
+pub mod Checking
 pub mod Code
 pub mod Command
 pub mod Form
@@ -10,4 +11,5 @@ pub mod Leb
 pub mod Outcome
 pub mod Reason
 pub mod Refused
+pub mod RuleNumbers
 pub mod Sinks

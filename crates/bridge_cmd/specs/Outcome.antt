@@ -1,25 +1,31 @@
 -- How a call ends, and what it leaves in its two sinks.
 use Rattle.std.specs.Prelude.{◌≡◌, ℕ, List, Option}
 use Rattle.bridge_io.specs.Outside.{Told}
-use Rattle.bridge_cmd.specs.Reason.{Reason, line_of, not_of_the_form, read_fault, out_of_memory}
-use Rattle.bridge_cmd.specs.Form.{FormTree}
-use Rattle.bridge_cmd.specs.FormText.{IsFirstForm}
+use Rattle.bridge_cmd.specs.Reason.{Reason, line_of, not_valid, read_fault, out_of_memory}
 use Rattle.bridge_cmd.specs.Refused.{status_of}
 use Rattle.bridge_cmd.specs.Sinks.{Seen, Gains, GainsFront, Stays}
 use Rattle.bridge_cmd.specs.Job.{Job, refused, written, IsJob}
 use Rattle.bridge_cmd.specs.declared.status.Status.{Status}
-use Rattle.bridge_cmd.specs.declared.status.Status.TheVariants.{Done, ReadFault, WriteFault, Memory}
+use Rattle.bridge_cmd.specs.declared.status.Status.TheVariants.{Done, WasmRefused, ReadFault, WriteFault, Memory}
+use Rattle.bridge_cmd.specs.declared.status.WasmFault.TheVariants.{Invalid}
 
--- the status of a job, where no read or write fails and memory suffices
-abbrev pub status_of_job : Job → Status
-status_of_job (refused reason) = status_of reason
-status_of_job (written output) = Done
+-- The end for a reason. Of a module that isn't valid the kind alone is told here; which rule it breaks first, and where, `Refuses` tells.
+pub data IsValidityRefusal : Status → Type 0 where
+  at_a_rule : {rule section index instruction : ℕ} → IsValidityRefusal (WasmRefused (Invalid rule section index instruction))
+
+abbrev pub Ends : Reason → Status → Type 0
+Ends (not_valid rule section index instruction) status = IsValidityRefusal status
+Ends reason status = status ≡ status_of reason
+
+abbrev pub EndsAs : Job → Status → Type 0
+EndsAs (refused reason) status = Ends reason status
+EndsAs (written output) status = status ≡ Done
 
 -- the ends that don't depend on the job
 pub data IsCutShort : Status → Type 0 where
   by_a_read : IsCutShort ReadFault
   by_a_write : IsCutShort WriteFault
-  by_memory : IsCutShort Memory
+  by_want : IsCutShort Memory
 
 -- what may be reported: the refusal of the job, a failed read, or want of memory
 pub data MayReport : List (List ℕ) → Option Told → Reason → Type 0 where
@@ -56,8 +62,3 @@ pub record ReportCut (words : List (List ℕ)) (told : Option Told) (out out' re
   pub job : MayReport words told reason
   pub front : GainsFront (line_of reason) report report'
   pub nothing : Stays out out'
-
--- a text isn't translated only where it isn't of the form, or memory ran out
-pub data IsNoText : List ℕ → Reason → Type 0 where
-  not_one : {text : List ℕ} → ((tree : FormTree) → IsFirstForm text tree → ⊥) → IsNoText text not_of_the_form
-  no_room : {text : List ℕ} → IsNoText text out_of_memory

@@ -1,15 +1,17 @@
 //! From the words to the output.
-ghost use Rattle.std.specs.Prelude.{◌≡◌, IfOk, IfErr, None, map, string_bytes, ℕ, List, ◌≤◌};
+ghost use Rattle.std.specs.Prelude.{◌≡◌, ◌≤◌, IfOk, IfErr, None, map, string_bytes, ℕ, List};
 ghost use Rattle.bridge_io.specs.Outside.{Rose, RoseBy};
-ghost use Rattle.bridge_cmd.specs.Command.{file_named as file_named_by};
-ghost use Rattle.bridge_cmd.specs.Job.{IsJob, IsTranslation, written};
-ghost use Rattle.bridge_cmd.specs.Outcome.{MayReport, IsNoText};
+ghost use Rattle.bridge_cmd.specs.Asking.{asked_by};
+ghost use Rattle.bridge_cmd.specs.Command as spec;
+ghost use Rattle.bridge_cmd.specs.Job.{IsJob, IsTextJob, IsAnswered, written};
+ghost use Rattle.bridge_cmd.specs.Outcome.{MayReport};
 ghost use Rattle.bridge_cmd.specs.Reason.{faulty_words, read_fault, missing, too_large};
 ghost use Rattle.bridge_cmd.specs.Refused.{reason_of, reason_at};
 
+use crate::checking::counts;
 use crate::reading::read_form;
 use crate::refusal::Refusal;
-use crate::words::file_named;
+use crate::words::{Command, asked};
 use crate::writing::write_module;
 use bridge_io::{Files, GatherFault, gather};
 use std::alloc::Global;
@@ -17,10 +19,10 @@ use std::alloc::Global;
 /// The largest file that is read, in bytes.
 const FILE_LIMIT: u64 = 16_777_216;
 
-/// The bytes of the WebAssembly module of a text.
-fn translation<'a>(alloc: Global, text: &[u8]) -> Result<Vec<u8>, Refusal<'a>>
-    ensures translated { IfOk result (λ output. IsTranslation text.now output.items) }
-    ensures refused { IfErr result (λ refusal. IsNoText text.now (reason_of refusal)) }
+/// The bytes of the WebAssembly module of a text of the first form.
+fn translation<'a>(alloc: Global, file: &str, text: &[u8]) -> Result<Vec<u8>, Refusal<'a>>
+    ensures written { IfOk result (λ output. IsTextJob (spec.asm_to_wasm file.now) text.now (written output.items)) }
+    ensures refused { IfErr result (λ refusal. IsAnswered (spec.asm_to_wasm file.now) text.now (reason_of refusal)) }
 {
     let Ok(read) = read_form(alloc, text) else {
         return Err(Refusal::OutOfMemory);
@@ -31,6 +33,17 @@ fn translation<'a>(alloc: Global, text: &[u8]) -> Result<Vec<u8>, Refusal<'a>>
     match write_module(alloc, &form) {
         Ok(module) => Ok(module),
         Err(_) => Err(Refusal::OutOfMemory),
+    }
+}
+
+/// What a command makes of its file's bytes.
+fn text_output<'a>(alloc: Global, command: Command<'_>, text: &[u8]) -> Result<Vec<u8>, Refusal<'a>>
+    ensures written { IfOk result (λ output. IsTextJob (asked_by command.entry) text.now (written output.items)) }
+    ensures refused { IfErr result (λ refusal. IsAnswered (asked_by command.entry) text.now (reason_of refusal)) }
+{
+    match command {
+        Command::AsmToWasm(file) => translation(alloc, file, text),
+        Command::CheckWasm(file) => counts(alloc, file, text),
     }
 }
 
@@ -58,16 +71,17 @@ pub(crate) fn output_of<'w, F: Files>(
     ensures given { F.given files.old ≤ F.given files.new }
     ensures written { IfOk result (λ output. IsJob (map string_bytes words.now) (F.told files.old) (written output.items)) }
     ensures refused { IfErr result (λ refusal. MayReport (map string_bytes words.now) (F.told files.old) (reason_of refusal)) }
-    ensures faulty_words { file_named_by (map string_bytes words.now) ≡ None → IfErr result (λ refusal. reason_of refusal ≡ faulty_words) }
+    ensures faulty_words { spec.asked (map string_bytes words.now) ≡ None → IfErr result (λ refusal. reason_of refusal ≡ faulty_words) }
     ensures read_fault { IfErr result (λ refusal. reason_of refusal ≡ read_fault → Rose (F.faults files.old) (F.faults files.new)) }
     ensures missing { IfErr result (λ refusal. (file : List ℕ) → reason_of refusal ≡ missing file → Rose (F.absences files.old) (F.absences files.new)) }
     ensures too_large { IfErr result (λ refusal. (file : List ℕ) → reason_of refusal ≡ too_large file → RoseBy 16777217 (F.given files.old) (F.given files.new)) }
 {
-    let Some(file) = file_named(words) else {
+    let Some(command) = asked(words) else {
         return Err(Refusal::FaultyWords);
     };
+    let file = command.file();
     match gather(alloc, files, file, FILE_LIMIT) {
-        Ok(text) => translation(alloc, text.as_slice()),
+        Ok(text) => text_output(alloc, command, text.as_slice()),
         Err(fault) => Err(refusal_of(fault, file)),
     }
 }

@@ -1,6 +1,7 @@
 //! The commands of Bridge, over files and sinks.
 #![tactic(auto)]
 
+mod checking;
 mod form;
 mod job;
 mod leb;

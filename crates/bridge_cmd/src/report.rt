@@ -10,7 +10,7 @@ use bridge_io::{Failed, Sink, put_all};
 use itoa::Buffer;
 
 /// Writes pieces, one after the other.
-fn put_pieces<E: Sink>(report: &mut E, pieces: &[&[u8]]) -> Result<(), Failed>
+fn put_pieces<E: Sink>(report: &mut E, pieces: &[&str]) -> Result<(), Failed>
     requires { (n : ℕ) → E.takes report.old n }
 
     ensures never_falls { E.faults report.old ≤ E.faults report.new }
@@ -19,10 +19,14 @@ fn put_pieces<E: Sink>(report: &mut E, pieces: &[&[u8]]) -> Result<(), Failed>
     ensures front { OnErr result (GainsFront (concat (map now_of pieces.now))
         (seen (E.told report.old) (E.faults report.old)) (seen (E.told report.new) (E.faults report.new))) }
 {
-    for piece in pieces {
-        put_all(report, piece)?;
+    match pieces {
+        [] => Ok(()),
+        [piece, rest @ ..] => {
+            put_all(report, piece.as_bytes())?;
+            put_pieces(report, rest)?;
+            Ok(())
+        }
     }
-    Ok(())
 }
 
 /// Writes the line of a refusal.
@@ -38,9 +42,12 @@ pub(crate) fn write_line<E: Sink>(report: &mut E, refusal: Refusal<'_>) -> Resul
     match refusal {
         Refusal::FaultyWords => put_pieces(
             report,
-            &[b"usage: bridge COMMAND [--heap N] [--steps N] [FILE] [SCRIPT]".as_slice(), b"\n".as_slice()],
+            &[
+                "usage: bridge COMMAND [--heap N] [--steps N] [FILE] [SCRIPT]",
+                "\n",
+            ],
         ),
-        Refusal::NotOfTheForm => put_pieces(report, &[b"asm.js refused: A0 NotYet at 0".as_slice(), b"\n".as_slice()]),
+        Refusal::NotOfTheForm => put_pieces(report, &["asm.js refused: A0 NotYet at 0", "\n"]),
         Refusal::NotABinary { number, at } => put_binary(report, number, at),
         Refusal::NotValid {
             rule,
@@ -48,10 +55,10 @@ pub(crate) fn write_line<E: Sink>(report: &mut E, refusal: Refusal<'_>) -> Resul
             index,
             instruction,
         } => put_invalid(report, rule, section, index, instruction),
-        Refusal::ReadFault => put_pieces(report, &[b"read fault".as_slice(), b"\n".as_slice()]),
-        Refusal::Missing(file) => put_pieces(report, &[b"missing: ".as_slice(), file.as_bytes(), b"\n".as_slice()]),
-        Refusal::TooLarge(file) => put_pieces(report, &[b"too large: ".as_slice(), file.as_bytes(), b"\n".as_slice()]),
-        Refusal::OutOfMemory => put_pieces(report, &[b"out of memory".as_slice(), b"\n".as_slice()]),
+        Refusal::ReadFault => put_pieces(report, &["read fault", "\n"]),
+        Refusal::Missing(file) => put_pieces(report, &["missing: ", file, "\n"]),
+        Refusal::TooLarge(file) => put_pieces(report, &["too large: ", file, "\n"]),
+        Refusal::OutOfMemory => put_pieces(report, &["out of memory", "\n"]),
     }
 }
 
@@ -69,7 +76,7 @@ fn put_binary<E: Sink>(report: &mut E, number: u8, at: u64) -> Result<(), Failed
     let at = digits.format(at);
     put_pieces(
         report,
-        &[b"wasm refused: ".as_slice(), binary_name(number).as_bytes(), b" at ".as_slice(), at.as_bytes(), b"\n".as_slice()],
+        &["wasm refused: ", binary_name(number), " at ", at, "\n"],
     )
 }
 
@@ -98,15 +105,15 @@ fn put_invalid<E: Sink>(
     put_pieces(
         report,
         &[
-            b"wasm refused: B13 Invalid V".as_slice(),
-            rule_digits.format(rule).as_bytes(),
-            b" at section ".as_slice(),
-            section_digits.format(section).as_bytes(),
-            b" index ".as_slice(),
-            index_digits.format(index).as_bytes(),
-            b" instruction ".as_slice(),
-            instruction_digits.format(instruction).as_bytes(),
-            b"\n".as_slice(),
+            "wasm refused: B13 Invalid V",
+            rule_digits.format(rule),
+            " at section ",
+            section_digits.format(section),
+            " index ",
+            index_digits.format(index),
+            " instruction ",
+            instruction_digits.format(instruction),
+            "\n",
         ],
     )
 }

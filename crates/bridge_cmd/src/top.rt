@@ -2,9 +2,9 @@
 ghost use Rattle.std.specs.Prelude.{◌≡◌, ◌≢◌, ◌⊎◌, ℕ, ◌≤◌, List, map, string_bytes, IsSome, None, true, false};
 ghost use Rattle.bridge_io.specs.Outside.{Rose, RoseBy};
 ghost use Rattle.bridge_cmd.specs.declared.status.WasmFault.{WasmFault};
-ghost use Rattle.bridge_cmd.specs.Command.{file_named};
+ghost use Rattle.bridge_cmd.specs.Command.{asked};
 ghost use Rattle.bridge_cmd.specs.Job.{Job, IsJob};
-ghost use Rattle.bridge_cmd.specs.Outcome.{status_of_job, IsCutShort, Writes, Refuses, OutputCut, ReportCut};
+ghost use Rattle.bridge_cmd.specs.Outcome.{EndsAs, IsCutShort, Writes, Refuses, OutputCut, ReportCut};
 ghost use Rattle.bridge_cmd.specs.Sinks.{seen};
 
 use crate::job::output_of;
@@ -41,18 +41,18 @@ pub fn bridge<F: Files, O: Sink, E: Sink>(
         → Rose (O.faults out.old) (O.faults out.new) ⊎ Rose (E.faults report.old) (E.faults report.new) }
 
     // Faulty words are told by the words alone.
-    ensures usage { result ≡ Status.Usage → file_named (map string_bytes words.now) ≡ None }
-    ensures faulty_words { file_named (map string_bytes words.now) ≡ None
+    ensures usage { result ≡ Status.Usage → asked (map string_bytes words.now) ≡ None }
+    ensures faulty_words { asked (map string_bytes words.now) ≡ None
         → (result ≡ Status.Usage) ⊎ (result ≡ Status.WriteFault) }
 
-    // These never come, since no command reads a script or a WebAssembly module yet.
-    ensures no_wasm { (fault : WasmFault) → result ≢ Status.WasmRefused fault }
+    // These never come: no module is read that a command doesn't take, and no command reads a script yet.
+    ensures no_outside { (number value : ℕ) → result ≢ Status.WasmRefused (WasmFault.Outside number value) }
     ensures no_script { (line : ℕ) → result ≢ Status.ScriptRefused line }
     ensures no_script_file { (result ≢ Status.Missing true) × (result ≢ Status.TooLarge true) }
 
     // Where the files are told, the end is the job's, unless a read or a write fails or memory runs out.
     ensures exact { (job : Job) → IsSome (F.told files.old) → IsJob (map string_bytes words.now) (F.told files.old) job
-        → (result ≡ status_of_job job) ⊎ IsCutShort result }
+        → EndsAs job result ⊎ IsCutShort result }
 
     // What each end leaves in the sinks.
     ensures done { result ≡ Status.Done → Writes (map string_bytes words.now) (F.told files.old)
