@@ -1,0 +1,9 @@
+pub mod ByParts
+pub mod BodiesInRow
+pub mod Expressions
+pub mod Header
+pub mod ImportsInRow
+pub mod ItemsInRow
+pub mod SectionHeads
+pub mod Spellings
+pub mod TextTests
