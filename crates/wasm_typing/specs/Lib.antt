@@ -4,3 +4,4 @@ pub mod Refusal
 pub mod State
 pub mod ModuleRules
 pub mod Validity
+pub mod Runnable
