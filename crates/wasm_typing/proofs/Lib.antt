@@ -1,3 +1,4 @@
+pub mod Examples
 pub mod Main
 pub mod Named
 pub mod Needs

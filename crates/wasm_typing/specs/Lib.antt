@@ -5,3 +5,5 @@ pub mod State
 pub mod ModuleRules
 pub mod Validity
 pub mod Runnable
+pub mod Measures
+pub mod Profile
