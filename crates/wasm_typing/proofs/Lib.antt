@@ -1,3 +1,5 @@
+pub mod Examples
+pub mod Functions
 pub mod Main
 pub mod Named
 pub mod Needs

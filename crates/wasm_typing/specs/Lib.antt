@@ -4,3 +4,6 @@ pub mod Refusal
 pub mod State
 pub mod ModuleRules
 pub mod Validity
+pub mod Runnable
+pub mod Measures
+pub mod Profile

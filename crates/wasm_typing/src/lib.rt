@@ -6,9 +6,11 @@
 #![tactic(auto)]
 
 mod laws;
+mod profile;
 mod rule;
 mod section;
 
-pub use laws::body_laws;
+pub use laws::{body_laws, module_laws};
+pub use profile::{Beyond, Outside};
 pub use rule::{Opening, Rule};
 pub use section::Section;

@@ -12,7 +12,14 @@ mod frames;
 mod instructions;
 mod imports;
 mod items;
+mod module;
 mod operands;
 mod rules;
+mod running;
 mod scope;
 mod valid;
+
+pub use fault::Invalid;
+pub use module::{Valid, validate};
+pub use running::runnable;
+pub use wasm_typing::{Beyond, Outside, Rule, Section};
