@@ -14,7 +14,7 @@ use Rattle.bridge_cmd.specs.Job.{Job, refused, written, file_limit, IsTranslatio
 use Rattle.bridge_cmd.specs.Outcome.{EndsAs, Ends, IsValidityRefusal, at_a_rule, IsCutShort, by_a_read, by_a_write, by_want, MayReport, a_refusal, a_read_fault, no_memory}
 use Rattle.bridge_cmd.specs.declared.status.Status.{Status}
 use Rattle.bridge_cmd.specs.declared.status.Status.TheVariants.{Done, Usage}
-use Rattle.bridge_cmd.specs.RuleNumbers.{row_number}
+use Rattle.wasm_binary.specs.Answers.{row_number}
 use Rattle.bridge_cmd.proofs.Validity.{not_invalid_too}
 
 pub holds : (told : Option Told) (file text : List ℕ) → ((map : Told) → told ≡ Some map → content_of map file ≡ Some text) → Holds told file text

@@ -1,3 +1,4 @@
+pub mod Checks
 pub mod FormBodies
 pub mod FormExamples
 pub mod FormLaws
@@ -12,4 +13,5 @@ pub mod Gaining
 pub mod Jobs
 pub mod LebSteps
 pub mod Pieces
+pub mod Shaped
 pub mod Validity

@@ -9,8 +9,9 @@ use Rattle.wasm_lang.specs.declared.fault.Fault.{Fault}
 use Rattle.wasm_typing.specs.declared.rule.Rule.{Rule}
 use Rattle.wasm_typing.specs.declared.section.Section.{Section}
 use Rattle.wasm_typing.specs.Validity.{id, IsValidModule, RefusesModule}
-use Rattle.bridge_cmd.specs.RuleNumbers.{row_number, rule_number}
-use Rattle.bridge_cmd.specs.Reason.{Reason, not_a_binary, not_valid}
+use Rattle.bridge_cmd.specs.RuleNumbers.{rule_number}
+use Rattle.wasm_binary.specs.Answers.{row_number}
+use Rattle.bridge_cmd.specs.Reason.{Reason, not_a_binary, not_valid, out_of_memory}
 
 -- the functions that the module defines, its imports and its exports
 abbrev pub counts_line : WasmModule → List ℕ
@@ -46,3 +47,9 @@ pub record IsInvalid (text : List ℕ) (reason : Reason) : Type 0 where
   pub instruction : ℕ
   pub refuses : RefusesModule «module» rule section index instruction
   pub is : reason ≡ not_valid (rule_number rule) (id section) index instruction
+
+-- why a module that was read has no counts
+pub data IsUnfit : WasmModule → Reason → Type 0 where
+  breaks : {m : WasmModule} {rule : Rule} {section : Section} {index instruction : ℕ} → RefusesModule m rule section index instruction
+      → IsUnfit m (not_valid (rule_number rule) (id section) index instruction)
+  no_room : {m : WasmModule} → IsUnfit m out_of_memory

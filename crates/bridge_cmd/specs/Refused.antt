@@ -6,6 +6,10 @@ use Rattle.bridge_cmd.specs.declared.refusal.Refusal as refusal
 use Rattle.bridge_cmd.specs.declared.status.Status as status
 use Rattle.bridge_cmd.specs.declared.status.WasmFault as wasm
 use Rattle.bridge_io.specs.declared.reading.GatherFault as gathering
+use Rattle.wasm_binary.specs.declared.fault.BinFault as binary
+use Rattle.wasm_validate.specs.declared.fault.Invalid as validity
+use Rattle.wasm_typing.specs.Validity.{id}
+use Rattle.bridge_cmd.specs.RuleNumbers.{rule_number}
 
 abbrev pub reason_of : Refusal → Reason
 reason_of refusal.TheVariants.FaultyWords = faulty_words
@@ -32,3 +36,11 @@ reason_at gathering.TheVariants.Read file = read_fault
 reason_at gathering.TheVariants.Missing file = missing file
 reason_at gathering.TheVariants.TooLarge file = too_large file
 reason_at gathering.TheVariants.Memory file = out_of_memory
+
+abbrev pub reason_of_fault : binary.BinFault → Reason
+reason_of_fault (binary.TheVariants.Refused number at) = not_a_binary number at
+reason_of_fault binary.TheVariants.Memory = out_of_memory
+
+abbrev pub reason_of_invalid : validity.Invalid → Reason
+reason_of_invalid (validity.TheVariants.Rule rule section index instruction) = not_valid (rule_number rule) (id section) index instruction
+reason_of_invalid validity.TheVariants.Memory = out_of_memory

@@ -1,23 +1,7 @@
--- The printed numbers of the rows of the binary format and of the rules of validity.
+-- The printed numbers of the rules of validity.
 use Rattle.std.specs.Prelude.{ℕ}
-use Rattle.wasm_lang.specs.declared.fault.Row.{Row}
-use Rattle.wasm_lang.specs.declared.fault.Row.TheVariants as rows
 use Rattle.wasm_typing.specs.declared.rule.Rule.{Rule}
 use Rattle.wasm_typing.specs.declared.rule.Rule.TheVariants as rules
-
-abbrev pub row_number : Row → ℕ
-row_number rows.Magic = 1
-row_number rows.Version = 2
-row_number rows.Truncated = 3
-row_number rows.Leb = 4
-row_number rows.SectionOrder = 5
-row_number rows.SectionSize = 6
-row_number rows.UnknownByte = 7
-row_number rows.Utf8 = 8
-row_number rows.Counts = 9
-row_number rows.Float = 10
-row_number rows.MemoryGrow = 11
-row_number rows.Limit = 12
 
 abbrev pub rule_number : Rule → ℕ
 rule_number rules.Nesting = 0
