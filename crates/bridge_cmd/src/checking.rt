@@ -33,7 +33,7 @@ fn counts_line(alloc: Global, module: &Module<'_>) -> Result<Vec<u8>, AllocError
     Ok(line)
 }
 
-/// The printed number of a rule of validity, 1 to 21.
+/// The printed number of a rule of validity, 1 to 21, and 0 for marks that do not nest, which no read module has.
 fn rule_number(rule: Rule) -> u8
     ensures { result ≡ spec_number rule }
 {

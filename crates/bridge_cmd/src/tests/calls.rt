@@ -1,5 +1,5 @@
 //! Whole calls over files and sinks in memory.
-use crate::{Status, bridge};
+use crate::{Status, WasmFault, bridge};
 use bridge_io::{MemFiles, MemSink};
 use std::alloc::{AllocError, Global};
 use std::test::Fail;
@@ -27,6 +27,9 @@ struct Left {
     out: MemSink,
     report: MemSink,
 }
+
+/// A module of no sections.
+const EMPTY_MODULE: &[u8] = &[0x00, 0x61, 0x73, 0x6d, 0x01, 0x00, 0x00, 0x00];
 
 /// Calls `bridge` with these words after the program's name.
 fn call(
@@ -151,5 +154,114 @@ fn a_file_is_missing_or_too_large(rt: HostRuntime) -> Result<(), Fail> {
     let left = call(alloc, &["asm2wasm", "no.js"], &mut files, sink(alloc)?)?;
     assert_eq!(rt; left.status, Status::Missing { script: false });
     assert_eq!(rt; left.report.bytes(), b"missing: no.js\n".as_slice());
+    Ok(())
+}
+
+/// Checks the module of these bytes.
+fn check(alloc: Global, bytes: &[u8]) -> Result<Left, AllocError> {
+    let mut files = MemFiles::new(alloc);
+    files.add("m.wasm", bytes)?;
+    call(alloc, &["check-wasm", "m.wasm"], &mut files, sink(alloc)?)
+}
+
+#[test]
+fn a_valid_module_is_counted(rt: HostRuntime) -> Result<(), Fail> {
+    let alloc = rt.alloc();
+    let rows: [(&[u8], &[u8]); 2] = [
+        (EMPTY_MODULE, b"wasm functions 0 imports 0 exports 0\n"),
+        (ADD_MODULE, b"wasm functions 1 imports 0 exports 1\n"),
+    ];
+    for (bytes, line) in rows {
+        let left = check(alloc, bytes)?;
+        assert_eq!(rt; left.status, Status::Done);
+        assert_eq!(rt; left.out.bytes(), line);
+        assert_eq!(rt; left.report.bytes(), b"".as_slice());
+    }
+    Ok(())
+}
+
+#[test]
+fn bytes_of_no_module_are_told_the_row_and_the_place(rt: HostRuntime) -> Result<(), Fail> {
+    let alloc = rt.alloc();
+    let rows: [(&[u8], u8, u64, &[u8]); 5] = [
+        (&[], 3, 0, b"wasm refused: B3 Truncated at 0\n"),
+        (
+            &[0x00, 0x61, 0x73, 0x6d],
+            3,
+            4,
+            b"wasm refused: B3 Truncated at 4\n",
+        ),
+        (
+            &[0x00, 0x61, 0x73, 0x6e, 0x01, 0x00, 0x00, 0x00],
+            1,
+            3,
+            b"wasm refused: B1 Magic at 3\n",
+        ),
+        (
+            &[
+                0x00, 0x61, 0x73, 0x6d, 0x01, 0x00, 0x00, 0x00, 0x01, 0x05, 0xff, 0xff, 0xff, 0xff,
+                0x0f,
+            ],
+            12,
+            10,
+            b"wasm refused: B12 Limit at 10\n",
+        ),
+        (
+            &[
+                0x00, 0x61, 0x73, 0x6d, 0x01, 0x00, 0x00, 0x00, 0x07, 0x05, 0xff, 0xff, 0xff, 0xff,
+                0x0f,
+            ],
+            6,
+            15,
+            b"wasm refused: B6 SectionSize at 15\n",
+        ),
+    ];
+    for (bytes, number, at, line) in rows {
+        let left = check(alloc, bytes)?;
+        let fault = WasmFault::Binary { number, at };
+        assert_eq!(rt; left.status, Status::WasmRefused(fault));
+        assert_eq!(rt; left.out.bytes(), b"".as_slice());
+        assert_eq!(rt; left.report.bytes(), line);
+    }
+    Ok(())
+}
+
+#[test]
+fn every_front_of_a_module_has_its_answer(rt: HostRuntime) -> Result<(), Fail> {
+    let alloc = rt.alloc();
+    for n in 0..ADD_MODULE.len() + 1 {
+        let left = check(alloc, &ADD_MODULE[..n])?;
+        let at = n as u64;
+        let status = match n {
+            8 | 17 | 39 => Status::Done,
+            21 | 28 => Status::WasmRefused(WasmFault::Binary { number: 9, at }),
+            _ => Status::WasmRefused(WasmFault::Binary { number: 3, at }),
+        };
+        assert_eq!(rt; left.status, status, "at {n}");
+    }
+    Ok(())
+}
+
+#[test]
+fn an_invalid_module_is_told_its_rule(rt: HostRuntime) -> Result<(), Fail> {
+    let alloc = rt.alloc();
+    // A function of no type.
+    let bytes = [
+        0x00, 0x61, 0x73, 0x6d, 0x01, 0x00, 0x00, 0x00, 0x03, 0x02, 0x01, 0x00, 0x0a, 0x04, 0x01,
+        0x02, 0x00, 0x0b,
+    ];
+    let left = check(alloc, &bytes)?;
+    let fault = WasmFault::Invalid {
+        rule: 1,
+        section: 3,
+        index: 0,
+        instruction: 0,
+    };
+    assert_eq!(rt; left.status, Status::WasmRefused(fault));
+    assert_eq!(rt; left.out.bytes(), b"".as_slice());
+    assert_eq!(rt;
+        left.report.bytes(),
+        b"wasm refused: B13 Invalid V1 at section 3 index 0 instruction 0\n".as_slice()
+    );
     Ok(())
 }
