@@ -1,4 +1,3 @@
-use Rattle.std.proofs.Common.{◌≡◌}
 use Rattle.std.proofs.lemmas.Result.{err_from_is_err_and}
 use Rattle.wasm_tree.specs.Inputs.{input_of}
 use Rattle.wasm_tree.specs.Views.{bytes_of}
