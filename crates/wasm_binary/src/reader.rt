@@ -1,0 +1,155 @@
+//! Reading a module.
+ghost use Rattle.std.specs.Prelude.{◌≡◌, Ok, Err, IfOk};
+ghost use Rattle.wasm_lang.specs.ReadingModule.{read_module};
+ghost use Rattle.wasm_tree.specs.Inputs.{input_of};
+ghost use Rattle.sem_words.specs.Lists.{list_items};
+ghost use Rattle.wasm_binary.specs.Lent.{Each, IsLentImport, IsLentExport, IsLentModule};
+ghost use Rattle.wasm_binary.specs.Views.{types_of, imports_of};
+ghost use Rattle.wasm_binary.specs.Whole.{read_by_parts, sections_from, declarations_from, definitions_from, contents_from, front_of, middle_of};
+ghost use Rattle.wasm_binary.specs.Answers.{IsAnswer, IsModule};
+
+use crate::fault::{BinFault, told};
+use crate::fields::expected;
+use crate::sections::{
+    body_section, counts, customs, element_section, end, expect_count, export_section,
+    function_section, global_section, import_section, memory_section, number_section,
+    segment_section, table_section, type_section,
+};
+use sem_words::List;
+use std::alloc::Global;
+use wasm_tree::{
+    Element, FuncType, GlobalDef, Import, Input, Limits, Module, ReadError, Row, WasmExport,
+};
+
+/// The module that the bytes spell, or the first field that can't be read, with the number of why and its
+/// place. Counts above the limits of this reader are refused. The time is linear in the bytes.
+pub fn read<'a>(alloc: Global, bytes: &'a [u8]) -> Result<Module<'a>, BinFault>
+    ensures read { IsAnswer result (read_module bytes.now) }
+    ensures lent { IfOk result (λ m. IsLentModule m) }
+{
+    match module(alloc, bytes) {
+        Ok(module) => Ok(module),
+        Err(error) => Err(told(error)),
+    }
+}
+
+/// The sections before the exports.
+#[derive(Drop)]
+pub struct Declared<'a> {
+    pub types: List<FuncType>,
+    pub imports: List<Import<'a>>,
+    pub functions: List<u32>,
+    pub tables: List<Limits>,
+    pub memories: List<Limits>,
+    pub globals: List<GlobalDef>,
+}
+
+/// The sections between the globals and the data count.
+#[derive(Drop)]
+pub struct Defined<'a> {
+    pub exports: List<WasmExport<'a>>,
+    pub start: Option<u32>,
+    pub elements: List<Element>,
+}
+
+// The module, with the fault as it was met.
+fn module<'a>(alloc: Global, bytes: &'a [u8]) -> Result<Module<'a>, ReadError>
+    ensures value { IsModule result (read_by_parts bytes.now) }
+    ensures lent { IfOk result (λ m. IsLentModule m) }
+{
+    let input = Input::new(bytes);
+    let rest = expected(input, b"\0asm", Row::Magic)?;
+    let rest = expected(rest, b"\x01\0\0\0", Row::Version)?;
+    Ok(sections(alloc, rest)?)
+}
+
+// The module, after the header.
+fn sections<'a>(alloc: Global, input: Input<'a>) -> Result<Module<'a>, ReadError>
+    ensures value { IsModule result (sections_from (input_of input.entry)) }
+    ensures lent { IfOk result (λ m. IsLentModule m) }
+{
+    let (types, rest) = type_section(alloc, input)?;
+    let (imports, rest) = import_section(alloc, rest)?;
+    Ok(declarations(alloc, types, imports, rest)?)
+}
+
+// The module, from the functions on.
+fn declarations<'a>(
+    alloc: Global,
+    types: List<FuncType>,
+    imports: List<Import<'a>>,
+    input: Input<'a>,
+) -> Result<Module<'a>, ReadError>
+    requires { Each IsLentImport (list_items imports) }
+    ensures value { IsModule result (declarations_from (types_of types) (imports_of imports.entry) (input_of input.entry)) }
+    ensures lent { IfOk result (λ m. IsLentModule m) }
+{
+    let (functions, rest) = function_section(alloc, input, &imports)?;
+    let (tables, rest) = table_section(alloc, rest)?;
+    let (memories, rest) = memory_section(alloc, rest)?;
+    let (globals, rest) = global_section(alloc, rest, &imports)?;
+    let declared = Declared {
+        types,
+        imports,
+        functions,
+        tables,
+        memories,
+        globals,
+    };
+    Ok(definitions(alloc, declared, rest)?)
+}
+
+// The module, from the exports on.
+fn definitions<'a>(
+    alloc: Global,
+    declared: Declared<'a>,
+    input: Input<'a>,
+) -> Result<Module<'a>, ReadError>
+    requires { Each IsLentImport (list_items declared.imports) }
+    ensures value { IsModule result (definitions_from (front_of declared.entry) (input_of input.entry)) }
+    ensures lent { IfOk result (λ m. IsLentModule m) }
+{
+    let (exports, rest) = export_section(alloc, input)?;
+    let (start, rest) = number_section(rest, 8)?;
+    let (elements, rest) = element_section(alloc, rest)?;
+    let (counted, rest) = number_section(rest, 12)?;
+    let defined = Defined {
+        exports,
+        start,
+        elements,
+    };
+    Ok(contents(alloc, declared, defined, counted, rest)?)
+}
+
+// The module, from the code on.
+fn contents<'a>(
+    alloc: Global,
+    declared: Declared<'a>,
+    defined: Defined<'a>,
+    counted: Option<u32>,
+    input: Input<'a>,
+) -> Result<Module<'a>, ReadError>
+    requires imports { Each IsLentImport (list_items declared.imports) }
+    requires exports { Each IsLentExport (list_items defined.exports) }
+    ensures value { IsModule result (contents_from (front_of declared.entry) (middle_of defined.entry) counted (input_of input.entry)) }
+    ensures lent { IfOk result (λ m. IsLentModule m) }
+{
+    let (bodies, rest) = body_section(alloc, input, &declared.types, &declared.functions)?;
+    let (segments, rest) = segment_section(alloc, rest, counted)?;
+    let at = end(customs(rest)?)?;
+    expect_count(bodies.len() == declared.functions.len(), at)?;
+    expect_count(counts(counted, segments.len()), at)?;
+    Ok(Module {
+        types: declared.types,
+        imports: declared.imports,
+        functions: declared.functions,
+        tables: declared.tables,
+        memories: declared.memories,
+        globals: declared.globals,
+        exports: defined.exports,
+        start: defined.start,
+        elements: defined.elements,
+        bodies,
+        segments,
+    })
+}
