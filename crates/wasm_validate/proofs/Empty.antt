@@ -1,5 +1,5 @@
 -- A module without names and without code is shaped.
-use Rattle.std.proofs.Common.{◌≡◌, List, [], length, All, sym, subst, arith}
+use Rattle.std.proofs.Common.{◌≡◌, List, [], All, sym, subst, arith}
 use Rattle.wasm_lang.specs.Modules.{WasmModule}
 use Rattle.std.specs.Str.{IsUtf8}
 use Rattle.wasm_lang.specs.Shape.{IsShaped, IsShapedCode}

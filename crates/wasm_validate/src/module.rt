@@ -86,7 +86,6 @@ mod tests {
     use wasm_lang::Limits;
     use wasm_typing::{Rule, Section};
 
-
     // A module with a memory of so many pages, and nothing else.
     fn with_memory(alloc: Global, pages: u32) -> Result<Module<'static>, Fail>
         ensures imports { IfOk result (λ m. (module_of m).imports ≡ []) }
