@@ -1,0 +1,10 @@
+pub mod Examples
+pub mod Functions
+pub mod Main
+pub mod Named
+pub mod Needs
+pub mod Nests
+pub mod Ranks
+pub mod Reached
+pub mod Rest
+pub mod Stands

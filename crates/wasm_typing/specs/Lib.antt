@@ -1,0 +1,9 @@
+pub mod Typing
+pub mod Rules
+pub mod Refusal
+pub mod State
+pub mod ModuleRules
+pub mod Validity
+pub mod Runnable
+pub mod Measures
+pub mod Profile

@@ -1,0 +1,6 @@
+pub mod Blocks
+pub mod Bodies
+pub mod Scopes
+pub mod Facts
+pub mod Sections
+pub mod Refusals

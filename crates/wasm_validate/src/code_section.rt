@@ -1,0 +1,129 @@
+// The items of the code section.
+
+ghost use Rattle.std.specs.Prelude.{◌≡◌, ◌++◌, length, All, IfOk, MatchOption, MatchResult};
+ghost use Rattle.sem_words.specs.Lists.{list_items};
+ghost use Rattle.wasm_lang.specs.Instructions.{IsExpression};
+ghost use Rattle.wasm_lang.specs.Modules.{FunctionBody};
+ghost use Rattle.wasm_tree.specs.Views.{body_of, module_of, type_of};
+ghost use Rattle.wasm_typing.specs.Typing;
+ghost use Rattle.wasm_typing.specs.Typing.{IsValid};
+ghost use Rattle.wasm_typing.specs.Validity;
+ghost use Rattle.wasm_typing.specs.Validity.{body_context, no_type};
+ghost use Rattle.wasm_validate.specs.Bodies.{IsRefusal, FineBodies, IsCodeFault};
+ghost use Rattle.wasm_validate.specs.Facts.{FactsOf};
+ghost use Rattle.wasm_validate.specs.Bodies;
+ghost use Rattle.wasm_validate.specs.Scopes;
+ghost use Rattle.wasm_validate.specs.Scopes.{outside};
+ghost use Rattle.std.specs.Option.{option_map};
+
+use crate::body::check_body;
+use crate::facts::Facts;
+use crate::fault::{BodyFault, CodeFault};
+use crate::scope::{Scope, result_of};
+use std::alloc::{AllocError, Global};
+use wasm_lang::ValType;
+use wasm_tree::{Body, FuncType, Module};
+
+/// Finds the first body that isn't valid.
+pub fn check_bodies(alloc: Global, module: &Module<'_>, facts: &Facts) -> Result<(), CodeFault>
+    requires facts_of { FactsOf facts.now (module_of «module».now) }
+    requires expressions { All (λ b. IsExpression b.code) (module_of «module».now).bodies }
+    ensures { MatchResult result (λ _. FineBodies (module_of «module».now) (length (module_of «module».now).bodies)) (IsCodeFault (module_of «module».now)) }
+{
+    for (i, body) in module.bodies.as_slice().iter().enumerate() {
+        match check_code(alloc, module, facts, i, body) {
+            Ok(()) => {}
+            Err(fault) => return Err(at_body(fault, i)),
+        }
+    }
+    Ok(())
+}
+
+// The fault of the body at this place.
+fn at_body(fault: BodyFault, index: usize) -> CodeFault
+    ensures { result ≡ Bodies.at_body fault index }
+{
+    match fault {
+        BodyFault::Broken { rule, instruction } => CodeFault::Broken {
+            index,
+            rule,
+            instruction,
+        },
+        BodyFault::Memory => CodeFault::Memory,
+    }
+}
+
+// One body.
+fn check_code(
+    alloc: Global,
+    module: &Module<'_>,
+    facts: &Facts,
+    i: usize,
+    body: &Body<'_>,
+) -> Result<(), BodyFault>
+    requires facts_of { FactsOf facts.now (module_of «module».now) }
+    requires expression { IsExpression (body_of body.now).code }
+    ensures { MatchResult result (λ _. IsValid (body_context (module_of «module».now) i (body_of body.now)) (body_of body.now).code) (λ e. IsRefusal (body_context (module_of «module».now) i (body_of body.now)) (body_of body.now).code e) }
+{
+    let code = match body.code.instrs(alloc) {
+        Ok(code) => code,
+        Err(_) => return Err(BodyFault::Memory),
+    };
+    let locals = match locals_of(alloc, own_type(module, i), body.locals.as_slice()) {
+        Ok(locals) => locals,
+        Err(_) => return Err(BodyFault::Memory),
+    };
+    let scope = scope_of(module, facts, own_type(module, i), &locals);
+    check_body(alloc, &scope, code.as_slice())
+}
+
+// The type of a function that the module defines, by its place among those.
+fn own_type<'t>(module: &'t Module<'_>, i: usize) -> Option<&'t FuncType>
+    ensures { MatchOption result (Validity.own_type (module_of «module».now) i ≡ no_type) (λ t. Validity.own_type (module_of «module».now) i ≡ type_of t.now) }
+{
+    match module.functions.get(i) {
+        None => None,
+        Some(t) => module.types.get(*t as usize),
+    }
+}
+
+// The parameters, and then the locals.
+fn locals_of(
+    alloc: Global,
+    own: Option<&FuncType>,
+    locals: &[ValType],
+) -> Result<Vec<ValType>, AllocError>
+    ensures { IfOk result (λ all. MatchOption own.entry (all.items ≡ locals.now) (λ t. all.items ≡ (type_of t.now).params ++ locals.now)) }
+{
+    let mut all = Vec::new(alloc);
+    if let Some(t) = own {
+        all.extend_from_slice(t.params.as_slice())?;
+    }
+    all.extend_from_slice(locals)?;
+    Ok(all)
+}
+
+// What a body may refer to, whose function has this type and whose parameters and locals are these.
+fn scope_of<'m>(
+    module: &'m Module<'_>,
+    facts: &'m Facts,
+    own: Option<&FuncType>,
+    locals: &'m [ValType],
+) -> Scope<'m>
+    requires { FactsOf facts.now (module_of «module».now) }
+    ensures { outside result ≡ Scopes.scope_context (module_of «module».now) (option_map (λ t. type_of t.now) own.entry) locals.now }
+{
+    let result = match own {
+        Some(t) => result_of(t),
+        None => None,
+    };
+    Scope {
+        types: module.types.as_slice(),
+        functions: facts.functions.as_slice(),
+        table: facts.table,
+        memory: facts.memory,
+        globals: facts.globals.as_slice(),
+        locals,
+        result,
+    }
+}

@@ -1,0 +1,36 @@
+// The items of the export section.
+
+ghost use Rattle.std.specs.Prelude.{◌≡◌, length, take, MatchResult};
+ghost use Rattle.wasm_tree.specs.Views.{module_of, export_of};
+ghost use Rattle.wasm_typing.specs.declared.section.Section.TheVariants as sections;
+ghost use Rattle.wasm_typing.specs.ModuleRules;
+ghost use Rattle.wasm_validate.specs.Facts.{FactsOf};
+ghost use Rattle.wasm_validate.specs.Sections.{FineItems, IsItemFault};
+
+use crate::facts::Facts;
+use crate::fault::ItemFault;
+use crate::rules::{exported_rule, first_of};
+use indexmap::IndexSet;
+use std::alloc::Global;
+use wasm_tree::Module;
+use wasm_typing::Rule;
+
+/// Finds the first export that breaks a rule.
+pub fn check_exports(alloc: Global, module: &Module<'_>, facts: &Facts) -> Result<(), ItemFault>
+    requires { FactsOf facts.now (module_of «module».now) }
+    ensures { MatchResult result (λ _. FineItems (module_of «module».now) sections.Exports (length (module_of «module».now).exports)) (IsItemFault (module_of «module».now) sections.Exports (length (module_of «module».now).exports)) }
+{
+    let mut names: IndexSet<&[u8]> = IndexSet::new(alloc);
+    for (i, export) in module.exports.as_slice().iter().enumerate() {
+        let is_new = match names.insert(export.name.as_bytes()) {
+            Ok(is_new) => is_new,
+            Err(_) => return Err(ItemFault::Memory),
+        };
+        let named = first_of(is_new, Rule::RepeatedName, None);
+        match exported_rule(facts, export.kind, named) {
+            Some(rule) => return Err(ItemFault::Broken { index: i, rule }),
+            None => {}
+        }
+    }
+    Ok(())
+}
