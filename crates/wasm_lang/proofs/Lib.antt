@@ -8,3 +8,10 @@ pub mod ReadingLawsExpressions
 pub mod ReadingLawsEntries
 pub mod ReadingLawsSections
 pub mod ReadingLawsModule
+pub mod Fields
+pub mod Spelled
+pub mod Table
+pub mod Inversion
+pub mod ReadInstructions
+pub mod Nesting
+pub mod Expressions

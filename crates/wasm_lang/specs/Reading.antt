@@ -143,8 +143,8 @@ val_type_of at b =
 abbrev pub val_type_field : Input → Field ValType
 val_type_field i = byte i >>= λ b. val_type_of i.at b.0 >>= λ t. Ok (t, b.1)
 
+abbrev pub result_of : (at byte : ℕ) → Result (Option ValType) Fault
+result_of at b = if b == 0x40 then Ok None else val_type_of at b >>= λ t. Ok (Some t)
+
 abbrev pub block_type_field : Input → Field (Option ValType)
-block_type_field i = byte i >>= λ b. result_of b.0 >>= λ r. Ok (r, b.1)
-  where
-    result_of : ℕ → Result (Option ValType) Fault
-    result_of b = if b == 0x40 then Ok None else val_type_of i.at b >>= λ t. Ok (Some t)
+block_type_field i = byte i >>= λ b. result_of i.at b.0 >>= λ r. Ok (r, b.1)

@@ -28,15 +28,15 @@ opcode_fault b = if is_float_opcode b then Float else (if b == 0x40 then MemoryG
 abbrev pub access_field : Input → Field (ℕ × ℕ)
 access_field i = u32 i >>= λ align. u32 align.1 >>= λ offset. Ok ((align.0, offset.0), offset.1)
 
--- the number after 0xfc, and the bytes 0 after that
+-- the bytes 0 after the number that stands after 0xfc, at a place
+abbrev pub copy_or_fill_on : (at number : ℕ) → Input → Field Plain
+copy_or_fill_on at n i =
+    if n == 10 then (exactly 0 i >>= λ a. onto (λ b. memory_copy) (exactly 0 a.1))
+    else (if n == 11 then onto (λ a. memory_fill) (exactly 0 i)
+    else fault UnknownByte at)
+
 abbrev pub copy_or_fill : Input → Field Plain
-copy_or_fill i = u32 i >>= λ n. by_number n.0 n.1
-  where
-    by_number : ℕ → Input → Field Plain
-    by_number n j =
-        if n == 10 then (exactly 0 j >>= λ a. onto (λ b. memory_copy) (exactly 0 a.1))
-        else (if n == 11 then onto (λ a. memory_fill) (exactly 0 j)
-        else fault UnknownByte i.at)
+copy_or_fill i = u32 i >>= λ n. copy_or_fill_on i.at n.0 n.1
 
 -- what follows the opcode of a form
 abbrev pub plain_immediates : Plain → Input → Field Plain
@@ -107,31 +107,33 @@ opened (o ∷ os) end_mark = Some os
 opened [] end_mark = None
 opened os i = Some os
 
+-- an instruction, and those that follow where it leaves these blocks open
+abbrev pub code_on : Instruction × Input → (List Opening → Field (List Instruction)) → Option (List Opening) → Field (List Instruction)
+code_on x rest None = Ok (x.0 ∷ [], x.1)
+code_on x rest (Some os) = rest os >>= λ is. Ok (x.0 ∷ is.0, is.1)
+
 -- The instructions of an expression from inside these blocks on. There are no more of them than bytes.
 abbrev pub code_from : ℕ → List Opening → Input → Field (List Instruction)
 code_from zero os i = fault SectionSize i.at
 code_from (suc n) os i =
     may_stand os i >>= λ _.
     instruction_field i >>= λ x.
-    closed_or x (λ os. code_from n os x.1) (opened os x.0)
-  where
-    closed_or : Instruction × Input → (List Opening → Field (List Instruction)) → Option (List Opening) → Field (List Instruction)
-    closed_or x rest None = Ok (x.0 ∷ [], x.1)
-    closed_or x rest (Some os) = rest os >>= λ is. Ok (x.0 ∷ is.0, is.1)
+    code_on x (λ os. code_from n os x.1) (opened os x.0)
 
 abbrev pub code_field : Input → Field (List Instruction)
 code_field i = code_from (length i.bytes) [] i
 
 -- ---- the instructions that bytes spell
 
+-- an instruction, and those that follow
+abbrev pub spelled_on : Field Instruction → (Input → List Instruction) → List Instruction
+spelled_on (Ok x) rest = x.0 ∷ rest x.1
+spelled_on (Err e) rest = []
+
 -- so many at most
 abbrev pub spelled_within : ℕ → Input → List Instruction
 spelled_within zero i = []
-spelled_within (suc n) i = by (instruction_field i) (λ j. spelled_within n j)
-  where
-    by : Field Instruction → (Input → List Instruction) → List Instruction
-    by (Ok x) rest = x.0 ∷ rest x.1
-    by (Err e) rest = []
+spelled_within (suc n) i = spelled_on (instruction_field i) (λ j. spelled_within n j)
 
 -- the instructions one after another, up to the end or to bytes that are none
 unfoldable pub spelled : List ℕ → List Instruction

@@ -1,5 +1,5 @@
 -- Reading a module: its sections in their order.
-use Rattle.std.specs.Prelude.{ℕ, zero, suc, ◌+◌, ◌*◌, List, [], ◌∷◌, ◌++◌, length, replicate, take, drop, Bool, true, false, nat_le, ◌==◌, if◌then◌else◌, Result, Ok, Err, Option, Some, None}
+use Rattle.std.specs.Prelude.{ℕ, zero, suc, ◌+◌, List, [], ◌∷◌, ◌++◌, length, replicate, drop, Bool, true, false, nat_le, ◌==◌, if◌then◌else◌, Result, Ok, Option, Some, None}
 use Rattle.wasm_lang.specs.declared.fault.Fault.{Fault}
 use Rattle.wasm_lang.specs.declared.fault.Row.{Row}
 use Rattle.wasm_lang.specs.declared.fault.Row.TheVariants.{Magic, Version, Truncated, SectionOrder, SectionSize, UnknownByte, Counts, Limit}
@@ -12,7 +12,7 @@ use Rattle.wasm_lang.specs.declared.types.ExportKind.{ExportKind}
 use Rattle.wasm_lang.specs.declared.types.ExportKind.TheVariants as exports
 use Rattle.wasm_lang.specs.Modules.{FunctionType, Imported, GlobalEntry, Exported, ElementSegment, DataSegment, FunctionBody, WasmModule}
 use Rattle.wasm_lang.specs.Limits.{most_types, most_functions, most_params, most_locals, most_globals, most_entries, function_imports, global_imports, params_of}
-use Rattle.wasm_lang.specs.Reading.{Input, Field, ◌>>=◌, fault, expects, byte_field, u32_field, byte, u32, exactly, onto, items_field, vec_field, count_field, bytes_field, name_field, nothing_left, sized, val_type_field}
+use Rattle.wasm_lang.specs.Reading.{Input, Field, ◌>>=◌, fault, expects, byte_field, u32_field, byte, u32, exactly, onto, items_field, vec_field, count_field, bytes_field, name_field, sized, val_type_field}
 use Rattle.wasm_lang.specs.ReadingCode.{code_field}
 
 -- ---- types

@@ -1,11 +1,11 @@
 -- What follows an opcode, by the table.
 use Rattle.std.proofs.Common.{◌≡◌, ◌≢◌, ℕ, ◌<◌, Bool, true, false, cond, eqb, List, [], ◌∷◌, Option, Some, None, refl, sym, ap, ◌∙◌, arith}
-use Rattle.std.specs.Prelude.{Result, Ok, Err}
+use Rattle.std.specs.Prelude.{Ok, Err}
 use Rattle.std.proofs.lemmas.Bool.{false≢true}
 use Rattle.std.proofs.lemmas.Bool.Decides.{nat_tests}
 use Rattle.wasm_lang.specs.Instructions.{Plain, nop, drop_operand, select, local_get, local_set, local_tee, global_get, global_set, load, store, memory_size, memory_copy, memory_fill, const32, const64, eqz32, eqz64, rel32, rel64, un32, un64, bin32, bin64, wrap, extend_s, extend_u, sign_extend, Instruction, unreachable, block, loop, if_block, else_mark, end_mark, br, br_if, br_table, return, call, call_indirect, plain}
 use Rattle.wasm_lang.specs.Opcodes.{form_at, bare_at, without_immediates, has_immediates, has_plain_immediates}
-use Rattle.wasm_lang.specs.Reading.{Input, Field, ◌>>=◌, fault, byte, onto}
+use Rattle.wasm_lang.specs.Reading.{Input, ◌>>=◌, byte, onto}
 use Rattle.wasm_lang.specs.ReadingCode.{instruction_field, by_form, after_opcode, immediates, plain_immediates, opcode_fault}
 use Rattle.wasm_tree.specs.Operators.{is_load, is_store}
 use Rattle.wasm_tree.proofs.Table.{below, below_is}

@@ -3,3 +3,4 @@ pub mod Places
 pub mod Table
 pub mod Items
 pub mod Forms
+pub mod Spelled

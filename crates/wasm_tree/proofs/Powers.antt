@@ -1,6 +1,6 @@
 -- Bounds of numbers by their bits.
 use Rattle.std.proofs.Common.{◌≡◌, ℕ, ◌+◌, ◌-◌, ◌*◌, ◌^◌, ◌<◌, ◌≤◌, ap, ◌∙◌, arith}
-use Rattle.std.proofs.Math.Pow.{pow_mono, pow_pos}
+use Rattle.std.proofs.Math.Pow.{pow_mono}
 use Rattle.std.proofs.lemmas.Nat.{pow-add}
 
 pub low_bits : (bits b : ℕ) → 7 ≤ bits → b < 128 → b < 2 ^ bits

@@ -1,5 +1,5 @@
 -- What was read from a place in the input.
-use Rattle.std.specs.Prelude.{◌≡◌, ℕ, List, Result, Ok, Err}
+use Rattle.std.specs.Prelude.{◌≡◌, Result, Ok, Err}
 use Rattle.wasm_lang.specs.declared.fault.Fault.{Fault}
 use Rattle.wasm_lang.specs.Reading.{Field}
 use Rattle.wasm_lang.specs.Reading as plain

@@ -1,9 +1,10 @@
 -- What the values of this crate stand for.
-use Rattle.std.specs.Prelude.{ℕ, List, map}
+use Rattle.std.specs.Prelude.{◌≡◌, ℕ, List, [], map}
 use Rattle.sem_words.specs.Lists.{text_bytes, list_items}
 use Rattle.wasm_lang.specs.Instructions as plain
 use Rattle.wasm_lang.specs.Instructions.{Instruction}
 use Rattle.wasm_lang.specs.Modules.{FunctionType, Imported, GlobalEntry, Exported, ElementSegment, DataSegment, FunctionBody, WasmModule}
+use Rattle.wasm_lang.specs.Grammar.{IsCode}
 use Rattle.wasm_lang.specs.ReadingCode.{spelled}
 use Rattle.wasm_tree.specs.declared.instr.Instr.{Instr}
 use Rattle.wasm_tree.specs.declared.instr.Instr.TheVariants as code
@@ -69,6 +70,15 @@ bytes_of (bytes.Own text) = text_bytes text
 abbrev pub code_of : Code → List Instruction
 code_of (codes.Lent lent) = spelled lent.now
 code_of (codes.Own list) = map instr_of (list_items list)
+
+-- lent code is an expression whose spelling its bytes are; owned code is its list
+abbrev pub IsCodeOf : Code → List Instruction → Type 0
+IsCodeOf (codes.Lent lent) code = IsCode code lent.now []
+IsCodeOf (codes.Own list) code = map instr_of (list_items list) ≡ code
+
+-- these instructions are the only such expression
+abbrev pub IsOnlyCodeOf : Code → List Instruction → Type 0
+IsOnlyCodeOf c is = (code : List Instruction) → IsCodeOf c code → is ≡ code
 
 abbrev pub type_of : FuncType → FunctionType
 type_of t = record { params = list_items t.params; results = list_items t.results }

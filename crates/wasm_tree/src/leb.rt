@@ -113,7 +113,7 @@ pub fn integer(bytes: &[u8], bits: u32) -> Result<(u64, &[u8]), NumberFault>
             Err(NumberFault::Illegal)
         };
     }
-    if bits <= 7 {
+    if bits < 8 {
         return Err(NumberFault::Illegal);
     }
     match integer(rest, bits - 7) {

@@ -18,6 +18,6 @@ pub use input::Input;
 pub use instr::Instr;
 pub use leb::{leb_s32, leb_s64, leb_u32};
 pub use module::{Body, Element, FuncType, GlobalDef, Import, Module, Segment, WasmExport};
-pub use read::{read_instr, read_numbers};
 pub use opcodes::{opcode, plain_instr};
+pub use read::{read_instr, read_numbers};
 pub use wasm_lang::{ExportKind, Fault, GlobalType, ImportKind, Limits, MemOp, Row, ValType};

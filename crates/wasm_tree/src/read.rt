@@ -65,9 +65,21 @@ fn read_other<'a>(
     ensures { IsRead instr_of result (after_opcode at opcode (input_of input.entry)) }
 {
     match opcode {
-        0x02 => Ok(input.block_type().map(|(kind, rest)| (Instr::Block(kind), rest))?),
-        0x03 => Ok(input.block_type().map(|(kind, rest)| (Instr::Loop(kind), rest))?),
-        0x04 => Ok(input.block_type().map(|(kind, rest)| (Instr::If(kind), rest))?),
+        0x02 => Ok(
+            input
+                .block_type()
+                .map(|(kind, rest)| (Instr::Block(kind), rest))?,
+        ),
+        0x03 => Ok(
+            input
+                .block_type()
+                .map(|(kind, rest)| (Instr::Loop(kind), rest))?,
+        ),
+        0x04 => Ok(
+            input
+                .block_type()
+                .map(|(kind, rest)| (Instr::If(kind), rest))?,
+        ),
         0x0c => Ok(number(input).map(|(label, rest)| (Instr::Br(label), rest))?),
         0x0d => Ok(number(input).map(|(label, rest)| (Instr::BrIf(label), rest))?),
         0x0e => read_br_table(alloc, input),
@@ -80,7 +92,11 @@ fn read_other<'a>(
         0x24 => Ok(number(input).map(|(global, rest)| (Instr::GlobalSet(global), rest))?),
         0x3f => Ok(input.exactly(0).map(|rest| (Instr::MemorySize, rest))?),
         0x41 => Ok(read_const32(input)?),
-        0x42 => Ok(input.integer(64).map(|(word, rest)| (Instr::Const64(word), rest))?),
+        0x42 => Ok(
+            input
+                .integer(64)
+                .map(|(word, rest)| (Instr::Const64(word), rest))?,
+        ),
         0xfc => Ok(read_copy_or_fill(input)?),
         _ => Err(ReadError::Refused(Fault {
             row: no_opcode(opcode),
