@@ -1,3 +1,4 @@
 pub mod Groups
 pub mod Opcodes
 pub mod Spelled
+pub mod Written

@@ -1,5 +1,5 @@
 -- The opcode of an instruction is the one of the table.
-use Rattle.std.proofs.Common.{◌≡◌, ℕ, ◌+◌, Bool, true, false, cond, eqb, List, [], ◌∷◌, Option, Some, None, refl, sym, ap, subst, ◌∙◌}
+use Rattle.std.proofs.Common.{◌≡◌, ℕ, ◌+◌, Bool, true, false, cond, eqb, List, [], ◌∷◌, ◌++◌, Option, Some, None, refl, sym, ap, subst, ◌∙◌, append_assoc, append-nil}
 use Rattle.std.specs.Prelude.{◌==◌, ◌&&◌}
 use Rattle.std.proofs.lemmas.Bool.{false≢true, eqb-true, and_parts}
 use Rattle.sem_words.specs.declared.word.Bin.{Bin}
@@ -187,3 +187,10 @@ instruction_found byte i is = ap (λ o. behind o (immediates i)) (opcode_found b
 pub instruction_missing : (i : Instruction) → HasNoOpcode i → instruction i ≡ []
 unfolding instruction
 instruction_missing i none = ap (λ o. behind o (immediates i)) (opcode_missing i none)
+
+pub with_opcode : (front mid : List ℕ) (byte : ℕ) (i : Instruction) → IsOpcode byte i → mid ≡ front ++ byte ∷ [] → mid ++ immediates i ≡ front ++ instruction i
+with_opcode front mid byte i is m =
+    ap (λ m. m ++ immediates i) m ∙ append_assoc front (byte ∷ []) (immediates i) ∙ ap (λ b. front ++ b) (sym (instruction_found byte i is))
+
+pub without_opcode : (front : List ℕ) (i : Instruction) → HasNoOpcode i → front ≡ front ++ instruction i
+without_opcode front i none = sym (append-nil front) ∙ ap (λ b. front ++ b) (sym (instruction_missing i none))

@@ -1,6 +1,5 @@
 -- Lists of what is written, through views.
-use Rattle.std.proofs.Common.{◌≡◌, ℕ, zero, suc, ◌+◌, ◌<◌, ◌≤◌, List, [], ◌∷◌, ◌++◌, length, map, get_or, drop, refl, sym, ap, ◌∙◌, arith, append_assoc, append-nil, add-one, drop-cons}
-use Rattle.std.specs.List.{concat}
+use Rattle.std.proofs.Common.{◌≡◌, ℕ, zero, suc, ◌+◌, ◌<◌, ◌≤◌, List, [], ◌∷◌, ◌++◌, length, map, get_or, take, drop, refl, sym, ap, ◌∙◌, arith, append_assoc, append-nil, add-one, drop-cons}
 use Rattle.wasm_writer.specs.Spelling.{items, vector, section, sized, unsigned}
 
 pub items_map : {X Y : Type 0} (f : Y → List ℕ) (view : X → Y) (xs : List X) → items (λ x. f (view x)) xs ≡ items f (map view xs)
@@ -47,3 +46,15 @@ through now old own viewed e m = e ∙ ap (λ b. old ++ b) m
 -- a part that stands between what was there and the rest
 pub part : (old now own viewed rest : List ℕ) → now ≡ old ++ own → own ≡ viewed → now ++ rest ≡ old ++ (viewed ++ rest)
 part old now own viewed rest e m = ap (λ b. b ++ rest) (through now old own viewed e m) ∙ append_assoc old viewed rest
+
+pub begun : (now start rest : List ℕ) → now ≡ start → now ++ rest ≡ start ++ rest
+begun now start rest e = ap (λ b. b ++ rest) e
+
+pub section_viewed : {X Y : Type 0} (id : ℕ) (f : Y → List ℕ) (view : X → Y) (xs ys : List X) → xs ≡ ys → section id (λ x. f (view x)) xs ≡ section id f (map view ys)
+section_viewed id f view xs ys e = section_map id f view xs ∙ ap (λ l. section id f (map view l)) e
+
+pub take_past : {X : Type 0} (xs : List X) (i : ℕ) → length xs ≤ i → take i xs ≡ xs
+take_past [] zero h = refl
+take_past [] (suc i) h = refl
+take_past (x ∷ xs) zero h = absurd (omega arith)
+take_past (x ∷ xs) (suc i) h = ap (λ l. x ∷ l) (take_past xs i (omega arith))

@@ -54,11 +54,7 @@ fn push_code(alloc: Global, out: &mut Vec<u8>, code: &Code<'_>) -> Result<(), Al
     }
 }
 
-fn push_locals(
-    alloc: Global,
-    out: &mut Vec<u8>,
-    locals: &[ValType],
-) -> Result<(), AllocError>
+fn push_locals(alloc: Global, out: &mut Vec<u8>, locals: &[ValType]) -> Result<(), AllocError>
     ensures { OnOk result (out.new.items ≡ out.old.items ++ vector run (runs locals.now)) }
 {
     let list = runs_of(alloc, locals)?;

@@ -2,8 +2,8 @@
 ghost use Rattle.std.specs.Prelude.{◌≡◌, ◌∷◌, ◌++◌, OnOk};
 ghost use Rattle.wasm_writer.specs.Spelling.{unsigned};
 
-use crate::leb::push_unsigned;
 use crate::instrs::push_instrs;
+use crate::leb::push_unsigned;
 use crate::spell::{Spell, push_sized, push_vector};
 use crate::types::Table;
 use std::alloc::{AllocError, Global};

@@ -15,7 +15,6 @@ impl Spell for Instr {
 
     ghost spelling = { λ i. instruction (instr_of i) };
 
-    #[tactic(auto, using(crate::proofs::Opcodes::instruction_found, crate::proofs::Opcodes::instruction_missing))]
     fn push_to(&self, alloc: Global, out: &mut Vec<u8>) -> Result<(), AllocError> {
         match opcode(self) {
             Some(byte) => {
@@ -35,11 +34,7 @@ pub fn push_instrs(alloc: Global, out: &mut Vec<u8>, list: &[Instr]) -> Result<(
 }
 
 // What follows the opcode.
-fn push_immediates(
-    alloc: Global,
-    out: &mut Vec<u8>,
-    instr: &Instr,
-) -> Result<(), AllocError>
+fn push_immediates(alloc: Global, out: &mut Vec<u8>, instr: &Instr) -> Result<(), AllocError>
     ensures { OnOk result (out.new.items ≡ out.old.items ++ immediates (instr_of instr.now)) }
 {
     match instr {
@@ -48,9 +43,7 @@ fn push_immediates(
         Instr::If(kind) => push_block_type(alloc, out, *kind),
         Instr::Br(label) => push_unsigned(out, *label as usize),
         Instr::BrIf(label) => push_unsigned(out, *label as usize),
-        Instr::BrTable(labels, default) => {
-            push_labels(alloc, out, labels.as_slice(), *default)
-        }
+        Instr::BrTable(labels, default) => { push_labels(alloc, out, labels.as_slice(), *default) }
         Instr::Call(function) => push_unsigned(out, *function as usize),
         Instr::CallIndirect(function_type) => {
             push_unsigned(out, *function_type as usize)?;

@@ -34,12 +34,7 @@ pub fn push_s64(out: &mut Vec<u8>, word: u64) -> Result<(), AllocError>
 }
 
 // Seven bits of a number in a byte, as they are or turned round, the last below the limit.
-fn push_groups(
-    out: &mut Vec<u8>,
-    number: u64,
-    limit: u64,
-    turned: bool,
-) -> Result<(), AllocError>
+fn push_groups(out: &mut Vec<u8>, number: u64, limit: u64, turned: bool) -> Result<(), AllocError>
     requires { (0 < limit) × (limit ≤ 128) }
     ensures { OnOk result (out.new.items ≡ out.old.items ++ groups limit turned number) }
 {

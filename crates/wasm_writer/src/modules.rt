@@ -43,11 +43,7 @@ fn push_tables(alloc: Global, out: &mut Vec<u8>, tables: &[Limits]) -> Result<()
     push_section(alloc, out, 4, &list)
 }
 
-fn push_start(
-    alloc: Global,
-    out: &mut Vec<u8>,
-    start: Option<u32>,
-) -> Result<(), AllocError>
+fn push_start(alloc: Global, out: &mut Vec<u8>, start: Option<u32>) -> Result<(), AllocError>
     ensures { OnOk result (out.new.items ≡ out.old.items ++ start_section start) }
 {
     let Some(function) = start else {

@@ -15,11 +15,7 @@ pub trait Spell {
 }
 
 /// Appends items, one after another.
-pub fn push_items<T: Spell>(
-    alloc: Global,
-    out: &mut Vec<u8>,
-    list: &[T],
-) -> Result<(), AllocError>
+pub fn push_items<T: Spell>(alloc: Global, out: &mut Vec<u8>, list: &[T]) -> Result<(), AllocError>
     ensures { OnOk result (out.new.items ≡ out.old.items ++ items T.spelling list.now) }
 {
     for item in list {
@@ -29,11 +25,7 @@ pub fn push_items<T: Spell>(
 }
 
 /// Appends their count and the items.
-pub fn push_vector<T: Spell>(
-    alloc: Global,
-    out: &mut Vec<u8>,
-    list: &[T],
-) -> Result<(), AllocError>
+pub fn push_vector<T: Spell>(alloc: Global, out: &mut Vec<u8>, list: &[T]) -> Result<(), AllocError>
     ensures { OnOk result (out.new.items ≡ out.old.items ++ vector T.spelling list.now) }
 {
     push_unsigned(out, list.len())?;
