@@ -1,3 +1,6 @@
+pub mod BestEntries
+pub mod BestCode
+pub mod Best
 pub mod Groups
 pub mod Opcodes
 pub mod Spelled
