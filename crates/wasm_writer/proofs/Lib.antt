@@ -1,3 +1,5 @@
+pub mod BestModule
+pub mod Locals
 pub mod BestEntries
 pub mod BestCode
 pub mod Best

@@ -7,9 +7,11 @@
 mod code;
 mod entries;
 mod instrs;
+mod laws;
 mod leb;
 mod modules;
 mod spell;
 mod types;
 
+pub use laws::spelling_laws;
 pub use modules::write;
