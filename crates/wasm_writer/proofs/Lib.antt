@@ -1,3 +1,4 @@
+pub mod Examples
 pub mod BestModule
 pub mod Locals
 pub mod BestEntries
