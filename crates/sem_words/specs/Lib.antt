@@ -1,2 +1,4 @@
+pub mod JsOperators
+pub mod JsValues
 pub mod Lists
 pub mod Words

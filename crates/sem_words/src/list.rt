@@ -1,11 +1,11 @@
 //! A list of values, for trees and scripts.
-ghost use Rattle.std.specs.Prelude.{◌≡◌, [], ◌∷◌, ◌++◌, length, IfErr, IsTrue, OnOk, OnErr, ◌↔◌, option_copied, slice_get};
+ghost use Rattle.std.specs.Prelude.{◌≡◌, ◌<◌, [], ◌∷◌, ◌++◌, length, IfErr, IsSome, IsTrue, OnOk, OnErr, ◌↔◌, option_copied, slice_get};
 ghost use Rattle.sem_words.specs.Lists.{list_items};
 
 use std::alloc::Global;
 
 /// A list of values that owns them. It may stand inside the type of its own values.
-#[derive(Drop)]
+#[derive(PartialEq, Eq, Debug, Drop)]
 pub struct List<T> {
     items: Vec<T>,
 }
@@ -48,7 +48,8 @@ impl<T> List<T> {
 
     /// The item at `i`, or None past the end.
     pub fn get(&self, i: usize) -> Option<&T>
-        ensures { option_copied result ≡ slice_get (list_items self.now) i }
+        ensures value { option_copied result ≡ slice_get (list_items self.now) i }
+        ensures found { IsSome result ↔ (i < length (list_items self.now)) }
     {
         self.items.get(i)
     }

@@ -5,7 +5,7 @@ ghost use Rattle.sem_words.specs.Lists.{text_bytes};
 use std::alloc::{AllocError, Global};
 
 /// A list of bytes that owns them. Nothing is said of their encoding.
-#[derive(Drop)]
+#[derive(PartialEq, Eq, Debug, Drop)]
 pub struct Text {
     bytes: Vec<u8>,
 }

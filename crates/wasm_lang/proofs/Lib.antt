@@ -1,13 +1,5 @@
 pub mod Examples
 pub mod Numbers
-pub mod ReadingLaws
-pub mod ReadingLawsTypes
-pub mod ReadingLawsCode
-pub mod ReadingLawsNesting
-pub mod ReadingLawsExpressions
-pub mod ReadingLawsEntries
-pub mod ReadingLawsSections
-pub mod ReadingLawsModule
 pub mod Fields
 pub mod Spelled
 pub mod Table
@@ -15,3 +7,11 @@ pub mod Inversion
 pub mod ReadInstructions
 pub mod Nesting
 pub mod Expressions
+pub mod ReadingLaws
+pub mod ReadingLawsTypes
+pub mod ReadingLawsCode
+pub mod ReadingLawsEntries
+pub mod ReadingLawsSections
+pub mod ReadingLawsModule
+pub mod ReadingLawsOne
+pub mod ReadingLawsPlaces

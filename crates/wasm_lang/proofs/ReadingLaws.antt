@@ -1,17 +1,16 @@
 -- Steps of the two laws of each field: what is spelled is read (`Gives`), and only what is spelled is read (`Only`).
-use Rattle.std.proofs.Common.{◌≡◌, ℕ, zero, suc, ◌+◌, ◌-◌, ◌<◌, ◌≤◌, Bool, true, false, cond, eqb, leb, List, [], ◌∷◌, ◌++◌, length, take, drop, refl, sym, ap, ap₂, ◌∙◌, subst, arith, length-append, length-take-le, take-append-drop}
+use Rattle.std.proofs.Common.{◌≡◌, ℕ, zero, suc, ◌+◌, ◌-◌, Bool, true, false, cond, List, [], ◌∷◌, length, refl, sym, ap, ◌∙◌, subst}
 use Rattle.std.specs.Prelude.{Result, Ok, Err}
 use Rattle.std.specs.List.{AllByRecursion}
-use Rattle.std.proofs.lemmas.Bool.{eqb-true, eq-eqb, leb-true, le-leb}
-use Rattle.std.proofs.Math.Seq.{take-append_seam, drop-append_seam}
+use Rattle.std.proofs.lemmas.Bool.{eqb-true, eq-eqb}
 use Rattle.wasm_lang.specs.declared.fault.Fault.{Fault}
 use Rattle.wasm_lang.specs.declared.fault.Row.{Row}
-use Rattle.wasm_lang.specs.declared.fault.Row.TheVariants.{SectionSize, UnknownByte, Limit}
+use Rattle.wasm_lang.specs.declared.fault.Row.TheVariants.{SectionSize, UnknownByte}
 use Rattle.wasm_lang.specs.declared.fault.NumberFault.{NumberFault}
 use Rattle.wasm_lang.specs.declared.fault.NumberFault.TheVariants.{Illegal, Ends}
 use Rattle.wasm_lang.specs.Numbers.{IsU32, IsInteger}
-use Rattle.wasm_lang.specs.Grammar.{Spelling, Items, no_item, item, IsVec, IsBytes, IsSized}
-use Rattle.wasm_lang.specs.Reading.{Input, Field, ◌>>=◌, fault, expects, unsigned_at, integer_at, byte_field, byte, number_field, u32_field, u32, integer, exactly, onto, items_field, vec_field, count_field, bytes_field, nothing_left, sized}
+use Rattle.wasm_lang.specs.Grammar.{Spelling, Items, no_item, item, IsVec}
+use Rattle.wasm_lang.specs.Reading.{Input, Field, ◌>>=◌, expects, unsigned_at, integer_at, byte_field, number_field, u32_field, integer, exactly, onto, items_field, vec_field}
 use Rattle.wasm_lang.proofs.Numbers.{unsigned_reads, unsigned_is, integer_reads, integer_is}
 
 -- bytes at a place

@@ -1,14 +1,10 @@
 -- The two laws of the entries of sections.
-use Rattle.std.proofs.Common.{◌≡◌, ℕ, zero, suc, ◌+◌, ◌-◌, ◌<◌, ◌≤◌, Bool, true, false, cond, eqb, leb, List, [], ◌∷◌, ◌++◌, length, replicate, Option, Some, None, refl, sym, ap, ap₂, ◌∙◌, subst, arith, length-append, le_trans}
-use Rattle.std.specs.Prelude.{Result, Ok, Err, slice_get}
+use Rattle.std.proofs.Common.{◌≡◌, ℕ, zero, suc, ◌+◌, ◌≤◌, ◌<◌, ◌^◌, true, eqb, List, [], ◌∷◌, ◌++◌, length, replicate, refl, sym, ap, ◌∙◌, subst, arith, length-append}
 use Rattle.std.specs.List.{AllByRecursion, zip}
 use Rattle.std.proofs.lemmas.List.{length-replicate}
 use Rattle.std.proofs.lemmas.Bool.{eqb-true, leb-true, le-leb}
-use Rattle.wasm_lang.specs.declared.fault.Fault.{Fault}
-use Rattle.wasm_lang.specs.declared.fault.Row.TheVariants.{SectionSize, UnknownByte, Limit}
+use Rattle.wasm_lang.specs.declared.fault.Row.TheVariants.{SectionSize, Limit}
 use Rattle.wasm_lang.specs.declared.types.ValType.{ValType}
-use Rattle.wasm_lang.specs.declared.types.Limits.{Limits}
-use Rattle.wasm_lang.specs.declared.types.GlobalType.{GlobalType}
 use Rattle.wasm_lang.specs.declared.types.ImportKind.{ImportKind}
 use Rattle.wasm_lang.specs.declared.types.ImportKind.TheVariants as imports
 use Rattle.wasm_lang.specs.declared.types.ExportKind.{ExportKind}
@@ -17,12 +13,12 @@ use Rattle.wasm_lang.specs.Instructions.{Instruction}
 use Rattle.wasm_lang.specs.Modules.{FunctionType, Imported, GlobalEntry, Exported, ElementSegment, DataSegment, FunctionBody}
 use Rattle.wasm_lang.specs.Numbers.{IsU32}
 use Rattle.wasm_lang.specs.Limits.{most_functions, most_globals, most_params, most_locals, most_levels, function_imports, global_imports, levels, params_of, MayImport}
-use Rattle.wasm_lang.specs.Grammar.{Spelling, Items, no_item, item, IsVec, IsSized, IsImportKind, function_import, table_import, memory_import, global_import, IsImport, an_import, IsGlobal, a_global, IsExportKind, function_export, table_export, memory_export, global_export, IsExport, an_export, IsElement, an_element, locals_of, IsRun, a_run, IsFunctionBody, a_body, IsSegment, a_segment}
-use Rattle.wasm_lang.specs.Reading.{Input, Field, ◌>>=◌, u32}
+use Rattle.wasm_lang.specs.Grammar.{Items, no_item, item, IsSized, IsImportKind, function_import, table_import, memory_import, global_import, IsImport, an_import, IsGlobal, a_global, IsExportKind, function_export, table_export, memory_export, global_export, IsExport, an_export, IsElement, an_element, locals_of, IsRun, a_run, IsFunctionBody, a_body, IsSegment, a_segment}
+use Rattle.wasm_lang.specs.Reading.{Input, u32}
 use Rattle.wasm_lang.specs.ReadingModule.{import_kind_field, import_field, imports_field, global_field, export_kind_field, export_field, element_field, segment_field, runs_field, body_content, body_field, bodies_field}
 use Rattle.wasm_lang.proofs.ReadingLaws.{from, leaves, Gives, Only, ok_gives, bind_gives, expects_gives, onto_gives, ok_only, err_only, bind_only, expects_only, onto_only, if_only, weaker_only, byte_only, u32_gives, u32_only, vec_gives, vec_of, vec_only}
 use Rattle.wasm_lang.proofs.ReadingLawsTypes.{all_are, count_gives, count_only, bytes_gives, bytes_only, name_gives, name_only, fits, sized_gives, sized_only, size_count, sized_of, val_type_gives, val_type_only, memory_gives, memory_only, table_gives, table_only, global_type_gives, global_type_only}
-use Rattle.wasm_lang.proofs.ReadingLawsExpressions.{code_gives, code_only}
+use Rattle.wasm_lang.proofs.ReadingLawsCode.{code_gives, code_only}
 
 -- ---- imports
 
@@ -203,7 +199,7 @@ abbrev pub BodyFits : ℕ → FunctionBody → Type 0
 BodyFits params b = (params + length b.locals ≤ most_locals) × (levels b.code ≤ most_levels)
 
 content_gives : (params : ℕ) (b : FunctionBody) (xs ys : List ℕ) (at : ℕ) → BodyFits params b → IsFunctionBody b xs ys → Gives (body_content params (from at xs)) (leaves b ys)
-content_gives params b xs ys at f (a_body {runs = runs} {code = code} {ys = ms} v c) =
+content_gives params b xs ys at f (a_body {runs = runs} {code = code} {ys = ms} v c few) =
     bind_gives _ (u32_gives SectionSize at v.count) (λ at.
     bind_gives _ (runs_gives runs params v.after_count ms f.0 v.items at) (λ at.
     bind_gives _ (code_gives code ms ys at f.1 c) (λ at. ok_gives at)))
@@ -211,12 +207,16 @@ content_gives params b xs ys at f (a_body {runs = runs} {code = code} {ys = ms} 
 body_of : (runs : List (ℕ × ValType)) {locals : List ValType} {code : List Instruction} {xs zs : List ℕ} → IsFunctionBody (record { locals = locals_of runs; code = code }) xs zs → locals_of runs ≡ locals → IsFunctionBody (record { locals = locals; code = code }) xs zs
 body_of runs {code = code} {xs = xs} {zs = zs} h e = subst (λ l. IsFunctionBody (record { locals = l; code = code }) xs zs) e h
 
+-- within the reader's limit there are fewer than 2 ^ 32
+few_locals : (params : ℕ) (runs : List (ℕ × ValType)) (locals : List ValType) → locals_of runs ≡ locals → params + length locals ≤ most_locals → length (locals_of runs) < 2 ^ 32
+few_locals params runs locals e fits = let n : length (locals_of runs) ≡ length locals = ap length e in omega arith
+
 content_only : (params : ℕ) (i : Input) → params ≤ most_locals → Only (body_content params i) (λ x. IsFunctionBody x.0 i.bytes x.1.bytes × BodyFits params x.0)
 content_only params i le =
     bind_only _ (u32_only SectionSize i) (λ n c.
     bind_only _ (runs_only params n.0 n.1 le) (λ locals r.
     bind_only _ (code_only locals.1) (λ code b.
-    ok_only (body_of r.0 (a_body (vec_of c r.1 r.2) b.0) r.3, (r.4, b.1)))))
+    ok_only (body_of r.0 (a_body (vec_of c r.1 r.2) b.0 (few_locals params r.0 locals.0 r.3 r.4)) r.3, (r.4, b.1)))))
 
 body_gives : (params : ℕ) (b : FunctionBody) (xs ys : List ℕ) (at : ℕ) → BodyFits params b → IsSized IsFunctionBody b xs ys → Gives (body_field params (from at xs)) (leaves b ys)
 body_gives params b xs ys at f s =

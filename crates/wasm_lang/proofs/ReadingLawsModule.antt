@@ -1,10 +1,9 @@
 -- The two laws of whole modules.
-use Rattle.std.proofs.Common.{◌≡◌, ℕ, zero, suc, ◌+◌, ◌-◌, ◌<◌, ◌≤◌, Bool, true, false, cond, eqb, leb, List, [], ◌∷◌, ◌++◌, length, Option, Some, None, refl, sym, ap, ap₂, ◌∙◌, subst, arith, append_assoc}
-use Rattle.std.specs.Prelude.{Result, Ok, Err, All, MatchResult}
+use Rattle.std.proofs.Common.{◌≡◌, ℕ, ◌+◌, ◌<◌, ◌≤◌, true, List, [], ◌∷◌, ◌++◌, length, Option, Some, None, refl, sym, ap, ◌∙◌, subst, arith}
+use Rattle.std.specs.Prelude.{Ok, All}
 use Rattle.std.specs.List.{AllByRecursion, zip}
 use Rattle.std.proofs.lemmas.List.Elements.{All-from_recursion, recursion_from_All}
 use Rattle.std.proofs.lemmas.Bool.{eqb-true, eq-eqb}
-use Rattle.wasm_lang.specs.declared.fault.Fault.{Fault}
 use Rattle.wasm_lang.specs.declared.fault.Row.TheVariants.{Magic, Version, SectionSize, Counts}
 use Rattle.wasm_lang.specs.declared.types.Limits.{Limits}
 use Rattle.wasm_lang.specs.Modules.{FunctionType, Imported, GlobalEntry, Exported, ElementSegment, DataSegment, FunctionBody, WasmModule}
@@ -12,12 +11,12 @@ use Rattle.wasm_lang.specs.Numbers.{IsU32}
 use Rattle.wasm_lang.specs.Limits.{most_types, most_functions, most_params, most_locals, most_levels, most_globals, most_entries, function_imports, global_imports, params_of, levels, MayImport, IsWithinReader}
 use Rattle.wasm_lang.specs.Grammar.{Spelling, Items, IsVec, IsSized, IsFunctionType, IsImport, IsTable, IsLimits, IsGlobal, IsExport, IsElement, IsFunctionBody, IsSegment, IsSection, IsNumberSection, IsCustoms, no_custom, header, IsModuleBytes}
 use Rattle.wasm_lang.specs.Grammar as grammar
-use Rattle.wasm_lang.specs.Reading.{Input, Field, ◌>>=◌, u32, onto, items_field, vec_field}
-use Rattle.wasm_lang.specs.ReadingModule.{function_type_field, table_field, memory_field, global_field, export_field, element_field, segment_field, types_content, imports_content, functions_content, globals_content, bodies_content, counts, segments_content, header_field, end_field, read_module}
-use Rattle.wasm_lang.proofs.ReadingLaws.{from, leaves, Gives, Only, inner, ok_gives, equal_gives, bind_gives, expects_gives, ok_only, err_only, bind_only, expects_only, weaker_only, u32_gives, u32_only, items_gives, items_only, vec_gives, vec_of, vec_only}
+use Rattle.wasm_lang.specs.Reading.{Input, u32, onto, items_field, vec_field}
+use Rattle.wasm_lang.specs.ReadingModule.{function_type_field, table_field, memory_field, global_field, export_field, element_field, segment_field, types_content, imports_content, functions_content, globals_content, bodies_content, counts, segments_content, end_field, read_module}
+use Rattle.wasm_lang.proofs.ReadingLaws.{from, leaves, Gives, Only, ok_gives, bind_gives, expects_gives, ok_only, bind_only, expects_only, weaker_only, u32_gives, u32_only, items_gives, items_only, vec_gives, vec_of, vec_only}
 use Rattle.wasm_lang.proofs.ReadingLawsTypes.{all_are, counted_gives, counted_only, function_type_gives, function_type_only, memory_gives, memory_only, table_gives, table_only}
-use Rattle.wasm_lang.proofs.ReadingLawsEntries.{imports_gives, imports_only, global_gives, global_only, export_gives, export_only, numbers_gives, numbers_only, element_gives, element_only, segment_gives, segment_only, BodyFits, BodiesFit, bodies_gives, bodies_only, params_within}
-use Rattle.wasm_lang.proofs.ReadingLawsSections.{IsPart, IsSome, Comes, section_part, part_section, number_part, part_number, part_comes, part_then, part_only, number_gives, number_only, header_only, last_gives, last_only, rest_is}
+use Rattle.wasm_lang.proofs.ReadingLawsEntries.{imports_gives, imports_only, global_gives, global_only, export_gives, export_only, numbers_gives, numbers_only, element_gives, element_only, segment_gives, segment_only, BodiesFit, bodies_gives, bodies_only, params_within}
+use Rattle.wasm_lang.proofs.ReadingLawsSections.{IsSome, Comes, section_part, part_section, number_part, part_number, part_comes, part_then, part_only, number_gives, number_only, header_only, last_gives, last_only, rest_is}
 
 -- ---- contents of sections
 
@@ -121,7 +120,7 @@ levels_fit types (f ∷ fs) (b ∷ bs) e p = (p.0.1, levels_fit types fs bs (let
 -- ---- what is spelled is read
 
 -- what comes after each section
-record Comings {bytes : List ℕ} {m : WasmModule} (b : IsModuleBytes bytes m) : Type 0 where
+pub record Comings {bytes : List ℕ} {m : WasmModule} (b : IsModuleBytes bytes m) : Type 0 where
   pub after_types : Comes (2 ∷ 3 ∷ 4 ∷ 5 ∷ 6 ∷ 7 ∷ 8 ∷ 9 ∷ 12 ∷ 10 ∷ 11 ∷ []) b.after_types
   pub after_imports : Comes (3 ∷ 4 ∷ 5 ∷ 6 ∷ 7 ∷ 8 ∷ 9 ∷ 12 ∷ 10 ∷ 11 ∷ []) b.after_imports
   pub after_functions : Comes (4 ∷ 5 ∷ 6 ∷ 7 ∷ 8 ∷ 9 ∷ 12 ∷ 10 ∷ 11 ∷ []) b.after_functions
@@ -135,7 +134,7 @@ record Comings {bytes : List ℕ} {m : WasmModule} (b : IsModuleBytes bytes m) :
   pub after_bodies : Comes (11 ∷ []) b.after_bodies
   pub after_segments : Comes [] b.after_segments
 
-comings : (bytes : List ℕ) (m : WasmModule) (b : IsModuleBytes bytes m) → Comings b
+pub comings : (bytes : List ℕ) (m : WasmModule) (b : IsModuleBytes bytes m) → Comings b
 comings bytes m b =
     let s11 : Comes [] b.after_segments = ([], b.ends, refl) in
     let s10 : Comes (11 ∷ []) b.after_bodies = part_comes 11 (IsVec IsSegment) [] m.segments b.after_bodies b.after_segments [] (section_part b.segments) s11 in
@@ -266,13 +265,3 @@ only bytes all =
 
 pub spelled_as_read : (bytes : List ℕ) (m : WasmModule) → All (λ b. b < 256) bytes → read_module bytes ≡ Ok m → IsModuleBytes bytes m × IsWithinReader m
 spelled_as_read bytes m all q = (only bytes all).holds m q
-
-abbrev Found : List ℕ → Result WasmModule Fault → Type 0
-Found bytes r = MatchResult r (λ m. IsModuleBytes bytes m × IsWithinReader m × ((n : WasmModule) → IsModuleBytes bytes n → IsWithinReader n → m ≡ n)) (λ f. (n : WasmModule) → IsModuleBytes bytes n → ¬ IsWithinReader n)
-
-pub module_or_fault : (bytes : List ℕ) → All (λ b. b < 256) bytes → Found bytes (read_module bytes)
-module_or_fault bytes all = by (read_module bytes) refl
-  where
-    by : (r : Result WasmModule Fault) → read_module bytes ≡ r → Found bytes r
-    by (Ok m) e = let h = spelled_as_read bytes m all e in (h.0, h.1, λ n b w. inner (sym e ∙ reads_what_is_spelled bytes n b w))
-    by (Err f) e = λ n b w. let q : Err f ≡ Ok n = sym e ∙ reads_what_is_spelled bytes n b w in cc

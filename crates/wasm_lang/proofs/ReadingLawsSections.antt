@@ -1,6 +1,6 @@
 -- The two laws of sections, between which custom sections may stand.
-use Rattle.std.proofs.Common.{◌≡◌, ◌⊎◌, inl, inr, ℕ, zero, suc, ◌+◌, ◌-◌, ◌<◌, ◌≤◌, Bool, true, false, cond, eqb, leb, List, [], ◌∷◌, ◌++◌, length, drop, Option, Some, None, refl, sym, ap, ap₂, ◌∙◌, subst, arith, length-append, append-nil, le_refl}
-use Rattle.std.specs.Prelude.{Result, Ok, Err}
+use Rattle.std.proofs.Common.{◌≡◌, ◌⊎◌, inl, inr, ℕ, zero, suc, ◌+◌, ◌≤◌, Bool, true, false, cond, eqb, List, [], ◌∷◌, ◌++◌, length, drop, Option, Some, None, refl, sym, ap, ap₂, ◌∙◌, subst, arith, length-append, append-nil, le_refl}
+use Rattle.std.specs.Prelude.{Result, Ok}
 use Rattle.std.proofs.lemmas.Bool.{false≢true, eqb-true, eq-eqb}
 use Rattle.wasm_lang.specs.declared.fault.Fault.{Fault}
 use Rattle.wasm_lang.specs.declared.fault.Row.{Row}
@@ -11,7 +11,7 @@ use Rattle.wasm_lang.specs.Reading.{Input, Field, ◌>>=◌, u32, onto}
 use Rattle.wasm_lang.specs.ReadingModule.{section_field, custom_content, begins_with, after_id, customs_within, customs_field, part_field, header_field}
 use Rattle.wasm_lang.proofs.ReadingLaws.{from, leaves, Gives, Only, inner, ok_gives, equal_gives, bind_gives, onto_gives, ok_only, bind_only, expects_only, onto_only, if_only, weaker_only, byte_only, u32_gives, u32_only}
 use Rattle.wasm_lang.proofs.ReadingLawsTypes.{name_gives, name_only, section_gives, section_only}
-use Rattle.wasm_lang.proofs.ReadingLawsExpressions.{u32_shrinks}
+use Rattle.wasm_lang.proofs.Fields.{unsigned_shrinks}
 
 -- ---- custom sections
 
@@ -30,11 +30,11 @@ custom_only i = weaker_only (section_only IsNamed (λ v. Unit {0}) custom_conten
     content : (i : Input) → Only (custom_content i) (λ x. IsNamed x.0 i.bytes x.1.bytes × Unit {0})
     content i = bind_only _ (name_only i) (λ n h. ok_only ((n.1.bytes, subst (λ l. IsName n.0 i.bytes l) (sym (append-nil n.1.bytes)) h), tt))
 
-customs_on : {xs ys zs : List ℕ} → IsCustoms xs ys → IsCustoms ys zs → IsCustoms xs zs
+pub customs_on : {xs ys zs : List ℕ} → IsCustoms xs ys → IsCustoms ys zs → IsCustoms xs zs
 customs_on no_custom d = d
 customs_on (custom s c) d = custom s (customs_on c d)
 
-customs_are : {xs zs : List ℕ} → IsCustoms xs zs → (xs ≡ zs) ⊎ ((rest bs ys : List ℕ) × (xs ≡ 0 ∷ bs) × IsSized IsCustom rest bs ys × IsCustoms ys zs)
+pub customs_are : {xs zs : List ℕ} → IsCustoms xs zs → (xs ≡ zs) ⊎ ((rest bs ys : List ℕ) × (xs ≡ 0 ∷ bs) × IsSized IsCustom rest bs ys × IsCustoms ys zs)
 customs_are no_custom = inl refl
 customs_are (custom {rest = rest} {xs = bs} {ys = ys} s c) = inr (rest, bs, ys, refl, s, c)
 
@@ -49,7 +49,7 @@ tail_is : {b c : ℕ} {bs cs : List ℕ} → ◌≡◌ {A = List ℕ} (b ∷ bs)
 tail_is e = ap (drop 1) e
 
 -- some of the custom sections, and then the others
-customs_between : {xs ys zs : List ℕ} → IsCustoms xs ys → IsCustoms xs zs → begins_with 0 zs ≡ false → IsCustoms ys zs
+pub customs_between : {xs ys zs : List ℕ} → IsCustoms xs ys → IsCustoms xs zs → begins_with 0 zs ≡ false → IsCustoms ys zs
 customs_between no_custom d e = d
 customs_between {ys = ks} {zs = zs} (custom {rest = rest} {xs = bs} {ys = ms} s c) d e = by (λ d. customs_between c d e) (customs_are d)
   where
@@ -66,10 +66,10 @@ customs_gives {zs = zs} no_custom e (suc n) le at =
 customs_gives (custom {xs = bs} s c) e zero le at = let l : length (0 ∷ bs) ≤ 0 = le in absurd (omega arith)
 customs_gives (custom {rest = rest} {xs = bs} {ys = ms} s c) e (suc n) le at =
     let l : length (0 ∷ bs) ≤ suc n = le in
-    let k : length ms ≤ n = omega (arith, u32_shrinks (length s.content) bs s.after_size s.size, ap length s.stands, length-append s.content ms) in
+    let k : length ms ≤ n = omega (arith, unsigned_shrinks 32 (length s.content) bs s.after_size s.size, ap length s.stands, length-append s.content ms) in
     bind_gives _ (custom_gives rest bs ms s (at + 1)) (λ at. customs_gives c e n k at)
 
-begins_is : (id : ℕ) (bs : List ℕ) → begins_with id bs ≡ true → id ∷ drop 1 bs ≡ bs
+pub begins_is : (id : ℕ) (bs : List ℕ) → begins_with id bs ≡ true → id ∷ drop 1 bs ≡ bs
 begins_is id [] e = cc
 begins_is id (b ∷ bs) e = ap (λ b. b ∷ bs) (sym (eqb-true b id e))
 
@@ -95,7 +95,7 @@ heads ids (b ∷ bs) = member ids b
 abbrev pub Comes : List ℕ → List ℕ → Type 0
 Comes ids xs = (zs : List ℕ) × IsCustoms xs zs × (heads ids zs ≡ true)
 
-not_begins : (ids : List ℕ) (id : ℕ) (zs : List ℕ) → member ids id ≡ false → heads ids zs ≡ true → begins_with id zs ≡ false
+pub not_begins : (ids : List ℕ) (id : ℕ) (zs : List ℕ) → member ids id ≡ false → heads ids zs ≡ true → begins_with id zs ≡ false
 not_begins ids id [] e h = refl
 not_begins ids id (b ∷ bs) e h = by (eqb b id) refl
   where
@@ -148,16 +148,22 @@ pub part_gives : {X : Type 0} {P : Spelling X} {absent v : X} {xs ys rs : List �
     → (qs : List ℕ) × IsCustoms ys qs × ((at : ℕ) → Gives (part_field id absent content (from at rs)) (leaves v qs))
 part_gives {absent = absent} {v = v} {rs = rs} id ids content nonzero apart zero_apart h (inl p) r c =
     let zs = c.0 in
-    let e = not_begins ids 0 zs zero_apart c.2 in
-    (zs, c.1, λ at.
-    bind_gives _ (customs_gives (customs_between r (customs_on p.1 c.1) e) e (length rs) (le_refl (length rs)) at) (λ at.
-    record { place = at; is = ap₂ (λ b v. cond b (section_field content (after_id (from at zs))) (Ok (v, from at zs))) (not_begins ids id zs apart c.2) (sym p.0) }))
+    let e = not_begins ids 0 zs zero_apart c.2 in (
+      zs,
+      c.1,
+      λ at.
+          bind_gives _ (customs_gives (customs_between r (customs_on p.1 c.1) e) e (length rs) (le_refl (length rs)) at) (λ at.
+          record { place = at; is = ap₂ (λ b v. cond b (section_field content (after_id (from at zs))) (Ok (v, from at zs))) (not_begins ids id zs apart c.2) (sym p.0) }),
+    )
 part_gives {absent = absent} {v = v} {ys = ys} {rs = rs} id ids content nonzero apart zero_apart h (inr p) r c =
-    let zs = p.0 in
-    (ys, no_custom, λ at.
-    bind_gives _ (customs_gives (customs_between r p.1 nonzero) nonzero (length rs) (le_refl (length rs)) at) (λ at.
-    equal_gives (ap (λ b. cond b (section_field content (from (at + 1) zs)) (Ok (absent, from at (id ∷ zs)))) (eq-eqb id id refl))
-    (section_gives v content p.2 (λ at. h p.2.content at p.2.is) (at + 1))))
+    let zs = p.0 in (
+      ys,
+      no_custom,
+      λ at.
+          bind_gives _ (customs_gives (customs_between r p.1 nonzero) nonzero (length rs) (le_refl (length rs)) at) (λ at.
+          equal_gives (ap (λ b. cond b (section_field content (from (at + 1) zs)) (Ok (absent, from at (id ∷ zs)))) (eq-eqb id id refl))
+          (section_gives v content p.2 (λ at. h p.2.content at p.2.is) (at + 1))),
+    )
 
 -- the same, and what is read after it
 pub part_then : {X Y : Type 0} {P : Spelling X} {absent v : X} {xs ys rs : List ℕ} {y : ℕ → Y} (id : ℕ) (ids : List ℕ) (content : Input → Field X) (g : X × Input → Result Y Fault)

@@ -1,14 +1,13 @@
 -- The two laws of counts, bytes, names, sized parts and types.
-use Rattle.std.proofs.Common.{◌≡◌, ℕ, zero, suc, ◌+◌, ◌-◌, ◌<◌, ◌≤◌, Bool, true, false, cond, eqb, leb, List, [], ◌∷◌, ◌++◌, length, take, drop, Option, Some, None, refl, sym, ap, ap₂, ◌∙◌, subst, arith, length-append, take-append-drop}
-use Rattle.std.specs.Prelude.{Result, Ok, Err}
+use Rattle.std.proofs.Common.{◌≡◌, ℕ, ◌+◌, ◌≤◌, Bool, true, false, leb, List, [], ◌∷◌, ◌++◌, length, take, drop, Option, Some, None, refl, sym, ap, ap₂, ◌∙◌, subst, arith, length-append, take-append-drop}
+use Rattle.std.specs.Prelude.{Ok}
 use Rattle.std.specs.List.{AllByRecursion}
-use Rattle.std.specs.Str.{IsUtf8, is_utf8}
+use Rattle.std.specs.Str.{is_utf8}
 use Rattle.std.proofs.lemmas.List.{length-take-le}
 use Rattle.std.proofs.lemmas.Str.{IsUtf8-from_is_utf8, is_utf8-from_IsUtf8}
 use Rattle.std.proofs.lemmas.Bool.{eqb-true, leb-true, le-leb}
 use Rattle.std.proofs.Math.Seq.{take-append_seam, drop-append_seam}
-use Rattle.wasm_lang.specs.declared.fault.Fault.{Fault}
-use Rattle.wasm_lang.specs.declared.fault.Row.TheVariants.{SectionSize, UnknownByte, Limit, Utf8, Truncated}
+use Rattle.wasm_lang.specs.declared.fault.Row.TheVariants.{SectionSize, Limit, Utf8, Truncated}
 use Rattle.wasm_lang.specs.declared.types.ValType.{ValType}
 use Rattle.wasm_lang.specs.declared.types.ValType.TheVariants.{I32, I64}
 use Rattle.wasm_lang.specs.declared.types.Limits.{Limits}
@@ -16,7 +15,7 @@ use Rattle.wasm_lang.specs.declared.types.GlobalType.{GlobalType}
 use Rattle.wasm_lang.specs.Modules.{FunctionType}
 use Rattle.wasm_lang.specs.Numbers.{IsU32}
 use Rattle.wasm_lang.specs.Limits.{most_params, most_entries}
-use Rattle.wasm_lang.specs.Grammar.{Spelling, Items, IsVec, IsBytes, IsName, IsSized, IsValType, i32_type, i64_type, IsBlockType, no_result, one_result, IsFunctionType, function_type, IsLimits, only_min, min_and_max, IsTable, a_table, IsMutable, is_constant, is_variable, IsGlobalType, global_type}
+use Rattle.wasm_lang.specs.Grammar.{Spelling, IsVec, IsBytes, IsName, IsSized, IsValType, i32_type, i64_type, IsBlockType, no_result, one_result, IsFunctionType, function_type, IsLimits, only_min, min_and_max, IsTable, a_table, IsMutable, is_constant, is_variable, IsGlobalType, global_type}
 use Rattle.wasm_lang.specs.Reading.{Input, Field, ◌>>=◌, u32, items_field, count_field, bytes_field, name_field, sized, val_type_of, val_type_field, block_type_field}
 use Rattle.wasm_lang.specs.ReadingModule.{function_type_field, flag_field, limits_by, memory_field, table_field, global_type_field, section_field}
 use Rattle.wasm_lang.proofs.ReadingLaws.{from, leaves, Gives, Only, ok_gives, equal_gives, bind_gives, expects_gives, ok_only, err_only, bind_only, expects_only, if_only, weaker_only, byte_only, u32_gives, u32_only, exactly_only, items_gives, items_only, vec_gives, vec_of, vec_only}
@@ -166,7 +165,7 @@ limits_gives Q min h l xs ys at q (only_min {n = n} {xs = bs} c) = bind_gives _ 
 limits_gives Q min h l xs ys at q (min_and_max {n = n} {xs = bs} {ys = ms} c d) =
     bind_gives _ (h n bs ms (at + 1) q c) (λ at. bind_gives _ (u32_gives SectionSize at d) (λ at. ok_gives at))
 
-abbrev max_if : Bool → ℕ → Input → Field Limits
+abbrev pub max_if : Bool → ℕ → Input → Field Limits
 max_if false n j = Ok (record { min = n; max = None }, j)
 max_if true n j = u32 j >>= λ m. Ok (record { min = n; max = Some m.0 }, m.1)
 

@@ -1,6 +1,6 @@
 -- The binary format (sections 5.3 to 5.5, one case for each form; sign extensions, memory.copy, memory.fill and the data count
 -- section are those of version 2.0). `IsX v xs ys` says that the bytes xs begin with a spelling of v, which the bytes ys follow.
-use Rattle.std.specs.Prelude.{◌≡◌, ℕ, Bool, true, false, ◌<◌, List, [], ◌∷◌, ◌++◌, length, replicate, All, Option, Some, None}
+use Rattle.std.specs.Prelude.{◌≡◌, ℕ, ◌^◌, Bool, true, false, ◌<◌, List, [], ◌∷◌, ◌++◌, length, replicate, All, Option, Some, None}
 use Rattle.std.specs.Str.{IsUtf8}
 use Rattle.wasm_lang.specs.declared.types.ValType.{ValType}
 use Rattle.wasm_lang.specs.declared.types.ValType.TheVariants.{I32, I64}
@@ -161,8 +161,10 @@ locals_of (run ∷ runs) = replicate run.0 run.1 ++ locals_of runs
 pub data IsRun : ℕ × ValType → List ℕ → List ℕ → Type 0 where
   a_run : {n : ℕ} {t : ValType} {xs ys zs : List ℕ} → IsU32 n xs ys → IsValType t ys zs → IsRun (n, t) xs zs
 
+-- The locals of all runs together are fewer than 2 ^ 32 (section 5.5.13).
 pub data IsFunctionBody : FunctionBody → List ℕ → List ℕ → Type 0 where
   a_body : {runs : List (ℕ × ValType)} {code : List Instruction} {xs ys zs : List ℕ} → IsVec IsRun runs xs ys → IsCode code ys zs
+      → length (locals_of runs) < 2 ^ 32
       → IsFunctionBody (record { locals = locals_of runs; code = code }) xs zs
 
 pub data IsSegment : DataSegment → List ℕ → List ℕ → Type 0 where

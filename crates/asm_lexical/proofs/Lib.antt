@@ -1,0 +1,4 @@
+pub mod Longest
+pub mod Table
+pub mod Classes
+pub mod Readings

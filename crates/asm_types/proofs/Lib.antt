@@ -1,0 +1,3 @@
+mod Examples
+pub mod Order
+pub mod Sound

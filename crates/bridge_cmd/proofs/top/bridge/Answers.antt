@@ -1,0 +1,24 @@
+use Rattle.std.proofs.Common.{inl, inr, ◌∙◌, sym, ap}
+use Rattle.bridge_cmd.specs.Job.{written}
+use Rattle.bridge_cmd.specs.Refused.{status_of}
+use Rattle.bridge_cmd.specs.Outcome.{by_a_write}
+use Rattle.bridge_cmd.proofs.Jobs.{same_status, reported_exactly, usage_words}
+use Rattle.bridge_cmd.proofs.top.bridge.Goals as goal
+
+pub returns-in-Ok-put_all-clause-exact : goal.returns-in-Ok-put_all-clause-exact
+returns-in-Ok-put_all-clause-exact g c = λ job told is. inl (same_status _ _ (written c.in-Ok.output.items) job told c.in-Ok.ensures.written is)
+
+pub returns-in-Ok-clause-exact : goal.returns-in-Ok-clause-exact
+returns-in-Ok-clause-exact g c = λ job told is. inr by_a_write
+
+pub returns-in-Ok-write_line-clause-usage : goal.returns-in-Ok-write_line-clause-usage
+returns-in-Ok-write_line-clause-usage g c = λ e. usage_words _ _ _ c.in-Err.ensures.refused (sym c.status.ensures ∙ e)
+
+pub returns-in-Ok-write_line-clause-faulty_words : goal.returns-in-Ok-write_line-clause-faulty_words
+returns-in-Ok-write_line-clause-faulty_words g c = λ none. inl (c.status.ensures ∙ ap status_of (c.in-Err.ensures.faulty_words none))
+
+pub returns-in-Ok-write_line-clause-exact : goal.returns-in-Ok-write_line-clause-exact
+returns-in-Ok-write_line-clause-exact g c = λ job told is. rw c.status.ensures (reported_exactly _ _ _ c.in-Err.ensures.refused job told is)
+
+pub returns-clause-exact : goal.returns-clause-exact
+returns-clause-exact g c = λ job told is. inr by_a_write

@@ -1,0 +1,12 @@
+pub mod Code
+pub mod Command
+pub mod Form
+pub mod FormModule
+pub mod FormReading
+pub mod FormText
+pub mod Job
+pub mod Leb
+pub mod Outcome
+pub mod Reason
+pub mod Refused
+pub mod Sinks

@@ -1,0 +1,63 @@
+-- How a call ends, and what it leaves in its two sinks.
+use Rattle.std.specs.Prelude.{◌≡◌, ℕ, List, Option}
+use Rattle.bridge_io.specs.Outside.{Told}
+use Rattle.bridge_cmd.specs.Reason.{Reason, line_of, not_of_the_form, read_fault, out_of_memory}
+use Rattle.bridge_cmd.specs.Form.{FormTree}
+use Rattle.bridge_cmd.specs.FormText.{IsFirstForm}
+use Rattle.bridge_cmd.specs.Refused.{status_of}
+use Rattle.bridge_cmd.specs.Sinks.{Seen, Gains, GainsFront, Stays}
+use Rattle.bridge_cmd.specs.Job.{Job, refused, written, IsJob}
+use Rattle.bridge_cmd.specs.declared.status.Status.{Status}
+use Rattle.bridge_cmd.specs.declared.status.Status.TheVariants.{Done, ReadFault, WriteFault, Memory}
+
+-- the status of a job, where no read or write fails and memory suffices
+abbrev pub status_of_job : Job → Status
+status_of_job (refused reason) = status_of reason
+status_of_job (written output) = Done
+
+-- the ends that don't depend on the job
+pub data IsCutShort : Status → Type 0 where
+  by_a_read : IsCutShort ReadFault
+  by_a_write : IsCutShort WriteFault
+  by_memory : IsCutShort Memory
+
+-- what may be reported: the refusal of the job, a failed read, or want of memory
+pub data MayReport : List (List ℕ) → Option Told → Reason → Type 0 where
+  a_refusal : {words : List (List ℕ)} {told : Option Told} {reason : Reason}
+      → IsJob words told (refused reason) → MayReport words told reason
+  a_read_fault : {words : List (List ℕ)} {told : Option Told} → MayReport words told read_fault
+  no_memory : {words : List (List ℕ)} {told : Option Told} → MayReport words told out_of_memory
+
+-- after Done the output stands whole, and nothing is reported
+pub record Writes (words : List (List ℕ)) (told : Option Told) (out out' report report' : Seen) : Type 0 where
+  pub output : List ℕ
+  pub job : IsJob words told (written output)
+  pub whole : Gains output out out'
+  pub silent : Stays report report'
+
+-- after a refusal its line is reported, and the output is as it was
+pub record Refuses (words : List (List ℕ)) (told : Option Told) (status : Status) (out out' report report' : Seen) : Type 0 where
+  pub reason : Reason
+  pub is : status ≡ status_of reason
+  pub job : MayReport words told reason
+  pub line : Gains (line_of reason) report report'
+  pub nothing : Stays out out'
+
+-- where a write to the output failed, a front of it stands, and nothing is reported
+pub record OutputCut (words : List (List ℕ)) (told : Option Told) (out out' report report' : Seen) : Type 0 where
+  pub output : List ℕ
+  pub job : IsJob words told (written output)
+  pub front : GainsFront output out out'
+  pub silent : Stays report report'
+
+-- where a write to the report failed, a front of the line stands, and the output is as it was
+pub record ReportCut (words : List (List ℕ)) (told : Option Told) (out out' report report' : Seen) : Type 0 where
+  pub reason : Reason
+  pub job : MayReport words told reason
+  pub front : GainsFront (line_of reason) report report'
+  pub nothing : Stays out out'
+
+-- a text isn't translated only where it isn't of the form, or memory ran out
+pub data IsNoText : List ℕ → Reason → Type 0 where
+  not_one : {text : List ℕ} → ((tree : FormTree) → IsFirstForm text tree → ⊥) → IsNoText text not_of_the_form
+  no_room : {text : List ℕ} → IsNoText text out_of_memory

@@ -1,0 +1,155 @@
+//! Whole calls over files and sinks in memory.
+use crate::{Status, bridge};
+use bridge_io::{MemFiles, MemSink};
+use std::alloc::{AllocError, Global};
+use std::test::Fail;
+
+const ADD: &[u8] = b"function m(){\"use asm\";function f(a,b){a=a|0;b=b|0;return a+b|0;}return f;}";
+
+const TIMES: &[u8] =
+    b"function m(){\"use asm\";function f(a,b){a=a|0;b=b|0;return a*b|0;}return f;}";
+
+/// The module of `ADD`: a type of two i32 to an i32, a function, its export `f`, and its body.
+const ADD_MODULE: &[u8] = &[
+    0x00, 0x61, 0x73, 0x6d, 0x01, 0x00, 0x00, 0x00, // magic and version
+    0x01, 0x07, 0x01, 0x60, 0x02, 0x7f, 0x7f, 0x01, 0x7f, // type
+    0x03, 0x02, 0x01, 0x00, // function
+    0x07, 0x05, 0x01, 0x01, 0x66, 0x00, 0x00, // export
+    0x0a, 0x09, 0x01, 0x07, 0x00, 0x20, 0x00, 0x20, 0x01, 0x6a, 0x0b, // code
+];
+
+const USAGE: &[u8] = b"usage: bridge COMMAND [--heap N] [--steps N] [FILE] [SCRIPT]\n";
+
+/// What a call of `bridge` leaves.
+#[derive(Drop)]
+struct Left {
+    status: Status,
+    out: MemSink,
+    report: MemSink,
+}
+
+/// Calls `bridge` with these words after the program's name.
+fn call(
+    alloc: Global,
+    words: &[&str],
+    files: &mut MemFiles,
+    mut out: MemSink,
+) -> Result<Left, AllocError> {
+    let mut all = vec![in alloc; String::from_str(alloc, "bridge")?]?;
+    for word in words {
+        all.push(String::from_str(alloc, word)?)?;
+    }
+    let mut report = MemSink::new(alloc, 1000, 1000)?;
+    let status = bridge(alloc, &all, files, &mut out, &mut report);
+    Ok(Left {
+        status,
+        out,
+        report,
+    })
+}
+
+fn sink(alloc: Global) -> Result<MemSink, AllocError> {
+    MemSink::new(alloc, 1000, 1000)
+}
+
+/// Files with one text under the name `m.js`.
+fn files_with(alloc: Global, text: &[u8]) -> Result<MemFiles, AllocError> {
+    let mut files = MemFiles::new(alloc);
+    files.add("m.js", text)?;
+    Ok(files)
+}
+
+#[test]
+fn a_module_is_written(rt: HostRuntime) -> Result<(), Fail> {
+    let alloc = rt.alloc();
+    let left = call(
+        alloc,
+        &["asm2wasm", "m.js"],
+        &mut files_with(alloc, ADD)?,
+        sink(alloc)?,
+    )?;
+    assert_eq!(rt; left.status, Status::Done);
+    assert_eq!(rt; left.out.bytes(), ADD_MODULE);
+    assert_eq!(rt; left.report.bytes(), b"".as_slice());
+    assert_eq!(rt; left.status.code(), 0);
+    Ok(())
+}
+
+#[test]
+fn another_text_is_refused(rt: HostRuntime) -> Result<(), Fail> {
+    let alloc = rt.alloc();
+    let left = call(
+        alloc,
+        &["asm2wasm", "m.js"],
+        &mut files_with(alloc, TIMES)?,
+        sink(alloc)?,
+    )?;
+    assert_eq!(rt; left.status, Status::AsmRefused { number: 0, at: 0 });
+    assert_eq!(rt; left.out.bytes(), b"".as_slice());
+    assert_eq!(rt;
+        left.report.bytes(),
+        b"asm.js refused: A0 NotYet at 0\n".as_slice()
+    );
+    Ok(())
+}
+
+#[test]
+fn a_failed_read_writes_nothing(rt: HostRuntime) -> Result<(), Fail> {
+    let alloc = rt.alloc();
+    let mut files = files_with(alloc, ADD)?;
+    files.fail_at(1)?;
+    let left = call(alloc, &["asm2wasm", "m.js"], &mut files, sink(alloc)?)?;
+    assert_eq!(rt; left.status.code(), 5);
+    assert_eq!(rt; left.out.bytes(), b"".as_slice());
+    assert_eq!(rt; left.report.bytes(), b"read fault\n".as_slice());
+    Ok(())
+}
+
+#[test]
+fn a_failed_write_leaves_a_front(rt: HostRuntime) -> Result<(), Fail> {
+    let alloc = rt.alloc();
+    let mut out = MemSink::new(alloc, 1000, 1)?;
+    out.fail_at(2)?;
+    let left = call(
+        alloc,
+        &["asm2wasm", "m.js"],
+        &mut files_with(alloc, ADD)?,
+        out,
+    )?;
+    assert_eq!(rt; left.status.code(), 6);
+    assert_eq!(rt; left.out.bytes(), [0x00].as_slice());
+    assert_eq!(rt; left.report.bytes(), b"".as_slice());
+    Ok(())
+}
+
+#[test]
+fn faulty_words_are_told_the_usage(rt: HostRuntime) -> Result<(), Fail> {
+    let alloc = rt.alloc();
+    let faulty: [&[&str]; 5] = [
+        &[],
+        &["asm2wasm"],
+        &["asm2wasm", "m.js", "x"],
+        &["asm2wasm", "-m.js"],
+        &["fly", "m.js"],
+    ];
+    for words in faulty {
+        let left = call(alloc, words, &mut files_with(alloc, ADD)?, sink(alloc)?)?;
+        assert_eq!(rt; left.status.code(), 1, "at {words:?}");
+        assert_eq!(rt; left.report.bytes(), USAGE);
+    }
+    Ok(())
+}
+
+#[test]
+fn a_file_is_missing_or_too_large(rt: HostRuntime) -> Result<(), Fail> {
+    let alloc = rt.alloc();
+    let spaces = vec![in alloc; b' '; 16_777_217]?;
+    let mut files = files_with(alloc, &spaces)?;
+    let left = call(alloc, &["asm2wasm", "m.js"], &mut files, sink(alloc)?)?;
+    assert_eq!(rt; left.status, Status::TooLarge { script: false });
+    assert_eq!(rt; left.report.bytes(), b"too large: m.js\n".as_slice());
+    let left = call(alloc, &["asm2wasm", "no.js"], &mut files, sink(alloc)?)?;
+    assert_eq!(rt; left.status, Status::Missing { script: false });
+    assert_eq!(rt; left.report.bytes(), b"missing: no.js\n".as_slice());
+    Ok(())
+}

@@ -1,0 +1,4 @@
+pub mod Appends
+pub mod Pieces
+pub mod FilesOf
+mod Examples

@@ -1,0 +1,19 @@
+//! The tokens of asm.js: a text is cut into gaps and tokens, each token the longest that begins at its place.
+#![tactic(auto)]
+
+mod bytes;
+mod comments;
+mod fault;
+mod front;
+mod numbers;
+mod punctuators;
+mod quoted;
+mod reading;
+mod token;
+
+pub use fault::TokenFault;
+pub use reading::tokens;
+pub use token::{Token, TokenKind};
+
+#[cfg(test)]
+mod tests;

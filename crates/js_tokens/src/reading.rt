@@ -1,0 +1,79 @@
+//! A text cut into its tokens.
+
+ghost use Rattle.std.specs.Prelude.{◌≡◌, IfOk, IfErr, Ok};
+ghost use Rattle.std.specs.List.{AllByRecursion};
+ghost use Rattle.asm_lexical.specs.Text.{Reading, IsReading, IsAt, HasForm, IsJoined};
+ghost use Rattle.js_tokens.specs.Scan.{IsFlaw};
+ghost use Rattle.js_tokens.specs.Views.{placed_tokens, IsFault, Tells};
+
+use crate::comments::has_line_end;
+use crate::fault::TokenFault;
+use crate::front::{Flaw, Front, front_of};
+use crate::token::Token;
+use std::alloc::Global;
+
+fn fault_at(flaw: Flaw, at: u64) -> TokenFault
+    ensures { IsFlaw result flaw at }
+{
+    match flaw {
+        Flaw::NonAscii => TokenFault::NonAscii { at },
+        Flaw::BadToken => TokenFault::BadToken { at },
+        Flaw::OpenComment => TokenFault::OpenComment { at },
+        Flaw::LiteralForm => TokenFault::LiteralForm { at },
+    }
+}
+
+fn all_tokens<'a>(alloc: Global, source: &'a [u8]) -> Result<Vec<Token<'a>>, TokenFault>
+    ensures found { IfOk result (λ v. IsReading source.now (Ok (placed_tokens v.items))) }
+    ensures fault { IfErr result (λ e. IsFault source.now e) }
+{
+    let mut found = Vec::new(alloc);
+    let mut at: u64 = 0;
+    let mut line_before = false;
+    let mut rest = source;
+    while !rest.is_empty() {
+        match front_of(rest) {
+            Front::Gap(n) => {
+                let (gap, after) = rest.split_at(n);
+                line_before |= has_line_end(gap);
+                at += n as u64;
+                rest = after;
+            }
+            Front::Token(kind, n) => {
+                let (text, after) = rest.split_at(n);
+                found.push(Token {
+                    kind,
+                    text,
+                    at,
+                    line_before,
+                })?;
+                line_before = false;
+                at += n as u64;
+                rest = after;
+            }
+            Front::Flaw(flaw, n) => return Err(fault_at(flaw, at + n as u64)),
+        }
+    }
+    Ok(found)
+}
+
+/// The tokens of a text, each the longest that begins at its place, in order, with gaps round them.
+///
+/// A gap is a space, tab, vertical tab, form feed, carriage return or line feed, or a comment of either kind. The refusal is the
+/// first fault of the text, with its offset in bytes. Each token lends its text from the source.
+pub fn tokens<'a>(alloc: Global, source: &'a [u8]) -> Result<Vec<Token<'a>>, TokenFault>
+    // They are the tokens of the text, with gaps round them.
+    ensures found { IfOk result (λ v. IsReading source.now (Ok (placed_tokens v.items))) }
+    // A fault is the first of the text.
+    ensures fault { IfErr result (λ e. IsFault source.now e) }
+    // What the text is, the answer says, unless memory runs out: so a text has one list of tokens or one fault.
+    ensures only { (r : Reading) → IsReading source.now r → Tells r result }
+    // Each text is the source's at its place.
+    ensures places { IfOk result (λ v. AllByRecursion (IsAt source.now) (placed_tokens v.items)) }
+    // Each text has the form of its token's kind.
+    ensures forms { IfOk result (λ v. AllByRecursion HasForm (placed_tokens v.items)) }
+    // Gaps and the texts, joined, are the source.
+    ensures joined { IfOk result (λ v. IsJoined source.now (placed_tokens v.items)) }
+{
+    all_tokens(alloc, source)
+}

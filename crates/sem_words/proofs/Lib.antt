@@ -1,0 +1,6 @@
+mod WordExamples
+mod JsExamples
+pub mod Counts
+pub mod Quotients
+pub mod Rotations
+pub mod WordLaws
