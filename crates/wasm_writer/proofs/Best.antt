@@ -173,25 +173,11 @@ best_integer bits n xs ys p bytes (more_integer {b = b} {high = high} {xs = bs} 
 
 -- ---- vectors, names and sized parts
 
--- a condition holds of each
-abbrev pub Each : {X : Type 0} → (X → Type 0) → List X → Type 0
-Each C [] = Unit {0}
-Each C (x ∷ xs) = C x × Each C xs
-
-each_unit : {X : Type 0} (xs : List X) → Each (λ x. Unit {0}) xs
-each_unit [] = tt
-each_unit (x ∷ xs) = (tt, each_unit xs)
-
--- where a condition holds
-abbrev pub AreBestWhere : {X : Type 0} → (X → Type 0) → Spelling X → (X → List ℕ) → Type 0
-AreBestWhere {X = X} C P f = (v : X) (xs ys : List ℕ) → C v → AreBytes xs → P v xs ys → Best (P v) (f v) xs ys
-
-best_items_where : {X : Type 0} (C : X → Type 0) (P : Spelling X) (f : X → List ℕ) → AreBestWhere C P f → (vs : List X) (xs ys : List ℕ) → Each C vs → AreBytes xs → Items P vs xs ys
-    → Best (Items P vs) (items f vs) xs ys
-best_items_where C P f one vs xs ys each bytes no_item = record { spells = λ zs. no_item; shorter = omega arith; bytes = tt; rest = bytes }
-best_items_where C P f one vs xs zs each bytes (item {v = v} {vs = ws} {ys = ys} h hs) =
-    let a = one v xs ys each.0 bytes h in
-    let r = best_items_where C P f one ws ys zs each.1 a.rest hs in
+pub best_items : {X : Type 0} (P : Spelling X) (f : X → List ℕ) → AreBest P f → (vs : List X) (xs ys : List ℕ) → AreBytes xs → Items P vs xs ys → Best (Items P vs) (items f vs) xs ys
+best_items P f one vs xs ys bytes no_item = record { spells = λ zs. no_item; shorter = omega arith; bytes = tt; rest = bytes }
+best_items P f one vs xs zs bytes (item {v = v} {vs = ws} {ys = ys} h hs) =
+    let a = one v xs ys bytes h in
+    let r = best_items P f one ws ys zs a.rest hs in
     record {
       spells = λ us. item (before (P v) (f v) (items f ws) us xs ys a) (r.spells us);
       shorter = two_shorter (f v) (items f ws) (length xs) (length ys) (length zs) a.shorter r.shorter;
@@ -199,23 +185,16 @@ best_items_where C P f one vs xs zs each bytes (item {v = v} {vs = ws} {ys = ys}
       rest = r.rest;
     }
 
-pub best_vec_where : {X : Type 0} (C : X → Type 0) (P : Spelling X) (f : X → List ℕ) → AreBestWhere C P f → (vs : List X) (xs ys : List ℕ) → Each C vs → AreBytes xs → IsVec P vs xs ys
-    → Best (IsVec P vs) (vector f vs) xs ys
-best_vec_where C P f one vs xs ys each bytes h =
+pub best_vec : {X : Type 0} (P : Spelling X) (f : X → List ℕ) → AreBest P f → (vs : List X) (xs ys : List ℕ) → AreBytes xs → IsVec P vs xs ys → Best (IsVec P vs) (vector f vs) xs ys
+best_vec P f one vs xs ys bytes h =
     let n = best_u32 (length vs) xs h.after_count bytes h.count in
-    let r = best_items_where C P f one vs h.after_count ys each n.rest h.items in
+    let r = best_items P f one vs h.after_count ys n.rest h.items in
     record {
       spells = λ us. record { after_count = items f vs ++ us; count = before (IsU32 (length vs)) (unsigned (length vs)) (items f vs) us xs h.after_count n; items = r.spells us };
       shorter = two_shorter (unsigned (length vs)) (items f vs) (length xs) (length h.after_count) (length ys) n.shorter r.shorter;
       bytes = bytes_append (unsigned (length vs)) (items f vs) n.bytes r.bytes;
       rest = r.rest;
     }
-
-pub best_items : {X : Type 0} (P : Spelling X) (f : X → List ℕ) → AreBest P f → (vs : List X) (xs ys : List ℕ) → AreBytes xs → Items P vs xs ys → Best (Items P vs) (items f vs) xs ys
-best_items P f one vs xs ys bytes h = best_items_where (λ v. Unit {0}) P f (λ v xs ys c. one v xs ys) vs xs ys (each_unit vs) bytes h
-
-pub best_vec : {X : Type 0} (P : Spelling X) (f : X → List ℕ) → AreBest P f → (vs : List X) (xs ys : List ℕ) → AreBytes xs → IsVec P vs xs ys → Best (IsVec P vs) (vector f vs) xs ys
-best_vec P f one vs xs ys bytes h = best_vec_where (λ v. Unit {0}) P f (λ v xs ys c. one v xs ys) vs xs ys (each_unit vs) bytes h
 
 pub best_bytes : (bs xs ys : List ℕ) → AreBytes xs → IsBytes bs xs ys → Best (IsBytes bs) (sized bs) xs ys
 best_bytes bs xs ys bytes h =
@@ -234,11 +213,11 @@ best_name bs xs ys bytes h =
     let b = best_bytes bs xs ys bytes h.bytes in
     record { spells = λ us. record { bytes = b.spells us; utf8 = h.utf8 }; shorter = b.shorter; bytes = b.bytes; rest = b.rest }
 
-pub best_sized : {X : Type 0} (P : Spelling X) (f : X → List ℕ) (v : X) → ((xs ys : List ℕ) → AreBytes xs → P v xs ys → Best (P v) (f v) xs ys) → (xs ys : List ℕ) → AreBytes xs → IsSized P v xs ys → Best (IsSized P v) (sized (f v)) xs ys
-best_sized P f v one xs ys bytes h =
+pub best_sized : {X : Type 0} (P : Spelling X) (f : X → List ℕ) → AreBest P f → (v : X) (xs ys : List ℕ) → AreBytes xs → IsSized P v xs ys → Best (IsSized P v) (sized (f v)) xs ys
+best_sized P f one v xs ys bytes h =
     let after = (best_u32 (length h.content) xs h.after_size bytes h.size).rest in
     let s = bytes_split h.content ys (subst AreBytes h.stands after) in
-    let c = one h.content [] s.0 h.is in
+    let c = one v h.content [] s.0 h.is in
     let short = c.shorter in
     let n = best_unsigned 32 (length (f v)) (length h.content) xs h.after_size (omega arith) bytes h.size in
     let l : length (f v) + length ys ≤ length h.after_size = omega (arith, ap length h.stands, length-append h.content ys) in

@@ -9,7 +9,7 @@ use Rattle.wasm_lang.specs.Grammar.{Spelling, IsVec, IsSized, IsCustom, IsCustom
 use Rattle.wasm_lang.specs.Limits.{IsWithinReader, params_of, most_locals}
 use Rattle.wasm_writer.specs.Spelling.{unsigned, vector, sized, function_type, imported, table, limits, global, exported, element, body, segment, start_section, spelling}
 use Rattle.wasm_writer.specs.Spelling as own
-use Rattle.wasm_writer.proofs.Best.{AreBytes, bytes_append, bytes_split, Best, AreBest, before, two_shorter, Each, AreBestWhere, best_u32, best_vec, best_vec_where, best_sized}
+use Rattle.wasm_writer.proofs.Best.{AreBytes, bytes_append, bytes_split, Best, AreBest, before, two_shorter, best_u32, best_vec, best_sized}
 use Rattle.wasm_writer.proofs.BestCode.{best_function_type, best_limits, best_table}
 use Rattle.wasm_writer.proofs.BestEntries.{both_spell, best_import, best_global, best_export, best_element, best_segment}
 use Rattle.wasm_writer.proofs.Locals.{best_body}
@@ -26,26 +26,18 @@ customs_end xs zs bytes (custom {xs = ws} {ys = ys} h hs) =
 
 -- ---- sections
 
-best_section_where : {X : Type 0} (C : X → Type 0) (id : ℕ) (P : Spelling X) (f : X → List ℕ) → id < 256 → AreBestWhere C P f → (vs : List X) (xs ys : List ℕ) → Each C vs → AreBytes xs → IsSection id P vs xs ys
-    → Best (IsSection id P vs) (own.section id f vs) xs ys
-best_section_where C id P f small one vs xs ys each bytes (no_section h) =
+best_section : {X : Type 0} (id : ℕ) (P : Spelling X) (f : X → List ℕ) → id < 256 → AreBest P f → (vs : List X) (xs ys : List ℕ) → AreBytes xs → IsSection id P vs xs ys → Best (IsSection id P vs) (own.section id f vs) xs ys
+best_section id P f small one vs xs ys bytes (no_section h) =
     let c = customs_end xs ys bytes h in
     record { spells = λ us. no_section no_custom; shorter = omega (arith, c.1); bytes = tt; rest = c.0 }
-best_section_where C id P f small one [] xs zs each bytes (section {ys = ys} h s) =
+best_section id P f small one [] xs zs bytes (section {ys = ys} h s) =
     let c = customs_end xs (id ∷ ys) bytes h in
-    let b = best_sized (IsVec P) (vector f) [] (λ xs ys. best_vec_where C P f one [] xs ys tt) ys zs c.0.1 s in
+    let b = best_sized (IsVec P) (vector f) (best_vec P f one) [] ys zs c.0.1 s in
     record { spells = λ us. no_section no_custom; shorter = omega (arith, c.1, b.shorter); bytes = tt; rest = b.rest }
-best_section_where C id P f small one (v ∷ vs) xs zs each bytes (section {ys = ys} h s) =
+best_section id P f small one (v ∷ vs) xs zs bytes (section {ys = ys} h s) =
     let c = customs_end xs (id ∷ ys) bytes h in
-    let b = best_sized (IsVec P) (vector f) (v ∷ vs) (λ xs ys. best_vec_where C P f one (v ∷ vs) xs ys each) ys zs c.0.1 s in
+    let b = best_sized (IsVec P) (vector f) (best_vec P f one) (v ∷ vs) ys zs c.0.1 s in
     record { spells = λ us. section no_custom (b.spells us); shorter = omega (arith, c.1, b.shorter); bytes = (small, b.bytes); rest = b.rest }
-
-each_unit : {X : Type 0} (xs : List X) → Each (λ x. Unit {0}) xs
-each_unit [] = tt
-each_unit (x ∷ xs) = (tt, each_unit xs)
-
-best_section : {X : Type 0} (id : ℕ) (P : Spelling X) (f : X → List ℕ) → id < 256 → AreBest P f → (vs : List X) (xs ys : List ℕ) → AreBytes xs → IsSection id P vs xs ys → Best (IsSection id P vs) (own.section id f vs) xs ys
-best_section id P f small one vs xs ys bytes h = best_section_where (λ v. Unit {0}) id P f small (λ v xs ys c. one v xs ys) vs xs ys (each_unit vs) bytes h
 
 best_start : (n : Option ℕ) (xs ys : List ℕ) → AreBytes xs → IsNumberSection 8 n xs ys → Best (IsNumberSection 8 n) (start_section n) xs ys
 best_start n xs ys bytes (no_number h) =
@@ -53,7 +45,7 @@ best_start n xs ys bytes (no_number h) =
     record { spells = λ us. no_number no_custom; shorter = omega (arith, c.1); bytes = tt; rest = c.0 }
 best_start n xs zs bytes (number {n = m} {ys = ys} h s) =
     let c = customs_end xs (8 ∷ ys) bytes h in
-    let b = best_sized IsU32 unsigned m (λ xs ys. best_u32 m xs ys) ys zs c.0.1 s in
+    let b = best_sized IsU32 unsigned best_u32 m ys zs c.0.1 s in
     record { spells = λ us. number no_custom (b.spells us); shorter = omega (arith, c.1, b.shorter); bytes = (omega arith, b.bytes); rest = b.rest }
 
 -- the data count isn't written
@@ -61,17 +53,10 @@ count_end : (id : ℕ) (n : Option ℕ) (xs ys : List ℕ) → AreBytes xs → I
 count_end id n xs ys bytes (no_number h) = customs_end xs ys bytes h
 count_end id n xs zs bytes (number {n = m} {ys = ys} h s) =
     let c = customs_end xs (id ∷ ys) bytes h in
-    let b = best_sized IsU32 unsigned m (λ xs ys. best_u32 m xs ys) ys zs c.0.1 s in
+    let b = best_sized IsU32 unsigned best_u32 m ys zs c.0.1 s in
     (b.rest, omega (arith, c.1, b.shorter))
 
--- a body's locals are fewer than 2 ^ 32
-abbrev Few : FunctionBody → Type 0
-Few b = length b.locals < 2 ^ 32
-
-best_sized_body : AreBestWhere Few (IsSized IsFunctionBody) (λ b. sized (body b))
-best_sized_body b xs ys few bytes h = best_sized IsFunctionBody body b (λ xs ys. best_body b xs ys few) xs ys bytes h
-
--- ---- lists of bytes and of bodies
+-- ---- lists of bytes
 
 bytes_from : (xs : List ℕ) → All (λ b. b < 256) xs → AreBytes xs
 bytes_from [] a = tt
@@ -81,15 +66,11 @@ bytes_to : (xs : List ℕ) → AreBytes xs → All (λ b. b < 256) xs
 bytes_to [] a = All-nil (λ b. b < 256)
 bytes_to (x ∷ xs) a = All-cons (λ b. b < 256) x xs a.0 (bytes_to xs a.1)
 
-each_from : {X : Type 0} (C : X → Type 0) (xs : List X) → All C xs → Each C xs
-each_from C [] a = tt
-each_from C (x ∷ xs) a = (All-head C x xs a, each_from C xs (All-tail C x xs a))
-
 -- ---- the module
 
-pub best_module : (m : WasmModule) (bytes : List ℕ) → All (λ b. length b.locals < 2 ^ 32) m.bodies → IsModuleBytes bytes m → IsModuleBytes (spelling m) m × (length (spelling m) ≤ length bytes)
+pub best_module : (m : WasmModule) (bytes : List ℕ) → IsModuleBytes bytes m → IsModuleBytes (spelling m) m × (length (spelling m) ≤ length bytes)
 unfolding spelling
-best_module m bytes few h =
+best_module m bytes h =
     let all = bytes_split header h.after_header (subst AreBytes h.begins (bytes_from bytes h.are_bytes)) in
     let b1 = best_section 1 IsFunctionType function_type (omega arith) best_function_type m.types h.after_header h.after_types all.1 h.types in
     let b2 = best_section 2 IsImport imported (omega arith) best_import m.imports h.after_types h.after_imports b1.rest h.imports in
@@ -101,7 +82,7 @@ best_module m bytes few h =
     let b8 = best_start m.start h.after_exports h.after_start b7.rest h.start in
     let b9 = best_section 9 IsElement element (omega arith) best_element m.elements h.after_start h.after_elements b8.rest h.elements in
     let skip = count_end 12 h.data_count h.after_elements h.after_data_count b9.rest h.data_count_section in
-    let b10 = best_section_where Few 10 (IsSized IsFunctionBody) (λ b. sized (body b)) (omega arith) best_sized_body m.bodies h.after_data_count h.after_bodies (each_from Few m.bodies few) skip.0 h.bodies in
+    let b10 = best_section 10 (IsSized IsFunctionBody) (λ b. sized (body b)) (omega arith) (best_sized IsFunctionBody body best_body) m.bodies h.after_data_count h.after_bodies skip.0 h.bodies in
     let b11 = best_section 11 IsSegment segment (omega arith) best_segment m.segments h.after_bodies h.after_segments b10.rest h.segments in
     let end = customs_end h.after_segments [] b11.rest h.ends in
     let s11 = own.section 11 segment m.segments in
@@ -183,18 +164,3 @@ best_module m bytes few h =
   where
     two_more : (a b : List ℕ) (x y : ℕ) → length a + y ≤ x → length b ≤ y → length (a ++ b) ≤ x
     two_more a b x y p q = omega (arith, length-append a b)
-
--- within the reader's limits bodies have few locals
-
-abbrev Fits : List FunctionType → ℕ × FunctionBody → Type 0
-Fits types f = params_of types f.0 + length f.1.locals ≤ most_locals
-
-few_of : (types : List FunctionType) (fs : List ℕ) (bs : List FunctionBody) → length fs ≡ length bs → All (Fits types) (zip fs bs) → All (λ b. length b.locals < 2 ^ 32) bs
-few_of types fs [] e a = All-nil (λ b. length b.locals < 2 ^ 32)
-few_of types [] (b ∷ bs) e a = absurd (omega arith)
-few_of types (f ∷ fs) (b ∷ bs) e a =
-    let here = All-head (Fits types) (f, b) (zip fs bs) a in
-    All-cons (λ b. length b.locals < 2 ^ 32) b bs (omega (arith, here)) (few_of types fs bs (omega arith) (All-tail (Fits types) (f, b) (zip fs bs) a))
-
-pub few_locals : (m : WasmModule) → IsWithinReader m → length m.functions ≡ length m.bodies → All (λ b. length b.locals < 2 ^ 32) m.bodies
-few_locals m w e = few_of m.types m.functions m.bodies e w.locals

@@ -235,9 +235,11 @@ best_runs rs xs ys few bytes h =
       rest = r.rest;
     }
 
-pub best_body : (b : FunctionBody) (xs zs : List ℕ) → length b.locals < 2 ^ 32 → AreBytes xs → IsFunctionBody b xs zs → Best (IsFunctionBody b) (body b) xs zs
-best_body b xs zs few bytes (a_body {runs = rs} {code = code} {ys = ys} p q) =
+pub best_body : AreBest IsFunctionBody body
+best_body b xs zs bytes (a_body {runs = rs} {code = code} {ys = ys} p q few) =
     let a = best_runs rs xs ys few bytes p in
     let c = best_code code ys zs a.rest q in
+    let again = locals_again (locals_of rs) in
     both_spell (IsVec IsRun (runs (locals_of rs))) (IsCode code) (vector run (runs (locals_of rs))) (items own.instruction code) xs ys zs a c (IsFunctionBody b)
-    (λ us p q. subst (λ ls. IsFunctionBody (record { locals = ls; code = code }) ((vector run (runs (locals_of rs)) ++ items own.instruction code) ++ us) us) (locals_again (locals_of rs)) (a_body p q))
+    (λ us p q. subst (λ ls. IsFunctionBody (record { locals = ls; code = code }) ((vector run (runs (locals_of rs)) ++ items own.instruction code) ++ us) us) again
+      (a_body p q (subst (λ ls. length ls < 2 ^ 32) (sym again) few)))

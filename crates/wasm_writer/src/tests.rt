@@ -76,9 +76,11 @@ fn loading(rt: HostRuntime) -> Result<(), Fail> {
         offset: list(vec![in alloc; Instr::Const32(0), Instr::End]?),
         bytes: Bytes::Lent(&[1, 2, 3, 4, 5]),
     };
-    let mut loading = one_function(alloc, params, ValType::I32, b"l", body)?;
-    loading.memories = list(vec![in alloc; Limits { min: 1, max: None }]?);
-    loading.segments = list(vec![in alloc; segment]?);
+    let loading = Module {
+        memories: list(vec![in alloc; Limits { min: 1, max: None }]?),
+        segments: list(vec![in alloc; segment]?),
+        ..one_function(alloc, params, ValType::I32, b"l", body)?
+    };
     let bytes = write(alloc, &loading)?;
     let wanted = [
         0x00, 0x61, 0x73, 0x6d, 0x01, 0x00, 0x00, 0x00, 0x01, 0x06, 0x01, 0x60, 0x01, 0x7f, 0x01,
