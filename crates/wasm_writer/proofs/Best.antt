@@ -1,5 +1,5 @@
 -- From any spelling of a value by bytes: the spelling of this crate is one too, it is made of bytes, and it isn't longer.
-use Rattle.std.proofs.Common.{◌≡◌, ℕ, zero, suc, ◌+◌, ◌-◌, ◌*◌, ◌/◌, ◌%◌, ◌^◌, ◌<◌, ◌≤◌, Bool, true, false, List, [], ◌∷◌, ◌++◌, length, map, refl, sym, ap, subst, ◌∙◌, arith, inl, inr, append_assoc, append-nil, length-append}
+use Rattle.std.proofs.Common.{◌≡◌, ℕ, ◌+◌, ◌-◌, ◌*◌, ◌/◌, ◌%◌, ◌^◌, ◌<◌, ◌≤◌, Bool, true, false, List, [], ◌∷◌, ◌++◌, length, refl, sym, ap, subst, ◌∙◌, arith, inl, inr, append_assoc, append-nil, length-append}
 use Rattle.std.proofs.Math.Pow.{pow_mono}
 use Rattle.std.proofs.lemmas.Nat.{pow-add}
 use Rattle.std.proofs.lemmas.Bool.{cases_lt, lt-ltb, le-ltb}
@@ -126,7 +126,7 @@ more_positive bits b high xs bs ys h byte l low len below =
       | inr large ↦
           more_best (IsInteger bits n) (IsInteger (bits - 7) high) (integer bits n) (integer (bits - 7) high) xs bs ys b
           (integer_positive bits n fits ∙ joined_groups 64 false n high (b - 128) (omega arith) large (omega arith) refl ∙ ap (λ c. c ∷ groups 64 false high) (let f : b - 128 + 128 ≡ b = omega arith in f)
-            ∙ ap (λ l. b ∷ l) (sym (integer_positive (bits - 7) high low)))
+          ∙ ap (λ l. b ∷ l) (sym (integer_positive (bits - 7) high low)))
           byte (λ zs s. more_integer h l s) len below
     ]
 
@@ -148,8 +148,8 @@ more_negative bits b high xs bs ys h byte l low bound len below =
           let parts : m ≡ 128 * (2 ^ (bits - 7) - 1 - high) + (255 - b) = omega arith in
           more_best (IsInteger bits n) (IsInteger (bits - 7) high) (integer bits n) (integer (bits - 7) high) xs bs ys b
           (integer_negative bits n fits ∙ joined_groups 64 true m (2 ^ (bits - 7) - 1 - high) (255 - b) (omega arith) large (omega arith) parts
-            ∙ ap (λ c. c ∷ groups 64 true (2 ^ (bits - 7) - 1 - high)) (let f : 127 - (255 - b) + 128 ≡ b = omega arith in f)
-            ∙ ap (λ l. b ∷ l) (sym (integer_negative (bits - 7) high low)))
+          ∙ ap (λ c. c ∷ groups 64 true (2 ^ (bits - 7) - 1 - high)) (let f : 127 - (255 - b) + 128 ≡ b = omega arith in f)
+          ∙ ap (λ l. b ∷ l) (sym (integer_negative (bits - 7) high low)))
           byte (λ zs s. more_integer h l s) len below
     ]
 

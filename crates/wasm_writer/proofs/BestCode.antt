@@ -1,13 +1,8 @@
 -- The shortest spellings of types and instructions.
-use Rattle.std.proofs.Common.{◌≡◌, ℕ, ◌+◌, ◌<◌, ◌≤◌, Bool, false, List, [], ◌∷◌, ◌++◌, length, Option, Some, None, refl, sym, ap, subst, ◌∙◌, arith, append_assoc, length-append}
-use Rattle.wasm_lang.specs.declared.types.ValType.{ValType}
-use Rattle.wasm_lang.specs.declared.types.Limits.{Limits}
-use Rattle.wasm_lang.specs.declared.types.GlobalType.{GlobalType}
-use Rattle.wasm_lang.specs.Modules.{FunctionType}
-use Rattle.wasm_lang.specs.Instructions.{Plain, nop, drop_operand, select, local_get, local_set, local_tee, global_get, global_set, load, store, memory_size, memory_copy, memory_fill, const32, const64, eqz32, eqz64, rel32, rel64, un32, un64, bin32, bin64, wrap, extend_s, extend_u, sign_extend, Instruction, unreachable, block, loop, if_block, else_mark, end_mark, br, br_if, br_table, return, call, call_indirect, plain}
+use Rattle.std.proofs.Common.{◌≡◌, ℕ, ◌<◌, false, List, [], ◌∷◌, ◌++◌, length, refl, sym, ap, subst, arith, length-append}
+use Rattle.wasm_lang.specs.Instructions.{local_get, local_set, local_tee, global_get, global_set, load, store, memory_size, memory_copy, memory_fill, const32, const64, block, loop, if_block, br, br_if, br_table, call, call_indirect, plain}
 use Rattle.wasm_lang.specs.Numbers.{IsU32}
-use Rattle.wasm_lang.specs.Opcodes.{IsOpcode}
-use Rattle.wasm_lang.specs.Grammar.{Spelling, IsVec, IsValType, i32_type, i64_type, IsBlockType, no_result, one_result, IsFunctionType, function_type, IsLimits, only_min, min_and_max, IsTable, a_table, IsMutable, is_constant, is_variable, IsGlobalType, global_type, IsMemoryImmediate, ArePlainImmediates, AreImmediates, IsInstruction, instruction, IsCode}
+use Rattle.wasm_lang.specs.Grammar.{IsVec, IsValType, i32_type, i64_type, IsBlockType, no_result, one_result, IsFunctionType, function_type, IsLimits, only_min, min_and_max, IsTable, a_table, IsMutable, is_constant, is_variable, IsGlobalType, global_type, IsMemoryImmediate, ArePlainImmediates, AreImmediates, IsInstruction, instruction, IsCode}
 use Rattle.wasm_writer.specs.Spelling.{unsigned, items, vector, value_type, block_type, limits, table, mutability, plain_immediates, immediates}
 use Rattle.wasm_writer.specs.Spelling as own
 use Rattle.wasm_writer.proofs.Groups.{groups_last}

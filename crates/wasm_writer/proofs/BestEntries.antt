@@ -1,17 +1,11 @@
 -- The shortest spellings of what sections hold.
-use Rattle.std.proofs.Common.{◌≡◌, ℕ, suc, ◌+◌, ◌<◌, ◌≤◌, true, false, List, [], ◌∷◌, ◌++◌, length, replicate, refl, sym, ap, subst, ◌∙◌, arith, append_assoc, length-append}
-use Rattle.wasm_lang.specs.declared.types.ValType.{ValType}
-use Rattle.wasm_lang.specs.declared.types.ValType.TheVariants.{I32, I64}
-use Rattle.wasm_lang.specs.declared.types.ImportKind.{ImportKind}
-use Rattle.wasm_lang.specs.declared.types.ExportKind.{ExportKind}
-use Rattle.wasm_lang.specs.Instructions.{Instruction}
-use Rattle.wasm_lang.specs.Modules.{Imported, GlobalEntry, Exported, ElementSegment, DataSegment, FunctionBody}
+use Rattle.std.proofs.Common.{ℕ, List, ◌++◌, length, arith}
 use Rattle.wasm_lang.specs.Numbers.{IsU32}
-use Rattle.wasm_lang.specs.Grammar.{IsVec, IsBytes, IsName, IsValType, IsCode, IsGlobalType, IsImportKind, function_import, table_import, memory_import, global_import, IsImport, an_import, IsGlobal, a_global, IsExportKind, function_export, table_export, memory_export, global_export, IsExport, an_export, IsElement, an_element, locals_of, IsRun, a_run, IsFunctionBody, a_body, IsSegment, a_segment}
+use Rattle.wasm_lang.specs.Grammar.{IsVec, IsBytes, IsName, IsCode, IsGlobalType, IsImportKind, function_import, table_import, memory_import, global_import, IsImport, an_import, IsGlobal, a_global, IsExportKind, function_export, table_export, memory_export, global_export, IsExport, an_export, IsElement, an_element, IsSegment, a_segment}
 use Rattle.wasm_writer.specs.Spelling.{unsigned, items, vector, sized, value_type, table, limits, import_kind, imported, global, export_kind, exported, element, same_type, runs_from, runs, run, body, segment}
 use Rattle.wasm_writer.specs.Spelling as own
-use Rattle.wasm_writer.proofs.Best.{AreBytes, bytes_append, Best, AreBest, before, two_shorter, best_u32, best_items, best_vec, best_bytes, best_name}
-use Rattle.wasm_writer.proofs.BestCode.{best_val_type, best_limits, best_table, best_global_type, best_code}
+use Rattle.wasm_writer.proofs.Best.{bytes_append, Best, AreBest, before, two_shorter, best_u32, best_vec, best_bytes, best_name}
+use Rattle.wasm_writer.proofs.BestCode.{best_limits, best_table, best_global_type, best_code}
 
 best_import_kind : AreBest IsImportKind import_kind
 best_import_kind k xs ys bytes (function_import {t = t} {xs = ws} h) =

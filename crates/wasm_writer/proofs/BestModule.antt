@@ -1,17 +1,15 @@
 -- The shortest spelling of a module.
-use Rattle.std.proofs.Common.{◌≡◌, ℕ, suc, ◌+◌, ◌^◌, ◌<◌, ◌≤◌, List, [], ◌∷◌, ◌++◌, length, Option, Some, None, refl, sym, ap, subst, ◌∙◌, arith, append_assoc, append-nil, length-append}
+use Rattle.std.proofs.Common.{ℕ, ◌+◌, ◌<◌, ◌≤◌, List, [], ◌∷◌, ◌++◌, length, Option, None, refl, ap, subst, arith, append-nil, length-append}
 use Rattle.std.specs.Prelude.{All}
-use Rattle.std.specs.List.{zip}
 use Rattle.std.proofs.lemmas.List.Elements.{All-nil, All-cons, All-head, All-tail}
-use Rattle.wasm_lang.specs.Modules.{WasmModule, FunctionBody, FunctionType}
+use Rattle.wasm_lang.specs.Modules.{WasmModule}
 use Rattle.wasm_lang.specs.Numbers.{IsU32}
-use Rattle.wasm_lang.specs.Grammar.{Spelling, IsVec, IsSized, IsCustom, IsCustoms, no_custom, custom, IsSection, no_section, section, IsNumberSection, no_number, number, IsFunctionType, IsImport, IsTable, IsLimits, IsGlobal, IsExport, IsElement, IsFunctionBody, IsSegment, header, IsModuleBytes}
-use Rattle.wasm_lang.specs.Limits.{IsWithinReader, params_of, most_locals}
+use Rattle.wasm_lang.specs.Grammar.{Spelling, IsVec, IsSized, IsCustoms, no_custom, custom, IsSection, no_section, section, IsNumberSection, no_number, number, IsFunctionType, IsImport, IsTable, IsLimits, IsGlobal, IsExport, IsElement, IsFunctionBody, IsSegment, header, IsModuleBytes}
 use Rattle.wasm_writer.specs.Spelling.{unsigned, vector, sized, function_type, imported, table, limits, global, exported, element, body, segment, start_section, spelling}
 use Rattle.wasm_writer.specs.Spelling as own
-use Rattle.wasm_writer.proofs.Best.{AreBytes, bytes_append, bytes_split, Best, AreBest, before, two_shorter, best_u32, best_vec, best_sized}
+use Rattle.wasm_writer.proofs.Best.{AreBytes, bytes_append, bytes_split, Best, AreBest, best_u32, best_vec, best_sized}
 use Rattle.wasm_writer.proofs.BestCode.{best_function_type, best_limits, best_table}
-use Rattle.wasm_writer.proofs.BestEntries.{both_spell, best_import, best_global, best_export, best_element, best_segment}
+use Rattle.wasm_writer.proofs.BestEntries.{best_import, best_global, best_export, best_element, best_segment}
 use Rattle.wasm_writer.proofs.Locals.{best_body}
 
 -- ---- custom sections
@@ -127,40 +125,42 @@ best_module m bytes h =
     let bytes4 = bytes_append s4 r5 b4.bytes bytes5 in
     let bytes3 = bytes_append s3 r4 b3.bytes bytes4 in
     let bytes2 = bytes_append s2 r3 b2.bytes bytes3 in
-    let bytes1 = bytes_append s1 r2 b1.bytes bytes2 in
-    (record {
-      after_header = r1;
-      after_types = r2;
-      after_imports = r3;
-      after_functions = r4;
-      after_tables = r5;
-      after_memories = r6;
-      after_globals = r7;
-      after_exports = r8;
-      after_start = r9;
-      after_elements = r10;
-      after_data_count = r10;
-      after_bodies = s11;
-      after_segments = [];
-      data_count = None;
-      are_bytes = bytes_to (header ++ r1) (bytes_append header r1 all.0 bytes1);
-      begins = refl;
-      types = b1.spells r2;
-      imports = b2.spells r3;
-      functions = b3.spells r4;
-      tables = b4.spells r5;
-      memories = b5.spells r6;
-      globals = b6.spells r7;
-      exports = b7.spells r8;
-      start = b8.spells r9;
-      elements = b9.spells r10;
-      data_count_section = no_number no_custom;
-      bodies = b10.spells s11;
-      segments = last;
-      ends = no_custom;
-      bodies_match = h.bodies_match;
-      segments_match = tt;
-    }, omega (arith, l1, ap length h.begins, length-append header h.after_header, length-append header r1))
+    let bytes1 = bytes_append s1 r2 b1.bytes bytes2 in (
+      record {
+        after_header = r1;
+        after_types = r2;
+        after_imports = r3;
+        after_functions = r4;
+        after_tables = r5;
+        after_memories = r6;
+        after_globals = r7;
+        after_exports = r8;
+        after_start = r9;
+        after_elements = r10;
+        after_data_count = r10;
+        after_bodies = s11;
+        after_segments = [];
+        data_count = None;
+        are_bytes = bytes_to (header ++ r1) (bytes_append header r1 all.0 bytes1);
+        begins = refl;
+        types = b1.spells r2;
+        imports = b2.spells r3;
+        functions = b3.spells r4;
+        tables = b4.spells r5;
+        memories = b5.spells r6;
+        globals = b6.spells r7;
+        exports = b7.spells r8;
+        start = b8.spells r9;
+        elements = b9.spells r10;
+        data_count_section = no_number no_custom;
+        bodies = b10.spells s11;
+        segments = last;
+        ends = no_custom;
+        bodies_match = h.bodies_match;
+        segments_match = tt;
+      },
+      omega (arith, l1, ap length h.begins, length-append header h.after_header, length-append header r1),
+    )
   where
     two_more : (a b : List ℕ) (x y : ℕ) → length a + y ≤ x → length b ≤ y → length (a ++ b) ≤ x
     two_more a b x y p q = omega (arith, length-append a b)

@@ -1,9 +1,9 @@
 -- Worked examples, which the checker computes.
-use Rattle.std.specs.Prelude.{◌≡◌, List, [], ◌∷◌, ◌++◌, false, None, Some, refl}
+use Rattle.std.specs.Prelude.{◌≡◌, [], ◌∷◌, ◌++◌, None, Some, refl}
 use Rattle.sem_words.specs.declared.word.Bin.TheVariants.{Add}
 use Rattle.wasm_lang.specs.declared.types.ValType.TheVariants.{I32, I64}
 use Rattle.wasm_lang.specs.declared.types.ExportKind.TheVariants as exports
-use Rattle.wasm_lang.specs.Instructions.{plain, local_get, const32, load, bin64, sign_extend, memory_fill, end_mark}
+use Rattle.wasm_lang.specs.Instructions.{plain, local_get, const32, load, bin64, memory_fill, end_mark}
 use Rattle.wasm_lang.specs.Modules.{WasmModule}
 use Rattle.wasm_lang.specs.Opcodes.{narrow, wide}
 use Rattle.wasm_lang.specs.Grammar.{header}

@@ -4,7 +4,6 @@ use Rattle.std.proofs.Math.Pow.{pow_mono}
 use Rattle.std.proofs.lemmas.Bool.{cases_lt, false≢true}
 use Rattle.wasm_lang.specs.declared.types.ValType.{ValType}
 use Rattle.wasm_lang.specs.declared.types.ValType.TheVariants.{I32, I64}
-use Rattle.wasm_lang.specs.Modules.{FunctionBody}
 use Rattle.wasm_lang.specs.Numbers.{IsUnsigned, last_unsigned, more_unsigned, IsU32}
 use Rattle.wasm_lang.specs.Grammar.{Items, no_item, item, IsVec, IsValType, i32_type, i64_type, IsCode, locals_of, IsRun, a_run, IsFunctionBody, a_body}
 use Rattle.wasm_writer.specs.Spelling.{groups, unsigned, items, vector, value_type, same_type, runs_from, runs, run, body}
@@ -28,7 +27,7 @@ unfolding long
 long_more n h = omega (arith, ap length (groups_more 128 false n (omega arith) h))
 
 some_long : (n : ℕ) → 1 ≤ long n
-some_long n = elim (cases_lt n 128) [ | inl small ↦ omega (arith, long_last n small) | inr large ↦ omega (arith, long_more n large) ]
+some_long n = elim (cases_lt n 128) [ inl small ↦ omega (arith, long_last n small) | inr large ↦ omega (arith, long_more n large) ]
 
 long_mono : (turns k n : ℕ) → n ≤ turns → k ≤ n → long k ≤ long n
 long_mono zero k n t h = let e : k ≡ n = omega arith in omega (arith, ap long e)
@@ -165,7 +164,7 @@ short_spells : (bits n : ℕ) (zs : List ℕ) → n < 128 → n < 2 ^ bits → I
 short_spells bits n zs small h = subst (λ l. IsUnsigned bits n (l ++ zs) zs × AreBytes l) (sym (groups_last 128 false n small)) (last_unsigned (omega arith) h, (omega arith, tt))
 
 wide_bits : (bits n : ℕ) → 128 ≤ n → n < 2 ^ bits → 7 < bits
-wide_bits bits n large h = elim (cases_lt 7 bits) [ | inl l ↦ l | inr l ↦ (let p : 2 ^ bits ≤ 2 ^ 7 = pow_mono l in absurd (omega arith)) ]
+wide_bits bits n large h = elim (cases_lt 7 bits) [ inl l ↦ l | inr l ↦ (let p : 2 ^ bits ≤ 2 ^ 7 = pow_mono l in absurd (omega arith)) ]
 
 unsigned_spells : (turns bits n : ℕ) (zs : List ℕ) → n ≤ turns → n < 2 ^ bits → IsUnsigned bits n (unsigned n ++ zs) zs × AreBytes (unsigned n)
 unsigned_spells zero bits n zs t h = short_spells bits n zs (omega arith) h
@@ -242,4 +241,4 @@ best_body b xs zs bytes (a_body {runs = rs} {code = code} {ys = ys} p q few) =
     let again = locals_again (locals_of rs) in
     both_spell (IsVec IsRun (runs (locals_of rs))) (IsCode code) (vector run (runs (locals_of rs))) (items own.instruction code) xs ys zs a c (IsFunctionBody b)
     (λ us p q. subst (λ ls. IsFunctionBody (record { locals = ls; code = code }) ((vector run (runs (locals_of rs)) ++ items own.instruction code) ++ us) us) again
-      (a_body p q (subst (λ ls. length ls < 2 ^ 32) (sym again) few)))
+    (a_body p q (subst (λ ls. length ls < 2 ^ 32) (sym again) few)))

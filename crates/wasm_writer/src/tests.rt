@@ -1,10 +1,13 @@
 //! Two whole modules.
 
 use crate::write;
-use sem_words::List;
+use sem_words::{List, Text};
 use std::alloc::{AllocError, Global};
 use std::test::Fail;
-use wasm_tree::{Body, Bytes, Code, ExportKind, FuncType, Instr, Limits, Module, Segment, ValType, WasmExport};
+use wasm_tree::{
+    Body, Bytes, Code, ExportKind, FuncType, Instr, Limits, MemOp, Module, Segment, ValType,
+    WasmExport,
+};
 
 fn list<T>(items: Vec<T>) -> List<T> {
     List::from_vec(items)
@@ -65,16 +68,21 @@ fn adding(rt: HostRuntime) -> Result<(), Fail> {
 #[test]
 fn loading(rt: HostRuntime) -> Result<(), Fail> {
     let alloc = rt.alloc();
-    let code = [0x20, 0x00, 0x28, 0x02, 0x00, 0x0b];
+    let word = MemOp {
+        wide: false,
+        size: 4,
+        signed: false,
+    };
+    let instrs = vec![in alloc; Instr::LocalGet(0), Instr::Load(word, 2, 0), Instr::End]?;
     let body = Body {
         locals: List::new(alloc),
-        code: Code::Lent(&code),
+        code: Code::Own(list(instrs)),
     };
     let params = vec![in alloc; ValType::I32]?;
     let segment = Segment {
         memory: 0,
         offset: list(vec![in alloc; Instr::Const32(0), Instr::End]?),
-        bytes: Bytes::Lent(&[1, 2, 3, 4, 5]),
+        bytes: Bytes::Own(Text::from_bytes(alloc, &[1, 2, 3, 4, 5])?),
     };
     let loading = Module {
         memories: list(vec![in alloc; Limits { min: 1, max: None }]?),
