@@ -3,7 +3,7 @@ use Rattle.std.proofs.Common.{◌≡◌, ℕ, List, [], ◌∷◌, length, sym, 
 use Rattle.std.specs.Prelude.{◌==◌, Ok, Err, Some, None}
 use Rattle.wasm_lang.specs.declared.fault.Row.TheVariants.{Magic, Version, Counts}
 use Rattle.wasm_lang.specs.Modules.{WasmModule}
-use Rattle.wasm_lang.specs.Reading.{Input, Field, ◌>>=◌, expects, onto, vec_field, u32}
+use Rattle.wasm_lang.specs.Reading.{Input, ◌>>=◌, expects, onto, vec_field, u32}
 use Rattle.wasm_lang.specs.ReadingModule.{header_field, types_content, imports_content, functions_content, table_field, memory_field, globals_content, export_field, element_field, bodies_content, segments_content, counts, customs_field, end_field, read_module}
 use Rattle.wasm_tree.specs.declared.error.ReadError.{ReadError}
 use Rattle.wasm_tree.specs.declared.error.ReadError.TheVariants.{Refused, Memory}

@@ -1,6 +1,6 @@
 -- Instructions one after another, with the blocks that stand open.
-use Rattle.std.proofs.Common.{◌≡◌, ℕ, Bool, true, false, suc, ◌+◌, ◌-◌, ◌<◌, ◌≤◌, List, [], ◌∷◌, ◌++◌, length, refl, sym, ap, ◌∙◌, arith}
-use Rattle.std.specs.Prelude.{Result, Ok, Err, Option, Some, None}
+use Rattle.std.proofs.Common.{◌≡◌, ℕ, Bool, true, false, suc, ◌+◌, ◌-◌, ◌<◌, ◌≤◌, List, [], ◌∷◌, ◌++◌, length, refl, ap, ◌∙◌, arith}
+use Rattle.std.specs.Prelude.{Result, Ok, Err, Option}
 use Rattle.wasm_lang.specs.declared.fault.Fault.{Fault}
 use Rattle.wasm_lang.specs.declared.fault.Row.TheVariants.{SectionSize}
 use Rattle.wasm_lang.specs.Instructions.{Instruction}

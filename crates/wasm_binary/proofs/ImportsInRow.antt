@@ -1,5 +1,5 @@
 -- Imports in a row.
-use Rattle.std.proofs.Common.{◌≡◌, ℕ, suc, ◌+◌, ◌-◌, ◌<◌, List, [], ◌∷◌, ◌++◌, refl, sym, ap, ◌∙◌, arith, add_assoc, map, take, get_or, length}
+use Rattle.std.proofs.Common.{◌≡◌, ℕ, suc, ◌+◌, ◌-◌, ◌<◌, List, [], ◌∷◌, ◌++◌, sym, ap, ◌∙◌, arith, map, take, get_or, length}
 use Rattle.std.specs.Prelude.{Ok, Err}
 use Rattle.std.proofs.Math.Seq.{take-suc}
 use Rattle.std.proofs.lemmas.List.{map-append}
@@ -8,7 +8,7 @@ use Rattle.wasm_tree.specs.Views.{import_of}
 use Rattle.wasm_lang.specs.declared.fault.Fault.{Fault}
 use Rattle.wasm_lang.specs.Limits.{function_imports, global_imports}
 use Rattle.wasm_lang.specs.Modules.{Imported}
-use Rattle.wasm_lang.specs.Reading.{Input, Field, ◌>>=◌}
+use Rattle.wasm_lang.specs.Reading.{Input, ◌>>=◌}
 use Rattle.wasm_lang.specs.ReadingModule.{import_field, imports_field}
 use Rattle.wasm_binary.proofs.ItemsInRow.{with_front, items_on}
 

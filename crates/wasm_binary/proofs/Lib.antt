@@ -4,6 +4,7 @@ pub mod Expressions
 pub mod Header
 pub mod ImportsInRow
 pub mod ItemsInRow
+pub mod Lending
 pub mod SectionHeads
 pub mod Spellings
 pub mod TextTests

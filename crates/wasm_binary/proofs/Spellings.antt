@@ -1,14 +1,12 @@
 -- A spelling is a part of the bytes, and stands for itself whatever follows it.
-use Rattle.std.proofs.Common.{◌≡◌, ℕ, ◌+◌, ◌-◌, ◌≤◌, ◌^◌, ◌*◌, List, [], ◌∷◌, ◌++◌, length, take, drop, refl, sym, ap, subst, ◌∙◌, append_assoc, arith, length-append}
-use Rattle.std.specs.Prelude.{Ok, Option, Some, None}
+use Rattle.std.proofs.Common.{◌≡◌, ℕ, ◌+◌, ◌-◌, ◌≤◌, List, [], ◌∷◌, ◌++◌, length, take, refl, sym, ap, subst, ◌∙◌, append_assoc, arith, length-append}
+use Rattle.std.specs.Prelude.{Option}
 use Rattle.std.proofs.lemmas.List.{append-nil}
 use Rattle.std.proofs.Math.Seq.{take-append_seam}
 use Rattle.wasm_lang.specs.declared.types.ValType.{ValType}
 use Rattle.wasm_lang.specs.Instructions.{Plain, local_get, local_set, local_tee, global_get, global_set, load, store, memory_size, memory_copy, memory_fill, const32, const64, Instruction, block, loop, if_block, br, br_if, br_table, call, call_indirect, plain}
 use Rattle.wasm_lang.specs.Numbers.{IsUnsigned, last_unsigned, more_unsigned, IsInteger, last_positive, last_negative, more_integer, IsU32}
 use Rattle.wasm_lang.specs.Grammar.{Spelling, Items, no_item, item, IsVec, IsValType, i32_type, i64_type, IsBlockType, no_result, one_result, ArePlainImmediates, AreImmediates, IsInstruction, instruction, IsCode}
-use Rattle.wasm_lang.specs.Reading.{Input}
-use Rattle.wasm_lang.specs.ReadingCode.{code_field, spelled}
 
 pub record IsLocal (P : List ℕ → List ℕ → Type 0) (xs ys : List ℕ) : Type 0 where
   pub front : List ℕ

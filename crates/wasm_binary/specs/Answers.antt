@@ -4,7 +4,6 @@ use Rattle.wasm_lang.specs.declared.fault.Fault.{Fault}
 use Rattle.wasm_lang.specs.declared.fault.Row.{Row}
 use Rattle.wasm_lang.specs.declared.fault.Row.TheVariants.{Magic, Version, Truncated, Leb, SectionOrder, SectionSize, UnknownByte, Utf8, Counts, Float, MemoryGrow, Limit}
 use Rattle.wasm_lang.specs.Modules.{WasmModule}
-use Rattle.wasm_lang.specs.ReadingModule.{read_module}
 use Rattle.wasm_tree.specs.declared.error.ReadError.{ReadError}
 use Rattle.wasm_tree.specs.declared.error.ReadError.TheVariants as errors
 use Rattle.wasm_tree.specs.declared.module.Module.{Module}

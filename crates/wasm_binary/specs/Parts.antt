@@ -1,5 +1,5 @@
 -- How a section stands in the input: absent, or its content and what follows it.
-use Rattle.std.specs.Prelude.{◌≡◌, ℕ, ◌+◌, List, [], length, take, drop, nat_le, if◌then◌else◌, Result, Ok, Err}
+use Rattle.std.specs.Prelude.{◌≡◌, ℕ, ◌+◌, length, take, drop, nat_le, if◌then◌else◌, Result, Ok, Err}
 use Rattle.wasm_lang.specs.declared.fault.Fault.{Fault}
 use Rattle.wasm_lang.specs.declared.fault.Row.TheVariants.{Truncated, SectionSize}
 use Rattle.wasm_lang.specs.Reading.{Input, Field, ◌>>=◌, expects, u32, u32_field, nothing_left}

@@ -1,5 +1,5 @@
 -- What lists of the reader stand for.
-use Rattle.std.specs.Prelude.{ℕ, List, map}
+use Rattle.std.specs.Prelude.{List, map}
 use Rattle.sem_words.specs.declared.list.List.{List as Listed}
 use Rattle.sem_words.specs.Lists.{list_items}
 use Rattle.wasm_lang.specs.Instructions.{Instruction}

@@ -5,7 +5,7 @@ use Rattle.wasm_lang.specs.declared.fault.Fault.{Fault}
 use Rattle.wasm_lang.specs.declared.fault.Row.TheVariants.{Magic, Version, Counts}
 use Rattle.wasm_lang.specs.declared.types.Limits.{Limits}
 use Rattle.wasm_lang.specs.Modules.{FunctionType, Imported, GlobalEntry, Exported, ElementSegment, WasmModule}
-use Rattle.wasm_lang.specs.Reading.{Input, Field, ◌>>=◌, expects, onto, vec_field, u32}
+use Rattle.wasm_lang.specs.Reading.{Input, ◌>>=◌, expects, onto, vec_field, u32}
 use Rattle.wasm_lang.specs.ReadingModule.{header_field, types_content, imports_content, functions_content, table_field, memory_field, globals_content, export_field, element_field, bodies_content, segments_content, counts, customs_field, end_field}
 use Rattle.wasm_binary.specs.declared.reader.Declared.{Declared}
 use Rattle.wasm_binary.specs.declared.reader.Defined.{Defined}

@@ -1,10 +1,11 @@
 //! Bodies of functions.
-ghost use Rattle.std.specs.Prelude.{◌≡◌, ℕ, ◌+◌, ◌++◌, replicate, map, Ok, Err, OnOk, MatchResult};
+ghost use Rattle.std.specs.Prelude.{◌≡◌, ℕ, ◌+◌, ◌++◌, replicate, map, Ok, Err, IfOk, OnOk, MatchResult};
 ghost use Rattle.sem_words.specs.Lists.{list_items};
 ghost use Rattle.wasm_lang.specs.Limits.{params_of, most_locals};
 ghost use Rattle.wasm_lang.specs.ReadingModule as modules;
 ghost use Rattle.wasm_tree.specs.Inputs.{input_of, IsField, IsRead};
 ghost use Rattle.wasm_tree.specs.Views.{type_of, body_of};
+ghost use Rattle.wasm_binary.specs.Lent.{Each, IsLentBody};
 ghost use Rattle.wasm_binary.specs.Parts.{body_head};
 ghost use Rattle.wasm_binary.specs.Views.{bodies_of};
 
@@ -59,7 +60,8 @@ fn body_content<'a>(
     input: Input<'a>,
     params: usize,
 ) -> Result<(Body<'a>, Input<'a>), ReadError>
-    ensures { IsRead body_of result (modules.body_content params (input_of input.entry)) }
+    ensures value { IsRead body_of result (modules.body_content params (input_of input.entry)) }
+    ensures lent { IfOk result (λ x. IsLentBody x.0) }
 {
     let (n, rest) = number(input)?;
     let (locals, rest) = runs(alloc, rest, params, n)?;
@@ -94,7 +96,8 @@ fn body<'a>(
     input: Input<'a>,
     params: usize,
 ) -> Result<(Body<'a>, Input<'a>), ReadError>
-    ensures { IsRead body_of result (modules.body_field params (input_of input.entry)) }
+    ensures value { IsRead body_of result (modules.body_field params (input_of input.entry)) }
+    ensures lent { IfOk result (λ x. IsLentBody x.0) }
 {
     let (content, after) = body_part(input)?;
     let (body, rest) = body_content(alloc, content, params)?;
@@ -119,7 +122,8 @@ pub fn bodies<'a>(
     functions: &[u32],
     input: Input<'a>,
 ) -> Result<(List<Body<'a>>, Input<'a>), ReadError>
-    ensures { IsRead bodies_of result (modules.bodies_field (map type_of types.now) functions.now (input_of input.entry)) }
+    ensures value { IsRead bodies_of result (modules.bodies_field (map type_of types.now) functions.now (input_of input.entry)) }
+    ensures lent { IfOk result (λ x. Each IsLentBody (list_items x.0)) }
 {
     let mut list = List::new(alloc);
     let mut rest = input;

@@ -1,10 +1,11 @@
 //! Expressions: instructions one after another, up to the end that closes them.
-ghost use Rattle.std.specs.Prelude.{◌≡◌, ℕ, Some, None, Ok, Err, MatchResult, cond, if◌then◌else◌};
+ghost use Rattle.std.specs.Prelude.{◌≡◌, ℕ, Some, None, Ok, Err, IfOk, MatchResult, cond, if◌then◌else◌};
 ghost use Rattle.sem_words.specs.Lists.{list_items};
 ghost use Rattle.wasm_lang.specs.ReadingCode as reading;
 ghost use Rattle.wasm_tree.specs.Inputs.{input_of, IsField, IsRead};
 ghost use Rattle.wasm_tree.specs.Views.{instr_of, code_of};
 ghost use Rattle.wasm_binary.specs.Views.{instrs_of};
+ghost use Rattle.wasm_binary.specs.Lent.{IsLentCode};
 ghost use Rattle.wasm_binary.specs.Openings.{openings_of, opening_of, IsNext, IsTurned};
 
 use sem_words::List;
@@ -104,7 +105,8 @@ pub fn instrs<'a>(alloc: Global, input: Input<'a>) -> Result<(List<Instr>, Input
 
 /// An expression, lent from the input.
 pub fn code<'a>(alloc: Global, input: Input<'a>) -> Result<(Code<'a>, Input<'a>), ReadError>
-    ensures { IsRead code_of result (reading.code_field (input_of input.entry)) }
+    ensures value { IsRead code_of result (reading.code_field (input_of input.entry)) }
+    ensures lent { IfOk result (λ x. IsLentCode x.0) }
 {
     code_laws();
     let mut openings = Vec::new(alloc);

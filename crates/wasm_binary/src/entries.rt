@@ -5,6 +5,7 @@ ghost use Rattle.wasm_lang.specs.Reading as reading;
 ghost use Rattle.wasm_lang.specs.ReadingModule as modules;
 ghost use Rattle.wasm_tree.specs.Inputs.{input_of, IsField, IsRead};
 ghost use Rattle.wasm_tree.specs.Views.{type_of, global_of, export_of, element_of, segment_of};
+ghost use Rattle.wasm_binary.specs.Lent.{Each, IsLentExport, IsLentSegment};
 ghost use Rattle.wasm_binary.specs.Views.{types_of, globals_of, exports_of, elements_of, segments_of};
 
 use crate::code::instrs;
@@ -182,7 +183,8 @@ fn export_kind<'a>(input: Input<'a>) -> Result<(ExportKind, Input<'a>), Fault>
 
 /// An export.
 pub fn export<'a>(input: Input<'a>) -> Result<(WasmExport<'a>, Input<'a>), Fault>
-    ensures { IsField export_of result (modules.export_field (input_of input.entry)) }
+    ensures value { IsField export_of result (modules.export_field (input_of input.entry)) }
+    ensures lent { IfOk result (λ x. IsLentExport x.0) }
 {
     let (name, rest) = name(input)?;
     let (kind, rest) = export_kind(rest)?;
@@ -195,7 +197,8 @@ pub fn exports<'a>(
     input: Input<'a>,
     count: u32,
 ) -> Result<(List<WasmExport<'a>>, Input<'a>), ReadError>
-    ensures { IsRead exports_of result (reading.items_field modules.export_field count (input_of input.entry)) }
+    ensures value { IsRead exports_of result (reading.items_field modules.export_field count (input_of input.entry)) }
+    ensures lent { IfOk result (λ x. Each IsLentExport (list_items x.0)) }
 {
     let mut list = List::new(alloc);
     let mut rest = input;
@@ -248,7 +251,8 @@ pub fn elements<'a>(
 
 /// A data segment.
 pub fn segment<'a>(alloc: Global, input: Input<'a>) -> Result<(Segment<'a>, Input<'a>), ReadError>
-    ensures { IsRead segment_of result (modules.segment_field (input_of input.entry)) }
+    ensures value { IsRead segment_of result (modules.segment_field (input_of input.entry)) }
+    ensures lent { IfOk result (λ x. IsLentSegment x.0) }
 {
     let (memory, rest) = number(input)?;
     let (offset, rest) = instrs(alloc, rest)?;
@@ -269,7 +273,8 @@ pub fn segments<'a>(
     input: Input<'a>,
     count: u32,
 ) -> Result<(List<Segment<'a>>, Input<'a>), ReadError>
-    ensures { IsRead segments_of result (reading.items_field modules.segment_field count (input_of input.entry)) }
+    ensures value { IsRead segments_of result (reading.items_field modules.segment_field count (input_of input.entry)) }
+    ensures lent { IfOk result (λ x. Each IsLentSegment (list_items x.0)) }
 {
     let mut list = List::new(alloc);
     let mut rest = input;

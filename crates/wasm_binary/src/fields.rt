@@ -6,7 +6,7 @@ ghost use Rattle.wasm_lang.specs.Reading as reading;
 ghost use Rattle.wasm_lang.specs.ReadingModule as modules;
 ghost use Rattle.wasm_tree.specs.Inputs.{input_of, IsField};
 ghost use Rattle.wasm_tree.specs.Views.{bytes_of};
-ghost use Rattle.wasm_binary.specs.Lent.{IsLentFrom};
+ghost use Rattle.wasm_binary.specs.Lent.{IsLent};
 
 use std::str;
 use wasm_tree::{Bytes, Fault, GlobalType, Input, Limits, Row};
@@ -77,7 +77,8 @@ fn counted<'a>(input: Input<'a>) -> Result<(&'a [u8], Input<'a>), Fault>
 
 /// Bytes after their count, lent from the input.
 pub fn bytes<'a>(input: Input<'a>) -> Result<(Bytes<'a>, Input<'a>), Fault>
-    ensures { IsField bytes_of result (reading.bytes_field (input_of input.entry)) }
+    ensures value { IsField bytes_of result (reading.bytes_field (input_of input.entry)) }
+    ensures lent { IfOk result (λ x. IsLent x.0) }
 {
     let (bytes, rest) = counted(input)?;
     Ok((Bytes::Lent(bytes), rest))
@@ -95,7 +96,8 @@ fn is_text(bytes: &[u8]) -> bool
 
 /// A name, lent from the input.
 pub fn name<'a>(input: Input<'a>) -> Result<(Bytes<'a>, Input<'a>), Fault>
-    ensures { IsField bytes_of result (reading.name_field (input_of input.entry)) }
+    ensures value { IsField bytes_of result (reading.name_field (input_of input.entry)) }
+    ensures lent { IfOk result (λ x. IsLent x.0) }
 {
     let (n, rest) = number(input)?;
     if n as usize > rest.bytes.len() {

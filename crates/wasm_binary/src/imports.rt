@@ -1,9 +1,11 @@
 //! Imports, with the limits on how many functions and globals there are.
-ghost use Rattle.std.specs.Prelude.{◌≡◌, ℕ, ◌+◌, ◌<◌, ◌≤◌, [], ◌∷◌, map};
+ghost use Rattle.std.specs.Prelude.{◌≡◌, ℕ, ◌+◌, ◌<◌, ◌≤◌, [], ◌∷◌, map, IfOk};
 ghost use Rattle.wasm_lang.specs.Limits.{function_imports, global_imports};
 ghost use Rattle.wasm_lang.specs.ReadingModule as modules;
 ghost use Rattle.wasm_tree.specs.Inputs.{input_of, IsField, IsRead};
 ghost use Rattle.wasm_tree.specs.Views.{import_of};
+ghost use Rattle.sem_words.specs.Lists.{list_items};
+ghost use Rattle.wasm_binary.specs.Lent.{Each, IsLentImport};
 ghost use Rattle.wasm_binary.specs.Views.{imports_of};
 
 use crate::fields::{global_type, memory, name, number, table, within};
@@ -46,7 +48,8 @@ fn import<'a>(
     functions: usize,
     globals: usize,
 ) -> Result<(Import<'a>, Input<'a>), Fault>
-    ensures { IsField import_of result (modules.import_field functions globals (input_of input.entry)) }
+    ensures value { IsField import_of result (modules.import_field functions globals (input_of input.entry)) }
+    ensures lent { IfOk result (λ x. IsLentImport x.0) }
 {
     let (module, rest) = name(input)?;
     let (field, rest) = name(rest)?;
@@ -89,7 +92,8 @@ pub fn imports<'a>(
     input: Input<'a>,
     count: u32,
 ) -> Result<(List<Import<'a>>, Input<'a>), ReadError>
-    ensures { IsRead imports_of result (modules.imports_field 0 0 count (input_of input.entry)) }
+    ensures value { IsRead imports_of result (modules.imports_field 0 0 count (input_of input.entry)) }
+    ensures lent { IfOk result (λ x. Each IsLentImport (list_items x.0)) }
 {
     let mut list = List::new(alloc);
     let mut functions: usize = 0;

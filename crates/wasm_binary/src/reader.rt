@@ -1,7 +1,9 @@
 //! Reading a module.
-ghost use Rattle.std.specs.Prelude.{◌≡◌, Ok, Err};
+ghost use Rattle.std.specs.Prelude.{◌≡◌, Ok, Err, IfOk};
 ghost use Rattle.wasm_lang.specs.ReadingModule.{read_module};
 ghost use Rattle.wasm_tree.specs.Inputs.{input_of};
+ghost use Rattle.sem_words.specs.Lists.{list_items};
+ghost use Rattle.wasm_binary.specs.Lent.{Each, IsLentImport, IsLentExport, IsLentModule};
 ghost use Rattle.wasm_binary.specs.Views.{types_of, imports_of};
 ghost use Rattle.wasm_binary.specs.Whole.{read_by_parts, sections_from, declarations_from, definitions_from, contents_from, front_of, middle_of};
 ghost use Rattle.wasm_binary.specs.Answers.{IsAnswer, IsModule};
@@ -22,7 +24,8 @@ use wasm_tree::{
 /// The module that the bytes spell, or the first field that can't be read, with the number of why and its
 /// place. Counts above the limits of this reader are refused. The time is linear in the bytes.
 pub fn read<'a>(alloc: Global, bytes: &'a [u8]) -> Result<Module<'a>, BinFault>
-    ensures { IsAnswer result (read_module bytes.now) }
+    ensures read { IsAnswer result (read_module bytes.now) }
+    ensures lent { IfOk result (λ m. IsLentModule m) }
 {
     match module(alloc, bytes) {
         Ok(module) => Ok(module),
@@ -51,7 +54,8 @@ pub struct Defined<'a> {
 
 // The module, with the fault as it was met.
 fn module<'a>(alloc: Global, bytes: &'a [u8]) -> Result<Module<'a>, ReadError>
-    ensures { IsModule result (read_by_parts bytes.now) }
+    ensures value { IsModule result (read_by_parts bytes.now) }
+    ensures lent { IfOk result (λ m. IsLentModule m) }
 {
     let input = Input::new(bytes);
     let rest = expected(input, b"\0asm", Row::Magic)?;
@@ -61,7 +65,8 @@ fn module<'a>(alloc: Global, bytes: &'a [u8]) -> Result<Module<'a>, ReadError>
 
 // The module, after the header.
 fn sections<'a>(alloc: Global, input: Input<'a>) -> Result<Module<'a>, ReadError>
-    ensures { IsModule result (sections_from (input_of input.entry)) }
+    ensures value { IsModule result (sections_from (input_of input.entry)) }
+    ensures lent { IfOk result (λ m. IsLentModule m) }
 {
     let (types, rest) = type_section(alloc, input)?;
     let (imports, rest) = import_section(alloc, rest)?;
@@ -75,7 +80,9 @@ fn declarations<'a>(
     imports: List<Import<'a>>,
     input: Input<'a>,
 ) -> Result<Module<'a>, ReadError>
-    ensures { IsModule result (declarations_from (types_of types) (imports_of imports.entry) (input_of input.entry)) }
+    requires { Each IsLentImport (list_items imports) }
+    ensures value { IsModule result (declarations_from (types_of types) (imports_of imports.entry) (input_of input.entry)) }
+    ensures lent { IfOk result (λ m. IsLentModule m) }
 {
     let (functions, rest) = function_section(alloc, input, &imports)?;
     let (tables, rest) = table_section(alloc, rest)?;
@@ -98,7 +105,9 @@ fn definitions<'a>(
     declared: Declared<'a>,
     input: Input<'a>,
 ) -> Result<Module<'a>, ReadError>
-    ensures { IsModule result (definitions_from (front_of declared.entry) (input_of input.entry)) }
+    requires { Each IsLentImport (list_items declared.imports) }
+    ensures value { IsModule result (definitions_from (front_of declared.entry) (input_of input.entry)) }
+    ensures lent { IfOk result (λ m. IsLentModule m) }
 {
     let (exports, rest) = export_section(alloc, input)?;
     let (start, rest) = number_section(rest, 8)?;
@@ -120,7 +129,10 @@ fn contents<'a>(
     counted: Option<u32>,
     input: Input<'a>,
 ) -> Result<Module<'a>, ReadError>
-    ensures { IsModule result (contents_from (front_of declared.entry) (middle_of defined.entry) counted (input_of input.entry)) }
+    requires imports { Each IsLentImport (list_items declared.imports) }
+    requires exports { Each IsLentExport (list_items defined.exports) }
+    ensures value { IsModule result (contents_from (front_of declared.entry) (middle_of defined.entry) counted (input_of input.entry)) }
+    ensures lent { IfOk result (λ m. IsLentModule m) }
 {
     let (bodies, rest) = body_section(alloc, input, &declared.types, &declared.functions)?;
     let (segments, rest) = segment_section(alloc, rest, counted)?;

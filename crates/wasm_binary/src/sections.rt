@@ -1,9 +1,10 @@
 //! Sections: each is absent or stands next, with its size before its content.
-ghost use Rattle.std.specs.Prelude.{◌≡◌, ℕ, List as Bytes, true, false, None, [], length, Ok, Err, MatchOption, MatchResult};
+ghost use Rattle.std.specs.Prelude.{◌≡◌, ℕ, List as Bytes, true, false, None, [], length, Ok, Err, IfOk, MatchOption, MatchResult};
 ghost use Rattle.sem_words.specs.Lists.{list_items};
 ghost use Rattle.wasm_lang.specs.Reading as reading;
 ghost use Rattle.wasm_lang.specs.ReadingModule as modules;
 ghost use Rattle.wasm_tree.specs.Inputs.{input_of, IsField, IsRead};
+ghost use Rattle.wasm_binary.specs.Lent.{Each, IsLentImport, IsLentExport, IsLentBody, IsLentSegment};
 ghost use Rattle.wasm_binary.specs.Parts.{section_head, part_head, part_by, IsPlaced};
 ghost use Rattle.wasm_binary.specs.Views.{types_of, imports_of, globals_of, exports_of, elements_of, bodies_of, segments_of};
 
@@ -123,7 +124,8 @@ pub fn import_section<'a>(
     alloc: Global,
     input: Input<'a>,
 ) -> Result<(List<Import<'a>>, Input<'a>), ReadError>
-    ensures { IsRead imports_of result (part_by 2 [] modules.imports_content (input_of input.entry)) }
+    ensures value { IsRead imports_of result (part_by 2 [] modules.imports_content (input_of input.entry)) }
+    ensures lent { IfOk result (λ x. Each IsLentImport (list_items x.0)) }
 {
     match placed(input, 2)? {
         Part::Absent(rest) => Ok((List::new(alloc), rest)),
@@ -215,7 +217,8 @@ pub fn export_section<'a>(
     alloc: Global,
     input: Input<'a>,
 ) -> Result<(List<WasmExport<'a>>, Input<'a>), ReadError>
-    ensures { IsRead exports_of result (part_by 7 [] (reading.vec_field modules.export_field) (input_of input.entry)) }
+    ensures value { IsRead exports_of result (part_by 7 [] (reading.vec_field modules.export_field) (input_of input.entry)) }
+    ensures lent { IfOk result (λ x. Each IsLentExport (list_items x.0)) }
 {
     match placed(input, 7)? {
         Part::Absent(rest) => Ok((List::new(alloc), rest)),
@@ -267,7 +270,8 @@ pub fn body_section<'a>(
     types: &List<FuncType>,
     functions: &List<u32>,
 ) -> Result<(List<Body<'a>>, Input<'a>), ReadError>
-    ensures { IsRead bodies_of result (part_by 10 [] (modules.bodies_content (types_of types.now) (list_items functions.now)) (input_of input.entry)) }
+    ensures value { IsRead bodies_of result (part_by 10 [] (modules.bodies_content (types_of types.now) (list_items functions.now)) (input_of input.entry)) }
+    ensures lent { IfOk result (λ x. Each IsLentBody (list_items x.0)) }
 {
     match placed(input, 10)? {
         Part::Absent(rest) => Ok((List::new(alloc), rest)),
@@ -287,7 +291,8 @@ pub fn segment_section<'a>(
     input: Input<'a>,
     counted: Option<u32>,
 ) -> Result<(List<Segment<'a>>, Input<'a>), ReadError>
-    ensures { IsRead segments_of result (part_by 11 [] (modules.segments_content counted) (input_of input.entry)) }
+    ensures value { IsRead segments_of result (part_by 11 [] (modules.segments_content counted) (input_of input.entry)) }
+    ensures lent { IfOk result (λ x. Each IsLentSegment (list_items x.0)) }
 {
     match placed(input, 11)? {
         Part::Absent(rest) => Ok((List::new(alloc), rest)),

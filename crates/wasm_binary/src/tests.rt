@@ -2,8 +2,7 @@
 
 use crate::fault::BinFault;
 use crate::reader::read;
-use std::alloc::Global;
-use std::fmt::Debug;
+use std::alloc::{AllocError, Global};
 
 // A function `m` that adds two numbers of 64 bits.
 const ADDS: [u8; 39] = [
@@ -41,11 +40,13 @@ fn modules_are_read(rt: HostRuntime) {
     let extends =
         b"\0asm\x01\0\0\0\x01\x06\x01\x60\x01\x7f\x01\x7f\x03\x02\x01\0\x07\x05\x01\x01\x65\0\0\x0a\x07\x01\x05\0\x20\0\xc0\x0b";
     let padded = b"\0asm\x01\0\0\0\x01\x85\x80\x80\x80\0\x80\x80\x80\x80\0";
+    let no_types = b"\0asm\x01\0\0\0\x01\x05\x80\x80\x80\x80\0";
     let counted = b"\0asm\x01\0\0\0\x0c\x01\0";
-    let want: [(&[u8], (usize, usize)); 4] = [
+    let want: [(&[u8], (usize, usize)); 5] = [
         (loads, (1, 1)),
         (extends, (1, 0)),
         (padded, (0, 0)),
+        (no_types, (0, 0)),
         (counted, (0, 0)),
     ];
     for (bytes, counts) in want {
@@ -55,11 +56,12 @@ fn modules_are_read(rt: HostRuntime) {
 
 #[test]
 fn first_faults(rt: HostRuntime) {
-    let want: [(&[u8], (u8, u64)); 12] = [
+    let want: [(&[u8], (u8, u64)); 13] = [
         (b"\0asn", (1, 3)),
         (b"\0asm\x02\0\0\0", (2, 4)),
         (b"\0asm\x01\0\0\0\x01\x85\x80\x80\x80\x80\0", (4, 9)),
         (b"\0asm\x01\0\0\0\x01\x06\x80\x80\x80\x80\x80\0", (4, 10)),
+        (b"\0asm\x01\0\0\0\x01\x05\x80\x80\x80\x80\x10", (4, 10)),
         (b"\0asm\x01\0\0\0\x01\x01\0\x01\x01\0", (5, 11)),
         (b"\0asm\x01\0\0\0\x07\x05\xff\xff\xff\xff\x0f", (6, 15)),
         (b"\0asm\x01\0\0\0\x0d\0", (7, 8)),
@@ -72,4 +74,37 @@ fn first_faults(rt: HostRuntime) {
     for (bytes, fault) in want {
         assert_eq!(rt; told(rt.alloc(), bytes), Err(fault));
     }
+}
+
+// A module with one function, of nested blocks. The sizes of its code section and of its body are given as
+// they are spelled.
+fn nested(
+    alloc: Global,
+    levels: usize,
+    section_size: [u8; 3],
+    body_size: [u8; 3],
+) -> Result<Vec<u8>, AllocError> {
+    let mut bytes = Vec::new(alloc);
+    bytes.extend_from_slice(b"\0asm\x01\0\0\0\x01\x04\x01\x60\0\0\x03\x02\x01\0\x0a")?;
+    bytes.extend_from_slice(&section_size)?;
+    bytes.push(1)?;
+    bytes.extend_from_slice(&body_size)?;
+    bytes.push(0)?;
+    for _level in 0..levels {
+        bytes.extend_from_slice(b"\x02\x40")?;
+    }
+    for _level in 0..levels {
+        bytes.push(0x0b)?;
+    }
+    bytes.push(0x0b)?;
+    Ok(bytes)
+}
+
+#[test]
+fn blocks_are_read_without_recursion(rt: HostRuntime) -> Result<(), AllocError> {
+    let most = nested(rt.alloc(), 300_000, [0xa6, 0xf7, 0x36], [0xa2, 0xf7, 0x36])?;
+    assert_eq!(rt; told(rt.alloc(), most.as_slice()), Ok((1, 0)));
+    let more = nested(rt.alloc(), 300_001, [0xa9, 0xf7, 0x36], [0xa5, 0xf7, 0x36])?;
+    assert_eq!(rt; told(rt.alloc(), more.as_slice()), Err((12, 600_027)));
+    Ok(())
 }

@@ -1,11 +1,11 @@
 -- Worked examples, which the checker computes.
-use Rattle.std.specs.Prelude.{◌≡◌, ℕ, true, false, List, [], ◌∷◌, Option, Some, None, Result, Ok, Err, refl}
+use Rattle.std.specs.Prelude.{◌≡◌, true, false, List, [], ◌∷◌, Some, None, Result, Ok, Err, refl}
 use Rattle.sem_words.specs.declared.word.Bin.TheVariants.{Add}
 use Rattle.wasm_lang.specs.declared.types.ValType.TheVariants.{I32, I64}
-use Rattle.wasm_lang.specs.Instructions.{Instruction, unreachable, block, loop, if_block, else_mark, end_mark, br, br_table, call, call_indirect, plain, drop_operand, local_get, global_set, const32, const64, bin32, load, memory_fill}
+use Rattle.wasm_lang.specs.Instructions.{Instruction, unreachable, block, loop, if_block, else_mark, end_mark, br, br_table, call, call_indirect, plain, local_get, global_set, const32, const64, bin32, load}
 use Rattle.wasm_lang.specs.Modules.{FunctionType, WasmModule}
 use Rattle.wasm_typing.specs.declared.rule.Rule.{Rule}
-use Rattle.wasm_typing.specs.declared.rule.Rule.TheVariants.{NoType, NoFunction, NoTable, NoMemory, NoLocal, NoLabel, OtherType, MissingOperand, OperandsLeft, Alignment, ConstantGlobal, LabelsDiffer, IfWithoutElse, Initializer, TwoResults, Size, StartType}
+use Rattle.wasm_typing.specs.declared.rule.Rule.TheVariants.{NoType, NoFunction, NoTable, NoLocal, NoLabel, OtherType, MissingOperand, OperandsLeft, Alignment, ConstantGlobal, LabelsDiffer, IfWithoutElse, Initializer, TwoResults, Size, StartType}
 use Rattle.wasm_typing.specs.declared.section.Section.TheVariants as sections
 use Rattle.wasm_typing.specs.Typing.{Context, natural}
 use Rattle.wasm_typing.specs.State.{Level, steps, at_start}

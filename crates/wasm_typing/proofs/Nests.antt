@@ -6,7 +6,7 @@ use Rattle.wasm_lang.specs.declared.types.ValType.TheVariants.{I32}
 use Rattle.wasm_typing.specs.declared.rule.Opening.{Opening}
 use Rattle.wasm_typing.specs.declared.rule.Opening.TheVariants.{Straight, Back, FirstArm}
 use Rattle.wasm_lang.specs.Instructions.{Instruction, block, loop, if_block, else_mark, end_mark}
-use Rattle.wasm_typing.specs.Typing.{Context, onward, late, Fixed, shape, may_end, may_turn}
+use Rattle.wasm_typing.specs.Typing.{Context, late, Fixed, shape, may_end, may_turn}
 use Rattle.wasm_typing.specs.State.{Level, fresh, acted, closes, given, around, on_top, opened, plainly, step}
 use Rattle.wasm_lang.specs.Instructions.{is_simple, Nested, empty, simple, in_block, in_loop, in_if, in_arms, IsExpression}
 use Rattle.wasm_typing.proofs.Stands.{ok_is, onward_ok}

@@ -10,7 +10,7 @@ use Rattle.wasm_typing.specs.declared.rule.Rule.{Rule}
 use Rattle.wasm_typing.specs.declared.rule.Rule.TheVariants.{Nesting, NoType, NoFunction, NoTable, NoMemory, NoGlobal, NoLocal, NoLabel, OtherType, MissingOperand, OperandsLeft, Alignment, ConstantGlobal, Initializer, Size, SecondMemory, SecondTable, RepeatedName, StartType, LabelsDiffer, IfWithoutElse, TwoResults}
 use Rattle.wasm_lang.specs.Instructions as code
 use Rattle.wasm_lang.specs.Instructions.{Plain, Instruction, block, loop, if_block, else_mark, end_mark, br, br_if, br_table, call, call_indirect, plain}
-use Rattle.wasm_typing.specs.Typing.{Context, onward, same, unless, found, all_labels, alike, late, listed, Shape, Fixed, Leaves, AnyOne, TwoAlike, plain_shape, plain_late, shape, type_of, call_shape, may_set, natural, may_end, may_turn}
+use Rattle.wasm_typing.specs.Typing.{Context, onward, same, unless, found, all_labels, alike, late, listed, Shape, Fixed, Leaves, AnyOne, TwoAlike, plain_shape, plain_late, shape, call_shape, may_set, natural, may_end, may_turn}
 use Rattle.wasm_typing.specs.State.{Operand, Level, take_one, take_all, take_any, joined, acted, nothing_left, closes, around, on_top, opened, plainly, step, steps, at_start}
 use Rattle.wasm_lang.specs.Instructions.{is_simple}
 use Rattle.wasm_typing.specs.Rules.{Open, standing, Needs, Takes, Agrees, LeavesOver, Breaks, number, IsRule}

@@ -1,6 +1,6 @@
 -- The rules on the items of a module, one item at a time (sections 3.2, 3.4 and 3.5). A rule speaks of the item, of those before
 -- it in its section, and of the sections before it.
-use Rattle.std.specs.Prelude.{◌≡◌, ℕ, ◌+◌, Bool, true, false, not, ◌&&◌, ◌||◌, nat_eq, nat_lt, nat_le, List, [], ◌∷◌, ◌++◌, length, map, take, Option, Some, None, slice_get}
+use Rattle.std.specs.Prelude.{ℕ, Bool, true, false, not, ◌&&◌, ◌||◌, nat_eq, nat_lt, nat_le, List, [], ◌∷◌, ◌++◌, length, map, take, Option, Some, None, slice_get}
 use Rattle.std.specs.Cmp.Lexicographic.{pointwise}
 use Rattle.wasm_lang.specs.declared.types.ValType.{ValType}
 use Rattle.wasm_lang.specs.declared.types.ValType.TheVariants.{I32, I64}
@@ -10,13 +10,13 @@ use Rattle.wasm_lang.specs.declared.types.ImportKind.{ImportKind}
 use Rattle.wasm_lang.specs.declared.types.ImportKind.TheVariants as imports
 use Rattle.wasm_lang.specs.declared.types.ExportKind.{ExportKind}
 use Rattle.wasm_lang.specs.declared.types.ExportKind.TheVariants as exports
-use Rattle.wasm_lang.specs.Instructions.{Plain, Instruction, plain, end_mark, const32, const64, global_get}
-use Rattle.wasm_lang.specs.Modules.{FunctionType, Imported, GlobalEntry, Exported, ElementSegment, DataSegment, FunctionBody, WasmModule}
+use Rattle.wasm_lang.specs.Instructions.{Instruction, plain, end_mark, const32, const64, global_get}
+use Rattle.wasm_lang.specs.Modules.{FunctionType, Imported, Exported, ElementSegment, DataSegment, WasmModule}
 use Rattle.wasm_typing.specs.declared.rule.Rule.{Rule}
 use Rattle.wasm_typing.specs.declared.rule.Rule.TheVariants.{NoType, NoFunction, NoTable, NoMemory, NoGlobal, Initializer, Size, SecondMemory, SecondTable, RepeatedName, StartType, TwoResults}
 use Rattle.wasm_typing.specs.declared.section.Section.{Section}
 use Rattle.wasm_typing.specs.declared.section.Section.TheVariants as sections
-use Rattle.wasm_typing.specs.Typing.{Context, same, result_of}
+use Rattle.wasm_typing.specs.Typing.{same}
 
 -- a rule whose test is this, and then the rules of higher numbers; None where all are kept
 abbrev pub meets : Bool → Rule → Option Rule → Option Rule

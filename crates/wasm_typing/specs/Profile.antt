@@ -1,12 +1,11 @@
 -- Which valid modules can be translated. The limits are this product's own.
-use Rattle.std.specs.Prelude.{◌≡◌, ℕ, zero, suc, ◌+◌, ◌*◌, Bool, true, false, ◌&&◌, ◌||◌, nat_eq, nat_lt, nat_le, cond, List, [], ◌∷◌, length, Option, Some, None, slice_get}
+use Rattle.std.specs.Prelude.{◌≡◌, ℕ, zero, suc, ◌+◌, ◌*◌, Bool, true, false, ◌&&◌, nat_eq, nat_lt, nat_le, cond, List, [], ◌∷◌, length, Option, Some, None, slice_get}
 use Rattle.std.specs.Cmp.Lexicographic.{pointwise}
-use Rattle.wasm_lang.specs.declared.types.ValType.{ValType}
-use Rattle.wasm_lang.specs.declared.types.ValType.TheVariants.{I32, I64}
+use Rattle.wasm_lang.specs.declared.types.ValType.TheVariants.{I64}
 use Rattle.wasm_lang.specs.declared.types.Limits.{Limits}
 use Rattle.wasm_lang.specs.declared.types.ImportKind.{ImportKind}
 use Rattle.wasm_lang.specs.declared.types.ImportKind.TheVariants as imports
-use Rattle.wasm_lang.specs.Instructions.{Instruction, plain, end_mark, const32, global_get}
+use Rattle.wasm_lang.specs.Instructions.{Instruction, plain, const32, global_get}
 use Rattle.wasm_lang.specs.Modules.{FunctionType, Imported, ElementSegment, DataSegment, WasmModule}
 use Rattle.wasm_typing.specs.declared.profile.Beyond.TheVariants.{ImportedTable, MutableImport, WideImport, OffsetFromImport, SegmentOutside, MemoryLarge, Levels, MixedImport, Size, WideMulDiv}
 use Rattle.wasm_typing.specs.declared.profile.Outside.{Outside}

@@ -1,5 +1,5 @@
 -- Which valid modules can be run. The limits are this product's own.
-use Rattle.std.specs.Prelude.{◌≡◌, ℕ, ◌+◌, Bool, false, cond, nat_lt, List, [], ◌∷◌, Option, Some, None}
+use Rattle.std.specs.Prelude.{ℕ, ◌+◌, Bool, false, cond, nat_lt, List, [], ◌∷◌, Option, Some, None}
 use Rattle.wasm_lang.specs.declared.types.Limits.{Limits}
 use Rattle.wasm_lang.specs.declared.types.ImportKind.{ImportKind}
 use Rattle.wasm_lang.specs.declared.types.ImportKind.TheVariants as imports
@@ -12,6 +12,7 @@ use Rattle.wasm_typing.specs.ModuleRules.{is_table}
 abbrev pub is_mutable : ImportKind → Bool
 is_mutable (imports.Global g) = g.mutable
 is_mutable _ = false
+
 -- the number of the first import of such a kind, where the first of these has this number
 abbrev pub first_import : (ImportKind → Bool) → ℕ → List Imported → Option ℕ
 first_import test n [] = None

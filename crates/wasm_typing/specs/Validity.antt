@@ -1,6 +1,5 @@
 -- Which modules are valid, and which rule another one breaks first (section 3.4.10).
-use Rattle.std.specs.Prelude.{◌≡◌, ℕ, ◌<◌, ◌⊎◌, List, [], ◌∷◌, ◌++◌, length, Option, Some, None, slice_get}
-use Rattle.wasm_lang.specs.declared.types.ValType.{ValType}
+use Rattle.std.specs.Prelude.{◌≡◌, ℕ, ◌<◌, [], ◌++◌, length, Option, Some, None, slice_get}
 use Rattle.wasm_lang.specs.Modules.{FunctionType, FunctionBody, WasmModule}
 use Rattle.wasm_typing.specs.declared.rule.Rule.{Rule}
 use Rattle.wasm_typing.specs.declared.section.Section.{Section}
@@ -19,6 +18,7 @@ own_type m i = numbered (slice_get m.functions i)
     found : Option FunctionType → FunctionType
     found None = no_type
     found (Some t) = t
+
     numbered : Option ℕ → FunctionType
     numbered None = no_type
     numbered (Some t) = found (slice_get m.types t)

@@ -1,9 +1,8 @@
 -- The bodies of the code section, one after another.
-use Rattle.std.proofs.Common.{◌≡◌, ℕ, ◌+◌, ◌<◌, List, length, All, Some, sym, subst, arith}
+use Rattle.std.proofs.Common.{◌≡◌, ℕ, ◌+◌, List, All, Some, sym, subst, arith}
 use Rattle.std.specs.Prelude.{slice_get}
 use Rattle.std.proofs.lemmas.Option.{slice_get_within, get_or_from_slice_get}
 use Rattle.std.proofs.lemmas.List.Elements.{All-get_or}
-use Rattle.wasm_lang.specs.Instructions.{IsExpression}
 use Rattle.wasm_lang.specs.Modules.{FunctionBody, WasmModule}
 use Rattle.wasm_typing.specs.Typing.{IsValid}
 use Rattle.wasm_typing.specs.declared.section.Section.TheVariants as sections

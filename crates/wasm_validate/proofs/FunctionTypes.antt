@@ -1,5 +1,5 @@
 -- A function of a valid module has a type exactly where its number exists.
-use Rattle.std.proofs.Common.{◌≡◌, ◌⊎◌, inl, inr, ℕ, ◌<◌, ◌≤◌, length, Option, Some, None, sym, ◌∙◌, Bor}
+use Rattle.std.proofs.Common.{◌≡◌, inl, inr, ℕ, ◌<◌, ◌≤◌, length, Option, Some, None, Bor}
 use Rattle.std.specs.Prelude.{MatchOption}
 use Rattle.std.proofs.lemmas.Option.{slice_get_cases}
 use Rattle.wasm_lang.specs.Modules.{FunctionType, WasmModule}

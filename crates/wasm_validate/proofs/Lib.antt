@@ -1,6 +1,7 @@
 pub mod CodeItems
 pub mod Sections
 pub mod Bodies
+pub mod Empty
 pub mod FunctionTypes
 pub mod Names
 pub mod Over

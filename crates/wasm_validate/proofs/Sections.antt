@@ -1,14 +1,12 @@
 -- The items of a section, one after another.
-use Rattle.std.proofs.Common.{◌≡◌, ℕ, zero, suc, ◌+◌, ◌<◌, Bool, true, false, ◌||◌, List, [], ◌∷◌, ◌++◌, length, get_or, take, map, Option, Some, None, add-one, refl, sym, ap, ◌∙◌, subst, arith}
+use Rattle.std.proofs.Common.{◌≡◌, ℕ, zero, suc, ◌+◌, ◌<◌, Bool, true, false, ◌||◌, List, [], ◌∷◌, ◌++◌, length, get_or, take, map, Some, None, add-one, refl, sym, ap, ◌∙◌, arith}
 use Rattle.std.specs.Prelude.{slice_get}
 use Rattle.std.specs.Option.{option_map}
-use Rattle.std.proofs.lemmas.Option.{slice_get-get_or, slice_get-map, slice_get_within, get_or_from_slice_get}
+use Rattle.std.proofs.lemmas.Option.{slice_get-get_or, slice_get-map, slice_get_within}
 use Rattle.wasm_lang.specs.Modules.{Imported, WasmModule}
 use Rattle.wasm_typing.specs.declared.section.Section.{Section}
 use Rattle.wasm_typing.specs.declared.section.Section.TheVariants as sections
 use Rattle.wasm_typing.specs.ModuleRules.{is_table, is_memory, imports_table, imports_memory, item_rule, import_rule, at}
-use Rattle.wasm_tree.specs.declared.module.Import.{Import}
-use Rattle.wasm_tree.specs.Views.{import_of}
 use Rattle.wasm_typing.specs.declared.rule.Rule.{Rule}
 use Rattle.wasm_validate.specs.declared.fault.ItemFault.TheVariants.{Broken}
 use Rattle.wasm_validate.specs.Sections.{FineItems, IsItemFault}

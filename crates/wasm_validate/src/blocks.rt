@@ -7,14 +7,16 @@ ghost use Rattle.wasm_typing.specs.Typing.{all_labels, alike, listed, Fixed, Lea
 ghost use Rattle.wasm_lang.specs.declared.types.ValType.TheVariants.{I32};
 ghost use Rattle.wasm_validate.specs.Blocks.{levels, Rise, FaultIs};
 
-use wasm_lang::ValType;
-use wasm_typing::{Opening, Rule};
 use crate::fault::Fault;
 use crate::frame::Frame;
 use crate::frames::{add, innermost, may_end, may_turn, remove, replace};
-use crate::operands::{act_alike, act_any, act_call, act_fixed, act_indirect, act_leaves, close, push_result};
+use crate::operands::{
+    act_alike, act_any, act_call, act_fixed, act_indirect, act_leaves, close, push_result,
+};
 use std::alloc::Global;
 use std::marker::Model;
+use wasm_lang::ValType;
+use wasm_typing::{Opening, Rule};
 
 /// The open blocks, the innermost first.
 #[derive(Drop)]

@@ -4,10 +4,10 @@ ghost use Rattle.std.specs.Prelude.{◌≡◌, ◌<◌, ◌∷◌, [], reverse, 
 ghost use Rattle.wasm_typing.specs.Typing;
 ghost use Rattle.wasm_validate.specs.Blocks.{outer, FaultIs};
 
-use wasm_lang::ValType;
-use wasm_typing::{Opening, Rule};
 use crate::fault::Fault;
 use crate::frame::Frame;
+use wasm_lang::ValType;
+use wasm_typing::{Opening, Rule};
 
 /// The innermost frame.
 pub fn innermost(frames: &Vec<Frame>) -> Result<Frame, Fault>

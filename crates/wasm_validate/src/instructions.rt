@@ -49,10 +49,24 @@ pub fn check(blocks: &mut Blocks, scope: &Scope<'_>, instr: &Instr) -> Result<()
         Instr::GlobalGet(x) => get_global(blocks, scope, *x),
         Instr::GlobalSet(x) => set_global(blocks, scope, *x),
         Instr::Load(op, align, _) => {
-            access(blocks, scope, &[I32], Some(kind_of(op.wide)), *align, op.size)
+            access(
+                blocks,
+                scope,
+                &[I32],
+                Some(kind_of(op.wide)),
+                *align,
+                op.size,
+            )
         }
         Instr::Store(op, align, _) => {
-            access(blocks, scope, &[kind_of(op.wide), I32], None, *align, op.size)
+            access(
+                blocks,
+                scope,
+                &[kind_of(op.wide), I32],
+                None,
+                *align,
+                op.size,
+            )
         }
         Instr::MemorySize => with_memory(blocks, scope, &[], Some(I32)),
         Instr::MemoryCopy => with_memory(blocks, scope, &[I32, I32, I32], None),
@@ -104,7 +118,12 @@ fn branch_if(blocks: &mut Blocks, scope: &Scope<'_>, label: u32) -> Result<(), F
 }
 
 // A branch by a table of labels.
-fn branch_table(blocks: &mut Blocks, scope: &Scope<'_>, labels: &[u32], default: u32) -> Result<(), Fault>
+fn branch_table(
+    blocks: &mut Blocks,
+    scope: &Scope<'_>,
+    labels: &[u32],
+    default: u32,
+) -> Result<(), Fault>
     ensures { MatchResult result (λ _. step (outside scope.now) blocks.old (plain.br_table labels.now default) ≡ Ok blocks.new) (λ e. FaultIs e (step (outside scope.now) blocks.old (plain.br_table labels.now default))) }
 {
     blocks.all_labels(labels)?;

@@ -107,9 +107,7 @@ fn global_item(module: &Module<'_>, facts: &Facts, i: usize) -> Option<Rule>
     ensures { result ≡ ModuleRules.item_rule (module_of «module».now) sections.Globals i }
 {
     match module.globals.get(i) {
-        Some(global) => {
-            init_rule(module, facts, global.kind.kind, global.init.as_slice())
-        }
+        Some(global) => { init_rule(module, facts, global.kind.kind, global.init.as_slice()) }
         None => None,
     }
 }

@@ -1,6 +1,6 @@
 // Valid modules.
 
-ghost use Rattle.std.specs.Prelude.{◌≡◌, ◌≤◌, length, Some, None, IfOk, MatchOption, MatchResult};
+ghost use Rattle.std.specs.Prelude.{◌≡◌, ◌≤◌, [], length, Some, None, IfOk, MatchOption, MatchResult};
 ghost use Rattle.wasm_lang.specs.Modules.{WasmModule};
 ghost use Rattle.wasm_lang.specs.Shape.{IsShaped};
 ghost use Rattle.wasm_tree.specs.Views.{module_of, type_of};
@@ -83,39 +83,40 @@ mod tests {
     use crate::running::runnable;
     use sem_words::List;
     use std::test::Fail;
-    use wasm_lang::{Limits, ValType};
+    use wasm_lang::Limits;
     use wasm_typing::{Rule, Section};
 
-    // A module with one function, which takes nothing and gives an i32.
-    fn constant(alloc: Global, memory: u32) -> Result<Module<'static>, Fail> {
-        let mut module = Module {
+    // A module with a memory of so many pages, and nothing else.
+    fn with_memory(alloc: Global, pages: u32) -> Result<Module<'static>, Fail>
+        ensures imports { IfOk result (λ m. (module_of m).imports ≡ []) }
+        ensures exports { IfOk result (λ m. (module_of m).exports ≡ []) }
+        ensures bodies { IfOk result (λ m. (module_of m).bodies ≡ []) }
+        ensures globals { IfOk result (λ m. (module_of m).globals ≡ []) }
+        ensures elements { IfOk result (λ m. (module_of m).elements ≡ []) }
+        ensures segments { IfOk result (λ m. (module_of m).segments ≡ []) }
+    {
+        let limits = Limits {
+            min: pages,
+            max: None,
+        };
+        Ok(Module {
             types: List::new(alloc),
             imports: List::new(alloc),
             functions: List::new(alloc),
             tables: List::new(alloc),
-            memories: List::new(alloc),
+            memories: List::from_vec(vec![in alloc; limits]?),
             globals: List::new(alloc),
             exports: List::new(alloc),
             start: None,
             elements: List::new(alloc),
             bodies: List::new(alloc),
             segments: List::new(alloc),
-        };
-        let limits = Limits {
-            min: memory,
-            max: None,
-        };
-        module.memories = List::from_vec(vec![in alloc; limits]?);
-        module.types = List::from_vec(vec![in alloc; FuncType {
-            params: List::new(alloc),
-            results: List::from_vec(vec![in alloc; ValType::I32]?),
-        }]?);
-        Ok(module)
+        })
     }
 
     #[test]
     fn takes_a_module(rt: HostRuntime) -> Result<(), Fail> {
-        let module = constant(rt.alloc(), 4097)?;
+        let module = with_memory(rt.alloc(), 4097)?;
         match validate(rt.alloc(), module) {
             Ok(valid) => {
                 assert_eq!(rt; valid.func_type(0).is_none(), true);
@@ -128,7 +129,7 @@ mod tests {
 
     #[test]
     fn refuses_a_memory(rt: HostRuntime) -> Result<(), Fail> {
-        let module = constant(rt.alloc(), 65537)?;
+        let module = with_memory(rt.alloc(), 65537)?;
         match validate(rt.alloc(), module) {
             Ok(_) => Err(Fail::new("taken")),
             Err(invalid) => {

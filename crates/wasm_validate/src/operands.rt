@@ -6,9 +6,9 @@ ghost use Rattle.wasm_typing.specs.Typing.{listed, Fixed, Leaves, AnyOne, TwoAli
 ghost use Rattle.wasm_lang.specs.declared.types.ValType.TheVariants.{I32};
 ghost use Rattle.wasm_validate.specs.Blocks.{over, IsKept, FaultIs};
 
+use crate::fault::Fault;
 use wasm_lang::ValType;
 use wasm_typing::Rule;
-use crate::fault::Fault;
 
 // Takes an operand of any type, of those above the height.
 pub fn pop(

@@ -51,7 +51,11 @@ fn has_pages(limits: Limits) -> bool
 pub fn table_rule(limits: Limits, before: bool) -> Option<Rule>
     ensures { result ≡ ModuleRules.table_rule limits before }
 {
-    first_of(is_ordered(limits), Rule::Size, first_of(!before, Rule::SecondTable, None))
+    first_of(
+        is_ordered(limits),
+        Rule::Size,
+        first_of(!before, Rule::SecondTable, None),
+    )
 }
 
 /// Of a memory, where there is one before it or not.
@@ -182,7 +186,11 @@ pub fn start_rule(module: &Module<'_>, facts: &Facts, f: u32) -> Option<Rule>
 {
     let starts = is_start(type_of_function(module, facts, f));
     let typed = first_of(starts, Rule::StartType, None);
-    first_of((f as usize) < facts.functions.len(), Rule::NoFunction, typed)
+    first_of(
+        (f as usize) < facts.functions.len(),
+        Rule::NoFunction,
+        typed,
+    )
 }
 
 fn are_functions(facts: &Facts, functions: &[u32]) -> bool

@@ -3,7 +3,7 @@ use Rattle.std.proofs.lemmas.Grind.{common_steps}
 use Rattle.std.proofs.lemmas.Result.{err_from_is_err_and}
 use Rattle.sem_words.specs.Lists.{list_items}
 use Rattle.wasm_tree.specs.Inputs.{input_of}
-use Rattle.wasm_binary.proofs.BodiesInRow.{runs_step, runs_stop_count, runs_stop_type}
+use Rattle.wasm_binary.proofs.BodiesInRow.{runs_step, runs_stop_count}
 use Rattle.wasm_binary.proofs.bodies.runs.Goals as goal
 
 pub loop-i-preserved : goal.loop-i-preserved

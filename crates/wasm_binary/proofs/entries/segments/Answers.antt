@@ -6,11 +6,16 @@ use Rattle.wasm_tree.specs.Inputs.{input_of}
 use Rattle.std.proofs.lemmas.List.{map-append}
 use Rattle.wasm_tree.specs.Views.{segment_of}
 use Rattle.wasm_binary.specs.Views.{segments_of}
+use Rattle.wasm_binary.specs.Lent.{IsLentSegment}
+use Rattle.wasm_binary.proofs.Lending.{each_more}
 use Rattle.wasm_binary.proofs.ItemsInRow.{items_step}
 use Rattle.wasm_binary.proofs.entries.segments.Goals as goal
 
 pub loop-i-preserved : goal.loop-i-preserved
 loop-i-preserved c =
-    let s = items_step segment_field c.args.count c.loop-i._i (segments_of c.loop-i.list) (input_of c.loop-i.rest) (input_of c.in_ok-item.after) (segment_of c.in_ok-item.item) c.loop-i-test.true c.in_ok-item.ensures in
+    let s = items_step segment_field c.args.count c.loop-i._i (segments_of c.loop-i.list) (input_of c.loop-i.rest) (input_of c.in_ok-item.after) (segment_of c.in_ok-item.item) c.loop-i-test.true c.in_ok-item.ensures.value in
     let pushed : list_items c.push.new.self ≡ list_items c.loop-i.list ++ c.in_ok-item.item ∷ [] = grind (arith, common_steps) in
-    rw (pushed, map-append) (c.loop-i.invariant ∙ s)
+    record {
+      value = rw (pushed, map-append) (c.loop-i.invariant.value ∙ s);
+      lent = rw pushed (each_more IsLentSegment (list_items c.loop-i.list) c.in_ok-item.item c.loop-i.invariant.lent c.in_ok-item.ensures.lent);
+    }

@@ -1,4 +1,6 @@
 use Rattle.std.proofs.Common.{◌≡◌, ◌-◌}
+use Rattle.sem_words.specs.Lists.{list_items}
+use Rattle.wasm_binary.specs.Lent.{Each, IsLentSegment}
 use Rattle.wasm_binary.specs.Views.{segments_of}
 use Rattle.wasm_lang.specs.Reading.{items_field}
 use Rattle.wasm_lang.specs.ReadingModule.{segment_field}
@@ -7,4 +9,7 @@ use Rattle.wasm_binary.proofs.ItemsInRow.{with_front}
 use Rattle.wasm_binary.proofs.entries.segments.Given as goal
 
 abbrev pub invariant-loop-i : goal.invariant-loop-i
-invariant-loop-i l = items_field segment_field l.count (input_of l.input) ≡ with_front (segments_of l.list) (items_field segment_field (l.count - l._i) (input_of l.rest))
+invariant-loop-i l = record {
+  value : items_field segment_field l.count (input_of l.input) ≡ with_front (segments_of l.list) (items_field segment_field (l.count - l._i) (input_of l.rest));
+  lent : Each IsLentSegment (list_items l.list);
+}

@@ -1,6 +1,8 @@
 use Rattle.std.proofs.Common.{◌≡◌, ◌-◌, ◌≤◌}
 use Rattle.wasm_lang.specs.ReadingModule.{imports_field}
 use Rattle.wasm_tree.specs.Inputs.{input_of}
+use Rattle.sem_words.specs.Lists.{list_items}
+use Rattle.wasm_binary.specs.Lent.{Each, IsLentImport}
 use Rattle.wasm_binary.specs.Views.{imports_of}
 use Rattle.wasm_binary.proofs.ItemsInRow.{with_front}
 use Rattle.wasm_binary.proofs.imports.imports.Given as goal
@@ -10,4 +12,5 @@ invariant-loop-i l = record {
   functions_small : l.functions ≤ l._i;
   globals_small : l.globals ≤ l._i;
   value : imports_field 0 0 l.count (input_of l.input) ≡ with_front (imports_of l.list) (imports_field l.functions l.globals (l.count - l._i) (input_of l.rest));
+  lent : Each IsLentImport (list_items l.list);
 }

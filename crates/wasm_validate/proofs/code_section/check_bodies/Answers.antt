@@ -2,7 +2,6 @@ use Rattle.std.proofs.Common.{◌≡◌, map, Some, subst}
 use Rattle.std.specs.Prelude.{slice_get}
 use Rattle.wasm_lang.specs.Instructions.{IsExpression}
 use Rattle.wasm_tree.specs.Views.{body_of, module_of}
-use Rattle.wasm_validate.specs.Bodies.{IsCodeFault}
 use Rattle.wasm_validate.proofs.CodeItems.{all_at, body_fine, body_fault}
 use Rattle.wasm_validate.proofs.Sections.{item_at}
 use Rattle.wasm_validate.proofs.code_section.check_bodies.Goals as goal

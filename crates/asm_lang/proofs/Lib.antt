@@ -1,0 +1,9 @@
+pub mod Tokens
+pub mod CompleteExprs
+pub mod CompleteStmts
+pub mod CompleteModules
+pub mod Reached
+pub mod Sound
+pub mod Viable
+pub mod First
+pub mod Verdicts

@@ -1,0 +1,9 @@
+pub mod Lexemes
+pub mod Trees
+pub mod Grammar
+pub mod Faults
+pub mod Modules
+pub mod Heights
+pub mod Printing
+pub mod Machine
+pub mod Examples

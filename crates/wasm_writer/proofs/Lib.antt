@@ -1,0 +1,10 @@
+pub mod Examples
+pub mod BestModule
+pub mod Locals
+pub mod BestEntries
+pub mod BestCode
+pub mod Best
+pub mod Groups
+pub mod Opcodes
+pub mod Spelled
+pub mod Written

@@ -1,0 +1,3 @@
+pub mod Opcodes
+pub mod Spelling
+pub mod Views

@@ -1,0 +1,19 @@
+//! Writes a WebAssembly module in the binary format (WebAssembly Core 1.0, chapter 5; of version 2.0 the
+//! sign extensions, `memory.copy` and `memory.fill`), each part in its shortest spelling.
+//!
+//! `specs/Spelling.antt` says which bytes a module's are.
+#![tactic(auto)]
+
+mod code;
+mod entries;
+mod instrs;
+mod laws;
+mod leb;
+mod modules;
+mod spell;
+#[cfg(test)]
+mod tests;
+mod types;
+
+pub use laws::spelling_laws;
+pub use modules::write;
