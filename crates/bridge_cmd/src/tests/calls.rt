@@ -22,14 +22,14 @@ const USAGE: &[u8] = b"usage: bridge COMMAND [--heap N] [--steps N] [FILE] [SCRI
 
 /// What a call of `bridge` leaves.
 #[derive(Drop)]
-struct Left {
-    status: Status,
-    out: MemSink,
-    report: MemSink,
+pub(crate) struct Left {
+    pub(crate) status: Status,
+    pub(crate) out: MemSink,
+    pub(crate) report: MemSink,
 }
 
 /// A module of no sections.
-const EMPTY_MODULE: &[u8] = &[0x00, 0x61, 0x73, 0x6d, 0x01, 0x00, 0x00, 0x00];
+pub(crate) const EMPTY_MODULE: &[u8] = &[0x00, 0x61, 0x73, 0x6d, 0x01, 0x00, 0x00, 0x00];
 
 /// Calls `bridge` with these words after the program's name.
 fn call(
@@ -158,7 +158,7 @@ fn a_file_is_missing_or_too_large(rt: HostRuntime) -> Result<(), Fail> {
 }
 
 /// Checks the module of these bytes.
-fn check(alloc: Global, bytes: &[u8]) -> Result<Left, AllocError> {
+pub(crate) fn check(alloc: Global, bytes: &[u8]) -> Result<Left, AllocError> {
     let mut files = MemFiles::new(alloc);
     files.add("m.wasm", bytes)?;
     call(alloc, &["check-wasm", "m.wasm"], &mut files, sink(alloc)?)
