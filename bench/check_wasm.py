@@ -1,0 +1,45 @@
+#!/usr/bin/env python3
+"""python3 bench/check_wasm.py PROGRAM: time and peak memory of `PROGRAM check-wasm` on generated modules,
+beside wabt's wasm-validate, binaryen's wasm-opt and node, where they are installed. Seconds and MiB."""
+import os
+import shutil
+import subprocess
+import sys
+import tempfile
+import time
+
+HERE = os.path.dirname(os.path.abspath(__file__))
+COUNTS = [1_000, 10_000, 50_000]
+NODE = "process.exit(WebAssembly.validate(require('fs').readFileSync(process.argv[1]))?0:1)"
+
+
+def measured(words):
+    """Runs a program once: its status, seconds and peak memory in MiB."""
+    begin = time.monotonic()
+    child = subprocess.Popen(words, stdout=subprocess.DEVNULL, stderr=subprocess.DEVNULL)
+    _, status, usage = os.wait4(child.pid, 0)
+    return os.waitstatus_to_exitcode(status), time.monotonic() - begin, usage.ru_maxrss / 1024
+
+
+def main():
+    program = os.path.abspath(sys.argv[1])
+    tools = [("bridge", lambda file: [program, "check-wasm", file])]
+    if shutil.which("wasm-validate"):
+        tools.append(("wasm-validate", lambda file: ["wasm-validate", file]))
+    if shutil.which("wasm-opt"):
+        tools.append(("wasm-opt", lambda file: ["wasm-opt", file]))
+    if shutil.which("node"):
+        tools.append(("node", lambda file: ["node", "-e", NODE, file]))
+    with tempfile.TemporaryDirectory() as folder:
+        for count in COUNTS:
+            file = os.path.join(folder, f"{count}.wasm")
+            with open(file, "wb") as out:
+                subprocess.run([sys.executable, os.path.join(HERE, "wasm_module.py"), str(count)], stdout=out, check=True)
+            print(f"{count} functions, {os.path.getsize(file)} bytes")
+            for name, words in tools:
+                status, seconds, memory = measured(words(file))
+                print(f"  {name:14} status {status}  {seconds:7.3f} s  {memory:7.1f} MiB")
+
+
+if __name__ == "__main__":
+    main()
