@@ -17,7 +17,7 @@ use Rattle.bridge_cmd.specs.Checking.{IsRead, IsCounted, IsNoModule, IsInvalid, 
 use Rattle.bridge_cmd.specs.Command.{check_wasm}
 use Rattle.bridge_cmd.specs.Job.{IsTextJob, no_module, invalid, counted, IsAnswered, by_its_job, by_memory, written, refused}
 use Rattle.bridge_cmd.specs.Reason.{Reason, not_a_binary}
-use Rattle.bridge_cmd.proofs.Shaped.{spelled_shaped}
+use Rattle.wasm_lang.proofs.Shaped.{spelled_shaped}
 
 pub is_read : (bytes : List ℕ) (m : WasmModule) → All (λ b. b < 256) bytes → read_module bytes ≡ Ok m → IsRead bytes m
 is_read bytes m all e = let h = spelled_as_read bytes m all e in record { spelled = h.0; within = h.1 }

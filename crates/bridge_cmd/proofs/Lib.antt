@@ -13,5 +13,4 @@ pub mod Gaining
 pub mod Jobs
 pub mod LebSteps
 pub mod Pieces
-pub mod Shaped
 pub mod Validity

@@ -15,3 +15,4 @@ pub mod ReadingLawsSections
 pub mod ReadingLawsModule
 pub mod ReadingLawsOne
 pub mod ReadingLawsPlaces
+pub mod Shaped

@@ -1,6 +1,7 @@
 use Rattle.wasm_lang.proofs.ReadingLawsModule.{reads_what_is_spelled, spelled_as_read}
 use Rattle.wasm_lang.proofs.ReadingLawsOne.{one_module, module_or_fault}
 use Rattle.wasm_lang.proofs.ReadingLawsPlaces.{place_within}
+use Rattle.wasm_lang.proofs.Shaped.{spelled_shaped}
 use Rattle.wasm_lang.proofs.reading_laws.module_laws.Goals as goal
 
 pub returns-clause-reads_what_is_spelled : goal.returns-clause-reads_what_is_spelled
@@ -17,3 +18,6 @@ returns-clause-module_or_fault c = module_or_fault
 
 pub returns-clause-place_within : goal.returns-clause-place_within
 returns-clause-place_within c = place_within
+
+pub returns-clause-spelled_shaped : goal.returns-clause-spelled_shaped
+returns-clause-spelled_shaped c = spelled_shaped
