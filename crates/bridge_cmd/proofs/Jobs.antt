@@ -5,7 +5,7 @@ use Rattle.bridge_io.specs.Outside.{Told, content_of}
 use Rattle.bridge_io.specs.declared.reading.GatherFault.{GatherFault}
 use Rattle.bridge_io.specs.declared.reading.GatherFault.TheVariants.{Read, Missing, TooLarge, Memory}
 use Rattle.wasm_lang.specs.Modules.{WasmModule}
-use Rattle.bridge_cmd.specs.Checking.{IsRead, IsCounted, IsNoModule, IsInvalid}
+use Rattle.bridge_cmd.specs.Checking.{IsCounted, IsNoModule, IsInvalid}
 use Rattle.bridge_cmd.specs.Command.{Asked, asm_to_wasm, check_wasm, file_of, asked}
 use Rattle.bridge_cmd.specs.Reason.{Reason, faulty_words, not_of_the_form, not_a_binary, not_valid, read_fault, missing, too_large, out_of_memory}
 use Rattle.bridge_cmd.specs.Refused.{status_of, reason_at}
@@ -14,7 +14,7 @@ use Rattle.bridge_cmd.specs.Job.{Job, refused, written, file_limit, IsTranslatio
 use Rattle.bridge_cmd.specs.Outcome.{EndsAs, Ends, IsValidityRefusal, at_a_rule, IsCutShort, by_a_read, by_a_write, by_want, MayReport, a_refusal, a_read_fault, no_memory}
 use Rattle.bridge_cmd.specs.declared.status.Status.{Status}
 use Rattle.bridge_cmd.specs.declared.status.Status.TheVariants.{Done, Usage}
-use Rattle.wasm_binary.specs.Answers.{row_number}
+use Rattle.wasm_lang.specs.declared.fault.Fault.{Fault}
 use Rattle.bridge_cmd.proofs.Validity.{not_invalid_too}
 
 pub holds : (told : Option Told) (file text : List ℕ) → ((map : Told) → told ≡ Some map → content_of map file ≡ Some text) → Holds told file text
@@ -64,7 +64,7 @@ not_absent_long map a b words named named' absent long =
 pub own_end : (reason : Reason) → Ends reason (status_of reason)
 own_end faulty_words = refl
 own_end not_of_the_form = refl
-own_end (not_a_binary number at) = refl
+own_end (not_a_binary row at) = refl
 own_end (not_valid rule section index instruction) = at_a_rule
 own_end read_fault = refl
 own_end (missing file) = refl
@@ -85,9 +85,11 @@ invalid_end text r q i j = subst (λ x. Ends x (status_of r)) (sym j.is) (subst 
 -- where no module can be read the first field is one
 no_module_once : (text : List ℕ) (r q : Reason) → IsNoModule text r → IsNoModule text q → r ≡ q
 no_module_once text r q i j =
-    let e : Err i.fault ≡ Err j.fault = sym i.first ∙ j.first in
-    let f : i.fault ≡ j.fault = cc in
-    i.is ∙ ap (λ x. not_a_binary (row_number x.row) x.at) f ∙ sym j.is
+    let first : Fault = record { row = i.row; at = i.at } in
+    let second : Fault = record { row = j.row; at = j.at } in
+    let e : Err first ≡ Err second = sym i.first.first ∙ j.first.first in
+    let f : first ≡ second = cc in
+    i.is ∙ ap (λ x. not_a_binary x.row x.at) f ∙ sym j.is
 
 -- a command makes one thing of a text, as far as its end goes
 text_ends : (a : Asked) (text : List ℕ) (j k : Job) → IsTextJob a text j → IsTextJob a text k → EndsAs k (own_status j)
@@ -96,12 +98,12 @@ text_ends a text j k (other_text x) (translated i) = absurd (x i.tree i.read)
 text_ends a text j k (translated i) (other_text x) = absurd (x i.tree i.read)
 text_ends a text j k (translated i) (translated i') = refl
 text_ends a text j k (no_module {reason = r} i) (no_module {reason = q} i') = ends_by r q (no_module_once text r q i i')
-text_ends a text j k (no_module i) (invalid v) = absurd (i.none v.«module» v.read)
-text_ends a text j k (no_module i) (counted c) = absurd (i.none c.«module» c.read)
-text_ends a text j k (invalid v) (no_module i) = absurd (i.none v.«module» v.read)
+text_ends a text j k (no_module i) (invalid v) = absurd (i.first.none v.«module» v.read)
+text_ends a text j k (no_module i) (counted c) = absurd (i.first.none c.«module» c.read)
+text_ends a text j k (invalid v) (no_module i) = absurd (i.first.none v.«module» v.read)
 text_ends a text j k (invalid {reason = r} v) (invalid {reason = q} v') = invalid_end text r q v v'
 text_ends a text j k (invalid v) (counted c) = absurd (not_invalid_too text v c)
-text_ends a text j k (counted c) (no_module i) = absurd (i.none c.«module» c.read)
+text_ends a text j k (counted c) (no_module i) = absurd (i.first.none c.«module» c.read)
 text_ends a text j k (counted c) (invalid v) = absurd (not_invalid_too text v c)
 text_ends a text j k (counted c) (counted c') = refl
 

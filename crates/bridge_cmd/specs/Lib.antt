@@ -11,5 +11,4 @@ pub mod Leb
 pub mod Outcome
 pub mod Reason
 pub mod Refused
-pub mod RuleNumbers
 pub mod Sinks

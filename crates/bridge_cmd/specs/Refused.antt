@@ -9,12 +9,12 @@ use Rattle.bridge_io.specs.declared.reading.GatherFault as gathering
 use Rattle.wasm_binary.specs.declared.fault.BinFault as binary
 use Rattle.wasm_validate.specs.declared.fault.Invalid as validity
 use Rattle.wasm_typing.specs.Validity.{id}
-use Rattle.bridge_cmd.specs.RuleNumbers.{rule_number}
+use Rattle.wasm_typing.specs.Rules.{number}
 
 abbrev pub reason_of : Refusal → Reason
 reason_of refusal.TheVariants.FaultyWords = faulty_words
 reason_of refusal.TheVariants.NotOfTheForm = not_of_the_form
-reason_of (refusal.TheVariants.NotABinary number at) = not_a_binary number at
+reason_of (refusal.TheVariants.NotABinary row at) = not_a_binary row at
 reason_of (refusal.TheVariants.NotValid rule section index instruction) = not_valid rule section index instruction
 reason_of refusal.TheVariants.ReadFault = read_fault
 reason_of (refusal.TheVariants.Missing name) = missing name.now
@@ -24,7 +24,7 @@ reason_of refusal.TheVariants.OutOfMemory = out_of_memory
 abbrev pub status_of : Reason → status.Status
 status_of faulty_words = status.TheVariants.Usage
 status_of not_of_the_form = status.TheVariants.AsmRefused 0 0
-status_of (not_a_binary number at) = status.TheVariants.WasmRefused (wasm.TheVariants.Binary number at)
+status_of (not_a_binary row at) = status.TheVariants.WasmRefused (wasm.TheVariants.Binary row at)
 status_of (not_valid rule section index instruction) = status.TheVariants.WasmRefused (wasm.TheVariants.Invalid rule section index instruction)
 status_of read_fault = status.TheVariants.ReadFault
 status_of (missing file) = status.TheVariants.Missing false
@@ -38,9 +38,9 @@ reason_at gathering.TheVariants.TooLarge file = too_large file
 reason_at gathering.TheVariants.Memory file = out_of_memory
 
 abbrev pub reason_of_fault : binary.BinFault → Reason
-reason_of_fault (binary.TheVariants.Refused number at) = not_a_binary number at
+reason_of_fault (binary.TheVariants.Refused row at) = not_a_binary row at
 reason_of_fault binary.TheVariants.Memory = out_of_memory
 
 abbrev pub reason_of_invalid : validity.Invalid → Reason
-reason_of_invalid (validity.TheVariants.Rule rule section index instruction) = not_valid (rule_number rule) (id section) index instruction
+reason_of_invalid (validity.TheVariants.Rule rule section index instruction) = not_valid (number rule) (id section) index instruction
 reason_of_invalid validity.TheVariants.Memory = out_of_memory

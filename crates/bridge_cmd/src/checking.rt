@@ -2,12 +2,12 @@
 ghost use Rattle.std.specs.Prelude.{◌≡◌, IfOk, IfErr};
 ghost use Rattle.wasm_lang.specs.Shape.{IsShaped};
 ghost use Rattle.wasm_tree.specs.Views.{module_of};
+ghost use Rattle.wasm_typing.specs.Rules.{number};
 ghost use Rattle.wasm_typing.specs.Validity.{id, IsValidModule};
 ghost use Rattle.bridge_cmd.specs.Checking.{counts_line as spec_line, IsUnfit};
 ghost use Rattle.bridge_cmd.specs.Command as spec;
 ghost use Rattle.bridge_cmd.specs.Job.{IsTextJob, IsAnswered, written};
 ghost use Rattle.bridge_cmd.specs.Refused.{reason_of, reason_of_fault, reason_of_invalid};
-ghost use Rattle.bridge_cmd.specs.RuleNumbers.{rule_number as spec_number};
 
 use crate::refusal::Refusal;
 use itoa::Buffer;
@@ -35,7 +35,7 @@ fn counts_line(alloc: Global, module: &Module<'_>) -> Result<Vec<u8>, AllocError
 
 /// The printed number of a rule of validity, 1 to 21, and 0 for marks that do not nest, which no read module has.
 fn rule_number(rule: Rule) -> u8
-    ensures { result ≡ spec_number rule }
+    ensures { result ≡ number rule }
 {
     match rule {
         Rule::Nesting => 0,
@@ -87,7 +87,7 @@ fn binary_refusal<'a>(fault: BinFault) -> Refusal<'a>
     ensures { reason_of result ≡ reason_of_fault fault }
 {
     match fault {
-        BinFault::Refused { number, at } => Refusal::NotABinary { number, at },
+        BinFault::Refused { row, at } => Refusal::NotABinary { row, at },
         BinFault::Memory => Refusal::OutOfMemory,
     }
 }

@@ -4,6 +4,7 @@ ghost use Rattle.bridge_cmd.specs.Reason.{binary_name as spec_name};
 ghost use Rattle.bridge_cmd.specs.Refused.{reason_of, status_of};
 
 use crate::status::{Status, WasmFault};
+use wasm_tree::Row;
 
 /// Why there is no output.
 #[derive(Clone, Copy, Debug)]
@@ -11,7 +12,7 @@ pub(crate) enum Refusal<'a> {
     FaultyWords,
     NotOfTheForm,
     NotABinary {
-        number: u8,
+        row: Row,
         at: u64,
     },
     NotValid {
@@ -33,8 +34,8 @@ impl Refusal<'_> {
         match self {
             Refusal::FaultyWords => Status::Usage,
             Refusal::NotOfTheForm => Status::AsmRefused { number: 0, at: 0 },
-            Refusal::NotABinary { number, at } => {
-                Status::WasmRefused(WasmFault::Binary { number, at })
+            Refusal::NotABinary { row, at } => {
+                Status::WasmRefused(WasmFault::Binary { row, at })
             }
             Refusal::NotValid {
                 rule,
@@ -55,23 +56,23 @@ impl Refusal<'_> {
     }
 }
 
-/// A row of the binary format by its number.
+/// Why bytes aren't of the binary format, with its number.
 #[tactic(auto, unfolding(crate::specs::Reason::binary_name))]
-pub(crate) fn binary_name(number: u8) -> &'static str
-    ensures { result.now ≡ spec_name number }
+pub(crate) fn binary_name(row: Row) -> &'static str
+    ensures { result.now ≡ spec_name row }
 {
-    match number {
-        1 => "B1 Magic",
-        2 => "B2 Version",
-        3 => "B3 Truncated",
-        4 => "B4 Leb",
-        5 => "B5 SectionOrder",
-        6 => "B6 SectionSize",
-        7 => "B7 UnknownByte",
-        8 => "B8 Utf8",
-        9 => "B9 Counts",
-        10 => "B10 Float",
-        11 => "B11 MemoryGrow",
-        _ => "B12 Limit",
+    match row {
+        Row::Magic => "B1 Magic",
+        Row::Version => "B2 Version",
+        Row::Truncated => "B3 Truncated",
+        Row::Leb => "B4 Leb",
+        Row::SectionOrder => "B5 SectionOrder",
+        Row::SectionSize => "B6 SectionSize",
+        Row::UnknownByte => "B7 UnknownByte",
+        Row::Utf8 => "B8 Utf8",
+        Row::Counts => "B9 Counts",
+        Row::Float => "B10 Float",
+        Row::MemoryGrow => "B11 MemoryGrow",
+        Row::Limit => "B12 Limit",
     }
 }

@@ -8,6 +8,7 @@ ghost use Rattle.bridge_cmd.specs.Sinks.{seen, Gains, GainsFront, now_of};
 use crate::refusal::{Refusal, binary_name};
 use bridge_io::{Failed, Sink, put_all};
 use itoa::Buffer;
+use wasm_tree::Row;
 
 /// Writes pieces, one after the other.
 fn put_pieces<E: Sink>(report: &mut E, pieces: &[&str]) -> Result<(), Failed>
@@ -48,7 +49,7 @@ pub(crate) fn write_line<E: Sink>(report: &mut E, refusal: Refusal<'_>) -> Resul
             ],
         ),
         Refusal::NotOfTheForm => put_pieces(report, &["asm.js refused: A0 NotYet at 0", "\n"]),
-        Refusal::NotABinary { number, at } => put_binary(report, number, at),
+        Refusal::NotABinary { row, at } => put_binary(report, row, at),
         Refusal::NotValid {
             rule,
             section,
@@ -63,20 +64,20 @@ pub(crate) fn write_line<E: Sink>(report: &mut E, refusal: Refusal<'_>) -> Resul
 }
 
 /// The line of bytes that aren't of the binary format.
-fn put_binary<E: Sink>(report: &mut E, number: u8, at: u64) -> Result<(), Failed>
+fn put_binary<E: Sink>(report: &mut E, row: Row, at: u64) -> Result<(), Failed>
     requires { (n : ℕ) → E.takes report.old n }
 
     ensures never_falls { E.faults report.old ≤ E.faults report.new }
-    ensures whole { OnOk result (Gains (concat (codes "wasm refused: " ∷ spec_name number ∷ codes " at " ∷ decimal at ∷ codes "\n" ∷ []))
+    ensures whole { OnOk result (Gains (concat (codes "wasm refused: " ∷ spec_name row ∷ codes " at " ∷ decimal at ∷ codes "\n" ∷ []))
         (seen (E.told report.old) (E.faults report.old)) (seen (E.told report.new) (E.faults report.new))) }
-    ensures front { OnErr result (GainsFront (concat (codes "wasm refused: " ∷ spec_name number ∷ codes " at " ∷ decimal at ∷ codes "\n" ∷ []))
+    ensures front { OnErr result (GainsFront (concat (codes "wasm refused: " ∷ spec_name row ∷ codes " at " ∷ decimal at ∷ codes "\n" ∷ []))
         (seen (E.told report.old) (E.faults report.old)) (seen (E.told report.new) (E.faults report.new))) }
 {
     let mut digits = Buffer::new();
     let at = digits.format(at);
     put_pieces(
         report,
-        &["wasm refused: ", binary_name(number), " at ", at, "\n"],
+        &["wasm refused: ", binary_name(row), " at ", at, "\n"],
     )
 }
 

@@ -2,12 +2,14 @@
 ghost use Rattle.std.specs.Prelude.{◌≡◌};
 ghost use Rattle.bridge_cmd.specs.Code.{code_of};
 
+use wasm_tree::Row;
+
 /// Why the bytes are no WebAssembly module that the command takes.
 #[derive(Clone, Copy, Debug, PartialEq, Eq)]
 pub enum WasmFault {
-    /// The bytes aren't of the binary format: the rule's number and the offset in bytes.
+    /// The bytes aren't of the binary format: why, and the offset in bytes.
     Binary {
-        number: u8,
+        row: Row,
         at: u64,
     },
     /// The module isn't valid: the rule's number, the section, the item in it, and the instruction in its body.

@@ -1,5 +1,5 @@
 -- A module is read by the heads of its sections.
-use Rattle.std.proofs.Common.{◌≡◌, ℕ, List, [], ◌∷◌, length, sym, subst, refl, ap, ◌∙◌}
+use Rattle.std.proofs.Common.{◌≡◌, ℕ, List, [], ◌∷◌, length, sym, subst, ap, ◌∙◌}
 use Rattle.std.specs.Prelude.{◌==◌, Ok, Err, Some, None}
 use Rattle.wasm_lang.specs.declared.fault.Row.TheVariants.{Magic, Version, Counts}
 use Rattle.wasm_lang.specs.Modules.{WasmModule}
@@ -51,7 +51,7 @@ by_parts bytes = λ d.
 pub told_is : (error : ReadError) (told : BinFault) (bytes : List ℕ) → FaultIs error told → IsModule (Err error) (read_by_parts bytes) → IsAnswer (Err told) (read_module bytes)
 told_is (Refused fault) told bytes is e =
     let P : BinFault → Type 0 = λ t. IsAnswer (Err t) (read_module bytes) in
-    subst P (sym is) (fault.row, by_parts bytes ∙ e, refl)
+    subst P (sym is) (by_parts bytes ∙ e)
 told_is Memory told bytes is e =
     let P : BinFault → Type 0 = λ t. IsAnswer (Err t) (read_module bytes) in
     subst P (sym is) tt

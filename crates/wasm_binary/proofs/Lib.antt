@@ -1,10 +1,3 @@
+pub mod Answering
 pub mod ByParts
-pub mod BodiesInRow
-pub mod Expressions
-pub mod Header
-pub mod ImportsInRow
-pub mod ItemsInRow
-pub mod Lending
 pub mod SectionHeads
-pub mod Spellings
-pub mod TextTests

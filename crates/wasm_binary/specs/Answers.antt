@@ -1,9 +1,11 @@
 -- What `read` answers.
-use Rattle.std.specs.Prelude.{◌≡◌, ℕ, Result, Ok, Err}
+use Rattle.std.specs.Prelude.{◌≡◌, ℕ, ◌≤◌, List, length, Result, Ok, Err}
 use Rattle.wasm_lang.specs.declared.fault.Fault.{Fault}
 use Rattle.wasm_lang.specs.declared.fault.Row.{Row}
-use Rattle.wasm_lang.specs.declared.fault.Row.TheVariants.{Magic, Version, Truncated, Leb, SectionOrder, SectionSize, UnknownByte, Utf8, Counts, Float, MemoryGrow, Limit}
+use Rattle.wasm_lang.specs.Grammar.{IsModuleBytes}
+use Rattle.wasm_lang.specs.Limits.{IsWithinReader}
 use Rattle.wasm_lang.specs.Modules.{WasmModule}
+use Rattle.wasm_lang.specs.ReadingModule.{read_module}
 use Rattle.wasm_tree.specs.declared.error.ReadError.{ReadError}
 use Rattle.wasm_tree.specs.declared.error.ReadError.TheVariants as errors
 use Rattle.wasm_tree.specs.declared.module.Module.{Module}
@@ -11,31 +13,38 @@ use Rattle.wasm_tree.specs.Views.{module_of}
 use Rattle.wasm_binary.specs.declared.fault.BinFault.{BinFault}
 use Rattle.wasm_binary.specs.declared.fault.BinFault.TheVariants as faults
 
--- the printed number of a row
-abbrev pub row_number : Row → ℕ
-row_number Magic = 1
-row_number Version = 2
-row_number Truncated = 3
-row_number Leb = 4
-row_number SectionOrder = 5
-row_number SectionSize = 6
-row_number UnknownByte = 7
-row_number Utf8 = 8
-row_number Counts = 9
-row_number Float = 10
-row_number MemoryGrow = 11
-row_number Limit = 12
+-- the bytes spell this module, which is within the reader's limits
+pub record IsRead (bytes : List ℕ) (m : WasmModule) : Type 0 where
+  pub spelled : IsModuleBytes bytes m
+  pub within : IsWithinReader m
 
--- the fault that is told of an error
-abbrev pub FaultIs : ReadError → BinFault → Type 0
-FaultIs (errors.Refused fault) told = told ≡ faults.Refused (row_number fault.row) fault.at
-FaultIs errors.Memory told = told ≡ faults.Memory
+-- this module was read, unless memory ran out
+abbrev pub IsReadAs : WasmModule → Result Module BinFault → Type 0
+IsReadAs m (Ok found) = module_of found ≡ m
+IsReadAs m (Err (faults.Refused row at)) = ⊥
+IsReadAs m (Err faults.Memory) = Unit {0}
+
+-- the bytes spell no module within the reader's limits, and this is the first field that can't be read
+pub record IsFirstFault (bytes : List ℕ) (row : Row) (at : ℕ) : Type 0 where
+  pub first : read_module bytes ≡ Err (record { row = row; at = at })
+  pub none : (m : WasmModule) → IsRead bytes m → ⊥
+  pub within : at ≤ length bytes
+
+-- a refusal is the first fault
+abbrev pub IsRefusal : List ℕ → BinFault → Type 0
+IsRefusal bytes (faults.Refused row at) = IsFirstFault bytes row at
+IsRefusal bytes faults.Memory = Unit {0}
 
 -- the answer is what reading the bytes gives, unless memory ran out
 abbrev pub IsAnswer : Result Module BinFault → Result WasmModule Fault → Type 0
 IsAnswer (Ok m) reading = reading ≡ Ok (module_of m)
-IsAnswer (Err (faults.Refused number at)) reading = (row : Row) × (reading ≡ Err (record { row = row; at = at })) × (number ≡ row_number row)
+IsAnswer (Err (faults.Refused row at)) reading = reading ≡ Err (record { row = row; at = at })
 IsAnswer (Err faults.Memory) reading = Unit {0}
+
+-- the fault that is told of an error
+abbrev pub FaultIs : ReadError → BinFault → Type 0
+FaultIs (errors.Refused fault) told = told ≡ faults.Refused fault.row fault.at
+FaultIs errors.Memory told = told ≡ faults.Memory
 
 abbrev pub IsModule : Result Module ReadError → Result WasmModule Fault → Type 0
 IsModule (Ok m) reading = reading ≡ Ok (module_of m)

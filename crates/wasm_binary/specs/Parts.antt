@@ -1,29 +1,19 @@
 -- How a section stands in the input: absent, or its content and what follows it.
-use Rattle.std.specs.Prelude.{◌≡◌, ℕ, ◌+◌, length, take, drop, nat_le, if◌then◌else◌, Result, Ok, Err}
+use Rattle.std.specs.Prelude.{◌≡◌, ℕ, ◌+◌, length, nat_le, if◌then◌else◌, Result, Ok, Err}
 use Rattle.wasm_lang.specs.declared.fault.Fault.{Fault}
-use Rattle.wasm_lang.specs.declared.fault.Row.TheVariants.{Truncated, SectionSize}
-use Rattle.wasm_lang.specs.Reading.{Input, Field, ◌>>=◌, expects, u32, u32_field, nothing_left}
+use Rattle.wasm_lang.specs.declared.fault.Row.TheVariants.{Truncated}
+use Rattle.wasm_lang.specs.Reading.{Input, Field, ◌>>=◌, expects, u32_field, nothing_left}
 use Rattle.wasm_lang.specs.ReadingModule.{begins_with, after_id, customs_field}
 use Rattle.wasm_tree.specs.Inputs.{input_of}
+use Rattle.wasm_entries.specs.Sized.{split_at}
 use Rattle.wasm_binary.specs.declared.sections.Part.{Part as Placed}
 use Rattle.wasm_binary.specs.declared.sections.Part.TheVariants as parts
-
--- so many bytes, and what follows them
-abbrev pub split_at : ℕ → Input → Input × Input
-split_at size i = (record { at = i.at; bytes = take size i.bytes }, record { at = i.at + size; bytes = drop size i.bytes })
 
 -- a section after its id: its content, whose size has to fit the input, and what follows it
 abbrev pub section_head : Input → Result (Input × Input) Fault
 section_head i =
     u32_field Truncated i >>= λ size.
     expects (nat_le size.0 (length size.1.bytes)) Truncated (size.1.at + length size.1.bytes) >>= λ _.
-    Ok (split_at size.0 size.1)
-
--- the same of a body, whose size has to fit its section
-abbrev pub body_head : Input → Result (Input × Input) Fault
-body_head i =
-    u32 i >>= λ size.
-    expects (nat_le size.0 (length size.1.bytes)) SectionSize i.at >>= λ _.
     Ok (split_at size.0 size.1)
 
 -- all of a part, by one field

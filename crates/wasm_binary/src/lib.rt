@@ -1,16 +1,11 @@
 //! The binary format of WebAssembly (Core 1.0, section 5, with the sign extensions, `memory.copy`,
-//! `memory.fill` and the data count section of version 2.0): reading and writing modules.
+//! `memory.fill` and the data count section of version 2.0): reading modules.
 //!
 //! The reader takes the fields of the input in order, and refuses at the first that can't be read. Names,
 //! segments and bodies are lent from the input.
 #![tactic(auto)]
 
-mod bodies;
-mod code;
-mod entries;
 mod fault;
-mod fields;
-mod imports;
 mod reader;
 mod sections;
 #[cfg(test)]

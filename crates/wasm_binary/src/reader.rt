@@ -1,15 +1,17 @@
 //! Reading a module.
-ghost use Rattle.std.specs.Prelude.{◌≡◌, Ok, Err, IfOk};
-ghost use Rattle.wasm_lang.specs.ReadingModule.{read_module};
+ghost use Rattle.std.specs.Prelude.{◌≡◌, Ok, Err, IfOk, IfErr};
+ghost use Rattle.wasm_lang.specs.Grammar.{IsModuleBytes};
+ghost use Rattle.wasm_lang.specs.Limits.{IsWithinReader};
+ghost use Rattle.wasm_lang.specs.Modules.{WasmModule};
+ghost use Rattle.wasm_tree.specs.Views.{module_of};
 ghost use Rattle.wasm_tree.specs.Inputs.{input_of};
 ghost use Rattle.sem_words.specs.Lists.{list_items};
-ghost use Rattle.wasm_binary.specs.Lent.{Each, IsLentImport, IsLentExport, IsLentModule};
-ghost use Rattle.wasm_binary.specs.Views.{types_of, imports_of};
+ghost use Rattle.wasm_entries.specs.Lent.{Each, IsLentImport, IsLentExport, IsLentModule};
+ghost use Rattle.wasm_entries.specs.Views.{types_of, imports_of};
 ghost use Rattle.wasm_binary.specs.Whole.{read_by_parts, sections_from, declarations_from, definitions_from, contents_from, front_of, middle_of};
-ghost use Rattle.wasm_binary.specs.Answers.{IsAnswer, IsModule};
+ghost use Rattle.wasm_binary.specs.Answers.{IsModule, IsRead, IsReadAs, IsRefusal};
 
 use crate::fault::{BinFault, told};
-use crate::fields::expected;
 use crate::sections::{
     body_section, counts, customs, element_section, end, expect_count, export_section,
     function_section, global_section, import_section, memory_section, number_section,
@@ -17,14 +19,17 @@ use crate::sections::{
 };
 use sem_words::List;
 use std::alloc::Global;
+use wasm_entries::fields::expected;
 use wasm_tree::{
     Element, FuncType, GlobalDef, Import, Input, Limits, Module, ReadError, Row, WasmExport,
 };
 
-/// The module that the bytes spell, or the first field that can't be read, with the number of why and its
-/// place. Counts above the limits of this reader are refused. The time is linear in the bytes.
+/// The module that the bytes spell, or the first field that can't be read: why, and its place. Counts above
+/// the limits of this reader are refused. The time is linear in the bytes.
 pub fn read<'a>(alloc: Global, bytes: &'a [u8]) -> Result<Module<'a>, BinFault>
-    ensures read { IsAnswer result (read_module bytes.now) }
+    ensures found { IfOk result (λ m. IsRead bytes.now (module_of m)) }
+    ensures only { (m : WasmModule) → IsModuleBytes bytes.now m → IsWithinReader m → IsReadAs m result }
+    ensures fault { IfErr result (λ fault. IsRefusal bytes.now fault) }
     ensures lent { IfOk result (λ m. IsLentModule m) }
 {
     match module(alloc, bytes) {

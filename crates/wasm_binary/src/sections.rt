@@ -4,18 +4,18 @@ ghost use Rattle.sem_words.specs.Lists.{list_items};
 ghost use Rattle.wasm_lang.specs.Reading as reading;
 ghost use Rattle.wasm_lang.specs.ReadingModule as modules;
 ghost use Rattle.wasm_tree.specs.Inputs.{input_of, IsField, IsRead};
-ghost use Rattle.wasm_binary.specs.Lent.{Each, IsLentImport, IsLentExport, IsLentBody, IsLentSegment};
+ghost use Rattle.wasm_entries.specs.Lent.{Each, IsLentImport, IsLentExport, IsLentBody, IsLentSegment};
 ghost use Rattle.wasm_binary.specs.Parts.{section_head, part_head, part_by, IsPlaced};
-ghost use Rattle.wasm_binary.specs.Views.{types_of, imports_of, globals_of, exports_of, elements_of, bodies_of, segments_of};
+ghost use Rattle.wasm_entries.specs.Views.{types_of, imports_of, globals_of, exports_of, elements_of, bodies_of, segments_of};
 
-use crate::bodies::bodies;
-use crate::entries::{
-    elements, exports, function_types, globals, memories, numbers, segments, tables,
-};
-use crate::fields::{count, name, nothing_left, number, split};
-use crate::imports::{MOST_FUNCTIONS, MOST_GLOBALS, function_count, global_count, imports};
 use sem_words::List;
 use std::alloc::Global;
+use wasm_entries::bodies::bodies;
+use wasm_entries::entries::{
+    elements, exports, function_types, globals, memories, numbers, segments, tables,
+};
+use wasm_entries::fields::{count, name, nothing_left, number, split};
+use wasm_entries::imports::{MOST_FUNCTIONS, MOST_GLOBALS, function_count, global_count, imports};
 use wasm_tree::{
     Body, Element, Fault, FuncType, GlobalDef, Import, Input, Limits, ReadError, Row, Segment,
     WasmExport,

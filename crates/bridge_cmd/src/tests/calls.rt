@@ -3,6 +3,7 @@ use crate::{Status, WasmFault, bridge};
 use bridge_io::{MemFiles, MemSink};
 use std::alloc::{AllocError, Global};
 use std::test::Fail;
+use wasm_tree::Row;
 
 const ADD: &[u8] = b"function m(){\"use asm\";function f(a,b){a=a|0;b=b|0;return a+b|0;}return f;}";
 
@@ -183,17 +184,17 @@ fn a_valid_module_is_counted(rt: HostRuntime) -> Result<(), Fail> {
 #[test]
 fn bytes_of_no_module_are_told_the_row_and_the_place(rt: HostRuntime) -> Result<(), Fail> {
     let alloc = rt.alloc();
-    let rows: [(&[u8], u8, u64, &[u8]); 5] = [
-        (&[], 3, 0, b"wasm refused: B3 Truncated at 0\n"),
+    let rows: [(&[u8], Row, u64, &[u8]); 5] = [
+        (&[], Row::Truncated, 0, b"wasm refused: B3 Truncated at 0\n"),
         (
             &[0x00, 0x61, 0x73, 0x6d],
-            3,
+            Row::Truncated,
             4,
             b"wasm refused: B3 Truncated at 4\n",
         ),
         (
             &[0x00, 0x61, 0x73, 0x6e, 0x01, 0x00, 0x00, 0x00],
-            1,
+            Row::Magic,
             3,
             b"wasm refused: B1 Magic at 3\n",
         ),
@@ -202,7 +203,7 @@ fn bytes_of_no_module_are_told_the_row_and_the_place(rt: HostRuntime) -> Result<
                 0x00, 0x61, 0x73, 0x6d, 0x01, 0x00, 0x00, 0x00, 0x01, 0x05, 0xff, 0xff, 0xff, 0xff,
                 0x0f,
             ],
-            12,
+            Row::Limit,
             10,
             b"wasm refused: B12 Limit at 10\n",
         ),
@@ -211,14 +212,14 @@ fn bytes_of_no_module_are_told_the_row_and_the_place(rt: HostRuntime) -> Result<
                 0x00, 0x61, 0x73, 0x6d, 0x01, 0x00, 0x00, 0x00, 0x07, 0x05, 0xff, 0xff, 0xff, 0xff,
                 0x0f,
             ],
-            6,
+            Row::SectionSize,
             15,
             b"wasm refused: B6 SectionSize at 15\n",
         ),
     ];
-    for (bytes, number, at, line) in rows {
+    for (bytes, row, at, line) in rows {
         let left = check(alloc, bytes)?;
-        let fault = WasmFault::Binary { number, at };
+        let fault = WasmFault::Binary { row, at };
         assert_eq!(rt; left.status, Status::WasmRefused(fault));
         assert_eq!(rt; left.out.bytes(), b"".as_slice());
         assert_eq!(rt; left.report.bytes(), line);
@@ -234,8 +235,8 @@ fn every_front_of_a_module_has_its_answer(rt: HostRuntime) -> Result<(), Fail> {
         let at = n as u64;
         let status = match n {
             8 | 17 | 39 => Status::Done,
-            21 | 28 => Status::WasmRefused(WasmFault::Binary { number: 9, at }),
-            _ => Status::WasmRefused(WasmFault::Binary { number: 3, at }),
+            21 | 28 => Status::WasmRefused(WasmFault::Binary { row: Row::Counts, at }),
+            _ => Status::WasmRefused(WasmFault::Binary { row: Row::Truncated, at }),
         };
         assert_eq!(rt; left.status, status, "at {n}");
     }

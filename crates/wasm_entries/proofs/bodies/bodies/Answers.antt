@@ -1,0 +1,20 @@
+use Rattle.std.proofs.Common.{◌≡◌, ◌++◌, ◌∷◌, [], ◌∙◌, arith, map}
+use Rattle.std.proofs.lemmas.Grind.{common_steps}
+use Rattle.std.proofs.lemmas.List.{map-append}
+use Rattle.sem_words.specs.Lists.{list_items}
+use Rattle.wasm_tree.specs.Inputs.{input_of}
+use Rattle.wasm_tree.specs.Views.{type_of, body_of}
+use Rattle.wasm_entries.specs.Views.{bodies_of}
+use Rattle.wasm_entries.specs.Lent.{IsLentBody}
+use Rattle.wasm_entries.proofs.Lending.{each_more}
+use Rattle.wasm_entries.proofs.BodiesInRow.{bodies_step}
+use Rattle.wasm_entries.proofs.bodies.bodies.Goals as goal
+
+pub loop-function-preserved : goal.loop-function-preserved
+loop-function-preserved c =
+    let s = bodies_step (map type_of c.args.types.now) c.args.functions.now c.loop-function.function-index (bodies_of c.loop-function.list) (input_of c.loop-function.rest) (input_of c.in_ok-item.after) (body_of c.in_ok-item.item) c.param_count.result c.loop-function-test.true c.param_count.ensures c.in_ok-item.ensures.value in
+    let pushed : list_items c.push.new.self ≡ list_items c.loop-function.list ++ c.in_ok-item.item ∷ [] = grind (arith, common_steps) in
+    record {
+      value = rw (pushed, map-append) (c.loop-function.invariant.value ∙ s);
+      lent = rw pushed (each_more IsLentBody (list_items c.loop-function.list) c.in_ok-item.item c.loop-function.invariant.lent c.in_ok-item.ensures.lent);
+    }

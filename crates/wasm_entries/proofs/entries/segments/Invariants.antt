@@ -1,0 +1,15 @@
+use Rattle.std.proofs.Common.{◌≡◌, ◌-◌}
+use Rattle.sem_words.specs.Lists.{list_items}
+use Rattle.wasm_entries.specs.Lent.{Each, IsLentSegment}
+use Rattle.wasm_entries.specs.Views.{segments_of}
+use Rattle.wasm_lang.specs.Reading.{items_field}
+use Rattle.wasm_lang.specs.ReadingModule.{segment_field}
+use Rattle.wasm_tree.specs.Inputs.{input_of}
+use Rattle.wasm_entries.proofs.ItemsInRow.{with_front}
+use Rattle.wasm_entries.proofs.entries.segments.Given as goal
+
+abbrev pub invariant-loop-i : goal.invariant-loop-i
+invariant-loop-i l = record {
+  value : items_field segment_field l.count (input_of l.input) ≡ with_front (segments_of l.list) (items_field segment_field (l.count - l._i) (input_of l.rest));
+  lent : Each IsLentSegment (list_items l.list);
+}

@@ -1,0 +1,16 @@
+use Rattle.std.proofs.Common.{◌≡◌, ◌-◌, ◌≤◌}
+use Rattle.wasm_lang.specs.ReadingModule.{imports_field}
+use Rattle.wasm_tree.specs.Inputs.{input_of}
+use Rattle.sem_words.specs.Lists.{list_items}
+use Rattle.wasm_entries.specs.Lent.{Each, IsLentImport}
+use Rattle.wasm_entries.specs.Views.{imports_of}
+use Rattle.wasm_entries.proofs.ItemsInRow.{with_front}
+use Rattle.wasm_entries.proofs.imports.imports.Given as goal
+
+abbrev pub invariant-loop-i : goal.invariant-loop-i
+invariant-loop-i l = record {
+  functions_small : l.functions ≤ l._i;
+  globals_small : l.globals ≤ l._i;
+  value : imports_field 0 0 l.count (input_of l.input) ≡ with_front (imports_of l.list) (imports_field l.functions l.globals (l.count - l._i) (input_of l.rest));
+  lent : Each IsLentImport (list_items l.list);
+}

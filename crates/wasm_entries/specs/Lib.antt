@@ -1,0 +1,4 @@
+pub mod Lent
+pub mod Openings
+pub mod Sized
+pub mod Views
