@@ -235,8 +235,14 @@ fn every_front_of_a_module_has_its_answer(rt: HostRuntime) -> Result<(), Fail> {
         let at = n as u64;
         let status = match n {
             8 | 17 | 39 => Status::Done,
-            21 | 28 => Status::WasmRefused(WasmFault::Binary { row: Row::Counts, at }),
-            _ => Status::WasmRefused(WasmFault::Binary { row: Row::Truncated, at }),
+            21 | 28 => Status::WasmRefused(WasmFault::Binary {
+                row: Row::Counts,
+                at,
+            }),
+            _ => Status::WasmRefused(WasmFault::Binary {
+                row: Row::Truncated,
+                at,
+            }),
         };
         assert_eq!(rt; left.status, status, "at {n}");
     }
