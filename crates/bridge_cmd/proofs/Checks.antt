@@ -8,7 +8,7 @@ use Rattle.wasm_binary.specs.declared.fault.BinFault as binary
 use Rattle.wasm_validate.specs.Refusals.{IsInvalid as IsUnfitFor}
 use Rattle.wasm_validate.specs.declared.fault.Invalid as faults
 use Rattle.bridge_cmd.specs.Refused.{reason_of_fault, reason_of_invalid}
-use Rattle.bridge_cmd.specs.Checking.{IsCounted, IsNoModule, IsInvalid, IsUnfit, breaks, no_room, counts_line}
+use Rattle.bridge_cmd.specs.Checking.{IsUnfit, breaks, no_room, counts_line}
 use Rattle.bridge_cmd.specs.Command.{check_wasm}
 use Rattle.bridge_cmd.specs.Job.{IsTextJob, no_module, invalid, counted, IsAnswered, by_its_job, by_memory, written}
 use Rattle.bridge_cmd.specs.Reason.{Reason}

@@ -1,17 +1,15 @@
 -- Which job the words and the files have, and that it is one.
 use Rattle.std.proofs.Common.{◌≡◌, ℕ, ◌<◌, ◌≤◌, List, length, refl, sym, ap, subst, arith, ◌∙◌, inl, inr}
-use Rattle.std.specs.Prelude.{◌⊎◌, Option, Some, None, IsSome, IfSome, IsSomeAnd, Ok, Err}
+use Rattle.std.specs.Prelude.{◌⊎◌, Option, Some, None, IsSome, IsSomeAnd, Err}
 use Rattle.bridge_io.specs.Outside.{Told, content_of}
 use Rattle.bridge_io.specs.declared.reading.GatherFault.{GatherFault}
 use Rattle.bridge_io.specs.declared.reading.GatherFault.TheVariants.{Read, Missing, TooLarge, Memory}
-use Rattle.wasm_lang.specs.Modules.{WasmModule}
-use Rattle.bridge_cmd.specs.Checking.{IsCounted, IsNoModule, IsInvalid}
-use Rattle.bridge_cmd.specs.Command.{Asked, asm_to_wasm, check_wasm, file_of, asked}
+use Rattle.bridge_cmd.specs.Checking.{IsNoModule, IsInvalid}
+use Rattle.bridge_cmd.specs.Command.{Asked, file_of, asked}
 use Rattle.bridge_cmd.specs.Reason.{Reason, faulty_words, not_of_the_form, not_a_binary, not_valid, read_fault, missing, too_large, out_of_memory}
 use Rattle.bridge_cmd.specs.Refused.{status_of, reason_at}
-use Rattle.bridge_cmd.specs.FormText.{IsFirstForm}
-use Rattle.bridge_cmd.specs.Job.{Job, refused, written, file_limit, IsTranslation, IsAbsent, Holds, IsTooLong, IsTextJob, other_text, translated, no_module, invalid, counted, IsJob, no_command, no_file, long_file, of_text, IsAnswered, by_its_job, by_memory}
-use Rattle.bridge_cmd.specs.Outcome.{EndsAs, Ends, IsValidityRefusal, at_a_rule, IsCutShort, by_a_read, by_a_write, by_want, MayReport, a_refusal, a_read_fault, no_memory}
+use Rattle.bridge_cmd.specs.Job.{Job, refused, written, file_limit, IsAbsent, Holds, IsTooLong, IsTextJob, other_text, translated, no_module, invalid, counted, IsJob, no_command, no_file, long_file, of_text, IsAnswered, by_its_job, by_memory}
+use Rattle.bridge_cmd.specs.Outcome.{EndsAs, Ends, IsValidityRefusal, at_a_rule, IsCutShort, by_a_read, by_want, MayReport, a_refusal, a_read_fault, no_memory}
 use Rattle.bridge_cmd.specs.declared.status.Status.{Status}
 use Rattle.bridge_cmd.specs.declared.status.Status.TheVariants.{Done, Usage}
 use Rattle.wasm_lang.specs.declared.fault.Fault.{Fault}

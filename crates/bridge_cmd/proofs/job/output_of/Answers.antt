@@ -1,4 +1,4 @@
-use Rattle.std.proofs.Common.{sym, ap, Err, ◌∙◌}
+use Rattle.std.proofs.Common.{sym, ap, Err}
 use Rattle.std.proofs.lemmas.Result.{IfOk-weaker, IfErr-weaker}
 use Rattle.bridge_cmd.specs.Asking.{asked_by}
 use Rattle.bridge_cmd.specs.Job.{no_command, of_text}
