@@ -9,6 +9,6 @@ use Rattle.wasm_binary.proofs.reader.module.Goals as goal
 
 pub returns-clause-value : goal.returns-clause-value
 returns-clause-value c =
-    let e : header_field Magic (0x00 ∷ 0x61 ∷ 0x73 ∷ 0x6d ∷ []) (record { at = 0; bytes = c.args.bytes.now }) ≡ Ok (input_of c.in_ok-rest.rest) = ap (λ i. header_field Magic (0x00 ∷ 0x61 ∷ 0x73 ∷ 0x6d ∷ []) i) (sym c.new-input.ensures) ∙ c.in_ok-rest.ensures in
-    let f : header_field Version (0x01 ∷ 0x00 ∷ 0x00 ∷ 0x00 ∷ []) (input_of c.in_ok-rest.rest) ≡ Ok (input_of c.in_ok-rest-2.rest) = c.in_ok-rest-2.ensures in
+    let e : header_field Magic (0x00 ∷ 0x61 ∷ 0x73 ∷ 0x6d ∷ []) (record { at = 0; bytes = c.args.bytes.now }) ≡ Ok (input_of c.in_ok-rest.rest) = ap (λ i. header_field Magic (0x00 ∷ 0x61 ∷ 0x73 ∷ 0x6d ∷ []) i) (sym c.new-input.ensures.value) ∙ c.in_ok-rest.ensures.value in
+    let f : header_field Version (0x01 ∷ 0x00 ∷ 0x00 ∷ 0x00 ∷ []) (input_of c.in_ok-rest.rest) ≡ Ok (input_of c.in_ok-rest-2.rest) = c.in_ok-rest-2.ensures.value in
     parts_ok c.args.bytes.now (input_of c.in_ok-rest.rest) (input_of c.in_ok-rest-2.rest) (module_of c.in_ok-sections.field-0) e f c.in_ok-sections.ensures.value
