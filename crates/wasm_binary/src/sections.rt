@@ -103,7 +103,10 @@ fn placed<'a>(input: Input<'a>, id: u8) -> Result<Part<'a>, Fault>
 {
     let input = customs(input)?;
     match after_id(input, id) {
-        Some(rest) => section(rest).map(|(content, after)| Part::Found(content, after)),
+        Some(rest) => {
+            let (content, after) = section(rest)?;
+            Ok(Part::Found(content, after))
+        }
         None => Ok(Part::Absent(input)),
     }
 }
