@@ -1,3 +1,4 @@
 mod calls;
 mod forms;
+mod modules;
 mod validity;

@@ -1,3 +1,4 @@
 pub mod Answering
 pub mod ByParts
+pub mod LentModules
 pub mod SectionHeads

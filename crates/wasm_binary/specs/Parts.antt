@@ -1,10 +1,12 @@
 -- How a section stands in the input: absent, or its content and what follows it.
-use Rattle.std.specs.Prelude.{◌≡◌, ℕ, ◌+◌, length, nat_le, if◌then◌else◌, Result, Ok, Err}
+use Rattle.std.specs.Prelude.{◌≡◌, ℕ, ◌+◌, List, length, nat_le, if◌then◌else◌, Result, Ok, Err}
+use Rattle.std.specs.Borrow.{Bor}
 use Rattle.wasm_lang.specs.declared.fault.Fault.{Fault}
 use Rattle.wasm_lang.specs.declared.fault.Row.TheVariants.{Truncated}
 use Rattle.wasm_lang.specs.Reading.{Input, Field, ◌>>=◌, expects, u32_field, nothing_left}
 use Rattle.wasm_lang.specs.ReadingModule.{begins_with, after_id, customs_field}
 use Rattle.wasm_tree.specs.Inputs.{input_of}
+use Rattle.wasm_tree.specs.Slices.{Inside}
 use Rattle.wasm_entries.specs.Sized.{split_at}
 use Rattle.wasm_binary.specs.declared.sections.Part.{Part as Placed}
 use Rattle.wasm_binary.specs.declared.sections.Part.TheVariants as parts
@@ -42,3 +44,8 @@ abbrev pub IsPlaced : Result Placed Fault → Result Part Fault → Type 0
 IsPlaced (Ok (parts.Absent rest)) head = head ≡ Ok (absent_before (input_of rest))
 IsPlaced (Ok (parts.Found content after)) head = head ≡ Ok (found_part (input_of content) (input_of after))
 IsPlaced (Err fault) head = head ≡ Err fault
+
+-- what the code found are parts of this input
+abbrev pub IsPartOf : Bor (List ℕ) → Placed → Type 0
+IsPartOf input (parts.Absent rest) = Inside rest.bytes input
+IsPartOf input (parts.Found content after) = Inside content.bytes input × Inside after.bytes input

@@ -1,10 +1,12 @@
 //! Reading a module.
-ghost use Rattle.std.specs.Prelude.{◌≡◌, Ok, Err, IfOk, IfErr};
+ghost use Rattle.std.specs.Prelude.{◌≡◌, ℕ, List as Listed, Ok, Err, IfOk, IfErr};
+ghost use Rattle.std.specs.Borrow.{Bor};
 ghost use Rattle.wasm_lang.specs.Grammar.{IsModuleBytes};
 ghost use Rattle.wasm_lang.specs.Limits.{IsWithinReader};
 ghost use Rattle.wasm_lang.specs.Modules.{WasmModule};
 ghost use Rattle.wasm_tree.specs.Views.{module_of};
 ghost use Rattle.wasm_tree.specs.Inputs.{input_of};
+ghost use Rattle.wasm_tree.specs.Slices.{Inside};
 ghost use Rattle.sem_words.specs.Lists.{list_items};
 ghost use Rattle.wasm_entries.specs.Lent.{Each, IsLentImport, IsLentExport, IsLentModule};
 ghost use Rattle.wasm_entries.specs.Views.{types_of, imports_of};
@@ -30,7 +32,7 @@ pub fn read<'a>(alloc: Global, bytes: &'a [u8]) -> Result<Module<'a>, BinFault>
     ensures found { IfOk result (λ m. IsRead bytes.now (module_of m)) }
     ensures only { (m : WasmModule) → IsModuleBytes bytes.now m → IsWithinReader m → IsReadAs m result }
     ensures fault { IfErr result (λ fault. IsRefusal bytes.now fault) }
-    ensures lent { IfOk result (λ m. IsLentModule m) }
+    ensures lent { IfOk result (λ m. IsLentModule bytes.entry m) }
 {
     match module(alloc, bytes) {
         Ok(module) => Ok(module),
@@ -60,7 +62,7 @@ pub struct Defined<'a> {
 // The module, with the fault as it was met.
 fn module<'a>(alloc: Global, bytes: &'a [u8]) -> Result<Module<'a>, ReadError>
     ensures value { IsModule result (read_by_parts bytes.now) }
-    ensures lent { IfOk result (λ m. IsLentModule m) }
+    ensures lent { IfOk result (λ m. IsLentModule bytes.entry m) }
 {
     let input = Input::new(bytes);
     let rest = expected(input, b"\0asm", Row::Magic)?;
@@ -71,7 +73,7 @@ fn module<'a>(alloc: Global, bytes: &'a [u8]) -> Result<Module<'a>, ReadError>
 // The module, after the header.
 fn sections<'a>(alloc: Global, input: Input<'a>) -> Result<Module<'a>, ReadError>
     ensures value { IsModule result (sections_from (input_of input.entry)) }
-    ensures lent { IfOk result (λ m. IsLentModule m) }
+    ensures lent { IfOk result (λ m. IsLentModule input.entry.bytes m) }
 {
     let (types, rest) = type_section(alloc, input)?;
     let (imports, rest) = import_section(alloc, rest)?;
@@ -85,9 +87,8 @@ fn declarations<'a>(
     imports: List<Import<'a>>,
     input: Input<'a>,
 ) -> Result<Module<'a>, ReadError>
-    requires { Each IsLentImport (list_items imports) }
     ensures value { IsModule result (declarations_from (types_of types) (imports_of imports.entry) (input_of input.entry)) }
-    ensures lent { IfOk result (λ m. IsLentModule m) }
+    ensures lent { (whole : Bor (Listed ℕ)) → Each (IsLentImport whole) (list_items imports.entry) → Inside input.entry.bytes whole → IfOk result (λ m. IsLentModule whole m) }
 {
     let (functions, rest) = function_section(alloc, input, &imports)?;
     let (tables, rest) = table_section(alloc, rest)?;
@@ -110,9 +111,8 @@ fn definitions<'a>(
     declared: Declared<'a>,
     input: Input<'a>,
 ) -> Result<Module<'a>, ReadError>
-    requires { Each IsLentImport (list_items declared.imports) }
     ensures value { IsModule result (definitions_from (front_of declared.entry) (input_of input.entry)) }
-    ensures lent { IfOk result (λ m. IsLentModule m) }
+    ensures lent { (whole : Bor (Listed ℕ)) → Each (IsLentImport whole) (list_items declared.entry.imports) → Inside input.entry.bytes whole → IfOk result (λ m. IsLentModule whole m) }
 {
     let (exports, rest) = export_section(alloc, input)?;
     let (start, rest) = number_section(rest, 8)?;
@@ -134,10 +134,8 @@ fn contents<'a>(
     counted: Option<u32>,
     input: Input<'a>,
 ) -> Result<Module<'a>, ReadError>
-    requires imports { Each IsLentImport (list_items declared.imports) }
-    requires exports { Each IsLentExport (list_items defined.exports) }
     ensures value { IsModule result (contents_from (front_of declared.entry) (middle_of defined.entry) counted (input_of input.entry)) }
-    ensures lent { IfOk result (λ m. IsLentModule m) }
+    ensures lent { (whole : Bor (Listed ℕ)) → Each (IsLentImport whole) (list_items declared.entry.imports) → Each (IsLentExport whole) (list_items defined.entry.exports) → Inside input.entry.bytes whole → IfOk result (λ m. IsLentModule whole m) }
 {
     let (bodies, rest) = body_section(alloc, input, &declared.types, &declared.functions)?;
     let (segments, rest) = segment_section(alloc, rest, counted)?;

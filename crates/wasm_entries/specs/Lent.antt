@@ -1,6 +1,8 @@
--- What is lent, and not owned.
-use Rattle.std.specs.Prelude.{List, [], ◌∷◌}
+-- What is lent from the input: a slice of it, and not an owned copy.
+use Rattle.std.specs.Prelude.{ℕ, List, [], ◌∷◌}
+use Rattle.std.specs.Borrow.{Bor}
 use Rattle.sem_words.specs.Lists.{list_items}
+use Rattle.wasm_tree.specs.Slices.{Inside}
 use Rattle.wasm_tree.specs.declared.code.Bytes.{Bytes}
 use Rattle.wasm_tree.specs.declared.code.Bytes.TheVariants as bytes
 use Rattle.wasm_tree.specs.declared.code.Code.{Code}
@@ -11,34 +13,35 @@ use Rattle.wasm_tree.specs.declared.module.Segment.{Segment}
 use Rattle.wasm_tree.specs.declared.module.Body.{Body}
 use Rattle.wasm_tree.specs.declared.module.Module.{Module}
 
-abbrev pub IsLent : Bytes → Type 0
-IsLent (bytes.Lent lent) = Unit {0}
-IsLent (bytes.Own text) = ⊥
+-- bytes that are a part of this input
+abbrev pub IsLent : Bor (List ℕ) → Bytes → Type 0
+IsLent input (bytes.Lent part) = Inside part input
+IsLent input (bytes.Own text) = ⊥
 
-abbrev pub IsLentCode : Code → Type 0
-IsLentCode (codes.Lent lent) = Unit {0}
-IsLentCode (codes.Own list) = ⊥
+abbrev pub IsLentCode : Bor (List ℕ) → Code → Type 0
+IsLentCode input (codes.Lent part) = Inside part input
+IsLentCode input (codes.Own list) = ⊥
 
-abbrev pub IsLentImport : Import → Type 0
-IsLentImport i = IsLent i.module × IsLent i.field
+abbrev pub IsLentImport : Bor (List ℕ) → Import → Type 0
+IsLentImport input i = IsLent input i.module × IsLent input i.field
 
-abbrev pub IsLentExport : WasmExport → Type 0
-IsLentExport e = IsLent e.name
+abbrev pub IsLentExport : Bor (List ℕ) → WasmExport → Type 0
+IsLentExport input e = IsLent input e.name
 
-abbrev pub IsLentSegment : Segment → Type 0
-IsLentSegment s = IsLent s.bytes
+abbrev pub IsLentSegment : Bor (List ℕ) → Segment → Type 0
+IsLentSegment input s = IsLent input s.bytes
 
-abbrev pub IsLentBody : Body → Type 0
-IsLentBody b = IsLentCode b.code
+abbrev pub IsLentBody : Bor (List ℕ) → Body → Type 0
+IsLentBody input b = IsLentCode input b.code
 
 -- it holds of each
 abbrev pub Each : {X : Type 0} → (X → Type 0) → List X → Type 0
 Each P [] = Unit {0}
 Each P (x ∷ xs) = P x × Each P xs
 
--- names, data segments and bodies are lent
-pub record IsLentModule (m : Module) : Type 0 where
-  pub imports : Each IsLentImport (list_items m.imports)
-  pub exports : Each IsLentExport (list_items m.exports)
-  pub bodies : Each IsLentBody (list_items m.bodies)
-  pub segments : Each IsLentSegment (list_items m.segments)
+-- names, data segments and bodies are lent from this input
+pub record IsLentModule (input : Bor (List ℕ)) (m : Module) : Type 0 where
+  pub imports : Each (IsLentImport input) (list_items m.imports)
+  pub exports : Each (IsLentExport input) (list_items m.exports)
+  pub bodies : Each (IsLentBody input) (list_items m.bodies)
+  pub segments : Each (IsLentSegment input) (list_items m.segments)

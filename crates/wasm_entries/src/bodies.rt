@@ -4,6 +4,7 @@ ghost use Rattle.sem_words.specs.Lists.{list_items};
 ghost use Rattle.wasm_lang.specs.Limits.{params_of, most_locals};
 ghost use Rattle.wasm_lang.specs.ReadingModule as modules;
 ghost use Rattle.wasm_tree.specs.Inputs.{input_of, IsField, IsRead};
+ghost use Rattle.wasm_tree.specs.Slices.{Inside};
 ghost use Rattle.wasm_tree.specs.Views.{type_of, body_of};
 ghost use Rattle.wasm_entries.specs.Lent.{Each, IsLentBody};
 ghost use Rattle.wasm_entries.specs.Sized.{body_head};
@@ -37,7 +38,8 @@ fn runs<'a>(
     params: usize,
     n: u32,
 ) -> Result<(List<ValType>, Input<'a>), ReadError>
-    ensures { IsRead list_items result (modules.runs_field params n (input_of input.entry)) }
+    ensures value { IsRead list_items result (modules.runs_field params n (input_of input.entry)) }
+    ensures inside { IfOk result (λ x. Inside x.1.bytes input.entry.bytes) }
 {
     let mut list = List::new(alloc);
     let mut used = params;
@@ -61,7 +63,7 @@ fn body_content<'a>(
     params: usize,
 ) -> Result<(Body<'a>, Input<'a>), ReadError>
     ensures value { IsRead body_of result (modules.body_content params (input_of input.entry)) }
-    ensures lent { IfOk result (λ x. IsLentBody x.0) }
+    ensures lent { IfOk result (λ x. IsLentBody input.entry.bytes x.0) }
 {
     let (n, rest) = number(input)?;
     let (locals, rest) = runs(alloc, rest, params, n)?;
@@ -71,7 +73,9 @@ fn body_content<'a>(
 
 // A body's content, whose size has to fit its section, and what follows it.
 fn body_part<'a>(input: Input<'a>) -> Result<(Input<'a>, Input<'a>), Fault>
-    ensures { MatchResult result (λ x. body_head (input_of input.entry) ≡ Ok (input_of x.0, input_of x.1)) (λ fault. body_head (input_of input.entry) ≡ Err fault) }
+    ensures value { MatchResult result (λ x. body_head (input_of input.entry) ≡ Ok (input_of x.0, input_of x.1)) (λ fault. body_head (input_of input.entry) ≡ Err fault) }
+    ensures content { IfOk result (λ x. Inside x.0.bytes input.entry.bytes) }
+    ensures inside { IfOk result (λ x. Inside x.1.bytes input.entry.bytes) }
 {
     let (size, rest) = number(input)?;
     if size as usize > rest.bytes.len() {
@@ -97,7 +101,8 @@ fn body<'a>(
     params: usize,
 ) -> Result<(Body<'a>, Input<'a>), ReadError>
     ensures value { IsRead body_of result (modules.body_field params (input_of input.entry)) }
-    ensures lent { IfOk result (λ x. IsLentBody x.0) }
+    ensures inside { IfOk result (λ x. Inside x.1.bytes input.entry.bytes) }
+    ensures lent { IfOk result (λ x. IsLentBody input.entry.bytes x.0) }
 {
     let (content, after) = body_part(input)?;
     let (body, rest) = body_content(alloc, content, params)?;
@@ -123,7 +128,8 @@ pub fn bodies<'a>(
     input: Input<'a>,
 ) -> Result<(List<Body<'a>>, Input<'a>), ReadError>
     ensures value { IsRead bodies_of result (modules.bodies_field (map type_of types.now) functions.now (input_of input.entry)) }
-    ensures lent { IfOk result (λ x. Each IsLentBody (list_items x.0)) }
+    ensures inside { IfOk result (λ x. Inside x.1.bytes input.entry.bytes) }
+    ensures lent { IfOk result (λ x. Each (IsLentBody input.entry.bytes) (list_items x.0)) }
 {
     let mut list = List::new(alloc);
     let mut rest = input;

@@ -1,8 +1,9 @@
 //! Expressions: instructions one after another, up to the end that closes them.
-ghost use Rattle.std.specs.Prelude.{◌≡◌, ℕ, Some, None, Ok, Err, IfOk, MatchResult, cond, if◌then◌else◌};
+ghost use Rattle.std.specs.Prelude.{◌≡◌, ℕ, ◌++◌, List as Listed, Some, None, Ok, Err, IfOk, MatchResult, cond, if◌then◌else◌};
 ghost use Rattle.sem_words.specs.Lists.{list_items};
 ghost use Rattle.wasm_lang.specs.ReadingCode as reading;
 ghost use Rattle.wasm_tree.specs.Inputs.{input_of, IsField, IsRead};
+ghost use Rattle.wasm_tree.specs.Slices.{Inside};
 ghost use Rattle.wasm_tree.specs.Views.{instr_of, code_of};
 ghost use Rattle.wasm_entries.specs.Views.{instrs_of};
 ghost use Rattle.wasm_entries.specs.Lent.{IsLentCode};
@@ -80,10 +81,24 @@ fn next<'a>(
     }
 }
 
+// The input after a field, as a part of the input before it.
+fn resumed<'a>(input: Input<'a>, after: Input<'a>) -> Input<'a>
+    requires { (front : Listed ℕ) × (input.bytes.now ≡ front ++ after.bytes.now) }
+    ensures value { input_of result ≡ input_of after.entry }
+    ensures inside { Inside result.bytes input.entry.bytes }
+{
+    Input {
+        at: after.at,
+        bytes: &input.bytes[input.bytes.len() - after.bytes.len()..],
+    }
+}
+
 /// An expression, as the list of its instructions.
 pub fn instrs<'a>(alloc: Global, input: Input<'a>) -> Result<(List<Instr>, Input<'a>), ReadError>
-    ensures { IsRead instrs_of result (reading.code_field (input_of input.entry)) }
+    ensures value { IsRead instrs_of result (reading.code_field (input_of input.entry)) }
+    ensures inside { IfOk result (λ x. Inside x.1.bytes input.entry.bytes) }
 {
+    code_laws();
     let mut openings = Vec::new(alloc);
     let mut list = List::new(alloc);
     let mut rest = input;
@@ -93,7 +108,7 @@ pub fn instrs<'a>(alloc: Global, input: Input<'a>) -> Result<(List<Instr>, Input
             return Err(ReadError::Memory);
         }
         if closed {
-            return Ok((list, after));
+            return Ok((list, resumed(input, after)));
         }
         rest = after;
     }
@@ -106,7 +121,7 @@ pub fn instrs<'a>(alloc: Global, input: Input<'a>) -> Result<(List<Instr>, Input
 /// An expression, lent from the input.
 pub fn code<'a>(alloc: Global, input: Input<'a>) -> Result<(Code<'a>, Input<'a>), ReadError>
     ensures value { IsRead code_of result (reading.code_field (input_of input.entry)) }
-    ensures lent { IfOk result (λ x. IsLentCode x.0) }
+    ensures lent { IfOk result (λ x. IsLentCode input.entry.bytes x.0) }
 {
     code_laws();
     let mut openings = Vec::new(alloc);
@@ -114,7 +129,7 @@ pub fn code<'a>(alloc: Global, input: Input<'a>) -> Result<(Code<'a>, Input<'a>)
     for _turn in 0..input.bytes.len() {
         let (_instr, closed, after) = next(alloc, &mut openings, rest)?;
         if closed {
-            let (front, _) = input.bytes.split_at(input.bytes.len() - after.bytes.len());
+            let front = &input.bytes[..input.bytes.len() - after.bytes.len()];
             return Ok((Code::Lent(front), after));
         }
         rest = after;

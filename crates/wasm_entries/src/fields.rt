@@ -5,6 +5,7 @@ ghost use Rattle.wasm_lang.specs.Limits.{most_entries};
 ghost use Rattle.wasm_lang.specs.Reading as reading;
 ghost use Rattle.wasm_lang.specs.ReadingModule as modules;
 ghost use Rattle.wasm_tree.specs.Inputs.{input_of, IsField};
+ghost use Rattle.wasm_tree.specs.Slices.{Inside};
 ghost use Rattle.wasm_tree.specs.Views.{bytes_of};
 ghost use Rattle.wasm_entries.specs.Lent.{IsLent};
 
@@ -16,7 +17,8 @@ const MOST_ENTRIES: usize = 1_048_576;
 
 /// A number inside a section.
 pub fn number<'a>(input: Input<'a>) -> Result<(u32, Input<'a>), Fault>
-    ensures { IsField (λ n. n) result (reading.u32 (input_of input.entry)) }
+    ensures value { IsField (λ n. n) result (reading.u32 (input_of input.entry)) }
+    ensures inside { IfOk result (λ x. Inside x.1.bytes input.entry.bytes) }
 {
     input.u32(Row::SectionSize)
 }
@@ -31,6 +33,7 @@ pub fn within(used: usize, more: usize, limit: usize) -> bool
 /// A count that is within what is left of a limit.
 pub fn count<'a>(input: Input<'a>, used: usize, limit: usize) -> Result<(u32, Input<'a>), Fault>
     ensures value { IsField (λ n. n) result (reading.count_field used limit (input_of input.entry)) }
+    ensures inside { IfOk result (λ x. Inside x.1.bytes input.entry.bytes) }
     ensures within { IfOk result (λ x. used + x.0 ≤ limit) }
 {
     let (n, rest) = number(input)?;
@@ -49,20 +52,23 @@ pub fn split<'a>(input: Input<'a>, size: usize) -> (&'a [u8], Input<'a>)
     requires { size ≤ length input.bytes.now }
     ensures front { result.0.now ≡ take size input.entry.bytes.now }
     ensures rest { input_of result.1 ≡ record { at = input.entry.at + size; bytes = drop size input.entry.bytes.now } }
+    ensures lent { Inside result.0 input.entry.bytes }
+    ensures inside { Inside result.1.bytes input.entry.bytes }
 {
-    let (front, rest) = input.bytes.split_at(size);
     (
-        front,
+        &input.bytes[..size],
         Input {
             at: input.at + size,
-            bytes: rest,
+            bytes: &input.bytes[size..],
         },
     )
 }
 
 // Bytes after their count.
 fn counted<'a>(input: Input<'a>) -> Result<(&'a [u8], Input<'a>), Fault>
-    ensures { MatchResult result (λ x. reading.bytes_field (input_of input.entry) ≡ Ok (x.0.now, input_of x.1)) (λ fault. reading.bytes_field (input_of input.entry) ≡ Err fault) }
+    ensures value { MatchResult result (λ x. reading.bytes_field (input_of input.entry) ≡ Ok (x.0.now, input_of x.1)) (λ fault. reading.bytes_field (input_of input.entry) ≡ Err fault) }
+    ensures front { IfOk result (λ x. Inside x.0 input.entry.bytes) }
+    ensures inside { IfOk result (λ x. Inside x.1.bytes input.entry.bytes) }
 {
     let (n, rest) = number(input)?;
     if n as usize <= rest.bytes.len() {
@@ -78,7 +84,8 @@ fn counted<'a>(input: Input<'a>) -> Result<(&'a [u8], Input<'a>), Fault>
 /// Bytes after their count, lent from the input.
 pub fn bytes<'a>(input: Input<'a>) -> Result<(Bytes<'a>, Input<'a>), Fault>
     ensures value { IsField bytes_of result (reading.bytes_field (input_of input.entry)) }
-    ensures lent { IfOk result (λ x. IsLent x.0) }
+    ensures inside { IfOk result (λ x. Inside x.1.bytes input.entry.bytes) }
+    ensures lent { IfOk result (λ x. IsLent input.entry.bytes x.0) }
 {
     let (bytes, rest) = counted(input)?;
     Ok((Bytes::Lent(bytes), rest))
@@ -97,7 +104,8 @@ fn is_text(bytes: &[u8]) -> bool
 /// A name, lent from the input.
 pub fn name<'a>(input: Input<'a>) -> Result<(Bytes<'a>, Input<'a>), Fault>
     ensures value { IsField bytes_of result (reading.name_field (input_of input.entry)) }
-    ensures lent { IfOk result (λ x. IsLent x.0) }
+    ensures inside { IfOk result (λ x. Inside x.1.bytes input.entry.bytes) }
+    ensures lent { IfOk result (λ x. IsLent input.entry.bytes x.0) }
 {
     let (n, rest) = number(input)?;
     if n as usize > rest.bytes.len() {
@@ -119,7 +127,8 @@ pub fn name<'a>(input: Input<'a>) -> Result<(Bytes<'a>, Input<'a>), Fault>
 
 /// A byte 0 or 1.
 pub fn flag<'a>(input: Input<'a>) -> Result<(bool, Input<'a>), Fault>
-    ensures { IsField (λ f. f) result (modules.flag_field (input_of input.entry)) }
+    ensures value { IsField (λ f. f) result (modules.flag_field (input_of input.entry)) }
+    ensures inside { IfOk result (λ x. Inside x.1.bytes input.entry.bytes) }
 {
     let (byte, rest) = input.byte(Row::SectionSize)?;
     match byte {
@@ -134,7 +143,8 @@ pub fn flag<'a>(input: Input<'a>) -> Result<(bool, Input<'a>), Fault>
 
 /// The limits of a memory.
 pub fn memory<'a>(input: Input<'a>) -> Result<(Limits, Input<'a>), Fault>
-    ensures { IsField (λ l. l) result (modules.memory_field (input_of input.entry)) }
+    ensures value { IsField (λ l. l) result (modules.memory_field (input_of input.entry)) }
+    ensures inside { IfOk result (λ x. Inside x.1.bytes input.entry.bytes) }
 {
     let (more, rest) = flag(input)?;
     let (min, rest) = number(rest)?;
@@ -148,7 +158,8 @@ pub fn memory<'a>(input: Input<'a>) -> Result<(Limits, Input<'a>), Fault>
 
 /// The limits of a table.
 pub fn table<'a>(input: Input<'a>) -> Result<(Limits, Input<'a>), Fault>
-    ensures { IsField (λ l. l) result (modules.table_field (input_of input.entry)) }
+    ensures value { IsField (λ l. l) result (modules.table_field (input_of input.entry)) }
+    ensures inside { IfOk result (λ x. Inside x.1.bytes input.entry.bytes) }
 {
     let rest = input.exactly(0x70)?;
     let (more, rest) = flag(rest)?;
@@ -163,7 +174,8 @@ pub fn table<'a>(input: Input<'a>) -> Result<(Limits, Input<'a>), Fault>
 
 /// The type of a global.
 pub fn global_type<'a>(input: Input<'a>) -> Result<(GlobalType, Input<'a>), Fault>
-    ensures { IsField (λ t. t) result (modules.global_type_field (input_of input.entry)) }
+    ensures value { IsField (λ t. t) result (modules.global_type_field (input_of input.entry)) }
+    ensures inside { IfOk result (λ x. Inside x.1.bytes input.entry.bytes) }
 {
     let (kind, rest) = input.val_type()?;
     let (mutable, rest) = flag(rest)?;
@@ -186,7 +198,8 @@ pub fn nothing_left(input: Input<'_>) -> Result<(), Fault>
 
 /// These bytes, and the row of one that differs.
 pub fn expected<'a>(input: Input<'a>, bytes: &[u8], row: Row) -> Result<Input<'a>, Fault>
-    ensures { MatchResult result (λ rest. modules.header_field row bytes.now (input_of input.entry) ≡ Ok (input_of rest)) (λ fault. modules.header_field row bytes.now (input_of input.entry) ≡ Err fault) }
+    ensures value { MatchResult result (λ rest. modules.header_field row bytes.now (input_of input.entry) ≡ Ok (input_of rest)) (λ fault. modules.header_field row bytes.now (input_of input.entry) ≡ Err fault) }
+    ensures inside { IfOk result (λ rest. Inside rest.bytes input.entry.bytes) }
 {
     let mut rest = input;
     for byte in bytes {

@@ -3,6 +3,7 @@ ghost use Rattle.std.specs.Prelude.{◌≡◌, ℕ, ◌+◌, ◌<◌, ◌≤◌,
 ghost use Rattle.wasm_lang.specs.Limits.{function_imports, global_imports};
 ghost use Rattle.wasm_lang.specs.ReadingModule as modules;
 ghost use Rattle.wasm_tree.specs.Inputs.{input_of, IsField, IsRead};
+ghost use Rattle.wasm_tree.specs.Slices.{Inside};
 ghost use Rattle.wasm_tree.specs.Views.{import_of};
 ghost use Rattle.sem_words.specs.Lists.{list_items};
 ghost use Rattle.wasm_entries.specs.Lent.{Each, IsLentImport};
@@ -24,7 +25,8 @@ fn import_kind<'a>(
     functions: usize,
     globals: usize,
 ) -> Result<(ImportKind, Input<'a>), Fault>
-    ensures { IsField (λ k. k) result (modules.import_kind_field functions globals (input_of input.entry)) }
+    ensures value { IsField (λ k. k) result (modules.import_kind_field functions globals (input_of input.entry)) }
+    ensures inside { IfOk result (λ x. Inside x.1.bytes input.entry.bytes) }
 {
     let (byte, rest) = input.byte(Row::SectionSize)?;
     let row = match byte {
@@ -49,7 +51,8 @@ fn import<'a>(
     globals: usize,
 ) -> Result<(Import<'a>, Input<'a>), Fault>
     ensures value { IsField import_of result (modules.import_field functions globals (input_of input.entry)) }
-    ensures lent { IfOk result (λ x. IsLentImport x.0) }
+    ensures inside { IfOk result (λ x. Inside x.1.bytes input.entry.bytes) }
+    ensures lent { IfOk result (λ x. IsLentImport input.entry.bytes x.0) }
 {
     let (module, rest) = name(input)?;
     let (field, rest) = name(rest)?;
@@ -93,7 +96,8 @@ pub fn imports<'a>(
     count: u32,
 ) -> Result<(List<Import<'a>>, Input<'a>), ReadError>
     ensures value { IsRead imports_of result (modules.imports_field 0 0 count (input_of input.entry)) }
-    ensures lent { IfOk result (λ x. Each IsLentImport (list_items x.0)) }
+    ensures inside { IfOk result (λ x. Inside x.1.bytes input.entry.bytes) }
+    ensures lent { IfOk result (λ x. Each (IsLentImport input.entry.bytes) (list_items x.0)) }
 {
     let mut list = List::new(alloc);
     let mut functions: usize = 0;

@@ -4,3 +4,4 @@ pub mod Table
 pub mod Items
 pub mod Forms
 pub mod Spelled
+pub mod Slices

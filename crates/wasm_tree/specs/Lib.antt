@@ -1,3 +1,4 @@
 pub mod Inputs
 pub mod Operators
+pub mod Slices
 pub mod Views

@@ -15,10 +15,12 @@ pub struct Input<'a> {
 impl<'a> Input<'a> {
     ghost use Rattle.wasm_lang.specs.Reading as reading;
     ghost use Rattle.wasm_tree.specs.Inputs.{input_of, IsField};
+    ghost use Rattle.wasm_tree.specs.Slices.{Inside};
 
     /// The whole input.
     pub fn new(bytes: &'a [u8]) -> Input<'a>
-        ensures { input_of result ≡ record { at = 0; bytes = bytes.now } }
+        ensures value { input_of result ≡ record { at = 0; bytes = bytes.now } }
+        ensures inside { Inside result.bytes bytes.entry }
     {
         Input { at: 0, bytes }
     }
@@ -36,17 +38,18 @@ impl<'a> Input<'a> {
 
     /// The next byte. Where there is none the fault has the row that is given.
     pub fn byte(self, row: Row) -> Result<(u8, Input<'a>), Fault>
-        ensures { IsField (λ b. b) result (reading.byte_field row (input_of self.entry)) }
+        ensures value { IsField (λ b. b) result (reading.byte_field row (input_of self.entry)) }
+        ensures inside { IfOk result (λ x. Inside x.1.bytes self.entry.bytes) }
     {
-        match self.bytes.split_first() {
-            Some((first, rest)) => Ok((
+        match self.bytes {
+            [first, rest @ ..] => Ok((
                 *first,
                 Input {
                     at: self.at + 1,
                     bytes: rest,
                 },
             )),
-            None => Err(Fault {
+            [] => Err(Fault {
                 row,
                 at: self.place_past(row),
             }),
@@ -55,7 +58,8 @@ impl<'a> Input<'a> {
 
     /// The next byte, which can be no other.
     pub fn exactly(self, byte: u8) -> Result<Input<'a>, Fault>
-        ensures { MatchResult result (λ rest. reading.exactly byte (input_of self.entry) ≡ Ok (byte, input_of rest)) (λ fault. reading.exactly byte (input_of self.entry) ≡ Err fault) }
+        ensures value { MatchResult result (λ rest. reading.exactly byte (input_of self.entry) ≡ Ok (byte, input_of rest)) (λ fault. reading.exactly byte (input_of self.entry) ≡ Err fault) }
+        ensures inside { IfOk result (λ rest. Inside rest.bytes self.entry.bytes) }
     {
         let (found, rest) = self.byte(Row::SectionSize)?;
         if found == byte {
@@ -70,7 +74,8 @@ impl<'a> Input<'a> {
 
     /// The next unsigned number of 32 bits. Where it isn't finished the fault has the row that is given.
     pub fn u32(self, row: Row) -> Result<(u32, Input<'a>), Fault>
-        ensures { IsField (λ n. n) result (reading.u32_field row (input_of self.entry)) }
+        ensures value { IsField (λ n. n) result (reading.u32_field row (input_of self.entry)) }
+        ensures inside { IfOk result (λ x. Inside x.1.bytes self.entry.bytes) }
     {
         match unsigned(self.bytes, 32) {
             Ok((n, rest)) => Ok((n as u32, self.past(rest))),
@@ -90,6 +95,7 @@ impl<'a> Input<'a> {
         requires { (0 < bits) × (bits ≤ 64) }
         ensures bound { IfOk result (λ x. x.0 < 2 ^ bits) }
         ensures value { IsField (λ n. n) result (reading.integer bits (input_of self.entry)) }
+        ensures inside { IfOk result (λ x. Inside x.1.bytes self.entry.bytes) }
     {
         match integer(self.bytes, bits) {
             Ok((word, rest)) => Ok((word, self.past(rest))),
@@ -106,7 +112,8 @@ impl<'a> Input<'a> {
 
     /// The next value type, inside a section.
     pub fn val_type(self) -> Result<(ValType, Input<'a>), Fault>
-        ensures { IsField (λ t. t) result (reading.val_type_field (input_of self.entry)) }
+        ensures value { IsField (λ t. t) result (reading.val_type_field (input_of self.entry)) }
+        ensures inside { IfOk result (λ x. Inside x.1.bytes self.entry.bytes) }
     {
         let (byte, rest) = self.byte(Row::SectionSize)?;
         match byte {
@@ -135,8 +142,10 @@ impl<'a> Input<'a> {
 
     // The input after a field, where these bytes are left.
     fn past(self, rest: &'a [u8]) -> Input<'a>
-        requires { length rest.now ≤ length self.bytes.now }
-        ensures { input_of result ≡ record { at = self.entry.at + (length self.entry.bytes.now - length rest.now); bytes = rest.now } }
+        requires shorter { length rest.now ≤ length self.bytes.now }
+        requires inside { Inside rest self.bytes }
+        ensures value { input_of result ≡ record { at = self.entry.at + (length self.entry.bytes.now - length rest.now); bytes = rest.now } }
+        ensures inside { Inside result.bytes self.entry.bytes }
     {
         Input {
             at: self.at + (self.bytes.len() - rest.len()),

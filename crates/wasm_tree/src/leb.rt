@@ -3,6 +3,7 @@ ghost use Rattle.std.specs.Prelude.{◌≡◌, ℕ, List, ◌+◌, ◌-◌, ◌*
 ghost use Rattle.std.specs.Int.{cast_signed, w32, w64};
 ghost use Rattle.wasm_lang.specs.Numbers.{IsUnsigned, IsInteger};
 ghost use Rattle.wasm_lang.specs.Reading.{unsigned_at, integer_at};
+ghost use Rattle.wasm_tree.specs.Slices.{Inside};
 
 use wasm_lang::{NumberFault, number_laws};
 
@@ -66,9 +67,10 @@ pub fn unsigned(bytes: &[u8], bits: u32) -> Result<(u64, &[u8]), NumberFault>
     requires { (0 < bits) × (bits ≤ 64) }
     ensures bound { IfOk result (λ x. x.0 < 2 ^ bits) }
     ensures shorter { IfOk result (λ x. length x.1.now < length bytes.now) }
+    ensures inside { IfOk result (λ x. Inside x.1 bytes.entry) }
     ensures value { MatchResult result (λ x. unsigned_at bits bytes.now ≡ Ok (x.0, x.1.now)) (λ e. unsigned_at bits bytes.now ≡ Err e) }
 {
-    let Some((first, rest)) = bytes.split_first() else {
+    let [first, rest @ ..] = bytes else {
         return Err(NumberFault::Ends);
     };
     let byte = u64::from(*first);
@@ -93,9 +95,10 @@ pub fn integer(bytes: &[u8], bits: u32) -> Result<(u64, &[u8]), NumberFault>
     requires { (0 < bits) × (bits ≤ 64) }
     ensures bound { IfOk result (λ x. x.0 < 2 ^ bits) }
     ensures shorter { IfOk result (λ x. length x.1.now < length bytes.now) }
+    ensures inside { IfOk result (λ x. Inside x.1 bytes.entry) }
     ensures value { MatchResult result (λ x. integer_at bits bytes.now ≡ Ok (x.0, x.1.now)) (λ e. integer_at bits bytes.now ≡ Err e) }
 {
-    let Some((first, rest)) = bytes.split_first() else {
+    let [first, rest @ ..] = bytes else {
         return Err(NumberFault::Ends);
     };
     let byte = u64::from(*first);

@@ -3,10 +3,11 @@ use Rattle.std.proofs.lemmas.Grind.{common_steps}
 use Rattle.std.proofs.lemmas.List.{map-append}
 use Rattle.sem_words.specs.Lists.{list_items}
 use Rattle.wasm_tree.specs.Inputs.{input_of}
+use Rattle.wasm_tree.proofs.Slices.{inside_trans}
 use Rattle.wasm_tree.specs.Views.{type_of, body_of}
 use Rattle.wasm_entries.specs.Views.{bodies_of}
 use Rattle.wasm_entries.specs.Lent.{IsLentBody}
-use Rattle.wasm_entries.proofs.Lending.{each_more}
+use Rattle.wasm_entries.proofs.Lending.{each_more, code_from}
 use Rattle.wasm_entries.proofs.BodiesInRow.{bodies_step}
 use Rattle.wasm_entries.proofs.bodies.bodies.Goals as goal
 
@@ -16,5 +17,6 @@ loop-function-preserved c =
     let pushed : list_items c.push.new.self ≡ list_items c.loop-function.list ++ c.in_ok-item.item ∷ [] = grind (arith, common_steps) in
     record {
       value = rw (pushed, map-append) (c.loop-function.invariant.value ∙ s);
-      lent = rw pushed (each_more IsLentBody (list_items c.loop-function.list) c.in_ok-item.item c.loop-function.invariant.lent c.in_ok-item.ensures.lent);
+      inside = inside_trans c.in_ok-item.ensures.inside c.loop-function.invariant.inside;
+      lent = rw pushed (each_more (IsLentBody c.args.input.bytes) (list_items c.loop-function.list) c.in_ok-item.item c.loop-function.invariant.lent (code_from c.loop-function.invariant.inside c.in_ok-item.item.code c.in_ok-item.ensures.lent));
     }

@@ -1,6 +1,7 @@
 use Rattle.std.proofs.Common.{◌≡◌, map, drop}
 use Rattle.wasm_lang.specs.ReadingModule.{bodies_field}
 use Rattle.wasm_tree.specs.Inputs.{input_of}
+use Rattle.wasm_tree.specs.Slices.{Inside}
 use Rattle.wasm_tree.specs.Views.{type_of}
 use Rattle.sem_words.specs.Lists.{list_items}
 use Rattle.wasm_entries.specs.Lent.{Each, IsLentBody}
@@ -11,5 +12,6 @@ use Rattle.wasm_entries.proofs.bodies.bodies.Given as goal
 abbrev pub invariant-loop-function : goal.invariant-loop-function
 invariant-loop-function l = record {
   value : bodies_field (map type_of l.types) l.functions (input_of l.input) ≡ with_front (bodies_of l.list) (bodies_field (map type_of l.types) (drop l.function-index l.functions) (input_of l.rest));
-  lent : Each IsLentBody (list_items l.list);
+  inside : Inside l.rest.bytes l.input.bytes;
+  lent : Each (IsLentBody l.input.bytes) (list_items l.list);
 }

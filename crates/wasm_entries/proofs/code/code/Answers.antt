@@ -15,8 +15,8 @@ returns-in_err-_instr-clause-value c =
     let p = err_from_is_err_and c.from_residual.result c.from_residual.ensures.1 in
     rw (p.1, p.2) (code_err (length c.args.input.bytes.now) c.loop-turn._turn c.loop-turn.invariant.0 c.loop-turn.openings.items c.next.new.openings.items (input_of c.loop-turn.rest) (code_field (input_of c.args.input)) _ c.loop-turn-test.true c.in_err-_instr.ensures c.loop-turn.invariant.1)
 
-pub overflow_sub-input : goal.overflow_sub-input
-overflow_sub-input c =
+pub slice_bounds-front-count : goal.slice_bounds-front-count
+slice_bounds-front-count c =
     let s = code_closed (length c.args.input.bytes.now) c.loop-turn._turn c.loop-turn.invariant.0 (openings_of c.loop-turn.openings.items) (input_of c.loop-turn.rest) (input_of c.in_ok-_instr.after) (instr_of c.in_ok-_instr._instr) c.in_ok-_instr.closed c.next.new.openings.items c.loop-turn-test.true c.if-closed.true c.in_ok-_instr.ensures in
     let code = c.loop-turn.invariant.0 ++ instr_of c.in_ok-_instr._instr ∷ [] in
     let alone = stands_alone code c.args.input.bytes.now c.in_ok-_instr.after.bytes.now (c.code_laws.ensures.code_is code (input_of c.args.input) (input_of c.in_ok-_instr.after) (c.loop-turn.invariant.1 ∙ s)).0 in

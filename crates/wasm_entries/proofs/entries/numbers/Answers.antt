@@ -8,6 +8,6 @@ use Rattle.wasm_entries.proofs.entries.numbers.Goals as goal
 
 pub loop-i-preserved : goal.loop-i-preserved
 loop-i-preserved c =
-    let s = items_step u32 c.args.count c.loop-i._i (list_items c.loop-i.list) (input_of c.loop-i.rest) (input_of c.in_ok-item.after) c.in_ok-item.item c.loop-i-test.true c.in_ok-item.ensures in
+    let s = items_step u32 c.args.count c.loop-i._i (list_items c.loop-i.list) (input_of c.loop-i.rest) (input_of c.in_ok-item.after) c.in_ok-item.item c.loop-i-test.true c.in_ok-item.ensures.value in
     let pushed : list_items c.push.new.self ≡ list_items c.loop-i.list ++ c.in_ok-item.item ∷ [] = grind (arith, common_steps) in
     rw pushed (c.loop-i.invariant ∙ s)

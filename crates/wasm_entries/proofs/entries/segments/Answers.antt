@@ -3,11 +3,12 @@ use Rattle.std.proofs.lemmas.Grind.{common_steps}
 use Rattle.sem_words.specs.Lists.{list_items}
 use Rattle.wasm_lang.specs.ReadingModule.{segment_field}
 use Rattle.wasm_tree.specs.Inputs.{input_of}
+use Rattle.wasm_tree.proofs.Slices.{inside_trans}
 use Rattle.std.proofs.lemmas.List.{map-append}
 use Rattle.wasm_tree.specs.Views.{segment_of}
 use Rattle.wasm_entries.specs.Views.{segments_of}
 use Rattle.wasm_entries.specs.Lent.{IsLentSegment}
-use Rattle.wasm_entries.proofs.Lending.{each_more}
+use Rattle.wasm_entries.proofs.Lending.{each_more, lent_from}
 use Rattle.wasm_entries.proofs.ItemsInRow.{items_step}
 use Rattle.wasm_entries.proofs.entries.segments.Goals as goal
 
@@ -17,5 +18,6 @@ loop-i-preserved c =
     let pushed : list_items c.push.new.self ≡ list_items c.loop-i.list ++ c.in_ok-item.item ∷ [] = grind (arith, common_steps) in
     record {
       value = rw (pushed, map-append) (c.loop-i.invariant.value ∙ s);
-      lent = rw pushed (each_more IsLentSegment (list_items c.loop-i.list) c.in_ok-item.item c.loop-i.invariant.lent c.in_ok-item.ensures.lent);
+      inside = inside_trans c.in_ok-item.ensures.inside c.loop-i.invariant.inside;
+      lent = rw pushed (each_more (IsLentSegment c.args.input.bytes) (list_items c.loop-i.list) c.in_ok-item.item c.loop-i.invariant.lent (lent_from c.loop-i.invariant.inside c.in_ok-item.item.bytes c.in_ok-item.ensures.lent));
     }

@@ -5,11 +5,13 @@ use Rattle.wasm_entries.specs.Views.{segments_of}
 use Rattle.wasm_lang.specs.Reading.{items_field}
 use Rattle.wasm_lang.specs.ReadingModule.{segment_field}
 use Rattle.wasm_tree.specs.Inputs.{input_of}
+use Rattle.wasm_tree.specs.Slices.{Inside}
 use Rattle.wasm_entries.proofs.ItemsInRow.{with_front}
 use Rattle.wasm_entries.proofs.entries.segments.Given as goal
 
 abbrev pub invariant-loop-i : goal.invariant-loop-i
 invariant-loop-i l = record {
   value : items_field segment_field l.count (input_of l.input) ≡ with_front (segments_of l.list) (items_field segment_field (l.count - l._i) (input_of l.rest));
-  lent : Each IsLentSegment (list_items l.list);
+  inside : Inside l.rest.bytes l.input.bytes;
+  lent : Each (IsLentSegment l.input.bytes) (list_items l.list);
 }

@@ -4,10 +4,11 @@ use Rattle.std.proofs.lemmas.List.{map-append}
 use Rattle.std.proofs.lemmas.Result.{err_from_is_err_and}
 use Rattle.sem_words.specs.Lists.{list_items}
 use Rattle.wasm_tree.specs.Inputs.{input_of}
+use Rattle.wasm_tree.proofs.Slices.{inside_trans}
 use Rattle.wasm_tree.specs.Views.{import_of}
 use Rattle.wasm_entries.specs.Views.{imports_of}
 use Rattle.wasm_entries.specs.Lent.{IsLentImport}
-use Rattle.wasm_entries.proofs.Lending.{each_more}
+use Rattle.wasm_entries.proofs.Lending.{each_more, import_from}
 use Rattle.wasm_entries.proofs.ImportsInRow.{imports_step, imports_stop}
 use Rattle.wasm_entries.proofs.imports.imports.Goals as goal
 
@@ -19,7 +20,8 @@ loop-i-preserved c =
       functions_small = omega (arith, c.functions_in-functions.ensures.one, c.loop-i.invariant.functions_small);
       globals_small = omega (arith, c.globals_in-globals.ensures.one, c.loop-i.invariant.globals_small);
       value = rw (pushed, map-append) (c.loop-i.invariant.value ∙ s);
-      lent = rw pushed (each_more IsLentImport (list_items c.loop-i.list) c.in_ok-item.item c.loop-i.invariant.lent c.in_ok-item.ensures.lent);
+      inside = inside_trans c.in_ok-item.ensures.inside c.loop-i.invariant.inside;
+      lent = rw pushed (each_more (IsLentImport c.args.input.bytes) (list_items c.loop-i.list) c.in_ok-item.item c.loop-i.invariant.lent (import_from c.loop-i.invariant.inside c.in_ok-item.item c.in_ok-item.ensures.lent));
     }
 
 pub returns-in_err-item-clause-value : goal.returns-in_err-item-clause-value

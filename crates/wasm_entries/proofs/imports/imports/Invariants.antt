@@ -1,6 +1,7 @@
 use Rattle.std.proofs.Common.{◌≡◌, ◌-◌, ◌≤◌}
 use Rattle.wasm_lang.specs.ReadingModule.{imports_field}
 use Rattle.wasm_tree.specs.Inputs.{input_of}
+use Rattle.wasm_tree.specs.Slices.{Inside}
 use Rattle.sem_words.specs.Lists.{list_items}
 use Rattle.wasm_entries.specs.Lent.{Each, IsLentImport}
 use Rattle.wasm_entries.specs.Views.{imports_of}
@@ -12,5 +13,6 @@ invariant-loop-i l = record {
   functions_small : l.functions ≤ l._i;
   globals_small : l.globals ≤ l._i;
   value : imports_field 0 0 l.count (input_of l.input) ≡ with_front (imports_of l.list) (imports_field l.functions l.globals (l.count - l._i) (input_of l.rest));
-  lent : Each IsLentImport (list_items l.list);
+  inside : Inside l.rest.bytes l.input.bytes;
+  lent : Each (IsLentImport l.input.bytes) (list_items l.list);
 }

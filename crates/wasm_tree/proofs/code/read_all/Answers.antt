@@ -10,7 +10,7 @@ use Rattle.wasm_tree.specs.declared.instr.Instr.{Instr}
 use Rattle.std.proofs.Common.{List, length}
 
 pub loop-turn-init : goal.loop-turn-init
-loop-turn-init c = spelled_start c.args.bytes.now (map instr_of (list_items c.new-list.result)) (input_of c.new-rest.result) (ap (λ (l : List Instr). map instr_of l) c.new-list.ensures) c.new-rest.ensures
+loop-turn-init c = spelled_start c.args.bytes.now (map instr_of (list_items c.new-list.result)) (input_of c.new-rest.result) (ap (λ (l : List Instr). map instr_of l) c.new-list.ensures) c.new-rest.ensures.value
 
 pub loop-turn-preserved : goal.loop-turn-preserved
 loop-turn-preserved c =
