@@ -1,9 +1,6 @@
 pub mod CodeItems
 pub mod Sections
-pub mod Bodies
 pub mod Empty
 pub mod FunctionTypes
 pub mod Names
-pub mod Over
 pub mod Places
-pub mod Views

@@ -9,18 +9,18 @@ ghost use Rattle.wasm_typing.specs.Typing;
 ghost use Rattle.wasm_typing.specs.Typing.{IsValid};
 ghost use Rattle.wasm_typing.specs.Validity;
 ghost use Rattle.wasm_typing.specs.Validity.{body_context, no_type};
-ghost use Rattle.wasm_validate.specs.Bodies.{IsRefusal, FineBodies, IsCodeFault};
+ghost use Rattle.wasm_bodies.specs.Bodies.{IsRefusal};
+ghost use Rattle.wasm_bodies.specs.Scopes.{outside};
+ghost use Rattle.wasm_validate.specs.Bodies.{FineBodies, IsCodeFault};
 ghost use Rattle.wasm_validate.specs.Facts.{FactsOf};
 ghost use Rattle.wasm_validate.specs.Bodies;
 ghost use Rattle.wasm_validate.specs.Scopes;
-ghost use Rattle.wasm_validate.specs.Scopes.{outside};
 ghost use Rattle.std.specs.Option.{option_map};
 
-use crate::body::check_body;
 use crate::facts::Facts;
-use crate::fault::{BodyFault, CodeFault};
-use crate::scope::{Scope, result_of};
+use crate::fault::CodeFault;
 use std::alloc::{AllocError, Global};
+use wasm_bodies::{BodyFault, Scope, check_body, result_of};
 use wasm_lang::ValType;
 use wasm_tree::{Body, FuncType, Module};
 

@@ -1,22 +1,15 @@
 //! Validation of WebAssembly modules (WebAssembly Core 1.0, part 3).
 #![tactic(auto)]
 
-mod blocks;
-mod body;
 mod code_section;
 mod exports;
 mod facts;
 mod fault;
-mod frame;
-mod frames;
 mod imports;
-mod instructions;
 mod items;
 mod module;
-mod operands;
 mod rules;
 mod running;
-mod scope;
 mod valid;
 
 pub use fault::Invalid;
