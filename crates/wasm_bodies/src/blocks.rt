@@ -1,7 +1,8 @@
 // The open blocks of a pass over a body.
 
-ghost use Rattle.std.specs.Prelude.{◌≡◌, ◌≤◌, ◌-◌, ◌∷◌, [], List, length, map, take, reverse, slice_get, MatchOption, MatchResult, IfOk};
+ghost use Rattle.std.specs.Prelude.{◌≡◌, ◌≤◌, ◌<◌, ◌^◌, ◌-◌, ◌∷◌, [], List, length, map, take, reverse, slice_get, MatchOption, MatchResult, IfOk};
 ghost use Rattle.wasm_typing.specs.State.{Level, label_of, on_top, opened, turned, ended, step, at_start};
+ghost use Rattle.wasm_typing.specs.Measures.{standing};
 ghost use Rattle.wasm_typing.specs.Typing;
 ghost use Rattle.wasm_typing.specs.Typing.{all_labels, alike, listed, Fixed, Leaves, AnyOne, TwoAlike};
 ghost use Rattle.wasm_lang.specs.declared.types.ValType.TheVariants.{I32};
@@ -150,6 +151,19 @@ impl Blocks {
         may_end(top.opening, top.result)?;
         remove(&mut self.frames);
         push_result(&mut self.operands, top.result)
+    }
+
+    /// How many operands stand in all open blocks.
+    pub fn standing(&self) -> usize
+        ensures value { result ≡ standing self.now }
+        ensures fits { result < 2 ^ 63 }
+    {
+        let open = self.frames.len();
+        if open > 0 {
+            self.operands.len() - self.frames[0].height
+        } else {
+            0
+        }
     }
 
     /// What a branch to this label carries, where there is such a label.

@@ -4,6 +4,7 @@
 
 mod blocks;
 mod body;
+mod counts;
 mod fault;
 mod frame;
 mod frames;
@@ -12,5 +13,6 @@ mod operands;
 mod scope;
 
 pub use body::check_body;
+pub use counts::{has_mul_div, larger, levels_of};
 pub use fault::{BodyFault, Fault};
 pub use scope::{Scope, result_of};
