@@ -1,4 +1,6 @@
 pub mod Bodies
+pub mod Calls
+pub mod Forms
 pub mod Levels
 pub mod Over
 pub mod Standing

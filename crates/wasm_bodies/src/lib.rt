@@ -4,6 +4,7 @@
 
 mod blocks;
 mod body;
+mod called;
 mod counts;
 mod fault;
 mod frame;
@@ -13,6 +14,7 @@ mod operands;
 mod scope;
 
 pub use body::check_body;
+pub use called::Called;
 pub use counts::{has_mul_div, larger, levels_of};
 pub use fault::{BodyFault, Fault};
 pub use scope::{Scope, result_of};
