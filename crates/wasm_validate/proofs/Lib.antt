@@ -2,5 +2,6 @@ pub mod CodeItems
 pub mod Sections
 pub mod Empty
 pub mod FunctionTypes
+pub mod ImportNames
 pub mod Names
 pub mod Places

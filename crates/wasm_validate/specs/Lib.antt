@@ -3,3 +3,5 @@ pub mod Scopes
 pub mod Facts
 pub mod Sections
 pub mod Refusals
+pub mod Mixed
+pub mod Counted

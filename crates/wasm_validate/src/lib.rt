@@ -2,17 +2,21 @@
 #![tactic(auto)]
 
 mod code_section;
+mod counts;
 mod exports;
 mod facts;
 mod fault;
 mod imports;
 mod items;
+mod measures;
+mod mixed;
 mod module;
 mod rules;
 mod running;
 mod valid;
 
 pub use fault::Invalid;
+pub use measures::Measures;
 pub use module::{Valid, validate};
 pub use running::runnable;
 pub use wasm_typing::{Beyond, Outside, Rule, Section};
