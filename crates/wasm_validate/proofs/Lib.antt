@@ -1,4 +1,5 @@
 pub mod CodeItems
+pub mod Counting
 pub mod Sections
 pub mod Empty
 pub mod FunctionTypes

@@ -1,10 +1,11 @@
 // The items of the code section.
 
-ghost use Rattle.std.specs.Prelude.{◌≡◌, ◌<◌, ◌^◌, ◌++◌, length, All, IfOk, MatchOption, MatchResult};
+ghost use Rattle.std.specs.Prelude.{◌≡◌, ◌<◌, ◌^◌, ◌++◌, length, map, All, IfOk, MatchOption, MatchResult};
 ghost use Rattle.sem_words.specs.Lists.{list_items};
 ghost use Rattle.wasm_lang.specs.Instructions.{IsExpression};
 ghost use Rattle.wasm_lang.specs.Modules.{FunctionBody};
-ghost use Rattle.wasm_tree.specs.Views.{body_of, module_of, type_of};
+ghost use Rattle.wasm_tree.specs.Views.{body_of, instr_of, module_of, type_of};
+ghost use Rattle.wasm_typing.specs.Measures.{body_slots};
 ghost use Rattle.wasm_typing.specs.ModuleRules.{imported_functions};
 ghost use Rattle.wasm_typing.specs.Typing;
 ghost use Rattle.wasm_typing.specs.Typing.{IsValid};
@@ -25,7 +26,7 @@ use crate::fault::CodeFault;
 use std::alloc::{AllocError, Global};
 use wasm_bodies::{BodyFault, Scope, check_body, result_of};
 use wasm_lang::ValType;
-use wasm_tree::{Body, FuncType, Module};
+use wasm_tree::{Body, FuncType, Instr, Module};
 
 /// Finds the first body that isn't valid, or counts of all bodies.
 pub fn check_bodies(
@@ -81,18 +82,36 @@ fn check_code(
         Ok(code) => code,
         Err(_) => return Err(BodyFault::Memory),
     };
+    let slots = check_slots(alloc, module, facts, i, body, code.as_slice())?;
+    let function = imported_count(module, facts) + i;
+    match counts.add(alloc, module.types.as_slice(), function, slots, code.as_slice()) {
+        Ok(()) => Ok(()),
+        Err(_) => Err(BodyFault::Memory),
+    }
+}
+
+// The slots of one body, of this code, where it is valid.
+fn check_slots(
+    alloc: Global,
+    module: &Module<'_>,
+    facts: &Facts,
+    i: usize,
+    body: &Body<'_>,
+    code: &[Instr],
+) -> Result<usize, BodyFault>
+    requires facts_of { FactsOf facts.now (module_of «module».now) }
+    requires expression { IsExpression (body_of body.now).code }
+    requires code { map instr_of code.now ≡ (body_of body.now).code }
+    ensures slots { IfOk result (λ n. n ≡ body_slots (module_of «module».now) i (body_of body.now)) }
+    ensures exactly { MatchResult result (λ _. IsValid (body_context (module_of «module».now) i (body_of body.now)) (body_of body.now).code) (λ e. IsRefusal (body_context (module_of «module».now) i (body_of body.now)) (body_of body.now).code e) }
+{
     let locals = match locals_of(alloc, own_type(module, i), body.locals.as_slice()) {
         Ok(locals) => locals,
         Err(_) => return Err(BodyFault::Memory),
     };
     let scope = scope_of(module, facts, own_type(module, i), &locals);
-    let peak = check_body(alloc, &scope, code.as_slice())?;
-    let types = module.types.as_slice();
-    let function = imported_count(module, facts) + i;
-    match counts.add(alloc, types, function, locals.len() + peak, code.as_slice()) {
-        Ok(()) => Ok(()),
-        Err(_) => Err(BodyFault::Memory),
-    }
+    let peak = check_body(alloc, &scope, code)?;
+    Ok(locals.len() + peak)
 }
 
 // How many functions are imported.
