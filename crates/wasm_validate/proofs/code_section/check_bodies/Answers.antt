@@ -1,11 +1,19 @@
-use Rattle.std.proofs.Common.{◌≡◌, map, Some, subst}
+use Rattle.std.proofs.Common.{◌≡◌, map, Some, subst, arith}
 use Rattle.std.specs.Prelude.{slice_get}
 use Rattle.wasm_lang.specs.Instructions.{IsExpression}
 use Rattle.wasm_tree.specs.Views.{body_of, module_of}
 use Rattle.wasm_validate.proofs.CodeItems.{all_at, body_fine, body_fault}
-use Rattle.wasm_validate.proofs.Counting.{one_counted}
+use Rattle.wasm_validate.proofs.Counting.{none_counted, one_counted}
 use Rattle.wasm_validate.proofs.Sections.{item_at}
 use Rattle.wasm_validate.proofs.code_section.check_bodies.Goals as goal
+
+pub loop-i-init : goal.loop-i-init
+loop-i-init c =
+    let e = c.new-counts.ensures in
+    record {
+      fine = λ i h. absurd (omega (arith, h));
+      counts = none_counted (module_of c.args.«module».now) c.new-counts.result e.levels e.slots e.mul_div e.called;
+    }
 
 pub check_code-requires-clause-expression : goal.check_code-requires-clause-expression
 check_code-requires-clause-expression c =
