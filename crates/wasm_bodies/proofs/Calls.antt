@@ -1,5 +1,5 @@
 -- The types that calls named, one more at a time.
-use Rattle.std.proofs.Common.{◌≡◌, ◌⊎◌, inl, inr, ℕ, ◌+◌, ◌<◌, Bool, true, false, not, cond, ◌||◌, nat_eq, List, [], ◌∷◌, ◌++◌, length, get_or, map, take, Option, Some, None, refl, sym, ap, ◌∙◌, subst, arith, append_assoc, append-nil}
+use Rattle.std.proofs.Common.{◌≡◌, inl, inr, ℕ, ◌+◌, ◌<◌, Bool, true, false, not, cond, ◌||◌, nat_eq, List, [], ◌∷◌, ◌++◌, length, get_or, map, take, Some, None, refl, sym, ap, ◌∙◌, subst, arith, append_assoc, append-nil}
 use Rattle.std.specs.Global.{Vec}
 use Rattle.std.specs.List.{list_any}
 use Rattle.std.specs.Prelude.{slice_get, Result, Ok, Err, IfOk, if◌then◌else◌}
@@ -12,7 +12,7 @@ use Rattle.wasm_lang.specs.Modules.{FunctionType}
 use Rattle.wasm_tree.specs.declared.instr.Instr.{Instr}
 use Rattle.wasm_tree.specs.Views.{instr_of}
 use Rattle.wasm_typing.proofs.Main.{one_longer}
-use Rattle.wasm_typing.specs.Measures.{called, called_in, same_type, is_among, distinct}
+use Rattle.wasm_typing.specs.Measures.{called, called_in, is_among, distinct}
 use Rattle.wasm_bodies.specs.declared.called.Called.{Called}
 use Rattle.wasm_bodies.specs.Calls.{form, holds, IsNoted, known, fresh, IsCalled}
 use Rattle.wasm_bodies.proofs.Forms.{form_same, bool, or_false, among_more, among_same, distinct_more, among_self, among_still}
@@ -60,9 +60,10 @@ module _ (types before : List FunctionType) (n : ℕ) (t : FunctionType) (stands
       (λ u. are.0 u ∙ sym (among_same u t before there), are.1 ∙ sym (distinct_more before t ∙ ap (λ b. cond b (distinct before) (distinct before + 1)) there))
 
   new_form : (keys : List (Vec ℕ)) (k : Vec ℕ) → k.items ≡ form t → is_among t before ≡ false → AreForms keys before → AreForms (keys ++ k ∷ []) (before ++ t ∷ [])
-  new_form keys k is not_there are =
-      (λ u. list_any-append (λ x. pointwise nat_eq (form u) x.items) keys (k ∷ []) ∙ ap (λ b. b || (pointwise nat_eq (form u) k.items || false)) (are.0 u) ∙ ap (λ b. is_among u before || b) (or_false _ ∙ ap (pointwise nat_eq (form u)) is ∙ form_same u t) ∙ sym (among_more u t before),
-      length-append keys (k ∷ []) ∙ ap (λ n. n + 1) are.1 ∙ sym (distinct_more before t ∙ ap (λ b. cond b (distinct before) (distinct before + 1)) not_there))
+  new_form keys k is not_there are = (
+    λ u. list_any-append (λ x. pointwise nat_eq (form u) x.items) keys (k ∷ []) ∙ ap (λ b. b || (pointwise nat_eq (form u) k.items || false)) (are.0 u) ∙ ap (λ b. is_among u before || b) (or_false _ ∙ ap (pointwise nat_eq (form u)) is ∙ form_same u t) ∙ sym (among_more u t before),
+    length-append keys (k ∷ []) ∙ ap (λ n. n + 1) are.1 ∙ sym (distinct_more before t ∙ ap (λ b. cond b (distinct before) (distinct before + 1)) not_there),
+  )
 
   noted_forms : (keys new : List (Vec ℕ)) → IsNoted (form t) keys new → AreForms keys before → AreForms new (before ++ t ∷ [])
   noted_forms keys _ (known h) are = same_forms keys (sym (are.0 t) ∙ h) are

@@ -1,5 +1,5 @@
 -- The levels of a body, instruction by instruction.
-use Rattle.std.proofs.Common.{◌≡◌, ℕ, ◌+◌, ◌-◌, ◌≤◌, max, List, [], ◌∷◌, refl, sym, ap, ◌∙◌, arith}
+use Rattle.std.proofs.Common.{◌≡◌, ℕ, ◌+◌, ◌≤◌, max, List, [], ◌∷◌, refl, arith}
 use Rattle.wasm_lang.specs.Instructions.{Instruction, block, loop, if_block, end_mark}
 use Rattle.wasm_lang.specs.Limits.{levels_from}
 use Rattle.wasm_bodies.specs.Counts.{depth_after}

@@ -1,9 +1,9 @@
 -- How many operands stand in all open blocks.
-use Rattle.std.proofs.Common.{◌≡◌, ℕ, zero, suc, ◌+◌, ◌-◌, ◌<◌, ◌≤◌, List, [], ◌∷◌, length, get_or, take, drop, refl, sym, ap, ◌∙◌, subst, arith, length-drop, length-take}
+use Rattle.std.proofs.Common.{◌≡◌, ℕ, suc, ◌+◌, ◌-◌, ◌<◌, List, [], ◌∷◌, length, get_or, take, drop, sym, ap, ◌∙◌, subst, arith, length-drop, length-take}
 use Rattle.std.specs.Prelude.{reverse}
 use Rattle.std.proofs.lemmas.List.{get_or-reverse, length-reverse}
 use Rattle.wasm_typing.specs.Measures.{standing}
-use Rattle.wasm_typing.specs.State.{Operand, Level}
+use Rattle.wasm_typing.specs.State.{Operand}
 use Rattle.wasm_bodies.specs.declared.frame.Frame.{Frame}
 use Rattle.wasm_bodies.specs.Blocks.{over, levels, Rise}
 

@@ -61,12 +61,7 @@ impl Called {
     }
 
     // A type of this number.
-    fn note_type(
-        &mut self,
-        alloc: Global,
-        number: u32,
-        called: &FuncType,
-    ) -> Result<(), AllocError>
+    fn note_type(&mut self, alloc: Global, number: u32, called: &FuncType) -> Result<(), AllocError>
         ensures { IfOk result (λ _. (types before : List FunctionType) → slice_get types number ≡ Some (type_of called.now) → IsCalled self.old types before → IsCalled self.new types (before ++ type_of called.now ∷ [])) }
     {
         match self.numbers.insert(number) {

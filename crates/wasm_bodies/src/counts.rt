@@ -29,13 +29,7 @@ fn depth_after(depth: usize, instr: &Instr) -> usize
 {
     match instr {
         Instr::Block(_) | Instr::Loop(_) | Instr::If(_) => depth + 1,
-        Instr::End => {
-            if depth == 0 {
-                0
-            } else {
-                depth - 1
-            }
-        }
+        Instr::End => { if depth == 0 { 0 } else { depth - 1 } }
         _ => depth,
     }
 }

@@ -1,5 +1,5 @@
 -- A module whose bodies are expressions is valid or refused.
-use Rattle.std.proofs.Common.{◌≡◌, ◌⊎◌, inl, inr, ℕ, zero, suc, ◌+◌, ◌<◌, ◌≤◌, List, [], ◌∷◌, length, get_or, take, drop, Option, Some, None, All, refl, sym, ap, ◌∙◌, subst, arith, add-one}
+use Rattle.std.proofs.Common.{◌≡◌, ◌⊎◌, inl, inr, ℕ, zero, suc, ◌+◌, ◌<◌, List, length, get_or, take, Option, Some, None, All, refl, sym, subst, arith}
 use Rattle.std.specs.Prelude.{slice_get, Result, Ok, Err}
 use Rattle.std.proofs.lemmas.Option.{slice_get-get_or, slice_get_within, get_or_from_slice_get}
 use Rattle.std.proofs.lemmas.List.Elements.{All-get_or}
@@ -12,7 +12,7 @@ use Rattle.wasm_typing.specs.declared.section.Section.TheVariants.{Types, Import
 use Rattle.wasm_typing.specs.Typing.{Context, IsValid}
 use Rattle.wasm_typing.specs.State.{Level, step, steps, at_start}
 use Rattle.wasm_typing.specs.Refusal.{Refuses}
-use Rattle.wasm_typing.specs.Validity.{id, items, body_context, IsFine, BreaksAt, IsFineSection, IsValidBody, BodyRefuses, IsValidModule, RefusesModule, IsRefused}
+use Rattle.wasm_typing.specs.Validity.{id, items, body_context, IsFine, BreaksAt, IsFineSection, IsValidBody, BodyRefuses, IsValidModule, IsRefused}
 use Rattle.wasm_typing.proofs.Main.{valid, refuses, goes_on}
 use Rattle.wasm_typing.proofs.Once.{same_id}
 
@@ -90,7 +90,6 @@ module _ (m : WasmModule) (expressions : All (λ b. IsExpression b.code) m.bodie
 
   abbrev FineBefore : ℕ → Type 0
   FineBefore n = (s : Section) → id s < n → IsFineSection m s
-
 
   -- all sections before this one are fine: this one, or a fault
   section_judged : (s : Section) → FineBefore (id s) → FineBefore (suc (id s)) ⊎ IsRefused m

@@ -1,5 +1,5 @@
 -- The rule of an item is, of those that it breaks, the one of the least number.
-use Rattle.std.proofs.Common.{◌≡◌, ◌⊎◌, inl, inr, ℕ, zero, suc, ◌+◌, ◌-◌, ◌<◌, ◌≤◌, Bool, true, false, not, ◌&&◌, ◌||◌, List, [], ◌∷◌, length, take, drop, Option, Some, None, refl, sym, ap, ◌∙◌, subst, arith}
+use Rattle.std.proofs.Common.{◌≡◌, inl, inr, ℕ, zero, suc, ◌+◌, ◌-◌, ◌<◌, ◌≤◌, Bool, true, false, not, ◌&&◌, ◌||◌, List, [], ◌∷◌, length, take, drop, Option, Some, None, refl, sym, ap, ◌∙◌, subst, arith}
 use Rattle.std.specs.Prelude.{slice_get, nat_lt, nat_le}
 use Rattle.std.specs.List.{list_any}
 use Rattle.std.proofs.lemmas.Bool.{cases_order}
@@ -18,7 +18,7 @@ use Rattle.wasm_typing.specs.declared.section.Section.{Section}
 use Rattle.wasm_typing.specs.declared.section.Section.TheVariants as sections
 use Rattle.wasm_typing.specs.Rules.{number}
 use Rattle.wasm_typing.specs.ModuleRules.{meets, is_type, is_function, is_global, is_table_number, is_memory_number, is_ordered, has_pages, imports_table, imports_memory, is_end, is_named, is_start, type_of_function, are_functions, type_rule, table_rule, memory_rule, import_rule, value_rule, init_rule, exported_rule, export_rule, start_rule, element_rule, segment_rule, at, item_rule}
-use Rattle.wasm_typing.specs.Broken.{type_breaks, number_breaks, table_breaks, memory_breaks, import_breaks, gets_none, gives, is_one, init_breaks, names_none, exported_breaks, export_breaks, start_breaks, element_breaks, segment_breaks, breaks_at, item_breaks}
+use Rattle.wasm_typing.specs.Broken.{type_breaks, number_breaks, table_breaks, memory_breaks, import_breaks, gets_none, gives, is_one, init_breaks, exported_breaks, export_breaks, start_breaks, element_breaks, segment_breaks, breaks_at, item_breaks}
 use Rattle.wasm_typing.proofs.Once.{rules, numbered, same_number}
 
 -- no rule of a number from the first up to the second is broken

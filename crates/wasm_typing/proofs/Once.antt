@@ -1,5 +1,5 @@
 -- A module that is refused is refused by one rule at one place, and a valid one isn't refused.
-use Rattle.std.proofs.Common.{◌≡◌, ◌⊎◌, inl, inr, ℕ, zero, suc, ◌+◌, ◌-◌, ◌<◌, ◌≤◌, List, [], ◌∷◌, ◌++◌, get_or, take, drop, Option, Some, None, refl, sym, ap, ◌∙◌, subst, arith}
+use Rattle.std.proofs.Common.{◌≡◌, inl, inr, ℕ, zero, suc, ◌+◌, ◌-◌, ◌<◌, ◌≤◌, List, [], ◌∷◌, ◌++◌, get_or, take, drop, Option, Some, None, refl, sym, ap, ◌∙◌, subst, arith}
 use Rattle.std.specs.Prelude.{slice_get}
 use Rattle.std.proofs.lemmas.List.{take-append-drop}
 use Rattle.std.proofs.lemmas.Bool.{cases_order}
@@ -8,7 +8,6 @@ use Rattle.wasm_lang.specs.Modules.{FunctionBody, WasmModule}
 use Rattle.wasm_typing.specs.declared.rule.Rule.{Rule}
 use Rattle.wasm_typing.specs.declared.rule.Rule.TheVariants.{Nesting, NoType, NoFunction, NoTable, NoMemory, NoGlobal, NoLocal, NoLabel, OtherType, MissingOperand, OperandsLeft, Alignment, ConstantGlobal, Initializer, Size, SecondMemory, SecondTable, RepeatedName, StartType, LabelsDiffer, IfWithoutElse, TwoResults}
 use Rattle.wasm_typing.specs.declared.section.Section.{Section}
-use Rattle.wasm_typing.specs.declared.section.Section.TheVariants as sections
 use Rattle.wasm_typing.specs.declared.section.Section.TheVariants.{Types, Imports, Functions, Tables, Memories, Globals, Exports, Start, Elements, Code, Data}
 use Rattle.wasm_typing.specs.Typing.{Context, IsValid}
 use Rattle.wasm_typing.specs.Rules.{number, IsRule}

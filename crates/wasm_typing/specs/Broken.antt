@@ -1,5 +1,5 @@
 -- Which rules an item of a module breaks, each rule by itself. `item_rule` of `ModuleRules` is the one of the least number.
-use Rattle.std.specs.Prelude.{ℕ, Bool, true, false, not, ◌&&◌, ◌||◌, nat_lt, nat_le, List, [], ◌∷◌, length, take, Option, Some, None, slice_get}
+use Rattle.std.specs.Prelude.{ℕ, Bool, false, not, ◌&&◌, ◌||◌, nat_lt, nat_le, List, [], ◌∷◌, length, take, Option, Some, None, slice_get}
 use Rattle.wasm_lang.specs.declared.types.ValType.{ValType}
 use Rattle.wasm_lang.specs.declared.types.ValType.TheVariants.{I32, I64}
 use Rattle.wasm_lang.specs.declared.types.Limits.{Limits}

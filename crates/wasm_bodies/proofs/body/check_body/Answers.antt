@@ -1,6 +1,6 @@
 use Rattle.std.proofs.Common.{◌+◌, max, drop, map, sym, ap, ◌∙◌, arith}
 use Rattle.wasm_tree.specs.Views.{instr_of}
-use Rattle.wasm_typing.specs.Measures.{standing, peak}
+use Rattle.wasm_typing.specs.Measures.{peak}
 use Rattle.wasm_typing.specs.State.{step}
 use Rattle.wasm_bodies.specs.Scopes.{outside}
 use Rattle.wasm_bodies.proofs.Bodies.{instr_at, instrs_from, peak_on, is_refusal}

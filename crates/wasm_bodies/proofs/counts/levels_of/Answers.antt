@@ -1,4 +1,4 @@
-use Rattle.std.proofs.Common.{◌≡◌, ◌≤◌, ◌+◌, max, map, drop, sym, ap, ◌∙◌, arith}
+use Rattle.std.proofs.Common.{◌+◌, max, map, drop, sym, ap, ◌∙◌, arith}
 use Rattle.wasm_lang.specs.Limits.{levels_from}
 use Rattle.wasm_tree.specs.Views.{instr_of}
 use Rattle.wasm_bodies.specs.Counts.{depth_after}

@@ -1,7 +1,5 @@
 use Rattle.std.proofs.Common.{◌≡◌, ◌<◌, ◌+◌, length, subst, arith}
-use Rattle.std.specs.Prelude.{reverse}
 use Rattle.wasm_typing.specs.Measures.{standing}
-use Rattle.wasm_bodies.specs.Blocks.{levels}
 use Rattle.wasm_bodies.proofs.Standing.{standing_is}
 use Rattle.wasm_bodies.proofs.blocks.Blocks.standing.Goals as goal
 
