@@ -1,9 +1,12 @@
 pub mod Examples
 pub mod Functions
+pub mod Judged
+pub mod Least
 pub mod Main
 pub mod Named
 pub mod Needs
 pub mod Nests
+pub mod Once
 pub mod Ranks
 pub mod Reached
 pub mod Rest

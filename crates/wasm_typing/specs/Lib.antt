@@ -3,6 +3,7 @@ pub mod Rules
 pub mod Refusal
 pub mod State
 pub mod ModuleRules
+pub mod Broken
 pub mod Validity
 pub mod Runnable
 pub mod Measures

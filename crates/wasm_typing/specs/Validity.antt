@@ -99,3 +99,11 @@ pub record RefusesModule (m : WasmModule) (rule : Rule) (section : Section) (ind
   pub within : index < items m section
   pub items : (i : ℕ) → i < index → IsFine m section i
   pub here : BreaksAt m section index rule instruction
+
+-- it breaks some rule first
+pub record IsRefused (m : WasmModule) : Type 0 where
+  pub rule : Rule
+  pub section : Section
+  pub index : ℕ
+  pub instruction : ℕ
+  pub refuses : RefusesModule m rule section index instruction

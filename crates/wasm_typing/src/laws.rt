@@ -1,11 +1,14 @@
 //! Laws of the definitions, as contracts of functions that do nothing.
-ghost use Rattle.std.specs.Prelude.{◌≡◌, ◌≤◌, ◌<◌, ◌+◌, ℕ, List, [], Ok, Err, Some, length, take, slice_get};
+ghost use Rattle.std.specs.Prelude.{◌≡◌, ◌⊎◌, ◌≤◌, ◌<◌, ◌+◌, ℕ, List, [], All, Ok, Err, Some, None, true, false, length, take, slice_get};
 ghost use Rattle.wasm_lang.specs.Instructions.{Instruction, IsExpression};
 ghost use Rattle.wasm_typing.specs.declared.rule.Rule.{Rule};
+ghost use Rattle.wasm_typing.specs.declared.section.Section.{Section};
 ghost use Rattle.wasm_lang.specs.Modules.{FunctionType, WasmModule};
-ghost use Rattle.wasm_typing.specs.ModuleRules.{function_types, type_of_function};
+ghost use Rattle.wasm_typing.specs.ModuleRules.{function_types, type_of_function, item_rule};
+ghost use Rattle.wasm_typing.specs.Broken.{item_breaks};
+ghost use Rattle.wasm_typing.specs.Rules.{number};
 ghost use Rattle.wasm_typing.specs.Refusal.{Refuses};
-ghost use Rattle.wasm_typing.specs.Validity.{IsValidModule};
+ghost use Rattle.wasm_typing.specs.Validity.{IsValidModule, RefusesModule, IsRefused};
 ghost use Rattle.wasm_typing.specs.State.{Level, step, steps, at_start};
 ghost use Rattle.wasm_typing.specs.Typing.{Context, IsValid};
 
@@ -20,4 +23,18 @@ pub fn body_laws()
 /// Each function of a valid module has a type.
 pub fn module_laws()
     ensures { (m : WasmModule) (f : ℕ) → IsValidModule m → f < length (function_types m) → (t : FunctionType) × (type_of_function m f ≡ Some t) }
+{}
+
+/// A module whose bodies are expressions is either valid or refused, and not both, and a refusal is one rule at one place.
+pub fn refusal_laws()
+    ensures some { (m : WasmModule) → All (λ b. IsExpression b.code) m.bodies → IsValidModule m ⊎ IsRefused m }
+    ensures not_both { (m : WasmModule) (rule : Rule) (section : Section) (index instruction : ℕ) → IsValidModule m → RefusesModule m rule section index instruction → ⊥ }
+    ensures one { (m : WasmModule) (rule other : Rule) (section section2 : Section) (index index2 instruction instruction2 : ℕ) → RefusesModule m rule section index instruction → RefusesModule m other section2 index2 instruction2 → (rule ≡ other) × (section ≡ section2) × (index ≡ index2) × (instruction ≡ instruction2) }
+{}
+
+/// The rule of an item is, of the rules that it breaks, the one of the least number.
+pub fn item_laws()
+    ensures breaks { (m : WasmModule) (section : Section) (index : ℕ) (rule : Rule) → item_rule m section index ≡ Some rule → item_breaks m section index rule ≡ true }
+    ensures least { (m : WasmModule) (section : Section) (index : ℕ) (rule lower : Rule) → item_rule m section index ≡ Some rule → number lower < number rule → item_breaks m section index lower ≡ false }
+    ensures fine { (m : WasmModule) (section : Section) (index : ℕ) (rule : Rule) → item_rule m section index ≡ None → item_breaks m section index rule ≡ false }
 {}

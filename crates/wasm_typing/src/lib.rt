@@ -10,7 +10,7 @@ mod profile;
 mod rule;
 mod section;
 
-pub use laws::{body_laws, module_laws};
+pub use laws::{body_laws, item_laws, module_laws, refusal_laws};
 pub use profile::{Beyond, Outside};
 pub use rule::{Opening, Rule};
 pub use section::Section;

@@ -7,9 +7,10 @@ use Rattle.wasm_lang.specs.Modules.{FunctionBody, WasmModule}
 use Rattle.wasm_typing.specs.Typing.{IsValid}
 use Rattle.wasm_typing.specs.declared.section.Section.TheVariants as sections
 use Rattle.wasm_typing.specs.Validity.{body_context, IsFine, IsValidBody, BodyRefuses}
-use Rattle.wasm_validate.specs.declared.fault.BodyFault.{BodyFault}
-use Rattle.wasm_validate.specs.declared.fault.BodyFault.TheVariants.{Broken, Memory}
-use Rattle.wasm_validate.specs.Bodies.{IsRefusal, FineBodies, IsCodeFault, at_body}
+use Rattle.wasm_bodies.specs.declared.fault.BodyFault.{BodyFault}
+use Rattle.wasm_bodies.specs.declared.fault.BodyFault.TheVariants.{Broken, Memory}
+use Rattle.wasm_bodies.specs.Bodies.{IsRefusal}
+use Rattle.wasm_validate.specs.Bodies.{FineBodies, IsCodeFault, at_body}
 
 pub all_at : {A : Type 0} (P : A → Type 0) (xs : List A) (i : ℕ) (x : A) → slice_get xs i ≡ Some x → All P xs → P x
 all_at P xs i x e all = subst P (get_or_from_slice_get xs i x x e) (All-get_or P xs i x (slice_get_within xs i x e) all)

@@ -1,9 +1,8 @@
 pub mod CodeItems
+pub mod Counting
 pub mod Sections
-pub mod Bodies
 pub mod Empty
 pub mod FunctionTypes
+pub mod ImportNames
 pub mod Names
-pub mod Over
 pub mod Places
-pub mod Views

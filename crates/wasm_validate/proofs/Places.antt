@@ -1,5 +1,5 @@
 -- Sections, and the places of their faults.
-use Rattle.std.proofs.Common.{◌≡◌, ◌⊎◌, inl, inr, ℕ, zero, suc, ◌<◌, ◌+◌, ◌-◌, true, List, [], ◌∷◌, get_or, refl, sym, ap, ◌∙◌, subst, arith}
+use Rattle.std.proofs.Common.{◌≡◌, ◌⊎◌, inl, inr, ℕ, zero, suc, ◌<◌, ◌+◌, ◌-◌, true, List, [], ◌∷◌, length, get_or, refl, sym, ap, ◌∙◌, subst, arith}
 use Rattle.wasm_lang.specs.Modules.{WasmModule}
 use Rattle.wasm_typing.specs.declared.section.Section.{Section}
 use Rattle.wasm_typing.specs.declared.section.Section.TheVariants.{Types, Imports, Functions, Tables, Memories, Globals, Exports, Start, Elements, Code, Data}
@@ -9,7 +9,10 @@ use Rattle.wasm_validate.specs.declared.fault.ItemFault.TheVariants.{Broken, Mem
 use Rattle.wasm_validate.specs.declared.fault.Invalid.{Invalid}
 use Rattle.wasm_validate.specs.declared.fault.Invalid.TheVariants as invalid
 use Rattle.wasm_validate.specs.Sections.{is_separate, FineItems, IsItemFault}
-use Rattle.wasm_validate.specs.Refusals.{in_section, IsSectionFault, IsInvalid}
+use Rattle.wasm_validate.specs.declared.fault.CodeFault.{CodeFault}
+use Rattle.wasm_validate.specs.declared.fault.CodeFault.TheVariants as codes
+use Rattle.wasm_validate.specs.Bodies.{FineBodies, IsCodeFault}
+use Rattle.wasm_validate.specs.Refusals.{in_section, in_code, IsSectionFault, IsInvalid}
 
 -- a section whose items are looked at one at a time
 pub fine_section : (m : WasmModule) (s : Section) → is_separate s ≡ true → FineItems m s (items m s) → IsFineSection m s
@@ -95,9 +98,6 @@ one_section m k s is before here t h = by (id t) refl
     by : (n : ℕ) → id t ≡ n → IsFineSection m t
     by n e = elim (split n (k + 1) (omega (arith, h, e))) [ inl lt ↦ before t (omega (arith, lt, e)) | inr eq ↦ subst (IsFineSection m) (id_same s t (omega (arith, is, e, eq))) here ]
 
-pub all_sections : (m : WasmModule) (k : ℕ) → 11 ≡ k → FineBefore m (k + 1) → IsValidModule m
-all_sections m k e before s = before s (omega (arith, at_most s, e))
-
 pub invalid_at : (m : WasmModule) (k : ℕ) (s : Section) (e : Invalid) → id s ≡ k + 1 → FineBefore m (k + 1) → IsSectionFault m s e → IsInvalid m e
 invalid_at m k s invalid.Memory is before f = tt
 invalid_at m k s (invalid.Rule rule section index instruction) is before f =
@@ -107,3 +107,23 @@ invalid_at m k s (invalid.Rule rule section index instruction) is before f =
       items = λ i h. subst (λ x. IsFine m x i) (sym f.0) (f.2 i h);
       here = subst (λ x. BreaksAt m x index rule instruction) (sym f.0) f.3;
     }
+
+-- after the sections before the code
+
+pub code_fault : (m : WasmModule) (k : ℕ) (e : CodeFault) → 9 ≡ k → FineBefore m (k + 1) → IsCodeFault m e → IsInvalid m (in_code e)
+code_fault m k codes.Memory is before f = tt
+code_fault m k (codes.Broken index rule instruction) is before f = record {
+  sections = λ s h. before s (omega (arith, h, is));
+  within = f.0;
+  items = f.1;
+  here = f.2;
+}
+
+before_data : (m : WasmModule) (k : ℕ) → 9 ≡ k → FineBefore m (k + 1) → FineBodies m (length m.bodies) → FineBefore m (10 + 1)
+before_data m k is before bodies = one_section m 9 Code refl (subst (λ n. FineBefore m (n + 1)) (sym is) before) bodies
+
+pub data_fault : (m : WasmModule) (k : ℕ) (e : Invalid) → 9 ≡ k → FineBefore m (k + 1) → FineBodies m (length m.bodies) → IsSectionFault m Data e → IsInvalid m e
+data_fault m k e is before bodies f = invalid_at m 10 Data e refl (before_data m k is before bodies) f
+
+pub all_sections : (m : WasmModule) (k : ℕ) → 9 ≡ k → FineBefore m (k + 1) → FineBodies m (length m.bodies) → IsFineSection m Data → IsValidModule m
+all_sections m k is before bodies fine s = one_section m 10 Data refl (before_data m k is before bodies) fine s (at_most s)

@@ -1,27 +1,12 @@
--- What a refusal of a body says.
-use Rattle.std.specs.Prelude.{ℕ, ◌<◌, List, length}
-use Rattle.wasm_lang.specs.Instructions.{Instruction}
+-- What a refusal of the code section says.
+use Rattle.std.specs.Prelude.{ℕ, ◌<◌, length}
 use Rattle.wasm_lang.specs.Modules.{WasmModule}
 use Rattle.wasm_typing.specs.declared.section.Section.TheVariants as sections
 use Rattle.wasm_typing.specs.Validity.{IsFine, BreaksAt}
-use Rattle.wasm_typing.specs.Typing.{Context}
+use Rattle.wasm_bodies.specs.declared.fault.BodyFault.{BodyFault}
+use Rattle.wasm_bodies.specs.declared.fault.BodyFault.TheVariants.{Broken, Memory}
 use Rattle.wasm_validate.specs.declared.fault.CodeFault.{CodeFault}
 use Rattle.wasm_validate.specs.declared.fault.CodeFault.TheVariants as codes
-use Rattle.wasm_typing.specs.Refusal.{Refuses}
-use Rattle.wasm_validate.specs.declared.fault.Fault.{Fault}
-use Rattle.wasm_validate.specs.declared.fault.Fault.TheVariants.{Broken as FaultBroken, Memory as FaultMemory}
-use Rattle.wasm_validate.specs.declared.fault.BodyFault.{BodyFault}
-use Rattle.wasm_validate.specs.declared.fault.BodyFault.TheVariants.{Broken, Memory}
-
--- want of memory, or a refusal of this place by this rule
-abbrev pub IsRefusal : Context → List Instruction → BodyFault → Type 0
-IsRefusal base code (Broken rule place) = Refuses base code place rule
-IsRefusal base code Memory = Unit {0}
-
--- a fault at this place
-abbrev pub refusal_of : Fault → ℕ → BodyFault
-refusal_of (FaultBroken rule) place = Broken rule place
-refusal_of FaultMemory place = Memory
 
 -- so many bodies are valid
 abbrev pub FineBodies : WasmModule → ℕ → Type 0

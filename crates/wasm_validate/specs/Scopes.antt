@@ -1,24 +1,9 @@
--- The context that a scope of the code stands for.
-use Rattle.std.specs.Prelude.{List, map, [], Option, Some, None}
+-- The context of a module's body.
+use Rattle.std.specs.Prelude.{List, [], Option, Some, None}
 use Rattle.wasm_lang.specs.declared.types.ValType.{ValType}
 use Rattle.wasm_lang.specs.Modules.{FunctionType, WasmModule}
 use Rattle.wasm_typing.specs.ModuleRules.{function_types, global_types, has_table, has_memory}
-use Rattle.wasm_tree.specs.Views as views
 use Rattle.wasm_typing.specs.Typing.{Context, result_of}
-use Rattle.wasm_validate.specs.declared.scope.Scope.{Scope}
-
--- the context outside a body's outermost block
-abbrev pub outside : Scope → Context
-outside s = record {
-  types = map views.type_of s.types.now;
-  functions = s.functions.now;
-  table = s.table;
-  memory = s.memory;
-  globals = s.globals.now;
-  locals = s.locals.now;
-  labels = [];
-  returns = s.result;
-}
 
 abbrev pub result_in : Option FunctionType → Option ValType
 result_in None = None

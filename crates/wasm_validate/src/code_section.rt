@@ -1,42 +1,52 @@
 // The items of the code section.
 
-ghost use Rattle.std.specs.Prelude.{◌≡◌, ◌++◌, length, All, IfOk, MatchOption, MatchResult};
+ghost use Rattle.std.specs.Prelude.{◌≡◌, ◌<◌, ◌^◌, ◌++◌, length, map, All, IfOk, MatchOption, MatchResult};
 ghost use Rattle.sem_words.specs.Lists.{list_items};
 ghost use Rattle.wasm_lang.specs.Instructions.{IsExpression};
 ghost use Rattle.wasm_lang.specs.Modules.{FunctionBody};
-ghost use Rattle.wasm_tree.specs.Views.{body_of, module_of, type_of};
+ghost use Rattle.wasm_tree.specs.Views.{body_of, instr_of, module_of, type_of};
+ghost use Rattle.wasm_typing.specs.Measures.{body_slots};
+ghost use Rattle.wasm_typing.specs.ModuleRules.{imported_functions};
 ghost use Rattle.wasm_typing.specs.Typing;
 ghost use Rattle.wasm_typing.specs.Typing.{IsValid};
 ghost use Rattle.wasm_typing.specs.Validity;
 ghost use Rattle.wasm_typing.specs.Validity.{body_context, no_type};
-ghost use Rattle.wasm_validate.specs.Bodies.{IsRefusal, FineBodies, IsCodeFault};
+ghost use Rattle.wasm_bodies.specs.Bodies.{IsRefusal};
+ghost use Rattle.wasm_bodies.specs.Scopes.{outside};
+ghost use Rattle.wasm_validate.specs.Bodies.{FineBodies, IsCodeFault};
+ghost use Rattle.wasm_validate.specs.Counted.{CountsOf, IsCounted};
 ghost use Rattle.wasm_validate.specs.Facts.{FactsOf};
 ghost use Rattle.wasm_validate.specs.Bodies;
 ghost use Rattle.wasm_validate.specs.Scopes;
-ghost use Rattle.wasm_validate.specs.Scopes.{outside};
 ghost use Rattle.std.specs.Option.{option_map};
 
-use crate::body::check_body;
+use crate::counts::Counts;
 use crate::facts::Facts;
-use crate::fault::{BodyFault, CodeFault};
-use crate::scope::{Scope, result_of};
+use crate::fault::CodeFault;
 use std::alloc::{AllocError, Global};
+use wasm_bodies::{BodyFault, Scope, check_body, result_of};
 use wasm_lang::ValType;
-use wasm_tree::{Body, FuncType, Module};
+use wasm_tree::{Body, FuncType, Instr, Module};
 
-/// Finds the first body that isn't valid.
-pub fn check_bodies(alloc: Global, module: &Module<'_>, facts: &Facts) -> Result<(), CodeFault>
+/// Finds the first body that isn't valid, or counts of all bodies.
+pub fn check_bodies(
+    alloc: Global,
+    module: &Module<'_>,
+    facts: &Facts,
+) -> Result<Counts, CodeFault>
     requires facts_of { FactsOf facts.now (module_of «module».now) }
     requires expressions { All (λ b. IsExpression b.code) (module_of «module».now).bodies }
-    ensures { MatchResult result (λ _. FineBodies (module_of «module».now) (length (module_of «module».now).bodies)) (IsCodeFault (module_of «module».now)) }
+    ensures exactly { MatchResult result (λ _. FineBodies (module_of «module».now) (length (module_of «module».now).bodies)) (IsCodeFault (module_of «module».now)) }
+    ensures counts { IfOk result (λ counts. CountsOf counts (module_of «module».now) (length (module_of «module».now).bodies)) }
 {
+    let mut counts = Counts::new(alloc);
     for (i, body) in module.bodies.as_slice().iter().enumerate() {
-        match check_code(alloc, module, facts, i, body) {
+        match check_code(alloc, module, facts, i, body, &mut counts) {
             Ok(()) => {}
             Err(fault) => return Err(at_body(fault, i)),
         }
     }
-    Ok(())
+    Ok(counts)
 }
 
 // The fault of the body at this place.
@@ -53,28 +63,64 @@ fn at_body(fault: BodyFault, index: usize) -> CodeFault
     }
 }
 
-// One body.
+// One body, which is counted where it is valid.
 fn check_code(
     alloc: Global,
     module: &Module<'_>,
     facts: &Facts,
     i: usize,
     body: &Body<'_>,
+    counts: &mut Counts,
 ) -> Result<(), BodyFault>
     requires facts_of { FactsOf facts.now (module_of «module».now) }
     requires expression { IsExpression (body_of body.now).code }
-    ensures { MatchResult result (λ _. IsValid (body_context (module_of «module».now) i (body_of body.now)) (body_of body.now).code) (λ e. IsRefusal (body_context (module_of «module».now) i (body_of body.now)) (body_of body.now).code e) }
+    requires place { i < 2 ^ 63 }
+    ensures counts { IfOk result (λ _. IsCounted counts.old counts.new (module_of «module».now) i (body_of body.now)) }
+    ensures exactly { MatchResult result (λ _. IsValid (body_context (module_of «module».now) i (body_of body.now)) (body_of body.now).code) (λ e. IsRefusal (body_context (module_of «module».now) i (body_of body.now)) (body_of body.now).code e) }
 {
     let code = match body.code.instrs(alloc) {
         Ok(code) => code,
         Err(_) => return Err(BodyFault::Memory),
     };
+    let slots = check_slots(alloc, module, facts, i, body, code.as_slice())?;
+    let function = imported_count(module, facts) + i;
+    match counts.add(alloc, module.types.as_slice(), function, slots, code.as_slice()) {
+        Ok(()) => Ok(()),
+        Err(_) => Err(BodyFault::Memory),
+    }
+}
+
+// The slots of one body, of this code, where it is valid.
+fn check_slots(
+    alloc: Global,
+    module: &Module<'_>,
+    facts: &Facts,
+    i: usize,
+    body: &Body<'_>,
+    code: &[Instr],
+) -> Result<usize, BodyFault>
+    requires facts_of { FactsOf facts.now (module_of «module».now) }
+    requires expression { IsExpression (body_of body.now).code }
+    requires code { map instr_of code.now ≡ (body_of body.now).code }
+    ensures slots { IfOk result (λ n. n ≡ body_slots (module_of «module».now) i (body_of body.now)) }
+    ensures exactly { MatchResult result (λ _. IsValid (body_context (module_of «module».now) i (body_of body.now)) (body_of body.now).code) (λ e. IsRefusal (body_context (module_of «module».now) i (body_of body.now)) (body_of body.now).code e) }
+{
     let locals = match locals_of(alloc, own_type(module, i), body.locals.as_slice()) {
         Ok(locals) => locals,
         Err(_) => return Err(BodyFault::Memory),
     };
     let scope = scope_of(module, facts, own_type(module, i), &locals);
-    check_body(alloc, &scope, code.as_slice())
+    let peak = check_body(alloc, &scope, code)?;
+    Ok(locals.len() + peak)
+}
+
+// How many functions are imported.
+fn imported_count(module: &Module<'_>, facts: &Facts) -> usize
+    requires { FactsOf facts.now (module_of «module».now) }
+    ensures value { result ≡ length (imported_functions (module_of «module».now).imports) }
+    ensures fits { result < 2 ^ 63 }
+{
+    facts.functions.len() - module.functions.len()
 }
 
 // The type of a function that the module defines, by its place among those.

@@ -1,21 +1,7 @@
-// Why a module, a section or a body is not taken.
+// Why a module or a section is not taken.
 
 use thiserror::Error;
 use wasm_typing::{Rule, Section};
-
-/// A rule that the instruction breaks, or want of memory.
-#[derive(Clone, Copy, Debug)]
-pub enum Fault {
-    Broken(Rule),
-    Memory,
-}
-
-/// Why a body isn't taken: the rule that an instruction breaks, or want of memory.
-#[derive(Clone, Copy, PartialEq, Eq, Debug)]
-pub enum BodyFault {
-    Broken { rule: Rule, instruction: usize },
-    Memory,
-}
 
 /// Why a section isn't taken: its first item that breaks a rule, or want of memory.
 #[derive(Clone, Copy, PartialEq, Eq, Debug)]

@@ -1,25 +1,22 @@
 //! Validation of WebAssembly modules (WebAssembly Core 1.0, part 3).
 #![tactic(auto)]
 
-mod blocks;
-mod body;
 mod code_section;
+mod counts;
 mod exports;
 mod facts;
 mod fault;
-mod frame;
-mod frames;
 mod imports;
-mod instructions;
 mod items;
+mod measures;
+mod mixed;
 mod module;
-mod operands;
 mod rules;
 mod running;
-mod scope;
 mod valid;
 
 pub use fault::Invalid;
+pub use measures::Measures;
 pub use module::{Valid, validate};
 pub use running::runnable;
 pub use wasm_typing::{Beyond, Outside, Rule, Section};

@@ -4,13 +4,16 @@ ghost use Rattle.std.specs.Prelude.{◌≡◌, ◌≤◌, [], length, Some, None
 ghost use Rattle.wasm_lang.specs.Modules.{WasmModule};
 ghost use Rattle.wasm_lang.specs.Shape.{IsShaped};
 ghost use Rattle.wasm_tree.specs.Views.{module_of, type_of};
+ghost use Rattle.wasm_typing.specs.Measures.{measures_of as spec_measures};
 ghost use Rattle.wasm_typing.specs.ModuleRules.{function_types, type_of_function};
 ghost use Rattle.wasm_typing.specs.Validity.{IsValidModule};
+ghost use Rattle.wasm_validate.specs.Counted.{said};
 ghost use Rattle.wasm_validate.specs.Facts.{FactsOf};
 ghost use Rattle.wasm_validate.specs.Refusals.{IsInvalid};
 
 use crate::facts::{Facts, facts_of};
 use crate::fault::Invalid;
+use crate::measures::{Measures, measures_of};
 use crate::valid::check_module;
 use std::alloc::Global;
 use std::marker::Model;
@@ -22,6 +25,7 @@ use wasm_typing::module_laws;
 pub struct Valid<'a> {
     module: Module<'a>,
     facts: Facts,
+    measures: Measures,
 }
 
 impl<'a> Model for Valid<'a> {
@@ -29,7 +33,7 @@ impl<'a> Model for Valid<'a> {
 
     ghost view = { λ v. module_of v.«module» };
 
-    ghost invariant = { λ v. IsValidModule (module_of v.«module») × FactsOf v.facts (module_of v.«module») };
+    ghost invariant = { λ v. IsValidModule (module_of v.«module») × FactsOf v.facts (module_of v.«module») × (said v.measures ≡ spec_measures (module_of v.«module»)) };
 }
 
 /// Validates a module, which has to be shaped as every module that was read is.
@@ -44,8 +48,15 @@ pub fn validate<'a>(alloc: Global, module: Module<'a>) -> Result<Valid<'a>, Inva
         Ok(facts) => facts,
         Err(_) => return Err(Invalid::Memory),
     };
-    check_module(alloc, &module, &facts)?;
-    Ok(Valid { module, facts })
+    let counts = check_module(alloc, &module, &facts)?;
+    match measures_of(alloc, &module, &counts) {
+        Ok(measures) => Ok(Valid {
+            module,
+            facts,
+            measures,
+        }),
+        Err(_) => Err(Invalid::Memory),
+    }
 }
 
 impl<'a> Valid<'a> {
@@ -63,6 +74,13 @@ impl<'a> Valid<'a> {
     {
         module_laws();
         self.numbered(function)
+    }
+
+    /// What is counted of the module. It takes no memory.
+    pub fn measures(&self) -> Measures
+        ensures { said result ≡ spec_measures self.now }
+    {
+        self.measures
     }
 
     // The type of a function, where its number and that of its type exist.

@@ -1,16 +1,18 @@
 // Validation of a module, section by section.
 
-ghost use Rattle.std.specs.Prelude.{◌≡◌, ◌+◌, ◌<◌, true, MatchResult};
+ghost use Rattle.std.specs.Prelude.{◌≡◌, ◌≢◌, ◌+◌, ◌<◌, true, length, IfOk, MatchResult};
 ghost use Rattle.wasm_lang.specs.Shape.{IsShaped};
 ghost use Rattle.wasm_tree.specs.Views.{module_of};
 ghost use Rattle.wasm_typing.specs.Validity;
 ghost use Rattle.wasm_typing.specs.Validity.{id, IsFineSection, IsValidModule};
+ghost use Rattle.wasm_validate.specs.Counted.{CountsOf};
 ghost use Rattle.wasm_validate.specs.Facts.{FactsOf};
 ghost use Rattle.wasm_validate.specs.Sections.{is_separate};
 ghost use Rattle.wasm_validate.specs.Refusals;
 ghost use Rattle.wasm_validate.specs.Refusals.{IsInvalid, IsSectionFault};
 
 use crate::code_section::check_bodies;
+use crate::counts::Counts;
 use crate::exports::check_exports;
 use crate::facts::Facts;
 use crate::fault::{CodeFault, Invalid, ItemFault};
@@ -20,21 +22,27 @@ use std::alloc::Global;
 use wasm_tree::Module;
 use wasm_typing::Section;
 
-/// Checks the sections in their order.
-pub fn check_module(alloc: Global, module: &Module<'_>, facts: &Facts) -> Result<(), Invalid>
+/// Checks the sections in their order, and counts of the bodies.
+pub fn check_module(alloc: Global, module: &Module<'_>, facts: &Facts) -> Result<Counts, Invalid>
     requires facts_of { FactsOf facts.now (module_of «module».now) }
     requires shaped { IsShaped (module_of «module».now) }
-    ensures { MatchResult result (λ _. IsValidModule (module_of «module».now)) (IsInvalid (module_of «module».now)) }
+    ensures exactly { MatchResult result (λ _. IsValidModule (module_of «module».now)) (IsInvalid (module_of «module».now)) }
+    ensures counts { IfOk result (λ counts. CountsOf counts (module_of «module».now) (length (module_of «module».now).bodies)) }
 {
-    for k in 0..11 {
+    for k in 0..9 {
         check_section(alloc, module, facts, section_at(k))?;
     }
-    Ok(())
+    let counts = match check_bodies(alloc, module, facts) {
+        Ok(counts) => counts,
+        Err(fault) => return Err(in_code(fault)),
+    };
+    check_section(alloc, module, facts, Section::Data)?;
+    Ok(counts)
 }
 
-// The section of the id that is one more.
+// The section of the id that is one more, of those before the code.
 fn section_at(k: usize) -> Section
-    requires { k < 11 }
+    requires { k < 9 }
     ensures { id result ≡ k + 1 }
 {
     match k {
@@ -46,13 +54,11 @@ fn section_at(k: usize) -> Section
         5 => Section::Globals,
         6 => Section::Exports,
         7 => Section::Start,
-        8 => Section::Elements,
-        9 => Section::Code,
-        _ => Section::Data,
+        _ => Section::Elements,
     }
 }
 
-// One section.
+// One section, which isn't that of the code.
 fn check_section(
     alloc: Global,
     module: &Module<'_>,
@@ -60,7 +66,7 @@ fn check_section(
     section: Section,
 ) -> Result<(), Invalid>
     requires facts_of { FactsOf facts.now (module_of «module».now) }
-    requires shaped { IsShaped (module_of «module».now) }
+    requires not_code { id section ≢ 10 }
     ensures { MatchResult result (λ _. IsFineSection (module_of «module».now) section) (IsSectionFault (module_of «module».now) section) }
 {
     match section {
@@ -79,10 +85,7 @@ fn check_section(
         },
         Section::Start => separate(module, facts, section, start_count(module)),
         Section::Elements => separate(module, facts, section, module.elements.len()),
-        Section::Code => match check_bodies(alloc, module, facts) {
-            Ok(()) => Ok(()),
-            Err(fault) => Err(in_code(fault)),
-        },
+        Section::Code => unreachable!(),
         Section::Data => separate(module, facts, section, module.segments.len()),
     }
 }
