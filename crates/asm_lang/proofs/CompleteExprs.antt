@@ -1,5 +1,5 @@
 -- What the grammar relates to an expression is read as that expression.
-use Rattle.std.proofs.Common.{ℕ, suc, ◌≡◌, ◌≤◌, ◌<◌, true, false, List, [], ◌∷◌, refl, sym, ap, ◌∙◌, arith, le-leb}
+use Rattle.std.proofs.Common.{ℕ, suc, ◌≡◌, ◌≤◌, ◌<◌, true, false, List, [], ◌∷◌, refl, ap, ◌∙◌, arith, le-leb}
 use Rattle.std.proofs.lemmas.Bool.{cond-true, cond-false}
 use Rattle.std.specs.Prelude.{◌==◌, nat_le, pos, neg_ℤ}
 use Rattle.sem_words.specs.declared.js_value.JsOp.{JsOp}
@@ -55,7 +55,7 @@ asks : {t : Lexeme} {ys zs : List Lexeme} (p : ℕ) (e : ExprTree) (k : ExprTree
 asks {zs = zs} p e k i le = on_class (after_expr p e k) (λ c u. infix_by c u p e k (feed (k e) u)) (λ u. refl) i ∙ ap (λ s. run s zs) (cond-true (nat_le p 1) _ _ (le-leb p 1 le))
 
 lists : {t : Lexeme} {ys zs : List Lexeme} (p : ℕ) (e : ExprTree) (k : ExprTree → State) → At comma t ys zs → p ≤ 0
-    → run (goes (after_expr p e k)) ys ≡ run (goes (at_expr 1 (λ f. in_rest (one_expr e (one_expr f no_expr)) (λ es. k (listed t.at es))))) zs
+    → run (goes (after_expr p e k)) ys ≡ run (goes (at_expr 1 (λ f. in_rest (one_expr e (one_expr f no_expr)) (λ es. after_expr p (listed t.at es) k)))) zs
 lists {zs = zs} p e k i le = on_class (after_expr p e k) (λ c u. infix_by c u p e k (feed (k e) u)) (λ u. refl) i ∙ ap (λ s. run s zs) (cond-true (nat_le p 0) _ _ (le-leb p 0 le))
 
 assigns : {t : Lexeme} {ys zs : List Lexeme} (p : ℕ) (n : Lexeme) (k : ExprTree → State) → At equals t ys zs → p ≤ 1
@@ -185,15 +185,13 @@ mutual
       let le1 : p ≤ 1 = omega (arith, low, le) in
       let le4 : 1 ≤ 13 = omega arith in
       let q1 : q ≤ 1 = omega (arith, low) in
-      let qp : q ≤ p = omega (arith, low) in
       let stop : Stops 0 vs = Ends-low q 0 vs h low q1 in
       expr_read x p le1 le4 (end_here i 1 (same 1)) k
       ∙ lists p e k i le0
-      ∙ expr_read y 1 (same 1) le4 (Stops-ends 1 ws (rest_Stops r stop)) (λ f. in_rest (one_expr e (one_expr f no_expr)) (λ es. k (listed t.at es)))
-      ∙ falls 1 f (λ f. in_rest (one_expr e (one_expr f no_expr)) (λ es. k (listed t.at es))) ws (rest_Stops r stop)
-      ∙ rest_read r (one_expr e (one_expr f no_expr)) (λ es. k (listed t.at es)) stop
-      ∙ ap (λ fs. run (goes (k (listed t.at fs))) vs) (with_two e f es)
-      ∙ sym (falls p (listed t.at (one_expr e (one_expr f es))) k vs (Ends-low q p vs h qp q1))
+      ∙ expr_read y 1 (same 1) le4 (Stops-ends 1 ws (rest_Stops r stop)) (λ f. in_rest (one_expr e (one_expr f no_expr)) (λ es. after_expr p (listed t.at es) k))
+      ∙ falls 1 f (λ f. in_rest (one_expr e (one_expr f no_expr)) (λ es. after_expr p (listed t.at es) k)) ws (rest_Stops r stop)
+      ∙ rest_read r (one_expr e (one_expr f no_expr)) (λ es. after_expr p (listed t.at es) k) stop
+      ∙ ap (λ fs. run (goes (after_expr p (listed t.at fs) k)) vs) (with_two e f es)
 
   operand_read : {e : ExprTree} {xs ys : List Lexeme} → IsOperand e xs ys → (p : ℕ) → Stops 13 ys → (k : ExprTree → State) → run (goes (at_expr p k)) xs ≡ run (goes (after_expr p e k)) ys
   operand_read (a_literal i) p h k = on_class (at_expr p k) (λ c u. expr_by c u p k) (λ u. refl) i

@@ -5,8 +5,8 @@ use Rattle.std.specs.Prelude.{◌==◌, ℤ, pos, neg_ℤ}
 use Rattle.asm_lang.specs.Lexemes.{Class, identifier, break_word, case_word, continue_word, default_word, do_word, else_word, for_word, if_word, return_word, switch_word, var_word, while_word, a_number, a_decimal, open_brace, close_brace, open_paren, close_paren, semicolon, colon, operator, tilde, bang, Lexeme, sign, a_nonzero, Is, here, At}
 use Rattle.asm_lang.specs.Trees.{ExprTree, variable, StmtTree, block, plain, if_only, if_else, returns, while_loop, do_loop, for_loop, breaks, continues, switches, StmtTrees, no_stmt, one_stmt, ClauseTrees, no_clause, one_clause, Init, number}
 use Rattle.asm_lang.specs.Grammar.{IsExpr, may_miss_before, may_miss, IsEnd, written, missing, begins_semicolon, IsDoEnd, do_written, do_missing, is_same_line, no_else, place_of, under, IsOption, absent, present, IsReturned, no_value, a_value, IsTarget, no_label, a_label, IsLiteral, positive, negative, positive_decimal, negative_decimal, IsStmt, a_block, a_plain, an_empty, an_if_only, an_if_else, a_return, a_while, a_do, a_for, a_break, a_continue, a_labelled, a_switch, IsStmts, no_stmts, more_stmts, IsClauses, no_clauses, a_case, a_default, is_else, is_semicolon}
-use Rattle.asm_lang.specs.Machine.{same_class, begins_expr, is_quiet, State, closes, at_expr, after_name, ends, ends_do, at_stmt, after_stmt_name, at_option, at_return, at_target, after_arm, at_stmts, at_clauses, in_case, at_literal, after_sign, Step, goes, expects, stuck, expr_by, name_by, end_by, do_end_by, more_stmts_of, condition, stmt_by, stmt_name_by, option_by, return_by, target_by, arm_by, stmts_by, case_value, clauses_by, in_case_by, literal_by, sign_by, feed, run}
-use Rattle.asm_lang.proofs.Tokens.{same_self, and_both, not_true, takes, closed, on_class, stops_at, stop_here, stop_at_end, is_colon, NoColon, Begins, expr_begins, BeginsExpr, expr_first, end_no_colon}
+use Rattle.asm_lang.specs.Machine.{same_class, begins_expr, is_quiet, State, closes, at_expr, after_name, ends, ends_do, at_stmt, after_stmt_name, at_option, at_return, at_target, after_arm, after_body, at_stmts, at_clauses, in_case, at_literal, after_sign, Step, goes, expects, stuck, expr_by, name_by, end_by, do_end_by, more_stmts_of, condition, stmt_by, stmt_name_by, option_by, return_by, target_by, arm_by, stmts_by, case_value, clauses_by, in_case_by, literal_by, sign_by, feed, run}
+use Rattle.asm_lang.proofs.Tokens.{same_self, and_both, not_true, takes, closed, bodied, on_class, stops_at, stop_here, stop_at_end, is_colon, NoColon, Begins, expr_begins, BeginsExpr, expr_first, end_no_colon}
 use Rattle.asm_lang.proofs.CompleteExprs.{whole}
 
 -- an expression up to a token that closes it
@@ -268,7 +268,7 @@ mutual
   stmt_read (a_return {t = t} i x) k = at_the_word k i ∙ returned_read x (λ o. k (returns t.at o))
   stmt_read (a_while {t = t} {c = c} i j x l y) k = at_the_word k i ∙ condition_read j x l (λ c. goes (at_stmt (λ s. k (while_loop t.at c s)))) ∙ stmt_read y (λ s. k (while_loop t.at c s))
   stmt_read (a_do {t = t} {c = c} {s = s} i y j l x m end) k =
-      at_the_word k i ∙ stmt_read y (λ s. closes while_word refl (condition (λ c. goes (ends_do (k (do_loop t.at s c)))))) ∙ closed j refl (condition (λ c. goes (ends_do (k (do_loop t.at s c)))))
+      at_the_word k i ∙ stmt_read y (λ s. after_body s (condition (λ c. goes (ends_do (k (do_loop t.at s c)))))) ∙ bodied j s (condition (λ c. goes (ends_do (k (do_loop t.at s c)))))
       ∙ condition_read l x m (λ c. goes (ends_do (k (do_loop t.at s c)))) ∙ do_end_read end (k (do_loop t.at s c))
   stmt_read (a_for {t = t} {a = a} {b = b} {c = c} i j x l y m z n s) k =
       at_the_word k i ∙ takes j (λ u. goes (at_option semicolon refl refl (λ a. goes (at_option semicolon refl refl (λ b. goes (at_option close_paren refl refl (λ c. goes (at_stmt (λ s. k (for_loop t.at a b c s))))))))))

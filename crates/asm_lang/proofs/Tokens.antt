@@ -6,10 +6,10 @@ use Rattle.std.specs.Prelude.{bytes_eq, ◌==◌, nat_le}
 use Rattle.sem_words.specs.declared.js_value.JsOp.{JsOp}
 use Rattle.sem_words.specs.declared.js_value.JsOp.TheVariants.{Add, Sub, Mul, Div, Rem, Or, And, Xor, Shl, Sar, Shr, Lt, Le, Gt, Ge, Eq, Ne}
 use Rattle.sem_words.specs.declared.js_value.JsUnary.{JsUnary}
-use Rattle.asm_lang.specs.Lexemes.{Class, identifier, a_number, open_paren, open_bracket, comma, question, colon, equals, operator, other, Lexeme, is_word, Want, sign, a_property, named, a_zero, a_nonzero, Meets, Is, here, At}
-use Rattle.asm_lang.specs.Trees.{ExprTree}
+use Rattle.asm_lang.specs.Lexemes.{Class, identifier, while_word, a_number, open_paren, open_bracket, comma, question, colon, equals, operator, other, Lexeme, is_word, Want, sign, a_property, named, a_zero, a_nonzero, Meets, Is, here, At}
+use Rattle.asm_lang.specs.Trees.{ExprTree, StmtTree}
 use Rattle.asm_lang.specs.Grammar.{level_of, IsPrefix, a_plus, a_tilde, a_bang, IsExpr, an_operand, a_binary, a_conditional, an_assignment, a_store, a_list, IsOperand, a_literal, a_negative, a_decimal_literal, a_variable, an_element, a_call, a_table_call, in_parens, a_prefix, a_minus, IsIndex, an_index, may_miss_before, may_miss, IsEnd, written, missing}
-use Rattle.asm_lang.specs.Machine.{same_class, class_number, classes, meets, excludes, begins_expr, is_quiet, State, closes, Step, goes, expects, either, stuck, feed, run}
+use Rattle.asm_lang.specs.Machine.{same_class, class_number, classes, meets, excludes, begins_expr, is_quiet, State, closes, after_body, Step, goes, expects, either, stuck, feed, run}
 
 pub same_self : (c : Class) → same_class c c ≡ true
 same_self c = eq-eqb (class_number c) (class_number c) refl
@@ -82,6 +82,9 @@ takes_second (here {t = t} {xs = ys} h) w q k s =
 
 pub closed : {c : Class} {t : Lexeme} {xs ys : List Lexeme} → At c t xs ys → (q : is_quiet c ≡ true) (s : Step) → run (goes (closes c q s)) xs ≡ run s ys
 closed (here {t = t} {xs = ys} h) q s = ap (λ r. run r ys) (cond-true (same_class _ t.class) s (stuck t) (ap (same_class _) h ∙ same_self _))
+
+pub bodied : {t : Lexeme} {xs ys : List Lexeme} → At while_word t xs ys → (b : StmtTree) (s : Step) → run (goes (after_body b s)) xs ≡ run s ys
+bodied (here {t = t} {xs = ys} h) b s = ap (λ r. run r ys) (cond-true (same_class while_word t.class) s (stuck t) (ap (same_class while_word) h ∙ same_self while_word))
 
 -- what a state does with a token of a class
 pub on_class : (s : State) (f : Class → Lexeme → Step) → ((u : Lexeme) → feed s u ≡ f u.class u) → {c : Class} {t : Lexeme} {xs ys : List Lexeme} → At c t xs ys → run (goes s) xs ≡ run (f c t) ys
