@@ -4,3 +4,4 @@ pub mod Holding
 pub mod Rising
 pub mod Within
 pub mod Limits
+pub mod Frames
