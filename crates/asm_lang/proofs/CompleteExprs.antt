@@ -46,35 +46,35 @@ falls see p e k [] h = as_ended see falls_expr refl
 falls see p e k (t ∷ ts) h = as_if see falls_expr (infix_stops t.class t p e k (feed (k e) t) h)
 
 -- an operator that goes on
-goes_on : (see : Observer) {op : JsOp} {t : Lexeme} {ys zs : List Lexeme} (p : ℕ) (e : ExprTree) (k : ExprTree → State) → At (operator op) t ys zs → p ≤ level_of op
+pub goes_on : (see : Observer) {op : JsOp} {t : Lexeme} {ys zs : List Lexeme} (p : ℕ) (e : ExprTree) (k : ExprTree → State) → At (operator op) t ys zs → p ≤ level_of op
     → Leads see (goes (after_expr p e k)) ys (goes (at_expr (suc (level_of op)) (λ r. after_expr p (binary t.at e op r) k))) zs
 goes_on see {op = op} {zs = zs} p e k i le =
     on_class see (after_expr p e k) (λ c u. infix_by c u p e k (feed (k e) u)) (λ u. refl) i ▸ by_step see (cond-true (nat_le p (level_of op)) _ _ (le-leb p (level_of op) le))
 
-asks : (see : Observer) {t : Lexeme} {ys zs : List Lexeme} (p : ℕ) (e : ExprTree) (k : ExprTree → State) → At question t ys zs → p ≤ 1
+pub asks : (see : Observer) {t : Lexeme} {ys zs : List Lexeme} (p : ℕ) (e : ExprTree) (k : ExprTree → State) → At question t ys zs → p ≤ 1
     → Leads see (goes (after_expr p e k)) ys (goes (at_expr 1 (λ a. closes colon refl (goes (at_expr 1 (λ b. after_expr p (conditional t.at e a b) k)))))) zs
 asks see {zs = zs} p e k i le = on_class see (after_expr p e k) (λ c u. infix_by c u p e k (feed (k e) u)) (λ u. refl) i ▸ by_step see (cond-true (nat_le p 1) _ _ (le-leb p 1 le))
 
-lists : (see : Observer) {t : Lexeme} {ys zs : List Lexeme} (p : ℕ) (e : ExprTree) (k : ExprTree → State) → At comma t ys zs → p ≤ 0
+pub lists : (see : Observer) {t : Lexeme} {ys zs : List Lexeme} (p : ℕ) (e : ExprTree) (k : ExprTree → State) → At comma t ys zs → p ≤ 0
     → Leads see (goes (after_expr p e k)) ys (goes (at_expr 1 (λ f. in_rest (one_expr e (one_expr f no_expr)) (λ es. after_expr p (listed t.at es) k)))) zs
 lists see {zs = zs} p e k i le = on_class see (after_expr p e k) (λ c u. infix_by c u p e k (feed (k e) u)) (λ u. refl) i ▸ by_step see (cond-true (nat_le p 0) _ _ (le-leb p 0 le))
 
-assigns : (see : Observer) {t : Lexeme} {ys zs : List Lexeme} (p : ℕ) (n : Lexeme) (k : ExprTree → State) → At equals t ys zs → p ≤ 1
+pub assigns : (see : Observer) {t : Lexeme} {ys zs : List Lexeme} (p : ℕ) (n : Lexeme) (k : ExprTree → State) → At equals t ys zs → p ≤ 1
     → Leads see (goes (after_name p n k)) ys (goes (at_expr 1 (λ e. after_expr p (assignment t.at n.text e) k))) zs
 assigns see {zs = zs} p n k i le = on_class see (after_name p n k) (λ c u. name_by c u p n k (feed (k (variable n.at n.text)) u)) (λ u. refl) i ▸ by_step see (cond-true (nat_le p 1) _ _ (le-leb p 1 le))
 
-stores : (see : Observer) {t : Lexeme} {ys zs : List Lexeme} (p : ℕ) (n : Lexeme) (j : ExprTree) (k : ExprTree → State) → At equals t ys zs → p ≤ 1
+pub stores : (see : Observer) {t : Lexeme} {ys zs : List Lexeme} (p : ℕ) (n : Lexeme) (j : ExprTree) (k : ExprTree → State) → At equals t ys zs → p ≤ 1
     → Leads see (goes (after_index p n j k)) ys (goes (at_expr 1 (λ e. after_expr p (store t.at n.text j e) k))) zs
 stores see {zs = zs} p n j k i le = on_class see (after_index p n j k) (λ c u. index_by c u p n j k (feed (k (element n.at n.text j)) u)) (λ u. refl) i ▸ by_step see (cond-true (nat_le p 1) _ _ (le-leb p 1 le))
 
-at_the_name : (see : Observer) {n : Lexeme} {xs ys : List Lexeme} (p : ℕ) (k : ExprTree → State) → At identifier n xs ys → Leads see (goes (at_expr p k)) xs (goes (after_name p n k)) ys
+pub at_the_name : (see : Observer) {n : Lexeme} {xs ys : List Lexeme} (p : ℕ) (k : ExprTree → State) → At identifier n xs ys → Leads see (goes (at_expr p k)) xs (goes (after_name p n k)) ys
 at_the_name see p k i = on_class see (at_expr p k) (λ c u. expr_by c u p k) (λ u. refl) i
 
 minus_is_expr : (c : Class) (m t : Lexeme) (k : ExprTree → State) → is_numeric c ≡ false → minus_by c m t k ≡ expr_by c t 13 (λ e. k (unary m.at Neg e))
 minus_is_expr a_number m t k h = absurd cc
 minus_is_expr _ m t k h = refl
 
-minus_goes : (see : Observer) (m : Lexeme) (k : ExprTree → State) (ys : List Lexeme) → begins_number ys ≡ false → Leads see (goes (after_minus m k)) ys (goes (at_expr 13 (λ e. k (unary m.at Neg e)))) ys
+pub minus_goes : (see : Observer) (m : Lexeme) (k : ExprTree → State) (ys : List Lexeme) → begins_number ys ≡ false → Leads see (goes (after_minus m k)) ys (goes (at_expr 13 (λ e. k (unary m.at Neg e)))) ys
 minus_goes see m k [] h = as_ended see falls_minus refl
 minus_goes see m k (t ∷ ts) h = as_if see falls_minus (minus_is_expr t.class m t k h)
 
@@ -115,14 +115,14 @@ arguments_are_exprs : (c : Class) (t : Lexeme) (k : ExprTrees → State) → beg
 arguments_are_exprs close_paren t k h = absurd cc
 arguments_are_exprs _ t k h = refl
 
-first_argument : (see : Observer) (k : ExprTrees → State) (xs : List Lexeme) → BeginsExpr xs → Leads see (goes (at_arguments k)) xs (goes (at_expr 1 (λ e. in_rest (one_expr e no_expr) (λ es. closes close_paren refl (goes (k es)))))) xs
+pub first_argument : (see : Observer) (k : ExprTrees → State) (xs : List Lexeme) → BeginsExpr xs → Leads see (goes (at_arguments k)) xs (goes (at_expr 1 (λ e. in_rest (one_expr e no_expr) (λ es. closes close_paren refl (goes (k es)))))) xs
 first_argument see k [] h = absurd h
 first_argument see k (t ∷ ts) h = as_if see falls_arguments (arguments_are_exprs t.class t k h)
 
 pub same : (n : ℕ) → n ≤ n
 same n = omega arith
 
-under_13 : (op : JsOp) → suc (level_of op) ≤ 13
+pub under_13 : (op : JsOp) → suc (level_of op) ≤ 13
 under_13 op = let h = level_low op in omega arith
 
 is_stop : (c : Class) → rank c ≤ 13 → stops_at 13 c ≡ true
@@ -132,11 +132,11 @@ is_stop open_bracket h = absurd (omega arith)
 is_stop equals h = absurd (omega arith)
 is_stop _ h = refl
 
-operand_stop : (q : ℕ) (ys : List Lexeme) → q ≤ 13 → Ends q ys → Stops 13 ys
+pub operand_stop : (q : ℕ) (ys : List Lexeme) → q ≤ 13 → Ends q ys → Stops 13 ys
 operand_stop q [] le h = tt
 operand_stop q (t ∷ ts) le h = let k : rank t.class ≤ 13 = omega (arith, h) in is_stop t.class k
 
-prefix_read : (see : Observer) {op : JsUnary} {c : Class} {t : Lexeme} {xs ys : List Lexeme} → IsPrefix op c → At c t xs ys → (p : ℕ) (k : ExprTree → State) → Leads see (goes (at_expr p k)) xs (goes (at_expr 13 (λ e. after_expr p (unary t.at op e) k))) ys
+pub prefix_read : (see : Observer) {op : JsUnary} {c : Class} {t : Lexeme} {xs ys : List Lexeme} → IsPrefix op c → At c t xs ys → (p : ℕ) (k : ExprTree → State) → Leads see (goes (at_expr p k)) xs (goes (at_expr 13 (λ e. after_expr p (unary t.at op e) k))) ys
 prefix_read see a_plus i p k = on_class see (at_expr p k) (λ c u. expr_by c u p k) (λ u. refl) i
 prefix_read see a_tilde i p k = on_class see (at_expr p k) (λ c u. expr_by c u p k) (λ u. refl) i
 prefix_read see a_bang i p k = on_class see (at_expr p k) (λ c u. expr_by c u p k) (λ u. refl) i
@@ -194,7 +194,7 @@ mutual
       ▸ rest_read see r (one_expr e (one_expr f no_expr)) (λ es. after_expr p (listed t.at es) k) stop
       ▸ by_step see (ap (λ fs. goes (after_expr p (listed t.at fs) k)) (with_two e f es))
 
-  operand_read : (see : Observer) {e : ExprTree} {xs ys : List Lexeme} → IsOperand e xs ys → (p : ℕ) → Stops 13 ys → (k : ExprTree → State) → Leads see (goes (at_expr p k)) xs (goes (after_expr p e k)) ys
+  pub operand_read : (see : Observer) {e : ExprTree} {xs ys : List Lexeme} → IsOperand e xs ys → (p : ℕ) → Stops 13 ys → (k : ExprTree → State) → Leads see (goes (at_expr p k)) xs (goes (after_expr p e k)) ys
   operand_read see (a_literal i) p h k = on_class see (at_expr p k) (λ c u. expr_by c u p k) (λ u. refl) i
   operand_read see (a_negative {m = m} i j) p h k = on_class see (at_expr p k) (λ c u. expr_by c u p k) (λ u. refl) i ▸ negated see m (λ e. after_expr p e k) j
   operand_read see (a_decimal_literal i) p h k = on_class see (at_expr p k) (λ c u. expr_by c u p k) (λ u. refl) i
@@ -220,7 +220,7 @@ mutual
       ▸ expr_read see x 13 (same 13) (same 13) (Stops-ends 13 zs h) (λ e. after_expr p (unary t.at Neg e) k)
       ▸ falls see 13 e (λ e. after_expr p (unary t.at Neg e) k) zs h
 
-  index_read : (see : Observer) {e : ExprTree} {xs ys : List Lexeme} → IsIndex e xs ys → (p : ℕ) (n : Lexeme) (k : ExprTree → State) → Leads see (goes (after_name p n k)) xs (goes (after_index p n e k)) ys
+  pub index_read : (see : Observer) {e : ExprTree} {xs ys : List Lexeme} → IsIndex e xs ys → (p : ℕ) (n : Lexeme) (k : ExprTree → State) → Leads see (goes (after_name p n k)) xs (goes (after_index p n e k)) ys
   index_read see (an_index {e = e} {zs = zs} i x j) p n k =
       let le : 0 ≤ 13 = omega arith in
       on_class see (after_name p n k) (λ c u. name_by c u p n k (feed (k (variable n.at n.text)) u)) (λ u. refl) i
@@ -228,7 +228,7 @@ mutual
       ▸ falls see 0 e (λ e. closes close_bracket refl (goes (after_index p n e k))) zs (stop_here j 0 refl)
       ▸ closed see j refl (goes (after_index p n e k))
 
-  arguments_read : (see : Observer) {es : ExprTrees} {xs ys : List Lexeme} → IsArguments es xs ys → (k : ExprTrees → State) → Leads see (goes (at_arguments k)) xs (goes (k es)) ys
+  pub arguments_read : (see : Observer) {es : ExprTrees} {xs ys : List Lexeme} → IsArguments es xs ys → (k : ExprTrees → State) → Leads see (goes (at_arguments k)) xs (goes (k es)) ys
   arguments_read see (no_argument i) k = on_class see (at_arguments k) (λ c u. arguments_by c u k) (λ u. refl) i
   arguments_read see (arguments {e = e} {es = es} {xs = xs} {ys = ys} {zs = zs} {ws = ws} x r j) k =
       let le : 1 ≤ 13 = omega arith in
@@ -240,7 +240,7 @@ mutual
       ▸ closed see j refl (goes (k (with_exprs (one_expr e no_expr) es)))
       ▸ by_step see (ap (λ fs. goes (k fs)) (with_one e es))
 
-  rest_read : (see : Observer) {es : ExprTrees} {xs ys : List Lexeme} → IsRest es xs ys → (fs : ExprTrees) (k : ExprTrees → State) → Stops 0 ys → Leads see (goes (in_rest fs k)) xs (goes (k (with_exprs fs es))) ys
+  pub rest_read : (see : Observer) {es : ExprTrees} {xs ys : List Lexeme} → IsRest es xs ys → (fs : ExprTrees) (k : ExprTrees → State) → Stops 0 ys → Leads see (goes (in_rest fs k)) xs (goes (k (with_exprs fs es))) ys
   rest_read see {ys = ys} no_further fs k h = rest_falls see fs k ys h
   rest_read see (a_further {e = e} {es = es} {zs = zs} i x r) fs k h =
       let le : 1 ≤ 13 = omega arith in

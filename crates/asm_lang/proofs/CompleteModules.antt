@@ -158,7 +158,7 @@ abbrev pub globals_state : Bool → Heading → List VariableTree → State
 globals_state false h gs = at_globals h gs
 globals_state true h gs = in_globals h gs
 
-globals_read : (see : Observer) {b : Bool} {ds : List VariableTree} {xs ys : List Lexeme} → IsDeclared IsGlobal b ds xs ys → (h : Heading) (gs : List VariableTree) → Leads see (goes (globals_state b h gs)) xs (goes (at_globals h (with_all gs ds))) ys
+pub globals_read : (see : Observer) {b : Bool} {ds : List VariableTree} {xs ys : List Lexeme} → IsDeclared IsGlobal b ds xs ys → (h : Heading) (gs : List VariableTree) → Leads see (goes (globals_state b h gs)) xs (goes (at_globals h (with_all gs ds))) ys
 globals_read see no_var h gs = stay
 globals_read see (a_var {d = d} i x y) h gs =
     on_class see (at_globals h gs) (λ c u. globals_by c u h gs) (λ u. refl) i ▸ first_global see x (declared_no_member y) h gs ▸ globals_read see y h (gs ++ d ∷ [])
@@ -183,7 +183,7 @@ abbrev locals_state : Bool → List VariableTree → (List VariableTree → Stat
 locals_state false ls k = at_locals ls k
 locals_state true ls k = in_locals ls k
 
-locals_read : (see : Observer) {b : Bool} {ds : List VariableTree} {xs ys : List Lexeme} → IsDeclared IsLocal b ds xs ys → (ls : List VariableTree) (k : List VariableTree → State) → Leads see (goes (locals_state b ls k)) xs (goes (at_locals (with_all ls ds) k)) ys
+pub locals_read : (see : Observer) {b : Bool} {ds : List VariableTree} {xs ys : List Lexeme} → IsDeclared IsLocal b ds xs ys → (ls : List VariableTree) (k : List VariableTree → State) → Leads see (goes (locals_state b ls k)) xs (goes (at_locals (with_all ls ds) k)) ys
 locals_read see no_var ls k = stay
 locals_read see (a_var {d = d} i x y) ls k = on_class see (at_locals ls k) (λ c u. locals_by c ls k (feed (k ls) u)) (λ u. refl) i ▸ local_read see x ls k ▸ locals_read see y (ls ++ d ∷ []) k
 locals_read see (a_comma {d = d} i x y) ls k =
@@ -198,7 +198,7 @@ locals_go_on : (see : Observer) (ls : List VariableTree) (k : List VariableTree 
 locals_go_on see ls k [] h = absurd h
 locals_go_on see ls k (t ∷ ts) h = as_if see falls_locals (locals_are_over t.class ls k (feed (k ls) t) h)
 
-locals_over : (see : Observer) {ss : StmtTrees} {t : Lexeme} {xs ys zs : List Lexeme} → IsStmts ss xs ys → At close_brace t ys zs → (ls : List VariableTree) (k : List VariableTree → State) → Leads see (goes (at_locals ls k)) xs (goes (k ls)) xs
+pub locals_over : (see : Observer) {ss : StmtTrees} {t : Lexeme} {xs ys zs : List Lexeme} → IsStmts ss xs ys → At close_brace t ys zs → (ls : List VariableTree) (k : List VariableTree → State) → Leads see (goes (at_locals ls k)) xs (goes (k ls)) xs
 locals_over see no_stmts (here {t = t} {xs = zs} h) ls k = as_if see falls_locals (ap (λ c. locals_by c ls k (feed (k ls) t)) h)
 locals_over see {xs = xs} (more_stmts x y) j ls k = locals_go_on see ls k xs (stmt_begins x)
 
@@ -212,7 +212,7 @@ mark_begins : (see : Observer) (p : Lexeme) {t : Lexeme} {xs ys : List Lexeme} �
     (expects (named p.text) (λ d. goes (ends (at_marks ps (ds ++ double_mark p ∷ []) k)))))) ys
 mark_begins see p (here {t = t} {xs = ys} h) ps ds k = read_step see (cond-true (meets (named p.text) t) _ (stuck t) (meets_true (named p.text) t h))
 
-marks_read : (see : Observer) {ps : List Lexeme} {es : List ParamTree} {xs ys : List Lexeme} → IsMarks ps es xs ys → (ds : List ParamTree) (k : List ParamTree → State) → Leads see (goes (at_marks ps ds k)) xs (goes (k (with_all ds es))) ys
+pub marks_read : (see : Observer) {ps : List Lexeme} {es : List ParamTree} {xs ys : List Lexeme} → IsMarks ps es xs ys → (ds : List ParamTree) (k : List ParamTree → State) → Leads see (goes (at_marks ps ds k)) xs (goes (k (with_all ds es))) ys
 marks_read see {ys = ys} no_marks ds k = marks_over see ds k ys
 marks_read see (an_int_mark {p = p} {ps = ps} i j l m n end r) ds k =
     mark_begins see p i ps ds k
@@ -244,12 +244,12 @@ names_read see no_names i q ns k = names_over see i q ns k
 names_read see {c = c} (more_names {n = n} j l r) i q ns k =
     on_class see (in_names c q ns k) (λ d u. names_by d u c q ns k) (λ u. refl) j ▸ takes see l (λ n. goes (in_names c q (ns ++ n ∷ []) k)) ▸ names_read see r i q (ns ++ n ∷ []) k
 
-params_read : (see : Observer) {ps : List Lexeme} {xs ys : List Lexeme} → IsParams ps xs ys → (k : List Lexeme → Step) → Leads see (either (sign identifier) close_paren refl (λ p. goes (in_names close_paren refl [] (λ ps. k (p ∷ ps)))) (k [])) xs (k ps) ys
+pub params_read : (see : Observer) {ps : List Lexeme} {xs ys : List Lexeme} → IsParams ps xs ys → (k : List Lexeme → Step) → Leads see (either (sign identifier) close_paren refl (λ p. goes (in_names close_paren refl [] (λ ps. k (p ∷ ps)))) (k [])) xs (k ps) ys
 params_read see (no_params i) k = takes_second see i (sign identifier) refl (λ p. goes (in_names close_paren refl [] (λ ps. k (p ∷ ps)))) (k [])
 params_read see {ys = ys} (some_params {n = n} {ns = ns} i x j) k =
     takes_first see i close_paren refl (λ p. goes (in_names close_paren refl [] (λ ps. k (p ∷ ps)))) (k []) ▸ names_read see x j refl [] (λ ps. k (n ∷ ps)) ▸ by_step see (ap (λ ms. k (n ∷ ms)) (with_nothing ns))
 
-function_read : (see : Observer) {f : FunctionTree} {xs ys : List Lexeme} → IsFunction f xs ys → (s : State) (by : Class → Lexeme → Step) → ((u : Lexeme) → feed s u ≡ by u.class u) → (h : Heading) (gs : List VariableTree) (fs : List FunctionTree)
+pub function_read : (see : Observer) {f : FunctionTree} {xs ys : List Lexeme} → IsFunction f xs ys → (s : State) (by : Class → Lexeme → Step) → ((u : Lexeme) → feed s u ≡ by u.class u) → (h : Heading) (gs : List VariableTree) (fs : List FunctionTree)
     → ((u : Lexeme) → by function_word u ≡ function_step h gs fs) → Leads see (goes s) xs (goes (at_functions h gs (fs ++ f ∷ []))) ys
 function_read see (a_function {f = f} {n = n} {ps = ps} {ds = ds} {ls = ls} {ss = ss} {ys = ys} {rs = rs} {os = os} i j l x m y z v w) s by same h gs fs is =
     on_class see s by same i
@@ -266,7 +266,7 @@ function_read see (a_function {f = f} {n = n} {ps = ps} {ds = ds} {ls = ls} {ss 
     ▸ by_step see (ap (λ es. goes (at_functions h gs (fs ++ function_of n ds es (with_stmts no_stmt ss) ∷ []))) (with_nothing ls))
     ▸ by_step see (ap (λ es. goes (at_functions h gs (fs ++ function_of n ds ls es ∷ []))) (with_no_stmt ss))
 
-functions_read : (see : Observer) {es : List FunctionTree} {xs ys : List Lexeme} → IsFunctions es xs ys → (h : Heading) (gs : List VariableTree) (fs : List FunctionTree) → Leads see (goes (at_functions h gs fs)) xs (goes (at_functions h gs (with_all fs es))) ys
+pub functions_read : (see : Observer) {es : List FunctionTree} {xs ys : List Lexeme} → IsFunctions es xs ys → (h : Heading) (gs : List VariableTree) (fs : List FunctionTree) → Leads see (goes (at_functions h gs fs)) xs (goes (at_functions h gs (with_all fs es))) ys
 functions_read see no_functions h gs fs = stay
 functions_read see (more_functions {f = f} x y) h gs fs =
     function_read see x (at_functions h gs fs) (λ c u. functions_by c u h gs fs) (λ u. refl) h gs fs (λ u. refl) ▸ functions_read see y h gs (fs ++ f ∷ [])
@@ -354,21 +354,21 @@ tables_on : (see : Observer) {ds : List TableTree} {ex : ExportsTree} {xs ys zs 
     → Leads see (goes (in_tables h gs fs ts)) xs (goes (closes close_brace refl (goes (at_end true (module_of h gs fs (with_all ts ds) ex))))) zs
 tables_on see {ds = ds} x e h gs fs ts = tables_read see x h gs fs ts ▸ exported_read see e (at_tables h gs fs (with_all ts ds)) (λ c u. tables_by c u h gs fs (with_all ts ds)) (λ u. refl) h gs fs (with_all ts ds) (λ u. refl)
 
-functions_on : (see : Observer) {ds : List TableTree} {ex : ExportsTree} {b : Bool} {xs ys zs : List Lexeme} → IsDeclared IsTable b ds xs ys → b ≡ false → IsExported ex ys zs → (h : Heading) (gs : List VariableTree) (fs : List FunctionTree)
+pub functions_on : (see : Observer) {ds : List TableTree} {ex : ExportsTree} {b : Bool} {xs ys zs : List Lexeme} → IsDeclared IsTable b ds xs ys → b ≡ false → IsExported ex ys zs → (h : Heading) (gs : List VariableTree) (fs : List FunctionTree)
     → Leads see (goes (at_functions h gs fs)) xs (goes (closes close_brace refl (goes (at_end true (module_of h gs fs (with_all [] ds) ex))))) zs
 functions_on see no_var is e h gs fs = exported_read see e (at_functions h gs fs) (λ c u. functions_by c u h gs fs) (λ u. refl) h gs fs [] (λ u. refl)
 functions_on see (a_var {d = d} i x y) is e h gs fs = on_class see (at_functions h gs fs) (λ c u. functions_by c u h gs fs) (λ u. refl) i ▸ table_read see x h gs fs [] ▸ tables_on see y e h gs fs (d ∷ [])
 functions_on see (a_comma i x y) is e h gs fs = absurd cc
 functions_on see (an_end x y) is e h gs fs = absurd cc
 
-no_functions_on : (see : Observer) {ds : List TableTree} {ex : ExportsTree} {b : Bool} {xs ys zs : List Lexeme} → IsDeclared IsTable b ds xs ys → b ≡ false → IsExported ex ys zs → (h : Heading) (gs : List VariableTree)
+pub no_functions_on : (see : Observer) {ds : List TableTree} {ex : ExportsTree} {b : Bool} {xs ys zs : List Lexeme} → IsDeclared IsTable b ds xs ys → b ≡ false → IsExported ex ys zs → (h : Heading) (gs : List VariableTree)
     → Leads see (goes (at_globals h gs)) xs (goes (closes close_brace refl (goes (at_end true (module_of h gs [] (with_all [] ds) ex))))) zs
 no_functions_on see no_var is e h gs = exported_read see e (at_globals h gs) (λ c u. globals_by c u h gs) (λ u. refl) h gs [] [] (λ u. refl)
 no_functions_on see (a_var {d = d} i x y) is e h gs = on_class see (at_globals h gs) (λ c u. globals_by c u h gs) (λ u. refl) i ▸ first_table see x h gs ▸ tables_on see y e h gs [] (d ∷ [])
 no_functions_on see (a_comma i x y) is e h gs = absurd cc
 no_functions_on see (an_end x y) is e h gs = absurd cc
 
-body_read : (see : Observer) {fs : List FunctionTree} {ts : List TableTree} {ex : ExportsTree} {xs ys zs ws : List Lexeme} → IsFunctions fs xs ys → IsDeclared IsTable false ts ys zs → IsExported ex zs ws → (h : Heading) (gs : List VariableTree)
+pub body_read : (see : Observer) {fs : List FunctionTree} {ts : List TableTree} {ex : ExportsTree} {xs ys zs ws : List Lexeme} → IsFunctions fs xs ys → IsDeclared IsTable false ts ys zs → IsExported ex zs ws → (h : Heading) (gs : List VariableTree)
     → Leads see (goes (at_globals h gs)) xs (goes (closes close_brace refl (goes (at_end true (module_of h gs (with_all [] fs) (with_all [] ts) ex))))) ws
 body_read see no_functions y e h gs = no_functions_on see y refl e h gs
 body_read see (more_functions {f = f} {fs = fs} x r) y e h gs =

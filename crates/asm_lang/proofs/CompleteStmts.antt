@@ -11,7 +11,7 @@ use Rattle.asm_lang.proofs.Leads.{Observer, Leads, ◌▸◌, stay, by_step, rea
 use Rattle.asm_lang.proofs.CompleteExprs.{whole}
 
 -- an expression up to a token that closes it
-enclosed : (see : Observer) {p : ℕ} {e : ExprTree} {c : Class} {t : Lexeme} {xs ys zs : List Lexeme} → IsExpr p e xs ys → p ≤ 13 → At c t ys zs → stops_at p c ≡ true → (q : is_quiet c ≡ true) (k : ExprTree → Step)
+pub enclosed : (see : Observer) {p : ℕ} {e : ExprTree} {c : Class} {t : Lexeme} {xs ys zs : List Lexeme} → IsExpr p e xs ys → p ≤ 13 → At c t ys zs → stops_at p c ≡ true → (q : is_quiet c ≡ true) (k : ExprTree → Step)
     → Leads see (goes (at_expr p (λ e. closes c q (k e)))) xs (k e) zs
 enclosed see {p = p} {e = e} {c = c} x le i stop q k = whole see x le (stop_here i p stop) (λ e. closes c q (k e)) ▸ closed see i q (k e)
 
@@ -37,7 +37,7 @@ do_missed : (see : Observer) (s : State) (xs : List Lexeme) → begins_semicolon
 do_missed see s [] h = as_ended see falls_do_end refl
 do_missed see s (t ∷ ts) h = as_if see falls_do_end (do_end_missed t.class s (feed s t) h)
 
-do_end_read : (see : Observer) {xs ys : List Lexeme} → IsDoEnd xs ys → (s : State) → Leads see (goes (ends_do s)) xs (goes s) ys
+pub do_end_read : (see : Observer) {xs ys : List Lexeme} → IsDoEnd xs ys → (s : State) → Leads see (goes (ends_do s)) xs (goes s) ys
 do_end_read see (do_written i) s = on_class see (ends_do s) (λ c u. do_end_by c s (feed s u)) (λ u. refl) i
 do_end_read see (do_missing {xs = xs} h) s = do_missed see s xs h
 
@@ -48,11 +48,11 @@ option_none c t ys q b k h =
     cond-false (begins_expr t.class) _ (cond (same_class c t.class) (k None) (stuck t)) (ap begins_expr h ∙ b)
     ∙ cond-true (same_class c t.class) (k None) (stuck t) (ap (same_class c) h ∙ same_self c)
 
-option_some : (see : Observer) (c : Class) (q : is_quiet c ≡ true) (b : begins_expr c ≡ false) (k : Option ExprTree → Step) (xs : List Lexeme) → BeginsExpr xs → Leads see (goes (at_option c q b k)) xs (goes (at_expr 0 (λ e. closes c q (k (Some e))))) xs
+pub option_some : (see : Observer) (c : Class) (q : is_quiet c ≡ true) (b : begins_expr c ≡ false) (k : Option ExprTree → Step) (xs : List Lexeme) → BeginsExpr xs → Leads see (goes (at_option c q b k)) xs (goes (at_expr 0 (λ e. closes c q (k (Some e))))) xs
 option_some see c q b k [] h = absurd h
 option_some see c q b k (t ∷ ts) h = as_if see falls_option (cond-true (begins_expr t.class) (expr_by t.class t 0 (λ e. closes c q (k (Some e)))) (cond (same_class c t.class) (k None) (stuck t)) h)
 
-option_read : (see : Observer) {o : Option ExprTree} {c : Class} {t : Lexeme} {xs ys zs : List Lexeme} → IsOption o xs ys → At c t ys zs → stops_at 0 c ≡ true → (q : is_quiet c ≡ true) (b : begins_expr c ≡ false) (k : Option ExprTree → Step)
+pub option_read : (see : Observer) {o : Option ExprTree} {c : Class} {t : Lexeme} {xs ys zs : List Lexeme} → IsOption o xs ys → At c t ys zs → stops_at 0 c ≡ true → (q : is_quiet c ≡ true) (b : begins_expr c ≡ false) (k : Option ExprTree → Step)
     → Leads see (goes (at_option c q b k)) xs (k o) zs
 option_read see {c = c} absent (here {t = t} {xs = zs} h) stop q b k = read_step see (option_none c t zs q b k h)
 option_read see {c = c} {xs = xs} (present x) i stop q b k =
@@ -62,7 +62,7 @@ option_read see {c = c} {xs = xs} (present x) i stop q b k =
 return_some : (c : Class) (t : Lexeme) (k : Option ExprTree → State) (last : Step) → begins_expr c ≡ true → not t.line ≡ true → return_by c t k last ≡ expr_by c t 0 (λ e. ends (k (Some e)))
 return_some c t k last h g = cond-true (begins_expr c && not t.line) (expr_by c t 0 (λ e. ends (k (Some e)))) last (and_both (begins_expr c) (not t.line) h g)
 
-return_value : (see : Observer) (k : Option ExprTree → State) (xs : List Lexeme) → BeginsExpr xs → is_same_line xs ≡ true → Leads see (goes (at_return k)) xs (goes (at_expr 0 (λ e. ends (k (Some e))))) xs
+pub return_value : (see : Observer) (k : Option ExprTree → State) (xs : List Lexeme) → BeginsExpr xs → is_same_line xs ≡ true → Leads see (goes (at_return k)) xs (goes (at_expr 0 (λ e. ends (k (Some e))))) xs
 return_value see k [] h g = absurd h
 return_value see k (t ∷ ts) h g = as_if see falls_value (return_some t.class t k (end_by t.class t (k None) (feed (k None) t)) h g)
 
@@ -89,7 +89,7 @@ return_none : (see : Observer) (k : Option ExprTree → State) (xs : List Lexeme
 return_none see k [] h = as_ended see falls_return refl
 return_none see k (t ∷ ts) h = as_if see falls_return (cond-false (begins_expr t.class && not t.line) (expr_by t.class t 0 (λ e. ends (k (Some e)))) (end_by t.class t (k None) (feed (k None) t)) (miss_line t.class t.line h))
 
-returned_read : (see : Observer) {o : Option ExprTree} {xs ys : List Lexeme} → IsReturned o xs ys → (k : Option ExprTree → State) → Leads see (goes (at_return k)) xs (goes (k o)) ys
+pub returned_read : (see : Observer) {o : Option ExprTree} {xs ys : List Lexeme} → IsReturned o xs ys → (k : Option ExprTree → State) → Leads see (goes (at_return k)) xs (goes (k o)) ys
 returned_read see (no_value (written i)) k = on_class see (at_return k) (λ c u. return_by c u k (end_by c u (k None) (feed (k None) u))) (λ u. refl) i
 returned_read see (no_value (missing {xs = xs} h)) k = return_none see k xs h ▸ missed see (k None) xs h
 returned_read see {xs = xs} (a_value {e = e} line x end) k =
@@ -108,7 +108,7 @@ target_some : (see : Observer) {n : Lexeme} {xs ys : List Lexeme} (k : Option (L
 target_some see k (here {t = n} {xs = ys} h) line =
     read_step see (ap (λ c. target_by c n k (end_by n.class n (k None) (feed (k None) n))) h ∙ cond-false n.line _ _ (not_true n.line line))
 
-target_read : (see : Observer) {o : Option (List ℕ)} {xs ys : List Lexeme} → IsTarget o xs ys → (k : Option (List ℕ) → State) → Leads see (goes (at_target k)) xs (goes (k o)) ys
+pub target_read : (see : Observer) {o : Option (List ℕ)} {xs ys : List Lexeme} → IsTarget o xs ys → (k : Option (List ℕ) → State) → Leads see (goes (at_target k)) xs (goes (k o)) ys
 target_read see (no_label (written i)) k = on_class see (at_target k) (λ c u. target_by c u k (end_by c u (k None) (feed (k None) u))) (λ u. refl) i
 target_read see (no_label (missing {xs = xs} h)) k = target_none see k xs h ▸ missed see (k None) xs h
 target_read see (a_label {n = n} line i end) k = target_some see k i line ▸ end_read see end (k (Some n.text))
@@ -183,7 +183,7 @@ name_is_no_label : (c : Class) (t n : Lexeme) (k : StmtTree → State) (last : S
 name_is_no_label colon t n k last h = absurd cc
 name_is_no_label _ t n k last h = refl
 
-no_label_read : (see : Observer) (n : Lexeme) (k : StmtTree → State) (ts : List Lexeme) → NoColon ts → Leads see (goes (after_stmt_name n k)) ts (goes (after_name 0 n (λ e. ends (k (plain n.at e))))) ts
+pub no_label_read : (see : Observer) (n : Lexeme) (k : StmtTree → State) (ts : List Lexeme) → NoColon ts → Leads see (goes (after_stmt_name n k)) ts (goes (after_name 0 n (λ e. ends (k (plain n.at e))))) ts
 no_label_read see n k [] h = as_ended see falls_label refl
 no_label_read see n k (t ∷ ts) h = as_if see falls_label (name_is_no_label t.class t n k (end_by t.class t (k (plain n.at (variable n.at n.text))) (feed (k (plain n.at (variable n.at n.text))) t)) h)
 
@@ -201,14 +201,14 @@ stmt_is_expr see continue_word t k ts h g = absurd cc
 stmt_is_expr see switch_word t k ts h g = absurd cc
 stmt_is_expr see _ t k ts h g = stay
 
-plain_begins : (see : Observer) (k : StmtTree → State) (xs : List Lexeme) → Begins xs → Leads see (goes (at_stmt k)) xs (goes (at_expr 0 (λ e. ends (k (plain (place_of xs) e))))) xs
+pub plain_begins : (see : Observer) (k : StmtTree → State) (xs : List Lexeme) → Begins xs → Leads see (goes (at_stmt k)) xs (goes (at_expr 0 (λ e. ends (k (plain (place_of xs) e))))) xs
 plain_begins see k [] h = absurd h
 plain_begins see k (t ∷ ts) h = λ seen. see.later (goes (at_stmt k)) t ts (stmt_is_expr see t.class t k ts h.0 h.1 (see.begun 0 (λ e. ends (k (plain t.at e))) t ts seen))
 
-at_the_word : (see : Observer) {c : Class} {t : Lexeme} {xs ys : List Lexeme} (k : StmtTree → State) → At c t xs ys → Leads see (goes (at_stmt k)) xs (stmt_by c t k) ys
+pub at_the_word : (see : Observer) {c : Class} {t : Lexeme} {xs ys : List Lexeme} (k : StmtTree → State) → At c t xs ys → Leads see (goes (at_stmt k)) xs (stmt_by c t k) ys
 at_the_word see k i = on_class see (at_stmt k) (λ c u. stmt_by c u k) (λ u. refl) i
 
-condition_read : (see : Observer) {e : ExprTree} {t u : Lexeme} {xs ys zs ws : List Lexeme} → At open_paren t xs ys → IsExpr 0 e ys zs → At close_paren u zs ws → (k : ExprTree → Step) → Leads see (condition k) xs (k e) ws
+pub condition_read : (see : Observer) {e : ExprTree} {t u : Lexeme} {xs ys zs ws : List Lexeme} → At open_paren t xs ys → IsExpr 0 e ys zs → At close_paren u zs ws → (k : ExprTree → Step) → Leads see (condition k) xs (k e) ws
 condition_read see i x j k =
     let le : 0 ≤ 13 = omega arith in
     takes see i (λ u. goes (at_expr 0 (λ c. closes close_paren refl (k c)))) ▸ enclosed see x le j refl refl k
@@ -225,7 +225,7 @@ list_goes_on : (c : Class) (t : Lexeme) (ss : StmtTrees) (k : StmtTrees → Step
 list_goes_on close_brace t ss k h = absurd cc
 list_goes_on _ t ss k h = refl
 
-stmts_go_on : (see : Observer) (ss : StmtTrees) (k : StmtTrees → Step) (xs : List Lexeme) → BeginsStmt xs → Leads see (goes (at_stmts ss k)) xs (goes (at_stmt (λ s. at_stmts (more_stmts_of ss s) k))) xs
+pub stmts_go_on : (see : Observer) (ss : StmtTrees) (k : StmtTrees → Step) (xs : List Lexeme) → BeginsStmt xs → Leads see (goes (at_stmts ss k)) xs (goes (at_stmt (λ s. at_stmts (more_stmts_of ss s) k))) xs
 stmts_go_on see ss k [] h = absurd h
 stmts_go_on see ss k (t ∷ ts) h = as_if see falls_stmts (list_goes_on t.class t ss k h)
 
@@ -235,7 +235,7 @@ case_goes_on case_word t v ss k h = absurd cc
 case_goes_on default_word t v ss k h = absurd cc
 case_goes_on _ t v ss k h = refl
 
-cases_go_on : (see : Observer) (v : ℤ) (ss : StmtTrees) (k : ClauseTrees → Step) (xs : List Lexeme) → BeginsStmt xs → Leads see (goes (in_case v ss k)) xs (goes (at_stmt (λ s. in_case v (more_stmts_of ss s) k))) xs
+pub cases_go_on : (see : Observer) (v : ℤ) (ss : StmtTrees) (k : ClauseTrees → Step) (xs : List Lexeme) → BeginsStmt xs → Leads see (goes (in_case v ss k)) xs (goes (at_stmt (λ s. in_case v (more_stmts_of ss s) k))) xs
 cases_go_on see v ss k [] h = absurd h
 cases_go_on see v ss k (t ∷ ts) h = as_if see falls_case (case_goes_on t.class t v ss k h)
 
@@ -244,7 +244,7 @@ clause_over : (see : Observer) {c : Class} {t : Lexeme} {xs ys : List Lexeme} (v
     → Leads see (goes (in_case v ss k)) xs (goes (at_clauses (λ cs. k (one_clause (Some v) ss cs)))) xs
 clause_over see v ss k (here {t = t} h) hands = as_if see falls_clause (ap (λ d. in_case_by d t v ss k) h ∙ hands t ∙ sym (ap (λ d. clauses_by d t (λ cs. k (one_clause (Some v) ss cs))) h))
 
-clauses_over : (see : Observer) {cs : ClauseTrees} {t : Lexeme} {xs ys zs : List Lexeme} (v : ℤ) (ss : StmtTrees) (k : ClauseTrees → Step) → IsClauses cs xs ys → At close_brace t ys zs
+pub clauses_over : (see : Observer) {cs : ClauseTrees} {t : Lexeme} {xs ys zs : List Lexeme} (v : ℤ) (ss : StmtTrees) (k : ClauseTrees → Step) → IsClauses cs xs ys → At close_brace t ys zs
     → Leads see (goes (in_case v ss k)) xs (goes (at_clauses (λ cs. k (one_clause (Some v) ss cs)))) xs
 clauses_over see v ss k no_clauses i = clause_over see v ss k i (λ u. refl)
 clauses_over see v ss k (a_case j l m x y) i = clause_over see v ss k j (λ u. refl)
@@ -289,11 +289,11 @@ mutual
   stmts_read see no_stmts rs k j = on_class see (at_stmts rs k) (λ c u. stmts_by c u rs k) (λ u. refl) j
   stmts_read see {xs = xs} (more_stmts {s = s} x y) rs k j = stmts_go_on see rs k xs (stmt_begins x) ▸ stmt_read see x (λ s. at_stmts (more_stmts_of rs s) k) ▸ stmts_read see y (more_stmts_of rs s) k j
 
-  case_read : (see : Observer) {ss : StmtTrees} {xs ys : List Lexeme} → IsStmts ss xs ys → (v : ℤ) (rs : StmtTrees) (k : ClauseTrees → Step) → Leads see (goes (in_case v rs k)) xs (goes (in_case v (with_stmts rs ss) k)) ys
+  pub case_read : (see : Observer) {ss : StmtTrees} {xs ys : List Lexeme} → IsStmts ss xs ys → (v : ℤ) (rs : StmtTrees) (k : ClauseTrees → Step) → Leads see (goes (in_case v rs k)) xs (goes (in_case v (with_stmts rs ss) k)) ys
   case_read see no_stmts v rs k = stay
   case_read see {xs = xs} (more_stmts {s = s} x y) v rs k = cases_go_on see v rs k xs (stmt_begins x) ▸ stmt_read see x (λ s. in_case v (more_stmts_of rs s) k) ▸ case_read see y v (more_stmts_of rs s) k
 
-  clauses_read : (see : Observer) {cs : ClauseTrees} {t : Lexeme} {xs ys zs : List Lexeme} → IsClauses cs xs ys → (k : ClauseTrees → Step) → At close_brace t ys zs → Leads see (goes (at_clauses k)) xs (k cs) zs
+  pub clauses_read : (see : Observer) {cs : ClauseTrees} {t : Lexeme} {xs ys zs : List Lexeme} → IsClauses cs xs ys → (k : ClauseTrees → Step) → At close_brace t ys zs → Leads see (goes (at_clauses k)) xs (k cs) zs
   clauses_read see no_clauses k j = on_class see (at_clauses k) (λ c u. clauses_by c u k) (λ u. refl) j
   clauses_read see (a_case {v = v} {ss = ss} {cs = cs} {vs = vs} i l m x y) k j =
       on_class see (at_clauses k) (λ c u. clauses_by c u k) (λ u. refl) i
