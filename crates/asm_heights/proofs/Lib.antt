@@ -5,3 +5,4 @@ pub mod Rising
 pub mod Within
 pub mod Limits
 pub mod Frames
+pub mod Seen
