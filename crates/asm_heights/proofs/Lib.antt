@@ -6,3 +6,4 @@ pub mod Within
 pub mod Limits
 pub mod Frames
 pub mod Seen
+pub mod SeenStmts
