@@ -7,3 +7,4 @@ pub mod Limits
 pub mod Frames
 pub mod Seen
 pub mod SeenStmts
+pub mod SeenModules
