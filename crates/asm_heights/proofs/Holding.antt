@@ -45,7 +45,3 @@ round f h up more = record {
   rises = λ d s r le low. let m = more d s r le low in h.rises d (f s) (f r) m.0 m.1;
   tops = λ s. h.tops (f s);
 }
-
--- where the statement may end as a body
-pub as_body : {floor top : StmtTree → ℕ} → HoldsStmt floor top → ((s : StmtTree) → 2 + body_height s ≤ floor s) → HoldsStmt floor (λ s. max (body_height s) (top s))
-as_body h low = record { covers = h.covers; rises = h.rises; tops = λ s. omega (arith, low s, h.tops s) }

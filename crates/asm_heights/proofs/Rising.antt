@@ -14,7 +14,7 @@ use Rattle.asm_lang.specs.Machine.{same_class, begins_expr, is_quiet, State, clo
 use Rattle.asm_heights.specs.Peaks.{height, all_height, part_height, body_height, block_height, cases_height, last_height, peak}
 use Rattle.asm_heights.proofs.Sizes.{binary_height, floor_above, more_height, under_height, under_body, body_near, more_block, last_of_more}
 use Rattle.asm_heights.proofs.Bounds.{least, bound, step_bound, Holds, HoldsStmt, Flat, none, Kept, KeptStep, Rises}
-use Rattle.asm_heights.proofs.Holding.{up, up_stmt, silent, itself, inside, in_stmt, round, as_body}
+use Rattle.asm_heights.proofs.Holding.{up, up_stmt, silent, itself, inside, in_stmt, round}
 
 -- a step by a test
 pub by_test : (n : ℕ) (b : Bool) (x y : Step) → (b ≡ true → Rises n x) → (b ≡ false → Rises n y) → Rises n (cond b x y)
@@ -192,7 +192,7 @@ if_rises : (t : Lexeme) (k : StmtTree → State) → HoldsIn k → KeptIn k → 
 if_rises t k h g = condition_rises (bound (k (empty 0))) (λ c. goes (at_stmt (λ s. after_arm t.at c s k)))
     (silent (in_stmt height (λ c. if_only t.at c (empty 0)) h (λ a. omega arith) (λ d a b le. (omega arith, omega arith))))
     (λ c. (
-      as_body (round (λ s. if_only t.at c s) h (λ s. omega (arith, body_near s)) (λ d s r le low. (omega arith, omega arith))) (λ s. omega (arith, h.covers (if_only t.at c s))),
+      round (λ s. if_only t.at c s) h (λ s. omega (arith, body_near s)) (λ d s r le low. (omega arith, omega arith)),
       λ s. (h, g),
     ))
     (up_stmt h (empty 0) (if_only t.at least (empty 0)) (omega arith) (omega arith))

@@ -1,19 +1,15 @@
 -- A node above the limit that ends at a mark shows as a peak at the mark or before: expressions and statements.
-use Rattle.std.proofs.Common.{ℕ, suc, ◌≡◌, ◌≤◌, ◌<◌, ◌+◌, max, Bool, true, false, List, [], ◌∷◌, length, Option, Some, None, refl, sym, ap, subst, ◌⊎◌, inl, inr, arith}
-use Rattle.std.specs.Prelude.{ℤ}
+use Rattle.std.proofs.Common.{ℕ, suc, ◌≤◌, ◌<◌, List, [], ◌∷◌, length, refl, sym, subst, ◌⊎◌, inl, inr, arith}
 use Rattle.sem_words.specs.declared.js_value.JsUnary.TheVariants.{Neg}
-use Rattle.asm_lang.specs.Lexemes.{Class, identifier, close_brace, open_brace, open_paren, close_paren, open_bracket, close_bracket, colon, semicolon, else_word, Lexeme, sign, At}
-use Rattle.asm_lang.specs.Trees.{ExprTree, literal, decimals, variable, element, call, table_call, assignment, store, unary, binary, conditional, listed, ExprTrees, no_expr, one_expr, StmtTree, block, plain, empty, if_only, if_else, returns, while_loop, do_loop, for_loop, breaks, continues, switches, StmtTrees, no_stmt, ClauseTrees, no_clause, one_clause}
-use Rattle.asm_lang.specs.Grammar.{level_of, IsExpr, an_operand, a_binary, a_conditional, an_assignment, a_store, a_list, IsOperand, a_literal, a_negative, a_decimal_literal, a_variable, an_element, a_call, a_table_call, in_parens, a_prefix, a_minus, IsIndex, an_index, IsArguments, no_argument, arguments, IsRest, no_further, a_further, place_of, under, IsOption, absent, present, IsReturned, no_value, a_value, IsStmt, a_block, a_plain, an_empty, an_if_only, an_if_else, a_return, a_while, a_do, a_for, a_break, a_continue, a_labelled, a_switch, IsStmts, no_stmts, more_stmts, IsClauses, no_clauses, a_case, a_default}
-use Rattle.asm_lang.specs.Machine.{is_quiet, begins_expr, State, closes, at_expr, after_name, after_index, after_expr, at_arguments, in_rest, ends, ends_do, at_stmt, after_stmt_name, at_option, at_return, after_arm, after_body, at_stmts, at_clauses, in_case, Step, goes, expects, more_exprs, expr_by, infix_by, name_by, index_by, rest_by, end_by, more_stmts_of, condition, stmt_name_by, arm_by, case_value, clauses_by, feed, advance}
-use Rattle.asm_lang.proofs.Tokens.{Ends, Stops, level_low, Stops-ends, Ends-up, Ends-low, stop_here, end_here, stop_at_end, end_no_colon, expr_begins, expr_first, stops_at}
-use Rattle.asm_lang.proofs.Leads.{Falls, falls_name, falls_index, falls_expr, falls_minus, falls_rest, falls_arguments, falls_end, falls_do_end, falls_option, falls_value, falls_return, falls_target, falls_label, falls_arm, falls_stmts, falls_case, falls_clause, falls_member, falls_init, falls_globals, falls_local, falls_locals, falls_marks, falls_tables, falls_comma, GoAlike, Observer, Leads, ◌▸◌, by_step, takes, closed, bodied, on_class}
-use Rattle.asm_lang.proofs.CompleteExprs.{falls, goes_on, asks, lists, assigns, stores, at_the_name, minus_goes, prefix_read, first_argument, operand_stop, under_13, same, rest_Stops, expr_read, operand_read, index_read, rest_read}
-use Rattle.asm_lang.proofs.CompleteStmts.{enclosed, option_some, option_read, return_value, literal_read, with_no_stmt, stmt_begins, plain_begins, at_the_word, condition_read, stmts_go_on, cases_go_on, clauses_over, stmt_read, case_read}
-use Rattle.asm_heights.specs.Peaks.{height, stmt_height, body_height, last_height, peak, step_peak}
-use Rattle.asm_heights.specs.Rises.{counted}
-use Rattle.asm_heights.specs.HighNodes.{Here, HighExpr, HighOperand, HighIndex, HighArguments, HighRest, HighOption, HighReturned, HighStmt, HighStmts, HighClauses}
-use Rattle.asm_heights.proofs.Sizes.{under_height, under_body, last_of_more}
+use Rattle.asm_lang.specs.Lexemes.{close_paren, close_bracket, colon, Lexeme}
+use Rattle.asm_lang.specs.Trees.{ExprTree, variable, element, call, table_call, assignment, store, unary, binary, conditional, listed, ExprTrees, no_expr, one_expr}
+use Rattle.asm_lang.specs.Grammar.{level_of, IsExpr, an_operand, a_binary, a_conditional, an_assignment, a_store, a_list, IsOperand, a_literal, a_negative, a_decimal_literal, a_variable, an_element, a_call, a_table_call, in_parens, a_prefix, a_minus, IsIndex, an_index, IsArguments, no_argument, arguments, IsRest, no_further, a_further}
+use Rattle.asm_lang.specs.Machine.{State, closes, at_expr, after_name, after_index, after_expr, at_arguments, in_rest, Step, goes, more_exprs, expr_by, name_by, index_by, rest_by, feed, advance}
+use Rattle.asm_lang.proofs.Tokens.{Ends, Stops, level_low, Stops-ends, Ends-up, Ends-low, stop_here, end_here, expr_first}
+use Rattle.asm_lang.proofs.Leads.{Falls, falls_name, falls_index, falls_expr, falls_minus, falls_rest, falls_arguments, falls_end, falls_do_end, falls_option, falls_value, falls_return, falls_target, falls_label, falls_arm, falls_stmts, falls_case, falls_clause, falls_member, falls_init, falls_globals, falls_local, falls_locals, falls_marks, falls_tables, falls_comma, GoAlike, Observer, ◌▸◌, closed, on_class}
+use Rattle.asm_lang.proofs.CompleteExprs.{falls, goes_on, asks, lists, assigns, stores, at_the_name, minus_goes, prefix_read, first_argument, operand_stop, under_13, same, rest_Stops, expr_read, operand_read, index_read}
+use Rattle.asm_heights.specs.Peaks.{height, peak, step_peak}
+use Rattle.asm_heights.specs.HighNodes.{Here, HighExpr, HighOperand, HighIndex, HighArguments, HighRest}
 
 -- from this step on, up to the mark, some peak is above the limit
 abbrev pub Peaks : ℕ → ℕ → Step → List Lexeme → Type 0

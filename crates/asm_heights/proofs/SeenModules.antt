@@ -1,19 +1,19 @@
 -- A node above the limit that ends at a mark shows as a peak at the mark or before: modules. So where no peak is above it, none is.
-use Rattle.std.proofs.Common.{ℕ, ◌≡◌, ◌≤◌, ◌<◌, ◌+◌, max, Bool, true, false, cond, ltb, List, [], ◌∷◌, ◌++◌, zero, suc, length, take, drop, Option, Some, None, Result, Ok, Err, refl, sym, ap, subst, ◌∙◌, ◌⊎◌, inl, inr, arith, append_assoc, length-append, length-drop}
+use Rattle.std.proofs.Common.{ℕ, ◌≡◌, ◌≤◌, ◌<◌, ◌+◌, Bool, true, false, cond, ltb, List, [], ◌∷◌, ◌++◌, zero, suc, length, take, drop, Result, Ok, Err, refl, sym, ap, subst, ◌∙◌, inl, inr, arith, length-append, length-drop}
 use Rattle.std.proofs.lemmas.Bool.{ltb-true, ltb-false}
 use Rattle.std.proofs.lemmas.List.{take_at, take-append-le}
-use Rattle.asm_lang.specs.Lexemes.{Class, identifier, function_word, close_brace, close_paren, open_brace, open_paren, Lexeme, sign, At}
-use Rattle.asm_lang.specs.Trees.{StmtTrees, no_stmt, VariableTree, ParamTree, FunctionTree, TableTree, ExportsTree, Heading, ModuleTree}
+use Rattle.asm_lang.specs.Lexemes.{Class, identifier, function_word, close_paren, open_paren, Lexeme, sign}
+use Rattle.asm_lang.specs.Trees.{no_stmt, VariableTree, FunctionTree, TableTree, Heading, ModuleTree}
 use Rattle.asm_lang.specs.Grammar.{IsFunction, a_function, IsFunctions, no_functions, more_functions, IsModule, a_module}
 use Rattle.asm_lang.specs.Modules.{function_of}
 use Rattle.asm_lang.specs.Heights.{function_height}
 use Rattle.asm_lang.specs.Machine as machine
 use Rattle.asm_lang.specs.Machine.{State, closes, at_stmts, in_names, at_marks, at_locals, at_use, at_globals, at_functions, at_end, Step, goes, expects, either, refuses, body_step, function_step, globals_by, functions_by, use_by, feed, advance, Refusal, ended, stops, run, at_start}
-use Rattle.asm_lang.proofs.Leads.{Observer, Leads, ◌▸◌, by_step, takes, closed, on_class}
+use Rattle.asm_lang.proofs.Leads.{Observer, ◌▸◌, by_step, takes, closed, on_class}
 use Rattle.asm_lang.proofs.CompleteStmts.{end_read}
 use Rattle.asm_lang.proofs.CompleteModules.{with_all, with_nothing, heading_read, globals_read, params_read, marks_read, locals_read, locals_over, function_read, body_read}
-use Rattle.asm_heights.specs.Peaks.{whole_height, last_function, peak, step_peak, after, Stop, refused, high, stop_of, run_low}
-use Rattle.asm_heights.specs.HighNodes.{Here, HighFunction, HighFunctions, HighModule, BeginsHigh}
+use Rattle.asm_heights.specs.Peaks.{whole_height, last_function, step_peak, after, Stop, refused, high, stop_of, run_low}
+use Rattle.asm_heights.specs.HighNodes.{HighFunction, HighFunctions, HighModule, BeginsHigh}
 use Rattle.asm_heights.proofs.Seen.{Peaks, seen_within, peaks, ended_here}
 use Rattle.asm_heights.proofs.SeenStmts.{stmts_seen}
 

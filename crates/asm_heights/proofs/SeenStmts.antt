@@ -1,7 +1,7 @@
 -- A node above the limit that ends at a mark shows as a peak at the mark or before: statements.
-use Rattle.std.proofs.Common.{ℕ, suc, ◌≡◌, ◌≤◌, ◌<◌, ◌+◌, max, Bool, true, false, List, [], ◌∷◌, length, Option, Some, None, refl, sym, ap, ◌⊎◌, inl, inr, arith}
+use Rattle.std.proofs.Common.{ℕ, ◌≡◌, ◌≤◌, Bool, true, false, List, Option, Some, None, refl, ap, inl, inr, arith}
 use Rattle.std.specs.Prelude.{ℤ}
-use Rattle.asm_lang.specs.Lexemes.{Class, identifier, close_brace, open_brace, open_paren, close_paren, colon, semicolon, Lexeme, sign, At}
+use Rattle.asm_lang.specs.Lexemes.{Class, close_brace, open_brace, open_paren, close_paren, colon, semicolon, Lexeme, sign, At}
 use Rattle.asm_lang.specs.Trees.{ExprTree, variable, StmtTree, block, plain, empty, if_only, if_else, returns, while_loop, do_loop, for_loop, breaks, continues, switches, StmtTrees, no_stmt, ClauseTrees, no_clause, one_clause}
 use Rattle.asm_lang.specs.Grammar.{IsExpr, place_of, under, IsOption, absent, present, IsReturned, no_value, a_value, IsStmt, a_block, a_plain, an_empty, an_if_only, an_if_else, a_return, a_while, a_do, a_for, a_break, a_continue, a_labelled, a_switch, IsStmts, no_stmts, more_stmts, IsClauses, no_clauses, a_case, a_default}
 use Rattle.asm_lang.specs.Machine.{is_quiet, begins_expr, State, closes, at_expr, ends, ends_do, at_stmt, after_stmt_name, at_option, at_return, after_arm, after_body, at_stmts, at_clauses, in_case, Step, goes, expects, end_by, more_stmts_of, condition, stmt_name_by, arm_by, case_value, clauses_by, feed}
@@ -11,8 +11,8 @@ use Rattle.asm_lang.proofs.CompleteExprs.{same}
 use Rattle.asm_lang.proofs.CompleteStmts.{option_some, option_read, return_value, literal_read, with_no_stmt, stmt_begins, plain_begins, at_the_word, condition_read, stmts_go_on, cases_go_on, clauses_over, stmt_read, case_read}
 use Rattle.asm_heights.specs.Peaks.{stmt_height, body_height, peak}
 use Rattle.asm_heights.specs.Rises.{counted}
-use Rattle.asm_heights.specs.HighNodes.{Here, HighExpr, HighOption, HighReturned, HighStmt, HighStmts, HighClauses}
-use Rattle.asm_heights.proofs.Sizes.{body_low, under_height, under_body, last_of_more}
+use Rattle.asm_heights.specs.HighNodes.{HighExpr, HighOption, HighReturned, HighStmt, HighStmts, HighClauses}
+use Rattle.asm_heights.proofs.Sizes.{under_height, under_body, last_of_more}
 use Rattle.asm_heights.proofs.Seen.{Peaks, peaks, ended_here, expr_seen}
 
 -- a statement that is put in shows, as what it counts there
@@ -33,8 +33,8 @@ listed_shows ss k = λ s. omega (arith, last_of_more ss s)
 clause_shows : (v : ℤ) (ss : StmtTrees) (k : ClauseTrees → Step) → Shows false (λ s. in_case v (more_stmts_of ss s) k)
 clause_shows v ss k = λ s. omega (arith, last_of_more ss s)
 
-arm_shows : (at : ℕ) (c : ExprTree) (k : StmtTree → State) → Shows true (λ s. after_arm at c s k)
-arm_shows at c k = λ s. omega arith
+arm_shows : (b : Bool) (at : ℕ) (c : ExprTree) (k : StmtTree → State) → Shows b k → Shows true (λ s. after_arm at c s k)
+arm_shows b at c k h = λ s. omega (arith, alone_shows b k (if_only at c s) refl h)
 
 else_shows : (b : Bool) (at : ℕ) (c : ExprTree) (a : StmtTree) (k : StmtTree → State) → Shows b k → Shows true (λ s. k (if_else at c a s))
 else_shows b at c a k h = λ s. omega (arith, alone_shows b k (if_else at c a s) refl h)
@@ -99,12 +99,12 @@ module _ (limit mark : ℕ) where
     stmt_seen (an_if_only {t = t} {c = c} {s = s} {us = us} i j x l y alone) b h k shows = elim h [
       | inl here ↦ stmt_read see (an_if_only i j x l y alone) k (ended_here limit mark (k (if_only t.at c s)) us (counted b (if_only t.at c s)) here (shows (if_only t.at c s)))
       | inr (inl hx) ↦ at_the_word see k i (condition_seen j x hx l (λ c. goes (at_stmt (λ s. after_arm t.at c s k))))
-      | inr (inr hy) ↦ (at_the_word see k i ▸ condition_read see j x l (λ c. goes (at_stmt (λ s. after_arm t.at c s k)))) (stmt_seen y true hy (λ s. after_arm t.at c s k) (arm_shows t.at c k))
+      | inr (inr hy) ↦ (at_the_word see k i ▸ condition_read see j x l (λ c. goes (at_stmt (λ s. after_arm t.at c s k)))) (stmt_seen y true hy (λ s. after_arm t.at c s k) (arm_shows b t.at c k shows))
     ]
     stmt_seen (an_if_else {t = t} {c = c} {s = s} {r = r} {rs = rs} i j x l y m z) b h k shows = elim h [
       | inl here ↦ stmt_read see (an_if_else i j x l y m z) k (ended_here limit mark (k (if_else t.at c s r)) rs (counted b (if_else t.at c s r)) here (shows (if_else t.at c s r)))
       | inr (inl hx) ↦ at_the_word see k i (condition_seen j x hx l (λ c. goes (at_stmt (λ s. after_arm t.at c s k))))
-      | inr (inr (inl hy)) ↦ (at_the_word see k i ▸ condition_read see j x l (λ c. goes (at_stmt (λ s. after_arm t.at c s k)))) (stmt_seen y true hy (λ s. after_arm t.at c s k) (arm_shows t.at c k))
+      | inr (inr (inl hy)) ↦ (at_the_word see k i ▸ condition_read see j x l (λ c. goes (at_stmt (λ s. after_arm t.at c s k)))) (stmt_seen y true hy (λ s. after_arm t.at c s k) (arm_shows b t.at c k shows))
       | inr (inr (inr hz)) ↦ (at_the_word see k i
           ▸ condition_read see j x l (λ c. goes (at_stmt (λ s. after_arm t.at c s k)))
           ▸ stmt_read see y (λ s. after_arm t.at c s k)

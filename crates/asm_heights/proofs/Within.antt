@@ -298,7 +298,7 @@ peak_below (ends_do s) h = peak_below s h
 peak_below (after_stmt_name n k) h = let g = h.0 in omega (arith, g.tops (plain n.at (variable n.at n.text)), g.covers (empty 0), g.rises 1 (plain n.at (variable n.at n.text)) (empty 0) (omega arith) (omega arith))
 peak_below (at_return k) h = let g = h.0 in omega (arith, g.tops None)
 peak_below (at_target k) h = peak_below (k None) (h.1 None)
-peak_below (after_arm at c s k) h = let g = h.0 in omega (arith, g.tops (if_only at c s), g.covers (if_only at c s))
+peak_below (after_arm at c s k) h = let g = h.0 in omega (arith, g.tops (if_only at c s))
 peak_below (after_body b s) h = omega (arith, h.0)
 peak_below (at_stmts ss k) h = let g = h.0 in omega (arith, last_below ss, g.covers ss)
 peak_below (in_case v ss k) h = let g = h.0 in omega (arith, last_below ss, g.covers (one_clause (Some v) ss no_clause))

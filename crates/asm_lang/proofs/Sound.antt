@@ -20,7 +20,7 @@ by_test all t xs b x y f g = cond_both b x y (λ s. Moves all t s xs) f g
 
 -- ---- expressions
 
-pub at_level : {p q : ℕ} {e : ExprTree} {xs ys : List Lexeme} → p ≤ q → IsExpr q e xs ys → IsExpr p e xs ys
+unfoldable pub at_level : {p q : ℕ} {e : ExprTree} {xs ys : List Lexeme} → p ≤ q → IsExpr q e xs ys → IsExpr p e xs ys
 at_level le (an_operand x) = an_operand x
 at_level {p = p} le (a_binary {op = op} low x i y) = let h : p ≤ level_of op = omega (arith, le, low) in a_binary h x i y
 at_level {p = p} le (a_conditional low x i y j z) = let h : p ≤ 1 = omega (arith, le, low) in a_conditional h x i y j z
@@ -32,7 +32,7 @@ rank_top : (c : Class) → rank c ≤ 14
 rank_top (operator op) = omega (arith, level_low op)
 rank_top _ = omega arith
 
-ends_top : (p : ℕ) (xs : List Lexeme) → Ends (p + 14) xs
+pub ends_top : (p : ℕ) (xs : List Lexeme) → Ends (p + 14) xs
 ends_top p [] = tt
 ends_top p (t ∷ ts) = omega (arith, rank_top t.class)
 
@@ -46,7 +46,7 @@ rank_below n open_bracket le h = absurd cc
 rank_below n equals le h = absurd cc
 rank_below n _ le h = omega arith
 
-ends_below : (n : ℕ) (xs : List Lexeme) → 2 ≤ n → Stops (suc n) xs → Ends n xs
+pub ends_below : (n : ℕ) (xs : List Lexeme) → 2 ≤ n → Stops (suc n) xs → Ends n xs
 ends_below n [] le h = tt
 ends_below n (t ∷ ts) le h = rank_below n t.class le h
 
@@ -58,10 +58,10 @@ operand_reaches all {ws = ws} {ys = ys} p k h x = let le : p ≤ p + 14 = omega 
 over : (all : List Lexeme) (c : Class) (t : Lexeme) (xs : List Lexeme) (p : ℕ) (e : ExprTree) (k : ExprTree → State) → t.class ≡ c → stops_at p c ≡ true → Reached all (after_expr p e k) (t ∷ xs) → Reached all (k e) (t ∷ xs)
 over all c t xs p e k is stop r = r.5 e (t ∷ xs) (at_level r.2 r.3) (ap (stops_at p) is ∙ stop)
 
-rank_is : (c : Class) (t : Lexeme) (xs : List Lexeme) (q : ℕ) → t.class ≡ c → Ends q (t ∷ xs) → rank c ≤ q
+pub rank_is : (c : Class) (t : Lexeme) (xs : List Lexeme) (q : ℕ) → t.class ≡ c → Ends q (t ∷ xs) → rank c ≤ q
 rank_is c t xs q is h = subst (λ (d : Class). rank d ≤ q) is h
 
-not_is : (b : Bool) → b ≡ false → not b ≡ true
+pub not_is : (b : Bool) → b ≡ false → not b ≡ true
 not_is b h = ap not h
 
 infix_reaches : (all : List Lexeme) (c : Class) (t : Lexeme) (xs : List Lexeme) (p : ℕ) (e : ExprTree) (k : ExprTree → State) (last : Step) → t.class ≡ c → Reached all (after_expr p e k) (t ∷ xs)
@@ -124,11 +124,11 @@ arguments_reach all close_paren t xs k is h = h no_expr xs (no_argument (here is
 arguments_reach all c t xs k is h = expr_reaches all c t xs 1 (λ e. in_rest (one_expr e no_expr) (λ es. closes close_paren refl (goes (k es)))) is
     (λ e ys x stop. (stop, λ es zs r end u ws j. subst (λ (fs : ExprTrees). Reached all (k fs) ws) (sym (with_one e es)) (h (one_expr e es) ws (arguments x r j))))
 
-abbrev is_comma : Class → Bool
+abbrev pub is_comma : Class → Bool
 is_comma comma = true
 is_comma _ = false
 
-no_list : (c : Class) → stops_at 1 c ≡ true → is_comma c ≡ false → stops_at 0 c ≡ true
+pub no_list : (c : Class) → stops_at 1 c ≡ true → is_comma c ≡ false → stops_at 0 c ≡ true
 no_list (operator op) h n = let k = not_above 1 (level_of op) h in let m = level_high op in absurd (omega arith)
 no_list question h n = let k = not_above 1 1 h in absurd (omega arith)
 no_list comma h n = absurd cc
