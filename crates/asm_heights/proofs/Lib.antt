@@ -1,0 +1,13 @@
+pub mod Sizes
+pub mod Bounds
+pub mod Holding
+pub mod Rising
+pub mod Within
+pub mod Limits
+pub mod Frames
+pub mod Seen
+pub mod SeenStmts
+pub mod SeenModules
+pub mod Carried
+pub mod Finished
+pub mod Places
