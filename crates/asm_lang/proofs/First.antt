@@ -6,7 +6,7 @@ use Rattle.asm_lang.specs.Trees.{variable, element, plain, if_only, member, Head
 use Rattle.asm_lang.specs.Grammar.{IsModule}
 use Rattle.asm_lang.specs.Machine.{Fault, grammar, no_use_asm, State, after_name, after_index, after_expr, in_rest, ends, ends_do, after_stmt_name, at_return, at_target, after_arm, after_member, at_marks, at_locals, in_locals, may_comma, at_end, Step, goes, expects, either, refuses, use_by, advance, Refusal, ended, stops, run, at_start, failed}
 use Rattle.asm_lang.specs.Faults.{IsViable, IsPair, IsNegativeZero, IsMissingUse, IsFirstFault}
-use Rattle.asm_lang.proofs.CompleteModules.{heading_read, module_read}
+use Rattle.asm_lang.proofs.CompleteModules.{heading_run, module_read}
 use Rattle.asm_lang.proofs.Reached.{Comes, Explains, Moves}
 use Rattle.asm_lang.proofs.Sound.{advance_reaches, start_comes}
 use Rattle.asm_lang.proofs.Viable.{PromiseStep, Ending, moved_step, finish_step}
@@ -163,7 +163,7 @@ use_other _ t h n = refl
 
 missing_use_run : (xs : List Lexeme) (k : ℕ) → IsMissingUse xs k → run at_start xs ≡ failed no_use_asm (drop k xs)
 missing_use_run xs k m =
-    heading_read m.stands ∙ ap (λ s. run s m.rest) (use_other m.token.class m.token m.heading m.is_other) ∙ refuses_run no_use_asm (m.token ∷ []) m.rest ∙ ap (failed no_use_asm) (sym m.there)
+    heading_run m.stands ∙ ap (λ s. run s m.rest) (use_other m.token.class m.token m.heading m.is_other) ∙ refuses_run no_use_asm (m.token ∷ []) m.rest ∙ ap (failed no_use_asm) (sym m.there)
 
 pub first_fault : (xs : List Lexeme) (k : ℕ) → k ≤ length xs → run at_start xs ≡ failed grammar (drop k xs) → ((j : ℕ) → j + 1 ≡ k → ¬ IsPair xs j) → IsFirstFault xs k
 first_fault xs k le e single =

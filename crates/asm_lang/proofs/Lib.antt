@@ -1,4 +1,5 @@
 pub mod Tokens
+pub mod Leads
 pub mod CompleteExprs
 pub mod CompleteStmts
 pub mod CompleteModules

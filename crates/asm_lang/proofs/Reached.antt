@@ -1,10 +1,10 @@
 -- What a state promises: whatever the grammar spells from here on, together with what was read, is a module.
 use Rattle.std.proofs.Common.{ℕ, ◌≡◌, ◌≤◌, Bool, true, false, List, [], ◌∷◌, ◌++◌, Option, Some}
 use Rattle.sem_words.specs.declared.js_value.JsOp.TheVariants.{Sub}
-use Rattle.asm_lang.specs.Lexemes.{identifier, else_word, directive, close_brace, open_bracket, comma, operator, Lexeme, Is, At}
+use Rattle.asm_lang.specs.Lexemes.{identifier, else_word, while_word, directive, close_brace, open_bracket, comma, operator, Lexeme, Is, At}
 use Rattle.asm_lang.specs.Trees.{ExprTree, ExprTrees, StmtTree, if_only, if_else, StmtTrees, ClauseTrees, one_clause, Init, VariableTree, ParamTree, FunctionTree, TableTree, ExportTree, ExportsTree, Heading}
 use Rattle.asm_lang.specs.Grammar.{IsExpr, IsOperand, IsIndex, IsArguments, IsRest, IsEnd, IsDoEnd, is_same_line, no_else, IsOption, IsReturned, IsTarget, IsLiteral, IsStmt, IsStmts, IsClauses, IsMember, IsInit, IsNames, IsMembers, IsGlobal, IsLocal, IsTable, IsDeclared, IsMarks, IsFunctions, IsExports, IsReturnedPart, IsExported, IsHeading, IsLast, IsModule}
-use Rattle.asm_lang.specs.Machine.{Fault, grammar, no_use_asm, State, closes, at_expr, after_minus, after_name, after_index, after_expr, at_arguments, in_rest, ends, ends_do, at_stmt, after_stmt_name, at_option, at_return, at_target, after_arm, at_stmts, at_clauses, in_case, at_literal, after_sign, at_init, after_member, in_names, at_marks, at_locals, in_locals, may_comma, at_use, at_globals, at_value, in_globals, at_functions, at_tables, in_tables, at_export, at_exports, in_exports, at_end, Step, goes, expects, either, refuses, variable_of, module_of, table_of}
+use Rattle.asm_lang.specs.Machine.{Fault, grammar, no_use_asm, State, closes, at_expr, after_minus, after_name, after_index, after_expr, at_arguments, in_rest, ends, ends_do, at_stmt, after_stmt_name, at_option, at_return, at_target, after_arm, after_body, at_stmts, at_clauses, in_case, at_literal, after_sign, at_init, after_member, in_names, at_marks, at_locals, in_locals, may_comma, at_use, at_globals, at_value, in_globals, at_functions, at_tables, in_tables, at_export, at_exports, in_exports, at_end, Step, goes, expects, either, refuses, variable_of, module_of, table_of}
 use Rattle.asm_lang.proofs.Tokens.{Ends, Stops}
 use Rattle.asm_lang.proofs.CompleteExprs.{with_exprs}
 use Rattle.asm_lang.proofs.CompleteStmts.{with_stmts}
@@ -51,6 +51,7 @@ abbrev mutual
   Reached all (at_return k) xs = (o : Option ExprTree) (ys : List Lexeme) → IsReturned o xs ys → Reached all (k o) ys
   Reached all (at_target k) xs = (o : Option (List ℕ)) (ys : List Lexeme) → IsTarget o xs ys → Reached all (k o) ys
   Reached all (after_arm at c s k) xs = (no_else xs ≡ true → Reached all (k (if_only at c s)) xs) × ((t : Lexeme) (ys : List Lexeme) (r : StmtTree) (zs : List Lexeme) → At else_word t xs ys → IsStmt r ys zs → Reached all (k (if_else at c s r)) zs)
+  Reached all (after_body b s) xs = (t : Lexeme) (ys : List Lexeme) → At while_word t xs ys → Comes all s ys
   Reached all (at_stmts rs k) xs = (ss : StmtTrees) (t : Lexeme) (ys zs : List Lexeme) → IsStmts ss xs ys → At close_brace t ys zs → Comes all (k (with_stmts rs ss)) zs
   Reached all (at_clauses k) xs = (cs : ClauseTrees) (t : Lexeme) (ys zs : List Lexeme) → IsClauses cs xs ys → At close_brace t ys zs → Comes all (k cs) zs
   Reached all (in_case v rs k) xs = (ss : StmtTrees) (cs : ClauseTrees) (t : Lexeme) (ys zs ws : List Lexeme) → IsStmts ss xs ys → IsClauses cs ys zs → At close_brace t zs ws → Comes all (k (one_clause (Some v) (with_stmts rs ss) cs)) ws

@@ -7,8 +7,8 @@ use Rattle.sem_words.specs.declared.js_value.JsUnary.TheVariants.{Neg}
 use Rattle.asm_lang.specs.Lexemes.{Class, identifier, break_word, case_word, continue_word, default_word, do_word, else_word, for_word, function_word, if_word, new_word, return_word, switch_word, var_word, while_word, a_number, a_decimal, directive, open_brace, close_brace, open_paren, close_paren, open_bracket, dot, semicolon, comma, question, colon, equals, operator, tilde, bang, Lexeme, is_word, named, here, At}
 use Rattle.asm_lang.specs.Trees.{ExprTree, literal, variable, element, unary, listed, ExprTrees, no_expr, one_expr, StmtTree, block, plain, empty, if_only, if_else, returns, while_loop, do_loop, for_loop, breaks, continues, switches, StmtTrees, no_stmt, one_stmt, ClauseTrees, no_clause, one_clause, Init, number, decimal, foreign_int, foreign_double, member, math, view, VariableTree, ParamTree, FunctionTree, TableTree, ExportTree, one, many, Heading, ModuleTree}
 use Rattle.asm_lang.specs.Grammar.{level_of, a_plus, a_tilde, a_bang, is_numeric, IsExpr, an_operand, a_binary, a_conditional, an_assignment, a_store, a_list, IsOperand, a_literal, a_negative, a_decimal_literal, a_variable, an_element, a_call, a_table_call, in_parens, a_prefix, a_minus, an_index, no_argument, arguments, no_further, a_further, may_miss_before, written, missing, do_written, do_missing, under, absent, present, no_value, a_value, no_label, a_label, IsLiteral, positive, negative, positive_decimal, negative_decimal, a_block, a_plain, an_empty, an_if_only, an_if_else, a_return, a_while, a_do, a_for, a_break, a_continue, a_labelled, a_switch, IsStmts, no_stmts, more_stmts, no_clauses, a_case, a_default, a_member, an_int, a_math, of_literal, of_member, of_double, of_view, no_names, more_names, texts, IsMembers, members_of, a_global, IsLocal, a_local, IsTable, a_table, IsDeclared, no_var, a_var, a_comma, an_end, IsMarks, no_marks, an_int_mark, a_double_mark, IsParams, no_params, some_params, a_function, no_functions, more_functions, an_export, no_export, next_export, after_comma, export_one, export_many, an_exported, IsName, unnamed, a_name, IsModuleParams, params_0, params_1, params_2, params_3, IsHeading, a_heading, IsLast, nothing_more, last_semicolon, IsModule, a_module, is_else, is_semicolon}
-use Rattle.asm_lang.specs.Machine.{same_class, meets, begins_expr, is_quiet, Fault, State, closes, at_expr, after_minus, after_name, after_index, after_expr, at_arguments, in_rest, ends, ends_do, at_stmt, after_stmt_name, at_option, at_return, at_target, after_arm, at_stmts, at_clauses, in_case, at_literal, after_sign, at_init, after_member, in_names, at_marks, at_locals, in_locals, may_comma, at_use, at_globals, at_value, in_globals, at_functions, at_tables, in_tables, at_export, at_exports, in_exports, at_end, Step, goes, expects, either, refuses, stuck, expr_by, minus_by, infix_by, name_by, index_by, arguments_by, rest_by, end_by, do_end_by, more_stmts_of, stmt_by, stmt_name_by, option_by, return_by, target_by, arm_by, stmts_by, case_value, clauses_by, in_case_by, literal_by, sign_by, init_by, member_by, names_by, int_mark, double_mark, mark_step, variable_of, local_step, locals_by, in_locals_by, module_of, export_by, export_step, table_of, members_step, table_step, function_of, body_step, function_step, globals_by, value_by, in_globals_by, functions_by, tables_by, in_tables_by, export_of, exports_step, in_exports_by, use_by, end_step, comma_by, feed, advance, Refusal, ended, run, params_step, heading_step, at_start}
-use Rattle.asm_lang.proofs.Tokens.{same_is, and_right, meets_is, rank, stops_at, Ends, Stops, level_high, level_low, not_above, Stops-ends, Stops-all}
+use Rattle.asm_lang.specs.Machine.{same_class, meets, begins_expr, is_quiet, Fault, State, closes, at_expr, after_minus, after_name, after_index, after_expr, at_arguments, in_rest, ends, ends_do, at_stmt, after_stmt_name, at_option, at_return, at_target, after_arm, after_body, at_stmts, at_clauses, in_case, at_literal, after_sign, at_init, after_member, in_names, at_marks, at_locals, in_locals, may_comma, at_use, at_globals, at_value, in_globals, at_functions, at_tables, in_tables, at_export, at_exports, in_exports, at_end, Step, goes, expects, either, refuses, stuck, expr_by, minus_by, infix_by, name_by, index_by, arguments_by, rest_by, end_by, do_end_by, more_stmts_of, stmt_by, stmt_name_by, option_by, return_by, target_by, arm_by, stmts_by, case_value, clauses_by, in_case_by, literal_by, sign_by, init_by, member_by, names_by, int_mark, double_mark, mark_step, variable_of, local_step, locals_by, in_locals_by, module_of, export_by, export_step, table_of, members_step, table_step, function_of, body_step, function_step, globals_by, value_by, in_globals_by, functions_by, tables_by, in_tables_by, export_of, exports_step, in_exports_by, use_by, end_step, comma_by, feed, advance, Refusal, ended, run, params_step, heading_step, at_start}
+use Rattle.asm_lang.proofs.Tokens.{same_is, and_right, meets_is, rank, stops_at, Ends, Stops, level_high, level_low, not_above, Stops-ends}
 use Rattle.asm_lang.proofs.CompleteExprs.{with_one, with_two, same}
 use Rattle.asm_lang.proofs.CompleteStmts.{with_stmts, with_no_stmt}
 use Rattle.asm_lang.proofs.CompleteModules.{with_all, with_nothing}
@@ -78,8 +78,8 @@ infix_reaches all comma t xs p e k last is r go = by_test all t xs (nat_le p 0) 
     (λ le. λ f ys y stop. (
       stop,
       λ es zs x end.
-          subst (λ (fs : ExprTrees). Reached all (k (listed t.at fs)) zs) (sym (with_two e f es))
-          (r.5 (listed t.at (one_expr e (one_expr f es))) zs (a_list (leb-true p 0 le) (at_level (rank_is comma t xs r.0 is r.4) r.3) (here is) y x) (Stops-all p zs end)),
+          subst (λ (fs : ExprTrees). Reached all (after_expr p (listed t.at fs) k) zs) (sym (with_two e f es))
+          (0, r.1, leb-true p 0 le, a_list (same 0) (at_level (rank_is comma t xs r.0 is r.4) r.3) (here is) y x, Stops-ends 0 zs end, r.5),
     ))
     (λ no. go (over all comma t xs p e k is (not_is (nat_le p 0) no) r))
 infix_reaches all open_paren t xs p e k last is r go = refl
@@ -387,6 +387,7 @@ feed_reaches all (at_option c q b k) t xs h = option_reaches all t.class t xs c 
 feed_reaches all (at_return k) t xs h = return_reaches all t.class t xs k _ refl h (λ r. end_reaches all t.class t xs (k None) _ refl r (λ g. feed_reaches all (k None) t xs g))
 feed_reaches all (at_target k) t xs h = target_reaches all t.class t xs k _ refl h (λ r. end_reaches all t.class t xs (k None) _ refl r (λ g. feed_reaches all (k None) t xs g))
 feed_reaches all (after_arm at c s k) t xs h = arm_reaches all t.class t xs at c s k _ refl h (λ r. feed_reaches all (k (if_only at c s)) t xs r)
+feed_reaches all (after_body b s) t xs h = by_test all t xs (same_class while_word t.class) s (stuck t) (λ yes. comes_moves all t s xs (h t xs (here (same_is while_word t.class yes)))) (λ no. refl)
 feed_reaches all (at_stmts ss k) t xs h = stmts_reach all t.class t xs ss k refl h
 feed_reaches all (at_clauses k) t xs h = clauses_reach all t.class t xs k refl h
 feed_reaches all (in_case v ss k) t xs h = in_case_reaches all t.class t xs v ss k refl h

@@ -1,15 +1,15 @@
 -- A token that a grammar asks for is one that the machine takes, and what may follow an expression.
-use Rattle.std.proofs.Common.{ℕ, ◌≡◌, ◌≤◌, ◌<◌, Bool, true, false, ◌&&◌, not, cond, List, [], ◌∷◌, refl, sym, ap, subst, ◌∙◌, arith, eq-eqb}
-use Rattle.std.proofs.lemmas.Bool.{leb-false, lt-leb, eqb-true, cond-true, cond-false}
+use Rattle.std.proofs.Common.{ℕ, ◌≡◌, ◌≤◌, ◌<◌, Bool, true, false, ◌&&◌, not, List, [], ◌∷◌, refl, sym, ap, subst, ◌∙◌, arith, eq-eqb}
+use Rattle.std.proofs.lemmas.Bool.{leb-false, lt-leb, eqb-true}
 use Rattle.std.proofs.Math.ListN.{get_or}
 use Rattle.std.specs.Prelude.{bytes_eq, ◌==◌, nat_le}
 use Rattle.sem_words.specs.declared.js_value.JsOp.{JsOp}
 use Rattle.sem_words.specs.declared.js_value.JsOp.TheVariants.{Add, Sub, Mul, Div, Rem, Or, And, Xor, Shl, Sar, Shr, Lt, Le, Gt, Ge, Eq, Ne}
 use Rattle.sem_words.specs.declared.js_value.JsUnary.{JsUnary}
-use Rattle.asm_lang.specs.Lexemes.{Class, identifier, a_number, open_paren, open_bracket, comma, question, colon, equals, operator, other, Lexeme, is_word, Want, sign, a_property, named, a_zero, a_nonzero, Meets, Is, here, At}
+use Rattle.asm_lang.specs.Lexemes.{Class, identifier, a_number, open_paren, open_bracket, comma, question, colon, equals, operator, other, Lexeme, is_word, Want, sign, a_property, named, a_zero, a_nonzero, Meets, here, At}
 use Rattle.asm_lang.specs.Trees.{ExprTree}
 use Rattle.asm_lang.specs.Grammar.{level_of, IsPrefix, a_plus, a_tilde, a_bang, IsExpr, an_operand, a_binary, a_conditional, an_assignment, a_store, a_list, IsOperand, a_literal, a_negative, a_decimal_literal, a_variable, an_element, a_call, a_table_call, in_parens, a_prefix, a_minus, IsIndex, an_index, may_miss_before, may_miss, IsEnd, written, missing}
-use Rattle.asm_lang.specs.Machine.{same_class, class_number, classes, meets, excludes, begins_expr, is_quiet, State, closes, Step, goes, expects, either, stuck, feed, run}
+use Rattle.asm_lang.specs.Machine.{same_class, class_number, classes, meets, excludes, begins_expr}
 
 pub same_self : (c : Class) → same_class c c ≡ true
 same_self c = eq-eqb (class_number c) (class_number c) refl
@@ -67,25 +67,6 @@ excluded a_property d t h e = ap is_word e ∙ not_true (is_word d) h
 excluded (named bs) d t h e = and_false (same_class identifier t.class) (bytes_eq bs t.text) (ap (same_class identifier) e ∙ not_true (same_class identifier d) h)
 excluded a_zero d t h e = and_false (same_class a_number t.class) (t.value == 0) (ap (same_class a_number) e ∙ not_true (same_class a_number d) h)
 excluded a_nonzero d t h e = and_false (same_class a_number t.class) (not (t.value == 0)) (ap (same_class a_number) e ∙ not_true (same_class a_number d) h)
-
--- ---- running
-
-pub takes : {w : Want} {t : Lexeme} {xs ys : List Lexeme} → Is w t xs ys → (k : Lexeme → Step) → run (expects w k) xs ≡ run (k t) ys
-takes (here {w = w} {t = t} {xs = ys} h) k = ap (λ s. run s ys) (cond-true (meets w t) (k t) (stuck t) (meets_true w t h))
-
-pub takes_first : {w : Want} {t : Lexeme} {xs ys : List Lexeme} → Is w t xs ys → (d : Class) (q : excludes w d ≡ true) (k : Lexeme → Step) (s : Step) → run (either w d q k s) xs ≡ run (k t) ys
-takes_first (here {w = w} {t = t} {xs = ys} h) d q k s = ap (λ r. run r ys) (cond-true (meets w t) (k t) (cond (same_class d t.class) s (stuck t)) (meets_true w t h))
-
-pub takes_second : {d : Class} {t : Lexeme} {xs ys : List Lexeme} → At d t xs ys → (w : Want) (q : excludes w d ≡ true) (k : Lexeme → Step) (s : Step) → run (either w d q k s) xs ≡ run s ys
-takes_second (here {t = t} {xs = ys} h) w q k s =
-    ap (λ r. run r ys) (cond-false (meets w t) (k t) (cond (same_class _ t.class) s (stuck t)) (excluded w _ t q h) ∙ cond-true (same_class _ t.class) s (stuck t) (ap (same_class _) h ∙ same_self _))
-
-pub closed : {c : Class} {t : Lexeme} {xs ys : List Lexeme} → At c t xs ys → (q : is_quiet c ≡ true) (s : Step) → run (goes (closes c q s)) xs ≡ run s ys
-closed (here {t = t} {xs = ys} h) q s = ap (λ r. run r ys) (cond-true (same_class _ t.class) s (stuck t) (ap (same_class _) h ∙ same_self _))
-
--- what a state does with a token of a class
-pub on_class : (s : State) (f : Class → Lexeme → Step) → ((u : Lexeme) → feed s u ≡ f u.class u) → {c : Class} {t : Lexeme} {xs ys : List Lexeme} → At c t xs ys → run (goes s) xs ≡ run (f c t) ys
-on_class s f same (here {t = t} {xs = ys} h) = ap (λ st. run st ys) (same t ∙ ap (λ d. f d t) h)
 
 -- ---- what follows an expression
 

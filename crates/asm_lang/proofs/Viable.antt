@@ -3,10 +3,10 @@ use Rattle.std.proofs.Common.{ℕ, ◌≡◌, true, false, not, List, [], ◌∷
 use Rattle.std.specs.Prelude.{bytes_eq, ◌==◌, pos, neg_ℤ}
 use Rattle.std.proofs.lemmas.Bool.{eq-eqb}
 use Rattle.sem_words.specs.declared.js_value.JsOp.TheVariants.{Or}
-use Rattle.asm_lang.specs.Lexemes.{Class, identifier, else_word, return_word, a_number, directive, close_brace, open_paren, close_paren, open_bracket, semicolon, comma, question, equals, operator, Lexeme, Want, sign, a_property, named, a_zero, a_nonzero, Meets, here}
+use Rattle.asm_lang.specs.Lexemes.{Class, identifier, else_word, return_word, while_word, a_number, directive, close_brace, open_paren, close_paren, open_bracket, semicolon, comma, question, equals, operator, Lexeme, Want, sign, a_property, named, a_zero, a_nonzero, Meets, here}
 use Rattle.asm_lang.specs.Trees.{literal, variable, element, no_expr, plain, empty, if_only, no_stmt, no_clause, one_clause, number, member, VariableTree, ParamTree, FunctionTree, TableTree, one, Heading, ModuleTree}
 use Rattle.asm_lang.specs.Grammar.{an_operand, a_literal, a_negative, a_variable, an_element, no_argument, no_further, written, do_written, no_else, absent, no_value, no_label, positive, negative, a_plain, an_empty, no_stmts, no_clauses, a_member, of_literal, no_names, no_var, an_end, no_marks, an_int_mark, no_functions, no_export, export_one, an_exported, nothing_more, IsModule, is_else}
-use Rattle.asm_lang.specs.Machine.{is_quiet, State, closes, at_expr, after_minus, after_name, after_index, after_expr, at_arguments, in_rest, ends, ends_do, at_stmt, after_stmt_name, at_option, at_return, at_target, after_arm, at_stmts, at_clauses, in_case, at_literal, after_sign, at_init, after_member, in_names, at_marks, at_locals, in_locals, may_comma, at_use, at_globals, at_value, in_globals, at_functions, at_tables, in_tables, at_export, at_exports, in_exports, at_end, Step, goes, expects, either, refuses, int_mark, variable_of, module_of}
+use Rattle.asm_lang.specs.Machine.{is_quiet, State, closes, at_expr, after_minus, after_name, after_index, after_expr, at_arguments, in_rest, ends, ends_do, at_stmt, after_stmt_name, at_option, at_return, at_target, after_arm, after_body, at_stmts, at_clauses, in_case, at_literal, after_sign, at_init, after_member, in_names, at_marks, at_locals, in_locals, may_comma, at_use, at_globals, at_value, in_globals, at_functions, at_tables, in_tables, at_export, at_exports, in_exports, at_end, Step, goes, expects, either, refuses, int_mark, variable_of, module_of}
 use Rattle.asm_lang.proofs.Tokens.{and_both, stops_at, Stops}
 use Rattle.asm_lang.proofs.CompleteModules.{with_all}
 use Rattle.asm_lang.proofs.Reached.{ExportsOn, TablesOn, FunctionsOn, GlobalsOn, Reached, Comes}
@@ -168,6 +168,7 @@ mutual
   finish (at_return k) front h = after_token front a_semicolon refl (ending_of (finish (k None) (front ++ a_semicolon ∷ []) (λ ys q. moved (k None) front a_semicolon ys (h (a_semicolon ∷ ys) refl None ys (no_value (written (here refl)))))))
   finish (at_target k) front h = after_token front a_semicolon refl (ending_of (finish (k None) (front ++ a_semicolon ∷ []) (λ ys q. moved (k None) front a_semicolon ys (h (a_semicolon ∷ ys) refl None ys (no_label (written (here refl)))))))
   finish (after_arm at c s k) front h = finish (k (if_only at c s)) front (λ ys q. let r = h ys q in r.0 (quiet_no_else ys q))
+  finish (after_body b s) front h = after_token front (sample while_word) refl (finish_step s (front ++ sample while_word ∷ []) (λ ys. moved_step s front (sample while_word) ys (h (sample while_word ∷ ys) refl (sample while_word) ys (here refl))))
   finish (at_stmts rs k) front h = after_token front a_brace refl (finish_step (k rs) (front ++ a_brace ∷ []) (λ ys. moved_step (k rs) front a_brace ys (h (a_brace ∷ ys) refl no_stmt a_brace (a_brace ∷ ys) ys no_stmts (here refl))))
   finish (at_clauses k) front h = after_token front a_brace refl (finish_step (k no_clause) (front ++ a_brace ∷ []) (λ ys. moved_step (k no_clause) front a_brace ys (h (a_brace ∷ ys) refl no_clause a_brace (a_brace ∷ ys) ys no_clauses (here refl))))
   finish (in_case v rs k) front h = after_token front a_brace refl (finish_step (k (one_clause (Some v) rs no_clause)) (front ++ a_brace ∷ []) (λ ys. moved_step (k (one_clause (Some v) rs no_clause)) front a_brace ys

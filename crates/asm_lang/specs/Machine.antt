@@ -140,6 +140,7 @@ mutual
     at_return : (Option ExprTree → State) → State
     at_target : (Option (List ℕ) → State) → State
     after_arm : ℕ → ExprTree → StmtTree → (StmtTree → State) → State
+    after_body : StmtTree → Step → State  -- the `while` after the body of a do statement
     at_stmts : StmtTrees → (StmtTrees → Step) → State
     at_clauses : (ClauseTrees → Step) → State
     in_case : ℤ → StmtTrees → (ClauseTrees → Step) → State
@@ -200,7 +201,7 @@ minus_by c m t k = expr_by c t 13 (λ e. k (unary m.at Neg e))
 abbrev pub infix_by : Class → Lexeme → ℕ → ExprTree → (ExprTree → State) → Step → Step
 infix_by (operator op) t p e k last = if nat_le p (level_of op) then goes (at_expr (suc (level_of op)) (λ r. after_expr p (binary t.at e op r) k)) else last
 infix_by question t p e k last = if nat_le p 1 then goes (at_expr 1 (λ a. closes colon refl (goes (at_expr 1 (λ b. after_expr p (conditional t.at e a b) k))))) else last
-infix_by comma t p e k last = if nat_le p 0 then goes (at_expr 1 (λ f. in_rest (one_expr e (one_expr f no_expr)) (λ es. k (listed t.at es)))) else last
+infix_by comma t p e k last = if nat_le p 0 then goes (at_expr 1 (λ f. in_rest (one_expr e (one_expr f no_expr)) (λ es. after_expr p (listed t.at es) k))) else last
 infix_by open_paren t p e k last = stuck t
 infix_by open_bracket t p e k last = stuck t
 infix_by equals t p e k last = stuck t
@@ -249,7 +250,7 @@ stmt_by semicolon t k = goes (k (empty t.at))
 stmt_by open_brace t k = goes (at_stmts no_stmt (λ ss. goes (k (block t.at ss))))
 stmt_by if_word t k = condition (λ c. goes (at_stmt (λ s. after_arm t.at c s k)))
 stmt_by while_word t k = condition (λ c. goes (at_stmt (λ s. k (while_loop t.at c s))))
-stmt_by do_word t k = goes (at_stmt (λ s. closes while_word refl (condition (λ c. goes (ends_do (k (do_loop t.at s c)))))))
+stmt_by do_word t k = goes (at_stmt (λ s. after_body s (condition (λ c. goes (ends_do (k (do_loop t.at s c)))))))
 stmt_by for_word t k = expects (sign open_paren) (λ u. goes (at_option semicolon refl refl (λ a. goes (at_option semicolon refl refl (λ b. goes (at_option close_paren refl refl (λ c. goes (at_stmt (λ s. k (for_loop t.at a b c s))))))))))
 stmt_by return_word t k = goes (at_return (λ o. k (returns t.at o)))
 stmt_by break_word t k = goes (at_target (λ l. k (breaks t.at l)))
@@ -468,6 +469,7 @@ feed (at_option c q b k) t = option_by t.class t c q k
 feed (at_return k) t = return_by t.class t k (end_by t.class t (k None) (feed (k None) t))
 feed (at_target k) t = target_by t.class t k (end_by t.class t (k None) (feed (k None) t))
 feed (after_arm at c s k) t = arm_by t.class at c s k (feed (k (if_only at c s)) t)
+feed (after_body b s) t = if same_class while_word t.class then s else stuck t
 feed (at_stmts ss k) t = stmts_by t.class t ss k
 feed (at_clauses k) t = clauses_by t.class t k
 feed (in_case v ss k) t = in_case_by t.class t v ss k

@@ -1,0 +1,11 @@
+use Rattle.asm_heights.proofs.Frames.{compose, capped, capped_after}
+use Rattle.asm_heights.proofs.rises.Goals as goal
+
+pub returns-clause-compose : goal.returns-clause-compose
+returns-clause-compose c = compose
+
+pub returns-clause-capped : goal.returns-clause-capped
+returns-clause-capped c = capped
+
+pub returns-clause-capped_after : goal.returns-clause-capped_after
+returns-clause-capped_after c = capped_after
