@@ -3,4 +3,4 @@ use Rattle.std.specs.Prelude.{ℕ, min}
 
 -- a height above the limit counts as one more than the limit
 abbrev pub counted : ℕ → ℕ
-counted h = min 1001 h
+counted h = min h 1001

@@ -1,6 +1,6 @@
 //! Heights of nodes, as far as the limit asks.
 
-ghost use Rattle.std.specs.Prelude.{◌≡◌, suc, min, max, ◌<◌, ◌↔◌, IsTrue};
+ghost use Rattle.std.specs.Prelude.{◌≡◌, ◌+◌, suc, max, ◌<◌, ◌↔◌, IsTrue};
 ghost use Rattle.asm_nodes.specs.Heights.{counted};
 
 /// The greatest height that a node may have.
@@ -25,6 +25,28 @@ impl Height {
         ensures { result.count ≡ 1 }
     {
         Height { count: 1 }
+    }
+
+    fn up_to_limit(count: u32) -> Height
+        ensures { result.count ≡ counted count }
+    {
+        Height {
+            count: count.min(HEIGHT_LIMIT + 1),
+        }
+    }
+
+    /// The same, where it may count further above the limit.
+    pub(crate) fn limited(self) -> Height
+        ensures { result.count ≡ counted self.count }
+    {
+        Height::up_to_limit(self.count)
+    }
+
+    /// Higher by so many steps.
+    pub(crate) fn higher(self, steps: u32) -> Height
+        ensures { result.count ≡ counted (self.count + steps) }
+    {
+        Height::up_to_limit(self.count.saturating_add(steps))
     }
 
     /// Of a node whose highest part has this height.

@@ -4,6 +4,7 @@
 mod declarations;
 mod height;
 mod lexeme;
+mod rise;
 mod tall;
 mod tall_stmt;
 mod tree;
@@ -14,6 +15,7 @@ pub use declarations::{
 };
 pub use height::{HEIGHT_LIMIT, Height};
 pub use lexeme::{Class, Lexeme, Word};
+pub use rise::Rise;
 pub use tall::{TallExpr, TallExprs};
 pub use tall_stmt::{TallClauses, TallStmt, TallStmts};
 pub use tree::{Addend, ClauseTree, ExprTree, StmtTree};
