@@ -5,6 +5,7 @@ mod declarations;
 mod height;
 mod lexeme;
 mod rise;
+mod sums;
 mod tall;
 mod tall_stmt;
 mod tree;

@@ -36,6 +36,13 @@ impl Rise {
         }
     }
 
+    /// Of a node that is this high without its one open part.
+    pub(crate) fn from_floor(floor: Height) -> Rise
+        ensures { rise_view result ≡ record { floor = floor.count; steps = 1 } }
+    {
+        Rise { floor, steps: 1 }
+    }
+
     /// Of this round the inner one.
     pub fn after(self, inner: Rise) -> Rise
         ensures { rise_view result ≡ capped_rise 1001 (rise_after (rise_view self) (rise_view inner)) }

@@ -1,15 +1,16 @@
 //! Expressions with their heights.
 
-ghost use Rattle.std.specs.Prelude.{◌≡◌, [], ◌∷◌, ◌++◌, IfOk};
-ghost use Rattle.asm_lang.specs.Trees.{literal, decimals, variable, element, call, table_call, assignment, store, unary, binary, conditional, listed, no_expr};
-ghost use Rattle.asm_lang.specs.Machine.{more_exprs};
-ghost use Rattle.sem_words.specs.Lists.{text_bytes, list_items};
-ghost use Rattle.asm_nodes.specs.Views.{expr_view, sign_of};
-ghost use Rattle.asm_nodes.specs.Tall.{tall_view, talls_view};
+ghost use Rattle.std.specs.Prelude.{◌≡◌};
+ghost use Rattle.sem_words.specs.Lists.{list_items};
+ghost use Rattle.asm_heights.specs.Peaks as peaks;
+ghost use Rattle.asm_nodes.specs.Heights.{counted};
+ghost use Rattle.asm_nodes.specs.Views.{expr_view, exprs_view};
 
 use crate::height::Height;
 use crate::lexeme::Word;
-use crate::tree::{Addend, ExprTree};
+use crate::rise::Rise;
+use crate::sums::{binary_tree, is_chain, is_sum};
+use crate::tree::ExprTree;
 use sem_words::{JsOp, JsUnary, List};
 use std::alloc::{AllocError, Global};
 
@@ -18,6 +19,7 @@ use std::alloc::{AllocError, Global};
 pub struct TallExpr {
     tree: ExprTree,
     height: Height,
+    ghost high: { height.count ≡ counted (peaks.height (expr_view tree)) },
 }
 
 /// Expressions of a list so far, and how high the highest is.
@@ -25,9 +27,15 @@ pub struct TallExpr {
 pub struct TallExprs {
     trees: List<ExprTree>,
     height: Height,
+    ghost high: { height.count ≡ counted (peaks.all_height (exprs_view (list_items trees))) },
 }
 
 impl TallExprs {
+    ghost use Rattle.std.specs.Prelude.{◌≡◌, IfOk};
+    ghost use Rattle.asm_lang.specs.Trees.{no_expr};
+    ghost use Rattle.asm_lang.specs.Machine.{more_exprs};
+    ghost use Rattle.asm_nodes.specs.Tall.{tall_view, talls_view};
+
     pub fn new(alloc: Global) -> TallExprs
         ensures { talls_view result ≡ no_expr }
     {
@@ -38,7 +46,7 @@ impl TallExprs {
     }
 
     /// The list with one more at its end.
-    #[tactic(auto, using(crate::proofs::Views::views))]
+    #[tactic(auto, using(crate::proofs::Levels::expression_levels))]
     pub fn with(self, expr: TallExpr) -> Result<TallExprs, AllocError>
         ensures { IfOk result (λ r. talls_view r ≡ more_exprs (talls_view self) (tall_view expr)) }
     {
@@ -50,13 +58,27 @@ impl TallExprs {
         }
     }
 
-    pub fn height(&self) -> Height {
+    /// Of the highest one, or 0.
+    pub fn height(&self) -> Height
+        ensures { result.count ≡ counted (peaks.all_height (talls_view self.now)) }
+    {
         self.height
     }
 }
 
 impl TallExpr {
-    pub fn height(&self) -> Height {
+    ghost use Rattle.std.specs.Prelude.{◌≡◌, IfOk};
+    ghost use Rattle.asm_lang.specs.Trees.{literal, decimals, variable, element, call, table_call, assignment, store, unary, binary, conditional, listed};
+    ghost use Rattle.asm_lang.specs.Modules.{expr_of};
+    ghost use Rattle.asm_heights.specs.Rises.{second_operand, capped_rise};
+    ghost use Rattle.sem_words.specs.Lists.{text_bytes};
+    ghost use Rattle.asm_nodes.specs.Rises.{rise_view};
+    ghost use Rattle.asm_nodes.specs.Views.{expr_option};
+    ghost use Rattle.asm_nodes.specs.Tall.{tall_view, talls_view, tall_option};
+
+    pub fn height(&self) -> Height
+        ensures { result.count ≡ counted (peaks.height (tall_view self.now)) }
+    {
         self.height
     }
 
@@ -66,7 +88,7 @@ impl TallExpr {
         self.tree
     }
 
-    #[tactic(auto, using(crate::proofs::Views::views))]
+    #[tactic(auto, using(crate::proofs::Levels::expression_levels))]
     pub fn literal(at: u64, value: i128) -> TallExpr
         ensures { tall_view result ≡ literal at value }
     {
@@ -76,7 +98,7 @@ impl TallExpr {
         }
     }
 
-    #[tactic(auto, using(crate::proofs::Views::views))]
+    #[tactic(auto, using(crate::proofs::Levels::expression_levels))]
     pub fn decimals(token: Word) -> TallExpr
         ensures { tall_view result ≡ decimals token.at (text_bytes token.text) }
     {
@@ -86,7 +108,7 @@ impl TallExpr {
         }
     }
 
-    #[tactic(auto, using(crate::proofs::Views::views))]
+    #[tactic(auto, using(crate::proofs::Levels::expression_levels))]
     pub fn variable(name: Word) -> TallExpr
         ensures { tall_view result ≡ variable name.at (text_bytes name.text) }
     {
@@ -96,7 +118,7 @@ impl TallExpr {
         }
     }
 
-    #[tactic(auto, using(crate::proofs::Views::views))]
+    #[tactic(auto, using(crate::proofs::Levels::expression_levels))]
     pub fn element(
         alloc: Global,
         name: Word,
@@ -109,7 +131,7 @@ impl TallExpr {
         Ok(TallExpr { tree, height })
     }
 
-    #[tactic(auto, using(crate::proofs::Views::views))]
+    #[tactic(auto, using(crate::proofs::Levels::expression_levels))]
     pub fn call(name: Word, arguments: TallExprs) -> TallExpr
         ensures { tall_view result ≡ call name.at (text_bytes name.text) (talls_view arguments) }
     {
@@ -119,7 +141,7 @@ impl TallExpr {
         }
     }
 
-    #[tactic(auto, using(crate::proofs::Views::views))]
+    #[tactic(auto, using(crate::proofs::Levels::expression_levels))]
     pub fn table_call(
         alloc: Global,
         name: Word,
@@ -134,7 +156,7 @@ impl TallExpr {
         Ok(TallExpr { tree, height })
     }
 
-    #[tactic(auto, using(crate::proofs::Views::views))]
+    #[tactic(auto, using(crate::proofs::Levels::expression_levels))]
     pub fn assignment(
         alloc: Global,
         at: u64,
@@ -148,7 +170,7 @@ impl TallExpr {
         Ok(TallExpr { tree, height })
     }
 
-    #[tactic(auto, using(crate::proofs::Views::views))]
+    #[tactic(auto, using(crate::proofs::Levels::expression_levels))]
     pub fn store(
         alloc: Global,
         at: u64,
@@ -165,7 +187,7 @@ impl TallExpr {
         Ok(TallExpr { tree, height })
     }
 
-    #[tactic(auto, using(crate::proofs::Views::views))]
+    #[tactic(auto, using(crate::proofs::Levels::expression_levels))]
     pub fn unary(
         alloc: Global,
         at: u64,
@@ -179,7 +201,7 @@ impl TallExpr {
         Ok(TallExpr { tree, height })
     }
 
-    #[tactic(auto, using(crate::proofs::Views::views))]
+    #[tactic(auto, using(crate::proofs::Levels::expression_levels))]
     pub fn conditional(
         alloc: Global,
         at: u64,
@@ -198,7 +220,7 @@ impl TallExpr {
         Ok(TallExpr { tree, height })
     }
 
-    #[tactic(auto, using(crate::proofs::Views::views))]
+    #[tactic(auto, using(crate::proofs::Levels::expression_levels))]
     pub fn listed(at: u64, parts: TallExprs) -> TallExpr
         ensures { tall_view result ≡ listed at (talls_view parts) }
     {
@@ -208,7 +230,20 @@ impl TallExpr {
         }
     }
 
+    /// What a binary node round its second operand makes, where this is the first one.
+    #[tactic(auto, using(crate::proofs::Levels::second_operands))]
+    pub fn second_operand(&self, operator: JsOp) -> Rise
+        ensures { rise_view result ≡ capped_rise 1001 (second_operand operator (expr_of (tall_view self.now))) }
+    {
+        if is_sum(operator) && is_chain(&self.tree) {
+            Rise::from_floor(self.height)
+        } else {
+            Rise::one_more(self.height)
+        }
+    }
+
     /// Sums are held flat: a further operand of a sum is put at its end.
+    #[tactic(auto, using(crate::proofs::Levels::second_operands))]
     pub fn binary(
         alloc: Global,
         at: u64,
@@ -218,70 +253,28 @@ impl TallExpr {
     ) -> Result<TallExpr, AllocError>
         ensures { IfOk result (λ r. tall_view r ≡ binary at (tall_view left) operator (tall_view right)) }
     {
-        match operator {
-            JsOp::Add => TallExpr::sum(alloc, at, left, false, right),
-            JsOp::Sub => TallExpr::sum(alloc, at, left, true, right),
-            _ => TallExpr::no_sum(alloc, at, left, operator, right),
-        }
-    }
-
-    #[tactic(auto, using(crate::proofs::Views::views))]
-    fn no_sum(
-        alloc: Global,
-        at: u64,
-        left: TallExpr,
-        operator: JsOp,
-        right: TallExpr,
-    ) -> Result<TallExpr, AllocError>
-        ensures { IfOk result (λ r. tall_view r ≡ binary at (tall_view left) operator (tall_view right)) }
-    {
-        let height = left.height.or(right.height).above();
-        let left = Box::new(alloc, left.tree)?;
-        let right = Box::new(alloc, right.tree)?;
-        let tree = ExprTree::Binary(at, left, operator, right);
+        let height = left.second_operand(operator).risen(right.height);
+        let tree = binary_tree(alloc, at, left.tree, operator, right.tree)?;
         Ok(TallExpr { tree, height })
     }
 
     #[tactic(auto, using(crate::proofs::Views::views))]
-    fn sum(
-        alloc: Global,
-        at: u64,
-        left: TallExpr,
-        minus: bool,
-        right: TallExpr,
-    ) -> Result<TallExpr, AllocError>
-        ensures { IfOk result (λ r. tall_view r ≡ binary at (tall_view left) (sign_of minus) (tall_view right)) }
+    pub(crate) fn option_tree(expr: Option<TallExpr>) -> Option<ExprTree>
+        ensures { expr_option result ≡ tall_option expr }
     {
-        let TallExpr { tree, height } = left;
-        match tree {
-            ExprTree::Sum(first, others) => {
-                let height = height.or(right.height.above());
-                let others = with_addend(others, at, minus, right.tree)?;
-                let tree = ExprTree::Sum(first, others);
-                Ok(TallExpr { tree, height })
-            }
-            first => {
-                let height = height.or(right.height).above();
-                let others = with_addend(List::new(alloc), at, minus, right.tree)?;
-                let tree = ExprTree::Sum(Box::new(alloc, first)?, others);
-                Ok(TallExpr { tree, height })
-            }
+        match expr {
+            None => None,
+            Some(expr) => Some(expr.into_tree()),
         }
     }
-}
 
-fn with_addend(
-    others: List<Addend>,
-    at: u64,
-    minus: bool,
-    operand: ExprTree,
-) -> Result<List<Addend>, AllocError>
-    ensures { IfOk result (λ r. list_items r ≡ list_items others ++ (record { at = at; minus = minus; operand = operand }) ∷ []) }
-{
-    let mut others = others;
-    let addend = Addend { at, minus, operand };
-    match others.push(addend) {
-        Ok(()) => Ok(others),
-        Err(_) => Err(AllocError),
+    /// Of no expression it is 0.
+    pub(crate) fn option_height(expr: &Option<TallExpr>) -> Height
+        ensures { result.count ≡ counted (peaks.part_height (tall_option expr.now)) }
+    {
+        match expr {
+            None => Height::none(),
+            Some(expr) => expr.height(),
+        }
     }
 }
