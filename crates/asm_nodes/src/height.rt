@@ -68,7 +68,11 @@ impl Height {
     pub fn or(self, other: Height) -> Height
         ensures { result.count ≡ max self.count other.count }
     {
-        if self.count < other.count { other } else { self }
+        if self.count < other.count {
+            other
+        } else {
+            self
+        }
     }
 
     /// Whether it is above the limit.

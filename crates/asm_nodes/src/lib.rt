@@ -20,3 +20,6 @@ pub use rise::Rise;
 pub use tall::{TallExpr, TallExprs};
 pub use tall_stmt::{TallClauses, TallStmt, TallStmts};
 pub use tree::{Addend, ClauseTree, ExprTree, StmtTree};
+
+#[cfg(test)]
+mod tests;

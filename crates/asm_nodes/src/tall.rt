@@ -119,11 +119,7 @@ impl TallExpr {
     }
 
     #[tactic(auto, using(crate::proofs::Levels::expression_levels))]
-    pub fn element(
-        alloc: Global,
-        name: Word,
-        index: TallExpr,
-    ) -> Result<TallExpr, AllocError>
+    pub fn element(alloc: Global, name: Word, index: TallExpr) -> Result<TallExpr, AllocError>
         ensures { IfOk result (λ r. tall_view r ≡ element name.at (text_bytes name.text) (tall_view index)) }
     {
         let height = index.height.above();

@@ -265,7 +265,10 @@ impl TallStmt {
         ensures { IfOk result (λ r. stmt_tall_view r ≡ for_loop at (tall_option first) (tall_option condition) (tall_option step) (stmt_tall_view body)) }
     {
         let heads = TallExpr::option_height(&first).or(TallExpr::option_height(&condition));
-        let height = heads.or(TallExpr::option_height(&step)).or(body.as_body).above();
+        let height = heads
+            .or(TallExpr::option_height(&step))
+            .or(body.as_body)
+            .above();
         let body = Box::new(alloc, body.tree)?;
         let first = TallExpr::option_tree(first);
         let condition = TallExpr::option_tree(condition);
@@ -297,9 +300,17 @@ impl TallStmt {
         ensures { IfOk result (λ r. stmt_tall_view r ≡ under_all (words_view (list_items labels)) (stmt_tall_view body)) }
     {
         let height = body.height;
-        let as_body = if labels.is_empty() { body.as_body } else { height };
+        let as_body = if labels.is_empty() {
+            body.as_body
+        } else {
+            height
+        };
         let tree = StmtTree::Labelled(labels, Box::new(alloc, body.tree)?);
-        Ok(TallStmt { tree, height, as_body })
+        Ok(TallStmt {
+            tree,
+            height,
+            as_body,
+        })
     }
 
     #[tactic(auto, using(crate::proofs::StmtLevels::statement_levels))]
