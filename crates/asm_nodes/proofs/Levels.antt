@@ -65,12 +65,12 @@ chained_is : (l : Expr) (minus : Bool) (r : Expr) → is_chain (chained l minus 
 chained_is (chain e ls) minus r = refl
 chained_is _ minus r = refl
 
-binary_is : (op : JsOp) (l r : Expr) → is_chain (binary_of op l r) ≡ is_sum op
+pub binary_is : (op : JsOp) (l r : Expr) → is_chain (binary_of op l r) ≡ is_sum op
 binary_is Add l r = chained_is l _ r
 binary_is Sub l r = chained_is l _ r
 binary_is _ l r = refl
 
-sign_is : (minus : Bool) → is_sum (sign_of minus) ≡ true
+pub sign_is : (minus : Bool) → is_sum (sign_of minus) ≡ true
 sign_is true = refl
 sign_is false = refl
 

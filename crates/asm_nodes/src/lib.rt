@@ -17,6 +17,7 @@ pub use declarations::{
 pub use height::{HEIGHT_LIMIT, Height};
 pub use lexeme::{Class, Lexeme, Word};
 pub use rise::Rise;
+pub use sums::{is_chain, is_sum};
 pub use tall::{TallExpr, TallExprs};
 pub use tall_stmt::{TallClauses, TallStmt, TallStmts};
 pub use tree::{Addend, ClauseTree, ExprTree, StmtTree};

@@ -11,7 +11,8 @@ use crate::tree::{Addend, ExprTree};
 use sem_words::{JsOp, List};
 use std::alloc::{AllocError, Global};
 
-pub(crate) fn is_sum(operator: JsOp) -> bool
+/// Whether the operator makes chains.
+pub fn is_sum(operator: JsOp) -> bool
     ensures { result ≡ is_sum operator }
 {
     match operator {
@@ -22,7 +23,7 @@ pub(crate) fn is_sum(operator: JsOp) -> bool
 
 /// Whether a further `+` or `-` goes on with the node.
 #[tactic(auto, using(crate::proofs::Levels::chains))]
-pub(crate) fn is_chain(tree: &ExprTree) -> bool
+pub fn is_chain(tree: &ExprTree) -> bool
     ensures { result ≡ is_chain (expr_of (expr_view tree.now)) }
 {
     match tree {

@@ -4,10 +4,10 @@ use Rattle.sem_words.specs.Lists.{text_bytes, list_items}
 use Rattle.sem_words.specs.declared.text.Text.{Text}
 use Rattle.asm_tree.specs.declared.tree.Expr.{Expr as CodeExpr, Expr-F, fold-Expr}
 use Rattle.asm_tree.specs.declared.tree.Expr.TheOpen as exprs_open
-use Rattle.asm_tree.specs.declared.tree.Link.{Link-F}
+use Rattle.asm_tree.specs.declared.tree.Link.{Link as CodeLink, Link-F, fold-Link}
 use Rattle.asm_tree.specs.declared.tree.Stmt.{Stmt as CodeStmt, Stmt-F, fold-Stmt}
 use Rattle.asm_tree.specs.declared.tree.Stmt.TheOpen as stmts_open
-use Rattle.asm_tree.specs.declared.tree.Clause.{Clause-F}
+use Rattle.asm_tree.specs.declared.tree.Clause.{Clause as CodeClause, Clause-F, fold-Clause}
 use Rattle.asm_tree.specs.declared.tree.Init.{Init as CodeInit}
 use Rattle.asm_tree.specs.declared.tree.Init.TheVariants as inits
 use Rattle.asm_tree.specs.declared.tree.Global_.{Global_}
@@ -65,6 +65,15 @@ link_layer l = record { minus = l.minus; operand = l.operand }
 unfoldable pub expr_view : CodeExpr → Expr
 expr_view = fold-Expr Expr LinkView expr_layer link_layer
 
+unfoldable pub link_view : CodeLink → LinkView
+link_view = fold-Link Expr LinkView expr_layer link_layer
+
+abbrev pub exprs_view : List CodeExpr → Exprs
+exprs_view es = exprs_in (map expr_view es)
+
+abbrev pub links_view : List CodeLink → Links
+links_view ls = links_in (map link_view ls)
+
 abbrev pub expr_option : Option CodeExpr → Option Expr
 expr_option None = None
 expr_option (Some e) = Some (expr_view e)
@@ -104,8 +113,14 @@ clause_layer c = record { value = c.value; body = stmts_in c.body.items.items }
 unfoldable pub stmt_view : CodeStmt → Stmt
 stmt_view = fold-Stmt Stmt ClauseView stmt_layer clause_layer
 
+unfoldable pub clause_view : CodeClause → ClauseView
+clause_view = fold-Clause Stmt ClauseView stmt_layer clause_layer
+
 abbrev pub stmts_view : List CodeStmt → Stmts
 stmts_view ss = stmts_in (map stmt_view ss)
+
+abbrev pub clauses_view : List CodeClause → Clauses
+clauses_view cs = clauses_in (map clause_view cs)
 
 -- ---- declarations
 
