@@ -1,0 +1,136 @@
+//! Modules of asm.js as values.
+
+use sem_words::{JsOp, JsUnary, List, Text};
+
+#[derive(Debug, Drop)]
+pub struct Module {
+    pub name: Option<Text>,
+    /// At most three.
+    pub params: List<Text>,
+    pub globals: List<Global_>,
+    pub functions: List<Function>,
+    pub tables: List<Table>,
+    pub exports: Exports,
+}
+
+#[derive(PartialEq, Eq, Debug, Drop)]
+pub struct Global_ {
+    pub name: Text,
+    pub init: Init,
+}
+
+/// What a declaration gives its name.
+#[derive(PartialEq, Eq, Debug, Drop)]
+pub enum Init {
+    /// A literal; one past 64 bits with its sign is held as the nearest number.
+    Number(i64),
+    /// A number with a dot; a minus sign is its first byte.
+    Decimal(Text),
+    /// `foreign.member|0`
+    ForeignInt(Text, Text),
+    /// `+foreign.member`
+    ForeignDouble(Text, Text),
+    /// `module.member`
+    Member(Text, Text),
+    /// `stdlib.Math.member`, without the `Math`
+    Math(Text, Text),
+    /// `new stdlib.member(heap)`
+    View(Text, Text, Text),
+}
+
+#[derive(Debug, Drop)]
+pub struct Function {
+    pub name: Text,
+    pub params: List<Param>,
+    pub locals: List<Local>,
+    pub body: List<Stmt>,
+}
+
+#[derive(PartialEq, Eq, Debug, Drop)]
+pub struct Param {
+    pub name: Text,
+    /// Marked by `p = +p`, and not by `p = p|0`.
+    pub double: bool,
+}
+
+#[derive(PartialEq, Eq, Debug, Drop)]
+pub struct Local {
+    pub name: Text,
+    pub init: Init,
+}
+
+#[derive(PartialEq, Eq, Debug, Drop)]
+pub struct Table {
+    pub name: Text,
+    pub members: List<Text>,
+}
+
+#[derive(PartialEq, Eq, Debug, Drop)]
+pub enum Exports {
+    One(Text),
+    Many(List<Export>),
+}
+
+#[derive(PartialEq, Eq, Debug, Drop)]
+pub struct Export {
+    pub key: Text,
+    pub function: Text,
+}
+
+#[derive(Debug, Drop)]
+#[cycle(stmts)]
+pub enum Stmt {
+    Block(List<Stmt>),
+    Plain(Expr),
+    Empty,
+    If(Expr, Box<Stmt>, Option<Box<Stmt>>),
+    Return(Option<Expr>),
+    While(Expr, Box<Stmt>),
+    DoWhile(Box<Stmt>, Expr),
+    For(Option<Expr>, Option<Expr>, Option<Expr>, Box<Stmt>),
+    Break(Option<Text>),
+    Continue(Option<Text>),
+    Labelled(List<Text>, Box<Stmt>),
+    Switch(Expr, List<Clause>),
+}
+
+/// A clause of a switch: a case with its value, or the default.
+#[derive(Debug, Drop)]
+#[cycle(stmts)]
+pub struct Clause {
+    pub value: Option<i64>,
+    pub body: List<Stmt>,
+}
+
+#[derive(Debug, Drop)]
+#[cycle(exprs)]
+pub enum Expr {
+    Lit(i128),
+    Decimal(Text),
+    Var(Text),
+    Index(Text, Box<Expr>),
+    Call(Text, List<Expr>),
+    TableCall(Text, Box<Expr>, List<Expr>),
+    Assign(Text, Box<Expr>),
+    Store(Text, Box<Expr>, Box<Expr>),
+    Unary(JsUnary, Box<Expr>),
+    Binary(JsOp, Box<Expr>, Box<Expr>),
+    /// A first operand, and further ones with `+` or `-` before them.
+    Chain(Box<Expr>, List<Link>),
+    Cond(Box<Expr>, Box<Expr>, Box<Expr>),
+    Comma(List<Expr>),
+}
+
+#[derive(Debug, Drop)]
+#[cycle(exprs)]
+pub struct Link {
+    pub minus: bool,
+    pub operand: Expr,
+}
+
+/// A module, and the offset of each of its nodes in text order.
+#[derive(Debug, Drop)]
+pub struct Parsed {
+    pub module: Module,
+    pub places: List<u64>,
+}
