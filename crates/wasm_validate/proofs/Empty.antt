@@ -1,16 +1,16 @@
--- A module without names and without code is shaped.
+-- A module without code, and with imports alone that have names, is shaped.
 use Rattle.std.proofs.Common.{◌≡◌, List, [], All, sym, subst, arith}
-use Rattle.wasm_lang.specs.Modules.{WasmModule}
+use Rattle.wasm_lang.specs.Modules.{Imported, WasmModule}
 use Rattle.std.specs.Str.{IsUtf8}
 use Rattle.wasm_lang.specs.Shape.{IsShaped, IsShapedCode}
 
 none : {A : Type 0} (P : A → Type 0) (xs : List A) → xs ≡ [] → All P xs
 none P xs e = subst (All P) (sym e) (λ k d h. absurd (omega (arith, h)))
 
-pub empty_shaped : (m : WasmModule) → m.imports ≡ [] → m.exports ≡ [] → m.bodies ≡ [] → m.globals ≡ [] → m.elements ≡ [] → m.segments ≡ [] → IsShaped m
-empty_shaped m i e b g s d = record {
-  module_names = none (λ x. IsUtf8 x.module_name) m.imports i;
-  import_names = none (λ x. IsUtf8 x.name) m.imports i;
+pub bare_shaped : (m : WasmModule) (is : List Imported) → m.imports ≡ is → All (λ i. IsUtf8 i.module_name) is → All (λ i. IsUtf8 i.name) is → m.exports ≡ [] → m.bodies ≡ [] → m.globals ≡ [] → m.elements ≡ [] → m.segments ≡ [] → IsShaped m
+bare_shaped m is i module_names names e b g s d = record {
+  module_names = subst (All (λ x. IsUtf8 x.module_name)) (sym i) module_names;
+  import_names = subst (All (λ x. IsUtf8 x.name)) (sym i) names;
   export_names = none (λ x. IsUtf8 x.name) m.exports e;
   bodies = none (λ x. IsShapedCode x.code) m.bodies b;
   globals = none (λ x. IsShapedCode x.init) m.globals g;
