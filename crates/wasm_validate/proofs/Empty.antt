@@ -1,7 +1,11 @@
 -- A module without code, and with imports alone that have names, is shaped.
-use Rattle.std.proofs.Common.{◌≡◌, List, [], All, sym, subst, arith}
+use Rattle.std.proofs.Common.{◌≡◌, List, [], ◌∷◌, ◌++◌, All, map, sym, subst, arith}
+use Rattle.std.proofs.lemmas.List.{map-append}
+use Rattle.std.proofs.lemmas.List.Elements.{All-push}
 use Rattle.wasm_lang.specs.Modules.{Imported, WasmModule}
 use Rattle.std.specs.Str.{IsUtf8}
+use Rattle.wasm_tree.specs.declared.module.Import.{Import}
+use Rattle.wasm_tree.specs.Views.{import_of}
 use Rattle.wasm_lang.specs.Shape.{IsShaped, IsShapedCode}
 
 none : {A : Type 0} (P : A → Type 0) (xs : List A) → xs ≡ [] → All P xs
@@ -17,3 +21,7 @@ bare_shaped m is i module_names names e b g s d = record {
   elements = none (λ x. IsShapedCode x.offset) m.elements s;
   segments = none (λ x. IsShapedCode x.offset) m.segments d;
 }
+
+-- one more import of which this holds
+pub one_more : (P : Imported → Type 0) (xs new : List Import) (x : Import) → new ≡ xs ++ x ∷ [] → P (import_of x) → All P (map import_of xs) → All P (map import_of new)
+one_more P xs new x e h all = subst (λ ys. All P (map import_of ys)) (sym e) (subst (All P) (sym (map-append import_of xs (x ∷ []))) (All-push P (map import_of xs) (import_of x) all h))
