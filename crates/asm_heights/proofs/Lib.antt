@@ -8,3 +8,4 @@ pub mod Frames
 pub mod Seen
 pub mod SeenStmts
 pub mod SeenModules
+pub mod Carried
