@@ -1,16 +1,20 @@
 -- What a state promises of nodes above the limit: if G holds, or what is put in has such a node, the module has one. G says that
 -- one was read. The mark counts the tokens that are left after it.
-use Rattle.std.proofs.Common.{ℕ, ◌≡◌, ◌≤◌, Bool, true, false, List, [], ◌∷◌, ◌++◌, Option, Some, None, ◌⊎◌, inl, inr}
-use Rattle.sem_words.specs.declared.js_value.JsOp.TheVariants.{Sub}
-use Rattle.asm_lang.specs.Lexemes.{Class, identifier, else_word, while_word, directive, close_brace, open_bracket, comma, operator, Lexeme, Is, At}
-use Rattle.asm_lang.specs.Trees.{ExprTree, ExprTrees, StmtTree, if_only, if_else, StmtTrees, ClauseTrees, one_clause, Init, VariableTree, ParamTree, FunctionTree, TableTree, ExportTree, ExportsTree, Heading, ModuleTree}
-use Rattle.asm_lang.specs.Grammar.{IsExpr, IsOperand, IsIndex, IsArguments, IsRest, IsEnd, IsDoEnd, is_same_line, no_else, IsOption, IsReturned, IsTarget, IsLiteral, IsStmt, IsStmts, IsClauses, IsMember, IsInit, IsNames, IsMembers, IsGlobal, IsLocal, IsTable, IsDeclared, IsMarks, IsFunctions, IsExports, IsReturnedPart, IsExported, IsHeading, IsLast, IsModule}
-use Rattle.asm_lang.specs.Machine.{State, closes, at_expr, after_minus, after_name, after_index, after_expr, at_arguments, in_rest, ends, ends_do, at_stmt, after_stmt_name, at_option, at_return, at_target, after_arm, after_body, at_stmts, at_clauses, in_case, at_literal, after_sign, at_init, after_member, in_names, at_marks, at_locals, in_locals, may_comma, at_use, at_globals, at_value, in_globals, at_functions, at_tables, in_tables, at_export, at_exports, in_exports, at_end, Step, goes, expects, either, refuses, variable_of, module_of, table_of}
-use Rattle.asm_lang.proofs.Tokens.{Ends, Stops}
-use Rattle.asm_lang.proofs.CompleteExprs.{with_exprs}
-use Rattle.asm_lang.proofs.CompleteStmts.{with_stmts}
-use Rattle.asm_lang.proofs.CompleteModules.{with_all}
+use Rattle.std.proofs.Common.{ℕ, zero, suc, ◌≡◌, ◌≤◌, ◌<◌, ◌+◌, ◌&&◌, not, cond, Bool, true, false, List, [], ◌∷◌, ◌++◌, length, Option, Some, None, ◌⊎◌, inl, inr, refl, sym, ap, subst, ◌∙◌, arith}
+use Rattle.std.proofs.lemmas.Bool.{cond_both, leb-true}
+use Rattle.std.specs.Prelude.{codes, bytes_eq, ◌==◌, nat_le, ℤ, pos, neg_ℤ}
+use Rattle.sem_words.specs.declared.js_value.JsOp.TheVariants.{Add, Sub, Or}
+use Rattle.sem_words.specs.declared.js_value.JsUnary.TheVariants.{Neg}
+use Rattle.asm_lang.specs.Lexemes.{Class, identifier, break_word, case_word, continue_word, default_word, do_word, else_word, for_word, function_word, if_word, new_word, return_word, switch_word, var_word, while_word, a_number, a_decimal, directive, open_brace, close_brace, open_paren, close_paren, open_bracket, dot, semicolon, comma, question, colon, equals, operator, tilde, bang, Lexeme, is_word, named, Is, here, At}
+use Rattle.asm_lang.specs.Trees.{ExprTree, literal, variable, element, unary, listed, ExprTrees, no_expr, one_expr, StmtTree, block, plain, empty, if_only, if_else, returns, while_loop, do_loop, for_loop, breaks, continues, switches, StmtTrees, no_stmt, one_stmt, ClauseTrees, no_clause, one_clause, Init, number, decimal, foreign_int, foreign_double, member, math, view, VariableTree, ParamTree, FunctionTree, TableTree, ExportTree, ExportsTree, one, many, Heading, ModuleTree}
+use Rattle.asm_lang.specs.Grammar.{IsArguments, IsClauses, IsDeclared, IsDoEnd, IsEnd, IsExported, IsExports, IsExpr, IsFunctions, IsGlobal, IsHeading, IsIndex, IsInit, IsLast, IsLiteral, IsLocal, IsMarks, IsMember, IsMembers, IsModule, IsModuleParams, IsName, IsNames, IsOperand, IsOption, IsParams, IsRest, IsReturned, IsReturnedPart, IsStmt, IsStmts, IsTable, IsTarget, a_bang, a_binary, a_block, a_break, a_call, a_case, a_comma, a_conditional, a_continue, a_decimal_literal, a_default, a_do, a_double_mark, a_for, a_function, a_further, a_global, a_heading, a_label, a_labelled, a_list, a_literal, a_local, a_math, a_member, a_minus, a_module, a_name, a_negative, a_plain, a_plus, a_prefix, a_return, a_store, a_switch, a_table, a_table_call, a_tilde, a_value, a_var, a_variable, a_while, absent, after_comma, an_assignment, an_element, an_empty, an_end, an_export, an_exported, an_if_else, an_if_only, an_index, an_int, an_int_mark, an_operand, arguments, do_missing, do_written, export_many, export_one, in_parens, is_else, is_numeric, is_same_line, is_semicolon, last_semicolon, level_of, may_miss_before, members_of, missing, more_functions, more_names, more_stmts, negative, negative_decimal, next_export, no_argument, no_clauses, no_else, no_export, no_functions, no_further, no_label, no_marks, no_names, no_params, no_stmts, no_value, no_var, nothing_more, of_double, of_literal, of_member, of_view, params_0, params_1, params_2, params_3, positive, positive_decimal, present, some_params, texts, under, unnamed, written}
+use Rattle.asm_lang.specs.Machine.{State, Step, advance, after_arm, after_body, after_expr, after_index, after_member, after_minus, after_name, after_sign, after_stmt_name, arguments_by, arm_by, at_arguments, at_clauses, at_end, at_export, at_exports, at_expr, at_functions, at_globals, at_init, at_literal, at_locals, at_marks, at_option, at_return, at_start, at_stmt, at_stmts, at_tables, at_target, at_use, at_value, begins_expr, body_step, case_value, clauses_by, closes, comma_by, do_end_by, double_mark, either, end_by, end_step, ends, ends_do, expects, export_by, export_of, export_step, exports_step, expr_by, feed, function_of, function_step, functions_by, globals_by, goes, heading_step, in_case, in_case_by, in_exports, in_exports_by, in_globals, in_globals_by, in_locals, in_locals_by, in_names, in_rest, in_tables, in_tables_by, index_by, infix_by, init_by, int_mark, is_quiet, literal_by, local_step, locals_by, mark_step, may_comma, meets, member_by, members_step, minus_by, module_of, more_stmts_of, name_by, names_by, option_by, params_step, refuses, rest_by, return_by, same_class, sign_by, stmt_by, stmt_name_by, stmts_by, stuck, table_of, table_step, tables_by, target_by, use_by, value_by, variable_of}
+use Rattle.asm_lang.proofs.Tokens.{same_is, and_right, meets_is, stops_at, Ends, Stops, level_high, Stops-ends}
+use Rattle.asm_lang.proofs.CompleteExprs.{with_exprs, with_one, with_two, same}
+use Rattle.asm_lang.proofs.CompleteStmts.{with_stmts, with_no_stmt}
+use Rattle.asm_lang.proofs.CompleteModules.{with_all, with_nothing}
 use Rattle.asm_lang.proofs.Reached.{IsOver}
+use Rattle.asm_lang.proofs.Sound.{at_level, ends_top, ends_below, rank_is, not_is, no_list}
 use Rattle.asm_heights.specs.Peaks.{body_height, last_height, last_function, whole_height}
 use Rattle.asm_heights.specs.HighNodes.{Here, HighExpr, HighOperand, HighIndex, HighArguments, HighRest, HighOption, HighReturned, HighStmt, HighStmts, HighClauses, HighFunctions, HighModule}
 
@@ -184,3 +188,125 @@ module _ (limit mark : ℕ) (all : List Lexeme) where
   carries_moves G (expects w k) xs h = h
   carries_moves G (either w d q k s) xs h = h
   carries_moves G (refuses f back) xs h = absurd h
+
+  -- ---- sums of what was read
+
+  pub onto : {G A B : Type 0} → (A → B) → G ⊎ A → G ⊎ B
+  onto f (inl g) = inl g
+  onto f (inr a) = inr (f a)
+
+  pub joined : {G A B : Type 0} → (G ⊎ A) ⊎ B → G ⊎ (A ⊎ B)
+  joined (inl (inl g)) = inl g
+  joined (inl (inr a)) = inr (inl a)
+  joined (inr b) = inr (inr b)
+
+  -- what is read first is in what is read next
+  pub passed : {G A B : Type 0} → (A → B) → (G ⊎ A) ⊎ B → G ⊎ B
+  passed f (inl (inl g)) = inl g
+  passed f (inl (inr a)) = inr (f a)
+  passed f (inr b) = inr b
+
+  by_test : (G : Type 0) (xs : List Lexeme) (b : Bool) (x y : Step) → (b ≡ true → Moves G x xs) → (b ≡ false → Moves G y xs) → Moves G (cond b x y) xs
+  by_test G xs b x y f g = cond_both b x y (λ s. Moves G s xs) f g
+
+  -- ---- expressions
+
+  high_at_level : {p q : ℕ} {e : ExprTree} {xs ys : List Lexeme} (le : p ≤ q) (x : IsExpr q e xs ys) → HighExpr limit mark x → HighExpr limit mark (at_level le x)
+  unfolding at_level
+  high_at_level le (an_operand x) h = h
+  high_at_level le (a_binary low x i y) h = h
+  high_at_level le (a_conditional low x i y j z) h = h
+  high_at_level le (an_assignment low i j x) h = h
+  high_at_level le (a_store low i x j y) h = h
+  high_at_level le (a_list low x i y r) h = h
+
+  -- an expression that is expected
+  abbrev Wanted : Type 0 → ℕ → (ExprTree → State) → List Lexeme → Type 0
+  Wanted G p k ws = (f : ExprTree) (zs : List Lexeme) (y : IsExpr p f ws zs) → Stops p zs → Carries (G ⊎ HighExpr limit mark y) (k f) zs
+
+  -- the same, and it has such a node if A holds
+  abbrev WantedWith : Type 0 → Type 0 → ℕ → (ExprTree → State) → List Lexeme → Type 0
+  WantedWith G A p k ws = (f : ExprTree) (zs : List Lexeme) (y : IsExpr p f ws zs) → (A → HighExpr limit mark y) → Stops p zs → Carries (G ⊎ HighExpr limit mark y) (k f) zs
+
+  operand_from : {G H : Type 0} {e : ExprTree} {ws ys : List Lexeme} (p : ℕ) (k : ExprTree → State) (x : IsOperand e ws ys) → WantedWith G (HighOperand limit mark x) p k ws → (H → G ⊎ HighOperand limit mark x) → Carries H (after_expr p e k) ys
+  operand_from {G = G} {H = H} {ws = ws} {ys = ys} p k x h w =
+      let le : p ≤ p + 14 = omega arith in
+      (p + 14, ws, le, an_operand x, ends_top p ys, λ f zs y imp stop. mono (through y imp) (k f) zs (h f zs y imp stop))
+    where
+      through : {f : ExprTree} {us vs : List Lexeme} {r : ℕ} (y : IsExpr r f us vs) → (HighOperand limit mark x → HighExpr limit mark y) → H ⊎ HighExpr limit mark y → G ⊎ HighExpr limit mark y
+      through y imp (inl g) = elim (w g) [ inl a ↦ inl a | inr a ↦ inr (imp a) ]
+      through y imp (inr a) = inr a
+
+  operand_carries : {G H : Type 0} {e : ExprTree} {ws ys : List Lexeme} (p : ℕ) (k : ExprTree → State) (x : IsOperand e ws ys) → Wanted G p k ws → (H → G ⊎ HighOperand limit mark x) → Carries H (after_expr p e k) ys
+  operand_carries p k x h w = operand_from p k x (λ f zs y imp stop. h f zs y stop) w
+
+  expr_carries : (G : Type 0) (c : Class) (t : Lexeme) (xs : List Lexeme) (p : ℕ) (k : ExprTree → State) → t.class ≡ c → Wanted G p k (t ∷ xs) → Moves G (expr_by c t p k) xs
+  expr_carries G a_number t xs p k is h = operand_carries p k (a_literal (here is)) h (λ g. inl g)
+  expr_carries G a_decimal t xs p k is h = operand_carries p k (a_decimal_literal (here is)) h (λ g. inl g)
+  expr_carries G identifier t xs p k is h = (is, h)
+  expr_carries G open_paren t xs p k is h = λ e ys x stop u zs j. operand_carries p k (in_parens (here is) x j) h (λ g. g)
+  expr_carries G (operator Sub) t xs p k is h = (is, λ e ys x. operand_carries p k x h (λ g. g))
+  expr_carries G (operator Add) t xs p k is h = λ e ys x stop. operand_carries p k (a_prefix a_plus (here is) x) h (onto (λ a. inr a))
+  expr_carries G tilde t xs p k is h = λ e ys x stop. operand_carries p k (a_prefix a_tilde (here is) x) h (onto (λ a. inr a))
+  expr_carries G bang t xs p k is h = λ e ys x stop. operand_carries p k (a_prefix a_bang (here is) x) h (onto (λ a. inr a))
+  expr_carries G _ t xs p k is h = tt
+
+  minus_carries : (G : Type 0) (c : Class) (t : Lexeme) (xs : List Lexeme) (m : Lexeme) (k : ExprTree → State) → t.class ≡ c → Carries G (after_minus m k) (t ∷ xs) → Moves G (minus_by c m t k) xs
+  minus_carries G a_number t xs m k is r = by_test G xs (t.value == 0) _ _ (λ zero. tt) (λ no. mono (λ g. inl g) (k (literal m.at (neg_ℤ (pos t.value)))) xs (r.1 (literal m.at (neg_ℤ (pos t.value))) xs (a_negative (here r.0) (here (is, no)))))
+  minus_carries G c t xs m k is r = expr_carries G c t xs 13 (λ e. k (unary m.at Neg e)) is (λ e ys x stop. mono (onto (λ a. inr a)) (k (unary m.at Neg e)) ys (r.1 (unary m.at Neg e) ys (a_minus (here r.0) (ap is_numeric is) x)))
+
+  over : (G : Type 0) (c : Class) (t : Lexeme) (xs : List Lexeme) (p : ℕ) (e : ExprTree) (k : ExprTree → State) → t.class ≡ c → stops_at p c ≡ true → Carries G (after_expr p e k) (t ∷ xs) → Carries G (k e) (t ∷ xs)
+  over G c t xs p e k is stop r = mono (λ g. inl g) (k e) (t ∷ xs) (r.5 e (t ∷ xs) (at_level r.2 r.3) (high_at_level r.2 r.3) (ap (stops_at p) is ∙ stop))
+
+  infix_carries : (G : Type 0) (c : Class) (t : Lexeme) (xs : List Lexeme) (p : ℕ) (e : ExprTree) (k : ExprTree → State) (last : Step) → t.class ≡ c → Carries G (after_expr p e k) (t ∷ xs) → (Carries G (k e) (t ∷ xs) → Moves G last xs)
+      → Moves G (infix_by c t p e k last) xs
+  infix_carries G (operator op) t xs p e k last is r go = by_test G xs (nat_le p (level_of op)) _ last
+      (λ le. λ f ys y stop.
+      let high : 2 ≤ level_of op = omega (arith, level_high op) in
+      let rank = rank_is (operator op) t xs r.0 is r.4 in
+      (level_of op, r.1, leb-true p (level_of op) le, a_binary (same (level_of op)) (at_level rank r.3) (here is) y, ends_below (level_of op) ys high stop, λ z zs w imp stop2. mono (passed (λ a. imp (inr (inr a)))) (k z) zs (r.5 z zs w (λ a. imp (inr (inl (high_at_level rank r.3 a)))) stop2)))
+      (λ no. go (over G (operator op) t xs p e k is (not_is (nat_le p (level_of op)) no) r))
+  infix_carries G question t xs p e k last is r go = by_test G xs (nat_le p 1) _ last
+      (λ le. λ a ys y stop u zs j b ws z end.
+      let rank = rank_is question t xs r.0 is r.4 in
+      (1, r.1, leb-true p 1 le, a_conditional (same 1) (at_level rank r.3) (here is) y j z, Stops-ends 1 ws end, λ f vs w imp stop2. mono (λ g. passed (λ a. imp (inr (inr a))) (wide joined g)) (k f) vs (r.5 f vs w (λ a. imp (inr (inl (high_at_level rank r.3 a)))) stop2)))
+      (λ no. go (over G question t xs p e k is (not_is (nat_le p 1) no) r))
+  infix_carries G comma t xs p e k last is r go = by_test G xs (nat_le p 0) _ last
+      (λ le. λ f ys y stop. (
+        stop,
+        λ es zs x end.
+            let rank = rank_is comma t xs r.0 is r.4 in
+            subst (λ (fs : ExprTrees). Carries ((G ⊎ HighExpr limit mark y) ⊎ HighRest limit mark x) (after_expr p (listed t.at fs) k) zs) (sym (with_two e f es))
+            (0, r.1, leb-true p 0 le, a_list (same 0) (at_level rank r.3) (here is) y x, Stops-ends 0 zs end, λ g vs w imp stop2. mono (λ u. passed (λ a. imp (inr (inr a))) (wide joined u)) (k g) vs (r.5 g vs w (λ a. imp (inr (inl (high_at_level rank r.3 a)))) stop2)),
+      ))
+      (λ no. go (over G comma t xs p e k is (not_is (nat_le p 0) no) r))
+  infix_carries G open_paren t xs p e k last is r go = tt
+  infix_carries G open_bracket t xs p e k last is r go = tt
+  infix_carries G equals t xs p e k last is r go = tt
+  infix_carries G c t xs p e k last is r go = go (over G c t xs p e k is refl r)
+
+  name_carries : (G : Type 0) (c : Class) (t : Lexeme) (xs : List Lexeme) (p : ℕ) (n : Lexeme) (k : ExprTree → State) (last : Step) → t.class ≡ c → Carries G (after_name p n k) (t ∷ xs) → (Carries G (k (variable n.at n.text)) (t ∷ xs) → Moves G last xs)
+      → Moves G (name_by c t p n k last) xs
+  name_carries G open_bracket t xs p n k last is r go = λ i ys x stop u zs j. (t ∷ xs, r.0, an_index (here is) x j, λ e vs y imp stop2. mono (passed imp) (k e) vs (r.1 e vs y stop2))
+  name_carries G open_paren t xs p n k last is r go = λ es ys x. operand_carries p k (a_call (here r.0) (here is) x) r.1 (onto (λ a. inr a))
+  name_carries G equals t xs p n k last is r go = by_test G xs (nat_le p 1) _ (stuck t)
+      (λ le. λ e ys x stop. (1, n ∷ t ∷ xs, leb-true p 1 le, an_assignment (same 1) (here r.0) (here is) x, Stops-ends 1 ys stop, λ f zs y imp stop2. mono (passed (λ a. imp (inr a))) (k f) zs (r.1 f zs y stop2)))
+      (λ no. tt)
+  name_carries G c t xs p n k last is r go = infix_carries G c t xs p (variable n.at n.text) k last is (operand_carries p k (a_variable (here r.0)) r.1 (λ g. inl g)) go
+
+  index_carries : (G : Type 0) (c : Class) (t : Lexeme) (xs : List Lexeme) (p : ℕ) (n : Lexeme) (i : ExprTree) (k : ExprTree → State) (last : Step) → t.class ≡ c → Carries G (after_index p n i k) (t ∷ xs)
+      → (Carries G (k (element n.at n.text i)) (t ∷ xs) → Moves G last xs) → Moves G (index_by c t p n i k last) xs
+  index_carries G open_paren t xs p n i k last is r go = λ es ys x. operand_from p k (a_table_call (here r.1) r.2 (here is) x) (λ f zs y imp stop. r.3 f zs y (λ a. imp (inr (inl a))) stop) (onto (λ a. inr (inr a)))
+  index_carries G equals t xs p n i k last is r go = by_test G xs (nat_le p 1) _ (stuck t)
+      (λ le. λ e ys x stop. (1, n ∷ r.0, leb-true p 1 le, a_store (same 1) (here r.1) r.2 (here is) x, Stops-ends 1 ys stop, λ f zs y imp stop2. mono (passed (λ a. imp (inr (inr a)))) (k f) zs (r.3 f zs y (λ a. imp (inr (inl a))) stop2)))
+      (λ no. tt)
+  index_carries G c t xs p n i k last is r go = infix_carries G c t xs p (element n.at n.text i) k last is (operand_from p k (an_element (here r.1) r.2) (λ f zs y imp stop. r.3 f zs y (λ a. imp (inr a)) stop) (λ g. inl g)) go
+
+  arguments_carry : (G : Type 0) (c : Class) (t : Lexeme) (xs : List Lexeme) (k : ExprTrees → State) → t.class ≡ c → Carries G (at_arguments k) (t ∷ xs) → Moves G (arguments_by c t k) xs
+  arguments_carry G close_paren t xs k is h = mono (λ g. inl g) (k no_expr) xs (h no_expr xs (no_argument (here is)))
+  arguments_carry G c t xs k is h = expr_carries G c t xs 1 (λ e. in_rest (one_expr e no_expr) (λ es. closes close_paren refl (goes (k es)))) is
+      (λ e ys x stop. (stop, λ es zs r end u ws j. subst (λ (fs : ExprTrees). Carries ((G ⊎ HighExpr limit mark x) ⊎ HighRest limit mark r) (k fs) ws) (sym (with_one e es)) (mono joined (k (one_expr e es)) ws (h (one_expr e es) ws (arguments x r j)))))
+
+  rest_carries : (G : Type 0) (c : Class) (t : Lexeme) (xs : List Lexeme) (fs : ExprTrees) (k : ExprTrees → State) (last : Step) → t.class ≡ c → Carries G (in_rest fs k) (t ∷ xs) → (Carries G (k fs) (t ∷ xs) → Moves G last xs) → Moves G (rest_by c fs k last) xs
+  rest_carries G comma t xs fs k last is r go = λ e ys x stop. (stop, λ es zs y end. mono joined (k (with_exprs fs (one_expr e es))) zs (r.1 (one_expr e es) zs (a_further (here is) x y) end))
+  rest_carries G c t xs fs k last is r go = go (mono (λ g. inl g) (k fs) (t ∷ xs) (r.1 no_expr (t ∷ xs) no_further (ap (stops_at 0) is ∙ no_list c (sym (ap (stops_at 1) is) ∙ r.0) refl)))
