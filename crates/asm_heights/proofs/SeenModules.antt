@@ -17,7 +17,7 @@ use Rattle.asm_heights.specs.HighNodes.{HighFunction, HighFunctions, HighModule,
 use Rattle.asm_heights.proofs.Seen.{Peaks, seen_within, peaks, ended_here}
 use Rattle.asm_heights.proofs.SeenStmts.{stmts_seen}
 
-last_function_more : (fs : List FunctionTree) (f : FunctionTree) → last_function (fs ++ f ∷ []) ≡ function_height (function_of f)
+pub last_function_more : (fs : List FunctionTree) (f : FunctionTree) → last_function (fs ++ f ∷ []) ≡ function_height (function_of f)
 last_function_more [] f = refl
 last_function_more (g ∷ []) f = refl
 last_function_more (g ∷ (h ∷ fs)) f = last_function_more (h ∷ fs) f
