@@ -9,3 +9,4 @@ pub mod Seen
 pub mod SeenStmts
 pub mod SeenModules
 pub mod Carried
+pub mod Finished

@@ -22,7 +22,7 @@ sample_of (named bs) = record { class = identifier; text = bs; value = 0; line =
 sample_of a_zero = sample a_number
 sample_of a_nonzero = record { class = a_number; text = []; value = 1; line = false; at = 0 }
 
-bytes_same : (bs : List ℕ) → bytes_eq bs bs ≡ true
+pub bytes_same : (bs : List ℕ) → bytes_eq bs bs ≡ true
 bytes_same [] = refl
 bytes_same (b ∷ bs) = and_both (b == b) (bytes_eq bs bs) (eq-eqb b b refl) (bytes_same bs)
 
@@ -46,7 +46,7 @@ quiet_stop p open_bracket h = absurd cc
 quiet_stop p equals h = absurd cc
 quiet_stop p _ h = refl
 
-quiet_stops : (p : ℕ) (xs : List Lexeme) → Quiet xs → Stops p xs
+pub quiet_stops : (p : ℕ) (xs : List Lexeme) → Quiet xs → Stops p xs
 quiet_stops p [] h = tt
 quiet_stops p (t ∷ ts) h = quiet_stop p t.class h
 
@@ -54,7 +54,7 @@ quiet_else : (c : Class) → is_quiet c ≡ true → not (is_else c) ≡ true
 quiet_else else_word h = absurd cc
 quiet_else _ h = refl
 
-quiet_no_else : (xs : List Lexeme) → Quiet xs → no_else xs ≡ true
+pub quiet_no_else : (xs : List Lexeme) → Quiet xs → no_else xs ≡ true
 quiet_no_else [] h = refl
 quiet_no_else (t ∷ ts) h = quiet_else t.class h
 

@@ -1,0 +1,171 @@
+-- A peak above the limit is a node of some module: the tokens that end it at once make one.
+use Rattle.std.proofs.Common.{ℕ, zero, suc, ◌≡◌, ◌≤◌, ◌<◌, ◌+◌, max, Bool, true, false, List, [], ◌∷◌, ◌++◌, length, Option, Some, None, ◌⊎◌, inl, inr, refl, sym, ap, subst, ◌∙◌, arith, append_assoc}
+use Rattle.std.proofs.lemmas.Bool.{cases_lt}
+use Rattle.std.specs.Prelude.{pos, neg_ℤ}
+use Rattle.sem_words.specs.declared.js_value.JsOp.TheVariants.{Or}
+use Rattle.asm_lang.specs.Lexemes.{Class, identifier, return_word, while_word, a_number, directive, close_brace, close_paren, semicolon, equals, operator, Lexeme, Want, sign, a_property, named, a_zero, a_nonzero, Meets, here, At}
+use Rattle.asm_lang.specs.Trees.{ExprTree, literal, variable, element, no_expr, StmtTree, plain, empty, if_only, no_stmt, no_clause, one_clause, number, member, VariableTree, ParamTree, FunctionTree, TableTree, one, Heading, ModuleTree}
+use Rattle.asm_lang.specs.Grammar.{IsExpr, an_operand, a_binary, a_conditional, an_assignment, a_store, a_list, IsOperand, a_literal, a_negative, a_decimal_literal, a_variable, an_element, a_call, a_table_call, in_parens, a_prefix, a_minus, no_argument, no_further, may_miss_before, may_miss, written, missing, begins_semicolon, is_semicolon, do_missing, absent, no_value, no_label, positive, negative, a_plain, an_empty, no_stmts, no_clauses, a_member, of_literal, no_names, no_var, an_end, no_marks, an_int_mark, no_functions, no_export, export_one, an_exported, nothing_more, IsModule}
+use Rattle.asm_lang.specs.Machine.{is_quiet, State, closes, at_expr, after_minus, after_name, after_index, after_expr, at_arguments, in_rest, ends, ends_do, at_stmt, after_stmt_name, at_option, at_return, at_target, after_arm, after_body, at_stmts, at_clauses, in_case, at_literal, after_sign, at_init, after_member, in_names, at_marks, at_locals, in_locals, may_comma, at_use, at_globals, at_value, in_globals, at_functions, at_tables, in_tables, at_export, at_exports, in_exports, at_end, Step, goes, expects, either, refuses, int_mark, variable_of, module_of}
+use Rattle.asm_lang.proofs.CompleteModules.{with_all}
+use Rattle.asm_lang.proofs.Sound.{at_level}
+use Rattle.asm_lang.proofs.Viable.{bytes_same, Quiet, quiet_stops, quiet_no_else}
+use Rattle.asm_heights.specs.Peaks.{height, body_height, last_height, last_function, whole_height, peak, step_peak}
+use Rattle.asm_heights.specs.HighNodes.{Here, HighExpr, HighOperand, HighModule}
+use Rattle.asm_heights.proofs.Carried.{Open, Found, ExportsOn, TablesOn, FunctionsOn, GlobalsOn, Carries, CarriesStep, Moves, mono, mono_step}
+
+-- ---- tokens that begin a line
+
+abbrev sample : Class → Lexeme
+sample c = record { class = c; text = []; value = 0; line = true; at = 0 }
+
+abbrev sample_of : Want → Lexeme
+sample_of (sign c) = sample c
+sample_of a_property = sample identifier
+sample_of (named bs) = record { class = identifier; text = bs; value = 0; line = true; at = 0 }
+sample_of a_zero = sample a_number
+sample_of a_nonzero = record { class = a_number; text = []; value = 1; line = true; at = 0 }
+
+sample_meets : (w : Want) → Meets w (sample_of w)
+sample_meets (sign c) = refl
+sample_meets a_property = refl
+sample_meets (named bs) = (refl, bytes_same bs)
+sample_meets a_zero = (refl, refl)
+sample_meets a_nonzero = (refl, refl)
+
+abbrev a_semicolon : Lexeme
+a_semicolon = sample semicolon
+
+abbrev a_brace : Lexeme
+a_brace = sample close_brace
+
+abbrev a_sample_number : Lexeme
+a_sample_number = sample a_number
+
+abbrev named_token : Lexeme → Lexeme
+named_token p = sample_of (named p.text)
+
+-- on the line of its `return`
+abbrev an_export : Lexeme
+an_export = record { class = identifier; text = []; value = 0; line = false; at = 0 }
+
+-- `return f;}`
+abbrev export_tokens : List Lexeme
+export_tokens = sample return_word ∷ an_export ∷ a_semicolon ∷ a_brace ∷ []
+
+-- `p=p|0;`
+abbrev mark_tokens : Lexeme → List Lexeme → List Lexeme
+mark_tokens p ys = named_token p ∷ sample equals ∷ named_token p ∷ sample (operator Or) ∷ a_sample_number ∷ a_semicolon ∷ ys
+
+no_semicolon : (c : Class) (line : Bool) → may_miss_before c line ≡ true → is_semicolon c ≡ false
+no_semicolon semicolon line h = absurd cc
+no_semicolon _ line h = refl
+
+miss_no_semicolon : (ys : List Lexeme) → may_miss ys ≡ true → begins_semicolon ys ≡ false
+miss_no_semicolon [] h = refl
+miss_no_semicolon (t ∷ ts) h = no_semicolon t.class t.line h
+
+max_split : (limit a b : ℕ) → limit < max a b → (limit < a) ⊎ (limit < b)
+max_split limit a b lt = elim (cases_lt limit a) [ inl l ↦ inl l | inr le ↦ inr (omega arith) ]
+
+one_shorter : {c : Class} {t : Lexeme} {xs ys : List Lexeme} → At c t xs ys → length xs ≡ suc (length ys)
+one_shorter (here h) = refl
+
+module _ (limit : ℕ) where
+  -- ---- what is above the limit itself
+
+  mutual
+    here_expr : (mark : ℕ) {p : ℕ} {e : ExprTree} {xs ys : List Lexeme} (x : IsExpr p e xs ys) → Here limit mark (height e) ys → HighExpr limit mark x
+    here_expr mark (an_operand x) h = here_operand mark x h
+    here_expr mark (a_binary low x i y) h = inl h
+    here_expr mark (a_conditional low x i y j z) h = inl h
+    here_expr mark (an_assignment low i j x) h = inl h
+    here_expr mark (a_store low i x j y) h = inl h
+    here_expr mark (a_list low x i y r) h = inl h
+
+    here_operand : (mark : ℕ) {e : ExprTree} {xs ys : List Lexeme} (x : IsOperand e xs ys) → Here limit mark (height e) ys → HighOperand limit mark x
+    here_operand mark (a_literal i) h = h
+    here_operand mark (a_negative i j) h = h
+    here_operand mark (a_decimal_literal i) h = h
+    here_operand mark (a_variable i) h = h
+    here_operand mark (an_element i x) h = inl h
+    here_operand mark (a_call i j x) h = inl h
+    here_operand mark (a_table_call i x j y) h = inl h
+    here_operand mark (in_parens i x j) h = let le = h.1 in here_expr mark x (h.0, omega (arith, one_shorter j))
+    here_operand mark (a_prefix q i x) h = inl h
+    here_operand mark (a_minus i b x) h = inl h
+
+  -- ---- modules from here on
+
+  -- after n tokens
+  abbrev Promise : Type 0 → ℕ → List Lexeme → State → Type 0
+  Promise G n front s = (ys : List Lexeme) (mark : ℕ) → mark ≡ n + length ys → Quiet ys → (Open s → may_miss ys ≡ true) → Carries limit mark (front ++ ys) G s ys
+
+  abbrev PromiseStep : Type 0 → ℕ → List Lexeme → Step → Type 0
+  PromiseStep G n front s = (ys : List Lexeme) (mark : ℕ) → mark ≡ n + length ys → CarriesStep limit mark (front ++ ys) G s ys
+
+  -- a module of these tokens with such a node
+  abbrev pub High : ModuleTree → ℕ → List Lexeme → Type 0
+  High m mark xs = (d : IsModule m xs) × HighModule limit mark d
+
+  pub record Ending (n : ℕ) (front : List Lexeme) : Type 0 where
+    pub tokens : List Lexeme
+    pub found : ModuleTree
+    pub whole : High found (n + length tokens) (front ++ tokens)
+
+  record Finish (n : ℕ) (front : List Lexeme) (O : Type 0) : Type 0 where
+    ending : Ending n front
+    quiet : Quiet ending.tokens
+    misses : O → may_miss ending.tokens ≡ true
+
+  moved_high : {m : ModuleTree} {a b : ℕ} {xs ys : List Lexeme} → a ≡ b → xs ≡ ys → High m a xs → High m b ys
+  moved_high {m = m} {a = a} {ys = ys} e f h = subst (λ (k : ℕ). High m k ys) e (subst (λ (zs : List Lexeme). High m a zs) f h)
+
+  abbrev shifted : (n : ℕ) (front : List Lexeme) (t : Lexeme) → Ending (suc n) (front ++ t ∷ []) → Ending n front
+  shifted n front t e = record { tokens = t ∷ e.tokens; found = e.found; whole = moved_high (let same : suc n + length e.tokens ≡ n + length (t ∷ e.tokens) = omega arith in same) (append_assoc front (t ∷ []) e.tokens) e.whole }
+
+  ending_of : {n : ℕ} {front : List Lexeme} {O : Type 0} → Finish n front O → Ending n front
+  ending_of f = f.ending
+
+  after_token : (n : ℕ) (front : List Lexeme) (O : Type 0) (t : Lexeme) → is_quiet t.class ≡ true → (O → may_miss_before t.class t.line ≡ true) → Ending (suc n) (front ++ t ∷ []) → Finish n front O
+  after_token n front O t q m e = record { ending = shifted n front t e; quiet = q; misses = m }
+
+  other_miss : {n : ℕ} {front : List Lexeme} {O P : Type 0} → (P → O) → Finish n front O → Finish n front P
+  other_miss w f = record { ending = f.ending; quiet = f.quiet; misses = λ p. f.misses (w p) }
+
+  no : {A : Type 0} → ⊥ → A
+  no bad = absurd bad
+
+  moved : (mark : ℕ) (G : Type 0) (s : State) (front : List Lexeme) (t : Lexeme) (ys : List Lexeme) → Carries limit mark (front ++ t ∷ ys) G s ys → Carries limit mark ((front ++ t ∷ []) ++ ys) G s ys
+  moved mark G s front t ys h = subst (λ (xs : List Lexeme). Carries limit mark xs G s ys) (sym (append_assoc front (t ∷ []) ys)) h
+
+  moved_step : (mark : ℕ) (G : Type 0) (s : Step) (front : List Lexeme) (t : Lexeme) (ys : List Lexeme) → CarriesStep limit mark (front ++ t ∷ ys) G s ys → CarriesStep limit mark ((front ++ t ∷ []) ++ ys) G s ys
+  moved_step mark G s front t ys h = subst (λ (xs : List Lexeme). CarriesStep limit mark xs G s ys) (sym (append_assoc front (t ∷ []) ys)) h
+
+  counted_on : (n mark : ℕ) (t : Lexeme) (ys : List Lexeme) → mark ≡ suc n + length ys → mark ≡ n + length (t ∷ ys)
+  counted_on n mark t ys is = omega arith
+
+  -- ---- declarations to come
+
+  done : {mark : ℕ} {all : List Lexeme} {G : Type 0} {m : ModuleTree} → Found limit mark all G m → G → High m mark all
+  done f g = (f.0, f.1 g)
+
+  export_done : {mark : ℕ} {all : List Lexeme} (G : Type 0) → G → (h : Heading) (gs : List VariableTree) (fs : List FunctionTree) (ts : List TableTree) → ExportsOn limit mark all G h gs fs ts export_tokens → High (module_of h gs fs ts (one 0 [])) mark all
+  export_done G g h gs fs ts r = let f = r (one 0 []) a_brace (a_brace ∷ []) [] (an_exported (here refl) refl (export_one (here refl) (written (here refl)))) (here refl) nothing_more in (f.0, f.1 (inl g))
+
+  tables_done : {mark : ℕ} {all : List Lexeme} (G : Type 0) → G → (h : Heading) (gs : List VariableTree) (fs : List FunctionTree) (ts : List TableTree) → TablesOn limit mark all G false h gs fs ts export_tokens → High (module_of h gs fs ts (one 0 [])) mark all
+  tables_done G g h gs fs ts r = export_done G g h gs fs ts (r [] export_tokens no_var)
+
+  functions_done : {mark : ℕ} {all : List Lexeme} (G : Type 0) → (h : Heading) (gs : List VariableTree) (fs : List FunctionTree) → G ⊎ Here limit mark (last_function fs) export_tokens → FunctionsOn limit mark all G h gs fs export_tokens
+      → High (module_of h gs fs [] (one 0 [])) mark all
+  functions_done {mark = mark} G h gs fs (inl g) r = tables_done (G ⊎ (⊥ ⊎ Here limit mark (last_function fs) export_tokens)) (inl g) h gs fs [] (r [] export_tokens no_functions)
+  functions_done {mark = mark} G h gs fs (inr g) r = tables_done (G ⊎ (⊥ ⊎ Here limit mark (last_function fs) export_tokens)) (inr (inr g)) h gs fs [] (r [] export_tokens no_functions)
+
+  globals_done : {mark : ℕ} {all : List Lexeme} (G : Type 0) → G → (h : Heading) (gs : List VariableTree) → GlobalsOn limit mark all G false h gs export_tokens → High (module_of h gs [] [] (one 0 [])) mark all
+  globals_done G g h gs r = functions_done G h gs [] (inl g) (r [] export_tokens no_var)
+
+  in_globals_done : {mark : ℕ} {all : List Lexeme} (G : Type 0) → G → (h : Heading) (gs : List VariableTree) → GlobalsOn limit mark all G true h gs (a_semicolon ∷ export_tokens) → High (module_of h gs [] [] (one 0 [])) mark all
+  in_globals_done G g h gs r = functions_done G h gs [] (inl g) (r [] export_tokens (an_end (written (here refl)) no_var))
+
+  ends_with : (n : ℕ) (front tokens : List Lexeme) (m : ModuleTree) (O : Type 0) → Quiet tokens → (O → may_miss tokens ≡ true) → High m (n + length tokens) (front ++ tokens) → Finish n front O
+  ends_with n front tokens m O q miss h = record { ending = record { tokens = tokens; found = m; whole = h }; quiet = q; misses = miss }
