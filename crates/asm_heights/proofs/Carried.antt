@@ -216,7 +216,7 @@ module _ (limit mark : ℕ) (all : List Lexeme) where
 
   -- ---- expressions
 
-  high_at_level : {p q : ℕ} {e : ExprTree} {xs ys : List Lexeme} (le : p ≤ q) (x : IsExpr q e xs ys) → HighExpr limit mark x → HighExpr limit mark (at_level le x)
+  pub high_at_level : {p q : ℕ} {e : ExprTree} {xs ys : List Lexeme} (le : p ≤ q) (x : IsExpr q e xs ys) → HighExpr limit mark x → HighExpr limit mark (at_level le x)
   unfolding at_level
   high_at_level le (an_operand x) h = h
   high_at_level le (a_binary low x i y) h = h

@@ -12,7 +12,7 @@ use Rattle.asm_lang.proofs.Sound.{at_level}
 use Rattle.asm_lang.proofs.Viable.{bytes_same, Quiet, quiet_stops, quiet_no_else}
 use Rattle.asm_heights.specs.Peaks.{height, body_height, last_height, last_function, whole_height, peak, step_peak}
 use Rattle.asm_heights.specs.HighNodes.{Here, HighExpr, HighOperand, HighModule}
-use Rattle.asm_heights.proofs.Carried.{Open, Found, ExportsOn, TablesOn, FunctionsOn, GlobalsOn, Carries, CarriesStep, Moves, mono, mono_step}
+use Rattle.asm_heights.proofs.Carried.{Open, Found, ExportsOn, TablesOn, FunctionsOn, GlobalsOn, Carries, CarriesStep, Moves, mono, mono_step, high_at_level}
 
 -- ---- tokens that begin a line
 
@@ -169,3 +169,143 @@ module _ (limit : ℕ) where
 
   ends_with : (n : ℕ) (front tokens : List Lexeme) (m : ModuleTree) (O : Type 0) → Quiet tokens → (O → may_miss tokens ≡ true) → High m (n + length tokens) (front ++ tokens) → Finish n front O
   ends_with n front tokens m O q miss h = record { ending = record { tokens = tokens; found = m; whole = h }; quiet = q; misses = miss }
+
+  -- ---- once such a node was read
+
+  abbrev Read : Type 0
+  Read = Unit {0}
+
+  marks_finish : (ps : List Lexeme) (ds : List ParamTree) (k : List ParamTree → State) (n : ℕ) (front : List Lexeme) → ((es : List ParamTree) (i : ℕ) (on : List Lexeme) → Promise Read i on (k es) → Finish i on (Open (k es)))
+      → Promise Read n front (at_marks ps ds k) → Finish n front (Open (at_marks ps ds k))
+  marks_finish [] ds k n front go h = go ds n front (λ ys mark is q m. let r = h ys mark is q m in r.1 [] ys no_marks)
+  marks_finish (p ∷ ps) ds k n front go h =
+      let on : List Lexeme = front ++ mark_tokens p [] in
+      let same : (ys : List Lexeme) → on ++ ys ≡ front ++ mark_tokens p ys = λ ys. append_assoc front (mark_tokens p []) ys in
+      let found : Finish (n + 6) on (Open (at_marks ps (ds ++ int_mark p ∷ []) k)) = marks_finish ps (ds ++ int_mark p ∷ []) k (n + 6) on go
+      (λ ys mark is q m. subst (λ (xs : List Lexeme). Carries limit mark xs Read (at_marks ps (ds ++ int_mark p ∷ []) k) ys) (sym (same ys))
+      (let r = h (mark_tokens p ys) mark (let count : mark ≡ n + length (mark_tokens p ys) = omega arith in count) refl (λ o. refl) in
+      (r.0, λ es zs x. r.1 (int_mark p ∷ es) zs (an_int_mark (here (refl, bytes_same p.text)) (here refl) (here (refl, bytes_same p.text)) (here refl) (here (refl, refl)) (written (here refl)) x)))) in
+      let rest = found.ending in
+      let count : (n + 6) + length rest.tokens ≡ n + length (mark_tokens p rest.tokens) = omega arith in
+      ends_with n front (mark_tokens p rest.tokens) rest.found Unit refl (λ o. refl) (moved_high count (same rest.tokens) rest.whole)
+
+  mutual
+    finish : (s : State) (n : ℕ) (front : List Lexeme) → Promise Read n front s → Finish n front (Open s)
+    finish (closes c q s) n front h = after_token n front (c ≡ close_brace) (sample c) q (λ e. ap (λ d. may_miss_before d true) e)
+        (finish_step s (suc n) (front ++ sample c ∷ []) (λ ys mark is. moved_step mark Read s front (sample c) ys (h (sample c ∷ ys) mark (counted_on n mark (sample c) ys is) q (λ e. ap (λ d. may_miss_before d true) e) (sample c) ys (here refl))))
+    finish (at_expr p k) n front h =
+        let t : Lexeme = a_sample_number in
+        after_token n front ⊥ t refl no (ending_of (finish (k (literal 0 (pos 0))) (suc n) (front ++ t ∷ [])
+        (λ ys mark is q m. moved mark Read (k (literal 0 (pos 0))) front t ys (mono limit mark (front ++ t ∷ ys) (λ u. inl u) (k (literal 0 (pos 0))) ys
+        (h (t ∷ ys) mark (counted_on n mark t ys is) refl no (literal 0 (pos 0)) ys (an_operand (a_literal (here refl))) (quiet_stops p ys q))))))
+    finish (after_minus v k) n front h =
+        let t : Lexeme = sample_of a_nonzero in
+        after_token n front ⊥ t refl no (ending_of (finish (k (literal v.at (neg_ℤ (pos 1)))) (suc n) (front ++ t ∷ [])
+        (λ ys mark is q m. moved mark Read (k (literal v.at (neg_ℤ (pos 1)))) front t ys (mono limit mark (front ++ t ∷ ys) (λ u. inl u) (k (literal v.at (neg_ℤ (pos 1)))) ys
+        (let r = h (t ∷ ys) mark (counted_on n mark t ys is) refl no in r.1 (literal v.at (neg_ℤ (pos 1))) ys (a_negative (here r.0) (here (refl, refl))))))))
+    finish (after_name p v k) n front h = other_miss no (finish (k (variable v.at v.text)) n front
+        (λ ys mark is q m. mono limit mark (front ++ ys) (λ u. inl u) (k (variable v.at v.text)) ys (let r = h ys mark is q no in r.1 (variable v.at v.text) ys (an_operand (a_variable (here r.0))) (quiet_stops p ys q))))
+    finish (after_index p v i k) n front h = other_miss no (finish (k (element v.at v.text i)) n front
+        (λ ys mark is q m. mono limit mark (front ++ ys) (λ u. inl u) (k (element v.at v.text i)) ys (let r = h ys mark is q no in r.3 (element v.at v.text i) ys (an_operand (an_element (here r.1) r.2)) (λ a. inr a) (quiet_stops p ys q))))
+    finish (after_expr p e k) n front h = other_miss no (finish (k e) n front
+        (λ ys mark is q m. mono limit mark (front ++ ys) (λ u. inl u) (k e) ys (let r = h ys mark is q no in r.5 e ys (at_level r.2 r.3) (high_at_level limit mark (front ++ ys) r.2 r.3) (quiet_stops p ys q))))
+    finish (at_arguments k) n front h =
+        let t : Lexeme = sample close_paren in
+        after_token n front ⊥ t refl no (ending_of (finish (k no_expr) (suc n) (front ++ t ∷ [])
+        (λ ys mark is q m. moved mark Read (k no_expr) front t ys (mono limit mark (front ++ t ∷ ys) (λ u. inl u) (k no_expr) ys (h (t ∷ ys) mark (counted_on n mark t ys is) refl no no_expr ys (no_argument (here refl)))))))
+    finish (in_rest fs k) n front h = other_miss no (finish (k fs) n front (λ ys mark is q m. mono limit mark (front ++ ys) (λ u. inl u) (k fs) ys (let r = h ys mark is q no in r.1 no_expr ys no_further (quiet_stops 0 ys q))))
+    finish (ends s) n front h =
+        let start = h [] n (let count : n ≡ n + 0 = omega arith in count) tt no in
+        other_miss no (finish s n front (λ ys mark is q m. let r = h ys mark is q no in r.1 ys (missing (m start.0))))
+    finish (ends_do s) n front h =
+        let start = h [] n (let count : n ≡ n + 0 = omega arith in count) tt no in
+        other_miss no (finish s n front (λ ys mark is q m. let r = h ys mark is q no in r.1 ys (do_missing (miss_no_semicolon ys (m start.0)))))
+    finish (at_stmt k) n front h =
+        let t : Lexeme = a_semicolon in
+        after_token n front ⊥ t refl no (ending_of (finish (k (empty 0)) (suc n) (front ++ t ∷ [])
+        (λ ys mark is q m. moved mark Read (k (empty 0)) front t ys (mono limit mark (front ++ t ∷ ys) (λ u. inl u) (k (empty 0)) ys (let r = h (t ∷ ys) mark (counted_on n mark t ys is) refl no in r.2 (empty 0) ys (an_empty (here refl)))))))
+    finish (after_stmt_name v k) n front h =
+        let t : Lexeme = a_semicolon in
+        after_token n front ⊥ t refl no (ending_of (finish (k (plain v.at (variable v.at v.text))) (suc n) (front ++ t ∷ [])
+        (λ ys mark is q m. moved mark Read (k (plain v.at (variable v.at v.text))) front t ys (mono limit mark (front ++ t ∷ ys) (λ u. inl u) (k (plain v.at (variable v.at v.text))) ys
+        (let r = h (t ∷ ys) mark (counted_on n mark t ys is) refl no in r.3 (plain v.at (variable v.at v.text)) ys (a_plain (an_operand (a_variable (here r.0))) (written (here refl))))))))
+    finish (at_option c q b k) n front h = after_token n front ⊥ (sample c) q no
+        (finish_step (k None) (suc n) (front ++ sample c ∷ []) (λ ys mark is. moved_step mark Read (k None) front (sample c) ys (mono_step limit mark (front ++ sample c ∷ ys) (λ u. inl u) (k None) ys (h (sample c ∷ ys) mark (counted_on n mark (sample c) ys is) q no None (sample c) (sample c ∷ ys) ys absent (here refl)))))
+    finish (at_return k) n front h =
+        let t : Lexeme = a_semicolon in
+        after_token n front ⊥ t refl no (ending_of (finish (k None) (suc n) (front ++ t ∷ [])
+        (λ ys mark is q m. moved mark Read (k None) front t ys (mono limit mark (front ++ t ∷ ys) (λ u. inl u) (k None) ys (let r = h (t ∷ ys) mark (counted_on n mark t ys is) refl no in r.1 None ys (no_value (written (here refl))))))))
+    finish (at_target k) n front h =
+        let t : Lexeme = a_semicolon in
+        after_token n front ⊥ t refl no (ending_of (finish (k None) (suc n) (front ++ t ∷ [])
+        (λ ys mark is q m. moved mark Read (k None) front t ys (let r = h (t ∷ ys) mark (counted_on n mark t ys is) refl no in r.1 None ys (no_label (written (here refl)))))))
+    finish (after_arm at c s k) n front h = finish (k (if_only at c s)) n front (λ ys mark is q m. let r = h ys mark is q m in r.1 (quiet_no_else ys q))
+    finish (after_body b s) n front h =
+        let t : Lexeme = sample while_word in
+        after_token n front Unit t refl (λ o. refl) (finish_step s (suc n) (front ++ t ∷ []) (λ ys mark is. moved_step mark Read s front t ys (mono_step limit mark (front ++ t ∷ ys) (λ u. inl u) s ys (h (t ∷ ys) mark (counted_on n mark t ys is) refl (λ o. refl) t ys (here refl)))))
+    finish (at_stmts rs k) n front h =
+        let t : Lexeme = a_brace in
+        after_token n front Unit t refl (λ o. refl) (finish_step (k rs) (suc n) (front ++ t ∷ [])
+        (λ ys mark is. moved_step mark Read (k rs) front t ys (mono_step limit mark (front ++ t ∷ ys) (λ u. inl u) (k rs) ys (h (t ∷ ys) mark (counted_on n mark t ys is) refl (λ o. refl) no_stmt t (t ∷ ys) ys no_stmts (here refl)))))
+    finish (at_clauses k) n front h =
+        let t : Lexeme = a_brace in
+        after_token n front ⊥ t refl no (finish_step (k no_clause) (suc n) (front ++ t ∷ [])
+        (λ ys mark is. moved_step mark Read (k no_clause) front t ys (mono_step limit mark (front ++ t ∷ ys) (λ u. inl u) (k no_clause) ys (h (t ∷ ys) mark (counted_on n mark t ys is) refl no no_clause t (t ∷ ys) ys no_clauses (here refl)))))
+    finish (in_case v rs k) n front h =
+        let t : Lexeme = a_brace in
+        after_token n front Unit t refl (λ o. refl) (finish_step (k (one_clause (Some v) rs no_clause)) (suc n) (front ++ t ∷ [])
+        (λ ys mark is. moved_step mark Read (k (one_clause (Some v) rs no_clause)) front t ys (mono_step limit mark (front ++ t ∷ ys) (λ u. inl u) (k (one_clause (Some v) rs no_clause)) ys
+        (h (t ∷ ys) mark (counted_on n mark t ys is) refl (λ o. refl) no_stmt no_clause t (t ∷ ys) (t ∷ ys) ys no_stmts no_clauses (here refl)))))
+    finish (at_literal d k) n front h =
+        let t : Lexeme = a_sample_number in
+        after_token n front ⊥ t refl no (ending_of (finish (k (number (pos 0))) (suc n) (front ++ t ∷ []) (λ ys mark is q m. moved mark Read (k (number (pos 0))) front t ys (h (t ∷ ys) mark (counted_on n mark t ys is) refl no (number (pos 0)) ys (positive (here refl))))))
+    finish (after_sign d v k) n front h =
+        let t : Lexeme = sample_of a_nonzero in
+        after_token n front ⊥ t refl no (ending_of (finish (k (number (neg_ℤ (pos 1)))) (suc n) (front ++ t ∷ [])
+        (λ ys mark is q m. moved mark Read (k (number (neg_ℤ (pos 1)))) front t ys (let r = h (t ∷ ys) mark (counted_on n mark t ys is) refl no in r.1 (number (neg_ℤ (pos 1))) ys (negative (here r.0) (here (refl, refl)))))))
+    finish (at_init k) n front h =
+        let t : Lexeme = a_sample_number in
+        after_token n front ⊥ t refl no (ending_of (finish (k (number (pos 0))) (suc n) (front ++ t ∷ []) (λ ys mark is q m. moved mark Read (k (number (pos 0))) front t ys (h (t ∷ ys) mark (counted_on n mark t ys is) refl no (number (pos 0)) ys (of_literal (positive (here refl)))))))
+    finish (after_member f p k) n front h = other_miss no (finish (k (member f.text p.text)) n front (λ ys mark is q m. h ys mark is q no (member f.text p.text) ys a_member))
+    finish (in_names c q ns k) n front h = after_token n front ⊥ (sample c) q no
+        (finish_step (k ns) (suc n) (front ++ sample c ∷ []) (λ ys mark is. moved_step mark Read (k ns) front (sample c) ys (h (sample c ∷ ys) mark (counted_on n mark (sample c) ys is) q no [] (sample c) (sample c ∷ ys) ys no_names (here refl))))
+    finish (at_marks ps ds k) n front h = marks_finish ps ds k n front (λ es i on r. finish (k es) i on r) h
+    finish (at_locals ls k) n front h = finish (k ls) n front (λ ys mark is q m. let r = h ys mark is q m in r.1 [] ys no_var)
+    finish (in_locals ls k) n front h =
+        let start = h [] n (let count : n ≡ n + 0 = omega arith in count) tt no in
+        other_miss no (finish (k ls) n front (λ ys mark is q m. let r = h ys mark is q no in r.1 [] ys (an_end (missing (m (start.0 ls))) no_var)))
+    finish (may_comma k s) n front h = other_miss no (finish s n front (λ ys mark is q m. let r = h ys mark is q no in r.1))
+    finish (at_use h) n front r =
+        let tokens : List Lexeme = sample directive ∷ a_semicolon ∷ export_tokens in
+        ends_with n front tokens _ ⊥ refl no (globals_done Read tt h [] (r tokens (n + length tokens) refl refl no (sample directive) (a_semicolon ∷ export_tokens) export_tokens (here refl) (written (here refl))))
+    finish (at_globals h gs) n front r = ends_with n front export_tokens _ Unit refl (λ o. refl) (globals_done Read tt h gs (r export_tokens (n + length export_tokens) refl refl (λ o. refl)))
+    finish (at_value h gs v) n front r =
+        let tokens : List Lexeme = a_sample_number ∷ a_semicolon ∷ export_tokens in
+        let p = r tokens (n + length tokens) refl refl no in
+        ends_with n front tokens _ ⊥ refl no (in_globals_done Read tt h (gs ++ variable_of v (number (pos 0)) ∷ []) (p.0 (number (pos 0)) (a_semicolon ∷ export_tokens) (of_literal (positive (here refl)))))
+    finish (in_globals h gs) n front r = ends_with n front (a_semicolon ∷ export_tokens) _ ⊥ refl no (in_globals_done Read tt h gs (r (a_semicolon ∷ export_tokens) (n + length (a_semicolon ∷ export_tokens)) refl refl no))
+    finish (at_functions h gs fs) n front r = ends_with n front export_tokens _ ⊥ refl no (functions_done Read h gs fs (inl tt) (r export_tokens (n + length export_tokens) refl refl no))
+    finish (at_tables h gs fs ts) n front r = ends_with n front export_tokens _ Unit refl (λ o. refl) (tables_done Read tt h gs fs ts (r export_tokens (n + length export_tokens) refl refl (λ o. refl)))
+    finish (in_tables h gs fs ts) n front r = ends_with n front (a_semicolon ∷ export_tokens) _ ⊥ refl no
+        (export_done Read tt h gs fs ts (r (a_semicolon ∷ export_tokens) (n + length (a_semicolon ∷ export_tokens)) refl refl no [] export_tokens (an_end (written (here refl)) no_var)))
+    finish (at_export h gs fs ts) n front r =
+        let rest : List Lexeme = an_export ∷ a_semicolon ∷ a_brace ∷ [] in
+        let f = r rest (n + length rest) refl refl no (one 0 []) a_brace (a_brace ∷ []) [] refl (export_one (here refl) (written (here refl))) (here refl) nothing_more in
+        ends_with n front rest (module_of h gs fs ts (one 0 [])) ⊥ refl no (f.0, f.1 (inl tt))
+    finish (at_exports es k) n front h =
+        let t : Lexeme = a_brace in
+        after_token n front ⊥ t refl no (finish_step (k es) (suc n) (front ++ t ∷ []) (λ ys mark is. moved_step mark Read (k es) front t ys (h (t ∷ ys) mark (counted_on n mark t ys is) refl no [] t (t ∷ ys) ys no_export (here refl))))
+    finish (in_exports es k) n front h =
+        let t : Lexeme = a_brace in
+        after_token n front ⊥ t refl no (finish_step (k es) (suc n) (front ++ t ∷ []) (λ ys mark is. moved_step mark Read (k es) front t ys (h (t ∷ ys) mark (counted_on n mark t ys is) refl no [] t (t ∷ ys) ys no_export (here refl))))
+    finish (at_end true v) n front h = let f = h [] (n + 0) refl tt no nothing_more in ends_with n front [] v ⊥ tt no (f.0, f.1 (inl tt))
+    finish (at_end false v) n front h = let f = h [] (n + 0) refl tt no refl in ends_with n front [] v ⊥ tt no (f.0, f.1 (inl tt))
+
+    finish_step : (s : Step) (n : ℕ) (front : List Lexeme) → PromiseStep Read n front s → Ending n front
+    finish_step (goes s) n front h = ending_of (finish s n front (λ ys mark is q m. h ys mark is))
+    finish_step (expects w k) n front h =
+        let t : Lexeme = sample_of w in
+        shifted n front t (finish_step (k t) (suc n) (front ++ t ∷ []) (λ ys mark is. moved_step mark Read (k t) front t ys (h (t ∷ ys) mark (counted_on n mark t ys is) t ys (here (sample_meets w)))))
+    finish_step (either w d q k s) n front h =
+        shifted n front (sample d) (finish_step s (suc n) (front ++ sample d ∷ []) (λ ys mark is. moved_step mark Read s front (sample d) ys (let r = h (sample d ∷ ys) mark (counted_on n mark (sample d) ys is) in r.1 (sample d) ys (here refl))))
+    finish_step (refuses f back) n front h = absurd (h [] n (let count : n ≡ n + 0 = omega arith in count))
