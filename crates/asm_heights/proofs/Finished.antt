@@ -309,3 +309,88 @@ module _ (limit : ℕ) where
     finish_step (either w d q k s) n front h =
         shifted n front (sample d) (finish_step s (suc n) (front ++ sample d ∷ []) (λ ys mark is. moved_step mark Read s front (sample d) ys (let r = h (sample d ∷ ys) mark (counted_on n mark (sample d) ys is) in r.1 (sample d) ys (here refl))))
     finish_step (refuses f back) n front h = absurd (h [] n (let count : n ≡ n + 0 = omega arith in count))
+
+  -- ---- where the peak is above the limit
+
+  low_peak : {A : Type 0} → limit < 0 → A
+  low_peak lt = absurd (omega arith)
+
+  at_mark : (mark : ℕ) (ys : List Lexeme) → mark ≡ 0 + length ys → mark ≤ length ys
+  at_mark mark ys is = omega arith
+
+  past_mark : (mark : ℕ) (t : Lexeme) (ys : List Lexeme) → mark ≡ 1 + length ys → mark ≤ length (t ∷ ys)
+  past_mark mark t ys is = omega arith
+
+  high_finish : (s : State) (front : List Lexeme) → Promise ⊥ 0 front s → limit < peak s → Finish 0 front (Open s)
+  high_finish (after_name p v k) front h lt = elim (max_split limit 1 (peak (k (variable v.at v.text))) lt) [
+    | inl above ↦ other_miss no (finish (k (variable v.at v.text)) 0 front
+        (λ ys mark is q m. mono limit mark (front ++ ys) (λ u. inr (above, at_mark mark ys is)) (k (variable v.at v.text)) ys (let r = h ys mark is q no in r.1 (variable v.at v.text) ys (an_operand (a_variable (here r.0))) (quiet_stops p ys q))))
+    | inr on ↦ other_miss no (high_finish (k (variable v.at v.text)) front
+        (λ ys mark is q m. mono limit mark (front ++ ys) (λ u. inl u) (k (variable v.at v.text)) ys (let r = h ys mark is q no in r.1 (variable v.at v.text) ys (an_operand (a_variable (here r.0))) (quiet_stops p ys q))) on)
+  ]
+  high_finish (after_index p v i k) front h lt = elim (max_split limit (height (element v.at v.text i)) (peak (k (element v.at v.text i))) lt) [
+    | inl above ↦ other_miss no (finish (k (element v.at v.text i)) 0 front
+        (λ ys mark is q m. mono limit mark (front ++ ys) (λ u. inr (inl (above, at_mark mark ys is))) (k (element v.at v.text i)) ys (let r = h ys mark is q no in r.3 (element v.at v.text i) ys (an_operand (an_element (here r.1) r.2)) (λ a. inr a) (quiet_stops p ys q))))
+    | inr on ↦ other_miss no (high_finish (k (element v.at v.text i)) front
+        (λ ys mark is q m. mono limit mark (front ++ ys) (λ u. inl u) (k (element v.at v.text i)) ys (let r = h ys mark is q no in r.3 (element v.at v.text i) ys (an_operand (an_element (here r.1) r.2)) (λ a. inr a) (quiet_stops p ys q))) on)
+  ]
+  high_finish (after_expr p e k) front h lt = elim (max_split limit (height e) (peak (k e)) lt) [
+    | inl above ↦ other_miss no (finish (k e) 0 front
+        (λ ys mark is q m. (let r = h ys mark is q no in mono limit mark (front ++ ys) (λ u. inr (here_expr mark (at_level r.2 r.3) (above, at_mark mark ys is))) (k e) ys (r.5 e ys (at_level r.2 r.3) (high_at_level limit mark (front ++ ys) r.2 r.3) (quiet_stops p ys q)))))
+    | inr on ↦ other_miss no (high_finish (k e) front
+        (λ ys mark is q m. mono limit mark (front ++ ys) (λ u. inl u) (k e) ys (let r = h ys mark is q no in r.5 e ys (at_level r.2 r.3) (high_at_level limit mark (front ++ ys) r.2 r.3) (quiet_stops p ys q))) on)
+  ]
+  high_finish (in_rest fs k) front h lt = other_miss no (high_finish (k fs) front (λ ys mark is q m. mono limit mark (front ++ ys) (λ u. inl u) (k fs) ys (let r = h ys mark is q no in r.1 no_expr ys no_further (quiet_stops 0 ys q))) lt)
+  high_finish (ends s) front h lt =
+      let start = h [] 0 refl tt no in
+      other_miss no (high_finish s front (λ ys mark is q m. let r = h ys mark is q no in r.1 ys (missing (m start.0))) lt)
+  high_finish (ends_do s) front h lt =
+      let start = h [] 0 refl tt no in
+      other_miss no (high_finish s front (λ ys mark is q m. let r = h ys mark is q no in r.1 ys (do_missing (miss_no_semicolon ys (m start.0)))) lt)
+  high_finish (after_stmt_name v k) front h lt =
+      let t : Lexeme = a_semicolon in
+      let start = h [] 0 refl tt no in
+      elim (max_split limit 1 (peak (k (plain v.at (variable v.at v.text)))) lt) [
+        | inl above ↦ after_token 0 front ⊥ t refl no (ending_of (finish (k (plain v.at (variable v.at v.text))) 1 (front ++ t ∷ [])
+            (λ ys mark is q m. moved mark Read (k (plain v.at (variable v.at v.text))) front t ys (mono limit mark (front ++ t ∷ ys) (λ u. inr (inr (above, past_mark mark t ys is))) (k (plain v.at (variable v.at v.text))) ys
+            (let r = h (t ∷ ys) mark (counted_on 0 mark t ys is) refl no in r.3 (plain v.at (variable v.at v.text)) ys (a_plain (an_operand (a_variable (here r.0))) (written (here refl))))))))
+        | inr on ↦ other_miss no (high_finish (k (plain v.at (variable v.at v.text))) front
+            (λ ys mark is q m. mono limit mark (front ++ ys) (λ u. inl u) (k (plain v.at (variable v.at v.text))) ys
+            (let r = h ys mark is q no in r.3 (plain v.at (variable v.at v.text)) ys (a_plain (an_operand (a_variable (here r.0))) (missing (m (start.1 (plain v.at (variable v.at v.text)))))))) on)
+      ]
+  high_finish (at_return k) front h lt =
+      let start = h [] 0 refl tt no in
+      other_miss no (high_finish (k None) front (λ ys mark is q m. mono limit mark (front ++ ys) (λ u. inl u) (k None) ys (let r = h ys mark is q no in r.1 None ys (no_value (missing (m (start.0 None)))))) lt)
+  high_finish (at_target k) front h lt =
+      let start = h [] 0 refl tt no in
+      other_miss no (high_finish (k None) front (λ ys mark is q m. let r = h ys mark is q no in r.1 None ys (no_label (missing (m (start.0 None))))) lt)
+  high_finish (after_arm at c s k) front h lt = high_finish (k (if_only at c s)) front (λ ys mark is q m. let r = h ys mark is q m in r.1 (quiet_no_else ys q)) lt
+  high_finish (after_body b s) front h lt =
+      let t : Lexeme = sample while_word in
+      after_token 0 front Unit t refl (λ o. refl) (finish_step s 1 (front ++ t ∷ [])
+      (λ ys mark is. moved_step mark Read s front t ys (mono_step limit mark (front ++ t ∷ ys) (λ u. inr (lt, past_mark mark t ys is)) s ys (h (t ∷ ys) mark (counted_on 0 mark t ys is) refl (λ o. refl) t ys (here refl)))))
+  high_finish (at_stmts rs k) front h lt =
+      let t : Lexeme = a_brace in
+      after_token 0 front Unit t refl (λ o. refl) (finish_step (k rs) 1 (front ++ t ∷ [])
+      (λ ys mark is. moved_step mark Read (k rs) front t ys (mono_step limit mark (front ++ t ∷ ys) (λ u. inr (inr (lt, past_mark mark t ys is))) (k rs) ys (h (t ∷ ys) mark (counted_on 0 mark t ys is) refl (λ o. refl) no_stmt t (t ∷ ys) ys no_stmts (here refl)))))
+  high_finish (in_case v rs k) front h lt =
+      let t : Lexeme = a_brace in
+      after_token 0 front Unit t refl (λ o. refl) (finish_step (k (one_clause (Some v) rs no_clause)) 1 (front ++ t ∷ [])
+      (λ ys mark is. moved_step mark Read (k (one_clause (Some v) rs no_clause)) front t ys (mono_step limit mark (front ++ t ∷ ys) (λ u. inr (inr (lt, past_mark mark t ys is))) (k (one_clause (Some v) rs no_clause)) ys
+      (h (t ∷ ys) mark (counted_on 0 mark t ys is) refl (λ o. refl) no_stmt no_clause t (t ∷ ys) (t ∷ ys) ys no_stmts no_clauses (here refl)))))
+  high_finish (after_member f p k) front h lt = other_miss no (high_finish (k (member f.text p.text)) front (λ ys mark is q m. h ys mark is q no (member f.text p.text) ys a_member) lt)
+  high_finish (at_marks [] ds k) front h lt = high_finish (k ds) front (λ ys mark is q m. let r = h ys mark is q m in r.1 [] ys no_marks) lt
+  high_finish (at_locals ls k) front h lt = high_finish (k ls) front (λ ys mark is q m. let r = h ys mark is q m in r.1 [] ys no_var) lt
+  high_finish (in_locals ls k) front h lt =
+      let start = h [] 0 refl tt no in
+      other_miss no (high_finish (k ls) front (λ ys mark is q m. let r = h ys mark is q no in r.1 [] ys (an_end (missing (m (start.0 ls))) no_var)) lt)
+  high_finish (may_comma k s) front h lt = other_miss no (high_finish s front (λ ys mark is q m. let r = h ys mark is q no in r.1) lt)
+  high_finish (at_functions h gs fs) front r lt = ends_with 0 front export_tokens _ ⊥ refl no
+      (functions_done ⊥ h gs fs (inr (lt, at_mark (length export_tokens) export_tokens refl)) (r export_tokens (length export_tokens) refl refl no))
+  high_finish (at_end true v) front h lt = let f = h [] 0 refl tt no nothing_more in ends_with 0 front [] v ⊥ tt no (f.0, f.1 (inr (lt, at_mark 0 [] refl)))
+  high_finish (at_end false v) front h lt = let f = h [] 0 refl tt no refl in ends_with 0 front [] v ⊥ tt no (f.0, f.1 (inr (lt, at_mark 0 [] refl)))
+  high_finish _ front h lt = low_peak lt
+
+  pub high_ending : (s : Step) (front : List Lexeme) → ((ys : List Lexeme) (mark : ℕ) → mark ≡ 0 + length ys → Moves limit mark (front ++ ys) ⊥ s ys) → limit < step_peak s → Ending 0 front
+  high_ending (goes s) front h lt = ending_of (high_finish s front (λ ys mark is q m. h ys mark is) lt)
+  high_ending _ front h lt = low_peak lt

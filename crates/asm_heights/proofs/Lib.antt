@@ -10,3 +10,4 @@ pub mod SeenStmts
 pub mod SeenModules
 pub mod Carried
 pub mod Finished
+pub mod Places
