@@ -1,13 +1,13 @@
 -- What a state promises of nodes above the limit: if G holds, or what is put in has such a node, the module has one. G says that
 -- one was read. The mark counts the tokens that are left after it.
-use Rattle.std.proofs.Common.{ℕ, zero, suc, ◌≡◌, ◌≤◌, ◌<◌, ◌+◌, ◌&&◌, not, cond, Bool, true, false, List, [], ◌∷◌, ◌++◌, length, Option, Some, None, ◌⊎◌, inl, inr, refl, sym, ap, subst, ◌∙◌, arith}
+use Rattle.std.proofs.Common.{ℕ, ◌≡◌, ◌≤◌, ◌+◌, ◌&&◌, not, cond, Bool, true, false, List, [], ◌∷◌, ◌++◌, Option, Some, None, ◌⊎◌, inl, inr, refl, sym, ap, subst, ◌∙◌, arith}
 use Rattle.std.proofs.lemmas.Bool.{cond_both, leb-true}
 use Rattle.std.specs.Prelude.{codes, bytes_eq, ◌==◌, nat_le, ℤ, pos, neg_ℤ}
 use Rattle.sem_words.specs.declared.js_value.JsOp.TheVariants.{Add, Sub, Or}
 use Rattle.sem_words.specs.declared.js_value.JsUnary.TheVariants.{Neg}
 use Rattle.asm_lang.specs.Lexemes.{Class, identifier, break_word, case_word, continue_word, default_word, do_word, else_word, for_word, function_word, if_word, new_word, return_word, switch_word, var_word, while_word, a_number, a_decimal, directive, open_brace, close_brace, open_paren, close_paren, open_bracket, dot, semicolon, comma, question, colon, equals, operator, tilde, bang, Lexeme, is_word, named, Is, here, At}
 use Rattle.asm_lang.specs.Trees.{ExprTree, literal, variable, element, unary, listed, ExprTrees, no_expr, one_expr, StmtTree, block, plain, empty, if_only, if_else, returns, while_loop, do_loop, for_loop, breaks, continues, switches, StmtTrees, no_stmt, one_stmt, ClauseTrees, no_clause, one_clause, Init, number, decimal, foreign_int, foreign_double, member, math, view, VariableTree, ParamTree, FunctionTree, TableTree, ExportTree, ExportsTree, one, many, Heading, ModuleTree}
-use Rattle.asm_lang.specs.Grammar.{IsArguments, IsClauses, IsDeclared, IsDoEnd, IsEnd, IsExported, IsExports, IsExpr, IsFunctions, IsGlobal, IsHeading, IsIndex, IsInit, IsLast, IsLiteral, IsLocal, IsMarks, IsMember, IsMembers, IsModule, IsModuleParams, IsName, IsNames, IsOperand, IsOption, IsParams, IsRest, IsReturned, IsReturnedPart, IsStmt, IsStmts, IsTable, IsTarget, a_bang, a_binary, a_block, a_break, a_call, a_case, a_comma, a_conditional, a_continue, a_decimal_literal, a_default, a_do, a_double_mark, a_for, a_function, a_further, a_global, a_heading, a_label, a_labelled, a_list, a_literal, a_local, a_math, a_member, a_minus, a_module, a_name, a_negative, a_plain, a_plus, a_prefix, a_return, a_store, a_switch, a_table, a_table_call, a_tilde, a_value, a_var, a_variable, a_while, absent, after_comma, an_assignment, an_element, an_empty, an_end, an_export, an_exported, an_if_else, an_if_only, an_index, an_int, an_int_mark, an_operand, arguments, do_missing, do_written, export_many, export_one, in_parens, is_else, is_numeric, is_same_line, is_semicolon, last_semicolon, level_of, may_miss_before, members_of, missing, more_functions, more_names, more_stmts, negative, negative_decimal, next_export, no_argument, no_clauses, no_else, no_export, no_functions, no_further, no_label, no_marks, no_names, no_params, no_stmts, no_value, no_var, nothing_more, of_double, of_literal, of_member, of_view, params_0, params_1, params_2, params_3, positive, positive_decimal, present, some_params, texts, under, unnamed, written}
+use Rattle.asm_lang.specs.Grammar.{IsArguments, IsClauses, IsDeclared, IsDoEnd, IsEnd, IsExported, IsExports, IsExpr, IsFunctions, IsGlobal, IsHeading, IsIndex, IsInit, IsLast, IsLiteral, IsLocal, IsMarks, IsMember, IsMembers, IsModule, IsModuleParams, IsName, IsNames, IsOperand, IsOption, IsParams, IsRest, IsReturned, IsReturnedPart, IsStmt, IsStmts, IsTable, IsTarget, a_bang, a_binary, a_block, a_break, a_call, a_case, a_comma, a_conditional, a_continue, a_decimal_literal, a_default, a_do, a_double_mark, a_for, a_function, a_further, a_global, a_heading, a_label, a_labelled, a_list, a_literal, a_local, a_math, a_member, a_minus, a_module, a_name, a_negative, a_plain, a_plus, a_prefix, a_return, a_store, a_switch, a_table, a_table_call, a_tilde, a_value, a_var, a_variable, a_while, absent, after_comma, an_assignment, an_element, an_empty, an_end, an_export, an_exported, an_if_else, an_if_only, an_index, an_int, an_int_mark, an_operand, arguments, do_missing, do_written, export_many, export_one, in_parens, is_else, is_numeric, is_same_line, is_semicolon, last_semicolon, level_of, may_miss_before, members_of, missing, more_functions, more_names, more_stmts, negative, negative_decimal, next_export, no_argument, no_clauses, no_else, no_export, no_functions, no_further, no_label, no_marks, no_names, no_params, no_stmts, no_value, no_var, of_double, of_literal, of_member, of_view, params_0, params_1, params_2, params_3, positive, positive_decimal, present, some_params, texts, under, unnamed, written}
 use Rattle.asm_lang.specs.Machine.{State, Step, advance, after_arm, after_body, after_expr, after_index, after_member, after_minus, after_name, after_sign, after_stmt_name, arguments_by, arm_by, at_arguments, at_clauses, at_end, at_export, at_exports, at_expr, at_functions, at_globals, at_init, at_literal, at_locals, at_marks, at_option, at_return, at_start, at_stmt, at_stmts, at_tables, at_target, at_use, at_value, begins_expr, body_step, case_value, clauses_by, closes, comma_by, do_end_by, double_mark, either, end_by, end_step, ends, ends_do, expects, export_by, export_of, export_step, exports_step, expr_by, feed, function_of, function_step, functions_by, globals_by, goes, heading_step, in_case, in_case_by, in_exports, in_exports_by, in_globals, in_globals_by, in_locals, in_locals_by, in_names, in_rest, in_tables, in_tables_by, index_by, infix_by, init_by, int_mark, is_quiet, literal_by, local_step, locals_by, mark_step, may_comma, meets, member_by, members_step, minus_by, module_of, more_stmts_of, name_by, names_by, option_by, params_step, refuses, rest_by, return_by, same_class, sign_by, stmt_by, stmt_name_by, stmts_by, stuck, table_of, table_step, tables_by, target_by, use_by, value_by, variable_of}
 use Rattle.asm_lang.proofs.Tokens.{same_is, and_right, meets_is, stops_at, Ends, Stops, level_high, Stops-ends}
 use Rattle.asm_lang.proofs.CompleteExprs.{with_exprs, with_one, with_two, same}
@@ -402,7 +402,8 @@ module _ (limit mark : ℕ) (all : List Lexeme) where
   stmt_carries G open_brace t xs b k is o h = λ ss u ys zs x j. subst (λ (rs : StmtTrees). Carries (G ⊎ (HighStmts limit mark x ⊎ Here limit mark 0 xs)) (k (block t.at rs)) zs) (sym (with_no_stmt ss))
       (mono (onto (elim [ inl a ↦ inr a | inr a ↦ absurd (nothing_last xs a) ])) (k (block t.at ss)) zs (h (block t.at ss) zs (a_block (here is) x j)))
   stmt_carries G if_word t xs b k is o h = λ u ys i c zs x stop v ws j. (
-    (λ s. o (if_only t.at c s)), true,
+    (λ s. o (if_only t.at c s)),
+    true,
     λ s vs y. (
       o,
       (λ alone. mono (λ g. onto (λ a. inr a) (joined g)) (k (if_only t.at c s)) vs (h (if_only t.at c s) vs (an_if_only (here is) i x j y alone))),
@@ -410,12 +411,17 @@ module _ (limit mark : ℕ) (all : List Lexeme) where
     ),
   )
   stmt_carries G while_word t xs b k is o h = λ u ys i c zs x stop v ws j. ((λ s. o (while_loop t.at c s)), true, λ s vs y. mono (λ g. onto (λ a. inr a) (joined g)) (k (while_loop t.at c s)) vs (h (while_loop t.at c s) vs (a_while (here is) i x j y)))
-  stmt_carries G do_word t xs b k is o h = ((λ s. tt), true, λ s ys y u zs i v ws j c vs x stop w us l. (
-    o (do_loop t.at s c),
-    λ ts end. mono (λ g. onto (λ a. inr a) (joined (wide (passed_back (here_stmt true y)) g))) (k (do_loop t.at s c)) ts (h (do_loop t.at s c) ts (a_do (here is) y i j x l end)),
-  ))
+  stmt_carries G do_word t xs b k is o h = (
+    (λ s. tt),
+    true,
+    λ s ys y u zs i v ws j c vs x stop w us l. (
+      o (do_loop t.at s c),
+      λ ts end. mono (λ g. onto (λ a. inr a) (joined (wide (passed_back (here_stmt true y)) g))) (k (do_loop t.at s c)) ts (h (do_loop t.at s c) ts (a_do (here is) y i j x l end)),
+    ),
+  )
   stmt_carries G for_word t xs b k is o h = λ u ys i a v zs ws x j d w vs us y l c r ts qs z m. (
-    (λ s. o (for_loop t.at a d c s)), true,
+    (λ s. o (for_loop t.at a d c s)),
+    true,
     λ s ps n. mono (λ g. onto (λ q. inr q) (joined4 g)) (k (for_loop t.at a d c s)) ps (h (for_loop t.at a d c s) ps (a_for (here is) i x j y l z m n)),
   )
   stmt_carries G return_word t xs b k is o h = ((λ v. o (returns t.at v)), λ v ys x. mono (onto (λ a. inr a)) (k (returns t.at v)) ys (h (returns t.at v) ys (a_return (here is) x)))
@@ -539,8 +545,11 @@ module _ (limit mark : ℕ) (all : List Lexeme) where
 
   part_carries : (G : Type 0) (c : Class) (t : Lexeme) (xs : List Lexeme) (h : Heading) (gs : List VariableTree) (fs : List FunctionTree) (ts : List TableTree) → t.class ≡ c → not t.line ≡ true → PartOn G h gs fs ts (t ∷ xs) → Moves G (export_by c t h gs fs ts) xs
   part_carries G identifier t xs h gs fs ts is line r = (refl, λ zs end w ws j last. r (one t.at t.text) w zs ws line (export_one (here is) end) j last)
-  part_carries G open_brace t xs h gs fs ts is line r = λ es v zs ws x j. (refl, λ vs end w us l last.
-      subst (λ (ds : List ExportTree). Found (G ⊎ Here limit mark (whole_height (module_of h gs fs ts (many ds))) us) (module_of h gs fs ts (many ds))) (sym (with_nothing es)) (r (many es) w vs us line (export_many (here is) x j end) l last))
+  part_carries G open_brace t xs h gs fs ts is line r = λ es v zs ws x j. (
+    refl,
+    λ vs end w us l last.
+        subst (λ (ds : List ExportTree). Found (G ⊎ Here limit mark (whole_height (module_of h gs fs ts (many ds))) us) (module_of h gs fs ts (many ds))) (sym (with_nothing es)) (r (many es) w vs us line (export_many (here is) x j end) l last),
+  )
   part_carries G _ t xs h gs fs ts is line r = tt
 
   members_carry : (G : Type 0) (xs : List Lexeme) (n : Lexeme) (h : Heading) (gs : List VariableTree) (fs : List FunctionTree) (ts : List TableTree)
@@ -555,11 +564,17 @@ module _ (limit mark : ℕ) (all : List Lexeme) where
       → ((ds : List ParamTree) (ls : List VariableTree) (ss : StmtTrees) (u w : Lexeme) (ys zs ws vs us : List Lexeme) → At open_brace u xs ys → IsMarks ps ds ys zs → IsDeclared IsLocal false ls zs ws → (z : IsStmts ss ws vs) → At close_brace w vs us
       → FunctionsOn (G ⊎ HighStmts limit mark z) h gs (fs ++ function_of n ds ls ss ∷ []) us)
       → CarriesStep G (body_step n ps h gs fs) xs
-  body_carries G xs n ps h gs fs r = λ u ys i. ((λ es. tt), λ ds zs x. ((λ ks. tt), λ ls ws y ss w vs us z j.
-      subst (λ (es : List ParamTree). FunctionsOn (G ⊎ (HighStmts limit mark z ⊎ Here limit mark 0 ws)) h gs (fs ++ function_of n es (with_all [] ls) (with_stmts no_stmt ss) ∷ []) us) (sym (with_nothing ds))
-      (subst (λ (es : List VariableTree). FunctionsOn (G ⊎ (HighStmts limit mark z ⊎ Here limit mark 0 ws)) h gs (fs ++ function_of n ds es (with_stmts no_stmt ss) ∷ []) us) (sym (with_nothing ls))
-      (subst (λ (es : StmtTrees). FunctionsOn (G ⊎ (HighStmts limit mark z ⊎ Here limit mark 0 ws)) h gs (fs ++ function_of n ds ls es ∷ []) us) (sym (with_no_stmt ss))
-      (functions_mono (onto (first_stmts ws)) h gs (fs ++ function_of n ds ls ss ∷ []) us (r ds ls ss u w ys zs ws vs us i x y z j))))))
+  body_carries G xs n ps h gs fs r = λ u ys i. (
+    (λ es. tt),
+    λ ds zs x. (
+      (λ ks. tt),
+      λ ls ws y ss w vs us z j.
+          subst (λ (es : List ParamTree). FunctionsOn (G ⊎ (HighStmts limit mark z ⊎ Here limit mark 0 ws)) h gs (fs ++ function_of n es (with_all [] ls) (with_stmts no_stmt ss) ∷ []) us) (sym (with_nothing ds))
+          (subst (λ (es : List VariableTree). FunctionsOn (G ⊎ (HighStmts limit mark z ⊎ Here limit mark 0 ws)) h gs (fs ++ function_of n ds es (with_stmts no_stmt ss) ∷ []) us) (sym (with_nothing ls))
+          (subst (λ (es : StmtTrees). FunctionsOn (G ⊎ (HighStmts limit mark z ⊎ Here limit mark 0 ws)) h gs (fs ++ function_of n ds ls es ∷ []) us) (sym (with_no_stmt ss))
+          (functions_mono (onto (first_stmts ws)) h gs (fs ++ function_of n ds ls ss ∷ []) us (r ds ls ss u w ys zs ws vs us i x y z j)))),
+    ),
+  )
 
   -- the function that was put in last
   one_function : {G A B C : Type 0} (fs : List FunctionTree) (f : FunctionTree) (us : List Lexeme) → (G ⊎ A) ⊎ (B ⊎ Here limit mark (last_function (fs ++ f ∷ [])) us) → G ⊎ (((Here limit mark (function_height (modules.function_of f)) us ⊎ A) ⊎ B) ⊎ C)

@@ -1,16 +1,15 @@
 -- A peak above the limit is a node of some module: the tokens that end it at once make one.
-use Rattle.std.proofs.Common.{ℕ, zero, suc, ◌≡◌, ◌≤◌, ◌<◌, ◌+◌, max, Bool, true, false, List, [], ◌∷◌, ◌++◌, length, Option, Some, None, ◌⊎◌, inl, inr, refl, sym, ap, subst, ◌∙◌, arith, append_assoc}
+use Rattle.std.proofs.Common.{ℕ, suc, ◌≡◌, ◌≤◌, ◌<◌, ◌+◌, max, Bool, true, false, List, [], ◌∷◌, ◌++◌, length, Some, None, ◌⊎◌, inl, inr, refl, sym, ap, subst, arith, append_assoc}
 use Rattle.std.proofs.lemmas.Bool.{cases_lt}
 use Rattle.std.specs.Prelude.{pos, neg_ℤ}
 use Rattle.sem_words.specs.declared.js_value.JsOp.TheVariants.{Or}
 use Rattle.asm_lang.specs.Lexemes.{Class, identifier, return_word, while_word, a_number, directive, close_brace, close_paren, semicolon, equals, operator, Lexeme, Want, sign, a_property, named, a_zero, a_nonzero, Meets, here, At}
-use Rattle.asm_lang.specs.Trees.{ExprTree, literal, variable, element, no_expr, StmtTree, plain, empty, if_only, no_stmt, no_clause, one_clause, number, member, VariableTree, ParamTree, FunctionTree, TableTree, one, Heading, ModuleTree}
+use Rattle.asm_lang.specs.Trees.{ExprTree, literal, variable, element, no_expr, plain, empty, if_only, no_stmt, no_clause, one_clause, number, member, VariableTree, ParamTree, FunctionTree, TableTree, one, Heading, ModuleTree}
 use Rattle.asm_lang.specs.Grammar.{IsExpr, an_operand, a_binary, a_conditional, an_assignment, a_store, a_list, IsOperand, a_literal, a_negative, a_decimal_literal, a_variable, an_element, a_call, a_table_call, in_parens, a_prefix, a_minus, no_argument, no_further, may_miss_before, may_miss, written, missing, begins_semicolon, is_semicolon, do_missing, absent, no_value, no_label, positive, negative, a_plain, an_empty, no_stmts, no_clauses, a_member, of_literal, no_names, no_var, an_end, no_marks, an_int_mark, no_functions, no_export, export_one, an_exported, nothing_more, IsModule}
 use Rattle.asm_lang.specs.Machine.{is_quiet, State, closes, at_expr, after_minus, after_name, after_index, after_expr, at_arguments, in_rest, ends, ends_do, at_stmt, after_stmt_name, at_option, at_return, at_target, after_arm, after_body, at_stmts, at_clauses, in_case, at_literal, after_sign, at_init, after_member, in_names, at_marks, at_locals, in_locals, may_comma, at_use, at_globals, at_value, in_globals, at_functions, at_tables, in_tables, at_export, at_exports, in_exports, at_end, Step, goes, expects, either, refuses, int_mark, variable_of, module_of}
-use Rattle.asm_lang.proofs.CompleteModules.{with_all}
 use Rattle.asm_lang.proofs.Sound.{at_level}
 use Rattle.asm_lang.proofs.Viable.{bytes_same, Quiet, quiet_stops, quiet_no_else}
-use Rattle.asm_heights.specs.Peaks.{height, body_height, last_height, last_function, whole_height, peak, step_peak}
+use Rattle.asm_heights.specs.Peaks.{height, last_function, peak, step_peak}
 use Rattle.asm_heights.specs.HighNodes.{Here, HighExpr, HighOperand, HighModule}
 use Rattle.asm_heights.proofs.Carried.{Open, Found, ExportsOn, TablesOn, FunctionsOn, GlobalsOn, Carries, CarriesStep, Moves, mono, mono_step, high_at_level}
 

@@ -1,13 +1,15 @@
 -- Where reading stops at a node above the limit is the first token that completes one.
-use Rattle.std.proofs.Common.{ℕ, suc, ◌≡◌, ◌≤◌, ◌<◌, ◌+◌, List, [], ◌∷◌, ◌++◌, length, take, drop, Err, refl, sym, ap, subst, ◌∙◌, arith, append_assoc, length-append, length-drop}
-use Rattle.std.proofs.lemmas.List.{take_at}
+use Rattle.std.proofs.Common.{ℕ, ◌≡◌, ◌≤◌, ◌<◌, ◌+◌, List, [], ◌∷◌, ◌++◌, length, take, drop, Result, Ok, Err, inl, inr, refl, sym, ap, subst, ◌∙◌, arith, append_assoc, length-append, length-drop}
+use Rattle.std.proofs.lemmas.List.{take_at, drop_at}
+use Rattle.std.proofs.lemmas.Bool.{cases_lt}
 use Rattle.asm_lang.specs.Lexemes.{Lexeme}
-use Rattle.asm_lang.specs.Machine.{Fault, State, Step, goes, expects, either, refuses, advance, at_start}
-use Rattle.asm_heights.specs.Peaks.{step_peak, after, high, run_low}
+use Rattle.asm_lang.specs.Trees.{ModuleTree}
+use Rattle.asm_lang.specs.Machine.{Fault, Step, goes, expects, either, refuses, advance, at_start}
+use Rattle.asm_heights.specs.Peaks.{step_peak, after, Stop, refused, high, run_low}
 use Rattle.asm_heights.specs.HighNodes.{BeginsHigh, IsHeightFault}
-use Rattle.asm_heights.proofs.SeenModules.{HighStop, high_stop, none_before}
-use Rattle.asm_heights.proofs.Carried.{CarriesStep, Moves, advance_carries, at_start_carries}
-use Rattle.asm_heights.proofs.Finished.{High, Ending, high_ending}
+use Rattle.asm_heights.proofs.SeenModules.{high_stop, none_in_found, none_in_refused, none_before}
+use Rattle.asm_heights.proofs.Carried.{Moves, advance_carries, at_start_carries}
+use Rattle.asm_heights.proofs.Finished.{High, high_ending}
 
 module _ (limit mark : ℕ) (all : List Lexeme) where
   refused_after : (f : Fault) (back front ys : List Lexeme) → Moves limit mark all ⊥ (after (refuses f back) front) ys
@@ -48,3 +50,29 @@ height_fault limit xs k le e =
       here = subst (BeginsHigh limit) (sym same) (begins_high limit (w.front ++ w.token ∷ []) (subst (λ (r : Step). limit < step_peak r) (sym (after_more w.front w.token at_start)) w.over));
       before = none_before limit xs k le e;
     }
+
+-- ---- the place is the only one
+
+one_place : (limit : ℕ) (xs : List Lexeme) (i j : ℕ) → IsHeightFault limit xs i → IsHeightFault limit xs j → i ≡ j
+one_place limit xs i j f g = elim (cases_lt i j) [
+  | inl lt ↦ absurd (g.before i lt f.here)
+  | inr le ↦ elim (cases_lt j i) [ inl lt ↦ absurd (f.before j lt g.here) | inr le2 ↦ omega arith ]
+]
+
+same_place : (limit : ℕ) (xs rest : List Lexeme) (k : ℕ) → IsHeightFault limit xs k → run_low limit at_start xs ≡ Err (high rest) → rest ≡ drop k xs
+same_place limit xs rest k f e =
+    let w = high_stop limit xs at_start rest (omega arith) e in
+    let le : length w.front ≤ length xs = omega (arith, ap length w.parts, length-append w.front rest) in
+    let dropped : drop (length w.front) xs ≡ rest = ap (drop (length w.front)) w.parts ∙ drop_at w.front rest (length w.front) refl in
+    let g = height_fault limit xs (length w.front) le (e ∙ ap (λ (ys : List Lexeme). let r : Result ModuleTree Stop = Err (high ys) in r) (sym dropped)) in
+    sym dropped ∙ ap (λ (n : ℕ). drop n xs) (one_place limit xs (length w.front) k g f)
+
+pub height_stop : (limit : ℕ) (xs : List Lexeme) (k : ℕ) → IsHeightFault limit xs k → run_low limit at_start xs ≡ Err (high (drop k xs))
+height_stop limit xs k f =
+    let P : Result ModuleTree Stop → Type 0 = λ r. run_low limit at_start xs ≡ r → run_low limit at_start xs ≡ Err (high (drop k xs)) in
+    let cases : (r : Result ModuleTree Stop) → P r = elim [
+      | Ok m ↦ λ e. absurd (none_in_found limit xs m e (k + 1) f.here)
+      | Err (refused q) ↦ λ e. absurd (none_in_refused limit xs q e (k + 1) f.here)
+      | Err (high rest) ↦ λ e. e ∙ ap (λ (ys : List Lexeme). let r : Result ModuleTree Stop = Err (high ys) in r) (same_place limit xs rest k f e)
+    ] in
+    cases (run_low limit at_start xs) refl

@@ -1,15 +1,16 @@
 //! asm.js: the limit on the height of a module's nodes, and the token at which a node above it is complete.
 #![tactic(auto)]
 
-ghost use Rattle.std.specs.Prelude.{◌≡◌, ◌≤◌, ◌++◌, ℕ, ℤ, Bool, true, false, List, Option, Some, Result, Ok, max, min};
+ghost use Rattle.std.specs.Prelude.{◌≡◌, ◌≤◌, ◌+◌, ◌++◌, ℕ, ℤ, Bool, true, false, List, Option, Some, Result, Ok, Err, length, take, drop, max, min};
 ghost use Rattle.sem_words.specs.declared.js_value.JsOp.{JsOp};
 ghost use Rattle.sem_words.specs.declared.js_value.JsUnary.{JsUnary};
 ghost use Rattle.asm_lang.specs.Lexemes.{Class, Lexeme};
 ghost use Rattle.asm_lang.specs.Trees.{ExprTree, assignment, store, unary, binary, conditional, listed, ExprTrees, StmtTree, plain, if_else, returns, while_loop, for_loop, StmtTrees, ClauseTrees, ModuleTree};
 ghost use Rattle.asm_lang.specs.Grammar.{IsModule, under};
 ghost use Rattle.asm_lang.specs.Modules.{expr_of};
-ghost use Rattle.asm_lang.specs.Machine.{is_quiet, State, closes, after_expr, in_rest, ends, after_arm, after_body, at_stmts, in_case, Step, more_exprs, more_stmts_of, run, at_start};
-ghost use Rattle.asm_heights.specs.Peaks.{run_low, height, all_height, part_height, body_height, whole_height, step_peak, after};
+ghost use Rattle.asm_lang.specs.Machine.{Refusal, is_quiet, State, closes, after_expr, in_rest, ends, after_arm, after_body, at_stmts, in_case, Step, more_exprs, more_stmts_of, run, at_start};
+ghost use Rattle.asm_heights.specs.HighNodes.{BeginsHigh, IsHeightFault};
+ghost use Rattle.asm_heights.specs.Peaks.{refused, high, run_low, height, all_height, part_height, body_height, whole_height, step_peak, after};
 ghost use Rattle.asm_heights.specs.Rises.{Rise, risen, level, rise_after, one_more, second_operand, ExprRise, StmtRise, capped_rise};
 
 /// Reading within a limit finds a module exactly where reading finds it and its height is within the limit.
@@ -18,6 +19,16 @@ pub fn low_modules()
     ensures low_found { (limit : ℕ) (xs : List Lexeme) (m : ModuleTree) → run_low limit at_start xs ≡ Ok m → run at_start xs ≡ Ok m }
     ensures low_within { (limit : ℕ) (xs : List Lexeme) (m : ModuleTree) → run_low limit at_start xs ≡ Ok m → whole_height m ≤ limit }
     ensures peak_within { (xs ys : List Lexeme) (m : ModuleTree) → IsModule m (xs ++ ys) → step_peak (after at_start xs) ≤ whole_height m }
+{}
+
+/// Reading within a limit stops at the first token that completes a node above it. Where it finds a module, or the grammar
+/// refuses a token, no node above the limit is complete anywhere; and then the refusal is that of reading without a limit.
+pub fn height_faults()
+    ensures height { (limit : ℕ) (xs : List Lexeme) (k : ℕ) → k ≤ length xs → run_low limit at_start xs ≡ Err (high (drop k xs)) → IsHeightFault limit xs k }
+    ensures height_only { (limit : ℕ) (xs : List Lexeme) (k : ℕ) → IsHeightFault limit xs k → run_low limit at_start xs ≡ Err (high (drop k xs)) }
+    ensures grammar { (limit : ℕ) (xs : List Lexeme) (r : Refusal) → run_low limit at_start xs ≡ Err (refused r) → run at_start xs ≡ Err r }
+    ensures none_in_refused { (limit : ℕ) (xs : List Lexeme) (r : Refusal) → run_low limit at_start xs ≡ Err (refused r) → (n : ℕ) → ¬ BeginsHigh limit (take n xs) }
+    ensures none_in_found { (limit : ℕ) (xs : List Lexeme) (m : ModuleTree) → run_low limit at_start xs ≡ Ok m → (n : ℕ) → ¬ BeginsHigh limit (take n xs) }
 {}
 
 /// Two numbers for what is open round a node: those of one thing round another, and what a cap on all of them leaves.
