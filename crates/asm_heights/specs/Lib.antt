@@ -1,3 +1,4 @@
 pub mod Peaks
 pub mod Rises
 pub mod HighNodes
+pub mod Examples
