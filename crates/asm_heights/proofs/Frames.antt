@@ -1,6 +1,7 @@
 -- The numbers of what is open, frame by frame.
-use Rattle.std.proofs.Common.{ℕ, ◌≡◌, ◌≤◌, ◌+◌, Bool, true, false, max, min, List, Option, Some, refl, arith}
-use Rattle.std.specs.Prelude.{ℤ}
+use Rattle.std.proofs.Common.{ℕ, ◌≡◌, ◌≤◌, ◌+◌, Bool, true, false, max, min, List, Option, Some, refl, arith, sym, ◌∙◌, inl, inr}
+use Rattle.std.proofs.lemmas.Bool.{cases_lt, lt-ltb, le-ltb}
+use Rattle.std.specs.Prelude.{ℤ, nat_lt}
 use Rattle.sem_words.specs.declared.js_value.JsOp.{JsOp}
 use Rattle.sem_words.specs.declared.js_value.JsUnary.{JsUnary}
 use Rattle.asm_lang.specs.Lexemes.{Class, Lexeme}
@@ -91,3 +92,10 @@ capped_after cap r s =
     let floors : min (max r.floor (s.floor + r.steps)) cap ≡ min (max (min r.floor cap) (min s.floor cap + min r.steps cap)) cap = omega arith in
     let steps : min (s.steps + r.steps) cap ≡ min (min s.steps cap + min r.steps cap) cap = omega arith in
     λ i. record { floor = floors i; steps = steps i }
+
+-- a cap of one more than the limit leaves whether a height is above it
+pub compares : (limit h : ℕ) → nat_lt limit (min h (limit + 1)) ≡ nat_lt limit h
+compares limit h = elim (cases_lt limit h) [
+  | inl lt ↦ lt-ltb limit (min h (limit + 1)) (omega arith) ∙ sym (lt-ltb limit h lt)
+  | inr le ↦ le-ltb limit (min h (limit + 1)) (omega arith) ∙ sym (le-ltb limit h le)
+]

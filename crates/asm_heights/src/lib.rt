@@ -1,7 +1,7 @@
 //! asm.js: the limit on the height of a module's nodes, and the token at which a node above it is complete.
 #![tactic(auto)]
 
-ghost use Rattle.std.specs.Prelude.{◌≡◌, ◌≤◌, ◌+◌, ◌++◌, ℕ, ℤ, Bool, true, false, List, Option, Some, Result, Ok, Err, length, take, drop, max, min};
+ghost use Rattle.std.specs.Prelude.{◌≡◌, ◌≤◌, ◌+◌, ◌++◌, ℕ, ℤ, Bool, true, false, List, Option, Some, Result, Ok, Err, length, take, drop, max, min, nat_lt};
 ghost use Rattle.sem_words.specs.declared.js_value.JsOp.{JsOp};
 ghost use Rattle.sem_words.specs.declared.js_value.JsUnary.{JsUnary};
 ghost use Rattle.asm_lang.specs.Lexemes.{Class, Lexeme};
@@ -35,6 +35,7 @@ pub fn height_faults()
 pub fn rises()
     ensures compose { (r s : Rise) (h : ℕ) → risen (rise_after r s) h ≡ risen r (risen s h) }
     ensures capped { (cap : ℕ) (r : Rise) (h : ℕ) → min (risen r h) cap ≡ min (risen (capped_rise cap r) (min h cap)) cap }
+    ensures compares { (limit h : ℕ) → nat_lt limit (min h (limit + 1)) ≡ nat_lt limit h }
     ensures capped_after { (cap : ℕ) (r s : Rise) → capped_rise cap (rise_after r s) ≡ capped_rise cap (rise_after (capped_rise cap r) (capped_rise cap s)) }
 {}
 

@@ -1,4 +1,4 @@
-use Rattle.asm_heights.proofs.Frames.{compose, capped, capped_after}
+use Rattle.asm_heights.proofs.Frames.{compose, capped, compares, capped_after}
 use Rattle.asm_heights.proofs.rises.Goals as goal
 
 pub returns-clause-compose : goal.returns-clause-compose
@@ -9,3 +9,6 @@ returns-clause-capped c = capped
 
 pub returns-clause-capped_after : goal.returns-clause-capped_after
 returns-clause-capped_after c = capped_after
+
+pub returns-clause-compares : goal.returns-clause-compares
+returns-clause-compares c = compares
