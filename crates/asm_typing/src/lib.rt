@@ -1,0 +1,7 @@
+//! asm.js: which modules are typed, and the first node of any other that breaks a rule (asm.js draft of 18 August
+//! 2014, sections 5 to 8).
+#![tactic(auto)]
+
+mod rule;
+
+pub use rule::Rule;
