@@ -167,7 +167,9 @@ int_goes_out = refl
 
 abbrev tabled : List (List ℕ) → Expr → Module
 tabled ms i = record {
-  name = None; params = []; globals = [];
+  name = None;
+  params = [];
+  globals = [];
   functions = function f (int_param x ∷ []) (stmts (plain (table_call g i (exprs (var x) no_exprs))) no_stmts) ∷ [];
   tables = record { name = g; members = ms } ∷ [];
   exports = one f;

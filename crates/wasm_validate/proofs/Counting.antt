@@ -47,7 +47,7 @@ one_counted m i b old new e of on =
     let next : k + i + 1 ≡ k + (i + 1) = omega arith in
     let d : first_mul_div k m.bodies ≡ or_else old.mul_div (cond (has_mul_div b.code) (Some (k + i)) (first_mul_div (k + i + 1) rest)) = of.mul_div ∙ ap (λ bs. or_else old.mul_div (first_mul_div (k + i) bs)) at in
     let c : called_types m.types (take (i + 1) m.bodies) ≡ called_types m.types (take i m.bodies) ++ called_in m.types b.code =
-        ap (called_types m.types) (one_longer m.bodies i b e) ∙ types_append m.types (take i m.bodies) (b ∷ []) ∙ ap (λ l. called_types m.types (take i m.bodies) ++ l) (append-nil (called_in m.types b.code)) in
+    ap (called_types m.types) (one_longer m.bodies i b e) ∙ types_append m.types (take i m.bodies) (b ∷ []) ∙ ap (λ l. called_types m.types (take i m.bodies) ++ l) (append-nil (called_in m.types b.code)) in
     record {
       levels = omega (arith, l, on.levels);
       slots = omega (arith, s, on.slots);

@@ -5,6 +5,5 @@ pub mod Sections
 pub mod Refusals
 pub mod Mixed
 pub mod Counted
-
 -- the profile of translation, and what a valid module is outside it by
 pub use Rattle.wasm_typing.specs.Profile.{IsInProfile, outside_profile}

@@ -29,11 +29,7 @@ use wasm_lang::ValType;
 use wasm_tree::{Body, FuncType, Instr, Module};
 
 /// Finds the first body that isn't valid, or counts of all bodies.
-pub fn check_bodies(
-    alloc: Global,
-    module: &Module<'_>,
-    facts: &Facts,
-) -> Result<Counts, CodeFault>
+pub fn check_bodies(alloc: Global, module: &Module<'_>, facts: &Facts) -> Result<Counts, CodeFault>
     requires facts_of { FactsOf facts.now (module_of «module».now) }
     requires expressions { All (λ b. IsExpression b.code) (module_of «module».now).bodies }
     ensures exactly { MatchResult result (λ _. FineBodies (module_of «module».now) (length (module_of «module».now).bodies)) (IsCodeFault (module_of «module».now)) }
@@ -84,7 +80,13 @@ fn check_code(
     };
     let slots = check_slots(alloc, module, facts, i, body, code.as_slice())?;
     let function = imported_count(module, facts) + i;
-    match counts.add(alloc, module.types.as_slice(), function, slots, code.as_slice()) {
+    match counts.add(
+        alloc,
+        module.types.as_slice(),
+        function,
+        slots,
+        code.as_slice(),
+    ) {
         Ok(()) => Ok(()),
         Err(_) => Err(BodyFault::Memory),
     }
