@@ -1,4 +1,0 @@
-pub mod Views
-pub mod Heights
-pub mod Rises
-pub mod Tall
