@@ -1,0 +1,5 @@
+pub mod Code
+pub mod Store
+pub mod Plain
+pub mod Reductions
+pub mod Session
