@@ -1,0 +1,4 @@
+pub mod Reach
+pub mod Frames
+pub mod Views
+pub mod Infix

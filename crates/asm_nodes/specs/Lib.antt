@@ -1,0 +1,4 @@
+pub mod Views
+pub mod Heights
+pub mod Rises
+pub mod Tall
