@@ -1,0 +1,6 @@
+pub mod Driving
+pub mod Instructions
+pub mod Sequences
+pub mod Events
+pub mod Counting
+pub mod Sessions

@@ -1,0 +1,5 @@
+//! What reductions of WebAssembly come to, followed until a configuration is values, leaves its
+//! label or its function, or the session ends: one equation for each construct.
+#![tactic(auto)]
+
+pub mod laws;
