@@ -1,14 +1,14 @@
 -- Small modules and what they break, as the checker computes it.
-use Rattle.std.proofs.Common.{◌≡◌, ℕ, ◌+◌, Bool, true, false, List, [], ◌∷◌, Option, Some, None, refl}
-use Rattle.std.specs.Prelude.{ℤ, pos, negsuc, codes}
-use Rattle.sem_words.specs.declared.js_value.JsOp.TheVariants.{Mul, Div, Or, And, Shr, Sar, Lt}
+use Rattle.std.proofs.Common.{◌≡◌, ℕ, true, false, List, [], ◌∷◌, Option, Some, None, refl}
+use Rattle.std.specs.Prelude.{pos, negsuc, codes}
+use Rattle.sem_words.specs.declared.js_value.JsOp.TheVariants.{Mul, Div, Or, And, Shr, Sar}
 use Rattle.sem_words.specs.declared.js_value.JsUnary.TheVariants.{Plus}
-use Rattle.asm_lang.specs.Trees.{Init, number, decimal, foreign_int, member, math, view}
-use Rattle.asm_lang.specs.Modules.{Expr, lit, var, index, call, table_call, assign, store, unary, binary, chain, cond, comma, Exprs, no_exprs, exprs, Links, no_links, links, Stmt, block, plain, empty, if_only, returns, while_loop, breaks, continues, labelled, switches, Stmts, no_stmts, stmts, Clauses, no_clauses, clauses, Variable, Param, Function, Table, Export, Exports, one, many, Module}
+use Rattle.asm_lang.specs.Trees.{Init, number, foreign_int, member, view}
+use Rattle.asm_lang.specs.Modules.{Expr, lit, var, index, call, table_call, assign, store, unary, binary, chain, comma, no_exprs, exprs, no_links, links, Stmt, block, plain, empty, if_only, returns, while_loop, breaks, continues, labelled, switches, Stmts, no_stmts, stmts, no_clauses, clauses, Variable, Param, Function, one, Module}
 use Rattle.asm_typing.specs.declared.rule.Rule.{Rule}
 use Rattle.asm_typing.specs.declared.rule.Rule.TheVariants.{NameTaken, ForbiddenName, UnknownName, WrongKind, LiteralRange, OutsideInteger, Operand, CallShape, BareByteIndex, ViewShift, TableSize, TableMask, ReturnKind, Label, SwitchCases}
 use Rattle.asm_typing.specs.Rows.{Met}
-use Rattle.asm_typing.specs.LimitRows.{ForeignCall, foreign_calls}
+use Rattle.asm_typing.specs.LimitRows.{foreign_calls}
 use Rattle.asm_typing.specs.Refusal.{refusal, has_heap}
 
 abbrev met : Rule → ℕ → Option Met

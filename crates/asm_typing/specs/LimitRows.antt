@@ -1,10 +1,10 @@
 -- The rows of this product's limits on counts, which come last.
-use Rattle.std.specs.Prelude.{ℕ, suc, ◌+◌, Bool, true, false, not, ◌&&◌, ◌||◌, List, [], ◌∷◌, ◌++◌, length, Option, Some, None, bytes_eq, ◌==◌, nat_le, nat_lt, if◌then◌else◌, map}
+use Rattle.std.specs.Prelude.{ℕ, suc, ◌+◌, Bool, true, false, ◌&&◌, ◌||◌, List, [], ◌∷◌, ◌++◌, length, Option, Some, None, bytes_eq, ◌==◌, nat_le, nat_lt, if◌then◌else◌, map}
 use Rattle.asm_lang.specs.Trees.{Init, foreign_int, foreign_double, member}
-use Rattle.asm_lang.specs.Modules.{Expr, lit, decimal, var, index, call, table_call, assign, store, unary, binary, chain, cond, comma, Exprs, no_exprs, exprs, Links, no_links, links, Stmt, block, plain, empty, if_only, if_else, returns, while_loop, do_while, for_loop, breaks, continues, labelled, switches, Stmts, no_stmts, stmts, Clauses, no_clauses, clauses, Variable, Param, Function, Table, Module}
+use Rattle.asm_lang.specs.Modules.{Expr, lit, decimal, var, index, call, table_call, assign, store, unary, binary, chain, cond, comma, Exprs, no_exprs, exprs, Links, no_links, links, Stmt, block, plain, empty, if_only, if_else, returns, while_loop, do_while, for_loop, breaks, continues, labelled, switches, Stmts, no_stmts, stmts, Clauses, no_clauses, clauses, Variable, Function, Table, Module}
 use Rattle.asm_typing.specs.declared.rule.Rule.TheVariants.{PastLimit}
 use Rattle.asm_typing.specs.Scope.{is_foreign, Meaning, a_foreign}
-use Rattle.asm_typing.specs.Rows.{Met, need, expr_count, exprs_count, links_count, option_count, stmt_count, stmts_count, clauses_count, body_at, function_count, functions_at, tables_at}
+use Rattle.asm_typing.specs.Rows.{Met, need, expr_count, option_count, stmt_count, stmts_count, body_at, function_count, functions_at, tables_at}
 use Rattle.asm_typing.specs.Typing.{Scope, named, exprs_length, same, is_call, or_zero}
 
 abbrev pub most_functions : ℕ

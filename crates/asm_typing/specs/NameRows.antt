@@ -1,11 +1,10 @@
 -- The rows of names, which come first: what is declared twice or forbidden, and what is used without a fitting declaration.
-use Rattle.std.specs.Prelude.{ℕ, suc, ◌+◌, Bool, true, false, not, ◌&&◌, ◌||◌, List, [], ◌∷◌, ◌++◌, length, Option, Some, None, map, codes, bytes_eq, if◌then◌else◌}
-use Rattle.asm_lang.specs.Trees.{Init, number, decimal, foreign_int, foreign_double, member, math, view}
+use Rattle.std.specs.Prelude.{ℕ, ◌+◌, Bool, true, false, not, ◌&&◌, ◌||◌, List, [], ◌∷◌, ◌++◌, length, Option, Some, None, map, codes, bytes_eq, if◌then◌else◌}
+use Rattle.asm_lang.specs.Trees.{Init, foreign_int, foreign_double, member, math, view}
 use Rattle.asm_lang.specs.Modules.{Expr, lit, decimal as decimal_expr, var, index, call, table_call, assign, store, unary, binary, chain, cond, comma, Exprs, no_exprs, exprs, Links, no_links, links, Stmt, block, plain, empty, if_only, if_else, returns, while_loop, do_while, for_loop, breaks, continues, labelled, switches, Stmts, no_stmts, stmts, Clauses, no_clauses, clauses, Variable, Param, Function, Table, Export, Exports, one, many, Module}
-use Rattle.asm_typing.specs.declared.rule.Rule.{Rule}
 use Rattle.asm_typing.specs.declared.rule.Rule.TheVariants.{NameTaken, ForbiddenName, UnknownName, WrongKind}
-use Rattle.asm_typing.specs.Scope.{is_stdlib, is_foreign, is_heap, is_in, Meaning, nothing, an_int, an_outside, a_foreign, a_builtin, a_view, a_function, a_table, a_parameter, module_meaning}
-use Rattle.asm_typing.specs.Rows.{Met, need, expr_count, exprs_count, links_count, option_count, stmt_count, stmts_count, clauses_count, body_at, function_count, functions_at, tables_at, exports_at}
+use Rattle.asm_typing.specs.Scope.{is_stdlib, is_foreign, is_heap, is_in, Meaning, nothing, an_int, an_outside, a_foreign, a_builtin, a_view, a_function, a_table, module_meaning}
+use Rattle.asm_typing.specs.Rows.{Met, need, expr_count, option_count, stmt_count, stmts_count, body_at, function_count, functions_at, tables_at, exports_at}
 use Rattle.asm_typing.specs.Typing.{Scope, named}
 
 -- a name that may not be declared

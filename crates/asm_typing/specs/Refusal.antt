@@ -1,5 +1,5 @@
 -- Which modules are accepted, and the first row of any other: rows of names come first, then those of types, then those of limits.
-use Rattle.std.specs.Prelude.{◌≡◌, Bool, true, false, ◌&&◌, ◌||◌, not, List, [], ◌∷◌, ◌++◌, length, ℕ, suc, ◌+◌, Option, Some, None, bytes_eq, if◌then◌else◌, map}
+use Rattle.std.specs.Prelude.{◌≡◌, Bool, true, false, ◌||◌, List, [], ◌∷◌, ◌++◌, ℕ, suc, Option, None, bytes_eq, if◌then◌else◌, map}
 use Rattle.asm_lang.specs.Trees.{Init, foreign_int}
 use Rattle.asm_lang.specs.Modules.{Variable, Function, Export, Exports, one, many, Module}
 use Rattle.asm_typing.specs.Rows.{Met, first}

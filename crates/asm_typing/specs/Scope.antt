@@ -1,7 +1,7 @@
 -- What a name means in a module and in one of its functions (asm.js draft of 18 August 2014, sections 6.1 to 6.4).
-use Rattle.std.specs.Prelude.{◌≡◌, ℕ, zero, suc, ◌+◌, Bool, true, false, ◌&&◌, ◌||◌, not, List, [], ◌∷◌, ◌++◌, length, Option, Some, None, ℤ, pos, codes, bytes_eq, if◌then◌else◌, map}
+use Rattle.std.specs.Prelude.{ℕ, zero, suc, Bool, true, false, ◌||◌, List, [], ◌∷◌, length, Option, Some, None, codes, bytes_eq, if◌then◌else◌}
 use Rattle.asm_lang.specs.Trees.{Init, number, decimal, foreign_int, foreign_double, member, math, view}
-use Rattle.asm_lang.specs.Modules.{Expr, Stmt, returns, Stmts, no_stmts, stmts, Variable, Param, Function, Table, Module}
+use Rattle.asm_lang.specs.Modules.{Stmt, returns, Stmts, no_stmts, stmts, Variable, Param, Function, Table, Module}
 
 -- ---- the module's parameters
 

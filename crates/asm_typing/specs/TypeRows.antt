@@ -1,18 +1,19 @@
 -- The rows of types, which come where no row of names does.
-use Rattle.std.specs.Prelude.{ℕ, zero, suc, ◌+◌, Bool, true, false, not, ◌&&◌, ◌||◌, List, [], ◌∷◌, ◌++◌, length, Option, Some, None, ℤ, codes, bytes_eq, ◌==◌, nat_le, if◌then◌else◌, is_some, bit_and}
+use Rattle.std.specs.Prelude.{ℕ, ◌+◌, Bool, true, false, not, ◌&&◌, List, [], ◌∷◌, ◌++◌, length, Option, Some, None, ◌==◌, nat_le, if◌then◌else◌, is_some}
 use Rattle.sem_words.specs.declared.js_value.JsOp.TheVariants.{Sar}
 use Rattle.sem_words.specs.declared.js_value.JsUnary.{JsUnary}
-use Rattle.sem_words.specs.declared.js_value.JsUnary.TheVariants.{Neg, BitNot, Not, Plus}
+use Rattle.sem_words.specs.declared.js_value.JsUnary.TheVariants.{Plus}
 use Rattle.asm_types.specs.declared.value_type.ValueType.{ValueType}
 use Rattle.asm_types.specs.declared.value_type.ValueType.TheVariants.{Signed, Int, Intish, Extern}
 use Rattle.asm_types.specs.Types.{is_below}
-use Rattle.asm_lang.specs.Trees.{Init, number, decimal, foreign_int, foreign_double, member, math, view}
-use Rattle.asm_lang.specs.Modules.{Expr, lit, decimal as decimal_expr, var, index, call, table_call, assign, store, unary, binary, chain, cond, comma, Exprs, no_exprs, exprs, Links, no_links, links, Stmt, block, plain, empty, if_only, if_else, returns, while_loop, do_while, for_loop, breaks, continues, labelled, switches, Stmts, no_stmts, stmts, Clauses, no_clauses, clauses, Variable, Param, Function, Table, Module}
+use Rattle.asm_lang.specs.Trees.{Init}
+use Rattle.asm_lang.specs.Modules.{Expr, lit, decimal as decimal_expr, var, index, call, table_call, assign, store, unary, binary, chain, cond, comma, Exprs, no_exprs, exprs, Links, no_links, links, Stmt, block, plain, empty, if_only, if_else, returns, while_loop, do_while, for_loop, breaks, continues, labelled, switches, Stmts, no_stmts, stmts, Clauses, no_clauses, clauses, Variable, Function, Table, Module}
 use Rattle.asm_typing.specs.declared.rule.Rule.{Rule}
 use Rattle.asm_typing.specs.declared.rule.Rule.TheVariants.{LiteralRange, OutsideInteger, Operand, CallShape, BareByteIndex, ViewShift, TableSize, TableMask, ReturnKind, Label, SwitchCases, ChainLong}
-use Rattle.asm_typing.specs.Scope.{is_stdlib, Constructor, constructors, constructor_in, Element, shift_of, Meaning, an_outside, a_view, module_meaning, Signature, function_signature}
-use Rattle.asm_typing.specs.Rows.{Met, need, expr_count, exprs_count, links_count, option_count, stmt_count, stmts_count, clauses_count, body_at, function_count, functions_at, tables_at}
-use Rattle.asm_typing.specs.Typing.{Scope, named, literal_type, most_operators, links_length, typed_below, is_int, index_form, operated, exprs_length, is_builtin, is_call, same, or_zero, builtin_call, callee_fits, table_fits, mask_fits, type_of, all_below, links_fit, Around, at_top, in_a_loop, in_a_switch, under_labels, new_labels, break_fits, continue_fits, cases_fit, return_fits}
+use Rattle.asm_typing.specs.Scope.{shift_of, Meaning, an_outside, a_view}
+use Rattle.asm_typing.specs.Rows.{Met, need, expr_count, option_count, stmt_count, stmts_count, body_at, function_count, functions_at, tables_at}
+use Rattle.asm_typing.specs.Typing.{Scope, named, literal_type, most_operators, links_length, typed_below, is_int, index_form, operated, exprs_length, is_call, or_zero, callee_fits, table_fits, mask_fits, type_of, all_below, links_fit, Around, at_top, in_a_loop, in_a_switch, under_labels, new_labels, break_fits, continue_fits, cases_fit, return_fits}
+use Rattle.asm_typing.specs.Typed.{scope_of, literal_fits, member_fits, table_typed}
 
 -- ---- expressions
 
@@ -51,7 +52,7 @@ abbrev mutual
   expr_rows c at (index n i) = expr_rows c (at + 1) i ++ element_rows (named c n) i (type_of c i) at
   expr_rows c at (call n es) = exprs_rows c (at + 1) es ++ (used (named c n) at ++ need (is_some (type_of c (call n es))) CallShape at)
   expr_rows c at (table_call n i es) = expr_rows c (at + 1) i ++ (exprs_rows c (at + 1 + expr_count i) es ++ (used (named c n) at ++ need false CallShape at))
-  expr_rows c at (assign n e) = expr_rows c (at + 1) e ++ (used (named c n) at ++ need (agrees Int (type_of c e)) Operand at)
+  expr_rows c at (assign n e) = expr_rows c (at + 1) e ++ (need (is_int (named c n)) OutsideInteger at ++ need (agrees Int (type_of c e)) Operand at)
   expr_rows c at (store n i e) =
       expr_rows c (at + 1) i ++ (expr_rows c (at + 1 + expr_count i) e ++ (used (named c n) at ++ (need (agrees Intish (type_of c e)) Operand at ++ element_rows (named c n) i (type_of c i) at)))
   expr_rows c at (unary op e) = expr_rows c (at + 1) e ++ need (is_some (type_of c (unary op e))) (unary_rule op) at
@@ -76,8 +77,9 @@ abbrev mutual
   links_rows c at no_links = []
   links_rows c at (links minus e ls) = expr_rows c at e ++ links_rows c (at + expr_count e) ls
 
+  -- a comma without a part, which the grammar doesn't have, is no operand
   pub comma_rows : Scope → ℕ → Exprs → List Met
-  comma_rows c at no_exprs = []
+  comma_rows c at no_exprs = need false Operand at
   comma_rows c at (exprs e no_exprs) = expr_rows c at e
   comma_rows c at (exprs e (exprs x es)) = (if is_call c e then call_rows c false at e else expr_rows c at e) ++ comma_rows c (at + expr_count e) (exprs x es)
 
@@ -143,19 +145,11 @@ abbrev mutual
 
 -- ---- declarations
 
--- a number lies in [-2^31, 2^32)
 abbrev pub literal_rows : Init → ℕ → List Met
-literal_rows (number v) at = need (is_some (literal_type v)) LiteralRange at
-literal_rows _ at = []
+literal_rows i at = need (literal_fits i) LiteralRange at
 
-abbrev pub is_constant : List ℕ → Bool
-is_constant p = bytes_eq (codes "Infinity") p || bytes_eq (codes "NaN") p
-
--- a member of the standard library and a view are among those that asm.js has
 abbrev pub member_rows : Module → Init → ℕ → List Met
-member_rows m (member f p) at = need (not (is_stdlib m f) || is_constant p) OutsideInteger at
-member_rows m (view f p h) at = need (is_some (constructor_in constructors p)) OutsideInteger at
-member_rows m _ at = []
+member_rows m i at = need (member_fits m i) OutsideInteger at
 
 abbrev pub globals_rows : Module → ℕ → List Variable → List Met
 globals_rows m at [] = []
@@ -166,32 +160,15 @@ locals_rows at [] = []
 locals_rows at (v ∷ vs) = literal_rows v.init at ++ locals_rows (at + 1) vs
 
 abbrev pub function_rows : Module → ℕ → Function → List Met
-function_rows m at f = locals_rows (at + 1 + length f.params) f.locals ++ stmts_rows (record { home = m; within = f }) at_top (body_at f at) f.body
+function_rows m at f = locals_rows (at + 1 + length f.params) f.locals ++ stmts_rows (scope_of m f) at_top (body_at f at) f.body
 
 abbrev pub functions_rows : Module → ℕ → List Function → List Met
 functions_rows m at [] = []
 functions_rows m at (f ∷ fs) = function_rows m at f ++ functions_rows m (at + function_count f) fs
 
--- 1, 2, 4, ...
-abbrev pub is_power_of_two : ℕ → Bool
-is_power_of_two zero = false
-is_power_of_two (suc n) = bit_and (suc n) n == 0
-
-abbrev pub same_signature : Option Signature → Option Signature → Bool
-same_signature (Some s) (Some t) = (s.params == t.params) && same s.result t.result
-same_signature _ t = false
-
-abbrev pub all_alike : Module → Option Signature → List (List ℕ) → Bool
-all_alike m s [] = true
-all_alike m s (n ∷ ns) = same_signature s (function_signature (module_meaning m n)) && all_alike m s ns
-
-abbrev pub alike : Module → List (List ℕ) → Bool
-alike m [] = true
-alike m (n ∷ ns) = all_alike m (function_signature (module_meaning m n)) (n ∷ ns)
-
 abbrev pub tables_rows : Module → ℕ → List Table → List Met
 tables_rows m at [] = []
-tables_rows m at (t ∷ ts) = need (is_power_of_two (length t.members) && alike m t.members) TableSize at ++ tables_rows m (at + 1) ts
+tables_rows m at (t ∷ ts) = need (table_typed m t) TableSize at ++ tables_rows m (at + 1) ts
 
 abbrev pub type_rows : Module → List Met
 type_rows m = globals_rows m 1 m.globals ++ (functions_rows m (functions_at m) m.functions ++ tables_rows m (tables_at m) m.tables)

@@ -1,14 +1,13 @@
 -- The types of expressions, and which statements and functions are typed (asm.js draft of 18 August 2014, sections 6.5 to 6.8).
-use Rattle.std.specs.Prelude.{ℕ, suc, ◌+◌, ◌-◌, ◌*◌, ◌^◌, Bool, true, false, not, ◌&&◌, ◌||◌, List, [], ◌∷◌, ◌++◌, length, Option, Some, None, ℤ, pos, negsuc, int_lt, int_le, nat_lt, nat_le, ◌==◌, bytes_eq, if◌then◌else◌, is_some, option_and_then, unsigned_abs}
+use Rattle.std.specs.Prelude.{ℕ, suc, ◌+◌, ◌-◌, ◌*◌, ◌^◌, Bool, true, false, not, ◌&&◌, ◌||◌, List, [], ◌∷◌, length, Option, Some, None, ℤ, pos, negsuc, int_lt, int_le, nat_lt, nat_le, ◌==◌, bytes_eq, if◌then◌else◌, is_some, option_and_then, unsigned_abs}
 use Rattle.sem_words.specs.declared.js_value.JsOp.{JsOp}
-use Rattle.sem_words.specs.declared.js_value.JsOp.TheVariants.{Add, Sub, Mul, Div, Rem, Or, And, Xor, Shl, Sar, Shr, Lt, Le, Gt, Ge, Eq, Ne}
-use Rattle.sem_words.specs.declared.js_value.JsUnary.{JsUnary}
+use Rattle.sem_words.specs.declared.js_value.JsOp.TheVariants.{Mul, Or, And, Sar}
 use Rattle.asm_types.specs.declared.value_type.ValueType.{ValueType}
 use Rattle.asm_types.specs.declared.value_type.ValueType.TheVariants.{Fixnum, Signed, Unsigned, Int, Intish, Extern}
 use Rattle.asm_types.specs.Types.{is_below}
 use Rattle.asm_types.specs.Rows.{row, binary_row_of, unary_row_of}
-use Rattle.asm_lang.specs.Modules.{Expr, lit, decimal, var, index, call, table_call, assign, store, unary, binary, chain, cond, comma, Exprs, no_exprs, exprs, Links, no_links, links, Stmt, block, plain, empty, if_only, if_else, returns, while_loop, do_while, for_loop, breaks, continues, labelled, switches, Stmts, no_stmts, stmts, Clauses, no_clauses, clauses, Function, Table, Module}
-use Rattle.asm_typing.specs.Scope.{Element, shift_of, Builtin, imul, clz32, Meaning, nothing, an_int, an_outside, a_foreign, a_builtin, a_view, a_function, a_table, a_parameter, meaning, Signature, signature_of, first_member}
+use Rattle.asm_lang.specs.Modules.{Expr, lit, decimal, var, index, call, table_call, assign, store, unary, binary, chain, cond, comma, Exprs, no_exprs, exprs, Links, no_links, links, Stmt, block, plain, empty, if_only, if_else, returns, while_loop, do_while, for_loop, breaks, continues, labelled, switches, Stmts, no_stmts, stmts, Clauses, no_clauses, clauses, Function, Module}
+use Rattle.asm_typing.specs.Scope.{shift_of, Builtin, imul, clz32, Meaning, an_int, a_foreign, a_builtin, a_view, a_function, a_table, meaning, Signature, signature_of, first_member}
 
 -- the module, and the function whose body it is
 pub record Scope : Type 0 where

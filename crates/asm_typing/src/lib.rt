@@ -2,6 +2,8 @@
 //! 2014, sections 5 to 8).
 #![tactic(auto)]
 
+mod laws;
 mod rule;
 
+pub use laws::{refusal_laws, type_laws};
 pub use rule::Rule;
