@@ -1,12 +1,8 @@
 -- Rows that nodes of a module meet. Nodes are numbered in text order, a whole before its parts; the module is node 0.
+pub use Rattle.asm_typing.specs.declared.rule.Met.{Met}
 use Rattle.std.specs.Prelude.{ℕ, ◌+◌, Bool, true, false, List, [], ◌∷◌, length, Option, Some, None}
 use Rattle.asm_lang.specs.Modules.{Expr, lit, decimal, var, index, call, table_call, assign, store, unary, binary, chain, cond, comma, Exprs, no_exprs, exprs, Links, no_links, links, Stmt, block, plain, empty, if_only, if_else, returns, while_loop, do_while, for_loop, breaks, continues, labelled, switches, Stmts, no_stmts, stmts, Clauses, no_clauses, clauses, Function, Module}
 use Rattle.asm_typing.specs.declared.rule.Rule.{Rule}
-
--- a rule that a node breaks
-pub record Met : Type 0 where
-  pub rule : Rule
-  pub node : ℕ
 
 -- the row of a rule that has to hold at a node
 abbrev pub need : Bool → Rule → ℕ → List Met

@@ -1,4 +1,8 @@
 -- What a name means in a module and in one of its functions (asm.js draft of 18 August 2014, sections 6.1 to 6.4).
+pub use Rattle.asm_typing.specs.declared.meaning.Element.{Element}
+pub use Rattle.asm_typing.specs.declared.meaning.Element.TheVariants.{Int8, Uint8, Int16, Uint16, Int32, Uint32}
+pub use Rattle.asm_typing.specs.declared.meaning.Builtin.{Builtin}
+pub use Rattle.asm_typing.specs.declared.meaning.Builtin.TheVariants.{Imul, Clz32}
 use Rattle.std.specs.Prelude.{ℕ, zero, suc, Bool, true, false, ◌||◌, List, [], ◌∷◌, length, Option, Some, None, codes, bytes_eq, if◌then◌else◌}
 use Rattle.asm_lang.specs.Trees.{Init, number, decimal, foreign_int, foreign_double, member, math, view}
 use Rattle.asm_lang.specs.Modules.{Stmt, returns, Stmts, no_stmts, stmts, Variable, Param, Function, Table, Module}
@@ -26,21 +30,14 @@ is_heap m n = is_name n (nth m.params 2)
 
 -- ---- what a global declaration makes of its name
 
--- the elements of an integer view
-pub data Element : Type 0 where
-  int8 uint8 int16 uint16 int32 uint32 : Element
-
 -- an element has 2 ^ k bytes
 abbrev pub shift_of : Element → ℕ
-shift_of int8 = 0
-shift_of uint8 = 0
-shift_of int16 = 1
-shift_of uint16 = 1
-shift_of int32 = 2
-shift_of uint32 = 2
-
-pub data Builtin : Type 0 where
-  imul clz32 : Builtin
+shift_of Int8 = 0
+shift_of Uint8 = 0
+shift_of Int16 = 1
+shift_of Uint16 = 1
+shift_of Int32 = 2
+shift_of Uint32 = 2
 
 pub data Meaning : Type 0 where
   nothing : Meaning  -- not declared
@@ -62,8 +59,8 @@ constructor n e = record { name = n; element = e }
 
 abbrev pub constructors : List Constructor
 constructors =
-    constructor (codes "Int8Array") (Some int8) ∷ constructor (codes "Uint8Array") (Some uint8) ∷ constructor (codes "Int16Array") (Some int16) ∷ constructor (codes "Uint16Array") (Some uint16)
-    ∷ constructor (codes "Int32Array") (Some int32) ∷ constructor (codes "Uint32Array") (Some uint32) ∷ constructor (codes "Float32Array") None ∷ constructor (codes "Float64Array") None ∷ []
+    constructor (codes "Int8Array") (Some Int8) ∷ constructor (codes "Uint8Array") (Some Uint8) ∷ constructor (codes "Int16Array") (Some Int16) ∷ constructor (codes "Uint16Array") (Some Uint16)
+    ∷ constructor (codes "Int32Array") (Some Int32) ∷ constructor (codes "Uint32Array") (Some Uint32) ∷ constructor (codes "Float32Array") None ∷ constructor (codes "Float64Array") None ∷ []
 
 -- the constructor of a view, if it is one
 abbrev pub constructor_in : List Constructor → List ℕ → Option Constructor
@@ -79,7 +76,7 @@ viewed (Some c) = of_element c.element
     of_element (Some e) = a_view e
 
 abbrev pub math_meaning : List ℕ → Meaning
-math_meaning p = if bytes_eq (codes "imul") p then a_builtin imul else (if bytes_eq (codes "clz32") p then a_builtin clz32 else an_outside)
+math_meaning p = if bytes_eq (codes "imul") p then a_builtin Imul else (if bytes_eq (codes "clz32") p then a_builtin Clz32 else an_outside)
 
 abbrev pub init_meaning : Module → Init → Meaning
 init_meaning m (number v) = an_int

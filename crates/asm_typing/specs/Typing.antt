@@ -7,7 +7,7 @@ use Rattle.asm_types.specs.declared.value_type.ValueType.TheVariants.{Fixnum, Si
 use Rattle.asm_types.specs.Types.{is_below}
 use Rattle.asm_types.specs.Rows.{row, binary_row_of, unary_row_of}
 use Rattle.asm_lang.specs.Modules.{Expr, lit, decimal, var, index, call, table_call, assign, store, unary, binary, chain, cond, comma, Exprs, no_exprs, exprs, Links, no_links, links, Stmt, block, plain, empty, if_only, if_else, returns, while_loop, do_while, for_loop, breaks, continues, labelled, switches, Stmts, no_stmts, stmts, Clauses, no_clauses, clauses, Function, Module}
-use Rattle.asm_typing.specs.Scope.{shift_of, Builtin, imul, clz32, Meaning, an_int, a_foreign, a_builtin, a_view, a_function, a_table, meaning, Signature, signature_of, first_member}
+use Rattle.asm_typing.specs.Scope.{shift_of, Builtin, Imul, Clz32, Meaning, an_int, a_foreign, a_builtin, a_view, a_function, a_table, meaning, Signature, signature_of, first_member}
 
 -- the module, and the function whose body it is
 pub record Scope : Type 0 where
@@ -105,12 +105,12 @@ matches None k result = false
 matches (Some s) k result = (k == s.params) && same result s.result
 
 abbrev pub builtin_arguments : Builtin → ℕ
-builtin_arguments imul = 2
-builtin_arguments clz32 = 1
+builtin_arguments Imul = 2
+builtin_arguments Clz32 = 1
 
 abbrev pub builtin_type : Builtin → ValueType
-builtin_type imul = Signed
-builtin_type clz32 = Fixnum
+builtin_type Imul = Signed
+builtin_type Clz32 = Fixnum
 
 abbrev pub or_zero : JsOp → Expr → Bool
 or_zero Or e = is_literal 0 e

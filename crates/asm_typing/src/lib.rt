@@ -3,7 +3,9 @@
 #![tactic(auto)]
 
 mod laws;
+mod meaning;
 mod rule;
 
 pub use laws::{refusal_laws, type_laws};
-pub use rule::Rule;
+pub use meaning::{Builtin, Element};
+pub use rule::{Met, Rule};

@@ -38,3 +38,11 @@ pub enum Rule {
     /// A count is above a limit of this product.
     PastLimit,
 }
+
+/// A rule that a node breaks.
+#[derive(Clone, Copy, PartialEq, Eq, Debug)]
+pub struct Met {
+    pub rule: Rule,
+    /// Nodes are numbered in text order, a whole before its parts; the module is node 0.
+    pub node: u64,
+}
