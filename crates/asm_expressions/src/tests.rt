@@ -47,7 +47,7 @@ fn class_of(word: &str) -> Class {
 /// Reads words with blanks between them, each word a token, whose number is its place.
 fn read(alloc: Global, level: u8, source: &str) -> Result<Found, AllocError> {
     let mut reading = ExprReading::start(alloc, level);
-    let mut at = 0;
+    let mut at: u64 = 0;
     for word in source.split(' ') {
         let token = Lexeme {
             class: class_of(word),
@@ -61,7 +61,7 @@ fn read(alloc: Global, level: u8, source: &str) -> Result<Found, AllocError> {
             ExprStep::Done(expr) => return Ok(Found::Ended(expr)),
             ExprStep::Stuck => return Ok(Found::Stuck(at)),
         }
-        at += 1;
+        at = at.saturating_add(1);
     }
     Ok(Found::Open)
 }

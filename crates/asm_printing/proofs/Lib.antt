@@ -1,0 +1,10 @@
+pub mod Tokens
+pub mod Numbers
+pub mod Exprs
+pub mod Starts
+pub mod Literals
+pub mod Stmts
+pub mod Modules
+pub mod TokenKinds
+pub mod Fits
+pub mod FitsModules
