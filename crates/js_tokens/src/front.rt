@@ -112,6 +112,16 @@ fn begins_run_on(s: &[u8]) -> bool
     }
 }
 
+/// How many bytes the longest token at the front takes, or 0 if none begins there.
+pub fn token_len(bytes: &[u8]) -> usize
+    ensures { result ≡ token_len bytes.now }
+{
+    match longest_token(bytes) {
+        None => 0,
+        Some((_, n)) => n,
+    }
+}
+
 /// The token at the front, or its flaw.
 #[tactic(auto, using(crate::proofs::Fronts::tokens))]
 fn token_front(s: &[u8]) -> Front

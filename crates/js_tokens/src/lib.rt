@@ -11,7 +11,9 @@ mod quoted;
 mod reading;
 mod token;
 
+pub use bytes::is_name_byte;
 pub use fault::TokenFault;
+pub use front::token_len;
 pub use reading::tokens;
 pub use token::{Token, TokenKind};
 

@@ -61,3 +61,20 @@ fn faults(rt: HostRuntime) {
         assert_eq!(rt; tokens(rt.alloc(), text).err(), Some(fault));
     }
 }
+
+#[test]
+fn longest_at_the_front(rt: HostRuntime) {
+    let want: [(&[u8], usize); 8] = [
+        (b"", 0),
+        (b"@", 0),
+        (b" a", 0),
+        (b"name1+", 5),
+        (b"1.5.2", 3),
+        (b"--1", 2),
+        (b"-1", 1),
+        (b">>>=a", 4),
+    ];
+    for (text, len) in want {
+        assert_eq!(rt; token_len(text), len);
+    }
+}
