@@ -1,0 +1,10 @@
+pub mod Nesting
+pub mod Values
+pub mod Plains
+pub mod Reducing
+pub mod Functions
+pub mod Outcomes
+pub mod Hosts
+pub mod Sessions
+pub mod Seen
+pub mod Examples

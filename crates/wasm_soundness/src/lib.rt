@@ -1,0 +1,4 @@
+//! Valid WebAssembly never gets stuck.
+#![tactic(auto)]
+
+pub mod laws;
