@@ -1,0 +1,4 @@
+pub mod PlaceLemmas
+pub mod ChainLemmas
+pub mod Erasing
+pub mod StmtErasing
