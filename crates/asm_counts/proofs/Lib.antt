@@ -1,0 +1,4 @@
+pub mod Exprs
+pub mod Stmts
+pub mod Modules
+pub mod Places

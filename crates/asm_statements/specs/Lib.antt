@@ -1,0 +1,6 @@
+pub mod Classes
+pub mod Frames
+pub mod Items
+pub mod Purposes
+pub mod Reach
+pub mod Views
