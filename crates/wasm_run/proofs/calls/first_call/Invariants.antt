@@ -1,0 +1,11 @@
+use Rattle.std.proofs.Common.{◌≡◌, drop, map}
+use Rattle.sem_laws.specs.Script.{CallPlain}
+use Rattle.sem_laws.specs.Views.{call_of}
+use Rattle.wasm_fitting.specs.Fits.{fits_call, lines_of, least}
+use Rattle.wasm_run.specs.Forms.{earlier}
+use Rattle.wasm_run.proofs.calls.first_call.Given as goal
+
+abbrev pub invariant-loop-call : goal.invariant-loop-call
+invariant-loop-call l =
+    least (lines_of (fits_call l.valid) (λ (c : CallPlain). c.line) (map call_of l.calls))
+    ≡ earlier l.first (least (lines_of (fits_call l.valid) (λ (c : CallPlain). c.line) (map call_of (drop l.call-index l.calls))))

@@ -1,0 +1,11 @@
+use Rattle.std.proofs.Common.{◌≡◌, drop, map}
+use Rattle.sem_laws.specs.Script.{WritePlain}
+use Rattle.sem_laws.specs.Views.{write_of}
+use Rattle.wasm_fitting.specs.Fits.{lies_in, lines_of, least}
+use Rattle.wasm_run.specs.Forms.{earlier}
+use Rattle.wasm_run.proofs.writes.first_write.Given as goal
+
+abbrev pub invariant-loop-write : goal.invariant-loop-write
+invariant-loop-write l =
+    least (lines_of (lies_in l.pages) (λ (w : WritePlain). w.line) (map write_of l.writes))
+    ≡ earlier l.first (least (lines_of (lies_in l.pages) (λ (w : WritePlain). w.line) (map write_of (drop l.write-index l.writes))))
