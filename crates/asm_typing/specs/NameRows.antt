@@ -115,11 +115,15 @@ pub record Imports : Type 0 where
   pub values : List (List ℕ)
   pub functions : List (List ℕ)
 
+-- each name once, in order
+abbrev pub added : List (List ℕ) → List ℕ → List (List ℕ)
+added ns n = if is_in n ns then ns else ns ++ n ∷ []
+
 -- with those of one more declaration
 abbrev pub with_import : Module → Init → Imports → Imports
-with_import m (foreign_int f p) is = record { values = p ∷ is.values; functions = is.functions }
-with_import m (foreign_double f p) is = record { values = p ∷ is.values; functions = is.functions }
-with_import m (member f p) is = if is_foreign m f then record { values = is.values; functions = p ∷ is.functions } else is
+with_import m (foreign_int f p) is = record { values = added is.values p; functions = is.functions }
+with_import m (foreign_double f p) is = record { values = added is.values p; functions = is.functions }
+with_import m (member f p) is = if is_foreign m f then record { values = is.values; functions = added is.functions p } else is
 with_import m _ is = is
 
 abbrev pub clashes : Module → Imports → Init → Bool
@@ -164,17 +168,17 @@ global_names m before is v at =
 
 abbrev pub globals_names : Module → List (List ℕ) → Imports → List Variable → ℕ → List Met
 globals_names m before is [] at = []
-globals_names m before is (v ∷ vs) at = global_names m before is v at ++ globals_names m (v.name ∷ before) (with_import m v.init is) vs (at + 1)
+globals_names m before is (v ∷ vs) at = global_names m before is v at ++ globals_names m (before ++ v.name ∷ []) (with_import m v.init is) vs (at + 1)
 
 -- ---- functions
 
 abbrev pub params_names : List (List ℕ) → List Param → ℕ → List Met
 params_names before [] at = []
-params_names before (p ∷ ps) at = declares before p.name at ++ params_names (p.name ∷ before) ps (at + 1)
+params_names before (p ∷ ps) at = declares before p.name at ++ params_names (before ++ p.name ∷ []) ps (at + 1)
 
 abbrev pub locals_names : List (List ℕ) → List Variable → ℕ → List Met
 locals_names before [] at = []
-locals_names before (v ∷ vs) at = declares before v.name at ++ locals_names (v.name ∷ before) vs (at + 1)
+locals_names before (v ∷ vs) at = declares before v.name at ++ locals_names (before ++ v.name ∷ []) vs (at + 1)
 
 abbrev pub param_texts : List Param → List (List ℕ)
 param_texts ps = map (λ (p : Param). p.name) ps
@@ -186,7 +190,7 @@ function_names m before f at =
 
 abbrev pub functions_names : Module → List (List ℕ) → List Function → ℕ → List Met
 functions_names m before [] at = []
-functions_names m before (f ∷ fs) at = function_names m before f at ++ functions_names m (f.name ∷ before) fs (at + function_count f)
+functions_names m before (f ∷ fs) at = function_names m before f at ++ functions_names m (before ++ f.name ∷ []) fs (at + function_count f)
 
 -- ---- tables and exports
 
@@ -207,13 +211,15 @@ function_uses m ns at = if all_known m ns then need (all_functions m ns) WrongKi
 
 abbrev pub tables_names : Module → List (List ℕ) → List Table → ℕ → List Met
 tables_names m before [] at = []
-tables_names m before (t ∷ ts) at = declares before t.name at ++ (function_uses m t.members at ++ tables_names m (t.name ∷ before) ts (at + 1))
+tables_names m before (t ∷ ts) at = declares before t.name at ++ (function_uses m t.members at ++ tables_names m (before ++ t.name ∷ []) ts (at + 1))
+
+-- the rows of a key of an export
+abbrev pub declares_key : List (List ℕ) → List ℕ → ℕ → List Met
+declares_key before k at = need (not (is_in k before)) NameTaken at ++ need (not (is_forbidden_key k)) ForbiddenName at
 
 abbrev pub keys_names : Module → List (List ℕ) → List Export → ℕ → List Met
 keys_names m before [] at = []
-keys_names m before (e ∷ es) at =
-    need (not (is_in e.key before)) NameTaken at
-    ++ (need (not (is_forbidden_key e.key)) ForbiddenName at ++ (function_uses m (e.function ∷ []) at ++ keys_names m (e.key ∷ before) es (at + 1)))
+keys_names m before (e ∷ es) at = declares_key before e.key at ++ (function_uses m (e.function ∷ []) at ++ keys_names m (before ++ e.key ∷ []) es (at + 1))
 
 abbrev pub exports_names : Module → Exports → ℕ → List Met
 exports_names m (one f) at = function_uses m (f ∷ []) at
@@ -221,9 +227,10 @@ exports_names m (many es) at = keys_names m [] es at
 
 -- ---- modules
 
-abbrev pub all_distinct : List (List ℕ) → Bool
-all_distinct [] = true
-all_distinct (n ∷ ns) = not (is_in n ns) && all_distinct ns
+-- none of these names stands among those before it
+abbrev pub all_new : List (List ℕ) → List (List ℕ) → Bool
+all_new before [] = true
+all_new before (n ∷ ns) = not (is_in n before) && all_new (before ++ n ∷ []) ns
 
 abbrev pub own_name : Option (List ℕ) → List (List ℕ)
 own_name None = []
@@ -242,7 +249,7 @@ function_texts m = map (λ (f : Function). f.name) m.functions
 -- the module's own name isn't compared with others
 abbrev pub name_rows : Module → List Met
 name_rows m =
-    need (all_distinct m.params) NameTaken 0
+    need (all_new [] m.params) NameTaken 0
     ++ (need (not (any_forbidden (own_name m.name ++ m.params))) ForbiddenName 0
     ++ (globals_names m m.params (record { values = []; functions = [] }) m.globals 1
     ++ (functions_names m (m.params ++ global_texts m) m.functions (functions_at m)

@@ -1,7 +1,7 @@
 -- Rows that nodes of a module meet. Nodes are numbered in text order, a whole before its parts; the module is node 0.
 pub use Rattle.asm_typing.specs.declared.rule.Met.{Met}
 use Rattle.std.specs.Prelude.{ℕ, ◌+◌, Bool, true, false, List, [], ◌∷◌, length, Option, Some, None}
-use Rattle.asm_lang.specs.Modules.{Expr, lit, decimal, var, index, call, table_call, assign, store, unary, binary, chain, cond, comma, Exprs, no_exprs, exprs, Links, no_links, links, Stmt, block, plain, empty, if_only, if_else, returns, while_loop, do_while, for_loop, breaks, continues, labelled, switches, Stmts, no_stmts, stmts, Clauses, no_clauses, clauses, Function, Module}
+use Rattle.asm_lang.specs.Modules.{Expr, lit, decimal, var, index, call, table_call, assign, store, unary, binary, chain, cond, comma, Exprs, no_exprs, exprs, Links, no_links, links, Stmt, block, plain, empty, if_only, if_else, returns, while_loop, do_while, for_loop, breaks, continues, labelled, switches, Stmts, no_stmts, stmts, Clauses, no_clauses, clauses, Function, Exports, one, many, Module}
 use Rattle.asm_typing.specs.declared.rule.Rule.{Rule}
 
 -- the row of a rule that has to hold at a node
@@ -87,3 +87,11 @@ tables_at m = functions_at m + functions_count m.functions
 
 abbrev pub exports_at : Module → ℕ
 exports_at m = tables_at m + length m.tables
+
+abbrev pub exports_count : Exports → ℕ
+exports_count (one f) = 1
+exports_count (many es) = length es
+
+-- how many nodes a module has
+abbrev pub module_count : Module → ℕ
+module_count m = exports_at m + exports_count m.exports

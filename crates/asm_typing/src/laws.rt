@@ -1,8 +1,9 @@
 //! The rows of types and the typing say the same, and a module is refused for its first row.
 
-ghost use Rattle.std.specs.Prelude.{◌≡◌, ◌↔◌, ℕ, Bool, [], None, Some, IsTrue, is_some};
-ghost use Rattle.asm_lang.specs.Modules.{Expr, Stmt, Function, Module};
-ghost use Rattle.asm_typing.specs.Rows.{Met, first};
+ghost use Rattle.std.specs.Prelude.{◌≡◌, ◌↔◌, ℕ, Bool, [], length, None, Some, IsTrue, is_some};
+ghost use Rattle.asm_lang.specs.Trees.{ModuleTree};
+ghost use Rattle.asm_lang.specs.Modules.{Expr, Stmt, Function, Module, module_of, module_places};
+ghost use Rattle.asm_typing.specs.Rows.{Met, first, module_count};
 ghost use Rattle.asm_typing.specs.Typing.{Scope, Around, type_of, is_call, call_fits, typed};
 ghost use Rattle.asm_typing.specs.Typed.{function_typed, module_typed};
 ghost use Rattle.asm_typing.specs.NameRows.{name_rows};
@@ -27,4 +28,10 @@ pub fn refusal_laws()
     ensures for_names { (m : Module) (x : Met) → first (name_rows m) ≡ Some x → refusal m ≡ Some x }
     ensures for_types { (m : Module) (x : Met) → name_rows m ≡ [] → first (type_rows m) ≡ Some x → refusal m ≡ Some x }
     ensures for_limits { (m : Module) (x : Met) → name_rows m ≡ [] → type_rows m ≡ [] → first (limit_rows m) ≡ Some x → refusal m ≡ Some x }
+{}
+
+/// A module that was read has as many nodes as places.
+#[tactic(auto, using(crate::proofs::Places::module_counted))]
+pub fn place_laws()
+    ensures { (m : ModuleTree) → length (module_places m) ≡ module_count (module_of m) }
 {}

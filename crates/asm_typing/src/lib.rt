@@ -6,6 +6,6 @@ mod laws;
 mod meaning;
 mod rule;
 
-pub use laws::{refusal_laws, type_laws};
+pub use laws::{place_laws, refusal_laws, type_laws};
 pub use meaning::{Builtin, Element};
 pub use rule::{Met, Rule};
