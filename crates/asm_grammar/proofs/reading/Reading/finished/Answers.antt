@@ -1,0 +1,12 @@
+use Rattle.std.proofs.Common.{ap, sym, ◌∙◌}
+use Rattle.asm_lang.specs.Machine.{stops}
+use Rattle.asm_grammar.specs.declared.reading.Reading.{Reading}
+use Rattle.asm_grammar.specs.Readings.{reading_view}
+use Rattle.asm_grammar.proofs.Idle.{unfinished}
+use Rattle.asm_grammar.proofs.reading.Reading.finished.Goals as goal
+
+pub returns-in-End : goal.returns-in-End
+returns-in-End c = c.finished_at.ensures ∙ ap (λ (r : Reading). stops (reading_view r)) (sym c.in-End.is)
+
+pub returns : goal.returns
+returns c = sym (unfinished c.bodies_end_no_module.ensures c.args.self c.in_default.not-End)

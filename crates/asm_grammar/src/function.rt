@@ -1,0 +1,249 @@
+//! A function: its name, parameters, marks, local variables and body.
+
+ghost use Rattle.std.specs.Prelude.{◌≡◌, Some, None, [], map, IfOk};
+ghost use Rattle.sem_words.specs.Lists.{list_items};
+ghost use Rattle.asm_lang.specs.Trees.{FunctionTree as PlainFunction, StmtTrees};
+ghost use Rattle.asm_lang.specs.Machine.{advance, function_of, State};
+ghost use Rattle.asm_heights.specs.Peaks.{step_peak};
+ghost use Rattle.asm_nodes.specs.Heights.{counted};
+ghost use Rattle.asm_nodes.specs.Tall.{stmts_tall_view};
+ghost use Rattle.asm_nodes.specs.Views.{function_view, lexeme_view, lexemes_view};
+ghost use Rattle.asm_grammar.specs.Bodies.{body_of, first_param_step, function_reading_view, function_step_view, left_view, locals_of, locals_reading_view, marks_step, named_view, open_brace_step, params_of, params_step, tall_function_view, variables_of};
+ghost use Rattle.asm_statements.specs.Views.{body_view};
+
+use crate::locals::{LocalsReading, LocalsStep};
+use crate::marks::{Marks, MarksReading, MarksStep};
+use crate::names::{NamesReading, NamesStep};
+use crate::tall::{TallFunction, leaves};
+use crate::want::is;
+use asm_nodes::{Class, FunctionTree, Height, Lexeme, ParamTree, TallStmts, VariableTree};
+use asm_statements::{BodyReading, BodyStep};
+use sem_words::{List, Text};
+use std::alloc::{AllocError, Global};
+
+/// One or more names.
+#[derive(Drop)]
+pub struct Names<'a> {
+    pub first: Lexeme<'a>,
+    pub others: Vec<Lexeme<'a>>,
+}
+
+/// A function that is being read: its name, and what else has been read.
+#[derive(Drop)]
+pub enum FunctionReading<'a> {
+    Name,
+    OpenParen(Lexeme<'a>),
+    FirstParam(Lexeme<'a>),
+    /// With the first parameter.
+    Params(Lexeme<'a>, Lexeme<'a>, NamesReading<'a>),
+    OpenBrace(Lexeme<'a>, Option<Names<'a>>),
+    Marks(Lexeme<'a>, MarksReading<'a>),
+    Locals(Lexeme<'a>, List<ParamTree>, LocalsReading<'a>),
+    Body(Lexeme<'a>, List<ParamTree>, List<VariableTree>, BodyReading),
+}
+
+/// What one token does to a function.
+#[derive(Drop)]
+pub enum FunctionStep<'a> {
+    On(FunctionReading<'a>),
+    /// The `}` that ends it was taken.
+    Done(TallFunction),
+    Stuck,
+}
+
+impl<'a> FunctionReading<'a> {
+    /// The height of the highest node that may end at the last token.
+    pub fn peak(&self) -> Height
+        ensures { (k : PlainFunction → State) → result.count ≡ counted (step_peak (function_reading_view self.now k)) }
+    {
+        match self {
+            FunctionReading::Body(_, _, _, body) => body.peak(),
+            _ => Height::none(),
+        }
+    }
+
+    /// Reads one token.
+    pub fn feed(self, alloc: Global, token: &Lexeme<'a>) -> Result<FunctionStep<'a>, AllocError>
+        ensures { IfOk result (λ r. (k : PlainFunction → State) → function_step_view r k (lexeme_view token.now) ≡ advance (function_reading_view self.entry k) (lexeme_view token.now)) }
+    {
+        match self {
+            FunctionReading::Name => {
+                if is(token, Class::Identifier) {
+                    Ok(FunctionStep::On(FunctionReading::OpenParen(*token)))
+                } else {
+                    Ok(FunctionStep::Stuck)
+                }
+            }
+            FunctionReading::OpenParen(name) => {
+                if is(token, Class::OpenParen) {
+                    Ok(FunctionStep::On(FunctionReading::FirstParam(name)))
+                } else {
+                    Ok(FunctionStep::Stuck)
+                }
+            }
+            FunctionReading::FirstParam(name) => Ok(first_param(alloc, name, token)),
+            FunctionReading::Params(name, first, names) => params(name, first, names, token),
+            FunctionReading::OpenBrace(name, params) => open_brace(alloc, name, params, token),
+            FunctionReading::Marks(name, marks) => after_brace(alloc, name, marks, token),
+            FunctionReading::Locals(name, params, locals) => {
+                after_marks(alloc, name, params, locals, token)
+            }
+            FunctionReading::Body(name, params, locals, body) => {
+                in_body(alloc, name, params, locals, body, token)
+            }
+        }
+    }
+}
+
+fn first_param<'a>(alloc: Global, name: Lexeme<'a>, token: &Lexeme<'a>) -> FunctionStep<'a>
+    ensures { (k : PlainFunction → State) → function_step_view result k (lexeme_view token.now) ≡ advance (first_param_step (lexeme_view name.entry) k) (lexeme_view token.now) }
+{
+    if is(token, Class::Identifier) {
+        let names = NamesReading::After(Vec::new(alloc));
+        FunctionStep::On(FunctionReading::Params(name, *token, names))
+    } else if is(token, Class::CloseParen) {
+        FunctionStep::On(FunctionReading::OpenBrace(name, None))
+    } else {
+        FunctionStep::Stuck
+    }
+}
+
+fn params<'a>(
+    name: Lexeme<'a>,
+    first: Lexeme<'a>,
+    names: NamesReading<'a>,
+    token: &Lexeme<'a>,
+) -> Result<FunctionStep<'a>, AllocError>
+    ensures { IfOk result (λ r. (k : PlainFunction → State) → function_step_view r k (lexeme_view token.now) ≡ advance (params_step (lexeme_view name.entry) (lexeme_view first.entry) names.entry k) (lexeme_view token.now)) }
+{
+    match names.feed(token, Class::CloseParen)? {
+        NamesStep::On(names) => {
+            let reading = FunctionReading::Params(name, first, names);
+            Ok(FunctionStep::On(reading))
+        }
+        NamesStep::Done(others) => {
+            let names = Names { first, others };
+            let reading = FunctionReading::OpenBrace(name, Some(names));
+            Ok(FunctionStep::On(reading))
+        }
+        NamesStep::Stuck => Ok(FunctionStep::Stuck),
+    }
+}
+
+/// The names, the first one last.
+#[tactic(auto, using(crate::proofs::Pushes::pushes))]
+fn reversed<'a>(alloc: Global, names: Option<Names<'a>>) -> Result<Vec<Lexeme<'a>>, AllocError>
+    ensures { IfOk result (λ r. left_view r.items ≡ named_view names.entry) }
+{
+    match names {
+        None => Ok(Vec::new(alloc)),
+        Some(names) => {
+            let Names { first, mut others } = names;
+            others.reverse();
+            others.push(first)?;
+            Ok(others)
+        }
+    }
+}
+
+fn open_brace<'a>(
+    alloc: Global,
+    name: Lexeme<'a>,
+    params: Option<Names<'a>>,
+    token: &Lexeme<'a>,
+) -> Result<FunctionStep<'a>, AllocError>
+    ensures { IfOk result (λ r. (k : PlainFunction → State) → function_step_view r k (lexeme_view token.now) ≡ advance (open_brace_step (lexeme_view name.entry) (named_view params.entry) k) (lexeme_view token.now)) }
+{
+    if is(token, Class::OpenBrace) {
+        let left = reversed(alloc, params)?;
+        let done = List::new(alloc);
+        let marks = MarksReading::At(Marks { left, done });
+        Ok(FunctionStep::On(FunctionReading::Marks(name, marks)))
+    } else {
+        Ok(FunctionStep::Stuck)
+    }
+}
+
+fn after_brace<'a>(
+    alloc: Global,
+    name: Lexeme<'a>,
+    marks: MarksReading<'a>,
+    token: &Lexeme<'a>,
+) -> Result<FunctionStep<'a>, AllocError>
+    ensures { IfOk result (λ r. (k : PlainFunction → State) → function_step_view r k (lexeme_view token.now) ≡ advance (marks_step (lexeme_view name.entry) marks.entry k) (lexeme_view token.now)) }
+{
+    match marks.feed(alloc, token)? {
+        MarksStep::On(marks) => Ok(FunctionStep::On(FunctionReading::Marks(name, marks))),
+        MarksStep::Before(params) => {
+            let locals = LocalsReading::At(List::new(alloc));
+            after_marks(alloc, name, params, locals, token)
+        }
+        MarksStep::Stuck => Ok(FunctionStep::Stuck),
+    }
+}
+
+fn after_marks<'a>(
+    alloc: Global,
+    name: Lexeme<'a>,
+    params: List<ParamTree>,
+    locals: LocalsReading<'a>,
+    token: &Lexeme<'a>,
+) -> Result<FunctionStep<'a>, AllocError>
+    ensures { IfOk result (λ r. (k : PlainFunction → State) → function_step_view r k (lexeme_view token.now) ≡ advance (locals_reading_view locals.entry (locals_of (lexeme_view name.entry) (params_of params) k)) (lexeme_view token.now)) }
+{
+    match locals.feed(alloc, token)? {
+        LocalsStep::On(locals) => {
+            let reading = FunctionReading::Locals(name, params, locals);
+            Ok(FunctionStep::On(reading))
+        }
+        LocalsStep::Before(locals) => {
+            let body = BodyReading::start(alloc);
+            in_body(alloc, name, params, locals, body, token)
+        }
+        LocalsStep::Stuck => Ok(FunctionStep::Stuck),
+    }
+}
+
+fn in_body<'a>(
+    alloc: Global,
+    name: Lexeme<'a>,
+    params: List<ParamTree>,
+    locals: List<VariableTree>,
+    body: BodyReading,
+    token: &Lexeme<'a>,
+) -> Result<FunctionStep<'a>, AllocError>
+    ensures { IfOk result (λ r. (k : PlainFunction → State) → function_step_view r k (lexeme_view token.now) ≡ advance (body_view body (body_of (lexeme_view name.entry) (params_of params) (variables_of locals) k)) (lexeme_view token.now)) }
+{
+    match body.feed(alloc, token)? {
+        BodyStep::On(body) => {
+            let reading = FunctionReading::Body(name, params, locals, body);
+            Ok(FunctionStep::On(reading))
+        }
+        BodyStep::Done(body) => {
+            let function = function(alloc, &name, params, locals, body)?;
+            Ok(FunctionStep::Done(function))
+        }
+        BodyStep::Stuck => Ok(FunctionStep::Stuck),
+    }
+}
+
+fn function(
+    alloc: Global,
+    name: &Lexeme<'_>,
+    params: List<ParamTree>,
+    locals: List<VariableTree>,
+    body: TallStmts,
+) -> Result<TallFunction, AllocError>
+    ensures { IfOk result (λ r. tall_function_view r ≡ function_of (lexeme_view name.now) (params_of params) (variables_of locals) (stmts_tall_view body)) }
+{
+    let parts = leaves(params.len()).or(leaves(locals.len()));
+    let height = parts.or(body.height()).above();
+    let tree = FunctionTree {
+        at: name.at,
+        name: Text::from_bytes(alloc, name.text)?,
+        params,
+        locals,
+        body: body.into_trees(),
+    };
+    Ok(TallFunction { tree, height })
+}

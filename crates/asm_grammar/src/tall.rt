@@ -1,0 +1,87 @@
+//! Functions and modules with their heights.
+
+ghost use Rattle.std.specs.Prelude.{◌≡◌, min};
+ghost use Rattle.sem_words.specs.Lists.{list_items};
+ghost use Rattle.asm_heights.specs.Peaks.{last_function, whole_height};
+ghost use Rattle.asm_nodes.specs.Heights.{counted};
+ghost use Rattle.asm_nodes.specs.Views.{function_view, module_view};
+ghost use Rattle.asm_grammar.specs.Totals.{functions_view, highest, one_height};
+
+use asm_nodes::{FunctionTree, Height, ModuleTree};
+use sem_words::List;
+use std::alloc::{AllocError, Global};
+
+/// A function, and how high it is.
+#[derive(Drop)]
+pub struct TallFunction {
+    pub tree: FunctionTree,
+    pub height: Height,
+    ghost high: { height.count ≡ counted (one_height (function_view tree)) },
+}
+
+/// Functions so far, how high the last one is, and how high the highest.
+#[derive(Drop)]
+pub struct TallFunctions {
+    pub trees: List<FunctionTree>,
+    pub last: Height,
+    pub greatest: Height,
+    ghost high_last: { last.count ≡ counted (last_function (functions_view (list_items trees))) },
+    ghost high: { greatest.count ≡ counted (highest (functions_view (list_items trees))) },
+}
+
+/// A module, and how high it is.
+#[derive(Drop)]
+pub struct TallModule {
+    pub tree: ModuleTree,
+    pub height: Height,
+    ghost high: { height.count ≡ counted (whole_height (module_view tree)) },
+}
+
+impl TallFunctions {
+    ghost use Rattle.std.specs.Prelude.{◌≡◌, [], ◌∷◌, ◌++◌, IfOk};
+    ghost use Rattle.asm_grammar.specs.Bodies.{tall_function_view};
+    ghost use Rattle.asm_grammar.specs.Readings.{functions_of};
+
+    pub fn new(alloc: Global) -> TallFunctions
+        ensures { functions_of result ≡ [] }
+    {
+        TallFunctions {
+            trees: List::new(alloc),
+            last: Height::none(),
+            greatest: Height::none(),
+        }
+    }
+
+    /// The functions with one more at their end.
+    #[tactic(auto, using(crate::proofs::Totals::totals))]
+    pub fn with(self, function: TallFunction) -> Result<TallFunctions, AllocError>
+        ensures { IfOk result (λ r. functions_of r ≡ functions_of self ++ tall_function_view function ∷ []) }
+    {
+        let TallFunctions {
+            mut trees,
+            greatest,
+            ..
+        } = self;
+        let last = function.height;
+        let greatest = greatest.or(last);
+        match trees.push(function.tree) {
+            Ok(()) => Ok(TallFunctions {
+                trees,
+                last,
+                greatest,
+            }),
+            Err(_) => Err(AllocError),
+        }
+    }
+}
+
+/// Of so many nodes without parts.
+pub fn leaves(count: usize) -> Height
+    ensures { result.count ≡ min 1 count }
+{
+    if count == 0 {
+        Height::none()
+    } else {
+        Height::leaf()
+    }
+}
