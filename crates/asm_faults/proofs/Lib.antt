@@ -1,0 +1,4 @@
+pub mod Edges
+pub mod Headings
+pub mod Same
+pub mod Outcomes
