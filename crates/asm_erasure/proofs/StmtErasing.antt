@@ -17,7 +17,7 @@ use Rattle.asm_nodes.specs.declared.tree.ExprTree.{ExprTree as CodeExpr}
 use Rattle.asm_nodes.specs.declared.tree.StmtTree.{StmtTree as CodeStmt}
 use Rattle.asm_nodes.specs.declared.tree.StmtTree.TheVariants as placed_stmts
 use Rattle.asm_nodes.specs.declared.tree.ClauseTree.{ClauseTree as CodeClause}
-use Rattle.asm_nodes.specs.Views.{words_view, under_all, expr_view, expr_option, name_option, ClauseView, stmt_view, stmts_view, clause_view, clauses_view}
+use Rattle.asm_nodes.specs.Views.{words_view, under_all, expr_view, expr_option, name_option, ClauseView, stmt_view, stmts_view, clauses_view}
 use Rattle.asm_nodes.proofs.Views.{clause_view-is, stmt_view-Block, stmt_view-Plain, stmt_view-Empty, stmt_view-If_only, stmt_view-If_else, stmt_view-Return, stmt_view-While, stmt_view-DoWhile, stmt_view-For, stmt_view-Break, stmt_view-Continue, stmt_view-Switch, stmt_view-Labelled}
 use Rattle.asm_tree.specs.declared.tree.Stmt.{Stmt as PlainStmt, Stmt-F, fold-roll-Stmt}
 use Rattle.asm_tree.specs.declared.tree.Stmt.TheOpen as layers

@@ -20,6 +20,7 @@ fn with_link(links: List<Link>, minus: bool, operand: Expr) -> Result<List<Link>
 }
 
 /// A chain goes on, and any other expression begins one.
+#[inline(never)]
 #[tactic(auto, using(crate::proofs::ChainLemmas::chains))]
 pub(crate) fn chained(
     alloc: Global,
@@ -43,27 +44,26 @@ pub(crate) fn chained(
 }
 
 /// The node of two operands.
+#[inline(never)]
 #[tactic(auto, using(crate::proofs::ChainLemmas::chains))]
 pub(crate) fn binary(
     alloc: Global,
     operator: JsOp,
-    left: Expr,
-    right: Expr,
+    left: Box<Expr>,
+    right: Box<Expr>,
 ) -> Result<Expr, AllocError>
-    ensures { IfOk result (λ r. expr_view r ≡ binary_of operator (expr_view left) (expr_view right)) }
+    ensures { IfOk result (λ r. expr_view r ≡ binary_of operator (expr_view left.value) (expr_view right.value)) }
 {
     match operator {
-        JsOp::Add => chained(alloc, left, false, right),
-        JsOp::Sub => chained(alloc, left, true, right),
-        _ => no_chain(alloc, operator, left, right),
+        JsOp::Add => chained(alloc, Box::into_inner(left), false, Box::into_inner(right)),
+        JsOp::Sub => chained(alloc, Box::into_inner(left), true, Box::into_inner(right)),
+        _ => Ok(no_chain(operator, left, right)),
     }
 }
 
 #[tactic(auto, using(crate::proofs::ChainLemmas::chains))]
-fn no_chain(alloc: Global, operator: JsOp, left: Expr, right: Expr) -> Result<Expr, AllocError>
-    ensures { IfOk result (λ r. expr_view r ≡ binary operator (expr_view left) (expr_view right)) }
+fn no_chain(operator: JsOp, left: Box<Expr>, right: Box<Expr>) -> Expr
+    ensures { expr_view result ≡ binary operator (expr_view left.value) (expr_view right.value) }
 {
-    let left = Box::new(alloc, left)?;
-    let right = Box::new(alloc, right)?;
-    Ok(Expr::Binary(operator, left, right))
+    Expr::Binary(operator, left, right)
 }

@@ -6,8 +6,8 @@ ghost use Rattle.asm_lang.specs.Modules.{init_of, variable_of, param_of, functio
 ghost use Rattle.asm_nodes.specs.Views as placed;
 ghost use Rattle.asm_tree.specs.Views as plain;
 
-use crate::expressions::copied;
 use crate::lists::pushed;
+use crate::nodes::copied;
 use crate::number::nearest;
 use crate::statements::erased_stmts;
 use asm_nodes::{

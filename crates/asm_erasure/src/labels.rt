@@ -6,8 +6,8 @@ ghost use Rattle.asm_tree.specs.Views.{stmt_view, texts_view};
 ghost use Rattle.asm_nodes.specs.Views.{words_view};
 ghost use Rattle.asm_erasure.specs.Parts.{merged, with_labels, label_texts};
 
-use crate::expressions::copied;
 use crate::lists::pushed;
+use crate::nodes::copied;
 use asm_nodes::Word;
 use asm_tree::Stmt;
 use sem_words::{List, Text};
@@ -54,14 +54,19 @@ pub(crate) fn merged(alloc: Global, labels: List<Text>, body: Stmt) -> Result<St
 }
 
 /// A statement under labels, in text order. Those of labels one in another are one node.
-pub(crate) fn with_labels(alloc: Global, labels: &[Word], body: Stmt) -> Result<Stmt, AllocError>
-    ensures { IfOk result (λ r. stmt_view r ≡ with_labels (label_texts (words_view labels.now)) (stmt_view body)) }
+#[inline(never)]
+pub(crate) fn with_labels(
+    alloc: Global,
+    labels: &[Word],
+    body: Box<Stmt>,
+) -> Result<Stmt, AllocError>
+    ensures { IfOk result (λ r. stmt_view r ≡ with_labels (label_texts (words_view labels.now)) (stmt_view body.value)) }
 {
     match labels.split_first() {
-        None => Ok(body),
+        None => Ok(Box::into_inner(body)),
         Some(_) => {
             let labels = label_texts(alloc, labels)?;
-            merged(alloc, labels, body)
+            merged(alloc, labels, Box::into_inner(body))
         }
     }
 }

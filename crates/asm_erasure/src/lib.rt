@@ -7,10 +7,12 @@ mod expressions;
 mod labels;
 mod lists;
 mod module_places;
+mod nodes;
 mod number;
 mod places;
 mod statements;
 mod whole;
+mod wholes;
 
 pub use whole::erased;
 

@@ -7,6 +7,7 @@ use sem_words::List;
 use std::alloc::AllocError;
 
 /// The list with one more item at its end.
+#[inline(never)]
 pub(crate) fn pushed<T: Drop>(list: List<T>, item: T) -> Result<List<T>, AllocError>
     ensures { IfOk result (λ r. list_items r ≡ list_items list ++ item ∷ []) }
 {

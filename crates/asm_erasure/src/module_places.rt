@@ -38,8 +38,11 @@ fn function_places(places: List<u64>, tree: &FunctionTree) -> Result<List<u64>, 
 {
     let places = with_place(places, tree.at)?;
     let places = params_places(places, tree.params.as_slice())?;
-    let places = variables_places(places, tree.locals.as_slice())?;
-    stmts_places(places, tree.body.as_slice())
+    let mut places = variables_places(places, tree.locals.as_slice())?;
+    match stmts_places(&mut places, tree.body.as_slice()) {
+        Ok(()) => Ok(places),
+        Err(_) => Err(AllocError),
+    }
 }
 
 fn functions_places(places: List<u64>, trees: &[FunctionTree]) -> Result<List<u64>, AllocError>

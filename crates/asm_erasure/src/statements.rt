@@ -6,29 +6,24 @@ ghost use Rattle.asm_lang.specs.Modules.{stmt_of, stmts_of, clauses_of};
 ghost use Rattle.asm_nodes.specs.Views as placed;
 ghost use Rattle.asm_tree.specs.Views as plain;
 
-use crate::expressions::{copied, erased_expr, erased_option};
 use crate::labels::with_labels;
 use crate::lists::pushed;
 use crate::number::value_of;
+use crate::wholes::{
+    boxed, breaks, continues, do_while, expression, for_loop, if_else, if_only, returns, switches,
+    while_loop,
+};
 use asm_nodes::{ClauseTree, StmtTree};
 use asm_tree::{Clause, Stmt};
-use sem_words::{List, Text};
+use sem_words::List;
 use std::alloc::{AllocError, Global};
 
-pub(crate) fn copied_option(alloc: Global, text: &Option<Text>) -> Result<Option<Text>, AllocError>
-    ensures { IfOk result (λ r. plain.text_option r ≡ placed.name_option text.now) }
-{
-    match text {
-        None => Ok(None),
-        Some(text) => {
-            let text = copied(alloc, text)?;
-            Ok(Some(text))
-        }
-    }
-}
-
 /// The statement, without places.
+///
+/// A tree may be 1,000 high, so what inner statements needn't wait for is made elsewhere, and a level takes little of the
+/// machine's stack.
 #[cycle(erasing)]
+#[inline(never)]
 #[tactic(auto, using(crate::proofs::StmtErasing::statements))]
 pub(crate) fn erased_stmt(alloc: Global, tree: &StmtTree) -> Result<Stmt, AllocError>
     ensures { IfOk result (λ r. plain.stmt_view r ≡ stmt_of (placed.stmt_view tree.now)) }
@@ -38,75 +33,55 @@ pub(crate) fn erased_stmt(alloc: Global, tree: &StmtTree) -> Result<Stmt, AllocE
             let body = erased_stmts(alloc, body.as_slice())?;
             Ok(Stmt::Block(body))
         }
-        StmtTree::Plain(_, expr) => {
-            let expr = erased_expr(alloc, expr)?;
-            Ok(Stmt::Plain(expr))
-        }
+        StmtTree::Plain(_, expr) => expression(alloc, expr),
         StmtTree::Empty(_) => Ok(Stmt::Empty),
         StmtTree::If(_, condition, first, second) => {
-            let condition = erased_expr(alloc, condition)?;
             let first = erased_body(alloc, first)?;
             match second {
-                None => Ok(Stmt::If(condition, first, None)),
+                None => if_only(alloc, condition, first),
                 Some(second) => {
                     let second = erased_body(alloc, second)?;
-                    Ok(Stmt::If(condition, first, Some(second)))
+                    if_else(alloc, condition, first, second)
                 }
             }
         }
-        StmtTree::Return(_, value) => {
-            let value = erased_option(alloc, value)?;
-            Ok(Stmt::Return(value))
-        }
+        StmtTree::Return(_, value) => returns(alloc, value),
         StmtTree::While(_, condition, body) => {
-            let condition = erased_expr(alloc, condition)?;
             let body = erased_body(alloc, body)?;
-            Ok(Stmt::While(condition, body))
+            while_loop(alloc, condition, body)
         }
         StmtTree::DoWhile(_, body, condition) => {
             let body = erased_body(alloc, body)?;
-            let condition = erased_expr(alloc, condition)?;
-            Ok(Stmt::DoWhile(body, condition))
+            do_while(alloc, body, condition)
         }
         StmtTree::For(_, first, condition, step, body) => {
-            let first = erased_option(alloc, first)?;
-            let condition = erased_option(alloc, condition)?;
-            let step = erased_option(alloc, step)?;
             let body = erased_body(alloc, body)?;
-            Ok(Stmt::For(first, condition, step, body))
+            for_loop(alloc, first, condition, step, body)
         }
-        StmtTree::Break(_, label) => {
-            let label = copied_option(alloc, label)?;
-            Ok(Stmt::Break(label))
-        }
-        StmtTree::Continue(_, label) => {
-            let label = copied_option(alloc, label)?;
-            Ok(Stmt::Continue(label))
-        }
+        StmtTree::Break(_, label) => breaks(alloc, label),
+        StmtTree::Continue(_, label) => continues(alloc, label),
         StmtTree::Labelled(labels, body) => {
-            let body = erased_stmt(alloc, body)?;
+            let body = erased_body(alloc, body)?;
             with_labels(alloc, labels.as_slice(), body)
         }
         StmtTree::Switch(_, subject, clauses) => {
-            let subject = erased_expr(alloc, subject)?;
             let clauses = erased_clauses(alloc, clauses.as_slice())?;
-            Ok(Stmt::Switch(subject, clauses))
+            switches(alloc, subject, clauses)
         }
     }
 }
 
 #[cycle(erasing)]
+#[inline(never)]
 fn erased_body(alloc: Global, tree: &StmtTree) -> Result<Box<Stmt>, AllocError>
     ensures { IfOk result (λ r. plain.stmt_view r.value ≡ stmt_of (placed.stmt_view tree.now)) }
 {
     let stmt = erased_stmt(alloc, tree)?;
-    match Box::new(alloc, stmt) {
-        Ok(stmt) => Ok(stmt),
-        Err(_) => Err(AllocError),
-    }
+    boxed(alloc, stmt)
 }
 
 #[cycle(erasing)]
+#[inline(never)]
 pub(crate) fn erased_stmts(alloc: Global, trees: &[StmtTree]) -> Result<List<Stmt>, AllocError>
     ensures { IfOk result (λ r. plain.stmts_view (list_items r) ≡ stmts_of (placed.stmts_view trees.now)) }
 {
@@ -119,6 +94,7 @@ pub(crate) fn erased_stmts(alloc: Global, trees: &[StmtTree]) -> Result<List<Stm
 }
 
 #[cycle(erasing)]
+#[inline(never)]
 fn erased_clauses(alloc: Global, trees: &[ClauseTree]) -> Result<List<Clause>, AllocError>
     ensures { IfOk result (λ r. plain.clauses_view (list_items r) ≡ clauses_of (placed.clauses_view trees.now)) }
 {

@@ -10,7 +10,7 @@ use crate::declarations::{
     erased_exports, erased_functions, erased_globals, erased_tables, erased_texts,
 };
 use crate::module_places::module_places;
-use crate::statements::copied_option;
+use crate::wholes::copied_option;
 use asm_nodes::ModuleTree;
 use asm_tree::{Module, Parsed};
 use std::alloc::{AllocError, Global};

@@ -11,4 +11,4 @@ abbrev pub invariant-erased_exprs-loop-tree : goal.invariant-erased_exprs-loop-t
 invariant-erased_exprs-loop-tree l = before (map plain.expr_view (list_items l.exprs)) (exprs_of (placed.exprs_view (drop l.tree-index l.trees))) ≡ exprs_of (placed.exprs_view l.trees)
 
 abbrev pub invariant-erased_sum-loop-addend : goal.invariant-erased_sum-loop-addend
-invariant-erased_sum-loop-addend l = links_on (plain.expr_view l.sum) (map placed.addend_view (drop l.addend-index l.others)) ≡ links_on (plain.expr_view l.fn.first) (map placed.addend_view l.others)
+invariant-erased_sum-loop-addend l = links_on (plain.expr_view l.sum) (map placed.addend_view (drop l.addend-index l.others)) ≡ links_on (plain.expr_view l.fn.first.value) (map placed.addend_view l.others)

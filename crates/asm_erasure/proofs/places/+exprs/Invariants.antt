@@ -6,7 +6,7 @@ use Rattle.asm_erasure.specs.Parts.{addends_places}
 use Rattle.asm_erasure.proofs.places.+exprs.Given as goal
 
 abbrev pub invariant-exprs_places-loop-tree : goal.invariant-exprs_places-loop-tree
-invariant-exprs_places-loop-tree l = list_items l.places ++ exprs_places (exprs_view (drop l.tree-index l.trees)) ≡ list_items l.fn.places ++ exprs_places (exprs_view l.trees)
+invariant-exprs_places-loop-tree l = list_items l.places ++ exprs_places (exprs_view (drop l.tree-index l.trees)) ≡ list_items l.initial.places ++ exprs_places (exprs_view l.trees)
 
 abbrev pub invariant-addends_places-loop-addend : goal.invariant-addends_places-loop-addend
-invariant-addends_places-loop-addend l = list_items l.places ++ addends_places (map addend_view (drop l.addend-index l.addends)) ≡ list_items l.fn.places ++ addends_places (map addend_view l.addends)
+invariant-addends_places-loop-addend l = list_items l.places ++ addends_places (map addend_view (drop l.addend-index l.addends)) ≡ list_items l.initial.places ++ addends_places (map addend_view l.addends)

@@ -5,7 +5,7 @@ use Rattle.asm_nodes.specs.Views.{stmts_view, clauses_view}
 use Rattle.asm_erasure.proofs.places.+stmts.Given as goal
 
 abbrev pub invariant-stmts_places-loop-tree : goal.invariant-stmts_places-loop-tree
-invariant-stmts_places-loop-tree l = list_items l.places ++ stmts_places (stmts_view (drop l.tree-index l.trees)) ≡ list_items l.fn.places ++ stmts_places (stmts_view l.trees)
+invariant-stmts_places-loop-tree l = list_items l.places ++ stmts_places (stmts_view (drop l.tree-index l.trees)) ≡ list_items l.initial.places ++ stmts_places (stmts_view l.trees)
 
 abbrev pub invariant-clauses_places-loop-clause : goal.invariant-clauses_places-loop-clause
-invariant-clauses_places-loop-clause l = list_items l.places ++ clauses_places (clauses_view (drop l.clause-index l.clauses)) ≡ list_items l.fn.places ++ clauses_places (clauses_view l.clauses)
+invariant-clauses_places-loop-clause l = list_items l.places ++ clauses_places (clauses_view (drop l.clause-index l.clauses)) ≡ list_items l.initial.places ++ clauses_places (clauses_view l.clauses)
