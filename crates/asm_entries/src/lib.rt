@@ -1,0 +1,8 @@
+//! The functions that the tables of a module of asm.js have at their indexes.
+#![tactic(auto)]
+
+mod entries;
+#[cfg(test)]
+mod tests;
+
+pub use entries::{function_named, table_entry};

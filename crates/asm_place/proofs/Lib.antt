@@ -1,0 +1,9 @@
+pub mod Begun
+pub mod Declared
+pub mod Each
+pub mod Exported
+pub mod Bounds
+pub mod Lasts
+pub mod Puts
+pub mod Small
+pub mod Written

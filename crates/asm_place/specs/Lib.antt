@@ -1,0 +1,6 @@
+pub mod Called
+pub mod Exports
+pub mod Globals
+pub mod Literals
+pub mod Locals
+pub mod Worlds

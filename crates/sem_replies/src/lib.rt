@@ -1,0 +1,11 @@
+//! How the host answers a call of an import: by the replies of a script, in order, each with its
+//! byte writes.
+#![tactic(auto)]
+
+mod answering;
+mod puts;
+#[cfg(test)]
+mod tests;
+
+pub use answering::{Answer, Given, Replies};
+pub use puts::put_writes;
