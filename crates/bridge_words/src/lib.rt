@@ -1,0 +1,12 @@
+//! The words of a command line, read by `clap` as one flat command.
+#![tactic(auto)]
+
+mod command;
+mod fault;
+mod job;
+mod numbers;
+#[cfg(test)]
+mod tests;
+
+pub use fault::WordsFault;
+pub use job::{Job, read_words};
