@@ -1,0 +1,5 @@
+pub mod Arrays
+pub mod Leading
+pub mod Lists
+pub mod Reading
+pub mod Standing

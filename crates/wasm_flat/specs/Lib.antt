@@ -1,0 +1,4 @@
+pub mod Jumps
+pub mod Laws
+pub mod Places
+pub mod Reading

@@ -1,0 +1,13 @@
+//! Bodies of WebAssembly as an interpreter of flat code runs them: the instructions, and where their blocks end.
+//!
+//! `specs/Places.antt` says what stands at each place, and `laws` how one place follows from another.
+#![tactic(auto)]
+
+mod body;
+pub mod laws;
+mod target;
+#[cfg(test)]
+mod tests;
+
+pub use body::Body;
+pub use target::Target;
