@@ -1,0 +1,11 @@
+pub mod Passes
+pub mod Lists
+pub mod Shapes
+pub mod Parts
+pub mod Uses
+pub mod Stmts
+pub mod Items
+pub mod Copies
+pub mod Headings
+pub mod Whole
+pub mod Parameters

@@ -1,0 +1,20 @@
+//! The limits of this product on the counts of an asm.js module, which are looked at last, and the calls of foreign
+//! functions.
+#![tactic(auto)]
+
+mod callee;
+mod calls;
+mod clauses;
+mod expressions;
+mod fault;
+mod functions;
+mod globals;
+mod limits;
+mod numbers;
+mod statements;
+mod tables;
+mod tally;
+
+pub use calls::ForeignCall;
+pub use fault::LimitFault;
+pub use limits::check_limits;
