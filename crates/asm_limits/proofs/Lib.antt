@@ -9,3 +9,4 @@ pub mod Copies
 pub mod Headings
 pub mod Whole
 pub mod Parameters
+pub mod Few

@@ -9,6 +9,7 @@ mod expressions;
 mod fault;
 mod functions;
 mod globals;
+mod laws;
 mod limits;
 mod numbers;
 mod statements;
@@ -17,4 +18,5 @@ mod tally;
 
 pub use calls::ForeignCall;
 pub use fault::LimitFault;
+pub use laws::limit_laws;
 pub use limits::check_limits;
