@@ -7,4 +7,3 @@ pub mod Totals
 pub mod Fed
 pub mod Classes
 pub mod All
-pub mod BegunMarks

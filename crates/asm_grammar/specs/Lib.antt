@@ -1,9 +1,6 @@
-pub mod Tables
-pub mod Parts
 pub mod Bodies
 pub mod Readings
 pub mod Ends
 pub mod Gives
 pub mod Totals
-pub mod Begun
 pub mod Parsed

@@ -10,8 +10,8 @@ use Rattle.asm_nodes.specs.declared.lexeme.Lexeme.{Lexeme as CodeLexeme}
 use Rattle.asm_nodes.specs.declared.declarations.TableTree.{TableTree as CodeTable}
 use Rattle.asm_nodes.specs.declared.declarations.ExportTree.{ExportTree as CodeExport}
 use Rattle.asm_nodes.specs.Views.{lexeme_view, function_view, table_view, export_view, heading_view, module_view}
-use Rattle.asm_grammar.specs.declared.init.InitReading.{InitReading}
-use Rattle.asm_grammar.specs.declared.names.NamesReading.{NamesReading}
+use Rattle.asm_headings.specs.declared.init.InitReading.{InitReading}
+use Rattle.asm_headings.specs.declared.names.NamesReading.{NamesReading}
 use Rattle.asm_grammar.specs.declared.function.FunctionReading.{FunctionReading}
 use Rattle.asm_grammar.specs.declared.tall.TallFunctions.{TallFunctions}
 use Rattle.asm_grammar.specs.declared.reading.GlobalPlace.{GlobalPlace}
@@ -28,8 +28,9 @@ use Rattle.asm_grammar.specs.declared.reading.ModuleStep.{ModuleStep}
 use Rattle.asm_grammar.specs.declared.reading.ModuleStep.TheVariants as module_steps
 use Rattle.asm_grammar.specs.declared.exports.ExportsStep.{ExportsStep}
 use Rattle.asm_grammar.specs.declared.exports.ExportsStep.TheVariants as exports_steps
-use Rattle.asm_grammar.specs.Parts.{heading_reading_view, names_reading_view, init_reading_view}
-use Rattle.asm_grammar.specs.Bodies.{variables_of, function_reading_view}
+use Rattle.asm_headings.specs.Parts.{heading_reading_view, names_reading_view, init_reading_view}
+use Rattle.asm_headings.specs.Variables.{variables_of}
+use Rattle.asm_grammar.specs.Bodies.{function_reading_view}
 
 -- ---- what has been read
 

@@ -8,14 +8,14 @@ ghost use Rattle.asm_heights.specs.Peaks.{step_peak};
 ghost use Rattle.asm_nodes.specs.Heights.{counted};
 ghost use Rattle.asm_nodes.specs.Tall.{stmts_tall_view};
 ghost use Rattle.asm_nodes.specs.Views.{function_view, lexeme_view, lexemes_view};
-ghost use Rattle.asm_grammar.specs.Bodies.{body_of, first_param_step, function_reading_view, function_step_view, left_view, locals_of, locals_reading_view, marks_step, named_view, open_brace_step, params_of, params_step, tall_function_view, variables_of};
+ghost use Rattle.asm_headings.specs.Variables.{left_view, locals_reading_view, params_of, variables_of};
+ghost use Rattle.asm_grammar.specs.Bodies.{body_of, first_param_step, function_reading_view, function_step_view, locals_of, marks_step, named_view, open_brace_step, params_step, tall_function_view};
 ghost use Rattle.asm_statements.specs.Views.{body_view};
 
-use crate::locals::{LocalsReading, LocalsStep};
-use crate::marks::{Marks, MarksReading, MarksStep};
-use crate::names::{NamesReading, NamesStep};
 use crate::tall::{TallFunction, leaves};
-use crate::want::is;
+use asm_headings::{
+    LocalsReading, LocalsStep, Marks, MarksReading, MarksStep, NamesReading, NamesStep, is,
+};
 use asm_nodes::{Class, FunctionTree, Height, Lexeme, ParamTree, TallStmts, VariableTree};
 use asm_statements::{BodyReading, BodyStep};
 use sem_words::{List, Text};

@@ -6,16 +6,16 @@ ghost use Rattle.asm_nodes.specs.Heights.{counted};
 ghost use Rattle.asm_heights.specs.Peaks.{step_peak};
 ghost use Rattle.asm_lang.specs.Machine.{advance, at_use, feed, stops};
 ghost use Rattle.asm_nodes.specs.Views.{heading_view, lexeme_view, name_option, names_view};
-ghost use Rattle.asm_grammar.specs.Parts.{heading_reading_view, name_text, params_view};
+ghost use Rattle.asm_headings.specs.Parts.{heading_reading_view, name_text, params_view};
 ghost use Rattle.asm_grammar.specs.Ends.{finished_view};
 ghost use Rattle.asm_grammar.specs.Readings.{heading_of, module_step_view, reading_view};
 
 use crate::exports::{end_peak, end_step, export_step, exports_step, finished_at};
 use crate::globals::{after_directive, global_step};
-use crate::heading::{HeadingParams, HeadingReading, HeadingStep};
 use crate::reading::{Globals, ModuleStep, Reading};
 use crate::tables::{function_step, functions_step, table_step};
 use crate::tall::TallModule;
+use asm_headings::{HeadingParams, HeadingReading, HeadingStep};
 use asm_nodes::{Class, Heading, Height, Lexeme};
 use asm_statements::bodies_end_no_module;
 use sem_words::{List, Text};

@@ -16,12 +16,10 @@ ghost use Rattle.asm_tree.specs.Views as plain;
 ghost use Rattle.sem_words.specs.Lists.{list_items};
 
 use crate::fault::ParseFault;
-use crate::heading::HeadingReading;
-use crate::lexeme::lexeme_of;
 use crate::reading::{ModuleStep, Reading};
 use crate::tall::TallModule;
-use crate::want::{is, is_zero};
 use asm_erasure::erased;
+use asm_headings::{HeadingReading, is, is_zero, lexeme_of};
 use asm_nodes::Class;
 use asm_tree::Parsed;
 use js_tokens::Token;

@@ -1,7 +1,8 @@
 use Rattle.std.proofs.Common.{ap, sym, ◌∙◌}
 use Rattle.asm_nodes.specs.Heights.{counted}
 use Rattle.asm_nodes.specs.Views.{lexeme_view}
-use Rattle.asm_grammar.specs.Bodies.{body_of, params_of, variables_of}
+use Rattle.asm_headings.specs.Variables.{params_of, variables_of}
+use Rattle.asm_grammar.specs.Bodies.{body_of}
 use Rattle.asm_grammar.proofs.Idle.{function_quiet}
 use Rattle.asm_grammar.proofs.function.FunctionReading.peak.Goals as goal
 

@@ -4,7 +4,7 @@ use Rattle.asm_heights.specs.Peaks.{step_peak}
 use Rattle.asm_nodes.specs.Heights.{counted}
 use Rattle.asm_nodes.specs.Views.{heading_view}
 use Rattle.asm_grammar.specs.declared.reading.Reading.{Reading}
-use Rattle.asm_grammar.specs.Bodies.{variables_of}
+use Rattle.asm_headings.specs.Variables.{variables_of}
 use Rattle.asm_grammar.specs.Readings.{functions_of, reading_view}
 use Rattle.asm_grammar.proofs.Idle.{quiet}
 use Rattle.asm_grammar.proofs.reading.Reading.peak.Goals as goal

@@ -1,0 +1,3 @@
+pub mod Pushes
+pub mod Classes
+pub mod BegunMarks
