@@ -1,0 +1,4 @@
+//! asm.js: what accepted modules have.
+#![tactic(auto)]
+
+pub mod laws;

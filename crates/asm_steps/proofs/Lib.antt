@@ -1,0 +1,4 @@
+pub mod Bounds
+pub mod Means
+pub mod Falls
+pub mod Sessions

@@ -1,0 +1,4 @@
+//! asm.js: the steps of a machine that runs the body of a function, and what they come to.
+#![tactic(auto)]
+
+pub mod laws;
