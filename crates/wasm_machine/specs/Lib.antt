@@ -1,0 +1,4 @@
+pub mod Machine
+pub mod Meaning
+pub mod Carrying
+pub mod Laws
