@@ -10,7 +10,6 @@ use crate::{
 };
 use asm_tree::{Export, Exports, Expr, Function, Global_, Init, Local, Module, Param, Stmt, Table};
 use asm_typing::{Builtin, Element};
-use asm_variables::{Layout, Values};
 use sem_laws::{End, Event, GlobalLine, Reply, ReplyLine, Script, WriteLine};
 use sem_words::{JsValue, List, Text, Word};
 use std::alloc::{AllocError, Global};
@@ -120,43 +119,9 @@ fn writes(alloc: Global, at: u64, bytes: &[u8]) -> Result<List<WriteLine>, Alloc
     Ok(List::from_vec(lines))
 }
 
-fn no_locals(alloc: Global) -> Result<Layout<'static>, AllocError> {
-    Layout::new(alloc, Vec::new(alloc))
-}
-
 fn heap_is(rt: &HostRuntime, world: World<'_>, wanted: &[u8]) -> Result<bool, AllocError> {
     let seen = world.ended(rt.alloc(), End::Done)?;
     Ok(seen.heap.as_bytes() == wanted)
-}
-
-#[test]
-fn variables(rt: HostRuntime) -> Result<(), Fail> {
-    let module = example(rt.alloc())?;
-    let script = host(rt.alloc())?;
-    let mut world = World::first(rt.alloc(), &module, 4, &script, 2)?;
-    let mut names = Vec::new(rt.alloc());
-    names.push(b"a".as_slice())?;
-    names.push(b"c".as_slice())?;
-    let layout = Layout::new(rt.alloc(), names)?;
-    let values = [JsValue::Whole(1), JsValue::NaN];
-    let mut locals = Values::new(Vec::from_slice(rt.alloc(), values.as_slice())?);
-    let bare = no_locals(rt.alloc())?;
-    let none = Values::new(Vec::new(rt.alloc()));
-    assert_eq!(rt; world.read(&layout, &locals, b"a"), Some(JsValue::Whole(1)));
-    assert_eq!(rt;
-        world.read(&layout, &locals, b"b"),
-        Some(JsValue::Whole(-1))
-    );
-    assert_eq!(rt; world.read(&layout, &locals, b"v"), None);
-    let written = world.write(&layout, &mut locals, b"a", JsValue::Whole(9));
-    assert_eq!(rt; written, Some(JsValue::Whole(9)));
-    let written = world.write(&layout, &mut locals, b"b", JsValue::Bool(true));
-    assert_eq!(rt; written, Some(JsValue::Bool(true)));
-    assert_eq!(rt; world.write(&layout, &mut locals, b"v", JsValue::NaN), None);
-    assert_eq!(rt; world.read(&layout, &locals, b"a"), Some(JsValue::Whole(9)));
-    assert_eq!(rt; world.read(&bare, &none, b"a"), Some(JsValue::Whole(5)));
-    assert_eq!(rt; world.read(&bare, &none, b"b"), Some(JsValue::Bool(true)));
-    Ok(())
 }
 
 #[test]
@@ -235,19 +200,21 @@ fn imports(rt: HostRuntime) -> Result<(), Fail> {
     Ok(())
 }
 
+fn lacks_reply(called: &Called, name: &[u8]) -> bool {
+    match called {
+        Called::Stops(End::NoReply(text, words)) => text.as_bytes() == name && words.is_empty(),
+        _ => false,
+    }
+}
+
 #[test]
 fn no_reply(rt: HostRuntime) -> Result<(), Fail> {
     let module = example(rt.alloc())?;
     let mut script = host(rt.alloc())?;
     script.replies = List::new(rt.alloc());
     let mut world = World::first(rt.alloc(), &module, 4, &script, 1)?;
-    match world.call_import(rt.alloc(), b"p", &[])? {
-        Called::Stops(End::NoReply(name, words)) => {
-            assert_eq!(rt; name.as_bytes(), b"p".as_slice());
-            assert!(rt; words.is_empty());
-        }
-        _ => assert!(rt; false),
-    }
+    let called = world.call_import(rt.alloc(), b"p", &[])?;
+    assert!(rt; lacks_reply(&called, b"p"));
     assert!(rt; world.pay());
     assert!(rt; !world.pay());
     Ok(())
