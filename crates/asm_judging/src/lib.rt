@@ -1,0 +1,14 @@
+//! The second phase of asm.js validation: the first node of a module that breaks a rule of types (asm.js draft of 18
+//! August 2014, sections 6.1 to 6.8).
+#![tactic(auto)]
+
+mod conditions;
+mod declarations;
+mod fault;
+mod functions;
+mod phase;
+mod statements;
+mod tables;
+
+pub use fault::TypeFault;
+pub use phase::check_types;
