@@ -15,6 +15,3 @@ mod whole;
 mod wholes;
 
 pub use whole::erased;
-
-#[cfg(test)]
-mod tests;

@@ -13,6 +13,3 @@ mod state;
 
 pub use law::expressions_end_no_module;
 pub use state::{ExprReading, ExprStep};
-
-#[cfg(test)]
-mod tests;

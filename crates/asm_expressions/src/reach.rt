@@ -8,7 +8,7 @@ use asm_nodes::Rise;
 
 /// What some frames make of the height of an expression in them: up to the innermost that something else closes or,
 /// where there is no such frame, all of them, so that it goes on with what is open round them.
-#[derive(Clone, Copy, PartialEq, Eq, Debug)]
+#[derive(Clone, Copy, PartialEq, Eq)]
 pub(crate) struct Reach {
     rise: Rise,
     onward: bool,

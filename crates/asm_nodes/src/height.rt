@@ -7,7 +7,7 @@ ghost use Rattle.asm_nodes.specs.Heights.{counted};
 pub const HEIGHT_LIMIT: u32 = 1000;
 
 /// How high a node is; any height above the limit counts as one more than the limit.
-#[derive(Clone, Copy, PartialEq, Eq, Debug)]
+#[derive(Clone, Copy, PartialEq, Eq)]
 pub struct Height {
     count: u32,
 }

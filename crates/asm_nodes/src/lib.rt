@@ -21,6 +21,3 @@ pub use sums::{is_chain, is_sum};
 pub use tall::{TallExpr, TallExprs};
 pub use tall_stmt::{TallClauses, TallStmt, TallStmts};
 pub use tree::{Addend, ClauseTree, ExprTree, StmtTree};
-
-#[cfg(test)]
-mod tests;

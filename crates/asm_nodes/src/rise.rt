@@ -9,7 +9,7 @@ use crate::height::{HEIGHT_LIMIT, Height};
 
 /// Of all that is open round a node: the highest node that ends with one of height h is as high as the greater of
 /// `floor` and `h + steps`. Both are counted up to one above the limit.
-#[derive(Clone, Copy, PartialEq, Eq, Debug)]
+#[derive(Clone, Copy, PartialEq, Eq)]
 pub struct Rise {
     floor: Height,
     steps: u32,

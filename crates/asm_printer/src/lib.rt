@@ -8,6 +8,3 @@ mod printing;
 mod statements;
 
 pub use printing::print;
-
-#[cfg(test)]
-mod tests;

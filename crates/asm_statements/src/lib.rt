@@ -19,6 +19,3 @@ mod state;
 
 pub use law::bodies_end_no_module;
 pub use state::{BodyReading, BodyStep};
-
-#[cfg(test)]
-mod tests;

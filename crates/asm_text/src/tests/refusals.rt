@@ -114,10 +114,15 @@ static MODULES: [Row; 20] = [
     ),
 ];
 
-static STATEMENTS: [Row; 31] = [
+static STATEMENTS: [Row; 43] = [
     ("a name in parentheses as a target", b"(a)", b"=1"),
     ("a sum as a target", b"a+b", b"=1"),
     ("a call as a target", b"f()", b"=1"),
+    ("an or as a target", b"a|b", b"=c"),
+    ("a star in front", b"", b"*a"),
+    ("a list in a conditional", b"a?b", b",c:a"),
+    ("a conditional without its end", b"a?b", b";"),
+    ("an index closed by a parenthesis", b"a[7", b")"),
     ("two names on a line", b"a ", b"b"),
     ("two numbers on a line", b"1 ", b"1"),
     ("two statements on a line", b"a ", b"if(b);"),
@@ -136,6 +141,13 @@ static STATEMENTS: [Row; 31] = [
     ("a condition without parentheses", b"while ", b"a;"),
     ("a declaration in a for", b"for(", b"var i=0;;);"),
     ("two parts of a for", b"for(a;b", b");"),
+    ("one part of a for", b"for(a", b");"),
+    ("four parts of a for", b"for(;;", b";);"),
+    ("an if without a statement", b"if(a)", b""),
+    ("a do without its while", b"do;", b"(a)"),
+    ("a case outside a switch", b"", b"case 7:"),
+    ("a number behind break", b"break ", b"7"),
+    ("two names behind return", b"return a ", b"b"),
     (
         "a case after the default",
         b"switch(a){default:",
@@ -252,7 +264,7 @@ fn tokens(rt: HostRuntime) -> Result<(), Fail> {
     Ok(())
 }
 
-/// Each front of a module is refused.
+/// Each front of a module is refused, at its end, or at a last token that is cut off within.
 #[test]
 fn fronts(rt: HostRuntime) -> Result<(), Fail> {
     let text =
@@ -262,16 +274,14 @@ fn fronts(rt: HostRuntime) -> Result<(), Fail> {
     for n in 0..75 {
         let (front, _) = text.split_at(n);
         let want = match n {
-            0..=7 => Some(TextFault::Grammar { at: 0 }),
-            14..=21 => Some(TextFault::BadToken { at: 13 }),
-            74 => Some(TextFault::Grammar { at: 74 }),
-            _ => None,
+            0..=7 => TextFault::Grammar { at: 0 },
+            14..=21 => TextFault::BadToken { at: 13 },
+            24..=30 => TextFault::Grammar { at: 23 },
+            66..=70 => TextFault::Grammar { at: 65 },
+            _ => TextFault::Grammar { at: n as u64 },
         };
         let fault = read(rt.alloc(), front).err();
-        assert!(rt; fault.is_some(), "{n} bytes");
-        if want.is_some() {
-            assert_eq!(rt; fault, want, "{n} bytes");
-        }
+        assert_eq!(rt; fault, Some(want), "{n} bytes");
     }
     Ok(())
 }

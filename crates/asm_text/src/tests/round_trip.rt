@@ -44,7 +44,7 @@ fn body_comes_back(rt: &impl Abort, g: Global, row: &Row) -> Result<(), Fail> {
     comes_back(rt, g, name, &text, &want)
 }
 
-static STATEMENTS: [Row; 28] = [
+static STATEMENTS: [Row; 31] = [
     ("empty", b";", b";"),
     ("blocks", b"{}{a;b;{c}}", b"{}{a;b;{c;}}"),
     ("if", b"if(a);", b"if(a);"),
@@ -71,6 +71,16 @@ static STATEMENTS: [Row; 28] = [
         b"return;return a;return 1;",
     ),
     ("return on a line", b"return\na;", b"return;a;"),
+    (
+        "return with a sign or a list",
+        b"return-1;return+a;return a,b",
+        b"return-1;return+a;return a,b;",
+    ),
+    (
+        "a switch without a statement in its first clause",
+        b"switch(a){case 0:case-1:b;break;default:c}",
+        b"switch(a){case 0:case-1:b;break;default:c;}",
+    ),
     ("while", b"while(a)b;while(1){}", b"while(a)b;while(1){}"),
     (
         "do",
@@ -120,6 +130,11 @@ static STATEMENTS: [Row; 28] = [
         b"switch(a|0){case 1:b;break\ncase-0x2:case 3:c;default:d}",
         b"switch(a|0){case 1:b;break;case-2:case 3:c;default:d;}",
     ),
+    (
+        "clauses past 64 bits have the nearest number",
+        b"switch(a){case 9223372036854775808:case-9223372036854775809:}",
+        b"switch(a){case 9223372036854775807:case-9223372036854775808:}",
+    ),
     ("a semicolon missing before a brace", b"{a}b", b"{a;}b;"),
     ("before a name on a line", b"a\nb\r\nc", b"a;b;c;"),
     ("before a number on a line", b"a\n1\n.5", b"a;1;.5;"),
@@ -143,7 +158,7 @@ fn statements(rt: HostRuntime) -> Result<(), Fail> {
     Ok(())
 }
 
-static EXPRESSIONS: [Row; 38] = [
+static EXPRESSIONS: [Row; 47] = [
     ("list", b"a,b,c", b"a,b,c;"),
     ("list in a list", b"(a,b),c,(d,e)", b"(a,b),c,(d,e);"),
     ("assignment", b"a=b=1", b"a=b=1;"),
@@ -191,6 +206,15 @@ static EXPRESSIONS: [Row; 38] = [
     ("plus minus", b"a+-b;a-+b", b"a+-b;a-+b;"),
     ("negative literals", b"-1;- 2;-0x10", b"-1;-2;-16;"),
     ("minus a literal", b"-(1);-(0)", b"-(1);-(0);"),
+    ("minus a negative literal", b"- -5", b"- -5;"),
+    ("minus a decimal", b"- 1.5", b"-1.5;"),
+    ("plus a literal", b"+ 5;+ +a", b"+5;+ +a;"),
+    ("a negative literal more", b"a+ -1", b"a+-1;"),
+    ("less than a negative literal", b"a< -1", b"a<-1;"),
+    ("a shift by 0", b"a>>>0", b"a>>>0;"),
+    ("a decimal in a conditional", b"a?.5:b", b"a?.5:b;"),
+    ("a list in a conditional", b"a?(b,c):d", b"a?(b,c):d;"),
+    ("an assignment in an or", b"(a=b)|0", b"(a=b)|0;"),
     ("minus zero with two operands", b"a-0", b"a-0;"),
     (
         "numbers",
@@ -313,5 +337,48 @@ fn places(rt: HostRuntime) -> Result<(), Fail> {
     let want = [0, 32, 34, 43, 53, 51, 50, 52, 54, 64];
     let parsed = read(rt.alloc(), text).ok().ok_or("the text says a module")?;
     assert_eq!(rt; parsed.places.as_slice(), want.as_slice());
+    Ok(())
+}
+
+/// Statements, and where their nodes stand in them: a whole before its parts.
+static PLACES: [(&'static [u8], &'static [u64]); 18] = [
+    (b"{;}", &[0, 1]),
+    (b"a:b:;", &[0, 4]),
+    (b"if(a)if(b);else c;", &[0, 3, 5, 8, 10, 16, 16]),
+    (
+        b"if(a)while(b)do;while(c)else;",
+        &[0, 3, 5, 11, 13, 15, 22, 28],
+    ),
+    (b"for(a;;b);for(;c;);", &[0, 4, 7, 9, 10, 15, 18]),
+    (b"return\n7\nreturn 7;", &[0, 7, 7, 9, 16]),
+    (b"break\ncontinue a\nb", &[0, 6, 17, 17]),
+    (b"switch(a){case 7:b;case-7:default:;}", &[0, 7, 17, 17, 34]),
+    (b"do;while(a)b", &[0, 2, 9, 11, 11]),
+    (b"a+b-c;", &[0, 1, 0, 2, 4]),
+    (b"a*b-c;", &[0, 3, 1, 0, 2, 4]),
+    (b"- -7;", &[0, 0, 2]),
+    (b"a[b](c);", &[0, 0, 2, 5]),
+    (b"a=b=c;", &[0, 1, 3, 4]),
+    (b"a[b]=c,a;", &[0, 6, 4, 2, 5, 7]),
+    (b"a?b:c?a:b;", &[0, 1, 0, 2, 5, 4, 6, 8]),
+    (b"(a,b),c;", &[0, 5, 2, 1, 3, 6]),
+    (b"a(b=c,b?c:a);", &[0, 0, 3, 4, 7, 6, 8, 10]),
+];
+
+#[test]
+fn places_in_statements(rt: HostRuntime) -> Result<(), Fail> {
+    let begin = OPEN.len() as u64;
+    for (body, want) in PLACES.iter() {
+        let text = joined(rt.alloc(), &[OPEN, body, CLOSE])?;
+        let parsed = read(rt.alloc(), &text)
+            .ok()
+            .ok_or("the text says a module")?;
+        let found = parsed.places.as_slice();
+        // the module and the function stand before, the export behind
+        assert_eq!(rt; found.len(), want.len().saturating_add(3));
+        for (place, want) in found.iter().skip(2).zip(want.iter()) {
+            assert_eq!(rt; *place, want.saturating_add(begin));
+        }
+    }
     Ok(())
 }
