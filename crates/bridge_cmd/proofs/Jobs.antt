@@ -4,16 +4,17 @@ use Rattle.std.specs.Prelude.{◌⊎◌, Option, Some, None, IsSome, IsSomeAnd, 
 use Rattle.bridge_io.specs.Outside.{Told, content_of}
 use Rattle.bridge_io.specs.declared.reading.GatherFault.{GatherFault}
 use Rattle.bridge_io.specs.declared.reading.GatherFault.TheVariants.{Read, Missing, TooLarge, Memory}
-use Rattle.bridge_cmd.specs.Checking.{IsNoModule, IsInvalid}
-use Rattle.bridge_cmd.specs.Command.{Asked, file_of, asked}
-use Rattle.bridge_cmd.specs.Reason.{Reason, faulty_words, not_of_the_form, not_a_binary, not_valid, read_fault, missing, too_large, out_of_memory}
-use Rattle.bridge_cmd.specs.Refused.{status_of, reason_at}
-use Rattle.bridge_cmd.specs.Job.{Job, refused, written, file_limit, IsAbsent, Holds, IsTooLong, IsTextJob, other_text, translated, no_module, invalid, counted, IsJob, no_command, no_file, long_file, of_text, IsAnswered, by_its_job, by_memory}
-use Rattle.bridge_cmd.specs.Outcome.{EndsAs, Ends, IsValidityRefusal, at_a_rule, IsCutShort, by_a_read, by_want, MayReport, a_refusal, a_read_fault, no_memory}
+use Rattle.bridge_cmd.specs.Command.{Asked, check_wasm, file_of, asked}
+use Rattle.bridge_cmd.specs.Reason.{Reason, read_fault, missing, too_large, out_of_memory}
+use Rattle.bridge_cmd.specs.Refused.{status_of, reason_at, reason_of_check}
+use Rattle.bridge_cmd.specs.Job.{Job, refused, written, file_limit, IsAbsent, Holds, IsTooLong, IsTextJob, other_text, translated, not_valid, counted, IsJob, no_command, no_file, long_file, of_text, IsAnswered, by_its_job, by_memory}
+use Rattle.bridge_cmd.specs.Outcome.{EndsAs, IsCutShort, by_a_read, by_want, MayReport, a_refusal, a_read_fault, no_memory}
 use Rattle.bridge_cmd.specs.declared.status.Status.{Status}
 use Rattle.bridge_cmd.specs.declared.status.Status.TheVariants.{Done, Usage}
-use Rattle.wasm_lang.specs.declared.fault.Fault.{Fault}
-use Rattle.bridge_cmd.proofs.Validity.{not_invalid_too}
+use Rattle.wasm_checking.specs.declared.fault.CheckFault.{CheckFault}
+use Rattle.wasm_checking.specs.declared.fault.CheckFault.TheVariants as checks
+use Rattle.wasm_checking.specs.Verdicts.{IsRefused}
+use Rattle.wasm_checking.proofs.Once.{not_both as not_refused_too, one_fault}
 
 pub holds : (told : Option Told) (file text : List ℕ) → ((map : Told) → told ≡ Some map → content_of map file ≡ Some text) → Holds told file text
 holds None file text content = tt
@@ -58,36 +59,9 @@ not_absent_long map a b words named named' absent long =
     let there = long_text (content_of map (file_of b)) long in
     not_absent map a b there.0 words named named' absent there.1
 
--- a reason's own status is an end for it
-pub own_end : (reason : Reason) → Ends reason (status_of reason)
-own_end faulty_words = refl
-own_end not_of_the_form = refl
-own_end (not_a_binary row at) = refl
-own_end (not_valid rule section index instruction) = at_a_rule
-own_end read_fault = refl
-own_end (missing file) = refl
-own_end (too_large file) = refl
-own_end out_of_memory = refl
-
 abbrev own_status : Job → Status
 own_status (refused reason) = status_of reason
 own_status (written output) = Done
-
-ends_by : (r q : Reason) → r ≡ q → Ends q (status_of r)
-ends_by r q e = subst (λ x. Ends q (status_of x)) (sym e) (own_end q)
-
--- the end of a module that isn't valid, at any rule of another one
-invalid_end : (text : List ℕ) (r q : Reason) → IsInvalid text r → IsInvalid text q → Ends q (status_of r)
-invalid_end text r q i j = subst (λ x. Ends x (status_of r)) (sym j.is) (subst (λ x. IsValidityRefusal (status_of x)) (sym i.is) at_a_rule)
-
--- where no module can be read the first field is one
-no_module_once : (text : List ℕ) (r q : Reason) → IsNoModule text r → IsNoModule text q → r ≡ q
-no_module_once text r q i j =
-    let first : Fault = record { row = i.row; at = i.at } in
-    let second : Fault = record { row = j.row; at = j.at } in
-    let e : Err first ≡ Err second = sym i.first.first ∙ j.first.first in
-    let f : first ≡ second = cc in
-    i.is ∙ ap (λ x. not_a_binary x.row x.at) f ∙ sym j.is
 
 -- a command makes one thing of a text, as far as its end goes
 text_ends : (a : Asked) (text : List ℕ) (j k : Job) → IsTextJob a text j → IsTextJob a text k → EndsAs k (own_status j)
@@ -95,14 +69,9 @@ text_ends a text j k (other_text x) (other_text y) = refl
 text_ends a text j k (other_text x) (translated i) = absurd (x i.tree i.read)
 text_ends a text j k (translated i) (other_text x) = absurd (x i.tree i.read)
 text_ends a text j k (translated i) (translated i') = refl
-text_ends a text j k (no_module {reason = r} i) (no_module {reason = q} i') = ends_by r q (no_module_once text r q i i')
-text_ends a text j k (no_module i) (invalid v) = absurd (i.first.none v.«module» v.read)
-text_ends a text j k (no_module i) (counted c) = absurd (i.first.none c.«module» c.read)
-text_ends a text j k (invalid v) (no_module i) = absurd (i.first.none v.«module» v.read)
-text_ends a text j k (invalid {reason = r} v) (invalid {reason = q} v') = invalid_end text r q v v'
-text_ends a text j k (invalid v) (counted c) = absurd (not_invalid_too text v c)
-text_ends a text j k (counted c) (no_module i) = absurd (i.first.none c.«module» c.read)
-text_ends a text j k (counted c) (invalid v) = absurd (not_invalid_too text v c)
+text_ends a text j k (not_valid f i n) (not_valid g i' n') = ap (λ x. status_of (reason_of_check x)) (one_fault text f g i i' n n')
+text_ends a text j k (not_valid f i n) (counted c) = absurd (n (not_refused_too text c.«module» f c.taken i))
+text_ends a text j k (counted c) (not_valid f i n) = absurd (n (not_refused_too text c.«module» f c.taken i))
 text_ends a text j k (counted c) (counted c') = refl
 
 -- .. of a told file's text, under one command
@@ -141,10 +110,14 @@ reported_exactly words told reason (a_refusal is) job some of = inl (one_end wor
 reported_exactly words told reason a_read_fault job some of = inr by_a_read
 reported_exactly words told reason no_memory job some of = inr by_want
 
+check_usage : (fault : CheckFault) → status_of (reason_of_check fault) ≡ Usage → ⊥
+check_usage (checks.Binary row at) is = absurd cc
+check_usage (checks.Invalid rule section index instruction) is = absurd cc
+check_usage checks.Memory is = absurd cc
+
 text_usage : (a : Asked) (text : List ℕ) (reason : Reason) → IsTextJob a text (refused reason) → status_of reason ≡ Usage → ⊥
-text_usage a text reason (other_text x) is = cc
-text_usage a text reason (no_module i) is = let e = sym (ap status_of i.is) ∙ is in cc
-text_usage a text reason (invalid v) is = let e = sym (ap status_of v.is) ∙ is in cc
+text_usage a text reason (other_text x) is = absurd cc
+text_usage a text reason (not_valid fault i n) is = check_usage fault is
 
 usage_job : (words : List (List ℕ)) (told : Option Told) (reason : Reason) → IsJob words told (refused reason) → status_of reason ≡ Usage → asked words ≡ None
 usage_job words told reason (no_command e) is = e
@@ -172,3 +145,9 @@ not_gathered words told a Read named absent long = a_read_fault
 not_gathered words told a Missing named absent long = a_refusal (no_file a named (is_absent told (file_of a) (λ map e. absent map e refl)))
 not_gathered words told a TooLarge named absent long = a_refusal (long_file a named (is_too_long told (file_of a) (λ map e. long map e refl)))
 not_gathered words told a Memory named absent long = no_memory
+
+-- what is told of bytes that were checked
+pub check_answer : (file bytes : List ℕ) (fault : CheckFault) → IsRefused bytes fault → IsAnswered (check_wasm file) bytes (reason_of_check fault)
+check_answer file bytes (checks.Binary row at) i = by_its_job (not_valid (checks.Binary row at) i (λ e. absurd cc))
+check_answer file bytes (checks.Invalid rule section index instruction) i = by_its_job (not_valid (checks.Invalid rule section index instruction) i (λ e. absurd cc))
+check_answer file bytes checks.Memory i = by_memory

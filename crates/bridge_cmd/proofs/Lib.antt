@@ -1,16 +1,3 @@
-pub mod Checks
-pub mod FormBodies
-pub mod FormExamples
-pub mod FormLaws
-pub mod FormLists
-pub mod FormNames
-pub mod FormNumbers
-pub mod FormPieces
-pub mod FormRuns
-pub mod FormSections
-pub mod FormTexts
 pub mod Gaining
 pub mod Jobs
-pub mod LebSteps
 pub mod Pieces
-pub mod Validity

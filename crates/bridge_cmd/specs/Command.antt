@@ -1,6 +1,7 @@
--- What the words of the command line ask for.
-use Rattle.std.specs.Prelude.{ℕ, Bool, false, List, [], ◌∷◌, Option, Some, None, if◌then◌else◌, ◌==◌, codes}
-use Rattle.std.specs.Str.{bytes_eq}
+-- Which command the words name, of those that are built.
+use Rattle.std.specs.Prelude.{ℕ, List, Option, Some, None, option_and_then}
+use Rattle.bridge_words.specs.Job.{JobRead, job_of}
+use Rattle.bridge_words.specs.Job as words
 
 -- a command, with the name of its file
 pub data Asked : Type 0 where
@@ -11,19 +12,14 @@ abbrev pub file_of : Asked → List ℕ
 file_of (asm_to_wasm file) = file
 file_of (check_wasm file) = file
 
-abbrev pub begins_with_dash : List ℕ → Bool
-begins_with_dash [] = false
-begins_with_dash (first ∷ rest) = first == 45
+-- a module of the first form has no heap, so that its length is of no use
+abbrev pub built : JobRead → Option Asked
+built (words.asm_to_wasm file heap) = Some (asm_to_wasm file)
+built (words.check_wasm file) = Some (check_wasm file)
+built (words.check_asm file) = None
+built (words.run_asm file script heap steps) = None
+built (words.run_wasm file script steps) = None
+built (words.show file) = None
 
--- the commands by their names
-abbrev pub command_named : List ℕ → List ℕ → Option Asked
-command_named name file =
-    if bytes_eq name (codes "asm2wasm") then Some (asm_to_wasm file)
-    else if bytes_eq name (codes "check-wasm") then Some (check_wasm file)
-    else None
-
--- The words are the program's name, a command and one file, whose name doesn't begin with a dash.
--- Any other words are a faulty command line.
 abbrev pub asked : List (List ℕ) → Option Asked
-asked (program ∷ name ∷ file ∷ []) = if begins_with_dash file then None else command_named name file
-asked _ = None
+asked words = option_and_then built (job_of words)

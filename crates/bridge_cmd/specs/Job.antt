@@ -1,12 +1,13 @@
 -- What the words and the files ask for: the first refusal in the order words, file, text; or the output.
-use Rattle.std.specs.Prelude.{◌≡◌, ◌<◌, ◌≤◌, ℕ, List, Option, Some, None, IfSome, IsSomeAnd, length}
+use Rattle.std.specs.Prelude.{◌≡◌, ◌≢◌, ◌<◌, ◌≤◌, ℕ, List, Option, Some, None, IfSome, IsSomeAnd, length}
 use Rattle.bridge_io.specs.Outside.{Told, content_of}
-use Rattle.bridge_cmd.specs.Checking.{IsCounted, IsNoModule, IsInvalid}
+use Rattle.first_form.specs.Translation.{Translates}
+use Rattle.wasm_checking.specs.declared.fault.CheckFault.{CheckFault}
+use Rattle.wasm_checking.specs.declared.fault.CheckFault.TheVariants.{Memory}
+use Rattle.wasm_checking.specs.Verdicts.{IsCounted, IsRefused}
 use Rattle.bridge_cmd.specs.Command.{Asked, asm_to_wasm, check_wasm, file_of, asked}
-use Rattle.bridge_cmd.specs.Form.{FormTree}
-use Rattle.bridge_cmd.specs.FormText.{IsFirstForm}
-use Rattle.bridge_cmd.specs.FormModule.{module_bytes}
 use Rattle.bridge_cmd.specs.Reason.{Reason, faulty_words, not_of_the_form, missing, too_large, out_of_memory}
+use Rattle.bridge_cmd.specs.Refused.{reason_of_check}
 
 pub data Job : Type 0 where
   refused : Reason → Job
@@ -15,12 +16,6 @@ pub data Job : Type 0 where
 -- the largest file that is read, in bytes
 abbrev pub file_limit : ℕ
 file_limit = 16777216
-
--- the output is the module of the text
-pub record IsTranslation (text output : List ℕ) : Type 0 where
-  pub tree : FormTree
-  pub read : IsFirstForm text tree
-  pub spelled : output ≡ module_bytes tree
 
 -- where the files are told, there is none of this name
 abbrev pub IsAbsent : Option Told → List ℕ → Type 0
@@ -36,10 +31,10 @@ IsTooLong told file = IfSome told (λ map. IsSomeAnd (content_of map file) (λ t
 
 -- what a command makes of its file's bytes
 pub data IsTextJob : Asked → List ℕ → Job → Type 0 where
-  other_text : {file text : List ℕ} → ((tree : FormTree) → IsFirstForm text tree → ⊥) → IsTextJob (asm_to_wasm file) text (refused not_of_the_form)
-  translated : {file text output : List ℕ} → IsTranslation text output → IsTextJob (asm_to_wasm file) text (written output)
-  no_module : {file text : List ℕ} {reason : Reason} → IsNoModule text reason → IsTextJob (check_wasm file) text (refused reason)
-  invalid : {file text : List ℕ} {reason : Reason} → IsInvalid text reason → IsTextJob (check_wasm file) text (refused reason)
+  other_text : {file text : List ℕ} → Translates text None → IsTextJob (asm_to_wasm file) text (refused not_of_the_form)
+  translated : {file text output : List ℕ} → Translates text (Some output) → IsTextJob (asm_to_wasm file) text (written output)
+  not_valid : {file text : List ℕ} (fault : CheckFault) → IsRefused text fault → fault ≢ Memory
+      → IsTextJob (check_wasm file) text (refused (reason_of_check fault))
   counted : {file text output : List ℕ} → IsCounted text output → IsTextJob (check_wasm file) text (written output)
 
 pub data IsJob : List (List ℕ) → Option Told → Job → Type 0 where

@@ -1,13 +1,7 @@
 pub mod Asking
-pub mod Checking
 pub mod Code
 pub mod Command
-pub mod Form
-pub mod FormModule
-pub mod FormReading
-pub mod FormText
 pub mod Job
-pub mod Leb
 pub mod Outcome
 pub mod Reason
 pub mod Refused

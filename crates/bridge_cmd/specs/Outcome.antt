@@ -1,24 +1,15 @@
 -- How a call ends, and what it leaves in its two sinks.
 use Rattle.std.specs.Prelude.{◌≡◌, ℕ, List, Option}
 use Rattle.bridge_io.specs.Outside.{Told}
-use Rattle.bridge_cmd.specs.Reason.{Reason, line_of, not_valid, read_fault, out_of_memory}
+use Rattle.bridge_cmd.specs.Reason.{Reason, line_of, read_fault, out_of_memory}
 use Rattle.bridge_cmd.specs.Refused.{status_of}
 use Rattle.bridge_cmd.specs.Sinks.{Seen, Gains, GainsFront, Stays}
 use Rattle.bridge_cmd.specs.Job.{Job, refused, written, IsJob}
 use Rattle.bridge_cmd.specs.declared.status.Status.{Status}
-use Rattle.bridge_cmd.specs.declared.status.Status.TheVariants.{Done, WasmRefused, ReadFault, WriteFault, Memory}
-use Rattle.bridge_cmd.specs.declared.status.WasmFault.TheVariants.{Invalid}
-
--- The end for a reason. Of a module that isn't valid the kind alone is told here; which rule it breaks first, and where, `Refuses` tells.
-pub data IsValidityRefusal : Status → Type 0 where
-  at_a_rule : {rule section index instruction : ℕ} → IsValidityRefusal (WasmRefused (Invalid rule section index instruction))
-
-abbrev pub Ends : Reason → Status → Type 0
-Ends (not_valid rule section index instruction) status = IsValidityRefusal status
-Ends reason status = status ≡ status_of reason
+use Rattle.bridge_cmd.specs.declared.status.Status.TheVariants.{Done, ReadFault, WriteFault, Memory}
 
 abbrev pub EndsAs : Job → Status → Type 0
-EndsAs (refused reason) status = Ends reason status
+EndsAs (refused reason) status = status ≡ status_of reason
 EndsAs (written output) status = status ≡ Done
 
 -- the ends that don't depend on the job

@@ -1,15 +1,13 @@
 -- What the code's refusals say, and the status of each.
-use Rattle.std.specs.Prelude.{ℕ, List, false}
+use Rattle.std.specs.Prelude.{ℕ, List, false, string_bytes}
 use Rattle.bridge_cmd.specs.Reason.{Reason, faulty_words, not_of_the_form, not_a_binary, not_valid, read_fault, missing, too_large, out_of_memory}
 use Rattle.bridge_cmd.specs.declared.refusal.Refusal.{Refusal}
 use Rattle.bridge_cmd.specs.declared.refusal.Refusal as refusal
 use Rattle.bridge_cmd.specs.declared.status.Status as status
 use Rattle.bridge_cmd.specs.declared.status.WasmFault as wasm
 use Rattle.bridge_io.specs.declared.reading.GatherFault as gathering
-use Rattle.wasm_binary.specs.declared.fault.BinFault as binary
-use Rattle.wasm_validate.specs.declared.fault.Invalid as validity
-use Rattle.wasm_typing.specs.Validity.{id}
-use Rattle.wasm_typing.specs.Rules.{number}
+use Rattle.bridge_words.specs.declared.fault.WordsFault as words
+use Rattle.wasm_checking.specs.declared.fault.CheckFault as checks
 
 abbrev pub reason_of : Refusal → Reason
 reason_of refusal.TheVariants.FaultyWords = faulty_words
@@ -17,8 +15,8 @@ reason_of refusal.TheVariants.NotOfTheForm = not_of_the_form
 reason_of (refusal.TheVariants.NotABinary row at) = not_a_binary row at
 reason_of (refusal.TheVariants.NotValid rule section index instruction) = not_valid rule section index instruction
 reason_of refusal.TheVariants.ReadFault = read_fault
-reason_of (refusal.TheVariants.Missing name) = missing name.now
-reason_of (refusal.TheVariants.TooLarge name) = too_large name.now
+reason_of (refusal.TheVariants.Missing name) = missing (string_bytes name)
+reason_of (refusal.TheVariants.TooLarge name) = too_large (string_bytes name)
 reason_of refusal.TheVariants.OutOfMemory = out_of_memory
 
 abbrev pub status_of : Reason → status.Status
@@ -37,10 +35,11 @@ reason_at gathering.TheVariants.Missing file = missing file
 reason_at gathering.TheVariants.TooLarge file = too_large file
 reason_at gathering.TheVariants.Memory file = out_of_memory
 
-abbrev pub reason_of_fault : binary.BinFault → Reason
-reason_of_fault (binary.TheVariants.Refused row at) = not_a_binary row at
-reason_of_fault binary.TheVariants.Memory = out_of_memory
+abbrev pub reason_of_check : checks.CheckFault → Reason
+reason_of_check (checks.TheVariants.Binary row at) = not_a_binary row at
+reason_of_check (checks.TheVariants.Invalid rule section index instruction) = not_valid rule section index instruction
+reason_of_check checks.TheVariants.Memory = out_of_memory
 
-abbrev pub reason_of_invalid : validity.Invalid → Reason
-reason_of_invalid (validity.TheVariants.Rule rule section index instruction) = not_valid (number rule) (id section) index instruction
-reason_of_invalid validity.TheVariants.Memory = out_of_memory
+abbrev pub reason_of_words : words.WordsFault → Reason
+reason_of_words words.TheVariants.Usage = faulty_words
+reason_of_words words.TheVariants.Memory = out_of_memory

@@ -1,17 +1,12 @@
 //! The commands of Bridge, over files and sinks.
 #![tactic(auto)]
 
-mod checking;
-mod form;
 mod job;
-mod leb;
-mod reading;
 mod refusal;
 mod report;
 mod status;
 mod top;
 mod words;
-mod writing;
 
 pub use status::{Status, WasmFault};
 pub use top::bridge;

@@ -1,14 +1,17 @@
 //! Why there is no output.
-ghost use Rattle.std.specs.Prelude.{◌≡◌};
-ghost use Rattle.bridge_cmd.specs.Reason.{binary_name as spec_name};
-ghost use Rattle.bridge_cmd.specs.Refused.{reason_of, status_of};
+ghost use Rattle.std.specs.Prelude.{◌≡◌, string_bytes};
+ghost use Rattle.bridge_cmd.specs.Refused.{reason_of, reason_of_check, reason_of_words, reason_at, status_of};
 
 use crate::status::{Status, WasmFault};
+use bridge_io::GatherFault;
+use bridge_words::WordsFault;
+use wasm_checking::CheckFault;
 use wasm_tree::Row;
+use wasm_validate::{Rule, Section};
 
 /// Why there is no output.
-#[derive(Clone, Copy, Debug)]
-pub(crate) enum Refusal<'a> {
+#[derive(Drop)]
+pub(crate) enum Refusal {
     FaultyWords,
     NotOfTheForm,
     NotABinary {
@@ -16,37 +19,38 @@ pub(crate) enum Refusal<'a> {
         at: u64,
     },
     NotValid {
-        rule: u8,
-        section: u8,
+        rule: Rule,
+        section: Section,
         index: u64,
         instruction: u64,
     },
     ReadFault,
-    Missing(&'a str),
-    TooLarge(&'a str),
+    Missing(String),
+    TooLarge(String),
     OutOfMemory,
 }
 
-impl Refusal<'_> {
-    pub(crate) fn status(self) -> Status
-        ensures { result ≡ status_of (reason_of self.entry) }
+impl Refusal {
+    pub(crate) fn status(&self) -> Status
+        ensures { result ≡ status_of (reason_of self.now) }
     {
         match self {
             Refusal::FaultyWords => Status::Usage,
             Refusal::NotOfTheForm => Status::AsmRefused { number: 0, at: 0 },
-            Refusal::NotABinary { row, at } => {
-                Status::WasmRefused(WasmFault::Binary { row, at })
-            }
+            Refusal::NotABinary { row, at } => Status::WasmRefused(WasmFault::Binary {
+                row: *row,
+                at: *at,
+            }),
             Refusal::NotValid {
                 rule,
                 section,
                 index,
                 instruction,
             } => Status::WasmRefused(WasmFault::Invalid {
-                rule,
-                section,
-                index,
-                instruction,
+                rule: *rule,
+                section: *section,
+                index: *index,
+                instruction: *instruction,
             }),
             Refusal::ReadFault => Status::ReadFault,
             Refusal::Missing(_) => Status::Missing { script: false },
@@ -56,23 +60,45 @@ impl Refusal<'_> {
     }
 }
 
-/// Why bytes aren't of the binary format, with its number.
-#[tactic(auto, unfolding(crate::specs::Reason::binary_name))]
-pub(crate) fn binary_name(row: Row) -> &'static str
-    ensures { result.now ≡ spec_name row }
+/// Why words name no command.
+pub(crate) fn of_words(fault: WordsFault) -> Refusal
+    ensures { reason_of result ≡ reason_of_words fault }
 {
-    match row {
-        Row::Magic => "B1 Magic",
-        Row::Version => "B2 Version",
-        Row::Truncated => "B3 Truncated",
-        Row::Leb => "B4 Leb",
-        Row::SectionOrder => "B5 SectionOrder",
-        Row::SectionSize => "B6 SectionSize",
-        Row::UnknownByte => "B7 UnknownByte",
-        Row::Utf8 => "B8 Utf8",
-        Row::Counts => "B9 Counts",
-        Row::Float => "B10 Float",
-        Row::MemoryGrow => "B11 MemoryGrow",
-        Row::Limit => "B12 Limit",
+    match fault {
+        WordsFault::Usage => Refusal::FaultyWords,
+        WordsFault::Memory => Refusal::OutOfMemory,
+    }
+}
+
+/// Why a file wasn't gathered.
+pub(crate) fn of_gathering(fault: GatherFault, file: String) -> Refusal
+    ensures { reason_of result ≡ reason_at fault (string_bytes file) }
+{
+    match fault {
+        GatherFault::Read => Refusal::ReadFault,
+        GatherFault::Missing => Refusal::Missing(file),
+        GatherFault::TooLarge => Refusal::TooLarge(file),
+        GatherFault::Memory => Refusal::OutOfMemory,
+    }
+}
+
+/// Why bytes spell no valid module.
+pub(crate) fn of_check(fault: CheckFault) -> Refusal
+    ensures { reason_of result ≡ reason_of_check fault }
+{
+    match fault {
+        CheckFault::Binary { row, at } => Refusal::NotABinary { row, at },
+        CheckFault::Invalid {
+            rule,
+            section,
+            index,
+            instruction,
+        } => Refusal::NotValid {
+            rule,
+            section,
+            index,
+            instruction,
+        },
+        CheckFault::Memory => Refusal::OutOfMemory,
     }
 }

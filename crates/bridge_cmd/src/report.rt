@@ -1,14 +1,19 @@
 //! Writing the line of a refusal, in pieces that take no memory.
 ghost use Rattle.std.specs.Prelude.{ℕ, ◌≤◌, ◌++◌, ◌∷◌, [], OnOk, OnErr, map, codes, decimal};
 ghost use Rattle.std.specs.List.{concat};
-ghost use Rattle.bridge_cmd.specs.Reason.{line_of, binary_name as spec_name};
+ghost use Rattle.bridge_cmd.specs.Reason.{line_of};
+ghost use Rattle.wasm_checking.specs.Names as names;
+ghost use Rattle.wasm_typing.specs.Rules.{number};
+ghost use Rattle.wasm_typing.specs.Validity.{id};
 ghost use Rattle.bridge_cmd.specs.Refused.{reason_of};
 ghost use Rattle.bridge_cmd.specs.Sinks.{seen, Gains, GainsFront, now_of};
 
-use crate::refusal::{Refusal, binary_name};
+use crate::refusal::Refusal;
 use bridge_io::{Failed, Sink, put_all};
 use itoa::Buffer;
+use wasm_checking::{row_name, rule_number, section_number};
 use wasm_tree::Row;
+use wasm_validate::{Rule, Section};
 
 /// Writes pieces, one after the other.
 fn put_pieces<E: Sink>(report: &mut E, pieces: &[&str]) -> Result<(), Failed>
@@ -31,13 +36,13 @@ fn put_pieces<E: Sink>(report: &mut E, pieces: &[&str]) -> Result<(), Failed>
 }
 
 /// Writes the line of a refusal.
-pub(crate) fn write_line<E: Sink>(report: &mut E, refusal: Refusal<'_>) -> Result<(), Failed>
+pub(crate) fn write_line<E: Sink>(report: &mut E, refusal: &Refusal) -> Result<(), Failed>
     requires { (n : ℕ) → E.takes report.old n }
 
     ensures never_falls { E.faults report.old ≤ E.faults report.new }
-    ensures whole { OnOk result (Gains (line_of (reason_of refusal.entry))
+    ensures whole { OnOk result (Gains (line_of (reason_of refusal.now))
         (seen (E.told report.old) (E.faults report.old)) (seen (E.told report.new) (E.faults report.new))) }
-    ensures front { OnErr result (GainsFront (line_of (reason_of refusal.entry))
+    ensures front { OnErr result (GainsFront (line_of (reason_of refusal.now))
         (seen (E.told report.old) (E.faults report.old)) (seen (E.told report.new) (E.faults report.new))) }
 {
     match refusal {
@@ -49,16 +54,16 @@ pub(crate) fn write_line<E: Sink>(report: &mut E, refusal: Refusal<'_>) -> Resul
             ],
         ),
         Refusal::NotOfTheForm => put_pieces(report, &["asm.js refused: A0 NotYet at 0", "\n"]),
-        Refusal::NotABinary { row, at } => put_binary(report, row, at),
+        Refusal::NotABinary { row, at } => put_binary(report, *row, *at),
         Refusal::NotValid {
             rule,
             section,
             index,
             instruction,
-        } => put_invalid(report, rule, section, index, instruction),
+        } => put_invalid(report, *rule, *section, *index, *instruction),
         Refusal::ReadFault => put_pieces(report, &["read fault", "\n"]),
-        Refusal::Missing(file) => put_pieces(report, &["missing: ", file, "\n"]),
-        Refusal::TooLarge(file) => put_pieces(report, &["too large: ", file, "\n"]),
+        Refusal::Missing(file) => put_pieces(report, &["missing: ", file.as_str(), "\n"]),
+        Refusal::TooLarge(file) => put_pieces(report, &["too large: ", file.as_str(), "\n"]),
         Refusal::OutOfMemory => put_pieces(report, &["out of memory", "\n"]),
     }
 }
@@ -68,34 +73,31 @@ fn put_binary<E: Sink>(report: &mut E, row: Row, at: u64) -> Result<(), Failed>
     requires { (n : ℕ) → E.takes report.old n }
 
     ensures never_falls { E.faults report.old ≤ E.faults report.new }
-    ensures whole { OnOk result (Gains (concat (codes "wasm refused: " ∷ spec_name row ∷ codes " at " ∷ decimal at ∷ codes "\n" ∷ []))
+    ensures whole { OnOk result (Gains (concat (codes "wasm refused: " ∷ names.row_name row ∷ codes " at " ∷ decimal at ∷ codes "\n" ∷ []))
         (seen (E.told report.old) (E.faults report.old)) (seen (E.told report.new) (E.faults report.new))) }
-    ensures front { OnErr result (GainsFront (concat (codes "wasm refused: " ∷ spec_name row ∷ codes " at " ∷ decimal at ∷ codes "\n" ∷ []))
+    ensures front { OnErr result (GainsFront (concat (codes "wasm refused: " ∷ names.row_name row ∷ codes " at " ∷ decimal at ∷ codes "\n" ∷ []))
         (seen (E.told report.old) (E.faults report.old)) (seen (E.told report.new) (E.faults report.new))) }
 {
     let mut digits = Buffer::new();
     let at = digits.format(at);
-    put_pieces(
-        report,
-        &["wasm refused: ", binary_name(row), " at ", at, "\n"],
-    )
+    put_pieces(report, &["wasm refused: ", row_name(row), " at ", at, "\n"])
 }
 
 /// The line of a module that isn't valid.
 fn put_invalid<E: Sink>(
     report: &mut E,
-    rule: u8,
-    section: u8,
+    rule: Rule,
+    section: Section,
     index: u64,
     instruction: u64,
 ) -> Result<(), Failed>
     requires { (n : ℕ) → E.takes report.old n }
 
     ensures never_falls { E.faults report.old ≤ E.faults report.new }
-    ensures whole { OnOk result (Gains (concat (codes "wasm refused: B13 Invalid V" ∷ decimal rule ∷ codes " at section " ∷ decimal section
+    ensures whole { OnOk result (Gains (concat (codes "wasm refused: B13 Invalid V" ∷ decimal (number rule) ∷ codes " at section " ∷ decimal (id section)
         ∷ codes " index " ∷ decimal index ∷ codes " instruction " ∷ decimal instruction ∷ codes "\n" ∷ []))
         (seen (E.told report.old) (E.faults report.old)) (seen (E.told report.new) (E.faults report.new))) }
-    ensures front { OnErr result (GainsFront (concat (codes "wasm refused: B13 Invalid V" ∷ decimal rule ∷ codes " at section " ∷ decimal section
+    ensures front { OnErr result (GainsFront (concat (codes "wasm refused: B13 Invalid V" ∷ decimal (number rule) ∷ codes " at section " ∷ decimal (id section)
         ∷ codes " index " ∷ decimal index ∷ codes " instruction " ∷ decimal instruction ∷ codes "\n" ∷ []))
         (seen (E.told report.old) (E.faults report.old)) (seen (E.told report.new) (E.faults report.new))) }
 {
@@ -107,9 +109,9 @@ fn put_invalid<E: Sink>(
         report,
         &[
             "wasm refused: B13 Invalid V",
-            rule_digits.format(rule),
+            rule_digits.format(rule_number(rule)),
             " at section ",
-            section_digits.format(section),
+            section_digits.format(section_number(section)),
             " index ",
             index_digits.format(index),
             " instruction ",

@@ -3,6 +3,7 @@ ghost use Rattle.std.specs.Prelude.{◌≡◌};
 ghost use Rattle.bridge_cmd.specs.Code.{code_of};
 
 use wasm_tree::Row;
+use wasm_validate::{Rule, Section};
 
 /// Why the bytes are no WebAssembly module that the command takes.
 #[derive(Clone, Copy, Debug, PartialEq, Eq)]
@@ -12,10 +13,10 @@ pub enum WasmFault {
         row: Row,
         at: u64,
     },
-    /// The module isn't valid: the rule's number, the section, the item in it, and the instruction in its body.
+    /// The module isn't valid: the rule, the section, the item in it, and the instruction in its body.
     Invalid {
-        rule: u8,
-        section: u8,
+        rule: Rule,
+        section: Section,
         index: u64,
         instruction: u64,
     },

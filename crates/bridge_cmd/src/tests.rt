@@ -1,4 +1,2 @@
 mod calls;
-mod forms;
 mod modules;
-mod validity;

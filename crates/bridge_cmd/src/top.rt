@@ -40,10 +40,10 @@ pub fn bridge<F: Files, O: Sink, E: Sink>(
     ensures write_fault { result ≡ Status.WriteFault
         → Rose (O.faults out.old) (O.faults out.new) ⊎ Rose (E.faults report.old) (E.faults report.new) }
 
-    // Faulty words are told by the words alone.
+    // Faulty words are told by the words alone, unless a write fails or memory runs out.
     ensures usage { result ≡ Status.Usage → asked (map string_bytes words.now) ≡ None }
     ensures faulty_words { asked (map string_bytes words.now) ≡ None
-        → (result ≡ Status.Usage) ⊎ (result ≡ Status.WriteFault) }
+        → (result ≡ Status.Usage) ⊎ (result ≡ Status.WriteFault) ⊎ (result ≡ Status.Memory) }
 
     // These never come: no module is read that a command doesn't take, and no command reads a script yet.
     ensures no_outside { (number value : ℕ) → result ≢ Status.WasmRefused (WasmFault.Outside number value) }
@@ -75,7 +75,7 @@ pub fn bridge<F: Files, O: Sink, E: Sink>(
             Ok(()) => Status::Done,
             Err(_) => Status::WriteFault,
         },
-        Err(refusal) => match write_line(report, refusal) {
+        Err(refusal) => match write_line(report, &refusal) {
             Ok(()) => refusal.status(),
             Err(_) => Status::WriteFault,
         },

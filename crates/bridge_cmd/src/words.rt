@@ -1,52 +1,47 @@
-//! The words of the command line.
-ghost use Rattle.std.specs.Prelude.{◌≡◌, map, string_bytes, option_map};
+//! The commands that are built, as the words name them.
+ghost use Rattle.std.specs.Prelude.{◌≡◌, map, string_bytes};
+ghost use Rattle.bridge_words.specs.Answer.{Answers};
 ghost use Rattle.bridge_cmd.specs.Command as spec;
 ghost use Rattle.bridge_cmd.specs.Asking.{asked_by};
 
+use bridge_words::{Job, WordsFault, read_words};
+use std::alloc::Global;
+
 /// A command, with the name of its file.
-#[derive(Clone, Copy)]
-pub(crate) enum Command<'w> {
-    AsmToWasm(&'w str),
-    CheckWasm(&'w str),
+#[derive(Drop)]
+pub(crate) enum Command {
+    AsmToWasm(String),
+    CheckWasm(String),
 }
 
-impl<'w> Command<'w> {
+impl Command {
     /// The name of the file that is read.
-    pub(crate) fn file(self) -> &'w str
-        ensures { result.now ≡ spec.file_of (asked_by self.entry) }
+    pub(crate) fn file(&self) -> &str
+        ensures { result.now ≡ spec.file_of (asked_by self.now) }
     {
         match self {
-            Command::AsmToWasm(file) => file,
-            Command::CheckWasm(file) => file,
+            Command::AsmToWasm(file) | Command::CheckWasm(file) => file.as_str(),
         }
     }
 
-    fn named<'a>(name: &str, file: &'a str) -> Option<Command<'a>>
-        ensures { option_map asked_by result ≡ spec.command_named name.now file.now }
+    pub(crate) fn into_file(self) -> String
+        ensures { string_bytes result ≡ spec.file_of (asked_by self) }
     {
-        match name {
-            "asm2wasm" => Some(Command::AsmToWasm(file)),
-            "check-wasm" => Some(Command::CheckWasm(file)),
-            _ => None,
+        match self {
+            Command::AsmToWasm(file) | Command::CheckWasm(file) => file,
         }
     }
 }
 
-/// Whether a word begins like an option.
-fn begins_with_dash(word: &str) -> bool
-    ensures { result ≡ spec.begins_with_dash word.now }
+/// The command that the words name. Commands that aren't built are unknown.
+pub(crate) fn asked(alloc: Global, words: &[String]) -> Result<Command, WordsFault>
+    ensures { Answers asked_by (spec.asked (map string_bytes words.now)) result }
 {
-    matches!(word.as_bytes(), [b'-', ..])
-}
-
-/// What the words ask for: the program's name, a command and a file.
-pub(crate) fn asked(words: &[String]) -> Option<Command<'_>>
-    ensures { option_map asked_by result ≡ spec.asked (map string_bytes words.now) }
-{
-    match words {
-        [_, name, file] if !begins_with_dash(file.as_str()) => {
-            Command::named(name.as_str(), file.as_str())
+    match read_words(alloc, words)? {
+        Job::AsmToWasm(file, _) => Ok(Command::AsmToWasm(file)),
+        Job::CheckWasm(file) => Ok(Command::CheckWasm(file)),
+        Job::CheckAsm(_) | Job::RunAsm(..) | Job::RunWasm(..) | Job::Show(_) => {
+            Err(WordsFault::Usage)
         }
-        _ => None,
     }
 }

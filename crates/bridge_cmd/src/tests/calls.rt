@@ -4,6 +4,7 @@ use bridge_io::{MemFiles, MemSink};
 use std::alloc::{AllocError, Global};
 use std::test::Fail;
 use wasm_tree::Row;
+use wasm_validate::{Rule, Section};
 
 const ADD: &[u8] = b"function m(){\"use asm\";function f(a,b){a=a|0;b=b|0;return a+b|0;}return f;}";
 
@@ -23,14 +24,14 @@ const USAGE: &[u8] = b"usage: bridge COMMAND [--heap N] [--steps N] [FILE] [SCRI
 
 /// What a call of `bridge` leaves.
 #[derive(Drop)]
-pub(crate) struct Left {
-    pub(crate) status: Status,
-    pub(crate) out: MemSink,
-    pub(crate) report: MemSink,
+struct Left {
+    status: Status,
+    out: MemSink,
+    report: MemSink,
 }
 
 /// A module of no sections.
-pub(crate) const EMPTY_MODULE: &[u8] = &[0x00, 0x61, 0x73, 0x6d, 0x01, 0x00, 0x00, 0x00];
+const EMPTY_MODULE: &[u8] = &[0x00, 0x61, 0x73, 0x6d, 0x01, 0x00, 0x00, 0x00];
 
 /// Calls `bridge` with these words after the program's name.
 fn call(
@@ -129,8 +130,12 @@ fn a_failed_write_leaves_a_front(rt: HostRuntime) -> Result<(), Fail> {
 #[test]
 fn faulty_words_are_told_the_usage(rt: HostRuntime) -> Result<(), Fail> {
     let alloc = rt.alloc();
-    let faulty: [&[&str]; 5] = [
+    let faulty: [&[&str]; 9] = [
         &[],
+        &["asm2wasm", "--steps", "5", "m.js"],
+        &["asm2wasm", "--heap", "5", "m.js"],
+        &["asm2wasm", "--heap=4096", "--heap=4096", "m.js"],
+        &["run-asm", "m.js", "s.txt"],
         &["asm2wasm"],
         &["asm2wasm", "m.js", "x"],
         &["asm2wasm", "-m.js"],
@@ -159,7 +164,7 @@ fn a_file_is_missing_or_too_large(rt: HostRuntime) -> Result<(), Fail> {
 }
 
 /// Checks the module of these bytes.
-pub(crate) fn check(alloc: Global, bytes: &[u8]) -> Result<Left, AllocError> {
+fn check(alloc: Global, bytes: &[u8]) -> Result<Left, AllocError> {
     let mut files = MemFiles::new(alloc);
     files.add("m.wasm", bytes)?;
     call(alloc, &["check-wasm", "m.wasm"], &mut files, sink(alloc)?)
@@ -228,28 +233,6 @@ fn bytes_of_no_module_are_told_the_row_and_the_place(rt: HostRuntime) -> Result<
 }
 
 #[test]
-fn every_front_of_a_module_has_its_answer(rt: HostRuntime) -> Result<(), Fail> {
-    let alloc = rt.alloc();
-    for n in 0..ADD_MODULE.len() + 1 {
-        let left = check(alloc, &ADD_MODULE[..n])?;
-        let at = n as u64;
-        let status = match n {
-            8 | 17 | 39 => Status::Done,
-            21 | 28 => Status::WasmRefused(WasmFault::Binary {
-                row: Row::Counts,
-                at,
-            }),
-            _ => Status::WasmRefused(WasmFault::Binary {
-                row: Row::Truncated,
-                at,
-            }),
-        };
-        assert_eq!(rt; left.status, status, "at {n}");
-    }
-    Ok(())
-}
-
-#[test]
 fn an_invalid_module_is_told_its_rule(rt: HostRuntime) -> Result<(), Fail> {
     let alloc = rt.alloc();
     // A function of no type.
@@ -259,8 +242,8 @@ fn an_invalid_module_is_told_its_rule(rt: HostRuntime) -> Result<(), Fail> {
     ];
     let left = check(alloc, &bytes)?;
     let fault = WasmFault::Invalid {
-        rule: 1,
-        section: 3,
+        rule: Rule::NoType,
+        section: Section::Functions,
         index: 0,
         instruction: 0,
     };

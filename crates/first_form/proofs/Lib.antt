@@ -1,0 +1,11 @@
+pub mod FormBodies
+pub mod FormExamples
+pub mod FormLaws
+pub mod FormLists
+pub mod FormNames
+pub mod FormNumbers
+pub mod FormPieces
+pub mod FormRuns
+pub mod FormSections
+pub mod FormTexts
+pub mod LebSteps

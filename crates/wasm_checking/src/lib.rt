@@ -1,0 +1,17 @@
+//! From bytes to a valid module of WebAssembly and its counts, or why they are refused.
+#![tactic(auto)]
+
+mod checking;
+mod counting;
+mod fault;
+mod laws;
+mod names;
+
+pub use checking::check_bytes;
+pub use counting::{counts, counts_line};
+pub use fault::CheckFault;
+pub use laws::one_verdict;
+pub use names::{row_name, rule_number, section_number};
+
+#[cfg(test)]
+mod tests;
