@@ -4,13 +4,17 @@ use Rattle.std.specs.Prelude.{◌⊎◌, Option, Some, None, IsSome, IsSomeAnd, 
 use Rattle.bridge_io.specs.Outside.{Told, content_of}
 use Rattle.bridge_io.specs.declared.reading.GatherFault.{GatherFault}
 use Rattle.bridge_io.specs.declared.reading.GatherFault.TheVariants.{Read, Missing, TooLarge, Memory}
+use Rattle.bridge_cmd.specs.Asking.{asked_by}
 use Rattle.bridge_cmd.specs.Command.{Asked, check_wasm, file_of, asked}
 use Rattle.bridge_cmd.specs.Reason.{Reason, read_fault, missing, too_large, out_of_memory}
-use Rattle.bridge_cmd.specs.Refused.{status_of, reason_at, reason_of_check}
+use Rattle.bridge_cmd.specs.Refused.{status_of, reason_at, reason_of_check, reason_of_words}
 use Rattle.bridge_cmd.specs.Job.{Job, refused, written, file_limit, IsAbsent, Holds, IsTooLong, IsTextJob, other_text, translated, not_valid, counted, IsJob, no_command, no_file, long_file, of_text, IsAnswered, by_its_job, by_memory}
 use Rattle.bridge_cmd.specs.Outcome.{EndsAs, IsCutShort, by_a_read, by_want, MayReport, a_refusal, a_read_fault, no_memory}
 use Rattle.bridge_cmd.specs.declared.status.Status.{Status}
 use Rattle.bridge_cmd.specs.declared.status.Status.TheVariants.{Done, Usage}
+use Rattle.bridge_words.specs.Answer.{Answers}
+use Rattle.bridge_words.specs.declared.fault.WordsFault.{WordsFault}
+use Rattle.bridge_words.specs.declared.fault.WordsFault.TheVariants as words_faults
 use Rattle.wasm_checking.specs.declared.fault.CheckFault.{CheckFault}
 use Rattle.wasm_checking.specs.declared.fault.CheckFault.TheVariants as checks
 use Rattle.wasm_checking.specs.Verdicts.{IsRefused}
@@ -151,3 +155,22 @@ pub check_answer : (file bytes : List ℕ) (fault : CheckFault) → IsRefused by
 check_answer file bytes (checks.Binary row at) i = by_its_job (not_valid (checks.Binary row at) i (λ e. absurd cc))
 check_answer file bytes (checks.Invalid rule section index instruction) i = by_its_job (not_valid (checks.Invalid rule section index instruction) i (λ e. absurd cc))
 check_answer file bytes checks.Memory i = by_memory
+
+check_missing : (fault : CheckFault) (file : List ℕ) → reason_of_check fault ≡ missing file → ⊥
+check_missing (checks.Binary row at) file is = absurd cc
+check_missing (checks.Invalid rule section index instruction) file is = absurd cc
+check_missing checks.Memory file is = absurd cc
+
+job_missing : (a : Asked) (text : List ℕ) (reason : Reason) → IsTextJob a text (refused reason) → (file : List ℕ) → reason ≡ missing file → ⊥
+job_missing a text reason (other_text x) file is = absurd cc
+job_missing a text reason (not_valid fault i n) file is = check_missing fault file is
+
+-- no text makes a file missing
+pub not_missing : (a : Asked) (text : List ℕ) (reason : Reason) → IsAnswered a text reason → (file : List ℕ) → reason ≡ missing file → ⊥
+not_missing a text reason (by_its_job j) file is = job_missing a text reason j file is
+not_missing a text reason by_memory file is = absurd cc
+
+-- words that name no command may be told, and want of memory
+pub words_report : (words : List (List ℕ)) (told : Option Told) (fault : WordsFault) → Answers asked_by (asked words) (Err fault) → MayReport words told (reason_of_words fault)
+words_report words told words_faults.Usage is = a_refusal (no_command is)
+words_report words told words_faults.Memory is = no_memory

@@ -1,33 +1,38 @@
-use Rattle.std.proofs.Common.{sym, ap, Err}
+use Rattle.std.proofs.Common.{ap, Err}
 use Rattle.std.proofs.lemmas.Result.{IfOk-weaker, IfErr-weaker}
 use Rattle.bridge_cmd.specs.Asking.{asked_by}
-use Rattle.bridge_cmd.specs.Job.{no_command, of_text}
-use Rattle.bridge_cmd.specs.Outcome.{a_refusal}
-use Rattle.bridge_cmd.proofs.Jobs.{holds, no_output, not_gathered}
+use Rattle.bridge_cmd.specs.Job.{of_text}
+use Rattle.bridge_cmd.proofs.Jobs.{holds, no_output, not_gathered, not_missing, words_report}
 use Rattle.bridge_cmd.proofs.job.output_of.Goals as goal
 
-pub returns-in_default-clause-refused : goal.returns-in_default-clause-refused
-returns-in_default-clause-refused g c = a_refusal (no_command (sym c.in_default.ensures))
+pub returns-in-Err-clause-refused : goal.returns-in-Err-clause-refused
+returns-in-Err-clause-refused g c = rw c.of_words.ensures (words_report _ _ c.in-Err.fault c.in-Err.ensures)
 
-pub returns-in-Ok-clause-written : goal.returns-in-Ok-clause-written
-returns-in-Ok-clause-written g c =
+pub returns-in-Ok-gather-clause-written : goal.returns-in-Ok-gather-clause-written
+returns-in-Ok-gather-clause-written g c =
     IfOk-weaker c.text_output.result _ _
-    (λ output is. of_text (asked_by c.in-Some.command) c.as_slice.result.now (sym c.in-Some.ensures)
-    (holds _ _ _ (λ told e. rw (← c.file-file.ensures) (rw c.as_slice.ensures.value (c.in-Ok.ensures.content told e))))
-    (rw c.as_slice.ensures.len c.in-Ok.ensures.within) is)
+    (λ output is. of_text (asked_by c.in-Ok.command) c.as_slice.result.now c.in-Ok.ensures
+    (holds _ _ _ (λ told e. rw (← c.file.ensures) (rw c.as_slice.ensures.value (c.in-Ok-gather.ensures.content told e))))
+    (rw c.as_slice.ensures.len c.in-Ok-gather.ensures.within) is)
     c.text_output.ensures.written
 
-pub returns-in-Ok-clause-refused : goal.returns-in-Ok-clause-refused
-returns-in-Ok-clause-refused g c =
+pub returns-in-Ok-gather-clause-refused : goal.returns-in-Ok-gather-clause-refused
+returns-in-Ok-gather-clause-refused g c =
     IfErr-weaker c.text_output.result _ _
-    (λ refusal answered. no_output _ _ (asked_by c.in-Some.command) c.as_slice.result.now _ (sym c.in-Some.ensures)
-    (holds _ _ _ (λ told e. rw (← c.file-file.ensures) (rw c.as_slice.ensures.value (c.in-Ok.ensures.content told e))))
-    (rw c.as_slice.ensures.len c.in-Ok.ensures.within) answered)
+    (λ refusal answered. no_output _ _ (asked_by c.in-Ok.command) c.as_slice.result.now _ c.in-Ok.ensures
+    (holds _ _ _ (λ told e. rw (← c.file.ensures) (rw c.as_slice.ensures.value (c.in-Ok-gather.ensures.content told e))))
+    (rw c.as_slice.ensures.len c.in-Ok-gather.ensures.within) answered)
     c.text_output.ensures.refused
 
-pub returns-in-Err-clause-refused : goal.returns-in-Err-clause-refused
-returns-in-Err-clause-refused g c =
-    rw (c.refusal_of.ensures, c.file-file.ensures)
-    (not_gathered _ _ (asked_by c.in-Some.command) c.in-Err.fault (sym c.in-Some.ensures)
-    (λ told e is. rw (← c.file-file.ensures) (c.in-Err.ensures.absent told e (ap Err is)))
-    (λ told e is. rw (← c.file-file.ensures) (c.in-Err.ensures.long told e (ap Err is))))
+pub returns-in-Ok-gather-clause-missing : goal.returns-in-Ok-gather-clause-missing
+returns-in-Ok-gather-clause-missing g c =
+    IfErr-weaker c.text_output.result _ _
+    (λ refusal answered file is. absurd (not_missing _ _ _ answered file is))
+    c.text_output.ensures.refused
+
+pub returns-in-Err-gather-clause-refused : goal.returns-in-Err-gather-clause-refused
+returns-in-Err-gather-clause-refused g c =
+    rw (c.of_gathering.ensures, c.into_file.ensures)
+    (not_gathered _ _ (asked_by c.in-Ok.command) c.in-Err-gather.fault c.in-Ok.ensures
+    (λ told e is. rw (← c.file.ensures) (c.in-Err-gather.ensures.absent told e (ap Err is)))
+    (λ told e is. rw (← c.file.ensures) (c.in-Err-gather.ensures.long told e (ap Err is))))

@@ -18,7 +18,8 @@ returns-in-Ok-write_line-clause-usage g c =
 
 pub returns-in-Ok-write_line-clause-faulty_words : goal.returns-in-Ok-write_line-clause-faulty_words
 returns-in-Ok-write_line-clause-faulty_words g c =
-    λ none. inl (c.status.ensures ∙ ap status_of (c.in-Err.ensures.faulty_words none))
+    λ none. elim (c.in-Err.ensures.faulty_words none)
+    [ inl words ↦ inl (c.status.ensures ∙ ap status_of words) | inr memory ↦ inr (inr (c.status.ensures ∙ ap status_of memory)) ]
 
 pub returns-in-Ok-write_line-clause-exact : goal.returns-in-Ok-write_line-clause-exact
 returns-in-Ok-write_line-clause-exact g c =
