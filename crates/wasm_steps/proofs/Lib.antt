@@ -1,0 +1,4 @@
+pub mod Spending
+pub mod Opened
+pub mod Done
+pub mod Plains
