@@ -1,0 +1,5 @@
+mod Examples
+pub mod CutLemmas
+pub mod NumberLemmas
+pub mod ItemLemmas
+pub mod ReadingLemmas

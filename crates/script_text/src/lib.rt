@@ -1,0 +1,14 @@
+//! Scripts as texts: which values, heap bytes, calls and replies the lines of a script say.
+#![tactic(auto)]
+
+mod cuts;
+mod fault;
+mod items;
+mod names;
+mod numbers;
+mod reading;
+#[cfg(test)]
+mod tests;
+
+pub use fault::ScriptFault;
+pub use reading::read_script;
