@@ -1,2 +1,2 @@
 mod Causes
-mod Told
+pub mod Told

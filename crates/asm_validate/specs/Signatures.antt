@@ -1,0 +1,6 @@
+-- The signature that the code tells.
+use Rattle.asm_typing.specs.Scope as scopes
+use Rattle.asm_validate.specs.declared.checked.Signature.{Signature}
+
+abbrev pub signature_said : Signature → scopes.Signature
+signature_said s = record { params = s.params; result = s.result }

@@ -1,0 +1,29 @@
+// The three phases.
+
+ghost use Rattle.std.specs.Prelude.{◌≡◌, ◌<◌, ◌^◌, IfOk, MatchResult};
+ghost use Rattle.asm_tree.specs.Views.{module_view};
+ghost use Rattle.asm_typing.specs.Rows.{module_count};
+ghost use Rattle.asm_typing.specs.LimitRows.{foreign_calls};
+ghost use Rattle.asm_typing.specs.Refusal.{IsAccepted};
+ghost use Rattle.asm_limits.specs.Called.{foreign_list};
+ghost use Rattle.asm_validate.specs.Refusals.{IsRefused};
+
+use crate::refusal::AsmRefusal;
+use asm_judging::check_types;
+use asm_limits::{ForeignCall, check_limits};
+use asm_names::check_names;
+use asm_tree::Module;
+use sem_words::List;
+use std::alloc::Global;
+
+/// The calls of foreign functions of a module that is accepted.
+pub fn check_phases(alloc: Global, module: &Module) -> Result<List<ForeignCall>, AsmRefusal>
+    requires { module_count (module_view «module».now) < 2 ^ 64 }
+    ensures exactly { MatchResult result (λ _. IsAccepted (module_view «module».now)) (IsRefused (module_view «module».now)) }
+    ensures calls { IfOk result (λ calls. foreign_list calls ≡ foreign_calls (module_view «module».now)) }
+{
+    let environment = check_names(alloc, module)?;
+    check_types(alloc, &environment)?;
+    let calls = check_limits(alloc, &environment)?;
+    Ok(calls)
+}
