@@ -27,6 +27,20 @@ pub struct World<'a> {
 }
 
 impl World<'_> {
+    /// How many units are left.
+    pub fn units(&self) -> u64
+        ensures { result ≡ self.now.units }
+    {
+        self.units
+    }
+
+    /// Gives so many units in place of those that are left.
+    pub fn set_units(&mut self, units: u64)
+        ensures { (locals : Bindings) → place_of self.new locals ≡ record (place_of self.old locals) { units = units } }
+    {
+        self.units = units;
+    }
+
     /// Takes a unit. False, and nothing is changed, where none is left.
     pub fn pay(&mut self) -> bool
         ensures { (locals : Bindings) → paid_of result (place_of self.new locals) ≡ pay (place_of self.old locals) }
