@@ -1,0 +1,4 @@
+pub mod Beyond
+pub mod Targets
+pub mod Machines
+pub mod Reached
