@@ -1,3 +1,5 @@
 pub mod Earlier
 pub mod Hex
 pub mod Named
+pub mod Given
+pub mod Hosts

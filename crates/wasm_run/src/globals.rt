@@ -14,7 +14,8 @@ use sem_laws::GlobalLine;
 use wasm_lang::ImportKind;
 use wasm_tree::{Import, Module};
 
-fn is_named(import: &Import<'_>, name: &[u8]) -> bool
+/// Whether an import has this name.
+pub fn is_named(import: &Import<'_>, name: &[u8]) -> bool
     ensures { result ≡ bytes_eq (import_name (bytes_of import.now.«module») (bytes_of import.now.field)) name.now }
 {
     is_import_name(import.module.as_bytes(), import.field.as_bytes(), name)

@@ -2,11 +2,16 @@
 #![tactic(auto)]
 
 mod calls;
+mod first;
 mod fits;
 mod globals;
+mod instance;
 mod lines;
 mod names;
 mod ranges;
+mod session;
+mod words;
 mod writes;
 
 pub use fits::fits_wasm;
+pub use instance::Instance;

@@ -1,0 +1,89 @@
+-- Numbers of the script, and the names that they are given to.
+use Rattle.std.proofs.Common.{◌≡◌, ℕ, ◌+◌, ◌<◌, ◌≤◌, zero, suc, Bool, true, false, cond, List, [], ◌∷◌, Option, Some, None, length, map, drop, get_or, bytes_eq, refl, sym, ap, ◌∙◌, arith}
+use Rattle.std.proofs.lemmas.Bool.Decides.{nat_tests}
+use Rattle.std.specs.Prelude.{ℤ, ◌&&◌, nat_eq, nat_lt, slice_get, if◌then◌else◌}
+use Rattle.sem_words.specs.Lists.{text_bytes}
+use Rattle.sem_laws.specs.declared.script.GlobalLine.{GlobalLine}
+use Rattle.sem_laws.specs.Views.{global_of}
+use Rattle.wasm_lang.specs.declared.types.ValType.{ValType}
+use Rattle.wasm_lang.specs.Modules.{WasmModule}
+use Rattle.wasm_typing.specs.declared.profile.Beyond.{Beyond}
+use Rattle.wasm_typing.specs.declared.profile.Beyond.TheVariants.{ImportedTable, MutableImport, MemoryLarge}
+use Rattle.wasm_typing.specs.declared.profile.Outside.{Outside}
+use Rattle.wasm_typing.specs.ModuleRules.{is_table}
+use Rattle.wasm_typing.specs.Runnable.{is_mutable, first_import, pages, above, row_or, not_runnable}
+use Rattle.wasm_meaning.specs.Session.{word_for, words_for, given_value}
+use Rattle.wasm_segments.proofs.Segments.{next_of}
+
+equal_either_way : (x y : ℕ) → nat_eq x y ≡ nat_eq y x
+equal_either_way x y = grind (arith, nat_tests)
+
+pub same_either_way : (xs ys : List ℕ) → bytes_eq xs ys ≡ bytes_eq ys xs
+same_either_way [] [] = refl
+same_either_way [] (y ∷ ys) = refl
+same_either_way (x ∷ xs) [] = refl
+same_either_way (x ∷ xs) (y ∷ ys) = ap (λ b. b && bytes_eq xs ys) (equal_either_way x y) ∙ ap (λ b. nat_eq y x && b) (same_either_way xs ys)
+
+-- past the last number there are no words
+no_more : (ts : List ValType) → words_for ts [] ≡ []
+no_more [] = refl
+no_more (t ∷ ts) = refl
+
+pub no_words : (ts : List ValType) (zs : List ℤ) (k : ℕ) → slice_get zs k ≡ None → words_for (drop k ts) (drop k zs) ≡ []
+no_words [] [] zero h = refl
+no_words [] [] (suc k) h = refl
+no_words [] (z ∷ zs) zero h = refl
+no_words [] (z ∷ zs) (suc k) h = refl
+no_words (t ∷ ts) [] zero h = refl
+no_words (t ∷ ts) [] (suc k) h = no_more (drop k ts)
+no_words (t ∷ ts) (z ∷ zs) zero h = cc h
+no_words (t ∷ ts) (z ∷ zs) (suc k) h = no_words ts zs k h
+
+-- the word of the next number
+next_word : (ts : List ValType) (zs : List ℤ) (k : ℕ) (d : ValType) (z : ℤ) → k < length ts → slice_get zs k ≡ Some z
+    → words_for (drop k ts) (drop k zs) ≡ word_for (get_or ts k d) z ∷ words_for (drop (suc k) ts) (drop (suc k) zs)
+next_word [] zs k d z inside got = absurd (omega (arith, inside))
+next_word (t ∷ ts) [] k d z inside got = cc got
+next_word (t ∷ ts) (y ∷ zs) zero d z inside got = ap (λ x. word_for t x ∷ words_for ts zs) (cc got)
+next_word (t ∷ ts) (y ∷ zs) (suc k) d z inside got = next_word ts zs k d z (omega (arith, inside)) got
+
+pub one_word : (ts : List ValType) (zs : List ℤ) (k : ℕ) (d : ValType) (z : ℤ) → k < length ts → slice_get zs k ≡ Some z
+    → words_for (drop k ts) (drop k zs) ≡ word_for (get_or ts k d) z ∷ words_for (drop (k + 1) ts) (drop (k + 1) zs)
+one_word ts zs k d z inside got =
+    let e : suc k ≡ k + 1 = omega arith in
+    next_word ts zs k d z inside got ∙ ap (λ n. word_for (get_or ts k d) z ∷ words_for (drop n ts) (drop n zs)) e
+
+-- ---- values of imported globals
+
+pub given_here : (gs : List GlobalLine) (i : ℕ) (x : GlobalLine) (name : List ℕ) (t : ValType) → i < length gs → x ≡ get_or gs i x → bytes_eq name (text_bytes x.name) ≡ true
+    → given_value (map global_of (drop i gs)) name t ≡ word_for t x.value
+given_here gs i x name t inside is named =
+    ap (λ (l : List GlobalLine). given_value (map global_of l) name t) (next_of gs i x inside is)
+    ∙ ap (λ b. if b then word_for t x.value else given_value (map global_of (drop (i + 1) gs)) name t) (same_either_way (text_bytes x.name) name ∙ named)
+
+pub given_later : (gs : List GlobalLine) (i : ℕ) (x : GlobalLine) (name : List ℕ) (t : ValType) → i < length gs → x ≡ get_or gs i x → bytes_eq name (text_bytes x.name) ≡ false
+    → given_value (map global_of (drop i gs)) name t ≡ given_value (map global_of (drop (i + 1) gs)) name t
+given_later gs i x name t inside is other =
+    ap (λ (l : List GlobalLine). given_value (map global_of l) name t) (next_of gs i x inside is)
+    ∙ ap (λ b. if b then word_for t x.value else given_value (map global_of (drop (i + 1) gs)) name t) (same_either_way (text_bytes x.name) name ∙ other)
+
+-- ---- the pages of a module that can be run
+
+no_row : (row : Beyond) (value : Option ℕ) (other : Option Outside) → row_or row value other ≡ None → value ≡ None
+no_row row None other h = refl
+no_row row (Some n) other h = cc h
+
+no_other : (row : Beyond) (value : Option ℕ) (other : Option Outside) → row_or row value other ≡ None → other ≡ None
+no_other row None other h = h
+no_other row (Some n) other h = cc h
+
+not_more : (limit n : ℕ) (b : Bool) → nat_lt limit n ≡ b → ◌≡◌ {A = Option ℕ} (cond b (Some n) None) None → n ≤ limit
+not_more limit n true is h = cc h
+not_more limit n false is h = grind (arith, nat_tests)
+
+pub few_pages : (m : WasmModule) (n : ℕ) → not_runnable m ≡ None → pages m ≡ Some n → n ≤ 4096
+few_pages m n h is =
+    let large = row_or MemoryLarge (above 4096 (pages m)) None in
+    let table = no_other ImportedTable (first_import is_table 0 m.imports) (row_or MutableImport (first_import is_mutable 0 m.imports) large) h in
+    let few = no_row MemoryLarge (above 4096 (pages m)) None (no_other MutableImport (first_import is_mutable 0 m.imports) large table) in
+    not_more 4096 n (nat_lt 4096 n) refl (sym (ap (above 4096) is) ∙ few)

@@ -1,0 +1,13 @@
+use Rattle.std.proofs.Common.{◌≡◌, drop, map}
+use Rattle.sem_laws.specs.Views.{call_of}
+use Rattle.wasm_tree.specs.Views.{module_of}
+use Rattle.wasm_meaning.specs.Session.{calls_seen}
+use Rattle.wasm_frames.specs.Views.{machine_of}
+use Rattle.wasm_calls.specs.Functions.{AreFunctions}
+use Rattle.wasm_run.proofs.session.run_calls.Given as goal
+
+abbrev pub invariant-loop-call : goal.invariant-loop-call
+invariant-loop-call l =
+    AreFunctions (module_of l.«module») l.functions
+    → calls_seen (module_of l.«module») (map call_of l.calls) l.fn.steps (machine_of l.fn.machine).store
+    ≡ calls_seen (module_of l.«module») (map call_of (drop l.call-index l.calls)) l.left (machine_of l.machine).store

@@ -1,0 +1,25 @@
+-- What an instance stands for.
+use Rattle.std.specs.Prelude.{◌≡◌, List, [], None}
+use Rattle.sem_laws.specs.Script.{ScriptPlain}
+use Rattle.sem_laws.specs.Imports.{first_replies}
+use Rattle.wasm_lang.specs.Modules.{WasmModule}
+use Rattle.wasm_meaning.specs.Session.{first_store}
+use Rattle.wasm_fitting.specs.Fits.{misfit}
+use Rattle.wasm_soundness.specs.Laws.{IsWhole}
+use Rattle.wasm_operands.specs.declared.state.State.{State}
+use Rattle.wasm_operands.specs.Effects.{store_of}
+use Rattle.wasm_calls.specs.declared.functions.Function.{Function}
+use Rattle.wasm_calls.specs.Functions.{AreFunctions, AllHaveForms}
+
+-- a module and the script that it is run with
+pub record InstancePlain : Type 0 where
+  pub code : WasmModule
+  pub script : ScriptPlain
+
+-- the functions and the first state of both
+pub record IsInstance (m : WasmModule) (script : ScriptPlain) (functions : List Function) (state : State) : Type 0 where
+  pub whole : IsWhole m
+  pub fits : misfit m script ≡ None
+  pub each : AreFunctions m functions
+  pub forms : AllHaveForms functions
+  pub begins : store_of state [] (first_replies script) ≡ first_store m script

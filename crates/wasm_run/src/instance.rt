@@ -1,0 +1,130 @@
+// Instances of modules.
+
+ghost use Rattle.std.specs.Prelude.{◌≡◌, None, IfOk};
+ghost use Rattle.sem_laws.specs.Views.{observation_of, script_of};
+ghost use Rattle.wasm_lang.specs.Shape.{IsShaped};
+ghost use Rattle.wasm_typing.specs.Runnable.{not_runnable};
+ghost use Rattle.wasm_meaning.specs.Session.{wasm};
+ghost use Rattle.wasm_fitting.specs.Fits.{misfit};
+ghost use Rattle.wasm_soundness.specs.Laws.{IsWhole};
+ghost use Rattle.wasm_soundness.specs.Places.{GoesOn, place, seen};
+ghost use Rattle.wasm_frames.specs.Views.{machine_of};
+ghost use Rattle.wasm_run.specs.Runs.{seen_as};
+
+use crate::first::first_state;
+use crate::session::run_session;
+use sem_laws::{End, Observation, Script};
+use sem_replies::Replies;
+use sem_words::{List, Text};
+use std::alloc::{AllocError, Global};
+use std::marker::Model;
+use wasm_calls::Function;
+use wasm_fitting::fitting_laws;
+use wasm_frames::Machine;
+use wasm_functions::functions_of;
+use wasm_operands::{Operands, State};
+use wasm_soundness::laws::sessions_go_on;
+use wasm_tree::Module;
+use wasm_validate::Valid;
+
+/// A module that is ready to run with a script. It has all the memory that the session writes to.
+#[derive(Drop)]
+pub struct Instance<'a> {
+    alloc: Global,
+    module: &'a Module<'a>,
+    script: &'a Script,
+    functions: Vec<Function>,
+    state: State,
+}
+
+impl<'a> Model for Instance<'a> {
+    ghost use Rattle.sem_laws.specs.Views.{script_of};
+    ghost use Rattle.wasm_tree.specs.Views.{module_of};
+    ghost use Rattle.wasm_run.specs.Instances.{InstancePlain, IsInstance};
+
+    ghost Value = { InstancePlain };
+
+    ghost view = { λ i. record { code = module_of i.«module».now; script = script_of i.script.now } };
+
+    ghost invariant = { λ i. IsInstance (module_of i.«module».now) (script_of i.script.now) i.functions.items i.state };
+}
+
+// What is seen of a session that has this end, or none.
+fn observed(
+    alloc: Global,
+    machine: Machine<'_>,
+    end: Option<End>,
+) -> Result<Observation, AllocError>
+    ensures { IfOk result (λ o. observation_of o ≡ seen_as end (machine_of machine.entry).store) }
+{
+    let heap = match &end {
+        None => Text::from_bytes(alloc, &[])?,
+        Some(_) => Text::from_bytes(alloc, machine.state.memory.bytes())?,
+    };
+    Ok(Observation {
+        events: machine.events,
+        end,
+        heap,
+    })
+}
+
+impl<'a> Instance<'a> {
+    /// An instance of a module that can be run, with a script that fits it. It takes memory, table and globals, so that nothing that
+    /// the session stores can be refused later.
+    pub fn start(
+        alloc: Global,
+        valid: &'a Valid<'a>,
+        script: &'a Script,
+    ) -> Result<Instance<'a>, AllocError>
+        requires shaped { IsShaped valid.now }
+        requires whole { IsWhole valid.now }
+        requires runnable { not_runnable valid.now ≡ None }
+        requires fits { misfit valid.now (script_of script.now) ≡ None }
+        ensures code { IfOk result (λ i. i.code ≡ valid.now) }
+        ensures script { IfOk result (λ i. i.script ≡ script_of script.now) }
+    {
+        let module = valid.module();
+        let functions = functions_of(alloc, module)?;
+        let state = first_state(alloc, module, script)?;
+        Ok(Instance {
+            alloc,
+            module,
+            script,
+            functions,
+            state,
+        })
+    }
+
+    /// What is seen of the session after so many reductions: instantiation, the start function and the script's calls are run.
+    /// After any number of reductions the session has ended or has a next one.
+    pub fn run(self, steps: u64) -> Result<Observation, AllocError>
+        ensures meaning { IfOk result (λ o. observation_of o ≡ wasm self.entry.code self.entry.script steps) }
+        ensures seen { wasm self.entry.code self.entry.script steps ≡ seen (place self.entry.code self.entry.script steps) }
+        ensures goes_on { GoesOn self.entry.code (place self.entry.code self.entry.script steps) }
+    {
+        sessions_go_on();
+        fitting_laws();
+        let alloc = self.alloc;
+        let mut machine = Machine {
+            operands: Operands::new(alloc),
+            locals: Vec::new(alloc),
+            function: 0,
+            at: 0,
+            enclosing: Vec::new(alloc),
+            state: self.state,
+            events: List::new(alloc),
+            replies: Replies::of(self.script),
+        };
+        let functions = self.functions.as_slice();
+        let end = run_session(
+            alloc,
+            self.module,
+            functions,
+            self.script,
+            &mut machine,
+            steps,
+        )?;
+        let observation = observed(alloc, machine, end)?;
+        Ok(observation)
+    }
+}
