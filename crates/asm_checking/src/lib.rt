@@ -1,0 +1,17 @@
+//! From a text of asm.js to an accepted module and its counts, or to the one line that says why it is refused.
+#![tactic(auto)]
+
+mod checking;
+mod counting;
+mod fault;
+mod laws;
+mod names;
+
+pub use checking::check_text;
+pub use counting::{counts, counts_line};
+pub use fault::{AsmRow, CheckFault};
+pub use laws::one_verdict_of_a_text;
+pub use names::row_name;
+
+#[cfg(test)]
+mod tests;
