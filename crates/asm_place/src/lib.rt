@@ -11,8 +11,6 @@ mod imports;
 pub mod laws;
 mod locals;
 mod results;
-#[cfg(test)]
-mod tests;
 mod variables;
 mod world;
 
