@@ -1,176 +1,287 @@
--- Which job the words and the files have, and that it is one.
-use Rattle.std.proofs.Common.{◌≡◌, ℕ, ◌<◌, ◌≤◌, List, length, refl, sym, ap, subst, arith, ◌∙◌, inl, inr}
-use Rattle.std.specs.Prelude.{◌⊎◌, Option, Some, None, IsSome, IsSomeAnd, Err}
-use Rattle.bridge_io.specs.Outside.{Told, content_of}
-use Rattle.bridge_io.specs.declared.reading.GatherFault.{GatherFault}
-use Rattle.bridge_io.specs.declared.reading.GatherFault.TheVariants.{Read, Missing, TooLarge, Memory}
-use Rattle.bridge_cmd.specs.Asking.{asked_by}
-use Rattle.bridge_cmd.specs.Command.{Asked, check_wasm, file_of, asked}
-use Rattle.bridge_cmd.specs.Reason.{Reason, read_fault, missing, too_large, out_of_memory}
-use Rattle.bridge_cmd.specs.Refused.{status_of, reason_at, reason_of_check, reason_of_words}
-use Rattle.bridge_cmd.specs.Job.{Job, refused, written, file_limit, IsAbsent, Holds, IsTooLong, IsTextJob, other_text, translated, not_valid, counted, IsJob, no_command, no_file, long_file, of_text, IsAnswered, by_its_job, by_memory}
-use Rattle.bridge_cmd.specs.Outcome.{EndsAs, IsCutShort, by_a_read, by_want, MayReport, a_refusal, a_read_fault, no_memory}
-use Rattle.bridge_cmd.specs.declared.status.Status.{Status}
-use Rattle.bridge_cmd.specs.declared.status.Status.TheVariants.{Done, Usage}
+-- The words and told files have one job, as far as its end goes.
+use Rattle.std.proofs.Common.{◌≡◌, ◌≤◌, ℕ, Bool, true, false, List, length, refl, sym, ap, subst, ◌∙◌, inl, inr}
+use Rattle.std.specs.Prelude.{◌⊎◌, Option, Some, None, IsSome, Ok, Err}
+use Rattle.bridge_io.specs.Outside.{Told}
+use Rattle.asm_checking.specs.declared.fault.CheckFault.{CheckFault as TextFault}
+use Rattle.asm_checking.specs.declared.fault.CheckFault.TheVariants as text_faults
+use Rattle.asm_checking.specs.Verdicts as texts
+use Rattle.wasm_lang.specs.Modules.{WasmModule}
+use Rattle.wasm_lang.proofs.ReadingLawsOne.{one_module}
+use Rattle.wasm_typing.specs.declared.profile.Outside.{Outside}
+use Rattle.wasm_typing.specs.Runnable.{not_runnable}
+use Rattle.wasm_checking.specs.declared.fault.CheckFault.{CheckFault}
+use Rattle.wasm_checking.specs.declared.fault.CheckFault.TheVariants as checks
+use Rattle.wasm_checking.specs.Verdicts.{IsValidBytes, IsRefused}
+use Rattle.wasm_checking.proofs.Once.{not_both, one_fault}
+use Rattle.wasm_scripts.specs.Modules.{IsRunnable, IsOutside}
+use Rattle.wasm_scripts.specs.Runs.{script_for}
+use Rattle.wasm_scripts.specs.Modules.{IsNotRun}
+use Rattle.wasm_scripts.specs.Runs.{IsScriptRefusal}
+use Rattle.wasm_scripts.specs.declared.fault.RunFault.{RunFault}
+use Rattle.wasm_scripts.specs.declared.fault.RunFault.TheVariants as run_faults
+use Rattle.script_text.specs.declared.fault.ScriptFault.{ScriptFault}
+use Rattle.script_text.specs.declared.fault.ScriptFault.TheVariants as script_faults
 use Rattle.bridge_words.specs.Answer.{Answers}
 use Rattle.bridge_words.specs.declared.fault.WordsFault.{WordsFault}
 use Rattle.bridge_words.specs.declared.fault.WordsFault.TheVariants as words_faults
-use Rattle.wasm_checking.specs.declared.fault.CheckFault.{CheckFault}
-use Rattle.wasm_checking.specs.declared.fault.CheckFault.TheVariants as checks
-use Rattle.wasm_checking.specs.Verdicts.{IsRefused}
-use Rattle.wasm_checking.proofs.Once.{not_both as not_refused_too, one_fault}
+use Rattle.bridge_cmd.specs.declared.status.Status.TheVariants.{Usage}
+use Rattle.bridge_cmd.specs.Asking.{done_by, asked_by}
+use Rattle.bridge_cmd.specs.declared.words.Making.TheVariants.{AsmToWasm, CheckAsm, CheckWasm, Show}
+use Rattle.bridge_cmd.specs.declared.words.Action.{Action}
+use Rattle.bridge_cmd.specs.declared.words.Action.TheVariants.{Make, RunWasm}
+use Rattle.bridge_cmd.specs.Command.{Asked, run_wasm, asked, first_form, asm_js, web_assembly, begins_with_zero, language_of, read_as, file_of}
+use Rattle.bridge_cmd.specs.Answers.{IsAnswered, a_bar, want_of_memory, IsScriptAnswer, an_unfit_line, no_room, MayAnswer, a_refusal, a_read_fault, no_memory}
+use Rattle.bridge_cmd.specs.Job.{Job, refused, written, file_limit, Holds, IsFileJob, absent, long, held, IsBarred, other_text, not_accepted, not_valid, outside, IsMade, translated, text_counted, bytes_counted, printed, listed, IsPlayed, unfit, ran, IsModuleJob, barred, made, scripted, IsJob, no_command, commanded}
+use Rattle.bridge_cmd.specs.Outcome.{EndsAs, IsCutShort, by_a_read, by_want, MayReport}
+use Rattle.bridge_cmd.specs.Reason.{Reason, faulty_words, read_fault, missing, too_large}
+use Rattle.bridge_cmd.specs.Refused.{status_of, reason_of_check, reason_of_text, reason_of_run, reason_of_script, reason_of_words}
+use Rattle.bridge_cmd.proofs.Files.{own_status, OneEnd, one_file_end}
+use Rattle.asm_checking.proofs.Verdicts as laws
 
-pub holds : (told : Option Told) (file text : List ℕ) → ((map : Told) → told ≡ Some map → content_of map file ≡ Some text) → Holds told file text
-holds None file text content = tt
-holds (Some map) file text content = content map refl
+-- ---- why a module isn't taken
 
-pub is_absent : (told : Option Told) (file : List ℕ) → ((map : Told) → told ≡ Some map → content_of map file ≡ None) → IsAbsent told file
-is_absent None file content = tt
-is_absent (Some map) file content = content map refl
+same_module : (bytes : List ℕ) (m n : WasmModule) → IsValidBytes bytes m → IsValidBytes bytes n → n ≡ m
+same_module bytes m n x y = one_module bytes n m y.read.spelled x.read.spelled
 
-long_content : (found : Option (List ℕ)) (text : List ℕ) → found ≡ Some text → file_limit < length text → IsSomeAnd found (λ text. file_limit < length text)
-long_content found text is long = rw is long
+one_row : (bytes : List ℕ) (r q : Outside) → IsOutside bytes r → IsOutside bytes q → r ≡ q
+one_row bytes r q x y =
+    let same = same_module bytes x.«module» y.«module» x.taken y.taken in
+    let e : Some r ≡ Some q = sym x.meets ∙ sym (ap not_runnable same) ∙ y.meets in
+    cc
 
-pub is_too_long : (told : Option Told) (file : List ℕ)
-    → ((map : Told) → told ≡ Some map → (text : List ℕ) × (content_of map file ≡ Some text) × (file_limit < length text))
-    → IsTooLong told file
-is_too_long None file content = tt
-is_too_long (Some map) file content =
-    let there = content map refl in
-    long_content (content_of map file) there.0 there.1 there.2
+one_bar : (a : Asked) (bytes : List ℕ) (r q : Reason) → IsBarred a bytes r → IsBarred a bytes q → status_of r ≡ status_of q
+one_bar a bytes r q (other_text x t) (other_text y u) = refl
+one_bar a bytes r q (other_text x t) (not_accepted g y j) = absurd cc
+one_bar a bytes r q (other_text x t) (not_valid g y j n) = absurd cc
+one_bar a bytes r q (other_text x t) (outside row o) = absurd cc
+one_bar a bytes r q (not_accepted f x i) (other_text y u) = absurd cc
+one_bar a bytes r q (not_accepted f x i) (not_accepted g y j) = ap (λ e. status_of (reason_of_text e)) (laws.one_fault bytes f g i j)
+one_bar a bytes r q (not_accepted f x i) (not_valid g y j n) = absurd cc
+one_bar a bytes r q (not_accepted f x i) (outside row o) = absurd cc
+one_bar a bytes r q (not_valid f x i n) (other_text y u) = absurd cc
+one_bar a bytes r q (not_valid f x i n) (not_accepted g y j) = absurd cc
+one_bar a bytes r q (not_valid f x i n) (not_valid g y j n') = ap (λ e. status_of (reason_of_check e)) (one_fault bytes f g i j n n')
+one_bar a bytes r q (not_valid f x i n) (outside row o) = absurd (n (not_both bytes o.«module» f o.taken i))
+one_bar a bytes r q (outside row o) (other_text y u) = absurd cc
+one_bar a bytes r q (outside row o) (not_accepted g y j) = absurd cc
+one_bar a bytes r q (outside row o) (not_valid g y j n) = absurd (n (not_both bytes o.«module» g o.taken j))
+one_bar a bytes r q (outside row o) (outside row' o') =
+    let e = one_row bytes row row' o o' in rw e refl
 
-long_text : (found : Option (List ℕ)) → IsSomeAnd found (λ text. file_limit < length text) → (text : List ℕ) × (found ≡ Some text) × (file_limit < length text)
-long_text None there = absurd there
-long_text (Some text) there = (text, refl, there)
+-- ---- a module that isn't taken makes nothing
 
--- a text of a told file isn't both longer than the limit and within it
-not_both : (map : Told) (a b : Asked) (text : List ℕ) (words : List (List ℕ)) → asked words ≡ Some a → asked words ≡ Some b
-    → IsTooLong (Some map) (file_of a) → content_of map (file_of b) ≡ Some text → length text ≤ file_limit → ⊥
-not_both map a b text words named named' long held within =
-    let there = long_text (content_of map (file_of a)) long in
-    let found : content_of map (file_of a) ≡ Some there.0 = there.1 in
-    let same : there.0 ≡ text = cc in
-    let longer : file_limit < length text = subst (λ t. file_limit < length t) same there.2 in
-    omega arith
+bar_makes_nothing : (a : Asked) (bytes output : List ℕ) (r : Reason) → IsBarred a bytes r → IsMade a bytes output → ⊥
+bar_makes_nothing a bytes output r (other_text x t) (translated i) = t i.tree i.read
+bar_makes_nothing a bytes output r (other_text x t) (text_counted c) = cc
+bar_makes_nothing a bytes output r (other_text x t) (bytes_counted c) = cc
+bar_makes_nothing a bytes output r (other_text x t) (printed m y i o) = cc
+bar_makes_nothing a bytes output r (other_text x t) (listed m y i o) = cc
+bar_makes_nothing a bytes output r (not_accepted f x i) (translated j) = cc
+bar_makes_nothing a bytes output r (not_accepted f x i) (text_counted c) = laws.not_faulty bytes c.«module» f c.accepted i
+bar_makes_nothing a bytes output r (not_accepted f x i) (bytes_counted c) = cc
+bar_makes_nothing a bytes output r (not_accepted f x i) (printed m y j o) = laws.not_faulty bytes m f j i
+bar_makes_nothing a bytes output r (not_accepted f x i) (listed m y j o) = cc
+bar_makes_nothing a bytes output r (not_valid f x i n) (translated j) = cc
+bar_makes_nothing a bytes output r (not_valid f x i n) (text_counted c) = cc
+bar_makes_nothing a bytes output r (not_valid f x i n) (bytes_counted c) = n (not_both bytes c.«module» f c.taken i)
+bar_makes_nothing a bytes output r (not_valid f x i n) (printed m y j o) = cc
+bar_makes_nothing a bytes output r (not_valid f x i n) (listed m y j o) = n (not_both bytes m f j i)
+bar_makes_nothing a bytes output r (outside row o) i = elim i [ ]
 
-not_absent : (map : Told) (a b : Asked) (text : List ℕ) (words : List (List ℕ)) → asked words ≡ Some a → asked words ≡ Some b
-    → content_of map (file_of a) ≡ None → content_of map (file_of b) ≡ Some text → ⊥
-not_absent map a b text words named named' absent held = cc
+bar_runs_nothing : (file script bytes : List ℕ) (steps : ℕ) (m : WasmModule) (r : Reason) → IsBarred (run_wasm file script steps) bytes r → IsRunnable bytes m → ⊥
+bar_runs_nothing file script bytes steps m r (other_text x t) i = cc
+bar_runs_nothing file script bytes steps m r (not_accepted f x j) i = cc
+bar_runs_nothing file script bytes steps m r (not_valid f x j n) i = n (not_both bytes m f i.taken j)
+bar_runs_nothing file script bytes steps m r (outside row o) i =
+    let same = same_module bytes m o.«module» i.taken o.taken in
+    let e : Some row ≡ None = sym o.meets ∙ ap not_runnable same ∙ i.runs in
+    cc
 
-not_absent_long : (map : Told) (a b : Asked) (words : List (List ℕ)) → asked words ≡ Some a → asked words ≡ Some b
-    → content_of map (file_of a) ≡ None → IsTooLong (Some map) (file_of b) → ⊥
-not_absent_long map a b words named named' absent long =
-    let there = long_text (content_of map (file_of b)) long in
-    not_absent map a b there.0 words named named' absent there.1
+-- ---- runs
 
-abbrev own_status : Job → Status
-own_status (refused reason) = status_of reason
-own_status (written output) = Done
+one_played_end : (m : WasmModule) (steps : ℕ) (script : List ℕ) → OneEnd (IsPlayed m steps script)
+one_played_end m steps script j k (unfit line x) (unfit line' y) =
+    let e : Err line ≡ Err line' = sym x ∙ y in
+    let f : line ≡ line' = cc in
+    rw f refl
+one_played_end m steps script j k (unfit line x) (ran p) = let e = sym x ∙ p.said in absurd cc
+one_played_end m steps script j k (ran p) (unfit line x) = let e = sym x ∙ p.said in absurd cc
+one_played_end m steps script j k (ran p) (ran q) = refl
 
--- a command makes one thing of a text, as far as its end goes
-text_ends : (a : Asked) (text : List ℕ) (j k : Job) → IsTextJob a text j → IsTextJob a text k → EndsAs k (own_status j)
-text_ends a text j k (other_text x) (other_text y) = refl
-text_ends a text j k (other_text x) (translated i) = absurd (x i.tree i.read)
-text_ends a text j k (translated i) (other_text x) = absurd (x i.tree i.read)
-text_ends a text j k (translated i) (translated i') = refl
-text_ends a text j k (not_valid f i n) (not_valid g i' n') = ap (λ x. status_of (reason_of_check x)) (one_fault text f g i i' n n')
-text_ends a text j k (not_valid f i n) (counted c) = absurd (n (not_refused_too text c.«module» f c.taken i))
-text_ends a text j k (counted c) (not_valid f i n) = absurd (n (not_refused_too text c.«module» f c.taken i))
-text_ends a text j k (counted c) (counted c') = refl
+-- ---- the whole
 
--- .. of a told file's text, under one command
-told_ends : (map : Told) (words : List (List ℕ)) (a b : Asked) (text text' : List ℕ) (j k : Job) → asked words ≡ Some a → asked words ≡ Some b
-    → content_of map (file_of a) ≡ Some text → content_of map (file_of b) ≡ Some text'
-    → IsTextJob a text j → IsTextJob b text' k → EndsAs k (own_status j)
-told_ends map words a b text text' j k named named' held held' is of =
-    let same_command : b ≡ a = cc in
-    let same_text : text' ≡ text = cc in
-    text_ends a text j k is (subst (λ t. IsTextJob a t k) same_text (subst (λ x. IsTextJob x text' k) same_command of))
+one_module_end : (map : Told) (a : Asked) (bytes : List ℕ) → OneEnd (IsModuleJob (Some map) a bytes)
+one_module_end map a bytes j k (barred {reason = r} x) (barred {reason = q} y) = one_bar a bytes r q x y
+one_module_end map a bytes j k (barred {reason = r} x) (made {output = output} y) = absurd (bar_makes_nothing a bytes output r x y)
+one_module_end map a bytes j k (barred {reason = r} x) (scripted {file = file} {script = script} {steps = steps} m i of) = absurd (bar_runs_nothing file script bytes steps m r x i)
+one_module_end map a bytes j k (made {output = output} x) (barred {reason = r} y) = absurd (bar_makes_nothing a bytes output r y x)
+one_module_end map a bytes j k (made x) (made y) = refl
+one_module_end map a bytes j k (made x) (scripted m i of) = elim x [ ]
+one_module_end map a bytes j k (scripted m i of) (made y) = elim y [ ]
+one_module_end map a bytes j k (scripted {file = file} {script = script} {steps = steps} m i of) (barred {reason = r} y) = absurd (bar_runs_nothing file script bytes steps m r y i)
+one_module_end map a bytes j k (scripted {script = script} {steps = steps} m i of) (scripted m' i' of') =
+    let same = same_module bytes m m' i.taken i'.taken in
+    one_file_end map true script (IsPlayed m steps) (one_played_end m steps) j k of (subst (λ n. IsFileJob (Some map) true script (IsPlayed n steps) k) same of')
 
 -- the words and told files have one job, as far as its end goes
-pub one_end : (words : List (List ℕ)) (told : Option Told) (j k : Job) → IsSome told → IsJob words told j → IsJob words told k → EndsAs k (own_status j)
-one_end words None j k some x y = absurd cc
-one_end words (Some map) j k some (no_command e) (no_command e') = refl
-one_end words (Some map) j k some (no_command e) (no_file a n x) = absurd cc
-one_end words (Some map) j k some (no_command e) (long_file a n l) = absurd cc
-one_end words (Some map) j k some (no_command e) (of_text a t n h w i) = absurd cc
-one_end words (Some map) j k some (no_file a n x) (no_command e) = absurd cc
-one_end words (Some map) j k some (no_file a n x) (no_file b m y) = refl
-one_end words (Some map) j k some (no_file a n x) (long_file b m l) = absurd (not_absent_long map a b words n m x l)
-one_end words (Some map) j k some (no_file a n x) (of_text b t m h w i) = absurd (not_absent map a b t words n m x h)
-one_end words (Some map) j k some (long_file a n l) (no_command e) = absurd cc
-one_end words (Some map) j k some (long_file a n l) (no_file b m x) = absurd (not_absent_long map b a words m n x l)
-one_end words (Some map) j k some (long_file a n l) (long_file b m l') = refl
-one_end words (Some map) j k some (long_file a n l) (of_text b t m h w i) = absurd (not_both map a b t words n m l h w)
-one_end words (Some map) j k some (of_text a t n h w i) (no_command e) = absurd cc
-one_end words (Some map) j k some (of_text a t n h w i) (no_file b m x) = absurd (not_absent map b a t words m n x h)
-one_end words (Some map) j k some (of_text a t n h w i) (long_file b m l) = absurd (not_both map b a t words m n l h w)
-one_end words (Some map) j k some (of_text a t n h w i) (of_text b t' m h' w' i') = told_ends map words a b t t' j k n m h h' i i'
+pub one_end : (words : List (List ℕ)) (told : Option Told) → IsSome told → OneEnd (IsJob words told)
+one_end words None some j k x y = absurd cc
+one_end words (Some map) some j k (no_command e) (no_command e') = refl
+one_end words (Some map) some j k (no_command e) (commanded a n x) = absurd cc
+one_end words (Some map) some j k (commanded a n x) (no_command e) = absurd cc
+one_end words (Some map) some j k (commanded a n x) (commanded b n' y) =
+    let same : b ≡ a = cc in
+    one_file_end map false (file_of a) (IsModuleJob (Some map) a) (one_module_end map a) j k x
+    (subst (λ c. IsFileJob (Some map) false (file_of c) (IsModuleJob (Some map) c) k) same y)
 
 -- what is reported is the job's refusal, or the end is cut short
 pub reported_exactly : (words : List (List ℕ)) (told : Option Told) (reason : Reason) → MayReport words told reason
     → (job : Job) → IsSome told → IsJob words told job → EndsAs job (status_of reason) ⊎ IsCutShort (status_of reason)
-reported_exactly words told reason (a_refusal is) job some of = inl (one_end words told (refused reason) job some is of)
+reported_exactly words told reason (a_refusal is) job some of = inl (one_end words told some (refused reason) job is of)
 reported_exactly words told reason a_read_fault job some of = inr by_a_read
 reported_exactly words told reason no_memory job some of = inr by_want
 
-check_usage : (fault : CheckFault) → status_of (reason_of_check fault) ≡ Usage → ⊥
-check_usage (checks.Binary row at) is = absurd cc
-check_usage (checks.Invalid rule section index instruction) is = absurd cc
-check_usage checks.Memory is = absurd cc
+-- ---- what is answered
 
-text_usage : (a : Asked) (text : List ℕ) (reason : Reason) → IsTextJob a text (refused reason) → status_of reason ≡ Usage → ⊥
-text_usage a text reason (other_text x) is = absurd cc
-text_usage a text reason (not_valid fault i n) is = check_usage fault is
+abbrev pub tells_files : Reason → Bool
+tells_files read_fault = true
+tells_files (missing b file) = true
+tells_files (too_large b file) = true
+tells_files _ = false
 
-usage_job : (words : List (List ℕ)) (told : Option Told) (reason : Reason) → IsJob words told (refused reason) → status_of reason ≡ Usage → asked words ≡ None
-usage_job words told reason (no_command e) is = e
-usage_job words told reason (no_file a n x) is = absurd cc
-usage_job words told reason (long_file a n l) is = absurd cc
-usage_job words told reason (of_text a t n h w i) is = absurd (text_usage a t reason i is)
+-- why a module isn't taken doesn't speak of files
+text_quiet : (fault : TextFault) → tells_files (reason_of_text fault) ≡ false
+text_quiet (text_faults.Refused row at) = refl
+text_quiet text_faults.Memory = refl
 
-pub usage_words : (words : List (List ℕ)) (told : Option Told) (reason : Reason) → MayReport words told reason → status_of reason ≡ Usage → asked words ≡ None
-usage_words words told reason (a_refusal job) is = usage_job words told reason job is
-usage_words words told reason a_read_fault is = absurd cc
-usage_words words told reason no_memory is = absurd cc
+check_quiet : (fault : CheckFault) → tells_files (reason_of_check fault) ≡ false
+check_quiet (checks.Binary row at) = refl
+check_quiet (checks.Invalid rule section index instruction) = refl
+check_quiet checks.Memory = refl
 
--- no output of a text that was read is its refusal, or want of memory
-pub no_output : (words : List (List ℕ)) (told : Option Told) (a : Asked) (text : List ℕ) (reason : Reason)
-    → asked words ≡ Some a → Holds told (file_of a) text → length text ≤ file_limit → IsAnswered a text reason → MayReport words told reason
-no_output words told a text reason named held within (by_its_job i) = a_refusal (of_text a text named held within i)
-no_output words told a text reason named held within by_memory = no_memory
+pub answered_quietly : (a : Asked) (bytes : List ℕ) (r : Reason) → IsAnswered a bytes r → tells_files r ≡ false
+answered_quietly a bytes r (a_bar (other_text x t)) = refl
+answered_quietly a bytes r (a_bar (not_accepted f x i)) = text_quiet f
+answered_quietly a bytes r (a_bar (not_valid f x i n)) = check_quiet f
+answered_quietly a bytes r (a_bar (outside row o)) = refl
+answered_quietly a bytes r want_of_memory = refl
 
--- why a named file wasn't gathered may be reported
-pub not_gathered : (words : List (List ℕ)) (told : Option Told) (a : Asked) (fault : GatherFault) → asked words ≡ Some a
-    → ((map : Told) → told ≡ Some map → fault ≡ Missing → content_of map (file_of a) ≡ None)
-    → ((map : Told) → told ≡ Some map → fault ≡ TooLarge → (text : List ℕ) × (content_of map (file_of a) ≡ Some text) × (file_limit < length text))
-    → MayReport words told (reason_at fault (file_of a))
-not_gathered words told a Read named absent long = a_read_fault
-not_gathered words told a Missing named absent long = a_refusal (no_file a named (is_absent told (file_of a) (λ map e. absent map e refl)))
-not_gathered words told a TooLarge named absent long = a_refusal (long_file a named (is_too_long told (file_of a) (λ map e. long map e refl)))
-not_gathered words told a Memory named absent long = no_memory
+pub module_answered : (told : Option Told) (a : Asked) (bytes : List ℕ) (r : Reason) → IsAnswered a bytes r → MayAnswer (IsModuleJob told a bytes) r
+module_answered told a bytes r (a_bar x) = a_refusal (barred x)
+module_answered told a bytes r want_of_memory = no_memory
 
--- what is told of bytes that were checked
-pub check_answer : (file bytes : List ℕ) (fault : CheckFault) → IsRefused bytes fault → IsAnswered (check_wasm file) bytes (reason_of_check fault)
-check_answer file bytes (checks.Binary row at) i = by_its_job (not_valid (checks.Binary row at) i (λ e. absurd cc))
-check_answer file bytes (checks.Invalid rule section index instruction) i = by_its_job (not_valid (checks.Invalid rule section index instruction) i (λ e. absurd cc))
-check_answer file bytes checks.Memory i = by_memory
+-- which language is read
+pub reads_text : (bytes : List ℕ) → begins_with_zero bytes ≡ false → language_of bytes ≡ asm_js
+reads_text bytes is = rw is refl
 
-check_missing : (fault : CheckFault) (file : List ℕ) → reason_of_check fault ≡ missing file → ⊥
-check_missing (checks.Binary row at) file is = absurd cc
-check_missing (checks.Invalid rule section index instruction) file is = absurd cc
-check_missing checks.Memory file is = absurd cc
+pub reads_module : (bytes : List ℕ) → begins_with_zero bytes ≡ true → language_of bytes ≡ web_assembly
+reads_module bytes is = rw is refl
 
-job_missing : (a : Asked) (text : List ℕ) (reason : Reason) → IsTextJob a text (refused reason) → (file : List ℕ) → reason ≡ missing file → ⊥
-job_missing a text reason (other_text x) file is = absurd cc
-job_missing a text reason (not_valid fault i n) file is = check_missing fault file is
+-- bytes that were checked
+pub text_answer : (a : Asked) (bytes : List ℕ) (fault : TextFault) → read_as a bytes ≡ asm_js → texts.IsRefusal bytes fault → IsAnswered a bytes (reason_of_text fault)
+text_answer a bytes (text_faults.Refused row at) x i = a_bar (not_accepted (text_faults.Refused row at) x (i, λ e. absurd cc))
+text_answer a bytes text_faults.Memory x i = want_of_memory
 
--- no text makes a file missing
-pub not_missing : (a : Asked) (text : List ℕ) (reason : Reason) → IsAnswered a text reason → (file : List ℕ) → reason ≡ missing file → ⊥
-not_missing a text reason (by_its_job j) file is = job_missing a text reason j file is
-not_missing a text reason by_memory file is = absurd cc
+pub check_answer : (a : Asked) (bytes : List ℕ) (fault : CheckFault) → read_as a bytes ≡ web_assembly → IsRefused bytes fault → IsAnswered a bytes (reason_of_check fault)
+check_answer a bytes (checks.Binary row at) x i = a_bar (not_valid (checks.Binary row at) x i (λ e. absurd cc))
+check_answer a bytes (checks.Invalid rule section index instruction) x i = a_bar (not_valid (checks.Invalid rule section index instruction) x i (λ e. absurd cc))
+check_answer a bytes checks.Memory x i = want_of_memory
+
+pub run_answer : (file script bytes : List ℕ) (steps : ℕ) (fault : RunFault) → IsNotRun bytes fault → IsAnswered (run_wasm file script steps) bytes (reason_of_run fault)
+run_answer file script bytes steps (run_faults.Check fault) i = check_answer (run_wasm file script steps) bytes fault refl i
+run_answer file script bytes steps (run_faults.Outside row) i = a_bar (outside row i)
+
+pub script_answer : (m : WasmModule) (steps : ℕ) (script : List ℕ) (fault : ScriptFault) → IsScriptRefusal m script fault → IsScriptAnswer m steps script (reason_of_script fault)
+script_answer m steps script (script_faults.Refused line) i = an_unfit_line (unfit line i)
+script_answer m steps script script_faults.Memory i = no_room
+
+pub script_quiet : (m : WasmModule) (steps : ℕ) (script : List ℕ) (r : Reason) → IsScriptAnswer m steps script r → tells_files r ≡ false
+script_quiet m steps script r (an_unfit_line (unfit line x)) = refl
+script_quiet m steps script r no_room = refl
+
+pub script_may : (m : WasmModule) (steps : ℕ) (script : List ℕ) (r : Reason) → IsScriptAnswer m steps script r → MayAnswer (IsPlayed m steps script) r
+script_may m steps script r (an_unfit_line x) = a_refusal x
+script_may m steps script r no_room = no_memory
+
+-- a reason that doesn't speak of files is none of theirs
+pub quiet_read_fault : (r : Reason) → tells_files r ≡ false → r ≡ read_fault → ⊥
+quiet_read_fault r quiet is = let e : true ≡ false = sym (ap tells_files is) ∙ quiet in cc
+
+pub quiet_missing : (r : Reason) (b : Bool) (file : List ℕ) → tells_files r ≡ false → r ≡ missing b file → ⊥
+quiet_missing r b file quiet is = let e : true ≡ false = sym (ap tells_files is) ∙ quiet in cc
+
+pub quiet_too_large : (r : Reason) (b : Bool) (file : List ℕ) → tells_files r ≡ false → r ≡ too_large b file → ⊥
+quiet_too_large r b file quiet is = let e : true ≡ false = sym (ap tells_files is) ∙ quiet in cc
+
+-- what may be answered of a script's bytes may be of its file, and of the module's job
+pub of_held : (told : Option Told) (b : Bool) (file bytes : List ℕ) (OfBytes : List ℕ → Job → Type 0) (r : Reason)
+    → Holds told file bytes → length bytes ≤ file_limit → MayAnswer (OfBytes bytes) r → MayAnswer (IsFileJob told b file OfBytes) r
+of_held told b file bytes OfBytes r h w (a_refusal x) = a_refusal (held bytes h w x)
+of_held told b file bytes OfBytes r h w a_read_fault = a_read_fault
+of_held told b file bytes OfBytes r h w no_memory = no_memory
+
+pub of_script_file : (told : Option Told) (file script bytes : List ℕ) (steps : ℕ) (m : WasmModule) (r : Reason) → IsRunnable bytes m
+    → MayAnswer (IsFileJob told true script (IsPlayed m steps)) r → MayAnswer (IsModuleJob told (run_wasm file script steps) bytes) r
+of_script_file told file script bytes steps m r i (a_refusal x) = a_refusal (scripted m i x)
+of_script_file told file script bytes steps m r i a_read_fault = a_read_fault
+of_script_file told file script bytes steps m r i no_memory = no_memory
+
+pub of_command : (words : List (List ℕ)) (told : Option Told) (a : Asked) (r : Reason) → asked words ≡ Some a
+    → MayAnswer (IsFileJob told false (file_of a) (IsModuleJob told a)) r → MayReport words told r
+of_command words told a r n (a_refusal x) = a_refusal (commanded a n x)
+of_command words told a r n a_read_fault = a_read_fault
+of_command words told a r n no_memory = no_memory
+
+-- an action's file is that of its module
+pub file_done : (action : Action) (file : List ℕ) → file_of (done_by action file) ≡ file
+file_done (Make AsmToWasm) file = refl
+file_done (Make CheckAsm) file = refl
+file_done (Make CheckWasm) file = refl
+file_done (Make Show) file = refl
+file_done (RunWasm script steps) file = refl
 
 -- words that name no command may be told, and want of memory
 pub words_report : (words : List (List ℕ)) (told : Option Told) (fault : WordsFault) → Answers asked_by (asked words) (Err fault) → MayReport words told (reason_of_words fault)
 words_report words told words_faults.Usage is = a_refusal (no_command is)
 words_report words told words_faults.Memory is = no_memory
+
+-- ---- the usage is told of words alone
+
+text_usage : (fault : TextFault) → status_of (reason_of_text fault) ≡ Usage → ⊥
+text_usage (text_faults.Refused row at) is = cc
+text_usage text_faults.Memory is = cc
+
+check_usage : (fault : CheckFault) → status_of (reason_of_check fault) ≡ Usage → ⊥
+check_usage (checks.Binary row at) is = cc
+check_usage (checks.Invalid rule section index instruction) is = cc
+check_usage checks.Memory is = cc
+
+abbrev NoUsage : (Job → Type 0) → Type 0
+NoUsage Is = (r : Reason) → Is (refused r) → status_of r ≡ Usage → ⊥
+
+bar_usage : (a : Asked) (bytes : List ℕ) (r : Reason) → IsBarred a bytes r → status_of r ≡ Usage → ⊥
+bar_usage a bytes r (other_text x t) is = cc
+bar_usage a bytes r (not_accepted f x i) is = text_usage f is
+bar_usage a bytes r (not_valid f x i n) is = check_usage f is
+bar_usage a bytes r (outside row o) is = cc
+
+file_usage : (told : Option Told) (b : Bool) (file : List ℕ) (OfBytes : List ℕ → Job → Type 0) → ((bytes : List ℕ) → NoUsage (OfBytes bytes)) → NoUsage (IsFileJob told b file OfBytes)
+file_usage told b file OfBytes never r (absent x) is = cc
+file_usage told b file OfBytes never r (long x) is = cc
+file_usage told b file OfBytes never r (held bytes h w x) is = never bytes r x is
+
+played_usage : (m : WasmModule) (steps : ℕ) (script : List ℕ) → NoUsage (IsPlayed m steps script)
+played_usage m steps script r (unfit line x) is = cc
+
+module_usage : (told : Option Told) (a : Asked) (bytes : List ℕ) → NoUsage (IsModuleJob told a bytes)
+module_usage told a bytes r (barred x) is = bar_usage a bytes r x is
+module_usage told a bytes r (scripted {script = script} {steps = steps} m i x) is = file_usage told true script (IsPlayed m steps) (played_usage m steps) r x is
+
+job_usage : (words : List (List ℕ)) (told : Option Told) (r : Reason) → IsJob words told (refused r) → status_of r ≡ Usage → asked words ≡ None
+job_usage words told r (no_command e) is = e
+job_usage words told r (commanded a n x) is = absurd (file_usage told false (file_of a) (IsModuleJob told a) (module_usage told a) r x is)
+
+pub usage_words : (words : List (List ℕ)) (told : Option Told) (reason : Reason) → MayReport words told reason → status_of reason ≡ Usage → asked words ≡ None
+usage_words words told reason (a_refusal job) is = job_usage words told reason job is
+usage_words words told reason a_read_fault is = absurd cc
+usage_words words told reason no_memory is = absurd cc

@@ -1,3 +1,4 @@
+pub mod Files
 pub mod Gaining
 pub mod Jobs
 pub mod Pieces

@@ -1,9 +1,21 @@
 -- What the code's commands ask for.
-use Rattle.std.specs.Prelude.{string_bytes}
-use Rattle.bridge_cmd.specs.Command.{Asked, asm_to_wasm, check_wasm}
+use Rattle.std.specs.Prelude.{ℕ, List, string_bytes}
+use Rattle.bridge_cmd.specs.Command.{Asked, asm_to_wasm, check_asm, check_wasm, show, run_wasm}
+use Rattle.bridge_cmd.specs.declared.words.Making.{Making}
+use Rattle.bridge_cmd.specs.declared.words.Making.TheVariants.{AsmToWasm, CheckAsm, CheckWasm, Show}
+use Rattle.bridge_cmd.specs.declared.words.Action.{Action}
+use Rattle.bridge_cmd.specs.declared.words.Action.TheVariants.{Make, RunWasm}
 use Rattle.bridge_cmd.specs.declared.words.Command.{Command}
-use Rattle.bridge_cmd.specs.declared.words.Command.TheVariants.{AsmToWasm, CheckWasm}
+
+abbrev pub made_by : Making → List ℕ → Asked
+made_by AsmToWasm file = asm_to_wasm file
+made_by CheckAsm file = check_asm file
+made_by CheckWasm file = check_wasm file
+made_by Show file = show file
+
+abbrev pub done_by : Action → List ℕ → Asked
+done_by (Make making) file = made_by making file
+done_by (RunWasm script steps) file = run_wasm file (string_bytes script) steps
 
 abbrev pub asked_by : Command → Asked
-asked_by (AsmToWasm file) = asm_to_wasm (string_bytes file)
-asked_by (CheckWasm file) = check_wasm (string_bytes file)
+asked_by command = done_by command.action (string_bytes command.file)

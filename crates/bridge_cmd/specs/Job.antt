@@ -1,17 +1,29 @@
--- What the words and the files ask for: the first refusal in the order words, file, text; or the output.
-use Rattle.std.specs.Prelude.{◌≡◌, ◌≢◌, ◌<◌, ◌≤◌, ℕ, List, Option, Some, None, IfSome, IsSomeAnd, length}
+-- What the words and the files ask for: the first refusal in the order words, module read, module checked, script read, script
+-- checked; or the output.
+use Rattle.std.specs.Prelude.{◌≡◌, ◌≢◌, ◌<◌, ◌≤◌, ℕ, Bool, true, false, List, Option, Some, None, Ok, Err, IfSome, IsSomeAnd, length}
 use Rattle.bridge_io.specs.Outside.{Told, content_of}
 use Rattle.first_form.specs.Translation.{Translates}
+use Rattle.asm_lang.specs.Modules.{Module}
+use Rattle.asm_lang.specs.Printing.{canonical_text}
+use Rattle.asm_checking.specs.declared.fault.CheckFault.{CheckFault as TextFault}
+use Rattle.asm_checking.specs.Verdicts as texts
+use Rattle.wasm_lang.specs.Modules.{WasmModule}
+use Rattle.wasm_typing.specs.declared.profile.Outside.{Outside}
 use Rattle.wasm_checking.specs.declared.fault.CheckFault.{CheckFault}
 use Rattle.wasm_checking.specs.declared.fault.CheckFault.TheVariants.{Memory}
-use Rattle.wasm_checking.specs.Verdicts.{IsCounted, IsRefused}
-use Rattle.bridge_cmd.specs.Command.{Asked, asm_to_wasm, check_wasm, file_of, asked}
-use Rattle.bridge_cmd.specs.Reason.{Reason, faulty_words, not_of_the_form, missing, too_large, out_of_memory}
-use Rattle.bridge_cmd.specs.Refused.{reason_of_check}
+use Rattle.wasm_checking.specs.Verdicts.{IsValidBytes, IsCounted, IsRefused}
+use Rattle.wasm_listing.specs.Listing.{listing}
+use Rattle.wasm_scripts.specs.Modules.{IsRunnable, IsOutside}
+use Rattle.wasm_scripts.specs.Runs.{Prints, script_for}
+use Rattle.bridge_cmd.specs.Command.{Asked, asm_to_wasm, check_asm, check_wasm, show, run_wasm, file_of, asked, first_form, asm_js, web_assembly, language_of, read_as}
+use Rattle.bridge_cmd.specs.Reason.{Reason, faulty_words, not_of_the_form, not_run, bad_script, missing, too_large, out_of_memory}
+use Rattle.bridge_cmd.specs.Refused.{reason_of_check, reason_of_text}
 
 pub data Job : Type 0 where
   refused : Reason → Job
   written : List ℕ → Job
+
+-- ---- files
 
 -- the largest file that is read, in bytes
 abbrev pub file_limit : ℕ
@@ -23,31 +35,52 @@ IsAbsent told file = IfSome told (λ map. content_of map file ≡ None)
 
 -- where the files are told, these are the file's bytes
 abbrev pub Holds : Option Told → List ℕ → List ℕ → Type 0
-Holds told file text = IfSome told (λ map. content_of map file ≡ Some text)
+Holds told file bytes = IfSome told (λ map. content_of map file ≡ Some bytes)
 
 -- where the files are told, the file is longer than the limit
 abbrev pub IsTooLong : Option Told → List ℕ → Type 0
-IsTooLong told file = IfSome told (λ map. IsSomeAnd (content_of map file) (λ text. file_limit < length text))
+IsTooLong told file = IfSome told (λ map. IsSomeAnd (content_of map file) (λ bytes. file_limit < length bytes))
 
--- what a command makes of its file's bytes
-pub data IsTextJob : Asked → List ℕ → Job → Type 0 where
-  other_text : {file text : List ℕ} → Translates text None → IsTextJob (asm_to_wasm file) text (refused not_of_the_form)
-  translated : {file text output : List ℕ} → Translates text (Some output) → IsTextJob (asm_to_wasm file) text (written output)
-  not_valid : {file text : List ℕ} (fault : CheckFault) → IsRefused text fault → fault ≢ Memory
-      → IsTextJob (check_wasm file) text (refused (reason_of_check fault))
-  counted : {file text output : List ℕ} → IsCounted text output → IsTextJob (check_wasm file) text (written output)
+-- a file's job: it isn't there, it is too long, or what its bytes ask for
+pub data IsFileJob (told : Option Told) (is_script : Bool) (file : List ℕ) (OfBytes : List ℕ → Job → Type 0) : Job → Type 0 where
+  absent : IsAbsent told file → IsFileJob told is_script file OfBytes (refused (missing is_script file))
+  long : IsTooLong told file → IsFileJob told is_script file OfBytes (refused (too_large is_script file))
+  held : {job : Job} (bytes : List ℕ) → Holds told file bytes → length bytes ≤ file_limit → OfBytes bytes job → IsFileJob told is_script file OfBytes job
 
-pub data IsJob : List (List ℕ) → Option Told → Job → Type 0 where
-  no_command : {words : List (List ℕ)} {told : Option Told} → asked words ≡ None → IsJob words told (refused faulty_words)
-  no_file : {words : List (List ℕ)} {told : Option Told} (a : Asked)
-      → asked words ≡ Some a → IsAbsent told (file_of a) → IsJob words told (refused (missing (file_of a)))
-  long_file : {words : List (List ℕ)} {told : Option Told} (a : Asked)
-      → asked words ≡ Some a → IsTooLong told (file_of a) → IsJob words told (refused (too_large (file_of a)))
-  of_text : {words : List (List ℕ)} {told : Option Told} {job : Job} (a : Asked) (text : List ℕ)
-      → asked words ≡ Some a → Holds told (file_of a) text → length text ≤ file_limit
-      → IsTextJob a text job → IsJob words told job
+-- ---- modules
 
--- what a command may answer in place of an output: the refusal of its job, or want of memory
-pub data IsAnswered : Asked → List ℕ → Reason → Type 0 where
-  by_its_job : {a : Asked} {text : List ℕ} {reason : Reason} → IsTextJob a text (refused reason) → IsAnswered a text reason
-  by_memory : {a : Asked} {text : List ℕ} → IsAnswered a text out_of_memory
+-- why a command doesn't take its module's bytes
+pub data IsBarred : Asked → List ℕ → Reason → Type 0 where
+  other_text : {a : Asked} {bytes : List ℕ} → read_as a bytes ≡ first_form → Translates bytes None → IsBarred a bytes not_of_the_form
+  not_accepted : {a : Asked} {bytes : List ℕ} (fault : TextFault) → read_as a bytes ≡ asm_js → texts.HasRefusal bytes fault
+      → IsBarred a bytes (reason_of_text fault)
+  not_valid : {a : Asked} {bytes : List ℕ} (fault : CheckFault) → read_as a bytes ≡ web_assembly → IsRefused bytes fault → fault ≢ Memory
+      → IsBarred a bytes (reason_of_check fault)
+  outside : {file script bytes : List ℕ} {steps : ℕ} (row : Outside) → IsOutside bytes row → IsBarred (run_wasm file script steps) bytes (not_run row.row row.value)
+
+-- what a command without a script makes of its module's bytes
+pub data IsMade : Asked → List ℕ → List ℕ → Type 0 where
+  translated : {file bytes output : List ℕ} → Translates bytes (Some output) → IsMade (asm_to_wasm file) bytes output
+  text_counted : {file bytes output : List ℕ} → texts.IsCounted bytes output → IsMade (check_asm file) bytes output
+  bytes_counted : {file bytes output : List ℕ} → IsCounted bytes output → IsMade (check_wasm file) bytes output
+  printed : {file bytes output : List ℕ} (m : Module) → language_of bytes ≡ asm_js → texts.IsAcceptedText bytes m → output ≡ canonical_text m
+      → IsMade (show file) bytes output
+  listed : {file bytes output : List ℕ} (m : WasmModule) → language_of bytes ≡ web_assembly → IsValidBytes bytes m → output ≡ listing m
+      → IsMade (show file) bytes output
+
+-- what a run makes of a module and the script's bytes
+pub data IsPlayed (m : WasmModule) (steps : ℕ) (script : List ℕ) : Job → Type 0 where
+  unfit : (line : ℕ) → script_for m script ≡ Err line → IsPlayed m steps script (refused (bad_script line))
+  ran : {output : List ℕ} → Prints m script steps output → IsPlayed m steps script (written output)
+
+-- ---- the whole
+
+pub data IsModuleJob (told : Option Told) : Asked → List ℕ → Job → Type 0 where
+  barred : {a : Asked} {bytes : List ℕ} {reason : Reason} → IsBarred a bytes reason → IsModuleJob told a bytes (refused reason)
+  made : {a : Asked} {bytes output : List ℕ} → IsMade a bytes output → IsModuleJob told a bytes (written output)
+  scripted : {file script bytes : List ℕ} {steps : ℕ} {job : Job} (m : WasmModule) → IsRunnable bytes m
+      → IsFileJob told true script (IsPlayed m steps) job → IsModuleJob told (run_wasm file script steps) bytes job
+
+pub data IsJob (words : List (List ℕ)) (told : Option Told) : Job → Type 0 where
+  no_command : asked words ≡ None → IsJob words told (refused faulty_words)
+  commanded : {job : Job} (a : Asked) → asked words ≡ Some a → IsFileJob told false (file_of a) (IsModuleJob told a) job → IsJob words told job

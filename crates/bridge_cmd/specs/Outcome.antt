@@ -1,9 +1,10 @@
 -- How a call ends, and what it leaves in its two sinks.
 use Rattle.std.specs.Prelude.{◌≡◌, ℕ, List, Option}
 use Rattle.bridge_io.specs.Outside.{Told}
-use Rattle.bridge_cmd.specs.Reason.{Reason, line_of, read_fault, out_of_memory}
+use Rattle.bridge_cmd.specs.Reason.{Reason, line_of}
 use Rattle.bridge_cmd.specs.Refused.{status_of}
 use Rattle.bridge_cmd.specs.Sinks.{Seen, Gains, GainsFront, Stays}
+use Rattle.bridge_cmd.specs.Answers.{MayAnswer}
 use Rattle.bridge_cmd.specs.Job.{Job, refused, written, IsJob}
 use Rattle.bridge_cmd.specs.declared.status.Status.{Status}
 use Rattle.bridge_cmd.specs.declared.status.Status.TheVariants.{Done, ReadFault, WriteFault, Memory}
@@ -19,11 +20,8 @@ pub data IsCutShort : Status → Type 0 where
   by_want : IsCutShort Memory
 
 -- what may be reported: the refusal of the job, a failed read, or want of memory
-pub data MayReport : List (List ℕ) → Option Told → Reason → Type 0 where
-  a_refusal : {words : List (List ℕ)} {told : Option Told} {reason : Reason}
-      → IsJob words told (refused reason) → MayReport words told reason
-  a_read_fault : {words : List (List ℕ)} {told : Option Told} → MayReport words told read_fault
-  no_memory : {words : List (List ℕ)} {told : Option Told} → MayReport words told out_of_memory
+abbrev pub MayReport : List (List ℕ) → Option Told → Reason → Type 0
+MayReport words told reason = MayAnswer (IsJob words told) reason
 
 -- after Done the output stands whole, and nothing is reported
 pub record Writes (words : List (List ℕ)) (told : Option Told) (out out' report report' : Seen) : Type 0 where

@@ -2,13 +2,15 @@
 #![tactic(auto)]
 
 mod job;
+mod making;
+mod playing;
 mod refusal;
 mod report;
 mod status;
 mod top;
 mod words;
 
-pub use status::{Status, WasmFault};
+pub use status::{AsmFault, Status, WasmFault};
 pub use top::bridge;
 
 #[cfg(test)]

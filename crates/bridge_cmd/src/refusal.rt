@@ -1,19 +1,26 @@
 //! Why there is no output.
 ghost use Rattle.std.specs.Prelude.{◌≡◌, string_bytes};
-ghost use Rattle.bridge_cmd.specs.Refused.{reason_of, reason_of_check, reason_of_words, reason_at, status_of};
+ghost use Rattle.bridge_cmd.specs.Refused.{reason_of, reason_of_check, reason_of_text, reason_of_words, reason_of_run, reason_of_script, reason_at, status_of};
 
-use crate::status::{Status, WasmFault};
+use crate::status::{AsmFault, Status, WasmFault};
+use asm_checking::AsmRow;
 use bridge_io::GatherFault;
 use bridge_words::WordsFault;
+use script_text::ScriptFault;
 use wasm_checking::CheckFault;
+use wasm_scripts::RunFault;
 use wasm_tree::Row;
-use wasm_validate::{Rule, Section};
+use wasm_validate::{Beyond, Rule, Section};
 
 /// Why there is no output.
 #[derive(Drop)]
 pub(crate) enum Refusal {
     FaultyWords,
     NotOfTheForm,
+    NotAsm {
+        row: AsmRow,
+        at: u64,
+    },
     NotABinary {
         row: Row,
         at: u64,
@@ -24,9 +31,17 @@ pub(crate) enum Refusal {
         index: u64,
         instruction: u64,
     },
+    NotRun {
+        row: Beyond,
+        value: u64,
+    },
+    BadScript {
+        line: u64,
+    },
     ReadFault,
-    Missing(String),
-    TooLarge(String),
+    /// Whether it is the script, and the file's name.
+    Missing(bool, String),
+    TooLarge(bool, String),
     OutOfMemory,
 }
 
@@ -36,7 +51,11 @@ impl Refusal {
     {
         match self {
             Refusal::FaultyWords => Status::Usage,
-            Refusal::NotOfTheForm => Status::AsmRefused { number: 0, at: 0 },
+            Refusal::NotOfTheForm => Status::AsmRefused(AsmFault::NotOfTheForm),
+            Refusal::NotAsm { row, at } => Status::AsmRefused(AsmFault::Text {
+                row: *row,
+                at: *at,
+            }),
             Refusal::NotABinary { row, at } => Status::WasmRefused(WasmFault::Binary {
                 row: *row,
                 at: *at,
@@ -52,9 +71,14 @@ impl Refusal {
                 index: *index,
                 instruction: *instruction,
             }),
+            Refusal::NotRun { row, value } => Status::WasmRefused(WasmFault::Outside {
+                row: *row,
+                value: *value,
+            }),
+            Refusal::BadScript { line } => Status::ScriptRefused { line: *line },
             Refusal::ReadFault => Status::ReadFault,
-            Refusal::Missing(_) => Status::Missing { script: false },
-            Refusal::TooLarge(_) => Status::TooLarge { script: false },
+            Refusal::Missing(script, _) => Status::Missing { script: *script },
+            Refusal::TooLarge(script, _) => Status::TooLarge { script: *script },
             Refusal::OutOfMemory => Status::Memory,
         }
     }
@@ -71,14 +95,24 @@ pub(crate) fn of_words(fault: WordsFault) -> Refusal
 }
 
 /// Why a file wasn't gathered.
-pub(crate) fn of_gathering(fault: GatherFault, file: String) -> Refusal
-    ensures { reason_of result ≡ reason_at fault (string_bytes file) }
+pub(crate) fn of_gathering(fault: GatherFault, is_script: bool, file: String) -> Refusal
+    ensures { reason_of result ≡ reason_at fault is_script (string_bytes file) }
 {
     match fault {
         GatherFault::Read => Refusal::ReadFault,
-        GatherFault::Missing => Refusal::Missing(file),
-        GatherFault::TooLarge => Refusal::TooLarge(file),
+        GatherFault::Missing => Refusal::Missing(is_script, file),
+        GatherFault::TooLarge => Refusal::TooLarge(is_script, file),
         GatherFault::Memory => Refusal::OutOfMemory,
+    }
+}
+
+/// Why a text isn't accepted.
+pub(crate) fn of_text(fault: asm_checking::CheckFault) -> Refusal
+    ensures { reason_of result ≡ reason_of_text fault }
+{
+    match fault {
+        asm_checking::CheckFault::Refused { row, at } => Refusal::NotAsm { row, at },
+        asm_checking::CheckFault::Memory => Refusal::OutOfMemory,
     }
 }
 
@@ -100,5 +134,28 @@ pub(crate) fn of_check(fault: CheckFault) -> Refusal
             instruction,
         },
         CheckFault::Memory => Refusal::OutOfMemory,
+    }
+}
+
+/// Why bytes spell no module that is run.
+pub(crate) fn of_run(fault: RunFault) -> Refusal
+    ensures { reason_of result ≡ reason_of_run fault }
+{
+    match fault {
+        RunFault::Check(fault) => of_check(fault),
+        RunFault::Outside(outside) => Refusal::NotRun {
+            row: outside.row,
+            value: outside.value as u64,
+        },
+    }
+}
+
+/// Why a text is no script that fits.
+pub(crate) fn of_script(fault: ScriptFault) -> Refusal
+    ensures { reason_of result ≡ reason_of_script fault }
+{
+    match fault {
+        ScriptFault::Refused { line } => Refusal::BadScript { line },
+        ScriptFault::Memory => Refusal::OutOfMemory,
     }
 }

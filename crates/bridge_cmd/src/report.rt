@@ -2,18 +2,22 @@
 ghost use Rattle.std.specs.Prelude.{ℕ, ◌≤◌, ◌++◌, ◌∷◌, [], OnOk, OnErr, map, codes, decimal};
 ghost use Rattle.std.specs.List.{concat};
 ghost use Rattle.bridge_cmd.specs.Reason.{line_of};
+ghost use Rattle.asm_checking.specs.Names as texts;
 ghost use Rattle.wasm_checking.specs.Names as names;
+ghost use Rattle.wasm_scripts.specs.Names as outsiders;
 ghost use Rattle.wasm_typing.specs.Rules.{number};
 ghost use Rattle.wasm_typing.specs.Validity.{id};
 ghost use Rattle.bridge_cmd.specs.Refused.{reason_of};
 ghost use Rattle.bridge_cmd.specs.Sinks.{seen, Gains, GainsFront, now_of};
 
 use crate::refusal::Refusal;
+use asm_checking::{AsmRow, row_name as asm_row_name};
 use bridge_io::{Failed, Sink, put_all};
 use itoa::Buffer;
 use wasm_checking::{row_name, rule_number, section_number};
+use wasm_scripts::outside_name;
 use wasm_tree::Row;
-use wasm_validate::{Rule, Section};
+use wasm_validate::{Beyond, Rule, Section};
 
 /// Writes pieces, one after the other.
 fn put_pieces<E: Sink>(report: &mut E, pieces: &[&str]) -> Result<(), Failed>
@@ -54,6 +58,7 @@ pub(crate) fn write_line<E: Sink>(report: &mut E, refusal: &Refusal) -> Result<(
             ],
         ),
         Refusal::NotOfTheForm => put_pieces(report, &["asm.js refused: A0 NotYet at 0", "\n"]),
+        Refusal::NotAsm { row, at } => put_text(report, *row, *at),
         Refusal::NotABinary { row, at } => put_binary(report, *row, *at),
         Refusal::NotValid {
             rule,
@@ -62,10 +67,30 @@ pub(crate) fn write_line<E: Sink>(report: &mut E, refusal: &Refusal) -> Result<(
             instruction,
         } => put_invalid(report, *rule, *section, *index, *instruction),
         Refusal::ReadFault => put_pieces(report, &["read fault", "\n"]),
-        Refusal::Missing(file) => put_pieces(report, &["missing: ", file.as_str(), "\n"]),
-        Refusal::TooLarge(file) => put_pieces(report, &["too large: ", file.as_str(), "\n"]),
+        Refusal::NotRun { row, value } => put_outside(report, *row, *value),
+        Refusal::BadScript { line } => put_script(report, *line),
+        Refusal::Missing(_, file) => put_pieces(report, &["missing: ", file.as_str(), "\n"]),
+        Refusal::TooLarge(_, file) => put_pieces(report, &["too large: ", file.as_str(), "\n"]),
         Refusal::OutOfMemory => put_pieces(report, &["out of memory", "\n"]),
     }
+}
+
+/// The line of a text that isn't accepted.
+fn put_text<E: Sink>(report: &mut E, row: AsmRow, at: u64) -> Result<(), Failed>
+    requires { (n : ℕ) → E.takes report.old n }
+
+    ensures never_falls { E.faults report.old ≤ E.faults report.new }
+    ensures whole { OnOk result (Gains (concat (codes "asm.js refused: " ∷ texts.row_name row ∷ codes " at " ∷ decimal at ∷ codes "\n" ∷ []))
+        (seen (E.told report.old) (E.faults report.old)) (seen (E.told report.new) (E.faults report.new))) }
+    ensures front { OnErr result (GainsFront (concat (codes "asm.js refused: " ∷ texts.row_name row ∷ codes " at " ∷ decimal at ∷ codes "\n" ∷ []))
+        (seen (E.told report.old) (E.faults report.old)) (seen (E.told report.new) (E.faults report.new))) }
+{
+    let mut digits = Buffer::new();
+    let at = digits.format(at);
+    put_pieces(
+        report,
+        &["asm.js refused: ", asm_row_name(row), " at ", at, "\n"],
+    )
 }
 
 /// The line of bytes that aren't of the binary format.
@@ -118,5 +143,40 @@ fn put_invalid<E: Sink>(
             instruction_digits.format(instruction),
             "\n",
         ],
+    )
+}
+
+/// The line of a module that isn't run.
+fn put_outside<E: Sink>(report: &mut E, row: Beyond, value: u64) -> Result<(), Failed>
+    requires { (n : ℕ) → E.takes report.old n }
+
+    ensures never_falls { E.faults report.old ≤ E.faults report.new }
+    ensures whole { OnOk result (Gains (concat (codes "wasm refused: " ∷ outsiders.row_name row ∷ codes " " ∷ decimal value ∷ codes "\n" ∷ []))
+        (seen (E.told report.old) (E.faults report.old)) (seen (E.told report.new) (E.faults report.new))) }
+    ensures front { OnErr result (GainsFront (concat (codes "wasm refused: " ∷ outsiders.row_name row ∷ codes " " ∷ decimal value ∷ codes "\n" ∷ []))
+        (seen (E.told report.old) (E.faults report.old)) (seen (E.told report.new) (E.faults report.new))) }
+{
+    let mut digits = Buffer::new();
+    let value = digits.format(value);
+    put_pieces(
+        report,
+        &["wasm refused: ", outside_name(row), " ", value, "\n"],
+    )
+}
+
+/// The line of a script that is refused.
+fn put_script<E: Sink>(report: &mut E, line: u64) -> Result<(), Failed>
+    requires { (n : ℕ) → E.takes report.old n }
+
+    ensures never_falls { E.faults report.old ≤ E.faults report.new }
+    ensures whole { OnOk result (Gains (concat (codes "script refused: line " ∷ decimal line ∷ codes "\n" ∷ []))
+        (seen (E.told report.old) (E.faults report.old)) (seen (E.told report.new) (E.faults report.new))) }
+    ensures front { OnErr result (GainsFront (concat (codes "script refused: line " ∷ decimal line ∷ codes "\n" ∷ []))
+        (seen (E.told report.old) (E.faults report.old)) (seen (E.told report.new) (E.faults report.new))) }
+{
+    let mut digits = Buffer::new();
+    put_pieces(
+        report,
+        &["script refused: line ", digits.format(line), "\n"],
     )
 }

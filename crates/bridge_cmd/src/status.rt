@@ -2,8 +2,18 @@
 ghost use Rattle.std.specs.Prelude.{◌≡◌};
 ghost use Rattle.bridge_cmd.specs.Code.{code_of};
 
+use asm_checking::AsmRow;
 use wasm_tree::Row;
-use wasm_validate::{Rule, Section};
+use wasm_validate::{Beyond, Rule, Section};
+
+/// Why the text is no asm.js module that the command takes.
+#[derive(Clone, Copy, Debug, PartialEq, Eq)]
+pub enum AsmFault {
+    /// It isn't of the first form, the only one that is translated so far.
+    NotOfTheForm,
+    /// It isn't accepted: why, and the offset in bytes.
+    Text { row: AsmRow, at: u64 },
+}
 
 /// Why the bytes are no WebAssembly module that the command takes.
 #[derive(Clone, Copy, Debug, PartialEq, Eq)]
@@ -20,9 +30,9 @@ pub enum WasmFault {
         index: u64,
         instruction: u64,
     },
-    /// The module is valid, and outside what the command takes: the rule's number and its value.
+    /// The module is valid, and outside what the command takes: why, and the number of an import, or a count.
     Outside {
-        number: u8,
+        row: Beyond,
         value: u64,
     },
 }
@@ -34,8 +44,8 @@ pub enum Status {
     Done,
     /// The words are no command.
     Usage,
-    /// The text is no asm.js module that the command takes: the rule's number and the offset in bytes.
-    AsmRefused { number: u8, at: u64 },
+    /// The text is no asm.js module that the command takes.
+    AsmRefused(AsmFault),
     /// The bytes are no WebAssembly module that the command takes.
     WasmRefused(WasmFault),
     /// The script isn't in its grammar or doesn't fit the module: the line, from 1.
@@ -60,7 +70,7 @@ impl Status {
         match self {
             Status::Done => 0,
             Status::Usage => 1,
-            Status::AsmRefused { .. } => 2,
+            Status::AsmRefused(_) => 2,
             Status::WasmRefused(_) => 3,
             Status::ScriptRefused { .. } => 4,
             Status::ReadFault => 5,

@@ -1,7 +1,6 @@
 //! The one call that does everything.
-ghost use Rattle.std.specs.Prelude.{◌≡◌, ◌≢◌, ◌⊎◌, ℕ, ◌≤◌, List, map, string_bytes, IsSome, None, true, false};
+ghost use Rattle.std.specs.Prelude.{◌≡◌, ◌≢◌, ◌⊎◌, ℕ, ◌≤◌, List, map, string_bytes, IsSome, None, Bool};
 ghost use Rattle.bridge_io.specs.Outside.{Rose, RoseBy};
-ghost use Rattle.bridge_cmd.specs.declared.status.WasmFault.{WasmFault};
 ghost use Rattle.bridge_cmd.specs.Command.{asked};
 ghost use Rattle.bridge_cmd.specs.Job.{Job, IsJob};
 ghost use Rattle.bridge_cmd.specs.Outcome.{EndsAs, IsCutShort, Writes, Refuses, OutputCut, ReportCut};
@@ -35,8 +34,8 @@ pub fn bridge<F: Files, O: Sink, E: Sink>(
 
     // The cause of each end that speaks of the outside.
     ensures read_fault { result ≡ Status.ReadFault → Rose (F.faults files.old) (F.faults files.new) }
-    ensures missing { result ≡ Status.Missing false → Rose (F.absences files.old) (F.absences files.new) }
-    ensures too_large { result ≡ Status.TooLarge false → RoseBy 16777217 (F.given files.old) (F.given files.new) }
+    ensures missing { (script : Bool) → result ≡ Status.Missing script → Rose (F.absences files.old) (F.absences files.new) }
+    ensures too_large { (script : Bool) → result ≡ Status.TooLarge script → RoseBy 16777217 (F.given files.old) (F.given files.new) }
     ensures write_fault { result ≡ Status.WriteFault
         → Rose (O.faults out.old) (O.faults out.new) ⊎ Rose (E.faults report.old) (E.faults report.new) }
 
@@ -44,11 +43,6 @@ pub fn bridge<F: Files, O: Sink, E: Sink>(
     ensures usage { result ≡ Status.Usage → asked (map string_bytes words.now) ≡ None }
     ensures faulty_words { asked (map string_bytes words.now) ≡ None
         → (result ≡ Status.Usage) ⊎ (result ≡ Status.WriteFault) ⊎ (result ≡ Status.Memory) }
-
-    // These never come: no module is read that a command doesn't take, and no command reads a script yet.
-    ensures no_outside { (number value : ℕ) → result ≢ Status.WasmRefused (WasmFault.Outside number value) }
-    ensures no_script { (line : ℕ) → result ≢ Status.ScriptRefused line }
-    ensures no_script_file { (result ≢ Status.Missing true) × (result ≢ Status.TooLarge true) }
 
     // Where the files are told, the end is the job's, unless a read or a write fails or memory runs out.
     ensures exact { (job : Job) → IsSome (F.told files.old) → IsJob (map string_bytes words.now) (F.told files.old) job

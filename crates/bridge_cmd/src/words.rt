@@ -2,34 +2,41 @@
 ghost use Rattle.std.specs.Prelude.{◌≡◌, map, string_bytes};
 ghost use Rattle.bridge_words.specs.Answer.{Answers};
 ghost use Rattle.bridge_cmd.specs.Command as spec;
-ghost use Rattle.bridge_cmd.specs.Asking.{asked_by};
+ghost use Rattle.bridge_cmd.specs.Asking.{asked_by, made_by};
 
 use bridge_words::{Job, WordsFault, read_words};
 use std::alloc::Global;
 
-/// A command, with the name of its file.
-#[derive(Drop)]
-pub(crate) enum Command {
-    AsmToWasm(String),
-    CheckWasm(String),
+/// What is made of a module's bytes alone.
+#[derive(Clone, Copy)]
+pub(crate) enum Making {
+    AsmToWasm,
+    CheckAsm,
+    CheckWasm,
+    Show,
 }
 
-impl Command {
-    /// The name of the file that is read.
-    pub(crate) fn file(&self) -> &str
-        ensures { result.now ≡ spec.file_of (asked_by self.now) }
-    {
-        match self {
-            Command::AsmToWasm(file) | Command::CheckWasm(file) => file.as_str(),
-        }
-    }
+/// What is done with a module.
+#[derive(Drop)]
+pub(crate) enum Action {
+    Make(Making),
+    /// A run of the script in a file of this name, with so many reductions.
+    RunWasm { script: String, steps: u32 },
+}
 
-    pub(crate) fn into_file(self) -> String
-        ensures { string_bytes result ≡ spec.file_of (asked_by self) }
-    {
-        match self {
-            Command::AsmToWasm(file) | Command::CheckWasm(file) => file,
-        }
+/// A command, with the name of its module's file.
+#[derive(Drop)]
+pub(crate) struct Command {
+    pub(crate) file: String,
+    pub(crate) action: Action,
+}
+
+fn to_make(making: Making, file: String) -> Command
+    ensures { asked_by result ≡ made_by making (string_bytes file) }
+{
+    Command {
+        file,
+        action: Action::Make(making),
     }
 }
 
@@ -38,10 +45,14 @@ pub(crate) fn asked(alloc: Global, words: &[String]) -> Result<Command, WordsFau
     ensures { Answers asked_by (spec.asked (map string_bytes words.now)) result }
 {
     match read_words(alloc, words)? {
-        Job::AsmToWasm(file, _) => Ok(Command::AsmToWasm(file)),
-        Job::CheckWasm(file) => Ok(Command::CheckWasm(file)),
-        Job::CheckAsm(_) | Job::RunAsm(..) | Job::RunWasm(..) | Job::Show(_) => {
-            Err(WordsFault::Usage)
-        }
+        Job::AsmToWasm(file, _) => Ok(to_make(Making::AsmToWasm, file)),
+        Job::CheckAsm(file) => Ok(to_make(Making::CheckAsm, file)),
+        Job::CheckWasm(file) => Ok(to_make(Making::CheckWasm, file)),
+        Job::Show(file) => Ok(to_make(Making::Show, file)),
+        Job::RunWasm(file, script, steps) => Ok(Command {
+            file,
+            action: Action::RunWasm { script, steps },
+        }),
+        Job::RunAsm(..) => Err(WordsFault::Usage),
     }
 }

@@ -1,12 +1,13 @@
 //! Whole calls over files and sinks in memory.
-use crate::{Status, WasmFault, bridge};
+use crate::{AsmFault, Status, WasmFault, bridge};
 use bridge_io::{MemFiles, MemSink};
 use std::alloc::{AllocError, Global};
 use std::test::Fail;
 use wasm_tree::Row;
 use wasm_validate::{Rule, Section};
 
-const ADD: &[u8] = b"function m(){\"use asm\";function f(a,b){a=a|0;b=b|0;return a+b|0;}return f;}";
+pub(crate) const ADD: &[u8] =
+    b"function m(){\"use asm\";function f(a,b){a=a|0;b=b|0;return a+b|0;}return f;}";
 
 const TIMES: &[u8] =
     b"function m(){\"use asm\";function f(a,b){a=a|0;b=b|0;return a*b|0;}return f;}";
@@ -24,10 +25,10 @@ const USAGE: &[u8] = b"usage: bridge COMMAND [--heap N] [--steps N] [FILE] [SCRI
 
 /// What a call of `bridge` leaves.
 #[derive(Drop)]
-struct Left {
-    status: Status,
-    out: MemSink,
-    report: MemSink,
+pub(crate) struct Left {
+    pub(crate) status: Status,
+    pub(crate) out: MemSink,
+    pub(crate) report: MemSink,
 }
 
 /// A module of no sections.
@@ -89,7 +90,7 @@ fn another_text_is_refused(rt: HostRuntime) -> Result<(), Fail> {
         &mut files_with(alloc, TIMES)?,
         sink(alloc)?,
     )?;
-    assert_eq!(rt; left.status, Status::AsmRefused { number: 0, at: 0 });
+    assert_eq!(rt; left.status, Status::AsmRefused(AsmFault::NotOfTheForm));
     assert_eq!(rt; left.out.bytes(), b"".as_slice());
     assert_eq!(rt;
         left.report.bytes(),
@@ -130,7 +131,7 @@ fn a_failed_write_leaves_a_front(rt: HostRuntime) -> Result<(), Fail> {
 #[test]
 fn faulty_words_are_told_the_usage(rt: HostRuntime) -> Result<(), Fail> {
     let alloc = rt.alloc();
-    let faulty: [&[&str]; 9] = [
+    let faulty: [&[&str]; 10] = [
         &[],
         &["asm2wasm", "--steps", "5", "m.js"],
         &["asm2wasm", "--heap", "5", "m.js"],
@@ -139,6 +140,7 @@ fn faulty_words_are_told_the_usage(rt: HostRuntime) -> Result<(), Fail> {
         &["asm2wasm"],
         &["asm2wasm", "m.js", "x"],
         &["asm2wasm", "-m.js"],
+        &["check-asm", "--steps", "1", "m.js"],
         &["fly", "m.js"],
     ];
     for words in faulty {
@@ -161,6 +163,16 @@ fn a_file_is_missing_or_too_large(rt: HostRuntime) -> Result<(), Fail> {
     assert_eq!(rt; left.status, Status::Missing { script: false });
     assert_eq!(rt; left.report.bytes(), b"missing: no.js\n".as_slice());
     Ok(())
+}
+
+/// Checks this text of asm.js.
+pub(crate) fn check_text(alloc: Global, text: &[u8]) -> Result<Left, AllocError> {
+    call(
+        alloc,
+        &["check-asm", "m.js"],
+        &mut files_with(alloc, text)?,
+        sink(alloc)?,
+    )
 }
 
 /// Checks the module of these bytes.
@@ -253,5 +265,70 @@ fn an_invalid_module_is_told_its_rule(rt: HostRuntime) -> Result<(), Fail> {
         left.report.bytes(),
         b"wasm refused: B13 Invalid V1 at section 3 index 0 instruction 0\n".as_slice()
     );
+    Ok(())
+}
+
+/// Files with the module of `ADD` and a script.
+fn files_with_script(alloc: Global, script: &[u8]) -> Result<MemFiles, AllocError> {
+    let mut files = MemFiles::new(alloc);
+    files.add("m.wasm", ADD_MODULE)?;
+    files.add("s.txt", script)?;
+    Ok(files)
+}
+
+#[test]
+fn a_script_is_run(rt: HostRuntime) -> Result<(), Fail> {
+    let alloc = rt.alloc();
+    let rows: [(&[u8], u8, &[u8], &[u8]); 3] = [
+        (
+            b"call f 2147483647 1\n",
+            0,
+            b"result -2147483648\nend done\n",
+            b"",
+        ),
+        (b"# no g\ncall g\n", 4, b"", b"script refused: line 2\n"),
+        (b"cal f\n", 4, b"", b"script refused: line 1\n"),
+    ];
+    for (script, code, out, report) in rows {
+        let mut files = files_with_script(alloc, script)?;
+        let words = ["run-wasm", "m.wasm", "s.txt"];
+        let left = call(alloc, &words, &mut files, sink(alloc)?)?;
+        assert_eq!(rt; left.status.code(), code);
+        assert_eq!(rt; left.out.bytes(), out);
+        assert_eq!(rt; left.report.bytes(), report);
+    }
+    Ok(())
+}
+
+#[test]
+fn a_script_is_missing(rt: HostRuntime) -> Result<(), Fail> {
+    let alloc = rt.alloc();
+    let mut files = files_with_script(alloc, b"")?;
+    let words = ["run-wasm", "m.wasm", "t.txt"];
+    let left = call(alloc, &words, &mut files, sink(alloc)?)?;
+    assert_eq!(rt; left.status, Status::Missing { script: true });
+    assert_eq!(rt; left.report.bytes(), b"missing: t.txt\n".as_slice());
+    Ok(())
+}
+
+#[test]
+fn modules_are_shown(rt: HostRuntime) -> Result<(), Fail> {
+    let alloc = rt.alloc();
+    let rows: [(&[u8], &[u8]); 2] = [
+        (
+            ADD,
+            b"function m(){\"use asm\";\nfunction f(a,b){a=a|0;b=b|0;return a+b|0;}\nreturn f;}\n",
+        ),
+        (
+            ADD_MODULE,
+            b"wasm functions 1 imports 0 exports 1\nfunc 0 (i32 i32) i32 4\n",
+        ),
+    ];
+    for (bytes, text) in rows {
+        let mut files = files_with(alloc, bytes)?;
+        let left = call(alloc, &["show", "m.js"], &mut files, sink(alloc)?)?;
+        assert_eq!(rt; left.status, Status::Done);
+        assert_eq!(rt; left.out.bytes(), text);
+    }
     Ok(())
 }

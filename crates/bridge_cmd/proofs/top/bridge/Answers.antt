@@ -7,7 +7,7 @@ use Rattle.bridge_cmd.proofs.top.bridge.Goals as goal
 
 pub returns-in-Ok-put_all-clause-exact : goal.returns-in-Ok-put_all-clause-exact
 returns-in-Ok-put_all-clause-exact g c =
-    λ job told is. inl (one_end _ _ (written c.in-Ok.output.items) job told c.in-Ok.ensures.written is)
+    λ job told is. inl (one_end _ _ told (written c.in-Ok.output.items) job c.in-Ok.ensures.written is)
 
 pub returns-in-Ok-clause-exact : goal.returns-in-Ok-clause-exact
 returns-in-Ok-clause-exact g c = λ job told is. inr by_a_write

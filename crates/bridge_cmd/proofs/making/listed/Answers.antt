@@ -1,0 +1,17 @@
+use Rattle.std.proofs.Common.{◌∙◌, ap}
+use Rattle.wasm_listing.specs.Listing.{listing}
+use Rattle.bridge_cmd.specs.Answers.{want_of_memory}
+use Rattle.bridge_cmd.specs.Command.{show}
+use Rattle.bridge_cmd.specs.Job.{listed}
+use Rattle.bridge_cmd.proofs.Jobs.{reads_module, check_answer}
+use Rattle.bridge_cmd.proofs.making.listed.Goals as goal
+
+pub returns-in-Err-clause-barred : goal.returns-in-Err-clause-barred
+returns-in-Err-clause-barred c = λ file is. rw c.of_check.ensures (check_answer (show file) c.args.bytes.now c.in-Err.fault (reads_module c.args.bytes.now is) c.in-Err.ensures.refused)
+
+pub returns-in-Ok-listing-clause-made : goal.returns-in-Ok-listing-clause-made
+returns-in-Ok-listing-clause-made c = λ file is. listed c.in-Ok.valid (reads_module c.args.bytes.now is) c.in-Ok.ensures.valid
+    (c.in-Ok-listing.ensures ∙ ap listing c.module.ensures.given)
+
+pub returns-clause-barred : goal.returns-clause-barred
+returns-clause-barred c = λ file is. want_of_memory

@@ -1,0 +1,51 @@
+use Rattle.std.proofs.Common.{true, ap, Err}
+use Rattle.std.proofs.lemmas.Result.{IfOk-weaker, IfErr-weaker}
+use Rattle.wasm_lang.proofs.Shaped.{spelled_shaped}
+use Rattle.bridge_cmd.specs.Command.{run_wasm}
+use Rattle.bridge_cmd.specs.Job.{held, scripted}
+use Rattle.bridge_cmd.proofs.Files.{holds, not_gathered}
+use Rattle.bridge_cmd.proofs.Jobs.{run_answer, module_answered, script_may, script_quiet, quiet_read_fault, quiet_missing, quiet_too_large, of_held, of_script_file}
+use Rattle.bridge_cmd.proofs.playing.wasm_run.Goals as goal
+
+pub returns-in-Err-clause-refused : goal.returns-in-Err-clause-refused
+returns-in-Err-clause-refused g c = λ file. rw c.of_run.ensures
+    (module_answered _ (run_wasm file _ _) c.args.bytes.now _ (run_answer file _ c.args.bytes.now _ c.in-Err.fault c.in-Err.ensures.refused))
+
+pub played-requires-clause-shaped : goal.played-requires-clause-shaped
+played-requires-clause-shaped g c = spelled_shaped c.args.bytes.now _ c.in-Ok.ensures.runs.taken.read.spelled
+
+pub returns-in-Ok-gather-clause-written : goal.returns-in-Ok-gather-clause-written
+returns-in-Ok-gather-clause-written g c = λ file.
+    IfOk-weaker c.played.result _ _
+    (λ output is. scripted c.in-Ok.valid c.in-Ok.ensures.runs (held c.as_slice.result.now
+    (holds _ _ _ (λ told e. rw (← c.as_str.ensures.value) (rw c.as_slice.ensures.value (c.in-Ok-gather.ensures.content told e))))
+    (rw c.as_slice.ensures.len c.in-Ok-gather.ensures.within) is))
+    c.played.ensures.ran
+
+pub returns-in-Ok-gather-clause-refused : goal.returns-in-Ok-gather-clause-refused
+returns-in-Ok-gather-clause-refused g c = λ file.
+    IfErr-weaker c.played.result _ _
+    (λ refusal is. of_script_file _ file _ c.args.bytes.now _ c.in-Ok.valid _ c.in-Ok.ensures.runs
+    (of_held _ true _ c.as_slice.result.now _ _
+    (holds _ _ _ (λ told e. rw (← c.as_str.ensures.value) (rw c.as_slice.ensures.value (c.in-Ok-gather.ensures.content told e))))
+    (rw c.as_slice.ensures.len c.in-Ok-gather.ensures.within) (script_may _ _ _ _ is)))
+    c.played.ensures.refused
+
+pub returns-in-Ok-gather-clause-read_fault : goal.returns-in-Ok-gather-clause-read_fault
+returns-in-Ok-gather-clause-read_fault g c =
+    IfErr-weaker c.played.result _ _ (λ refusal a is. absurd (quiet_read_fault _ (script_quiet _ _ _ _ a) is)) c.played.ensures.refused
+
+pub returns-in-Ok-gather-clause-missing : goal.returns-in-Ok-gather-clause-missing
+returns-in-Ok-gather-clause-missing g c =
+    IfErr-weaker c.played.result _ _ (λ refusal a b file is. absurd (quiet_missing _ b file (script_quiet _ _ _ _ a) is)) c.played.ensures.refused
+
+pub returns-in-Ok-gather-clause-too_large : goal.returns-in-Ok-gather-clause-too_large
+returns-in-Ok-gather-clause-too_large g c =
+    IfErr-weaker c.played.result _ _ (λ refusal a b file is. absurd (quiet_too_large _ b file (script_quiet _ _ _ _ a) is)) c.played.ensures.refused
+
+pub returns-in-Err-gather-clause-refused : goal.returns-in-Err-gather-clause-refused
+returns-in-Err-gather-clause-refused g c = λ file. rw c.of_gathering.ensures
+    (of_script_file _ file _ c.args.bytes.now _ c.in-Ok.valid _ c.in-Ok.ensures.runs
+    (not_gathered _ true _ _ c.in-Err-gather.fault
+    (λ told e is. rw (← c.as_str.ensures.value) (c.in-Err-gather.ensures.absent told e (ap Err is)))
+    (λ told e is. rw (← c.as_str.ensures.value) (c.in-Err-gather.ensures.long told e (ap Err is)))))
