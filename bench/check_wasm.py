@@ -7,19 +7,12 @@ import shutil
 import subprocess
 import sys
 import tempfile
-import time
+
+from measure import print_row
 
 HERE = os.path.dirname(os.path.abspath(__file__))
 COUNTS = [1_000, 10_000, 50_000]
 NODE = "process.exit(WebAssembly.validate(require('fs').readFileSync(process.argv[1]))?0:1)"
-
-
-def measured(words):
-    """Runs a program once: its status, seconds and peak memory in MiB."""
-    begin = time.monotonic()
-    child = subprocess.Popen(words, stdout=subprocess.DEVNULL, stderr=subprocess.DEVNULL)
-    _, status, usage = os.wait4(child.pid, 0)
-    return os.waitstatus_to_exitcode(status), time.monotonic() - begin, usage.ru_maxrss / 1024
 
 
 def main():
@@ -39,10 +32,7 @@ def main():
                 subprocess.run([sys.executable, os.path.join(HERE, "wasm_module.py"), str(count)], stdout=out, check=True)
             print(f"{count} functions, {os.path.getsize(file)} bytes")
             for name, words in tools:
-                status, seconds, memory = measured(words(file))
-                growth = f"  {seconds / before[name]:5.1f} times" if name in before else ""
-                before[name] = seconds
-                print(f"  {name:14} status {status}  {seconds:7.3f} s  {memory:7.1f} MiB{growth}")
+                print_row(name, words(file), before)
 
 
 if __name__ == "__main__":
