@@ -3,9 +3,8 @@ use crate::{AsmRow, CheckFault, check_text, counts, row_name};
 use asm_typing::Rule;
 use asm_validate::{Checked, Signature};
 use std::alloc::{AllocError, Global};
+use std::process::Abort;
 use std::test::Fail;
-
-mod limits;
 
 const WHOLE: &[u8] = b"function m(stdlib,foreign,heap){\"use asm\";\
 var a=foreign.a|0,f=foreign.f,b=foreign.b|0,imul=stdlib.Math.imul,H=new stdlib.Int32Array(heap),c=foreign.a|0;\
@@ -104,7 +103,7 @@ fn counts_are_told(rt: HostRuntime) -> Result<(), Fail> {
 type Row = (&'static [u8], &'static [u8], AsmRow);
 
 /// A module's heading, a foreign function and a view of bytes.
-pub(crate) const FRONT: &[u8] =
+const FRONT: &[u8] =
     b"function m(stdlib,foreign,heap){'use asm';var u=foreign.u,H=new stdlib.Uint8Array(heap);";
 
 static ROWS: [Row; 9] = [
@@ -152,7 +151,7 @@ static ROWS: [Row; 9] = [
 ];
 
 /// The parts, one after the other.
-pub(crate) fn joined(alloc: Global, parts: &[&[u8]]) -> Result<Vec<u8>, AllocError> {
+fn joined(alloc: Global, parts: &[&[u8]]) -> Result<Vec<u8>, AllocError> {
     let mut all = Vec::new(alloc);
     for part in parts {
         all.extend_from_slice(part)?;
@@ -160,21 +159,24 @@ pub(crate) fn joined(alloc: Global, parts: &[&[u8]]) -> Result<Vec<u8>, AllocErr
     Ok(all)
 }
 
+/// The row's text is refused for what it breaks, where its second part begins.
+fn is_told(rt: &impl Abort, alloc: Global, row: &Row) -> Result<(), Fail> {
+    let (front, back, broken) = *row;
+    let before = joined(alloc, &[FRONT, front])?;
+    let text = joined(alloc, &[FRONT, front, back])?;
+    let fault = check_text(alloc, &text).err();
+    let told = CheckFault::Refused {
+        row: broken,
+        at: before.len() as u64,
+    };
+    assert_eq!(rt; fault, Some(told), "{}", row_name(broken));
+    Ok(())
+}
+
 #[test]
 fn the_first_fault_is_told_with_its_place(rt: HostRuntime) -> Result<(), Fail> {
-    for (front, back, row) in ROWS {
-        let before = joined(rt.alloc(), &[FRONT, front])?;
-        let text = joined(rt.alloc(), &[before.as_slice(), back])?;
-        let fault = CheckFault::Refused {
-            row,
-            at: before.len() as u64,
-        };
-        assert_eq!(rt;
-            check_text(rt.alloc(), &text).err(),
-            Some(fault),
-            "{}",
-            row_name(row)
-        );
+    for row in ROWS.iter() {
+        is_told(&rt, rt.alloc(), row)?;
     }
     Ok(())
 }
