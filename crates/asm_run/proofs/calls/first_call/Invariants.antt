@@ -1,0 +1,12 @@
+use Rattle.std.proofs.Common.{◌≡◌, drop, map}
+use Rattle.sem_laws.specs.Script.{CallPlain}
+use Rattle.sem_laws.specs.Views.{call_of}
+use Rattle.asm_tree.specs.Views.{module_view}
+use Rattle.asm_meaning.specs.Fits.{fits_call, lines_of, least}
+use Rattle.asm_run.specs.Forms.{earlier}
+use Rattle.asm_run.proofs.calls.first_call.Given as goal
+
+abbrev pub invariant-loop-call : goal.invariant-loop-call
+invariant-loop-call l =
+    least (lines_of (fits_call (module_view l.checked)) (λ (c : CallPlain). c.line) (map call_of l.calls))
+    ≡ earlier l.first (least (lines_of (fits_call (module_view l.checked)) (λ (c : CallPlain). c.line) (map call_of (drop l.call-index l.calls))))

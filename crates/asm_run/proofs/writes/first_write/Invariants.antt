@@ -1,0 +1,12 @@
+use Rattle.std.proofs.Common.{◌≡◌, drop, map}
+use Rattle.sem_laws.specs.Script.{WritePlain}
+use Rattle.sem_laws.specs.Views.{write_of}
+use Rattle.asm_tree.specs.Views.{module_view}
+use Rattle.asm_meaning.specs.Fits.{fits_write, lines_of, least}
+use Rattle.asm_run.specs.Forms.{earlier}
+use Rattle.asm_run.proofs.writes.first_write.Given as goal
+
+abbrev pub invariant-loop-write : goal.invariant-loop-write
+invariant-loop-write l =
+    least (lines_of (fits_write (module_view l.checked) l.heap_len) (λ (w : WritePlain). w.line) (map write_of l.writes))
+    ≡ earlier l.first (least (lines_of (fits_write (module_view l.checked) l.heap_len) (λ (w : WritePlain). w.line) (map write_of (drop l.write-index l.writes))))

@@ -1,0 +1,50 @@
+// The calls of a script.
+
+ghost use Rattle.std.specs.Prelude.{◌≡◌, Some, map};
+ghost use Rattle.std.specs.List.{list_all};
+ghost use Rattle.sem_laws.specs.Script.{CallPlain};
+ghost use Rattle.sem_laws.specs.Views.{call_of};
+ghost use Rattle.asm_tree.specs.Views.{function_view, module_view};
+ghost use Rattle.asm_meaning.specs.Fits;
+
+use crate::lines::{in_range, lesser};
+use asm_place::exported_function;
+use asm_tree::Function;
+use asm_validate::Checked;
+use sem_laws::CallLine;
+
+fn are_in_range(args: &[i128]) -> bool
+    ensures { result ≡ list_all Fits.in_range args.now }
+{
+    args.iter().all(|arg| in_range(*arg))
+}
+
+// Whether there is an argument for each parameter, in range.
+fn takes(function: &Function, args: &[i128]) -> bool
+    ensures { result ≡ Fits.takes (Some (function_view function.now)) args.now }
+{
+    args.len() == function.params.len() && are_in_range(args)
+}
+
+fn fits_call(checked: &Checked, call: &CallLine) -> bool
+    ensures { result ≡ Fits.fits_call (module_view checked.now) (call_of call.now) }
+{
+    match exported_function(checked.module(), call.name.as_bytes()) {
+        None => false,
+        Some(function) => takes(function, call.args.as_slice()),
+    }
+}
+
+/// The first line of a call that doesn't fit.
+#[tactic(auto, using(crate::proofs::Earlier::earlier_lesser, crate::proofs::Earlier::earlier_none))]
+pub fn first_call(checked: &Checked, calls: &[CallLine]) -> Option<u64>
+    ensures { result ≡ Fits.least (Fits.lines_of (Fits.fits_call (module_view checked.now)) (λ (c : CallPlain). c.line) (map call_of calls.now)) }
+{
+    let mut first = None;
+    for call in calls {
+        if !fits_call(checked, call) {
+            first = lesser(call.line, first);
+        }
+    }
+    first
+}

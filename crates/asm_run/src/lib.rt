@@ -1,0 +1,12 @@
+//! asm.js: which scripts fit an accepted module, and its sessions.
+#![tactic(auto)]
+
+mod calls;
+mod fits;
+mod globals;
+mod lines;
+mod session;
+mod writes;
+
+pub use fits::fits_asm;
+pub use session::Session;

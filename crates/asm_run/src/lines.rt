@@ -1,0 +1,38 @@
+// The first of some lines.
+
+ghost use Rattle.std.specs.Prelude.{◌≡◌};
+ghost use Rattle.asm_meaning.specs.Fits;
+ghost use Rattle.asm_run.specs.Forms;
+
+/// The lesser of a line and another, where there is another.
+pub fn lesser(line: u64, other: Option<u64>) -> Option<u64>
+    ensures { result ≡ Fits.lesser line other }
+{
+    match other {
+        None => Some(line),
+        Some(other) => {
+            if other < line {
+                Some(other)
+            } else {
+                Some(line)
+            }
+        }
+    }
+}
+
+/// The lesser of two lines, where there are two.
+pub fn earlier(line: Option<u64>, other: Option<u64>) -> Option<u64>
+    ensures { result ≡ Forms.earlier line other }
+{
+    match line {
+        None => other,
+        Some(line) => lesser(line, other),
+    }
+}
+
+/// Whether a number is a signed or an unsigned reading of a word.
+pub fn in_range(value: i128) -> bool
+    ensures { result ≡ Fits.in_range value }
+{
+    value >= -2147483648 && value < 4294967296
+}

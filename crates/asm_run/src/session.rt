@@ -1,0 +1,92 @@
+//! Sessions.
+
+ghost use Rattle.std.specs.Prelude.{◌≡◌, None, Some, IfOk};
+ghost use Rattle.heap_views.specs.Heap.{IsHeapLength};
+ghost use Rattle.sem_laws.specs.Observation.{ObservationPlain};
+ghost use Rattle.sem_laws.specs.Views.{script_of, observation_of};
+ghost use Rattle.asm_tree.specs.Views.{module_view};
+ghost use Rattle.asm_meaning.specs.Session.{asm, checked_asm};
+ghost use Rattle.asm_meaning.specs.Fits.{misfit};
+
+use asm_names::Environment;
+use asm_place::World;
+use asm_session::run;
+use asm_validate::Checked;
+use sem_laws::{Observation, Script};
+use std::alloc::{AllocError, Global};
+use std::marker::Model;
+
+/// A session of an accepted module with a heap and a script that fits it, before its first call.
+#[derive(Drop)]
+pub struct Session<'a> {
+    checked: &'a Checked,
+    heap_len: u32,
+    script: &'a Script,
+    environment: Environment<'a>,
+    world: World<'a>,
+}
+
+impl<'a> Model for Session<'a> {
+    ghost use Rattle.std.specs.Coded.{codes};
+    ghost use Rattle.sem_laws.specs.Views.{script_of};
+    ghost use Rattle.asm_tree.specs.contracts.tree.Expr as exprs;
+    ghost use Rattle.asm_tree.specs.contracts.tree.Stmt as stmts;
+    ghost use Rattle.asm_run.specs.Linked.{SessionPlain, IsLinked};
+
+    ghost Value = { SessionPlain };
+
+    ghost coded = { Prim.hlevel (codes, exprs.the_row.coded, stmts.the_row.coded) };
+
+    ghost view = { λ s. record { code = s.checked.now; size = s.heap_len; script = script_of s.script.now } };
+
+    ghost invariant = { λ s. IsLinked s.checked.now s.heap_len (script_of s.script.now) s.environment s.world };
+}
+
+impl<'a> Session<'a> {
+    /// Links a module with a heap of this length and a script. It takes the memory of the heap and of the
+    /// module's variables.
+    pub fn link(
+        alloc: Global,
+        checked: &'a Checked,
+        heap_len: u32,
+        script: &'a Script,
+    ) -> Result<Session<'a>, AllocError>
+        requires fits { misfit (module_view checked.now) heap_len (script_of script.now) ≡ None }
+        requires length { IsHeapLength heap_len }
+        ensures code { IfOk result (λ s. s.code ≡ checked.now) }
+        ensures size { IfOk result (λ s. s.size ≡ heap_len) }
+        ensures script { IfOk result (λ s. s.script ≡ script_of script.now) }
+    {
+        asm_place::laws::literals_are_small();
+        let module = checked.module();
+        let environment = Environment::new(alloc, module)?;
+        let world = World::first(alloc, module, heap_len, script, 0)?;
+        Ok(Session {
+            checked,
+            heap_len,
+            script,
+            environment,
+            world,
+        })
+    }
+
+    /// What is seen of the session with this budget of units. It is never wrong, and each value of an
+    /// expression is one of its type.
+    pub fn run(self, alloc: Global, budget: u64) -> Result<Observation, AllocError>
+        ensures meaning { IfOk result (λ o. asm (module_view self.entry.code) self.entry.size self.entry.script budget ≡ Some (observation_of o)) }
+        ensures never_wrong { (seen : ObservationPlain) × (asm (module_view self.entry.code) self.entry.size self.entry.script budget ≡ Some seen) }
+        ensures types_hold { checked_asm (module_view self.entry.code) self.entry.size self.entry.script budget ≡ asm (module_view self.entry.code) self.entry.size self.entry.script budget }
+    {
+        asm_accepted::laws::accepted_laws();
+        asm_soundness::laws::accepted_modules();
+        let environment = self.environment;
+        let script = self.script;
+        let mut world = self.world;
+        world.set_units(budget);
+        let seen = run(alloc, &environment, world, script.calls.as_slice())?;
+        match seen {
+            Some(seen) => Ok(seen),
+            None => unreachable!(),
+        }
+    }
+}
