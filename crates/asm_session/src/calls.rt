@@ -5,7 +5,6 @@ ghost use Rattle.sem_words.specs.Lists.{list_items};
 ghost use Rattle.sem_laws.specs.Views.{call_of};
 ghost use Rattle.asm_tree.specs.Views.{module_view, function_view, stmts_view};
 ghost use Rattle.asm_names.specs.Environments.{IsComplete};
-ghost use Rattle.asm_place.specs.Locals.{HasSmallLocals};
 ghost use Rattle.asm_literals.specs.Literals.{IsSmall, SmallFunction, SmallModule, SmallStmts};
 ghost use Rattle.asm_variables.specs.Variables.{bindings};
 ghost use Rattle.asm_meaning.specs.Runs.{Place, defined};

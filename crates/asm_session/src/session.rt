@@ -1,15 +1,9 @@
 //! Runs the calls of a script.
-ghost use Rattle.std.specs.Prelude.{◌≡◌, All, ℕ, [], IfOk, map};
-ghost use Rattle.sem_words.specs.Lists.{list_items};
-ghost use Rattle.sem_laws.specs.Script.{ScriptPlain};
+ghost use Rattle.std.specs.Prelude.{IfOk, map};
 ghost use Rattle.sem_laws.specs.Views.{call_of};
-ghost use Rattle.sem_laws.specs.declared.script.CallLine.{CallLine as Line};
 ghost use Rattle.asm_tree.specs.Views.{module_view};
 ghost use Rattle.asm_names.specs.Environments.{IsComplete};
-ghost use Rattle.asm_meaning.specs.Session.{first_place, asm};
-ghost use Rattle.asm_place.specs.Worlds.{place_of};
 ghost use Rattle.asm_literals.specs.Literals.{SmallModule};
-ghost use Rattle.asm_session.specs.Hosted.{observation_option};
 ghost use Rattle.asm_session.specs.Session.{SmallCalls, IsSession};
 
 use crate::calls::{Hosted, host_call};
