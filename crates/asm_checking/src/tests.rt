@@ -67,10 +67,10 @@ fn foreign_calls_count_once(rt: HostRuntime) -> Result<(), Fail> {
         _ => return Err(Fail::new("calls")),
     }
     match module.foreign_globals() {
-        [first, second, third] => {
+        // `c` is the member `a` once more
+        [first, second] => {
             assert_eq!(rt; first.as_bytes(), b"a".as_slice());
             assert_eq!(rt; second.as_bytes(), b"b".as_slice());
-            assert_eq!(rt; third.as_bytes(), b"c".as_slice());
             Ok(())
         }
         _ => Err(Fail::new("globals")),
