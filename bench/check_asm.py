@@ -11,7 +11,6 @@ from measure import print_row
 
 COUNTS = [1_000, 10_000, 40_000]
 NODE = "new (require('vm').Script)('('+require('fs').readFileSync(process.argv[1],'latin1')+')')"
-SHELL = "evaluate('('+read(scriptArgs[0])+')')"
 
 
 def main():
@@ -20,7 +19,7 @@ def main():
     if shutil.which("node"):
         tools.append(("node", lambda file: ["node", "-e", NODE, file]))
     if shutil.which("js102"):
-        tools.append(("js102", lambda file: ["js102", "-e", SHELL, file]))
+        tools.append(("js102", lambda file: ["js102", "-e", f"evaluate('('+read('{file}')+')')"]))
     before = {}
     with tempfile.TemporaryDirectory() as folder:
         for count in COUNTS:
