@@ -1,5 +1,5 @@
 -- What the readers of numbers cite.
-use Rattle.std.proofs.Common.{◌≡◌, ◌≢◌, ◌∙◌, ◌<◌, ◌^◌, ℕ, Bool, true, false, refl, sym, ap, arith, [], ◌∷◌, length, get_or, Option, Some, None, Result, Ok, Err, cond, nat_lt, ◌==◌, eqb-true, lt-ltb, ltb-true, true≢false}
+use Rattle.std.proofs.Common.{◌≡◌, ◌≢◌, ◌∙◌, ◌<◌, ◌≤◌, ◌^◌, ◌%◌, ℕ, Bool, true, false, refl, sym, ap, arith, [], ◌∷◌, length, get_or, Option, Some, None, Result, Ok, Err, cond, nat_lt, ◌==◌, eqb-true, lt-ltb, ltb-true, true≢false}
 use Rattle.std.specs.Str.{all_ascii_digits}
 use Rattle.std.specs.Str.Parse.{ParsesUnsigned, digits_value}
 use Rattle.std.specs.Result.{OkIff, result_ok}
@@ -33,6 +33,11 @@ kept_none p q below (Some m) e = kept_case (p m) (q m) m (below m) e
 pub heap_fits : (n : ℕ) → is_heap n ≡ true → nat_lt n (2 ^ 32) ≡ true
 unfolding is_heap
 heap_fits n h = grind arith
+
+-- a heap is whole words of 32 bits, at most 256 MiB
+pub heap_words : (n : ℕ) → is_heap n ≡ true → (n % 4 ≡ 0) × (n ≤ 2 ^ 28)
+unfolding is_heap
+heap_words n h = (grind arith, grind arith)
 
 pub no_heap : (found : Option ℕ) → None ≡ kept (λ n. nat_lt n (2 ^ 32)) found → None ≡ kept is_heap found
 no_heap found e = kept_none is_heap (λ n. nat_lt n (2 ^ 32)) heap_fits found e

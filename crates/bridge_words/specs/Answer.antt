@@ -27,9 +27,9 @@ given_texts g = record {
 abbrev pub job_read : Job → JobRead
 job_read (CheckAsm file) = check_asm (string_bytes file)
 job_read (CheckWasm file) = check_wasm (string_bytes file)
-job_read (AsmToWasm file heap) = asm_to_wasm (string_bytes file) heap
+job_read (AsmToWasm file heap) = asm_to_wasm (string_bytes file) heap.bytes
 job_read (RunAsm file script heap steps) =
-    run_asm (string_bytes file) (string_bytes script) heap steps
+    run_asm (string_bytes file) (string_bytes script) heap.bytes steps
 job_read (RunWasm file script steps) = run_wasm (string_bytes file) (string_bytes script) steps
 job_read (Show file) = show (string_bytes file)
 

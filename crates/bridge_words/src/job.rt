@@ -7,17 +7,17 @@ ghost use Rattle.bridge_words.specs.Answer.{Answers, text_of, given_texts, job_r
 
 use crate::command::{Given, given_of, matches_for};
 use crate::fault::WordsFault;
+use crate::heap::HeapLength;
 use crate::numbers::{heap_size, step_count};
 use std::alloc::Global;
 
-/// What the words ask for: files by their names, the heap's length in bytes, and how many units or reductions a run
-/// may take.
+/// What the words ask for: files by their names, the heap's length, and how many units or reductions a run may take.
 #[derive(Debug, Drop)]
 pub enum Job {
     CheckAsm(String),
     CheckWasm(String),
-    AsmToWasm(String, u32),
-    RunAsm(String, String, u32, u32),
+    AsmToWasm(String, HeapLength),
+    RunAsm(String, String, HeapLength, u32),
     RunWasm(String, String, u32),
     Show(String),
 }

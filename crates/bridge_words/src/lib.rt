@@ -3,10 +3,12 @@
 
 mod command;
 mod fault;
+mod heap;
 mod job;
 mod numbers;
 #[cfg(test)]
 mod tests;
 
 pub use fault::WordsFault;
+pub use heap::HeapLength;
 pub use job::{Job, read_words};

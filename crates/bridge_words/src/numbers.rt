@@ -1,12 +1,13 @@
 //! The numbers of options.
 
-ghost use Rattle.std.specs.Prelude.{◌≡◌, ◌^◌, nat_lt};
+ghost use Rattle.std.specs.Prelude.{◌≡◌, ◌^◌, nat_lt, option_map};
 ghost use Rattle.bridge_words.specs.Number as spec;
 ghost use Rattle.bridge_words.specs.Number.{kept, number_of};
 ghost use Rattle.bridge_words.specs.Job.{heap_of, steps_of};
 ghost use Rattle.bridge_words.specs.Answer.{given_texts};
 
 use crate::command::Given;
+use crate::heap::HeapLength;
 
 // bytes
 const ABSENT_HEAP: u32 = 65536;
@@ -41,22 +42,22 @@ fn is_heap(n: u32) -> bool
 }
 
 #[tactic(auto, using(crate::proofs::NumberLemmas::no_heap))]
-fn heap_number(text: &str) -> Option<u32>
-    ensures { result ≡ kept spec.is_heap (number_of text.now) }
+fn heap_number(text: &str) -> Option<HeapLength>
+    ensures { option_map (λ length. length.bytes) result ≡ kept spec.is_heap (number_of text.now) }
 {
     match number(text) {
-        Some(n) if is_heap(n) => Some(n),
+        Some(bytes) if is_heap(bytes) => Some(HeapLength { bytes }),
         _ => None,
     }
 }
 
 #[tactic(auto, unfolding(crate::specs::Job::heap_of))]
 /// The heap's length in bytes.
-pub fn heap_size(given: &Given<'_, '_>) -> Option<u32>
-    ensures { result ≡ heap_of (given_texts given.now) }
+pub fn heap_size(given: &Given<'_, '_>) -> Option<HeapLength>
+    ensures { option_map (λ length. length.bytes) result ≡ heap_of (given_texts given.now) }
 {
     match given.heap {
-        None => Some(ABSENT_HEAP),
+        None => Some(HeapLength { bytes: ABSENT_HEAP }),
         Some(text) => heap_number(text),
     }
 }

@@ -40,10 +40,16 @@ fn defaults_and_dashes(rt: HostRuntime) {
     let plain = ["bridge", "run-asm", "a", "b"];
     let dashes = ["bridge", "show", "--", "--steps"];
     let heap = ["bridge", "asm2wasm", "a", "--heap", "33554432"];
-    let plain_job = "Ok(RunAsm(\"a\", \"b\", 65536, 1000000))";
+    let plain_job = "Ok(RunAsm(\"a\", \"b\", HeapLength { bytes: 65536 }, 1000000))";
     assert!(rt; shows(alloc, plain.as_slice(), plain_job));
     assert!(rt; shows(alloc, dashes.as_slice(), "Ok(Show(\"--steps\"))"));
-    assert!(rt; shows(alloc, heap.as_slice(), "Ok(AsmToWasm(\"a\", 33554432))"));
+    assert!(rt;
+        shows(
+            alloc,
+            heap.as_slice(),
+            "Ok(AsmToWasm(\"a\", HeapLength { bytes: 33554432 }))"
+        )
+    );
 }
 
 #[test]
