@@ -14,9 +14,7 @@ use Rattle.wasm_checking.specs.declared.fault.CheckFault.TheVariants as checks
 use Rattle.wasm_checking.specs.Verdicts.{IsValidBytes, IsRefused}
 use Rattle.wasm_checking.proofs.Once.{not_both, one_fault}
 use Rattle.wasm_scripts.specs.Modules.{IsRunnable, IsOutside}
-use Rattle.wasm_scripts.specs.Runs.{script_for}
 use Rattle.wasm_scripts.specs.Modules.{IsNotRun}
-use Rattle.wasm_scripts.specs.Runs.{IsScriptRefusal}
 use Rattle.wasm_scripts.specs.declared.fault.RunFault.{RunFault}
 use Rattle.wasm_scripts.specs.declared.fault.RunFault.TheVariants as run_faults
 use Rattle.script_text.specs.declared.fault.ScriptFault.{ScriptFault}
@@ -28,15 +26,19 @@ use Rattle.bridge_cmd.specs.declared.status.Status.TheVariants.{Usage}
 use Rattle.bridge_cmd.specs.Asking.{done_by, asked_by}
 use Rattle.bridge_cmd.specs.declared.words.Making.TheVariants.{AsmToWasm, CheckAsm, CheckWasm, Show}
 use Rattle.bridge_cmd.specs.declared.words.Action.{Action}
-use Rattle.bridge_cmd.specs.declared.words.Action.TheVariants.{Make, RunWasm}
-use Rattle.bridge_cmd.specs.Command.{Asked, run_wasm, asked, first_form, asm_js, web_assembly, begins_with_zero, language_of, read_as, file_of}
+use Rattle.bridge_cmd.specs.declared.words.Action.TheVariants.{Make, Run}
+use Rattle.bridge_cmd.specs.Command.{Asked, Running, as_text, as_binary, run, asked, first_form, asm_js, web_assembly, begins_with_zero, language_of, read_as, file_of}
 use Rattle.bridge_cmd.specs.Answers.{IsAnswered, a_bar, want_of_memory, IsScriptAnswer, an_unfit_line, no_room, MayAnswer, a_refusal, a_read_fault, no_memory}
 use Rattle.bridge_cmd.specs.Job.{Job, refused, written, file_limit, Holds, IsFileJob, absent, long, held, IsBarred, other_text, not_accepted, not_valid, outside, IsMade, translated, text_counted, bytes_counted, printed, listed, IsPlayed, unfit, ran, IsModuleJob, barred, made, scripted, IsJob, no_command, commanded}
+use Rattle.bridge_cmd.specs.Runs.{Runner, text_runner, binary_runner, IsRunner, a_text, a_binary, script_for, Prints}
 use Rattle.bridge_cmd.specs.Outcome.{EndsAs, IsCutShort, by_a_read, by_want, MayReport}
 use Rattle.bridge_cmd.specs.Reason.{Reason, faulty_words, read_fault, missing, too_large}
 use Rattle.bridge_cmd.specs.Refused.{status_of, reason_of_check, reason_of_text, reason_of_run, reason_of_script, reason_of_words}
 use Rattle.bridge_cmd.proofs.Files.{own_status, OneEnd, one_file_end}
 use Rattle.asm_checking.proofs.Verdicts as laws
+use Rattle.asm_lang.specs.Modules.{Module}
+use Rattle.asm_scripts.specs.Runs as text_runs
+use Rattle.wasm_scripts.specs.Runs as binary_runs
 
 -- ---- why a module isn't taken
 
@@ -88,40 +90,54 @@ bar_makes_nothing a bytes output r (not_valid f x i n) (printed m y j o) = cc
 bar_makes_nothing a bytes output r (not_valid f x i n) (listed m y j o) = n (not_both bytes m f j i)
 bar_makes_nothing a bytes output r (outside row o) i = elim i [ ]
 
-bar_runs_nothing : (file script bytes : List ℕ) (steps : ℕ) (m : WasmModule) (r : Reason) → IsBarred (run_wasm file script steps) bytes r → IsRunnable bytes m → ⊥
-bar_runs_nothing file script bytes steps m r (other_text x t) i = cc
-bar_runs_nothing file script bytes steps m r (not_accepted f x j) i = cc
-bar_runs_nothing file script bytes steps m r (not_valid f x j n) i = n (not_both bytes m f i.taken j)
-bar_runs_nothing file script bytes steps m r (outside row o) i =
+bar_runs_nothing : (running : Running) (file script bytes : List ℕ) (steps : ℕ) (runner : Runner) (r : Reason)
+    → IsBarred (run running file script steps) bytes r → IsRunner bytes running runner → ⊥
+bar_runs_nothing running file script bytes steps runner r (other_text x t) (a_text m i) = cc
+bar_runs_nothing running file script bytes steps runner r (other_text x t) (a_binary m i) = cc
+bar_runs_nothing running file script bytes steps runner r (not_accepted f x j) (a_text m i) = laws.not_faulty bytes m f i j
+bar_runs_nothing running file script bytes steps runner r (not_accepted f x j) (a_binary m i) = cc
+bar_runs_nothing running file script bytes steps runner r (not_valid f x j n) (a_text m i) = cc
+bar_runs_nothing running file script bytes steps runner r (not_valid f x j n) (a_binary m i) = n (not_both bytes m f i.taken j)
+bar_runs_nothing running file script bytes steps runner r (outside row o) (a_binary m i) =
     let same = same_module bytes m o.«module» i.taken o.taken in
     let e : Some row ≡ None = sym o.meets ∙ ap not_runnable same ∙ i.runs in
     cc
 
 -- ---- runs
 
-one_played_end : (m : WasmModule) (steps : ℕ) (script : List ℕ) → OneEnd (IsPlayed m steps script)
-one_played_end m steps script j k (unfit line x) (unfit line' y) =
+one_runner : (running : Running) (bytes : List ℕ) (r q : Runner) → IsRunner bytes running r → IsRunner bytes running q → q ≡ r
+one_runner running bytes r q (a_text {heap = heap} m i) (a_text n j) = ap (λ x. text_runner x heap) (laws.one_module bytes n m j i)
+one_runner running bytes r q (a_binary m i) (a_binary n j) = ap binary_runner (same_module bytes m n i.taken j.taken)
+
+never_both : (r : Runner) (steps : ℕ) (script output : List ℕ) (line : ℕ) → script_for r script ≡ Err line → Prints r script steps output → ⊥
+never_both (text_runner m heap) steps script output line x p = let e = sym x ∙ p.said in absurd cc
+never_both (binary_runner m) steps script output line x p = let e = sym x ∙ p.said in absurd cc
+
+one_played_end : (r : Runner) (steps : ℕ) (script : List ℕ) → OneEnd (IsPlayed r steps script)
+one_played_end r steps script j k (unfit line x) (unfit line' y) =
     let e : Err line ≡ Err line' = sym x ∙ y in
     let f : line ≡ line' = cc in
     rw f refl
-one_played_end m steps script j k (unfit line x) (ran p) = let e = sym x ∙ p.said in absurd cc
-one_played_end m steps script j k (ran p) (unfit line x) = let e = sym x ∙ p.said in absurd cc
-one_played_end m steps script j k (ran p) (ran q) = refl
+one_played_end r steps script j k (unfit line x) (ran {output = output} p) = absurd (never_both r steps script output line x p)
+one_played_end r steps script j k (ran {output = output} p) (unfit line x) = absurd (never_both r steps script output line x p)
+one_played_end r steps script j k (ran p) (ran q) = refl
 
 -- ---- the whole
 
 one_module_end : (map : Told) (a : Asked) (bytes : List ℕ) → OneEnd (IsModuleJob (Some map) a bytes)
 one_module_end map a bytes j k (barred {reason = r} x) (barred {reason = q} y) = one_bar a bytes r q x y
 one_module_end map a bytes j k (barred {reason = r} x) (made {output = output} y) = absurd (bar_makes_nothing a bytes output r x y)
-one_module_end map a bytes j k (barred {reason = r} x) (scripted {file = file} {script = script} {steps = steps} m i of) = absurd (bar_runs_nothing file script bytes steps m r x i)
+one_module_end map a bytes j k (barred {reason = r} x) (scripted {running = running} {file = file} {script = script} {steps = steps} runner i of) =
+    absurd (bar_runs_nothing running file script bytes steps runner r x i)
 one_module_end map a bytes j k (made {output = output} x) (barred {reason = r} y) = absurd (bar_makes_nothing a bytes output r y x)
 one_module_end map a bytes j k (made x) (made y) = refl
-one_module_end map a bytes j k (made x) (scripted m i of) = elim x [ ]
-one_module_end map a bytes j k (scripted m i of) (made y) = elim y [ ]
-one_module_end map a bytes j k (scripted {file = file} {script = script} {steps = steps} m i of) (barred {reason = r} y) = absurd (bar_runs_nothing file script bytes steps m r y i)
-one_module_end map a bytes j k (scripted {script = script} {steps = steps} m i of) (scripted m' i' of') =
-    let same = same_module bytes m m' i.taken i'.taken in
-    one_file_end map true script (IsPlayed m steps) (one_played_end m steps) j k of (subst (λ n. IsFileJob (Some map) true script (IsPlayed n steps) k) same of')
+one_module_end map a bytes j k (made x) (scripted runner i of) = elim x [ ]
+one_module_end map a bytes j k (scripted runner i of) (made y) = elim y [ ]
+one_module_end map a bytes j k (scripted {running = running} {file = file} {script = script} {steps = steps} runner i of) (barred {reason = r} y) =
+    absurd (bar_runs_nothing running file script bytes steps runner r y i)
+one_module_end map a bytes j k (scripted {running = running} {script = script} {steps = steps} runner i of) (scripted runner' i' of') =
+    let same = one_runner running bytes runner runner' i i' in
+    one_file_end map true script (IsPlayed runner steps) (one_played_end runner steps) j k of (subst (λ r. IsFileJob (Some map) true script (IsPlayed r steps) k) same of')
 
 -- the words and told files have one job, as far as its end goes
 pub one_end : (words : List (List ℕ)) (told : Option Told) → IsSome told → OneEnd (IsJob words told)
@@ -187,21 +203,31 @@ check_answer a bytes (checks.Binary row at) x i = a_bar (not_valid (checks.Binar
 check_answer a bytes (checks.Invalid rule section index instruction) x i = a_bar (not_valid (checks.Invalid rule section index instruction) x i (λ e. absurd cc))
 check_answer a bytes checks.Memory x i = want_of_memory
 
-pub run_answer : (file script bytes : List ℕ) (steps : ℕ) (fault : RunFault) → IsNotRun bytes fault → IsAnswered (run_wasm file script steps) bytes (reason_of_run fault)
-run_answer file script bytes steps (run_faults.Check fault) i = check_answer (run_wasm file script steps) bytes fault refl i
+pub run_answer : (file script bytes : List ℕ) (steps : ℕ) (fault : RunFault) → IsNotRun bytes fault → IsAnswered (run as_binary file script steps) bytes (reason_of_run fault)
+run_answer file script bytes steps (run_faults.Check fault) i = check_answer (run as_binary file script steps) bytes fault refl i
 run_answer file script bytes steps (run_faults.Outside row) i = a_bar (outside row i)
 
-pub script_answer : (m : WasmModule) (steps : ℕ) (script : List ℕ) (fault : ScriptFault) → IsScriptRefusal m script fault → IsScriptAnswer m steps script (reason_of_script fault)
-script_answer m steps script (script_faults.Refused line) i = an_unfit_line (unfit line i)
-script_answer m steps script script_faults.Memory i = no_room
+pub text_script_answer : (m : Module) (heap steps : ℕ) (script : List ℕ) (fault : ScriptFault) → text_runs.IsScriptRefusal m heap script fault
+    → IsScriptAnswer (text_runner m heap) steps script (reason_of_script fault)
+text_script_answer m heap steps script (script_faults.Refused line) i = an_unfit_line (unfit line i)
+text_script_answer m heap steps script script_faults.Memory i = no_room
 
-pub script_quiet : (m : WasmModule) (steps : ℕ) (script : List ℕ) (r : Reason) → IsScriptAnswer m steps script r → tells_files r ≡ false
-script_quiet m steps script r (an_unfit_line (unfit line x)) = refl
-script_quiet m steps script r no_room = refl
+pub binary_script_answer : (m : WasmModule) (steps : ℕ) (script : List ℕ) (fault : ScriptFault) → binary_runs.IsScriptRefusal m script fault
+    → IsScriptAnswer (binary_runner m) steps script (reason_of_script fault)
+binary_script_answer m steps script (script_faults.Refused line) i = an_unfit_line (unfit line i)
+binary_script_answer m steps script script_faults.Memory i = no_room
 
-pub script_may : (m : WasmModule) (steps : ℕ) (script : List ℕ) (r : Reason) → IsScriptAnswer m steps script r → MayAnswer (IsPlayed m steps script) r
-script_may m steps script r (an_unfit_line x) = a_refusal x
-script_may m steps script r no_room = no_memory
+pub script_quiet : (runner : Runner) (steps : ℕ) (script : List ℕ) (r : Reason) → IsScriptAnswer runner steps script r → tells_files r ≡ false
+script_quiet runner steps script r (an_unfit_line (unfit line x)) = refl
+script_quiet runner steps script r no_room = refl
+
+pub script_may : (runner : Runner) (steps : ℕ) (script : List ℕ) (r : Reason) → IsScriptAnswer runner steps script r → MayAnswer (IsPlayed runner steps script) r
+script_may runner steps script r (an_unfit_line x) = a_refusal x
+script_may runner steps script r no_room = no_memory
+
+-- a module of WebAssembly that is run can be run
+pub runs_binary : (bytes : List ℕ) (running : Running) (m : WasmModule) → IsRunner bytes running (binary_runner m) → IsRunnable bytes m
+runs_binary bytes running m (a_binary m i) = i
 
 -- a reason that doesn't speak of files is none of theirs
 pub quiet_read_fault : (r : Reason) → tells_files r ≡ false → r ≡ read_fault → ⊥
@@ -220,11 +246,11 @@ of_held told b file bytes OfBytes r h w (a_refusal x) = a_refusal (held bytes h 
 of_held told b file bytes OfBytes r h w a_read_fault = a_read_fault
 of_held told b file bytes OfBytes r h w no_memory = no_memory
 
-pub of_script_file : (told : Option Told) (file script bytes : List ℕ) (steps : ℕ) (m : WasmModule) (r : Reason) → IsRunnable bytes m
-    → MayAnswer (IsFileJob told true script (IsPlayed m steps)) r → MayAnswer (IsModuleJob told (run_wasm file script steps) bytes) r
-of_script_file told file script bytes steps m r i (a_refusal x) = a_refusal (scripted m i x)
-of_script_file told file script bytes steps m r i a_read_fault = a_read_fault
-of_script_file told file script bytes steps m r i no_memory = no_memory
+pub of_script_file : (told : Option Told) (running : Running) (file script bytes : List ℕ) (steps : ℕ) (runner : Runner) (r : Reason) → IsRunner bytes running runner
+    → MayAnswer (IsFileJob told true script (IsPlayed runner steps)) r → MayAnswer (IsModuleJob told (run running file script steps) bytes) r
+of_script_file told running file script bytes steps runner r i (a_refusal x) = a_refusal (scripted runner i x)
+of_script_file told running file script bytes steps runner r i a_read_fault = a_read_fault
+of_script_file told running file script bytes steps runner r i no_memory = no_memory
 
 pub of_command : (words : List (List ℕ)) (told : Option Told) (a : Asked) (r : Reason) → asked words ≡ Some a
     → MayAnswer (IsFileJob told false (file_of a) (IsModuleJob told a)) r → MayReport words told r
@@ -238,7 +264,7 @@ file_done (Make AsmToWasm) file = refl
 file_done (Make CheckAsm) file = refl
 file_done (Make CheckWasm) file = refl
 file_done (Make Show) file = refl
-file_done (RunWasm script steps) file = refl
+file_done (Run running script steps) file = refl
 
 -- words that name no command may be told, and want of memory
 pub words_report : (words : List (List ℕ)) (told : Option Told) (fault : WordsFault) → Answers asked_by (asked words) (Err fault) → MayReport words told (reason_of_words fault)
@@ -270,12 +296,12 @@ file_usage told b file OfBytes never r (absent x) is = cc
 file_usage told b file OfBytes never r (long x) is = cc
 file_usage told b file OfBytes never r (held bytes h w x) is = never bytes r x is
 
-played_usage : (m : WasmModule) (steps : ℕ) (script : List ℕ) → NoUsage (IsPlayed m steps script)
-played_usage m steps script r (unfit line x) is = cc
+played_usage : (runner : Runner) (steps : ℕ) (script : List ℕ) → NoUsage (IsPlayed runner steps script)
+played_usage runner steps script r (unfit line x) is = cc
 
 module_usage : (told : Option Told) (a : Asked) (bytes : List ℕ) → NoUsage (IsModuleJob told a bytes)
 module_usage told a bytes r (barred x) is = bar_usage a bytes r x is
-module_usage told a bytes r (scripted {script = script} {steps = steps} m i x) is = file_usage told true script (IsPlayed m steps) (played_usage m steps) r x is
+module_usage told a bytes r (scripted {script = script} {steps = steps} runner i x) is = file_usage told true script (IsPlayed runner steps) (played_usage runner steps) r x is
 
 job_usage : (words : List (List ℕ)) (told : Option Told) (r : Reason) → IsJob words told (refused r) → status_of r ≡ Usage → asked words ≡ None
 job_usage words told r (no_command e) is = e

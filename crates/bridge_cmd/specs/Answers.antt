@@ -1,8 +1,8 @@
 -- What may be answered in place of an output.
 use Rattle.std.specs.Prelude.{ℕ, List}
-use Rattle.wasm_lang.specs.Modules.{WasmModule}
 use Rattle.bridge_cmd.specs.Command.{Asked}
 use Rattle.bridge_cmd.specs.Job.{Job, refused, IsBarred, IsPlayed}
+use Rattle.bridge_cmd.specs.Runs.{Runner}
 use Rattle.bridge_cmd.specs.Reason.{Reason, read_fault, out_of_memory}
 
 -- why a command doesn't take its module, or want of memory
@@ -11,9 +11,9 @@ pub data IsAnswered (a : Asked) (bytes : List ℕ) : Reason → Type 0 where
   want_of_memory : IsAnswered a bytes out_of_memory
 
 -- which line of a script isn't taken, or want of memory
-pub data IsScriptAnswer (m : WasmModule) (steps : ℕ) (script : List ℕ) : Reason → Type 0 where
-  an_unfit_line : {reason : Reason} → IsPlayed m steps script (refused reason) → IsScriptAnswer m steps script reason
-  no_room : IsScriptAnswer m steps script out_of_memory
+pub data IsScriptAnswer (runner : Runner) (steps : ℕ) (script : List ℕ) : Reason → Type 0 where
+  an_unfit_line : {reason : Reason} → IsPlayed runner steps script (refused reason) → IsScriptAnswer runner steps script reason
+  no_room : IsScriptAnswer runner steps script out_of_memory
 
 -- the refusal of one of these jobs, a failed read, or want of memory
 pub data MayAnswer (Is : Job → Type 0) : Reason → Type 0 where

@@ -1,21 +1,28 @@
 -- What the code's commands ask for.
 use Rattle.std.specs.Prelude.{ℕ, List, string_bytes}
-use Rattle.bridge_cmd.specs.Command.{Asked, asm_to_wasm, check_asm, check_wasm, show, run_wasm}
+use Rattle.bridge_cmd.specs.Command as spec
+use Rattle.bridge_cmd.specs.Command.{Asked}
 use Rattle.bridge_cmd.specs.declared.words.Making.{Making}
 use Rattle.bridge_cmd.specs.declared.words.Making.TheVariants.{AsmToWasm, CheckAsm, CheckWasm, Show}
+use Rattle.bridge_cmd.specs.declared.words.Running.{Running}
+use Rattle.bridge_cmd.specs.declared.words.Running.TheVariants.{Text, Binary}
 use Rattle.bridge_cmd.specs.declared.words.Action.{Action}
-use Rattle.bridge_cmd.specs.declared.words.Action.TheVariants.{Make, RunWasm}
+use Rattle.bridge_cmd.specs.declared.words.Action.TheVariants.{Make, Run}
 use Rattle.bridge_cmd.specs.declared.words.Command.{Command}
 
 abbrev pub made_by : Making → List ℕ → Asked
-made_by AsmToWasm file = asm_to_wasm file
-made_by CheckAsm file = check_asm file
-made_by CheckWasm file = check_wasm file
-made_by Show file = show file
+made_by AsmToWasm file = spec.asm_to_wasm file
+made_by CheckAsm file = spec.check_asm file
+made_by CheckWasm file = spec.check_wasm file
+made_by Show file = spec.show file
+
+abbrev pub run_as : Running → spec.Running
+run_as (Text heap) = spec.as_text heap.bytes
+run_as Binary = spec.as_binary
 
 abbrev pub done_by : Action → List ℕ → Asked
 done_by (Make making) file = made_by making file
-done_by (RunWasm script steps) file = run_wasm file (string_bytes script) steps
+done_by (Run running script steps) file = spec.run (run_as running) file (string_bytes script) steps
 
 abbrev pub asked_by : Command → Asked
 asked_by command = done_by command.action (string_bytes command.file)

@@ -1,15 +1,20 @@
--- Which command the words name, of those that are built.
-use Rattle.std.specs.Prelude.{ℕ, Bool, false, List, [], ◌∷◌, Option, Some, None, ◌==◌, if◌then◌else◌, option_and_then}
+-- Which command the words name.
+use Rattle.std.specs.Prelude.{ℕ, Bool, false, List, [], ◌∷◌, Option, ◌==◌, if◌then◌else◌, option_map}
 use Rattle.bridge_words.specs.Job.{JobRead, job_of}
 use Rattle.bridge_words.specs.Job as words
 
--- a command, with the names of its files, and how many reductions a run may take
+-- what a module is run as; one of asm.js with a heap of so many bytes
+pub data Running : Type 0 where
+  as_text : (heap : ℕ) → Running
+  as_binary : Running
+
+-- a command, with the names of its files, and how many units or reductions a run may take
 pub data Asked : Type 0 where
   asm_to_wasm : (file : List ℕ) → Asked
   check_asm : (file : List ℕ) → Asked
   check_wasm : (file : List ℕ) → Asked
   show : (file : List ℕ) → Asked
-  run_wasm : (file script : List ℕ) (steps : ℕ) → Asked
+  run : (running : Running) (file script : List ℕ) (steps : ℕ) → Asked
 
 -- the file of the module
 abbrev pub file_of : Asked → List ℕ
@@ -17,19 +22,19 @@ file_of (asm_to_wasm file) = file
 file_of (check_asm file) = file
 file_of (check_wasm file) = file
 file_of (show file) = file
-file_of (run_wasm file script steps) = file
+file_of (run running file script steps) = file
 
 -- a module of the first form has no heap, so that its length is of no use
-abbrev pub built : JobRead → Option Asked
-built (words.asm_to_wasm file heap) = Some (asm_to_wasm file)
-built (words.check_asm file) = Some (check_asm file)
-built (words.check_wasm file) = Some (check_wasm file)
-built (words.show file) = Some (show file)
-built (words.run_wasm file script steps) = Some (run_wasm file script steps)
-built (words.run_asm file script heap steps) = None
+abbrev pub command_of : JobRead → Asked
+command_of (words.asm_to_wasm file heap) = asm_to_wasm file
+command_of (words.check_asm file) = check_asm file
+command_of (words.check_wasm file) = check_wasm file
+command_of (words.show file) = show file
+command_of (words.run_asm file script heap steps) = run (as_text heap) file script steps
+command_of (words.run_wasm file script steps) = run as_binary file script steps
 
 abbrev pub asked : List (List ℕ) → Option Asked
-asked words = option_and_then built (job_of words)
+asked words = option_map command_of (job_of words)
 
 -- the language of a module's bytes
 pub data Language : Type 0 where
@@ -51,4 +56,5 @@ read_as (asm_to_wasm file) bytes = first_form
 read_as (check_asm file) bytes = asm_js
 read_as (check_wasm file) bytes = web_assembly
 read_as (show file) bytes = language_of bytes
-read_as (run_wasm file script steps) bytes = web_assembly
+read_as (run (as_text heap) file script steps) bytes = asm_js
+read_as (run as_binary file script steps) bytes = web_assembly

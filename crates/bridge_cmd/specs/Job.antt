@@ -13,10 +13,10 @@ use Rattle.wasm_checking.specs.declared.fault.CheckFault.{CheckFault}
 use Rattle.wasm_checking.specs.declared.fault.CheckFault.TheVariants.{Memory}
 use Rattle.wasm_checking.specs.Verdicts.{IsValidBytes, IsCounted, IsRefused}
 use Rattle.wasm_listing.specs.Listing.{listing}
-use Rattle.wasm_scripts.specs.Modules.{IsRunnable, IsOutside}
-use Rattle.wasm_scripts.specs.Runs.{Prints, script_for}
-use Rattle.bridge_cmd.specs.Command.{Asked, asm_to_wasm, check_asm, check_wasm, show, run_wasm, file_of, asked, first_form, asm_js, web_assembly, language_of, read_as}
+use Rattle.wasm_scripts.specs.Modules.{IsOutside}
+use Rattle.bridge_cmd.specs.Command.{Asked, asm_to_wasm, check_asm, check_wasm, show, Running, as_binary, run, file_of, asked, first_form, asm_js, web_assembly, language_of, read_as}
 use Rattle.bridge_cmd.specs.Reason.{Reason, faulty_words, not_of_the_form, not_run, bad_script, missing, too_large, out_of_memory}
+use Rattle.bridge_cmd.specs.Runs.{Runner, IsRunner, script_for, Prints}
 use Rattle.bridge_cmd.specs.Refused.{reason_of_check, reason_of_text}
 
 pub data Job : Type 0 where
@@ -56,7 +56,7 @@ pub data IsBarred : Asked → List ℕ → Reason → Type 0 where
       → IsBarred a bytes (reason_of_text fault)
   not_valid : {a : Asked} {bytes : List ℕ} (fault : CheckFault) → read_as a bytes ≡ web_assembly → IsRefused bytes fault → fault ≢ Memory
       → IsBarred a bytes (reason_of_check fault)
-  outside : {file script bytes : List ℕ} {steps : ℕ} (row : Outside) → IsOutside bytes row → IsBarred (run_wasm file script steps) bytes (not_run row.row row.value)
+  outside : {file script bytes : List ℕ} {steps : ℕ} (row : Outside) → IsOutside bytes row → IsBarred (run as_binary file script steps) bytes (not_run row.row row.value)
 
 -- what a command without a script makes of its module's bytes
 pub data IsMade : Asked → List ℕ → List ℕ → Type 0 where
@@ -68,18 +68,18 @@ pub data IsMade : Asked → List ℕ → List ℕ → Type 0 where
   listed : {file bytes output : List ℕ} (m : WasmModule) → language_of bytes ≡ web_assembly → IsValidBytes bytes m → output ≡ listing m
       → IsMade (show file) bytes output
 
--- what a run makes of a module and the script's bytes
-pub data IsPlayed (m : WasmModule) (steps : ℕ) (script : List ℕ) : Job → Type 0 where
-  unfit : (line : ℕ) → script_for m script ≡ Err line → IsPlayed m steps script (refused (bad_script line))
-  ran : {output : List ℕ} → Prints m script steps output → IsPlayed m steps script (written output)
+-- what a run makes of the script's bytes
+pub data IsPlayed (runner : Runner) (steps : ℕ) (script : List ℕ) : Job → Type 0 where
+  unfit : (line : ℕ) → script_for runner script ≡ Err line → IsPlayed runner steps script (refused (bad_script line))
+  ran : {output : List ℕ} → Prints runner script steps output → IsPlayed runner steps script (written output)
 
 -- ---- the whole
 
 pub data IsModuleJob (told : Option Told) : Asked → List ℕ → Job → Type 0 where
   barred : {a : Asked} {bytes : List ℕ} {reason : Reason} → IsBarred a bytes reason → IsModuleJob told a bytes (refused reason)
   made : {a : Asked} {bytes output : List ℕ} → IsMade a bytes output → IsModuleJob told a bytes (written output)
-  scripted : {file script bytes : List ℕ} {steps : ℕ} {job : Job} (m : WasmModule) → IsRunnable bytes m
-      → IsFileJob told true script (IsPlayed m steps) job → IsModuleJob told (run_wasm file script steps) bytes job
+  scripted : {running : Running} {file script bytes : List ℕ} {steps : ℕ} {job : Job} (runner : Runner) → IsRunner bytes running runner
+      → IsFileJob told true script (IsPlayed runner steps) job → IsModuleJob told (run running file script steps) bytes job
 
 pub data IsJob (words : List (List ℕ)) (told : Option Told) : Job → Type 0 where
   no_command : asked words ≡ None → IsJob words told (refused faulty_words)

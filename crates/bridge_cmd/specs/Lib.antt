@@ -6,4 +6,6 @@ pub mod Job
 pub mod Outcome
 pub mod Reason
 pub mod Refused
+pub mod Runners
+pub mod Runs
 pub mod Sinks

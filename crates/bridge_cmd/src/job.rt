@@ -9,7 +9,7 @@ ghost use Rattle.bridge_cmd.specs.Reason.{faulty_words, read_fault, missing, too
 ghost use Rattle.bridge_cmd.specs.Refused.{reason_of};
 
 use crate::making::made;
-use crate::playing::{FILE_LIMIT, wasm_run};
+use crate::playing::{FILE_LIMIT, script_run};
 use crate::refusal::{Refusal, of_gathering, of_words};
 use crate::words::{Action, Command, asked};
 use bridge_io::{Files, gather};
@@ -34,7 +34,11 @@ fn module_output<F: Files>(
 {
     match action {
         Action::Make(making) => made(alloc, making, bytes),
-        Action::RunWasm { script, steps } => wasm_run(alloc, bytes, script, steps, files),
+        Action::Run {
+            running,
+            script,
+            steps,
+        } => script_run(alloc, running, bytes, script, steps, files),
     }
 }
 

@@ -6,6 +6,7 @@ mod making;
 mod playing;
 mod refusal;
 mod report;
+mod runner;
 mod status;
 mod top;
 mod words;

@@ -47,7 +47,7 @@ type Row = (&'static [&'static str], u8, &'static [u8], &'static [u8]);
 
 const USAGE: &[u8] = b"usage: bridge COMMAND [--heap N] [--steps N] [FILE] [SCRIPT]\n";
 
-static ROWS: [Row; 27] = [
+static ROWS: [Row; 35] = [
     (&[], 1, b"", USAGE),
     (&["fly", "add.js"], 1, b"", USAGE),
     (&["asm2wasm"], 1, b"", USAGE),
@@ -62,7 +62,13 @@ static ROWS: [Row; 27] = [
         USAGE,
     ),
     (&["run-wasm", "add.wasm"], 1, b"", USAGE),
-    (&["run-asm", "add.js", "f.txt"], 1, b"", USAGE),
+    (&["run-asm", "add.js"], 1, b"", USAGE),
+    (
+        &["run-asm", "--heap", "5000", "add.js", "f.txt"],
+        1,
+        b"",
+        USAGE,
+    ),
     (&["asm2wasm", "add.js"], 0, ADD_MODULE, b""),
     (
         &["asm2wasm", "times.js"],
@@ -118,6 +124,48 @@ static ROWS: [Row; 27] = [
         0,
         b"wasm functions 1 imports 0 exports 1\nfunc 0 (i32 i32) i32 4\n",
         b"",
+    ),
+    (
+        &["run-asm", "add.js", "f.txt"],
+        0,
+        b"result -2147483648\nend done\n",
+        b"",
+    ),
+    (
+        &["run-asm", "--steps=0", "--heap=4096", "add.js", "f.txt"],
+        0,
+        b"still running\n",
+        b"",
+    ),
+    (
+        &["run-asm", "add.js", "g.txt"],
+        4,
+        b"",
+        b"script refused: line 2\n",
+    ),
+    (
+        &["run-asm", "add.js", "cal.txt"],
+        4,
+        b"",
+        b"script refused: line 1\n",
+    ),
+    (
+        &["run-asm", "add.js", "no.txt"],
+        7,
+        b"",
+        b"missing: no.txt\n",
+    ),
+    (
+        &["run-asm", "no.js", "no.txt"],
+        7,
+        b"",
+        b"missing: no.js\n",
+    ),
+    (
+        &["run-asm", "times.js", "no.txt"],
+        2,
+        b"",
+        b"asm.js refused: A14 Operand at 59\n",
     ),
     (
         &["run-wasm", "add.wasm", "f.txt"],
@@ -214,126 +262,5 @@ fn a_failed_read_or_write_is_told(rt: HostRuntime) -> Result<(), Fail> {
     assert_eq!(rt; status, Status::WriteFault);
     assert_eq!(rt; out.bytes(), [0x00].as_slice());
     assert_eq!(rt; report.bytes(), b"".as_slice());
-    Ok(())
-}
-
-/// A text, and the line that it is told.
-type TextRow = (&'static [u8], &'static [u8]);
-
-static ACCEPTED: [TextRow; 6] = [
-    (
-        b"function m(){\"use asm\";function f(){return 0;}return f;}",
-        b"asm.js functions 1 tables 0 exports 1 foreign 0\n",
-    ),
-    (
-        b"function m(s,f,h){\"use asm\";var H=new s.Int8Array(h);function g(x){x=x|0;return H[x>>0]|0;}return g;}",
-        b"asm.js functions 1 tables 0 exports 1 foreign 0\n",
-    ),
-    (
-        b"function m(){\"use asm\";function f(){return -1;}return f;}",
-        b"asm.js functions 1 tables 0 exports 1 foreign 0\n",
-    ),
-    (
-        b"function m(){\"use asm\";var x=4294967295;function f(){return 0;}return f;}",
-        b"asm.js functions 1 tables 0 exports 1 foreign 0\n",
-    ),
-    (
-        b"function m(){\"use asm\";function a(x){x=x|0;return x+10|0;}function f(e){e=e|0;return t[e&3](1)|0;}var t=[a,a,a,a];return f;}",
-        b"asm.js functions 2 tables 1 exports 1 foreign 0\n",
-    ),
-    (USUAL, b"asm.js functions 2 tables 0 exports 2 foreign 1\n"),
-];
-
-/// A module as a compiler of C writes it.
-const USUAL: &[u8] = b"function asm(global,env,buffer){
-'use asm';
-var HEAP8=new global.Int8Array(buffer);
-var HEAP32=new global.Int32Array(buffer);
-var HEAPF64=new global.Float64Array(buffer);
-var STACKTOP=env.STACKTOP|0;
-var tempInt=0,tempDouble=0.0,nan=global.NaN,inf=global.Infinity;
-var Math_floor=global.Math.floor;
-var Math_imul=global.Math.imul;
-var abort=env.abort;
-function stackAlloc(size){
-size=size|0;
-var ret=0;
-ret=STACKTOP;
-STACKTOP=STACKTOP+size|0;
-STACKTOP=STACKTOP+15&-16;
-return ret|0;
-}
-function _put(p,v){p=p|0;v=v|0;HEAP32[p>>2]=Math_imul(v,3)|0;HEAP8[p+4>>0]=v;if((v|0)<0)abort(v|0);return HEAP8[p>>0]|0;}
-return {stackAlloc:stackAlloc,_put:_put};
-}";
-
-static REFUSED: [TextRow; 9] = [
-    (b"", b"asm.js refused: A5 Grammar at 0\n"),
-    (
-        b"function m(s,f,h){\"use asm\";var H=new s.Int8Array(h);function g(x){x=x|0;return H[x]|0;}return g;}",
-        b"asm.js refused: A16 BareByteIndex at 80\n",
-    ),
-    (
-        b"function m(){\"use asm\";function f(){return -0;}return f;}",
-        b"asm.js refused: A4 LiteralForm at 43\n",
-    ),
-    (
-        b"function m(){\"use asm\";var x=4294967296;function f(){return 0;}return f;}",
-        b"asm.js refused: A12 LiteralRange at 27\n",
-    ),
-    (
-        b"function m(){\"use asm\";function a(x){x=x|0;return x+10|0;}function f(e){e=e|0;return t[e&3](1)|0;}var t=[a,a,a];return f;}",
-        b"asm.js refused: A19 TableMask at 85\n",
-    ),
-    (
-        b"function m(){\"use asm\";function a(x){x=x|0;return x+10|0;}function f(e){e=e|0;return t[e&2](1)|0;}var t=[a,a,a];return f;}",
-        b"asm.js refused: A18 TableSize at 102\n",
-    ),
-    (
-        b"function m(){\"use asm\";function f(x){x=x|0;var y=0;switch(x|0){case 1:y=y+1|0;default:y=y+100|0;case 5:y=y+10|0;}return y|0;}return f;}",
-        b"asm.js refused: A5 Grammar at 96\n",
-    ),
-    (
-        b"function m(s){\"use asm\";var k=s.Math.floor;function f(x){x=x|0;return k(x)|0;}return f;}",
-        b"asm.js refused: A13 OutsideInteger at 70\n",
-    ),
-    (
-        b"function m(){\"use asm\";function f(a,b){a=a|0;b=b|0;return a*b|0;}return f;}",
-        b"asm.js refused: A14 Operand at 59\n",
-    ),
-];
-
-/// `check-asm` of the text ends so.
-fn is_checked(
-    rt: &impl Abort,
-    alloc: Global,
-    text: &[u8],
-    code: u8,
-    line: &[u8],
-) -> Result<(), Fail> {
-    let words = all_words(alloc, &["check-asm", "t.js"])?;
-    let mut files = MemFiles::new(alloc);
-    files.add("t.js", text)?;
-    let mut out = MemSink::new(alloc, 1000, 1000)?;
-    let mut report = MemSink::new(alloc, 1000, 1000)?;
-    let status = bridge(alloc, &words, &mut files, &mut out, &mut report);
-    assert_eq!(rt; status.code(), code);
-    let told = if code == 0 {
-        out.bytes()
-    } else {
-        report.bytes()
-    };
-    assert_eq!(rt; told, line);
-    Ok(())
-}
-
-#[test]
-fn texts_are_checked(rt: HostRuntime) -> Result<(), Fail> {
-    for (text, line) in ACCEPTED.iter() {
-        is_checked(&rt, rt.alloc(), text, 0, line)?;
-    }
-    for (text, line) in REFUSED.iter() {
-        is_checked(&rt, rt.alloc(), text, 2, line)?;
-    }
     Ok(())
 }

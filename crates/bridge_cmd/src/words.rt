@@ -1,10 +1,10 @@
-//! The commands that are built, as the words name them.
+//! The commands, as the words name them.
 ghost use Rattle.std.specs.Prelude.{◌≡◌, map, string_bytes};
 ghost use Rattle.bridge_words.specs.Answer.{Answers};
 ghost use Rattle.bridge_cmd.specs.Command as spec;
-ghost use Rattle.bridge_cmd.specs.Asking.{asked_by, made_by};
+ghost use Rattle.bridge_cmd.specs.Asking.{asked_by, made_by, run_as};
 
-use bridge_words::{Job, WordsFault, read_words};
+use bridge_words::{HeapLength, Job, WordsFault, read_words};
 use std::alloc::Global;
 
 /// What is made of a module's bytes alone.
@@ -16,12 +16,25 @@ pub(crate) enum Making {
     Show,
 }
 
+/// What a module is run as.
+#[derive(Clone, Copy)]
+pub(crate) enum Running {
+    /// A text of asm.js, with a heap of this length.
+    Text(HeapLength),
+    /// The bytes of a module of WebAssembly.
+    Binary,
+}
+
 /// What is done with a module.
 #[derive(Drop)]
 pub(crate) enum Action {
     Make(Making),
-    /// A run of the script in a file of this name, with so many reductions.
-    RunWasm { script: String, steps: u32 },
+    /// A run of the script in a file of this name, with so many units or reductions.
+    Run {
+        running: Running,
+        script: String,
+        steps: u32,
+    },
 }
 
 /// A command, with the name of its module's file.
@@ -40,7 +53,20 @@ fn to_make(making: Making, file: String) -> Command
     }
 }
 
-/// The command that the words name. Commands that aren't built are unknown.
+fn to_run(running: Running, file: String, script: String, steps: u32) -> Command
+    ensures { asked_by result ≡ spec.run (run_as running) (string_bytes file) (string_bytes script) steps }
+{
+    Command {
+        file,
+        action: Action::Run {
+            running,
+            script,
+            steps,
+        },
+    }
+}
+
+/// The command that the words name.
 pub(crate) fn asked(alloc: Global, words: &[String]) -> Result<Command, WordsFault>
     ensures { Answers asked_by (spec.asked (map string_bytes words.now)) result }
 {
@@ -49,10 +75,9 @@ pub(crate) fn asked(alloc: Global, words: &[String]) -> Result<Command, WordsFau
         Job::CheckAsm(file) => Ok(to_make(Making::CheckAsm, file)),
         Job::CheckWasm(file) => Ok(to_make(Making::CheckWasm, file)),
         Job::Show(file) => Ok(to_make(Making::Show, file)),
-        Job::RunWasm(file, script, steps) => Ok(Command {
-            file,
-            action: Action::RunWasm { script, steps },
-        }),
-        Job::RunAsm(..) => Err(WordsFault::Usage),
+        Job::RunAsm(file, script, heap, steps) => {
+            Ok(to_run(Running::Text(heap), file, script, steps))
+        }
+        Job::RunWasm(file, script, steps) => Ok(to_run(Running::Binary, file, script, steps)),
     }
 }

@@ -1,9 +1,0 @@
-use Rattle.bridge_cmd.specs.Job.{ran}
-use Rattle.bridge_cmd.proofs.Jobs.{script_answer}
-use Rattle.bridge_cmd.proofs.playing.played.Goals as goal
-
-pub returns-in-Ok-clause-ran : goal.returns-in-Ok-clause-ran
-returns-in-Ok-clause-ran c = ran c.in-Ok.ensures
-
-pub returns-in-Err-clause-refused : goal.returns-in-Err-clause-refused
-returns-in-Err-clause-refused c = rw c.of_script.ensures (script_answer c.args.valid.now c.args.steps c.args.script.now c.in-Err.fault c.in-Err.ensures)

@@ -1,0 +1,105 @@
+//! Texts that `check-asm` takes or refuses, by the whole program.
+use crate::program::ends;
+use std::test::Fail;
+
+/// A text, and the line that `check-asm` tells of it.
+type Checked = (&'static [u8], &'static [u8]);
+
+static ACCEPTED: [Checked; 6] = [
+    (
+        b"function m(){\"use asm\";function f(){return 0;}return f;}",
+        b"asm.js functions 1 tables 0 exports 1 foreign 0\n",
+    ),
+    (
+        b"function m(s,f,h){\"use asm\";var H=new s.Int8Array(h);function g(x){x=x|0;return H[x>>0]|0;}return g;}",
+        b"asm.js functions 1 tables 0 exports 1 foreign 0\n",
+    ),
+    (
+        b"function m(){\"use asm\";function f(){return -1;}return f;}",
+        b"asm.js functions 1 tables 0 exports 1 foreign 0\n",
+    ),
+    (
+        b"function m(){\"use asm\";var x=4294967295;function f(){return 0;}return f;}",
+        b"asm.js functions 1 tables 0 exports 1 foreign 0\n",
+    ),
+    (
+        b"function m(){\"use asm\";function a(x){x=x|0;return x+10|0;}function f(e){e=e|0;return t[e&3](1)|0;}var t=[a,a,a,a];return f;}",
+        b"asm.js functions 2 tables 1 exports 1 foreign 0\n",
+    ),
+    (USUAL, b"asm.js functions 2 tables 0 exports 2 foreign 1\n"),
+];
+
+/// A module as a compiler of C writes it.
+pub(crate) const USUAL: &[u8] = b"function asm(global,env,buffer){
+'use asm';
+var HEAP8=new global.Int8Array(buffer);
+var HEAP32=new global.Int32Array(buffer);
+var HEAPF64=new global.Float64Array(buffer);
+var STACKTOP=env.STACKTOP|0;
+var tempInt=0,tempDouble=0.0,nan=global.NaN,inf=global.Infinity;
+var Math_floor=global.Math.floor;
+var Math_imul=global.Math.imul;
+var abort=env.abort;
+function stackAlloc(size){
+size=size|0;
+var ret=0;
+ret=STACKTOP;
+STACKTOP=STACKTOP+size|0;
+STACKTOP=STACKTOP+15&-16;
+return ret|0;
+}
+function _put(p,v){p=p|0;v=v|0;HEAP32[p>>2]=Math_imul(v,3)|0;HEAP8[p+4>>0]=v;if((v|0)<0)abort(v|0);return HEAP8[p>>0]|0;}
+return {stackAlloc:stackAlloc,_put:_put};
+}";
+
+static REFUSED: [Checked; 9] = [
+    (b"", b"asm.js refused: A5 Grammar at 0\n"),
+    (
+        b"function m(s,f,h){\"use asm\";var H=new s.Int8Array(h);function g(x){x=x|0;return H[x]|0;}return g;}",
+        b"asm.js refused: A16 BareByteIndex at 80\n",
+    ),
+    (
+        b"function m(){\"use asm\";function f(){return -0;}return f;}",
+        b"asm.js refused: A4 LiteralForm at 43\n",
+    ),
+    (
+        b"function m(){\"use asm\";var x=4294967296;function f(){return 0;}return f;}",
+        b"asm.js refused: A12 LiteralRange at 27\n",
+    ),
+    (
+        b"function m(){\"use asm\";function a(x){x=x|0;return x+10|0;}function f(e){e=e|0;return t[e&3](1)|0;}var t=[a,a,a];return f;}",
+        b"asm.js refused: A19 TableMask at 85\n",
+    ),
+    (
+        b"function m(){\"use asm\";function a(x){x=x|0;return x+10|0;}function f(e){e=e|0;return t[e&2](1)|0;}var t=[a,a,a];return f;}",
+        b"asm.js refused: A18 TableSize at 102\n",
+    ),
+    (
+        b"function m(){\"use asm\";function f(x){x=x|0;var y=0;switch(x|0){case 1:y=y+1|0;default:y=y+100|0;case 5:y=y+10|0;}return y|0;}return f;}",
+        b"asm.js refused: A5 Grammar at 96\n",
+    ),
+    (
+        b"function m(s){\"use asm\";var k=s.Math.floor;function f(x){x=x|0;return k(x)|0;}return f;}",
+        b"asm.js refused: A13 OutsideInteger at 70\n",
+    ),
+    (
+        b"function m(){\"use asm\";function f(a,b){a=a|0;b=b|0;return a*b|0;}return f;}",
+        b"asm.js refused: A14 Operand at 59\n",
+    ),
+];
+
+#[test]
+fn texts_are_accepted(rt: HostRuntime) -> Result<(), Fail> {
+    for (text, line) in ACCEPTED.iter() {
+        ends(&rt, rt.alloc(), &["check-asm", "m.js"], text, b"", 0, line)?;
+    }
+    Ok(())
+}
+
+#[test]
+fn texts_are_refused(rt: HostRuntime) -> Result<(), Fail> {
+    for (text, line) in REFUSED.iter() {
+        ends(&rt, rt.alloc(), &["check-asm", "m.js"], text, b"", 2, line)?;
+    }
+    Ok(())
+}
