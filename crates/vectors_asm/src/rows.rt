@@ -235,6 +235,17 @@ fn switches(rt: HostRuntime) -> Result<(), Fail> {
     Ok(())
 }
 
+#[test]
+fn labels(rt: HostRuntime) -> Result<(), Fail> {
+    let text =
+        b"function m(){\"use asm\";function f(n){n=n|0;var i=0,j=0,s=0;L:for(i=1;(i|0)<100;i=i+1|0){M:for(j=0;(j|0)<3;j=j+1|0){if((i|0)>=(n|0))break L;if((j|0)==1)continue L;if((i&1)==0)break M;}s=s+1|0;}return s+1|0;}return f;}";
+    // each even i below n leaves M and is counted; an odd one goes on with L before it is
+    let calls = [Call(b"f", &[0]), Call(b"f", &[10]), Call(b"f", &[1000])];
+    let seen = [Seen::Result(1), Seen::Result(5), Seen::Result(50)];
+    assert!(rt; runs(rt.alloc(), text, &calls, &seen)?);
+    Ok(())
+}
+
 const LOOP: &[u8] = b"function m(s,e){\"use asm\";var g=e.g;function f(){while(1)g();}return f;}";
 
 #[test]
