@@ -1,18 +1,13 @@
 -- Which bytes spell a valid module, and why any others are refused.
-use Rattle.std.specs.Prelude.{◌≡◌, ℕ, List, [], ◌∷◌, length, codes, decimal}
-use Rattle.std.specs.List.{concat}
+use Rattle.std.specs.Prelude.{◌≡◌, ℕ, List}
 use Rattle.wasm_lang.specs.Modules.{WasmModule}
 use Rattle.wasm_typing.specs.declared.rule.Rule.{Rule}
 use Rattle.wasm_typing.specs.declared.section.Section.{Section}
 use Rattle.wasm_typing.specs.Validity.{IsValidModule, RefusesModule}
 use Rattle.wasm_binary.specs.Answers.{IsRead, IsFirstFault}
+use Rattle.wasm_listing.specs.Listing.{counts_line}
 use Rattle.wasm_checking.specs.declared.fault.CheckFault.{CheckFault}
 use Rattle.wasm_checking.specs.declared.fault.CheckFault.TheVariants.{Binary, Invalid, Memory}
-
--- the functions that the module defines, its imports and its exports
-abbrev pub counts_line : WasmModule → List ℕ
-counts_line m = concat (codes "wasm functions " ∷ decimal (length m.functions) ∷ codes " imports " ∷ decimal (length m.imports)
-    ∷ codes " exports " ∷ decimal (length m.exports) ∷ codes "\n" ∷ [])
 
 -- the bytes spell this module within the reader's limits, and it is valid
 pub record IsValidBytes (bytes : List ℕ) (m : WasmModule) : Type 0 where

@@ -8,7 +8,7 @@ mod laws;
 mod names;
 
 pub use checking::check_bytes;
-pub use counting::{counts, counts_line};
+pub use counting::counts;
 pub use fault::CheckFault;
 pub use laws::one_verdict;
 pub use names::{row_name, rule_number, section_number};
