@@ -1,0 +1,5 @@
+//! Worked modules of WebAssembly: read, written, read again, and run.
+#![tactic(auto)]
+
+#[cfg(test)]
+mod rows;
