@@ -1,18 +1,7 @@
 //! Sessions of asm.js, by the whole program.
 use crate::checks::USUAL;
-use crate::program::ends;
-use std::alloc::Global;
-use std::process::Abort;
+use crate::program::{Row, ends, prints};
 use std::test::Fail;
-
-/// A session: what it shows, the module, the options, the script, and what is printed.
-struct Row {
-    name: &'static str,
-    text: &'static [u8],
-    options: &'static [&'static str],
-    script: &'static [u8],
-    printed: &'static [u8],
-}
 
 const ADD: &[u8] = b"function m(){\"use asm\";function f(a,b){a=a|0;b=b|0;return a+b|0;}return f;}";
 
@@ -22,131 +11,122 @@ const LOOPING: &[u8] =
 static ROWS: [Row; 16] = [
     Row {
         name: "a function without parameters",
-        text: b"function m(){\"use asm\";function f(){return 0;}return f;}",
+        module: b"function m(){\"use asm\";function f(){return 0;}return f;}",
         options: &[],
         script: b"call f",
         printed: b"result 0\nend done\n",
     },
     Row {
         name: "a sum that wraps",
-        text: ADD,
+        module: ADD,
         options: &[],
         script: b"call f 2147483647 1",
         printed: b"result -2147483648\nend done\n",
     },
     Row {
         name: "quotients that no machine gives",
-        text: b"function m(){\"use asm\";function d(a,b){a=a|0;b=b|0;return (a|0)/(b|0)|0;}return d;}",
+        module: b"function m(){\"use asm\";function d(a,b){a=a|0;b=b|0;return (a|0)/(b|0)|0;}return d;}",
         options: &[],
         script: b"call d -2147483648 -1\ncall d 7 0\ncall d -7 2",
         printed: b"result -2147483648\nresult 0\nresult -3\nend done\n",
     },
     Row {
         name: "a truth value in an int",
-        text: b"function m(){\"use asm\";function f(a,b){a=a|0;b=b|0;var x=0;x=(a|0)<(b|0);return x+x|0;}return f;}",
+        module: b"function m(){\"use asm\";function f(a,b){a=a|0;b=b|0;var x=0;x=(a|0)<(b|0);return x+x|0;}return f;}",
         options: &[],
         script: b"call f 1 2",
         printed: b"result 2\nend done\n",
     },
     Row {
         name: "a store past the stated heap",
-        text: b"function m(s,f,h){\"use asm\";var H=new s.Int32Array(h);function g(){H[4096>>2]=9;return H[4096>>2]|0;}return g;}",
+        module: b"function m(s,f,h){\"use asm\";var H=new s.Int32Array(h);function g(){H[4096>>2]=9;return H[4096>>2]|0;}return g;}",
         options: &["--heap", "4096"],
         script: b"call g",
         printed: b"result 0\nend done\n",
     },
     Row {
         name: "the same store in a longer heap",
-        text: b"function m(s,f,h){\"use asm\";var H=new s.Int32Array(h);function g(){H[4096>>2]=9;return H[4096>>2]|0;}return g;}",
+        module: b"function m(s,f,h){\"use asm\";var H=new s.Int32Array(h);function g(){H[4096>>2]=9;return H[4096>>2]|0;}return g;}",
         options: &["--heap", "8192"],
         script: b"call g",
         printed: b"result 9\nend done\nheap 4096 09000000000000000000000000000000\n",
     },
     Row {
         name: "three views of one buffer",
-        text: b"function m(s,f,h){\"use asm\";var A=new s.Int32Array(h),B=new s.Uint8Array(h),C=new s.Int16Array(h);function a(){A[0]=-2;return B[0]|0;}function c(){return C[1]|0;}return {a:a,c:c};}",
+        module: b"function m(s,f,h){\"use asm\";var A=new s.Int32Array(h),B=new s.Uint8Array(h),C=new s.Int16Array(h);function a(){A[0]=-2;return B[0]|0;}function c(){return C[1]|0;}return {a:a,c:c};}",
         options: &[],
         script: b"call a\ncall c",
         printed: b"result 254\nresult -1\nend done\nheap 0 feffffff000000000000000000000000\n",
     },
     Row {
         name: "an import of two shapes",
-        text: b"function m(s,e){\"use asm\";var f=e.f;function r(){f(1)|0;f(1,2);}return r;}",
+        module: b"function m(s,e){\"use asm\";var f=e.f;function r(){f(1)|0;f(1,2);}return r;}",
         options: &[],
         script: b"call r\nreply 5\nreply 0",
         printed: b"import f 1\nimport f 1 2\nreturned\nend done\n",
     },
     Row {
         name: "a table by its mask",
-        text: b"function m(){\"use asm\";function a(x){x=x|0;return x+10|0;}function b(x){x=x|0;return x+20|0;}function c(x){x=x|0;return x+30|0;}function d(x){x=x|0;return x+40|0;}function f(e){e=e|0;return t[e&3](1)|0;}var t=[a,b,c,d];return f;}",
+        module: b"function m(){\"use asm\";function a(x){x=x|0;return x+10|0;}function b(x){x=x|0;return x+20|0;}function c(x){x=x|0;return x+30|0;}function d(x){x=x|0;return x+40|0;}function f(e){e=e|0;return t[e&3](1)|0;}var t=[a,b,c,d];return f;}",
         options: &[],
         script: b"call f -1",
         printed: b"result 41\nend done\n",
     },
     Row {
         name: "a switch that falls through",
-        text: b"function m(){\"use asm\";function f(x){x=x|0;var y=0;switch(x|0){case 1:y=y+1|0;case 5:y=y+10|0;default:y=y+100|0;}return y|0;}return f;}",
+        module: b"function m(){\"use asm\";function f(x){x=x|0;var y=0;switch(x|0){case 1:y=y+1|0;case 5:y=y+10|0;default:y=y+100|0;}return y|0;}return f;}",
         options: &[],
         script: b"call f 1\ncall f 5\ncall f 9",
         printed: b"result 111\nresult 110\nresult 100\nend done\n",
     },
     Row {
         name: "replies that run out",
-        text: LOOPING,
+        module: LOOPING,
         options: &[],
         script: b"call f\nreply 0\nreply 0\nreply 0",
         printed: b"import g\nimport g\nimport g\nend no-reply g\n",
     },
     Row {
         name: "an import that throws",
-        text: LOOPING,
+        module: LOOPING,
         options: &[],
         script: b"call f\nreply 0\nthrow",
         printed: b"import g\nend stopped g\n",
     },
     Row {
         name: "units that run out",
-        text: LOOPING,
+        module: LOOPING,
         options: &["--steps", "2"],
         script: b"call f\nreply 0\nreply 0\nreply 0",
         printed: b"import g\nstill running\n",
     },
     Row {
         name: "a module of usual form",
-        text: USUAL,
+        module: USUAL,
         options: &[],
         script: b"global STACKTOP 1000\ncall stackAlloc 5\ncall stackAlloc 0\ncall _put 16 -2\nreply 0",
         printed: b"result 1000\nresult 1008\nimport abort -2\nresult -6\nend done\nheap 16 fafffffffe0000000000000000000000\n",
     },
     Row {
         name: "an empty script",
-        text: ADD,
+        module: ADD,
         options: &[],
         script: b"",
         printed: b"end done\n",
     },
     Row {
         name: "bytes of the script in the heap",
-        text: b"function m(s,f,h){\"use asm\";var H=new s.Uint8Array(h);function g(i){i=i|0;return H[i>>0]|0;}return g;}",
+        module: b"function m(s,f,h){\"use asm\";var H=new s.Uint8Array(h);function g(i){i=i|0;return H[i>>0]|0;}return g;}",
         options: &[],
         script: b"# the last byte of the heap\nheap 65535 fF\r\ncall\tg 65535\n",
         printed: b"result 255\nend done\nheap 65520 000000000000000000000000000000ff\n",
     },
 ];
 
-/// What is printed is the row's.
-fn prints(rt: &impl Abort, alloc: Global, row: &Row) -> Result<(), Fail> {
-    let mut words = vec![in alloc; "run-asm", "m.js", "s.txt"]?;
-    for option in row.options {
-        words.push(*option)?;
-    }
-    ends(rt, alloc, &words, row.text, row.script, 0, row.printed)
-}
-
 #[test]
 fn sessions_are_printed(rt: HostRuntime) -> Result<(), Fail> {
     for row in &ROWS {
-        prints(&rt, rt.alloc(), row)?;
+        prints(&rt, rt.alloc(), "run-asm", row)?;
     }
     Ok(())
 }
@@ -164,7 +144,7 @@ fn scripts_are_refused(rt: HostRuntime) -> Result<(), Fail> {
         ends(
             &rt,
             rt.alloc(),
-            &["run-asm", "m.js", "s.txt"],
+            &["run-asm", "m", "s"],
             text,
             script,
             4,
@@ -178,7 +158,7 @@ fn scripts_are_refused(rt: HostRuntime) -> Result<(), Fail> {
 fn a_module_is_shown(rt: HostRuntime) -> Result<(), Fail> {
     let text = b"function m(){\"use asm\";function f(){return 0;}return f;}";
     let shown = b"function m(){\"use asm\";\nfunction f(){return 0;}\nreturn f;}\n";
-    ends(&rt, rt.alloc(), &["show", "m.js"], text, b"", 0, shown)
+    ends(&rt, rt.alloc(), &["show", "m"], text, b"", 0, shown)
 }
 
 #[test]
@@ -188,10 +168,10 @@ fn a_long_text_is_refused(rt: HostRuntime) -> Result<(), Fail> {
     ends(
         &rt,
         alloc,
-        &["check-asm", "m.js"],
+        &["check-asm", "m"],
         &spaces,
         b"",
         8,
-        b"too large: m.js\n",
+        b"too large: m\n",
     )
 }

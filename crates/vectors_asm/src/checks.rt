@@ -91,7 +91,7 @@ static REFUSED: [Checked; 9] = [
 #[test]
 fn texts_are_accepted(rt: HostRuntime) -> Result<(), Fail> {
     for (text, line) in ACCEPTED.iter() {
-        ends(&rt, rt.alloc(), &["check-asm", "m.js"], text, b"", 0, line)?;
+        ends(&rt, rt.alloc(), &["check-asm", "m"], text, b"", 0, line)?;
     }
     Ok(())
 }
@@ -99,7 +99,7 @@ fn texts_are_accepted(rt: HostRuntime) -> Result<(), Fail> {
 #[test]
 fn texts_are_refused(rt: HostRuntime) -> Result<(), Fail> {
     for (text, line) in REFUSED.iter() {
-        ends(&rt, rt.alloc(), &["check-asm", "m.js"], text, b"", 2, line)?;
+        ends(&rt, rt.alloc(), &["check-asm", "m"], text, b"", 2, line)?;
     }
     Ok(())
 }

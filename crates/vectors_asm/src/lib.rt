@@ -1,12 +1,18 @@
-//! Worked rows of asm.js: texts that are taken or refused, and scripts with what is seen of their sessions, by the interpreter and
-//! by the whole program.
+//! Worked rows of both languages: modules that are taken or refused, and scripts with what is seen of their sessions, by the whole
+//! program; sessions of asm.js by the interpreter; modules of WebAssembly that are read and written.
 #![tactic(auto)]
 
+#[cfg(test)]
+mod binaries;
 #[cfg(test)]
 mod calls;
 #[cfg(test)]
 mod checks;
 #[cfg(test)]
+mod modules;
+#[cfg(test)]
 mod program;
 #[cfg(test)]
 mod rows;
+#[cfg(test)]
+mod writing;

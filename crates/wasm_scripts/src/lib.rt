@@ -4,13 +4,9 @@
 mod fault;
 mod modules;
 mod names;
-mod playing;
 mod runs;
-#[cfg(test)]
-mod tests;
 
-pub use fault::{PlayFault, RunFault};
+pub use fault::RunFault;
 pub use modules::runnable_module;
 pub use names::outside_name;
-pub use playing::run_bytes;
 pub use runs::run_script;

@@ -1,4 +1,4 @@
-//! Modules that scripts are run on.
+//! Modules of WebAssembly.
 
 /// It exports `m`, the sum of two numbers of 64 bits.
 pub(crate) const ADDING: &[u8] =
@@ -53,3 +53,13 @@ pub(crate) const GLOBAL: &[u8] = b"\0asm\x01\0\0\0\x02\x0a\x01\x03env\x01g\x03\x
 
 /// It imports the table `env` `t`.
 pub(crate) const TABLE_IMPORT: &[u8] = b"\0asm\x01\0\0\0\x02\x0b\x01\x03env\x01t\x01p\0\0";
+
+/// It imports `env` `g`, a global that may change.
+pub(crate) const MUTABLE_IMPORT: &[u8] = b"\0asm\x01\0\0\0\x02\x0a\x01\x03env\x01g\x03\x7f\x01";
+
+/// A memory of 4,097 pages.
+pub(crate) const MANY_PAGES: &[u8] = b"\0asm\x01\0\0\0\x05\x04\x01\0\x81 ";
+
+/// `ADDING`, with a custom section, two runs of no locals, and numbers that are longer than they need be.
+pub(crate) const PADDED: &[u8] =
+    b"\0asm\x01\0\0\0\0\x02\x01c\x01\x07\x01`\x02~~\x01~\x03\x02\x01\0\x07\x85\0\x01\x01m\0\0\x0a\x0f\x01\x0d\x02\0\x7f\0~ \0 \x81\x80\0|\x0b";
