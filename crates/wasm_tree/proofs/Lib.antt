@@ -5,3 +5,4 @@ pub mod Items
 pub mod Forms
 pub mod Spelled
 pub mod Slices
+pub mod Following

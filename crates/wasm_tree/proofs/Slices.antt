@@ -1,7 +1,7 @@
 -- Slices inside slices.
-use Rattle.std.proofs.Common.{◌≡◌, ℕ, zero, suc, ◌+◌, ◌-◌, ◌≤◌, List, [], ◌∷◌, length, take, drop, refl, sym, ap, ◌∙◌, arith, Bor, length-drop}
+use Rattle.std.proofs.Common.{◌≡◌, ℕ, zero, suc, ◌+◌, ◌-◌, ◌≤◌, List, [], ◌∷◌, length, take, drop, refl, sym, ap, ◌∙◌, arith, Bor}
 use Rattle.std.proofs.lemmas.List.{drop-take, drop-drop}
-use Rattle.wasm_tree.specs.Slices.{Inside}
+use Rattle.wasm_tree.specs.Slices.{Inside, Stands}
 
 take_front : {X : Type 0} (n m : ℕ) (xs : List X) → n ≤ m → take n (take m xs) ≡ take n xs
 take_front zero m xs le = refl
@@ -58,3 +58,14 @@ inside_at s t k n block at holds len fits =
       ends = omega (arith, at, len, fits);
       holds = holds ∙ ap (λ n. take n (drop k t.now)) (sym len) ∙ ap (λ k. take (length s.now) (drop k t.now)) place;
     }
+
+pub stands_trans : {p q r : ℕ} {s t u : Bor (List ℕ)} → Stands p s q t → Stands q t r u → Stands p s r u
+stands_trans a b = record { inside = inside_trans a.inside b.inside; as_far = omega (arith, a.as_far, b.as_far) }
+
+pub stands_self : (p : ℕ) (s : Bor (List ℕ)) → Stands p s p s
+stands_self p s = record { inside = inside_self s; as_far = refl }
+
+-- what is left at the end of a part
+pub stands_last : (p : ℕ) (s t : Bor (List ℕ)) → Inside s t → s.ref_ptr.1 + length s.now ≡ t.ref_ptr.1 + length t.now → length s.now ≤ length t.now
+    → Stands (p + (length t.now - length s.now)) s p t
+stands_last p s t inside ends le = record { inside = inside; as_far = omega (arith, ends, le) }

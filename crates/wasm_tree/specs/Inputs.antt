@@ -6,6 +6,7 @@ use Rattle.wasm_lang.specs.Reading as plain
 use Rattle.wasm_tree.specs.declared.input.Input.{Input}
 use Rattle.wasm_tree.specs.declared.error.ReadError.{ReadError}
 use Rattle.wasm_tree.specs.declared.error.ReadError.TheVariants.{Refused, Memory}
+use Rattle.wasm_tree.specs.Slices.{Stands}
 
 abbrev pub input_of : Input → plain.Input
 input_of i = record { at = i.at; bytes = i.bytes.now }
@@ -20,3 +21,7 @@ abbrev pub IsRead : {A X : Type 0} → (A → X) → Result (A × Input) ReadErr
 IsRead view (Ok x) field = field ≡ Ok (view x.0, input_of x.1)
 IsRead view (Err (Refused fault)) field = field ≡ Err fault
 IsRead view (Err Memory) field = Unit {0}
+
+-- the first is what is left of the second, at its place in memory too
+abbrev pub Continues : Input → Input → Type 0
+Continues rest input = Stands rest.at rest.bytes input.at input.bytes

@@ -14,13 +14,13 @@ pub struct Input<'a> {
 
 impl<'a> Input<'a> {
     ghost use Rattle.wasm_lang.specs.Reading as reading;
-    ghost use Rattle.wasm_tree.specs.Inputs.{input_of, IsField};
-    ghost use Rattle.wasm_tree.specs.Slices.{Inside};
+    ghost use Rattle.wasm_tree.specs.Inputs.{input_of, IsField, Continues};
+    ghost use Rattle.wasm_tree.specs.Slices.{Inside, Stands};
 
     /// The whole input.
     pub fn new(bytes: &'a [u8]) -> Input<'a>
         ensures value { input_of result ≡ record { at = 0; bytes = bytes.now } }
-        ensures inside { Inside result.bytes bytes.entry }
+        ensures follows { Stands result.at result.bytes 0 bytes.entry }
     {
         Input { at: 0, bytes }
     }
@@ -39,7 +39,7 @@ impl<'a> Input<'a> {
     /// The next byte. Where there is none the fault has the row that is given.
     pub fn byte(self, row: Row) -> Result<(u8, Input<'a>), Fault>
         ensures value { IsField (λ b. b) result (reading.byte_field row (input_of self.entry)) }
-        ensures inside { IfOk result (λ x. Inside x.1.bytes self.entry.bytes) }
+        ensures follows { IfOk result (λ x. Continues x.1 self.entry) }
     {
         match self.bytes {
             [first, rest @ ..] => Ok((
@@ -59,7 +59,7 @@ impl<'a> Input<'a> {
     /// The next byte, which can be no other.
     pub fn exactly(self, byte: u8) -> Result<Input<'a>, Fault>
         ensures value { MatchResult result (λ rest. reading.exactly byte (input_of self.entry) ≡ Ok (byte, input_of rest)) (λ fault. reading.exactly byte (input_of self.entry) ≡ Err fault) }
-        ensures inside { IfOk result (λ rest. Inside rest.bytes self.entry.bytes) }
+        ensures follows { IfOk result (λ rest. Continues rest self.entry) }
     {
         let (found, rest) = self.byte(Row::SectionSize)?;
         if found == byte {
@@ -75,7 +75,7 @@ impl<'a> Input<'a> {
     /// The next unsigned number of 32 bits. Where it isn't finished the fault has the row that is given.
     pub fn u32(self, row: Row) -> Result<(u32, Input<'a>), Fault>
         ensures value { IsField (λ n. n) result (reading.u32_field row (input_of self.entry)) }
-        ensures inside { IfOk result (λ x. Inside x.1.bytes self.entry.bytes) }
+        ensures follows { IfOk result (λ x. Continues x.1 self.entry) }
     {
         match unsigned(self.bytes, 32) {
             Ok((n, rest)) => Ok((n as u32, self.past(rest))),
@@ -95,7 +95,7 @@ impl<'a> Input<'a> {
         requires { (0 < bits) × (bits ≤ 64) }
         ensures bound { IfOk result (λ x. x.0 < 2 ^ bits) }
         ensures value { IsField (λ n. n) result (reading.integer bits (input_of self.entry)) }
-        ensures inside { IfOk result (λ x. Inside x.1.bytes self.entry.bytes) }
+        ensures follows { IfOk result (λ x. Continues x.1 self.entry) }
     {
         match integer(self.bytes, bits) {
             Ok((word, rest)) => Ok((word, self.past(rest))),
@@ -113,7 +113,7 @@ impl<'a> Input<'a> {
     /// The next value type, inside a section.
     pub fn val_type(self) -> Result<(ValType, Input<'a>), Fault>
         ensures value { IsField (λ t. t) result (reading.val_type_field (input_of self.entry)) }
-        ensures inside { IfOk result (λ x. Inside x.1.bytes self.entry.bytes) }
+        ensures follows { IfOk result (λ x. Continues x.1 self.entry) }
     {
         let (byte, rest) = self.byte(Row::SectionSize)?;
         match byte {
@@ -127,7 +127,8 @@ impl<'a> Input<'a> {
 
     /// The next block type, inside a section.
     pub fn block_type(self) -> Result<(Option<ValType>, Input<'a>), Fault>
-        ensures { IsField (λ t. t) result (reading.block_type_field (input_of self.entry)) }
+        ensures value { IsField (λ t. t) result (reading.block_type_field (input_of self.entry)) }
+        ensures follows { IfOk result (λ x. Continues x.1 self.entry) }
     {
         let (byte, rest) = self.byte(Row::SectionSize)?;
         match byte {
@@ -144,8 +145,9 @@ impl<'a> Input<'a> {
     fn past(self, rest: &'a [u8]) -> Input<'a>
         requires shorter { length rest.now ≤ length self.bytes.now }
         requires inside { Inside rest self.bytes }
+        requires ends { rest.ref_ptr.1 + length rest.now ≡ self.bytes.ref_ptr.1 + length self.bytes.now }
         ensures value { input_of result ≡ record { at = self.entry.at + (length self.entry.bytes.now - length rest.now); bytes = rest.now } }
-        ensures inside { Inside result.bytes self.entry.bytes }
+        ensures follows { Continues result self.entry }
     {
         Input {
             at: self.at + (self.bytes.len() - rest.len()),

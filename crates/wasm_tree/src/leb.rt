@@ -68,6 +68,7 @@ pub fn unsigned(bytes: &[u8], bits: u32) -> Result<(u64, &[u8]), NumberFault>
     ensures bound { IfOk result (λ x. x.0 < 2 ^ bits) }
     ensures shorter { IfOk result (λ x. length x.1.now < length bytes.now) }
     ensures inside { IfOk result (λ x. Inside x.1 bytes.entry) }
+    ensures ends { IfOk result (λ x. x.1.ref_ptr.1 + length x.1.now ≡ bytes.entry.ref_ptr.1 + length bytes.now) }
     ensures value { MatchResult result (λ x. unsigned_at bits bytes.now ≡ Ok (x.0, x.1.now)) (λ e. unsigned_at bits bytes.now ≡ Err e) }
 {
     let [first, rest @ ..] = bytes else {
@@ -96,6 +97,7 @@ pub fn integer(bytes: &[u8], bits: u32) -> Result<(u64, &[u8]), NumberFault>
     ensures bound { IfOk result (λ x. x.0 < 2 ^ bits) }
     ensures shorter { IfOk result (λ x. length x.1.now < length bytes.now) }
     ensures inside { IfOk result (λ x. Inside x.1 bytes.entry) }
+    ensures ends { IfOk result (λ x. x.1.ref_ptr.1 + length x.1.now ≡ bytes.entry.ref_ptr.1 + length bytes.now) }
     ensures value { MatchResult result (λ x. integer_at bits bytes.now ≡ Ok (x.0, x.1.now)) (λ e. integer_at bits bytes.now ≡ Err e) }
 {
     let [first, rest @ ..] = bytes else {

@@ -1,7 +1,7 @@
 //! WebAssembly modules as values, their opcodes, and the numbers and instructions of the binary format.
 //!
 //! `specs/Views.antt` says which plain module, instruction or list each value stands for.
-#![tactic(auto, using(crate::proofs::Slices::inside_trans, crate::proofs::Slices::inside_self))]
+#![tactic(auto, using(crate::proofs::Slices::inside_trans, crate::proofs::Slices::inside_self, crate::proofs::Slices::stands_trans, crate::proofs::Slices::stands_self, crate::proofs::Slices::stands_last))]
 
 mod code;
 mod error;

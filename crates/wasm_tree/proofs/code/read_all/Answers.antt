@@ -14,6 +14,6 @@ loop-turn-init c = spelled_start c.args.bytes.now (map instr_of (list_items c.ne
 
 pub loop-turn-preserved : goal.loop-turn-preserved
 loop-turn-preserved c =
-    let s = spelled_step (length c.args.bytes.now) c.loop-turn._turn (map instr_of (list_items c.loop-turn.list)) (input_of c.loop-turn.rest) (input_of c.in-Ok.after) (instr_of c.in-Ok.instr) c.loop-turn-test.true c.in-Ok.ensures in
+    let s = spelled_step (length c.args.bytes.now) c.loop-turn._turn (map instr_of (list_items c.loop-turn.list)) (input_of c.loop-turn.rest) (input_of c.in-Ok.after) (instr_of c.in-Ok.instr) c.loop-turn-test.true c.in-Ok.ensures.value in
     let pushed : list_items c.push.new.self ≡ list_items c.loop-turn.list ++ c.in-Ok.instr ∷ [] = grind (arith, common_steps) in
     rw (pushed, map-append) (c.loop-turn.invariant ∙ s)

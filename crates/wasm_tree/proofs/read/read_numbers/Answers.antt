@@ -4,10 +4,14 @@ use Rattle.sem_words.specs.Lists.{list_items}
 use Rattle.wasm_lang.specs.Reading.{u32}
 use Rattle.wasm_tree.specs.Inputs.{input_of}
 use Rattle.wasm_tree.proofs.Items.{items_step}
+use Rattle.wasm_tree.proofs.Slices.{stands_trans}
 use Rattle.wasm_tree.proofs.read.read_numbers.Goals as goal
 
 pub loop-i-preserved : goal.loop-i-preserved
 loop-i-preserved c =
-    let s = items_step u32 c.in_ok-count.count c.loop-i._i (list_items c.loop-i.numbers) (input_of c.loop-i.rest) (input_of c.in_ok-item.after) c.in_ok-item.item c.loop-i-test.true c.in_ok-item.ensures in
+    let s = items_step u32 c.in_ok-count.count c.loop-i._i (list_items c.loop-i.numbers) (input_of c.loop-i.rest) (input_of c.in_ok-item.after) c.in_ok-item.item c.loop-i-test.true c.in_ok-item.ensures.value in
     let pushed : list_items c.push.new.self ≡ list_items c.loop-i.numbers ++ c.in_ok-item.item ∷ [] = grind (arith, common_steps) in
-    rw pushed (c.loop-i.invariant ∙ s)
+    record {
+      value = rw pushed (c.loop-i.invariant.value ∙ s);
+      follows = stands_trans c.in_ok-item.ensures.follows c.loop-i.invariant.follows;
+    }
