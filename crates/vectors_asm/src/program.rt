@@ -36,8 +36,36 @@ fn all_words(alloc: Global, words: &[&str]) -> Result<Vec<String>, AllocError> {
     Ok(all)
 }
 
-/// The program, with these words after its name and the files `m` and `s`, ends with this status, and writes this: to its
-/// output where the status is 0, and else to its report.
+/// How a call of the program ended, and what it wrote.
+#[derive(Drop)]
+pub(crate) struct Ending {
+    pub(crate) code: u8,
+    out: MemSink,
+    report: MemSink,
+}
+
+/// A call of the program with these words after its name, and the files `m` and `s`.
+pub(crate) fn call(
+    alloc: Global,
+    words: &[&str],
+    module: &[u8],
+    script: &[u8],
+) -> Result<Ending, AllocError> {
+    let all = all_words(alloc, words)?;
+    let mut files = MemFiles::new(alloc);
+    files.add("m", module)?;
+    files.add("s", script)?;
+    let mut out = MemSink::new(alloc, 1000, 1000)?;
+    let mut report = MemSink::new(alloc, 1000, 1000)?;
+    let status = bridge(alloc, &all, &mut files, &mut out, &mut report);
+    Ok(Ending {
+        code: status.code(),
+        out,
+        report,
+    })
+}
+
+/// The call ends with this status, and writes this: to its output where the status is 0, and else to its report.
 pub(crate) fn ends(
     rt: &impl Abort,
     alloc: Global,
@@ -47,21 +75,15 @@ pub(crate) fn ends(
     code: u8,
     written: &[u8],
 ) -> Result<(), Fail> {
-    let all = all_words(alloc, words)?;
-    let mut files = MemFiles::new(alloc);
-    files.add("m", module)?;
-    files.add("s", script)?;
-    let mut out = MemSink::new(alloc, 1000, 1000)?;
-    let mut report = MemSink::new(alloc, 1000, 1000)?;
-    let status = bridge(alloc, &all, &mut files, &mut out, &mut report);
+    let ending = call(alloc, words, module, script)?;
     let nothing: &[u8] = b"";
     let (output, line) = if code == 0 {
         (written, nothing)
     } else {
         (nothing, written)
     };
-    assert_eq!(rt; status.code(), code, "{words:?}");
-    assert_eq!(rt; out.bytes(), output, "{words:?}");
-    assert_eq!(rt; report.bytes(), line, "{words:?}");
+    assert_eq!(rt; ending.code, code, "{words:?}");
+    assert_eq!(rt; ending.out.bytes(), output, "{words:?}");
+    assert_eq!(rt; ending.report.bytes(), line, "{words:?}");
     Ok(())
 }
