@@ -4,13 +4,13 @@ use Rattle.std.specs.Prelude.{Result, Ok, Err, Option}
 use Rattle.wasm_lang.specs.declared.fault.Fault.{Fault}
 use Rattle.wasm_lang.specs.declared.fault.Row.TheVariants.{SectionSize}
 use Rattle.wasm_lang.specs.Instructions.{Instruction}
-use Rattle.wasm_lang.specs.Reading.{Input, Field, ◌>>=◌, fault}
+use Rattle.wasm_lang.specs.Reading.{Input, Field, ◌>>=◌, fault, items_field}
 use Rattle.wasm_lang.specs.ReadingCode.{Opening, may_stand, instruction_field, opened, code_on, code_from, code_field}
 use Rattle.wasm_tree.specs.declared.error.ReadError.{ReadError}
 use Rattle.wasm_tree.specs.declared.error.ReadError.TheVariants.{Refused, Memory}
 use Rattle.wasm_entries.specs.declared.code.Opening.{Opening as Kept}
 use Rattle.wasm_entries.specs.Openings.{openings_of, left_open, next_field, IsNext}
-use Rattle.wasm_entries.proofs.ItemsInRow.{with_front, items_start, items_on}
+use Rattle.wasm_entries.proofs.ItemsInRow.{with_front, items_start, items_on, items_stop}
 
 -- an error of the code is the fault, unless memory ran out
 abbrev pub ErrIs : {X : Type 0} → ReadError → Field X → Type 0
@@ -66,3 +66,10 @@ pub code_start : (i : Input) → code_field i ≡ with_front [] (code_from (leng
 code_start i =
     let n : length i.bytes ≡ length i.bytes - 0 = omega arith in
     items_start (code_field i) ∙ ap (λ n. with_front [] (code_from n [] i)) n
+
+-- what an error of an item says of them all
+pub items_err : {X : Type 0} (item : Input → Field X) (count k : ℕ) (front : List X) (i : Input) (whole : Field (List X)) (error : ReadError) → k < count
+    → ErrIs error (item i) → whole ≡ with_front front (items_field item (count - k) i)
+    → ErrIs error whole
+items_err item count k front i whole (Refused f) lt e is = is ∙ items_stop item count k front i f lt e
+items_err item count k front i whole Memory lt e is = tt

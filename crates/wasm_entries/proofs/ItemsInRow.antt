@@ -18,6 +18,12 @@ pub items_start : {X : Type 0} (r : Field (List X)) → r ≡ with_front [] r
 items_start (Ok x) = refl
 items_start (Err e) = refl
 
+-- before the first
+pub counted_start : {X : Type 0} (row : ℕ → Field (List X)) (count : ℕ) (front : List X) → front ≡ [] → row count ≡ with_front front (row (count - 0))
+counted_start row count front none =
+    let n : count ≡ count - 0 = omega arith in
+    items_start (row count) ∙ ap (λ n. with_front [] (row n)) n ∙ ap (λ front. with_front front (row (count - 0))) (sym none)
+
 -- one more
 pub items_step : {X : Type 0} (item : Input → Field X) (count k : ℕ) (front : List X) (i next : Input) (v : X) → k < count → item i ≡ Ok (v, next)
     → with_front front (items_field item (count - k) i) ≡ with_front (front ++ v ∷ []) (items_field item (count - (k + 1)) next)

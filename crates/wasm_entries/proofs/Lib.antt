@@ -1,4 +1,5 @@
 pub mod BodiesInRow
+pub mod EntryPlaces
 pub mod Expressions
 pub mod Header
 pub mod ImportsInRow

@@ -106,10 +106,6 @@ immediates_local i xs ys h = record { front = []; is = h; again = λ zs. refl }
 instruction_local : (i : Instruction) (xs ys : List ℕ) → IsInstruction i xs ys → IsLocal (IsInstruction i) xs ys
 instruction_local i xs ys (instruction {byte = byte} {xs = after} o h) = after_byte byte (immediates_local i after ys h) (λ us bs p. instruction o p)
 
--- what follows the code ends the bytes
-pub ends_with : (code : List Instruction) (xs ys : List ℕ) → IsCode code xs ys → (front : List ℕ) × (xs ≡ front ++ ys)
-ends_with code xs ys h = let p = items_local IsInstruction instruction_local code xs ys h.instructions in (p.front, p.is)
-
 -- The code stands in the bytes alone.
 pub record StandsAlone (code : List Instruction) (xs ys : List ℕ) : Type 0 where
   pub shorter : length ys ≤ length xs

@@ -1,8 +1,10 @@
--- What is lent from the input: a slice of it, and not an owned copy.
-use Rattle.std.specs.Prelude.{ℕ, List, [], ◌∷◌}
+-- What is lent from the input: the slice of it at a place, and not an owned copy.
+use Rattle.std.specs.Prelude.{◌≡◌, ℕ, List, [], ◌∷◌, Ok}
 use Rattle.std.specs.Borrow.{Bor}
-use Rattle.sem_words.specs.Lists.{list_items}
-use Rattle.wasm_tree.specs.Slices.{Inside}
+use Rattle.wasm_lang.specs.Reading.{Field}
+use Rattle.wasm_lang.specs.Reading as plain
+use Rattle.wasm_tree.specs.Slices.{Stands}
+use Rattle.wasm_tree.specs.declared.input.Input.{Input}
 use Rattle.wasm_tree.specs.declared.code.Bytes.{Bytes}
 use Rattle.wasm_tree.specs.declared.code.Bytes.TheVariants as bytes
 use Rattle.wasm_tree.specs.declared.code.Code.{Code}
@@ -11,37 +13,44 @@ use Rattle.wasm_tree.specs.declared.module.Import.{Import}
 use Rattle.wasm_tree.specs.declared.module.WasmExport.{WasmExport}
 use Rattle.wasm_tree.specs.declared.module.Segment.{Segment}
 use Rattle.wasm_tree.specs.declared.module.Body.{Body}
-use Rattle.wasm_tree.specs.declared.module.Module.{Module}
 
--- bytes that are a part of this input
-abbrev pub IsLent : Bor (List ℕ) → Bytes → Type 0
-IsLent input (bytes.Lent part) = Inside part input
-IsLent input (bytes.Own text) = ⊥
+-- bytes of the input, and the place where they begin
+abbrev pub Source : Type 0
+Source = ℕ × Bor (List ℕ)
 
-abbrev pub IsLentCode : Bor (List ℕ) → Code → Type 0
-IsLentCode input (codes.Lent part) = Inside part input
-IsLentCode input (codes.Own list) = ⊥
+abbrev pub source_of : Input → Source
+source_of i = (i.at, i.bytes)
 
-abbrev pub IsLentImport : Bor (List ℕ) → Import → Type 0
-IsLentImport input i = IsLent input i.module × IsLent input i.field
+-- bytes that are the slice at this place
+abbrev pub IsLent : Source → ℕ → Bytes → Type 0
+IsLent source place (bytes.Lent part) = Stands place part source.0 source.1
+IsLent source place (bytes.Own text) = ⊥
 
-abbrev pub IsLentExport : Bor (List ℕ) → WasmExport → Type 0
-IsLentExport input e = IsLent input e.name
+abbrev pub IsLentCode : Source → ℕ → Code → Type 0
+IsLentCode source place (codes.Lent part) = Stands place part source.0 source.1
+IsLentCode source place (codes.Own list) = ⊥
 
-abbrev pub IsLentSegment : Bor (List ℕ) → Segment → Type 0
-IsLentSegment input s = IsLent input s.bytes
+abbrev pub IsLentImport : Source → ℕ × ℕ → Import → Type 0
+IsLentImport source places i = IsLent source places.0 i.module × IsLent source places.1 i.field
 
-abbrev pub IsLentBody : Bor (List ℕ) → Body → Type 0
-IsLentBody input b = IsLentCode input b.code
+abbrev pub IsLentExport : Source → ℕ → WasmExport → Type 0
+IsLentExport source place e = IsLent source place e.name
 
--- it holds of each
-abbrev pub Each : {X : Type 0} → (X → Type 0) → List X → Type 0
-Each P [] = Unit {0}
-Each P (x ∷ xs) = P x × Each P xs
+abbrev pub IsLentSegment : Source → ℕ → Segment → Type 0
+IsLentSegment source place s = IsLent source place s.bytes
 
--- names, data segments and bodies are lent from this input
-pub record IsLentModule (input : Bor (List ℕ)) (m : Module) : Type 0 where
-  pub imports : Each (IsLentImport input) (list_items m.imports)
-  pub exports : Each (IsLentExport input) (list_items m.exports)
-  pub bodies : Each (IsLentBody input) (list_items m.bodies)
-  pub segments : Each (IsLentSegment input) (list_items m.segments)
+abbrev pub IsLentBody : Source → ℕ → Body → Type 0
+IsLentBody source place b = IsLentCode source place b.code
+
+-- as many places as items, and each item stands at its place
+abbrev pub EachAt : {P X : Type 0} → (P → X → Type 0) → List P → List X → Type 0
+EachAt At [] [] = Unit {0}
+EachAt At [] (x ∷ xs) = ⊥
+EachAt At (p ∷ ps) [] = ⊥
+EachAt At (p ∷ ps) (x ∷ xs) = At p x × EachAt At ps xs
+
+-- a place is read, before this input, and what is lent stands there
+pub record Located {P : Type 0} (field : Field P) (next : plain.Input) (StandsAt : P → Type 0) : Type 0 where
+  pub place : P
+  pub read : field ≡ Ok (place, next)
+  pub stands : StandsAt place

@@ -1,4 +1,5 @@
 pub mod Lent
 pub mod Openings
+pub mod Places
 pub mod Sized
 pub mod Views

@@ -1,12 +1,13 @@
 //! Bodies of functions.
-ghost use Rattle.std.specs.Prelude.{◌≡◌, ℕ, ◌+◌, ◌++◌, replicate, map, Ok, Err, IfOk, OnOk, MatchResult};
+ghost use Rattle.std.specs.Prelude.{◌≡◌, ℕ, ◌+◌, ◌++◌, length, replicate, map, Ok, Err, IfOk, OnOk, MatchResult};
 ghost use Rattle.sem_words.specs.Lists.{list_items};
 ghost use Rattle.wasm_lang.specs.Limits.{params_of, most_locals};
+ghost use Rattle.wasm_lang.specs.Reading as reading;
 ghost use Rattle.wasm_lang.specs.ReadingModule as modules;
-ghost use Rattle.wasm_tree.specs.Inputs.{input_of, IsField, IsRead};
-ghost use Rattle.wasm_tree.specs.Slices.{Inside};
+ghost use Rattle.wasm_tree.specs.Inputs.{input_of, IsField, IsRead, Continues};
 ghost use Rattle.wasm_tree.specs.Views.{type_of, body_of};
-ghost use Rattle.wasm_entries.specs.Lent.{Each, IsLentBody};
+ghost use Rattle.wasm_entries.specs.Lent.{source_of, IsLentBody, EachAt, Located};
+ghost use Rattle.wasm_entries.specs.Places.{code_place, body_place};
 ghost use Rattle.wasm_entries.specs.Sized.{body_head};
 ghost use Rattle.wasm_entries.specs.Views.{bodies_of};
 
@@ -39,7 +40,7 @@ fn runs<'a>(
     n: u32,
 ) -> Result<(List<ValType>, Input<'a>), ReadError>
     ensures value { IsRead list_items result (modules.runs_field params n (input_of input.entry)) }
-    ensures inside { IfOk result (λ x. Inside x.1.bytes input.entry.bytes) }
+    ensures follows { IfOk result (λ x. Continues x.1 input.entry) }
 {
     let mut list = List::new(alloc);
     let mut used = params;
@@ -63,7 +64,7 @@ fn body_content<'a>(
     params: usize,
 ) -> Result<(Body<'a>, Input<'a>), ReadError>
     ensures value { IsRead body_of result (modules.body_content params (input_of input.entry)) }
-    ensures lent { IfOk result (λ x. IsLentBody input.entry.bytes x.0) }
+    ensures lent { IfOk result (λ x. Located (code_place (input_of input.entry)) (input_of x.1) (λ place. IsLentBody (source_of input.entry) place x.0)) }
 {
     let (n, rest) = number(input)?;
     let (locals, rest) = runs(alloc, rest, params, n)?;
@@ -74,8 +75,8 @@ fn body_content<'a>(
 // A body's content, whose size has to fit its section, and what follows it.
 fn body_part<'a>(input: Input<'a>) -> Result<(Input<'a>, Input<'a>), Fault>
     ensures value { MatchResult result (λ x. body_head (input_of input.entry) ≡ Ok (input_of x.0, input_of x.1)) (λ fault. body_head (input_of input.entry) ≡ Err fault) }
-    ensures content { IfOk result (λ x. Inside x.0.bytes input.entry.bytes) }
-    ensures inside { IfOk result (λ x. Inside x.1.bytes input.entry.bytes) }
+    ensures content { IfOk result (λ x. Continues x.0 input.entry) }
+    ensures follows { IfOk result (λ x. Continues x.1 input.entry) }
 {
     let (size, rest) = number(input)?;
     if size as usize > rest.bytes.len() {
@@ -101,8 +102,8 @@ fn body<'a>(
     params: usize,
 ) -> Result<(Body<'a>, Input<'a>), ReadError>
     ensures value { IsRead body_of result (modules.body_field params (input_of input.entry)) }
-    ensures inside { IfOk result (λ x. Inside x.1.bytes input.entry.bytes) }
-    ensures lent { IfOk result (λ x. IsLentBody input.entry.bytes x.0) }
+    ensures follows { IfOk result (λ x. Continues x.1 input.entry) }
+    ensures lent { IfOk result (λ x. Located (body_place (input_of input.entry)) (input_of x.1) (λ place. IsLentBody (source_of input.entry) place x.0)) }
 {
     let (content, after) = body_part(input)?;
     let (body, rest) = body_content(alloc, content, params)?;
@@ -128,8 +129,8 @@ pub fn bodies<'a>(
     input: Input<'a>,
 ) -> Result<(List<Body<'a>>, Input<'a>), ReadError>
     ensures value { IsRead bodies_of result (modules.bodies_field (map type_of types.now) functions.now (input_of input.entry)) }
-    ensures inside { IfOk result (λ x. Inside x.1.bytes input.entry.bytes) }
-    ensures lent { IfOk result (λ x. Each (IsLentBody input.entry.bytes) (list_items x.0)) }
+    ensures follows { IfOk result (λ x. Continues x.1 input.entry) }
+    ensures lent { IfOk result (λ x. Located (reading.items_field body_place (length functions.now) (input_of input.entry)) (input_of x.1) (λ places. EachAt (IsLentBody (source_of input.entry)) places (list_items x.0))) }
 {
     let mut list = List::new(alloc);
     let mut rest = input;

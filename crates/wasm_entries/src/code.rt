@@ -1,12 +1,11 @@
 //! Expressions: instructions one after another, up to the end that closes them.
-ghost use Rattle.std.specs.Prelude.{◌≡◌, ℕ, ◌++◌, List as Listed, Some, None, Ok, Err, IfOk, MatchResult, cond, if◌then◌else◌};
+ghost use Rattle.std.specs.Prelude.{◌≡◌, ℕ, Some, None, Ok, Err, IfOk, MatchResult, cond, if◌then◌else◌};
 ghost use Rattle.sem_words.specs.Lists.{list_items};
 ghost use Rattle.wasm_lang.specs.ReadingCode as reading;
-ghost use Rattle.wasm_tree.specs.Inputs.{input_of, IsField, IsRead};
-ghost use Rattle.wasm_tree.specs.Slices.{Inside};
+ghost use Rattle.wasm_tree.specs.Inputs.{input_of, IsField, IsRead, Continues};
 ghost use Rattle.wasm_tree.specs.Views.{instr_of, code_of};
 ghost use Rattle.wasm_entries.specs.Views.{instrs_of};
-ghost use Rattle.wasm_entries.specs.Lent.{IsLentCode};
+ghost use Rattle.wasm_entries.specs.Lent.{source_of, IsLentCode};
 ghost use Rattle.wasm_entries.specs.Openings.{openings_of, opening_of, IsNext, IsTurned};
 
 use sem_words::List;
@@ -71,7 +70,8 @@ fn next<'a>(
     openings: &mut Vec<Opening>,
     input: Input<'a>,
 ) -> Result<(Instr, bool, Input<'a>), ReadError>
-    ensures { IsNext openings.old.items (input_of input.entry) result openings.new.items }
+    ensures value { IsNext openings.old.items (input_of input.entry) result openings.new.items }
+    ensures follows { IfOk result (λ x. Continues x.2 input.entry) }
 {
     may_stand(openings.as_slice(), input)?;
     let (instr, rest) = read_instr(alloc, input)?;
@@ -81,22 +81,10 @@ fn next<'a>(
     }
 }
 
-// The input after a field, as a part of the input before it.
-fn resumed<'a>(input: Input<'a>, after: Input<'a>) -> Input<'a>
-    requires { (front : Listed ℕ) × (input.bytes.now ≡ front ++ after.bytes.now) }
-    ensures value { input_of result ≡ input_of after.entry }
-    ensures inside { Inside result.bytes input.entry.bytes }
-{
-    Input {
-        at: after.at,
-        bytes: &input.bytes[input.bytes.len() - after.bytes.len()..],
-    }
-}
-
 /// An expression, as the list of its instructions.
 pub fn instrs<'a>(alloc: Global, input: Input<'a>) -> Result<(List<Instr>, Input<'a>), ReadError>
     ensures value { IsRead instrs_of result (reading.code_field (input_of input.entry)) }
-    ensures inside { IfOk result (λ x. Inside x.1.bytes input.entry.bytes) }
+    ensures follows { IfOk result (λ x. Continues x.1 input.entry) }
 {
     code_laws();
     let mut openings = Vec::new(alloc);
@@ -108,7 +96,7 @@ pub fn instrs<'a>(alloc: Global, input: Input<'a>) -> Result<(List<Instr>, Input
             return Err(ReadError::Memory);
         }
         if closed {
-            return Ok((list, resumed(input, after)));
+            return Ok((list, after));
         }
         rest = after;
     }
@@ -121,7 +109,7 @@ pub fn instrs<'a>(alloc: Global, input: Input<'a>) -> Result<(List<Instr>, Input
 /// An expression, lent from the input.
 pub fn code<'a>(alloc: Global, input: Input<'a>) -> Result<(Code<'a>, Input<'a>), ReadError>
     ensures value { IsRead code_of result (reading.code_field (input_of input.entry)) }
-    ensures lent { IfOk result (λ x. IsLentCode input.entry.bytes x.0) }
+    ensures lent { IfOk result (λ x. IsLentCode (source_of input.entry) input.entry.at x.0) }
 {
     code_laws();
     let mut openings = Vec::new(alloc);

@@ -3,10 +3,10 @@ ghost use Rattle.std.specs.Prelude.{◌≡◌, ℕ, map, IfOk};
 ghost use Rattle.sem_words.specs.Lists.{list_items};
 ghost use Rattle.wasm_lang.specs.Reading as reading;
 ghost use Rattle.wasm_lang.specs.ReadingModule as modules;
-ghost use Rattle.wasm_tree.specs.Inputs.{input_of, IsField, IsRead};
-ghost use Rattle.wasm_tree.specs.Slices.{Inside};
+ghost use Rattle.wasm_tree.specs.Inputs.{input_of, IsField, IsRead, Continues};
 ghost use Rattle.wasm_tree.specs.Views.{type_of, global_of, export_of, element_of, segment_of};
-ghost use Rattle.wasm_entries.specs.Lent.{Each, IsLentExport, IsLentSegment};
+ghost use Rattle.wasm_entries.specs.Lent.{source_of, IsLentExport, IsLentSegment, EachAt, Located};
+ghost use Rattle.wasm_entries.specs.Places.{export_place, segment_place};
 ghost use Rattle.wasm_entries.specs.Views.{types_of, globals_of, exports_of, elements_of, segments_of};
 
 use crate::code::instrs;
@@ -168,7 +168,7 @@ pub fn globals<'a>(
 // What is exported.
 fn export_kind<'a>(input: Input<'a>) -> Result<(ExportKind, Input<'a>), Fault>
     ensures value { IsField (λ k. k) result (modules.export_kind_field (input_of input.entry)) }
-    ensures inside { IfOk result (λ x. Inside x.1.bytes input.entry.bytes) }
+    ensures follows { IfOk result (λ x. Continues x.1 input.entry) }
 {
     let (byte, rest) = input.byte(Row::SectionSize)?;
     match byte {
@@ -186,8 +186,8 @@ fn export_kind<'a>(input: Input<'a>) -> Result<(ExportKind, Input<'a>), Fault>
 /// An export.
 pub fn export<'a>(input: Input<'a>) -> Result<(WasmExport<'a>, Input<'a>), Fault>
     ensures value { IsField export_of result (modules.export_field (input_of input.entry)) }
-    ensures inside { IfOk result (λ x. Inside x.1.bytes input.entry.bytes) }
-    ensures lent { IfOk result (λ x. IsLentExport input.entry.bytes x.0) }
+    ensures follows { IfOk result (λ x. Continues x.1 input.entry) }
+    ensures lent { IfOk result (λ x. Located (export_place (input_of input.entry)) (input_of x.1) (λ place. IsLentExport (source_of input.entry) place x.0)) }
 {
     let (name, rest) = name(input)?;
     let (kind, rest) = export_kind(rest)?;
@@ -201,8 +201,8 @@ pub fn exports<'a>(
     count: u32,
 ) -> Result<(List<WasmExport<'a>>, Input<'a>), ReadError>
     ensures value { IsRead exports_of result (reading.items_field modules.export_field count (input_of input.entry)) }
-    ensures inside { IfOk result (λ x. Inside x.1.bytes input.entry.bytes) }
-    ensures lent { IfOk result (λ x. Each (IsLentExport input.entry.bytes) (list_items x.0)) }
+    ensures follows { IfOk result (λ x. Continues x.1 input.entry) }
+    ensures lent { IfOk result (λ x. Located (reading.items_field export_place count (input_of input.entry)) (input_of x.1) (λ places. EachAt (IsLentExport (source_of input.entry)) places (list_items x.0))) }
 {
     let mut list = List::new(alloc);
     let mut rest = input;
@@ -256,8 +256,8 @@ pub fn elements<'a>(
 /// A data segment.
 pub fn segment<'a>(alloc: Global, input: Input<'a>) -> Result<(Segment<'a>, Input<'a>), ReadError>
     ensures value { IsRead segment_of result (modules.segment_field (input_of input.entry)) }
-    ensures inside { IfOk result (λ x. Inside x.1.bytes input.entry.bytes) }
-    ensures lent { IfOk result (λ x. IsLentSegment input.entry.bytes x.0) }
+    ensures follows { IfOk result (λ x. Continues x.1 input.entry) }
+    ensures lent { IfOk result (λ x. Located (segment_place (input_of input.entry)) (input_of x.1) (λ place. IsLentSegment (source_of input.entry) place x.0)) }
 {
     let (memory, rest) = number(input)?;
     let (offset, rest) = instrs(alloc, rest)?;
@@ -279,8 +279,8 @@ pub fn segments<'a>(
     count: u32,
 ) -> Result<(List<Segment<'a>>, Input<'a>), ReadError>
     ensures value { IsRead segments_of result (reading.items_field modules.segment_field count (input_of input.entry)) }
-    ensures inside { IfOk result (λ x. Inside x.1.bytes input.entry.bytes) }
-    ensures lent { IfOk result (λ x. Each (IsLentSegment input.entry.bytes) (list_items x.0)) }
+    ensures follows { IfOk result (λ x. Continues x.1 input.entry) }
+    ensures lent { IfOk result (λ x. Located (reading.items_field segment_place count (input_of input.entry)) (input_of x.1) (λ places. EachAt (IsLentSegment (source_of input.entry)) places (list_items x.0))) }
 {
     let mut list = List::new(alloc);
     let mut rest = input;

@@ -4,10 +4,11 @@ ghost use Rattle.std.specs.Str.{is_utf8};
 ghost use Rattle.wasm_lang.specs.Limits.{most_entries};
 ghost use Rattle.wasm_lang.specs.Reading as reading;
 ghost use Rattle.wasm_lang.specs.ReadingModule as modules;
-ghost use Rattle.wasm_tree.specs.Inputs.{input_of, IsField};
-ghost use Rattle.wasm_tree.specs.Slices.{Inside};
+ghost use Rattle.wasm_tree.specs.Inputs.{input_of, IsField, Continues};
+ghost use Rattle.wasm_tree.specs.Slices.{Stands};
 ghost use Rattle.wasm_tree.specs.Views.{bytes_of};
-ghost use Rattle.wasm_entries.specs.Lent.{IsLent};
+ghost use Rattle.wasm_entries.specs.Lent.{source_of, IsLent, Located};
+ghost use Rattle.wasm_entries.specs.Places.{counted_place};
 
 use std::str;
 use wasm_tree::{Bytes, Fault, GlobalType, Input, Limits, Row};
@@ -18,7 +19,7 @@ const MOST_ENTRIES: usize = 1_048_576;
 /// A number inside a section.
 pub fn number<'a>(input: Input<'a>) -> Result<(u32, Input<'a>), Fault>
     ensures value { IsField (λ n. n) result (reading.u32 (input_of input.entry)) }
-    ensures inside { IfOk result (λ x. Inside x.1.bytes input.entry.bytes) }
+    ensures follows { IfOk result (λ x. Continues x.1 input.entry) }
 {
     input.u32(Row::SectionSize)
 }
@@ -33,7 +34,7 @@ pub fn within(used: usize, more: usize, limit: usize) -> bool
 /// A count that is within what is left of a limit.
 pub fn count<'a>(input: Input<'a>, used: usize, limit: usize) -> Result<(u32, Input<'a>), Fault>
     ensures value { IsField (λ n. n) result (reading.count_field used limit (input_of input.entry)) }
-    ensures inside { IfOk result (λ x. Inside x.1.bytes input.entry.bytes) }
+    ensures follows { IfOk result (λ x. Continues x.1 input.entry) }
     ensures within { IfOk result (λ x. used + x.0 ≤ limit) }
 {
     let (n, rest) = number(input)?;
@@ -52,8 +53,8 @@ pub fn split<'a>(input: Input<'a>, size: usize) -> (&'a [u8], Input<'a>)
     requires { size ≤ length input.bytes.now }
     ensures front { result.0.now ≡ take size input.entry.bytes.now }
     ensures rest { input_of result.1 ≡ record { at = input.entry.at + size; bytes = drop size input.entry.bytes.now } }
-    ensures lent { Inside result.0 input.entry.bytes }
-    ensures inside { Inside result.1.bytes input.entry.bytes }
+    ensures lent { Stands input.entry.at result.0 input.entry.at input.entry.bytes }
+    ensures follows { Continues result.1 input.entry }
 {
     (
         &input.bytes[..size],
@@ -67,8 +68,8 @@ pub fn split<'a>(input: Input<'a>, size: usize) -> (&'a [u8], Input<'a>)
 // Bytes after their count.
 fn counted<'a>(input: Input<'a>) -> Result<(&'a [u8], Input<'a>), Fault>
     ensures value { MatchResult result (λ x. reading.bytes_field (input_of input.entry) ≡ Ok (x.0.now, input_of x.1)) (λ fault. reading.bytes_field (input_of input.entry) ≡ Err fault) }
-    ensures front { IfOk result (λ x. Inside x.0 input.entry.bytes) }
-    ensures inside { IfOk result (λ x. Inside x.1.bytes input.entry.bytes) }
+    ensures follows { IfOk result (λ x. Continues x.1 input.entry) }
+    ensures lent { IfOk result (λ x. Located (counted_place (input_of input.entry)) (input_of x.1) (λ place. Stands place x.0 input.entry.at input.entry.bytes)) }
 {
     let (n, rest) = number(input)?;
     if n as usize <= rest.bytes.len() {
@@ -84,8 +85,8 @@ fn counted<'a>(input: Input<'a>) -> Result<(&'a [u8], Input<'a>), Fault>
 /// Bytes after their count, lent from the input.
 pub fn bytes<'a>(input: Input<'a>) -> Result<(Bytes<'a>, Input<'a>), Fault>
     ensures value { IsField bytes_of result (reading.bytes_field (input_of input.entry)) }
-    ensures inside { IfOk result (λ x. Inside x.1.bytes input.entry.bytes) }
-    ensures lent { IfOk result (λ x. IsLent input.entry.bytes x.0) }
+    ensures follows { IfOk result (λ x. Continues x.1 input.entry) }
+    ensures lent { IfOk result (λ x. Located (counted_place (input_of input.entry)) (input_of x.1) (λ place. IsLent (source_of input.entry) place x.0)) }
 {
     let (bytes, rest) = counted(input)?;
     Ok((Bytes::Lent(bytes), rest))
@@ -104,8 +105,8 @@ fn is_text(bytes: &[u8]) -> bool
 /// A name, lent from the input.
 pub fn name<'a>(input: Input<'a>) -> Result<(Bytes<'a>, Input<'a>), Fault>
     ensures value { IsField bytes_of result (reading.name_field (input_of input.entry)) }
-    ensures inside { IfOk result (λ x. Inside x.1.bytes input.entry.bytes) }
-    ensures lent { IfOk result (λ x. IsLent input.entry.bytes x.0) }
+    ensures follows { IfOk result (λ x. Continues x.1 input.entry) }
+    ensures lent { IfOk result (λ x. Located (counted_place (input_of input.entry)) (input_of x.1) (λ place. IsLent (source_of input.entry) place x.0)) }
 {
     let (n, rest) = number(input)?;
     if n as usize > rest.bytes.len() {
@@ -128,7 +129,7 @@ pub fn name<'a>(input: Input<'a>) -> Result<(Bytes<'a>, Input<'a>), Fault>
 /// A byte 0 or 1.
 pub fn flag<'a>(input: Input<'a>) -> Result<(bool, Input<'a>), Fault>
     ensures value { IsField (λ f. f) result (modules.flag_field (input_of input.entry)) }
-    ensures inside { IfOk result (λ x. Inside x.1.bytes input.entry.bytes) }
+    ensures follows { IfOk result (λ x. Continues x.1 input.entry) }
 {
     let (byte, rest) = input.byte(Row::SectionSize)?;
     match byte {
@@ -144,7 +145,7 @@ pub fn flag<'a>(input: Input<'a>) -> Result<(bool, Input<'a>), Fault>
 /// The limits of a memory.
 pub fn memory<'a>(input: Input<'a>) -> Result<(Limits, Input<'a>), Fault>
     ensures value { IsField (λ l. l) result (modules.memory_field (input_of input.entry)) }
-    ensures inside { IfOk result (λ x. Inside x.1.bytes input.entry.bytes) }
+    ensures follows { IfOk result (λ x. Continues x.1 input.entry) }
 {
     let (more, rest) = flag(input)?;
     let (min, rest) = number(rest)?;
@@ -159,7 +160,7 @@ pub fn memory<'a>(input: Input<'a>) -> Result<(Limits, Input<'a>), Fault>
 /// The limits of a table.
 pub fn table<'a>(input: Input<'a>) -> Result<(Limits, Input<'a>), Fault>
     ensures value { IsField (λ l. l) result (modules.table_field (input_of input.entry)) }
-    ensures inside { IfOk result (λ x. Inside x.1.bytes input.entry.bytes) }
+    ensures follows { IfOk result (λ x. Continues x.1 input.entry) }
 {
     let rest = input.exactly(0x70)?;
     let (more, rest) = flag(rest)?;
@@ -175,7 +176,7 @@ pub fn table<'a>(input: Input<'a>) -> Result<(Limits, Input<'a>), Fault>
 /// The type of a global.
 pub fn global_type<'a>(input: Input<'a>) -> Result<(GlobalType, Input<'a>), Fault>
     ensures value { IsField (λ t. t) result (modules.global_type_field (input_of input.entry)) }
-    ensures inside { IfOk result (λ x. Inside x.1.bytes input.entry.bytes) }
+    ensures follows { IfOk result (λ x. Continues x.1 input.entry) }
 {
     let (kind, rest) = input.val_type()?;
     let (mutable, rest) = flag(rest)?;
@@ -199,7 +200,7 @@ pub fn nothing_left(input: Input<'_>) -> Result<(), Fault>
 /// These bytes, and the row of one that differs.
 pub fn expected<'a>(input: Input<'a>, bytes: &[u8], row: Row) -> Result<Input<'a>, Fault>
     ensures value { MatchResult result (λ rest. modules.header_field row bytes.now (input_of input.entry) ≡ Ok (input_of rest)) (λ fault. modules.header_field row bytes.now (input_of input.entry) ≡ Err fault) }
-    ensures inside { IfOk result (λ rest. Inside rest.bytes input.entry.bytes) }
+    ensures follows { IfOk result (λ rest. Continues rest input.entry) }
 {
     let mut rest = input;
     for byte in bytes {

@@ -1,12 +1,13 @@
 //! Imports, with the limits on how many functions and globals there are.
 ghost use Rattle.std.specs.Prelude.{◌≡◌, ℕ, ◌+◌, ◌<◌, ◌≤◌, [], ◌∷◌, map, IfOk};
 ghost use Rattle.wasm_lang.specs.Limits.{function_imports, global_imports};
+ghost use Rattle.wasm_lang.specs.Reading as reading;
 ghost use Rattle.wasm_lang.specs.ReadingModule as modules;
-ghost use Rattle.wasm_tree.specs.Inputs.{input_of, IsField, IsRead};
-ghost use Rattle.wasm_tree.specs.Slices.{Inside};
+ghost use Rattle.wasm_tree.specs.Inputs.{input_of, IsField, IsRead, Continues};
 ghost use Rattle.wasm_tree.specs.Views.{import_of};
 ghost use Rattle.sem_words.specs.Lists.{list_items};
-ghost use Rattle.wasm_entries.specs.Lent.{Each, IsLentImport};
+ghost use Rattle.wasm_entries.specs.Lent.{source_of, IsLentImport, EachAt, Located};
+ghost use Rattle.wasm_entries.specs.Places.{import_places};
 ghost use Rattle.wasm_entries.specs.Views.{imports_of};
 
 use crate::fields::{global_type, memory, name, number, table, within};
@@ -26,7 +27,7 @@ fn import_kind<'a>(
     globals: usize,
 ) -> Result<(ImportKind, Input<'a>), Fault>
     ensures value { IsField (λ k. k) result (modules.import_kind_field functions globals (input_of input.entry)) }
-    ensures inside { IfOk result (λ x. Inside x.1.bytes input.entry.bytes) }
+    ensures follows { IfOk result (λ x. Continues x.1 input.entry) }
 {
     let (byte, rest) = input.byte(Row::SectionSize)?;
     let row = match byte {
@@ -51,8 +52,8 @@ fn import<'a>(
     globals: usize,
 ) -> Result<(Import<'a>, Input<'a>), Fault>
     ensures value { IsField import_of result (modules.import_field functions globals (input_of input.entry)) }
-    ensures inside { IfOk result (λ x. Inside x.1.bytes input.entry.bytes) }
-    ensures lent { IfOk result (λ x. IsLentImport input.entry.bytes x.0) }
+    ensures follows { IfOk result (λ x. Continues x.1 input.entry) }
+    ensures lent { IfOk result (λ x. Located (import_places (input_of input.entry)) (input_of x.1) (λ places. IsLentImport (source_of input.entry) places x.0)) }
 {
     let (module, rest) = name(input)?;
     let (field, rest) = name(rest)?;
@@ -96,8 +97,8 @@ pub fn imports<'a>(
     count: u32,
 ) -> Result<(List<Import<'a>>, Input<'a>), ReadError>
     ensures value { IsRead imports_of result (modules.imports_field 0 0 count (input_of input.entry)) }
-    ensures inside { IfOk result (λ x. Inside x.1.bytes input.entry.bytes) }
-    ensures lent { IfOk result (λ x. Each (IsLentImport input.entry.bytes) (list_items x.0)) }
+    ensures follows { IfOk result (λ x. Continues x.1 input.entry) }
+    ensures lent { IfOk result (λ x. Located (reading.items_field import_places count (input_of input.entry)) (input_of x.1) (λ places. EachAt (IsLentImport (source_of input.entry)) places (list_items x.0))) }
 {
     let mut list = List::new(alloc);
     let mut functions: usize = 0;

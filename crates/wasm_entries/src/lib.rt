@@ -4,7 +4,7 @@
 //!
 //! Each function reads the field at a place of the input, and gives its value and the place after it, or the
 //! first fault. Names, segments and bodies are lent from the input.
-#![tactic(auto, using(wasm_tree::proofs::Slices::inside_trans, wasm_tree::proofs::Slices::inside_self))]
+#![tactic(auto, using(wasm_tree::proofs::Slices::stands_trans, wasm_tree::proofs::Slices::stands_self))]
 
 pub mod bodies;
 mod code;

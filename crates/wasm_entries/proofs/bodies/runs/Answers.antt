@@ -3,7 +3,7 @@ use Rattle.std.proofs.lemmas.Grind.{common_steps}
 use Rattle.std.proofs.lemmas.Result.{err_from_is_err_and}
 use Rattle.sem_words.specs.Lists.{list_items}
 use Rattle.wasm_tree.specs.Inputs.{input_of}
-use Rattle.wasm_tree.proofs.Slices.{inside_trans}
+use Rattle.wasm_tree.proofs.Slices.{stands_trans}
 use Rattle.wasm_entries.proofs.BodiesInRow.{runs_step, runs_stop_count, runs_stop_type}
 use Rattle.wasm_entries.proofs.bodies.runs.Goals as goal
 
@@ -13,7 +13,7 @@ loop-i-preserved c =
     let pushed : list_items c.push_all.new.list ≡ list_items c.loop-i.list ++ replicate c.in_ok-k.k c.in_ok-kind.kind = grind (arith, common_steps) in
     record {
       value = rw pushed (c.loop-i.invariant.value ∙ s);
-      inside = inside_trans c.in_ok-kind.ensures.inside (inside_trans c.in_ok-k.ensures.inside c.loop-i.invariant.inside);
+      follows = stands_trans c.in_ok-kind.ensures.follows (stands_trans c.in_ok-k.ensures.follows c.loop-i.invariant.follows);
     }
 
 pub returns-in_err-k-clause-value : goal.returns-in_err-k-clause-value

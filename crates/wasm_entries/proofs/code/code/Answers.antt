@@ -13,11 +13,11 @@ use Rattle.wasm_entries.proofs.code.code.Goals as goal
 pub returns-in_err-_instr-clause-value : goal.returns-in_err-_instr-clause-value
 returns-in_err-_instr-clause-value c =
     let p = err_from_is_err_and c.from_residual.result c.from_residual.ensures.1 in
-    rw (p.1, p.2) (code_err (length c.args.input.bytes.now) c.loop-turn._turn c.loop-turn.invariant.0 c.loop-turn.openings.items c.next.new.openings.items (input_of c.loop-turn.rest) (code_field (input_of c.args.input)) _ c.loop-turn-test.true c.in_err-_instr.ensures c.loop-turn.invariant.1)
+    rw (p.1, p.2) (code_err (length c.args.input.bytes.now) c.loop-turn._turn c.loop-turn.invariant.0 c.loop-turn.openings.items c.next.new.openings.items (input_of c.loop-turn.rest) (code_field (input_of c.args.input)) _ c.loop-turn-test.true c.in_err-_instr.ensures.value c.loop-turn.invariant.1)
 
 pub slice_bounds-front-count : goal.slice_bounds-front-count
 slice_bounds-front-count c =
-    let s = code_closed (length c.args.input.bytes.now) c.loop-turn._turn c.loop-turn.invariant.0 (openings_of c.loop-turn.openings.items) (input_of c.loop-turn.rest) (input_of c.in_ok-_instr.after) (instr_of c.in_ok-_instr._instr) c.in_ok-_instr.closed c.next.new.openings.items c.loop-turn-test.true c.if-closed.true c.in_ok-_instr.ensures in
+    let s = code_closed (length c.args.input.bytes.now) c.loop-turn._turn c.loop-turn.invariant.0 (openings_of c.loop-turn.openings.items) (input_of c.loop-turn.rest) (input_of c.in_ok-_instr.after) (instr_of c.in_ok-_instr._instr) c.in_ok-_instr.closed c.next.new.openings.items c.loop-turn-test.true c.if-closed.true c.in_ok-_instr.ensures.value in
     let code = c.loop-turn.invariant.0 ++ instr_of c.in_ok-_instr._instr ∷ [] in
     let alone = stands_alone code c.args.input.bytes.now c.in_ok-_instr.after.bytes.now (c.code_laws.ensures.code_is code (input_of c.args.input) (input_of c.in_ok-_instr.after) (c.loop-turn.invariant.1 ∙ s)).0 in
     let shorter : length c.in_ok-_instr.after.bytes.now ≤ length c.args.input.bytes.now = alone.shorter in
@@ -25,7 +25,7 @@ slice_bounds-front-count c =
 
 pub returns-then-closed-clause-value : goal.returns-then-closed-clause-value
 returns-then-closed-clause-value c =
-    let s = code_closed (length c.args.input.bytes.now) c.loop-turn._turn c.loop-turn.invariant.0 (openings_of c.loop-turn.openings.items) (input_of c.loop-turn.rest) (input_of c.in_ok-_instr.after) (instr_of c.in_ok-_instr._instr) c.in_ok-_instr.closed c.next.new.openings.items c.loop-turn-test.true c.if-closed.true c.in_ok-_instr.ensures in
+    let s = code_closed (length c.args.input.bytes.now) c.loop-turn._turn c.loop-turn.invariant.0 (openings_of c.loop-turn.openings.items) (input_of c.loop-turn.rest) (input_of c.in_ok-_instr.after) (instr_of c.in_ok-_instr._instr) c.in_ok-_instr.closed c.next.new.openings.items c.loop-turn-test.true c.if-closed.true c.in_ok-_instr.ensures.value in
     let code = c.loop-turn.invariant.0 ++ instr_of c.in_ok-_instr._instr ∷ [] in
     let reads : code_field (input_of c.args.input) ≡ Ok (code, input_of c.in_ok-_instr.after) = c.loop-turn.invariant.1 ∙ s in
     let alone = stands_alone code c.args.input.bytes.now c.in_ok-_instr.after.bytes.now (c.code_laws.ensures.code_is code (input_of c.args.input) (input_of c.in_ok-_instr.after) reads).0 in
@@ -34,5 +34,5 @@ returns-then-closed-clause-value c =
 
 pub loop-turn-preserved : goal.loop-turn-preserved
 loop-turn-preserved c =
-    let s = code_step (length c.args.input.bytes.now) c.loop-turn._turn c.loop-turn.invariant.0 (openings_of c.loop-turn.openings.items) (input_of c.loop-turn.rest) (input_of c.in_ok-_instr.after) (instr_of c.in_ok-_instr._instr) c.in_ok-_instr.closed c.next.new.openings.items c.loop-turn-test.true c.if-closed.false c.in_ok-_instr.ensures in
+    let s = code_step (length c.args.input.bytes.now) c.loop-turn._turn c.loop-turn.invariant.0 (openings_of c.loop-turn.openings.items) (input_of c.loop-turn.rest) (input_of c.in_ok-_instr.after) (instr_of c.in_ok-_instr._instr) c.in_ok-_instr.closed c.next.new.openings.items c.loop-turn-test.true c.if-closed.false c.in_ok-_instr.ensures.value in
     (c.loop-turn.invariant.0 ++ instr_of c.in_ok-_instr._instr ∷ [], c.loop-turn.invariant.1 ∙ s)

@@ -2,7 +2,7 @@ use Rattle.std.proofs.Common.{◌≡◌, ◌∙◌, arith, get_or, true}
 use Rattle.std.specs.Prelude.{◌==◌}
 use Rattle.std.proofs.lemmas.Grind.{common_steps}
 use Rattle.wasm_tree.specs.Inputs.{input_of}
-use Rattle.wasm_tree.proofs.Slices.{inside_trans}
+use Rattle.wasm_tree.proofs.Slices.{stands_trans}
 use Rattle.wasm_entries.proofs.Header.{header_stop, header_step}
 use Rattle.wasm_entries.proofs.fields.expected.Goals as goal
 
@@ -16,5 +16,5 @@ loop-byte-preserved c =
     let same : (c.in_ok-found.found == get_or c.args.bytes.now c.loop-byte.byte-index 0) ≡ true = grind (arith, common_steps, c.if-found-byte.false) in
     record {
       value = c.loop-byte.invariant.value ∙ header_step c.args.row c.args.bytes.now c.loop-byte.byte-index (input_of c.loop-byte.rest) (input_of c.in_ok-found.after) c.in_ok-found.found c.loop-byte-test.true c.in_ok-found.ensures.value same;
-      inside = inside_trans c.in_ok-found.ensures.inside c.loop-byte.invariant.inside;
+      follows = stands_trans c.in_ok-found.ensures.follows c.loop-byte.invariant.follows;
     }
