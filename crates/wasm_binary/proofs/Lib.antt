@@ -1,4 +1,5 @@
 pub mod Answering
 pub mod ByParts
 pub mod LentModules
+pub mod PlacesExamples
 pub mod SectionHeads

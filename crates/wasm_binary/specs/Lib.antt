@@ -1,3 +1,5 @@
 pub mod Answers
+pub mod Lent
 pub mod Parts
+pub mod Places
 pub mod Whole

@@ -1,12 +1,11 @@
 -- How a section stands in the input: absent, or its content and what follows it.
-use Rattle.std.specs.Prelude.{◌≡◌, ℕ, ◌+◌, List, length, nat_le, if◌then◌else◌, Result, Ok, Err}
-use Rattle.std.specs.Borrow.{Bor}
+use Rattle.std.specs.Prelude.{◌≡◌, ℕ, ◌+◌, length, nat_le, if◌then◌else◌, Result, Ok, Err}
 use Rattle.wasm_lang.specs.declared.fault.Fault.{Fault}
 use Rattle.wasm_lang.specs.declared.fault.Row.TheVariants.{Truncated}
 use Rattle.wasm_lang.specs.Reading.{Input, Field, ◌>>=◌, expects, u32_field, nothing_left}
 use Rattle.wasm_lang.specs.ReadingModule.{begins_with, after_id, customs_field}
-use Rattle.wasm_tree.specs.Inputs.{input_of}
-use Rattle.wasm_tree.specs.Slices.{Inside}
+use Rattle.wasm_tree.specs.Inputs.{input_of, Continues}
+use Rattle.wasm_tree.specs.declared.input.Input.{Input as Place}
 use Rattle.wasm_entries.specs.Sized.{split_at}
 use Rattle.wasm_binary.specs.declared.sections.Part.{Part as Placed}
 use Rattle.wasm_binary.specs.declared.sections.Part.TheVariants as parts
@@ -46,6 +45,6 @@ IsPlaced (Ok (parts.Found content after)) head = head ≡ Ok (found_part (input_
 IsPlaced (Err fault) head = head ≡ Err fault
 
 -- what the code found are parts of this input
-abbrev pub IsPartOf : Bor (List ℕ) → Placed → Type 0
-IsPartOf input (parts.Absent rest) = Inside rest.bytes input
-IsPartOf input (parts.Found content after) = Inside content.bytes input × Inside after.bytes input
+abbrev pub IsPartOf : Place → Placed → Type 0
+IsPartOf input (parts.Absent rest) = Continues rest input
+IsPartOf input (parts.Found content after) = Continues content input × Continues after input

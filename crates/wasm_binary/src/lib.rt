@@ -3,7 +3,7 @@
 //!
 //! The reader takes the fields of the input in order, and refuses at the first that can't be read. Names,
 //! segments and bodies are lent from the input.
-#![tactic(auto, using(wasm_tree::proofs::Slices::inside_trans))]
+#![tactic(auto, using(wasm_tree::proofs::Slices::stands_trans))]
 
 mod fault;
 mod reader;

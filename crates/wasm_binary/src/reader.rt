@@ -1,16 +1,17 @@
 //! Reading a module.
 ghost use Rattle.std.specs.Prelude.{◌≡◌, ℕ, List as Listed, Ok, Err, IfOk, IfErr};
-ghost use Rattle.std.specs.Borrow.{Bor};
 ghost use Rattle.wasm_lang.specs.Grammar.{IsModuleBytes};
 ghost use Rattle.wasm_lang.specs.Limits.{IsWithinReader};
 ghost use Rattle.wasm_lang.specs.Modules.{WasmModule};
 ghost use Rattle.wasm_tree.specs.Views.{module_of};
 ghost use Rattle.wasm_tree.specs.Inputs.{input_of};
-ghost use Rattle.wasm_tree.specs.Slices.{Inside};
+ghost use Rattle.wasm_tree.specs.Slices.{Stands};
 ghost use Rattle.sem_words.specs.Lists.{list_items};
-ghost use Rattle.wasm_entries.specs.Lent.{Each, IsLentImport, IsLentExport, IsLentModule};
+ghost use Rattle.wasm_entries.specs.Lent.{Source, IsLentImport, IsLentExport, EachAt};
 ghost use Rattle.wasm_entries.specs.Views.{types_of, imports_of};
 ghost use Rattle.wasm_binary.specs.Whole.{read_by_parts, sections_from, declarations_from, definitions_from, contents_from, front_of, middle_of};
+ghost use Rattle.wasm_binary.specs.Lent.{IsLentBy, IsLentModule};
+ghost use Rattle.wasm_binary.specs.Places.{contents_places, definitions_places, declarations_places, sections_places};
 ghost use Rattle.wasm_binary.specs.Answers.{IsModule, IsRead, IsReadAs, IsRefusal};
 
 use crate::fault::{BinFault, told};
@@ -73,7 +74,7 @@ fn module<'a>(alloc: Global, bytes: &'a [u8]) -> Result<Module<'a>, ReadError>
 // The module, after the header.
 fn sections<'a>(alloc: Global, input: Input<'a>) -> Result<Module<'a>, ReadError>
     ensures value { IsModule result (sections_from (input_of input.entry)) }
-    ensures lent { IfOk result (λ m. IsLentModule input.entry.bytes m) }
+    ensures lent { (source : Source) → Stands input.entry.at input.entry.bytes source.0 source.1 → IfOk result (λ m. IsLentBy source (sections_places (input_of input.entry)) m) }
 {
     let (types, rest) = type_section(alloc, input)?;
     let (imports, rest) = import_section(alloc, rest)?;
@@ -88,7 +89,7 @@ fn declarations<'a>(
     input: Input<'a>,
 ) -> Result<Module<'a>, ReadError>
     ensures value { IsModule result (declarations_from (types_of types) (imports_of imports.entry) (input_of input.entry)) }
-    ensures lent { (whole : Bor (Listed ℕ)) → Each (IsLentImport whole) (list_items imports.entry) → Inside input.entry.bytes whole → IfOk result (λ m. IsLentModule whole m) }
+    ensures lent { (source : Source) (is : Listed (ℕ × ℕ)) → EachAt (IsLentImport source) is (list_items imports.entry) → Stands input.entry.at input.entry.bytes source.0 source.1 → IfOk result (λ m. IsLentBy source (declarations_places is (input_of input.entry)) m) }
 {
     let (functions, rest) = function_section(alloc, input, &imports)?;
     let (tables, rest) = table_section(alloc, rest)?;
@@ -112,7 +113,7 @@ fn definitions<'a>(
     input: Input<'a>,
 ) -> Result<Module<'a>, ReadError>
     ensures value { IsModule result (definitions_from (front_of declared.entry) (input_of input.entry)) }
-    ensures lent { (whole : Bor (Listed ℕ)) → Each (IsLentImport whole) (list_items declared.entry.imports) → Inside input.entry.bytes whole → IfOk result (λ m. IsLentModule whole m) }
+    ensures lent { (source : Source) (is : Listed (ℕ × ℕ)) → EachAt (IsLentImport source) is (list_items declared.entry.imports) → Stands input.entry.at input.entry.bytes source.0 source.1 → IfOk result (λ m. IsLentBy source (definitions_places is (input_of input.entry)) m) }
 {
     let (exports, rest) = export_section(alloc, input)?;
     let (start, rest) = number_section(rest, 8)?;
@@ -135,7 +136,7 @@ fn contents<'a>(
     input: Input<'a>,
 ) -> Result<Module<'a>, ReadError>
     ensures value { IsModule result (contents_from (front_of declared.entry) (middle_of defined.entry) counted (input_of input.entry)) }
-    ensures lent { (whole : Bor (Listed ℕ)) → Each (IsLentImport whole) (list_items declared.entry.imports) → Each (IsLentExport whole) (list_items defined.entry.exports) → Inside input.entry.bytes whole → IfOk result (λ m. IsLentModule whole m) }
+    ensures lent { (source : Source) (is : Listed (ℕ × ℕ)) (es : Listed ℕ) → EachAt (IsLentImport source) is (list_items declared.entry.imports) → EachAt (IsLentExport source) es (list_items defined.entry.exports) → Stands input.entry.at input.entry.bytes source.0 source.1 → IfOk result (λ m. IsLentBy source (contents_places is es (input_of input.entry)) m) }
 {
     let (bodies, rest) = body_section(alloc, input, &declared.types, &declared.functions)?;
     let (segments, rest) = segment_section(alloc, rest, counted)?;

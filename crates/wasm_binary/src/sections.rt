@@ -3,9 +3,9 @@ ghost use Rattle.std.specs.Prelude.{◌≡◌, ℕ, List as Bytes, true, false, 
 ghost use Rattle.sem_words.specs.Lists.{list_items};
 ghost use Rattle.wasm_lang.specs.Reading as reading;
 ghost use Rattle.wasm_lang.specs.ReadingModule as modules;
-ghost use Rattle.wasm_tree.specs.Inputs.{input_of, IsField, IsRead};
-ghost use Rattle.wasm_tree.specs.Slices.{Inside};
-ghost use Rattle.wasm_entries.specs.Lent.{Each, IsLentImport, IsLentExport, IsLentBody, IsLentSegment};
+ghost use Rattle.wasm_tree.specs.Inputs.{input_of, IsField, IsRead, Continues};
+ghost use Rattle.wasm_entries.specs.Lent.{source_of, IsLentImport, IsLentExport, IsLentBody, IsLentSegment, EachAt, Located};
+ghost use Rattle.wasm_entries.specs.Places.{import_places, export_place, body_place, segment_place};
 ghost use Rattle.wasm_binary.specs.Parts.{section_head, part_head, part_by, IsPlaced, IsPartOf};
 ghost use Rattle.wasm_entries.specs.Views.{types_of, imports_of, globals_of, exports_of, elements_of, bodies_of, segments_of};
 
@@ -28,7 +28,7 @@ const MOST_TYPES: usize = 10_000;
 // What follows the id of a section, where this one stands next.
 fn after_id<'a>(input: Input<'a>, id: u8) -> Option<Input<'a>>
     ensures value { MatchOption result (modules.begins_with id input.entry.bytes.now ≡ false) (λ rest. (modules.begins_with id input.entry.bytes.now ≡ true) × (input_of rest ≡ modules.after_id (input_of input.entry))) }
-    ensures inside { IfSome result (λ rest. Inside rest.bytes input.entry.bytes) }
+    ensures follows { IfSome result (λ rest. Continues rest input.entry) }
 {
     match input.bytes {
         [first, rest @ ..] if *first == id => Some(Input {
@@ -42,8 +42,8 @@ fn after_id<'a>(input: Input<'a>, id: u8) -> Option<Input<'a>>
 // A section after its id: its content, whose size has to fit the input, and what follows it.
 fn section<'a>(input: Input<'a>) -> Result<(Input<'a>, Input<'a>), Fault>
     ensures value { MatchResult result (λ x. section_head (input_of input.entry) ≡ Ok (input_of x.0, input_of x.1)) (λ fault. section_head (input_of input.entry) ≡ Err fault) }
-    ensures content { IfOk result (λ x. Inside x.0.bytes input.entry.bytes) }
-    ensures inside { IfOk result (λ x. Inside x.1.bytes input.entry.bytes) }
+    ensures content { IfOk result (λ x. Continues x.0 input.entry) }
+    ensures follows { IfOk result (λ x. Continues x.1 input.entry) }
 {
     let (size, rest) = input.u32(Row::Truncated)?;
     if size as usize > rest.bytes.len() {
@@ -65,7 +65,7 @@ fn section<'a>(input: Input<'a>) -> Result<(Input<'a>, Input<'a>), Fault>
 // A custom section after its id: a name and any bytes.
 fn custom<'a>(input: Input<'a>) -> Result<Input<'a>, Fault>
     ensures value { MatchResult result (λ rest. (x : Bytes ℕ) × (modules.section_field modules.custom_content (input_of input.entry) ≡ Ok (x, input_of rest))) (λ fault. modules.section_field modules.custom_content (input_of input.entry) ≡ Err fault) }
-    ensures inside { IfOk result (λ rest. Inside rest.bytes input.entry.bytes) }
+    ensures follows { IfOk result (λ rest. Continues rest input.entry) }
 {
     let (content, after) = section(input)?;
     let (_name, _rest) = name(content)?;
@@ -75,7 +75,7 @@ fn custom<'a>(input: Input<'a>) -> Result<Input<'a>, Fault>
 /// The custom sections that stand next are passed over.
 pub fn customs<'a>(input: Input<'a>) -> Result<Input<'a>, Fault>
     ensures value { MatchResult result (λ rest. modules.customs_field (input_of input.entry) ≡ Ok (input_of rest)) (λ fault. modules.customs_field (input_of input.entry) ≡ Err fault) }
-    ensures inside { IfOk result (λ rest. Inside rest.bytes input.entry.bytes) }
+    ensures follows { IfOk result (λ rest. Continues rest input.entry) }
 {
     let mut rest = input;
     for _turn in 0..input.bytes.len() {
@@ -99,7 +99,7 @@ pub enum Part<'a> {
 // The section with this id, after custom sections.
 fn placed<'a>(input: Input<'a>, id: u8) -> Result<Part<'a>, Fault>
     ensures value { IsPlaced result (part_head id (input_of input.entry)) }
-    ensures inside { IfOk result (λ part. IsPartOf input.entry.bytes part) }
+    ensures follows { IfOk result (λ part. IsPartOf input.entry part) }
 {
     let input = customs(input)?;
     match after_id(input, id) {
@@ -117,7 +117,7 @@ pub fn type_section<'a>(
     input: Input<'a>,
 ) -> Result<(List<FuncType>, Input<'a>), ReadError>
     ensures value { IsRead types_of result (part_by 1 [] modules.types_content (input_of input.entry)) }
-    ensures inside { IfOk result (λ x. Inside x.1.bytes input.entry.bytes) }
+    ensures follows { IfOk result (λ x. Continues x.1 input.entry) }
 {
     match placed(input, 1)? {
         Part::Absent(rest) => Ok((List::new(alloc), rest)),
@@ -136,8 +136,8 @@ pub fn import_section<'a>(
     input: Input<'a>,
 ) -> Result<(List<Import<'a>>, Input<'a>), ReadError>
     ensures value { IsRead imports_of result (part_by 2 [] modules.imports_content (input_of input.entry)) }
-    ensures inside { IfOk result (λ x. Inside x.1.bytes input.entry.bytes) }
-    ensures lent { IfOk result (λ x. Each (IsLentImport input.entry.bytes) (list_items x.0)) }
+    ensures follows { IfOk result (λ x. Continues x.1 input.entry) }
+    ensures lent { IfOk result (λ x. Located (part_by 2 [] (reading.vec_field import_places) (input_of input.entry)) (input_of x.1) (λ places. EachAt (IsLentImport (source_of input.entry)) places (list_items x.0))) }
 {
     match placed(input, 2)? {
         Part::Absent(rest) => Ok((List::new(alloc), rest)),
@@ -157,7 +157,7 @@ pub fn function_section<'a>(
     imports: &List<Import<'a>>,
 ) -> Result<(List<u32>, Input<'a>), ReadError>
     ensures value { IsRead list_items result (part_by 3 [] (modules.functions_content (imports_of imports.now)) (input_of input.entry)) }
-    ensures inside { IfOk result (λ x. Inside x.1.bytes input.entry.bytes) }
+    ensures follows { IfOk result (λ x. Continues x.1 input.entry) }
 {
     match placed(input, 3)? {
         Part::Absent(rest) => Ok((List::new(alloc), rest)),
@@ -176,7 +176,7 @@ pub fn table_section<'a>(
     input: Input<'a>,
 ) -> Result<(List<Limits>, Input<'a>), ReadError>
     ensures value { IsRead list_items result (part_by 4 [] (reading.vec_field modules.table_field) (input_of input.entry)) }
-    ensures inside { IfOk result (λ x. Inside x.1.bytes input.entry.bytes) }
+    ensures follows { IfOk result (λ x. Continues x.1 input.entry) }
 {
     match placed(input, 4)? {
         Part::Absent(rest) => Ok((List::new(alloc), rest)),
@@ -195,7 +195,7 @@ pub fn memory_section<'a>(
     input: Input<'a>,
 ) -> Result<(List<Limits>, Input<'a>), ReadError>
     ensures value { IsRead list_items result (part_by 5 [] (reading.vec_field modules.memory_field) (input_of input.entry)) }
-    ensures inside { IfOk result (λ x. Inside x.1.bytes input.entry.bytes) }
+    ensures follows { IfOk result (λ x. Continues x.1 input.entry) }
 {
     match placed(input, 5)? {
         Part::Absent(rest) => Ok((List::new(alloc), rest)),
@@ -215,7 +215,7 @@ pub fn global_section<'a>(
     imports: &List<Import<'a>>,
 ) -> Result<(List<GlobalDef>, Input<'a>), ReadError>
     ensures value { IsRead globals_of result (part_by 6 [] (modules.globals_content (imports_of imports.now)) (input_of input.entry)) }
-    ensures inside { IfOk result (λ x. Inside x.1.bytes input.entry.bytes) }
+    ensures follows { IfOk result (λ x. Continues x.1 input.entry) }
 {
     match placed(input, 6)? {
         Part::Absent(rest) => Ok((List::new(alloc), rest)),
@@ -234,8 +234,8 @@ pub fn export_section<'a>(
     input: Input<'a>,
 ) -> Result<(List<WasmExport<'a>>, Input<'a>), ReadError>
     ensures value { IsRead exports_of result (part_by 7 [] (reading.vec_field modules.export_field) (input_of input.entry)) }
-    ensures inside { IfOk result (λ x. Inside x.1.bytes input.entry.bytes) }
-    ensures lent { IfOk result (λ x. Each (IsLentExport input.entry.bytes) (list_items x.0)) }
+    ensures follows { IfOk result (λ x. Continues x.1 input.entry) }
+    ensures lent { IfOk result (λ x. Located (part_by 7 [] (reading.vec_field export_place) (input_of input.entry)) (input_of x.1) (λ places. EachAt (IsLentExport (source_of input.entry)) places (list_items x.0))) }
 {
     match placed(input, 7)? {
         Part::Absent(rest) => Ok((List::new(alloc), rest)),
@@ -251,7 +251,7 @@ pub fn export_section<'a>(
 /// A section of one number: the start function, 8, or the data count, 12.
 pub fn number_section<'a>(input: Input<'a>, id: u8) -> Result<(Option<u32>, Input<'a>), Fault>
     ensures value { IsField (λ n. n) result (part_by id None (λ i. reading.onto Some (reading.u32 i)) (input_of input.entry)) }
-    ensures inside { IfOk result (λ x. Inside x.1.bytes input.entry.bytes) }
+    ensures follows { IfOk result (λ x. Continues x.1 input.entry) }
 {
     match placed(input, id)? {
         Part::Absent(rest) => Ok((None, rest)),
@@ -269,7 +269,7 @@ pub fn element_section<'a>(
     input: Input<'a>,
 ) -> Result<(List<Element>, Input<'a>), ReadError>
     ensures value { IsRead elements_of result (part_by 9 [] (reading.vec_field modules.element_field) (input_of input.entry)) }
-    ensures inside { IfOk result (λ x. Inside x.1.bytes input.entry.bytes) }
+    ensures follows { IfOk result (λ x. Continues x.1 input.entry) }
 {
     match placed(input, 9)? {
         Part::Absent(rest) => Ok((List::new(alloc), rest)),
@@ -290,8 +290,8 @@ pub fn body_section<'a>(
     functions: &List<u32>,
 ) -> Result<(List<Body<'a>>, Input<'a>), ReadError>
     ensures value { IsRead bodies_of result (part_by 10 [] (modules.bodies_content (types_of types.now) (list_items functions.now)) (input_of input.entry)) }
-    ensures inside { IfOk result (λ x. Inside x.1.bytes input.entry.bytes) }
-    ensures lent { IfOk result (λ x. Each (IsLentBody input.entry.bytes) (list_items x.0)) }
+    ensures follows { IfOk result (λ x. Continues x.1 input.entry) }
+    ensures lent { IfOk result (λ x. Located (part_by 10 [] (reading.vec_field body_place) (input_of input.entry)) (input_of x.1) (λ places. EachAt (IsLentBody (source_of input.entry)) places (list_items x.0))) }
 {
     match placed(input, 10)? {
         Part::Absent(rest) => Ok((List::new(alloc), rest)),
@@ -312,8 +312,8 @@ pub fn segment_section<'a>(
     counted: Option<u32>,
 ) -> Result<(List<Segment<'a>>, Input<'a>), ReadError>
     ensures value { IsRead segments_of result (part_by 11 [] (modules.segments_content counted) (input_of input.entry)) }
-    ensures inside { IfOk result (λ x. Inside x.1.bytes input.entry.bytes) }
-    ensures lent { IfOk result (λ x. Each (IsLentSegment input.entry.bytes) (list_items x.0)) }
+    ensures follows { IfOk result (λ x. Continues x.1 input.entry) }
+    ensures lent { IfOk result (λ x. Located (part_by 11 [] (reading.vec_field segment_place) (input_of input.entry)) (input_of x.1) (λ places. EachAt (IsLentSegment (source_of input.entry)) places (list_items x.0))) }
 {
     match placed(input, 11)? {
         Part::Absent(rest) => Ok((List::new(alloc), rest)),
