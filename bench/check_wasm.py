@@ -1,38 +1,27 @@
 #!/usr/bin/env python3
-"""python3 bench/check_wasm.py PROGRAM: time and peak memory of `PROGRAM check-wasm` on generated modules,
-beside wabt's wasm-validate, binaryen's wasm-opt and node, where they are installed. Seconds and MiB, and how
-many times as long each took as on the module before. The reader takes at most 80,000 functions."""
+"""python3 bench/check_wasm.py PROGRAM [COUNT ..]: time and peak memory of `PROGRAM check-wasm` on generated modules of so
+many functions, beside wabt's wasm-validate, binaryen's wasm-opt and node, where they are installed. The reader takes at
+most 80,000 functions."""
 import os
-import shutil
-import subprocess
 import sys
-import tempfile
 
-from measure import print_row
+from measure import compare
+from wasm_module import module
 
-HERE = os.path.dirname(os.path.abspath(__file__))
 COUNTS = [1_000, 10_000, 50_000]
 NODE = "process.exit(WebAssembly.validate(require('fs').readFileSync(process.argv[1]))?0:1)"
 
 
 def main():
     program = os.path.abspath(sys.argv[1])
-    tools = [("bridge", lambda file: [program, "check-wasm", file])]
-    if shutil.which("wasm-validate"):
-        tools.append(("wasm-validate", lambda file: ["wasm-validate", file]))
-    if shutil.which("wasm-opt"):
-        tools.append(("wasm-opt", lambda file: ["wasm-opt", file]))
-    if shutil.which("node"):
-        tools.append(("node", lambda file: ["node", "-e", NODE, file]))
-    before = {}
-    with tempfile.TemporaryDirectory() as folder:
-        for count in COUNTS:
-            file = os.path.join(folder, f"{count}.wasm")
-            with open(file, "wb") as out:
-                subprocess.run([sys.executable, os.path.join(HERE, "wasm_module.py"), str(count)], stdout=out, check=True)
-            print(f"{count} functions, {os.path.getsize(file)} bytes")
-            for name, words in tools:
-                print_row(name, words(file), before)
+    counts = [int(word) for word in sys.argv[2:]] or COUNTS
+    tools = [
+        ("bridge", lambda file: [program, "check-wasm", file]),
+        ("wasm-validate", lambda file: ["wasm-validate", file]),
+        ("wasm-opt", lambda file: ["wasm-opt", file]),
+        ("node", lambda file: ["node", "-e", NODE, file]),
+    ]
+    compare(counts, "functions", module, tools)
 
 
 if __name__ == "__main__":

@@ -1,38 +1,14 @@
 #!/usr/bin/env python3
-"""python3 bench/run_wasm.py PROGRAM [TURNS]: time and peak memory of `PROGRAM run-wasm` on a loop that adds, stores
-and loads, beside wabt's wasm-interp, where it is installed, for a tenth of the turns and for all of them."""
+"""python3 bench/run_wasm.py PROGRAM [TURNS ..]: time and peak memory of `PROGRAM run-wasm` on a loop that adds, stores
+and loads, for so many turns, beside wabt's wasm-interp, where it is installed."""
 import os
-import shutil
 import sys
 import tempfile
 
-from measure import print_row
+from measure import compare
+from wasm_module import section, signed, unsigned
 
-TURNS = 10_000_000
-
-
-def signed(n):
-    """n in signed LEB128."""
-    out = []
-    while True:
-        low = n & 0x7F
-        n >>= 7
-        if (n == 0 and not low & 0x40) or (n == -1 and low & 0x40):
-            return bytes(out + [low])
-        out.append(low | 0x80)
-
-
-def sized(section, content):
-    return bytes([section]) + unsigned(len(content)) + content
-
-
-def unsigned(n):
-    """n in unsigned LEB128."""
-    out = []
-    while n >= 0x80:
-        out.append(n & 0x7F | 0x80)
-        n >>= 7
-    return bytes(out + [n])
+TURNS = [1_000_000, 3_000_000, 10_000_000]
 
 
 def module(turns):
@@ -45,30 +21,26 @@ def module(turns):
     )
     return (
         b"\0asm\x01\0\0\0"
-        + sized(1, b"\x01\x60\x00\x01\x7f")
-        + sized(3, b"\x01\x00")
-        + sized(5, b"\x01\x00\x01")
-        + sized(7, b"\x01\x02go\x00\x00")
-        + sized(10, b"\x01" + unsigned(len(body)) + body)
+        + section(1, b"\x01\x60\x00\x01\x7f")
+        + section(3, b"\x01\x00")
+        + section(5, b"\x01\x00\x01")
+        + section(7, b"\x01\x02go\x00\x00")
+        + section(10, b"\x01" + unsigned(len(body)) + body)
     )
 
 
 def main():
     program = os.path.abspath(sys.argv[1])
-    all_turns = int(sys.argv[2]) if len(sys.argv) > 2 else TURNS
-    before = {}
+    all_turns = [int(word) for word in sys.argv[2:]] or TURNS
     with tempfile.TemporaryDirectory() as folder:
         script = os.path.join(folder, "go.txt")
         with open(script, "w") as out:
             out.write("call go\n")
-        for turns in (all_turns // 10, all_turns):
-            file = os.path.join(folder, f"{turns}.wasm")
-            with open(file, "wb") as out:
-                out.write(module(turns))
-            print(f"{turns} turns")
-            print_row("bridge", [program, "run-wasm", file, script, "--steps", "1000000000"], before)
-            if shutil.which("wasm-interp"):
-                print_row("wasm-interp", ["wasm-interp", file, "--run-all-exports"], before)
+        tools = [
+            ("bridge", lambda file: [program, "run-wasm", file, script, "--steps", "1000000000"]),
+            ("wasm-interp", lambda file: ["wasm-interp", file, "--run-all-exports"]),
+        ]
+        compare(all_turns, "turns", module, tools)
 
 
 if __name__ == "__main__":

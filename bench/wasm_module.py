@@ -52,4 +52,5 @@ def module(count):
     ])
 
 
-sys.stdout.buffer.write(module(int(sys.argv[1])))
+if __name__ == "__main__":
+    sys.stdout.buffer.write(module(int(sys.argv[1])))

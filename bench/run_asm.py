@@ -1,0 +1,41 @@
+#!/usr/bin/env python3
+"""python3 bench/run_asm.py PROGRAM [TURNS ..]: time and peak memory of `PROGRAM run-asm` on a loop of asm.js that loads,
+adds and stores, for so many turns, beside node on the same text, where it is installed. The file of each size is the
+script."""
+import os
+import sys
+import tempfile
+
+from measure import compare
+
+TURNS = [1_000_000, 3_000_000, 10_000_000]
+TEXT = (
+    'function gen(stdlib,foreign,heap){"use asm";var H=new stdlib.Int32Array(heap);'
+    "function f(n){n=n|0;var i=0,x=0;"
+    "for(;(i|0)<(n|0);i=i+1|0){x=(H[(i&1023)<<2>>2]|0)+i|0;H[(x&1023)<<2>>2]=x;}"
+    "return x|0;}return f;}\n"
+)
+NODE = (
+    "const [text,script]=process.argv.slice(1).map(file=>require('fs').readFileSync(file,'latin1'));"
+    "const f=new Function('return '+text)()(globalThis,{},new ArrayBuffer(65536));"
+    "console.log('result '+f(Number(script.split(' ')[2])))"
+)
+
+
+def main():
+    program = os.path.abspath(sys.argv[1])
+    all_turns = [int(word) for word in sys.argv[2:]] or TURNS
+    with tempfile.TemporaryDirectory() as folder:
+        text = os.path.join(folder, "gen.js")
+        with open(text, "w") as out:
+            out.write(TEXT)
+        # a unit of the budget for each call and each turn
+        tools = [
+            ("bridge", lambda script: [program, "run-asm", text, script, "--steps", "1000000000"]),
+            ("node", lambda script: ["node", "-e", NODE, text, script]),
+        ]
+        compare(all_turns, "turns", lambda turns: b"call f %d\n" % turns, tools)
+
+
+if __name__ == "__main__":
+    main()
