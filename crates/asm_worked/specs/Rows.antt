@@ -76,7 +76,7 @@ abbrev pub quotient : Module
 quotient = module_of [] [] (function d (a ∷ b ∷ []) [] (answers (binary Div (signed (var a)) (signed (var b))) ∷ []) ∷ []) [] (one d)
 
 abbrev pub quotient_text : List ℕ
-quotient_text = codes "function m(){\"use asm\";\nfunction d(a,b){a=a|0;b=b|0;return (a|0)/(b|0)|0;}\nreturn d;}\n"
+quotient_text = codes "function m(){\"use asm\";\nfunction d(a,b){a=a|0;b=b|0;return(a|0)/(b|0)|0;}\nreturn d;}\n"
 
 -- -2147483648 / -1, 7 / 0 and -7 / 2
 abbrev pub quotient_script : ScriptPlain
@@ -139,7 +139,7 @@ asking = module_of with_foreign (foreign_variable g ∷ [])
     (function f (a ∷ []) [] (answers (plus (signed (call g (arguments (signed (var a) ∷ [])))) (int 1)) ∷ []) ∷ []) [] (one f)
 
 abbrev pub asking_text : List ℕ
-asking_text = codes "function m(s,e){\"use asm\";\nvar g=e.g;\nfunction f(a){a=a|0;return (g(a|0)|0)+1|0;}\nreturn f;}\n"
+asking_text = codes "function m(s,e){\"use asm\";\nvar g=e.g;\nfunction f(a){a=a|0;return(g(a|0)|0)+1|0;}\nreturn f;}\n"
 
 -- f(7) and f(-1), with this reply after one of 41
 abbrev asking_with : List ReplyPlain → ScriptPlain

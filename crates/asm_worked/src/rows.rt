@@ -1,5 +1,5 @@
 //! The rows. Each function does nothing, and its contract is what the check computes of a module.
-ghost use Rattle.std.specs.Prelude.{◌≡◌, ◌∷◌, [], Some, None, pos, codes, replicate};
+ghost use Rattle.std.specs.Prelude.{◌≡◌, ◌∷◌, ◌++◌, [], Some, None, pos, codes, replicate};
 ghost use Rattle.sem_laws.specs.Script.{give};
 ghost use Rattle.sem_laws.specs.Observation.{call_returned, done, stopped, no_reply, running, ended};
 ghost use Rattle.asm_meaning.specs.Fits.{misfit};
@@ -30,6 +30,7 @@ pub fn comparisons()
 pub fn outside_the_view()
     ensures text { Says rows.outside_text rows.outside }
     ensures nothing { Shows rows.outside 4096 rows.outside_script 1 (ended (gave 0 ∷ []) done (replicate 4096 0)) }
+    ensures written { Shows rows.outside 4100 rows.outside_script 1 (ended (gave 9 ∷ []) done (replicate 4096 0 ++ 9 ∷ 0 ∷ 0 ∷ 0 ∷ [])) }
 {}
 
 /// -2 in an `Int32Array` is 254 in a `Uint8Array`, and its high half -1 in an `Int16Array`.
