@@ -124,3 +124,43 @@ evens_same = refl
 
 pub evens_says : Says rows.evens_text rows.evens
 evens_says = says rows.evens_text rows.evens evens_fits evens_same refl
+
+triangle_fits : FitsModule rows.triangle
+triangle_fits = search (ltb-true, leb-true)
+
+triangle_same : canonical_text rows.triangle ≡ rows.triangle_text
+unfolding is_punctuator digits
+triangle_same = refl
+
+pub triangle_says : Says rows.triangle_text rows.triangle
+triangle_says = says rows.triangle_text rows.triangle triangle_fits triangle_same refl
+
+ordered_fits : FitsModule rows.ordered
+ordered_fits = search (ltb-true, leb-true)
+
+ordered_same : canonical_text rows.ordered ≡ rows.ordered_text
+unfolding is_punctuator digits
+ordered_same = refl
+
+pub ordered_says : Says rows.ordered_text rows.ordered
+ordered_says = says rows.ordered_text rows.ordered ordered_fits ordered_same refl
+
+counter_fits : FitsModule rows.counter
+counter_fits = search (ltb-true, leb-true)
+
+counter_same : canonical_text rows.counter ≡ rows.counter_text
+unfolding is_punctuator digits
+counter_same = refl
+
+pub counter_says : Says rows.counter_text rows.counter
+counter_says = says rows.counter_text rows.counter counter_fits counter_same refl
+
+heard_fits : FitsModule rows.heard
+heard_fits = search (ltb-true, leb-true)
+
+heard_same : canonical_text rows.heard ≡ rows.heard_text
+unfolding is_punctuator digits
+heard_same = refl
+
+pub heard_says : Says rows.heard_text rows.heard
+heard_says = says rows.heard_text rows.heard heard_fits heard_same refl

@@ -1,12 +1,12 @@
 -- Short forms of the parts of modules and scripts, and of what is seen.
-use Rattle.std.specs.Prelude.{ℕ, ℤ, pos, Bool, false, true, List, [], ◌∷◌, Option, Some, None, map, codes}
+use Rattle.std.specs.Prelude.{ℕ, ℤ, pos, false, true, List, [], ◌∷◌, Some, map, codes}
 use Rattle.sem_words.specs.declared.word.Word.{Word}
 use Rattle.sem_words.specs.declared.word.Word.TheVariants.{W32}
 use Rattle.sem_words.specs.declared.js_value.JsOp.TheVariants.{Or}
-use Rattle.sem_laws.specs.Script.{GlobalPlain, CallPlain, ReplyPlain, give, throw, ReplyLinePlain, ScriptPlain}
+use Rattle.sem_laws.specs.Script.{CallPlain, ReplyPlain, ReplyLinePlain, ScriptPlain}
 use Rattle.sem_laws.specs.Observation.{EventPlain, import_called, call_gave}
 use Rattle.asm_lang.specs.Trees.{Init, number, member, view}
-use Rattle.asm_lang.specs.Modules.{Expr, lit, var, call, assign, binary, chain, Exprs, no_exprs, exprs, no_links, links, Stmt, block, plain, returns, Stmts, no_stmts, stmts, Variable, Param, Function, Table, Exports, one, Module}
+use Rattle.asm_lang.specs.Modules.{Expr, lit, var, assign, binary, chain, Exprs, no_exprs, exprs, no_links, links, Stmt, plain, returns, Stmts, no_stmts, stmts, Variable, Param, Function, Table, Exports, Module}
 
 -- ---- expressions
 
@@ -19,6 +19,9 @@ signed e = binary Or e (int 0)
 
 abbrev pub plus : Expr → Expr → Expr
 plus a b = chain a (links false b no_links)
+
+abbrev pub minus : Expr → Expr → Expr
+minus a b = chain a (links true b no_links)
 
 abbrev pub arguments : List Expr → Exprs
 arguments [] = no_exprs

@@ -1,9 +1,10 @@
 -- The modules of the worked sessions, each with its text, and their scripts.
-use Rattle.std.specs.Prelude.{ℕ, ℤ, pos, negsuc, List, [], ◌∷◌, Some, None, codes}
+use Rattle.std.specs.Prelude.{ℕ, pos, negsuc, List, [], ◌∷◌, Some, None, codes}
 use Rattle.sem_words.specs.declared.js_value.JsOp.TheVariants.{Div, And, Lt, Gt, Sar}
 use Rattle.sem_laws.specs.Script.{give, throw, ReplyPlain, ScriptPlain}
-use Rattle.asm_lang.specs.Modules.{lit, var, index, call, table_call, store, binary, block, plain, if_only, while_loop, breaks, continues, labelled, switches, no_clauses, clauses, one, many, Function, Module}
-use Rattle.asm_worked.specs.Forms.{int, signed, plus, arguments, statements, sets, adds, answers, view_variable, foreign_variable, function, module_of, called, replied, script}
+use Rattle.asm_lang.specs.Trees.{foreign_int}
+use Rattle.asm_lang.specs.Modules.{lit, var, index, call, table_call, assign, store, binary, comma, block, plain, if_only, returns, while_loop, breaks, continues, labelled, switches, no_clauses, clauses, one, many, Function, Module}
+use Rattle.asm_worked.specs.Forms.{int, signed, plus, minus, arguments, statements, sets, adds, answers, variable, view_variable, foreign_variable, function, module_of, called, replied, script}
 
 -- ---- names
 
@@ -30,6 +31,9 @@ g = codes "g"
 
 abbrev i : List ℕ
 i = codes "i"
+
+abbrev k : List ℕ
+k = codes "k"
 
 abbrev n : List ℕ
 n = codes "n"
@@ -193,9 +197,9 @@ tabled_script = script (called f (negsuc 0 ∷ []) 1 ∷ called f (pos 5 ∷ [])
 abbrev pub falling : Module
 falling = module_of [] []
     (function f (x ∷ []) (y ∷ [])
-        (switches (signed (var x))
-            (clauses (Some (pos 1)) (statements (adds y (int 1) ∷ [])) (clauses (Some (pos 5)) (statements (adds y (int 10) ∷ [])) (clauses None (statements (adds y (int 100) ∷ [])) no_clauses)))
-        ∷ answers (var y) ∷ []) ∷ []) [] (one f)
+    (switches (signed (var x))
+    (clauses (Some (pos 1)) (statements (adds y (int 1) ∷ [])) (clauses (Some (pos 5)) (statements (adds y (int 10) ∷ [])) (clauses None (statements (adds y (int 100) ∷ [])) no_clauses)))
+    ∷ answers (var y) ∷ []) ∷ []) [] (one f)
 
 abbrev pub falling_text : List ℕ
 falling_text = codes "function m(){\"use asm\";\nfunction f(x){x=x|0;var y=0;switch(x|0){case 1:y=y+1|0;case 5:y=y+10|0;default:y=y+100|0;}return y|0;}\nreturn f;}\n"
@@ -208,14 +212,75 @@ falling_script = script (called f (pos 1 ∷ []) 1 ∷ called f (pos 5 ∷ []) 2
 abbrev pub evens : Module
 evens = module_of [] []
     (function f (n ∷ []) (i ∷ s ∷ [])
-        (labelled (outer ∷ []) (while_loop (int 1) (block (statements
-            (adds i (int 1)
-            ∷ if_only (binary Gt (signed (var i)) (signed (var n))) (breaks (Some outer))
-            ∷ while_loop (int 1) (block (statements (if_only (binary And (var i) (int 1)) (continues (Some outer)) ∷ adds s (var i) ∷ breaks None ∷ []))) ∷ []))))
-        ∷ answers (var s) ∷ []) ∷ []) [] (one f)
+    (labelled (outer ∷ []) (while_loop (int 1) (block (statements
+    (adds i (int 1)
+    ∷ if_only (binary Gt (signed (var i)) (signed (var n))) (breaks (Some outer))
+    ∷ while_loop (int 1) (block (statements (if_only (binary And (var i) (int 1)) (continues (Some outer)) ∷ adds s (var i) ∷ breaks None ∷ []))) ∷ []))))
+    ∷ answers (var s) ∷ []) ∷ []) [] (one f)
 
 abbrev pub evens_text : List ℕ
 evens_text = codes "function m(){\"use asm\";\nfunction f(n){n=n|0;var i=0;var s=0;outer:while(1){i=i+1|0;if((i|0)>(n|0))break outer;while(1){if(i&1)continue outer;s=s+i|0;break;}}return s|0;}\nreturn f;}\n"
 
 abbrev pub evens_script : ScriptPlain
 evens_script = script (called f (pos 4 ∷ []) 1 ∷ []) []
+
+-- ---- a call of itself: the sum of the numbers up to x
+
+abbrev pub triangle : Module
+triangle = module_of [] []
+    (function f (x ∷ []) []
+    (if_only (binary Lt (signed (var x)) (int 1)) (returns (Some (int 0)))
+    ∷ answers (plus (signed (call f (arguments (signed (minus (var x) (int 1)) ∷ [])))) (var x)) ∷ []) ∷ []) [] (one f)
+
+abbrev pub triangle_text : List ℕ
+triangle_text = codes "function m(){\"use asm\";\nfunction f(x){x=x|0;if((x|0)<1)return 0;return(f(x-1|0)|0)+x|0;}\nreturn f;}\n"
+
+abbrev pub triangle_script : ScriptPlain
+triangle_script = script (called f (pos 3 ∷ []) 1 ∷ []) []
+
+-- ---- the order of evaluation
+
+abbrev pub ordered : Module
+ordered = module_of with_heap (view_variable (codes "H") (codes "Uint8Array") ∷ foreign_variable g ∷ [])
+    (function f [] (y ∷ [])
+    (plain (call g (arguments (signed (assign y (int 5)) ∷ signed (var y) ∷ [])))
+    ∷ plain (store (codes "H") (binary Sar (comma (arguments (assign y (int 1) ∷ var y ∷ []))) (int 0)) (plus (var y) (int 6)))
+    ∷ answers (var y) ∷ []) ∷ []) [] (one f)
+
+abbrev pub ordered_text : List ℕ
+ordered_text = codes "function m(s,e,h){\"use asm\";\nvar H=new s.Uint8Array(h);\nvar g=e.g;\nfunction f(){var y=0;g((y=5)|0,y|0);H[(y=1,y)>>0]=y+6;return y|0;}\nreturn f;}\n"
+
+abbrev pub ordered_script : ScriptPlain
+ordered_script = script (called f [] 1 ∷ []) (replied (give 0 []) 2 ∷ [])
+
+-- ---- what the host gives: the value of a variable, and bytes before the session and with a reply
+
+abbrev pub counter : Module
+counter = module_of with_foreign (variable k (foreign_int e k) ∷ [])
+    (function f (a ∷ []) [] (adds k (var a) ∷ answers (var k) ∷ []) ∷ []) [] (one f)
+
+abbrev pub counter_text : List ℕ
+counter_text = codes "function m(s,e){\"use asm\";\nvar k=e.k|0;\nfunction f(a){a=a|0;k=k+a|0;return k|0;}\nreturn f;}\n"
+
+abbrev pub counter_script : ScriptPlain
+counter_script = record {
+  globals = record { name = k; value = pos 1000; line = 1 } ∷ [];
+  writes = [];
+  calls = called f (pos 5 ∷ []) 2 ∷ called f (negsuc 6 ∷ []) 3 ∷ [];
+  replies = [];
+}
+
+abbrev pub heard : Module
+heard = module_of with_heap (view_variable (codes "H") (codes "Int32Array") ∷ foreign_variable g ∷ [])
+    (function f [] [] (answers (plus (signed (call g (arguments []))) (signed (index (codes "H") (int 0)))) ∷ []) ∷ []) [] (one f)
+
+abbrev pub heard_text : List ℕ
+heard_text = codes "function m(s,e,h){\"use asm\";\nvar H=new s.Int32Array(h);\nvar g=e.g;\nfunction f(){return(g()|0)+(H[0]|0)|0;}\nreturn f;}\n"
+
+abbrev pub heard_script : ScriptPlain
+heard_script = record {
+  globals = [];
+  writes = record { at = 4; bytes = 1 ∷ 2 ∷ []; line = 1 } ∷ [];
+  calls = called f [] 2 ∷ [];
+  replies = replied (give 3 (record { at = 0; bytes = 7 ∷ []; line = 3 } ∷ [])) 3 ∷ [];
+}

@@ -84,13 +84,39 @@ pub fn labels()
     ensures still_runs { Shows rows.evens 0 rows.evens_script 9 (running []) }
 {}
 
+/// 3 + 2 + 1 + 0: a caller's parameters are back after its call, and each of the four calls is a unit.
+pub fn recursion()
+    ensures text { Says rows.triangle_text rows.triangle }
+    ensures comes_back { Shows rows.triangle 0 rows.triangle_script 4 (ended (gave 6 ∷ []) done []) }
+    ensures still_runs { Shows rows.triangle 0 rows.triangle_script 3 (running []) }
+{}
+
+/// Arguments are evaluated from left to right, and a store's index before its value.
+pub fn order_of_evaluation()
+    ensures text { Says rows.ordered_text rows.ordered }
+    ensures from_the_left { Shows rows.ordered 4 rows.ordered_script 1 (ended (imported (codes "g") (5 ∷ 5 ∷ []) ∷ gave 1 ∷ []) done (0 ∷ 7 ∷ 0 ∷ 0 ∷ [])) }
+{}
+
+/// A variable of the module begins with the host's value, and keeps what a call leaves in it.
+pub fn imported_values()
+    ensures text { Says rows.counter_text rows.counter }
+    ensures kept { Shows rows.counter 0 rows.counter_script 2 (ended (gave 1005 ∷ gave 998 ∷ []) done []) }
+{}
+
+/// The heap begins with the script's bytes, and a reply's bytes are there when its call comes back.
+pub fn bytes_of_the_host()
+    ensures text { Says rows.heard_text rows.heard }
+    ensures written { Shows rows.heard 8 rows.heard_script 1 (ended (imported (codes "g") [] ∷ gave 10 ∷ []) done (7 ∷ 0 ∷ 0 ∷ 0 ∷ 1 ∷ 2 ∷ 0 ∷ 0 ∷ [])) }
+{}
+
 /// The line of the first part that doesn't fit: an argument too few, one that is no word, an export
-/// that isn't there, bytes without a heap or past its end.
+/// that isn't there, bytes without a heap or past its end; and 0 where a variable's value isn't given.
 pub fn misfits()
     ensures too_few { misfit rows.sum 4096 (script (called (codes "f") (pos 1 ∷ pos 2 ∷ []) 1 ∷ called (codes "f") (pos 1 ∷ []) 2 ∷ []) []) ≡ Some 2 }
     ensures too_large { misfit rows.sum 4096 (script (called (codes "f") (pos 1 ∷ pos 4294967296 ∷ []) 1 ∷ []) []) ≡ Some 1 }
     ensures unknown { misfit rows.sum 4096 (script (called (codes "g") [] 1 ∷ []) []) ≡ Some 1 }
     ensures no_heap { misfit rows.forever 4096 (script (called (codes "f") [] 1 ∷ []) (replied (give 0 (record { at = 0; bytes = []; line = 2 } ∷ [])) 2 ∷ [])) ≡ Some 2 }
     ensures past_the_heap { misfit rows.outside 4 (script (called (codes "g") [] 1 ∷ []) (replied (give 0 (record { at = 3; bytes = 1 ∷ 2 ∷ []; line = 2 } ∷ [])) 2 ∷ [])) ≡ Some 2 }
+    ensures not_given { misfit rows.counter 4096 (script (called (codes "f") (pos 5 ∷ []) 1 ∷ []) []) ≡ Some 0 }
     ensures nothing_to_do { misfit rows.sum 4096 (script [] []) ≡ None }
 {}
