@@ -1,0 +1,3 @@
+pub mod ReadBytes
+pub mod Modules
+pub mod Plays
