@@ -1,2 +1,4 @@
+pub mod Read
 pub mod Texts
 pub mod Sessions
+pub mod Example

@@ -71,6 +71,10 @@ sum = module_of [] [] (function f (a ∷ b ∷ []) [] (answers (plus (var a) (va
 abbrev pub sum_text : List ℕ
 sum_text = codes "function m(){\"use asm\";\nfunction f(a,b){a=a|0;b=b|0;return a+b|0;}\nreturn f;}\n"
 
+-- the text of `examples/add.js`
+abbrev pub sum_example : List ℕ
+sum_example = codes "function m(){\"use asm\";function f(a,b){a=a|0;b=b|0;return a+b|0;}return f;}\n"
+
 abbrev pub sum_script : ScriptPlain
 sum_script = script (called f (pos 2147483647 ∷ pos 1 ∷ []) 1 ∷ called f (pos 4294967295 ∷ pos 0 ∷ []) 2 ∷ []) []
 
