@@ -1,4 +1,3 @@
 pub mod Read
 pub mod Texts
 pub mod Sessions
-pub mod Example

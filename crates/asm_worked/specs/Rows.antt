@@ -69,11 +69,7 @@ abbrev pub sum : Module
 sum = module_of [] [] (function f (a ∷ b ∷ []) [] (answers (plus (var a) (var b)) ∷ []) ∷ []) [] (one f)
 
 abbrev pub sum_text : List ℕ
-sum_text = codes "function m(){\"use asm\";\nfunction f(a,b){a=a|0;b=b|0;return a+b|0;}\nreturn f;}\n"
-
--- the text of `examples/add.js`
-abbrev pub sum_example : List ℕ
-sum_example = codes "function m(){\"use asm\";function f(a,b){a=a|0;b=b|0;return a+b|0;}return f;}\n"
+sum_text = codes "function m(){\"use asm\";function f(a,b){a=a|0;b=b|0;return a+b|0;}return f;}"
 
 abbrev pub sum_script : ScriptPlain
 sum_script = script (called f (pos 2147483647 ∷ pos 1 ∷ []) 1 ∷ called f (pos 4294967295 ∷ pos 0 ∷ []) 2 ∷ []) []
@@ -84,7 +80,7 @@ abbrev pub quotient : Module
 quotient = module_of [] [] (function d (a ∷ b ∷ []) [] (answers (binary Div (signed (var a)) (signed (var b))) ∷ []) ∷ []) [] (one d)
 
 abbrev pub quotient_text : List ℕ
-quotient_text = codes "function m(){\"use asm\";\nfunction d(a,b){a=a|0;b=b|0;return(a|0)/(b|0)|0;}\nreturn d;}\n"
+quotient_text = codes "function m(){\"use asm\";function d(a,b){a=a|0;b=b|0;return (a|0)/(b|0)|0;}return d;}"
 
 -- -2147483648 / -1, 7 / 0 and -7 / 2
 abbrev pub quotient_script : ScriptPlain
@@ -97,7 +93,7 @@ comparison = module_of [] []
     (function f (a ∷ b ∷ []) (x ∷ []) (sets x (binary Lt (signed (var a)) (signed (var b))) ∷ answers (plus (var x) (var x)) ∷ []) ∷ []) [] (one f)
 
 abbrev pub comparison_text : List ℕ
-comparison_text = codes "function m(){\"use asm\";\nfunction f(a,b){a=a|0;b=b|0;var x=0;x=(a|0)<(b|0);return x+x|0;}\nreturn f;}\n"
+comparison_text = codes "function m(){\"use asm\";function f(a,b){a=a|0;b=b|0;var x=0;x=(a|0)<(b|0);return x+x|0;}return f;}"
 
 abbrev pub comparison_script : ScriptPlain
 comparison_script = script (called f (pos 1 ∷ pos 2 ∷ []) 1 ∷ called f (pos 2 ∷ pos 1 ∷ []) 2 ∷ []) []
@@ -105,11 +101,11 @@ comparison_script = script (called f (pos 1 ∷ pos 2 ∷ []) 1 ∷ called f (po
 -- ---- an element outside the view
 
 abbrev pub outside : Module
-outside = module_of with_heap (view_variable (codes "H") (codes "Int32Array") ∷ [])
+outside = module_of (s ∷ f ∷ codes "h" ∷ []) (view_variable (codes "H") (codes "Int32Array") ∷ [])
     (function g [] [] (plain (store (codes "H") (binary Sar (int 4096) (int 2)) (int 9)) ∷ answers (index (codes "H") (binary Sar (int 4096) (int 2))) ∷ []) ∷ []) [] (one g)
 
 abbrev pub outside_text : List ℕ
-outside_text = codes "function m(s,e,h){\"use asm\";\nvar H=new s.Int32Array(h);\nfunction g(){H[4096>>2]=9;return H[4096>>2]|0;}\nreturn g;}\n"
+outside_text = codes "function m(s,f,h){\"use asm\";var H=new s.Int32Array(h);function g(){H[4096>>2]=9;return H[4096>>2]|0;}return g;}"
 
 abbrev pub outside_script : ScriptPlain
 outside_script = script (called g [] 1 ∷ []) []
@@ -117,14 +113,14 @@ outside_script = script (called g [] 1 ∷ []) []
 -- ---- views of one buffer
 
 abbrev pub mixed : Module
-mixed = module_of with_heap
+mixed = module_of (s ∷ f ∷ codes "h" ∷ [])
     (view_variable (codes "A") (codes "Int32Array") ∷ view_variable (codes "B") (codes "Uint8Array") ∷ view_variable (codes "C") (codes "Int16Array") ∷ [])
     (function a [] [] (plain (store (codes "A") (int 0) (lit (negsuc 1))) ∷ answers (index (codes "B") (int 0)) ∷ [])
     ∷ function c [] [] (answers (index (codes "C") (int 1)) ∷ []) ∷ []) []
     (many (record { key = a; function = a } ∷ record { key = c; function = c } ∷ []))
 
 abbrev pub mixed_text : List ℕ
-mixed_text = codes "function m(s,e,h){\"use asm\";\nvar A=new s.Int32Array(h);\nvar B=new s.Uint8Array(h);\nvar C=new s.Int16Array(h);\nfunction a(){A[0]=-2;return B[0]|0;}\nfunction c(){return C[1]|0;}\nreturn{a:a,c:c};}\n"
+mixed_text = codes "function m(s,f,h){\"use asm\";var A=new s.Int32Array(h),B=new s.Uint8Array(h),C=new s.Int16Array(h);function a(){A[0]=-2;return B[0]|0;}function c(){return C[1]|0;}return {a:a,c:c};}"
 
 abbrev pub mixed_script : ScriptPlain
 mixed_script = script (called a [] 1 ∷ called c [] 2 ∷ []) []
@@ -136,7 +132,7 @@ two_shapes = module_of with_foreign (foreign_variable f ∷ [])
     (function r [] [] (plain (signed (call f (arguments (int 1 ∷ [])))) ∷ plain (call f (arguments (int 1 ∷ int 2 ∷ []))) ∷ []) ∷ []) [] (one r)
 
 abbrev pub two_shapes_text : List ℕ
-two_shapes_text = codes "function m(s,e){\"use asm\";\nvar f=e.f;\nfunction r(){f(1)|0;f(1,2);}\nreturn r;}\n"
+two_shapes_text = codes "function m(s,e){\"use asm\";var f=e.f;function r(){f(1)|0;f(1,2);}return r;}"
 
 abbrev pub two_shapes_script : ScriptPlain
 two_shapes_script = script (called r [] 1 ∷ []) (replied (give 5 []) 2 ∷ replied (give 0 []) 3 ∷ [])
@@ -147,7 +143,7 @@ asking = module_of with_foreign (foreign_variable g ∷ [])
     (function f (a ∷ []) [] (answers (plus (signed (call g (arguments (signed (var a) ∷ [])))) (int 1)) ∷ []) ∷ []) [] (one f)
 
 abbrev pub asking_text : List ℕ
-asking_text = codes "function m(s,e){\"use asm\";\nvar g=e.g;\nfunction f(a){a=a|0;return(g(a|0)|0)+1|0;}\nreturn f;}\n"
+asking_text = codes "function m(s,e){\"use asm\";var g=e.g;function f(a){a=a|0;return (g(a|0)|0)+1|0;}return f;}"
 
 -- f(7) and f(-1), with this reply after one of 41
 abbrev asking_with : List ReplyPlain → ScriptPlain
@@ -170,7 +166,7 @@ abbrev pub forever : Module
 forever = module_of with_foreign (foreign_variable g ∷ []) (function f [] [] (while_loop (int 1) (plain (call g (arguments []))) ∷ []) ∷ []) [] (one f)
 
 abbrev pub forever_text : List ℕ
-forever_text = codes "function m(s,e){\"use asm\";\nvar g=e.g;\nfunction f(){while(1)g();}\nreturn f;}\n"
+forever_text = codes "function m(s,e){\"use asm\";var g=e.g;function f(){while(1)g();}return f;}"
 
 abbrev pub three_replies : ScriptPlain
 three_replies = script (called f [] 1 ∷ []) (replied (give 0 []) 2 ∷ replied (give 0 []) 3 ∷ replied (give 0 []) 4 ∷ [])
@@ -191,7 +187,7 @@ tabled = module_of [] []
     (record { name = t; members = a ∷ b ∷ c ∷ d ∷ [] } ∷ []) (one f)
 
 abbrev pub tabled_text : List ℕ
-tabled_text = codes "function m(){\"use asm\";\nfunction a(x){x=x|0;return x+10|0;}\nfunction b(x){x=x|0;return x+20|0;}\nfunction c(x){x=x|0;return x+30|0;}\nfunction d(x){x=x|0;return x+40|0;}\nfunction f(e){e=e|0;return t[e&3](1)|0;}\nvar t=[a,b,c,d];\nreturn f;}\n"
+tabled_text = codes "function m(){\"use asm\";function a(x){x=x|0;return x+10|0;}function b(x){x=x|0;return x+20|0;}function c(x){x=x|0;return x+30|0;}function d(x){x=x|0;return x+40|0;}function f(e){e=e|0;return t[e&3](1)|0;}var t=[a,b,c,d];return f;}"
 
 abbrev pub tabled_script : ScriptPlain
 tabled_script = script (called f (negsuc 0 ∷ []) 1 ∷ called f (pos 5 ∷ []) 2 ∷ []) []
@@ -206,7 +202,7 @@ falling = module_of [] []
     ∷ answers (var y) ∷ []) ∷ []) [] (one f)
 
 abbrev pub falling_text : List ℕ
-falling_text = codes "function m(){\"use asm\";\nfunction f(x){x=x|0;var y=0;switch(x|0){case 1:y=y+1|0;case 5:y=y+10|0;default:y=y+100|0;}return y|0;}\nreturn f;}\n"
+falling_text = codes "function m(){\"use asm\";function f(x){x=x|0;var y=0;switch(x|0){case 1:y=y+1|0;case 5:y=y+10|0;default:y=y+100|0;}return y|0;}return f;}"
 
 abbrev pub falling_script : ScriptPlain
 falling_script = script (called f (pos 1 ∷ []) 1 ∷ called f (pos 5 ∷ []) 2 ∷ called f (pos 9 ∷ []) 3 ∷ []) []
@@ -223,7 +219,7 @@ evens = module_of [] []
     ∷ answers (var s) ∷ []) ∷ []) [] (one f)
 
 abbrev pub evens_text : List ℕ
-evens_text = codes "function m(){\"use asm\";\nfunction f(n){n=n|0;var i=0;var s=0;outer:while(1){i=i+1|0;if((i|0)>(n|0))break outer;while(1){if(i&1)continue outer;s=s+i|0;break;}}return s|0;}\nreturn f;}\n"
+evens_text = codes "function m(){\"use asm\";function f(n){n=n|0;var i=0;var s=0;outer:while(1){i=i+1|0;if((i|0)>(n|0))break outer;while(1){if(i&1)continue outer;s=s+i|0;break;}}return s|0;}return f;}"
 
 abbrev pub evens_script : ScriptPlain
 evens_script = script (called f (pos 4 ∷ []) 1 ∷ []) []
@@ -237,7 +233,7 @@ triangle = module_of [] []
     ∷ answers (plus (signed (call f (arguments (signed (minus (var x) (int 1)) ∷ [])))) (var x)) ∷ []) ∷ []) [] (one f)
 
 abbrev pub triangle_text : List ℕ
-triangle_text = codes "function m(){\"use asm\";\nfunction f(x){x=x|0;if((x|0)<1)return 0;return(f(x-1|0)|0)+x|0;}\nreturn f;}\n"
+triangle_text = codes "function m(){\"use asm\";function f(x){x=x|0;if((x|0)<1)return 0;return (f(x-1|0)|0)+x|0;}return f;}"
 
 abbrev pub triangle_script : ScriptPlain
 triangle_script = script (called f (pos 3 ∷ []) 1 ∷ []) []
@@ -252,7 +248,7 @@ ordered = module_of with_heap (view_variable (codes "H") (codes "Uint8Array") �
     ∷ answers (var y) ∷ []) ∷ []) [] (one f)
 
 abbrev pub ordered_text : List ℕ
-ordered_text = codes "function m(s,e,h){\"use asm\";\nvar H=new s.Uint8Array(h);\nvar g=e.g;\nfunction f(){var y=0;g((y=5)|0,y|0);H[(y=1,y)>>0]=y+6;return y|0;}\nreturn f;}\n"
+ordered_text = codes "function m(s,e,h){\"use asm\";var H=new s.Uint8Array(h);var g=e.g;function f(){var y=0;g((y=5)|0,y|0);H[(y=1,y)>>0]=y+6;return y|0;}return f;}"
 
 abbrev pub ordered_script : ScriptPlain
 ordered_script = script (called f [] 1 ∷ []) (replied (give 0 []) 2 ∷ [])
@@ -264,7 +260,7 @@ counter = module_of with_foreign (variable k (foreign_int e k) ∷ [])
     (function f (a ∷ []) [] (adds k (var a) ∷ answers (var k) ∷ []) ∷ []) [] (one f)
 
 abbrev pub counter_text : List ℕ
-counter_text = codes "function m(s,e){\"use asm\";\nvar k=e.k|0;\nfunction f(a){a=a|0;k=k+a|0;return k|0;}\nreturn f;}\n"
+counter_text = codes "function m(s,e){\"use asm\";var k=e.k|0;function f(a){a=a|0;k=k+a|0;return k|0;}return f;}"
 
 abbrev pub counter_script : ScriptPlain
 counter_script = record {
@@ -279,7 +275,7 @@ heard = module_of with_heap (view_variable (codes "H") (codes "Int32Array") ∷ 
     (function f [] [] (answers (plus (signed (call g (arguments []))) (signed (index (codes "H") (int 0)))) ∷ []) ∷ []) [] (one f)
 
 abbrev pub heard_text : List ℕ
-heard_text = codes "function m(s,e,h){\"use asm\";\nvar H=new s.Int32Array(h);\nvar g=e.g;\nfunction f(){return(g()|0)+(H[0]|0)|0;}\nreturn f;}\n"
+heard_text = codes "function m(s,e,h){\"use asm\";var H=new s.Int32Array(h);var g=e.g;function f(){return (g()|0)+(H[0]|0)|0;}return f;}"
 
 abbrev pub heard_script : ScriptPlain
 heard_script = record {

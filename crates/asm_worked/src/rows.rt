@@ -2,7 +2,6 @@
 ghost use Rattle.std.specs.Prelude.{◌≡◌, ◌∷◌, ◌++◌, [], Some, None, pos, codes, replicate};
 ghost use Rattle.sem_laws.specs.Script.{give};
 ghost use Rattle.sem_laws.specs.Observation.{call_returned, done, stopped, no_reply, running, ended};
-ghost use Rattle.asm_joining.specs.Printed.{IsTextOf};
 ghost use Rattle.asm_meaning.specs.Fits.{misfit};
 ghost use Rattle.asm_worked.specs.Forms.{called, replied, script, gave, words, imported};
 ghost use Rattle.asm_worked.specs.Worked.{Says, Shows};
@@ -11,7 +10,6 @@ ghost use Rattle.asm_worked.specs.Rows as rows;
 /// `a+b|0`: 2147483647 + 1 is -2147483648, and 4294967295, as an int, is -1. Results are shown as words.
 pub fn sums()
     ensures text { Says rows.sum_text rows.sum }
-    ensures example { IsTextOf rows.sum_example rows.sum }
     ensures wrap { Shows rows.sum 0 rows.sum_script 2 (ended (gave 2147483648 ∷ gave 4294967295 ∷ []) done []) }
 {}
 
