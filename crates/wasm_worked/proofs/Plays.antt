@@ -11,7 +11,7 @@ use Rattle.wasm_meaning.specs.Session.{wasm}
 use Rattle.wasm_checking.specs.Verdicts.{IsCounted}
 use Rattle.wasm_scripts.specs.Modules.{IsRunnable}
 use Rattle.wasm_scripts.specs.Runs.{script_for}
-use Rattle.wasm_scripts.specs.Playing.{IsPlayed, IsUnplayed}
+use Rattle.wasm_worked.specs.Played.{IsPlayed, IsUnplayed}
 use Rattle.wasm_worked.specs.Rows as rows
 use Rattle.wasm_worked.proofs.Modules.{operating, sum_is_valid, quotient_is_valid}
 

@@ -6,7 +6,7 @@ ghost use Rattle.wasm_typing.specs.declared.rule.Rule.TheVariants as rules;
 ghost use Rattle.wasm_typing.specs.declared.section.Section.TheVariants as sections;
 ghost use Rattle.wasm_checking.specs.declared.fault.CheckFault.TheVariants as checks;
 ghost use Rattle.wasm_checking.specs.Verdicts.{IsCounted, IsRefused};
-ghost use Rattle.wasm_scripts.specs.Playing.{IsPlayed, IsUnplayed};
+ghost use Rattle.wasm_worked.specs.Played.{IsPlayed, IsUnplayed};
 ghost use Rattle.wasm_worked.specs.Rows as rows;
 
 /// A function that adds, with the script of `examples/add.txt`: 2147483647 + 1 is -2147483648.
