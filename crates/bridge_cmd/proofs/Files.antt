@@ -1,5 +1,5 @@
 -- What a file's bytes ask for is one thing, where the files are told.
-use Rattle.std.proofs.Common.{◌≡◌, ℕ, ◌<◌, ◌≤◌, List, length, Bool, refl, sym, subst, arith, ◌∙◌}
+use Rattle.std.proofs.Common.{◌≡◌, ℕ, ◌<◌, ◌≤◌, List, length, Bool, refl, subst, arith}
 use Rattle.std.specs.Prelude.{Option, Some, None, IsSomeAnd}
 use Rattle.bridge_io.specs.Outside.{Told, content_of}
 use Rattle.bridge_io.specs.declared.reading.GatherFault.{GatherFault}

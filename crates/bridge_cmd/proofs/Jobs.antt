@@ -1,6 +1,6 @@
 -- The words and told files have one job, as far as its end goes.
 use Rattle.std.proofs.Common.{◌≡◌, ◌≤◌, ℕ, Bool, true, false, List, length, refl, sym, ap, subst, ◌∙◌, inl, inr}
-use Rattle.std.specs.Prelude.{◌⊎◌, Option, Some, None, IsSome, Ok, Err}
+use Rattle.std.specs.Prelude.{◌⊎◌, Option, Some, None, IsSome, Err}
 use Rattle.bridge_io.specs.Outside.{Told}
 use Rattle.asm_checking.specs.declared.fault.CheckFault.{CheckFault as TextFault}
 use Rattle.asm_checking.specs.declared.fault.CheckFault.TheVariants as text_faults
@@ -27,14 +27,14 @@ use Rattle.bridge_cmd.specs.Asking.{done_by, asked_by}
 use Rattle.bridge_cmd.specs.declared.words.Making.TheVariants.{AsmToWasm, CheckAsm, CheckWasm, Show}
 use Rattle.bridge_cmd.specs.declared.words.Action.{Action}
 use Rattle.bridge_cmd.specs.declared.words.Action.TheVariants.{Make, Run}
-use Rattle.bridge_cmd.specs.Command.{Asked, Running, as_text, as_binary, run, asked, first_form, asm_js, web_assembly, begins_with_zero, language_of, read_as, file_of}
+use Rattle.bridge_cmd.specs.Command.{Asked, Running, as_binary, run, asked, asm_js, web_assembly, begins_with_zero, language_of, read_as, file_of}
 use Rattle.bridge_cmd.specs.Answers.{IsAnswered, a_bar, want_of_memory, IsScriptAnswer, an_unfit_line, no_room, MayAnswer, a_refusal, a_read_fault, no_memory}
-use Rattle.bridge_cmd.specs.Job.{Job, refused, written, file_limit, Holds, IsFileJob, absent, long, held, IsBarred, other_text, not_accepted, not_valid, outside, IsMade, translated, text_counted, bytes_counted, printed, listed, IsPlayed, unfit, ran, IsModuleJob, barred, made, scripted, IsJob, no_command, commanded}
+use Rattle.bridge_cmd.specs.Job.{Job, refused, file_limit, Holds, IsFileJob, absent, long, held, IsBarred, other_text, not_accepted, not_valid, outside, IsMade, translated, text_counted, bytes_counted, printed, listed, IsPlayed, unfit, ran, IsModuleJob, barred, made, scripted, IsJob, no_command, commanded}
 use Rattle.bridge_cmd.specs.Runs.{Runner, text_runner, binary_runner, IsRunner, a_text, a_binary, script_for, Prints}
 use Rattle.bridge_cmd.specs.Outcome.{EndsAs, IsCutShort, by_a_read, by_want, MayReport}
-use Rattle.bridge_cmd.specs.Reason.{Reason, faulty_words, read_fault, missing, too_large}
+use Rattle.bridge_cmd.specs.Reason.{Reason, read_fault, missing, too_large}
 use Rattle.bridge_cmd.specs.Refused.{status_of, reason_of_check, reason_of_text, reason_of_run, reason_of_script, reason_of_words}
-use Rattle.bridge_cmd.proofs.Files.{own_status, OneEnd, one_file_end}
+use Rattle.bridge_cmd.proofs.Files.{OneEnd, one_file_end}
 use Rattle.asm_checking.proofs.Verdicts as laws
 use Rattle.asm_lang.specs.Modules.{Module}
 use Rattle.asm_scripts.specs.Runs as text_runs
@@ -226,8 +226,16 @@ script_may runner steps script r (an_unfit_line x) = a_refusal x
 script_may runner steps script r no_room = no_memory
 
 -- a module of WebAssembly that is run can be run
+abbrev RunsAs : List ℕ → Runner → Type 0
+RunsAs bytes (text_runner m heap) = Unit {0}
+RunsAs bytes (binary_runner m) = IsRunnable bytes m
+
+runs_as : (bytes : List ℕ) (running : Running) (runner : Runner) → IsRunner bytes running runner → RunsAs bytes runner
+runs_as bytes running runner (a_text m i) = tt
+runs_as bytes running runner (a_binary m i) = i
+
 pub runs_binary : (bytes : List ℕ) (running : Running) (m : WasmModule) → IsRunner bytes running (binary_runner m) → IsRunnable bytes m
-runs_binary bytes running m (a_binary m i) = i
+runs_binary bytes running m i = runs_as bytes running (binary_runner m) i
 
 -- a reason that doesn't speak of files is none of theirs
 pub quiet_read_fault : (r : Reason) → tells_files r ≡ false → r ≡ read_fault → ⊥

@@ -1,6 +1,6 @@
 -- What the words and the files ask for: the first refusal in the order words, module read, module checked, script read, script
 -- checked; or the output.
-use Rattle.std.specs.Prelude.{◌≡◌, ◌≢◌, ◌<◌, ◌≤◌, ℕ, Bool, true, false, List, Option, Some, None, Ok, Err, IfSome, IsSomeAnd, length}
+use Rattle.std.specs.Prelude.{◌≡◌, ◌≢◌, ◌<◌, ◌≤◌, ℕ, Bool, true, false, List, Option, Some, None, Err, IfSome, IsSomeAnd, length}
 use Rattle.bridge_io.specs.Outside.{Told, content_of}
 use Rattle.first_form.specs.Translation.{Translates}
 use Rattle.asm_lang.specs.Modules.{Module}
@@ -15,7 +15,7 @@ use Rattle.wasm_checking.specs.Verdicts.{IsValidBytes, IsCounted, IsRefused}
 use Rattle.wasm_listing.specs.Listing.{listing}
 use Rattle.wasm_scripts.specs.Modules.{IsOutside}
 use Rattle.bridge_cmd.specs.Command.{Asked, asm_to_wasm, check_asm, check_wasm, show, Running, as_binary, run, file_of, asked, first_form, asm_js, web_assembly, language_of, read_as}
-use Rattle.bridge_cmd.specs.Reason.{Reason, faulty_words, not_of_the_form, not_run, bad_script, missing, too_large, out_of_memory}
+use Rattle.bridge_cmd.specs.Reason.{Reason, faulty_words, not_of_the_form, not_run, bad_script, missing, too_large}
 use Rattle.bridge_cmd.specs.Runs.{Runner, IsRunner, script_for, Prints}
 use Rattle.bridge_cmd.specs.Refused.{reason_of_check, reason_of_text}
 

@@ -155,12 +155,7 @@ static ROWS: [Row; 35] = [
         b"",
         b"missing: no.txt\n",
     ),
-    (
-        &["run-asm", "no.js", "no.txt"],
-        7,
-        b"",
-        b"missing: no.js\n",
-    ),
+    (&["run-asm", "no.js", "no.txt"], 7, b"", b"missing: no.js\n"),
     (
         &["run-asm", "times.js", "no.txt"],
         2,
