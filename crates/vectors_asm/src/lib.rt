@@ -11,6 +11,8 @@ mod checks;
 #[cfg(test)]
 mod hostile;
 #[cfg(test)]
+mod large;
+#[cfg(test)]
 mod modules;
 #[cfg(test)]
 mod program;

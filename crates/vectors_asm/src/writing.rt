@@ -6,7 +6,7 @@ use wasm_binary::read;
 use wasm_writer::write;
 
 /// What is written of the module that the bytes spell; nothing where they spell none.
-fn rewritten(alloc: Global, bytes: &[u8]) -> Result<Vec<u8>, AllocError> {
+pub(crate) fn rewritten(alloc: Global, bytes: &[u8]) -> Result<Vec<u8>, AllocError> {
     match read(alloc, bytes) {
         Ok(module) => write(alloc, &module),
         Err(_) => Ok(Vec::new(alloc)),

@@ -1,0 +1,77 @@
+//! Large modules, written and read again; `bench/read_write_wasm.py` measures these tests.
+use crate::writing::rewritten;
+use sem_words::{Bin, List};
+use std::alloc::{AllocError, Global};
+use std::process::Abort;
+use std::test::Fail;
+use wasm_tree::{Body, Code, FuncType, Instr, Module, ValType};
+use wasm_writer::write;
+
+/// A function adds its number to what the function before it gives.
+fn body(alloc: Global, number: u32) -> Result<Body<'static>, AllocError> {
+    let mut code = vec![in alloc; Instr::LocalGet(0)]?;
+    if number > 0 {
+        code.push(Instr::Call(number - 1))?;
+    }
+    code.push(Instr::Const32(number))?;
+    code.push(Instr::Bin32(Bin::Add))?;
+    code.push(Instr::End)?;
+    Ok(Body {
+        locals: List::new(alloc),
+        code: Code::Own(List::from_vec(code)),
+    })
+}
+
+fn bodies(alloc: Global, n: u32) -> Result<List<Body<'static>>, AllocError> {
+    let mut bodies = Vec::new(alloc);
+    for number in 0..n {
+        bodies.push(body(alloc, number)?)?;
+    }
+    Ok(List::from_vec(bodies))
+}
+
+/// A module of so many functions.
+fn chain(alloc: Global, n: u32) -> Result<Module<'static>, AllocError> {
+    let function_type = FuncType {
+        params: List::from_vec(vec![in alloc; ValType::I32]?),
+        results: List::from_vec(vec![in alloc; ValType::I32]?),
+    };
+    Ok(Module {
+        types: List::from_vec(vec![in alloc; function_type]?),
+        imports: List::new(alloc),
+        functions: List::from_vec(vec![in alloc; 0u32; n as usize]?),
+        tables: List::new(alloc),
+        memories: List::new(alloc),
+        globals: List::new(alloc),
+        exports: List::new(alloc),
+        start: None,
+        elements: List::new(alloc),
+        bodies: bodies(alloc, n)?,
+        segments: List::new(alloc),
+    })
+}
+
+/// The module of so many functions is written, read, and written again as the same bytes: at least nine for each function.
+fn is_written_and_read(rt: &impl Abort, alloc: Global, n: u32) -> Result<(), Fail> {
+    let module = chain(alloc, n)?;
+    let written = write(alloc, &module)?;
+    assert!(rt; written.len() / 9 >= n as usize);
+    let again = rewritten(alloc, written.as_slice())?;
+    assert_eq!(rt; again.as_slice(), written.as_slice());
+    Ok(())
+}
+
+#[test]
+fn functions_10000(rt: HostRuntime) -> Result<(), Fail> {
+    is_written_and_read(&rt, rt.alloc(), 10_000)
+}
+
+#[test]
+fn functions_20000(rt: HostRuntime) -> Result<(), Fail> {
+    is_written_and_read(&rt, rt.alloc(), 20_000)
+}
+
+#[test]
+fn functions_40000(rt: HostRuntime) -> Result<(), Fail> {
+    is_written_and_read(&rt, rt.alloc(), 40_000)
+}
