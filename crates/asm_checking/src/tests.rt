@@ -6,6 +6,8 @@ use std::alloc::{AllocError, Global};
 use std::process::Abort;
 use std::test::Fail;
 
+mod limits;
+
 const WHOLE: &[u8] = b"function m(stdlib,foreign,heap){\"use asm\";\
 var a=foreign.a|0,f=foreign.f,b=foreign.b|0,imul=stdlib.Math.imul,H=new stdlib.Int32Array(heap),c=foreign.a|0;\
 function g(i){i=i|0;f(i|0);H[i>>2]=f(i|0,1)|0;f(a|0);return imul(i,b)|0;}\
@@ -103,7 +105,7 @@ fn counts_are_told(rt: HostRuntime) -> Result<(), Fail> {
 type Row = (&'static [u8], &'static [u8], AsmRow);
 
 /// A module's heading, a foreign function and a view of bytes.
-const FRONT: &[u8] =
+pub(crate) const FRONT: &[u8] =
     b"function m(stdlib,foreign,heap){'use asm';var u=foreign.u,H=new stdlib.Uint8Array(heap);";
 
 static ROWS: [Row; 9] = [
@@ -151,7 +153,7 @@ static ROWS: [Row; 9] = [
 ];
 
 /// The parts, one after the other.
-fn joined(alloc: Global, parts: &[&[u8]]) -> Result<Vec<u8>, AllocError> {
+pub(crate) fn joined(alloc: Global, parts: &[&[u8]]) -> Result<Vec<u8>, AllocError> {
     let mut all = Vec::new(alloc);
     for part in parts {
         all.extend_from_slice(part)?;
