@@ -2,6 +2,7 @@
 import os
 import shutil
 import subprocess
+import sys
 import tempfile
 import time
 
@@ -12,6 +13,20 @@ def measured(words):
     child = subprocess.Popen(words, stdout=subprocess.DEVNULL, stderr=subprocess.DEVNULL)
     _, status, usage = os.wait4(child.pid, 0)
     return os.waitstatus_to_exitcode(status), time.monotonic() - begin, usage.ru_maxrss / 1024
+
+
+def compare_sessions(turns, held, content, tools):
+    """Compares tools on sessions of so many turns, where one of the two files, the module or the script, is the same for each.
+
+    The program and other numbers of turns come from the command line. `held` is that file's name and bytes, `content(turns)` gives
+    the other's, and `tools(program, held)` the tools, from the program's path and that of the file that is held."""
+    program = os.path.abspath(sys.argv[1])
+    name, same = held
+    with tempfile.TemporaryDirectory() as folder:
+        path = os.path.join(folder, name)
+        with open(path, "wb") as out:
+            out.write(same)
+        compare([int(word) for word in sys.argv[2:]] or turns, "turns", content, tools(program, path))
 
 
 def compare(sizes, unit, content, tools):

@@ -2,11 +2,7 @@
 """python3 bench/run_asm.py PROGRAM [TURNS ..]: time and peak memory of `PROGRAM run-asm` on a loop of asm.js that loads,
 adds and stores, for so many turns, beside node on the same text, where it is installed. The file of each size is the
 script."""
-import os
-import sys
-import tempfile
-
-from measure import compare
+from measure import compare_sessions
 
 TURNS = [1_000_000, 3_000_000, 10_000_000]
 TEXT = (
@@ -22,20 +18,13 @@ NODE = (
 )
 
 
-def main():
-    program = os.path.abspath(sys.argv[1])
-    all_turns = [int(word) for word in sys.argv[2:]] or TURNS
-    with tempfile.TemporaryDirectory() as folder:
-        text = os.path.join(folder, "gen.js")
-        with open(text, "w") as out:
-            out.write(TEXT)
-        # a unit of the budget for each call and each turn
-        tools = [
-            ("bridge", lambda script: [program, "run-asm", text, script, "--steps", "1000000000"]),
-            ("node", lambda script: ["node", "-e", NODE, text, script]),
-        ]
-        compare(all_turns, "turns", lambda turns: b"call f %d\n" % turns, tools)
+def tools(program, text):
+    # a unit of the budget for each call and each turn
+    return [
+        ("bridge", lambda script: [program, "run-asm", text, script, "--steps", "1000000000"]),
+        ("node", lambda script: ["node", "-e", NODE, text, script]),
+    ]
 
 
 if __name__ == "__main__":
-    main()
+    compare_sessions(TURNS, ("gen.js", TEXT.encode()), lambda turns: b"call f %d\n" % turns, tools)

@@ -1,11 +1,7 @@
 #!/usr/bin/env python3
 """python3 bench/run_wasm.py PROGRAM [TURNS ..]: time and peak memory of `PROGRAM run-wasm` on a loop that adds, stores
 and loads, for so many turns, beside wabt's wasm-interp, where it is installed."""
-import os
-import sys
-import tempfile
-
-from measure import compare
+from measure import compare_sessions
 from wasm_module import section, signed, unsigned
 
 TURNS = [1_000_000, 3_000_000, 10_000_000]
@@ -29,19 +25,12 @@ def module(turns):
     )
 
 
-def main():
-    program = os.path.abspath(sys.argv[1])
-    all_turns = [int(word) for word in sys.argv[2:]] or TURNS
-    with tempfile.TemporaryDirectory() as folder:
-        script = os.path.join(folder, "go.txt")
-        with open(script, "w") as out:
-            out.write("call go\n")
-        tools = [
-            ("bridge", lambda file: [program, "run-wasm", file, script, "--steps", "1000000000"]),
-            ("wasm-interp", lambda file: ["wasm-interp", file, "--run-all-exports"]),
-        ]
-        compare(all_turns, "turns", module, tools)
+def tools(program, script):
+    return [
+        ("bridge", lambda file: [program, "run-wasm", file, script, "--steps", "1000000000"]),
+        ("wasm-interp", lambda file: ["wasm-interp", file, "--run-all-exports"]),
+    ]
 
 
 if __name__ == "__main__":
-    main()
+    compare_sessions(TURNS, ("go.txt", b"call go\n"), module, tools)
