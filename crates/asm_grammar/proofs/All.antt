@@ -6,8 +6,8 @@ use Rattle.asm_lang.specs.Trees.{ModuleTree}
 use Rattle.asm_lang.specs.Machine.{grammar, no_use_asm, Step, stops}
 use Rattle.asm_lang.specs.Faults.{IsPair}
 use Rattle.asm_lang.specs.Heights.{height_limit}
-use Rattle.asm_heights.specs.Peaks.{Stop, stop_of, run_low}
-use Rattle.asm_nodes.specs.Views.{module_view}
+use Rattle.asm_laws_height.specs.Peaks.{Stop, stop_of, run_low}
+use Rattle.asm_grammar_nodes.specs.Views.{module_view}
 use Rattle.js_tokens.specs.declared.token.Token.{Token}
 use Rattle.js_tokens.specs.Views.{placed_token, placed_tokens}
 use Rattle.asm_grammar.specs.declared.fault.ParseFault.{ParseFault}

@@ -3,13 +3,13 @@ use Rattle.std.proofs.Common.{◌≡◌, List, [], ◌∷◌, ◌++◌, Result, 
 use Rattle.asm_lang.specs.Lexemes.{Lexeme}
 use Rattle.asm_lang.specs.Trees.{VariableTree, FunctionTree, TableTree, Heading}
 use Rattle.asm_lang.specs.Machine.{State, in_globals, at_tables, in_tables, Step, feed, end_by, variable_of, init_by, value_by, in_tables_by, tables_by}
-use Rattle.asm_nodes.specs.declared.lexeme.Class.{Class as CodeClass}
-use Rattle.asm_nodes.specs.declared.lexeme.Class.TheVariants.{Comma, OpenBracket}
-use Rattle.asm_nodes.specs.declared.lexeme.Lexeme.{Lexeme as CodeLexeme}
-use Rattle.asm_nodes.specs.Views.{class_view, lexeme_view}
-use Rattle.asm_headings.specs.declared.want.Ending.{Ending}
-use Rattle.asm_headings.specs.Parts.{ending_view}
-use Rattle.asm_headings.proofs.Classes.{IsNot, ends_by}
+use Rattle.asm_grammar_nodes.specs.declared.lexeme.Class.{Class as CodeClass}
+use Rattle.asm_grammar_nodes.specs.declared.lexeme.Class.TheVariants.{Comma, OpenBracket}
+use Rattle.asm_grammar_nodes.specs.declared.lexeme.Lexeme.{Lexeme as CodeLexeme}
+use Rattle.asm_grammar_nodes.specs.Views.{class_view, lexeme_view}
+use Rattle.asm_grammar_decls.specs.declared.want.Ending.{Ending}
+use Rattle.asm_grammar_decls.specs.Parts.{ending_view}
+use Rattle.asm_grammar_decls.proofs.Classes.{IsNot, ends_by}
 
 pub ok_map : {A E : Type 0} {P Q : A → Type 0} (r : Result A E) → ((a : A) → P a → Q a) → IfOk r P → IfOk r Q
 ok_map (Ok a) f p = f a p

@@ -4,8 +4,8 @@ use Rattle.std.proofs.lemmas.Bool.{cases_lt}
 use Rattle.asm_lang.specs.Lexemes.{Lexeme}
 use Rattle.asm_lang.specs.Machine.{grammar, no_use_asm, refuses, Step, stuck, advance}
 use Rattle.asm_lang.specs.Heights.{height_limit}
-use Rattle.asm_heights.specs.Peaks.{run_low, step_peak}
-use Rattle.asm_nodes.specs.Heights.{counted}
+use Rattle.asm_laws_height.specs.Peaks.{run_low, step_peak}
+use Rattle.asm_grammar_nodes.specs.Heights.{counted}
 use Rattle.asm_grammar.specs.declared.reading.Reading.{Reading}
 use Rattle.asm_grammar.specs.declared.reading.ModuleStep.{ModuleStep}
 use Rattle.asm_grammar.specs.Readings.{reading_view, module_step_view}

@@ -3,26 +3,26 @@ use Rattle.std.proofs.Common.{◌≡◌, List, [], ◌∷◌, ◌++◌, refl}
 use Rattle.asm_lang.specs.Lexemes.{Lexeme}
 use Rattle.asm_lang.specs.Trees.{Init, StmtTrees, VariableTree, ParamTree, FunctionTree, TableTree, ExportTree, Heading}
 use Rattle.asm_lang.specs.Machine.{State, at_marks, at_functions, Step, failed, grammar, ended, stops}
-use Rattle.asm_heights.specs.Peaks.{peak, step_peak}
+use Rattle.asm_laws_height.specs.Peaks.{peak, step_peak}
 use Rattle.sem_words.specs.declared.list.List.{List as Listed}
-use Rattle.asm_nodes.specs.declared.lexeme.Lexeme.{Lexeme as CodeLexeme}
-use Rattle.asm_nodes.specs.declared.declarations.ParamTree.{ParamTree as CodeParam}
-use Rattle.asm_nodes.specs.declared.declarations.VariableTree.{VariableTree as CodeVariable}
-use Rattle.asm_nodes.specs.Views.{lexeme_view}
-use Rattle.asm_headings.specs.declared.heading.HeadingReading.{HeadingReading}
-use Rattle.asm_headings.specs.declared.heading.HeadingReading.TheVariants as headings
-use Rattle.asm_headings.specs.declared.init.ViewReading.{ViewReading}
-use Rattle.asm_headings.specs.declared.init.ViewReading.TheVariants as views
-use Rattle.asm_headings.specs.declared.init.InitReading.{InitReading}
-use Rattle.asm_headings.specs.declared.init.InitReading.TheVariants as inits
-use Rattle.asm_headings.specs.declared.marks.MarkPlace.{MarkPlace}
-use Rattle.asm_headings.specs.declared.marks.MarkPlace.TheVariants as places
-use Rattle.asm_headings.specs.declared.marks.MarksReading.{MarksReading}
-use Rattle.asm_headings.specs.declared.marks.MarksReading.TheVariants as marks
-use Rattle.asm_headings.specs.declared.locals.LocalsReading.{LocalsReading}
-use Rattle.asm_headings.specs.declared.locals.LocalsReading.TheVariants as locals
-use Rattle.asm_headings.specs.declared.names.NamesReading.{NamesReading}
-use Rattle.asm_headings.specs.declared.names.NamesReading.TheVariants as names
+use Rattle.asm_grammar_nodes.specs.declared.lexeme.Lexeme.{Lexeme as CodeLexeme}
+use Rattle.asm_grammar_nodes.specs.declared.declarations.ParamTree.{ParamTree as CodeParam}
+use Rattle.asm_grammar_nodes.specs.declared.declarations.VariableTree.{VariableTree as CodeVariable}
+use Rattle.asm_grammar_nodes.specs.Views.{lexeme_view}
+use Rattle.asm_grammar_decls.specs.declared.heading.HeadingReading.{HeadingReading}
+use Rattle.asm_grammar_decls.specs.declared.heading.HeadingReading.TheVariants as headings
+use Rattle.asm_grammar_decls.specs.declared.init.ViewReading.{ViewReading}
+use Rattle.asm_grammar_decls.specs.declared.init.ViewReading.TheVariants as views
+use Rattle.asm_grammar_decls.specs.declared.init.InitReading.{InitReading}
+use Rattle.asm_grammar_decls.specs.declared.init.InitReading.TheVariants as inits
+use Rattle.asm_grammar_decls.specs.declared.marks.MarkPlace.{MarkPlace}
+use Rattle.asm_grammar_decls.specs.declared.marks.MarkPlace.TheVariants as places
+use Rattle.asm_grammar_decls.specs.declared.marks.MarksReading.{MarksReading}
+use Rattle.asm_grammar_decls.specs.declared.marks.MarksReading.TheVariants as marks
+use Rattle.asm_grammar_decls.specs.declared.locals.LocalsReading.{LocalsReading}
+use Rattle.asm_grammar_decls.specs.declared.locals.LocalsReading.TheVariants as locals
+use Rattle.asm_grammar_decls.specs.declared.names.NamesReading.{NamesReading}
+use Rattle.asm_grammar_decls.specs.declared.names.NamesReading.TheVariants as names
 use Rattle.asm_grammar.specs.declared.function.FunctionReading.{FunctionReading}
 use Rattle.asm_grammar.specs.declared.function.FunctionReading.TheVariants as functions
 use Rattle.asm_grammar.specs.declared.reading.GlobalPlace.{GlobalPlace}
@@ -36,11 +36,11 @@ use Rattle.asm_grammar.specs.declared.reading.Functions.{Functions}
 use Rattle.asm_grammar.specs.declared.tall.TallModule.{TallModule}
 use Rattle.asm_grammar.specs.declared.reading.Reading.{Reading}
 use Rattle.asm_grammar.specs.declared.reading.Reading.TheVariants as readings
-use Rattle.asm_nodes.specs.Views.{heading_view}
-use Rattle.asm_statements.specs.declared.state.BodyReading.{BodyReading}
-use Rattle.asm_statements.specs.Views.{body_view}
-use Rattle.asm_headings.specs.Parts.{heading_reading_view, view_reading_view, init_reading_view}
-use Rattle.asm_headings.specs.Variables.{variables_of, params_of, in_mark, marks_reading_view, locals_reading_view}
+use Rattle.asm_grammar_nodes.specs.Views.{heading_view}
+use Rattle.asm_grammar_stmts.specs.declared.state.BodyReading.{BodyReading}
+use Rattle.asm_grammar_stmts.specs.Views.{body_view}
+use Rattle.asm_grammar_decls.specs.Parts.{heading_reading_view, view_reading_view, init_reading_view}
+use Rattle.asm_grammar_decls.specs.Variables.{variables_of, params_of, in_mark, marks_reading_view, locals_reading_view}
 use Rattle.asm_grammar.specs.Bodies.{body_of, locals_of, marks_of, params_step, function_reading_view}
 use Rattle.asm_grammar.specs.Readings.{functions_of, tables_of, exports_of, exported, reading_view, global_view, in_members, table_place_view, export_place_view}
 

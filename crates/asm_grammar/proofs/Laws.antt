@@ -9,12 +9,12 @@ use Rattle.asm_lang.specs.Heights.{height_limit}
 use Rattle.asm_lang.proofs.CompleteModules.{module_read}
 use Rattle.asm_lang.proofs.Sound.{found_module}
 use Rattle.asm_lang.proofs.First.{first_fault, negative_zero, missing_use}
-use Rattle.asm_heights.specs.Peaks.{run_low, whole_height}
-use Rattle.asm_heights.proofs.Within.{start_kept}
-use Rattle.asm_heights.proofs.Limits.{low_read, low_found}
-use Rattle.asm_heights.proofs.SeenModules.{refused_low, none_in_refused}
-use Rattle.asm_heights.proofs.Places.{height_fault}
-use Rattle.asm_nodes.specs.Views.{module_view}
+use Rattle.asm_laws_height.specs.Peaks.{run_low, whole_height}
+use Rattle.asm_laws_height.proofs.Within.{start_kept}
+use Rattle.asm_laws_height.proofs.Limits.{low_read, low_found}
+use Rattle.asm_laws_height.proofs.SeenModules.{refused_low, none_in_refused}
+use Rattle.asm_laws_height.proofs.Places.{height_fault}
+use Rattle.asm_grammar_nodes.specs.Views.{module_view}
 use Rattle.asm_grammar.specs.declared.fault.ParseFault.{ParseFault}
 use Rattle.asm_grammar.specs.declared.fault.ParseFault.TheVariants.{LiteralForm, Grammar, NoUseAsm, Height, Memory}
 use Rattle.asm_grammar.specs.declared.tall.TallModule.{TallModule}

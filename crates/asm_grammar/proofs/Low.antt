@@ -5,7 +5,7 @@ use Rattle.std.proofs.lemmas.List.{append-nil}
 use Rattle.asm_lang.specs.Lexemes.{Lexeme}
 use Rattle.asm_lang.specs.Trees.{ModuleTree}
 use Rattle.asm_lang.specs.Machine.{Fault, Step, refuses, advance}
-use Rattle.asm_heights.specs.Peaks.{step_peak, Stop, high, run_low}
+use Rattle.asm_laws_height.specs.Peaks.{step_peak, Stop, high, run_low}
 use Rattle.asm_grammar.specs.Ends.{stopped}
 
 -- where a node above the limit ends

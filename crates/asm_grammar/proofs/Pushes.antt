@@ -1,12 +1,12 @@
 -- A push at the end of what the code holds, as one of the lists that it stands for.
 use Rattle.std.proofs.Common.{◌≡◌, List, [], ◌∷◌, ◌++◌, map}
 use Rattle.std.proofs.lemmas.List.{append-nil}
-use Rattle.asm_nodes.specs.declared.declarations.TableTree.{TableTree}
-use Rattle.asm_nodes.specs.declared.declarations.ExportTree.{ExportTree}
+use Rattle.asm_grammar_nodes.specs.declared.declarations.TableTree.{TableTree}
+use Rattle.asm_grammar_nodes.specs.declared.declarations.ExportTree.{ExportTree}
 use Rattle.sem_words.specs.declared.text.Text.{Text}
 use Rattle.sem_words.specs.Lists.{text_bytes}
-use Rattle.asm_nodes.specs.Views.{table_view, export_view, names_view}
-use Rattle.asm_headings.proofs.Pushes.{map-last, lexemes_view-last, params-last, variables-last, left_view-last, left_view-reversed}
+use Rattle.asm_grammar_nodes.specs.Views.{table_view, export_view, names_view}
+use Rattle.asm_grammar_decls.proofs.Pushes.{map-last, lexemes_view-last, params-last, variables-last, left_view-last, left_view-reversed}
 
 pub tables-last : (ts : List TableTree) (t : TableTree) → map table_view (ts ++ t ∷ []) ≡ map table_view ts ++ table_view t ∷ []
 tables-last ts t = map-last table_view ts t

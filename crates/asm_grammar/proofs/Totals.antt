@@ -3,13 +3,13 @@ use Rattle.std.proofs.Common.{◌≡◌, ℕ, List, [], ◌∷◌, ◌++◌, map
 use Rattle.asm_lang.specs.Trees.{FunctionTree}
 use Rattle.asm_lang.specs.Modules.{param_of, variable_of, table_of, export_of, exports_of}
 use Rattle.asm_lang.specs.Heights.{leaves_height, exports_height}
-use Rattle.asm_heights.specs.Peaks.{last_function, block_height, whole_height}
-use Rattle.asm_heights.proofs.SeenModules.{last_function_more}
-use Rattle.asm_nodes.specs.declared.declarations.FunctionTree.{FunctionTree as CodeFunction}
-use Rattle.asm_nodes.specs.declared.declarations.ExportTree.{ExportTree}
-use Rattle.asm_nodes.specs.declared.declarations.ModuleTree.{ModuleTree as CodeModule}
-use Rattle.asm_nodes.specs.Heights.{counted}
-use Rattle.asm_nodes.specs.Views.{function_view, param_view, variable_view, table_view, export_view, exports_view, stmts_view, module_view}
+use Rattle.asm_laws_height.specs.Peaks.{last_function, block_height, whole_height}
+use Rattle.asm_laws_height.proofs.SeenModules.{last_function_more}
+use Rattle.asm_grammar_nodes.specs.declared.declarations.FunctionTree.{FunctionTree as CodeFunction}
+use Rattle.asm_grammar_nodes.specs.declared.declarations.ExportTree.{ExportTree}
+use Rattle.asm_grammar_nodes.specs.declared.declarations.ModuleTree.{ModuleTree as CodeModule}
+use Rattle.asm_grammar_nodes.specs.Heights.{counted}
+use Rattle.asm_grammar_nodes.specs.Views.{function_view, param_view, variable_view, table_view, export_view, exports_view, stmts_view, module_view}
 use Rattle.sem_words.specs.Lists.{list_items}
 use Rattle.asm_grammar.specs.Totals.{one_height, highest, functions_view}
 

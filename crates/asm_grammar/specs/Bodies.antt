@@ -3,18 +3,18 @@ use Rattle.std.specs.Prelude.{List, [], ◌∷◌, Option, Some, None, refl}
 use Rattle.asm_lang.specs.Lexemes.{identifier, open_paren, close_paren, open_brace, Lexeme, sign}
 use Rattle.asm_lang.specs.Trees.{StmtTrees, no_stmt, VariableTree, ParamTree, FunctionTree}
 use Rattle.asm_lang.specs.Machine.{State, in_names, at_marks, at_locals, at_stmts, Step, goes, expects, either, stuck, function_of}
-use Rattle.asm_nodes.specs.Views.{lexeme_view, lexemes_view, function_view}
-use Rattle.asm_headings.specs.declared.names.NamesReading.{NamesReading}
-use Rattle.asm_headings.specs.declared.marks.MarksReading.{MarksReading}
+use Rattle.asm_grammar_nodes.specs.Views.{lexeme_view, lexemes_view, function_view}
+use Rattle.asm_grammar_decls.specs.declared.names.NamesReading.{NamesReading}
+use Rattle.asm_grammar_decls.specs.declared.marks.MarksReading.{MarksReading}
 use Rattle.asm_grammar.specs.declared.function.Names.{Names}
 use Rattle.asm_grammar.specs.declared.tall.TallFunction.{TallFunction}
 use Rattle.asm_grammar.specs.declared.function.FunctionReading.{FunctionReading}
 use Rattle.asm_grammar.specs.declared.function.FunctionReading.TheVariants as functions
 use Rattle.asm_grammar.specs.declared.function.FunctionStep.{FunctionStep}
 use Rattle.asm_grammar.specs.declared.function.FunctionStep.TheVariants as function_steps
-use Rattle.asm_headings.specs.Parts.{names_reading_view}
-use Rattle.asm_headings.specs.Variables.{params_of, marks_reading_view, variables_of, locals_reading_view}
-use Rattle.asm_statements.specs.Views.{body_view}
+use Rattle.asm_grammar_decls.specs.Parts.{names_reading_view}
+use Rattle.asm_grammar_decls.specs.Variables.{params_of, marks_reading_view, variables_of, locals_reading_view}
+use Rattle.asm_grammar_stmts.specs.Views.{body_view}
 
 -- ---- functions
 

@@ -3,8 +3,8 @@ use Rattle.std.specs.Prelude.{List, [], Option, Some, None, Result, Ok, Err}
 use Rattle.asm_lang.specs.Lexemes.{Lexeme}
 use Rattle.asm_lang.specs.Trees.{ModuleTree}
 use Rattle.asm_lang.specs.Machine.{Fault, grammar, Refusal, failed}
-use Rattle.asm_heights.specs.Peaks.{Stop, refused}
-use Rattle.asm_nodes.specs.Views.{module_view}
+use Rattle.asm_laws_height.specs.Peaks.{Stop, refused}
+use Rattle.asm_grammar_nodes.specs.Views.{module_view}
 use Rattle.asm_grammar.specs.declared.tall.TallModule.{TallModule}
 
 abbrev pub stopped : Fault → List Lexeme → Result ModuleTree Stop

@@ -6,9 +6,9 @@ use Rattle.asm_lang.specs.Trees.{ModuleTree}
 use Rattle.asm_lang.specs.Machine.{grammar, no_use_asm, same_class, meets}
 use Rattle.asm_lang.specs.Faults.{IsPair, IsNegativeZero, IsMissingUse, IsFirstFault}
 use Rattle.asm_lang.specs.Heights.{height_limit}
-use Rattle.asm_heights.specs.Peaks.{Stop, high, run_low}
-use Rattle.asm_heights.specs.HighNodes.{IsHeightFault}
-use Rattle.asm_nodes.specs.Views.{module_view}
+use Rattle.asm_laws_height.specs.Peaks.{Stop, high, run_low}
+use Rattle.asm_laws_height.specs.HighNodes.{IsHeightFault}
+use Rattle.asm_grammar_nodes.specs.Views.{module_view}
 use Rattle.asm_grammar.specs.declared.fault.ParseFault.{ParseFault}
 use Rattle.asm_grammar.specs.declared.fault.ParseFault.TheVariants as faults
 use Rattle.asm_grammar.specs.declared.tall.TallModule.{TallModule}

@@ -6,12 +6,12 @@ use Rattle.asm_lang.specs.Lexemes.{identifier, close_brace, close_bracket, open_
 use Rattle.asm_lang.specs.Grammar.{texts}
 use Rattle.asm_lang.specs.Trees.{VariableTree, FunctionTree, TableTree, ExportTree, many, Heading, ModuleTree}
 use Rattle.asm_lang.specs.Machine.{closes, ends, at_init, at_use, at_globals, at_value, in_globals, at_functions, at_tables, in_tables, at_export, at_exports, in_exports, at_end, Step, goes, expects, refuses, no_use_asm, stuck, variable_of, declared, closed_module, module_of, table_of, members_step, table_step, export_of}
-use Rattle.asm_nodes.specs.declared.lexeme.Lexeme.{Lexeme as CodeLexeme}
-use Rattle.asm_nodes.specs.declared.declarations.TableTree.{TableTree as CodeTable}
-use Rattle.asm_nodes.specs.declared.declarations.ExportTree.{ExportTree as CodeExport}
-use Rattle.asm_nodes.specs.Views.{lexeme_view, function_view, table_view, export_view, heading_view, module_view}
-use Rattle.asm_headings.specs.declared.init.InitReading.{InitReading}
-use Rattle.asm_headings.specs.declared.names.NamesReading.{NamesReading}
+use Rattle.asm_grammar_nodes.specs.declared.lexeme.Lexeme.{Lexeme as CodeLexeme}
+use Rattle.asm_grammar_nodes.specs.declared.declarations.TableTree.{TableTree as CodeTable}
+use Rattle.asm_grammar_nodes.specs.declared.declarations.ExportTree.{ExportTree as CodeExport}
+use Rattle.asm_grammar_nodes.specs.Views.{lexeme_view, function_view, table_view, export_view, heading_view, module_view}
+use Rattle.asm_grammar_decls.specs.declared.init.InitReading.{InitReading}
+use Rattle.asm_grammar_decls.specs.declared.names.NamesReading.{NamesReading}
 use Rattle.asm_grammar.specs.declared.function.FunctionReading.{FunctionReading}
 use Rattle.asm_grammar.specs.declared.tall.TallFunctions.{TallFunctions}
 use Rattle.asm_grammar.specs.declared.reading.GlobalPlace.{GlobalPlace}
@@ -28,8 +28,8 @@ use Rattle.asm_grammar.specs.declared.reading.ModuleStep.{ModuleStep}
 use Rattle.asm_grammar.specs.declared.reading.ModuleStep.TheVariants as module_steps
 use Rattle.asm_grammar.specs.declared.exports.ExportsStep.{ExportsStep}
 use Rattle.asm_grammar.specs.declared.exports.ExportsStep.TheVariants as exports_steps
-use Rattle.asm_headings.specs.Parts.{heading_reading_view, names_reading_view, init_reading_view}
-use Rattle.asm_headings.specs.Variables.{variables_of}
+use Rattle.asm_grammar_decls.specs.Parts.{heading_reading_view, names_reading_view, init_reading_view}
+use Rattle.asm_grammar_decls.specs.Variables.{variables_of}
 use Rattle.asm_grammar.specs.Bodies.{function_reading_view}
 
 -- ---- what has been read

@@ -3,8 +3,8 @@ use Rattle.std.specs.Prelude.{ℕ, List, map}
 use Rattle.asm_lang.specs.Trees.{FunctionTree}
 use Rattle.asm_lang.specs.Modules.{function_of}
 use Rattle.asm_lang.specs.Heights.{function_height, functions_height}
-use Rattle.asm_nodes.specs.declared.declarations.FunctionTree.{FunctionTree as CodeFunction}
-use Rattle.asm_nodes.specs.Views.{function_view}
+use Rattle.asm_grammar_nodes.specs.declared.declarations.FunctionTree.{FunctionTree as CodeFunction}
+use Rattle.asm_grammar_nodes.specs.Views.{function_view}
 
 abbrev pub one_height : FunctionTree → ℕ
 one_height f = function_height (function_of f)

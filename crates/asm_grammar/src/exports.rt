@@ -6,17 +6,17 @@ ghost use Rattle.asm_lang.specs.Heights.{exports_height};
 ghost use Rattle.asm_lang.specs.Modules as plain;
 ghost use Rattle.asm_lang.specs.Trees.{ExportTree as PlainExport};
 ghost use Rattle.asm_lang.specs.Machine.{advance, at_export, at_exports, export_of, feed, in_exports, module_of, Step, stops};
-ghost use Rattle.asm_heights.specs.Peaks.{step_peak};
-ghost use Rattle.asm_nodes.specs.Heights.{counted};
-ghost use Rattle.asm_nodes.specs.Views.{exports_view, heading_view, lexeme_view, module_view};
-ghost use Rattle.asm_headings.specs.Variables.{variables_of};
+ghost use Rattle.asm_laws_height.specs.Peaks.{step_peak};
+ghost use Rattle.asm_grammar_nodes.specs.Heights.{counted};
+ghost use Rattle.asm_grammar_nodes.specs.Views.{exports_view, heading_view, lexeme_view, module_view};
+ghost use Rattle.asm_grammar_decls.specs.Variables.{variables_of};
 ghost use Rattle.asm_grammar.specs.Ends.{finished_view};
 ghost use Rattle.asm_grammar.specs.Readings.{close_brace_step, end_view, export_place_view, exported, exports_of, exports_step_view, functions_of, module_step_view, tables_of};
 
 use crate::reading::{EndPlace, ExportPlace, Functions, Globals, ModuleStep, Reading, Tables};
 use crate::tall::{TallFunctions, TallModule, leaves};
-use asm_headings::{Ending, end_before, is, is_word};
-use asm_nodes::{Class, ExportTree, ExportsTree, Height, Lexeme, ModuleTree};
+use asm_grammar_decls::{Ending, end_before, is, is_word};
+use asm_grammar_nodes::{Class, ExportTree, ExportsTree, Height, Lexeme, ModuleTree};
 use sem_words::{List, Text};
 use std::alloc::{AllocError, Global};
 

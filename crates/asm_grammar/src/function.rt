@@ -4,20 +4,20 @@ ghost use Rattle.std.specs.Prelude.{◌≡◌, Some, None, [], map, IfOk};
 ghost use Rattle.sem_words.specs.Lists.{list_items};
 ghost use Rattle.asm_lang.specs.Trees.{FunctionTree as PlainFunction, StmtTrees};
 ghost use Rattle.asm_lang.specs.Machine.{advance, function_of, State};
-ghost use Rattle.asm_heights.specs.Peaks.{step_peak};
-ghost use Rattle.asm_nodes.specs.Heights.{counted};
-ghost use Rattle.asm_nodes.specs.Tall.{stmts_tall_view};
-ghost use Rattle.asm_nodes.specs.Views.{function_view, lexeme_view, lexemes_view};
-ghost use Rattle.asm_headings.specs.Variables.{left_view, locals_reading_view, params_of, variables_of};
+ghost use Rattle.asm_laws_height.specs.Peaks.{step_peak};
+ghost use Rattle.asm_grammar_nodes.specs.Heights.{counted};
+ghost use Rattle.asm_grammar_nodes.specs.Tall.{stmts_tall_view};
+ghost use Rattle.asm_grammar_nodes.specs.Views.{function_view, lexeme_view, lexemes_view};
+ghost use Rattle.asm_grammar_decls.specs.Variables.{left_view, locals_reading_view, params_of, variables_of};
 ghost use Rattle.asm_grammar.specs.Bodies.{body_of, first_param_step, function_reading_view, function_step_view, locals_of, marks_step, named_view, open_brace_step, params_step, tall_function_view};
-ghost use Rattle.asm_statements.specs.Views.{body_view};
+ghost use Rattle.asm_grammar_stmts.specs.Views.{body_view};
 
 use crate::tall::{TallFunction, leaves};
-use asm_headings::{
+use asm_grammar_decls::{
     LocalsReading, LocalsStep, Marks, MarksReading, MarksStep, NamesReading, NamesStep, is,
 };
-use asm_nodes::{Class, FunctionTree, Height, Lexeme, ParamTree, TallStmts, VariableTree};
-use asm_statements::{BodyReading, BodyStep};
+use asm_grammar_nodes::{Class, FunctionTree, Height, Lexeme, ParamTree, TallStmts, VariableTree};
+use asm_grammar_stmts::{BodyReading, BodyStep};
 use sem_words::{List, Text};
 use std::alloc::{AllocError, Global};
 

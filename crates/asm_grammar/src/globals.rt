@@ -4,16 +4,16 @@ ghost use Rattle.std.specs.Prelude.{◌≡◌, [], ◌∷◌, ◌++◌, if◌the
 ghost use Rattle.sem_words.specs.Lists.{list_items};
 ghost use Rattle.asm_lang.specs.Lexemes.{Lexeme as PlainLexeme};
 ghost use Rattle.asm_lang.specs.Machine.{advance, at_globals, at_value, ends, feed, globals_by, in_globals, stuck, variable_of};
-ghost use Rattle.asm_nodes.specs.Views.{heading_view, init_view, lexeme_view};
-ghost use Rattle.asm_headings.specs.Variables.{variables_of};
+ghost use Rattle.asm_grammar_nodes.specs.Views.{heading_view, init_view, lexeme_view};
+ghost use Rattle.asm_grammar_decls.specs.Variables.{variables_of};
 ghost use Rattle.asm_grammar.specs.Readings.{global_view, initial_global, module_step_view};
 
 use crate::reading::{
     Functions, GlobalPlace, Globals, ModuleStep, Reading, Tables, early_table, first_function,
 };
 use crate::tall::TallFunctions;
-use asm_headings::{Ending, InitReading, InitStep, end_before, is, with_variable};
-use asm_nodes::{Class, InitTree, Lexeme};
+use asm_grammar_decls::{Ending, InitReading, InitStep, end_before, is, with_variable};
+use asm_grammar_nodes::{Class, InitTree, Lexeme};
 use sem_words::List;
 use std::alloc::{AllocError, Global};
 

@@ -2,11 +2,11 @@
 
 ghost use Rattle.std.specs.Prelude.{◌≡◌, [], IfOk};
 ghost use Rattle.sem_words.specs.Lists.{list_items};
-ghost use Rattle.asm_nodes.specs.Heights.{counted};
-ghost use Rattle.asm_heights.specs.Peaks.{step_peak};
+ghost use Rattle.asm_grammar_nodes.specs.Heights.{counted};
+ghost use Rattle.asm_laws_height.specs.Peaks.{step_peak};
 ghost use Rattle.asm_lang.specs.Machine.{advance, at_use, feed, stops};
-ghost use Rattle.asm_nodes.specs.Views.{heading_view, lexeme_view, name_option, names_view};
-ghost use Rattle.asm_headings.specs.Parts.{heading_reading_view, name_text, params_view};
+ghost use Rattle.asm_grammar_nodes.specs.Views.{heading_view, lexeme_view, name_option, names_view};
+ghost use Rattle.asm_grammar_decls.specs.Parts.{heading_reading_view, name_text, params_view};
 ghost use Rattle.asm_grammar.specs.Ends.{finished_view};
 ghost use Rattle.asm_grammar.specs.Readings.{heading_of, module_step_view, reading_view};
 
@@ -15,9 +15,9 @@ use crate::globals::{after_directive, global_step};
 use crate::reading::{Globals, ModuleStep, Reading};
 use crate::tables::{function_step, functions_step, table_step};
 use crate::tall::TallModule;
-use asm_headings::{HeadingParams, HeadingReading, HeadingStep};
-use asm_nodes::{Class, Heading, Height, Lexeme};
-use asm_statements::bodies_end_no_module;
+use asm_grammar_decls::{HeadingParams, HeadingReading, HeadingStep};
+use asm_grammar_nodes::{Class, Heading, Height, Lexeme};
+use asm_grammar_stmts::bodies_end_no_module;
 use sem_words::{List, Text};
 use std::alloc::{AllocError, Global};
 

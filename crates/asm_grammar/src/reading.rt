@@ -3,14 +3,14 @@
 ghost use Rattle.std.specs.Prelude.{◌≡◌, []};
 ghost use Rattle.sem_words.specs.Lists.{list_items};
 ghost use Rattle.asm_lang.specs.Machine.{function_step, members_step, table_step};
-ghost use Rattle.asm_nodes.specs.Views.{heading_view, lexeme_view};
-ghost use Rattle.asm_headings.specs.Variables.{variables_of};
+ghost use Rattle.asm_grammar_nodes.specs.Views.{heading_view, lexeme_view};
+ghost use Rattle.asm_grammar_decls.specs.Variables.{variables_of};
 ghost use Rattle.asm_grammar.specs.Readings.{functions_of, reading_view};
 
 use crate::function::FunctionReading;
 use crate::tall::{TallFunctions, TallModule};
-use asm_headings::{HeadingReading, InitReading, NamesReading};
-use asm_nodes::{ExportTree, Heading, Lexeme, TableTree, VariableTree};
+use asm_grammar_decls::{HeadingReading, InitReading, NamesReading};
+use asm_grammar_nodes::{ExportTree, Heading, Lexeme, TableTree, VariableTree};
 use sem_words::List;
 use std::alloc::Global;
 

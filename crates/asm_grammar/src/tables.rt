@@ -5,15 +5,15 @@ ghost use Rattle.sem_words.specs.Lists.{list_items};
 ghost use Rattle.asm_lang.specs.Grammar.{texts};
 ghost use Rattle.asm_lang.specs.Lexemes.{Lexeme as PlainLexeme};
 ghost use Rattle.asm_lang.specs.Machine.{advance, at_functions, feed, functions_by, in_tables, stuck, table_of, tables_by};
-ghost use Rattle.asm_nodes.specs.Views.{heading_view, lexeme_view, lexemes_view, names_view, table_view};
-ghost use Rattle.asm_headings.specs.Variables.{variables_of};
+ghost use Rattle.asm_grammar_nodes.specs.Views.{heading_view, lexeme_view, lexemes_view, names_view, table_view};
+ghost use Rattle.asm_grammar_decls.specs.Variables.{variables_of};
 ghost use Rattle.asm_grammar.specs.Bodies.{function_reading_view};
 ghost use Rattle.asm_grammar.specs.Readings.{function_place, functions_of, in_members, module_step_view, table_place_view, tables_of};
 
 use crate::function::{FunctionReading, FunctionStep};
 use crate::reading::{Functions, ModuleStep, Reading, TablePlace, Tables, first_table};
-use asm_headings::{Ending, NamesReading, NamesStep, end_before, is};
-use asm_nodes::{Class, Lexeme, TableTree};
+use asm_grammar_decls::{Ending, NamesReading, NamesStep, end_before, is};
+use asm_grammar_nodes::{Class, Lexeme, TableTree};
 use sem_words::{List, Text};
 use std::alloc::{AllocError, Global};
 

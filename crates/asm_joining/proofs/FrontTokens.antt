@@ -4,11 +4,11 @@ use Rattle.std.specs.Prelude.{◌==◌}
 use Rattle.std.proofs.lemmas.Bool.{and_parts, and_left, and_right, or_parts, both_ways, not-true, not-false, eqb-true, false_from_ne_true, cond-true, cond-false, cases_lt}
 use Rattle.std.proofs.lemmas.Bool.Decides.{nat_tests}
 use Rattle.std.proofs.lemmas.List.{take_at, drop_at}
-use Rattle.asm_lexical.specs.Bytes.{is_ascii, is_name_byte, is_quote, is_gap_byte}
-use Rattle.asm_lexical.specs.Forms.{is_punctuator, is_token, kind_of}
-use Rattle.asm_lexical.specs.Text.{longest, token_len, gap, token, fault, literal_form, non_ascii, comment_at, comment_len, is_numeric, runs_on, token_at, begins_comment, front_of}
-use Rattle.asm_lexical.proofs.Longest.{longest_is}
-use Rattle.asm_lexical.proofs.Table.{of_punctuators}
+use Rattle.asm_lang_tokens.specs.Bytes.{is_ascii, is_name_byte, is_quote, is_gap_byte}
+use Rattle.asm_lang_tokens.specs.Forms.{is_punctuator, is_token, kind_of}
+use Rattle.asm_lang_tokens.specs.Text.{longest, token_len, gap, token, fault, literal_form, non_ascii, comment_at, comment_len, is_numeric, runs_on, token_at, begins_comment, front_of}
+use Rattle.asm_lang_tokens.proofs.Longest.{longest_is}
+use Rattle.asm_lang_tokens.proofs.Table.{of_punctuators}
 use Rattle.asm_lang.specs.Printing.{last_byte, runs_together}
 use Rattle.asm_joining.proofs.Longer.{is_decimal_byte, name_bytes, number_bytes, decimal_bytes, Form, as_name, as_number, as_decimal, as_quoted, as_punctuator, form_of, gap_ends, one_more_byte}
 

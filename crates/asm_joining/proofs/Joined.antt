@@ -1,11 +1,11 @@
 -- Joined pieces read as tokens of these pieces.
 use Rattle.std.proofs.Common.{◌≡◌, ℕ, suc, ◌+◌, Bool, true, false, ◌||◌, cond, List, [], ◌∷◌, ◌++◌, length, take, drop, Ok, refl, sym, subst}
 use Rattle.std.proofs.lemmas.List.{take_at, drop_at}
-use Rattle.asm_lexical.specs.Forms.{is_token, is_punctuator, kind_of}
-use Rattle.asm_lexical.specs.Text.{PlacedToken, Reads, the_end, a_gap, a_token}
+use Rattle.asm_lang_tokens.specs.Forms.{is_token, is_punctuator, kind_of}
+use Rattle.asm_lang_tokens.specs.Text.{PlacedToken, Reads, the_end, a_gap, a_token}
 use Rattle.asm_lang.specs.Lexemes.{lexemes_of}
 use Rattle.asm_lang.specs.Printing.{Piece, word, line_feed, runs_together, joined}
-use Rattle.asm_printing.specs.Spelled.{Spells, no_piece, a_word, a_line_feed}
+use Rattle.asm_laws_print.specs.Spelled.{Spells, no_piece, a_word, a_line_feed}
 use Rattle.asm_joining.proofs.FrontTokens.{Ends, front_is, ends_nothing, ends_gap, ends_word}
 use Rattle.asm_joining.proofs.Neat.{Neat}
 

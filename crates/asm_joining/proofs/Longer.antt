@@ -5,10 +5,10 @@ use Rattle.std.specs.List.{list_all}
 use Rattle.std.proofs.lemmas.Bool.{and_parts, and_from, or_cases, or_left, or_right, both_ways, not-true, eqb-true, false_from_ne_true}
 use Rattle.std.proofs.lemmas.Bool.Decides.{nat_tests}
 use Rattle.std.proofs.lemmas.List.{take_at, take-take, take_all}
-use Rattle.asm_lexical.specs.Bytes.{is_ascii, is_digit, is_hexadecimal_digit, begins_name, is_name_byte, is_hexadecimal_mark, is_quote, is_gap_byte, may_be_quoted}
-use Rattle.asm_lexical.specs.Forms.{is_empty, is_some_of, is_name, is_plain, is_hexadecimal, is_number, is_fraction, ends_in_fraction, is_decimal, ends_quoted, is_quoted, is_punctuator, is_token}
-use Rattle.asm_lexical.proofs.Table.{of_punctuators, front_is_punctuator}
-use Rattle.asm_lexical.proofs.Classes.{word_is_quoted}
+use Rattle.asm_lang_tokens.specs.Bytes.{is_ascii, is_digit, is_hexadecimal_digit, begins_name, is_name_byte, is_hexadecimal_mark, is_quote, is_gap_byte, may_be_quoted}
+use Rattle.asm_lang_tokens.specs.Forms.{is_empty, is_some_of, is_name, is_plain, is_hexadecimal, is_number, is_fraction, ends_in_fraction, is_decimal, ends_quoted, is_quoted, is_punctuator, is_token}
+use Rattle.asm_lang_tokens.proofs.Table.{of_punctuators, front_is_punctuator}
+use Rattle.asm_lang_tokens.proofs.Classes.{word_is_quoted}
 use Rattle.asm_lang.specs.Printing.{last_byte}
 
 -- ---- bytes

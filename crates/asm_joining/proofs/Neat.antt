@@ -1,8 +1,8 @@
 -- Pieces of which each may stand after the one before it.
 use Rattle.std.proofs.Common.{◌≡◌, ℕ, Bool, true, false, cond, ltb, List, [], ◌∷◌, ◌++◌, codes, refl, sym, ap, subst, ◌∙◌}
 use Rattle.std.proofs.lemmas.Bool.{both_ways, or_parts}
-use Rattle.asm_lexical.specs.Forms.{is_token, kind_of, is_punctuator}
-use Rattle.asm_lexical.specs.Text.{is_numeric, runs_on}
+use Rattle.asm_lang_tokens.specs.Forms.{is_token, kind_of, is_punctuator}
+use Rattle.asm_lang_tokens.specs.Text.{is_numeric, runs_on}
 use Rattle.asm_lang.specs.Printing.{Piece, word, line_feed, between, at_level}
 use Rattle.asm_joining.proofs.FrontTokens.{begins_slash, goes_on_comment, Follows}
 

@@ -9,16 +9,16 @@ use Rattle.sem_words.specs.declared.js_value.JsOp.{JsOp}
 use Rattle.sem_words.specs.declared.js_value.JsOp.TheVariants.{Add, Sub, Mul, Div, Rem, Or, And, Xor, Shl, Sar, Shr, Lt, Le, Gt, Ge, Eq, Ne}
 use Rattle.sem_words.specs.declared.js_value.JsUnary.{JsUnary}
 use Rattle.sem_words.specs.declared.js_value.JsUnary.TheVariants.{Neg, BitNot, Not, Plus}
-use Rattle.asm_lexical.specs.Bytes.{is_name_byte}
-use Rattle.asm_lexical.specs.Forms.{is_name, is_number, is_decimal, is_quoted, is_punctuator, is_token, name, number, decimal as decimal_kind, quoted, punctuator, number_value}
-use Rattle.asm_lexical.specs.Text.{is_numeric}
+use Rattle.asm_lang_tokens.specs.Bytes.{is_name_byte}
+use Rattle.asm_lang_tokens.specs.Forms.{is_name, is_number, is_decimal, is_quoted, is_punctuator, is_token, name, number, decimal as decimal_kind, quoted, punctuator, number_value}
+use Rattle.asm_lang_tokens.specs.Text.{is_numeric}
 use Rattle.asm_lang.specs.Grammar.{level_of}
 use Rattle.asm_lang.specs.Lexemes.{identifier, a_decimal}
 use Rattle.asm_lang.specs.Modules.{Expr, lit, decimal, var, index, call, table_call, assign, store, unary, binary, chain, cond, comma, Exprs, no_exprs, exprs, Links, no_links, links}
 use Rattle.asm_lang.specs.Printing.{Piece, between, operator_text, prefix_text, expr_level, at_level, is_literal, after_prefix, minus_text, expr_text, exprs_text, links_text}
-use Rattle.asm_printing.specs.Spelled.{FitsExpr, FitsExprs, FitsLinks, HasClass}
-use Rattle.asm_printing.proofs.Numbers.{decimal_kind as decimal_number}
-use Rattle.asm_printing.proofs.TokenKinds.{identifier_is_name, decimal_is_decimal}
+use Rattle.asm_laws_print.specs.Spelled.{FitsExpr, FitsExprs, FitsLinks, HasClass}
+use Rattle.asm_laws_print.proofs.Numbers.{decimal_kind as decimal_number}
+use Rattle.asm_laws_print.proofs.TokenKinds.{identifier_is_name, decimal_is_decimal}
 use Rattle.asm_joining.proofs.Longer.{is_decimal_byte, name_bytes, number_bytes, decimal_bytes}
 use Rattle.asm_joining.proofs.FrontTokens.{goes_on_comment}
 use Rattle.asm_joining.proofs.Neat.{IsNoNumber, Calm, First, first_no_slash, Sign, Operand, Tail, empty_tail, tail_append, operand_append, sign_operand, word_tail, word_operand, one_word, in_parens, parens_tail, no_arguments, brackets_tail, levelled}

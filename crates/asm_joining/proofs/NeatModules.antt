@@ -1,15 +1,15 @@
 -- The canonical pieces of a module that can be printed are neat.
 use Rattle.std.proofs.Common.{ℕ, Bool, true, false, cond as choice, eqb, List, [], ◌∷◌, ◌++◌, codes, Option, Some, None, refl}
 use Rattle.std.specs.List.{AllByRecursion}
-use Rattle.asm_lexical.specs.Forms.{is_punctuator}
+use Rattle.asm_lang_tokens.specs.Forms.{is_punctuator}
 use Rattle.asm_lang.specs.Lexemes.{identifier, a_decimal}
 use Rattle.asm_lang.specs.Trees as trees
 use Rattle.asm_lang.specs.Trees.{Init}
 use Rattle.asm_lang.specs.Modules.{Variable, Param, Function, Table, Export, Exports, one, many, Module}
 use Rattle.asm_lang.specs.Printing.{Piece, word, between, a_semicolon, decimal_pieces, init_text, locals_text, globals_text, names_text, param_names, mark_text, marks_text, function_text, functions_text, tables_text, export_pieces, exports_text, module_name_text, module_pieces}
-use Rattle.asm_printing.specs.Spelled.{HasClass}
-use Rattle.asm_printing.specs.Fitting.{FitsName, AreNames, IsProperty, unsigned, FitsLiteral, FitsInit, FitsGlobal, FitsLocal, FitsParam, FitsFunction, FitsTable, FitsExport, FitsExports, FitsModule}
-use Rattle.asm_printing.proofs.TokenKinds.{word_is_name}
+use Rattle.asm_laws_print.specs.Spelled.{HasClass}
+use Rattle.asm_laws_print.specs.Fitting.{FitsName, AreNames, IsProperty, unsigned, FitsLiteral, FitsInit, FitsGlobal, FitsLocal, FitsParam, FitsFunction, FitsTable, FitsExport, FitsExports, FitsModule}
+use Rattle.asm_laws_print.proofs.TokenKinds.{word_is_name}
 use Rattle.asm_joining.proofs.Neat.{IsNoNumber, First, Operand, Line, Neat, calm_start, empty_line, line_append, word_line, feed_line, one_word, word_operand}
 use Rattle.asm_joining.proofs.NeatExprs.{name_token, name_calm, decimal_first}
 use Rattle.asm_joining.proofs.NeatStmts.{a_word_line, ended_line, semicolon_end, colon_end, open_paren_end, close_paren_end, open_brace_end, close_brace_end, end_line, Keyword, keyword_line, return_key, name_line, number_neat, in_braces, stmts_neat}

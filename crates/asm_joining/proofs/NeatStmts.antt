@@ -1,13 +1,13 @@
 -- The canonical pieces of a statement that can be printed are neat.
 use Rattle.std.proofs.Common.{◌≡◌, ℕ, true, List, [], ◌∷◌, ◌++◌, codes, Option, Some, None, refl, arith}
 use Rattle.std.specs.Prelude.{ℤ, pos, negsuc}
-use Rattle.asm_lexical.specs.Forms.{is_token, is_punctuator}
+use Rattle.asm_lang_tokens.specs.Forms.{is_token, is_punctuator}
 use Rattle.asm_lang.specs.Modules as m
 use Rattle.asm_lang.specs.Modules.{Expr, Stmt, Stmts, Clauses}
 use Rattle.asm_lang.specs.Printing.{Piece, word, between, option_text, a_semicolon, condition_text, target_text, labels_text, literal_text, stmt_text, stmts_text, clauses_text}
-use Rattle.asm_printing.specs.Spelled.{HasClass, FitsExpr}
-use Rattle.asm_printing.specs.Fitting.{FitsOption, FitsName, AreNames, FitsNumber, FitsStmt, FitsStmts, FitsClauses}
-use Rattle.asm_printing.proofs.TokenKinds.{identifier_is_name}
+use Rattle.asm_laws_print.specs.Spelled.{HasClass, FitsExpr}
+use Rattle.asm_laws_print.specs.Fitting.{FitsOption, FitsName, AreNames, FitsNumber, FitsStmt, FitsStmts, FitsClauses}
+use Rattle.asm_laws_print.proofs.TokenKinds.{identifier_is_name}
 use Rattle.asm_joining.proofs.Neat.{IsNoSlash, Calm, Sign, Operand, Line, empty_line, line_append, word_line, operand_line}
 use Rattle.asm_joining.proofs.NeatExprs.{name_token, name_calm, expr_neat}
 use Rattle.asm_lang.specs.Lexemes.{identifier}

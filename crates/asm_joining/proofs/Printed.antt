@@ -1,8 +1,8 @@
 -- The canonical text of a module reads as the module.
 use Rattle.std.proofs.Common.{◌≡◌, ◌≤◌, ℕ, false, List, [], Result, Ok, sym, ap, subst, ◌∙◌}
 use Rattle.std.specs.List.{AllByRecursion}
-use Rattle.asm_lexical.specs.Text.{PlacedToken, PlacedFault, HasForm}
-use Rattle.asm_lexical.proofs.Readings.{same_reading, forms_of}
+use Rattle.asm_lang_tokens.specs.Text.{PlacedToken, PlacedFault, HasForm}
+use Rattle.asm_lang_tokens.proofs.Readings.{same_reading, forms_of}
 use Rattle.asm_lang.specs.Lexemes.{lexemes_of}
 use Rattle.asm_lang.specs.Trees.{ModuleTree}
 use Rattle.asm_lang.specs.Grammar.{IsModule}
@@ -11,9 +11,9 @@ use Rattle.asm_lang.specs.Modules.{Module, module_of}
 use Rattle.asm_lang.specs.Printing.{module_pieces, canonical_text}
 use Rattle.asm_lang.specs.Heights.{module_height, height_limit, IsWellFormed}
 use Rattle.asm_lang.proofs.CompleteModules.{module_read as module_run}
-use Rattle.asm_printing.specs.Fitting.{FitsModule}
-use Rattle.asm_printing.proofs.Modules.{module_read}
-use Rattle.asm_printing.proofs.FitsModules.{module_fits, are_lexemes}
+use Rattle.asm_laws_print.specs.Fitting.{FitsModule}
+use Rattle.asm_laws_print.proofs.Modules.{module_read}
+use Rattle.asm_laws_print.proofs.FitsModules.{module_fits, are_lexemes}
 use Rattle.asm_joining.specs.Printed.{IsTextOf}
 use Rattle.asm_joining.proofs.Joined.{joined_read}
 use Rattle.asm_joining.proofs.NeatModules.{module_neat}

@@ -1,6 +1,6 @@
 -- What a text says.
 use Rattle.std.specs.Prelude.{◌≡◌, ℕ, List, Ok}
-use Rattle.asm_lexical.specs.Text.{PlacedToken, IsReading}
+use Rattle.asm_lang_tokens.specs.Text.{PlacedToken, IsReading}
 use Rattle.asm_lang.specs.Lexemes.{lexemes_of}
 use Rattle.asm_lang.specs.Trees.{ModuleTree}
 use Rattle.asm_lang.specs.Grammar.{IsModule}

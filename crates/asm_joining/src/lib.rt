@@ -5,7 +5,7 @@ ghost use Rattle.std.specs.Prelude.{◌≡◌, ◌≤◌, ℕ, List};
 ghost use Rattle.asm_lang.specs.Modules.{Module};
 ghost use Rattle.asm_lang.specs.Heights.{module_height, height_limit, IsWellFormed};
 ghost use Rattle.asm_lang.specs.Printing.{canonical_text};
-ghost use Rattle.asm_printing.specs.Fitting.{FitsModule};
+ghost use Rattle.asm_laws_print.specs.Fitting.{FitsModule};
 ghost use Rattle.asm_joining.specs.Printed.{IsTextOf};
 
 /// Which modules are well formed, without the tokens.

@@ -3,8 +3,8 @@ use Rattle.std.specs.Prelude.{◌≡◌, ℕ, true, false, List, [], ◌∷◌, 
 use Rattle.std.specs.Fmt.{digits}
 use Rattle.sem_words.specs.declared.js_value.JsOp.TheVariants.{Add, Sub, Mul}
 use Rattle.sem_words.specs.declared.js_value.JsUnary.TheVariants.{Neg}
-use Rattle.asm_lexical.specs.Forms.{Kind, name, number, quoted, punctuator, is_punctuator}
-use Rattle.asm_lexical.specs.Text.{PlacedToken}
+use Rattle.asm_lang_tokens.specs.Forms.{Kind, name, number, quoted, punctuator, is_punctuator}
+use Rattle.asm_lang_tokens.specs.Text.{PlacedToken}
 use Rattle.asm_lang.specs.Lexemes.{class_of, identifier, in_word, directive, other, Lexeme, lexemes_of}
 use Rattle.asm_lang.specs.Trees as trees
 use Rattle.asm_lang.specs.Trees.{ModuleTree}

@@ -1,7 +1,7 @@
 -- How deep the nodes of a module are nested. A node without parts has height 1, and any other one more than its highest part.
 use Rattle.std.specs.Prelude.{ℕ, ◌+◌, ◌≤◌, ◌≡◌, List, [], ◌∷◌, Option, Some, None, max}
 use Rattle.std.specs.List.{AllByRecursion}
-use Rattle.asm_lexical.specs.Text.{PlacedToken, HasForm}
+use Rattle.asm_lang_tokens.specs.Text.{PlacedToken, HasForm}
 use Rattle.asm_lang.specs.Lexemes.{lexemes_of}
 use Rattle.asm_lang.specs.Trees.{ModuleTree}
 use Rattle.asm_lang.specs.Grammar.{IsModule}

@@ -2,8 +2,8 @@
 use Rattle.std.specs.Prelude.{◌≡◌, ℕ, Bool, true, false, ◌||◌, List, [], ◌∷◌, map, codes, bytes_eq, ◌==◌, if◌then◌else◌}
 use Rattle.sem_words.specs.declared.js_value.JsOp.{JsOp}
 use Rattle.sem_words.specs.declared.js_value.JsOp.TheVariants.{Add, Sub, Mul, Div, Rem, Or, And, Xor, Shl, Sar, Shr, Lt, Le, Gt, Ge, Eq, Ne}
-use Rattle.asm_lexical.specs.Forms.{Kind, name, number, decimal, quoted, punctuator}
-use Rattle.asm_lexical.specs.Text.{PlacedToken}
+use Rattle.asm_lang_tokens.specs.Forms.{Kind, name, number, decimal, quoted, punctuator}
+use Rattle.asm_lang_tokens.specs.Text.{PlacedToken}
 
 pub data Class : Type 0 where
   identifier : Class  -- a name that isn't reserved

@@ -5,8 +5,8 @@ use Rattle.sem_words.specs.declared.js_value.JsOp.{JsOp}
 use Rattle.sem_words.specs.declared.js_value.JsOp.TheVariants.{Add, Sub, Mul, Div, Rem, Or, And, Xor, Shl, Sar, Shr, Lt, Le, Gt, Ge, Eq, Ne}
 use Rattle.sem_words.specs.declared.js_value.JsUnary.{JsUnary}
 use Rattle.sem_words.specs.declared.js_value.JsUnary.TheVariants.{Neg, BitNot, Not, Plus}
-use Rattle.asm_lexical.specs.Bytes.{is_name_byte}
-use Rattle.asm_lexical.specs.Text.{token_len}
+use Rattle.asm_lang_tokens.specs.Bytes.{is_name_byte}
+use Rattle.asm_lang_tokens.specs.Text.{token_len}
 use Rattle.asm_lang.specs.Trees as trees
 use Rattle.asm_lang.specs.Trees.{Init}
 use Rattle.asm_lang.specs.Grammar.{level_of}

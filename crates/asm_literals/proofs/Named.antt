@@ -3,10 +3,10 @@ use Rattle.std.proofs.Common.{◌≡◌, ℕ, Bool, true, false, List, [], ◌�
 use Rattle.std.specs.Prelude.{bytes_eq, codes, if◌then◌else◌, option_and_then}
 use Rattle.asm_lang.specs.Trees.{Init, number, decimal, foreign_int, foreign_double, member, math, view}
 use Rattle.asm_lang.specs.Modules.{Variable, Param, Function, Table, Module}
-use Rattle.asm_typing.specs.declared.meaning.Element.{Element}
-use Rattle.asm_typing.specs.declared.meaning.Builtin.TheVariants.{Imul, Clz32}
-use Rattle.asm_typing.specs.Scope.{is_foreign, Meaning, nothing, an_int, an_outside, a_foreign, a_builtin, a_view, a_function, a_table, a_parameter, Constructor, constructors, constructor_in, viewed, init_meaning, local_init, among_globals, among_functions, among_tables, among_params, among_locals, is_in, module_meaning, meaning}
-use Rattle.asm_meaning.specs.Values.{function_of, member_at, entry_of}
+use Rattle.asm_lang_valid.specs.declared.meaning.Element.{Element}
+use Rattle.asm_lang_valid.specs.declared.meaning.Builtin.TheVariants.{Imul, Clz32}
+use Rattle.asm_lang_valid.specs.Scope.{is_foreign, Meaning, nothing, an_int, an_outside, a_foreign, a_builtin, a_view, a_function, a_table, a_parameter, Constructor, constructors, constructor_in, viewed, init_meaning, local_init, among_globals, among_functions, among_tables, among_params, among_locals, is_in, module_meaning, meaning}
+use Rattle.asm_lang_exec.specs.Values.{function_of, member_at, entry_of}
 use Rattle.asm_literals.specs.Literals.{SmallFunction, SmallFunctions, SmallModule}
 use Rattle.sem_words.specs.declared.js_value.JsValue.{JsValue}
 

@@ -1,10 +1,10 @@
 -- Steps come to no other literals.
 use Rattle.std.specs.Prelude.{◌≡◌, ℕ, List, Some}
 use Rattle.asm_lang.specs.Modules.{Expr, Stmt, Function, Module}
-use Rattle.asm_typing.specs.Scope.{a_function, module_meaning}
-use Rattle.asm_meaning.specs.Runs.{Place}
-use Rattle.asm_steps.specs.Work.{Work, Outcome}
-use Rattle.asm_steps.specs.Steps.{eval_step, exec_step, work_step}
+use Rattle.asm_lang_valid.specs.Scope.{a_function, module_meaning}
+use Rattle.asm_lang_exec.specs.Runs.{Place}
+use Rattle.asm_laws_machine.specs.Work.{Work, Outcome}
+use Rattle.asm_laws_machine.specs.Steps.{eval_step, exec_step, work_step}
 use Rattle.asm_literals.specs.Literals.{SmallExpr, SmallStmt, SmallFunction, SmallModule, SmallWork, SmallWorks, SmallRun}
 
 -- of a function that a name means

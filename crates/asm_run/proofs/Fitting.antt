@@ -15,17 +15,17 @@ use Rattle.sem_laws.specs.declared.observation.Observation.{Observation}
 use Rattle.asm_lang.specs.Modules.{Function, Module}
 use Rattle.asm_tree.specs.declared.tree.Module.{Module as Tree}
 use Rattle.asm_tree.specs.Views.{module_view}
-use Rattle.asm_typing.specs.Refusal.{IsAccepted}
-use Rattle.asm_names.specs.declared.environment.Environment.{Environment}
-use Rattle.asm_meaning.specs.Runs.{Place}
-use Rattle.asm_meaning.specs.Session.{exported_function, first_place, asm}
-use Rattle.asm_meaning.specs.Fits.{in_range, takes, fits_call, misfit}
-use Rattle.asm_meaning.specs.FitLaws.{a_call}
+use Rattle.asm_lang_valid.specs.Refusal.{IsAccepted}
+use Rattle.asm_validate_names.specs.declared.environment.Environment.{Environment}
+use Rattle.asm_lang_exec.specs.Runs.{Place}
+use Rattle.asm_lang_exec.specs.Session.{exported_function, first_place, asm}
+use Rattle.asm_lang_exec.specs.Fits.{in_range, takes, fits_call, misfit}
+use Rattle.asm_lang_exec.specs.FitLaws.{a_call}
 use Rattle.asm_literals.specs.Literals.{IsSmall, SmallModule}
 use Rattle.asm_accepted.specs.Laws.{AcceptedAreSmall}
-use Rattle.asm_meaning.proofs.Misfits.{no_misfit_fits}
-use Rattle.asm_place.specs.declared.world.World.{World}
-use Rattle.asm_place.specs.Worlds.{place_of}
+use Rattle.asm_lang_exec.proofs.Misfits.{no_misfit_fits}
+use Rattle.asm_run_state.specs.declared.world.World.{World}
+use Rattle.asm_run_state.specs.Worlds.{place_of}
 use Rattle.asm_session.specs.Hosted.{observation_option}
 use Rattle.asm_session.specs.Session.{SmallCalls, IsSession}
 use Rattle.asm_run.specs.Linked.{SessionPlain, IsLinked}

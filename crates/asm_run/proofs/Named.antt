@@ -4,8 +4,8 @@ use Rattle.sem_laws.specs.Script.{WritePlain, CallPlain, ReplyLinePlain, ScriptP
 use Rattle.sem_laws.specs.declared.script.GlobalLine.{GlobalLine}
 use Rattle.sem_laws.specs.Views.{global_of}
 use Rattle.asm_lang.specs.Modules.{Module}
-use Rattle.asm_typing.specs.Refusal.{foreign_globals}
-use Rattle.asm_meaning.specs.Fits.{fits_write, fits_call, fits_reply, global_lines, lines_of, unfit_lines, least, are_given, missing_line, or_else, misfit}
+use Rattle.asm_lang_valid.specs.Refusal.{foreign_globals}
+use Rattle.asm_lang_exec.specs.Fits.{fits_write, fits_call, fits_reply, global_lines, lines_of, unfit_lines, least, are_given, missing_line, or_else, misfit}
 use Rattle.asm_run.specs.Forms.{earlier}
 use Rattle.asm_run.proofs.Earlier.{least_append}
 

@@ -3,13 +3,13 @@ use Rattle.std.specs.Prelude.{◌≡◌, ℕ, [], None}
 use Rattle.sem_laws.specs.Script.{ScriptPlain}
 use Rattle.asm_tree.specs.declared.tree.Module.{Module as Tree}
 use Rattle.asm_tree.specs.Views.{module_view}
-use Rattle.asm_typing.specs.Refusal.{IsAccepted}
-use Rattle.asm_names.specs.declared.environment.Environment.{Environment}
-use Rattle.asm_names.specs.Environments.{IsComplete}
-use Rattle.asm_meaning.specs.Fits.{misfit}
-use Rattle.asm_meaning.specs.Session.{first_place}
-use Rattle.asm_place.specs.declared.world.World.{World}
-use Rattle.asm_place.specs.Worlds.{place_of}
+use Rattle.asm_lang_valid.specs.Refusal.{IsAccepted}
+use Rattle.asm_validate_names.specs.declared.environment.Environment.{Environment}
+use Rattle.asm_validate_names.specs.Environments.{IsComplete}
+use Rattle.asm_lang_exec.specs.Fits.{misfit}
+use Rattle.asm_lang_exec.specs.Session.{first_place}
+use Rattle.asm_run_state.specs.declared.world.World.{World}
+use Rattle.asm_run_state.specs.Worlds.{place_of}
 
 -- a module, the length of its heap, and the script that it is run with
 pub record SessionPlain : Type 0 where

@@ -5,10 +5,10 @@ ghost use Rattle.std.specs.List.{list_all};
 ghost use Rattle.sem_laws.specs.Script.{CallPlain};
 ghost use Rattle.sem_laws.specs.Views.{call_of};
 ghost use Rattle.asm_tree.specs.Views.{function_view, module_view};
-ghost use Rattle.asm_meaning.specs.Fits;
+ghost use Rattle.asm_lang_exec.specs.Fits;
 
 use crate::lines::{in_range, lesser};
-use asm_place::exported_function;
+use asm_run_state::exported_function;
 use asm_tree::Function;
 use asm_validate::Checked;
 use sem_laws::CallLine;

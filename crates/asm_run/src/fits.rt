@@ -3,7 +3,7 @@
 ghost use Rattle.std.specs.Prelude.{◌≡◌, None, Some, MatchResult};
 ghost use Rattle.sem_laws.specs.Views.{script_of};
 ghost use Rattle.asm_tree.specs.Views.{module_view};
-ghost use Rattle.asm_meaning.specs.Fits.{misfit, least, unfit_lines};
+ghost use Rattle.asm_lang_exec.specs.Fits.{misfit, least, unfit_lines};
 
 use crate::calls::first_call;
 use crate::globals::{are_given, first_global};

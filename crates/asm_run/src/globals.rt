@@ -3,9 +3,9 @@
 ghost use Rattle.std.specs.Prelude.{◌≡◌, [], map};
 ghost use Rattle.sem_laws.specs.Views.{global_of};
 ghost use Rattle.asm_tree.specs.Views.{module_view, texts_view};
-ghost use Rattle.asm_typing.specs.Refusal.{foreign_globals};
-ghost use Rattle.asm_typing.specs.Scope.{is_in};
-ghost use Rattle.asm_meaning.specs.Fits;
+ghost use Rattle.asm_lang_valid.specs.Refusal.{foreign_globals};
+ghost use Rattle.asm_lang_valid.specs.Scope.{is_in};
+ghost use Rattle.asm_lang_exec.specs.Fits;
 
 use crate::lines::{in_range, lesser};
 use asm_validate::Checked;

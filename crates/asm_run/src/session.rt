@@ -5,13 +5,13 @@ ghost use Rattle.heap_views.specs.Heap.{IsHeapLength};
 ghost use Rattle.sem_laws.specs.Observation.{ObservationPlain};
 ghost use Rattle.sem_laws.specs.Views.{script_of, observation_of};
 ghost use Rattle.asm_tree.specs.Views.{module_view};
-ghost use Rattle.asm_meaning.specs.Session.{asm, checked_asm};
-ghost use Rattle.asm_meaning.specs.Fits.{misfit};
+ghost use Rattle.asm_lang_exec.specs.Session.{asm, checked_asm};
+ghost use Rattle.asm_lang_exec.specs.Fits.{misfit};
 
-use asm_names::Environment;
-use asm_place::World;
+use asm_run_state::World;
 use asm_session::run;
 use asm_validate::Checked;
+use asm_validate_names::Environment;
 use sem_laws::{Observation, Script};
 use std::alloc::{AllocError, Global};
 use std::marker::Model;
@@ -57,7 +57,7 @@ impl<'a> Session<'a> {
         ensures size { IfOk result (λ s. s.size ≡ heap_len) }
         ensures script { IfOk result (λ s. s.script ≡ script_of script.now) }
     {
-        asm_place::laws::literals_are_small();
+        asm_run_state::laws::literals_are_small();
         let module = checked.module();
         let environment = Environment::new(alloc, module)?;
         let world = World::first(alloc, module, heap_len, script, 0)?;
@@ -78,7 +78,7 @@ impl<'a> Session<'a> {
         ensures types_hold { checked_asm (module_view self.entry.code) self.entry.size self.entry.script budget ≡ asm (module_view self.entry.code) self.entry.size self.entry.script budget }
     {
         asm_accepted::laws::accepted_laws();
-        asm_soundness::laws::accepted_modules();
+        asm_laws_sound::laws::accepted_modules();
         let environment = self.environment;
         let script = self.script;
         let mut world = self.world;

@@ -5,7 +5,7 @@ ghost use Rattle.std.specs.List.{list_all};
 ghost use Rattle.sem_laws.specs.Script.{WritePlain, ReplyLinePlain};
 ghost use Rattle.sem_laws.specs.Views.{write_of, reply_of, reply_line_of};
 ghost use Rattle.asm_tree.specs.Views.{module_view};
-ghost use Rattle.asm_meaning.specs.Fits;
+ghost use Rattle.asm_lang_exec.specs.Fits;
 
 use crate::lines::lesser;
 use asm_validate::Checked;

@@ -11,33 +11,33 @@ use Rattle.sem_laws.specs.declared.observation.End.{End}
 use Rattle.sem_laws.specs.declared.observation.Observation.{Observation}
 use Rattle.asm_lang.specs.Trees.{Init, number, decimal, foreign_int, foreign_double, member, math, view}
 use Rattle.asm_lang.specs.Modules.{Variable, Function, Module}
-use Rattle.asm_typing.specs.Refusal.{exported_from}
-use Rattle.asm_meaning.specs.Runs.{Binding, Place, goes, spent, wrong, after, and_then, defined, pay, paid, back_to, add_event}
-use Rattle.asm_meaning.specs.Meaning.{normal, first_locals, function_end}
-use Rattle.asm_meaning.specs.Session.{export_number, exported_function, result_event, observed}
-use Rattle.asm_following.specs.Following.{call_at_to}
-use Rattle.asm_steps.specs.Work.{of_end, at_list, did, comes}
-use Rattle.asm_steps.specs.Sessions.{left_to, body_to}
-use Rattle.asm_steps.specs.Resuming.{mode_to}
-use Rattle.asm_steps.proofs.Sessions.{calls_begin}
+use Rattle.asm_lang_valid.specs.Refusal.{exported_from}
+use Rattle.asm_lang_exec.specs.Runs.{Binding, Place, goes, spent, wrong, after, and_then, defined, pay, paid, back_to, add_event}
+use Rattle.asm_lang_exec.specs.Meaning.{normal, first_locals, function_end}
+use Rattle.asm_lang_exec.specs.Session.{export_number, exported_function, result_event, observed}
+use Rattle.asm_laws_continuation.specs.Following.{call_at_to}
+use Rattle.asm_laws_machine.specs.Work.{of_end, at_list, did, comes}
+use Rattle.asm_laws_machine.specs.Sessions.{left_to, body_to}
+use Rattle.asm_laws_machine.specs.Resuming.{mode_to}
+use Rattle.asm_laws_machine.proofs.Sessions.{calls_begin}
 use Rattle.asm_literals.specs.Literals.{SmallInit, SmallFunction, SmallFunctions, SmallModule}
-use Rattle.asm_place.specs.declared.world.World.{World}
-use Rattle.asm_place.specs.Literals.{IsSmall}
-use Rattle.asm_place.specs.Locals.{HasSmallLocals}
-use Rattle.asm_place.specs.Worlds.{place_of}
+use Rattle.asm_run_state.specs.declared.world.World.{World}
+use Rattle.asm_run_state.specs.Literals.{IsSmall}
+use Rattle.asm_run_state.specs.Locals.{HasSmallLocals}
+use Rattle.asm_run_state.specs.Worlds.{place_of}
 use Rattle.asm_session.specs.declared.calls.Hosted.{Hosted}
 use Rattle.asm_session.specs.declared.calls.Hosted.TheVariants.{Goes, Ends, Wrong}
 use Rattle.asm_variables.specs.Variables.{bindings}
-use Rattle.asm_work.specs.declared.work.Mode.{Mode}
-use Rattle.asm_work.specs.Views.{mode_view}
-use Rattle.asm_work.specs.declared.endings.Completion.{Completion}
-use Rattle.asm_work.specs.Endings.{completion_view}
-use Rattle.asm_machine.specs.declared.machine.Machine.{Machine}
-use Rattle.asm_machine.specs.declared.running.Ended.{Ended}
-use Rattle.asm_machine.specs.declared.running.Ended.TheVariants as endings
-use Rattle.asm_machine.specs.declared.running.Reached.TheVariants as reached
-use Rattle.asm_machine.specs.Machines.{waiting, function}
-use Rattle.asm_machine.specs.Reached.{Leads, Within, ended_to}
+use Rattle.asm_run_work.specs.declared.work.Mode.{Mode}
+use Rattle.asm_run_work.specs.Views.{mode_view}
+use Rattle.asm_run_work.specs.declared.endings.Completion.{Completion}
+use Rattle.asm_run_work.specs.Endings.{completion_view}
+use Rattle.asm_run_machine.specs.declared.machine.Machine.{Machine}
+use Rattle.asm_run_machine.specs.declared.running.Ended.{Ended}
+use Rattle.asm_run_machine.specs.declared.running.Ended.TheVariants as endings
+use Rattle.asm_run_machine.specs.declared.running.Reached.TheVariants as reached
+use Rattle.asm_run_machine.specs.Machines.{waiting, function}
+use Rattle.asm_run_machine.specs.Reached.{Leads, Within, ended_to}
 use Rattle.asm_session.specs.Hosted.{Later, hosted, after_call, Calls, Enters, Runs, Leaves, UnitsLeft}
 
 -- ---- the function that a call names

@@ -7,12 +7,12 @@ use Rattle.sem_laws.specs.Views.{call_of, observation_of}
 use Rattle.sem_laws.specs.declared.script.CallLine.{CallLine}
 use Rattle.sem_laws.specs.declared.observation.Observation.{Observation}
 use Rattle.asm_lang.specs.Modules.{Module}
-use Rattle.asm_meaning.specs.Runs.{Place, gives}
-use Rattle.asm_meaning.specs.Session.{first_place, observed}
-use Rattle.asm_following.specs.Following.{call_at_to, host_calls_to}
-use Rattle.asm_steps.proofs.Sessions.{sessions_run}
-use Rattle.asm_place.specs.declared.world.World.{World}
-use Rattle.asm_place.specs.Worlds.{place_of}
+use Rattle.asm_lang_exec.specs.Runs.{Place, gives}
+use Rattle.asm_lang_exec.specs.Session.{first_place, observed}
+use Rattle.asm_laws_continuation.specs.Following.{call_at_to, host_calls_to}
+use Rattle.asm_laws_machine.proofs.Sessions.{sessions_run}
+use Rattle.asm_run_state.specs.declared.world.World.{World}
+use Rattle.asm_run_state.specs.Worlds.{place_of}
 use Rattle.asm_session.specs.declared.calls.Hosted.{Hosted}
 use Rattle.asm_session.specs.declared.calls.Hosted.TheVariants.{Goes, Ends, Wrong}
 use Rattle.asm_session.specs.Hosted.{hosted, observation_option, Calls, UnitsLeft}

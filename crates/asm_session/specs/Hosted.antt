@@ -6,15 +6,15 @@ use Rattle.sem_laws.specs.Observation.{ObservationPlain}
 use Rattle.sem_laws.specs.declared.observation.Observation.{Observation}
 use Rattle.sem_laws.specs.Views.{observation_of}
 use Rattle.asm_lang.specs.Modules.{Function, Module}
-use Rattle.asm_meaning.specs.Runs.{Binding, Part, and_then, add_event}
-use Rattle.asm_meaning.specs.Session.{result_event, observed}
-use Rattle.asm_following.specs.Following.{call_at_to, host_call_to}
-use Rattle.asm_steps.specs.Resuming.{Over}
-use Rattle.asm_steps.specs.Sessions.{left_to, body_to}
-use Rattle.asm_place.specs.declared.world.World.{World}
-use Rattle.asm_place.specs.Worlds.{place_of}
-use Rattle.asm_machine.specs.declared.running.Ended.{Ended}
-use Rattle.asm_machine.specs.Reached.{ended_to}
+use Rattle.asm_lang_exec.specs.Runs.{Binding, Part, and_then, add_event}
+use Rattle.asm_lang_exec.specs.Session.{result_event, observed}
+use Rattle.asm_laws_continuation.specs.Following.{call_at_to, host_call_to}
+use Rattle.asm_laws_machine.specs.Resuming.{Over}
+use Rattle.asm_laws_machine.specs.Sessions.{left_to, body_to}
+use Rattle.asm_run_state.specs.declared.world.World.{World}
+use Rattle.asm_run_state.specs.Worlds.{place_of}
+use Rattle.asm_run_machine.specs.declared.running.Ended.{Ended}
+use Rattle.asm_run_machine.specs.Reached.{ended_to}
 use Rattle.asm_session.specs.declared.calls.Hosted.{Hosted}
 use Rattle.asm_session.specs.declared.calls.Hosted.TheVariants.{Goes, Ends, Wrong}
 

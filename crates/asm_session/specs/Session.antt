@@ -5,9 +5,9 @@ use Rattle.sem_laws.specs.declared.script.CallLine.{CallLine}
 use Rattle.sem_laws.specs.declared.observation.Observation.{Observation}
 use Rattle.sem_laws.specs.Script.{CallPlain, ScriptPlain}
 use Rattle.asm_lang.specs.Modules.{Module}
-use Rattle.asm_meaning.specs.Session.{first_place, asm}
-use Rattle.asm_place.specs.declared.world.World.{World}
-use Rattle.asm_place.specs.Worlds.{place_of}
+use Rattle.asm_lang_exec.specs.Session.{first_place, asm}
+use Rattle.asm_run_state.specs.declared.world.World.{World}
+use Rattle.asm_run_state.specs.Worlds.{place_of}
 use Rattle.asm_literals.specs.Literals.{IsSmall}
 use Rattle.asm_session.specs.Hosted.{observation_option}
 

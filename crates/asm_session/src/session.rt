@@ -2,13 +2,13 @@
 ghost use Rattle.std.specs.Prelude.{IfOk, map};
 ghost use Rattle.sem_laws.specs.Views.{call_of};
 ghost use Rattle.asm_tree.specs.Views.{module_view};
-ghost use Rattle.asm_names.specs.Environments.{IsComplete};
+ghost use Rattle.asm_validate_names.specs.Environments.{IsComplete};
 ghost use Rattle.asm_literals.specs.Literals.{SmallModule};
 ghost use Rattle.asm_session.specs.Session.{SmallCalls, IsSession};
 
 use crate::calls::{Hosted, host_call};
-use asm_names::Environment;
-use asm_place::World;
+use asm_run_state::World;
+use asm_validate_names::Environment;
 use sem_laws::{CallLine, End, Observation};
 use std::alloc::{AllocError, Global};
 

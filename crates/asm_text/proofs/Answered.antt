@@ -1,8 +1,8 @@
 -- What reading a text answers, of what its tokens and the parser answered.
 use Rattle.std.proofs.Common.{◌≡◌, ℕ, ◌≤◌, List, Result, Ok, Err, refl, sym, subst, ◌∙◌, inl, inr}
 use Rattle.sem_words.specs.Lists.{list_items}
-use Rattle.asm_lexical.specs.Text.{PlacedToken, PlacedFault, Reading, IsReading}
-use Rattle.asm_lexical.proofs.Readings.{same_reading}
+use Rattle.asm_lang_tokens.specs.Text.{PlacedToken, PlacedFault, Reading, IsReading}
+use Rattle.asm_lang_tokens.proofs.Readings.{same_reading}
 use Rattle.asm_lang.specs.Lexemes.{lexemes_of}
 use Rattle.asm_lang.specs.Grammar.{IsModule}
 use Rattle.asm_lang.specs.Trees.{ModuleTree}

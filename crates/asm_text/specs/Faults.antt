@@ -1,7 +1,7 @@
 -- Why a text says no module within the limit on the height. A fault's offset is in bytes.
 use Rattle.std.specs.Prelude.{◌≡◌, ◌⊎◌, ℕ, List, Option, Some, None, Ok, length}
 use Rattle.std.specs.List.{slice_get}
-use Rattle.asm_lexical.specs.Text.{non_ascii, bad_token, open_comment, literal_form, PlacedToken, IsReading}
+use Rattle.asm_lang_tokens.specs.Text.{non_ascii, bad_token, open_comment, literal_form, PlacedToken, IsReading}
 use Rattle.asm_lang.specs.Lexemes.{lexemes_of}
 use Rattle.js_tokens.specs.Views.{HasFault}
 use Rattle.asm_grammar.specs.declared.fault.ParseFault.{ParseFault}

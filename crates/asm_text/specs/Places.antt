@@ -1,6 +1,6 @@
 -- Faults of tokens as faults of their text. Only private contracts name these.
 use Rattle.std.specs.Prelude.{ℕ, List}
-use Rattle.asm_lexical.specs.Text.{PlacedToken}
+use Rattle.asm_lang_tokens.specs.Text.{PlacedToken}
 use Rattle.js_tokens.specs.declared.fault.TokenFault.{TokenFault}
 use Rattle.js_tokens.specs.declared.fault.TokenFault.TheVariants as token_faults
 use Rattle.asm_grammar.specs.declared.fault.ParseFault.{ParseFault}

@@ -2,7 +2,7 @@
 
 ghost use Rattle.std.specs.Prelude.{◌≡◌, ◌≤◌, IfOk, IfErr, Ok};
 ghost use Rattle.sem_words.specs.Lists.{list_items};
-ghost use Rattle.asm_lexical.specs.Text.{IsReading};
+ghost use Rattle.asm_lang_tokens.specs.Text.{IsReading};
 ghost use Rattle.asm_lang.specs.Heights.{height_limit, module_height, IsWellFormed};
 ghost use Rattle.asm_lang.specs.Modules.{module_places, Module as PlainModule};
 ghost use Rattle.asm_joining.specs.Printed.{IsTextOf};
@@ -13,7 +13,7 @@ ghost use Rattle.asm_text.specs.Said.{SaysModule, IsAgain, IsAnswer};
 
 use crate::fault::{TextFault, of_parsing, of_reading};
 use asm_grammar::parse;
-use asm_printer::print;
+use asm_grammar_print::print;
 use asm_tree::{Module, Parsed};
 use js_tokens::{Token, tokens};
 use std::alloc::Global;

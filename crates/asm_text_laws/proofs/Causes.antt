@@ -1,10 +1,10 @@
 -- A fault of a text is one of its bytes or one of its tokens.
 use Rattle.std.proofs.Common.{◌≡◌, ℕ, List, inl, inr, refl}
-use Rattle.asm_lexical.specs.Text.{Fault, non_ascii, bad_token, open_comment, literal_form}
+use Rattle.asm_lang_tokens.specs.Text.{Fault, non_ascii, bad_token, open_comment, literal_form}
 use Rattle.asm_lang.specs.Lexemes.{Lexeme}
 use Rattle.asm_lang.specs.Heights.{height_limit}
-use Rattle.asm_faults.specs.Kinds.{Kind, negative_zero, missing_use, grammar, height}
-use Rattle.asm_faults.specs.Kinds as kinds
+use Rattle.asm_laws_fault.specs.Kinds.{Kind, negative_zero, missing_use, grammar, height}
+use Rattle.asm_laws_fault.specs.Kinds as kinds
 use Rattle.js_tokens.specs.Views as reading
 use Rattle.asm_grammar.specs.declared.fault.ParseFault.{ParseFault}
 use Rattle.asm_grammar.specs.declared.fault.ParseFault.TheVariants as parse_faults

@@ -1,15 +1,15 @@
 -- A text says a module within the limit or has a fault, and never both, and one fault at most.
 use Rattle.std.proofs.Common.{◌≡◌, ℕ, ◌≤◌, List, Ok, Err, refl, sym, ap, subst, ◌∙◌}
-use Rattle.asm_lexical.specs.Text.{Fault, PlacedToken, PlacedFault, Reading, IsReading}
-use Rattle.asm_lexical.proofs.Readings.{same_reading, reading_of}
+use Rattle.asm_lang_tokens.specs.Text.{Fault, PlacedToken, PlacedFault, Reading, IsReading}
+use Rattle.asm_lang_tokens.proofs.Readings.{same_reading, reading_of}
 use Rattle.asm_lang.specs.Lexemes.{lexemes_of}
 use Rattle.asm_lang.specs.Grammar.{IsModule}
 use Rattle.asm_lang.specs.Modules.{Module, module_of, module_places}
 use Rattle.asm_lang.specs.Heights.{module_height, height_limit}
-use Rattle.asm_faults.specs.Kinds.{Kind}
-use Rattle.asm_faults.specs.Kinds as kinds
-use Rattle.asm_faults.proofs.Same.{same}
-use Rattle.asm_faults.proofs.Outcomes.{none, outcome}
+use Rattle.asm_laws_fault.specs.Kinds.{Kind}
+use Rattle.asm_laws_fault.specs.Kinds as kinds
+use Rattle.asm_laws_fault.proofs.Same.{same}
+use Rattle.asm_laws_fault.proofs.Outcomes.{none, outcome}
 use Rattle.asm_joining.specs.Printed.{IsTextOf}
 use Rattle.js_tokens.specs.Views as reading
 use Rattle.asm_text.specs.declared.fault.TextFault.{TextFault}

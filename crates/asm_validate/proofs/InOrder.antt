@@ -7,27 +7,27 @@ use Rattle.sem_words.specs.Lists.{list_items}
 use Rattle.asm_tree.specs.declared.tree.Module.{Module as Tree}
 use Rattle.asm_tree.specs.declared.tree.Function.{Function as CodeFunction}
 use Rattle.asm_tree.specs.Views.{module_view, function_view}
-use Rattle.asm_typing.specs.Scope.{signature_of}
+use Rattle.asm_lang_valid.specs.Scope.{signature_of}
 use Rattle.asm_validate.specs.declared.checked.Signature.{Signature}
 use Rattle.asm_validate.specs.Signatures.{signature_said}
 use Rattle.asm_lang.specs.Modules.{Function, Module}
-use Rattle.asm_typing.specs.declared.rule.Met.{Met}
-use Rattle.asm_typing.specs.Rows.{first}
-use Rattle.asm_typing.specs.NameRows.{name_rows}
-use Rattle.asm_typing.specs.TypeRows.{type_rows}
-use Rattle.asm_typing.specs.LimitRows.{limit_rows}
-use Rattle.asm_typing.specs.Refusal.{refusal, IsAccepted}
-use Rattle.asm_names.specs.declared.fault.NameFault.{NameFault}
-use Rattle.asm_names.specs.declared.fault.NameFault.TheVariants as names
-use Rattle.asm_names.specs.Seen.{IsRow}
-use Rattle.asm_names.proofs.Found.{first_before}
-use Rattle.asm_judging.specs.declared.fault.TypeFault.{TypeFault}
-use Rattle.asm_judging.specs.declared.fault.TypeFault.TheVariants as types
-use Rattle.asm_judging.specs.Faults as judging
-use Rattle.asm_limits.specs.declared.fault.LimitFault.{LimitFault}
-use Rattle.asm_limits.specs.declared.fault.LimitFault.TheVariants as limits
-use Rattle.asm_limits.specs.Called as limiting
-use Rattle.asm_limits.proofs.Few as few
+use Rattle.asm_lang_valid.specs.declared.rule.Met.{Met}
+use Rattle.asm_lang_valid.specs.Rows.{first}
+use Rattle.asm_lang_valid.specs.NameRows.{name_rows}
+use Rattle.asm_lang_valid.specs.TypeRows.{type_rows}
+use Rattle.asm_lang_valid.specs.LimitRows.{limit_rows}
+use Rattle.asm_lang_valid.specs.Refusal.{refusal, IsAccepted}
+use Rattle.asm_validate_names.specs.declared.fault.NameFault.{NameFault}
+use Rattle.asm_validate_names.specs.declared.fault.NameFault.TheVariants as names
+use Rattle.asm_validate_names.specs.Seen.{IsRow}
+use Rattle.asm_validate_names.proofs.Found.{first_before}
+use Rattle.asm_validate_stmts.specs.declared.fault.TypeFault.{TypeFault}
+use Rattle.asm_validate_stmts.specs.declared.fault.TypeFault.TheVariants as types
+use Rattle.asm_validate_stmts.specs.Faults as judging
+use Rattle.asm_validate_limits.specs.declared.fault.LimitFault.{LimitFault}
+use Rattle.asm_validate_limits.specs.declared.fault.LimitFault.TheVariants as limits
+use Rattle.asm_validate_limits.specs.Called as limiting
+use Rattle.asm_validate_limits.proofs.Few as few
 use Rattle.asm_validate.specs.declared.refusal.AsmRefusal.{AsmRefusal}
 use Rattle.asm_validate.specs.Refusals.{IsRefused, of_names, of_types, of_limits}
 

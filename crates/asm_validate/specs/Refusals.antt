@@ -1,13 +1,13 @@
 -- What a refusal says, and how each phase's fault becomes one.
 use Rattle.std.specs.Prelude.{◌≡◌, Some}
 use Rattle.asm_lang.specs.Modules.{Module}
-use Rattle.asm_typing.specs.Refusal.{refusal}
-use Rattle.asm_names.specs.declared.fault.NameFault.{NameFault}
-use Rattle.asm_names.specs.declared.fault.NameFault.TheVariants as names
-use Rattle.asm_judging.specs.declared.fault.TypeFault.{TypeFault}
-use Rattle.asm_judging.specs.declared.fault.TypeFault.TheVariants as types
-use Rattle.asm_limits.specs.declared.fault.LimitFault.{LimitFault}
-use Rattle.asm_limits.specs.declared.fault.LimitFault.TheVariants as limits
+use Rattle.asm_lang_valid.specs.Refusal.{refusal}
+use Rattle.asm_validate_names.specs.declared.fault.NameFault.{NameFault}
+use Rattle.asm_validate_names.specs.declared.fault.NameFault.TheVariants as names
+use Rattle.asm_validate_stmts.specs.declared.fault.TypeFault.{TypeFault}
+use Rattle.asm_validate_stmts.specs.declared.fault.TypeFault.TheVariants as types
+use Rattle.asm_validate_limits.specs.declared.fault.LimitFault.{LimitFault}
+use Rattle.asm_validate_limits.specs.declared.fault.LimitFault.TheVariants as limits
 use Rattle.asm_validate.specs.declared.refusal.AsmRefusal.{AsmRefusal}
 use Rattle.asm_validate.specs.declared.refusal.AsmRefusal.TheVariants.{Refused, Memory}
 

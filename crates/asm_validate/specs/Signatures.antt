@@ -1,5 +1,5 @@
 -- The signature that the code tells.
-use Rattle.asm_typing.specs.Scope as scopes
+use Rattle.asm_lang_valid.specs.Scope as scopes
 use Rattle.asm_validate.specs.declared.checked.Signature.{Signature}
 
 abbrev pub signature_said : Signature → scopes.Signature

@@ -3,22 +3,22 @@
 ghost use Rattle.std.specs.Prelude.{◌≡◌, ◌<◌, ◌^◌, length, map, IfOk, MatchResult, slice_get};
 ghost use Rattle.std.specs.Option.{option_map};
 ghost use Rattle.asm_tree.specs.Views.{module_view, function_view, texts_view};
-ghost use Rattle.asm_typing.specs.LimitRows as limits;
-ghost use Rattle.asm_typing.specs.Refusal as typing;
-ghost use Rattle.asm_typing.specs.Refusal.{IsAccepted};
-ghost use Rattle.asm_typing.specs.Rows.{module_count};
-ghost use Rattle.asm_typing.specs.Scope as scopes;
-ghost use Rattle.asm_facts.specs.Numbers.{export_said};
-ghost use Rattle.asm_limits.specs.Called.{foreign_view};
+ghost use Rattle.asm_lang_valid.specs.LimitRows as limits;
+ghost use Rattle.asm_lang_valid.specs.Refusal as typing;
+ghost use Rattle.asm_lang_valid.specs.Refusal.{IsAccepted};
+ghost use Rattle.asm_lang_valid.specs.Rows.{module_count};
+ghost use Rattle.asm_lang_valid.specs.Scope as scopes;
+ghost use Rattle.asm_validate_facts.specs.Numbers.{export_said};
+ghost use Rattle.asm_validate_limits.specs.Called.{foreign_view};
 ghost use Rattle.asm_validate.specs.Refusals.{IsRefused};
 ghost use Rattle.asm_validate.specs.Signatures.{signature_said};
 
 use crate::phases::check_phases;
 use crate::refusal::AsmRefusal;
-use asm_facts::{ExportOf, Facts, facts_of};
-use asm_judged::signature_of;
-use asm_limits::ForeignCall;
 use asm_tree::{Function, Module};
+use asm_validate_exprs::signature_of;
+use asm_validate_facts::{ExportOf, Facts, facts_of};
+use asm_validate_limits::ForeignCall;
 use sem_words::{List, Text};
 use std::alloc::Global;
 use std::marker::Model;
@@ -45,10 +45,10 @@ impl Model for Checked {
     ghost use Rattle.asm_tree.specs.contracts.tree.Expr as exprs;
     ghost use Rattle.asm_tree.specs.contracts.tree.Stmt as stmts;
     ghost use Rattle.asm_tree.specs.Views.{module_view};
-    ghost use Rattle.asm_typing.specs.LimitRows as limits;
-    ghost use Rattle.asm_typing.specs.Refusal.{IsAccepted};
-    ghost use Rattle.asm_facts.specs.FactsOf.{FactsOf};
-    ghost use Rattle.asm_limits.specs.Called.{foreign_list};
+    ghost use Rattle.asm_lang_valid.specs.LimitRows as limits;
+    ghost use Rattle.asm_lang_valid.specs.Refusal.{IsAccepted};
+    ghost use Rattle.asm_validate_facts.specs.FactsOf.{FactsOf};
+    ghost use Rattle.asm_validate_limits.specs.Called.{foreign_list};
 
     ghost Value = { Tree };
 

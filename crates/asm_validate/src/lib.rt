@@ -5,7 +5,7 @@ mod checked;
 mod phases;
 mod refusal;
 
-pub use asm_facts::ExportOf;
-pub use asm_limits::ForeignCall;
+pub use asm_validate_facts::ExportOf;
+pub use asm_validate_limits::ForeignCall;
 pub use checked::{Checked, Signature, validate};
 pub use refusal::AsmRefusal;

@@ -2,17 +2,17 @@
 
 ghost use Rattle.std.specs.Prelude.{◌≡◌, ◌<◌, ◌^◌, IfOk, MatchResult};
 ghost use Rattle.asm_tree.specs.Views.{module_view};
-ghost use Rattle.asm_typing.specs.Rows.{module_count};
-ghost use Rattle.asm_typing.specs.LimitRows.{foreign_calls};
-ghost use Rattle.asm_typing.specs.Refusal.{IsAccepted};
-ghost use Rattle.asm_limits.specs.Called.{foreign_list};
+ghost use Rattle.asm_lang_valid.specs.Rows.{module_count};
+ghost use Rattle.asm_lang_valid.specs.LimitRows.{foreign_calls};
+ghost use Rattle.asm_lang_valid.specs.Refusal.{IsAccepted};
+ghost use Rattle.asm_validate_limits.specs.Called.{foreign_list};
 ghost use Rattle.asm_validate.specs.Refusals.{IsRefused};
 
 use crate::refusal::AsmRefusal;
-use asm_judging::check_types;
-use asm_limits::{ForeignCall, check_limits};
-use asm_names::check_names;
 use asm_tree::Module;
+use asm_validate_limits::{ForeignCall, check_limits};
+use asm_validate_names::check_names;
+use asm_validate_stmts::check_types;
 use sem_words::List;
 use std::alloc::Global;
 

@@ -4,10 +4,10 @@ ghost use Rattle.std.specs.Prelude.{◌≡◌};
 ghost use Rattle.asm_validate.specs.declared.refusal.AsmRefusal.TheVariants as refusals;
 ghost use Rattle.asm_validate.specs.Refusals.{of_names, of_types, of_limits};
 
-use asm_judging::TypeFault;
-use asm_limits::LimitFault;
-use asm_names::NameFault;
-use asm_typing::Rule;
+use asm_lang_valid::Rule;
+use asm_validate_limits::LimitFault;
+use asm_validate_names::NameFault;
+use asm_validate_stmts::TypeFault;
 use std::alloc::AllocError;
 use thiserror::Error;
 

@@ -5,7 +5,7 @@ use Rattle.std.specs.Prelude.{if◌then◌else◌, option_map, slice_get}
 use Rattle.std.specs.Borrow.{Bor}
 use Rattle.std.specs.Str.{bytes_eq}
 use Rattle.sem_words.specs.declared.js_value.JsValue.{JsValue}
-use Rattle.asm_meaning.specs.Runs.{value_in, with_value, Binding, binding}
+use Rattle.asm_lang_exec.specs.Runs.{value_in, with_value, Binding, binding}
 use Rattle.asm_variables.specs.Variables.{names_in, slot_of, bindings}
 
 -- ---- the map

@@ -4,7 +4,7 @@ use Rattle.std.specs.Borrow.{Bor}
 use Rattle.std.specs.Str.{bytes_eq}
 use Rattle.indexmap.specs.IndexMap.{IndexMap, get_by}
 use Rattle.sem_words.specs.declared.js_value.JsValue.{JsValue}
-use Rattle.asm_meaning.specs.Runs.{Binding, binding}
+use Rattle.asm_lang_exec.specs.Runs.{Binding, binding}
 
 -- the names that the code lends
 abbrev pub names_in : List (Bor (List ℕ)) → List (List ℕ)

@@ -3,7 +3,7 @@ ghost use Rattle.std.specs.Prelude.{◌≡◌, ℕ, List, Some, IfOk, IfSome, is
 ghost use Rattle.std.specs.Bool.{OnFalse};
 ghost use Rattle.std.specs.Str.{bytes_eq};
 ghost use Rattle.sem_words.specs.JsValues.{IsValue};
-ghost use Rattle.asm_meaning.specs.Runs.{value_in, with_value};
+ghost use Rattle.asm_lang_exec.specs.Runs.{value_in, with_value};
 ghost use Rattle.asm_variables.specs.Variables.{names_in, slot_of, found, bindings};
 
 use crate::values::Values;

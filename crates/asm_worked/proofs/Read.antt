@@ -2,9 +2,9 @@
 use Rattle.std.proofs.Common.{◌≡◌, ℕ, zero, suc, ◌+◌, Bool, false, ◌||◌, List, [], ◌∷◌, length, take, drop, Option, Some, None, Result, Ok, Err, refl, subst}
 use Rattle.std.specs.Prelude.{option_map}
 use Rattle.std.specs.List.{list_any}
-use Rattle.asm_lexical.specs.Bytes.{is_line_end}
-use Rattle.asm_lexical.specs.Forms.{Kind}
-use Rattle.asm_lexical.specs.Text.{Front, gap, token, fault, front_of, PlacedToken, Reads, the_end, a_gap, a_token, IsReading}
+use Rattle.asm_lang_tokens.specs.Bytes.{is_line_end}
+use Rattle.asm_lang_tokens.specs.Forms.{Kind}
+use Rattle.asm_lang_tokens.specs.Text.{Front, gap, token, fault, front_of, PlacedToken, Reads, the_end, a_gap, a_token, IsReading}
 use Rattle.asm_lang.specs.Lexemes.{lexemes_of}
 use Rattle.asm_lang.specs.Trees.{ModuleTree}
 use Rattle.asm_lang.specs.Machine.{Refusal, run, at_start}

@@ -1,8 +1,8 @@
 -- The text of each row says its module.
 use Rattle.std.specs.Prelude.{◌≡◌, ℕ, List, Some, refl}
-use Rattle.asm_lexical.specs.Forms.{is_punctuator}
+use Rattle.asm_lang_tokens.specs.Forms.{is_punctuator}
 use Rattle.asm_lang.specs.Modules.{Module}
-use Rattle.asm_typing.specs.Refusal.{IsAccepted}
+use Rattle.asm_lang_valid.specs.Refusal.{IsAccepted}
 use Rattle.asm_worked.specs.Worked.{Says}
 use Rattle.asm_worked.specs.Rows as rows
 use Rattle.asm_worked.proofs.Read.{said, text_says}

@@ -4,9 +4,9 @@ use Rattle.sem_laws.specs.Script.{ScriptPlain}
 use Rattle.sem_laws.specs.Observation.{ObservationPlain}
 use Rattle.asm_lang.specs.Modules.{Module}
 use Rattle.asm_joining.specs.Printed.{IsTextOf}
-use Rattle.asm_typing.specs.Refusal.{IsAccepted}
-use Rattle.asm_meaning.specs.Session.{asm, checked_asm}
-use Rattle.asm_meaning.specs.Fits.{misfit}
+use Rattle.asm_lang_valid.specs.Refusal.{IsAccepted}
+use Rattle.asm_lang_exec.specs.Session.{asm, checked_asm}
+use Rattle.asm_lang_exec.specs.Fits.{misfit}
 
 -- the text says the module, which is accepted
 pub record Says (text : List ℕ) (m : Module) : Type 0 where

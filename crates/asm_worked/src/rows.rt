@@ -2,7 +2,7 @@
 ghost use Rattle.std.specs.Prelude.{◌≡◌, ◌∷◌, ◌++◌, [], Some, None, pos, codes, replicate};
 ghost use Rattle.sem_laws.specs.Script.{give};
 ghost use Rattle.sem_laws.specs.Observation.{call_returned, done, stopped, no_reply, running, ended};
-ghost use Rattle.asm_meaning.specs.Fits.{misfit};
+ghost use Rattle.asm_lang_exec.specs.Fits.{misfit};
 ghost use Rattle.asm_worked.specs.Forms.{called, replied, script, gave, words, imported};
 ghost use Rattle.asm_worked.specs.Worked.{Says, Shows};
 ghost use Rattle.asm_worked.specs.Rows as rows;

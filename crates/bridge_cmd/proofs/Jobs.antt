@@ -2,23 +2,23 @@
 use Rattle.std.proofs.Common.{◌≡◌, ◌≤◌, ℕ, Bool, true, false, List, length, refl, sym, ap, subst, ◌∙◌, inl, inr}
 use Rattle.std.specs.Prelude.{◌⊎◌, Option, Some, None, IsSome, Err}
 use Rattle.bridge_io.specs.Outside.{Told}
-use Rattle.asm_checking.specs.declared.fault.CheckFault.{CheckFault as TextFault}
-use Rattle.asm_checking.specs.declared.fault.CheckFault.TheVariants as text_faults
-use Rattle.asm_checking.specs.Verdicts as texts
+use Rattle.cmd_check_asm.specs.declared.fault.CheckFault.{CheckFault as TextFault}
+use Rattle.cmd_check_asm.specs.declared.fault.CheckFault.TheVariants as text_faults
+use Rattle.cmd_check_asm.specs.Verdicts as texts
 use Rattle.wasm_lang.specs.Modules.{WasmModule}
 use Rattle.wasm_lang.proofs.ReadingLawsOne.{one_module}
-use Rattle.wasm_typing.specs.declared.profile.Outside.{Outside}
-use Rattle.wasm_typing.specs.Runnable.{not_runnable}
-use Rattle.wasm_checking.specs.declared.fault.CheckFault.{CheckFault}
-use Rattle.wasm_checking.specs.declared.fault.CheckFault.TheVariants as checks
-use Rattle.wasm_checking.specs.Verdicts.{IsValidBytes, IsRefused}
-use Rattle.wasm_checking.proofs.Once.{not_both, one_fault}
-use Rattle.wasm_scripts.specs.Modules.{IsRunnable, IsOutside}
-use Rattle.wasm_scripts.specs.Modules.{IsNotRun}
-use Rattle.wasm_scripts.specs.declared.fault.RunFault.{RunFault}
-use Rattle.wasm_scripts.specs.declared.fault.RunFault.TheVariants as run_faults
-use Rattle.script_text.specs.declared.fault.ScriptFault.{ScriptFault}
-use Rattle.script_text.specs.declared.fault.ScriptFault.TheVariants as script_faults
+use Rattle.wasm_lang_valid.specs.declared.profile.Outside.{Outside}
+use Rattle.wasm_lang_valid.specs.Runnable.{not_runnable}
+use Rattle.cmd_check_wasm.specs.declared.fault.CheckFault.{CheckFault}
+use Rattle.cmd_check_wasm.specs.declared.fault.CheckFault.TheVariants as checks
+use Rattle.cmd_check_wasm.specs.Verdicts.{IsValidBytes, IsRefused}
+use Rattle.cmd_check_wasm.proofs.Once.{not_both, one_fault}
+use Rattle.cmd_run_wasm.specs.Modules.{IsRunnable, IsOutside}
+use Rattle.cmd_run_wasm.specs.Modules.{IsNotRun}
+use Rattle.cmd_run_wasm.specs.declared.fault.RunFault.{RunFault}
+use Rattle.cmd_run_wasm.specs.declared.fault.RunFault.TheVariants as run_faults
+use Rattle.script_read.specs.declared.fault.ScriptFault.{ScriptFault}
+use Rattle.script_read.specs.declared.fault.ScriptFault.TheVariants as script_faults
 use Rattle.bridge_words.specs.Answer.{Answers}
 use Rattle.bridge_words.specs.declared.fault.WordsFault.{WordsFault}
 use Rattle.bridge_words.specs.declared.fault.WordsFault.TheVariants as words_faults
@@ -35,10 +35,10 @@ use Rattle.bridge_cmd.specs.Outcome.{EndsAs, IsCutShort, by_a_read, by_want, May
 use Rattle.bridge_cmd.specs.Reason.{Reason, read_fault, missing, too_large}
 use Rattle.bridge_cmd.specs.Refused.{status_of, reason_of_check, reason_of_text, reason_of_run, reason_of_script, reason_of_words}
 use Rattle.bridge_cmd.proofs.Files.{OneEnd, one_file_end}
-use Rattle.asm_checking.proofs.Verdicts as laws
+use Rattle.cmd_check_asm.proofs.Verdicts as laws
 use Rattle.asm_lang.specs.Modules.{Module}
-use Rattle.asm_scripts.specs.Runs as text_runs
-use Rattle.wasm_scripts.specs.Runs as binary_runs
+use Rattle.cmd_run_asm.specs.Runs as text_runs
+use Rattle.cmd_run_wasm.specs.Runs as binary_runs
 
 -- ---- why a module isn't taken
 

@@ -5,15 +5,15 @@ use Rattle.bridge_io.specs.Outside.{Told, content_of}
 use Rattle.first_form.specs.Translation.{Translates}
 use Rattle.asm_lang.specs.Modules.{Module}
 use Rattle.asm_lang.specs.Printing.{canonical_text}
-use Rattle.asm_checking.specs.declared.fault.CheckFault.{CheckFault as TextFault}
-use Rattle.asm_checking.specs.Verdicts as texts
+use Rattle.cmd_check_asm.specs.declared.fault.CheckFault.{CheckFault as TextFault}
+use Rattle.cmd_check_asm.specs.Verdicts as texts
 use Rattle.wasm_lang.specs.Modules.{WasmModule}
-use Rattle.wasm_typing.specs.declared.profile.Outside.{Outside}
-use Rattle.wasm_checking.specs.declared.fault.CheckFault.{CheckFault}
-use Rattle.wasm_checking.specs.declared.fault.CheckFault.TheVariants.{Memory}
-use Rattle.wasm_checking.specs.Verdicts.{IsValidBytes, IsCounted, IsRefused}
+use Rattle.wasm_lang_valid.specs.declared.profile.Outside.{Outside}
+use Rattle.cmd_check_wasm.specs.declared.fault.CheckFault.{CheckFault}
+use Rattle.cmd_check_wasm.specs.declared.fault.CheckFault.TheVariants.{Memory}
+use Rattle.cmd_check_wasm.specs.Verdicts.{IsValidBytes, IsCounted, IsRefused}
 use Rattle.wasm_listing.specs.Listing.{listing}
-use Rattle.wasm_scripts.specs.Modules.{IsOutside}
+use Rattle.cmd_run_wasm.specs.Modules.{IsOutside}
 use Rattle.bridge_cmd.specs.Command.{Asked, asm_to_wasm, check_asm, check_wasm, show, Running, as_binary, run, file_of, asked, first_form, asm_js, web_assembly, language_of, read_as}
 use Rattle.bridge_cmd.specs.Reason.{Reason, faulty_words, not_of_the_form, not_run, bad_script, missing, too_large}
 use Rattle.bridge_cmd.specs.Runs.{Runner, IsRunner, script_for, Prints}

@@ -1,16 +1,16 @@
 -- Why there is no output, and the line that says so.
 use Rattle.std.specs.Prelude.{ℕ, Bool, List, [], ◌∷◌, ◌++◌, codes, decimal}
 use Rattle.std.specs.List.{concat}
-use Rattle.asm_checking.specs.declared.fault.AsmRow.{AsmRow}
-use Rattle.asm_checking.specs.Names as texts
+use Rattle.cmd_check_asm.specs.declared.fault.AsmRow.{AsmRow}
+use Rattle.cmd_check_asm.specs.Names as texts
 use Rattle.wasm_lang.specs.declared.fault.Row.{Row}
-use Rattle.wasm_typing.specs.declared.rule.Rule.{Rule}
-use Rattle.wasm_typing.specs.declared.section.Section.{Section}
-use Rattle.wasm_typing.specs.declared.profile.Beyond.{Beyond}
-use Rattle.wasm_typing.specs.Rules.{number}
-use Rattle.wasm_typing.specs.Validity.{id}
-use Rattle.wasm_checking.specs.Names.{row_name}
-use Rattle.wasm_scripts.specs.Names as outsiders
+use Rattle.wasm_lang_valid.specs.declared.rule.Rule.{Rule}
+use Rattle.wasm_lang_valid.specs.declared.section.Section.{Section}
+use Rattle.wasm_lang_valid.specs.declared.profile.Beyond.{Beyond}
+use Rattle.wasm_lang_valid.specs.Rules.{number}
+use Rattle.wasm_lang_valid.specs.Validity.{id}
+use Rattle.cmd_check_wasm.specs.Names.{row_name}
+use Rattle.cmd_run_wasm.specs.Names as outsiders
 
 pub data Reason : Type 0 where
   faulty_words : Reason

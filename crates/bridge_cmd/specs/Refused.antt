@@ -8,10 +8,10 @@ use Rattle.bridge_cmd.specs.declared.status.AsmFault as asm
 use Rattle.bridge_cmd.specs.declared.status.WasmFault as wasm
 use Rattle.bridge_io.specs.declared.reading.GatherFault as gathering
 use Rattle.bridge_words.specs.declared.fault.WordsFault as words
-use Rattle.asm_checking.specs.declared.fault.CheckFault as texts
-use Rattle.wasm_checking.specs.declared.fault.CheckFault as checks
-use Rattle.wasm_scripts.specs.declared.fault.RunFault as runs
-use Rattle.script_text.specs.declared.fault.ScriptFault as scripts
+use Rattle.cmd_check_asm.specs.declared.fault.CheckFault as texts
+use Rattle.cmd_check_wasm.specs.declared.fault.CheckFault as checks
+use Rattle.cmd_run_wasm.specs.declared.fault.RunFault as runs
+use Rattle.script_read.specs.declared.fault.ScriptFault as scripts
 
 abbrev pub reason_of : Refusal → Reason
 reason_of refusal.TheVariants.FaultyWords = faulty_words

@@ -2,11 +2,11 @@
 use Rattle.std.specs.Prelude.{ℕ, List, Result}
 use Rattle.sem_laws.specs.Script.{ScriptPlain}
 use Rattle.asm_lang.specs.Modules.{Module}
-use Rattle.asm_checking.specs.Verdicts.{IsAcceptedText}
-use Rattle.asm_scripts.specs.Runs as texts
+use Rattle.cmd_check_asm.specs.Verdicts.{IsAcceptedText}
+use Rattle.cmd_run_asm.specs.Runs as texts
 use Rattle.wasm_lang.specs.Modules.{WasmModule}
-use Rattle.wasm_scripts.specs.Modules.{IsRunnable}
-use Rattle.wasm_scripts.specs.Runs as binaries
+use Rattle.cmd_run_wasm.specs.Modules.{IsRunnable}
+use Rattle.cmd_run_wasm.specs.Runs as binaries
 use Rattle.bridge_cmd.specs.Command.{Running, as_text, as_binary}
 
 -- a module that is run; one of asm.js with a heap of so many bytes

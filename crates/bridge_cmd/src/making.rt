@@ -8,11 +8,11 @@ ghost use Rattle.bridge_cmd.specs.Refused.{reason_of};
 
 use crate::refusal::{Refusal, of_check, of_text};
 use crate::words::Making;
-use asm_checking::check_text;
-use asm_printer::print;
+use asm_grammar_print::print;
+use cmd_check_asm::check_text;
+use cmd_check_wasm::check_bytes;
 use first_form::translate;
 use std::alloc::Global;
-use wasm_checking::check_bytes;
 use wasm_listing::listing;
 
 /// The bytes of the WebAssembly module of a text of the first form.
@@ -32,7 +32,7 @@ fn text_counts(alloc: Global, text: &[u8]) -> Result<Vec<u8>, Refusal>
     ensures made { (file : List ℕ) → IfOk result (λ output. IsMade (spec.check_asm file) text.now output.items) }
     ensures barred { (file : List ℕ) → IfErr result (λ refusal. IsAnswered (spec.check_asm file) text.now (reason_of refusal)) }
 {
-    match asm_checking::counts(alloc, text) {
+    match cmd_check_asm::counts(alloc, text) {
         Ok(line) => Ok(line),
         Err(fault) => Err(of_text(fault)),
     }
@@ -43,7 +43,7 @@ fn bytes_counts(alloc: Global, bytes: &[u8]) -> Result<Vec<u8>, Refusal>
     ensures made { (file : List ℕ) → IfOk result (λ output. IsMade (spec.check_wasm file) bytes.now output.items) }
     ensures barred { (file : List ℕ) → IfErr result (λ refusal. IsAnswered (spec.check_wasm file) bytes.now (reason_of refusal)) }
 {
-    match wasm_checking::counts(alloc, bytes) {
+    match cmd_check_wasm::counts(alloc, bytes) {
         Ok(line) => Ok(line),
         Err(fault) => Err(of_check(fault)),
     }

@@ -3,12 +3,12 @@ ghost use Rattle.std.specs.Prelude.{◌≡◌, string_bytes};
 ghost use Rattle.bridge_cmd.specs.Refused.{reason_of, reason_of_check, reason_of_text, reason_of_words, reason_of_run, reason_of_script, reason_at, status_of};
 
 use crate::status::{AsmFault, Status, WasmFault};
-use asm_checking::AsmRow;
 use bridge_io::GatherFault;
 use bridge_words::WordsFault;
-use script_text::ScriptFault;
-use wasm_checking::CheckFault;
-use wasm_scripts::RunFault;
+use cmd_check_asm::AsmRow;
+use cmd_check_wasm::CheckFault;
+use cmd_run_wasm::RunFault;
+use script_read::ScriptFault;
 use wasm_tree::Row;
 use wasm_validate::{Beyond, Rule, Section};
 
@@ -107,12 +107,12 @@ pub(crate) fn of_gathering(fault: GatherFault, is_script: bool, file: String) ->
 }
 
 /// Why a text isn't accepted.
-pub(crate) fn of_text(fault: asm_checking::CheckFault) -> Refusal
+pub(crate) fn of_text(fault: cmd_check_asm::CheckFault) -> Refusal
     ensures { reason_of result ≡ reason_of_text fault }
 {
     match fault {
-        asm_checking::CheckFault::Refused { row, at } => Refusal::NotAsm { row, at },
-        asm_checking::CheckFault::Memory => Refusal::OutOfMemory,
+        cmd_check_asm::CheckFault::Refused { row, at } => Refusal::NotAsm { row, at },
+        cmd_check_asm::CheckFault::Memory => Refusal::OutOfMemory,
     }
 }
 

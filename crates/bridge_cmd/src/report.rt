@@ -2,20 +2,20 @@
 ghost use Rattle.std.specs.Prelude.{ℕ, ◌≤◌, ◌++◌, ◌∷◌, [], OnOk, OnErr, map, codes, decimal};
 ghost use Rattle.std.specs.List.{concat};
 ghost use Rattle.bridge_cmd.specs.Reason.{line_of};
-ghost use Rattle.asm_checking.specs.Names as texts;
-ghost use Rattle.wasm_checking.specs.Names as names;
-ghost use Rattle.wasm_scripts.specs.Names as outsiders;
-ghost use Rattle.wasm_typing.specs.Rules.{number};
-ghost use Rattle.wasm_typing.specs.Validity.{id};
+ghost use Rattle.cmd_check_asm.specs.Names as texts;
+ghost use Rattle.cmd_check_wasm.specs.Names as names;
+ghost use Rattle.cmd_run_wasm.specs.Names as outsiders;
+ghost use Rattle.wasm_lang_valid.specs.Rules.{number};
+ghost use Rattle.wasm_lang_valid.specs.Validity.{id};
 ghost use Rattle.bridge_cmd.specs.Refused.{reason_of};
 ghost use Rattle.bridge_cmd.specs.Sinks.{seen, Gains, GainsFront, now_of};
 
 use crate::refusal::Refusal;
-use asm_checking::{AsmRow, row_name as asm_row_name};
 use bridge_io::{Failed, Sink, put_all};
+use cmd_check_asm::{AsmRow, row_name as asm_row_name};
+use cmd_check_wasm::{row_name, rule_number, section_number};
+use cmd_run_wasm::outside_name;
 use itoa::Buffer;
-use wasm_checking::{row_name, rule_number, section_number};
-use wasm_scripts::outside_name;
 use wasm_tree::Row;
 use wasm_validate::{Beyond, Rule, Section};
 

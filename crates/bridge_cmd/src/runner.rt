@@ -3,8 +3,8 @@ ghost use Rattle.std.specs.Prelude.{◌≡◌, ℕ, List, None, IfOk, IfErr, Mat
 ghost use Rattle.heap_views.specs.Heap.{IsHeapLength};
 ghost use Rattle.asm_tree.specs.Views.{module_view};
 ghost use Rattle.wasm_lang.specs.Shape.{IsShaped};
-ghost use Rattle.wasm_typing.specs.Runnable.{not_runnable};
-ghost use Rattle.wasm_soundness.specs.Laws.{IsWhole};
+ghost use Rattle.wasm_lang_valid.specs.Runnable.{not_runnable};
+ghost use Rattle.wasm_laws_sound.specs.Laws.{IsWhole};
 ghost use Rattle.bridge_cmd.specs.Command as spec;
 ghost use Rattle.bridge_cmd.specs.Asking.{run_as};
 ghost use Rattle.bridge_cmd.specs.Runs.{IsRunner, text_runner, binary_runner};
@@ -15,11 +15,11 @@ ghost use Rattle.bridge_cmd.specs.Refused.{reason_of};
 
 use crate::refusal::{Refusal, of_run, of_script, of_text};
 use crate::words::Running;
-use asm_checking::check_text;
 use asm_validate::Checked;
 use bridge_words::HeapLength;
+use cmd_check_asm::check_text;
+use cmd_run_wasm::runnable_module;
 use std::alloc::Global;
-use wasm_scripts::runnable_module;
 use wasm_validate::Valid;
 
 /// A module that is run; one of asm.js with the length of its heap.
@@ -60,7 +60,7 @@ fn text_played(
     ensures ran { IfOk result (λ output. IsPlayed (text_runner (module_view checked.now) heap.bytes) steps script.now (written output.items)) }
     ensures refused { IfErr result (λ refusal. IsScriptAnswer (text_runner (module_view checked.now) heap.bytes) steps script.now (reason_of refusal)) }
 {
-    match asm_scripts::run_script(alloc, checked, heap.bytes, script, steps) {
+    match cmd_run_asm::run_script(alloc, checked, heap.bytes, script, steps) {
         Ok(output) => Ok(output),
         Err(fault) => Err(of_script(fault)),
     }
@@ -78,7 +78,7 @@ fn binary_played(
     ensures ran { IfOk result (λ output. IsPlayed (binary_runner valid.now) steps script.now (written output.items)) }
     ensures refused { IfErr result (λ refusal. IsScriptAnswer (binary_runner valid.now) steps script.now (reason_of refusal)) }
 {
-    match wasm_scripts::run_script(alloc, valid, script, steps) {
+    match cmd_run_wasm::run_script(alloc, valid, script, steps) {
         Ok(output) => Ok(output),
         Err(fault) => Err(of_script(fault)),
     }

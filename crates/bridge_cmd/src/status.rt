@@ -2,7 +2,7 @@
 ghost use Rattle.std.specs.Prelude.{◌≡◌};
 ghost use Rattle.bridge_cmd.specs.Code.{code_of};
 
-use asm_checking::AsmRow;
+use cmd_check_asm::AsmRow;
 use wasm_tree::Row;
 use wasm_validate::{Beyond, Rule, Section};
 

@@ -5,10 +5,10 @@ use Rattle.std.proofs.lemmas.Bool.{cases_Bool, and_from, and_parts, and_left, an
 use Rattle.std.proofs.lemmas.Bool.Decides.{nat_tests}
 use Rattle.std.proofs.lemmas.List.{at_drop_more, take_more}
 use Rattle.std.proofs.lemmas.List.Sums.{prefix_len-le-length}
-use Rattle.asm_lexical.specs.Bytes.{is_digit, is_hexadecimal_digit, digit_value, is_hexadecimal_mark}
-use Rattle.asm_lexical.specs.Forms.{is_empty, is_name, is_some_of, value_in, is_number, number_value, is_fraction, ends_in_fraction, is_decimal, is_token, kind_of, number, decimal}
-use Rattle.asm_lexical.proofs.Longest.{prefix_len-yes, prefix_len-no, front_passes, longer_fails}
-use Rattle.asm_lexical.proofs.Classes.{digit_not_name, digit_not_dot, name_needs, word_is_numeral}
+use Rattle.asm_lang_tokens.specs.Bytes.{is_digit, is_hexadecimal_digit, digit_value, is_hexadecimal_mark}
+use Rattle.asm_lang_tokens.specs.Forms.{is_empty, is_name, is_some_of, value_in, is_number, number_value, is_fraction, ends_in_fraction, is_decimal, is_token, kind_of, number, decimal}
+use Rattle.asm_lang_tokens.proofs.Longest.{prefix_len-yes, prefix_len-no, front_passes, longer_fails}
+use Rattle.asm_lang_tokens.proofs.Classes.{digit_not_name, digit_not_dot, name_needs, word_is_numeral}
 use Rattle.js_tokens.specs.declared.token.TokenKind.TheVariants.{Number, Decimal}
 use Rattle.js_tokens.specs.declared.numbers.Base.{Base}
 use Rattle.js_tokens.specs.declared.numbers.Base.TheVariants.{Ten, Sixteen}

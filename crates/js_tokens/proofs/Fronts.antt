@@ -3,9 +3,9 @@ use Rattle.std.proofs.Common.{◌≡◌, ℕ, zero, suc, ◌+◌, ◌≤◌, ◌
 use Rattle.std.specs.List.{position_or_len}
 use Rattle.std.proofs.lemmas.Bool.{or_left, or_right}
 use Rattle.std.proofs.lemmas.List.Sums.{prefix_len-le-length}
-use Rattle.asm_lexical.specs.Bytes.{is_line_end}
-use Rattle.asm_lexical.specs.Forms.{kind_of, begins_close, begins_separator}
-use Rattle.asm_lexical.specs.Text.{first_place, comment_len, gap_without, comment_at, token_len, token_at, is_numeric, runs_on, front_of, token, fault, bad_token, open_comment, literal_form}
+use Rattle.asm_lang_tokens.specs.Bytes.{is_line_end}
+use Rattle.asm_lang_tokens.specs.Forms.{kind_of, begins_close, begins_separator}
+use Rattle.asm_lang_tokens.specs.Text.{first_place, comment_len, gap_without, comment_at, token_len, token_at, is_numeric, runs_on, front_of, token, fault, bad_token, open_comment, literal_form}
 use Rattle.js_tokens.specs.declared.token.TokenKind.{TokenKind}
 use Rattle.js_tokens.specs.Views.{kind_view}
 use Rattle.js_tokens.specs.Scan.{IsToken, begins_with}

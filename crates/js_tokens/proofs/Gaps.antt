@@ -4,10 +4,10 @@ use Rattle.std.specs.List.{list_all, prefix_len, position_or_len}
 use Rattle.std.proofs.lemmas.Bool.{cases_Bool}
 use Rattle.std.proofs.lemmas.Bool.Decides.{nat_tests}
 use Rattle.std.proofs.lemmas.List.Sums.{prefix_len-le-length}
-use Rattle.asm_lexical.specs.Bytes.{is_line_end}
-use Rattle.asm_lexical.specs.Forms.{begins_close, is_up_to_close, is_comment}
-use Rattle.asm_lexical.specs.Text.{next_place, first_place, comment_len}
-use Rattle.asm_lexical.proofs.Longest.{longest_is, prefix_len-yes, front_passes, longer_fails}
+use Rattle.asm_lang_tokens.specs.Bytes.{is_line_end}
+use Rattle.asm_lang_tokens.specs.Forms.{begins_close, is_up_to_close, is_comment}
+use Rattle.asm_lang_tokens.specs.Text.{next_place, first_place, comment_len}
+use Rattle.asm_lang_tokens.proofs.Longest.{longest_is, prefix_len-yes, front_passes, longer_fails}
 use Rattle.js_tokens.specs.Scan.{begins_with}
 
 or_false : (t : Bool) → (t || false) ≡ t

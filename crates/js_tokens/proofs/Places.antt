@@ -1,7 +1,7 @@
 -- The first place that passes, as loops find it.
 use Rattle.std.proofs.Common.{◌≡◌, ℕ, ◌+◌, ◌<◌, Bool, false, List, ◌∷◌, length, get_or, drop, Option, Some, None, refl, sym, ap, ◌∙◌, arith}
 use Rattle.std.proofs.lemmas.List.{at_drop_more}
-use Rattle.asm_lexical.specs.Text.{next_place, first_place}
+use Rattle.asm_lang_tokens.specs.Text.{next_place, first_place}
 
 abbrev pub added : ℕ → Option ℕ → Option ℕ
 added n None = None

@@ -5,12 +5,12 @@ use Rattle.std.proofs.lemmas.Bool.{agree_below_at, and_parts, or_cases, or_parts
 use Rattle.std.proofs.lemmas.Bool.Decides.{nat_tests}
 use Rattle.std.proofs.lemmas.List.{take-take}
 use Rattle.std.proofs.lemmas.List.Sums.{prefix_len-le-length}
-use Rattle.asm_lexical.specs.Bytes.{is_digit, begins_name, is_quote}
-use Rattle.asm_lexical.specs.Forms.{is_some_of, is_punctuator, is_token, kind_of, punctuator, decimal}
-use Rattle.asm_lexical.specs.Text.{token_len}
-use Rattle.asm_lexical.proofs.Longest.{longest_is, front_passes, longer_fails}
-use Rattle.asm_lexical.proofs.Table.{of_punctuators, front_is_punctuator}
-use Rattle.asm_lexical.proofs.Classes.{name_needs, number_needs, decimal_needs, quoted_needs, word_is_sign}
+use Rattle.asm_lang_tokens.specs.Bytes.{is_digit, begins_name, is_quote}
+use Rattle.asm_lang_tokens.specs.Forms.{is_some_of, is_punctuator, is_token, kind_of, punctuator, decimal}
+use Rattle.asm_lang_tokens.specs.Text.{token_len}
+use Rattle.asm_lang_tokens.proofs.Longest.{longest_is, front_passes, longer_fails}
+use Rattle.asm_lang_tokens.proofs.Table.{of_punctuators, front_is_punctuator}
+use Rattle.asm_lang_tokens.proofs.Classes.{name_needs, number_needs, decimal_needs, quoted_needs, word_is_sign}
 use Rattle.js_tokens.specs.declared.token.TokenKind.TheVariants.{Decimal, Punct}
 use Rattle.js_tokens.specs.Scan.{is_punct, is_punct1, takes_equals, doubles, is_punct2, is_punct3, is_punct4, begins_sign, IsToken}
 use Rattle.js_tokens.proofs.Words.{is_found}

@@ -4,11 +4,11 @@ use Rattle.std.specs.List.{prefix_len}
 use Rattle.std.proofs.lemmas.Bool.{cases_Bool, cases_lt, and_from, and_parts, and_right, or_left, both_ways, not-true}
 use Rattle.std.proofs.lemmas.List.{drop_all}
 use Rattle.std.proofs.lemmas.List.Sums.{prefix_len-le-length}
-use Rattle.asm_lexical.specs.Bytes.{is_digit, begins_name, is_name_byte, is_ascii, is_quote, may_be_quoted}
-use Rattle.asm_lexical.specs.Forms.{is_name, is_quoted, ends_quoted, is_token, kind_of}
-use Rattle.asm_lexical.specs.Text.{token_len}
-use Rattle.asm_lexical.proofs.Longest.{longest_is, prefix_len-yes, prefix_len-no, front_passes, longer_fails}
-use Rattle.asm_lexical.proofs.Classes.{word_is_name, word_is_quoted, name_needs, number_needs, decimal_needs, quote_not_name, quote_not_digit, quote_not_dot}
+use Rattle.asm_lang_tokens.specs.Bytes.{is_digit, begins_name, is_name_byte, is_ascii, is_quote, may_be_quoted}
+use Rattle.asm_lang_tokens.specs.Forms.{is_name, is_quoted, ends_quoted, is_token, kind_of}
+use Rattle.asm_lang_tokens.specs.Text.{token_len}
+use Rattle.asm_lang_tokens.proofs.Longest.{longest_is, prefix_len-yes, prefix_len-no, front_passes, longer_fails}
+use Rattle.asm_lang_tokens.proofs.Classes.{word_is_name, word_is_quoted, name_needs, number_needs, decimal_needs, quote_not_name, quote_not_digit, quote_not_dot}
 use Rattle.js_tokens.specs.declared.token.TokenKind.{TokenKind}
 use Rattle.js_tokens.specs.declared.token.TokenKind.TheVariants.{Name, Quoted}
 use Rattle.js_tokens.specs.Scan.{IsToken, begins_with, quoted_len}

@@ -10,10 +10,10 @@ use Rattle.js_tokens.specs.declared.front.Flaw.{Flaw}
 use Rattle.js_tokens.specs.declared.front.Flaw.TheVariants.{NonAscii, BadToken, OpenComment, LiteralForm}
 use Rattle.js_tokens.specs.declared.front.Front.{Front}
 use Rattle.js_tokens.specs.declared.front.Front.TheVariants as fronts
-use Rattle.asm_lexical.specs.Bytes.{is_digit, is_hexadecimal_digit, digit_value, begins_name, is_hexadecimal_mark, is_quote, may_be_quoted}
-use Rattle.asm_lexical.specs.Forms.{kind_of}
-use Rattle.asm_lexical.specs.Text as text
-use Rattle.asm_lexical.specs.Text.{Fault, non_ascii, bad_token, open_comment, literal_form, token_len}
+use Rattle.asm_lang_tokens.specs.Bytes.{is_digit, is_hexadecimal_digit, digit_value, begins_name, is_hexadecimal_mark, is_quote, may_be_quoted}
+use Rattle.asm_lang_tokens.specs.Forms.{kind_of}
+use Rattle.asm_lang_tokens.specs.Text as text
+use Rattle.asm_lang_tokens.specs.Text.{Fault, non_ascii, bad_token, open_comment, literal_form, token_len}
 use Rattle.js_tokens.specs.Views.{kind_view}
 
 abbrev pub number_of : Base → ℕ

@@ -6,8 +6,8 @@ use Rattle.js_tokens.specs.declared.token.TokenKind.TheVariants as kinds
 use Rattle.js_tokens.specs.declared.token.Token.{Token}
 use Rattle.js_tokens.specs.declared.fault.TokenFault.{TokenFault}
 use Rattle.js_tokens.specs.declared.fault.TokenFault.TheVariants as faults
-use Rattle.asm_lexical.specs.Forms.{Kind, name, number, decimal, quoted, punctuator}
-use Rattle.asm_lexical.specs.Text.{Fault, non_ascii, bad_token, open_comment, literal_form, PlacedToken, Reading, IsReading}
+use Rattle.asm_lang_tokens.specs.Forms.{Kind, name, number, decimal, quoted, punctuator}
+use Rattle.asm_lang_tokens.specs.Text.{Fault, non_ascii, bad_token, open_comment, literal_form, PlacedToken, Reading, IsReading}
 
 abbrev pub kind_view : TokenKind → Kind
 kind_view kinds.Name = name

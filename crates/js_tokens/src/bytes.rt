@@ -1,7 +1,7 @@
 //! Classes of bytes.
 
 ghost use Rattle.std.specs.Prelude.{◌≡◌, true};
-ghost use Rattle.asm_lexical.specs.Bytes.{is_ascii, is_digit, is_hexadecimal_digit, digit_value, begins_name, is_name_byte, is_line_end, is_gap_byte, is_hexadecimal_mark, is_quote, may_be_quoted};
+ghost use Rattle.asm_lang_tokens.specs.Bytes.{is_ascii, is_digit, is_hexadecimal_digit, digit_value, begins_name, is_name_byte, is_line_end, is_gap_byte, is_hexadecimal_mark, is_quote, may_be_quoted};
 ghost use Rattle.js_tokens.specs.Scan.{begins_with};
 
 pub fn is_ascii(b: u8) -> bool

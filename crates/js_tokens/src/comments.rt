@@ -2,9 +2,9 @@
 
 ghost use Rattle.std.specs.Prelude.{◌≡◌, ◌≤◌, ◌<◌, ◌+◌, IfSome, length};
 ghost use Rattle.std.specs.List.{list_any, position_or_len};
-ghost use Rattle.asm_lexical.specs.Bytes.{is_line_end};
-ghost use Rattle.asm_lexical.specs.Forms.{begins_close, begins_separator};
-ghost use Rattle.asm_lexical.specs.Text.{first_place};
+ghost use Rattle.asm_lang_tokens.specs.Bytes.{is_line_end};
+ghost use Rattle.asm_lang_tokens.specs.Forms.{begins_close, begins_separator};
+ghost use Rattle.asm_lang_tokens.specs.Text.{first_place};
 
 use crate::bytes::is_line_end;
 

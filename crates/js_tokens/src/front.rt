@@ -2,9 +2,9 @@
 
 ghost use Rattle.std.specs.Prelude.{◌≡◌, ◌<◌, ◌&&◌, MatchOption, true, ◌∷◌, length};
 ghost use Rattle.std.specs.List.{prefix_len};
-ghost use Rattle.asm_lexical.specs.Bytes.{is_name_byte};
-ghost use Rattle.asm_lexical.specs.Forms.{begins_separator};
-ghost use Rattle.asm_lexical.specs.Text.{token_len, first_place, front_of, token_at, gap_without, is_numeric, runs_on};
+ghost use Rattle.asm_lang_tokens.specs.Bytes.{is_name_byte};
+ghost use Rattle.asm_lang_tokens.specs.Forms.{begins_separator};
+ghost use Rattle.asm_lang_tokens.specs.Text.{token_len, first_place, front_of, token_at, gap_without, is_numeric, runs_on};
 ghost use Rattle.js_tokens.specs.Scan.{IsToken, begins_sign, front_view, IsInside};
 ghost use Rattle.js_tokens.specs.Views.{kind_view};
 

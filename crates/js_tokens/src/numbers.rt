@@ -3,8 +3,8 @@
 ghost use Rattle.std.specs.Prelude.{◌≡◌, ◌≤◌, ◌<◌, ◌+◌, ◌*◌, MatchOption, true, false, ◌∷◌, length, take};
 ghost use Rattle.std.specs.Bool.{OnTrue};
 ghost use Rattle.std.specs.List.{prefix_len};
-ghost use Rattle.asm_lexical.specs.Bytes.{is_digit, digit_value};
-ghost use Rattle.asm_lexical.specs.Forms.{value_in};
+ghost use Rattle.asm_lang_tokens.specs.Bytes.{is_digit, digit_value};
+ghost use Rattle.asm_lang_tokens.specs.Forms.{value_in};
 ghost use Rattle.js_tokens.specs.Scan.{is_digit_in, number_of, fits_in, value_len, fraction_len, begins_mark, begins_nonzero, IsToken};
 
 use crate::bytes::{digit_value, is_digit, is_hexadecimal_digit, is_hexadecimal_mark};

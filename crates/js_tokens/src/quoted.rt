@@ -2,7 +2,7 @@
 
 ghost use Rattle.std.specs.Prelude.{◌≡◌, ◌≤◌, length};
 ghost use Rattle.std.specs.List.{prefix_len};
-ghost use Rattle.asm_lexical.specs.Bytes.{may_be_quoted};
+ghost use Rattle.asm_lang_tokens.specs.Bytes.{may_be_quoted};
 ghost use Rattle.js_tokens.specs.Scan.{quoted_len};
 
 use crate::bytes::{begins_with, may_be_quoted};

@@ -4,8 +4,8 @@ use sem_words::{Bin, List};
 use std::alloc::{AllocError, Global};
 use std::process::Abort;
 use std::test::Fail;
+use wasm_binary_write::write;
 use wasm_tree::{Body, Code, FuncType, Instr, Module, ValType};
-use wasm_writer::write;
 
 /// A function adds its number to what the function before it gives.
 fn body(alloc: Global, number: u32) -> Result<Body<'static>, AllocError> {

@@ -1,6 +1,6 @@
 //! Sessions of modules that are given as texts.
-use asm_checking::check_text;
 use asm_run::{Session, fits_asm};
+use cmd_check_asm::check_text;
 use sem_laws::{CallLine, End, Event, Observation, Reply, ReplyLine, Script};
 use sem_words::{List, Text, Word};
 use std::alloc::{AllocError, Global};

@@ -3,7 +3,7 @@ use crate::modules::{ADDING, LOADING, PADDED};
 use std::alloc::{AllocError, Global};
 use std::test::Fail;
 use wasm_binary::read;
-use wasm_writer::write;
+use wasm_binary_write::write;
 
 /// What is written of the module that the bytes spell; nothing where they spell none.
 pub(crate) fn rewritten(alloc: Global, bytes: &[u8]) -> Result<Vec<u8>, AllocError> {

@@ -8,9 +8,9 @@ use Rattle.wasm_lang.specs.ReadingModule.{header_field}
 use Rattle.wasm_lang.proofs.Inversion.{bind_ok}
 use Rattle.wasm_lang.proofs.Numbers.{ok_is}
 use Rattle.wasm_tree.specs.declared.module.Module.{Module}
-use Rattle.wasm_entries.specs.Lent.{Source, EachAt, Located}
-use Rattle.wasm_entries.specs.Places.{import_places, export_place, body_place, segment_place}
-use Rattle.wasm_entries.proofs.Lending.{each_from}
+use Rattle.wasm_binary_entries.specs.Lent.{Source, EachAt, Located}
+use Rattle.wasm_binary_entries.specs.Places.{import_places, export_place, body_place, segment_place}
+use Rattle.wasm_binary_entries.proofs.Lending.{each_from}
 use Rattle.wasm_binary.specs.Lent.{IsLentBy}
 use Rattle.wasm_binary.specs.Parts.{Part, absent_before, found_part, part_head, part_on, part_by}
 use Rattle.wasm_binary.specs.Places.{Places, after_part, past_part, contents_places, definitions_places, declarations_places, sections_places, module_places}

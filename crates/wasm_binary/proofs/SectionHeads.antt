@@ -6,7 +6,7 @@ use Rattle.wasm_lang.specs.declared.fault.Row.{Row}
 use Rattle.wasm_lang.specs.declared.fault.Row.TheVariants.{Truncated}
 use Rattle.wasm_lang.specs.Reading.{Input, Field, ◌>>=◌, expects, u32_field, sized, nothing_left, name_field}
 use Rattle.wasm_lang.specs.ReadingModule.{begins_with, after_id, section_field, custom_content, customs_within, customs_field, part_field}
-use Rattle.wasm_entries.specs.Sized.{split_at}
+use Rattle.wasm_binary_entries.specs.Sized.{split_at}
 use Rattle.wasm_binary.specs.Parts.{section_head, whole, part_on, part_by, found_part, absent_before}
 
 expects_head : {X : Type 0} (content : Input → Field X) (fits : Bool) (row : Row) (at : ℕ) (size : ℕ) (i : Input)

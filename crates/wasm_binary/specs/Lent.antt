@@ -4,7 +4,7 @@ use Rattle.std.specs.Borrow.{Bor}
 use Rattle.sem_words.specs.Lists.{list_items}
 use Rattle.wasm_lang.specs.declared.fault.Fault.{Fault}
 use Rattle.wasm_tree.specs.declared.module.Module.{Module}
-use Rattle.wasm_entries.specs.Lent.{Source, IsLentImport, IsLentExport, IsLentBody, IsLentSegment, EachAt}
+use Rattle.wasm_binary_entries.specs.Lent.{Source, IsLentImport, IsLentExport, IsLentBody, IsLentSegment, EachAt}
 use Rattle.wasm_binary.specs.Places.{Places, module_places}
 
 -- each is the slice at its place

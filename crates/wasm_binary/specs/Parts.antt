@@ -6,7 +6,7 @@ use Rattle.wasm_lang.specs.Reading.{Input, Field, ◌>>=◌, expects, u32_field,
 use Rattle.wasm_lang.specs.ReadingModule.{begins_with, after_id, customs_field}
 use Rattle.wasm_tree.specs.Inputs.{input_of, Continues}
 use Rattle.wasm_tree.specs.declared.input.Input.{Input as Place}
-use Rattle.wasm_entries.specs.Sized.{split_at}
+use Rattle.wasm_binary_entries.specs.Sized.{split_at}
 use Rattle.wasm_binary.specs.declared.sections.Part.{Part as Placed}
 use Rattle.wasm_binary.specs.declared.sections.Part.TheVariants as parts
 

@@ -5,7 +5,7 @@ use Rattle.wasm_lang.specs.declared.fault.Fault.{Fault}
 use Rattle.wasm_lang.specs.declared.fault.Row.TheVariants.{Magic, Version}
 use Rattle.wasm_lang.specs.Reading.{Input, ◌>>=◌, vec_field}
 use Rattle.wasm_lang.specs.ReadingModule.{header_field}
-use Rattle.wasm_entries.specs.Places.{import_places, export_place, body_place, segment_place}
+use Rattle.wasm_binary_entries.specs.Places.{import_places, export_place, body_place, segment_place}
 use Rattle.wasm_binary.specs.Parts.{Part, absent_before, found_part, part_head, part_by}
 
 -- each import has two, of its module's name and of its own

@@ -10,7 +10,7 @@ use Rattle.wasm_lang.specs.ReadingModule.{header_field, types_content, imports_c
 use Rattle.wasm_binary.specs.declared.reader.Declared.{Declared}
 use Rattle.wasm_binary.specs.declared.reader.Defined.{Defined}
 use Rattle.wasm_binary.specs.Parts.{part_by}
-use Rattle.wasm_entries.specs.Views.{types_of, imports_of, globals_of, exports_of, elements_of}
+use Rattle.wasm_binary_entries.specs.Views.{types_of, imports_of, globals_of, exports_of, elements_of}
 
 -- the sections before the exports
 pub record Front : Type 0 where

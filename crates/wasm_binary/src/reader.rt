@@ -7,8 +7,8 @@ ghost use Rattle.wasm_tree.specs.Views.{module_of};
 ghost use Rattle.wasm_tree.specs.Inputs.{input_of};
 ghost use Rattle.wasm_tree.specs.Slices.{Stands};
 ghost use Rattle.sem_words.specs.Lists.{list_items};
-ghost use Rattle.wasm_entries.specs.Lent.{Source, IsLentImport, IsLentExport, EachAt};
-ghost use Rattle.wasm_entries.specs.Views.{types_of, imports_of};
+ghost use Rattle.wasm_binary_entries.specs.Lent.{Source, IsLentImport, IsLentExport, EachAt};
+ghost use Rattle.wasm_binary_entries.specs.Views.{types_of, imports_of};
 ghost use Rattle.wasm_binary.specs.Whole.{read_by_parts, sections_from, declarations_from, definitions_from, contents_from, front_of, middle_of};
 ghost use Rattle.wasm_binary.specs.Lent.{IsLentBy, IsLentModule};
 ghost use Rattle.wasm_binary.specs.Places.{contents_places, definitions_places, declarations_places, sections_places};
@@ -22,7 +22,7 @@ use crate::sections::{
 };
 use sem_words::List;
 use std::alloc::Global;
-use wasm_entries::fields::expected;
+use wasm_binary_entries::fields::expected;
 use wasm_tree::{
     Element, FuncType, GlobalDef, Import, Input, Limits, Module, ReadError, Row, WasmExport,
 };

@@ -4,19 +4,21 @@ ghost use Rattle.sem_words.specs.Lists.{list_items};
 ghost use Rattle.wasm_lang.specs.Reading as reading;
 ghost use Rattle.wasm_lang.specs.ReadingModule as modules;
 ghost use Rattle.wasm_tree.specs.Inputs.{input_of, IsField, IsRead, Continues};
-ghost use Rattle.wasm_entries.specs.Lent.{source_of, IsLentImport, IsLentExport, IsLentBody, IsLentSegment, EachAt, Located};
-ghost use Rattle.wasm_entries.specs.Places.{import_places, export_place, body_place, segment_place};
+ghost use Rattle.wasm_binary_entries.specs.Lent.{source_of, IsLentImport, IsLentExport, IsLentBody, IsLentSegment, EachAt, Located};
+ghost use Rattle.wasm_binary_entries.specs.Places.{import_places, export_place, body_place, segment_place};
 ghost use Rattle.wasm_binary.specs.Parts.{section_head, part_head, part_by, IsPlaced, IsPartOf};
-ghost use Rattle.wasm_entries.specs.Views.{types_of, imports_of, globals_of, exports_of, elements_of, bodies_of, segments_of};
+ghost use Rattle.wasm_binary_entries.specs.Views.{types_of, imports_of, globals_of, exports_of, elements_of, bodies_of, segments_of};
 
 use sem_words::List;
 use std::alloc::Global;
-use wasm_entries::bodies::bodies;
-use wasm_entries::entries::{
+use wasm_binary_entries::bodies::bodies;
+use wasm_binary_entries::entries::{
     elements, exports, function_types, globals, memories, numbers, segments, tables,
 };
-use wasm_entries::fields::{count, name, nothing_left, number, split};
-use wasm_entries::imports::{MOST_FUNCTIONS, MOST_GLOBALS, function_count, global_count, imports};
+use wasm_binary_entries::fields::{count, name, nothing_left, number, split};
+use wasm_binary_entries::imports::{
+    MOST_FUNCTIONS, MOST_GLOBALS, function_count, global_count, imports,
+};
 use wasm_tree::{
     Body, Element, Fault, FuncType, GlobalDef, Import, Input, Limits, ReadError, Row, Segment,
     WasmExport,

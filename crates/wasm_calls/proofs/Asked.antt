@@ -6,18 +6,18 @@ use Rattle.sem_words.specs.declared.word.Word.{Word}
 use Rattle.sem_laws.specs.Observation.{EndPlain}
 use Rattle.sem_laws.specs.Script.{WritePlain}
 use Rattle.sem_laws.specs.Imports.{Given, ImportAnswer, goes_on, ends, answer_import}
-use Rattle.sem_replies.specs.Puts.{after_puts}
+use Rattle.script_replies.specs.Puts.{after_puts}
 use Rattle.heap_views.specs.Heap.{with_run}
 use Rattle.wasm_lang.specs.declared.types.ValType.{ValType}
 use Rattle.wasm_lang.specs.Instructions.{Instruction}
 use Rattle.wasm_lang.specs.Modules.{FunctionType, WasmModule}
-use Rattle.wasm_meaning.specs.Store.{Store, written}
-use Rattle.wasm_meaning.specs.Reductions.{an_import, top_of, below_top, result_word}
-use Rattle.wasm_driving.specs.Drive.{State, Outcome, Ended}
-use Rattle.wasm_driving.specs.Equations.{answered}
+use Rattle.wasm_lang_exec.specs.Store.{Store, written}
+use Rattle.wasm_lang_exec.specs.Reductions.{an_import, top_of, below_top, result_word}
+use Rattle.wasm_laws_drive.specs.Drive.{State, Outcome, Ended}
+use Rattle.wasm_laws_drive.specs.Equations.{answered}
 use Rattle.wasm_contexts.specs.Steps.{goes_with, after_answer, in_function}
-use Rattle.wasm_machine.specs.Machine.{MachinePlain, state_of}
-use Rattle.wasm_machine.specs.Meaning.{code_in, codes_in, Encloses, Within, Shows, Calls}
+use Rattle.wasm_laws_machine.specs.Machine.{MachinePlain, state_of}
+use Rattle.wasm_laws_machine.specs.Meaning.{code_in, codes_in, Encloses, Within, Shows, Calls}
 use Rattle.wasm_calls.specs.Asking.{Asks}
 
 -- byte writes, in two words for the same

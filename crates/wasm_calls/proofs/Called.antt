@@ -7,18 +7,18 @@ use Rattle.sem_words.specs.Lists.{text_bytes}
 use Rattle.wasm_lang.specs.declared.types.ValType.{ValType}
 use Rattle.wasm_lang.specs.Instructions.{Instruction}
 use Rattle.wasm_lang.specs.Modules.{FunctionType, FunctionBody, WasmModule}
-use Rattle.wasm_meaning.specs.Code.{Trees}
-use Rattle.wasm_meaning.specs.Store.{zeros_of}
-use Rattle.wasm_meaning.specs.Reductions as meaning
-use Rattle.wasm_meaning.specs.Reductions.{an_import, a_function, callee_at, params_of, type_of, of_type, same_type, top_of, below_top}
-use Rattle.wasm_driving.specs.Drive.{Outcome, Stuck}
-use Rattle.wasm_flat.specs.Laws.{Begins}
-use Rattle.wasm_flat.proofs.Standing.{tree_stands}
-use Rattle.wasm_machine.specs.Machine.{MachinePlain, of_frame}
-use Rattle.wasm_machine.specs.Meaning.{Shows, Calls}
-use Rattle.wasm_machine.proofs.Entering.{call_is_lost, call_sticks, function_shows}
+use Rattle.wasm_lang_exec.specs.Code.{Trees}
+use Rattle.wasm_lang_exec.specs.Store.{zeros_of}
+use Rattle.wasm_lang_exec.specs.Reductions as meaning
+use Rattle.wasm_lang_exec.specs.Reductions.{an_import, a_function, callee_at, params_of, type_of, of_type, same_type, top_of, below_top}
+use Rattle.wasm_laws_drive.specs.Drive.{Outcome, Stuck}
+use Rattle.wasm_run_flat.specs.Laws.{Begins}
+use Rattle.wasm_run_flat.proofs.Standing.{tree_stands}
+use Rattle.wasm_laws_machine.specs.Machine.{MachinePlain, of_frame}
+use Rattle.wasm_laws_machine.specs.Meaning.{Shows, Calls}
+use Rattle.wasm_laws_machine.proofs.Entering.{call_is_lost, call_sticks, function_shows}
 use Rattle.sem_words.specs.declared.text.Text.{Text}
-use Rattle.wasm_flat.specs.declared.body.Body.{Body}
+use Rattle.wasm_run_flat.specs.declared.body.Body.{Body}
 use Rattle.wasm_calls.specs.declared.functions.Callee.{Callee}
 use Rattle.wasm_calls.specs.declared.functions.Callee.TheVariants.{Import, Own}
 use Rattle.wasm_calls.specs.declared.functions.Function.{Function}

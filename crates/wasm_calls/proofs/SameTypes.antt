@@ -2,8 +2,8 @@
 use Rattle.std.proofs.Common.{◌≡◌, ◌≢◌, suc, Bool, true, false, List, [], ◌∷◌, length, refl, ap, ◌∙◌}
 use Rattle.std.specs.Prelude.{◌&&◌}
 use Rattle.wasm_lang.specs.declared.types.ValType.{ValType}
-use Rattle.wasm_typing.specs.Typing.{same}
-use Rattle.wasm_meaning.specs.Reductions.{same_types}
+use Rattle.wasm_lang_valid.specs.Typing.{same}
+use Rattle.wasm_lang_exec.specs.Reductions.{same_types}
 
 pub unequal : (ts us : List ValType) → length ts ≢ length us → same_types ts us ≡ false
 unequal [] [] h = absurd (h refl)

@@ -5,10 +5,10 @@ use Rattle.sem_laws.specs.Imports.{answer_import}
 use Rattle.wasm_lang.specs.declared.types.ValType.{ValType}
 use Rattle.wasm_lang.specs.Instructions.{Instruction}
 use Rattle.wasm_lang.specs.Modules.{WasmModule}
-use Rattle.wasm_driving.specs.Drive.{Outcome}
+use Rattle.wasm_laws_drive.specs.Drive.{Outcome}
 use Rattle.wasm_contexts.specs.Steps.{after_answer}
-use Rattle.wasm_machine.specs.Machine.{MachinePlain, state_of}
-use Rattle.wasm_machine.specs.Meaning.{code_in, Within}
+use Rattle.wasm_laws_machine.specs.Machine.{MachinePlain, state_of}
+use Rattle.wasm_laws_machine.specs.Meaning.{code_in, Within}
 
 -- the bodies of functions, by their numbers
 abbrev pub Bodies : Type 0

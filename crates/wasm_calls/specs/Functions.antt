@@ -3,10 +3,10 @@ use Rattle.std.specs.Prelude.{◌≡◌, ℕ, List, [], Option, Some, None, slic
 use Rattle.sem_words.specs.Lists.{text_bytes}
 use Rattle.wasm_lang.specs.Instructions.{Instruction}
 use Rattle.wasm_lang.specs.Modules.{FunctionType, FunctionBody, WasmModule}
-use Rattle.wasm_meaning.specs.Code.{Trees, tree_of}
-use Rattle.wasm_meaning.specs.Reductions as meaning
-use Rattle.wasm_meaning.specs.Reductions.{an_import, a_function, callee_at}
-use Rattle.wasm_plain.specs.Forms.{IsForm}
+use Rattle.wasm_lang_exec.specs.Code.{Trees, tree_of}
+use Rattle.wasm_lang_exec.specs.Reductions as meaning
+use Rattle.wasm_lang_exec.specs.Reductions.{an_import, a_function, callee_at}
+use Rattle.wasm_run_plain.specs.Forms.{IsForm}
 use Rattle.wasm_calls.specs.declared.functions.Callee.{Callee}
 use Rattle.wasm_calls.specs.declared.functions.Callee.TheVariants.{Import, Own}
 use Rattle.wasm_calls.specs.declared.functions.Function.{Function}

@@ -2,26 +2,26 @@
 ghost use Rattle.std.specs.Prelude.{◌≡◌, ℕ, ◌++◌, IfOk, OnOk, map, slice_get};
 ghost use Rattle.sem_words.specs.Lists.{text_bytes};
 ghost use Rattle.sem_laws.specs.Views.{write_of};
-ghost use Rattle.sem_replies.specs.Answers.{events_of};
+ghost use Rattle.script_replies.specs.Answers.{events_of};
 ghost use Rattle.wasm_lang.specs.Modules.{WasmModule};
 ghost use Rattle.wasm_tree.specs.Views.{module_of};
-ghost use Rattle.wasm_meaning.specs.Store.{written};
-ghost use Rattle.wasm_meaning.specs.Reductions.{callee_at, of_type, result_word};
-ghost use Rattle.wasm_driving.specs.Drive.{Outcome};
-ghost use Rattle.wasm_machine.specs.Meaning.{Calls};
-ghost use Rattle.wasm_frames.specs.Views.{machine_of};
-ghost use Rattle.wasm_frames.specs.Flows.{Comes};
+ghost use Rattle.wasm_lang_exec.specs.Store.{written};
+ghost use Rattle.wasm_lang_exec.specs.Reductions.{callee_at, of_type, result_word};
+ghost use Rattle.wasm_laws_drive.specs.Drive.{Outcome};
+ghost use Rattle.wasm_laws_machine.specs.Meaning.{Calls};
+ghost use Rattle.wasm_run_frames.specs.Views.{machine_of};
+ghost use Rattle.wasm_run_frames.specs.Flows.{Comes};
 ghost use Rattle.wasm_calls.specs.Functions.{AreFunctions, bodies_of};
 ghost use Rattle.wasm_calls.specs.Asking.{Asks, Bodies};
 
 use crate::functions::{Callee, Function, function_at};
 use crate::types::is_same_type;
+use script_replies::{Answer, Given, put_writes};
 use sem_laws::End;
-use sem_replies::{Answer, Given, put_writes};
 use sem_words::{List, Text, TrapKind, Word};
 use std::alloc::{AllocError, Global};
-use wasm_frames::{Flow, Machine, enter_function};
 use wasm_lang::ValType;
+use wasm_run_frames::{Flow, Machine, enter_function};
 use wasm_tree::Module;
 
 // The result of an import, of which the caller takes as many low bits as its type has.

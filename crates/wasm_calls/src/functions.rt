@@ -2,7 +2,7 @@
 ghost use Rattle.std.specs.Prelude.{◌≡◌, option_copied, slice_get};
 
 use sem_words::Text;
-use wasm_flat::Body;
+use wasm_run_flat::Body;
 
 /// An import, by its one name, or a function of the module: its instructions, and its place among the module's bodies.
 #[derive(Drop)]

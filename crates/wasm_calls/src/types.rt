@@ -1,6 +1,6 @@
 //! Whether two functions have one type.
 ghost use Rattle.std.specs.Prelude.{◌≡◌};
-ghost use Rattle.wasm_meaning.specs.Reductions.{same_types, same_type};
+ghost use Rattle.wasm_lang_exec.specs.Reductions.{same_types, same_type};
 ghost use Rattle.wasm_tree.specs.Views.{type_of};
 
 use wasm_lang::ValType;

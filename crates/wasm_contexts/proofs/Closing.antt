@@ -3,11 +3,11 @@ use Rattle.std.proofs.Common.{◌≡◌, ℕ, zero, suc, List, [], ◌∷◌, So
 use Rattle.sem_words.specs.declared.word.Word.TheVariants.{W32, W64}
 use Rattle.sem_laws.specs.Observation.{trapped}
 use Rattle.wasm_lang.specs.Modules.{WasmModule}
-use Rattle.wasm_meaning.specs.Plain.{goes, traps, sticks}
-use Rattle.wasm_meaning.specs.Reductions.{Label, Frame}
-use Rattle.wasm_driving.specs.Drive.{State, Outcome}
-use Rattle.wasm_driving.specs.Equations.{pay_from}
-use Rattle.wasm_driving.proofs.Driving.{through_label, through_frame}
+use Rattle.wasm_lang_exec.specs.Plain.{goes, traps, sticks}
+use Rattle.wasm_lang_exec.specs.Reductions.{Label, Frame}
+use Rattle.wasm_laws_drive.specs.Drive.{State, Outcome}
+use Rattle.wasm_laws_drive.specs.Equations.{pay_from}
+use Rattle.wasm_laws_drive.proofs.Driving.{through_label, through_frame}
 use Rattle.wasm_contexts.specs.Contexts.{Surrounding, in_label, in_frame, closed}
 use Rattle.wasm_contexts.specs.Laws.{ThroughSurroundings, EndsStay, StuckStays, SpentStays, PaidInside, NumberInside, ValuesInside, EffectInside, ChoiceInside}
 

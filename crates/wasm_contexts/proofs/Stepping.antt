@@ -8,12 +8,12 @@ use Rattle.sem_laws.specs.Observation.{trapped}
 use Rattle.sem_laws.specs.Imports.{ImportAnswer, goes_on, ends, answer_import}
 use Rattle.wasm_lang.specs.declared.types.ValType.{ValType}
 use Rattle.wasm_lang.specs.Modules.{WasmModule}
-use Rattle.wasm_meaning.specs.Code.{loop, Trees, ε, ◌▹◌, ◌⊕◌}
-use Rattle.wasm_meaning.specs.Plain.{do_plain}
-use Rattle.wasm_meaning.specs.Reductions.{Callee, an_import, a_function, callee_at, params_of, top_of, below_top, of_type, arity_of, choose, default_to}
-use Rattle.wasm_driving.specs.Drive.{State, Outcome, Branch, Leave, Ended, onward}
-use Rattle.wasm_driving.specs.Equations.{pay_from, pay, take_number, over, after, at_label, back, after_import, entered, called, called_by}
-use Rattle.wasm_driving.proofs.Instructions.{no_code, plain_instruction, unreachable_traps, block_enters, loop_enters, if_chooses, br_branches, br_if_chooses, br_table_chooses, return_leaves, call_enters, call_indirect_enters}
+use Rattle.wasm_lang_exec.specs.Code.{loop, Trees, ε, ◌▹◌, ◌⊕◌}
+use Rattle.wasm_lang_exec.specs.Plain.{do_plain}
+use Rattle.wasm_lang_exec.specs.Reductions.{Callee, an_import, a_function, callee_at, params_of, top_of, below_top, of_type, arity_of, choose, default_to}
+use Rattle.wasm_laws_drive.specs.Drive.{State, Outcome, Branch, Leave, Ended, onward}
+use Rattle.wasm_laws_drive.specs.Equations.{pay_from, pay, take_number, over, after, at_label, back, after_import, entered, called, called_by}
+use Rattle.wasm_laws_drive.proofs.Instructions.{no_code, plain_instruction, unreachable_traps, block_enters, loop_enters, if_chooses, br_branches, br_if_chooses, br_table_chooses, return_leaves, call_enters, call_indirect_enters}
 use Rattle.wasm_contexts.specs.Contexts.{Surrounding, in_label, in_frame, closed}
 use Rattle.wasm_contexts.specs.Steps.{goes_with, in_block, after_answer, in_function, in_call, in_entry, PlainStep, UnreachableStep, BlockStep, LoopStep, IfStep, BrStep, BrIfStep, BrTableStep, ReturnStep, CallStep, CallIndirectStep, EndOfLabel, EndOfFrame, BranchPastLabel, BranchToLabel, BranchOutOfFrame, ReturnPastLabel, ReturnOutOfFrame}
 use Rattle.wasm_contexts.proofs.Closing.{ends_stay, stuck_stays, paid_inside, number_inside, values_inside, effect_inside, choice_inside}

@@ -2,10 +2,10 @@
 use Rattle.std.specs.Prelude.{ℕ, List, [], ◌∷◌}
 use Rattle.sem_words.specs.declared.word.Word.{Word}
 use Rattle.wasm_lang.specs.Modules.{WasmModule}
-use Rattle.wasm_meaning.specs.Code.{Trees}
-use Rattle.wasm_meaning.specs.Reductions.{Config, Label, Frame}
-use Rattle.wasm_driving.specs.Drive.{Outcome}
-use Rattle.wasm_driving.specs.Equations.{at_label, at_frame}
+use Rattle.wasm_lang_exec.specs.Code.{Trees}
+use Rattle.wasm_lang_exec.specs.Reductions.{Config, Label, Frame}
+use Rattle.wasm_laws_drive.specs.Drive.{Outcome}
+use Rattle.wasm_laws_drive.specs.Equations.{at_label, at_frame}
 
 -- a label, or a frame with the locals of its caller; the values below it and the code after it
 pub data Surrounding : Type 0 where

@@ -3,11 +3,11 @@ use Rattle.std.specs.Prelude.{◌≡◌, ℕ, List, Option}
 use Rattle.sem_words.specs.declared.word.Word.{Word}
 use Rattle.sem_laws.specs.Observation.{EndPlain}
 use Rattle.wasm_lang.specs.Modules.{WasmModule}
-use Rattle.wasm_meaning.specs.Store.{Store}
-use Rattle.wasm_meaning.specs.Plain.{Effect}
-use Rattle.wasm_meaning.specs.Reductions.{Config, choose}
-use Rattle.wasm_driving.specs.Drive.{State, Outcome, Ended, Stuck, Spent, drive}
-use Rattle.wasm_driving.specs.Equations.{pay, take_number, take_values, after}
+use Rattle.wasm_lang_exec.specs.Store.{Store}
+use Rattle.wasm_lang_exec.specs.Plain.{Effect}
+use Rattle.wasm_lang_exec.specs.Reductions.{Config, choose}
+use Rattle.wasm_laws_drive.specs.Drive.{State, Outcome, Ended, Stuck, Spent, drive}
+use Rattle.wasm_laws_drive.specs.Equations.{pay, take_number, take_values, after}
 use Rattle.wasm_contexts.specs.Contexts.{Surrounding, surrounded, closed}
 
 -- a configuration in its surroundings comes to what they make of what comes of it

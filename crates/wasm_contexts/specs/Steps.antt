@@ -7,12 +7,12 @@ use Rattle.sem_laws.specs.Imports.{ImportAnswer, goes_on, ends, answer_import}
 use Rattle.wasm_lang.specs.declared.types.ValType.{ValType}
 use Rattle.wasm_lang.specs.Instructions.{Plain}
 use Rattle.wasm_lang.specs.Modules.{WasmModule}
-use Rattle.wasm_meaning.specs.Code.{unreachable, block, loop, if_block, br, br_if, br_table, return, call, call_indirect, plain, Trees, ε, ◌▹◌, ◌⊕◌}
-use Rattle.wasm_meaning.specs.Store.{zeros_of}
-use Rattle.wasm_meaning.specs.Plain.{do_plain}
-use Rattle.wasm_meaning.specs.Reductions.{Callee, an_import, a_function, callee_at, params_of, top_of, below_top, result_word, of_type, arity_of, choose, default_to}
-use Rattle.wasm_driving.specs.Drive.{State, Outcome, Branch, Leave, Ended, Stuck, onward}
-use Rattle.wasm_driving.specs.Equations.{pay, take_number, take_values, over, is_constant, after, answered}
+use Rattle.wasm_lang_exec.specs.Code.{unreachable, block, loop, if_block, br, br_if, br_table, return, call, call_indirect, plain, Trees, ε, ◌▹◌, ◌⊕◌}
+use Rattle.wasm_lang_exec.specs.Store.{zeros_of}
+use Rattle.wasm_lang_exec.specs.Plain.{do_plain}
+use Rattle.wasm_lang_exec.specs.Reductions.{Callee, an_import, a_function, callee_at, params_of, top_of, below_top, result_word, of_type, arity_of, choose, default_to}
+use Rattle.wasm_laws_drive.specs.Drive.{State, Outcome, Branch, Leave, Ended, Stuck, onward}
+use Rattle.wasm_laws_drive.specs.Equations.{pay, take_number, take_values, over, is_constant, after, answered}
 use Rattle.wasm_contexts.specs.Contexts.{Surrounding, in_label, in_frame, closed}
 
 module _ (m : WasmModule) (around : List Surrounding) where

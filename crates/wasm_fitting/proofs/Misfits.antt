@@ -3,7 +3,7 @@ use Rattle.std.proofs.Common.{◌≡◌, ◌⊎◌, inl, inr, ℕ, zero, suc, Bo
 use Rattle.std.specs.Prelude.{slice_get, ◌&&◌}
 use Rattle.sem_laws.specs.Script.{WritePlain, CallPlain, ReplyLinePlain, ScriptPlain}
 use Rattle.wasm_lang.specs.Modules.{WasmModule}
-use Rattle.wasm_typing.specs.Runnable.{or_else}
+use Rattle.wasm_lang_valid.specs.Runnable.{or_else}
 use Rattle.wasm_fitting.specs.Fits.{GlobalImport, global_imports, is_given, are_given, fits_write, fits_call, fits_reply, global_lines, lines_of, unfit_lines, least, missing_line}
 use Rattle.wasm_fitting.specs.Laws.{IsUnfit, a_global, a_write, a_call, a_reply, Fits, IsFirstUnfit, HasMissing, NoMisfitFits, WhatFitsHasNoMisfit, MisfitIsFirst}
 use Rattle.wasm_fitting.proofs.Lines.{IsIn, in_front, in_back, in_either, least_none, least_some, item_of_line, line_of_item, global_of_line, line_of_global}

@@ -8,10 +8,10 @@ use Rattle.wasm_lang.specs.declared.types.ValType.TheVariants.{I32, I64}
 use Rattle.wasm_lang.specs.declared.types.ImportKind.{ImportKind}
 use Rattle.wasm_lang.specs.declared.types.ImportKind.TheVariants as imports
 use Rattle.wasm_lang.specs.Modules.{FunctionType, Imported, WasmModule}
-use Rattle.wasm_typing.specs.ModuleRules.{type_of_function}
-use Rattle.wasm_typing.specs.Runnable.{imported_pages, pages, or_else}
-use Rattle.wasm_meaning.specs.Store.{page}
-use Rattle.wasm_meaning.specs.Session.{function_named}
+use Rattle.wasm_lang_valid.specs.ModuleRules.{type_of_function}
+use Rattle.wasm_lang_valid.specs.Runnable.{imported_pages, pages, or_else}
+use Rattle.wasm_lang_exec.specs.Store.{page}
+use Rattle.wasm_lang_exec.specs.Session.{function_named}
 
 -- ---- numbers: signed and unsigned readings of a word
 

@@ -8,8 +8,8 @@ use Rattle.wasm_lang.specs.declared.types.ValType.TheVariants.{I32, I64}
 use Rattle.wasm_lang.specs.declared.types.ImportKind.{ImportKind}
 use Rattle.wasm_lang.specs.declared.types.ImportKind.TheVariants.{Func, Table, Memory, Global}
 use Rattle.wasm_lang.specs.Modules.{FunctionType, Imported, FunctionBody, WasmModule}
-use Rattle.wasm_typing.specs.ModuleRules.{imported_functions}
-use Rattle.wasm_typing.specs.Validity.{no_type}
+use Rattle.wasm_lang_valid.specs.ModuleRules.{imported_functions}
+use Rattle.wasm_lang_valid.specs.Validity.{no_type}
 
 -- the functions that the module defines, its imports and its exports
 abbrev pub counts_line : WasmModule → List ℕ

@@ -7,12 +7,12 @@ use Rattle.sem_laws.specs.declared.script.GlobalLine.{GlobalLine}
 use Rattle.sem_laws.specs.Views.{global_of}
 use Rattle.wasm_lang.specs.declared.types.ValType.{ValType}
 use Rattle.wasm_lang.specs.Modules.{WasmModule}
-use Rattle.wasm_typing.specs.declared.profile.Beyond.{Beyond}
-use Rattle.wasm_typing.specs.declared.profile.Beyond.TheVariants.{ImportedTable, MutableImport, MemoryLarge}
-use Rattle.wasm_typing.specs.declared.profile.Outside.{Outside}
-use Rattle.wasm_typing.specs.ModuleRules.{is_table}
-use Rattle.wasm_typing.specs.Runnable.{is_mutable, first_import, pages, above, row_or, not_runnable}
-use Rattle.wasm_meaning.specs.Session.{word_for, words_for, given_value}
+use Rattle.wasm_lang_valid.specs.declared.profile.Beyond.{Beyond}
+use Rattle.wasm_lang_valid.specs.declared.profile.Beyond.TheVariants.{ImportedTable, MutableImport, MemoryLarge}
+use Rattle.wasm_lang_valid.specs.declared.profile.Outside.{Outside}
+use Rattle.wasm_lang_valid.specs.ModuleRules.{is_table}
+use Rattle.wasm_lang_valid.specs.Runnable.{is_mutable, first_import, pages, above, row_or, not_runnable}
+use Rattle.wasm_lang_exec.specs.Session.{word_for, words_for, given_value}
 use Rattle.wasm_segments.proofs.Segments.{next_of}
 
 equal_either_way : (x y : ℕ) → nat_eq x y ≡ nat_eq y x

@@ -4,7 +4,7 @@ use Rattle.std.proofs.lemmas.List.{reverse-append, take_more}
 use Rattle.sem_words.specs.declared.word.Word.{Word}
 use Rattle.sem_laws.specs.Script.{ScriptPlain}
 use Rattle.wasm_lang.specs.Modules.{WasmModule}
-use Rattle.wasm_meaning.specs.Session.{first_store, wasm}
+use Rattle.wasm_lang_exec.specs.Session.{first_store, wasm}
 use Rattle.wasm_run.specs.Runs.{begun}
 
 -- one operand more on top

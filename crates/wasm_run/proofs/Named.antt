@@ -6,8 +6,8 @@ use Rattle.sem_laws.specs.declared.script.GlobalLine.{GlobalLine}
 use Rattle.sem_laws.specs.Views.{global_of}
 use Rattle.wasm_lang.specs.declared.types.ValType.{ValType}
 use Rattle.wasm_lang.specs.Modules.{WasmModule}
-use Rattle.wasm_typing.specs.ModuleRules.{function_types, type_of_function}
-use Rattle.wasm_typing.specs.Runnable.{or_else}
+use Rattle.wasm_lang_valid.specs.ModuleRules.{function_types, type_of_function}
+use Rattle.wasm_lang_valid.specs.Runnable.{or_else}
 use Rattle.wasm_fitting.specs.Fits.{in_range, global_imports, fits_write, fits_call, fits_reply, takes_arguments, global_lines, lines_of, unfit_lines, least, are_given, missing_line, misfit}
 use Rattle.wasm_run.specs.Forms.{earlier, after_argument}
 use Rattle.wasm_run.proofs.Earlier.{least_append}

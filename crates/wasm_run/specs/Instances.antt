@@ -3,11 +3,11 @@ use Rattle.std.specs.Prelude.{◌≡◌, List, [], None}
 use Rattle.sem_laws.specs.Script.{ScriptPlain}
 use Rattle.sem_laws.specs.Imports.{first_replies}
 use Rattle.wasm_lang.specs.Modules.{WasmModule}
-use Rattle.wasm_meaning.specs.Session.{first_store}
+use Rattle.wasm_lang_exec.specs.Session.{first_store}
 use Rattle.wasm_fitting.specs.Fits.{misfit}
-use Rattle.wasm_soundness.specs.Laws.{IsWhole}
-use Rattle.wasm_operands.specs.declared.state.State.{State}
-use Rattle.wasm_operands.specs.Effects.{store_of}
+use Rattle.wasm_laws_sound.specs.Laws.{IsWhole}
+use Rattle.wasm_run_operands.specs.declared.state.State.{State}
+use Rattle.wasm_run_operands.specs.Effects.{store_of}
 use Rattle.wasm_calls.specs.declared.functions.Function.{Function}
 use Rattle.wasm_calls.specs.Functions.{AreFunctions, AllHaveForms}
 

@@ -5,10 +5,10 @@ use Rattle.sem_laws.specs.Observation.{ObservationPlain}
 use Rattle.sem_laws.specs.Script.{ScriptPlain}
 use Rattle.sem_laws.specs.Views.{end_of}
 use Rattle.wasm_lang.specs.Modules.{WasmModule}
-use Rattle.wasm_meaning.specs.Session.{seen_running, seen_end, instantiated, entries_fit, bytes_fit}
-use Rattle.wasm_meaning.specs.Store.{Store}
-use Rattle.wasm_running.specs.declared.running.Ran.{Ran}
-use Rattle.wasm_running.specs.declared.running.Ran.TheVariants.{Back, Over, Spent}
+use Rattle.wasm_lang_exec.specs.Session.{seen_running, seen_end, instantiated, entries_fit, bytes_fit}
+use Rattle.wasm_lang_exec.specs.Store.{Store}
+use Rattle.wasm_run_machine.specs.declared.running.Ran.{Ran}
+use Rattle.wasm_run_machine.specs.declared.running.Ran.TheVariants.{Back, Over, Spent}
 
 -- with this store: the end, or the session is running
 abbrev pub seen_as : Option End → Store → ObservationPlain

@@ -6,21 +6,21 @@ ghost use Rattle.sem_laws.specs.Imports.{first_replies};
 ghost use Rattle.sem_laws.specs.Names.{import_name};
 ghost use Rattle.sem_laws.specs.Views.{global_of, script_of};
 ghost use Rattle.wasm_tree.specs.Views.{bytes_of, import_of, module_of};
-ghost use Rattle.wasm_typing.specs.Runnable.{not_runnable, pages};
-ghost use Rattle.wasm_meaning.specs.Session as session;
-ghost use Rattle.wasm_meaning.specs.Store.{word_of_type};
-ghost use Rattle.wasm_operands.specs.Effects.{store_of};
+ghost use Rattle.wasm_lang_valid.specs.Runnable.{not_runnable, pages};
+ghost use Rattle.wasm_lang_exec.specs.Session as session;
+ghost use Rattle.wasm_lang_exec.specs.Store.{word_of_type};
+ghost use Rattle.wasm_run_operands.specs.Effects.{store_of};
 
 use crate::globals::is_named;
 use crate::words::word_for;
 use crate::writes::memory_pages;
 use heap_views::Heap;
+use script_replies::put_writes;
 use sem_laws::{GlobalLine, Script};
-use sem_replies::put_writes;
 use sem_words::Word;
 use std::alloc::{AllocError, Global};
 use wasm_lang::{ImportKind, ValType};
-use wasm_operands::State;
+use wasm_run_operands::State;
 use wasm_segments::add_first_values;
 use wasm_tree::{Import, Module};
 

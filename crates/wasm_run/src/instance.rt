@@ -3,27 +3,27 @@
 ghost use Rattle.std.specs.Prelude.{◌≡◌, None, IfOk};
 ghost use Rattle.sem_laws.specs.Views.{observation_of, script_of};
 ghost use Rattle.wasm_lang.specs.Shape.{IsShaped};
-ghost use Rattle.wasm_typing.specs.Runnable.{not_runnable};
-ghost use Rattle.wasm_meaning.specs.Session.{wasm};
+ghost use Rattle.wasm_lang_valid.specs.Runnable.{not_runnable};
+ghost use Rattle.wasm_lang_exec.specs.Session.{wasm};
 ghost use Rattle.wasm_fitting.specs.Fits.{misfit};
-ghost use Rattle.wasm_soundness.specs.Laws.{IsWhole};
-ghost use Rattle.wasm_soundness.specs.Places.{GoesOn, place, seen};
-ghost use Rattle.wasm_frames.specs.Views.{machine_of};
+ghost use Rattle.wasm_laws_sound.specs.Laws.{IsWhole};
+ghost use Rattle.wasm_laws_sound.specs.Places.{GoesOn, place, seen};
+ghost use Rattle.wasm_run_frames.specs.Views.{machine_of};
 ghost use Rattle.wasm_run.specs.Runs.{seen_as};
 
 use crate::first::first_state;
 use crate::session::run_session;
+use script_replies::Replies;
 use sem_laws::{End, Observation, Script};
-use sem_replies::Replies;
 use sem_words::{List, Text};
 use std::alloc::{AllocError, Global};
 use std::marker::Model;
 use wasm_calls::Function;
 use wasm_fitting::fitting_laws;
-use wasm_frames::Machine;
-use wasm_functions::functions_of;
-use wasm_operands::{Operands, State};
-use wasm_soundness::laws::sessions_go_on;
+use wasm_laws_sound::laws::sessions_go_on;
+use wasm_run_frames::Machine;
+use wasm_run_operands::{Operands, State};
+use wasm_run_start::functions_of;
 use wasm_tree::Module;
 use wasm_validate::Valid;
 

@@ -5,9 +5,9 @@ ghost use Rattle.sem_laws.specs.Observation.{ObservationPlain};
 ghost use Rattle.sem_laws.specs.Script.{ScriptPlain};
 ghost use Rattle.sem_laws.specs.Views.{call_of, script_of};
 ghost use Rattle.wasm_tree.specs.Views.{module_of};
-ghost use Rattle.wasm_meaning.specs.Session as session;
-ghost use Rattle.wasm_meaning.specs.Store.{Store};
-ghost use Rattle.wasm_frames.specs.Views.{machine_of};
+ghost use Rattle.wasm_lang_exec.specs.Session as session;
+ghost use Rattle.wasm_lang_exec.specs.Store.{Store};
+ghost use Rattle.wasm_run_frames.specs.Views.{machine_of};
 ghost use Rattle.wasm_calls.specs.Functions.{AllHaveForms, AreFunctions};
 ghost use Rattle.wasm_run.specs.Runs.{after_ran, begun, seen_as};
 
@@ -17,9 +17,9 @@ use sem_laws::{CallLine, End, Event, Script};
 use sem_words::{TrapKind, Word};
 use std::alloc::{AllocError, Global};
 use wasm_calls::Function;
-use wasm_frames::Machine;
-use wasm_operands::Operands;
-use wasm_running::{Ran, call_host};
+use wasm_run_frames::Machine;
+use wasm_run_machine::{Ran, call_host};
+use wasm_run_operands::Operands;
 use wasm_segments::{bytes_fit, entries_fit, put_bytes, put_entries};
 use wasm_tree::Module;
 

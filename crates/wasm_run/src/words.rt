@@ -3,8 +3,8 @@
 ghost use Rattle.std.specs.Prelude.{◌≡◌, ◌++◌, IfOk, OnOk};
 ghost use Rattle.sem_words.specs.Words.{word_of};
 ghost use Rattle.wasm_tree.specs.Views.{module_of};
-ghost use Rattle.wasm_meaning.specs.Reductions.{callee_at};
-ghost use Rattle.wasm_meaning.specs.Session;
+ghost use Rattle.wasm_lang_exec.specs.Reductions.{callee_at};
+ghost use Rattle.wasm_lang_exec.specs.Session;
 ghost use Rattle.wasm_calls.specs.Functions.{AreFunctions};
 
 use sem_words::Word;

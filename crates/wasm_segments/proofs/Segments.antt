@@ -4,8 +4,8 @@ use Rattle.std.proofs.lemmas.List.{length-append, length-take, length-drop, leng
 use Rattle.std.specs.Prelude.{◌&&◌, nat_le, Option}
 use Rattle.sem_words.specs.declared.word.Word.{Word}
 use Rattle.wasm_lang.specs.Modules.{ElementSegment}
-use Rattle.wasm_meaning.specs.Store.{Store}
-use Rattle.wasm_meaning.specs.Session.{replaced, offset_of, entries_fit, with_entries}
+use Rattle.wasm_lang_exec.specs.Store.{Store}
+use Rattle.wasm_lang_exec.specs.Session.{replaced, offset_of, entries_fit, with_entries}
 use Rattle.wasm_segments.specs.Fitting.{entry_fits}
 
 and_left : (a b : Bool) → a && b ≡ true → a ≡ true

@@ -3,7 +3,7 @@ use Rattle.std.specs.Prelude.{ℕ, ◌+◌, Bool, List, length, nat_le}
 use Rattle.sem_words.specs.declared.word.Word.{Word}
 use Rattle.heap_views.specs.Heap.{is_inside}
 use Rattle.wasm_lang.specs.Modules.{ElementSegment, DataSegment}
-use Rattle.wasm_meaning.specs.Session.{value_of, place_of}
+use Rattle.wasm_lang_exec.specs.Session.{value_of, place_of}
 
 abbrev pub entry_fits : List Word → (table : ℕ) → ElementSegment → Bool
 entry_fits globals table e = nat_le (place_of (value_of globals e.offset) + length e.functions) table

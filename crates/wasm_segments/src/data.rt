@@ -4,13 +4,13 @@ ghost use Rattle.heap_views.specs.Heap.{with_run};
 ghost use Rattle.sem_laws.specs.Observation.{EventPlain};
 ghost use Rattle.sem_laws.specs.Imports.{Replies};
 ghost use Rattle.wasm_tree.specs.Views.{segment_of};
-ghost use Rattle.wasm_meaning.specs.Session as session;
-ghost use Rattle.wasm_operands.specs.Effects.{store_of};
+ghost use Rattle.wasm_lang_exec.specs.Session as session;
+ghost use Rattle.wasm_run_operands.specs.Effects.{store_of};
 ghost use Rattle.wasm_segments.specs.Fitting.{run_fits};
 
 use crate::values::{is_within, offset_of};
 use heap_views::Heap;
-use wasm_operands::State;
+use wasm_run_operands::State;
 use wasm_tree::Segment;
 
 // Whether the bytes of one segment are in the memory.
@@ -38,7 +38,7 @@ pub fn bytes_fit(state: &State, segments: &[Segment<'_>]) -> bool
 }
 
 // A place of 2^32 or more is past the end of every memory.
-#[tactic(auto, using(sem_replies::proofs::Far::far_write))]
+#[tactic(auto, using(script_replies::proofs::Far::far_write))]
 fn put_run(memory: &mut Heap, place: u64, bytes: &[u8])
     ensures { memory.new ≡ with_run place bytes.now memory.old }
 {

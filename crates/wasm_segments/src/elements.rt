@@ -3,12 +3,12 @@ ghost use Rattle.std.specs.Prelude.{◌≡◌, ◌≤◌, ◌+◌, ◌∷◌, []
 ghost use Rattle.sem_laws.specs.Observation.{EventPlain};
 ghost use Rattle.sem_laws.specs.Imports.{Replies};
 ghost use Rattle.wasm_tree.specs.Views.{element_of};
-ghost use Rattle.wasm_meaning.specs.Session as session;
-ghost use Rattle.wasm_operands.specs.Effects.{store_of};
+ghost use Rattle.wasm_lang_exec.specs.Session as session;
+ghost use Rattle.wasm_run_operands.specs.Effects.{store_of};
 ghost use Rattle.wasm_segments.specs.Fitting.{entry_fits};
 
 use crate::values::{is_within, offset_of};
-use wasm_operands::State;
+use wasm_run_operands::State;
 use wasm_tree::Element;
 
 // Whether the entries of one segment are in the table.

@@ -4,7 +4,7 @@ ghost use Rattle.sem_words.specs.Lists.{list_items};
 ghost use Rattle.wasm_lang.specs.Instructions.{Instruction};
 ghost use Rattle.wasm_lang.specs.Modules.{GlobalEntry};
 ghost use Rattle.wasm_tree.specs.Views.{global_of, instr_of};
-ghost use Rattle.wasm_meaning.specs.Session as session;
+ghost use Rattle.wasm_lang_exec.specs.Session as session;
 
 use sem_words::Word;
 use std::alloc::AllocError;

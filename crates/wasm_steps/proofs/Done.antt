@@ -9,21 +9,21 @@ use Rattle.sem_laws.specs.Observation.{trapped}
 use Rattle.wasm_lang.specs.Instructions as flat
 use Rattle.wasm_lang.specs.Instructions.{Instruction, Plain, const32, const64}
 use Rattle.wasm_lang.specs.Modules.{WasmModule}
-use Rattle.wasm_meaning.specs.Code.{unreachable, br, br_if, br_table, return, call, call_indirect, plain, Tree}
-use Rattle.wasm_meaning.specs.Store.{Store}
-use Rattle.wasm_meaning.specs.Plain.{Effect, goes, traps, sticks, do_plain}
-use Rattle.wasm_meaning.specs.Reductions.{callee_at, of_type, default_to}
-use Rattle.wasm_driving.specs.Drive.{Outcome, Ended, Stuck}
-use Rattle.wasm_driving.specs.Equations.{is_constant}
-use Rattle.wasm_operands.specs.Tops.{top32}
-use Rattle.wasm_flat.specs.Reading.{single}
-use Rattle.wasm_flat.specs.Laws.{IsNext}
-use Rattle.wasm_flat.proofs.Standing.{single_goes_on}
-use Rattle.wasm_machine.specs.Machine.{MachinePlain, targets_of}
-use Rattle.wasm_machine.specs.Meaning.{Shows, Runs, Calls, Branches, Returns}
-use Rattle.wasm_machine.proofs.Plainly.{narrow_shows, wide_shows, plain_shows, plain_traps, plain_sticks, unreachable_traps}
-use Rattle.wasm_machine.proofs.Branching.{return_begins}
-use Rattle.wasm_machine.proofs.Entering.{br_branches, br_if_branches, br_if_goes_on, br_if_sticks, br_table_branches, br_table_sticks, call_calls, indirect_sticks, indirect_is_outside, indirect_is_empty, indirect_is_other, indirect_calls}
+use Rattle.wasm_lang_exec.specs.Code.{unreachable, br, br_if, br_table, return, call, call_indirect, plain, Tree}
+use Rattle.wasm_lang_exec.specs.Store.{Store}
+use Rattle.wasm_lang_exec.specs.Plain.{Effect, goes, traps, sticks, do_plain}
+use Rattle.wasm_lang_exec.specs.Reductions.{callee_at, of_type, default_to}
+use Rattle.wasm_laws_drive.specs.Drive.{Outcome, Ended, Stuck}
+use Rattle.wasm_laws_drive.specs.Equations.{is_constant}
+use Rattle.wasm_run_operands.specs.Tops.{top32}
+use Rattle.wasm_run_flat.specs.Reading.{single}
+use Rattle.wasm_run_flat.specs.Laws.{IsNext}
+use Rattle.wasm_run_flat.proofs.Standing.{single_goes_on}
+use Rattle.wasm_laws_machine.specs.Machine.{MachinePlain, targets_of}
+use Rattle.wasm_laws_machine.specs.Meaning.{Shows, Runs, Calls, Branches, Returns}
+use Rattle.wasm_laws_machine.proofs.Plainly.{narrow_shows, wide_shows, plain_shows, plain_traps, plain_sticks, unreachable_traps}
+use Rattle.wasm_laws_machine.proofs.Branching.{return_begins}
+use Rattle.wasm_laws_machine.proofs.Entering.{br_branches, br_if_branches, br_if_goes_on, br_if_sticks, br_table_branches, br_table_sticks, call_calls, indirect_sticks, indirect_is_outside, indirect_is_empty, indirect_is_other, indirect_calls}
 use Rattle.wasm_steps.specs.Kinds.{found_entry}
 use Rattle.wasm_steps.proofs.Spending.{stands_there}
 use Rattle.wasm_steps.proofs.Opened.{no_number}

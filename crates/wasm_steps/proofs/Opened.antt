@@ -7,21 +7,21 @@ use Rattle.wasm_lang.specs.declared.types.ValType.{ValType}
 use Rattle.wasm_lang.specs.Instructions as flat
 use Rattle.wasm_lang.specs.Instructions.{Instruction}
 use Rattle.wasm_lang.specs.Modules.{WasmModule}
-use Rattle.wasm_meaning.specs.Code.{Trees}
-use Rattle.wasm_meaning.specs.Reductions.{arity_of, choose}
-use Rattle.wasm_driving.specs.Drive.{Outcome, Stuck}
-use Rattle.wasm_operands.specs.Tops.{top32}
-use Rattle.wasm_flat.specs.declared.target.Target.{Target}
-use Rattle.wasm_flat.specs.declared.target.Target.TheVariants.{Past, Again}
-use Rattle.wasm_flat.specs.Jumps.{past_end, other_arm}
-use Rattle.wasm_flat.specs.Places.{code_at}
-use Rattle.wasm_flat.proofs.Standing.{block_opens, loop_opens, first_arm_opens, second_arm_opens, block_goes_on, loop_goes_on, end_leaves, else_leaves, last_ends, else_stands_inside}
-use Rattle.wasm_flat.specs.Places.{Stands}
-use Rattle.wasm_flat.specs.Laws.{IsLeft}
-use Rattle.wasm_machine.specs.Machine.{EnclosingPlain, of_label, of_frame, MachinePlain, targets_of}
-use Rattle.wasm_machine.specs.Meaning.{Shows, Runs}
-use Rattle.wasm_machine.proofs.Blocks.{in_a_block, enters_block, enters_loop, enters_arm, if_sticks}
-use Rattle.wasm_frames.specs.Flows.{IsEndAt}
+use Rattle.wasm_lang_exec.specs.Code.{Trees}
+use Rattle.wasm_lang_exec.specs.Reductions.{arity_of, choose}
+use Rattle.wasm_laws_drive.specs.Drive.{Outcome, Stuck}
+use Rattle.wasm_run_operands.specs.Tops.{top32}
+use Rattle.wasm_run_flat.specs.declared.target.Target.{Target}
+use Rattle.wasm_run_flat.specs.declared.target.Target.TheVariants.{Past, Again}
+use Rattle.wasm_run_flat.specs.Jumps.{past_end, other_arm}
+use Rattle.wasm_run_flat.specs.Places.{code_at}
+use Rattle.wasm_run_flat.proofs.Standing.{block_opens, loop_opens, first_arm_opens, second_arm_opens, block_goes_on, loop_goes_on, end_leaves, else_leaves, last_ends, else_stands_inside}
+use Rattle.wasm_run_flat.specs.Places.{Stands}
+use Rattle.wasm_run_flat.specs.Laws.{IsLeft}
+use Rattle.wasm_laws_machine.specs.Machine.{EnclosingPlain, of_label, of_frame, MachinePlain, targets_of}
+use Rattle.wasm_laws_machine.specs.Meaning.{Shows, Runs}
+use Rattle.wasm_laws_machine.proofs.Blocks.{in_a_block, enters_block, enters_loop, enters_arm, if_sticks}
+use Rattle.wasm_run_frames.specs.Flows.{IsEndAt}
 use Rattle.wasm_steps.proofs.Spending.{stands_there}
 
 -- a machine whose topmost operand isn't a number of 32 bits

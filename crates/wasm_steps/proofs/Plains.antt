@@ -9,13 +9,13 @@ use Rattle.sem_laws.specs.Observation.{trapped}
 use Rattle.wasm_lang.specs.Instructions as flat
 use Rattle.wasm_lang.specs.Instructions.{Instruction, Plain, const32, const64}
 use Rattle.wasm_lang.specs.Modules.{WasmModule}
-use Rattle.wasm_meaning.specs.Store.{Store}
-use Rattle.wasm_meaning.specs.Plain.{goes, traps, sticks, do_plain}
-use Rattle.wasm_driving.specs.Drive.{Outcome, Ended, Stuck}
-use Rattle.wasm_driving.specs.Equations.{is_constant}
-use Rattle.wasm_plain.specs.Forms.{instruction_effect}
-use Rattle.wasm_machine.specs.Machine.{MachinePlain}
-use Rattle.wasm_machine.specs.Meaning.{Shows, Runs}
+use Rattle.wasm_lang_exec.specs.Store.{Store}
+use Rattle.wasm_lang_exec.specs.Plain.{goes, traps, sticks, do_plain}
+use Rattle.wasm_laws_drive.specs.Drive.{Outcome, Ended, Stuck}
+use Rattle.wasm_laws_drive.specs.Equations.{is_constant}
+use Rattle.wasm_run_plain.specs.Forms.{instruction_effect}
+use Rattle.wasm_laws_machine.specs.Machine.{MachinePlain}
+use Rattle.wasm_laws_machine.specs.Meaning.{Shows, Runs}
 use Rattle.wasm_steps.specs.Kinds.{is_free, constant_in, is_paid_plain}
 use Rattle.wasm_steps.proofs.Done.{narrow_does, wide_does, plain_does, plain_is_trap, plain_is_stuck}
 

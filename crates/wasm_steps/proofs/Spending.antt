@@ -5,21 +5,21 @@ use Rattle.wasm_lang.specs.declared.types.ValType.{ValType}
 use Rattle.wasm_lang.specs.Instructions as flat
 use Rattle.wasm_lang.specs.Instructions.{Instruction}
 use Rattle.wasm_lang.specs.Modules.{WasmModule}
-use Rattle.wasm_meaning.specs.Code.{unreachable, block, loop, if_block, br, br_if, br_table, return, call, call_indirect, plain, Tree, Trees, ε, ◌▹◌}
-use Rattle.wasm_driving.specs.Drive.{Outcome, Spent}
+use Rattle.wasm_lang_exec.specs.Code.{unreachable, block, loop, if_block, br, br_if, br_table, return, call, call_indirect, plain, Tree, Trees, ε, ◌▹◌}
+use Rattle.wasm_laws_drive.specs.Drive.{Outcome, Spent}
 use Rattle.wasm_contexts.specs.Contexts.{Surrounding}
 use Rattle.wasm_contexts.specs.Steps.{goes_with}
 use Rattle.wasm_contexts.proofs.Stepping.{plain_step, unreachable_step, block_step, loop_step, if_step, br_step, br_if_step, br_table_step, return_step, call_step, call_indirect_step, end_of_label, end_of_frame}
-use Rattle.wasm_flat.specs.declared.target.Target.{Target}
-use Rattle.wasm_flat.specs.Jumps.{past_end}
-use Rattle.wasm_flat.specs.Reading.{single}
-use Rattle.wasm_flat.specs.Places.{code_at, after_at, continuation, Stands}
-use Rattle.wasm_flat.specs.Laws.{IsNext, IsOpened, IsLeft, IsDone}
-use Rattle.wasm_flat.proofs.Standing.{single_goes_on, block_opens, loop_opens, first_arm_opens, end_leaves, else_leaves, last_ends, else_stands_inside}
-use Rattle.wasm_machine.specs.Machine.{LabelPlain, FramePlain, EnclosingPlain, of_label, of_frame, MachinePlain, state_of, targets_of}
-use Rattle.wasm_machine.specs.Meaning.{IsEnclosed, IsLabel, IsFrame, code_in, codes_in, IsPlace, Encloses, Within, Shows, Runs}
-use Rattle.wasm_machine.proofs.Plainly.{place_stands, code_is, comes_of}
-use Rattle.wasm_machine.proofs.Branching.{shows_with}
+use Rattle.wasm_run_flat.specs.declared.target.Target.{Target}
+use Rattle.wasm_run_flat.specs.Jumps.{past_end}
+use Rattle.wasm_run_flat.specs.Reading.{single}
+use Rattle.wasm_run_flat.specs.Places.{code_at, after_at, continuation, Stands}
+use Rattle.wasm_run_flat.specs.Laws.{IsNext, IsOpened, IsLeft, IsDone}
+use Rattle.wasm_run_flat.proofs.Standing.{single_goes_on, block_opens, loop_opens, first_arm_opens, end_leaves, else_leaves, last_ends, else_stands_inside}
+use Rattle.wasm_laws_machine.specs.Machine.{LabelPlain, FramePlain, EnclosingPlain, of_label, of_frame, MachinePlain, state_of, targets_of}
+use Rattle.wasm_laws_machine.specs.Meaning.{IsEnclosed, IsLabel, IsFrame, code_in, codes_in, IsPlace, Encloses, Within, Shows, Runs}
+use Rattle.wasm_laws_machine.proofs.Plainly.{place_stands, code_is, comes_of}
+use Rattle.wasm_laws_machine.proofs.Branching.{shows_with}
 use Rattle.wasm_steps.specs.Kinds.{is_free}
 
 module _ (bodies : ℕ → List Instruction) (m : WasmModule) where

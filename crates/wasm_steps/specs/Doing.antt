@@ -2,12 +2,12 @@
 use Rattle.std.specs.Prelude.{◌≡◌, ℕ, suc, List, Some, slice_get}
 use Rattle.wasm_lang.specs.Instructions.{Instruction}
 use Rattle.wasm_lang.specs.Modules.{WasmModule}
-use Rattle.wasm_driving.specs.Drive.{Outcome}
-use Rattle.wasm_plain.specs.Forms.{IsForm}
-use Rattle.wasm_machine.specs.Machine.{MachinePlain}
-use Rattle.wasm_machine.specs.Meaning.{Runs}
-use Rattle.wasm_frames.specs.declared.machine.Flow.{Flow}
-use Rattle.wasm_frames.specs.Flows.{Comes}
+use Rattle.wasm_laws_drive.specs.Drive.{Outcome}
+use Rattle.wasm_run_plain.specs.Forms.{IsForm}
+use Rattle.wasm_laws_machine.specs.Machine.{MachinePlain}
+use Rattle.wasm_laws_machine.specs.Meaning.{Runs}
+use Rattle.wasm_run_frames.specs.declared.machine.Flow.{Flow}
+use Rattle.wasm_run_frames.specs.Flows.{Comes}
 
 -- the bodies of functions, by their numbers
 abbrev pub Bodies : Type 0

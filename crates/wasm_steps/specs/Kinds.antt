@@ -5,7 +5,7 @@ use Rattle.wasm_lang.specs.Instructions as flat
 use Rattle.sem_words.specs.declared.word.Word.{Word}
 use Rattle.sem_words.specs.declared.word.Word.TheVariants.{W32, W64}
 use Rattle.wasm_lang.specs.Instructions.{Instruction, const32, const64}
-use Rattle.wasm_driving.specs.Equations.{is_constant}
+use Rattle.wasm_laws_drive.specs.Equations.{is_constant}
 use Rattle.wasm_steps.specs.declared.kinds.Kind.{Kind}
 use Rattle.wasm_steps.specs.declared.kinds.Kind.TheVariants as kinds
 

@@ -1,17 +1,17 @@
 //! Blocks, loops, ifs and ends.
 ghost use Rattle.std.specs.Prelude.{◌≡◌, ◌<◌, ◌+◌, length, IfOk, ℕ, List};
-ghost use Rattle.wasm_flat.specs.Jumps.{other_arm};
+ghost use Rattle.wasm_run_flat.specs.Jumps.{other_arm};
 ghost use Rattle.wasm_lang.specs.Instructions as plain;
 ghost use Rattle.wasm_lang.specs.Instructions.{Instruction};
 ghost use Rattle.wasm_lang.specs.Modules.{WasmModule};
-ghost use Rattle.wasm_meaning.specs.Reductions as meaning;
-ghost use Rattle.wasm_frames.specs.Views.{machine_of};
+ghost use Rattle.wasm_lang_exec.specs.Reductions as meaning;
+ghost use Rattle.wasm_run_frames.specs.Views.{machine_of};
 ghost use Rattle.wasm_steps.specs.Doing.{DoesIn};
 
 use std::alloc::AllocError;
-use wasm_flat::{Body, Target};
-use wasm_frames::{Flow, Machine, end_block, enter_block};
 use wasm_lang::ValType;
+use wasm_run_flat::{Body, Target};
+use wasm_run_frames::{Flow, Machine, end_block, enter_block};
 
 // How many operands a block of this type leaves.
 fn arity_of(kind: Option<ValType>) -> usize

@@ -3,13 +3,13 @@ ghost use Rattle.std.specs.Prelude.{◌≡◌, ◌<◌, length, slice_get};
 ghost use Rattle.sem_words.specs.Lists.{list_items};
 ghost use Rattle.wasm_lang.specs.Instructions as plain;
 ghost use Rattle.wasm_lang.specs.Modules.{WasmModule};
-ghost use Rattle.wasm_meaning.specs.Reductions.{default_to};
-ghost use Rattle.wasm_frames.specs.Views.{machine_of};
+ghost use Rattle.wasm_lang_exec.specs.Reductions.{default_to};
+ghost use Rattle.wasm_run_frames.specs.Views.{machine_of};
 ghost use Rattle.wasm_steps.specs.Doing.{Bodies, DoesIn};
 
 use sem_words::List;
-use wasm_flat::Body;
-use wasm_frames::{Flow, Machine, branch, give_back};
+use wasm_run_flat::Body;
+use wasm_run_frames::{Flow, Machine, branch, give_back};
 
 /// `br`.
 pub fn branch_always(machine: &mut Machine<'_>, body: &Body, label: u32) -> Flow

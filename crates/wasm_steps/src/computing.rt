@@ -3,20 +3,20 @@ ghost use Rattle.std.specs.Prelude.{◌≡◌, ◌<◌, true, false, length, IfO
 ghost use Rattle.wasm_lang.specs.Instructions.{Instruction};
 ghost use Rattle.wasm_lang.specs.Modules.{WasmModule};
 ghost use Rattle.wasm_tree.specs.Views.{instr_of};
-ghost use Rattle.wasm_driving.specs.Drive.{Outcome};
-ghost use Rattle.wasm_plain.specs.Forms.{IsForm};
-ghost use Rattle.wasm_machine.specs.Meaning.{Runs};
-ghost use Rattle.wasm_frames.specs.Views.{machine_of};
+ghost use Rattle.wasm_laws_drive.specs.Drive.{Outcome};
+ghost use Rattle.wasm_run_plain.specs.Forms.{IsForm};
+ghost use Rattle.wasm_laws_machine.specs.Meaning.{Runs};
+ghost use Rattle.wasm_run_frames.specs.Views.{machine_of};
 ghost use Rattle.wasm_steps.specs.Kinds.{constant_in, is_free, is_paid_plain};
 ghost use Rattle.wasm_steps.specs.Doing.{DoesIn};
 
 use sem_laws::End;
 use sem_words::Word;
 use std::alloc::AllocError;
-use wasm_flat::Body;
-use wasm_frames::{Flow, Machine};
-use wasm_operands::Effect;
-use wasm_plain::do_plain;
+use wasm_run_flat::Body;
+use wasm_run_frames::{Flow, Machine};
+use wasm_run_operands::Effect;
+use wasm_run_plain::do_plain;
 use wasm_tree::Instr;
 
 // The word of a constant.

@@ -4,12 +4,12 @@ use Rattle.std.specs.Prelude.{slice_get}
 use Rattle.std.proofs.lemmas.Option.{slice_get_within, get_or_from_slice_get}
 use Rattle.std.proofs.lemmas.List.Elements.{All-get_or}
 use Rattle.wasm_lang.specs.Modules.{FunctionBody, WasmModule}
-use Rattle.wasm_typing.specs.Typing.{IsValid}
-use Rattle.wasm_typing.specs.declared.section.Section.TheVariants as sections
-use Rattle.wasm_typing.specs.Validity.{body_context, IsFine, IsValidBody, BodyRefuses}
-use Rattle.wasm_bodies.specs.declared.fault.BodyFault.{BodyFault}
-use Rattle.wasm_bodies.specs.declared.fault.BodyFault.TheVariants.{Broken, Memory}
-use Rattle.wasm_bodies.specs.Bodies.{IsRefusal}
+use Rattle.wasm_lang_valid.specs.Typing.{IsValid}
+use Rattle.wasm_lang_valid.specs.declared.section.Section.TheVariants as sections
+use Rattle.wasm_lang_valid.specs.Validity.{body_context, IsFine, IsValidBody, BodyRefuses}
+use Rattle.wasm_validate_bodies.specs.declared.fault.BodyFault.{BodyFault}
+use Rattle.wasm_validate_bodies.specs.declared.fault.BodyFault.TheVariants.{Broken, Memory}
+use Rattle.wasm_validate_bodies.specs.Bodies.{IsRefusal}
 use Rattle.wasm_validate.specs.Bodies.{FineBodies, IsCodeFault, at_body}
 
 pub all_at : {A : Type 0} (P : A → Type 0) (xs : List A) (i : ℕ) (x : A) → slice_get xs i ≡ Some x → All P xs → P x

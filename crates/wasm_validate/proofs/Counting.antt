@@ -3,10 +3,10 @@ use Rattle.std.proofs.Common.{◌≡◌, ℕ, zero, suc, ◌+◌, max, Bool, tru
 use Rattle.std.specs.Prelude.{slice_get}
 use Rattle.wasm_lang.specs.Limits.{levels}
 use Rattle.wasm_lang.specs.Modules.{FunctionType, FunctionBody, WasmModule}
-use Rattle.wasm_typing.specs.ModuleRules.{imported_functions}
-use Rattle.wasm_typing.specs.Runnable.{or_else}
-use Rattle.wasm_typing.specs.Measures.{MeasuresOf, measures_of, body_slots, has_mul_div, called_in, called_types, distinct, deepest, slots_from, first_mixed, first_mul_div}
-use Rattle.wasm_bodies.specs.Calls.{IsCalled}
+use Rattle.wasm_lang_valid.specs.ModuleRules.{imported_functions}
+use Rattle.wasm_lang_valid.specs.Runnable.{or_else}
+use Rattle.wasm_lang_valid.specs.Measures.{MeasuresOf, measures_of, body_slots, has_mul_div, called_in, called_types, distinct, deepest, slots_from, first_mixed, first_mul_div}
+use Rattle.wasm_validate_bodies.specs.Calls.{IsCalled}
 use Rattle.wasm_validate.specs.declared.counts.Counts.{Counts}
 use Rattle.wasm_validate.specs.declared.measures.Measures.{Measures}
 use Rattle.wasm_validate.specs.Counted.{IsCounted, CountsOf, said}

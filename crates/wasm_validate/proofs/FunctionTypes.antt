@@ -5,7 +5,7 @@ use Rattle.std.proofs.lemmas.Option.{slice_get_cases}
 use Rattle.wasm_lang.specs.Modules.{FunctionType, WasmModule}
 use Rattle.wasm_tree.specs.declared.module.FuncType.{FuncType}
 use Rattle.wasm_tree.specs.Views.{type_of}
-use Rattle.wasm_typing.specs.ModuleRules.{function_types, type_of_function}
+use Rattle.wasm_lang_valid.specs.ModuleRules.{function_types, type_of_function}
 
 pub found_or_past : (m : WasmModule) (f : ℕ) (o : Option (Bor FuncType)) → (f < length (function_types m) → (t : FunctionType) × (type_of_function m f ≡ Some t)) → MatchOption o (type_of_function m f ≡ None) (λ t. type_of_function m f ≡ Some (type_of t.now)) → MatchOption o (length (function_types m) ≤ f) (λ t. type_of_function m f ≡ Some (type_of t.now))
 found_or_past m f (Some t) law h = h

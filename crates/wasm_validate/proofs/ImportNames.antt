@@ -12,7 +12,7 @@ use Rattle.wasm_lang.specs.declared.types.ImportKind.TheVariants as imports
 use Rattle.wasm_lang.specs.Modules.{Imported}
 use Rattle.wasm_tree.specs.declared.module.Import.{Import}
 use Rattle.wasm_tree.specs.Views.{import_of}
-use Rattle.wasm_typing.specs.Measures.{same_import, is_imported_so, is_function_import, is_global_import, mixes, first_mixed}
+use Rattle.wasm_lang_valid.specs.Measures.{same_import, is_imported_so, is_function_import, is_global_import, mixes, first_mixed}
 use Rattle.wasm_validate.specs.declared.mixed.Names.{Names}
 use Rattle.wasm_validate.specs.Mixed.{Name, is_named, holds, AreNames}
 use Rattle.wasm_validate.proofs.Sections.{one_longer}

@@ -8,10 +8,10 @@ use Rattle.wasm_lang.specs.Modules.{Exported}
 use Rattle.wasm_lang.specs.declared.types.ExportKind.{ExportKind}
 use Rattle.wasm_lang.specs.declared.types.ExportKind.TheVariants as exports
 use Rattle.wasm_lang.specs.Modules.{WasmModule}
-use Rattle.wasm_typing.specs.declared.rule.Rule.{Rule}
-use Rattle.wasm_typing.specs.declared.rule.Rule.TheVariants.{RepeatedName}
-use Rattle.wasm_typing.specs.declared.section.Section.TheVariants as sections
-use Rattle.wasm_typing.specs.ModuleRules.{meets, is_function, is_table_number, is_memory_number, is_global, is_named, exported_rule, export_rule, item_rule, at}
+use Rattle.wasm_lang_valid.specs.declared.rule.Rule.{Rule}
+use Rattle.wasm_lang_valid.specs.declared.rule.Rule.TheVariants.{RepeatedName}
+use Rattle.wasm_lang_valid.specs.declared.section.Section.TheVariants as sections
+use Rattle.wasm_lang_valid.specs.ModuleRules.{meets, is_function, is_table_number, is_memory_number, is_global, is_named, exported_rule, export_rule, item_rule, at}
 use Rattle.wasm_validate.proofs.Sections.{one_longer}
 
 abbrev pub HoldNames : List (Bor (List ℕ)) → List Exported → Type 0

@@ -1,9 +1,9 @@
 -- Sections, and the places of their faults.
 use Rattle.std.proofs.Common.{◌≡◌, ◌⊎◌, inl, inr, ℕ, zero, suc, ◌<◌, ◌+◌, ◌-◌, true, List, [], ◌∷◌, length, get_or, refl, sym, ap, ◌∙◌, subst, arith}
 use Rattle.wasm_lang.specs.Modules.{WasmModule}
-use Rattle.wasm_typing.specs.declared.section.Section.{Section}
-use Rattle.wasm_typing.specs.declared.section.Section.TheVariants.{Types, Imports, Functions, Tables, Memories, Globals, Exports, Start, Elements, Code, Data}
-use Rattle.wasm_typing.specs.Validity.{id, items, IsFine, IsFineSection, IsValidModule, BreaksAt}
+use Rattle.wasm_lang_valid.specs.declared.section.Section.{Section}
+use Rattle.wasm_lang_valid.specs.declared.section.Section.TheVariants.{Types, Imports, Functions, Tables, Memories, Globals, Exports, Start, Elements, Code, Data}
+use Rattle.wasm_lang_valid.specs.Validity.{id, items, IsFine, IsFineSection, IsValidModule, BreaksAt}
 use Rattle.wasm_validate.specs.declared.fault.ItemFault.{ItemFault}
 use Rattle.wasm_validate.specs.declared.fault.ItemFault.TheVariants.{Broken, Memory}
 use Rattle.wasm_validate.specs.declared.fault.Invalid.{Invalid}

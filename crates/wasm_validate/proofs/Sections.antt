@@ -4,10 +4,10 @@ use Rattle.std.specs.Prelude.{slice_get}
 use Rattle.std.specs.Option.{option_map}
 use Rattle.std.proofs.lemmas.Option.{slice_get-get_or, slice_get-map, slice_get_within}
 use Rattle.wasm_lang.specs.Modules.{Imported, WasmModule}
-use Rattle.wasm_typing.specs.declared.section.Section.{Section}
-use Rattle.wasm_typing.specs.declared.section.Section.TheVariants as sections
-use Rattle.wasm_typing.specs.ModuleRules.{is_table, is_memory, imports_table, imports_memory, item_rule, import_rule, at}
-use Rattle.wasm_typing.specs.declared.rule.Rule.{Rule}
+use Rattle.wasm_lang_valid.specs.declared.section.Section.{Section}
+use Rattle.wasm_lang_valid.specs.declared.section.Section.TheVariants as sections
+use Rattle.wasm_lang_valid.specs.ModuleRules.{is_table, is_memory, imports_table, imports_memory, item_rule, import_rule, at}
+use Rattle.wasm_lang_valid.specs.declared.rule.Rule.{Rule}
 use Rattle.wasm_validate.specs.declared.fault.ItemFault.TheVariants.{Broken}
 use Rattle.wasm_validate.specs.Sections.{FineItems, IsItemFault}
 

@@ -1,10 +1,10 @@
 -- What a refusal of the code section says.
 use Rattle.std.specs.Prelude.{ℕ, ◌<◌, length}
 use Rattle.wasm_lang.specs.Modules.{WasmModule}
-use Rattle.wasm_typing.specs.declared.section.Section.TheVariants as sections
-use Rattle.wasm_typing.specs.Validity.{IsFine, BreaksAt}
-use Rattle.wasm_bodies.specs.declared.fault.BodyFault.{BodyFault}
-use Rattle.wasm_bodies.specs.declared.fault.BodyFault.TheVariants.{Broken, Memory}
+use Rattle.wasm_lang_valid.specs.declared.section.Section.TheVariants as sections
+use Rattle.wasm_lang_valid.specs.Validity.{IsFine, BreaksAt}
+use Rattle.wasm_validate_bodies.specs.declared.fault.BodyFault.{BodyFault}
+use Rattle.wasm_validate_bodies.specs.declared.fault.BodyFault.TheVariants.{Broken, Memory}
 use Rattle.wasm_validate.specs.declared.fault.CodeFault.{CodeFault}
 use Rattle.wasm_validate.specs.declared.fault.CodeFault.TheVariants as codes
 

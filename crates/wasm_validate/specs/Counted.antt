@@ -2,10 +2,10 @@
 use Rattle.std.specs.Prelude.{◌≡◌, ℕ, ◌+◌, max, cond, List, ◌++◌, length, take, drop, Some, None}
 use Rattle.wasm_lang.specs.Limits.{levels}
 use Rattle.wasm_lang.specs.Modules.{FunctionType, FunctionBody, WasmModule}
-use Rattle.wasm_typing.specs.ModuleRules.{imported_functions}
-use Rattle.wasm_typing.specs.Runnable.{or_else}
-use Rattle.wasm_typing.specs.Measures.{MeasuresOf, body_slots, has_mul_div, called_in, called_types, deepest, slots_from, first_mul_div}
-use Rattle.wasm_bodies.specs.Calls.{IsCalled}
+use Rattle.wasm_lang_valid.specs.ModuleRules.{imported_functions}
+use Rattle.wasm_lang_valid.specs.Runnable.{or_else}
+use Rattle.wasm_lang_valid.specs.Measures.{MeasuresOf, body_slots, has_mul_div, called_in, called_types, deepest, slots_from, first_mul_div}
+use Rattle.wasm_validate_bodies.specs.Calls.{IsCalled}
 use Rattle.wasm_validate.specs.declared.counts.Counts.{Counts}
 use Rattle.wasm_validate.specs.declared.measures.Measures.{Measures}
 

@@ -1,7 +1,7 @@
 -- What the facts of the code say of a module.
 use Rattle.std.specs.Prelude.{◌≡◌, length}
 use Rattle.wasm_lang.specs.Modules.{WasmModule}
-use Rattle.wasm_typing.specs.ModuleRules as rules
+use Rattle.wasm_lang_valid.specs.ModuleRules as rules
 use Rattle.wasm_validate.specs.declared.facts.Facts.{Facts}
 
 pub record FactsOf (f : Facts) (m : WasmModule) : Type 0 where

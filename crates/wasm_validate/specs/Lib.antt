@@ -6,4 +6,4 @@ pub mod Refusals
 pub mod Mixed
 pub mod Counted
 -- the profile of translation, and what a valid module is outside it by
-pub use Rattle.wasm_typing.specs.Profile.{IsInProfile, outside_profile}
+pub use Rattle.wasm_lang_valid.specs.Profile.{IsInProfile, outside_profile}

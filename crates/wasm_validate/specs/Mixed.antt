@@ -4,7 +4,7 @@ use Rattle.std.specs.Borrow.{Bor}
 use Rattle.std.specs.List.{list_any}
 use Rattle.std.specs.Cmp.Lexicographic.{pointwise}
 use Rattle.wasm_lang.specs.Modules.{Imported}
-use Rattle.wasm_typing.specs.Measures.{is_imported_so, is_function_import, is_global_import}
+use Rattle.wasm_lang_valid.specs.Measures.{is_imported_so, is_function_import, is_global_import}
 use Rattle.wasm_validate.specs.declared.mixed.Names.{Names}
 
 abbrev pub Name : Type 0

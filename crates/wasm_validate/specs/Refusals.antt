@@ -1,9 +1,9 @@
 -- What a refusal of a module says.
 use Rattle.std.specs.Prelude.{◌≡◌, ℕ, ◌<◌}
 use Rattle.wasm_lang.specs.Modules.{WasmModule}
-use Rattle.wasm_typing.specs.declared.section.Section.{Section}
-use Rattle.wasm_typing.specs.declared.section.Section.TheVariants as sections
-use Rattle.wasm_typing.specs.Validity.{items, IsFine, BreaksAt, RefusesModule}
+use Rattle.wasm_lang_valid.specs.declared.section.Section.{Section}
+use Rattle.wasm_lang_valid.specs.declared.section.Section.TheVariants as sections
+use Rattle.wasm_lang_valid.specs.Validity.{items, IsFine, BreaksAt, RefusesModule}
 use Rattle.wasm_validate.specs.declared.fault.ItemFault.{ItemFault}
 use Rattle.wasm_validate.specs.declared.fault.ItemFault.TheVariants as faults
 use Rattle.wasm_validate.specs.declared.fault.CodeFault.{CodeFault}

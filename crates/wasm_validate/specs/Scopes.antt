@@ -2,8 +2,8 @@
 use Rattle.std.specs.Prelude.{List, [], Option, Some, None}
 use Rattle.wasm_lang.specs.declared.types.ValType.{ValType}
 use Rattle.wasm_lang.specs.Modules.{FunctionType, WasmModule}
-use Rattle.wasm_typing.specs.ModuleRules.{function_types, global_types, has_table, has_memory}
-use Rattle.wasm_typing.specs.Typing.{Context, result_of}
+use Rattle.wasm_lang_valid.specs.ModuleRules.{function_types, global_types, has_table, has_memory}
+use Rattle.wasm_lang_valid.specs.Typing.{Context, result_of}
 
 abbrev pub result_in : Option FunctionType → Option ValType
 result_in None = None

@@ -1,9 +1,9 @@
 -- What is known of the items of a section.
 use Rattle.std.specs.Prelude.{◌≡◌, ℕ, ◌<◌, Bool, true, false, Some, None}
 use Rattle.wasm_lang.specs.Modules.{WasmModule}
-use Rattle.wasm_typing.specs.declared.section.Section.{Section}
-use Rattle.wasm_typing.specs.declared.section.Section.TheVariants as sections
-use Rattle.wasm_typing.specs.ModuleRules.{item_rule}
+use Rattle.wasm_lang_valid.specs.declared.section.Section.{Section}
+use Rattle.wasm_lang_valid.specs.declared.section.Section.TheVariants as sections
+use Rattle.wasm_lang_valid.specs.ModuleRules.{item_rule}
 use Rattle.wasm_validate.specs.declared.fault.ItemFault.{ItemFault}
 use Rattle.wasm_validate.specs.declared.fault.ItemFault.TheVariants.{Broken, Memory}
 

@@ -5,14 +5,14 @@ ghost use Rattle.sem_words.specs.Lists.{list_items};
 ghost use Rattle.wasm_lang.specs.Instructions.{IsExpression};
 ghost use Rattle.wasm_lang.specs.Modules.{FunctionBody};
 ghost use Rattle.wasm_tree.specs.Views.{body_of, instr_of, module_of, type_of};
-ghost use Rattle.wasm_typing.specs.Measures.{body_slots};
-ghost use Rattle.wasm_typing.specs.ModuleRules.{imported_functions};
-ghost use Rattle.wasm_typing.specs.Typing;
-ghost use Rattle.wasm_typing.specs.Typing.{IsValid};
-ghost use Rattle.wasm_typing.specs.Validity;
-ghost use Rattle.wasm_typing.specs.Validity.{body_context, no_type};
-ghost use Rattle.wasm_bodies.specs.Bodies.{IsRefusal};
-ghost use Rattle.wasm_bodies.specs.Scopes.{outside};
+ghost use Rattle.wasm_lang_valid.specs.Measures.{body_slots};
+ghost use Rattle.wasm_lang_valid.specs.ModuleRules.{imported_functions};
+ghost use Rattle.wasm_lang_valid.specs.Typing;
+ghost use Rattle.wasm_lang_valid.specs.Typing.{IsValid};
+ghost use Rattle.wasm_lang_valid.specs.Validity;
+ghost use Rattle.wasm_lang_valid.specs.Validity.{body_context, no_type};
+ghost use Rattle.wasm_validate_bodies.specs.Bodies.{IsRefusal};
+ghost use Rattle.wasm_validate_bodies.specs.Scopes.{outside};
 ghost use Rattle.wasm_validate.specs.Bodies.{FineBodies, IsCodeFault};
 ghost use Rattle.wasm_validate.specs.Counted.{CountsOf, IsCounted};
 ghost use Rattle.wasm_validate.specs.Facts.{FactsOf};
@@ -24,9 +24,9 @@ use crate::counts::Counts;
 use crate::facts::Facts;
 use crate::fault::CodeFault;
 use std::alloc::{AllocError, Global};
-use wasm_bodies::{BodyFault, Scope, check_body, result_of};
 use wasm_lang::ValType;
 use wasm_tree::{Body, FuncType, Instr, Module};
+use wasm_validate_bodies::{BodyFault, Scope, check_body, result_of};
 
 /// Finds the first body that isn't valid, or counts of all bodies.
 pub fn check_bodies(alloc: Global, module: &Module<'_>, facts: &Facts) -> Result<Counts, CodeFault>

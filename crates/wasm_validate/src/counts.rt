@@ -4,13 +4,13 @@ ghost use Rattle.std.specs.Prelude.{◌≡◌, ◌++◌, [], List, max, map, con
 ghost use Rattle.wasm_lang.specs.Limits.{levels};
 ghost use Rattle.wasm_lang.specs.Modules.{FunctionType};
 ghost use Rattle.wasm_tree.specs.Views.{instr_of, type_of};
-ghost use Rattle.wasm_typing.specs.Measures;
-ghost use Rattle.wasm_typing.specs.Runnable.{or_else};
-ghost use Rattle.wasm_bodies.specs.Calls.{IsCalled};
+ghost use Rattle.wasm_lang_valid.specs.Measures;
+ghost use Rattle.wasm_lang_valid.specs.Runnable.{or_else};
+ghost use Rattle.wasm_validate_bodies.specs.Calls.{IsCalled};
 
 use std::alloc::{AllocError, Global};
-use wasm_bodies::{Called, has_mul_div, larger, levels_of};
 use wasm_tree::{FuncType, Instr};
+use wasm_validate_bodies::{Called, has_mul_div, larger, levels_of};
 
 /// The levels of the deepest body, the greatest number of slots, the number of the first function that multiplies
 /// or divides words of 64 bits, and the types that indirect calls name.

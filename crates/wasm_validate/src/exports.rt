@@ -2,8 +2,8 @@
 
 ghost use Rattle.std.specs.Prelude.{◌≡◌, length, take, MatchResult};
 ghost use Rattle.wasm_tree.specs.Views.{module_of, export_of};
-ghost use Rattle.wasm_typing.specs.declared.section.Section.TheVariants as sections;
-ghost use Rattle.wasm_typing.specs.ModuleRules;
+ghost use Rattle.wasm_lang_valid.specs.declared.section.Section.TheVariants as sections;
+ghost use Rattle.wasm_lang_valid.specs.ModuleRules;
 ghost use Rattle.wasm_validate.specs.Facts.{FactsOf};
 ghost use Rattle.wasm_validate.specs.Sections.{FineItems, IsItemFault};
 
@@ -12,8 +12,8 @@ use crate::fault::ItemFault;
 use crate::rules::{exported_rule, first_of};
 use indexmap::IndexSet;
 use std::alloc::Global;
+use wasm_lang_valid::Rule;
 use wasm_tree::Module;
-use wasm_typing::Rule;
 
 /// Finds the first export that breaks a rule.
 pub fn check_exports(alloc: Global, module: &Module<'_>, facts: &Facts) -> Result<(), ItemFault>

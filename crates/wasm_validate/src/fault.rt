@@ -1,7 +1,7 @@
 // Why a module or a section is not taken.
 
 use thiserror::Error;
-use wasm_typing::{Rule, Section};
+use wasm_lang_valid::{Rule, Section};
 
 /// Why a section isn't taken: its first item that breaks a rule, or want of memory.
 #[derive(Clone, Copy, PartialEq, Eq, Debug)]

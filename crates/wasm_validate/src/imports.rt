@@ -3,15 +3,15 @@
 ghost use Rattle.std.specs.Prelude.{◌≡◌, ◌||◌, List, length, MatchResult};
 ghost use Rattle.wasm_lang.specs.Modules.{Imported};
 ghost use Rattle.wasm_tree.specs.Views.{module_of};
-ghost use Rattle.wasm_typing.specs.declared.section.Section.TheVariants as sections;
-ghost use Rattle.wasm_typing.specs.ModuleRules;
+ghost use Rattle.wasm_lang_valid.specs.declared.section.Section.TheVariants as sections;
+ghost use Rattle.wasm_lang_valid.specs.ModuleRules;
 ghost use Rattle.wasm_validate.specs.Sections.{FineItems, IsItemFault};
 
 use crate::fault::ItemFault;
 use crate::rules::{memory_rule, number_rule, table_rule};
 use wasm_lang::ImportKind;
+use wasm_lang_valid::Rule;
 use wasm_tree::Module;
-use wasm_typing::Rule;
 
 /// Finds the first import that breaks a rule.
 pub fn check_imports(module: &Module<'_>) -> Result<(), ItemFault>

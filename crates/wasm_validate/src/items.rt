@@ -2,8 +2,8 @@
 
 ghost use Rattle.std.specs.Prelude.{◌≡◌, ℕ, true, MatchResult};
 ghost use Rattle.wasm_tree.specs.Views.{module_of};
-ghost use Rattle.wasm_typing.specs.declared.section.Section.TheVariants as sections;
-ghost use Rattle.wasm_typing.specs.ModuleRules;
+ghost use Rattle.wasm_lang_valid.specs.declared.section.Section.TheVariants as sections;
+ghost use Rattle.wasm_lang_valid.specs.ModuleRules;
 ghost use Rattle.wasm_validate.specs.Facts.{FactsOf};
 ghost use Rattle.wasm_validate.specs.Sections.{is_separate, FineItems, IsItemFault};
 
@@ -13,8 +13,8 @@ use crate::rules::{
     element_rule, init_rule, memory_rule, number_rule, segment_rule, start_rule, table_rule,
     type_rule,
 };
+use wasm_lang_valid::{Rule, Section};
 use wasm_tree::Module;
-use wasm_typing::{Rule, Section};
 
 /// Finds the first of so many items that breaks a rule.
 pub fn check_items(

@@ -19,4 +19,4 @@ pub use fault::Invalid;
 pub use measures::Measures;
 pub use module::{Valid, validate};
 pub use running::runnable;
-pub use wasm_typing::{Beyond, Outside, Rule, Section};
+pub use wasm_lang_valid::{Beyond, Outside, Rule, Section};

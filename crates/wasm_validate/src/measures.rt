@@ -2,7 +2,7 @@
 
 ghost use Rattle.std.specs.Prelude.{◌≡◌, length, IfOk};
 ghost use Rattle.wasm_tree.specs.Views.{module_of};
-ghost use Rattle.wasm_typing.specs.Measures.{measures_of as spec_measures};
+ghost use Rattle.wasm_lang_valid.specs.Measures.{measures_of as spec_measures};
 ghost use Rattle.wasm_validate.specs.Counted.{CountsOf, said};
 
 use crate::counts::Counts;

@@ -3,8 +3,8 @@
 ghost use Rattle.std.specs.Prelude.{◌≡◌, ◌||◌, ◌++◌, ◌∷◌, [], List, map, IfOk};
 ghost use Rattle.wasm_lang.specs.Modules.{Imported};
 ghost use Rattle.wasm_tree.specs.Views.{import_of};
-ghost use Rattle.wasm_typing.specs.Measures;
-ghost use Rattle.wasm_typing.specs.Measures.{is_given, mixes};
+ghost use Rattle.wasm_lang_valid.specs.Measures;
+ghost use Rattle.wasm_lang_valid.specs.Measures.{is_given, mixes};
 ghost use Rattle.wasm_validate.specs.Mixed.{AreNames, holds, is_named};
 
 use indexmap::IndexSet;

@@ -6,9 +6,9 @@ ghost use Rattle.sem_words.specs.Lists.{list_items};
 ghost use Rattle.wasm_lang.specs.Modules.{WasmModule};
 ghost use Rattle.wasm_lang.specs.Shape.{IsShaped};
 ghost use Rattle.wasm_tree.specs.Views.{import_of, module_of, type_of};
-ghost use Rattle.wasm_typing.specs.Measures.{measures_of as spec_measures};
-ghost use Rattle.wasm_typing.specs.ModuleRules.{function_types, type_of_function};
-ghost use Rattle.wasm_typing.specs.Validity.{IsValidModule};
+ghost use Rattle.wasm_lang_valid.specs.Measures.{measures_of as spec_measures};
+ghost use Rattle.wasm_lang_valid.specs.ModuleRules.{function_types, type_of_function};
+ghost use Rattle.wasm_lang_valid.specs.Validity.{IsValidModule};
 ghost use Rattle.wasm_validate.specs.Counted.{said};
 ghost use Rattle.wasm_validate.specs.Facts.{FactsOf};
 ghost use Rattle.wasm_validate.specs.Refusals.{IsInvalid};
@@ -19,8 +19,8 @@ use crate::measures::{Measures, measures_of};
 use crate::valid::check_module;
 use std::alloc::Global;
 use std::marker::Model;
+use wasm_lang_valid::module_laws;
 use wasm_tree::{FuncType, Module};
-use wasm_typing::module_laws;
 
 /// A valid module (WebAssembly Core 1.0, section 3.4.10). Its contracts see the module that it stands for.
 #[derive(Drop)]
@@ -104,8 +104,8 @@ mod tests {
     use sem_words::List;
     use std::test::Fail;
     use wasm_lang::{GlobalType, ImportKind, Limits, ValType};
+    use wasm_lang_valid::{Beyond, Outside, Rule, Section};
     use wasm_tree::{Bytes, Import};
-    use wasm_typing::{Beyond, Outside, Rule, Section};
 
     // Imports of these kinds, whose names are empty.
     fn nameless(alloc: Global, kinds: &[ImportKind]) -> Result<List<Import<'static>>, Fail>

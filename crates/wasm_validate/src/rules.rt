@@ -4,15 +4,15 @@ ghost use Rattle.std.specs.Prelude.{◌≡◌, map, length, slice_get, nat_lt, N
 ghost use Rattle.std.specs.Option.{option_map};
 ghost use Rattle.wasm_lang.specs.Modules.{WasmModule};
 ghost use Rattle.wasm_tree.specs.Views.{instr_of, type_of, element_of, segment_of, module_of};
-ghost use Rattle.wasm_typing.specs.declared.rule.Rule.TheVariants.{NoType};
-ghost use Rattle.wasm_typing.specs.ModuleRules;
-ghost use Rattle.wasm_typing.specs.ModuleRules.{meets};
+ghost use Rattle.wasm_lang_valid.specs.declared.rule.Rule.TheVariants.{NoType};
+ghost use Rattle.wasm_lang_valid.specs.ModuleRules;
+ghost use Rattle.wasm_lang_valid.specs.ModuleRules.{meets};
 ghost use Rattle.wasm_validate.specs.Facts.{FactsOf};
 
 use crate::facts::Facts;
 use wasm_lang::{ExportKind, GlobalType, Limits, ValType};
+use wasm_lang_valid::Rule;
 use wasm_tree::{Element, FuncType, Instr, Module, Segment};
-use wasm_typing::Rule;
 
 // The rule, unless it is kept; then what the rules of higher numbers say.
 pub fn first_of(kept: bool, rule: Rule, others: Option<Rule>) -> Option<Rule>

@@ -2,14 +2,14 @@
 
 ghost use Rattle.std.specs.Prelude.{◌≡◌, map, MatchResult, Some, None};
 ghost use Rattle.wasm_tree.specs.Views.{import_of, module_of};
-ghost use Rattle.wasm_typing.specs.ModuleRules;
-ghost use Rattle.wasm_typing.specs.Runnable;
-ghost use Rattle.wasm_typing.specs.Runnable.{first_import, not_runnable, imported_pages, pages, most_pages_to_run};
+ghost use Rattle.wasm_lang_valid.specs.ModuleRules;
+ghost use Rattle.wasm_lang_valid.specs.Runnable;
+ghost use Rattle.wasm_lang_valid.specs.Runnable.{first_import, not_runnable, imported_pages, pages, most_pages_to_run};
 
 use crate::module::Valid;
 use wasm_lang::ImportKind;
+use wasm_lang_valid::{Beyond, Outside};
 use wasm_tree::{Import, Module};
-use wasm_typing::{Beyond, Outside};
 
 /// Whether a module can be run: no table and no mutable global is imported, and the memory's minimum is at
 /// most 4,096 pages. The first of these that fails is the refusal. It takes no memory.

@@ -3,8 +3,8 @@
 ghost use Rattle.std.specs.Prelude.{◌≡◌, ◌≢◌, ◌+◌, ◌<◌, true, length, IfOk, MatchResult};
 ghost use Rattle.wasm_lang.specs.Shape.{IsShaped};
 ghost use Rattle.wasm_tree.specs.Views.{module_of};
-ghost use Rattle.wasm_typing.specs.Validity;
-ghost use Rattle.wasm_typing.specs.Validity.{id, IsFineSection, IsValidModule};
+ghost use Rattle.wasm_lang_valid.specs.Validity;
+ghost use Rattle.wasm_lang_valid.specs.Validity.{id, IsFineSection, IsValidModule};
 ghost use Rattle.wasm_validate.specs.Counted.{CountsOf};
 ghost use Rattle.wasm_validate.specs.Facts.{FactsOf};
 ghost use Rattle.wasm_validate.specs.Sections.{is_separate};
@@ -19,8 +19,8 @@ use crate::fault::{CodeFault, Invalid, ItemFault};
 use crate::imports::check_imports;
 use crate::items::check_items;
 use std::alloc::Global;
+use wasm_lang_valid::Section;
 use wasm_tree::Module;
-use wasm_typing::Section;
 
 /// Checks the sections in their order, and counts of the bodies.
 pub fn check_module(alloc: Global, module: &Module<'_>, facts: &Facts) -> Result<Counts, Invalid>

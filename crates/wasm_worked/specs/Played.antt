@@ -1,9 +1,9 @@
 -- What is printed of a script's run on the module that bytes spell, and which scripts are refused for it.
 use Rattle.std.specs.Prelude.{ℕ, List}
-use Rattle.script_text.specs.declared.fault.ScriptFault.{ScriptFault}
+use Rattle.script_read.specs.declared.fault.ScriptFault.{ScriptFault}
 use Rattle.wasm_lang.specs.Modules.{WasmModule}
-use Rattle.wasm_scripts.specs.Modules.{IsRunnable}
-use Rattle.wasm_scripts.specs.Runs.{Prints, IsScriptRefusal}
+use Rattle.cmd_run_wasm.specs.Modules.{IsRunnable}
+use Rattle.cmd_run_wasm.specs.Runs.{Prints, IsScriptRefusal}
 
 -- the bytes spell a module that is run, and the output is printed of the script's run on it
 pub record IsPlayed (bytes text : List ℕ) (steps : ℕ) (output : List ℕ) : Type 0 where

@@ -1,11 +1,11 @@
 //! The rows. Each function does nothing, and its contract is what the check computes of bytes and a script.
 ghost use Rattle.std.specs.Prelude.{codes};
-ghost use Rattle.script_text.specs.declared.fault.ScriptFault.TheVariants as scripts;
+ghost use Rattle.script_read.specs.declared.fault.ScriptFault.TheVariants as scripts;
 ghost use Rattle.wasm_lang.specs.declared.fault.Row.TheVariants as bytes;
-ghost use Rattle.wasm_typing.specs.declared.rule.Rule.TheVariants as rules;
-ghost use Rattle.wasm_typing.specs.declared.section.Section.TheVariants as sections;
-ghost use Rattle.wasm_checking.specs.declared.fault.CheckFault.TheVariants as checks;
-ghost use Rattle.wasm_checking.specs.Verdicts.{IsCounted, IsRefused};
+ghost use Rattle.wasm_lang_valid.specs.declared.rule.Rule.TheVariants as rules;
+ghost use Rattle.wasm_lang_valid.specs.declared.section.Section.TheVariants as sections;
+ghost use Rattle.cmd_check_wasm.specs.declared.fault.CheckFault.TheVariants as checks;
+ghost use Rattle.cmd_check_wasm.specs.Verdicts.{IsCounted, IsRefused};
 ghost use Rattle.wasm_worked.specs.Played.{IsPlayed, IsUnplayed};
 ghost use Rattle.wasm_worked.specs.Rows as rows;
 

@@ -1,7 +1,7 @@
 //! Texts with the canonical text of their module, which is read as the module again.
 use super::{CLOSE, OPEN, joined};
 use crate::{read, reprinted};
-use asm_printer::print;
+use asm_grammar_print::print;
 use sem_words::Text;
 use std::alloc::Global;
 use std::process::Abort;

@@ -1,6 +1,6 @@
 use Rattle.std.proofs.Common.{◌≡◌, suc, max, min, ap, ◌∙◌}
-use Rattle.asm_nodes.specs.declared.declarations.ModuleTree.{ModuleTree}
-use Rattle.asm_nodes.specs.Heights.{counted}
+use Rattle.asm_grammar_nodes.specs.declared.declarations.ModuleTree.{ModuleTree}
+use Rattle.asm_grammar_nodes.specs.Heights.{counted}
 use Rattle.asm_grammar.proofs.Totals.{module_high}
 use Rattle.asm_grammar.proofs.exports.module.Goals as goal
 

@@ -1,6 +1,6 @@
 use Rattle.std.proofs.Common.{◌∙◌}
-use Rattle.asm_nodes.specs.Views.{heading_view, lexeme_view}
-use Rattle.asm_headings.specs.Variables.{variables_of}
+use Rattle.asm_grammar_nodes.specs.Views.{heading_view, lexeme_view}
+use Rattle.asm_grammar_decls.specs.Variables.{variables_of}
 use Rattle.asm_grammar.proofs.Classes.{ok_map, no_members}
 use Rattle.asm_grammar.proofs.globals.value.Goals as goal
 

@@ -3,7 +3,7 @@ use Rattle.std.proofs.lemmas.Result.{err_from_is_err_and}
 use Rattle.asm_lang.specs.Lexemes.{lexemes_of}
 use Rattle.asm_lang.specs.Machine.{at_start}
 use Rattle.asm_lang.specs.Heights.{height_limit}
-use Rattle.asm_heights.specs.Peaks.{run_low}
+use Rattle.asm_laws_height.specs.Peaks.{run_low}
 use Rattle.js_tokens.specs.Views.{placed_tokens}
 use Rattle.asm_grammar.specs.Readings.{reading_view}
 use Rattle.asm_grammar.proofs.All.{goes_on, refused, lacks_use, too_high, found_at_end, refused_at_end}

@@ -1,5 +1,5 @@
 use Rattle.asm_lang.specs.Lexemes.{lexeme_of}
-use Rattle.asm_nodes.specs.Views.{lexeme_view}
+use Rattle.asm_grammar_nodes.specs.Views.{lexeme_view}
 use Rattle.js_tokens.specs.Views.{placed_token}
 use Rattle.asm_grammar.specs.declared.reading.ModuleStep.TheVariants.{Stuck, NoUseAsm}
 use Rattle.asm_grammar.specs.Readings.{reading_view}

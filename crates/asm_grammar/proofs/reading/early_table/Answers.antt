@@ -1,8 +1,8 @@
 use Rattle.std.proofs.Common.{[], ap, map, ◌∙◌}
 use Rattle.sem_words.specs.Lists.{list_items}
 use Rattle.asm_lang.specs.Machine.{members_step}
-use Rattle.asm_nodes.specs.Views.{heading_view, lexeme_view, table_view}
-use Rattle.asm_headings.specs.Variables.{variables_of}
+use Rattle.asm_grammar_nodes.specs.Views.{heading_view, lexeme_view, table_view}
+use Rattle.asm_grammar_decls.specs.Variables.{variables_of}
 use Rattle.asm_grammar.proofs.reading.early_table.Goals as goal
 
 pub returns : goal.returns

@@ -1,8 +1,8 @@
 use Rattle.std.proofs.Common.{ap, sym}
 use Rattle.asm_lang.specs.Machine.{functions_by}
-use Rattle.asm_nodes.specs.declared.lexeme.Class.{Class}
-use Rattle.asm_nodes.specs.Views.{class_view, heading_view, lexeme_view}
-use Rattle.asm_headings.specs.Variables.{variables_of}
+use Rattle.asm_grammar_nodes.specs.declared.lexeme.Class.{Class}
+use Rattle.asm_grammar_nodes.specs.Views.{class_view, heading_view, lexeme_view}
+use Rattle.asm_grammar_decls.specs.Variables.{variables_of}
 use Rattle.asm_grammar.specs.Readings.{functions_of}
 use Rattle.asm_grammar.proofs.tables.functions_step.Goals as goal
 

@@ -1,7 +1,7 @@
 use Rattle.std.proofs.Common.{◌≡◌, ◌∷◌, ◌++◌, drop}
 use Rattle.sem_words.specs.Lists.{list_items}
 use Rattle.asm_lang.specs.Grammar.{texts}
-use Rattle.asm_nodes.specs.Views.{lexeme_view, lexemes_view, names_view}
+use Rattle.asm_grammar_nodes.specs.Views.{lexeme_view, lexemes_view, names_view}
 use Rattle.asm_grammar.proofs.tables.members.Given as goal
 
 abbrev pub invariant-loop-name : goal.invariant-loop-name

@@ -1,7 +1,7 @@
 use Rattle.std.proofs.Common.{ap, sym, ◌∙◌}
 use Rattle.sem_laws.specs.Views.{script_of}
 use Rattle.asm_tree.specs.Views.{module_view}
-use Rattle.asm_meaning.specs.Fits.{missing_line}
+use Rattle.asm_lang_exec.specs.Fits.{missing_line}
 use Rattle.asm_run.proofs.Named.{misfit_some, misfit_none}
 use Rattle.asm_run.proofs.fits.fits_asm.Goals as goal
 

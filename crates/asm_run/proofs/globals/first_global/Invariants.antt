@@ -1,7 +1,7 @@
 use Rattle.std.proofs.Common.{◌≡◌, [], take, drop, map}
 use Rattle.sem_laws.specs.Views.{global_of}
 use Rattle.asm_tree.specs.Views.{module_view}
-use Rattle.asm_meaning.specs.Fits.{global_lines, least}
+use Rattle.asm_lang_exec.specs.Fits.{global_lines, least}
 use Rattle.asm_run.specs.Forms.{earlier}
 use Rattle.asm_run.proofs.globals.first_global.Given as goal
 

@@ -2,7 +2,7 @@ use Rattle.std.proofs.Common.{◌≡◌, drop, map}
 use Rattle.sem_laws.specs.Script.{ReplyLinePlain}
 use Rattle.sem_laws.specs.Views.{reply_line_of}
 use Rattle.asm_tree.specs.Views.{module_view}
-use Rattle.asm_meaning.specs.Fits.{fits_reply, lines_of, least}
+use Rattle.asm_lang_exec.specs.Fits.{fits_reply, lines_of, least}
 use Rattle.asm_run.specs.Forms.{earlier}
 use Rattle.asm_run.proofs.writes.first_reply.Given as goal
 

@@ -1,7 +1,7 @@
 use Rattle.std.proofs.Common.{[], ap, ◌∙◌}
 use Rattle.sem_laws.specs.Views.{event_of}
 use Rattle.asm_tree.specs.Views.{function_view}
-use Rattle.asm_meaning.specs.Session.{result_event}
+use Rattle.asm_lang_exec.specs.Session.{result_event}
 use Rattle.asm_session.proofs.Hosting.{came_back, added_units, stopped, unpaid}
 use Rattle.asm_session.proofs.calls.after_body.Goals as goal
 

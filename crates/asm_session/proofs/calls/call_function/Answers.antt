@@ -1,8 +1,8 @@
 use Rattle.std.proofs.Common.{Some, [], sym, ap, ◌∙◌}
 use Rattle.asm_tree.specs.Views.{module_view, function_view}
-use Rattle.asm_meaning.specs.Meaning.{first_locals}
+use Rattle.asm_lang_exec.specs.Meaning.{first_locals}
 use Rattle.asm_variables.specs.Variables.{bindings}
-use Rattle.asm_place.specs.Locals.{locals_of}
+use Rattle.asm_run_state.specs.Locals.{locals_of}
 use Rattle.asm_session.specs.declared.calls.Hosted.TheVariants.{Ends}
 use Rattle.asm_session.proofs.Hosting.{units_left, left_more, no_unit, other_number, begun}
 use Rattle.asm_session.proofs.calls.call_function.Goals as goal

@@ -3,7 +3,7 @@ use Rattle.sem_words.specs.declared.js_value.JsValue.TheVariants.{Whole}
 use Rattle.sem_laws.specs.Views.{call_of}
 use Rattle.asm_tree.specs.declared.tree.Module.{Module}
 use Rattle.asm_tree.specs.Views.{module_view, function_view}
-use Rattle.asm_meaning.specs.Session.{exported_function}
+use Rattle.asm_lang_exec.specs.Session.{exported_function}
 use Rattle.asm_session.proofs.Hosting.{unknown, known, exported_small}
 use Rattle.asm_session.proofs.calls.host_call.Goals as goal
 

@@ -1,13 +1,13 @@
 use Rattle.std.proofs.Common.{[], ◌∷◌, refl, ap, ◌∙◌}
 use Rattle.asm_tree.specs.Views.{module_view, function_view, stmts_view}
-use Rattle.asm_steps.specs.Work.{of_end, at_list}
-use Rattle.asm_work.specs.declared.work.EndWork.TheVariants as ends
-use Rattle.asm_work.specs.declared.work.Work.TheVariants as works
-use Rattle.asm_work.specs.declared.work.Outcome.TheVariants.{Did}
-use Rattle.asm_work.specs.declared.work.Mode.TheVariants.{Comes}
-use Rattle.asm_work.specs.declared.endings.Completion.TheVariants.{Normal}
-use Rattle.asm_work.specs.Views.{works_view}
-use Rattle.asm_machine.specs.declared.machine.Machine.{Machine}
+use Rattle.asm_laws_machine.specs.Work.{of_end, at_list}
+use Rattle.asm_run_work.specs.declared.work.EndWork.TheVariants as ends
+use Rattle.asm_run_work.specs.declared.work.Work.TheVariants as works
+use Rattle.asm_run_work.specs.declared.work.Outcome.TheVariants.{Did}
+use Rattle.asm_run_work.specs.declared.work.Mode.TheVariants.{Comes}
+use Rattle.asm_run_work.specs.declared.endings.Completion.TheVariants.{Normal}
+use Rattle.asm_run_work.specs.Views.{works_view}
+use Rattle.asm_run_machine.specs.declared.machine.Machine.{Machine}
 use Rattle.asm_session.proofs.Hosting.{ran, left_within}
 use Rattle.asm_session.proofs.calls.run_body.Goals as goal
 

@@ -1,10 +1,10 @@
 use Rattle.std.proofs.Common.{rules, ◌≡◌, [], ap, ◌∙◌, subst}
 use Rattle.asm_tree.specs.declared.tree.Module.{Module}
 use Rattle.asm_tree.specs.Views.{module_view}
-use Rattle.asm_typing.specs.TypeRows.{type_rows}
-use Rattle.asm_typing.specs.LimitRows.{limit_rows, foreign_calls}
-use Rattle.asm_judging.specs.Faults as judging
-use Rattle.asm_limits.specs.Called as limiting
+use Rattle.asm_lang_valid.specs.TypeRows.{type_rows}
+use Rattle.asm_lang_valid.specs.LimitRows.{limit_rows, foreign_calls}
+use Rattle.asm_validate_stmts.specs.Faults as judging
+use Rattle.asm_validate_limits.specs.Called as limiting
 use Rattle.asm_validate.specs.Refusals.{of_names, of_types, of_limits}
 use Rattle.asm_validate.proofs.InOrder.{by_names, by_types, by_limits, accepted, refused_by}
 use Rattle.asm_validate.proofs.phases.check_phases.Goals as goal

@@ -1,6 +1,6 @@
 use Rattle.std.proofs.Common.{◌≡◌, ◌-◌, ◌≤◌, length, drop}
-use Rattle.asm_lexical.specs.Forms.{begins_close}
-use Rattle.asm_lexical.specs.Text.{first_place}
+use Rattle.asm_lang_tokens.specs.Forms.{begins_close}
+use Rattle.asm_lang_tokens.specs.Text.{first_place}
 use Rattle.js_tokens.proofs.Places.{added}
 use Rattle.js_tokens.proofs.comments.close_at.Given as goal
 

@@ -1,6 +1,6 @@
 use Rattle.std.proofs.Common.{◌≡◌, ◌+◌, ◌-◌, ◌≤◌, length, drop}
 use Rattle.std.specs.List.{position_or_len}
-use Rattle.asm_lexical.specs.Bytes.{is_line_end}
+use Rattle.asm_lang_tokens.specs.Bytes.{is_line_end}
 use Rattle.js_tokens.proofs.comments.line_len.Given as goal
 
 abbrev pub invariant-loop-n : goal.invariant-loop-n

@@ -1,6 +1,6 @@
 use Rattle.std.proofs.Common.{◌≡◌, false, drop, sym, ap, ◌∙◌, arith}
 use Rattle.std.proofs.lemmas.List.{take_rest}
-use Rattle.asm_lexical.specs.Forms.{begins_separator}
+use Rattle.asm_lang_tokens.specs.Forms.{begins_separator}
 use Rattle.js_tokens.proofs.Places.{not_here}
 use Rattle.js_tokens.proofs.comments.separator_at.Goals as goal
 

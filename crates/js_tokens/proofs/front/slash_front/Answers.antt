@@ -1,6 +1,6 @@
 use Rattle.std.proofs.Common.{◌+◌, sym, ap, ◌∙◌, take, arith}
-use Rattle.asm_lexical.specs.Forms.{begins_close}
-use Rattle.asm_lexical.specs.Text.{first_place}
+use Rattle.asm_lang_tokens.specs.Forms.{begins_close}
+use Rattle.asm_lang_tokens.specs.Text.{first_place}
 use Rattle.js_tokens.proofs.Fronts.{line_front, block_front, open_front}
 use Rattle.js_tokens.proofs.front.slash_front.Goals as goal
 

@@ -1,6 +1,6 @@
 use Rattle.std.proofs.Common.{◌≡◌, ◌+◌, ◌-◌, ◌≤◌, length, drop}
 use Rattle.std.specs.List.{prefix_len}
-use Rattle.asm_lexical.specs.Bytes.{is_digit}
+use Rattle.asm_lang_tokens.specs.Bytes.{is_digit}
 use Rattle.js_tokens.proofs.numbers.digits_len.Given as goal
 
 abbrev pub invariant-loop-n : goal.invariant-loop-n

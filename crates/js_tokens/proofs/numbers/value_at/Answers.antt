@@ -1,5 +1,5 @@
 use Rattle.std.proofs.Common.{◌+◌, ◌*◌, get_or, drop, sym, ap, ◌∙◌, arith}
-use Rattle.asm_lexical.specs.Bytes.{digit_value}
+use Rattle.asm_lang_tokens.specs.Bytes.{digit_value}
 use Rattle.js_tokens.specs.Scan.{number_of, value_len}
 use Rattle.js_tokens.proofs.Digits.{one_digit, value-more}
 use Rattle.js_tokens.proofs.numbers.value_at.Goals as goal

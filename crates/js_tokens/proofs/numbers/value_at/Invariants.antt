@@ -1,5 +1,5 @@
 use Rattle.std.proofs.Common.{◌≡◌, ◌+◌, ◌-◌, ◌≤◌, length, take, drop}
-use Rattle.asm_lexical.specs.Forms.{value_in}
+use Rattle.asm_lang_tokens.specs.Forms.{value_in}
 use Rattle.js_tokens.specs.Scan.{number_of, value_len}
 use Rattle.js_tokens.proofs.numbers.value_at.Given as goal
 

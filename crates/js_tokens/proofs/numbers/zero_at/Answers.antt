@@ -1,5 +1,5 @@
 use Rattle.std.proofs.Common.{sym, ap, ◌∙◌, arith, take}
-use Rattle.asm_lexical.specs.Forms.{value_in}
+use Rattle.asm_lang_tokens.specs.Forms.{value_in}
 use Rattle.js_tokens.specs.declared.numbers.Base.TheVariants.{Sixteen}
 use Rattle.js_tokens.specs.Scan.{value_len}
 use Rattle.js_tokens.proofs.Digits.{hexadecimal_after, zero_before_mark, zero_alone, zero_decimal}

@@ -1,6 +1,6 @@
 use Rattle.std.proofs.Common.{◌≡◌, ◌+◌, ◌-◌, ◌≤◌, length, drop}
 use Rattle.std.specs.List.{prefix_len}
-use Rattle.asm_lexical.specs.Bytes.{may_be_quoted}
+use Rattle.asm_lang_tokens.specs.Bytes.{may_be_quoted}
 use Rattle.js_tokens.proofs.quoted.inner_len.Given as goal
 
 abbrev pub invariant-loop-n : goal.invariant-loop-n

@@ -1,7 +1,7 @@
 use Rattle.std.proofs.Common.{refl}
 use Rattle.std.specs.List.{AllByRecursion}
-use Rattle.asm_lexical.specs.Text.{IsAt, HasForm, IsJoined}
-use Rattle.asm_lexical.proofs.Readings.{places_of, forms_of, joined_of}
+use Rattle.asm_lang_tokens.specs.Text.{IsAt, HasForm, IsJoined}
+use Rattle.asm_lang_tokens.proofs.Readings.{places_of, forms_of, joined_of}
 use Rattle.js_tokens.proofs.GoingOn.{of_found, tells}
 use Rattle.js_tokens.proofs.reading.tokens.Goals as goal
 

@@ -1,7 +1,7 @@
 use Rattle.wasm_tree.specs.Inputs.{input_of}
 use Rattle.wasm_tree.proofs.Slices.{stands_trans}
-use Rattle.wasm_entries.specs.Lent.{source_of, IsLentBody, IsLentSegment}
-use Rattle.wasm_entries.proofs.Lending.{each_from, lent_from, code_from}
+use Rattle.wasm_binary_entries.specs.Lent.{source_of, IsLentBody, IsLentSegment}
+use Rattle.wasm_binary_entries.proofs.Lending.{each_from, lent_from, code_from}
 use Rattle.wasm_binary.proofs.LentModules.{contents_read}
 use Rattle.wasm_binary.proofs.reader.contents.Goals as goal
 

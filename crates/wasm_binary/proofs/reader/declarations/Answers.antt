@@ -3,7 +3,7 @@ use Rattle.wasm_lang.specs.Reading.{vec_field}
 use Rattle.wasm_lang.specs.ReadingModule.{functions_content, table_field, memory_field, globals_content}
 use Rattle.wasm_tree.specs.Inputs.{input_of}
 use Rattle.wasm_tree.proofs.Slices.{stands_trans}
-use Rattle.wasm_entries.specs.Views.{imports_of}
+use Rattle.wasm_binary_entries.specs.Views.{imports_of}
 use Rattle.wasm_binary.proofs.LentModules.{declarations_read, past_is, lent_as}
 use Rattle.wasm_binary.proofs.reader.declarations.Goals as goal
 

@@ -4,8 +4,8 @@ use Rattle.wasm_lang.specs.Reading.{onto, u32, vec_field}
 use Rattle.wasm_lang.specs.ReadingModule.{element_field}
 use Rattle.wasm_tree.specs.Inputs.{input_of}
 use Rattle.wasm_tree.proofs.Slices.{stands_trans}
-use Rattle.wasm_entries.specs.Lent.{source_of, IsLentExport}
-use Rattle.wasm_entries.proofs.Lending.{each_from, lent_from}
+use Rattle.wasm_binary_entries.specs.Lent.{source_of, IsLentExport}
+use Rattle.wasm_binary_entries.proofs.Lending.{each_from, lent_from}
 use Rattle.wasm_binary.proofs.LentModules.{definitions_read, past_is, lent_as}
 use Rattle.wasm_binary.proofs.reader.definitions.Goals as goal
 

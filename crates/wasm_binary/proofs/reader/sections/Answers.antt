@@ -2,8 +2,8 @@ use Rattle.std.proofs.Common.{[]}
 use Rattle.wasm_lang.specs.ReadingModule.{types_content}
 use Rattle.wasm_tree.specs.Inputs.{input_of}
 use Rattle.wasm_tree.proofs.Slices.{stands_trans}
-use Rattle.wasm_entries.specs.Lent.{source_of, IsLentImport}
-use Rattle.wasm_entries.proofs.Lending.{each_from, import_from}
+use Rattle.wasm_binary_entries.specs.Lent.{source_of, IsLentImport}
+use Rattle.wasm_binary_entries.proofs.Lending.{each_from, import_from}
 use Rattle.wasm_binary.proofs.LentModules.{sections_read, past_is, lent_as}
 use Rattle.wasm_binary.proofs.reader.sections.Goals as goal
 

@@ -3,9 +3,9 @@ use Rattle.std.proofs.lemmas.Grind.{common_steps}
 use Rattle.std.specs.Prelude.{Ok}
 use Rattle.wasm_tree.specs.Inputs.{input_of, Continues}
 use Rattle.wasm_tree.proofs.Slices.{stands_trans}
-use Rattle.wasm_entries.specs.Lent.{source_of, IsLentBody}
-use Rattle.wasm_entries.specs.Places.{body_place}
-use Rattle.wasm_entries.proofs.Lending.{code_from}
+use Rattle.wasm_binary_entries.specs.Lent.{source_of, IsLentBody}
+use Rattle.wasm_binary_entries.specs.Places.{body_place}
+use Rattle.wasm_binary_entries.proofs.Lending.{code_from}
 use Rattle.wasm_binary.specs.Parts.{part_head, found_part}
 use Rattle.wasm_binary.proofs.LentModules.{found_lent}
 use Rattle.wasm_binary.proofs.sections.body_section.Goals as goal

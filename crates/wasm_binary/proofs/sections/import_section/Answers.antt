@@ -2,9 +2,9 @@ use Rattle.std.proofs.Common.{◌≡◌}
 use Rattle.std.specs.Prelude.{Ok}
 use Rattle.wasm_tree.specs.Inputs.{input_of, Continues}
 use Rattle.wasm_tree.proofs.Slices.{stands_trans}
-use Rattle.wasm_entries.specs.Lent.{source_of, IsLentImport}
-use Rattle.wasm_entries.specs.Places.{import_places}
-use Rattle.wasm_entries.proofs.Lending.{import_from}
+use Rattle.wasm_binary_entries.specs.Lent.{source_of, IsLentImport}
+use Rattle.wasm_binary_entries.specs.Places.{import_places}
+use Rattle.wasm_binary_entries.proofs.Lending.{import_from}
 use Rattle.wasm_binary.specs.Parts.{part_head, found_part}
 use Rattle.wasm_binary.proofs.LentModules.{found_lent}
 use Rattle.wasm_binary.proofs.sections.import_section.Goals as goal

@@ -1,8 +1,8 @@
 use Rattle.std.proofs.Common.{◌≡◌, Some, reverse, length, sym, ap, subst, ◌∙◌}
 use Rattle.sem_words.specs.Lists.{text_bytes, list_items}
 use Rattle.wasm_tree.specs.Views.{module_of, type_of, body_of}
-use Rattle.wasm_meaning.specs.Reductions.{top_of, below_top}
-use Rattle.wasm_frames.specs.Views.{machine_of}
+use Rattle.wasm_lang_exec.specs.Reductions.{top_of, below_top}
+use Rattle.wasm_run_frames.specs.Views.{machine_of}
 use Rattle.wasm_calls.specs.Functions.{bodies_of}
 use Rattle.wasm_calls.specs.Asking.{Asks}
 use Rattle.wasm_calls.proofs.Called.{viewed, call_asks, call_enters}

@@ -1,5 +1,5 @@
 use Rattle.std.proofs.Common.{◌≡◌, length, drop}
-use Rattle.wasm_meaning.specs.Reductions.{same_types}
+use Rattle.wasm_lang_exec.specs.Reductions.{same_types}
 use Rattle.wasm_calls.proofs.types.are_same_types.Given as goal
 
 abbrev pub invariant-loop-k : goal.invariant-loop-k

@@ -1,6 +1,6 @@
 use Rattle.std.proofs.Common.{◌≡◌, ◌≤◌, ◌+◌, ◌++◌, drop, map, length}
 use Rattle.wasm_tree.specs.Views.{import_of, type_of}
-use Rattle.wasm_typing.specs.ModuleRules.{imported_functions}
+use Rattle.wasm_lang_valid.specs.ModuleRules.{imported_functions}
 use Rattle.wasm_listing.specs.Listing.{import_lines}
 use Rattle.wasm_listing.proofs.functions.push_imports.Given as goal
 

@@ -1,6 +1,6 @@
 use Rattle.std.proofs.Common.{◌≡◌, drop, map}
 use Rattle.wasm_tree.specs.Views.{export_of}
-use Rattle.wasm_meaning.specs.Session.{function_named}
+use Rattle.wasm_lang_exec.specs.Session.{function_named}
 use Rattle.wasm_run.proofs.calls.function_named.Given as goal
 
 abbrev pub invariant-loop-export : goal.invariant-loop-export

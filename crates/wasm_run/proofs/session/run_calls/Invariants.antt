@@ -1,8 +1,8 @@
 use Rattle.std.proofs.Common.{◌≡◌, drop, map}
 use Rattle.sem_laws.specs.Views.{call_of}
 use Rattle.wasm_tree.specs.Views.{module_of}
-use Rattle.wasm_meaning.specs.Session.{calls_seen}
-use Rattle.wasm_frames.specs.Views.{machine_of}
+use Rattle.wasm_lang_exec.specs.Session.{calls_seen}
+use Rattle.wasm_run_frames.specs.Views.{machine_of}
 use Rattle.wasm_calls.specs.Functions.{AreFunctions}
 use Rattle.wasm_run.proofs.session.run_calls.Given as goal
 

@@ -2,7 +2,7 @@ use Rattle.std.proofs.Common.{◌≡◌, ◌+◌, ◌++◌, ◌∷◌, [], List,
 use Rattle.std.proofs.lemmas.List.{append-nil}
 use Rattle.std.proofs.lemmas.Option.{slice_get_past, slice_get_read}
 use Rattle.sem_words.specs.declared.word.Word.{Word}
-use Rattle.wasm_meaning.specs.Session.{words_for}
+use Rattle.wasm_lang_exec.specs.Session.{words_for}
 use Rattle.wasm_run.proofs.Given.{no_words, one_word}
 use Rattle.wasm_run.proofs.words.add_words.Goals as goal
 

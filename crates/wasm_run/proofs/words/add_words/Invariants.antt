@@ -1,5 +1,5 @@
 use Rattle.std.proofs.Common.{◌≡◌, ◌++◌, drop}
-use Rattle.wasm_meaning.specs.Session.{words_for}
+use Rattle.wasm_lang_exec.specs.Session.{words_for}
 use Rattle.wasm_run.proofs.words.add_words.Given as goal
 
 abbrev pub invariant-loop-k : goal.invariant-loop-k

@@ -1,6 +1,6 @@
 use Rattle.std.proofs.Common.{◌≡◌, drop, map}
 use Rattle.wasm_tree.specs.Views.{import_of}
-use Rattle.wasm_typing.specs.Runnable.{imported_pages}
+use Rattle.wasm_lang_valid.specs.Runnable.{imported_pages}
 use Rattle.wasm_run.proofs.writes.imported_pages.Given as goal
 
 abbrev pub invariant-loop-import : goal.invariant-loop-import

@@ -1,9 +1,9 @@
 use Rattle.std.proofs.Common.{◌≡◌, ◌+◌, ◌∷◌, List, drop, map, sym, ap, ◌∙◌}
 use Rattle.wasm_tree.specs.declared.module.Segment.{Segment}
 use Rattle.wasm_tree.specs.Views.{segment_of}
-use Rattle.wasm_meaning.specs.Store.{Store}
-use Rattle.wasm_meaning.specs.Session.{with_bytes}
-use Rattle.wasm_operands.specs.Effects.{store_of}
+use Rattle.wasm_lang_exec.specs.Store.{Store}
+use Rattle.wasm_lang_exec.specs.Session.{with_bytes}
+use Rattle.wasm_run_operands.specs.Effects.{store_of}
 use Rattle.wasm_segments.proofs.Segments.{next_of}
 use Rattle.wasm_segments.proofs.data.put_bytes.Goals as goal
 

@@ -2,8 +2,8 @@ use Rattle.std.proofs.Common.{◌≡◌, List, drop, map}
 use Rattle.sem_laws.specs.Observation.{EventPlain}
 use Rattle.sem_laws.specs.Imports.{Replies}
 use Rattle.wasm_tree.specs.Views.{element_of}
-use Rattle.wasm_meaning.specs.Session.{entries_fit}
-use Rattle.wasm_operands.specs.Effects.{store_of}
+use Rattle.wasm_lang_exec.specs.Session.{entries_fit}
+use Rattle.wasm_run_operands.specs.Effects.{store_of}
 use Rattle.wasm_segments.proofs.elements.entries_fit.Given as goal
 
 abbrev pub invariant-loop-element : goal.invariant-loop-element

@@ -2,9 +2,9 @@ use Rattle.std.proofs.Common.{◌≡◌, ◌+◌, ◌∷◌, [], true, List, dro
 use Rattle.sem_laws.specs.Imports.{Replies}
 use Rattle.wasm_tree.specs.declared.module.Element.{Element}
 use Rattle.wasm_tree.specs.Views.{element_of}
-use Rattle.wasm_meaning.specs.Store.{Store}
-use Rattle.wasm_meaning.specs.Session.{entries_fit, with_entries}
-use Rattle.wasm_operands.specs.Effects.{store_of}
+use Rattle.wasm_lang_exec.specs.Store.{Store}
+use Rattle.wasm_lang_exec.specs.Session.{entries_fit, with_entries}
+use Rattle.wasm_run_operands.specs.Effects.{store_of}
 use Rattle.wasm_segments.proofs.Segments.{next_of, first_fits, others_fit}
 use Rattle.wasm_segments.proofs.elements.put_entries.Goals as goal
 

@@ -2,8 +2,8 @@ use Rattle.std.proofs.Common.{◌≡◌, true, List, drop, map}
 use Rattle.sem_laws.specs.Observation.{EventPlain}
 use Rattle.sem_laws.specs.Imports.{Replies}
 use Rattle.wasm_tree.specs.Views.{element_of}
-use Rattle.wasm_meaning.specs.Session.{entries_fit, with_entries}
-use Rattle.wasm_operands.specs.Effects.{store_of}
+use Rattle.wasm_lang_exec.specs.Session.{entries_fit, with_entries}
+use Rattle.wasm_run_operands.specs.Effects.{store_of}
 use Rattle.wasm_segments.proofs.elements.put_entries.Given as goal
 
 abbrev pub invariant-loop-element : goal.invariant-loop-element

@@ -1,7 +1,7 @@
 use Rattle.std.proofs.Common.{◌≡◌, ◌++◌, drop, map}
 use Rattle.wasm_lang.specs.Modules.{GlobalEntry}
 use Rattle.wasm_tree.specs.Views.{global_of}
-use Rattle.wasm_meaning.specs.Session.{value_of}
+use Rattle.wasm_lang_exec.specs.Session.{value_of}
 use Rattle.wasm_segments.proofs.values.add_first_values.Given as goal
 
 abbrev pub invariant-loop-global : goal.invariant-loop-global

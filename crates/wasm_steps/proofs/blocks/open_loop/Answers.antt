@@ -1,4 +1,4 @@
-use Rattle.wasm_frames.specs.Views.{machine_of}
+use Rattle.wasm_run_frames.specs.Views.{machine_of}
 use Rattle.wasm_steps.proofs.Opened.{block_does, loop_does, if_does, if_is_stuck, end_is_at, else_is_at}
 use Rattle.wasm_steps.proofs.blocks.open_loop.Goals as goal
 

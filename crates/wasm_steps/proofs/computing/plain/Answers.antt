@@ -2,12 +2,12 @@ use Rattle.std.proofs.Common.{◌≡◌, ◌++◌, List, length, take, drop, map
 use Rattle.sem_words.specs.declared.word.Word.{Word}
 use Rattle.sem_words.specs.Lists.{list_items}
 use Rattle.sem_laws.specs.Views.{event_of}
-use Rattle.sem_replies.specs.Answers.{replies_of}
-use Rattle.wasm_meaning.specs.Plain.{goes}
-use Rattle.wasm_operands.specs.Effects.{store_of}
-use Rattle.wasm_plain.specs.Forms.{instruction_effect}
+use Rattle.script_replies.specs.Answers.{replies_of}
+use Rattle.wasm_lang_exec.specs.Plain.{goes}
+use Rattle.wasm_run_operands.specs.Effects.{store_of}
+use Rattle.wasm_run_plain.specs.Forms.{instruction_effect}
 use Rattle.wasm_tree.specs.Views.{instr_of}
-use Rattle.wasm_frames.specs.Views.{machine_of}
+use Rattle.wasm_run_frames.specs.Views.{machine_of}
 use Rattle.wasm_steps.proofs.Plains.{goes_on, traps_there, sticks_there, refilled}
 use Rattle.wasm_steps.proofs.computing.plain.Goals as goal
 

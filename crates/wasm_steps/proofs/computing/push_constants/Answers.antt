@@ -1,6 +1,6 @@
 use Rattle.std.proofs.Common.{◌≡◌, ◌∷◌, length, refl, ap, sym, ◌∙◌, arith}
 use Rattle.wasm_tree.specs.Views.{instr_of}
-use Rattle.wasm_frames.specs.Views.{machine_of}
+use Rattle.wasm_run_frames.specs.Views.{machine_of}
 use Rattle.wasm_steps.proofs.Plains.{constant_does, no_constant_there}
 use Rattle.wasm_steps.proofs.computing.push_constants.Goals as goal
 

@@ -1,9 +1,9 @@
 use Rattle.std.proofs.Common.{◌≡◌, ℕ, ◌-◌, List, length}
 use Rattle.wasm_lang.specs.Instructions.{Instruction}
 use Rattle.wasm_lang.specs.Modules.{WasmModule}
-use Rattle.wasm_driving.specs.Drive.{Outcome}
-use Rattle.wasm_machine.specs.Meaning.{Runs}
-use Rattle.wasm_frames.specs.Views.{machine_of}
+use Rattle.wasm_laws_drive.specs.Drive.{Outcome}
+use Rattle.wasm_laws_machine.specs.Meaning.{Runs}
+use Rattle.wasm_run_frames.specs.Views.{machine_of}
 use Rattle.wasm_steps.proofs.computing.push_constants.Given as goal
 
 abbrev pub invariant-constants : goal.invariant-constants

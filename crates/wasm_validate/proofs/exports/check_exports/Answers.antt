@@ -3,8 +3,8 @@ use Rattle.std.specs.Prelude.{slice_get}
 use Rattle.std.specs.List.{list_any}
 use Rattle.std.specs.Cmp.Lexicographic.{pointwise}
 use Rattle.wasm_tree.specs.Views.{module_of, export_of}
-use Rattle.wasm_typing.specs.declared.section.Section.TheVariants as sections
-use Rattle.wasm_typing.specs.ModuleRules.{is_named}
+use Rattle.wasm_lang_valid.specs.declared.section.Section.TheVariants as sections
+use Rattle.wasm_lang_valid.specs.ModuleRules.{is_named}
 use Rattle.wasm_validate.proofs.Names.{names_held, one_more_name, export_at, is_new_true, keys_longer}
 use Rattle.wasm_validate.proofs.Sections.{item_at, item_fault, fine_more}
 use Rattle.wasm_validate.proofs.exports.check_exports.Goals as goal

@@ -1,6 +1,6 @@
 use Rattle.std.proofs.Common.{take}
 use Rattle.wasm_tree.specs.Views.{module_of}
-use Rattle.wasm_typing.specs.declared.section.Section.TheVariants as sections
+use Rattle.wasm_lang_valid.specs.declared.section.Section.TheVariants as sections
 use Rattle.wasm_validate.specs.Sections.{FineItems}
 use Rattle.wasm_validate.proofs.Names.{HoldNames}
 use Rattle.wasm_validate.proofs.exports.check_exports.Given as goal

@@ -1,6 +1,6 @@
 use Rattle.std.proofs.Common.{◌≡◌, drop, map}
 use Rattle.wasm_tree.specs.Views.{import_of}
-use Rattle.wasm_typing.specs.ModuleRules as rules
+use Rattle.wasm_lang_valid.specs.ModuleRules as rules
 use Rattle.wasm_validate.proofs.facts.imports_table.Given as goal
 
 abbrev pub invariant-loop-import : goal.invariant-loop-import

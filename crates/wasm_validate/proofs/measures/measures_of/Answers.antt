@@ -1,6 +1,6 @@
 use Rattle.std.proofs.Common.{[], map, refl, ap, ◌∙◌}
 use Rattle.wasm_tree.specs.Views.{import_of, module_of}
-use Rattle.wasm_typing.specs.Measures.{called_types, first_mixed}
+use Rattle.wasm_lang_valid.specs.Measures.{called_types, first_mixed}
 use Rattle.wasm_validate.proofs.Counting.{all_counted, all_called}
 use Rattle.wasm_validate.proofs.measures.measures_of.Goals as goal
 

@@ -1,6 +1,6 @@
 use Rattle.std.proofs.Common.{◌≡◌, [], map, take, drop}
 use Rattle.wasm_tree.specs.Views.{import_of}
-use Rattle.wasm_typing.specs.Measures.{first_mixed}
+use Rattle.wasm_lang_valid.specs.Measures.{first_mixed}
 use Rattle.wasm_validate.specs.Mixed.{AreNames}
 use Rattle.wasm_validate.proofs.mixed.first_mixed.Given as goal
 

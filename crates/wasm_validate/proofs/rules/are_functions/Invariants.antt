@@ -1,6 +1,6 @@
 use Rattle.std.proofs.Common.{◌≡◌, drop}
 use Rattle.wasm_lang.specs.Modules.{WasmModule}
-use Rattle.wasm_typing.specs.ModuleRules as rules
+use Rattle.wasm_lang_valid.specs.ModuleRules as rules
 use Rattle.wasm_validate.specs.Facts.{FactsOf}
 use Rattle.wasm_validate.proofs.rules.are_functions.Given as goal
 

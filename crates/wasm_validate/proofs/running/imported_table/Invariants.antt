@@ -1,7 +1,7 @@
 use Rattle.std.proofs.Common.{◌≡◌, drop, map}
 use Rattle.wasm_tree.specs.Views.{import_of}
-use Rattle.wasm_typing.specs.ModuleRules.{is_table}
-use Rattle.wasm_typing.specs.Runnable.{first_import}
+use Rattle.wasm_lang_valid.specs.ModuleRules.{is_table}
+use Rattle.wasm_lang_valid.specs.Runnable.{first_import}
 use Rattle.wasm_validate.proofs.running.imported_table.Given as goal
 
 abbrev pub invariant-loop-i : goal.invariant-loop-i

@@ -1,7 +1,7 @@
 use Rattle.std.proofs.Common.{ap, sym, ◌∙◌}
-use Rattle.asm_nodes.specs.Heights.{counted}
-use Rattle.asm_nodes.specs.Views.{lexeme_view}
-use Rattle.asm_headings.specs.Variables.{params_of, variables_of}
+use Rattle.asm_grammar_nodes.specs.Heights.{counted}
+use Rattle.asm_grammar_nodes.specs.Views.{lexeme_view}
+use Rattle.asm_grammar_decls.specs.Variables.{params_of, variables_of}
 use Rattle.asm_grammar.specs.Bodies.{body_of}
 use Rattle.asm_grammar.proofs.Idle.{function_quiet}
 use Rattle.asm_grammar.proofs.function.FunctionReading.peak.Goals as goal

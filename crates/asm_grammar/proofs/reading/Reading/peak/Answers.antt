@@ -1,10 +1,10 @@
 use Rattle.std.proofs.Common.{[], ◌∷◌, ◌++◌, ap, sym, ◌∙◌}
 use Rattle.asm_lang.specs.Machine.{at_functions}
-use Rattle.asm_heights.specs.Peaks.{step_peak}
-use Rattle.asm_nodes.specs.Heights.{counted}
-use Rattle.asm_nodes.specs.Views.{heading_view}
+use Rattle.asm_laws_height.specs.Peaks.{step_peak}
+use Rattle.asm_grammar_nodes.specs.Heights.{counted}
+use Rattle.asm_grammar_nodes.specs.Views.{heading_view}
 use Rattle.asm_grammar.specs.declared.reading.Reading.{Reading}
-use Rattle.asm_headings.specs.Variables.{variables_of}
+use Rattle.asm_grammar_decls.specs.Variables.{variables_of}
 use Rattle.asm_grammar.specs.Readings.{functions_of, reading_view}
 use Rattle.asm_grammar.proofs.Idle.{quiet}
 use Rattle.asm_grammar.proofs.reading.Reading.peak.Goals as goal

@@ -1,7 +1,7 @@
 use Rattle.std.proofs.Common.{inl, inr, refl, ap}
 use Rattle.wasm_tree.specs.Views.{import_of}
-use Rattle.wasm_typing.specs.Measures.{is_function_import, is_global_import}
-use Rattle.wasm_bodies.proofs.Calls.{if_ok}
+use Rattle.wasm_lang_valid.specs.Measures.{is_function_import, is_global_import}
+use Rattle.wasm_validate_bodies.proofs.Calls.{if_ok}
 use Rattle.wasm_validate.proofs.ImportNames.{neither, a_function, a_global}
 use Rattle.wasm_validate.proofs.mixed.Names.add.Goals as goal
 

@@ -1,7 +1,0 @@
-use Rattle.std.proofs.Common.{length, sym, ap, ◌∙◌}
-use Rattle.std.proofs.lemmas.List.{length-map}
-use Rattle.asm_limits.specs.Called.{foreign_view}
-use Rattle.asm_checking.proofs.counting.call_count.Goals as goal
-
-pub returns : goal.returns
-returns c = sym (length-map c.foreign_calls.result.now foreign_view) ∙ ap length c.foreign_calls.ensures

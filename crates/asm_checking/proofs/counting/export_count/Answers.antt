@@ -1,9 +1,0 @@
-use Rattle.std.proofs.Common.{length, sym, ap, ◌∙◌}
-use Rattle.std.proofs.lemmas.List.{length-map}
-use Rattle.asm_tree.specs.Views.{module_view}
-use Rattle.asm_facts.specs.Numbers.{export_said}
-use Rattle.asm_checking.proofs.Judging.{exports_length}
-use Rattle.asm_checking.proofs.counting.export_count.Goals as goal
-
-pub returns : goal.returns
-returns c = sym (length-map c.exports.result.now export_said) ∙ ap length c.exports.ensures ∙ exports_length (module_view c.args.checked.now)

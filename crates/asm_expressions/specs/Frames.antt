@@ -1,9 +1,0 @@
--- A stack of what is open, as a list.
-use Rattle.std.specs.Prelude.{List, map}
-use Rattle.asm_expressions.specs.declared.frame.Frame.{Frame}
-use Rattle.asm_expressions.specs.declared.frames.Entry.{Entry}
-use Rattle.asm_expressions.specs.declared.frames.Frames.{Frames}
-
--- the innermost last
-abbrev pub frames_list : Frames → List Frame
-frames_list fs = map (λ (e : Entry). e.frame) fs.entries.items

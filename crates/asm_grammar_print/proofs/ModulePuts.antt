@@ -1,0 +1,47 @@
+-- The pieces of the lists of a module, item by item, and its text.
+use Rattle.std.proofs.Common.{◌≡◌, ℕ, ◌+◌, ◌<◌, true, false, List, [], ◌∷◌, ◌++◌, map, length, get_or, take, refl, sym, ap, ◌∙◌, append_assoc, codes}
+use Rattle.asm_lang.specs.Modules.{Module}
+use Rattle.asm_lang.specs.Printing.{Piece, word, line_feed, between, variable_text, globals_text, function_text, functions_text, table_text, tables_text, export_pieces, module_pieces, canonical_text}
+use Rattle.asm_tree.specs.declared.tree.Global_.{Global_}
+use Rattle.asm_tree.specs.declared.tree.Function.{Function as CodeFunction}
+use Rattle.asm_tree.specs.declared.tree.Table.{Table as CodeTable}
+use Rattle.asm_tree.specs.declared.tree.Export.{Export as CodeExport}
+use Rattle.asm_tree.specs.Views.{global_view, function_view, table_view, export_view}
+use Rattle.asm_grammar_print.specs.Put.{Written, at_start, put_piece, put}
+use Rattle.asm_grammar_print.proofs.Puts.{put_append, put_joined, next_of_all}
+
+-- pieces, and a line feed after them
+line_put : {X : Type 0} (f : List X → List Piece) (g : X → List Piece) → f [] ≡ [] → ((x : X) (xs : List X) → f (x ∷ xs) ≡ g x ++ line_feed ∷ f xs)
+    → (w : Written) (xs : List X) (i : ℕ) (x : X) → i < length xs → x ≡ get_or xs i x → put_piece (put (put w (f (take i xs))) (g x)) line_feed ≡ put w (f (take (i + 1) xs))
+line_put f g none some w xs i x lt is =
+    sym (put_append (put w (f (take i xs))) (g x) (line_feed ∷ []))
+    ∙ next_of_all f (λ y. g y ++ line_feed ∷ []) none (λ y ys. some y ys ∙ sym (append_assoc (g y) (line_feed ∷ []) (f ys))) w xs i x lt is
+
+pub next_global : (w : Written) (xs : List Global_) (i : ℕ) (x : Global_) → i < length xs → x ≡ get_or xs i x
+    → put_piece (put (put w (globals_text (map global_view (take i xs)))) (variable_text (global_view x))) line_feed ≡ put w (globals_text (map global_view (take (i + 1) xs)))
+next_global = line_put (λ xs. globals_text (map global_view xs)) (λ x. variable_text (global_view x)) refl (λ x xs. refl)
+
+pub next_function : (w : Written) (xs : List CodeFunction) (i : ℕ) (x : CodeFunction) → i < length xs → x ≡ get_or xs i x
+    → put_piece (put (put w (functions_text (map function_view (take i xs)))) (function_text (function_view x))) line_feed ≡ put w (functions_text (map function_view (take (i + 1) xs)))
+next_function = line_put (λ xs. functions_text (map function_view xs)) (λ x. function_text (function_view x)) refl (λ x xs. refl)
+
+pub next_table : (w : Written) (xs : List CodeTable) (i : ℕ) (x : CodeTable) → i < length xs → x ≡ get_or xs i x
+    → put_piece (put (put w (tables_text (map table_view (take i xs)))) (table_text (table_view x))) line_feed ≡ put w (tables_text (map table_view (take (i + 1) xs)))
+next_table = line_put (λ xs. tables_text (map table_view xs)) (λ x. table_text (table_view x)) refl (λ x xs. refl)
+
+pub next_export : (w : Written) (xs : List CodeExport) (i : ℕ) (x : CodeExport) → i < length xs → x ≡ get_or xs i x
+    → put (put_piece (put w (export_pieces true (map export_view (take i xs)))) (word (codes ","))) (export_pieces false (export_view x ∷ [])) ≡ put w (export_pieces true (map export_view (take (i + 1) xs)))
+next_export = next_of_all (λ xs. export_pieces true (map export_view xs)) (λ x. word (codes ",") ∷ export_pieces false (export_view x ∷ [])) refl (λ x xs. refl)
+
+pub whole_text : (m : Module) → (put at_start (module_pieces m)).bytes ≡ canonical_text m
+whole_text m = put_joined at_start (module_pieces m)
+
+pub heading_put : (w : Written) (name ps d : List Piece)
+    → put (put_piece (put (put_piece (put (put_piece w (word (codes "function"))) name) (word (codes "("))) ps) (word (codes ")"))) d ≡ put w (word (codes "function") ∷ (name ++ (between (codes "(") ps (codes ")") ++ d)))
+heading_put w name ps d =
+    let named : Written = put (put_piece w (word (codes "function"))) name in
+    sym (put_append (put_piece w (word (codes "function"))) name (between (codes "(") ps (codes ")") ++ d)
+    ∙ (put_append (put_piece named (word (codes "("))) (ps ++ word (codes ")") ∷ []) d
+    ∙ ap (λ (s : Written). put s d) (put_append (put_piece named (word (codes "("))) ps (word (codes ")") ∷ []))))
+
+pub ruleset puts = (next_global, next_function, next_table, next_export, heading_put, whole_text)

@@ -1,0 +1,18 @@
+use Rattle.std.proofs.Common.{◌∙◌, ap, sym}
+use Rattle.asm_lang.specs.Machine.{goes}
+use Rattle.asm_grammar_nodes.specs.Tall.{stmt_tall_view}
+use Rattle.asm_grammar_stmts.specs.Frames.{frames_list}
+use Rattle.asm_grammar_stmts.specs.Items.{items_view}
+use Rattle.asm_grammar_stmts.specs.Views.{body_view, enclosed_view, frames_view, in_body}
+use Rattle.asm_grammar_stmts.proofs.StackLemmas.{popped_view}
+use Rattle.asm_grammar_stmts.proofs.finish.finish.Goals as goal
+
+pub returns-in-Arm : goal.returns-in-Arm
+returns-in-Arm c = λ k.
+    let bottom = in_body (items_view c.args.around.body) k in
+    let below = frames_view (frames_list c.pop.new.self) bottom in
+    ap (λ r. body_view r k) c.reading-in-Arm.ensures
+    ∙ ap goes
+    (ap (λ x. enclosed_view x below) (sym c.in-Arm.is) ∙ c.in_ok-whole.ensures below
+    ∙ popped_view (frames_list c.loop-frame.frames) (frames_list c.pop.new.self) c.in-Some.frame bottom (stmt_tall_view c.loop-frame.stmt) c.in-Some.ensures
+    ∙ c.loop-frame.invariant k)

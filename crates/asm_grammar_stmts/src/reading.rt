@@ -1,0 +1,96 @@
+//! The reading of a body.
+
+ghost use Rattle.std.specs.Prelude.{◌≡◌, IfOk};
+ghost use Rattle.asm_lang.specs.Trees.{StmtTrees, no_stmt};
+ghost use Rattle.asm_lang.specs.Machine.{Step, goes, at_stmts, advance};
+ghost use Rattle.asm_laws_height.specs.Peaks.{step_peak};
+ghost use Rattle.asm_grammar_nodes.specs.Heights.{counted};
+ghost use Rattle.asm_grammar_nodes.specs.Views.{lexeme_view};
+ghost use Rattle.asm_grammar_stmts.specs.Views.{body_view, body_step_view};
+
+use crate::begin::statement_step;
+use crate::clauses::{
+    case_step, clause_step, default_step, negative_step, subject_step, value_step,
+};
+use crate::ending::{after_body_step, arm_step, do_end_step, end_step};
+use crate::expression::{expression_step, name_step};
+use crate::frames::{Around, Frames};
+use crate::items::Items;
+use crate::parts::{condition_step, for_step, part_step, return_step, target_step};
+use crate::state::{BodyReading, BodyStep, State};
+use asm_grammar_nodes::{Height, Lexeme};
+use std::alloc::{AllocError, Global};
+
+impl BodyReading {
+    /// The first statement is to come, or the `}` of the body.
+    pub fn start(alloc: Global) -> BodyReading
+        ensures { (k : StmtTrees → Step) → body_view result k ≡ goes (at_stmts no_stmt k) }
+    {
+        BodyReading {
+            state: State::Statement,
+            around: Around {
+                body: Items::new(alloc),
+                frames: Frames::new(alloc),
+            },
+        }
+    }
+
+    /// Reads one token.
+    pub fn feed(self, alloc: Global, token: &Lexeme<'_>) -> Result<BodyStep, AllocError>
+        ensures { IfOk result (λ r. (k : StmtTrees → Step) → body_step_view r k (lexeme_view token.now) ≡ advance (body_view self k) (lexeme_view token.now)) }
+    {
+        let BodyReading { state, around } = self;
+        match state {
+            State::Statement => statement_step(alloc, around, token),
+            State::Name(name) => name_step(alloc, name, around, token),
+            State::Expression(reading, purpose) => {
+                expression_step(alloc, reading, purpose, around, token)
+            }
+            State::Condition(condition) => condition_step(alloc, condition, around, token),
+            State::ForParen(at) => for_step(at, around, token),
+            State::Part(at, part) => part_step(alloc, at, part, around, token),
+            State::Return(at) => return_step(alloc, at, around, token),
+            State::Target(jump, at) => target_step(alloc, jump, at, around, token),
+            State::End(stmt) => end_step(alloc, stmt, around, token),
+            State::DoEnd(stmt) => do_end_step(alloc, stmt, around, token),
+            State::AfterArm(at, condition, first) => {
+                arm_step(alloc, at, condition, first, around, token)
+            }
+            State::AfterBody(at, body) => after_body_step(at, body, around, token),
+            State::SwitchBrace(at, subject) => subject_step(alloc, at, subject, around, token),
+            State::Clause(switch) => clause_step(alloc, switch, around, token),
+            State::Value(switch) => value_step(alloc, switch, around, token),
+            State::Negative(_, switch) => negative_step(switch, around, token),
+            State::CaseColon(value, switch) => case_step(alloc, value, switch, around, token),
+            State::DefaultColon(switch) => default_step(alloc, switch, around, token),
+        }
+    }
+
+    /// How high the highest node is that may end at the last token.
+    pub fn peak(&self) -> Height
+        ensures { (k : StmtTrees → Step) → result.count ≡ counted (step_peak (body_view self.now k)) }
+    {
+        let Around { body, frames } = &self.around;
+        let reach = frames.reach();
+        match &self.state {
+            State::Statement => frames.last(body),
+            State::Name(_) => reach.rise.risen(Height::leaf().above()),
+            State::Expression(expr, purpose) => expr.peak(purpose.rise(reach.rise)),
+            State::Return(_) => reach.rise.risen(Height::leaf()),
+            State::Target(_, _) => reach.rise.risen(Height::leaf()),
+            State::End(stmt) => reach.risen(stmt),
+            State::DoEnd(stmt) => reach.risen(stmt),
+            State::AfterArm(_, condition, first) => reach.body(condition.height()).risen(first),
+            State::AfterBody(_, body) => body.as_body(),
+            State::Part(_, _) => Height::none(),
+            State::Condition(_)
+            | State::ForParen(_)
+            | State::SwitchBrace(_, _)
+            | State::Clause(_)
+            | State::Value(_)
+            | State::Negative(_, _)
+            | State::CaseColon(_, _)
+            | State::DefaultColon(_) => Height::none(),
+        }
+    }
+}

@@ -1,5 +1,0 @@
-use Rattle.std.proofs.Common.{sym, ◌∙◌, refl}
-use Rattle.asm_headings.proofs.heading.first_param.Goals as goal
-
-pub returns-then-is : goal.returns-then-is
-returns-then-is c = rw (sym c.is.ensures ∙ c.if-is.true) refl

@@ -1,4 +1,0 @@
--- The first row of rows after one another.
-use Rattle.asm_names.proofs.Found.{first_before, first_after}
-
-pub ruleset sequences = (first_before, first_after)

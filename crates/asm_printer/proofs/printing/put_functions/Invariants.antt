@@ -1,8 +1,0 @@
-use Rattle.std.proofs.Common.{◌≡◌, take, map}
-use Rattle.asm_lang.specs.Printing.{functions_text}
-use Rattle.asm_tree.specs.Views.{function_view}
-use Rattle.asm_printer.specs.Put.{written, put}
-use Rattle.asm_printer.proofs.printing.put_functions.Given as goal
-
-abbrev pub invariant-loop-function : goal.invariant-loop-function
-invariant-loop-function l = written l.out ≡ put (written l.initial.out) (functions_text (map function_view (take l.function-index l.functions)))

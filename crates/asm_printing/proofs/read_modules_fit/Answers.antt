@@ -1,5 +1,0 @@
-use Rattle.asm_printing.proofs.FitsModules.{module_fits, are_lexemes}
-use Rattle.asm_printing.proofs.read_modules_fit.Goals as goal
-
-pub returns : goal.returns
-returns c = λ tokens tree forms is. module_fits is (are_lexemes tokens forms)

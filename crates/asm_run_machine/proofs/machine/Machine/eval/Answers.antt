@@ -1,0 +1,25 @@
+use Rattle.std.proofs.Common.{List, ◌∷◌, sym, ap, ◌∙◌}
+use Rattle.sem_words.specs.Lists.{text_bytes}
+use Rattle.asm_tree.specs.declared.tree.Expr.{Expr}
+use Rattle.asm_tree.specs.Views.{module_view, expr_view, exprs_view}
+use Rattle.asm_tree.proofs.Views.{expr_view-TableCall, expr_view-Comma}
+use Rattle.asm_laws_machine.specs.Work.{at_table, of_expr}
+use Rattle.asm_laws_machine.specs.Steps.{to_expr, comma_step, eval_step}
+use Rattle.asm_run_machine.specs.Machines.{waiting, function, place}
+use Rattle.asm_run_machine.proofs.machine.Machine.eval.Goals as goal
+
+pub returns-in_ok-flow-in-TableCall : goal.returns-in_ok-flow-in-TableCall
+returns-in_ok-flow-in-TableCall c =
+    let s = c.args.self.now in
+    c.in_ok-flow-in-TableCall.ensures
+    ∙ ap (λ (e : Expr). to_expr (expr_view e) (of_expr (at_table (text_bytes c.in-TableCall.name) (exprs_view c.as_slice-in-TableCall.result.now)) ∷ waiting s) (function s) (place s)) c.deref-in-TableCall.ensures
+    ∙ ap (λ (es : List Expr). to_expr (expr_view c.in-TableCall.index.value) (of_expr (at_table (text_bytes c.in-TableCall.name) (exprs_view es)) ∷ waiting s) (function s) (place s)) c.as_slice-in-TableCall.ensures
+    ∙ sym (ap (λ e. eval_step (module_view c.args.environment.now.home.now) (waiting s) (function s) e (place s)) (ap expr_view c.in-TableCall.is ∙ expr_view-TableCall c.in-TableCall.name c.in-TableCall.index c.in-TableCall.arguments))
+
+pub returns-in_ok-flow-in-Comma : goal.returns-in_ok-flow-in-Comma
+returns-in_ok-flow-in-Comma c =
+    let s = c.args.self.now in
+    let m = module_view c.args.environment.now.home.now in
+    c.in_ok-flow-in-Comma.ensures m
+    ∙ ap (λ (es : List Expr). comma_step m (waiting s) (function s) (exprs_view es) (place s)) c.as_slice-in-Comma.ensures
+    ∙ sym (ap (λ e. eval_step m (waiting s) (function s) e (place s)) (ap expr_view c.in-Comma.is ∙ expr_view-Comma c.in-Comma.parts))

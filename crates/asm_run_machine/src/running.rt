@@ -1,0 +1,172 @@
+//! Runs a function's body to its end.
+ghost use Rattle.std.specs.Prelude.{◌≡◌, IfOk};
+ghost use Rattle.asm_tree.specs.Views.{module_view};
+ghost use Rattle.asm_validate_names.specs.Environments.{IsComplete};
+ghost use Rattle.asm_laws_machine.specs.Steps.{work_step};
+ghost use Rattle.asm_literals.specs.Literals.{SmallMode, SmallModule, SmallWorks};
+ghost use Rattle.asm_run_work.specs.Views.{work_view, outcome_view, mode_view};
+ghost use Rattle.asm_run_machine.specs.Machines.{waiting, function, place, moved};
+ghost use Rattle.asm_run_machine.specs.Reached.{Leads, SmallLeft, StepFalls, UnitsFall, Within, reached_of, bottom_of};
+
+use crate::machine::Machine;
+use asm_run_work::{Completion, Flow, Mode, Outcome, Work};
+use asm_validate_names::Environment;
+use sem_laws::End;
+use std::alloc::{AllocError, Global};
+
+/// What a function's body comes to: it ends, or the session does, or a unit is due where none is left, or
+/// an operand is of no kind that its operation is for.
+#[derive(Drop)]
+pub enum Ended<'a> {
+    Body(Completion<'a>),
+    Stops(End),
+    Spent,
+    Wrong,
+}
+
+/// What a part of the run has reached: it goes on, or it has ended.
+#[derive(Drop)]
+pub enum Reached<'a> {
+    Goes(Mode<'a>),
+    Ends(Ended<'a>),
+}
+
+impl<'a> Machine<'a> {
+    // The work on top takes what the last part came to.
+    fn work_on(
+        &mut self,
+        environment: &Environment<'a>,
+        alloc: Global,
+        piece: Work<'a>,
+        outcome: Outcome<'a>,
+    ) -> Result<Flow<'a>, AllocError>
+        requires complete { IsComplete environment.now }
+        requires small { SmallModule (module_view environment.now.home.now) }
+        ensures { IfOk result (λ flow. moved self.new flow ≡ work_step (module_view environment.now.home.now) (work_view piece.entry) (outcome_view outcome.entry) (waiting self.old) (function self.old) (place self.old)) }
+    {
+        match (piece, outcome) {
+            (Work::Expr(piece), Outcome::Gave(value)) => {
+                let flow = self.expr_work(environment, alloc, piece, value)?;
+                Ok(flow)
+            }
+            (Work::Stmt(piece), Outcome::Gave(value)) => {
+                let flow = self.stmt_work(piece, value)?;
+                Ok(flow)
+            }
+            (Work::End(piece), Outcome::Did(completion)) => {
+                let flow = self.end_work(piece, completion)?;
+                Ok(flow)
+            }
+            (Work::Expr(_) | Work::Stmt(_), Outcome::Did(_)) | (Work::End(_), Outcome::Gave(_)) =>
+                Ok(Flow::Wrong),
+        }
+    }
+
+    // One step.
+    fn step(
+        &mut self,
+        environment: &Environment<'a>,
+        alloc: Global,
+        mode: Mode<'a>,
+    ) -> Result<Reached<'a>, AllocError>
+        requires complete { IsComplete environment.now }
+        requires small { SmallModule (module_view environment.now.home.now) }
+        requires mode { SmallMode (mode_view mode) }
+        requires work { SmallWorks (waiting self.old) }
+        ensures leads { IfOk result (λ r. Leads (module_view environment.now.home.now) self.old mode.entry self.new r) }
+        ensures falls { IfOk result (λ r. StepFalls self.old mode.entry self.new r) }
+        ensures small { IfOk result (λ r. SmallLeft self.new r) }
+    {
+        match mode {
+            Mode::Evaluates(expr) => {
+                let flow = self.eval(environment, alloc, expr)?;
+                Ok(made_of(flow))
+            }
+            Mode::Executes(labels, stmt) => {
+                let flow = self.exec(labels, stmt)?;
+                Ok(made_of(flow))
+            }
+            Mode::Comes(outcome) => match self.work.pop() {
+                None => Ok(Reached::Ends(bottom(outcome))),
+                Some(piece) => {
+                    let flow = self.work_on(environment, alloc, piece, outcome)?;
+                    Ok(made_of(flow))
+                }
+            },
+        }
+    }
+
+    // Steps until a unit was taken, or to the end of the body.
+    fn stretch(
+        &mut self,
+        environment: &Environment<'a>,
+        alloc: Global,
+        mode: Mode<'a>,
+    ) -> Result<Reached<'a>, AllocError>
+        requires complete { IsComplete environment.now }
+        requires small { SmallModule (module_view environment.now.home.now) }
+        requires mode { SmallMode (mode_view mode) }
+        requires work { SmallWorks (waiting self.old) }
+        ensures leads { IfOk result (λ r. Leads (module_view environment.now.home.now) self.old mode.entry self.new r) }
+        ensures falls { IfOk result (λ r. UnitsFall self.old self.new r) }
+        ensures small { IfOk result (λ r. SmallLeft self.new r) }
+    {
+        let units = self.world.units();
+        let mut mode = mode;
+        'steps: loop {
+            match self.step(environment, alloc, mode)? {
+                Reached::Goes(next) => {
+                    if self.world.units() < units {
+                        return Ok(Reached::Goes(next));
+                    }
+                    mode = next;
+                }
+                Reached::Ends(ended) => return Ok(Reached::Ends(ended)),
+            }
+        }
+    }
+
+    /// Runs to the end of the body of the function that was called first.
+    pub fn run(
+        &mut self,
+        environment: &Environment<'a>,
+        alloc: Global,
+        mode: Mode<'a>,
+    ) -> Result<Ended<'a>, AllocError>
+        requires complete { IsComplete environment.now }
+        requires small { SmallModule (module_view environment.now.home.now) }
+        requires mode { SmallMode (mode_view mode) }
+        requires work { SmallWorks (waiting self.old) }
+        ensures leads { IfOk result (λ e. Leads (module_view environment.now.home.now) self.old mode.entry self.new (Reached.Ends e)) }
+        ensures within { IfOk result (Within self.old self.new) }
+    {
+        let mut mode = mode;
+        'stretches: loop {
+            match self.stretch(environment, alloc, mode)? {
+                Reached::Goes(next) => mode = next,
+                Reached::Ends(ended) => return Ok(ended),
+            }
+        }
+    }
+}
+
+fn made_of(flow: Flow<'_>) -> Reached<'_>
+    ensures { result ≡ reached_of flow.entry }
+{
+    match flow {
+        Flow::Go(mode) => Reached::Goes(mode),
+        Flow::Stops(end) => Reached::Ends(Ended::Stops(end)),
+        Flow::Spent => Reached::Ends(Ended::Spent),
+        Flow::Wrong => Reached::Ends(Ended::Wrong),
+    }
+}
+
+// Where no work is left, the body has ended.
+fn bottom(outcome: Outcome<'_>) -> Ended<'_>
+    ensures { result ≡ bottom_of outcome.entry }
+{
+    match outcome {
+        Outcome::Gave(_) => Ended::Wrong,
+        Outcome::Did(completion) => Ended::Body(completion),
+    }
+}

@@ -1,0 +1,75 @@
+//! Statements whose expression has a value.
+ghost use Rattle.std.specs.Prelude.{◌≡◌, IfOk};
+ghost use Rattle.asm_tree.specs.Views.{clauses_view};
+ghost use Rattle.asm_laws_machine.specs.Work.{at_switch};
+ghost use Rattle.asm_laws_machine.specs.Steps.{otherwise_step, stmt_work_step};
+ghost use Rattle.asm_run_work.specs.Views.{otherwise_view, stmt_work_view};
+ghost use Rattle.asm_run_machine.specs.Machines.{waiting, function, place, moved};
+
+use crate::machine::{Machine, after};
+use asm_run_work::{Completion, EndWork, Flow, Kept, Mode, StmtWork, Work, from_clause};
+use asm_tree::{Clause, Stmt};
+use sem_words::{JsValue, truthy};
+use std::alloc::AllocError;
+
+impl<'a> Machine<'a> {
+    /// Does the work of a statement with the value of its expression.
+    pub fn stmt_work(&mut self, piece: StmtWork<'a>, value: Kept) -> Result<Flow<'a>, AllocError>
+        ensures { IfOk result (λ flow. moved self.new flow ≡ stmt_work_step (waiting self.old) (function self.old) (stmt_work_view piece.entry) value (place self.old)) }
+    {
+        match piece {
+            StmtWork::Plain => Ok(after(Completion::Normal)),
+            StmtWork::Return => Ok(after(Completion::Returned(value))),
+            StmtWork::If(yes, no) => {
+                if truthy(value.value()) {
+                    return Ok(Flow::Go(Mode::Executes(&[], yes)));
+                }
+                Ok(self.otherwise(no))
+            }
+            StmtWork::Test(turns) => {
+                if truthy(value.value()) {
+                    let flow = self.execute(Work::End(EndWork::Body(turns)), &[], turns.body)?;
+                    return Ok(flow);
+                }
+                Ok(after(Completion::Normal))
+            }
+            StmtWork::Step(turns) => {
+                let flow = self.turn(turns)?;
+                Ok(flow)
+            }
+            StmtWork::DoTest(turns) => {
+                if truthy(value.value()) {
+                    let flow = self.do_turn(turns)?;
+                    return Ok(flow);
+                }
+                Ok(after(Completion::Normal))
+            }
+            StmtWork::Switch(clauses) => {
+                let flow = self.select(clauses, value.value())?;
+                Ok(flow)
+            }
+        }
+    }
+
+    // What an `if` does whose condition doesn't hold.
+    fn otherwise(&self, no: Option<&'a Box<Stmt>>) -> Flow<'a>
+        ensures { moved self.now result ≡ otherwise_step (waiting self.now) (function self.now) (otherwise_view no.entry) (place self.now) }
+    {
+        match no {
+            None => after(Completion::Normal),
+            Some(no) => Flow::Go(Mode::Executes(&[], no)),
+        }
+    }
+
+    // Begins a switch with the value of its subject.
+    fn select(&mut self, clauses: &'a [Clause], value: JsValue) -> Result<Flow<'a>, AllocError>
+        ensures { IfOk result (λ flow. moved self.new flow ≡ stmt_work_step (waiting self.old) (function self.old) (at_switch (clauses_view clauses.now)) value (place self.old)) }
+    {
+        let JsValue::Whole(number) = value else {
+            return Ok(Flow::Wrong);
+        };
+        let rest = from_clause(number, clauses);
+        let flow = self.clauses(rest)?;
+        Ok(flow)
+    }
+}

@@ -1,0 +1,98 @@
+//! The module's variables as a session begins.
+ghost use Rattle.std.specs.Prelude.{◌≡◌, ◌++◌, ◌∷◌, [], All, map, IfOk, IfSome};
+ghost use Rattle.sem_words.specs.JsValues.{IsValue};
+ghost use Rattle.sem_words.specs.Words.{word_of};
+ghost use Rattle.sem_laws.specs.Views.{global_of, script_of};
+ghost use Rattle.asm_lang.specs.Modules.{Variable};
+ghost use Rattle.asm_tree.specs.Views.{init_view, global_view};
+ghost use Rattle.asm_lang_exec.specs.Session as session;
+ghost use Rattle.asm_lang_exec.specs.Session.{global_value};
+ghost use Rattle.asm_lang_exec.specs.Runs.{binding};
+ghost use Rattle.asm_run_state.specs.Globals.{variables_of, IsGlobals};
+ghost use Rattle.asm_run_state.specs.Literals.{IsSmall};
+
+use crate::callees::signed_value;
+use asm_tree::{Global_, Init};
+use sem_laws::{GlobalLine, Script};
+use sem_words::JsValue;
+use std::alloc::{AllocError, Global};
+
+/// The names and the values of the module's variables, as many of both.
+#[derive(Drop)]
+pub struct Globals<'a> {
+    pub names: Vec<&'a [u8]>,
+    pub values: Vec<JsValue>,
+}
+
+/// The variables of these declarations.
+pub fn first_globals<'a>(
+    alloc: Global,
+    script: &Script,
+    globals: &'a [Global_],
+) -> Result<Globals<'a>, AllocError>
+    requires { All (λ (v : Variable). IsSmall v.init) (map global_view globals.now) }
+    ensures variables { IfOk result (λ g. variables_of g ≡ session.first_globals (script_of script.now) (map global_view globals.now)) }
+    ensures kept { IfOk result IsGlobals }
+{
+    let mut all = Globals {
+        names: Vec::new(alloc),
+        values: Vec::new(alloc),
+    };
+    for global in globals {
+        if let Some(value) = first_value(script, &global.init) {
+            add(&mut all, global.name.as_bytes(), value)?;
+        }
+    }
+    Ok(all)
+}
+
+#[tactic(auto, using(crate::proofs::Declared::one_more))]
+fn add<'a>(globals: &mut Globals<'a>, name: &'a [u8], value: JsValue) -> Result<(), AllocError>
+    requires kept { IsGlobals globals.old }
+    requires value { IsValue value }
+    ensures added { IfOk result (λ _. variables_of globals.new ≡ variables_of globals.old ++ binding name.now value ∷ []) }
+    ensures kept { IfOk result (λ _. IsGlobals globals.new) }
+{
+    globals.names.push(name)?;
+    globals.values.push(value)?;
+    Ok(())
+}
+
+// The first value of a variable, if the declaration is of one.
+fn first_value(script: &Script, init: &Init) -> Option<JsValue>
+    requires { IsSmall (init_view init.now) }
+    ensures value { result ≡ global_value (script_of script.now) (init_view init.now) }
+    ensures keeps { IfSome result IsValue }
+{
+    match init {
+        Init::Number(z) => Some(JsValue::Whole(*z)),
+        Init::ForeignInt(_, name) => {
+            let given = given_value(script.globals.as_slice(), name.as_bytes());
+            Some(signed_value(low_word(given)))
+        }
+        Init::Decimal(_)
+        | Init::ForeignDouble(_, _)
+        | Init::Member(_, _)
+        | Init::Math(_, _)
+        | Init::View(_, _, _) => None,
+    }
+}
+
+// The value that the script gives to a foreign member, or 0.
+fn given_value(globals: &[GlobalLine], name: &[u8]) -> i128
+    ensures { result ≡ session.given_value (map global_of globals.now) name.now }
+{
+    for global in globals {
+        if global.name.as_bytes() == name {
+            return global.value;
+        }
+    }
+    0
+}
+
+// A whole number modulo 2^32.
+fn low_word(z: i128) -> u32
+    ensures { result ≡ word_of 32 z }
+{
+    z.rem_euclid(1 << 32) as u32
+}

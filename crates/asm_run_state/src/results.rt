@@ -1,0 +1,61 @@
+//! What the host sees of a call of the script that comes back.
+ghost use Rattle.std.specs.Prelude.{◌≡◌};
+ghost use Rattle.sem_words.specs.JsValues.{IsValue};
+ghost use Rattle.sem_laws.specs.Views.{event_of};
+ghost use Rattle.asm_tree.specs.Views.{function_view, stmt_view, stmts_view};
+ghost use Rattle.asm_lang_valid.specs.Scope as scopes;
+ghost use Rattle.asm_lang_valid.specs.Scope.{signature_of};
+ghost use Rattle.asm_lang_exec.specs.Session as session;
+
+use asm_tree::{Function, Stmt};
+use sem_laws::Event;
+use sem_words::{JsValue, Word, to_uint32};
+
+/// Whether a function has a result: its last statement is a return with an expression.
+pub fn has_result(function: &Function) -> bool
+    ensures { result ≡ (signature_of (function_view function.now)).result }
+{
+    last_gives_value(function.body.as_slice())
+}
+
+/// The event of a call of the function that comes back with a value.
+pub fn result_event(function: &Function, value: JsValue) -> Event
+    requires { IsValue value }
+    ensures { event_of result ≡ session.result_event (function_view function.now) value }
+{
+    if has_result(function) {
+        Event::Result(Word::W32(to_uint32(value)))
+    } else {
+        Event::Returned
+    }
+}
+
+#[tactic(auto, using(crate::proofs::Lasts::lasts))]
+fn last_gives_value(stmts: &[Stmt]) -> bool
+    ensures { result ≡ scopes.last_gives_value (stmts_view stmts.now) }
+{
+    match stmts.last() {
+        None => false,
+        Some(last) => gives_value(last),
+    }
+}
+
+#[tactic(auto, using(crate::proofs::Lasts::shapes))]
+fn gives_value(stmt: &Stmt) -> bool
+    ensures { result ≡ scopes.gives_value (stmt_view stmt.now) }
+{
+    match stmt {
+        Stmt::Return(value) => value.is_some(),
+        Stmt::Block(_)
+        | Stmt::Plain(_)
+        | Stmt::Empty
+        | Stmt::If(_, _, _)
+        | Stmt::While(_, _)
+        | Stmt::DoWhile(_, _)
+        | Stmt::For(_, _, _, _)
+        | Stmt::Break(_)
+        | Stmt::Continue(_)
+        | Stmt::Labelled(_, _)
+        | Stmt::Switch(_, _) => false,
+    }
+}

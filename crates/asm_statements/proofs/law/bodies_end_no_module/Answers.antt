@@ -1,5 +1,0 @@
-use Rattle.asm_statements.proofs.Stops.{bodies_go_on}
-use Rattle.asm_statements.proofs.law.bodies_end_no_module.Goals as goal
-
-pub returns : goal.returns
-returns c = bodies_go_on c.expressions_end_no_module.ensures

@@ -1,7 +1,0 @@
--- Statements of a list.
-use Rattle.asm_lang.specs.Trees.{StmtTrees}
-use Rattle.asm_nodes.specs.Tall.{stmts_tall_view}
-use Rattle.asm_statements.specs.declared.items.Items.{Items}
-
-abbrev pub items_view : Items → StmtTrees
-items_view ss = stmts_tall_view ss.stmts

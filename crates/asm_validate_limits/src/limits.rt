@@ -1,0 +1,53 @@
+//! The third phase of validation: limits.
+
+ghost use Rattle.std.specs.Prelude.{◌≡◌, ◌+◌, ◌<◌, ◌^◌, [], length, IfOk, MatchResult};
+ghost use Rattle.asm_tree.specs.Views.{module_view};
+ghost use Rattle.asm_lang_valid.specs.Rows.{functions_count, module_count};
+ghost use Rattle.asm_lang_valid.specs.LimitRows.{marks, limit_rows, foreign_calls};
+ghost use Rattle.asm_validate_names.specs.Environments.{IsComplete};
+ghost use Rattle.asm_validate_limits.specs.Called.{IsRow, foreign_list};
+ghost use Rattle.asm_validate_limits.specs.Passes.{Tallied};
+
+use crate::calls::{ForeignCall, copied};
+use crate::fault::LimitFault;
+use crate::functions::functions_limits;
+use crate::globals::globals_limits;
+use crate::tables::tables_limits;
+use crate::tally::Tally;
+use asm_validate_names::Environment;
+use sem_words::List;
+use std::alloc::Global;
+
+/// The calls of foreign functions in order of first use, each name once for each number of arguments with a result
+/// and without, where every count is within its limit; and otherwise the first node at which one isn't, in text order
+/// with the parts of an expression before the whole.
+pub fn check_limits(
+    alloc: Global,
+    environment: &Environment<'_>,
+) -> Result<List<ForeignCall>, LimitFault>
+    requires complete { IsComplete environment.now }
+    requires room { module_count (module_view environment.now.home.now) < 2 ^ 64 }
+    ensures exactly { MatchResult result (λ _. limit_rows (module_view environment.now.home.now) ≡ []) (IsRow (limit_rows (module_view environment.now.home.now))) }
+    ensures calls { IfOk result (λ calls. foreign_list calls ≡ foreign_calls (module_view environment.now.home.now)) }
+{
+    let mut tally = Tally::new(alloc);
+    module_limits(alloc, environment, &mut tally)?;
+    let calls = copied(alloc, tally.calls.as_slice())?;
+    Ok(calls)
+}
+
+fn module_limits<'a>(
+    alloc: Global,
+    environment: &Environment<'a>,
+    tally: &mut Tally<'a>,
+) -> Result<(), LimitFault>
+    requires complete { IsComplete environment.now }
+    requires first { tally.old.at ≡ 1 }
+    requires room { module_count (module_view environment.now.home.now) < 2 ^ 64 }
+    ensures { let home = module_view environment.now.home.now in Tallied (marks home) (length home.globals + (functions_count home.functions + length home.tables)) tally.old tally.new result }
+{
+    let home = environment.home();
+    globals_limits(home, home.globals.as_slice(), tally)?;
+    functions_limits(alloc, environment, tally, home.functions.as_slice())?;
+    tables_limits(home.tables.as_slice(), tally)
+}

@@ -1,0 +1,84 @@
+// What is counted on the way through a module.
+
+ghost use Rattle.std.specs.Prelude.{◌≡◌, [], ◌∷◌, false, true, nat_le};
+ghost use Rattle.sem_words.specs.Lists.{text_bytes};
+ghost use Rattle.asm_lang_valid.specs.LimitRows.{a_use, most_foreign_calls};
+ghost use Rattle.asm_validate_limits.specs.Passes.{Tallied, calls_of, limited};
+
+use crate::fault::LimitFault;
+use crate::numbers::MOST_FOREIGN_CALLS;
+use asm_lang_valid::Rule;
+use indexmap::IndexSet;
+use sem_words::Text;
+use std::alloc::Global;
+
+/// A call of a foreign function.
+#[derive(Clone, Copy, PartialEq, Eq, Hash)]
+pub struct Call<'a> {
+    pub name: &'a [u8],
+    pub params: u32,
+    pub result: bool,
+}
+
+/// The calls of foreign functions so far, each once, and the number of the next node.
+#[derive(Drop)]
+pub struct Tally<'a> {
+    pub calls: IndexSet<Call<'a>>,
+    pub at: u64,
+}
+
+impl<'a> Tally<'a> {
+    /// Before the first node after the module.
+    pub fn new(alloc: Global) -> Tally<'a>
+        ensures none { calls_of result ≡ [] }
+        ensures first { result.at ≡ 1 }
+    {
+        Tally {
+            calls: IndexSet::new(alloc),
+            at: 1,
+        }
+    }
+}
+
+/// What has to hold at a node.
+pub fn needs(holds: bool, node: u64) -> Result<(), LimitFault>
+    ensures { result ≡ limited holds node }
+{
+    if holds {
+        Ok(())
+    } else {
+        Err(LimitFault::Refused {
+            rule: Rule::PastLimit,
+            node,
+        })
+    }
+}
+
+/// A call of a foreign function at a node.
+pub fn use_call<'a>(
+    tally: &mut Tally<'a>,
+    name: &'a Text,
+    params: u32,
+    valued: bool,
+    node: u64,
+) -> Result<(), LimitFault>
+    ensures { Tallied (a_use (record { name = text_bytes name.now; params = params; result = valued }) node ∷ []) 0 tally.old tally.new result }
+{
+    let call = Call {
+        name: name.as_bytes(),
+        params,
+        result: valued,
+    };
+    match tally.calls.insert(call) {
+        Ok(is_new) => needs(is_within(is_new, tally.calls.len()), node),
+        Err(_) => Err(LimitFault::Memory),
+    }
+}
+
+// Whether there aren't too many calls now, where the last one is new or not.
+fn is_within(is_new: bool, count: usize) -> bool
+    ensures known { is_new ≡ false → result ≡ true }
+    ensures new { is_new ≡ true → result ≡ nat_le count most_foreign_calls }
+{
+    !is_new || count <= MOST_FOREIGN_CALLS
+}

@@ -1,0 +1,117 @@
+//! The first phase of validation: names.
+
+ghost use Rattle.std.specs.Prelude.{◌≡◌, ◌++◌, ◌<◌, ◌^◌, [], None, true, IfOk, MatchResult};
+ghost use Rattle.asm_tree.specs.Views.{module_view, texts_view};
+ghost use Rattle.asm_lang_valid.specs.Rows.{first, module_count};
+ghost use Rattle.asm_lang_valid.specs.NameRows as rows;
+ghost use Rattle.asm_validate_names.specs.Environments.{IsComplete};
+ghost use Rattle.asm_validate_names.specs.Heading.{heading_rows, rest_rows};
+ghost use Rattle.asm_validate_names.specs.Seen.{names, IsRow};
+
+use crate::environment::Environment;
+use crate::fault::NameFault;
+use crate::functions::functions_names;
+use crate::globals::globals_names;
+use crate::imports::Imports;
+use crate::seen::{add, declared};
+use crate::tables::{exports_names, tables_names};
+use crate::words::is_forbidden;
+use asm_tree::Module;
+use indexmap::IndexSet;
+use sem_words::Text;
+use std::alloc::{AllocError, Global};
+
+/// What each name of a module means, where no rule of names is broken, and otherwise the first node that breaks one,
+/// in text order with the parts of an expression before the whole. Of two rules that one node breaks the first
+/// counts.
+pub fn check_names<'a>(alloc: Global, module: &'a Module) -> Result<Environment<'a>, NameFault>
+    requires { module_count (module_view «module».now) < 2 ^ 64 }
+    ensures of { IfOk result (λ e. e.home.now ≡ «module».now) }
+    ensures complete { IfOk result IsComplete }
+    ensures exactly { MatchResult result (λ _. rows.name_rows (module_view «module».now) ≡ []) (IsRow (rows.name_rows (module_view «module».now))) }
+{
+    let environment = Environment::new(alloc, module)?;
+    module_names(alloc, &environment)?;
+    Ok(environment)
+}
+
+fn module_names(alloc: Global, environment: &Environment<'_>) -> Result<(), NameFault>
+    requires complete { IsComplete environment.now }
+    requires room { module_count (module_view environment.now.home.now) < 2 ^ 64 }
+    ensures { MatchResult result (λ _. first (rows.name_rows (module_view environment.now.home.now)) ≡ None) (IsRow (rows.name_rows (module_view environment.now.home.now))) }
+{
+    let mut seen = IndexSet::new(alloc);
+    heading_names(&mut seen, environment.home())?;
+    declared_names(alloc, environment, &mut seen)
+}
+
+// The names of declarations, after those of the module's parameters.
+fn declared_names<'a>(
+    alloc: Global,
+    environment: &Environment<'a>,
+    seen: &mut IndexSet<&'a [u8]>,
+) -> Result<(), NameFault>
+    requires complete { IsComplete environment.now }
+    requires params { names seen.old ≡ (module_view environment.now.home.now).params }
+    requires room { module_count (module_view environment.now.home.now) < 2 ^ 64 }
+    ensures { MatchResult result (λ _. first (rest_rows (module_view environment.now.home.now)) ≡ None) (IsRow (rest_rows (module_view environment.now.home.now))) }
+{
+    let home = environment.home();
+    let mut imports = Imports::new(alloc);
+    let mut at = 1;
+    globals_names(
+        environment,
+        seen,
+        &mut imports,
+        home.globals.as_slice(),
+        &mut at,
+    )?;
+    functions_names(alloc, environment, seen, home.functions.as_slice(), &mut at)?;
+    tables_names(environment, seen, home.tables.as_slice(), &mut at)?;
+    exports_names(alloc, environment, &home.exports, at)
+}
+
+// The names of the module and of its parameters.
+fn heading_names<'a>(seen: &mut IndexSet<&'a [u8]>, home: &'a Module) -> Result<(), NameFault>
+    requires { names seen.old ≡ [] }
+    ensures row { MatchResult result (λ _. first (heading_rows (module_view home.now)) ≡ None) (IsRow (heading_rows (module_view home.now))) }
+    ensures seen { IfOk result (λ _. names seen.new ≡ (module_view home.now).params) }
+{
+    let is_new = add_all(seen, home.params.as_slice())?;
+    let forbidden = has_forbidden_name(home);
+    declared(is_new, forbidden, 0)?;
+    Ok(())
+}
+
+// Adds names, and says whether each is new.
+fn add_all<'a>(seen: &mut IndexSet<&'a [u8]>, params: &'a [Text]) -> Result<bool, AllocError>
+    ensures is_new { IfOk result (λ b. b ≡ rows.all_new (names seen.old) (texts_view params.now)) }
+    ensures seen { IfOk result (λ b. b ≡ true → names seen.new ≡ names seen.old ++ texts_view params.now) }
+{
+    for param in params {
+        if !add(seen, param)? {
+            return Ok(false);
+        }
+    }
+    Ok(true)
+}
+
+fn has_forbidden_name(home: &Module) -> bool
+    ensures { result ≡ rows.any_forbidden (rows.own_name (module_view home.now).name ++ (module_view home.now).params) }
+{
+    match &home.name {
+        None => any_forbidden(home.params.as_slice()),
+        Some(name) => is_forbidden(name.as_bytes()) || any_forbidden(home.params.as_slice()),
+    }
+}
+
+fn any_forbidden(params: &[Text]) -> bool
+    ensures { result ≡ rows.any_forbidden (texts_view params.now) }
+{
+    for param in params {
+        if is_forbidden(param.as_bytes()) {
+            return true;
+        }
+    }
+    false
+}

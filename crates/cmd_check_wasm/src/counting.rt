@@ -1,0 +1,20 @@
+//! The counts of a valid module.
+ghost use Rattle.std.specs.Prelude.{IfOk, IfErr};
+ghost use Rattle.cmd_check_wasm.specs.Verdicts.{IsCounted, IsRefused};
+
+use crate::checking::check_bytes;
+use crate::fault::CheckFault;
+use std::alloc::Global;
+use wasm_listing::counts_line;
+
+/// The counts line of the valid module that the bytes spell.
+pub fn counts(alloc: Global, bytes: &[u8]) -> Result<Vec<u8>, CheckFault>
+    ensures counted { IfOk result (λ line. IsCounted bytes.now line.items) }
+    ensures refused { IfErr result (λ fault. IsRefused bytes.now fault) }
+{
+    let valid = check_bytes(alloc, bytes)?;
+    match counts_line(alloc, valid.module()) {
+        Ok(line) => Ok(line),
+        Err(_) => Err(CheckFault::Memory),
+    }
+}

@@ -1,0 +1,55 @@
+//! A script on a module.
+ghost use Rattle.std.specs.Prelude.{◌≡◌, None, IfOk, MatchResult};
+ghost use Rattle.sem_laws.specs.Views.{script_of};
+ghost use Rattle.script_print.specs.Texts as spec;
+ghost use Rattle.wasm_fitting.specs.Fits.{misfit};
+ghost use Rattle.wasm_lang_exec.specs.Session.{wasm};
+ghost use Rattle.wasm_lang.specs.Shape.{IsShaped};
+ghost use Rattle.wasm_lang_valid.specs.Runnable.{not_runnable};
+ghost use Rattle.wasm_laws_sound.specs.Laws.{IsWhole};
+ghost use Rattle.cmd_run_wasm.specs.Runs.{Prints, IsScriptRefusal};
+
+use script_print::observation_text;
+use script_read::{ScriptFault, read_script};
+use sem_laws::Script;
+use std::alloc::{AllocError, Global};
+use wasm_run::{Instance, fits_wasm};
+use wasm_validate::Valid;
+
+/// What is printed of a run of the script's text, after so many reductions. A refusal is the first line that isn't in the grammar of
+/// scripts, or else the first that doesn't fit the module, 0 for a global that has no line.
+pub fn run_script(
+    alloc: Global,
+    valid: &Valid<'_>,
+    text: &[u8],
+    steps: u32,
+) -> Result<Vec<u8>, ScriptFault>
+    requires shaped { IsShaped valid.now }
+    requires whole { IsWhole valid.now }
+    requires runs { not_runnable valid.now ≡ None }
+    ensures { MatchResult result (λ output. Prints valid.now text.now steps output.items) (IsScriptRefusal valid.now text.now) }
+{
+    let script = read_script(alloc, text)?;
+    match fits_wasm(valid, &script) {
+        Ok(()) => Ok(observation(alloc, valid, &script, steps)?),
+        Err(misfit) => Err(ScriptFault::Refused { line: misfit.line }),
+    }
+}
+
+// What is printed of the session of a script that fits.
+fn observation(
+    alloc: Global,
+    valid: &Valid<'_>,
+    script: &Script,
+    steps: u32,
+) -> Result<Vec<u8>, AllocError>
+    requires shaped { IsShaped valid.now }
+    requires whole { IsWhole valid.now }
+    requires runs { not_runnable valid.now ≡ None }
+    requires fits { misfit valid.now (script_of script.now) ≡ None }
+    ensures { IfOk result (λ output. output.items ≡ spec.observation_text (wasm valid.now (script_of script.now) steps)) }
+{
+    let instance = Instance::start(alloc, valid, script)?;
+    let seen = instance.run(u64::from(steps))?;
+    observation_text(alloc, &seen)
+}

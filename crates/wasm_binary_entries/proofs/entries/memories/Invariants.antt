@@ -1,0 +1,10 @@
+use Rattle.std.proofs.Common.{◌≡◌, ◌-◌}
+use Rattle.sem_words.specs.Lists.{list_items}
+use Rattle.wasm_lang.specs.Reading.{items_field}
+use Rattle.wasm_lang.specs.ReadingModule.{memory_field}
+use Rattle.wasm_tree.specs.Inputs.{input_of}
+use Rattle.wasm_binary_entries.proofs.ItemsInRow.{with_front}
+use Rattle.wasm_binary_entries.proofs.entries.memories.Given as goal
+
+abbrev pub invariant-loop-i : goal.invariant-loop-i
+invariant-loop-i l = items_field memory_field l.count (input_of l.input) ≡ with_front (list_items l.list) (items_field memory_field (l.count - l._i) (input_of l.rest))

@@ -1,0 +1,56 @@
+//! Modules (WebAssembly Core 1.0, section 5.5.15).
+ghost use Rattle.std.specs.Prelude.{◌≡◌, ◌++◌, map, IfOk, OnOk};
+ghost use Rattle.wasm_tree.specs.Views.{module_of};
+ghost use Rattle.wasm_binary_write.specs.Spelling.{spelling, start_section, section, table};
+
+use crate::leb::push_unsigned;
+use crate::spell::{push_section, push_sized};
+use crate::types::Table;
+use std::alloc::{AllocError, Global};
+use wasm_tree::{Limits, Module};
+
+// The bytes `\0asm`, and the version 1.
+const HEADER: [u8; 8] = [0x00, 0x61, 0x73, 0x6d, 0x01, 0x00, 0x00, 0x00];
+
+/// The module in the binary format, each part in its shortest spelling: numbers in their shortest LEB128
+/// form, locals in the longest runs of one type, no section without items, no custom section and no data
+/// count. Names and segments are written as they are.
+pub fn write(alloc: Global, module: &Module<'_>) -> Result<Vec<u8>, AllocError>
+    ensures { IfOk result (λ bytes. bytes.items ≡ spelling (module_of «module».now)) }
+{
+    let mut out = Vec::from_slice(alloc, &HEADER)?;
+    push_section(alloc, &mut out, 1, module.types.as_slice())?;
+    push_section(alloc, &mut out, 2, module.imports.as_slice())?;
+    push_section(alloc, &mut out, 3, module.functions.as_slice())?;
+    push_tables(alloc, &mut out, module.tables.as_slice())?;
+    push_section(alloc, &mut out, 5, module.memories.as_slice())?;
+    push_section(alloc, &mut out, 6, module.globals.as_slice())?;
+    push_section(alloc, &mut out, 7, module.exports.as_slice())?;
+    push_start(alloc, &mut out, module.start)?;
+    push_section(alloc, &mut out, 9, module.elements.as_slice())?;
+    push_section(alloc, &mut out, 10, module.bodies.as_slice())?;
+    push_section(alloc, &mut out, 11, module.segments.as_slice())?;
+    Ok(out)
+}
+
+fn push_tables(alloc: Global, out: &mut Vec<u8>, tables: &[Limits]) -> Result<(), AllocError>
+    ensures { OnOk result (out.new.items ≡ out.old.items ++ section 4 table tables.now) }
+{
+    let mut list = Vec::new(alloc);
+    for limits in tables {
+        list.push(Table(*limits))?;
+    }
+    push_section(alloc, out, 4, &list)
+}
+
+fn push_start(alloc: Global, out: &mut Vec<u8>, start: Option<u32>) -> Result<(), AllocError>
+    ensures { OnOk result (out.new.items ≡ out.old.items ++ start_section start) }
+{
+    let Some(function) = start else {
+        return Ok(());
+    };
+    let mut content = Vec::new(alloc);
+    push_unsigned(&mut content, function as usize)?;
+    out.push(8)?;
+    push_sized(out, &content)
+}

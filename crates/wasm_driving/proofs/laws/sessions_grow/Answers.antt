@@ -1,8 +1,0 @@
-use Rattle.wasm_driving.proofs.Sessions.{sessions_grow, sessions_are_monotone}
-use Rattle.wasm_driving.proofs.laws.sessions_grow.Goals as goal
-
-pub returns-clause-any : goal.returns-clause-any
-returns-clause-any c = sessions_grow
-
-pub returns-clause-monotone : goal.returns-clause-monotone
-returns-clause-monotone c = sessions_are_monotone

@@ -1,9 +1,0 @@
-use Rattle.std.proofs.Common.{◌≡◌, ◌-◌}
-use Rattle.sem_words.specs.Lists.{list_items}
-use Rattle.wasm_lang.specs.Reading.{val_type_field, items_field}
-use Rattle.wasm_tree.specs.Inputs.{input_of}
-use Rattle.wasm_entries.proofs.ItemsInRow.{with_front}
-use Rattle.wasm_entries.proofs.entries.val_types.Given as goal
-
-abbrev pub invariant-loop-i : goal.invariant-loop-i
-invariant-loop-i l = items_field val_type_field l.count (input_of l.input) ≡ with_front (list_items l.list) (items_field val_type_field (l.count - l._i) (input_of l.rest))

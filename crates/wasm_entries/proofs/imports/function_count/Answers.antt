@@ -1,9 +1,0 @@
-use Rattle.std.proofs.Common.{arith}
-use Rattle.wasm_entries.proofs.ImportsInRow.{function_count_step}
-use Rattle.wasm_entries.proofs.imports.function_count.Goals as goal
-
-pub loop-import-preserved : goal.loop-import-preserved
-loop-import-preserved c = record {
-  small = omega (arith, c.functions_in-n.ensures.one, c.loop-import.invariant.small);
-  count = function_count_step c.args.imports.now c.loop-import.import-index c.import-item.result c.loop-import.n c.functions_in-n.result c.loop-import-test.true c.import-item.is c.loop-import.invariant.count c.functions_in-n.ensures.count;
-}

@@ -1,5 +1,0 @@
-use Rattle.wasm_machine.proofs.Branching.{shows_finished}
-use Rattle.wasm_machine.proofs.laws.back_at_the_host.Goals as goal
-
-pub returns : goal.returns
-returns c = shows_finished

@@ -1,5 +1,0 @@
-use Rattle.wasm_soundness.proofs.Nesting.{tree_is_typed}
-use Rattle.wasm_soundness.proofs.laws.code_is_typed.Goals as goal
-
-pub returns : goal.returns
-returns c = tree_is_typed

@@ -1,5 +1,0 @@
-use Rattle.wasm_soundness.proofs.Hosts.{host_calls_are_typed}
-use Rattle.wasm_soundness.proofs.laws.host_calls_go_on.Goals as goal
-
-pub returns : goal.returns
-returns c = host_calls_are_typed

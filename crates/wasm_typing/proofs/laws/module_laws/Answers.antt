@@ -1,5 +1,0 @@
-use Rattle.wasm_typing.proofs.Functions.{has_type}
-use Rattle.wasm_typing.proofs.laws.module_laws.Goals as goal
-
-pub returns : goal.returns
-returns c = λ m f valid h. has_type m valid f h
