@@ -4,3 +4,6 @@ pub mod Resuming
 pub mod Sizes
 pub mod Laws
 pub mod Sessions
+pub mod Literals
+pub mod LiteralLaws
+pub mod AcceptedLaws

@@ -2,3 +2,7 @@
 #![tactic(auto)]
 
 pub mod laws;
+
+pub mod literals;
+
+pub mod accepted;

@@ -8,3 +8,11 @@ pub mod Modules
 pub mod TokenKinds
 pub mod Fits
 pub mod FitsModules
+pub mod Longer
+pub mod FrontTokens
+pub mod Neat
+pub mod Joined
+pub mod NeatExprs
+pub mod NeatStmts
+pub mod NeatModules
+pub mod Printed

@@ -1,3 +1,4 @@
 pub mod Spelled
 pub mod Fitting
 pub mod Examples
+pub mod Printed

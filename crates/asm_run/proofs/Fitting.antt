@@ -21,13 +21,13 @@ use Rattle.asm_lang_exec.specs.Runs.{Place}
 use Rattle.asm_lang_exec.specs.Session.{exported_function, first_place, asm}
 use Rattle.asm_lang_exec.specs.Fits.{in_range, takes, fits_call, misfit}
 use Rattle.asm_lang_exec.specs.FitLaws.{a_call}
-use Rattle.asm_literals.specs.Literals.{IsSmall, SmallModule}
-use Rattle.asm_accepted.specs.Laws.{AcceptedAreSmall}
+use Rattle.asm_laws_machine.specs.Literals.{IsSmall, SmallModule}
+use Rattle.asm_laws_machine.specs.AcceptedLaws.{AcceptedAreSmall}
 use Rattle.asm_lang_exec.proofs.Misfits.{no_misfit_fits}
 use Rattle.asm_run_state.specs.declared.world.World.{World}
 use Rattle.asm_run_state.specs.Worlds.{place_of}
-use Rattle.asm_session.specs.Hosted.{observation_option}
-use Rattle.asm_session.specs.Session.{SmallCalls, IsSession}
+use Rattle.asm_run.specs.Hosted.{observation_option}
+use Rattle.asm_run.specs.Session.{SmallCalls, IsSession}
 use Rattle.asm_run.specs.Linked.{SessionPlain, IsLinked}
 
 -- ---- arguments

@@ -1,3 +1,5 @@
 pub mod Earlier
 pub mod Named
 pub mod Fitting
+pub mod Hosting
+pub mod Whole

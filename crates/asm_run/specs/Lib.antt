@@ -1,2 +1,4 @@
 pub mod Forms
 pub mod Linked
+pub mod Hosted
+pub mod Session

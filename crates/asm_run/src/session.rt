@@ -8,8 +8,8 @@ ghost use Rattle.asm_tree.specs.Views.{module_view};
 ghost use Rattle.asm_lang_exec.specs.Session.{asm, checked_asm};
 ghost use Rattle.asm_lang_exec.specs.Fits.{misfit};
 
+use crate::run;
 use asm_run_state::World;
-use asm_session::run;
 use asm_validate::Checked;
 use asm_validate_names::Environment;
 use sem_laws::{Observation, Script};
@@ -77,7 +77,7 @@ impl<'a> Session<'a> {
         ensures never_wrong { (seen : ObservationPlain) × (asm (module_view self.entry.code) self.entry.size self.entry.script budget ≡ Some seen) }
         ensures types_hold { checked_asm (module_view self.entry.code) self.entry.size self.entry.script budget ≡ asm (module_view self.entry.code) self.entry.size self.entry.script budget }
     {
-        asm_accepted::laws::accepted_laws();
+        asm_laws_machine::accepted::accepted_laws();
         asm_laws_sound::laws::accepted_modules();
         let environment = self.environment;
         let script = self.script;

@@ -11,13 +11,13 @@ use Rattle.asm_lang_valid.specs.Typing.{named}
 use Rattle.asm_lang_valid.specs.Typed.{scope_of}
 use Rattle.asm_lang_exec.specs.Runs.{Place, Run, wrong, Part, and_then, goes_wrong, defined}
 use Rattle.asm_lang_exec.specs.Values.{read_element, write_element, entry_of}
-use Rattle.asm_variables.specs.Variables.{slot_of}
+use Rattle.asm_run_state.specs.Variables.{slot_of}
 use Rattle.asm_laws_machine.specs.Work as plain
 use Rattle.asm_laws_machine.specs.Steps.{enter_step, named_step}
 use Rattle.asm_run_state.specs.Literals.{IsSmall}
 use Rattle.asm_run_state.specs.Locals.{HasSmallLocals}
-use Rattle.asm_literals.specs.Literals.{SmallInit, SmallFunction, SmallModule}
-use Rattle.asm_literals.proofs.Named.{SmallEntry, named_small, entry_small}
+use Rattle.asm_laws_machine.specs.Literals.{SmallInit, SmallFunction, SmallModule}
+use Rattle.asm_laws_machine.proofs.Named.{SmallEntry, named_small, entry_small}
 use Rattle.asm_run_work.specs.Frames.{variable_names}
 use Rattle.asm_run_machine.specs.Beyond.{beyond, viewed, called}
 

@@ -14,8 +14,8 @@ use Rattle.asm_laws_machine.specs.Resuming.{Over, resume, machine_to}
 use Rattle.asm_laws_machine.specs.Laws.{Falls}
 use Rattle.asm_laws_machine.proofs.Means.{eval_means, exec_means, work_means}
 use Rattle.asm_laws_machine.proofs.Falls.{eval_falls, exec_falls, work_falls}
-use Rattle.asm_literals.specs.Literals.{SmallModule, SmallMode, SmallWorks, SmallRun}
-use Rattle.asm_literals.proofs.Keeps.{eval_keeps, exec_keeps, work_keeps}
+use Rattle.asm_laws_machine.specs.Literals.{SmallModule, SmallMode, SmallWorks, SmallRun}
+use Rattle.asm_laws_machine.proofs.Keeps.{eval_keeps, exec_keeps, work_keeps}
 use Rattle.asm_run_work.specs.Views.{work_view, works_view, outcome_view, mode_view}
 use Rattle.asm_run_work.specs.declared.work.Work.{Work}
 use Rattle.asm_run_work.specs.declared.work.Outcome.{Outcome}

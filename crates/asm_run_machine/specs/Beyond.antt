@@ -3,7 +3,7 @@ use Rattle.std.specs.Prelude.{ℕ, Bool, true, false, List, Option, Some, None, 
 use Rattle.asm_lang.specs.Modules.{Module}
 use Rattle.asm_lang_valid.specs.declared.meaning.Element.{Element}
 use Rattle.asm_lang_valid.specs.Scope.{Meaning, nothing, a_foreign, a_builtin, a_view, a_function, module_meaning}
-use Rattle.asm_variables.specs.Variables.{slot_of}
+use Rattle.asm_run_state.specs.Variables.{slot_of}
 
 abbrev pub beyond : List (List ℕ) → Module → List ℕ → Meaning
 beyond names m n = if is_some (slot_of names n) then nothing else module_meaning m n

@@ -4,7 +4,7 @@ use Rattle.sem_laws.specs.Views.{end_of}
 use Rattle.asm_lang.specs.Modules.{Function}
 use Rattle.asm_tree.specs.Views.{function_view}
 use Rattle.asm_lang_exec.specs.Runs.{Place, Run, goes, stops, spent, wrong}
-use Rattle.asm_variables.specs.Variables.{bindings}
+use Rattle.asm_run_state.specs.Variables.{bindings}
 use Rattle.asm_run_state.specs.Worlds.{place_of}
 use Rattle.asm_laws_machine.specs.Work as plain
 use Rattle.asm_laws_machine.specs.Work.{machine}

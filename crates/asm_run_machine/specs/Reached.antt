@@ -7,7 +7,7 @@ use Rattle.asm_lang_exec.specs.Meaning as plain
 use Rattle.asm_laws_machine.specs.Work.{machine}
 use Rattle.asm_laws_machine.specs.Resuming.{Over, mode_to}
 use Rattle.asm_laws_machine.specs.Sizes.{machine_size}
-use Rattle.asm_literals.specs.Literals.{SmallMode, SmallWorks}
+use Rattle.asm_laws_machine.specs.Literals.{SmallMode, SmallWorks}
 use Rattle.asm_run_work.specs.Endings.{completion_view}
 use Rattle.asm_run_work.specs.Views.{mode_view}
 use Rattle.asm_run_work.specs.declared.work.Mode.{Mode}

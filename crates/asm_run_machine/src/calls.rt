@@ -8,7 +8,7 @@ ghost use Rattle.asm_lang_exec.specs.Values as values;
 ghost use Rattle.asm_run_state.specs.Locals.{HasSmallLocals};
 ghost use Rattle.asm_laws_machine.specs.Work.{by_name, by_entry};
 ghost use Rattle.asm_laws_machine.specs.Steps.{to_value, enter_step, callee_step, arguments_step};
-ghost use Rattle.asm_literals.specs.Literals.{SmallModule};
+ghost use Rattle.asm_laws_machine.specs.Literals.{SmallModule};
 ghost use Rattle.asm_run_work.specs.Views.{callee_view};
 ghost use Rattle.asm_run_machine.specs.Machines.{waiting, function, place, moved};
 

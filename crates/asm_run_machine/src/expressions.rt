@@ -4,7 +4,7 @@ ghost use Rattle.asm_lang.specs.Modules.{Module};
 ghost use Rattle.asm_tree.specs.Views.{module_view, expr_view, exprs_view};
 ghost use Rattle.asm_validate_names.specs.Environments.{IsComplete};
 ghost use Rattle.asm_laws_machine.specs.Steps.{comma_step, eval_step};
-ghost use Rattle.asm_literals.specs.Literals.{SmallExpr, SmallModule};
+ghost use Rattle.asm_laws_machine.specs.Literals.{SmallExpr, SmallModule};
 ghost use Rattle.asm_run_machine.specs.Machines.{waiting, function, place, moved};
 
 use crate::machine::Machine;

@@ -5,7 +5,7 @@ ghost use Rattle.asm_tree.specs.Views.{module_view, links_view};
 ghost use Rattle.asm_validate_names.specs.Environments.{IsComplete};
 ghost use Rattle.asm_lang_exec.specs.Meaning.{link_operator};
 ghost use Rattle.asm_laws_machine.specs.Steps.{expr_work_step, links_step};
-ghost use Rattle.asm_literals.specs.Literals.{SmallModule};
+ghost use Rattle.asm_laws_machine.specs.Literals.{SmallModule};
 ghost use Rattle.asm_run_work.specs.Views.{expr_work_view};
 ghost use Rattle.asm_run_machine.specs.Machines.{waiting, function, place, moved};
 

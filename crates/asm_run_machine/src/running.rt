@@ -3,7 +3,7 @@ ghost use Rattle.std.specs.Prelude.{◌≡◌, IfOk};
 ghost use Rattle.asm_tree.specs.Views.{module_view};
 ghost use Rattle.asm_validate_names.specs.Environments.{IsComplete};
 ghost use Rattle.asm_laws_machine.specs.Steps.{work_step};
-ghost use Rattle.asm_literals.specs.Literals.{SmallMode, SmallModule, SmallWorks};
+ghost use Rattle.asm_laws_machine.specs.Literals.{SmallMode, SmallModule, SmallWorks};
 ghost use Rattle.asm_run_work.specs.Views.{work_view, outcome_view, mode_view};
 ghost use Rattle.asm_run_machine.specs.Machines.{waiting, function, place, moved};
 ghost use Rattle.asm_run_machine.specs.Reached.{Leads, SmallLeft, StepFalls, UnitsFall, Within, reached_of, bottom_of};

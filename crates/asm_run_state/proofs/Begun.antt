@@ -12,7 +12,7 @@ use Rattle.asm_tree.specs.Views.{function_view, local_view, param_view}
 use Rattle.asm_lang_exec.specs.Runs.{Binding, binding}
 use Rattle.asm_lang_exec.specs.Values.{marked}
 use Rattle.asm_lang_exec.specs.Meaning.{parameters, local_variables, first_locals, first_value}
-use Rattle.asm_variables.specs.Variables.{bindings}
+use Rattle.asm_run_state.specs.Variables.{bindings}
 use Rattle.asm_run_state.specs.Locals.{local_names, parameter_values, first_values, locals_of}
 
 taken : (ps : List Param) (vs : List JsValue) → length vs ≡ length ps → parameters ps vs ≡ Some (bindings (map (λ (p : Param). p.name) ps) (parameter_values ps vs))

@@ -7,3 +7,4 @@ pub mod Lasts
 pub mod Puts
 pub mod Small
 pub mod Written
+pub mod Slots

@@ -2,7 +2,7 @@
 use Rattle.std.specs.Prelude.{◌≡◌, List, All, length}
 use Rattle.sem_words.specs.JsValues.{IsValue}
 use Rattle.asm_lang_exec.specs.Runs.{Binding}
-use Rattle.asm_variables.specs.Variables.{names_in, bindings}
+use Rattle.asm_run_state.specs.Variables.{names_in, bindings}
 use Rattle.asm_run_state.specs.declared.globals.Globals.{Globals}
 
 abbrev pub variables_of : Globals → List Binding

@@ -4,3 +4,4 @@ pub mod Globals
 pub mod Literals
 pub mod Locals
 pub mod Worlds
+pub mod Variables

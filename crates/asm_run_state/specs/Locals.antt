@@ -6,7 +6,7 @@ use Rattle.asm_lang_valid.specs.Refusal.{IsAccepted}
 use Rattle.asm_lang_exec.specs.Runs.{Binding}
 use Rattle.asm_lang_exec.specs.Values.{marked}
 use Rattle.asm_lang_exec.specs.Meaning.{first_value}
-use Rattle.asm_variables.specs.Variables.{bindings}
+use Rattle.asm_run_state.specs.Variables.{bindings}
 use Rattle.asm_run_state.specs.Literals.{IsSmall}
 
 -- its parameters, and then its local variables

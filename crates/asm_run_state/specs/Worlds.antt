@@ -4,7 +4,7 @@ use Rattle.sem_words.specs.Lists.{list_items}
 use Rattle.sem_laws.specs.Views.{event_of}
 use Rattle.asm_lang_exec.specs.Runs.{Binding, Place, goes, spent, Part}
 use Rattle.script_replies.specs.Answers.{replies_of}
-use Rattle.asm_variables.specs.Variables.{bindings}
+use Rattle.asm_run_state.specs.Variables.{bindings}
 use Rattle.asm_run_state.specs.declared.world.World.{World}
 
 -- the variables of the function that runs

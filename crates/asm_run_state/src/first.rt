@@ -14,7 +14,7 @@ ghost use Rattle.asm_run_state.specs.Worlds.{place_of};
 use crate::globals::first_globals;
 use crate::world::World;
 use asm_tree::{Init, Module};
-use asm_variables::{Layout, Values};
+use crate::{Layout, Values};
 use heap_views::Heap;
 use script_replies::{Replies, put_writes};
 use sem_laws::Script;

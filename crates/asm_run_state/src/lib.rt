@@ -21,3 +21,9 @@ pub use imports::Called;
 pub use locals::{first_locals, locals_layout};
 pub use results::{has_result, result_event};
 pub use world::World;
+
+mod layout;
+mod values;
+
+pub use layout::Layout;
+pub use values::Values;

@@ -4,14 +4,14 @@ ghost use Rattle.sem_words.specs.JsValues.{IsValue};
 ghost use Rattle.asm_lang.specs.Modules.{Param as PlainParam, Variable};
 ghost use Rattle.asm_tree.specs.Views.{function_view, init_view, local_view, param_view};
 ghost use Rattle.asm_lang_exec.specs.Meaning as meaning;
-ghost use Rattle.asm_variables.specs.Variables.{names_in};
+ghost use Rattle.asm_run_state.specs.Variables.{names_in};
 ghost use Rattle.asm_run_state.specs.Literals.{IsSmall};
 ghost use Rattle.asm_run_state.specs.Locals as plain;
 ghost use Rattle.asm_run_state.specs.Locals.{local_names, locals_of, HasSmallLocals};
 
 use crate::callees::marked;
 use asm_tree::{Function, Init, Local, Param};
-use asm_variables::{Layout, Values};
+use crate::{Layout, Values};
 use sem_words::JsValue;
 use std::alloc::{AllocError, Global};
 

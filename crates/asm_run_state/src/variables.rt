@@ -2,11 +2,11 @@
 ghost use Rattle.std.specs.Prelude.{◌≡◌, IfNone, IfSome};
 ghost use Rattle.sem_words.specs.JsValues.{IsValue};
 ghost use Rattle.asm_lang_exec.specs.Runs.{defined, read, write};
-ghost use Rattle.asm_variables.specs.Variables.{bindings};
+ghost use Rattle.asm_run_state.specs.Variables.{bindings};
 ghost use Rattle.asm_run_state.specs.Worlds.{place_of};
 
 use crate::world::World;
-use asm_variables::{Layout, Values};
+use crate::{Layout, Values};
 use sem_words::JsValue;
 
 impl World<'_> {

@@ -7,7 +7,7 @@ ghost use Rattle.asm_lang_exec.specs.Runs.{goes, pay, add_event};
 ghost use Rattle.script_replies.specs.Answers.{events_of};
 ghost use Rattle.asm_run_state.specs.Worlds.{Bindings, place_of, paid_of};
 
-use asm_variables::{Layout, Values};
+use crate::{Layout, Values};
 use heap_views::Heap;
 use script_replies::Replies;
 use sem_laws::{End, Event, Observation};

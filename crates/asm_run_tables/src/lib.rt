@@ -2,7 +2,5 @@
 #![tactic(auto)]
 
 mod entries;
-#[cfg(test)]
-mod tests;
 
 pub use entries::{function_named, table_entry};

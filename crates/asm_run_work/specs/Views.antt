@@ -8,7 +8,7 @@ use Rattle.asm_lang.specs.Modules as trees
 use Rattle.asm_tree.specs.declared.tree.Expr.{Expr}
 use Rattle.asm_tree.specs.declared.tree.Stmt.{Stmt}
 use Rattle.asm_tree.specs.Views.{texts_view, expr_view, exprs_view, links_view, stmt_view, stmts_view, clauses_view, function_view}
-use Rattle.asm_variables.specs.Variables.{bindings}
+use Rattle.asm_run_state.specs.Variables.{bindings}
 use Rattle.asm_laws_machine.specs.Work as plain
 use Rattle.asm_laws_machine.specs.Work.{by_name, by_entry, at_element, at_argument, at_table, at_assign, at_store_index, at_store_value, at_unary, at_left, at_right, at_links, at_cond, at_comma, at_plain, at_return, at_if, at_test, at_step, at_do_test, at_switch, at_list, at_body, at_do_body, at_label, at_clauses, at_call, of_expr, of_stmt, of_end, gave, did, evaluates, executes, comes}
 use Rattle.asm_run_work.specs.declared.frame.Frame.{Frame}

@@ -4,7 +4,7 @@ ghost use Rattle.asm_tree.specs.Views.{function_view};
 ghost use Rattle.asm_run_work.specs.Frames.{variable_names};
 
 use asm_tree::Function;
-use asm_variables::{Layout, Values};
+use asm_run_state::{Layout, Values};
 
 /// A function that runs, with its parameters and local variables.
 #[derive(Drop)]

@@ -8,7 +8,7 @@ use Rattle.asm_lang.specs.Grammar.{IsModule}
 use Rattle.asm_lang.specs.Trees.{ModuleTree}
 use Rattle.asm_lang.specs.Modules.{Module, module_of, module_places}
 use Rattle.asm_lang.specs.Heights.{module_height, height_limit, IsWellFormed}
-use Rattle.asm_joining.specs.Printed.{IsTextOf}
+use Rattle.asm_laws_print.specs.Printed.{IsTextOf}
 use Rattle.asm_tree.specs.declared.tree.Parsed.{Parsed}
 use Rattle.asm_tree.specs.Views.{module_view}
 use Rattle.js_tokens.specs.declared.fault.TokenFault.{TokenFault}

@@ -3,7 +3,7 @@ use Rattle.std.specs.Prelude.{◌≡◌, ℕ, ◌≤◌, List, Result, Ok, Err}
 use Rattle.sem_words.specs.Lists.{list_items}
 use Rattle.asm_lang.specs.Modules.{Module, module_places}
 use Rattle.asm_lang.specs.Heights.{module_height, height_limit}
-use Rattle.asm_joining.specs.Printed.{IsTextOf}
+use Rattle.asm_laws_print.specs.Printed.{IsTextOf}
 use Rattle.asm_tree.specs.declared.tree.Parsed.{Parsed}
 use Rattle.asm_tree.specs.Views.{module_view}
 use Rattle.asm_text.specs.declared.fault.TextFault.{TextFault}

@@ -9,5 +9,3 @@ pub use fault::TextFault;
 pub use laws::printed_texts_are_read;
 pub use reading::{read, reprinted};
 
-#[cfg(test)]
-mod tests;

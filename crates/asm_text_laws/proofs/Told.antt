@@ -10,7 +10,7 @@ use Rattle.asm_laws_fault.specs.Kinds.{Kind}
 use Rattle.asm_laws_fault.specs.Kinds as kinds
 use Rattle.asm_laws_fault.proofs.Same.{same}
 use Rattle.asm_laws_fault.proofs.Outcomes.{none, outcome}
-use Rattle.asm_joining.specs.Printed.{IsTextOf}
+use Rattle.asm_laws_print.specs.Printed.{IsTextOf}
 use Rattle.js_tokens.specs.Views as reading
 use Rattle.asm_text.specs.declared.fault.TextFault.{TextFault}
 use Rattle.asm_text.specs.Faults.{AtToken, place_of}

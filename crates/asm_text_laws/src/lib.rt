@@ -4,7 +4,7 @@
 ghost use Rattle.std.specs.Prelude.{◌≡◌, ◌≤◌, ℕ, List};
 ghost use Rattle.asm_lang.specs.Modules.{Module};
 ghost use Rattle.asm_lang.specs.Heights.{module_height, height_limit};
-ghost use Rattle.asm_joining.specs.Printed.{IsTextOf};
+ghost use Rattle.asm_laws_print.specs.Printed.{IsTextOf};
 ghost use Rattle.asm_text.specs.declared.fault.TextFault.{TextFault};
 ghost use Rattle.asm_text_laws.specs.Outcomes.{HasFault, Outcome};
 

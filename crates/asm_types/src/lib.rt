@@ -10,5 +10,3 @@ pub use rows::{binary_row, unary_row};
 pub use value_type::{ValueType, below};
 pub use values::fits;
 
-#[cfg(test)]
-mod tests;

@@ -14,5 +14,3 @@ mod words;
 pub use status::{AsmFault, Status, WasmFault};
 pub use top::bridge;
 
-#[cfg(test)]
-mod tests;

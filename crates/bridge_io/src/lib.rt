@@ -16,5 +16,3 @@ pub use steady_files::SteadyFiles;
 pub use steady_sink::SteadySink;
 pub use writing::{Failed, Sink, put_all};
 
-#[cfg(test)]
-mod tests;

@@ -6,8 +6,6 @@ mod fault;
 mod heap;
 mod job;
 mod numbers;
-#[cfg(test)]
-mod tests;
 
 pub use fault::WordsFault;
 pub use heap::HeapLength;

@@ -5,7 +5,7 @@ use Rattle.std.proofs.lemmas.Option.{slice_get-get_or}
 use Rattle.std.specs.Prelude.{IfOk, IfErr, MatchResult}
 use Rattle.asm_lang.specs.Trees.{ModuleTree}
 use Rattle.asm_lang.specs.Modules.{Module, Export, Exports, one, many, module_of, module_places}
-use Rattle.asm_joining.proofs.Printed.{text_fits}
+use Rattle.asm_laws_print.proofs.Printed.{text_fits}
 use Rattle.asm_laws_refusal.proofs.Within.{refused_within}
 use Rattle.asm_tree.specs.declared.tree.Module.{Module as Tree}
 use Rattle.asm_tree.specs.Views.{module_view}

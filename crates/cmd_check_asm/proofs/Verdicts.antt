@@ -10,7 +10,7 @@ use Rattle.asm_lang.specs.Grammar.{IsModule}
 use Rattle.asm_lang.specs.Machine.{Refusal}
 use Rattle.asm_lang.specs.Modules.{Module, module_of, module_places}
 use Rattle.asm_lang.proofs.CompleteModules.{module_read}
-use Rattle.asm_joining.specs.Printed.{IsTextOf}
+use Rattle.asm_laws_print.specs.Printed.{IsTextOf}
 use Rattle.asm_lang_valid.specs.declared.rule.Met.{Met}
 use Rattle.asm_lang_valid.specs.declared.rule.Rule.{Rule}
 use Rattle.asm_lang_valid.specs.Refusal.{refusal}

@@ -4,7 +4,7 @@ ghost use Rattle.std.specs.Prelude.{◌≡◌, ◌<◌, ◌≤◌, ◌^◌, leng
 ghost use Rattle.sem_words.specs.Lists.{list_items};
 ghost use Rattle.asm_lang.specs.Heights.{module_height, height_limit};
 ghost use Rattle.asm_lang.specs.Modules.{Module as PlainModule, module_places};
-ghost use Rattle.asm_joining.specs.Printed.{IsTextOf};
+ghost use Rattle.asm_laws_print.specs.Printed.{IsTextOf};
 ghost use Rattle.asm_tree.specs.Views.{module_view};
 ghost use Rattle.asm_lang_valid.specs.declared.rule.Met.{Met};
 ghost use Rattle.asm_lang_valid.specs.Rows.{module_count};

@@ -13,5 +13,3 @@ pub use fault::{AsmRow, CheckFault};
 pub use laws::one_verdict_of_a_text;
 pub use names::row_name;
 
-#[cfg(test)]
-mod tests;

@@ -13,5 +13,3 @@ pub use fault::CheckFault;
 pub use laws::one_verdict;
 pub use names::{row_name, rule_number, section_number};
 
-#[cfg(test)]
-mod tests;

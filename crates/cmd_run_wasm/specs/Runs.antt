@@ -6,7 +6,7 @@ use Rattle.script_read.specs.declared.fault.ScriptFault.{ScriptFault}
 use Rattle.script_read.specs.declared.fault.ScriptFault.TheVariants.{Refused, Memory}
 use Rattle.script_print.specs.Texts.{observation_text}
 use Rattle.wasm_lang.specs.Modules.{WasmModule}
-use Rattle.wasm_fitting.specs.Fits.{misfit}
+use Rattle.wasm_lang_exec.specs.Fits.{misfit}
 use Rattle.wasm_lang_exec.specs.Session.{wasm}
 
 abbrev pub unless_misfit : ScriptPlain → Option ℕ → Result ScriptPlain ℕ

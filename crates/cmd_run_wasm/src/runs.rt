@@ -2,7 +2,7 @@
 ghost use Rattle.std.specs.Prelude.{◌≡◌, None, IfOk, MatchResult};
 ghost use Rattle.sem_laws.specs.Views.{script_of};
 ghost use Rattle.script_print.specs.Texts as spec;
-ghost use Rattle.wasm_fitting.specs.Fits.{misfit};
+ghost use Rattle.wasm_lang_exec.specs.Fits.{misfit};
 ghost use Rattle.wasm_lang_exec.specs.Session.{wasm};
 ghost use Rattle.wasm_lang.specs.Shape.{IsShaped};
 ghost use Rattle.wasm_lang_valid.specs.Runnable.{not_runnable};

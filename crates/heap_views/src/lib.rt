@@ -16,5 +16,3 @@ pub use kind::ViewKind;
 pub use views::{View, ViewMut};
 pub use writes::{WordSize, Write, apply};
 
-#[cfg(test)]
-mod tests;

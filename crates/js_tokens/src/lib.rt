@@ -17,5 +17,3 @@ pub use front::token_len;
 pub use reading::tokens;
 pub use token::{Token, TokenKind};
 
-#[cfg(test)]
-mod tests;

@@ -4,7 +4,5 @@
 mod heap;
 mod lines;
 mod observations;
-#[cfg(test)]
-mod tests;
 
 pub use observations::observation_text;

@@ -7,8 +7,6 @@ mod items;
 mod names;
 mod numbers;
 mod reading;
-#[cfg(test)]
-mod tests;
 
 pub use fault::ScriptFault;
 pub use reading::read_script;

@@ -4,8 +4,6 @@
 
 mod answering;
 mod puts;
-#[cfg(test)]
-mod tests;
 
 pub use answering::{Answer, Given, Replies};
 pub use puts::put_writes;

@@ -8,8 +8,6 @@ mod naming;
 mod observation;
 mod script;
 mod splitting;
-#[cfg(test)]
-mod tests;
 
 pub use comparing::below;
 pub use naming::{export_name, import_name};

@@ -26,5 +26,3 @@ pub use word::{Bin, Rel, TrapKind, Un, Word};
 pub use words32::{bin32, rel32, un32};
 pub use words64::{bin64, rel64, un64};
 
-#[cfg(test)]
-mod tests;

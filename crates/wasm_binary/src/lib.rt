@@ -8,8 +8,6 @@
 mod fault;
 mod reader;
 mod sections;
-#[cfg(test)]
-mod tests;
 
 pub use fault::BinFault;
 pub use reader::read;

@@ -11,8 +11,6 @@ mod laws;
 mod leb;
 mod modules;
 mod spell;
-#[cfg(test)]
-mod tests;
 mod types;
 
 pub use laws::spelling_laws;

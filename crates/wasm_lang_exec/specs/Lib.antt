@@ -3,3 +3,5 @@ pub mod Store
 pub mod Plain
 pub mod Reductions
 pub mod Session
+pub mod Fits
+pub mod FitLaws

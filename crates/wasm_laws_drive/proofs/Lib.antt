@@ -4,3 +4,5 @@ pub mod Sequences
 pub mod Events
 pub mod Counting
 pub mod Sessions
+pub mod Closing
+pub mod Stepping

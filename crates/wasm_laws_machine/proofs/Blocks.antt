@@ -9,9 +9,9 @@ use Rattle.wasm_lang_exec.specs.Code.{block, loop, if_block, Tree, Trees, Îµ, â—
 use Rattle.wasm_lang_exec.specs.Reductions.{arity_of, choose}
 use Rattle.wasm_laws_drive.specs.Drive.{State, Outcome, Stuck, onward}
 use Rattle.wasm_laws_drive.specs.Equations.{take_number}
-use Rattle.wasm_contexts.specs.Contexts.{Surrounding, in_label, in_frame, closed}
-use Rattle.wasm_contexts.specs.Steps.{goes_with, in_block, to_caller}
-use Rattle.wasm_contexts.proofs.Stepping.{block_step, loop_step, if_step, end_of_label, end_of_frame}
+use Rattle.wasm_laws_drive.specs.Contexts.{Surrounding, in_label, in_frame, closed}
+use Rattle.wasm_laws_drive.specs.Steps.{goes_with, in_block, to_caller}
+use Rattle.wasm_laws_drive.proofs.Stepping.{block_step, loop_step, if_step, end_of_label, end_of_frame}
 use Rattle.wasm_run_flat.specs.declared.target.Target.{Target}
 use Rattle.wasm_run_flat.specs.declared.target.Target.TheVariants.{Past, Again}
 use Rattle.wasm_run_flat.specs.Places.{code_at, after_at, continuation, Stands}

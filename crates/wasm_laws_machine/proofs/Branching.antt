@@ -9,10 +9,10 @@ use Rattle.wasm_lang_exec.specs.Reductions.{top_of}
 use Rattle.wasm_laws_drive.specs.Drive.{State, Outcome, Next, Branch, Leave, Stuck, onward}
 use Rattle.wasm_laws_drive.specs.Equations.{take_values, over}
 use Rattle.wasm_laws_drive.proofs.Instructions.{no_code}
-use Rattle.wasm_contexts.specs.Contexts.{Surrounding, in_label, in_frame, closed}
-use Rattle.wasm_contexts.specs.Steps.{goes_with, to_caller}
-use Rattle.wasm_contexts.proofs.Closing.{stuck_stays}
-use Rattle.wasm_contexts.proofs.Stepping.{br_step, return_step, end_of_label, end_of_frame, branch_to_label, branch_out_of_frame, return_out_of_frame}
+use Rattle.wasm_laws_drive.specs.Contexts.{Surrounding, in_label, in_frame, closed}
+use Rattle.wasm_laws_drive.specs.Steps.{goes_with, to_caller}
+use Rattle.wasm_laws_drive.proofs.Closing.{stuck_stays}
+use Rattle.wasm_laws_drive.proofs.Stepping.{br_step, return_step, end_of_label, end_of_frame, branch_to_label, branch_out_of_frame, return_out_of_frame}
 use Rattle.wasm_run_flat.specs.declared.target.Target.{Target}
 use Rattle.wasm_run_flat.specs.Places.{code_at, after_at, continuation, place_of, Stands}
 use Rattle.wasm_run_flat.specs.Laws.{IsNext, IsLeft, IsDone, IsBranch, BranchGoesOn}

@@ -15,9 +15,9 @@ use Rattle.wasm_lang_exec.specs.Store.{Store, zeros_of}
 use Rattle.wasm_lang_exec.specs.Reductions.{Callee, an_import, a_function, callee_at, params_of, top_of, below_top, result_word, of_type, choose, default_to}
 use Rattle.wasm_laws_drive.specs.Drive.{State, Outcome, Branch, Ended, Stuck, onward}
 use Rattle.wasm_laws_drive.specs.Equations.{take_number, answered}
-use Rattle.wasm_contexts.specs.Contexts.{Surrounding, in_label, in_frame, closed}
-use Rattle.wasm_contexts.specs.Steps.{goes_with, after_answer, in_function, in_call, in_entry}
-use Rattle.wasm_contexts.proofs.Stepping.{br_step, br_if_step, br_table_step, call_step, call_indirect_step}
+use Rattle.wasm_laws_drive.specs.Contexts.{Surrounding, in_label, in_frame, closed}
+use Rattle.wasm_laws_drive.specs.Steps.{goes_with, after_answer, in_function, in_call, in_entry}
+use Rattle.wasm_laws_drive.proofs.Stepping.{br_step, br_if_step, br_table_step, call_step, call_indirect_step}
 use Rattle.wasm_run_flat.specs.Places.{code_at, after_at, Stands}
 use Rattle.wasm_run_flat.specs.Laws.{IsNext, Begins}
 use Rattle.wasm_laws_machine.specs.Machine.{LabelPlain, FramePlain, EnclosingPlain, of_label, of_frame, MachinePlain, state_of, targets_of}

@@ -14,9 +14,9 @@ use Rattle.wasm_lang_exec.specs.Plain.{Effect, goes, traps, sticks, do_plain}
 use Rattle.wasm_laws_drive.specs.Drive.{State, Outcome, Ended, Stuck, onward}
 use Rattle.wasm_laws_drive.specs.Equations.{after, is_constant}
 use Rattle.wasm_laws_drive.proofs.Instructions.{narrow_constant, wide_constant}
-use Rattle.wasm_contexts.specs.Contexts.{Surrounding, closed}
-use Rattle.wasm_contexts.specs.Steps.{goes_with}
-use Rattle.wasm_contexts.proofs.Stepping.{plain_step, unreachable_step}
+use Rattle.wasm_laws_drive.specs.Contexts.{Surrounding, closed}
+use Rattle.wasm_laws_drive.specs.Steps.{goes_with}
+use Rattle.wasm_laws_drive.proofs.Stepping.{plain_step, unreachable_step}
 use Rattle.wasm_run_flat.specs.Places.{code_at, after_at, Stands}
 use Rattle.wasm_run_flat.specs.Laws.{IsNext}
 use Rattle.wasm_laws_machine.specs.Machine.{EnclosingPlain, MachinePlain, state_of, targets_of}

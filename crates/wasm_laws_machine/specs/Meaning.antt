@@ -6,8 +6,8 @@ use Rattle.wasm_lang.specs.Modules.{WasmModule}
 use Rattle.wasm_lang_exec.specs.Code.{Trees, ε}
 use Rattle.wasm_lang_exec.specs.Reductions.{Callee}
 use Rattle.wasm_laws_drive.specs.Drive.{State, Outcome, Next, Branch, Leave}
-use Rattle.wasm_contexts.specs.Contexts.{Surrounding, in_label, in_frame, closed}
-use Rattle.wasm_contexts.specs.Steps.{goes_with, in_call}
+use Rattle.wasm_laws_drive.specs.Contexts.{Surrounding, in_label, in_frame, closed}
+use Rattle.wasm_laws_drive.specs.Steps.{goes_with, in_call}
 use Rattle.wasm_run_flat.specs.Places.{code_at, after_at, continuation, Stands}
 use Rattle.wasm_run_flat.specs.declared.target.Target.{Target}
 use Rattle.wasm_laws_machine.specs.Machine.{LabelPlain, FramePlain, EnclosingPlain, of_label, of_frame, MachinePlain, state_of, targets_of}

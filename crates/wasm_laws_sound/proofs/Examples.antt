@@ -10,7 +10,7 @@ use Rattle.wasm_lang.specs.Modules.{WasmModule}
 use Rattle.wasm_lang_valid.specs.declared.section.Section.TheVariants as sections
 use Rattle.wasm_lang_valid.specs.Typing.{typed_empty, typed_plain, fixed}
 use Rattle.wasm_lang_valid.specs.Validity.{IsValidModule}
-use Rattle.wasm_fitting.proofs.Misfits.{no_misfit_fits}
+use Rattle.wasm_lang_exec.proofs.Misfits.{no_misfit_fits}
 use Rattle.wasm_laws_sound.specs.Places.{place, GoesOn}
 use Rattle.wasm_laws_sound.specs.Laws.{IsWhole}
 use Rattle.wasm_laws_sound.proofs.Sessions.{sessions_go_on}

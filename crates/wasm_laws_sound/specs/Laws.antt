@@ -14,7 +14,7 @@ use Rattle.wasm_lang_exec.specs.Store.{Store}
 use Rattle.wasm_lang_exec.specs.Plain.{do_plain}
 use Rattle.wasm_lang_exec.specs.Reductions.{Config, Code, reduce}
 use Rattle.wasm_lang_exec.specs.Session.{wasm}
-use Rattle.wasm_fitting.specs.Laws.{Fits}
+use Rattle.wasm_lang_exec.specs.FitLaws.{Fits}
 use Rattle.wasm_laws_drive.specs.Drive.{drive}
 use Rattle.wasm_laws_sound.specs.Trees.{IsTyped}
 use Rattle.wasm_laws_sound.specs.Configurations.{HaveTypes, IsTypedStore, within, IsTypedEffect, IsTypedConfig, IsTypedReduct, AreTypedFunctions}

@@ -3,8 +3,6 @@
 
 mod counts;
 mod functions;
-#[cfg(test)]
-mod tests;
 mod types;
 
 pub use counts::counts_line;

@@ -1,6 +1,6 @@
 -- The first of lines, as loops find it.
 use Rattle.std.proofs.Common.{◌≡◌, ℕ, min, List, [], ◌∷◌, ◌++◌, Option, Some, None, refl, sym, ap, ◌∙◌, arith}
-use Rattle.wasm_fitting.specs.Fits.{lesser, least}
+use Rattle.wasm_lang_exec.specs.Fits.{lesser, least}
 use Rattle.wasm_run.specs.Forms.{earlier}
 
 pub earlier_none : (o : Option ℕ) → earlier o None ≡ o

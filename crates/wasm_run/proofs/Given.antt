@@ -13,7 +13,7 @@ use Rattle.wasm_lang_valid.specs.declared.profile.Outside.{Outside}
 use Rattle.wasm_lang_valid.specs.ModuleRules.{is_table}
 use Rattle.wasm_lang_valid.specs.Runnable.{is_mutable, first_import, pages, above, row_or, not_runnable}
 use Rattle.wasm_lang_exec.specs.Session.{word_for, words_for, given_value}
-use Rattle.wasm_segments.proofs.Segments.{next_of}
+use Rattle.wasm_run_start.proofs.Segments.{next_of}
 
 equal_either_way : (x y : ℕ) → nat_eq x y ≡ nat_eq y x
 equal_either_way x y = grind (arith, nat_tests)

@@ -8,7 +8,7 @@ use Rattle.wasm_lang.specs.declared.types.ValType.{ValType}
 use Rattle.wasm_lang.specs.Modules.{WasmModule}
 use Rattle.wasm_lang_valid.specs.ModuleRules.{function_types, type_of_function}
 use Rattle.wasm_lang_valid.specs.Runnable.{or_else}
-use Rattle.wasm_fitting.specs.Fits.{in_range, global_imports, fits_write, fits_call, fits_reply, takes_arguments, global_lines, lines_of, unfit_lines, least, are_given, missing_line, misfit}
+use Rattle.wasm_lang_exec.specs.Fits.{in_range, global_imports, fits_write, fits_call, fits_reply, takes_arguments, global_lines, lines_of, unfit_lines, least, are_given, missing_line, misfit}
 use Rattle.wasm_run.specs.Forms.{earlier, after_argument}
 use Rattle.wasm_run.proofs.Earlier.{least_append}
 

@@ -2,7 +2,7 @@
 use Rattle.std.specs.Prelude.{ℕ, ◌/◌, ◌%◌, ◌==◌, ◌&&◌, List, [], ◌∷◌, Option, Some, None, slice_index, ℤ, if◌then◌else◌}
 use Rattle.hex.specs.Hex.{lower_digits}
 use Rattle.wasm_lang.specs.declared.types.ValType.{ValType}
-use Rattle.wasm_fitting.specs.Fits.{in_range, lesser}
+use Rattle.wasm_lang_exec.specs.Fits.{in_range, lesser}
 
 -- the lesser of two lines, where there are two
 abbrev pub earlier : Option ℕ → Option ℕ → Option ℕ

@@ -4,12 +4,12 @@ use Rattle.sem_laws.specs.Script.{ScriptPlain}
 use Rattle.sem_laws.specs.Imports.{first_replies}
 use Rattle.wasm_lang.specs.Modules.{WasmModule}
 use Rattle.wasm_lang_exec.specs.Session.{first_store}
-use Rattle.wasm_fitting.specs.Fits.{misfit}
+use Rattle.wasm_lang_exec.specs.Fits.{misfit}
 use Rattle.wasm_laws_sound.specs.Laws.{IsWhole}
 use Rattle.wasm_run_operands.specs.declared.state.State.{State}
 use Rattle.wasm_run_operands.specs.Effects.{store_of}
-use Rattle.wasm_calls.specs.declared.functions.Function.{Function}
-use Rattle.wasm_calls.specs.Functions.{AreFunctions, AllHaveForms}
+use Rattle.wasm_run_machine.specs.declared.functions.Function.{Function}
+use Rattle.wasm_run_machine.specs.Functions.{AreFunctions, AllHaveForms}
 
 -- a module and the script that it is run with
 pub record InstancePlain : Type 0 where

@@ -5,7 +5,7 @@ ghost use Rattle.sem_laws.specs.Script.{CallPlain};
 ghost use Rattle.sem_laws.specs.Views.{call_of};
 ghost use Rattle.wasm_tree.specs.Views.{export_of};
 ghost use Rattle.wasm_lang_exec.specs.Session;
-ghost use Rattle.wasm_fitting.specs.Fits;
+ghost use Rattle.wasm_lang_exec.specs.Fits;
 ghost use Rattle.wasm_run.specs.Forms.{after_argument};
 
 use crate::lines::lesser;

@@ -21,7 +21,7 @@ use sem_words::Word;
 use std::alloc::{AllocError, Global};
 use wasm_lang::{ImportKind, ValType};
 use wasm_run_operands::State;
-use wasm_segments::add_first_values;
+use wasm_run_start::add_first_values;
 use wasm_tree::{Import, Module};
 
 // The bytes of the memory; a module without one has none.
@@ -37,7 +37,7 @@ fn memory_length(module: &Module<'_>) -> u32
 }
 
 // The memory with the script's bytes.
-#[tactic(auto, using(wasm_calls::proofs::Asked::puts_are_writes))]
+#[tactic(auto, using(wasm_run_machine::proofs::Asked::puts_are_writes))]
 fn first_memory(alloc: Global, module: &Module<'_>, script: &Script) -> Result<Heap, AllocError>
     requires { not_runnable (module_of «module».now) ≡ None }
     ensures { IfOk result (λ memory. memory ≡ session.first_memory (module_of «module».now) (script_of script.now)) }

@@ -3,8 +3,8 @@
 ghost use Rattle.std.specs.Prelude.{◌≡◌, [], None, Some, MatchResult};
 ghost use Rattle.sem_laws.specs.Script.{WritePlain, CallPlain, ReplyLinePlain};
 ghost use Rattle.sem_laws.specs.Views.{script_of};
-ghost use Rattle.wasm_fitting.specs.Fits;
-ghost use Rattle.wasm_fitting.specs.Fits.{misfit, global_imports, least, lines_of};
+ghost use Rattle.wasm_lang_exec.specs.Fits;
+ghost use Rattle.wasm_lang_exec.specs.Fits.{misfit, global_imports, least, lines_of};
 
 use crate::calls::first_call;
 use crate::globals::{are_given, first_global};

@@ -4,8 +4,8 @@ ghost use Rattle.std.specs.Prelude.{◌≡◌, [], ◌&&◌, map, bytes_eq, not}
 ghost use Rattle.sem_laws.specs.Names.{import_name};
 ghost use Rattle.sem_laws.specs.Views.{global_of};
 ghost use Rattle.wasm_tree.specs.Views.{bytes_of, import_of, module_of};
-ghost use Rattle.wasm_fitting.specs.Fits;
-ghost use Rattle.wasm_fitting.specs.Fits.{global_imports};
+ghost use Rattle.wasm_lang_exec.specs.Fits;
+ghost use Rattle.wasm_lang_exec.specs.Fits.{global_imports};
 
 use crate::lines::lesser;
 use crate::names::is_import_name;

@@ -1,7 +1,7 @@
 // The first of some lines.
 
 ghost use Rattle.std.specs.Prelude.{◌≡◌};
-ghost use Rattle.wasm_fitting.specs.Fits;
+ghost use Rattle.wasm_lang_exec.specs.Fits;
 ghost use Rattle.wasm_run.specs.Forms;
 
 /// The lesser of a line and another, where there is another.

@@ -1,7 +1,7 @@
 // The numbers that a word of a type may be written as.
 
 ghost use Rattle.std.specs.Prelude.{◌≡◌};
-ghost use Rattle.wasm_fitting.specs.Fits;
+ghost use Rattle.wasm_lang_exec.specs.Fits;
 
 use wasm_lang::ValType;
 

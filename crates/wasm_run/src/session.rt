@@ -8,7 +8,7 @@ ghost use Rattle.wasm_tree.specs.Views.{module_of};
 ghost use Rattle.wasm_lang_exec.specs.Session as session;
 ghost use Rattle.wasm_lang_exec.specs.Store.{Store};
 ghost use Rattle.wasm_run_frames.specs.Views.{machine_of};
-ghost use Rattle.wasm_calls.specs.Functions.{AllHaveForms, AreFunctions};
+ghost use Rattle.wasm_run_machine.specs.Functions.{AllHaveForms, AreFunctions};
 ghost use Rattle.wasm_run.specs.Runs.{after_ran, begun, seen_as};
 
 use crate::calls::function_named;
@@ -16,11 +16,11 @@ use crate::words::arguments_for;
 use sem_laws::{CallLine, End, Event, Script};
 use sem_words::{TrapKind, Word};
 use std::alloc::{AllocError, Global};
-use wasm_calls::Function;
+use wasm_run_machine::Function;
 use wasm_run_frames::Machine;
 use wasm_run_machine::{Ran, call_host};
 use wasm_run_operands::Operands;
-use wasm_segments::{bytes_fit, entries_fit, put_bytes, put_entries};
+use wasm_run_start::{bytes_fit, entries_fit, put_bytes, put_entries};
 use wasm_tree::Module;
 
 // Puts operands on top, in order.

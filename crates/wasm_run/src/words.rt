@@ -5,11 +5,11 @@ ghost use Rattle.sem_words.specs.Words.{word_of};
 ghost use Rattle.wasm_tree.specs.Views.{module_of};
 ghost use Rattle.wasm_lang_exec.specs.Reductions.{callee_at};
 ghost use Rattle.wasm_lang_exec.specs.Session;
-ghost use Rattle.wasm_calls.specs.Functions.{AreFunctions};
+ghost use Rattle.wasm_run_machine.specs.Functions.{AreFunctions};
 
 use sem_words::Word;
 use std::alloc::{AllocError, Global};
-use wasm_calls::{Function, function_at};
+use wasm_run_machine::{Function, function_at};
 use wasm_lang::ValType;
 use wasm_tree::Module;
 

@@ -7,7 +7,7 @@ ghost use Rattle.sem_laws.specs.Views.{write_of, reply_of, reply_line_of};
 ghost use Rattle.wasm_lang.specs.Modules.{WasmModule};
 ghost use Rattle.wasm_tree.specs.Views.{import_of, module_of};
 ghost use Rattle.wasm_lang_valid.specs.Runnable;
-ghost use Rattle.wasm_fitting.specs.Fits;
+ghost use Rattle.wasm_lang_exec.specs.Fits;
 
 use crate::lines::lesser;
 use sem_laws::{Reply, ReplyLine, WriteLine};

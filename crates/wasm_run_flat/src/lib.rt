@@ -6,8 +6,6 @@
 mod body;
 pub mod laws;
 mod target;
-#[cfg(test)]
-mod tests;
 
 pub use body::Body;
 pub use target::Target;

@@ -14,8 +14,8 @@ use Rattle.wasm_lang_exec.specs.Session.{run_call, finished, spent, over}
 use Rattle.wasm_laws_drive.specs.Drive.{Outcome, Next, Ended, Stuck, Spent, at}
 use Rattle.wasm_laws_drive.specs.Laws.{run_of}
 use Rattle.wasm_laws_drive.proofs.Counting.{run_is_driven}
-use Rattle.wasm_contexts.specs.Steps.{in_call}
-use Rattle.wasm_contexts.proofs.Stepping.{call_step}
+use Rattle.wasm_laws_drive.specs.Steps.{in_call}
+use Rattle.wasm_laws_drive.proofs.Stepping.{call_step}
 use Rattle.wasm_run_flat.specs.Places.{Stands}
 use Rattle.wasm_run_flat.proofs.Standing.{stands_inside}
 use Rattle.wasm_laws_machine.specs.Machine.{EnclosingPlain, MachinePlain, state_of, targets_of}
@@ -23,8 +23,8 @@ use Rattle.wasm_laws_machine.specs.Meaning.{IsEnclosed, Within, Shows, Runs, Cal
 use Rattle.wasm_laws_machine.proofs.Branching.{shows_finished}
 use Rattle.wasm_run_frames.specs.declared.machine.Enclosing.{Enclosing}
 use Rattle.wasm_run_frames.specs.Views.{enclosing_of, all_enclosing}
-use Rattle.wasm_steps.specs.Kinds.{is_free}
-use Rattle.wasm_steps.proofs.Spending.{stands_there, spends}
+use Rattle.wasm_run_machine.specs.Kinds.{is_free}
+use Rattle.wasm_run_machine.proofs.Spending.{stands_there, spends}
 use Rattle.wasm_run_machine.specs.declared.running.Ran.{Ran}
 use Rattle.wasm_run_machine.specs.declared.running.Ran.TheVariants as ran
 use Rattle.wasm_run_machine.specs.Runs.{CameTo, RanAs}

@@ -5,16 +5,16 @@ ghost use Rattle.wasm_lang_exec.specs.Session.{run_call};
 ghost use Rattle.wasm_laws_drive.specs.Drive.{Outcome};
 ghost use Rattle.wasm_laws_machine.specs.Meaning.{Shows};
 ghost use Rattle.wasm_run_frames.specs.Views.{machine_of};
-ghost use Rattle.wasm_calls.specs.Functions.{AllHaveForms, AreFunctions, bodies_of};
+ghost use Rattle.wasm_run_machine.specs.Functions.{AllHaveForms, AreFunctions, bodies_of};
 ghost use Rattle.wasm_run_machine.specs.Runs.{CameTo, RanAs};
 
 use crate::steps::step;
 use sem_laws::End;
 use std::alloc::{AllocError, Global};
-use wasm_calls::{Callee, Function, call, function_at};
+use crate::{Callee, Function, call, function_at};
 use wasm_run_flat::Body;
 use wasm_run_frames::{Flow, Machine};
-use wasm_steps::push_constants;
+use crate::push_constants;
 use wasm_tree::Module;
 
 /// What some reductions of a host's call come to: it is back with so many of them left; the session is over; or they are used up, or

@@ -4,17 +4,17 @@ ghost use Rattle.wasm_lang.specs.Instructions as flat;
 ghost use Rattle.wasm_lang.specs.Instructions.{Instruction};
 ghost use Rattle.wasm_tree.specs.Views.{module_of};
 ghost use Rattle.wasm_run_frames.specs.Views.{machine_of};
-ghost use Rattle.wasm_calls.specs.Functions.{AreFunctions, bodies_of};
-ghost use Rattle.wasm_steps.specs.Kinds.{found_entry, is_free};
-ghost use Rattle.wasm_steps.specs.Doing.{DoesIn, HaveForms};
+ghost use Rattle.wasm_run_machine.specs.Functions.{AreFunctions, bodies_of};
+ghost use Rattle.wasm_run_machine.specs.Kinds.{found_entry, is_free};
+ghost use Rattle.wasm_run_machine.specs.Doing.{DoesIn, HaveForms};
 
 use sem_laws::End;
 use sem_words::TrapKind;
 use std::alloc::{AllocError, Global};
-use wasm_calls::{Function, call, has_type};
+use crate::{Function, call, has_type};
 use wasm_run_flat::Body;
 use wasm_run_frames::{Flow, Machine};
-use wasm_steps::{
+use crate::{
     Kind, branch_always, branch_by_table, branch_if, end, end_arm, kind_of, leave, open_block,
     open_if, open_loop, plain,
 };

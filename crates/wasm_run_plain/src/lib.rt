@@ -8,5 +8,3 @@ pub use laws::opcodes_have_forms;
 pub use plain::do_plain;
 pub use wasm_run_operands::{Effect, Operands, State};
 
-#[cfg(test)]
-mod tests;

@@ -13,8 +13,8 @@ use Rattle.wasm_lang_exec.specs.Code.{tree_of}
 use Rattle.wasm_lang_exec.specs.Reductions as meaning
 use Rattle.wasm_lang_exec.specs.Reductions.{if_function, imported_callee, imported_callees, own_callee, own_callees, found}
 use Rattle.wasm_run_plain.specs.Forms.{IsForm}
-use Rattle.wasm_calls.specs.declared.functions.Function.{Function}
-use Rattle.wasm_calls.specs.Functions.{bodies_of, IsFunction}
+use Rattle.wasm_run_machine.specs.declared.functions.Function.{Function}
+use Rattle.wasm_run_machine.specs.Functions.{bodies_of, IsFunction}
 use Rattle.wasm_run_start.specs.Listing.{IsReady, AreReady, own_of}
 
 pub item_of : (is : List Import) (k : ℕ) (x : Import) → k < length is → x ≡ get_or is k x → slice_get (map import_of is) k ≡ Some (import_of x)

@@ -24,9 +24,9 @@ use Rattle.wasm_laws_sound.proofs.Nesting.{tree_is_typed}
 use Rattle.wasm_run_flat.specs.declared.body.Body.{Body}
 use Rattle.wasm_run_plain.specs.Forms.{IsForm}
 use Rattle.wasm_run_plain.proofs.OpcodeForms.{opcode_has_form}
-use Rattle.wasm_calls.specs.declared.functions.Callee.{Callee}
-use Rattle.wasm_calls.specs.declared.functions.Callee.TheVariants.{Import, Own}
-use Rattle.wasm_calls.specs.declared.functions.Function.{Function}
+use Rattle.wasm_run_machine.specs.declared.functions.Callee.{Callee}
+use Rattle.wasm_run_machine.specs.declared.functions.Callee.TheVariants.{Import, Own}
+use Rattle.wasm_run_machine.specs.declared.functions.Function.{Function}
 use Rattle.wasm_run_start.specs.Listing.{IsReady, AreReady, IsTypeNumber, HasType, HaveTypes, own_of}
 use Rattle.wasm_run_start.proofs.Listed.{ready_more}
 

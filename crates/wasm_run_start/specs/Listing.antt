@@ -8,8 +8,8 @@ use Rattle.wasm_lang_exec.specs.Code.{tree_of}
 use Rattle.wasm_lang_exec.specs.Reductions as meaning
 use Rattle.wasm_lang_exec.specs.Reductions.{own_callee}
 use Rattle.wasm_run_plain.specs.Forms.{IsForm}
-use Rattle.wasm_calls.specs.declared.functions.Function.{Function}
-use Rattle.wasm_calls.specs.Functions.{body_of_callee, IsTyped}
+use Rattle.wasm_run_machine.specs.declared.functions.Function.{Function}
+use Rattle.wasm_run_machine.specs.Functions.{body_of_callee, IsTyped}
 
 -- the function is this callee, and its instructions have forms that opcodes can say
 pub record IsReady (m : WasmModule) (f : Function) (c : Option meaning.Callee) : Type 0 where

@@ -4,3 +4,11 @@
 mod listing;
 
 pub use listing::functions_of;
+
+mod data;
+mod elements;
+mod values;
+
+pub use data::{bytes_fit, put_bytes};
+pub use elements::{entries_fit, put_entries};
+pub use values::add_first_values;

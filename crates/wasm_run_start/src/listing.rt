@@ -6,12 +6,12 @@ ghost use Rattle.wasm_tree.specs.Views.{import_of, module_of};
 ghost use Rattle.wasm_lang_valid.specs.Validity.{IsValidModule};
 ghost use Rattle.wasm_lang_exec.specs.Reductions as meaning;
 ghost use Rattle.wasm_lang_exec.specs.Reductions.{imported_callees, own_callees};
-ghost use Rattle.wasm_calls.specs.Functions.{AreFunctions, AllHaveForms};
+ghost use Rattle.wasm_run_machine.specs.Functions.{AreFunctions, AllHaveForms};
 ghost use Rattle.wasm_run_start.specs.Listing.{HasType, HaveTypes, AreReady, own_of};
 
 use sem_laws::import_name;
 use std::alloc::{AllocError, Global};
-use wasm_calls::{Callee, Function};
+use wasm_run_machine::{Callee, Function};
 use wasm_lang::ImportKind;
 use wasm_run_flat::Body;
 use wasm_tree::{Import, Module};

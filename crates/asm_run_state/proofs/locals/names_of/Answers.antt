@@ -1,5 +1,5 @@
 use Rattle.std.proofs.Common.{ap}
-use Rattle.asm_variables.specs.Variables.{names_in}
+use Rattle.asm_run_state.specs.Variables.{names_in}
 use Rattle.asm_run_state.proofs.Begun.{names_laid}
 use Rattle.asm_run_state.proofs.locals.names_of.Goals as goal
 

@@ -1,7 +1,7 @@
 use Rattle.std.proofs.Common.{◌≡◌, ◌++◌, drop, map}
 use Rattle.asm_lang.specs.Modules.{Variable}
 use Rattle.asm_tree.specs.Views.{local_view}
-use Rattle.asm_variables.specs.Variables.{names_in}
+use Rattle.asm_run_state.specs.Variables.{names_in}
 use Rattle.asm_run_state.proofs.locals.push_locals.Given as goal
 
 abbrev pub invariant-loop-local : goal.invariant-loop-local

@@ -1,7 +1,7 @@
 use Rattle.std.proofs.Common.{refl}
 use Rattle.asm_lang.specs.Modules.{module_places}
 use Rattle.asm_lang.specs.Printing.{canonical_text}
-use Rattle.asm_joining.proofs.Printed.{text_of, well_formed_fits, one_module}
+use Rattle.asm_laws_print.proofs.Printed.{text_of, well_formed_fits, one_module}
 use Rattle.asm_text.proofs.laws.printed_texts_are_read.Goals as goal
 
 pub returns-clause-again : goal.returns-clause-again

@@ -1,5 +1,5 @@
 use Rattle.std.proofs.Common.{◌≡◌, drop}
-use Rattle.wasm_fitting.specs.Fits.{takes_arguments}
+use Rattle.wasm_lang_exec.specs.Fits.{takes_arguments}
 use Rattle.wasm_run.proofs.calls.takes_arguments.Given as goal
 
 abbrev pub invariant-loop-param : goal.invariant-loop-param

@@ -1,6 +1,6 @@
 use Rattle.std.proofs.Common.{ap, sym, ◌∙◌}
 use Rattle.sem_laws.specs.Views.{script_of}
-use Rattle.wasm_fitting.specs.Fits.{missing_line}
+use Rattle.wasm_lang_exec.specs.Fits.{missing_line}
 use Rattle.wasm_run.proofs.Named.{misfit_some, misfit_none}
 use Rattle.wasm_run.proofs.fits.fits_wasm.Goals as goal
 

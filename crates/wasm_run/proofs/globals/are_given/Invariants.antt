@@ -1,7 +1,7 @@
 use Rattle.std.proofs.Common.{◌≡◌, drop, map}
 use Rattle.sem_laws.specs.Views.{global_of}
 use Rattle.wasm_tree.specs.Views.{import_of}
-use Rattle.wasm_fitting.specs.Fits.{global_imports, are_given}
+use Rattle.wasm_lang_exec.specs.Fits.{global_imports, are_given}
 use Rattle.wasm_run.proofs.globals.are_given.Given as goal
 
 abbrev pub invariant-loop-import : goal.invariant-loop-import

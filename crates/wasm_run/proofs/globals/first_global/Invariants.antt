@@ -1,7 +1,7 @@
 use Rattle.std.proofs.Common.{◌≡◌, [], take, drop, map}
 use Rattle.sem_laws.specs.Views.{global_of}
 use Rattle.wasm_tree.specs.Views.{module_of}
-use Rattle.wasm_fitting.specs.Fits.{global_lines, least}
+use Rattle.wasm_lang_exec.specs.Fits.{global_lines, least}
 use Rattle.wasm_run.specs.Forms.{earlier}
 use Rattle.wasm_run.proofs.globals.first_global.Given as goal
 

@@ -1,6 +1,6 @@
 use Rattle.std.proofs.Common.{◌≡◌, drop, map}
 use Rattle.sem_laws.specs.Views.{global_of}
-use Rattle.wasm_fitting.specs.Fits.{is_given}
+use Rattle.wasm_lang_exec.specs.Fits.{is_given}
 use Rattle.wasm_run.proofs.globals.is_given.Given as goal
 
 abbrev pub invariant-loop-global : goal.invariant-loop-global

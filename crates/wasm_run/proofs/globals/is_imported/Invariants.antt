@@ -1,6 +1,6 @@
 use Rattle.std.proofs.Common.{◌≡◌, drop, map}
 use Rattle.wasm_tree.specs.Views.{import_of}
-use Rattle.wasm_fitting.specs.Fits.{global_imports, is_imported}
+use Rattle.wasm_lang_exec.specs.Fits.{global_imports, is_imported}
 use Rattle.wasm_run.proofs.globals.is_imported.Given as goal
 
 abbrev pub invariant-loop-import : goal.invariant-loop-import

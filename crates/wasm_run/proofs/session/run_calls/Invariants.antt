@@ -3,7 +3,7 @@ use Rattle.sem_laws.specs.Views.{call_of}
 use Rattle.wasm_tree.specs.Views.{module_of}
 use Rattle.wasm_lang_exec.specs.Session.{calls_seen}
 use Rattle.wasm_run_frames.specs.Views.{machine_of}
-use Rattle.wasm_calls.specs.Functions.{AreFunctions}
+use Rattle.wasm_run_machine.specs.Functions.{AreFunctions}
 use Rattle.wasm_run.proofs.session.run_calls.Given as goal
 
 abbrev pub invariant-loop-call : goal.invariant-loop-call

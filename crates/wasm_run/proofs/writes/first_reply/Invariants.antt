@@ -2,7 +2,7 @@ use Rattle.std.proofs.Common.{◌≡◌, drop, map}
 use Rattle.std.specs.List.{list_all}
 use Rattle.sem_laws.specs.Script.{ReplyLinePlain}
 use Rattle.sem_laws.specs.Views.{reply_line_of}
-use Rattle.wasm_fitting.specs.Fits.{lies_in, writes_of, lines_of, least}
+use Rattle.wasm_lang_exec.specs.Fits.{lies_in, writes_of, lines_of, least}
 use Rattle.wasm_run.specs.Forms.{earlier}
 use Rattle.wasm_run.proofs.writes.first_reply.Given as goal
 

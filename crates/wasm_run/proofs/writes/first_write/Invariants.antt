@@ -1,7 +1,7 @@
 use Rattle.std.proofs.Common.{◌≡◌, drop, map}
 use Rattle.sem_laws.specs.Script.{WritePlain}
 use Rattle.sem_laws.specs.Views.{write_of}
-use Rattle.wasm_fitting.specs.Fits.{lies_in, lines_of, least}
+use Rattle.wasm_lang_exec.specs.Fits.{lies_in, lines_of, least}
 use Rattle.wasm_run.specs.Forms.{earlier}
 use Rattle.wasm_run.proofs.writes.first_write.Given as goal
 

@@ -5,12 +5,12 @@ use Rattle.wasm_lang_exec.specs.Code.{ε}
 use Rattle.wasm_lang_exec.specs.Reductions.{callee_at}
 use Rattle.wasm_lang_exec.specs.Session.{run_call}
 use Rattle.wasm_laws_drive.specs.Drive.{Ended, Stuck}
-use Rattle.wasm_contexts.specs.Steps.{in_call}
+use Rattle.wasm_laws_drive.specs.Steps.{in_call}
 use Rattle.wasm_laws_machine.specs.Machine.{state_of}
 use Rattle.wasm_run_frames.specs.declared.machine.Flow.{Flow}
 use Rattle.wasm_run_frames.specs.Views.{machine_of}
 use Rattle.wasm_run_frames.specs.Flows.{Comes}
-use Rattle.wasm_calls.specs.Functions.{bodies_of}
+use Rattle.wasm_run_machine.specs.Functions.{bodies_of}
 use Rattle.wasm_run_machine.proofs.Hosts.{host_calls, as_run, came_as}
 use Rattle.wasm_run_machine.proofs.running.call_host.Goals as goal
 

@@ -10,7 +10,7 @@ use Rattle.wasm_run_frames.specs.declared.machine.Flow.{Flow}
 use Rattle.wasm_run_frames.specs.Views.{machine_of}
 use Rattle.wasm_run_frames.specs.Flows.{Comes}
 use Rattle.wasm_laws_drive.specs.Laws.{run_of}
-use Rattle.wasm_calls.specs.Functions.{bodies_of}
+use Rattle.wasm_run_machine.specs.Functions.{bodies_of}
 use Rattle.wasm_run_machine.proofs.Hosts.{enclosed, not_enclosed, has_instructions, has_one, is_spent, pays}
 use Rattle.wasm_run_machine.proofs.running.run.Goals as goal
 

@@ -3,7 +3,7 @@ use Rattle.wasm_laws_drive.specs.Drive.{Outcome}
 use Rattle.wasm_tree.specs.Views.{module_of}
 use Rattle.wasm_laws_machine.specs.Meaning.{Shows}
 use Rattle.wasm_run_frames.specs.Views.{machine_of}
-use Rattle.wasm_calls.specs.Functions.{AreFunctions, bodies_of}
+use Rattle.wasm_run_machine.specs.Functions.{AreFunctions, bodies_of}
 use Rattle.wasm_run_machine.proofs.running.run.Given as goal
 
 -- what was shown at the start is shown still

@@ -2,9 +2,9 @@ use Rattle.std.proofs.Common.{◌≡◌, ℕ, List, Option, None, Some, sym, ap,
 use Rattle.std.specs.Prelude.{slice_get}
 use Rattle.wasm_tree.specs.Views.{module_of}
 use Rattle.wasm_run_frames.specs.Views.{machine_of}
-use Rattle.wasm_calls.specs.Functions.{bodies_of}
-use Rattle.wasm_steps.specs.Kinds.{found_entry}
-use Rattle.wasm_steps.proofs.Done.{indirect_is_stuck, no_entry_does, other_entry_does, entry_calls, entry_is}
+use Rattle.wasm_run_machine.specs.Functions.{bodies_of}
+use Rattle.wasm_run_machine.specs.Kinds.{found_entry}
+use Rattle.wasm_run_machine.proofs.Done.{indirect_is_stuck, no_entry_does, other_entry_does, entry_calls, entry_is}
 use Rattle.wasm_run_machine.proofs.steps.call_by_entry.Goals as goal
 
 pub returns-in_default : goal.returns-in_default

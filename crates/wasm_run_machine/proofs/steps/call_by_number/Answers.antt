@@ -1,7 +1,7 @@
 use Rattle.wasm_tree.specs.Views.{module_of}
 use Rattle.wasm_run_frames.specs.Views.{machine_of}
-use Rattle.wasm_calls.specs.Functions.{bodies_of}
-use Rattle.wasm_steps.proofs.Done.{call_does}
+use Rattle.wasm_run_machine.specs.Functions.{bodies_of}
+use Rattle.wasm_run_machine.proofs.Done.{call_does}
 use Rattle.wasm_run_machine.proofs.steps.call_by_number.Goals as goal
 
 pub returns : goal.returns

@@ -1,9 +1,9 @@
 use Rattle.std.proofs.Common.{◌≡◌, Some, refl, sym, ap, ◌∙◌}
 use Rattle.wasm_tree.specs.Views.{instr_of, module_of}
 use Rattle.wasm_run_frames.specs.Views.{machine_of}
-use Rattle.wasm_calls.specs.Functions.{bodies_of}
-use Rattle.wasm_steps.proofs.Done.{unreachable_does}
-use Rattle.wasm_steps.proofs.Plains.{free_is_not}
+use Rattle.wasm_run_machine.specs.Functions.{bodies_of}
+use Rattle.wasm_run_machine.proofs.Done.{unreachable_does}
+use Rattle.wasm_run_machine.proofs.Plains.{free_is_not}
 use Rattle.wasm_run_machine.proofs.steps.step.Goals as goal
 
 pub returns-in-Constant : goal.returns-in-Constant

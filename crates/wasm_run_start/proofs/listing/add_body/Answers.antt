@@ -2,7 +2,7 @@ use Rattle.std.proofs.Common.{◌≡◌, sym, ap, ◌∙◌}
 use Rattle.std.specs.Prelude.{slice_get}
 use Rattle.sem_words.specs.Lists.{list_items}
 use Rattle.wasm_tree.specs.Views.{body_of, module_of}
-use Rattle.wasm_calls.proofs.Called.{viewed, not_viewed}
+use Rattle.wasm_run_machine.proofs.Called.{viewed, not_viewed}
 use Rattle.wasm_run_start.specs.Listing.{own_of}
 use Rattle.wasm_run_start.proofs.Listed.{no_own}
 use Rattle.wasm_run_start.proofs.Parts.{adds_own, adds_no_own}

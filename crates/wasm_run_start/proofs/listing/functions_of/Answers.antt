@@ -2,7 +2,7 @@ use Rattle.std.proofs.Common.{◌≡◌, [], List, map, sym, ap, subst, ◌∙�
 use Rattle.wasm_tree.specs.declared.module.Import.{Import}
 use Rattle.wasm_tree.specs.Views.{import_of, module_of}
 use Rattle.wasm_lang_exec.specs.Reductions.{imported_callees, callees}
-use Rattle.wasm_calls.specs.declared.functions.Function.{Function}
+use Rattle.wasm_run_machine.specs.declared.functions.Function.{Function}
 use Rattle.wasm_run_start.specs.Listing.{HaveTypes, AreReady}
 use Rattle.wasm_run_start.proofs.Listed.{ready_at, forms_at}
 use Rattle.wasm_run_start.proofs.Parts.{imports_have_types}

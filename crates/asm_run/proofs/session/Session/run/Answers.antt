@@ -1,7 +1,7 @@
 use Rattle.std.proofs.Common.{[], sym, ap, ◌∙◌}
 use Rattle.asm_tree.specs.Views.{module_view}
 use Rattle.asm_lang_exec.specs.Session.{asm}
-use Rattle.asm_session.specs.Hosted.{observation_option}
+use Rattle.asm_run.specs.Hosted.{observation_option}
 use Rattle.asm_run.proofs.Fitting.{accepted_here, fits_here, small_home, small_calls, means, not_none}
 use Rattle.asm_run.proofs.session.Session.run.Goals as goal
 

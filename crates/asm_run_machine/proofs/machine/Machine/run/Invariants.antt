@@ -1,6 +1,6 @@
 use Rattle.std.proofs.Common.{◌≤◌}
 use Rattle.asm_tree.specs.Views.{module_view}
-use Rattle.asm_literals.specs.Literals.{SmallMode, SmallWorks}
+use Rattle.asm_laws_machine.specs.Literals.{SmallMode, SmallWorks}
 use Rattle.asm_run_work.specs.Views.{mode_view}
 use Rattle.asm_run_machine.specs.declared.running.Reached.TheVariants.{Goes}
 use Rattle.asm_run_machine.specs.Machines.{waiting}

@@ -1,4 +1,0 @@
-//! asm.js: what accepted modules have.
-#![tactic(auto)]
-
-pub mod laws;

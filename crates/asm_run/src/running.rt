@@ -1,0 +1,38 @@
+//! Runs the calls of a script.
+ghost use Rattle.std.specs.Prelude.{IfOk, map};
+ghost use Rattle.sem_laws.specs.Views.{call_of};
+ghost use Rattle.asm_tree.specs.Views.{module_view};
+ghost use Rattle.asm_validate_names.specs.Environments.{IsComplete};
+ghost use Rattle.asm_laws_machine.specs.Literals.{SmallModule};
+ghost use Rattle.asm_run.specs.Session.{SmallCalls, IsSession};
+
+use crate::host_calls::{Hosted, host_call};
+use asm_run_state::World;
+use asm_validate_names::Environment;
+use sem_laws::{CallLine, End, Observation};
+use std::alloc::{AllocError, Global};
+
+/// What is seen of the module where the script makes these calls in a world; None where the session goes
+/// wrong.
+pub fn run<'a>(
+    alloc: Global,
+    environment: &Environment<'a>,
+    world: World<'a>,
+    calls: &[CallLine],
+) -> Result<Option<Observation>, AllocError>
+    requires complete { IsComplete environment.now }
+    requires literals { SmallModule (module_view environment.now.home.now) }
+    requires arguments { SmallCalls calls.now }
+    ensures { IfOk result (λ seen. IsSession (module_view environment.now.home.now) (map call_of calls.now) world.entry seen) }
+{
+    let mut world = world;
+    for call in calls {
+        match host_call(alloc, environment, world, call)? {
+            Hosted::Goes(next) => world = next,
+            Hosted::Ends(seen) => return Ok(Some(seen)),
+            Hosted::Wrong => return Ok(None),
+        }
+    }
+    let seen = world.ended(alloc, End::Done)?;
+    Ok(Some(seen))
+}

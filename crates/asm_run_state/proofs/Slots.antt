@@ -1,0 +1,81 @@
+-- Where variables are found, and what a write leaves of them.
+use Rattle.std.proofs.Common.{◌≡◌, ℕ, suc, ◌+◌, ◌<◌, Bool, true, false, List, [], ◌∷◌, length, drop, get_or, set, Option, Some, None, refl, sym, ap, ◌∙◌, arith, zero-add}
+use Rattle.std.proofs.lemmas.List.{at_drop_more}
+use Rattle.std.specs.Prelude.{if◌then◌else◌, option_map, slice_get}
+use Rattle.std.specs.Borrow.{Bor}
+use Rattle.std.specs.Str.{bytes_eq}
+use Rattle.sem_words.specs.declared.js_value.JsValue.{JsValue}
+use Rattle.asm_lang_exec.specs.Runs.{value_in, with_value, Binding, binding}
+use Rattle.asm_run_state.specs.Variables.{names_in, slot_of, bindings}
+
+-- ---- the map
+
+shifted : (c : Bool) (i : ℕ) (o : Option ℕ) → (if c then Some i else option_map (λ k. (i + 1) + k) o) ≡ option_map (λ k. i + k) (if c then Some 0 else option_map (λ k. suc k) o)
+shifted true i o = ap (λ (k : ℕ). Some k) (omega arith)
+shifted false i None = refl
+shifted false i (Some k) = ap (λ (k : ℕ). Some k) (omega arith)
+
+-- x has the slot of the i-th name, before y, which the later ones have
+pub slot_put : (ns : List (Bor (List ℕ))) (i j : ℕ) (b : Bor (List ℕ)) (n : List ℕ) (x y : Option ℕ) → j ≡ i + 1 → i < length ns → b ≡ get_or ns i b → x ≡ (if bytes_eq b.now n then Some i else y) → y ≡ option_map (λ k. j + k) (slot_of (names_in (drop j ns)) n) → x ≡ option_map (λ k. i + k) (slot_of (names_in (drop i ns)) n)
+slot_put ns i j b n x y p h is e k =
+    e ∙ ap (λ y. if bytes_eq b.now n then Some i else y) (k ∙ ap (λ j. option_map (λ k. j + k) (slot_of (names_in (drop j ns)) n)) p)
+    ∙ shifted (bytes_eq b.now n) i (slot_of (names_in (drop (i + 1) ns)) n)
+    ∙ ap (λ (c : Bor (List ℕ)). option_map (λ k. i + k) (slot_of (names_in (c ∷ drop (i + 1) ns)) n)) is
+    ∙ sym (at_drop_more (λ cs. option_map (λ k. i + k) (slot_of (names_in cs) n)) ns i b h)
+
+unshifted : (o : Option ℕ) → option_map (λ k. 0 + k) o ≡ o
+unshifted None = refl
+unshifted (Some k) = ap (λ (k : ℕ). Some k) (zero-add k)
+
+pub all_put : (ns : List (Bor (List ℕ))) (i : ℕ) (n : List ℕ) (x : Option ℕ) → i ≡ 0 → x ≡ option_map (λ k. i + k) (slot_of (names_in (drop i ns)) n) → x ≡ slot_of (names_in ns) n
+all_put ns i n x h e = e ∙ ap (λ i. option_map (λ k. i + k) (slot_of (names_in (drop i ns)) n)) h ∙ unshifted (slot_of (names_in ns) n)
+
+-- ---- values and writes
+
+abbrev slot_value : Option ℕ → List JsValue → Option JsValue
+slot_value None vs = None
+slot_value (Some i) vs = slice_get vs i
+
+value_step : (b : Bool) (o : Option ℕ) (v : JsValue) (vs : List JsValue) (x : Option JsValue) → x ≡ slot_value o vs → (if b then Some v else x) ≡ slot_value (if b then Some 0 else option_map (λ i. suc i) o) (v ∷ vs)
+value_step true o v vs x e = refl
+value_step false None v vs x e = e
+value_step false (Some i) v vs x e = e
+
+none_past : (o : Option ℕ) → None ≡ slot_value o []
+none_past None = refl
+none_past (Some i) = refl
+
+value_law : (ns : List (List ℕ)) (vs : List JsValue) (n : List ℕ) → value_in (bindings ns vs) n ≡ slot_value (slot_of ns n) vs
+value_law [] vs n = refl
+value_law (x ∷ ns) [] n = none_past (slot_of (x ∷ ns) n)
+value_law (x ∷ ns) (v ∷ vs) n = value_step (bytes_eq x n) (slot_of ns n) v vs (value_in (bindings ns vs) n) (value_law ns vs n)
+
+pub value_at : (ns : List (List ℕ)) (vs : List JsValue) (n : List ℕ) (i : ℕ) → slot_of ns n ≡ Some i → value_in (bindings ns vs) n ≡ slice_get vs i
+value_at ns vs n i e = value_law ns vs n ∙ ap (λ o. slot_value o vs) e
+
+pub no_value : (ns : List (List ℕ)) (vs : List JsValue) (n : List ℕ) → slot_of ns n ≡ None → value_in (bindings ns vs) n ≡ None
+no_value ns vs n e = value_law ns vs n ∙ ap (λ o. slot_value o vs) e
+
+abbrev slot_written : Option ℕ → JsValue → List JsValue → List JsValue
+slot_written None v vs = vs
+slot_written (Some i) v vs = set vs i v
+
+write_step : (x : List ℕ) (ns : List (List ℕ)) (b : Bool) (o : Option ℕ) (v w : JsValue) (vs : List JsValue) (bs : List Binding) → bs ≡ bindings ns (slot_written o v vs) → (if b then binding x v ∷ bindings ns vs else binding x w ∷ bs) ≡ bindings (x ∷ ns) (slot_written (if b then Some 0 else option_map (λ i. suc i) o) v (w ∷ vs))
+write_step x ns true o v w vs bs e = refl
+write_step x ns false None v w vs bs e = ap (λ (bs : List Binding). binding x w ∷ bs) e
+write_step x ns false (Some i) v w vs bs e = ap (λ (bs : List Binding). binding x w ∷ bs) e
+
+nothing_written : (x : List ℕ) (ns : List (List ℕ)) (o : Option ℕ) (v : JsValue) → [] ≡ bindings (x ∷ ns) (slot_written o v [])
+nothing_written x ns None v = refl
+nothing_written x ns (Some i) v = refl
+
+write_law : (ns : List (List ℕ)) (vs : List JsValue) (n : List ℕ) (v : JsValue) → with_value n v (bindings ns vs) ≡ bindings ns (slot_written (slot_of ns n) v vs)
+write_law [] vs n v = refl
+write_law (x ∷ ns) [] n v = nothing_written x ns (slot_of (x ∷ ns) n) v
+write_law (x ∷ ns) (w ∷ vs) n v = write_step x ns (bytes_eq x n) (slot_of ns n) v w vs (with_value n v (bindings ns vs)) (write_law ns vs n v)
+
+pub with_value_at : (ns : List (List ℕ)) (vs : List JsValue) (n : List ℕ) (v : JsValue) (i : ℕ) → slot_of ns n ≡ Some i → with_value n v (bindings ns vs) ≡ bindings ns (set vs i v)
+with_value_at ns vs n v i e = write_law ns vs n v ∙ ap (λ o. bindings ns (slot_written o v vs)) e
+
+pub with_no_value : (ns : List (List ℕ)) (vs : List JsValue) (n : List ℕ) (v : JsValue) → slot_of ns n ≡ None → with_value n v (bindings ns vs) ≡ bindings ns vs
+with_no_value ns vs n v e = write_law ns vs n v ∙ ap (λ o. bindings ns (slot_written o v vs)) e

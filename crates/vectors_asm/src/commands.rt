@@ -1,0 +1,261 @@
+//! Whole calls over files and sinks in memory.
+use bridge_cmd::{Status, bridge};
+use bridge_io::{MemFiles, MemSink};
+use std::alloc::{AllocError, Global};
+use std::process::Abort;
+use std::test::Fail;
+
+const ADD: &[u8] = b"function m(){\"use asm\";function f(a,b){a=a|0;b=b|0;return a+b|0;}return f;}";
+
+/// The module of `ADD`: a type of two i32 to an i32, a function, its export `f`, and its body.
+const ADD_MODULE: &[u8] = &[
+    0x00, 0x61, 0x73, 0x6d, 0x01, 0x00, 0x00, 0x00, // magic and version
+    0x01, 0x07, 0x01, 0x60, 0x02, 0x7f, 0x7f, 0x01, 0x7f, // type
+    0x03, 0x02, 0x01, 0x00, // function
+    0x07, 0x05, 0x01, 0x01, 0x66, 0x00, 0x00, // export
+    0x0a, 0x09, 0x01, 0x07, 0x00, 0x20, 0x00, 0x20, 0x01, 0x6a, 0x0b, // code
+];
+
+/// Names and contents of the files.
+static FILES: [(&'static str, &'static [u8]); 10] = [
+    ("add.js", ADD),
+    (
+        "times.js",
+        b"function m(){\"use asm\";function f(a,b){a=a|0;b=b|0;return a*b|0;}return f;}",
+    ),
+    (
+        "zero.js",
+        b"function m(){\"use asm\";function f(){return -0;}return f;}",
+    ),
+    ("add.wasm", ADD_MODULE),
+    ("cut.wasm", b"\0asm"),
+    (
+        "untyped.wasm",
+        b"\0asm\x01\0\0\0\x03\x02\x01\0\x0a\x04\x01\x02\0\x0b",
+    ),
+    (
+        "table.wasm",
+        b"\0asm\x01\0\0\0\x02\x09\x01\x01m\x01t\x01\x70\0\0",
+    ),
+    ("f.txt", b"call f 2147483647 1\n"),
+    ("g.txt", b"# no g\ncall g\n"),
+    ("cal.txt", b"cal f\n"),
+];
+
+/// The words after the program's name, the exit status, and what stands in the output and in the report.
+type Row = (&'static [&'static str], u8, &'static [u8], &'static [u8]);
+
+const USAGE: &[u8] = b"usage: bridge COMMAND [--heap N] [--steps N] [FILE] [SCRIPT]\n";
+
+static ROWS: [Row; 35] = [
+    (&[], 1, b"", USAGE),
+    (&["fly", "add.js"], 1, b"", USAGE),
+    (&["asm2wasm"], 1, b"", USAGE),
+    (&["asm2wasm", "add.js", "x"], 1, b"", USAGE),
+    (&["asm2wasm", "-add.js"], 1, b"", USAGE),
+    (&["asm2wasm", "--steps", "5", "add.js"], 1, b"", USAGE),
+    (&["asm2wasm", "--heap", "5", "add.js"], 1, b"", USAGE),
+    (
+        &["asm2wasm", "--heap=4096", "--heap=4096", "add.js"],
+        1,
+        b"",
+        USAGE,
+    ),
+    (&["run-wasm", "add.wasm"], 1, b"", USAGE),
+    (&["run-asm", "add.js"], 1, b"", USAGE),
+    (
+        &["run-asm", "--heap", "5000", "add.js", "f.txt"],
+        1,
+        b"",
+        USAGE,
+    ),
+    (&["asm2wasm", "add.js"], 0, ADD_MODULE, b""),
+    (
+        &["asm2wasm", "times.js"],
+        2,
+        b"",
+        b"asm.js refused: A0 NotYet at 0\n",
+    ),
+    (&["asm2wasm", "no.js"], 7, b"", b"missing: no.js\n"),
+    (
+        &["check-asm", "add.js"],
+        0,
+        b"asm.js functions 1 tables 0 exports 1 foreign 0\n",
+        b"",
+    ),
+    (
+        &["check-asm", "times.js"],
+        2,
+        b"",
+        b"asm.js refused: A14 Operand at 59\n",
+    ),
+    (
+        &["check-asm", "zero.js"],
+        2,
+        b"",
+        b"asm.js refused: A4 LiteralForm at 43\n",
+    ),
+    (
+        &["check-wasm", "add.wasm"],
+        0,
+        b"wasm functions 1 imports 0 exports 1\n",
+        b"",
+    ),
+    (
+        &["check-wasm", "cut.wasm"],
+        3,
+        b"",
+        b"wasm refused: B3 Truncated at 4\n",
+    ),
+    (
+        &["check-wasm", "untyped.wasm"],
+        3,
+        b"",
+        b"wasm refused: B13 Invalid V1 at section 3 index 0 instruction 0\n",
+    ),
+    (
+        &["show", "add.js"],
+        0,
+        b"function m(){\"use asm\";\nfunction f(a,b){a=a|0;b=b|0;return a+b|0;}\nreturn f;}\n",
+        b"",
+    ),
+    (
+        &["show", "add.wasm"],
+        0,
+        b"wasm functions 1 imports 0 exports 1\nfunc 0 (i32 i32) i32 4\n",
+        b"",
+    ),
+    (
+        &["run-asm", "add.js", "f.txt"],
+        0,
+        b"result -2147483648\nend done\n",
+        b"",
+    ),
+    (
+        &["run-asm", "--steps=0", "--heap=4096", "add.js", "f.txt"],
+        0,
+        b"still running\n",
+        b"",
+    ),
+    (
+        &["run-asm", "add.js", "g.txt"],
+        4,
+        b"",
+        b"script refused: line 2\n",
+    ),
+    (
+        &["run-asm", "add.js", "cal.txt"],
+        4,
+        b"",
+        b"script refused: line 1\n",
+    ),
+    (
+        &["run-asm", "add.js", "no.txt"],
+        7,
+        b"",
+        b"missing: no.txt\n",
+    ),
+    (&["run-asm", "no.js", "no.txt"], 7, b"", b"missing: no.js\n"),
+    (
+        &["run-asm", "times.js", "no.txt"],
+        2,
+        b"",
+        b"asm.js refused: A14 Operand at 59\n",
+    ),
+    (
+        &["run-wasm", "add.wasm", "f.txt"],
+        0,
+        b"result -2147483648\nend done\n",
+        b"",
+    ),
+    (
+        &["run-wasm", "--steps", "0", "add.wasm", "f.txt"],
+        0,
+        b"still running\n",
+        b"",
+    ),
+    (
+        &["run-wasm", "add.wasm", "g.txt"],
+        4,
+        b"",
+        b"script refused: line 2\n",
+    ),
+    (
+        &["run-wasm", "add.wasm", "cal.txt"],
+        4,
+        b"",
+        b"script refused: line 1\n",
+    ),
+    (
+        &["run-wasm", "add.wasm", "no.txt"],
+        7,
+        b"",
+        b"missing: no.txt\n",
+    ),
+    (
+        &["run-wasm", "table.wasm", "cal.txt"],
+        3,
+        b"",
+        b"wasm refused: B14 ImportedTable 0\n",
+    ),
+];
+
+fn all_files(alloc: Global) -> Result<MemFiles, AllocError> {
+    let mut files = MemFiles::new(alloc);
+    for (name, content) in FILES.iter() {
+        files.add(name, content)?;
+    }
+    Ok(files)
+}
+
+fn all_words(alloc: Global, words: &[&str]) -> Result<Vec<String>, AllocError> {
+    let mut all = vec![in alloc; String::from_str(alloc, "bridge")?]?;
+    for word in words {
+        all.push(String::from_str(alloc, word)?)?;
+    }
+    Ok(all)
+}
+
+/// The call ends as the row says.
+fn ends(rt: &impl Abort, alloc: Global, row: &Row) -> Result<(), Fail> {
+    let (words, code, output, line) = *row;
+    let all = all_words(alloc, words)?;
+    let mut files = all_files(alloc)?;
+    let mut out = MemSink::new(alloc, 1000, 1000)?;
+    let mut report = MemSink::new(alloc, 1000, 1000)?;
+    let status = bridge(alloc, &all, &mut files, &mut out, &mut report);
+    assert_eq!(rt; status.code(), code, "{words:?}");
+    assert_eq!(rt; out.bytes(), output, "{words:?}");
+    assert_eq!(rt; report.bytes(), line, "{words:?}");
+    Ok(())
+}
+
+#[test]
+fn calls_end_as_the_table_says(rt: HostRuntime) -> Result<(), Fail> {
+    for row in ROWS.iter() {
+        ends(&rt, rt.alloc(), row)?;
+    }
+    Ok(())
+}
+
+#[test]
+fn a_failed_read_or_write_is_told(rt: HostRuntime) -> Result<(), Fail> {
+    let alloc = rt.alloc();
+    let words = all_words(alloc, &["asm2wasm", "add.js"])?;
+    let mut files = all_files(alloc)?;
+    files.fail_at(1)?;
+    let mut out = MemSink::new(alloc, 1000, 1)?;
+    let mut report = MemSink::new(alloc, 1000, 1000)?;
+    let status = bridge(alloc, &words, &mut files, &mut out, &mut report);
+    assert_eq!(rt; status, Status::ReadFault);
+    assert_eq!(rt; out.bytes(), b"".as_slice());
+    assert_eq!(rt; report.bytes(), b"read fault\n".as_slice());
+    let mut files = all_files(alloc)?;
+    out.fail_at(2)?;
+    let mut report = MemSink::new(alloc, 1000, 1000)?;
+    let status = bridge(alloc, &words, &mut files, &mut out, &mut report);
+    assert_eq!(rt; status, Status::WriteFault);
+    assert_eq!(rt; out.bytes(), [0x00].as_slice());
+    assert_eq!(rt; report.bytes(), b"".as_slice());
+    Ok(())
+}

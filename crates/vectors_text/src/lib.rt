@@ -1,0 +1,13 @@
+//! Worked rows of the text of asm.js: tokens, texts that are read and printed, verdicts with their places, tables, layouts.
+#![tactic(auto)]
+
+#[cfg(test)]
+mod entries;
+#[cfg(test)]
+mod layouts;
+#[cfg(test)]
+mod texts;
+#[cfg(test)]
+mod tokens;
+#[cfg(test)]
+mod verdicts;

@@ -1,0 +1,206 @@
+//! Texts of great height or length. The function adds a level to the highest of its statements, and the module another one.
+use super::{CLOSE, OPEN, joined, repeated};
+use asm_text::{TextFault, read};
+use std::alloc::Global;
+use std::process::Abort;
+use std::test::*;
+
+/// A name of what the row shows, what stands in front, what opens a level, how often, what stands inside, and what closes a level.
+type Row = (
+    &'static str,
+    &'static [u8],
+    &'static [u8],
+    usize,
+    &'static [u8],
+    &'static [u8],
+);
+
+fn nested(g: Global, row: &Row, count: usize) -> Result<Vec<u8>, Fail> {
+    let (_, front, open, _, inside, close) = *row;
+    let opened = repeated(g, open, count)?;
+    let closed = repeated(g, close, count)?;
+    joined(g, &[OPEN, front, &opened, inside, &closed, CLOSE])
+}
+
+/// The counts with which the module has the height 1,000. At one more it is refused, where it ends.
+static STATEMENTS: [Row; 10] = [
+    ("blocks", b"", b"{", 998, b"", b"}"),
+    ("blocks under labels", b"", b"a:{", 998, b"", b"}"),
+    ("if", b"", b"if(a)", 997, b";", b""),
+    ("if with a block", b"", b"if(a){", 997, b"", b"}"),
+    ("else if", b"if(a)", b";else if(a)", 996, b";", b""),
+    ("while", b"", b"while(a)", 997, b";", b""),
+    ("do", b"", b"do ", 997, b";", b"while(a);"),
+    ("for", b"", b"for(;;)", 997, b";", b""),
+    ("for with a block", b"", b"for(;;){", 997, b"", b"}"),
+    ("switch", b"", b"switch(a){case 1:", 997, b"", b"}"),
+];
+
+static EXPRESSIONS: [Row; 13] = [
+    ("prefixes", b"", b"!", 996, b"a", b""),
+    ("prefixes after return", b"return ", b"~", 996, b"a", b""),
+    (
+        "prefixes below a bitwise or",
+        b"return ",
+        b"!",
+        995,
+        b"a|0",
+        b"",
+    ),
+    ("elements", b"", b"a[", 996, b"0", b"]"),
+    ("calls", b"", b"f(", 996, b"0", b")"),
+    ("calls of a table", b"", b"t[0](", 996, b"0", b")"),
+    ("assignments", b"", b"a=", 996, b"0", b""),
+    ("stores", b"", b"a[0]=", 996, b"0", b""),
+    ("last parts of conditionals", b"", b"a?b:", 996, b"c", b""),
+    ("middle parts of conditionals", b"", b"a?", 996, b"b", b":c"),
+    ("bitwise or", b"", b"a|", 996, b"b", b""),
+    ("products", b"", b"a*", 996, b"b", b""),
+    ("sums to the right", b"", b"a+(", 996, b"b", b")"),
+];
+
+fn meets_the_limit(rt: &impl Abort, g: Global, row: &Row) -> Result<(), Fail> {
+    let text = nested(g, row, row.3)?;
+    assert!(rt; read(g, &text).is_ok(), "{}", row.0);
+    let text = nested(g, row, row.3.saturating_add(1))?;
+    let at = (text.len() as u64).saturating_sub(1);
+    let fault = read(g, &text).err();
+    assert_eq!(rt; fault, Some(TextFault::Height { at }), "{}", row.0);
+    Ok(())
+}
+
+#[test]
+fn statements(rt: HostRuntime) -> Result<(), Fail> {
+    for row in STATEMENTS.iter() {
+        meets_the_limit(&rt, rt.alloc(), row)?;
+    }
+    Ok(())
+}
+
+#[test]
+fn expressions(rt: HostRuntime) -> Result<(), Fail> {
+    for row in EXPRESSIONS.iter() {
+        meets_the_limit(&rt, rt.alloc(), row)?;
+    }
+    Ok(())
+}
+
+/// What adds no height, at great length.
+#[test]
+fn no_height(rt: HostRuntime) -> Result<(), Fail> {
+    let rows: [Row; 8] = [
+        ("parentheses", b"", b"(", 20000, b"a", b")"),
+        (
+            "parentheses round a sum's front",
+            b"",
+            b"(",
+            20000,
+            b"a",
+            b"+b)",
+        ),
+        ("a list", b"", b"a,", 20000, b"b", b""),
+        ("a sum", b"", b"a-", 20000, b"b", b""),
+        ("labels", b"", b"a:", 20000, b";", b""),
+        ("statements", b"", b"a;", 20000, b"", b""),
+        ("clauses", b"switch(a){", b"case 1:", 20000, b"}", b""),
+        ("arguments", b"f(", b"a,", 20000, b"b)", b""),
+    ];
+    for row in rows.iter() {
+        let text = nested(rt.alloc(), row, row.3)?;
+        assert!(rt; read(rt.alloc(), &text).is_ok(), "{}", row.0);
+    }
+    Ok(())
+}
+
+/// A text of a function with one parameter, which returns the parameter behind so many `!`.
+fn negations(g: Global, count: usize) -> Result<Vec<u8>, Fail> {
+    let bangs = repeated(g, b"!", count)?;
+    let front = b"function m(){\"use asm\";function f(x){x=x|0;return ";
+    joined(g, &[front, &bangs, b"x|0;}return f;}"])
+}
+
+#[test]
+fn negations_of_a_parameter(rt: HostRuntime) -> Result<(), Fail> {
+    let text = negations(rt.alloc(), 995)?;
+    assert!(rt; read(rt.alloc(), &text).is_ok());
+    let text = negations(rt.alloc(), 996)?;
+    let fault = read(rt.alloc(), &text).err();
+    assert_eq!(rt; fault, Some(TextFault::Height { at: 1060 }));
+    Ok(())
+}
+
+/// So many blocks one inside another, with the labels a0, a1 and so on.
+fn labelled(g: Global, count: usize) -> Result<Vec<u8>, Fail> {
+    let mut opened = Vec::new(g);
+    for label in 0..count {
+        let block = format!(in g; "a{label}:{{")?;
+        opened.extend_from_slice(block.as_bytes())?;
+    }
+    let closed = repeated(g, b"}", count)?;
+    joined(g, &[OPEN, &opened, &closed, CLOSE])
+}
+
+#[test]
+fn blocks_with_labels_of_their_own(rt: HostRuntime) -> Result<(), Fail> {
+    let text = labelled(rt.alloc(), 998)?;
+    assert!(rt; read(rt.alloc(), &text).is_ok());
+    let text = labelled(rt.alloc(), 999)?;
+    let at = (text.len() as u64).saturating_sub(1);
+    let fault = read(rt.alloc(), &text).err();
+    assert_eq!(rt; fault, Some(TextFault::Height { at }));
+    Ok(())
+}
+
+/// A name of what the row shows, and what stands 2,000 times in a function that has no end.
+static OPENED: [(&'static str, &'static [u8]); 11] = [
+    ("parentheses", b"("),
+    ("blocks", b"{"),
+    ("blocks under labels", b"a:{"),
+    ("prefixes", b"!"),
+    ("elements", b"a["),
+    ("calls", b"f("),
+    ("sums", b"a+("),
+    ("if", b"if(a)"),
+    ("do", b"do "),
+    ("for with a block", b"for(;;){"),
+    ("switch", b"switch(a){case 1:"),
+];
+
+/// What stays open completes no node, at whatever depth: the fault is the end of the text.
+#[test]
+fn left_open(rt: HostRuntime) -> Result<(), Fail> {
+    for row in OPENED.iter() {
+        let opened = repeated(rt.alloc(), row.1, 2000)?;
+        let text = joined(rt.alloc(), &[OPEN, &opened])?;
+        let at = text.len() as u64;
+        let fault = read(rt.alloc(), &text).err();
+        assert_eq!(rt; fault, Some(TextFault::Grammar { at }), "{}", row.0);
+    }
+    Ok(())
+}
+
+/// Rows of 2,000 levels, and how many bytes stand before the token that completes the first node of height 1,001, from the
+/// first statement on.
+static EARLY: [(Row, usize); 9] = [
+    (("blocks", b"", b"{", 2000, b"", b"}"), 3000),
+    (("if", b"", b"if(a)", 2000, b";", b""), 10000),
+    (("do", b"", b"do ", 2000, b";", b"while(a);"), 14999),
+    (("prefixes", b"", b"!", 2000, b"a", b""), 2000),
+    (("calls", b"", b"f(", 2000, b"0", b")"), 5000),
+    (("assignments", b"", b"a=", 2000, b"0", b""), 1998),
+    (("bitwise or", b"", b"a|", 2000, b"b", b""), 1998),
+    (("elements", b"", b"a[", 2000, b"0", b"]"), 5000),
+    (("sums to the right", b"", b"a+(", 2000, b"b", b")"), 7000),
+];
+
+/// The fault stands where the node is complete, long before the module's end.
+#[test]
+fn before_the_end(rt: HostRuntime) -> Result<(), Fail> {
+    for (row, before) in EARLY.iter() {
+        let text = nested(rt.alloc(), row, row.3)?;
+        let at = (OPEN.len() as u64).saturating_add(*before as u64);
+        let fault = read(rt.alloc(), &text).err();
+        assert_eq!(rt; fault, Some(TextFault::Height { at }), "{}", row.0);
+    }
+    Ok(())
+}

@@ -1,0 +1,375 @@
+//! Each limit is met by its own number, and refused at one more.
+use super::{FRONT, joined};
+use asm_lang_valid::Rule;
+use cmd_check_asm::{AsmRow, CheckFault, check_text};
+use itoa::Buffer;
+use std::alloc::{AllocError, Global};
+use std::process::Abort;
+use std::test::Fail;
+
+/// An item that is repeated: what stands before its place, and its pieces, between which its number stands.
+struct Item {
+    lead: &'static [u8],
+    pieces: &'static [&'static [u8]],
+}
+
+const NOTHING: Item = Item {
+    lead: b"",
+    pieces: &[],
+};
+
+/// Where the node stands that passes the limit: where the items begin, or at the last of the first or of the second.
+#[derive(Clone, Copy)]
+enum Place {
+    Start,
+    First,
+    Second,
+}
+
+struct Limit {
+    start: [&'static [u8]; 2],
+    first: Item,
+    between: &'static [u8],
+    second: Item,
+    end: &'static [u8],
+    /// How many items are accepted, and how many are refused.
+    counts: (usize, usize),
+    place: Place,
+    rule: Rule,
+}
+
+/// Functions.
+static FUNCTIONS: Limit = Limit {
+    start: [FRONT, b""],
+    first: Item {
+        lead: b"function ",
+        pieces: &[b"f", b"(){}"],
+    },
+    between: b"",
+    second: NOTHING,
+    end: b"return f0}",
+    counts: (50_000, 50_001),
+    place: Place::First,
+    rule: Rule::PastLimit,
+};
+
+/// Parameters, the first one apart.
+static PARAMETERS: Limit = Limit {
+    start: [FRONT, b"function f(z"],
+    first: Item {
+        lead: b",",
+        pieces: &[b"p", b""],
+    },
+    between: b"){z=z|0;",
+    second: Item {
+        lead: b"",
+        pieces: &[b"p", b"=p", b"|0;"],
+    },
+    end: b"}return f}",
+    counts: (1_999, 2_000),
+    place: Place::First,
+    rule: Rule::PastLimit,
+};
+
+/// Locals, with one parameter.
+static LOCALS: Limit = Limit {
+    start: [FRONT, b"function f(z){z=z|0;"],
+    first: Item {
+        lead: b"var ",
+        pieces: &[b"l", b"=0;"],
+    },
+    between: b"",
+    second: NOTHING,
+    end: b"}return f}",
+    counts: (49_999, 50_000),
+    place: Place::First,
+    rule: Rule::PastLimit,
+};
+
+/// Globals, of which two stand in front.
+static GLOBALS: Limit = Limit {
+    start: [FRONT, b""],
+    first: Item {
+        lead: b"var ",
+        pieces: &[b"g", b"=0;"],
+    },
+    between: b"",
+    second: NOTHING,
+    end: b"function f(){}return f}",
+    counts: (99_998, 99_999),
+    place: Place::First,
+    rule: Rule::PastLimit,
+};
+
+/// Distinct calls of foreign functions.
+static FOREIGN_CALLS: Limit = Limit {
+    start: [b"function m(stdlib,foreign){'use asm';", b""],
+    first: Item {
+        lead: b"var ",
+        pieces: &[b"u", b"=foreign.u", b";"],
+    },
+    between: b"function f(){",
+    second: Item {
+        lead: b"",
+        pieces: &[b"u", b"();"],
+    },
+    end: b"}return f}",
+    counts: (25_000, 25_001),
+    place: Place::Second,
+    rule: Rule::PastLimit,
+};
+
+/// Arguments of a call of a foreign function.
+static ARGUMENTS: Limit = Limit {
+    start: [FRONT, b"function f(){"],
+    first: NOTHING,
+    between: b"u(",
+    second: Item {
+        lead: b"",
+        pieces: &[b"0,"],
+    },
+    end: b"0);}return f}",
+    counts: (1_999, 2_000),
+    place: Place::Start,
+    rule: Rule::PastLimit,
+};
+
+/// Members of a table, whose number has to be a power of two.
+static MEMBERS: Limit = Limit {
+    start: [FRONT, b"function f(){}var "],
+    first: NOTHING,
+    between: b"t=[",
+    second: Item {
+        lead: b"",
+        pieces: &[b"f,"],
+    },
+    end: b"f];return f}",
+    counts: (65_535, 131_071),
+    place: Place::Start,
+    rule: Rule::PastLimit,
+};
+
+/// Cases.
+static CASES: Limit = Limit {
+    start: [FRONT, b"function f(i){i=i|0;"],
+    first: NOTHING,
+    between: b"switch(i|0){",
+    second: Item {
+        lead: b"",
+        pieces: &[b"case ", b":;"],
+    },
+    end: b"}}return f}",
+    counts: (1_000, 1_001),
+    place: Place::Start,
+    rule: Rule::PastLimit,
+};
+
+/// Bytes of the name of a foreign member.
+static FOREIGN_NAME: Limit = Limit {
+    start: [b"function m(stdlib,foreign){'use asm';var ", b""],
+    first: NOTHING,
+    between: b"g=foreign.",
+    second: Item {
+        lead: b"",
+        pieces: &[b"x"],
+    },
+    end: b";function f(){}return f}",
+    counts: (100_000, 100_001),
+    place: Place::Start,
+    rule: Rule::PastLimit,
+};
+
+/// Operators of a chain.
+static CHAIN: Limit = Limit {
+    start: [FRONT, b"function f(){return (0"],
+    first: NOTHING,
+    between: b"",
+    second: Item {
+        lead: b"",
+        pieces: &[b"+0"],
+    },
+    end: b")|0;}return f}",
+    counts: (1_048_576, 1_048_577),
+    place: Place::Start,
+    rule: Rule::ChainLong,
+};
+
+/// An item of this number, without its lead.
+fn put_item(text: &mut Vec<u8>, item: &Item, number: usize) -> Result<(), AllocError> {
+    let mut digits = Buffer::new();
+    let digits = digits.format(number);
+    let mut is_first = true;
+    for piece in item.pieces {
+        if !is_first {
+            text.extend_from_slice(digits.as_bytes())?;
+        }
+        text.extend_from_slice(piece)?;
+        is_first = false;
+    }
+    Ok(())
+}
+
+/// So many items.
+fn items(alloc: Global, item: &Item, count: usize) -> Result<Vec<u8>, AllocError> {
+    let mut text = Vec::new(alloc);
+    for number in 0..count {
+        text.extend_from_slice(item.lead)?;
+        put_item(&mut text, item, number)?;
+    }
+    Ok(text)
+}
+
+/// The text with so many items.
+fn whole(alloc: Global, limit: &Limit, count: usize) -> Result<Vec<u8>, AllocError> {
+    let [one, two] = limit.start;
+    let first = items(alloc, &limit.first, count)?;
+    let second = items(alloc, &limit.second, count)?;
+    joined(
+        alloc,
+        &[one, two, &first, limit.between, &second, limit.end],
+    )
+}
+
+/// What stands before the node that passes the limit, where so many items are accepted and so many aren't.
+fn before(alloc: Global, limit: &Limit) -> Result<Vec<u8>, AllocError> {
+    let [one, two] = limit.start;
+    let (most, more) = limit.counts;
+    match limit.place {
+        Place::Start => joined(alloc, &[one, two]),
+        Place::First => {
+            let first = items(alloc, &limit.first, most)?;
+            joined(alloc, &[one, two, &first, limit.first.lead])
+        }
+        Place::Second => {
+            let first = items(alloc, &limit.first, more)?;
+            let second = items(alloc, &limit.second, most)?;
+            joined(alloc, &[one, two, &first, limit.between, &second])
+        }
+    }
+}
+
+/// So many items are accepted.
+fn is_accepted(rt: &impl Abort, limit: &Limit, alloc: Global) -> Result<(), Fail> {
+    let (most, _) = limit.counts;
+    let text = whole(alloc, limit, most)?;
+    assert_eq!(rt; check_text(alloc, &text).err(), None);
+    Ok(())
+}
+
+/// So many items are refused, at the node's place.
+fn is_refused(rt: &impl Abort, limit: &Limit, alloc: Global) -> Result<(), Fail> {
+    let (_, more) = limit.counts;
+    let text = whole(alloc, limit, more)?;
+    let fault = CheckFault::Refused {
+        row: AsmRow::Rule(limit.rule),
+        at: before(alloc, limit)?.len() as u64,
+    };
+    assert_eq!(rt; check_text(alloc, &text).err(), Some(fault));
+    Ok(())
+}
+
+fn is_met(rt: &impl Abort, limit: &Limit, alloc: Global) -> Result<(), Fail> {
+    is_accepted(rt, limit, alloc)?;
+    is_refused(rt, limit, alloc)
+}
+
+#[test]
+fn functions_have_a_limit(rt: HostRuntime) -> Result<(), Fail> {
+    is_met(&rt, &FUNCTIONS, rt.alloc())
+}
+
+#[test]
+fn parameters_have_a_limit(rt: HostRuntime) -> Result<(), Fail> {
+    is_met(&rt, &PARAMETERS, rt.alloc())
+}
+
+#[test]
+fn locals_have_a_limit(rt: HostRuntime) -> Result<(), Fail> {
+    is_met(&rt, &LOCALS, rt.alloc())
+}
+
+#[test]
+fn globals_have_a_limit(rt: HostRuntime) -> Result<(), Fail> {
+    is_met(&rt, &GLOBALS, rt.alloc())
+}
+
+#[test]
+fn foreign_calls_have_a_limit(rt: HostRuntime) -> Result<(), Fail> {
+    is_met(&rt, &FOREIGN_CALLS, rt.alloc())
+}
+
+#[test]
+fn arguments_of_a_foreign_call_have_a_limit(rt: HostRuntime) -> Result<(), Fail> {
+    is_met(&rt, &ARGUMENTS, rt.alloc())
+}
+
+#[test]
+fn members_of_a_table_have_a_limit(rt: HostRuntime) -> Result<(), Fail> {
+    is_met(&rt, &MEMBERS, rt.alloc())
+}
+
+#[test]
+fn cases_have_a_limit(rt: HostRuntime) -> Result<(), Fail> {
+    is_met(&rt, &CASES, rt.alloc())
+}
+
+#[test]
+fn a_foreign_name_has_a_limit(rt: HostRuntime) -> Result<(), Fail> {
+    is_met(&rt, &FOREIGN_NAME, rt.alloc())
+}
+
+// The longest texts have a test for each answer, so that none takes long.
+
+#[test]
+fn the_longest_chain_is_accepted(rt: HostRuntime) -> Result<(), Fail> {
+    is_accepted(&rt, &CHAIN, rt.alloc())
+}
+
+#[test]
+fn a_longer_chain_is_refused(rt: HostRuntime) -> Result<(), Fail> {
+    is_refused(&rt, &CHAIN, rt.alloc())
+}
+
+/// So many tables of the greatest size.
+fn full_tables(alloc: Global, count: usize) -> Result<Vec<u8>, AllocError> {
+    let members = items(alloc, &MEMBERS.second, 65_535)?;
+    let mut text = Vec::new(alloc);
+    for number in 0..count {
+        let mut digits = Buffer::new();
+        text.extend_from_slice(b"var t")?;
+        text.extend_from_slice(digits.format(number).as_bytes())?;
+        text.extend_from_slice(b"=[")?;
+        text.extend_from_slice(&members)?;
+        text.extend_from_slice(b"f];")?;
+    }
+    Ok(text)
+}
+
+/// A module up to all the tables that it may have.
+fn tables_at_the_limit(alloc: Global) -> Result<Vec<u8>, AllocError> {
+    let tables = full_tables(alloc, 16)?;
+    joined(alloc, &[FRONT, b"function f(){}", &tables])
+}
+
+#[test]
+fn all_tables_at_the_limit_are_accepted(rt: HostRuntime) -> Result<(), Fail> {
+    let alloc = rt.alloc();
+    let front = tables_at_the_limit(alloc)?;
+    let text = joined(alloc, &[&front, b"return f}"])?;
+    assert_eq!(rt; check_text(alloc, &text).err(), None);
+    Ok(())
+}
+
+#[test]
+fn a_member_more_of_all_tables_is_refused(rt: HostRuntime) -> Result<(), Fail> {
+    let alloc = rt.alloc();
+    let front = tables_at_the_limit(alloc)?;
+    let before = joined(alloc, &[&front, b"var "])?;
+    let text = joined(alloc, &[&before, b"t=[f];return f}"])?;
+    let fault = CheckFault::Refused {
+        row: AsmRow::Rule(Rule::PastLimit),
+        at: before.len() as u64,
+    };
+    assert_eq!(rt; check_text(alloc, &text).err(), Some(fault));
+    Ok(())
+}

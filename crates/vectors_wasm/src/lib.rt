@@ -1,0 +1,19 @@
+//! Worked rows of modules of WebAssembly: read, written, listed, judged, and what single instructions do.
+#![tactic(auto)]
+
+#[cfg(test)]
+mod codes;
+#[cfg(test)]
+mod jumps;
+#[cfg(test)]
+mod listings;
+#[cfg(test)]
+mod plain;
+#[cfg(test)]
+mod reading;
+#[cfg(test)]
+mod validity;
+#[cfg(test)]
+mod verdicts;
+#[cfg(test)]
+mod writing;

@@ -1,0 +1,145 @@
+//! Worked rows.
+use crate::running::runnable;
+use sem_words::List;
+use std::test::Fail;
+use wasm_lang::{GlobalType, ImportKind, Limits, ValType};
+use wasm_lang_valid::{Beyond, Outside, Rule, Section};
+use wasm_tree::{Bytes, Import};
+use wasm_validate::{Measures, validate};
+
+// Imports of these kinds, whose names are empty.
+fn nameless(alloc: Global, kinds: &[ImportKind]) -> Result<List<Import<'static>>, Fail>
+    ensures module_names { IfOk result (λ l. All (λ i. IsUtf8 i.module_name) (map import_of (list_items l))) }
+    ensures names { IfOk result (λ l. All (λ i. IsUtf8 i.name) (map import_of (list_items l))) }
+{
+    let mut imports = Vec::new(alloc);
+    for kind in kinds {
+        imports.push(Import {
+            module: Bytes::Lent(b""),
+            field: Bytes::Lent(b""),
+            kind: *kind,
+        })?;
+    }
+    Ok(List::from_vec(imports))
+}
+
+// A module with these imports and a memory of so many pages, and nothing else.
+fn with_memory(
+    alloc: Global,
+    imports: List<Import<'static>>,
+    pages: u32,
+) -> Result<Module<'static>, Fail>
+    ensures imports { IfOk result (λ m. (module_of m).imports ≡ map import_of (list_items imports.entry)) }
+    ensures exports { IfOk result (λ m. (module_of m).exports ≡ []) }
+    ensures bodies { IfOk result (λ m. (module_of m).bodies ≡ []) }
+    ensures globals { IfOk result (λ m. (module_of m).globals ≡ []) }
+    ensures elements { IfOk result (λ m. (module_of m).elements ≡ []) }
+    ensures segments { IfOk result (λ m. (module_of m).segments ≡ []) }
+{
+    let limits = Limits {
+        min: pages,
+        max: None,
+    };
+    Ok(Module {
+        types: List::new(alloc),
+        imports,
+        functions: List::new(alloc),
+        tables: List::new(alloc),
+        memories: List::from_vec(vec![in alloc; limits]?),
+        globals: List::new(alloc),
+        exports: List::new(alloc),
+        start: None,
+        elements: List::new(alloc),
+        bodies: List::new(alloc),
+        segments: List::new(alloc),
+    })
+}
+
+#[test]
+fn takes_a_module(rt: HostRuntime) -> Result<(), Fail> {
+    let imports = nameless(rt.alloc(), &[])?;
+    let module = with_memory(rt.alloc(), imports, 4097)?;
+    match validate(rt.alloc(), module) {
+        Ok(valid) => {
+            let nothing = Measures {
+                levels: 0,
+                slots: 0,
+                call_types: 0,
+                mixed: None,
+                mul_div: None,
+            };
+            assert_eq!(rt; valid.func_type(0).is_none(), true);
+            assert_eq!(rt; valid.measures(), nothing);
+            Ok(())
+        }
+        Err(_) => Err(Fail::new("refused")),
+    }
+}
+
+#[test]
+fn the_first_row_that_holds_is_told(rt: HostRuntime) -> Result<(), Fail> {
+    let alloc = rt.alloc();
+    let table = ImportKind::Table(Limits { min: 0, max: None });
+    let constant = ImportKind::Global(GlobalType {
+        kind: ValType::I32,
+        mutable: false,
+    });
+    let mutable = ImportKind::Global(GlobalType {
+        kind: ValType::I32,
+        mutable: true,
+    });
+    let rows: [(&[ImportKind], u32, Option<Outside>); 4] = [
+        (
+            &[constant, mutable, table],
+            4097,
+            Some(Outside {
+                row: Beyond::ImportedTable,
+                value: 2,
+            }),
+        ),
+        (
+            &[constant, mutable],
+            4097,
+            Some(Outside {
+                row: Beyond::MutableImport,
+                value: 1,
+            }),
+        ),
+        (
+            &[constant],
+            4097,
+            Some(Outside {
+                row: Beyond::MemoryLarge,
+                value: 4097,
+            }),
+        ),
+        (&[constant], 4096, None),
+    ];
+    for (kinds, pages, outside) in rows {
+        let module = with_memory(alloc, nameless(alloc, kinds)?, pages)?;
+        match validate(alloc, module) {
+            Ok(valid) => assert_eq!(rt; runnable(&valid).err(), outside, "{pages} pages"),
+            Err(_) => return Err(Fail::new("refused")),
+        }
+    }
+    Ok(())
+}
+
+#[test]
+fn refuses_a_memory(rt: HostRuntime) -> Result<(), Fail> {
+    let imports = nameless(rt.alloc(), &[])?;
+    let module = with_memory(rt.alloc(), imports, 65537)?;
+    match validate(rt.alloc(), module) {
+        Ok(_) => Err(Fail::new("taken")),
+        Err(invalid) => {
+            let refused = Invalid::Rule {
+                rule: Rule::Size,
+                section: Section::Memories,
+                index: 0,
+                instruction: 0,
+            };
+            assert_eq!(rt; invalid, refused);
+            Ok(())
+        }
+    }
+}

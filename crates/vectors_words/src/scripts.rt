@@ -1,0 +1,106 @@
+//! Scripts that are written out.
+use script_read::{ScriptFault, read_script};
+use sem_laws::{CallLine, GlobalLine, Reply, ReplyLine, Script, WriteLine};
+use std::test::Fail;
+
+fn is_global(global: &GlobalLine, name: &[u8], value: i128, line: u64) -> bool {
+    global.name.as_bytes() == name && global.value == value && global.line == line
+}
+
+fn is_write(write: &WriteLine, at: u64, bytes: &[u8], line: u64) -> bool {
+    write.at == at && write.bytes.as_bytes() == bytes && write.line == line
+}
+
+fn is_call(call: &CallLine, name: &[u8], args: &[i128], line: u64) -> bool {
+    call.name.as_bytes() == name && call.args.as_slice() == args && call.line == line
+}
+
+fn is_throw(reply: &ReplyLine, line: u64) -> bool {
+    matches!(reply.reply, Reply::Throw) && reply.line == line
+}
+
+// The word of -1, with two byte writes.
+fn gives(reply: &ReplyLine, line: u64) -> bool {
+    match &reply.reply {
+        Reply::Give(word, writes) => {
+            *word == u64::MAX && are_writes(writes.as_slice(), line) && reply.line == line
+        }
+        Reply::Throw => false,
+    }
+}
+
+fn are_writes(writes: &[WriteLine], line: u64) -> bool {
+    match writes {
+        [first, second] => is_write(first, 4, &[0], line) && is_write(second, 8, &[1], line),
+        _ => false,
+    }
+}
+
+fn has_global(script: &Script) -> bool {
+    match script.globals.as_slice() {
+        [global] => is_global(global, b"g", -1, 2),
+        _ => false,
+    }
+}
+
+fn has_write(script: &Script) -> bool {
+    match script.writes.as_slice() {
+        [write] => is_write(write, 16, &[10, 255], 4),
+        _ => false,
+    }
+}
+
+fn has_calls(script: &Script) -> bool {
+    match script.calls.as_slice() {
+        [first, second] => { is_call(first, b"f", &[1, -2], 5) && is_call(second, b"jK", &[], 6) }
+        _ => false,
+    }
+}
+
+fn has_replies(script: &Script) -> bool {
+    match script.replies.as_slice() {
+        [first, second] => gives(first, 8) && is_throw(second, 9),
+        _ => false,
+    }
+}
+
+#[test]
+fn each_kind(rt: HostRuntime) -> Result<(), Fail> {
+    let text =
+        b"# all kinds\r\nglobal g -1\r\n\r\n\theap 16 0aFF \r\ncall f  1 -2\r\ncall %6a4B\r\n  # replies\nreply -1 4=00 8=01\nthrow";
+    let script = read_script(rt.alloc(), text)?;
+    assert!(rt; has_global(&script));
+    assert!(rt; has_write(&script));
+    assert!(rt; has_calls(&script));
+    assert!(rt; has_replies(&script));
+    Ok(())
+}
+
+#[test]
+fn no_text(rt: HostRuntime) -> Result<(), Fail> {
+    let script = read_script(rt.alloc(), b"")?;
+    assert!(rt; script.globals.is_empty());
+    assert!(rt; script.writes.is_empty());
+    assert!(rt; script.calls.is_empty());
+    assert!(rt; script.replies.is_empty());
+    Ok(())
+}
+
+#[test]
+fn refused_lines(rt: HostRuntime) {
+    let want: [(&[u8], u64); 9] = [
+        (b"global a\x01 1", 1),
+        (b"throw\ncall f 18446744073709551616", 2),
+        (b"call f -0", 1),
+        (b"\n# x\ncall f 01", 3),
+        (b"heap 268435456 00", 1),
+        (b"heap 0 0", 1),
+        (b"global g 1 2", 1),
+        (b"reply 0 4", 1),
+        (b"throw\r\nthrow now", 2),
+    ];
+    for (text, line) in want {
+        let fault = read_script(rt.alloc(), text).err();
+        assert_eq!(rt; fault, Some(ScriptFault::Refused { line }));
+    }
+}

@@ -1,3 +1,0 @@
-pub mod Contexts
-pub mod Laws
-pub mod Steps

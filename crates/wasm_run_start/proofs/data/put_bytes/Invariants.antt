@@ -1,0 +1,12 @@
+use Rattle.std.proofs.Common.{◌≡◌, List, drop, map}
+use Rattle.sem_laws.specs.Observation.{EventPlain}
+use Rattle.sem_laws.specs.Imports.{Replies}
+use Rattle.wasm_tree.specs.Views.{segment_of}
+use Rattle.wasm_lang_exec.specs.Session.{with_bytes}
+use Rattle.wasm_run_operands.specs.Effects.{store_of}
+use Rattle.wasm_run_start.proofs.data.put_bytes.Given as goal
+
+abbrev pub invariant-loop-segment : goal.invariant-loop-segment
+invariant-loop-segment l =
+    (events : List EventPlain) (replies : Replies)
+    → with_bytes (map segment_of l.segments) (store_of l.fn.state events replies) ≡ with_bytes (map segment_of (drop l.segment-index l.segments)) (store_of l.state events replies)

@@ -1,0 +1,14 @@
+use Rattle.std.proofs.Common.{◌≡◌, true, List, drop, map}
+use Rattle.sem_laws.specs.Observation.{EventPlain}
+use Rattle.sem_laws.specs.Imports.{Replies}
+use Rattle.wasm_tree.specs.Views.{element_of}
+use Rattle.wasm_lang_exec.specs.Session.{entries_fit, with_entries}
+use Rattle.wasm_run_operands.specs.Effects.{store_of}
+use Rattle.wasm_run_start.proofs.elements.put_entries.Given as goal
+
+abbrev pub invariant-loop-element : goal.invariant-loop-element
+invariant-loop-element l = record {
+  put : (events : List EventPlain) (replies : Replies)
+      → with_entries (map element_of l.elements) (store_of l.fn.state events replies) ≡ with_entries (map element_of (drop l.element-index l.elements)) (store_of l.state events replies);
+  fit : (events : List EventPlain) (replies : Replies) → entries_fit (store_of l.state events replies) (map element_of (drop l.element-index l.elements)) ≡ true;
+}

@@ -1,4 +1,0 @@
-pub mod Spending
-pub mod Opened
-pub mod Done
-pub mod Plains

@@ -1,7 +1,0 @@
-use Rattle.wasm_run_frames.specs.Views.{machine_of}
-use Rattle.wasm_steps.proofs.Opened.{block_does, loop_does, if_does, if_is_stuck, end_is_at, else_is_at}
-use Rattle.wasm_steps.proofs.blocks.end_arm.Goals as goal
-
-pub returns : goal.returns
-returns c = λ bodies m n r same got s.
-    c.end_block.ensures bodies m n r (else_is_at bodies m (machine_of c.args.machine.now) n c.past_end-place.result r c.args.body.now c.past_end-place.ensures same got s) s
