@@ -13,8 +13,8 @@ ghost use Rattle.asm_run_state.specs.Worlds.{place_of};
 
 use crate::globals::first_globals;
 use crate::world::World;
-use asm_tree::{Init, Module};
 use crate::{Layout, Values};
+use asm_tree::{Init, Module};
 use heap_views::Heap;
 use script_replies::{Replies, put_writes};
 use sem_laws::Script;

@@ -10,8 +10,8 @@ ghost use Rattle.asm_run_state.specs.Locals as plain;
 ghost use Rattle.asm_run_state.specs.Locals.{local_names, locals_of, HasSmallLocals};
 
 use crate::callees::marked;
-use asm_tree::{Function, Init, Local, Param};
 use crate::{Layout, Values};
+use asm_tree::{Function, Init, Local, Param};
 use sem_words::JsValue;
 use std::alloc::{AllocError, Global};
 

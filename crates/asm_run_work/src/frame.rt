@@ -3,8 +3,8 @@ ghost use Rattle.std.specs.Prelude.{◌≡◌};
 ghost use Rattle.asm_tree.specs.Views.{function_view};
 ghost use Rattle.asm_run_work.specs.Frames.{variable_names};
 
-use asm_tree::Function;
 use asm_run_state::{Layout, Values};
+use asm_tree::Function;
 
 /// A function that runs, with its parameters and local variables.
 #[derive(Drop)]

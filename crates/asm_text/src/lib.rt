@@ -8,4 +8,3 @@ mod reading;
 pub use fault::TextFault;
 pub use laws::printed_texts_are_read;
 pub use reading::{read, reprinted};
-

@@ -9,4 +9,3 @@ mod values;
 pub use rows::{binary_row, unary_row};
 pub use value_type::{ValueType, below};
 pub use values::fits;
-

@@ -13,4 +13,3 @@ mod words;
 
 pub use status::{AsmFault, Status, WasmFault};
 pub use top::bridge;
-

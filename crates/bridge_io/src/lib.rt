@@ -15,4 +15,3 @@ pub use reading::{Files, GatherFault, ReadAnswer, gather};
 pub use steady_files::SteadyFiles;
 pub use steady_sink::SteadySink;
 pub use writing::{Failed, Sink, put_all};
-

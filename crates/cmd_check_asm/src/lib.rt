@@ -12,4 +12,3 @@ pub use counting::{counts, counts_line};
 pub use fault::{AsmRow, CheckFault};
 pub use laws::one_verdict_of_a_text;
 pub use names::row_name;
-

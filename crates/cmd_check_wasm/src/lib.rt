@@ -12,4 +12,3 @@ pub use counting::counts;
 pub use fault::CheckFault;
 pub use laws::one_verdict;
 pub use names::{row_name, rule_number, section_number};
-

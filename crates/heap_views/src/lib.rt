@@ -15,4 +15,3 @@ pub use heap::Heap;
 pub use kind::ViewKind;
 pub use views::{View, ViewMut};
 pub use writes::{WordSize, Write, apply};
-

@@ -16,4 +16,3 @@ pub use fault::TokenFault;
 pub use front::token_len;
 pub use reading::tokens;
 pub use token::{Token, TokenKind};
-

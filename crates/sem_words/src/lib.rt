@@ -25,4 +25,3 @@ pub use text::Text;
 pub use word::{Bin, Rel, TrapKind, Un, Word};
 pub use words32::{bin32, rel32, un32};
 pub use words64::{bin64, rel64, un64};
-

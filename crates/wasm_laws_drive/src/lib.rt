@@ -2,6 +2,5 @@
 //! label or its function, or the session ends: one equation for each construct.
 #![tactic(auto)]
 
-pub mod laws;
-
 pub mod contexts;
+pub mod laws;

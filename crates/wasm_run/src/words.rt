@@ -9,8 +9,8 @@ ghost use Rattle.wasm_run_machine.specs.Functions.{AreFunctions};
 
 use sem_words::Word;
 use std::alloc::{AllocError, Global};
-use wasm_run_machine::{Function, function_at};
 use wasm_lang::ValType;
+use wasm_run_machine::{Function, function_at};
 use wasm_tree::Module;
 
 fn narrow_word(number: i128) -> u32

@@ -9,12 +9,11 @@ ghost use Rattle.wasm_run_machine.specs.Functions.{AllHaveForms, AreFunctions, b
 ghost use Rattle.wasm_run_machine.specs.Runs.{CameTo, RanAs};
 
 use crate::steps::step;
+use crate::{Callee, Function, call, function_at, push_constants};
 use sem_laws::End;
 use std::alloc::{AllocError, Global};
-use crate::{Callee, Function, call, function_at};
 use wasm_run_flat::Body;
 use wasm_run_frames::{Flow, Machine};
-use crate::push_constants;
 use wasm_tree::Module;
 
 /// What some reductions of a host's call come to: it is back with so many of them left; the session is over; or they are used up, or

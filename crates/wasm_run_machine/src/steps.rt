@@ -8,16 +8,15 @@ ghost use Rattle.wasm_run_machine.specs.Functions.{AreFunctions, bodies_of};
 ghost use Rattle.wasm_run_machine.specs.Kinds.{found_entry, is_free};
 ghost use Rattle.wasm_run_machine.specs.Doing.{DoesIn, HaveForms};
 
+use crate::{
+    Function, Kind, branch_always, branch_by_table, branch_if, call, end, end_arm, has_type,
+    kind_of, leave, open_block, open_if, open_loop, plain,
+};
 use sem_laws::End;
 use sem_words::TrapKind;
 use std::alloc::{AllocError, Global};
-use crate::{Function, call, has_type};
 use wasm_run_flat::Body;
 use wasm_run_frames::{Flow, Machine};
-use crate::{
-    Kind, branch_always, branch_by_table, branch_if, end, end_arm, kind_of, leave, open_block,
-    open_if, open_loop, plain,
-};
 use wasm_tree::Module;
 
 // `call`.

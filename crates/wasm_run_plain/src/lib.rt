@@ -7,4 +7,3 @@ mod plain;
 pub use laws::opcodes_have_forms;
 pub use plain::do_plain;
 pub use wasm_run_operands::{Effect, Operands, State};
-

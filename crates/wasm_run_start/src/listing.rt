@@ -11,9 +11,9 @@ ghost use Rattle.wasm_run_start.specs.Listing.{HasType, HaveTypes, AreReady, own
 
 use sem_laws::import_name;
 use std::alloc::{AllocError, Global};
-use wasm_run_machine::{Callee, Function};
 use wasm_lang::ImportKind;
 use wasm_run_flat::Body;
+use wasm_run_machine::{Callee, Function};
 use wasm_tree::{Import, Module};
 
 fn push(functions: &mut Vec<Function>, function: Function) -> Result<(), AllocError>
