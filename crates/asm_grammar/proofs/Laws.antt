@@ -9,7 +9,8 @@ use Rattle.asm_lang.specs.Heights.{height_limit}
 use Rattle.asm_lang.proofs.CompleteModules.{module_read}
 use Rattle.asm_lang.proofs.Sound.{found_module}
 use Rattle.asm_lang.proofs.First.{first_fault, negative_zero, missing_use}
-use Rattle.asm_laws_height.specs.Peaks.{run_low, whole_height}
+use Rattle.asm_lang.specs.TreeHeights.{whole_height}
+use Rattle.asm_laws_height.specs.Peaks.{run_low}
 use Rattle.asm_laws_height.proofs.Within.{start_kept}
 use Rattle.asm_laws_height.proofs.Limits.{low_read, low_found}
 use Rattle.asm_laws_height.proofs.SeenModules.{refused_low, none_in_refused}

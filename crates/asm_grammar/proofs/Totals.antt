@@ -3,7 +3,8 @@ use Rattle.std.proofs.Common.{◌≡◌, ℕ, List, [], ◌∷◌, ◌++◌, map
 use Rattle.asm_lang.specs.Trees.{FunctionTree}
 use Rattle.asm_lang.specs.Modules.{param_of, variable_of, table_of, export_of, exports_of}
 use Rattle.asm_lang.specs.Heights.{leaves_height, exports_height}
-use Rattle.asm_laws_height.specs.Peaks.{last_function, block_height, whole_height}
+use Rattle.asm_lang.specs.TreeHeights.{block_height, whole_height}
+use Rattle.asm_laws_height.specs.Peaks.{last_function}
 use Rattle.asm_laws_height.proofs.SeenModules.{last_function_more}
 use Rattle.asm_grammar_nodes.specs.declared.declarations.FunctionTree.{FunctionTree as CodeFunction}
 use Rattle.asm_grammar_nodes.specs.declared.declarations.ExportTree.{ExportTree}

@@ -4,10 +4,10 @@ use Rattle.asm_lang.specs.Lexemes.{Lexeme, operator, a_zero}
 use Rattle.sem_words.specs.declared.js_value.JsOp.TheVariants.{Sub}
 use Rattle.asm_lang.specs.Trees.{ModuleTree}
 use Rattle.asm_lang.specs.Machine.{grammar, no_use_asm, same_class, meets}
-use Rattle.asm_lang.specs.Faults.{IsPair, IsNegativeZero, IsMissingUse, IsFirstFault}
+use Rattle.asm_lang.specs.Faults.{IsPair}
 use Rattle.asm_lang.specs.Heights.{height_limit}
+use Rattle.asm_lang.specs.Kinds as kinds
 use Rattle.asm_laws_height.specs.Peaks.{Stop, high, run_low}
-use Rattle.asm_laws_height.specs.HighNodes.{IsHeightFault}
 use Rattle.asm_grammar_nodes.specs.Views.{module_view}
 use Rattle.asm_grammar.specs.declared.fault.ParseFault.{ParseFault}
 use Rattle.asm_grammar.specs.declared.fault.ParseFault.TheVariants as faults
@@ -55,13 +55,12 @@ HasTree t (Err _) = ⊥
 
 -- no token completes a node above the limit
 abbrev pub IsLow : List Lexeme → Type 0
-IsLow xs = (j : ℕ) → ¬ IsHeightFault height_limit xs j
+IsLow xs = kinds.IsLow height_limit xs
 
--- Of a fault of the grammar and one of the height the earlier one counts. Where some module begins with the tokens up to one,
--- the grammar has no fault there.
+-- the fault of the tokens that counts; want of memory says nothing of them
 abbrev pub IsFault : List Lexeme → ParseFault → Type 0
-IsFault xs (faults.LiteralForm k) = IsNegativeZero xs k × IsLow xs
-IsFault xs (faults.NoUseAsm k) = IsMissingUse xs k × IsLow xs
-IsFault xs (faults.Grammar k) = IsFirstFault xs k × IsLow xs
-IsFault xs (faults.Height k) = IsHeightFault height_limit xs k
+IsFault xs (faults.LiteralForm k) = kinds.IsFault height_limit xs kinds.negative_zero k
+IsFault xs (faults.NoUseAsm k) = kinds.IsFault height_limit xs kinds.missing_use k
+IsFault xs (faults.Grammar k) = kinds.IsFault height_limit xs kinds.grammar k
+IsFault xs (faults.Height k) = kinds.IsFault height_limit xs kinds.height k
 IsFault xs faults.Memory = Unit {0}

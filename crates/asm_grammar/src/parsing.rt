@@ -1,12 +1,13 @@
 //! Reading a module: all of its tokens, within the limit on the height.
 
 ghost use Rattle.std.specs.Prelude.{◌≡◌, ◌∷◌, ◌<◌, ◌≤◌, List as Items, length, IfOk, IfErr};
-ghost use Rattle.asm_laws_height.specs.Peaks.{run_low, whole_height};
+ghost use Rattle.asm_laws_height.specs.Peaks.{run_low};
 ghost use Rattle.asm_lang.specs.Grammar.{IsModule};
 ghost use Rattle.asm_lang.specs.Lexemes.{lexeme_of, lexemes_of, Lexeme as PlainLexeme};
 ghost use Rattle.asm_lang.specs.Machine.{advance, at_start, Step};
 ghost use Rattle.asm_lang.specs.Trees.{ModuleTree};
 ghost use Rattle.asm_lang.specs.Heights.{height_limit};
+ghost use Rattle.asm_lang.specs.TreeHeights.{whole_height};
 ghost use Rattle.asm_grammar_nodes.specs.Views.{module_view};
 ghost use Rattle.js_tokens.specs.Views.{placed_token, placed_tokens};
 ghost use Rattle.asm_grammar.specs.Gives.{Gives, HasTree, IsFault, IsRefusal, begins_pair, fed_view, is_negative_zero};

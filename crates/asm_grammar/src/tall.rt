@@ -2,7 +2,8 @@
 
 ghost use Rattle.std.specs.Prelude.{◌≡◌, min};
 ghost use Rattle.sem_words.specs.Lists.{list_items};
-ghost use Rattle.asm_laws_height.specs.Peaks.{last_function, whole_height};
+ghost use Rattle.asm_lang.specs.TreeHeights.{whole_height};
+ghost use Rattle.asm_laws_height.specs.Peaks.{last_function};
 ghost use Rattle.asm_grammar_nodes.specs.Heights.{counted};
 ghost use Rattle.asm_grammar_nodes.specs.Views.{function_view, module_view};
 ghost use Rattle.asm_grammar.specs.Totals.{functions_view, highest, one_height};

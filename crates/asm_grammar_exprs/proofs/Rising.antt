@@ -3,7 +3,8 @@ use Rattle.std.proofs.Common.{◌≡◌, ℕ, ◌+◌, Bool, true, false, min, m
 use Rattle.asm_lang.specs.Lexemes.{close_paren, close_bracket, colon}
 use Rattle.asm_lang.specs.Trees.{ExprTree, conditional}
 use Rattle.asm_lang.specs.Machine.{State, goes, at_expr, after_index, after_expr}
-use Rattle.asm_laws_height.specs.Peaks.{height, all_height, peak}
+use Rattle.asm_lang.specs.TreeHeights.{height, all_height}
+use Rattle.asm_laws_height.specs.Peaks.{peak}
 use Rattle.asm_laws_height.specs.Rises.{Rise, risen, level, rise_after, one_more, ExprRise, capped_rise}
 use Rattle.asm_laws_height.proofs.Frames as laws
 use Rattle.asm_grammar_nodes.specs.Heights.{counted}

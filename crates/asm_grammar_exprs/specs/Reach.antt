@@ -4,7 +4,8 @@ use Rattle.std.specs.Coded.{Coded, Coded-set, code_by, coded_ℕ, coded_bool, co
 use Rattle.asm_lang.specs.Trees.{ExprTree}
 use Rattle.asm_lang.specs.Machine.{State}
 use Rattle.asm_lang.specs.Modules.{expr_of}
-use Rattle.asm_laws_height.specs.Peaks.{height, all_height, peak}
+use Rattle.asm_lang.specs.TreeHeights.{height, all_height}
+use Rattle.asm_laws_height.specs.Peaks.{peak}
 use Rattle.asm_laws_height.specs.Rises.{Rise, risen, level, rise_after, one_more, second_operand, capped_rise}
 use Rattle.asm_grammar_nodes.specs.declared.tall.TallExprs.{TallExprs}
 use Rattle.asm_grammar_nodes.specs.Heights.{counted}

@@ -13,7 +13,7 @@ use Rattle.asm_lang.specs.Trees.{ExprTree, binary}
 use Rattle.asm_lang.specs.Machine.{more_exprs}
 use Rattle.asm_lang.specs.Modules.{Expr, chain, chained, binary_of, is_sum, expr_of}
 use Rattle.asm_lang.specs.Heights.{expr_height}
-use Rattle.asm_laws_height.specs.Peaks.{height, all_height}
+use Rattle.asm_lang.specs.TreeHeights.{height, all_height}
 use Rattle.asm_laws_height.specs.Rises.{Rise, risen, one_more, second_operand, chain_floor, binary_floor, capped_rise}
 use Rattle.asm_laws_height.proofs.Sizes.{binary_height, more_height}
 use Rattle.asm_grammar_nodes.specs.declared.tree.ExprTree.{ExprTree as CodeExpr}

@@ -8,7 +8,7 @@ use Rattle.sem_words.specs.Lists.{list_items}
 use Rattle.sem_words.specs.declared.list.List.{List as Listed}
 use Rattle.asm_lang.specs.Lexemes.{Lexeme}
 use Rattle.asm_lang.specs.Trees.{StmtTree, StmtTrees, ClauseTrees, no_clause, one_clause}
-use Rattle.asm_laws_height.specs.Peaks.{height, part_height, stmt_height, body_height, block_height, cases_height}
+use Rattle.asm_lang.specs.TreeHeights.{height, part_height, stmt_height, body_height, block_height, cases_height}
 use Rattle.asm_laws_height.proofs.Sizes.{under_height, under_body, more_block}
 use Rattle.asm_grammar_nodes.specs.declared.lexeme.Word.{Word}
 use Rattle.asm_grammar_nodes.specs.declared.tree.ExprTree.{ExprTree as CodeExpr}

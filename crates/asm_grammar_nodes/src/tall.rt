@@ -2,7 +2,7 @@
 
 ghost use Rattle.std.specs.Prelude.{◌≡◌};
 ghost use Rattle.sem_words.specs.Lists.{list_items};
-ghost use Rattle.asm_laws_height.specs.Peaks as peaks;
+ghost use Rattle.asm_lang.specs.TreeHeights as heights;
 ghost use Rattle.asm_grammar_nodes.specs.Heights.{counted};
 ghost use Rattle.asm_grammar_nodes.specs.Views.{expr_view, exprs_view};
 
@@ -19,7 +19,7 @@ use std::alloc::{AllocError, Global};
 pub struct TallExpr {
     tree: ExprTree,
     height: Height,
-    ghost high: { height.count ≡ counted (peaks.height (expr_view tree)) },
+    ghost high: { height.count ≡ counted (heights.height (expr_view tree)) },
 }
 
 /// Expressions of a list so far, and how high the highest is.
@@ -27,7 +27,7 @@ pub struct TallExpr {
 pub struct TallExprs {
     trees: List<ExprTree>,
     height: Height,
-    ghost high: { height.count ≡ counted (peaks.all_height (exprs_view (list_items trees))) },
+    ghost high: { height.count ≡ counted (heights.all_height (exprs_view (list_items trees))) },
 }
 
 impl TallExprs {
@@ -60,7 +60,7 @@ impl TallExprs {
 
     /// Of the highest one, or 0.
     pub fn height(&self) -> Height
-        ensures { result.count ≡ counted (peaks.all_height (talls_view self.now)) }
+        ensures { result.count ≡ counted (heights.all_height (talls_view self.now)) }
     {
         self.height
     }
@@ -77,7 +77,7 @@ impl TallExpr {
     ghost use Rattle.asm_grammar_nodes.specs.Tall.{tall_view, talls_view, tall_option};
 
     pub fn height(&self) -> Height
-        ensures { result.count ≡ counted (peaks.height (tall_view self.now)) }
+        ensures { result.count ≡ counted (heights.height (tall_view self.now)) }
     {
         self.height
     }
@@ -266,7 +266,7 @@ impl TallExpr {
 
     /// Of no expression it is 0.
     pub(crate) fn option_height(expr: &Option<TallExpr>) -> Height
-        ensures { result.count ≡ counted (peaks.part_height (tall_option expr.now)) }
+        ensures { result.count ≡ counted (heights.part_height (tall_option expr.now)) }
     {
         match expr {
             None => Height::none(),

@@ -2,7 +2,7 @@
 
 ghost use Rattle.std.specs.Prelude.{◌≡◌};
 ghost use Rattle.sem_words.specs.Lists.{list_items};
-ghost use Rattle.asm_laws_height.specs.Peaks as peaks;
+ghost use Rattle.asm_lang.specs.TreeHeights as heights;
 ghost use Rattle.asm_grammar_nodes.specs.Heights.{counted};
 ghost use Rattle.asm_grammar_nodes.specs.Views.{stmt_view, stmts_view, clauses_view};
 
@@ -19,8 +19,8 @@ pub struct TallStmt {
     tree: StmtTree,
     height: Height,
     as_body: Height,
-    ghost high: { height.count ≡ counted (peaks.stmt_height (stmt_view tree)) },
-    ghost high_body: { as_body.count ≡ counted (peaks.body_height (stmt_view tree)) },
+    ghost high: { height.count ≡ counted (heights.stmt_height (stmt_view tree)) },
+    ghost high_body: { as_body.count ≡ counted (heights.body_height (stmt_view tree)) },
 }
 
 /// Statements of a list so far, and how high the highest is.
@@ -28,7 +28,7 @@ pub struct TallStmt {
 pub struct TallStmts {
     trees: List<StmtTree>,
     height: Height,
-    ghost high: { height.count ≡ counted (peaks.block_height (stmts_view (list_items trees))) },
+    ghost high: { height.count ≡ counted (heights.block_height (stmts_view (list_items trees))) },
 }
 
 /// Clauses of a switch so far, and how high their highest statement is.
@@ -36,7 +36,7 @@ pub struct TallStmts {
 pub struct TallClauses {
     clauses: List<ClauseTree>,
     height: Height,
-    ghost high: { height.count ≡ counted (peaks.cases_height (clauses_view (list_items clauses))) },
+    ghost high: { height.count ≡ counted (heights.cases_height (clauses_view (list_items clauses))) },
 }
 
 impl TallStmts {
@@ -69,7 +69,7 @@ impl TallStmts {
 
     /// Of the highest one, or 0.
     pub fn height(&self) -> Height
-        ensures { result.count ≡ counted (peaks.block_height (stmts_tall_view self.now)) }
+        ensures { result.count ≡ counted (heights.block_height (stmts_tall_view self.now)) }
     {
         self.height
     }
@@ -118,7 +118,7 @@ impl TallClauses {
 
     /// Of the highest statement in them, or 0.
     pub fn height(&self) -> Height
-        ensures { result.count ≡ counted (peaks.cases_height (clauses_tall_view self.now)) }
+        ensures { result.count ≡ counted (heights.cases_height (clauses_tall_view self.now)) }
     {
         self.height
     }
@@ -131,22 +131,22 @@ impl TallStmt {
     ghost use Rattle.asm_grammar_nodes.specs.Tall.{tall_view, tall_option, stmt_tall_view, stmts_tall_view, clauses_tall_view};
 
     pub fn height(&self) -> Height
-        ensures { result.count ≡ counted (peaks.stmt_height (stmt_tall_view self.now)) }
+        ensures { result.count ≡ counted (heights.stmt_height (stmt_tall_view self.now)) }
     {
         self.height
     }
 
     /// As the whole body of a loop or an `if`.
     pub fn as_body(&self) -> Height
-        ensures { result.count ≡ counted (peaks.body_height (stmt_tall_view self.now)) }
+        ensures { result.count ≡ counted (heights.body_height (stmt_tall_view self.now)) }
     {
         self.as_body
     }
 
     /// A statement that is as high as a body as it is elsewhere.
     fn alone(tree: StmtTree, height: Height) -> TallStmt
-        requires high { height.count ≡ counted (peaks.stmt_height (stmt_view tree)) }
-        requires high_body { height.count ≡ counted (peaks.body_height (stmt_view tree)) }
+        requires high { height.count ≡ counted (heights.stmt_height (stmt_view tree)) }
+        requires high_body { height.count ≡ counted (heights.body_height (stmt_view tree)) }
         ensures { stmt_tall_view result ≡ stmt_view tree }
     {
         TallStmt {

@@ -3,7 +3,7 @@
 ghost use Rattle.std.specs.Prelude.{◌≡◌, [], ◌∷◌, ◌++◌, OnOk, IfOk, map, false};
 ghost use Rattle.sem_words.specs.Lists.{text_bytes, list_items};
 ghost use Rattle.asm_lang.specs.Heights.{IsWellFormed};
-ghost use Rattle.asm_laws_print.specs.Printed.{IsTextOf};
+ghost use Rattle.asm_lang.specs.Texts.{IsTextOf};
 ghost use Rattle.asm_lang.specs.Printing.{globals_text, functions_text, table_text, tables_text, export_pieces, exports_text, module_name_text, module_pieces, canonical_text};
 ghost use Rattle.asm_tree.specs.Views.{text_option, texts_view, global_view, function_view, table_view, export_view, exports_view, module_view};
 ghost use Rattle.asm_grammar_print.specs.Put.{written, put, directive_text, heading_text};

@@ -5,8 +5,9 @@ use Rattle.asm_lang.specs.Lexemes.{Lexeme, close_paren, semicolon}
 use Rattle.asm_lang.specs.Grammar.{under}
 use Rattle.asm_lang.specs.Trees.{ExprTree, StmtTree, plain, variable, returns, for_loop, StmtTrees}
 use Rattle.asm_lang.specs.Machine.{State, Step, goes, at_stmt, after_arm}
-use Rattle.asm_laws_height.specs.Peaks.{height, part_height, body_height, peak}
-use Rattle.asm_laws_height.specs.Rises.{Rise, risen, rise_after, one_more, ExprRise, StmtRise, counted as stmt_count, capped_rise}
+use Rattle.asm_lang.specs.TreeHeights.{height, part_height, body_height, counted as stmt_count}
+use Rattle.asm_laws_height.specs.Peaks.{peak}
+use Rattle.asm_laws_height.specs.Rises.{Rise, risen, rise_after, one_more, ExprRise, StmtRise, capped_rise}
 use Rattle.asm_laws_height.proofs.Frames as laws
 use Rattle.asm_grammar_nodes.specs.Heights.{counted}
 use Rattle.asm_grammar_nodes.specs.Views.{words_view}

@@ -5,7 +5,8 @@ use Rattle.std.proofs.lemmas.List.{reverse-append, length-reverse, get_or-revers
 use Rattle.std.proofs.lemmas.Option.{none-some, slice_get-get_or, slice_get_within, get_or_from_slice_get}
 use Rattle.asm_lang.specs.Trees.{StmtTree, StmtTrees, no_stmt, one_stmt}
 use Rattle.asm_lang.specs.Machine.{more_stmts_of}
-use Rattle.asm_laws_height.specs.Peaks.{stmt_height, last_height}
+use Rattle.asm_lang.specs.TreeHeights.{stmt_height}
+use Rattle.asm_laws_height.specs.Peaks.{last_height}
 use Rattle.asm_grammar_nodes.specs.declared.lexeme.Word.{Word}
 use Rattle.asm_grammar_nodes.specs.Views.{words_view}
 use Rattle.asm_grammar_stmts.specs.declared.frame.Frame.{Frame}

@@ -2,8 +2,9 @@
 use Rattle.std.proofs.Common.{◌≡◌, ℕ, suc, List, [], ◌∷◌, None, refl, sym, ap, ◌∙◌}
 use Rattle.asm_lang.specs.Trees.{ExprTree, StmtTree, returns, StmtTrees}
 use Rattle.asm_lang.specs.Machine.{State, Step, after_stmt_name, at_return, at_target, after_arm}
-use Rattle.asm_laws_height.specs.Peaks.{height, peak, step_peak}
-use Rattle.asm_laws_height.specs.Rises.{Rise, risen, ExprRise, counted as stmt_count, capped_rise}
+use Rattle.asm_lang.specs.TreeHeights.{height, counted as stmt_count}
+use Rattle.asm_laws_height.specs.Peaks.{peak, step_peak}
+use Rattle.asm_laws_height.specs.Rises.{Rise, risen, ExprRise, capped_rise}
 use Rattle.asm_grammar_nodes.specs.declared.lexeme.Word.{Word}
 use Rattle.asm_grammar_nodes.specs.Heights.{counted}
 use Rattle.asm_grammar_nodes.specs.Views.{word_view}

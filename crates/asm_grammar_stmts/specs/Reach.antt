@@ -3,7 +3,7 @@ use Rattle.std.specs.Prelude.{ℕ, ◌≡◌, Bool, true, false, max, List, [], 
 use Rattle.std.specs.Coded.{Coded, Coded-set, code_by, coded_ℕ, coded_bool, coded×, ×_prop}
 use Rattle.sem_words.specs.Lists.{list_items}
 use Rattle.asm_lang.specs.Lexemes.{Lexeme}
-use Rattle.asm_laws_height.specs.Peaks.{height, part_height, body_height}
+use Rattle.asm_lang.specs.TreeHeights.{height, part_height, body_height}
 use Rattle.asm_laws_height.specs.Rises.{Rise, level, rise_after, one_more, capped_rise}
 use Rattle.asm_grammar_nodes.specs.Heights.{counted}
 use Rattle.asm_grammar_nodes.specs.Rises.{rise_view}

@@ -3,7 +3,7 @@
 ghost use Rattle.std.specs.Prelude.{◌≡◌, IfOk};
 ghost use Rattle.asm_lang.specs.Trees.{StmtTree};
 ghost use Rattle.asm_lang.specs.Machine.{State};
-ghost use Rattle.asm_laws_height.specs.Peaks.{part_height};
+ghost use Rattle.asm_lang.specs.TreeHeights.{part_height};
 ghost use Rattle.asm_grammar_nodes.specs.Heights.{counted};
 ghost use Rattle.asm_grammar_nodes.specs.Tall.{tall_option, stmt_tall_view};
 ghost use Rattle.asm_grammar_stmts.specs.Reach.{reach_view, counted_reach};

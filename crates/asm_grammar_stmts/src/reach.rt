@@ -1,7 +1,8 @@
 //! How high what ends with a statement is.
 
 ghost use Rattle.std.specs.Prelude.{◌≡◌};
-ghost use Rattle.asm_laws_height.specs.Rises.{risen, counted as stmt_count};
+ghost use Rattle.asm_lang.specs.TreeHeights.{counted as stmt_count};
+ghost use Rattle.asm_laws_height.specs.Rises.{risen};
 ghost use Rattle.asm_grammar_nodes.specs.Heights.{counted};
 ghost use Rattle.asm_grammar_nodes.specs.Rises.{rise_view};
 ghost use Rattle.asm_grammar_nodes.specs.Tall.{stmt_tall_view};

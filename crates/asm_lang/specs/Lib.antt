@@ -4,6 +4,10 @@ pub mod Grammar
 pub mod Faults
 pub mod Modules
 pub mod Heights
+pub mod TreeHeights
+pub mod HighNodes
+pub mod Kinds
+pub mod Texts
 pub mod Printing
 pub mod Machine
 pub mod Examples

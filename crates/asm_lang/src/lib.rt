@@ -1,4 +1,4 @@
-//! asm.js: the grammar of modules over tokens, the modules that it spells, and where other tokens break it.
+//! asm.js: the grammar of modules over tokens, the modules that tokens and texts say, and why others say none.
 //!
 //! A token list is a module of the grammar, or it has exactly one place and kind of fault.
 #![tactic(auto)]

@@ -127,6 +127,10 @@ pub data Reads : ℕ → Bool → List ℕ → Reading → Type 0 where
 abbrev pub IsReading : List ℕ → Reading → Type 0
 IsReading source r = Reads 0 false source r
 
+-- the first fault of the text, at this offset
+abbrev pub HasFault : List ℕ → Fault → ℕ → Type 0
+HasFault source f at = IsReading source (Err (record { fault = f; at = at }))
+
 -- ---- what follows for each token and for all together
 
 -- the fact holds of the tokens, if there is no fault

@@ -6,3 +6,4 @@ pub mod NameRows
 pub mod TypeRows
 pub mod LimitRows
 pub mod Refusal
+pub mod Texts

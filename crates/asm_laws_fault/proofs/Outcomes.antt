@@ -9,12 +9,14 @@ use Rattle.asm_lang.specs.Faults as lang
 use Rattle.asm_lang.proofs.CompleteModules.{module_read}
 use Rattle.asm_lang.proofs.Sound.{found_module}
 use Rattle.asm_lang.proofs.Verdicts.{verdict}
-use Rattle.asm_laws_height.specs.Peaks.{whole_height, Stop, refused, high, run_low}
+use Rattle.asm_lang.specs.TreeHeights.{whole_height}
+use Rattle.asm_lang.specs.Kinds.{Kind, negative_zero, missing_use, grammar, height, IsLow, IsFault}
+use Rattle.asm_laws_height.specs.Peaks.{Stop, refused, high, run_low}
 use Rattle.asm_laws_height.proofs.Within.{start_kept}
 use Rattle.asm_laws_height.proofs.Limits.{low_read, low_found}
 use Rattle.asm_laws_height.proofs.SeenModules.{high_stop, refused_low, none_in_found, none_in_refused}
 use Rattle.asm_laws_height.proofs.Places.{height_fault}
-use Rattle.asm_laws_fault.specs.Kinds.{Kind, negative_zero, missing_use, grammar, height, IsLow, IsFault, Outcome, a_module, a_fault}
+use Rattle.asm_laws_fault.specs.Outcomes.{Outcome, a_module, a_fault}
 use Rattle.asm_laws_fault.proofs.Edges.{module_viable}
 
 pub none : (limit : ℕ) (xs : List Lexeme) (m : ModuleTree) → IsModule m xs → whole_height m ≤ limit → (a : Kind) (i : ℕ) → IsFault limit xs a i → ⊥

@@ -3,8 +3,8 @@ use Rattle.std.proofs.Common.{ℕ, ◌≡◌, ◌+◌, List, length, inl, inr, r
 use Rattle.std.proofs.lemmas.Bool.{cases_lt}
 use Rattle.asm_lang.specs.Lexemes.{Lexeme}
 use Rattle.asm_lang.specs.Faults.{IsNegativeZero, IsMissingUse, IsFirstFault}
-use Rattle.asm_laws_height.specs.HighNodes.{IsHeightFault}
-use Rattle.asm_laws_fault.specs.Kinds.{Kind, negative_zero, missing_use, grammar, height, IsFault}
+use Rattle.asm_lang.specs.HighNodes.{IsHeightFault}
+use Rattle.asm_lang.specs.Kinds.{Kind, negative_zero, missing_use, grammar, height, IsFault}
 use Rattle.asm_laws_fault.proofs.Edges.{one_edge, no_edge, zero_edge, use_edge, first_edge}
 use Rattle.asm_laws_fault.proofs.Headings.{not_after_minus}
 

@@ -3,8 +3,9 @@ use Rattle.std.proofs.Common.{ℕ, ◌≤◌, ◌+◌, false, List, [], Option, 
 use Rattle.asm_lang.specs.Lexemes.{other, Lexeme}
 use Rattle.asm_lang.specs.Trees.{ExprTree, variable, element, ExprTrees, no_expr, StmtTree, empty, if_only, StmtTrees, ClauseTrees, no_clause, one_clause, Init, number, member, VariableTree, ParamTree, ExportTree}
 use Rattle.asm_lang.specs.Machine.{State, closes, at_expr, after_minus, after_name, after_index, after_expr, at_arguments, in_rest, ends, ends_do, at_stmt, after_stmt_name, at_option, at_return, at_target, after_arm, after_body, at_stmts, at_clauses, in_case, at_literal, after_sign, at_init, after_member, in_names, at_marks, at_locals, in_locals, may_comma, at_use, at_globals, at_value, in_globals, at_functions, at_tables, in_tables, at_export, at_exports, in_exports, at_end, Step, goes, expects, either, refuses}
+use Rattle.asm_lang.specs.TreeHeights.{height, all_height, part_height, stmt_height, body_height, block_height, cases_height, whole_height}
 use Rattle.std.specs.Prelude.{pos}
-use Rattle.asm_laws_height.specs.Peaks.{height, all_height, part_height, stmt_height, body_height, block_height, cases_height, whole_height, peak}
+use Rattle.asm_laws_height.specs.Peaks.{peak}
 use Rattle.asm_laws_height.proofs.Sizes.{bodies}
 
 abbrev pub least : ExprTree

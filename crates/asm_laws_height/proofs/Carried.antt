@@ -17,11 +17,11 @@ use Rattle.asm_lang.proofs.Reached.{IsOver}
 use Rattle.asm_lang.proofs.Sound.{at_level, ends_top, ends_below, rank_is, not_is, no_list}
 use Rattle.asm_lang.specs.Modules as modules
 use Rattle.asm_lang.specs.Heights.{function_height}
-use Rattle.asm_laws_height.specs.Rises.{counted}
+use Rattle.asm_lang.specs.TreeHeights.{counted, body_height, whole_height}
+use Rattle.asm_lang.specs.HighNodes.{Here, HighExpr, HighOperand, HighIndex, HighArguments, HighRest, HighOption, HighReturned, HighStmt, HighStmts, HighClauses, HighFunctions, HighModule}
 use Rattle.asm_laws_height.proofs.Sizes.{under_height, under_body, last_of_more}
 use Rattle.asm_laws_height.proofs.SeenModules.{last_function_more}
-use Rattle.asm_laws_height.specs.Peaks.{body_height, last_height, last_function, whole_height}
-use Rattle.asm_laws_height.specs.HighNodes.{Here, HighExpr, HighOperand, HighIndex, HighArguments, HighRest, HighOption, HighReturned, HighStmt, HighStmts, HighClauses, HighFunctions, HighModule}
+use Rattle.asm_laws_height.specs.Peaks.{last_height, last_function}
 
 -- The state can go on with a token before which a `;` may be missing.
 abbrev pub Open : State → Type 0

@@ -9,8 +9,9 @@ use Rattle.asm_lang.specs.Grammar.{IsExpr, an_operand, a_binary, a_conditional, 
 use Rattle.asm_lang.specs.Machine.{is_quiet, State, closes, at_expr, after_minus, after_name, after_index, after_expr, at_arguments, in_rest, ends, ends_do, at_stmt, after_stmt_name, at_option, at_return, at_target, after_arm, after_body, at_stmts, at_clauses, in_case, at_literal, after_sign, at_init, after_member, in_names, at_marks, at_locals, in_locals, may_comma, at_use, at_globals, at_value, in_globals, at_functions, at_tables, in_tables, at_export, at_exports, in_exports, at_end, Step, goes, expects, either, refuses, int_mark, variable_of, module_of}
 use Rattle.asm_lang.proofs.Sound.{at_level}
 use Rattle.asm_lang.proofs.Viable.{bytes_same, Quiet, quiet_stops, quiet_no_else}
-use Rattle.asm_laws_height.specs.Peaks.{height, last_function, peak, step_peak}
-use Rattle.asm_laws_height.specs.HighNodes.{Here, HighExpr, HighOperand, HighModule}
+use Rattle.asm_lang.specs.TreeHeights.{height}
+use Rattle.asm_lang.specs.HighNodes.{Here, HighExpr, HighOperand, HighModule}
+use Rattle.asm_laws_height.specs.Peaks.{last_function, peak, step_peak}
 use Rattle.asm_laws_height.proofs.Carried.{Open, Found, ExportsOn, TablesOn, FunctionsOn, GlobalsOn, Carries, CarriesStep, Moves, mono, mono_step, high_at_level}
 
 -- ---- tokens that begin a line

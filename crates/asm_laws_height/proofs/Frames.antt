@@ -9,7 +9,8 @@ use Rattle.asm_lang.specs.Trees.{ExprTree, assignment, store, unary, binary, con
 use Rattle.asm_lang.specs.Grammar.{under}
 use Rattle.asm_lang.specs.Modules.{expr_of}
 use Rattle.asm_lang.specs.Machine.{is_quiet, State, closes, after_expr, in_rest, ends, after_arm, after_body, at_stmts, in_case, Step, more_exprs, more_stmts_of}
-use Rattle.asm_laws_height.specs.Peaks.{height, all_height, part_height, stmt_height, body_height, peak}
+use Rattle.asm_lang.specs.TreeHeights.{height, all_height, part_height, stmt_height, body_height}
+use Rattle.asm_laws_height.specs.Peaks.{peak}
 use Rattle.asm_laws_height.specs.Rises.{Rise, risen, level, rise_after, one_more, second_operand, ExprRise, StmtRise, capped_rise}
 use Rattle.asm_laws_height.proofs.Sizes.{binary_height, more_height, under_height, under_body, last_of_more}
 

@@ -1,7 +1,7 @@
 -- What is put into a tree that is put in: how the facts of a state's function pass to the functions made of it.
 use Rattle.std.proofs.Common.{ℕ, ◌≤◌, ◌+◌, max, arith}
 use Rattle.asm_lang.specs.Trees.{StmtTree}
-use Rattle.asm_laws_height.specs.Peaks.{stmt_height, body_height}
+use Rattle.asm_lang.specs.TreeHeights.{stmt_height, body_height}
 use Rattle.asm_laws_height.proofs.Bounds.{Holds, HoldsStmt, none}
 
 pub up : {A : Type 0} {high floor top : A → ℕ} → Holds high floor top → (a b : A) → high a ≤ high b → floor a ≤ floor b

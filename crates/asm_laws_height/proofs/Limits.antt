@@ -6,7 +6,8 @@ use Rattle.asm_lang.specs.Trees.{variable, element, plain, if_only, member, Modu
 use Rattle.asm_lang.specs.Grammar.{IsModule}
 use Rattle.asm_lang.specs.Machine.{State, after_name, after_index, after_expr, in_rest, ends, ends_do, after_stmt_name, at_return, at_target, after_arm, after_member, at_marks, at_locals, in_locals, may_comma, at_end, Step, goes, expects, either, refuses, advance, Refusal, ended, stops, run, at_start}
 use Rattle.asm_lang.proofs.CompleteModules.{module_read}
-use Rattle.asm_laws_height.specs.Peaks.{whole_height, peak, step_peak, after, high, stop_of, run_low}
+use Rattle.asm_lang.specs.TreeHeights.{whole_height}
+use Rattle.asm_laws_height.specs.Peaks.{peak, step_peak, after, high, stop_of, run_low}
 use Rattle.asm_laws_height.proofs.Bounds.{step_bound, KeptStep, Rises}
 use Rattle.asm_laws_height.proofs.Within.{advance_rises, refused_is, run_bound, step_peak_below, start_kept}
 

@@ -5,8 +5,8 @@ use Rattle.std.proofs.lemmas.Bool.{cases_lt}
 use Rattle.asm_lang.specs.Lexemes.{Lexeme}
 use Rattle.asm_lang.specs.Trees.{ModuleTree}
 use Rattle.asm_lang.specs.Machine.{Fault, Step, goes, expects, either, refuses, advance, at_start}
+use Rattle.asm_lang.specs.HighNodes.{BeginsHigh, IsHeightFault}
 use Rattle.asm_laws_height.specs.Peaks.{step_peak, after, Stop, refused, high, run_low}
-use Rattle.asm_laws_height.specs.HighNodes.{BeginsHigh, IsHeightFault}
 use Rattle.asm_laws_height.proofs.SeenModules.{high_stop, none_in_found, none_in_refused, none_before}
 use Rattle.asm_laws_height.proofs.Carried.{Moves, advance_carries, at_start_carries}
 use Rattle.asm_laws_height.proofs.Finished.{High, high_ending}

@@ -11,7 +11,8 @@ use Rattle.asm_lang.specs.Trees.{ExprTree, literal, decimals, variable, element,
 use Rattle.asm_lang.specs.Grammar.{level_of, may_miss_before, under}
 use Rattle.asm_lang.specs.Modules.{expr_of}
 use Rattle.asm_lang.specs.Machine.{same_class, begins_expr, is_quiet, State, closes, in_rest, ends, ends_do, at_stmt, after_arm, at_stmts, at_clauses, in_case, Step, goes, expects, either, refuses, more_exprs, stuck, expr_by, minus_by, infix_by, name_by, index_by, arguments_by, rest_by, end_by, do_end_by, more_stmts_of, condition, stmt_by, stmt_name_by, option_by, return_by, target_by, arm_by, stmts_by, case_value, clauses_by, in_case_by}
-use Rattle.asm_laws_height.specs.Peaks.{height, all_height, part_height, body_height, block_height, cases_height, last_height, peak}
+use Rattle.asm_lang.specs.TreeHeights.{height, all_height, part_height, body_height, block_height, cases_height}
+use Rattle.asm_laws_height.specs.Peaks.{last_height, peak}
 use Rattle.asm_laws_height.proofs.Sizes.{binary_height, floor_above, more_height, under_height, under_body, body_near, more_block, last_of_more}
 use Rattle.asm_laws_height.proofs.Bounds.{least, bound, step_bound, Holds, HoldsStmt, Flat, none, Kept, KeptStep, Rises}
 use Rattle.asm_laws_height.proofs.Holding.{up, up_stmt, silent, itself, inside, in_stmt, round}

@@ -8,8 +8,9 @@ use Rattle.asm_lang.specs.Machine.{State, closes, at_expr, after_name, after_ind
 use Rattle.asm_lang.proofs.Tokens.{Ends, Stops, level_low, Stops-ends, Ends-up, Ends-low, stop_here, end_here, expr_first}
 use Rattle.asm_lang.proofs.Leads.{Falls, falls_name, falls_index, falls_expr, falls_minus, falls_rest, falls_arguments, falls_end, falls_do_end, falls_option, falls_value, falls_return, falls_target, falls_label, falls_arm, falls_stmts, falls_case, falls_clause, falls_member, falls_init, falls_globals, falls_local, falls_locals, falls_marks, falls_tables, falls_comma, GoAlike, Observer, ◌▸◌, closed, on_class}
 use Rattle.asm_lang.proofs.CompleteExprs.{falls, goes_on, asks, lists, assigns, stores, at_the_name, minus_goes, prefix_read, first_argument, operand_stop, under_13, same, rest_Stops, expr_read, operand_read, index_read}
-use Rattle.asm_laws_height.specs.Peaks.{height, peak, step_peak}
-use Rattle.asm_laws_height.specs.HighNodes.{Here, HighExpr, HighOperand, HighIndex, HighArguments, HighRest}
+use Rattle.asm_lang.specs.TreeHeights.{height}
+use Rattle.asm_lang.specs.HighNodes.{Here, HighExpr, HighOperand, HighIndex, HighArguments, HighRest}
+use Rattle.asm_laws_height.specs.Peaks.{peak, step_peak}
 
 -- from this step on, up to the mark, some peak is above the limit
 abbrev pub Peaks : ℕ → ℕ → Step → List Lexeme → Type 0

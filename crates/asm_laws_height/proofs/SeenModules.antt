@@ -12,8 +12,9 @@ use Rattle.asm_lang.specs.Machine.{State, closes, at_stmts, in_names, at_marks, 
 use Rattle.asm_lang.proofs.Leads.{Observer, ◌▸◌, by_step, takes, closed, on_class}
 use Rattle.asm_lang.proofs.CompleteStmts.{end_read}
 use Rattle.asm_lang.proofs.CompleteModules.{with_all, with_nothing, heading_read, globals_read, params_read, marks_read, locals_read, locals_over, function_read, body_read}
-use Rattle.asm_laws_height.specs.Peaks.{whole_height, last_function, step_peak, after, Stop, refused, high, stop_of, run_low}
-use Rattle.asm_laws_height.specs.HighNodes.{HighFunction, HighFunctions, HighModule, BeginsHigh}
+use Rattle.asm_lang.specs.TreeHeights.{whole_height}
+use Rattle.asm_lang.specs.HighNodes.{HighFunction, HighFunctions, HighModule, BeginsHigh}
+use Rattle.asm_laws_height.specs.Peaks.{last_function, step_peak, after, Stop, refused, high, stop_of, run_low}
 use Rattle.asm_laws_height.proofs.Seen.{Peaks, seen_within, peaks, ended_here}
 use Rattle.asm_laws_height.proofs.SeenStmts.{stmts_seen}
 

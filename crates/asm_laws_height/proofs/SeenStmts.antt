@@ -9,9 +9,9 @@ use Rattle.asm_lang.proofs.Tokens.{Stops-ends, stop_here, stop_at_end, end_no_co
 use Rattle.asm_lang.proofs.Leads.{Observer, ◌▸◌, by_step, takes, closed, bodied, on_class}
 use Rattle.asm_lang.proofs.CompleteExprs.{same}
 use Rattle.asm_lang.proofs.CompleteStmts.{option_some, option_read, return_value, literal_read, with_no_stmt, stmt_begins, plain_begins, at_the_word, condition_read, stmts_go_on, cases_go_on, clauses_over, stmt_read, case_read}
-use Rattle.asm_laws_height.specs.Peaks.{stmt_height, body_height, peak}
-use Rattle.asm_laws_height.specs.Rises.{counted}
-use Rattle.asm_laws_height.specs.HighNodes.{HighExpr, HighOption, HighReturned, HighStmt, HighStmts, HighClauses}
+use Rattle.asm_lang.specs.TreeHeights.{stmt_height, body_height, counted}
+use Rattle.asm_lang.specs.HighNodes.{HighExpr, HighOption, HighReturned, HighStmt, HighStmts, HighClauses}
+use Rattle.asm_laws_height.specs.Peaks.{peak}
 use Rattle.asm_laws_height.proofs.Sizes.{under_height, under_body, last_of_more}
 use Rattle.asm_laws_height.proofs.Seen.{Peaks, peaks, ended_here, expr_seen}
 

@@ -9,7 +9,8 @@ use Rattle.asm_lang.specs.Grammar.{under}
 use Rattle.asm_lang.specs.Machine.{more_exprs, more_stmts_of}
 use Rattle.asm_lang.specs.Modules.{Expr, chain, Links, no_links, links, more_links, chained, binary_of, function_of}
 use Rattle.asm_lang.specs.Heights.{expr_height, links_height, function_height, functions_height, leaves_height}
-use Rattle.asm_laws_height.specs.Peaks.{height, all_height, stmt_height, body_height, block_height, last_height, last_function}
+use Rattle.asm_lang.specs.TreeHeights.{height, all_height, stmt_height, body_height, block_height}
+use Rattle.asm_laws_height.specs.Peaks.{last_height, last_function}
 use Rattle.asm_laws_height.specs.Rises.{chain_floor, binary_floor}
 
 -- ---- expressions

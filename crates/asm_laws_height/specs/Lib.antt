@@ -1,4 +1,3 @@
 pub mod Peaks
 pub mod Rises
-pub mod HighNodes
 pub mod Examples

@@ -1,39 +1,14 @@
 -- The highest node that may be complete at the last token read, and reading that stops at a node above a limit.
-use Rattle.std.specs.Prelude.{ℕ, max, List, [], ◌∷◌, Option, None, Result, Ok, Err, nat_lt, if◌then◌else◌}
+use Rattle.std.specs.Prelude.{ℕ, max, List, [], ◌∷◌, None, Result, Ok, Err, nat_lt, if◌then◌else◌}
 use Rattle.asm_lang.specs.Lexemes.{Lexeme}
-use Rattle.asm_lang.specs.Trees.{ExprTree, variable, element, ExprTrees, StmtTree, plain, if_only, StmtTrees, no_stmt, one_stmt, ClauseTrees, member, FunctionTree, ModuleTree}
+use Rattle.asm_lang.specs.Trees.{variable, element, plain, if_only, StmtTrees, no_stmt, one_stmt, member, FunctionTree, ModuleTree}
 use Rattle.asm_lang.specs.Machine.{State, after_name, after_index, after_expr, in_rest, ends, ends_do, after_stmt_name, at_return, at_target, after_arm, after_body, at_stmts, in_case, after_member, at_marks, at_locals, in_locals, may_comma, at_functions, at_end, Step, goes, advance, Refusal, stops}
-use Rattle.asm_lang.specs.Modules.{expr_of, exprs_of, option_of, stmt_of, stmts_of, clauses_of, function_of, module_of}
-use Rattle.asm_lang.specs.Heights.{expr_height, exprs_height, option_height, stmt_heights, stmts_height, clauses_height, function_height, module_height}
+use Rattle.asm_lang.specs.Modules.{function_of}
+use Rattle.asm_lang.specs.Heights.{function_height}
+use Rattle.asm_lang.specs.TreeHeights.{height, stmt_height, body_height, whole_height}
 
--- ---- the heights of trees, which are those of their modules
+-- ---- the last one of a list
 
-abbrev pub height : ExprTree → ℕ
-height e = expr_height (expr_of e)
-
-abbrev pub all_height : ExprTrees → ℕ
-all_height es = exprs_height (exprs_of es)
-
-abbrev pub part_height : Option ExprTree → ℕ
-part_height o = option_height (option_of o)
-
-abbrev pub stmt_height : StmtTree → ℕ
-stmt_height s = (stmt_heights (stmt_of s)).height
-
--- as the whole body of a loop or an arm of an `if`
-abbrev pub body_height : StmtTree → ℕ
-body_height s = (stmt_heights (stmt_of s)).as_body
-
-abbrev pub block_height : StmtTrees → ℕ
-block_height ss = stmts_height (stmts_of ss)
-
-abbrev pub cases_height : ClauseTrees → ℕ
-cases_height cs = clauses_height (clauses_of cs)
-
-abbrev pub whole_height : ModuleTree → ℕ
-whole_height m = module_height (module_of m)
-
--- that of the last one
 abbrev pub last_height : StmtTrees → ℕ
 last_height no_stmt = 0
 last_height (one_stmt s no_stmt) = stmt_height s

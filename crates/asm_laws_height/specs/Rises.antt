@@ -1,13 +1,14 @@
 -- Two numbers for all that is open round a node: they say how high the highest node is that ends with it. Code keeps them
 -- with each thing that is open, in place of a walk over all of them.
-use Rattle.std.specs.Prelude.{ℕ, ◌+◌, ◌≡◌, Bool, true, false, max, min}
+use Rattle.std.specs.Prelude.{ℕ, ◌+◌, ◌≡◌, Bool, max, min}
 use Rattle.sem_words.specs.declared.js_value.JsOp.{JsOp}
 use Rattle.sem_words.specs.declared.js_value.JsOp.TheVariants.{Add, Sub}
 use Rattle.asm_lang.specs.Trees.{ExprTree, StmtTree}
 use Rattle.asm_lang.specs.Machine.{State}
 use Rattle.asm_lang.specs.Modules.{Expr, chain}
 use Rattle.asm_lang.specs.Heights.{expr_height}
-use Rattle.asm_laws_height.specs.Peaks.{height, stmt_height, body_height, peak}
+use Rattle.asm_lang.specs.TreeHeights.{height, counted}
+use Rattle.asm_laws_height.specs.Peaks.{peak}
 
 pub record Rise : Type 0 where
   pub floor : ℕ
@@ -50,11 +51,6 @@ second_operand op l = record { floor = binary_floor op l; steps = 1 }
 -- an expression that is put in ends, and with it what these numbers say
 abbrev pub ExprRise : Rise → (ExprTree → State) → Type 0
 ExprRise r k = (e : ExprTree) → max (height e) (peak (k e)) ≡ risen r (height e)
-
--- what a statement counts: as a whole body, or anywhere else
-abbrev pub counted : Bool → StmtTree → ℕ
-counted true s = body_height s
-counted false s = stmt_height s
 
 -- the same for a statement, which is a whole body or not
 abbrev pub StmtRise : Bool → Rise → (StmtTree → State) → Type 0

@@ -9,8 +9,9 @@ ghost use Rattle.asm_lang.specs.Trees.{ExprTree, assignment, store, unary, binar
 ghost use Rattle.asm_lang.specs.Grammar.{IsModule, under};
 ghost use Rattle.asm_lang.specs.Modules.{expr_of};
 ghost use Rattle.asm_lang.specs.Machine.{Refusal, is_quiet, State, closes, after_expr, in_rest, ends, after_arm, after_body, at_stmts, in_case, Step, more_exprs, more_stmts_of, run, at_start};
-ghost use Rattle.asm_laws_height.specs.HighNodes.{BeginsHigh, IsHeightFault};
-ghost use Rattle.asm_laws_height.specs.Peaks.{refused, high, run_low, height, all_height, part_height, body_height, whole_height, step_peak, after};
+ghost use Rattle.asm_lang.specs.HighNodes.{BeginsHigh, IsHeightFault};
+ghost use Rattle.asm_lang.specs.TreeHeights.{height, all_height, part_height, body_height, whole_height};
+ghost use Rattle.asm_laws_height.specs.Peaks.{refused, high, run_low, step_peak, after};
 ghost use Rattle.asm_laws_height.specs.Rises.{Rise, risen, level, rise_after, one_more, second_operand, ExprRise, StmtRise, capped_rise};
 
 /// Reading within a limit finds a module exactly where reading finds it and its height is within the limit.

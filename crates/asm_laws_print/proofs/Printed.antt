@@ -10,11 +10,11 @@ use Rattle.asm_lang.specs.Machine.{Refusal}
 use Rattle.asm_lang.specs.Modules.{Module, module_of}
 use Rattle.asm_lang.specs.Printing.{module_pieces, canonical_text}
 use Rattle.asm_lang.specs.Heights.{module_height, height_limit, IsWellFormed}
+use Rattle.asm_lang.specs.Texts.{IsTextOf}
 use Rattle.asm_lang.proofs.CompleteModules.{module_read as module_run}
 use Rattle.asm_laws_print.specs.Fitting.{FitsModule}
 use Rattle.asm_laws_print.proofs.Modules.{module_read}
 use Rattle.asm_laws_print.proofs.FitsModules.{module_fits, are_lexemes}
-use Rattle.asm_laws_print.specs.Printed.{IsTextOf}
 use Rattle.asm_laws_print.proofs.Joined.{joined_read}
 use Rattle.asm_laws_print.proofs.NeatModules.{module_neat}
 

@@ -1,4 +1,3 @@
 pub mod Spelled
 pub mod Fitting
 pub mod Examples
-pub mod Printed

@@ -1,14 +1,14 @@
 //! asm.js: the canonical pieces of a tree are tokens that spell the tree.
 #![tactic(auto)]
 
-ghost use Rattle.std.specs.Prelude.{Bool, List, [], false};
+ghost use Rattle.std.specs.Prelude.{Bool, List, [], false, ◌≡◌, ◌≤◌, ℕ};
 ghost use Rattle.std.specs.List.{AllByRecursion};
 ghost use Rattle.asm_lang_tokens.specs.Text.{PlacedToken, HasForm};
 ghost use Rattle.asm_lang.specs.Lexemes.{Lexeme, lexemes_of};
 ghost use Rattle.asm_lang.specs.Trees.{ModuleTree};
 ghost use Rattle.asm_lang.specs.Grammar.{IsModule};
 ghost use Rattle.asm_lang.specs.Modules.{Expr, Module, module_of};
-ghost use Rattle.asm_lang.specs.Printing.{expr_text, module_pieces};
+ghost use Rattle.asm_lang.specs.Printing.{expr_text, module_pieces, canonical_text};
 ghost use Rattle.asm_laws_print.specs.Spelled.{Spells, FitsExpr, IsRead};
 ghost use Rattle.asm_laws_print.specs.Fitting.{FitsModule, IsModuleRead};
 
@@ -27,12 +27,8 @@ pub fn read_modules_fit()
     ensures { (tokens : List PlacedToken) (tree : ModuleTree) → AllByRecursion HasForm tokens → IsModule tree (lexemes_of tokens) → FitsModule (module_of tree) }
 {}
 
-ghost use Rattle.std.specs.Prelude.{◌≡◌, ◌≤◌, ℕ, List};
-ghost use Rattle.asm_lang.specs.Modules.{Module};
 ghost use Rattle.asm_lang.specs.Heights.{module_height, height_limit, IsWellFormed};
-ghost use Rattle.asm_lang.specs.Printing.{canonical_text};
-ghost use Rattle.asm_laws_print.specs.Fitting.{FitsModule};
-ghost use Rattle.asm_laws_print.specs.Printed.{IsTextOf};
+ghost use Rattle.asm_lang.specs.Texts.{IsTextOf};
 
 /// Which modules are well formed, without the tokens.
 pub fn well_formed_modules()

@@ -8,7 +8,7 @@ use Rattle.asm_lang.specs.Grammar.{IsModule}
 use Rattle.asm_lang.specs.Trees.{ModuleTree}
 use Rattle.asm_lang.specs.Modules.{Module, module_of, module_places}
 use Rattle.asm_lang.specs.Heights.{module_height, height_limit, IsWellFormed}
-use Rattle.asm_laws_print.specs.Printed.{IsTextOf}
+use Rattle.asm_lang.specs.Texts.{IsTextOf, SaysModule}
 use Rattle.asm_tree.specs.declared.tree.Parsed.{Parsed}
 use Rattle.asm_tree.specs.Views.{module_view}
 use Rattle.js_tokens.specs.declared.fault.TokenFault.{TokenFault}
@@ -20,9 +20,9 @@ use Rattle.asm_grammar.specs.Gives as parsing
 use Rattle.asm_grammar.specs.Parsed.{IsParsed, HasModule}
 use Rattle.asm_text.specs.declared.fault.TextFault.{TextFault}
 use Rattle.asm_text.specs.declared.fault.TextFault.TheVariants as faults
-use Rattle.asm_text.specs.Faults.{AtToken, IsFault}
+use Rattle.asm_text.specs.Faults.{IsFault}
 use Rattle.asm_text.specs.Places.{of_reading, of_parsing}
-use Rattle.asm_text.specs.Said.{SaysModule, IsAnswer, IsAgain}
+use Rattle.asm_text.specs.Said.{IsAnswer, IsAgain}
 
 -- ---- from tokens to the module
 

@@ -4,7 +4,7 @@ use Rattle.std.specs.Prelude.{option_map}
 use Rattle.std.proofs.lemmas.Option.{slice_get-map}
 use Rattle.js_tokens.specs.declared.token.Token.{Token}
 use Rattle.js_tokens.specs.Views.{placed_token, placed_tokens}
-use Rattle.asm_text.specs.Faults.{at_or, place_of}
+use Rattle.asm_lang.specs.Texts.{at_or, place_of}
 
 -- the place, of the tokens of the code
 abbrev place_in : List ℕ → Option Token → ℕ

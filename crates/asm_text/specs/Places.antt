@@ -7,7 +7,7 @@ use Rattle.asm_grammar.specs.declared.fault.ParseFault.{ParseFault}
 use Rattle.asm_grammar.specs.declared.fault.ParseFault.TheVariants as parse_faults
 use Rattle.asm_text.specs.declared.fault.TextFault.{TextFault}
 use Rattle.asm_text.specs.declared.fault.TextFault.TheVariants as faults
-use Rattle.asm_text.specs.Faults.{place_of}
+use Rattle.asm_lang.specs.Texts.{place_of}
 
 abbrev pub of_reading : TokenFault → TextFault
 of_reading (token_faults.NonAscii at) = faults.NonAscii at

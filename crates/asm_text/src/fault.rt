@@ -1,7 +1,7 @@
 //! Why a text says no module.
 
 ghost use Rattle.std.specs.Prelude.{◌≡◌};
-ghost use Rattle.asm_text.specs.Faults.{place_of};
+ghost use Rattle.asm_lang.specs.Texts.{place_of};
 ghost use Rattle.asm_text.specs.Places.{of_parsing, of_reading};
 ghost use Rattle.js_tokens.specs.Views.{placed_tokens};
 

@@ -5,11 +5,11 @@ ghost use Rattle.sem_words.specs.Lists.{list_items};
 ghost use Rattle.asm_lang_tokens.specs.Text.{IsReading};
 ghost use Rattle.asm_lang.specs.Heights.{height_limit, module_height, IsWellFormed};
 ghost use Rattle.asm_lang.specs.Modules.{module_places, Module as PlainModule};
-ghost use Rattle.asm_laws_print.specs.Printed.{IsTextOf};
+ghost use Rattle.asm_lang.specs.Texts.{IsTextOf, SaysModule};
 ghost use Rattle.asm_tree.specs.Views.{module_view};
 ghost use Rattle.js_tokens.specs.Views.{placed_tokens};
 ghost use Rattle.asm_text.specs.Faults.{IsFault};
-ghost use Rattle.asm_text.specs.Said.{SaysModule, IsAgain, IsAnswer};
+ghost use Rattle.asm_text.specs.Said.{IsAgain, IsAnswer};
 
 use crate::fault::{TextFault, of_parsing, of_reading};
 use asm_grammar::parse;

@@ -10,7 +10,7 @@ use Rattle.asm_lang.specs.Trees.{ModuleTree}
 use Rattle.asm_lang.specs.Machine.{Refusal, run, at_start}
 use Rattle.asm_lang.specs.Modules.{Module, module_of}
 use Rattle.asm_lang.proofs.Sound.{found_module}
-use Rattle.asm_laws_print.specs.Printed.{IsTextOf}
+use Rattle.asm_lang.specs.Texts.{IsTextOf}
 
 -- ---- tokens
 

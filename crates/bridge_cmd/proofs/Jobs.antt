@@ -9,12 +9,12 @@ use Rattle.wasm_lang.specs.Modules.{WasmModule}
 use Rattle.wasm_lang.proofs.ReadingLawsOne.{one_module}
 use Rattle.wasm_lang_valid.specs.declared.profile.Outside.{Outside}
 use Rattle.wasm_lang_valid.specs.Runnable.{not_runnable}
+use Rattle.wasm_lang_valid.specs.Bytes.{IsValidBytes}
 use Rattle.cmd_check_wasm.specs.declared.fault.CheckFault.{CheckFault}
 use Rattle.cmd_check_wasm.specs.declared.fault.CheckFault.TheVariants as checks
-use Rattle.cmd_check_wasm.specs.Verdicts.{IsValidBytes, IsRefused}
+use Rattle.cmd_check_wasm.specs.Verdicts.{IsRefused}
 use Rattle.cmd_check_wasm.proofs.Once.{not_both, one_fault}
-use Rattle.cmd_run_wasm.specs.Modules.{IsRunnable, IsOutside}
-use Rattle.cmd_run_wasm.specs.Modules.{IsNotRun}
+use Rattle.cmd_run_wasm.specs.Modules.{IsRunnable, IsOutside, IsNotRun}
 use Rattle.cmd_run_wasm.specs.declared.fault.RunFault.{RunFault}
 use Rattle.cmd_run_wasm.specs.declared.fault.RunFault.TheVariants as run_faults
 use Rattle.script_read.specs.declared.fault.ScriptFault.{ScriptFault}

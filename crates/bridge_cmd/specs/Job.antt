@@ -6,12 +6,14 @@ use Rattle.first_form.specs.Translation.{Translates}
 use Rattle.asm_lang.specs.Modules.{Module}
 use Rattle.asm_lang.specs.Printing.{canonical_text}
 use Rattle.cmd_check_asm.specs.declared.fault.CheckFault.{CheckFault as TextFault}
+use Rattle.asm_lang_valid.specs.Texts.{IsAcceptedText}
 use Rattle.cmd_check_asm.specs.Verdicts as texts
 use Rattle.wasm_lang.specs.Modules.{WasmModule}
 use Rattle.wasm_lang_valid.specs.declared.profile.Outside.{Outside}
+use Rattle.wasm_lang_valid.specs.Bytes.{IsValidBytes}
 use Rattle.cmd_check_wasm.specs.declared.fault.CheckFault.{CheckFault}
 use Rattle.cmd_check_wasm.specs.declared.fault.CheckFault.TheVariants.{Memory}
-use Rattle.cmd_check_wasm.specs.Verdicts.{IsValidBytes, IsCounted, IsRefused}
+use Rattle.cmd_check_wasm.specs.Verdicts.{IsCounted, IsRefused}
 use Rattle.wasm_listing.specs.Listing.{listing}
 use Rattle.cmd_run_wasm.specs.Modules.{IsOutside}
 use Rattle.bridge_cmd.specs.Command.{Asked, asm_to_wasm, check_asm, check_wasm, show, Running, as_binary, run, file_of, asked, first_form, asm_js, web_assembly, language_of, read_as}
@@ -63,7 +65,7 @@ pub data IsMade : Asked → List ℕ → List ℕ → Type 0 where
   translated : {file bytes output : List ℕ} → Translates bytes (Some output) → IsMade (asm_to_wasm file) bytes output
   text_counted : {file bytes output : List ℕ} → texts.IsCounted bytes output → IsMade (check_asm file) bytes output
   bytes_counted : {file bytes output : List ℕ} → IsCounted bytes output → IsMade (check_wasm file) bytes output
-  printed : {file bytes output : List ℕ} (m : Module) → language_of bytes ≡ asm_js → texts.IsAcceptedText bytes m → output ≡ canonical_text m
+  printed : {file bytes output : List ℕ} (m : Module) → language_of bytes ≡ asm_js → IsAcceptedText bytes m → output ≡ canonical_text m
       → IsMade (show file) bytes output
   listed : {file bytes output : List ℕ} (m : WasmModule) → language_of bytes ≡ web_assembly → IsValidBytes bytes m → output ≡ listing m
       → IsMade (show file) bytes output

@@ -2,7 +2,7 @@
 use Rattle.std.specs.Prelude.{ℕ, List, Result}
 use Rattle.sem_laws.specs.Script.{ScriptPlain}
 use Rattle.asm_lang.specs.Modules.{Module}
-use Rattle.cmd_check_asm.specs.Verdicts.{IsAcceptedText}
+use Rattle.asm_lang_valid.specs.Texts.{IsAcceptedText}
 use Rattle.cmd_run_asm.specs.Runs as texts
 use Rattle.wasm_lang.specs.Modules.{WasmModule}
 use Rattle.cmd_run_wasm.specs.Modules.{IsRunnable}

@@ -5,6 +5,7 @@ use Rattle.std.proofs.lemmas.Option.{slice_get-get_or}
 use Rattle.std.specs.Prelude.{IfOk, IfErr, MatchResult}
 use Rattle.asm_lang.specs.Trees.{ModuleTree}
 use Rattle.asm_lang.specs.Modules.{Module, Export, Exports, one, many, module_of, module_places}
+use Rattle.asm_lang.specs.Texts.{SaysModule}
 use Rattle.asm_laws_print.proofs.Printed.{text_fits}
 use Rattle.asm_laws_refusal.proofs.Within.{refused_within}
 use Rattle.asm_tree.specs.declared.tree.Module.{Module as Tree}
@@ -12,10 +13,11 @@ use Rattle.asm_tree.specs.Views.{module_view}
 use Rattle.asm_lang_valid.specs.declared.rule.Met.{Met}
 use Rattle.asm_lang_valid.specs.Rows.{module_count, exports_count}
 use Rattle.asm_lang_valid.specs.Refusal.{refusal, exported, exported_from}
+use Rattle.asm_lang_valid.specs.Texts.{IsAcceptedText}
 use Rattle.asm_text.specs.declared.fault.TextFault.{TextFault}
 use Rattle.asm_text.specs.declared.fault.TextFault.TheVariants as texts
 use Rattle.asm_text.specs.Faults.{IsFault}
-use Rattle.asm_text.specs.Said.{SaysModule, IsAnswer}
+use Rattle.asm_text.specs.Said.{IsAnswer}
 use Rattle.asm_validate.specs.declared.refusal.AsmRefusal.{AsmRefusal}
 use Rattle.asm_validate.specs.declared.refusal.AsmRefusal.TheVariants as refusals
 use Rattle.asm_validate.specs.Refusals.{IsRefused}
@@ -24,7 +26,7 @@ use Rattle.cmd_check_asm.specs.declared.fault.CheckFault.{CheckFault}
 use Rattle.cmd_check_asm.specs.declared.fault.CheckFault.TheVariants.{Refused, Memory}
 use Rattle.cmd_check_asm.specs.Refusals.{of_text, of_module, IsWithin}
 use Rattle.cmd_check_asm.specs.Judged.{Breaks, IsVerdict}
-use Rattle.cmd_check_asm.specs.Verdicts.{IsAcceptedText, IsRefusal}
+use Rattle.cmd_check_asm.specs.Verdicts.{IsRefusal}
 
 -- ---- a module that was read
 

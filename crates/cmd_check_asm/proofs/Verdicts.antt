@@ -10,23 +10,21 @@ use Rattle.asm_lang.specs.Grammar.{IsModule}
 use Rattle.asm_lang.specs.Machine.{Refusal}
 use Rattle.asm_lang.specs.Modules.{Module, module_of, module_places}
 use Rattle.asm_lang.proofs.CompleteModules.{module_read}
-use Rattle.asm_laws_print.specs.Printed.{IsTextOf}
+use Rattle.asm_lang.specs.Texts as texts
+use Rattle.asm_lang.specs.Texts.{IsTextOf, SaysModule, Fault, IsFault}
 use Rattle.asm_lang_valid.specs.declared.rule.Met.{Met}
 use Rattle.asm_lang_valid.specs.declared.rule.Rule.{Rule}
 use Rattle.asm_lang_valid.specs.Refusal.{refusal}
+use Rattle.asm_lang_valid.specs.Texts.{IsAcceptedText, IsRefusedModule}
 use Rattle.asm_lang_valid.proofs.Places.{module_counted}
-use Rattle.asm_text.specs.declared.fault.TextFault.{TextFault}
-use Rattle.asm_text.specs.declared.fault.TextFault.TheVariants as texts
-use Rattle.asm_text.specs.Said.{SaysModule}
-use Rattle.asm_text_laws.specs.Outcomes.{HasFault, Outcome, says, a_fault}
-use Rattle.asm_text_laws.proofs.Told.{one, not_both, some}
+use Rattle.asm_laws_fault.specs.TextOutcomes.{TextOutcome, says, a_fault}
+use Rattle.asm_laws_fault.proofs.Told.{same, not_both, some}
 use Rattle.cmd_check_asm.specs.declared.fault.AsmRow.{AsmRow}
 use Rattle.cmd_check_asm.specs.declared.fault.AsmRow.TheVariants as rows
 use Rattle.cmd_check_asm.specs.declared.fault.CheckFault.{CheckFault}
 use Rattle.cmd_check_asm.specs.declared.fault.CheckFault.TheVariants.{Refused, Memory}
-use Rattle.cmd_check_asm.specs.Refusals.{of_text}
-use Rattle.cmd_check_asm.specs.Verdicts.{IsAcceptedText, IsRefusedModule, IsRefusedText, HasRefusal, Verdict, accepted, refused}
-use Rattle.cmd_check_asm.proofs.Judging.{fault_of_text, refused_there}
+use Rattle.cmd_check_asm.specs.Verdicts.{IsRefusedText, HasRefusal, Verdict, accepted, refused}
+use Rattle.cmd_check_asm.proofs.Judging.{refused_there}
 
 -- ---- a text says one module, whose nodes have the same places
 
@@ -53,18 +51,36 @@ one_module text m n h k = same_module text m n h.places k.places h.says k.says
 
 -- ---- why a text is refused: for a fault of its own, or for a rule that its module breaks
 
+abbrev row_of : Fault → AsmRow
+row_of texts.non_ascii = rows.NonAscii
+row_of texts.bad_token = rows.BadToken
+row_of texts.open_comment = rows.OpenComment
+row_of texts.literal_form = rows.LiteralForm
+row_of texts.grammar = rows.Grammar
+row_of texts.no_use_asm = rows.NoUseAsm
+row_of texts.height = rows.Height
+
+refused_as : (text : List ℕ) (f : Fault) (at : ℕ) → IsFault text f at → IsRefusedText text (row_of f) at
+refused_as text texts.non_ascii at h = h
+refused_as text texts.bad_token at h = h
+refused_as text texts.open_comment at h = h
+refused_as text texts.literal_form at h = h
+refused_as text texts.grammar at h = h
+refused_as text texts.no_use_asm at h = h
+refused_as text texts.height at h = h
+
 data Why (text : List ℕ) (row : AsmRow) (at : ℕ) : Type 0 where
-  by_text : (e : TextFault) → HasFault text e → of_text e ≡ Refused row at → Why text row at
+  by_text : (f : Fault) → IsFault text f at → row ≡ row_of f → Why text row at
   by_rule : (rule : Rule) → row ≡ rows.Rule rule → IsRefusedModule text rule at → Why text row at
 
 why : (text : List ℕ) (row : AsmRow) (at : ℕ) → IsRefusedText text row at → Why text row at
-why text rows.NonAscii at h = by_text (texts.NonAscii at) (h, λ e. absurd cc) refl
-why text rows.BadToken at h = by_text (texts.BadToken at) (h, λ e. absurd cc) refl
-why text rows.OpenComment at h = by_text (texts.OpenComment at) (h, λ e. absurd cc) refl
-why text rows.LiteralForm at h = by_text (texts.LiteralForm at) (h, λ e. absurd cc) refl
-why text rows.Grammar at h = by_text (texts.Grammar at) (h, λ e. absurd cc) refl
-why text rows.NoUseAsm at h = by_text (texts.NoUseAsm at) (h, λ e. absurd cc) refl
-why text rows.Height at h = by_text (texts.Height at) (h, λ e. absurd cc) refl
+why text rows.NonAscii at h = by_text texts.non_ascii h refl
+why text rows.BadToken at h = by_text texts.bad_token h refl
+why text rows.OpenComment at h = by_text texts.open_comment h refl
+why text rows.LiteralForm at h = by_text texts.literal_form h refl
+why text rows.Grammar at h = by_text texts.grammar h refl
+why text rows.NoUseAsm at h = by_text texts.no_use_asm h refl
+why text rows.Height at h = by_text texts.height h refl
 why text (rows.Rule rule) at h = by_rule rule refl h
 
 same_met : (x y : Met) → (let o : Option Met = Some x in o) ≡ Some y → x ≡ y
@@ -83,13 +99,18 @@ two_rules text r s i j h k =
     (λ n. Refused (rows.Rule (is n).rule) (place n))
 
 -- a fault of the text's own, and a rule that its module breaks
-apart : (text : List ℕ) (e : TextFault) (r : Rule) (at : ℕ) → HasFault text e → IsRefusedModule text r at → ⊥
-apart text e r at h k = not_both text k.«module» k.says.said k.says.within e h
+apart : (text : List ℕ) (f : Fault) (r : Rule) (i j : ℕ) → IsFault text f i → IsRefusedModule text r j → ⊥
+apart text f r i j h k = not_both text k.«module» k.says.said k.says.within f i h
+
+two_faults : (text : List ℕ) (f g : Fault) (i j : ℕ) → IsFault text f i → IsFault text g j → (let a : CheckFault = Refused (row_of f) i in a) ≡ Refused (row_of g) j
+two_faults text f g i j h k =
+    let is = same text f g i j h k in
+    (λ n. Refused (row_of (is.0 n)) (is.1 n))
 
 one_why : (text : List ℕ) (row q : AsmRow) (i j : ℕ) → Why text row i → Why text q j → (let a : CheckFault = Refused row i in a) ≡ Refused q j
-one_why text row q i j (by_text e h is) (by_text f k js) = sym is ∙ ap of_text (one text e f h k) ∙ js
-one_why text row q i j (by_text e h is) (by_rule s js k) = absurd (apart text e s j h k)
-one_why text row q i j (by_rule r is h) (by_text f k js) = absurd (apart text f r i k h)
+one_why text row q i j (by_text f h is) (by_text g k js) = ap (λ (x : AsmRow). Refused x i) is ∙ two_faults text f g i j h k ∙ ap (λ (x : AsmRow). Refused x j) (sym js)
+one_why text row q i j (by_text f h is) (by_rule s js k) = absurd (apart text f s i j h k)
+one_why text row q i j (by_rule r is h) (by_text f k js) = absurd (apart text f r j i k h)
 one_why text row q i j (by_rule r is h) (by_rule s js k) = ap (λ (x : AsmRow). Refused x i) is ∙ two_rules text r s i j h k ∙ ap (λ (x : AsmRow). Refused x j) (sym js)
 
 -- a text is refused for one reason at one offset
@@ -104,7 +125,7 @@ one_fault text Memory f h k = absurd (h.1 refl)
 -- ---- a text that is accepted isn't refused
 
 not_by : (text : List ℕ) (m : Module) (row : AsmRow) (at : ℕ) → IsAcceptedText text m → Why text row at → ⊥
-not_by text m row at a (by_text e h is) = not_both text m a.says.said a.says.within e h
+not_by text m row at a (by_text f h is) = not_both text m a.says.said a.says.within f at h
 not_by text m row at a (by_rule r is h) =
     let e = sym a.accepted ∙ ap refusal (same_module text m h.«module» a.places h.places a.says h.says) ∙ h.first in
     absurd cc
@@ -117,16 +138,6 @@ not_faulty text m (Refused row at) a h = not_refused text m row at a h.0
 not_faulty text m Memory a h = h.1 refl
 
 -- ---- a text is accepted or refused
-
-no_memory : (e : TextFault) → (¬ (e ≡ texts.Memory)) → ¬ (of_text e ≡ Memory)
-no_memory (texts.NonAscii at) h = λ e. absurd cc
-no_memory (texts.BadToken at) h = λ e. absurd cc
-no_memory (texts.OpenComment at) h = λ e. absurd cc
-no_memory (texts.LiteralForm at) h = λ e. absurd cc
-no_memory (texts.Grammar at) h = λ e. absurd cc
-no_memory (texts.NoUseAsm at) h = λ e. absurd cc
-no_memory (texts.Height at) h = λ e. absurd cc
-no_memory texts.Memory h = λ e. h refl
 
 of_refusal : (text : List ℕ) (m : Module) (places : List ℕ) (s : SaysModule text m places) (o : Option Met) → refusal m ≡ o → Verdict text
 of_refusal text m places s None is = accepted m (record { places = places; says = s; accepted = is })
@@ -143,9 +154,9 @@ of_refusal text m places s (Some x) is =
       λ e. absurd cc,
     )
 
-of_outcome : (text : List ℕ) → Outcome text → Verdict text
+of_outcome : (text : List ℕ) → TextOutcome text → Verdict text
 of_outcome text (says m places s) = of_refusal text m places s (refusal m) refl
-of_outcome text (a_fault e h) = refused (of_text e) (fault_of_text text e h.0, no_memory e h.1)
+of_outcome text (a_fault f at h) = refused (Refused (row_of f) at) (refused_as text f at h, λ e. absurd cc)
 
 pub verdict : (text : List ℕ) → Verdict text
 verdict text = of_outcome text (some text)

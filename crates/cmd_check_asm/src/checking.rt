@@ -4,13 +4,14 @@ ghost use Rattle.std.specs.Prelude.{◌≡◌, ◌<◌, ◌≤◌, ◌^◌, leng
 ghost use Rattle.sem_words.specs.Lists.{list_items};
 ghost use Rattle.asm_lang.specs.Heights.{module_height, height_limit};
 ghost use Rattle.asm_lang.specs.Modules.{Module as PlainModule, module_places};
-ghost use Rattle.asm_laws_print.specs.Printed.{IsTextOf};
+ghost use Rattle.asm_lang.specs.Texts.{IsTextOf};
 ghost use Rattle.asm_tree.specs.Views.{module_view};
 ghost use Rattle.asm_lang_valid.specs.declared.rule.Met.{Met};
 ghost use Rattle.asm_lang_valid.specs.Rows.{module_count};
 ghost use Rattle.asm_lang_valid.specs.Refusal.{refusal};
+ghost use Rattle.asm_lang_valid.specs.Texts.{IsAcceptedText};
 ghost use Rattle.cmd_check_asm.specs.Judged.{IsVerdict};
-ghost use Rattle.cmd_check_asm.specs.Verdicts.{IsAcceptedText, IsRefusal};
+ghost use Rattle.cmd_check_asm.specs.Verdicts.{IsRefusal};
 
 use crate::fault::{CheckFault, of_module, of_text};
 use asm_lang_valid::place_laws;

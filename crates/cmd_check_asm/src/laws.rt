@@ -3,7 +3,8 @@
 ghost use Rattle.std.specs.Prelude.{◌≡◌, ℕ, List};
 ghost use Rattle.asm_lang.specs.Modules.{Module};
 ghost use Rattle.cmd_check_asm.specs.declared.fault.CheckFault.{CheckFault};
-ghost use Rattle.cmd_check_asm.specs.Verdicts.{IsAcceptedText, HasRefusal, Verdict};
+ghost use Rattle.asm_lang_valid.specs.Texts.{IsAcceptedText};
+ghost use Rattle.cmd_check_asm.specs.Verdicts.{HasRefusal, Verdict};
 
 /// A text is accepted or refused, and never both. It is accepted as one module, or refused for one reason at one offset.
 pub fn one_verdict_of_a_text()

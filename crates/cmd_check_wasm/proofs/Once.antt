@@ -4,15 +4,16 @@ use Rattle.std.specs.Prelude.{◌≢◌, Err}
 use Rattle.wasm_lang.specs.Modules.{WasmModule}
 use Rattle.wasm_lang.specs.declared.fault.Fault.{Fault}
 use Rattle.wasm_lang.specs.declared.fault.Row.{Row}
+use Rattle.wasm_lang.specs.Bytes.{IsFirstFault}
 use Rattle.wasm_lang.proofs.ReadingLawsOne.{one_module}
 use Rattle.wasm_lang_valid.specs.declared.rule.Rule.{Rule}
 use Rattle.wasm_lang_valid.specs.declared.section.Section.{Section}
 use Rattle.wasm_lang_valid.specs.Validity.{IsValidModule, RefusesModule}
+use Rattle.wasm_lang_valid.specs.Bytes.{IsValidBytes, IsInvalidBytes}
 use Rattle.wasm_lang_valid.proofs.Once.{not_refused, one_answer}
-use Rattle.wasm_binary.specs.Answers.{IsFirstFault}
 use Rattle.cmd_check_wasm.specs.declared.fault.CheckFault.{CheckFault}
 use Rattle.cmd_check_wasm.specs.declared.fault.CheckFault.TheVariants.{Binary, Invalid, Memory}
-use Rattle.cmd_check_wasm.specs.Verdicts.{IsValidBytes, IsInvalidBytes, IsRefused}
+use Rattle.cmd_check_wasm.specs.Verdicts.{IsRefused}
 
 not_invalid_too : (bytes : List ℕ) (m : WasmModule) (rule : Rule) (s : Section) (index instruction : ℕ)
     → IsValidBytes bytes m → IsInvalidBytes bytes rule s index instruction → ⊥

@@ -1,6 +1,7 @@
 //! Bytes that spell a valid module.
 ghost use Rattle.std.specs.Prelude.{IfOk, IfErr};
-ghost use Rattle.cmd_check_wasm.specs.Verdicts.{IsValidBytes, IsRefused};
+ghost use Rattle.wasm_lang_valid.specs.Bytes.{IsValidBytes};
+ghost use Rattle.cmd_check_wasm.specs.Verdicts.{IsRefused};
 
 use crate::fault::{CheckFault, of_binary, of_invalid};
 use std::alloc::Global;

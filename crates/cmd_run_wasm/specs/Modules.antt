@@ -3,7 +3,8 @@ use Rattle.std.specs.Prelude.{◌≡◌, ℕ, List, Some, None}
 use Rattle.wasm_lang.specs.Modules.{WasmModule}
 use Rattle.wasm_lang_valid.specs.declared.profile.Outside.{Outside as Row}
 use Rattle.wasm_lang_valid.specs.Runnable.{not_runnable}
-use Rattle.cmd_check_wasm.specs.Verdicts.{IsValidBytes, IsRefused}
+use Rattle.wasm_lang_valid.specs.Bytes.{IsValidBytes}
+use Rattle.cmd_check_wasm.specs.Verdicts.{IsRefused}
 use Rattle.cmd_run_wasm.specs.declared.fault.RunFault.{RunFault}
 use Rattle.cmd_run_wasm.specs.declared.fault.RunFault.TheVariants.{Check, Outside}
 

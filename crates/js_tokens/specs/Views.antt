@@ -7,7 +7,7 @@ use Rattle.js_tokens.specs.declared.token.Token.{Token}
 use Rattle.js_tokens.specs.declared.fault.TokenFault.{TokenFault}
 use Rattle.js_tokens.specs.declared.fault.TokenFault.TheVariants as faults
 use Rattle.asm_lang_tokens.specs.Forms.{Kind, name, number, decimal, quoted, punctuator}
-use Rattle.asm_lang_tokens.specs.Text.{Fault, non_ascii, bad_token, open_comment, literal_form, PlacedToken, Reading, IsReading}
+use Rattle.asm_lang_tokens.specs.Text.{non_ascii, bad_token, open_comment, literal_form, PlacedToken, Reading, HasFault}
 
 abbrev pub kind_view : TokenKind → Kind
 kind_view kinds.Name = name
@@ -22,9 +22,6 @@ placed_token t = record { kind = kind_view t.kind; text = t.text.now; at = t.at;
 
 abbrev pub placed_tokens : List Token → List PlacedToken
 placed_tokens ts = map placed_token ts
-
-abbrev pub HasFault : List ℕ → Fault → ℕ → Type 0
-HasFault source f at = IsReading source (Err (record { fault = f; at = at }))
 
 -- the text's fault, or want of memory
 abbrev pub IsFault : List ℕ → TokenFault → Type 0

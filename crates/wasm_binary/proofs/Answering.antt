@@ -6,13 +6,14 @@ use Rattle.wasm_lang.specs.Grammar.{IsModuleBytes}
 use Rattle.wasm_lang.specs.Limits.{IsWithinReader}
 use Rattle.wasm_lang.specs.Modules.{WasmModule}
 use Rattle.wasm_lang.specs.ReadingModule.{read_module}
+use Rattle.wasm_lang.specs.Bytes.{IsRead}
 use Rattle.wasm_lang.proofs.ReadingLawsModule.{reads_what_is_spelled, spelled_as_read}
 use Rattle.wasm_lang.proofs.ReadingLawsPlaces.{place_within}
 use Rattle.wasm_tree.specs.declared.module.Module.{Module}
 use Rattle.wasm_tree.specs.Views.{module_of}
 use Rattle.wasm_binary.specs.declared.fault.BinFault.{BinFault}
 use Rattle.wasm_binary.specs.declared.fault.BinFault.TheVariants as faults
-use Rattle.wasm_binary.specs.Answers.{IsRead, IsReadAs, IsRefusal, IsAnswer}
+use Rattle.wasm_binary.specs.Answers.{IsReadAs, IsRefusal, IsAnswer}
 
 pub found_is : (bytes : List ℕ) (m : WasmModule) → All (λ b. b < 256) bytes → read_module bytes ≡ Ok m → IsRead bytes m
 found_is bytes m all e = let h = spelled_as_read bytes m all e in record { spelled = h.0; within = h.1 }

@@ -1,11 +1,8 @@
 -- What `read` answers.
-use Rattle.std.specs.Prelude.{◌≡◌, ℕ, ◌≤◌, List, length, Result, Ok, Err}
+use Rattle.std.specs.Prelude.{◌≡◌, ℕ, List, Result, Ok, Err}
 use Rattle.wasm_lang.specs.declared.fault.Fault.{Fault}
-use Rattle.wasm_lang.specs.declared.fault.Row.{Row}
-use Rattle.wasm_lang.specs.Grammar.{IsModuleBytes}
-use Rattle.wasm_lang.specs.Limits.{IsWithinReader}
 use Rattle.wasm_lang.specs.Modules.{WasmModule}
-use Rattle.wasm_lang.specs.ReadingModule.{read_module}
+use Rattle.wasm_lang.specs.Bytes.{IsFirstFault}
 use Rattle.wasm_tree.specs.declared.error.ReadError.{ReadError}
 use Rattle.wasm_tree.specs.declared.error.ReadError.TheVariants as errors
 use Rattle.wasm_tree.specs.declared.module.Module.{Module}
@@ -13,22 +10,11 @@ use Rattle.wasm_tree.specs.Views.{module_of}
 use Rattle.wasm_binary.specs.declared.fault.BinFault.{BinFault}
 use Rattle.wasm_binary.specs.declared.fault.BinFault.TheVariants as faults
 
--- the bytes spell this module, which is within the reader's limits
-pub record IsRead (bytes : List ℕ) (m : WasmModule) : Type 0 where
-  pub spelled : IsModuleBytes bytes m
-  pub within : IsWithinReader m
-
 -- this module was read, unless memory ran out
 abbrev pub IsReadAs : WasmModule → Result Module BinFault → Type 0
 IsReadAs m (Ok found) = module_of found ≡ m
 IsReadAs m (Err (faults.Refused row at)) = ⊥
 IsReadAs m (Err faults.Memory) = Unit {0}
-
--- the bytes spell no module within the reader's limits, and this is the first field that can't be read
-pub record IsFirstFault (bytes : List ℕ) (row : Row) (at : ℕ) : Type 0 where
-  pub first : read_module bytes ≡ Err (record { row = row; at = at })
-  pub none : (m : WasmModule) → IsRead bytes m → ⊥
-  pub within : at ≤ length bytes
 
 -- a refusal is the first fault
 abbrev pub IsRefusal : List ℕ → BinFault → Type 0

@@ -3,6 +3,7 @@ ghost use Rattle.std.specs.Prelude.{◌≡◌, ℕ, List as Listed, Ok, Err, IfO
 ghost use Rattle.wasm_lang.specs.Grammar.{IsModuleBytes};
 ghost use Rattle.wasm_lang.specs.Limits.{IsWithinReader};
 ghost use Rattle.wasm_lang.specs.Modules.{WasmModule};
+ghost use Rattle.wasm_lang.specs.Bytes.{IsRead};
 ghost use Rattle.wasm_tree.specs.Views.{module_of};
 ghost use Rattle.wasm_tree.specs.Inputs.{input_of};
 ghost use Rattle.wasm_tree.specs.Slices.{Stands};
@@ -12,7 +13,7 @@ ghost use Rattle.wasm_binary_entries.specs.Views.{types_of, imports_of};
 ghost use Rattle.wasm_binary.specs.Whole.{read_by_parts, sections_from, declarations_from, definitions_from, contents_from, front_of, middle_of};
 ghost use Rattle.wasm_binary.specs.Lent.{IsLentBy, IsLentModule};
 ghost use Rattle.wasm_binary.specs.Places.{contents_places, definitions_places, declarations_places, sections_places};
-ghost use Rattle.wasm_binary.specs.Answers.{IsModule, IsRead, IsReadAs, IsRefusal};
+ghost use Rattle.wasm_binary.specs.Answers.{IsModule, IsReadAs, IsRefusal};
 
 use crate::fault::{BinFault, told};
 use crate::sections::{

@@ -8,3 +8,4 @@ pub mod Shape
 pub mod Reading
 pub mod ReadingCode
 pub mod ReadingModule
+pub mod Bytes

@@ -15,6 +15,7 @@ use Rattle.wasm_lang.specs.Modules.{WasmModule}
 use Rattle.wasm_lang.specs.Opcodes.{form_at}
 use Rattle.wasm_lang.specs.ReadingCode.{after_opcode}
 use Rattle.wasm_lang.specs.ReadingModule.{read_module}
+use Rattle.wasm_lang.specs.Bytes.{IsFirstFault}
 use Rattle.wasm_lang_valid.specs.declared.rule.Opening.TheVariants.{Straight}
 use Rattle.wasm_lang_valid.specs.declared.rule.Rule.TheVariants.{MissingOperand}
 use Rattle.wasm_lang_valid.specs.declared.section.Section.{Section}
@@ -22,8 +23,7 @@ use Rattle.wasm_lang_valid.specs.declared.section.Section.TheVariants as section
 use Rattle.wasm_lang_valid.specs.Typing.{typed_empty, typed_plain, fixed}
 use Rattle.wasm_lang_valid.specs.Validity.{id, body_context, IsFineSection, IsValidModule}
 use Rattle.wasm_lang_valid.proofs.Main.{refuses}
-use Rattle.wasm_binary.specs.Answers.{IsFirstFault}
-use Rattle.cmd_check_wasm.specs.Verdicts.{IsValidBytes, IsInvalidBytes}
+use Rattle.wasm_lang_valid.specs.Bytes.{IsValidBytes, IsInvalidBytes}
 use Rattle.wasm_worked.specs.Rows as rows
 use Rattle.wasm_worked.proofs.ReadBytes.{read_as, refused_as}
 

@@ -7,7 +7,7 @@ use Rattle.wasm_lang.specs.Modules.{WasmModule}
 use Rattle.wasm_lang.specs.ReadingModule.{read_module}
 use Rattle.wasm_lang.proofs.ReadingLawsModule.{reads_what_is_spelled, spelled_as_read}
 use Rattle.wasm_lang.proofs.ReadingLawsPlaces.{place_within}
-use Rattle.wasm_binary.specs.Answers.{IsRead, IsFirstFault}
+use Rattle.wasm_lang.specs.Bytes.{IsRead, IsFirstFault}
 
 pub read_as : (bytes : List ℕ) (m : WasmModule) → All (λ b. b < 256) bytes → read_module bytes ≡ Ok m → IsRead bytes m
 read_as bytes m all e = let h = spelled_as_read bytes m all e in record { spelled = h.0; within = h.1 }

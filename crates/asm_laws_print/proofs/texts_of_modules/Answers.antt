@@ -1,6 +1,6 @@
 use Rattle.std.proofs.Common.{ℕ, List, subst}
 use Rattle.asm_lang.specs.Printing.{canonical_text}
-use Rattle.asm_laws_print.specs.Printed.{IsTextOf}
+use Rattle.asm_lang.specs.Texts.{IsTextOf}
 use Rattle.asm_laws_print.proofs.Printed.{text_of, text_fits, well_formed_fits, one_module}
 use Rattle.asm_laws_print.proofs.texts_of_modules.Goals as goal
 

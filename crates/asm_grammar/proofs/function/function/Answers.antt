@@ -1,6 +1,6 @@
 use Rattle.std.proofs.Common.{◌≡◌, suc, max, min, sym, ap, ◌∙◌}
 use Rattle.asm_lang.specs.Trees.{StmtTrees}
-use Rattle.asm_laws_height.specs.Peaks.{block_height}
+use Rattle.asm_lang.specs.TreeHeights.{block_height}
 use Rattle.asm_grammar_nodes.specs.declared.declarations.FunctionTree.{FunctionTree}
 use Rattle.asm_grammar_nodes.specs.Heights.{counted}
 use Rattle.asm_grammar.proofs.Totals.{function_high}

@@ -4,7 +4,7 @@ use Rattle.sem_words.specs.declared.text.Text.{Text}
 use Rattle.sem_words.specs.Lists.{text_bytes}
 use Rattle.asm_lang.specs.Heights.{IsWellFormed}
 use Rattle.asm_lang.specs.Printing.{canonical_text}
-use Rattle.asm_laws_print.specs.Printed.{IsTextOf}
+use Rattle.asm_lang.specs.Texts.{IsTextOf}
 use Rattle.asm_laws_print.proofs.Printed.{text_of, well_formed_fits}
 use Rattle.asm_tree.specs.Views.{module_view}
 use Rattle.asm_grammar_print.proofs.printing.print.Goals as goal

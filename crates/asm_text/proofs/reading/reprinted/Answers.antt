@@ -1,6 +1,6 @@
 use Rattle.std.proofs.Common.{ℕ, List, sym, subst}
 use Rattle.asm_lang.specs.Modules.{module_places}
-use Rattle.asm_laws_print.specs.Printed.{IsTextOf}
+use Rattle.asm_lang.specs.Texts.{IsTextOf}
 use Rattle.asm_tree.specs.Views.{module_view}
 use Rattle.asm_text.proofs.Answered.{again_of, height_of}
 use Rattle.asm_text.proofs.reading.reprinted.Goals as goal

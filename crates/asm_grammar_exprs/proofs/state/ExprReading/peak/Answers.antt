@@ -1,6 +1,7 @@
 use Rattle.std.proofs.Common.{◌≡◌, ◌+◌, ap, sym, ◌∙◌, arith}
 use Rattle.asm_lang.specs.Trees.{variable, element}
-use Rattle.asm_laws_height.specs.Peaks.{height, peak}
+use Rattle.asm_lang.specs.TreeHeights.{height}
+use Rattle.asm_laws_height.specs.Peaks.{peak}
 use Rattle.asm_grammar_nodes.specs.Heights.{counted}
 use Rattle.asm_grammar_nodes.specs.Rises.{rise_view}
 use Rattle.asm_grammar_nodes.specs.Views.{word_view}

@@ -1,11 +1,8 @@
 -- The kinds of faults of tokens that are no module within a limit on the height. A fault's place is a number of tokens before it.
-use Rattle.std.specs.Prelude.{ℕ, ◌≤◌, List}
+use Rattle.std.specs.Prelude.{ℕ, List}
 use Rattle.asm_lang.specs.Lexemes.{Lexeme}
-use Rattle.asm_lang.specs.Trees.{ModuleTree}
-use Rattle.asm_lang.specs.Grammar.{IsModule}
 use Rattle.asm_lang.specs.Faults.{IsNegativeZero, IsMissingUse, IsFirstFault}
-use Rattle.asm_laws_height.specs.Peaks.{whole_height}
-use Rattle.asm_laws_height.specs.HighNodes.{IsHeightFault}
+use Rattle.asm_lang.specs.HighNodes.{IsHeightFault}
 
 pub data Kind : Type 0 where
   negative_zero : Kind  -- a prefix `-` directly before a number of value 0
@@ -24,8 +21,3 @@ IsFault limit xs negative_zero k = IsNegativeZero xs k × IsLow limit xs
 IsFault limit xs missing_use k = IsMissingUse xs k × IsLow limit xs
 IsFault limit xs grammar k = IsFirstFault xs k × IsLow limit xs
 IsFault limit xs height k = IsHeightFault limit xs k
-
--- Tokens are a module within the limit, or have a fault.
-pub data Outcome (limit : ℕ) (xs : List Lexeme) : Type 0 where
-  a_module : (m : ModuleTree) → IsModule m xs → whole_height m ≤ limit → Outcome limit xs
-  a_fault : (a : Kind) (k : ℕ) → IsFault limit xs a k → Outcome limit xs

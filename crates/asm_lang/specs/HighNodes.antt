@@ -1,16 +1,13 @@
 -- Which tokens complete a node above a limit: the whole of what the tokens spell, or one of its parts. A mark is a number of
 -- tokens that are left after it, and a node ends at the mark or before it where at least so many are left after the node.
-use Rattle.std.specs.Prelude.{ℕ, ◌+◌, ◌<◌, ◌≤◌, Bool, true, false, ◌⊎◌, List, ◌++◌, length, take}
+use Rattle.std.specs.Prelude.{ℕ, ◌+◌, ◌<◌, ◌≤◌, Bool, true, false, ◌⊎◌, List, ◌++◌, length, take, Option}
 use Rattle.asm_lang.specs.Lexemes.{Lexeme}
 use Rattle.asm_lang.specs.Trees.{ExprTree, element, call, table_call, assignment, store, unary, binary, conditional, listed, ExprTrees, one_expr, StmtTree, block, plain, if_only, if_else, returns, while_loop, do_loop, for_loop, switches, StmtTrees, ClauseTrees, FunctionTree, ModuleTree}
-use Rattle.std.specs.Prelude.{Option}
 use Rattle.sem_words.specs.declared.js_value.JsUnary.TheVariants.{Neg}
 use Rattle.asm_lang.specs.Grammar.{IsExpr, an_operand, a_binary, a_conditional, an_assignment, a_store, a_list, IsOperand, a_literal, a_negative, a_decimal_literal, a_variable, an_element, a_call, a_table_call, in_parens, a_prefix, a_minus, IsIndex, an_index, IsArguments, no_argument, arguments, IsRest, no_further, a_further, place_of, IsOption, absent, present, IsReturned, no_value, a_value, IsStmt, a_block, a_plain, an_empty, an_if_only, an_if_else, a_return, a_while, a_do, a_for, a_break, a_continue, a_labelled, a_switch, IsStmts, no_stmts, more_stmts, IsClauses, no_clauses, a_case, a_default, IsFunction, a_function, IsFunctions, no_functions, more_functions, IsModule, a_module}
 use Rattle.asm_lang.specs.Modules.{function_of}
 use Rattle.asm_lang.specs.Heights.{function_height}
-use Rattle.asm_lang.specs.Machine as machine
-use Rattle.asm_laws_height.specs.Peaks.{height, whole_height}
-use Rattle.asm_laws_height.specs.Rises.{counted}
+use Rattle.asm_lang.specs.TreeHeights.{height, whole_height, counted}
 
 -- a node of height h above the limit, which ends where ys are left: at the mark or before
 abbrev pub Here : ℕ → ℕ → ℕ → List Lexeme → Type 0
@@ -87,7 +84,7 @@ abbrev mutual
 
 -- Declarations have height 1, within each limit of 1 or more.
 abbrev pub HighFunction : ℕ → ℕ → {f : FunctionTree} {xs ys : List Lexeme} → IsFunction f xs ys → Type 0
-HighFunction limit mark (a_function {n = n} {ds = ds} {ls = ls} {ss = ss} {os = os} i j l x m y z v w) = Here limit mark (function_height (function_of (machine.function_of n ds ls ss))) os ⊎ HighStmts limit mark v
+HighFunction limit mark (a_function {n = n} {ds = ds} {ls = ls} {ss = ss} {os = os} i j l x m y z v w) = Here limit mark (function_height (function_of (record { at = n.at; name = n.text; params = ds; locals = ls; body = ss }))) os ⊎ HighStmts limit mark v
 
 abbrev pub HighFunctions : ℕ → ℕ → {fs : List FunctionTree} {xs ys : List Lexeme} → IsFunctions fs xs ys → Type 0
 HighFunctions limit mark no_functions = ⊥
@@ -96,7 +93,7 @@ HighFunctions limit mark (more_functions x y) = HighFunction limit mark x ⊎ Hi
 -- the module ends at its `}`
 abbrev pub HighModule : ℕ → ℕ → {m : ModuleTree} {xs : List Lexeme} → IsModule m xs → Type 0
 HighModule limit mark (a_module {h = h} {gs = gs} {fs = fs} {ts = ts} {ex = ex} {x8 = x8} heading i end globals functions tables exported w last) =
-    Here limit mark (whole_height (machine.module_of h gs fs ts ex)) x8 ⊎ HighFunctions limit mark functions
+    Here limit mark (whole_height (record { heading = h; globals = gs; functions = fs; tables = ts; exports = ex })) x8 ⊎ HighFunctions limit mark functions
 
 -- Some module, its height set aside, begins with these tokens, and has a node above the limit that ends at the last of them or before.
 abbrev pub BeginsHigh : ℕ → List Lexeme → Type 0
