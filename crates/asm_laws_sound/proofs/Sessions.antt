@@ -12,9 +12,9 @@ use Rattle.asm_lang_exec.specs.Runs.{Binding, Run, goes, stops, spent, wrong}
 use Rattle.asm_lang_exec.specs.Values.{Calls}
 use Rattle.asm_lang_exec.specs.Meaning.{call_at}
 use Rattle.asm_lang_exec.specs.Session.{first_place, export_number, exported_function, result_event, host_call, host_calls, observed}
-use Rattle.asm_lang_exec.specs.Fits.{takes, fits_call, misfit}
-use Rattle.asm_lang_exec.specs.FitLaws.{a_call}
-use Rattle.asm_lang_exec.proofs.Misfits.{no_misfit_fits}
+use Rattle.script_fits.specs.FitLaws.{a_call}
+use Rattle.script_fits.proofs.Misfits.{no_misfit_fits}
+use Rattle.asm_lang_exec.specs.Fits.{takes, fits_call, tests, misfit}
 use Rattle.asm_lang_exec.proofs.Growth.{sessions_grow}
 use Rattle.asm_laws_sound.specs.Laws.{AcceptedNeverGoWrong, ChecksChangeNothing, AcceptedSessionsGrow}
 use Rattle.asm_laws_sound.proofs.Names.{globals_fit}
@@ -42,7 +42,7 @@ all_calls_fit m (c ∷ cs) each = (each 0 c refl, all_calls_fit m cs (λ i c e. 
 
 calls_fit : (m : Module) (size : ℕ) (script : ScriptPlain) → misfit m size script ≡ None → AllCallsFit m script.calls
 calls_fit m size script h =
-    let fits = no_misfit_fits m size script h in
+    let fits = no_misfit_fits (tests m size) script h in
     all_calls_fit m script.calls (λ i c e. is_true (fits_call m c) (λ unfit. fits.all_fit c.line (a_call i c e unfit)))
 
 wholes_length : (zs : List ℤ) → length (map Whole zs) ≡ length zs

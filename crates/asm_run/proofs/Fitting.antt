@@ -19,11 +19,11 @@ use Rattle.asm_lang_valid.specs.Refusal.{IsAccepted}
 use Rattle.asm_validate_names.specs.declared.environment.Environment.{Environment}
 use Rattle.asm_lang_exec.specs.Runs.{Place}
 use Rattle.asm_lang_exec.specs.Session.{exported_function, first_place, asm}
-use Rattle.asm_lang_exec.specs.Fits.{in_range, takes, fits_call, misfit}
-use Rattle.asm_lang_exec.specs.FitLaws.{a_call}
+use Rattle.script_fits.specs.FitLaws.{a_call}
+use Rattle.script_fits.proofs.Misfits.{no_misfit_fits}
+use Rattle.asm_lang_exec.specs.Fits.{in_range, takes, fits_call, tests, misfit}
 use Rattle.asm_laws_machine.specs.Literals.{IsSmall, SmallModule}
 use Rattle.asm_laws_machine.specs.AcceptedLaws.{AcceptedAreSmall}
-use Rattle.asm_lang_exec.proofs.Misfits.{no_misfit_fits}
 use Rattle.asm_run_state.specs.declared.world.World.{World}
 use Rattle.asm_run_state.specs.Worlds.{place_of}
 use Rattle.asm_run.specs.Hosted.{observation_option}
@@ -60,7 +60,7 @@ each_small m (c ∷ cs) each = All-cons SmallCall c cs (taken_small (exported_fu
 
 pub fitting_small : (m : Module) (size : ℕ) (script : Script) → misfit m size (script_of script) ≡ None → SmallCalls (list_items script.calls)
 fitting_small m size script h =
-    let fits = no_misfit_fits m size (script_of script) h in
+    let fits = no_misfit_fits (tests m size) (script_of script) h in
     each_small m (list_items script.calls) (λ i c e. is_true (fits_call m c) (λ unfit. fits.all_fit c.line (a_call i c e unfit)))
 
 -- ---- sessions

@@ -1,5 +1,3 @@
-pub mod Earlier
-pub mod Named
 pub mod Fitting
 pub mod Hosting
 pub mod Whole

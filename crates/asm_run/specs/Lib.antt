@@ -1,4 +1,3 @@
-pub mod Forms
 pub mod Linked
 pub mod Hosted
 pub mod Session

@@ -5,12 +5,14 @@ ghost use Rattle.std.specs.List.{list_all};
 ghost use Rattle.sem_laws.specs.Script.{CallPlain};
 ghost use Rattle.sem_laws.specs.Views.{call_of};
 ghost use Rattle.asm_tree.specs.Views.{function_view, module_view};
+ghost use Rattle.script_fits.specs.Fits as parts;
 ghost use Rattle.asm_lang_exec.specs.Fits;
 
-use crate::lines::{in_range, lesser};
+use crate::ranges::in_range;
 use asm_run_state::exported_function;
 use asm_tree::Function;
 use asm_validate::Checked;
+use script_fits::lesser;
 use sem_laws::CallLine;
 
 fn are_in_range(args: &[i128]) -> bool
@@ -36,9 +38,9 @@ fn fits_call(checked: &Checked, call: &CallLine) -> bool
 }
 
 /// The first line of a call that doesn't fit.
-#[tactic(auto, using(crate::proofs::Earlier::earlier_lesser, crate::proofs::Earlier::earlier_none))]
+#[tactic(auto, using(script_fits::proofs::FirstLines::earlier_lesser, script_fits::proofs::FirstLines::earlier_none))]
 pub fn first_call(checked: &Checked, calls: &[CallLine]) -> Option<u64>
-    ensures { result ≡ Fits.least (Fits.lines_of (Fits.fits_call (module_view checked.now)) (λ (c : CallPlain). c.line) (map call_of calls.now)) }
+    ensures { result ≡ parts.least (parts.lines_of (Fits.fits_call (module_view checked.now)) (λ (c : CallPlain). c.line) (map call_of calls.now)) }
 {
     let mut first = None;
     for call in calls {

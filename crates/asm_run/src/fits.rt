@@ -3,18 +3,19 @@
 ghost use Rattle.std.specs.Prelude.{◌≡◌, None, Some, MatchResult};
 ghost use Rattle.sem_laws.specs.Views.{script_of};
 ghost use Rattle.asm_tree.specs.Views.{module_view};
-ghost use Rattle.asm_lang_exec.specs.Fits.{misfit, least, unfit_lines};
+ghost use Rattle.script_fits.specs.Fits.{least, unfit_lines};
+ghost use Rattle.asm_lang_exec.specs.Fits.{tests, misfit};
 
 use crate::calls::first_call;
 use crate::globals::{are_given, first_global};
-use crate::lines::earlier;
 use crate::writes::{first_reply, first_write};
 use asm_validate::Checked;
+use script_fits::earlier;
 use sem_laws::{Misfit, Script};
 
 // The first line that doesn't fit.
 fn first_unfit(checked: &Checked, heap_len: u32, script: &Script) -> Option<u64>
-    ensures { result ≡ least (unfit_lines (module_view checked.now) heap_len (script_of script.now)) }
+    ensures { result ≡ least (unfit_lines (tests (module_view checked.now) heap_len) (script_of script.now)) }
 {
     let globals = first_global(checked, script.globals.as_slice());
     let writes = first_write(checked, heap_len, script.writes.as_slice());

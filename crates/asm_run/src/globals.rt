@@ -5,10 +5,12 @@ ghost use Rattle.sem_laws.specs.Views.{global_of};
 ghost use Rattle.asm_tree.specs.Views.{module_view, texts_view};
 ghost use Rattle.asm_lang_valid.specs.Refusal.{foreign_globals};
 ghost use Rattle.asm_lang_valid.specs.Scope.{is_in};
+ghost use Rattle.script_fits.specs.Fits as parts;
 ghost use Rattle.asm_lang_exec.specs.Fits;
 
-use crate::lines::{in_range, lesser};
+use crate::ranges::in_range;
 use asm_validate::Checked;
+use script_fits::{is_given, lesser};
 use sem_laws::GlobalLine;
 use sem_words::Text;
 
@@ -18,18 +20,6 @@ fn is_imported(names: &[Text], name: &[u8]) -> bool
 {
     for imported in names {
         if imported.as_bytes() == name {
-            return true;
-        }
-    }
-    false
-}
-
-// Whether a line gives a value to this name.
-fn is_given(globals: &[GlobalLine], name: &[u8]) -> bool
-    ensures { result ≡ Fits.is_given (map global_of globals.now) name.now }
-{
-    for global in globals {
-        if name == global.name.as_bytes() {
             return true;
         }
     }
@@ -46,9 +36,9 @@ fn fits_global(checked: &Checked, before: &[GlobalLine], global: &GlobalLine) ->
 }
 
 /// The first line of a global that doesn't fit.
-#[tactic(auto, using(crate::proofs::Earlier::earlier_lesser, crate::proofs::Earlier::earlier_none, crate::proofs::Named::one_more))]
+#[tactic(auto, using(script_fits::proofs::FirstLines::earlier_lesser, script_fits::proofs::FirstLines::earlier_none, script_fits::proofs::Parts::one_more))]
 pub fn first_global(checked: &Checked, globals: &[GlobalLine]) -> Option<u64>
-    ensures { result ≡ Fits.least (Fits.global_lines (module_view checked.now) [] (map global_of globals.now)) }
+    ensures { result ≡ parts.least (parts.global_lines (Fits.fits_global (module_view checked.now)) [] (map global_of globals.now)) }
 {
     let mut first = None;
     for (i, global) in globals.iter().enumerate() {
@@ -61,7 +51,7 @@ pub fn first_global(checked: &Checked, globals: &[GlobalLine]) -> Option<u64>
 
 // Whether each of these names has a line.
 fn have_lines(names: &[Text], globals: &[GlobalLine]) -> bool
-    ensures { result ≡ Fits.are_given (texts_view names.now) (map global_of globals.now) }
+    ensures { result ≡ parts.are_given (texts_view names.now) (map global_of globals.now) }
 {
     for name in names {
         if !is_given(globals, name.as_bytes()) {
@@ -73,7 +63,7 @@ fn have_lines(names: &[Text], globals: &[GlobalLine]) -> bool
 
 /// Whether each imported global has a line.
 pub fn are_given(checked: &Checked, globals: &[GlobalLine]) -> bool
-    ensures { result ≡ Fits.are_given (foreign_globals (module_view checked.now)) (map global_of globals.now) }
+    ensures { result ≡ parts.are_given (foreign_globals (module_view checked.now)) (map global_of globals.now) }
 {
     have_lines(checked.foreign_globals(), globals)
 }

@@ -4,7 +4,7 @@
 mod calls;
 mod fits;
 mod globals;
-mod lines;
+mod ranges;
 mod session;
 mod writes;
 

@@ -5,10 +5,11 @@ ghost use Rattle.std.specs.List.{list_all};
 ghost use Rattle.sem_laws.specs.Script.{WritePlain, ReplyLinePlain};
 ghost use Rattle.sem_laws.specs.Views.{write_of, reply_of, reply_line_of};
 ghost use Rattle.asm_tree.specs.Views.{module_view};
+ghost use Rattle.script_fits.specs.Fits as parts;
 ghost use Rattle.asm_lang_exec.specs.Fits;
 
-use crate::lines::lesser;
 use asm_validate::Checked;
+use script_fits::lesser;
 use sem_laws::{Reply, ReplyLine, WriteLine};
 
 fn fits_write(checked: &Checked, heap_len: u32, write: &WriteLine) -> bool
@@ -40,9 +41,9 @@ fn fits_reply(checked: &Checked, heap_len: u32, reply: &Reply) -> bool
 }
 
 /// The first line of bytes that don't lie in a heap of this length.
-#[tactic(auto, using(crate::proofs::Earlier::earlier_lesser, crate::proofs::Earlier::earlier_none))]
+#[tactic(auto, using(script_fits::proofs::FirstLines::earlier_lesser, script_fits::proofs::FirstLines::earlier_none))]
 pub fn first_write(checked: &Checked, heap_len: u32, writes: &[WriteLine]) -> Option<u64>
-    ensures { result ≡ Fits.least (Fits.lines_of (Fits.fits_write (module_view checked.now) heap_len) (λ (w : WritePlain). w.line) (map write_of writes.now)) }
+    ensures { result ≡ parts.least (parts.lines_of (Fits.fits_write (module_view checked.now) heap_len) (λ (w : WritePlain). w.line) (map write_of writes.now)) }
 {
     let mut first = None;
     for write in writes {
@@ -54,9 +55,9 @@ pub fn first_write(checked: &Checked, heap_len: u32, writes: &[WriteLine]) -> Op
 }
 
 /// The first line of a reply with bytes that don't.
-#[tactic(auto, using(crate::proofs::Earlier::earlier_lesser, crate::proofs::Earlier::earlier_none))]
+#[tactic(auto, using(script_fits::proofs::FirstLines::earlier_lesser, script_fits::proofs::FirstLines::earlier_none))]
 pub fn first_reply(checked: &Checked, heap_len: u32, replies: &[ReplyLine]) -> Option<u64>
-    ensures { result ≡ Fits.least (Fits.lines_of (λ (r : ReplyLinePlain). Fits.fits_reply (module_view checked.now) heap_len r.reply) (λ r. r.line) (map reply_line_of replies.now)) }
+    ensures { result ≡ parts.least (parts.lines_of (λ (r : ReplyLinePlain). Fits.fits_reply (module_view checked.now) heap_len r.reply) (λ r. r.line) (map reply_line_of replies.now)) }
 {
     let mut first = None;
     for line in replies {

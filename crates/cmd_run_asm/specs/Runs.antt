@@ -1,7 +1,8 @@
 -- Which texts are scripts that fit a module of asm.js with a heap of so many bytes, and what is printed of their runs.
-use Rattle.std.specs.Prelude.{◌≡◌, ℕ, List, Option, Some, None, Result, Ok, Err}
+use Rattle.std.specs.Prelude.{◌≡◌, ℕ, List, Some, Result, Ok, Err}
 use Rattle.sem_laws.specs.Observation.{ObservationPlain}
 use Rattle.sem_laws.specs.Script.{ScriptPlain}
+use Rattle.script_fits.specs.Fits.{fitting}
 use Rattle.script_read.specs.Reading.{said_script}
 use Rattle.script_read.specs.declared.fault.ScriptFault.{ScriptFault}
 use Rattle.script_read.specs.declared.fault.ScriptFault.TheVariants.{Refused, Memory}
@@ -10,17 +11,9 @@ use Rattle.asm_lang.specs.Modules.{Module}
 use Rattle.asm_lang_exec.specs.Fits.{misfit}
 use Rattle.asm_lang_exec.specs.Session.{asm}
 
-abbrev pub unless_misfit : ScriptPlain → Option ℕ → Result ScriptPlain ℕ
-unless_misfit script None = Ok script
-unless_misfit script (Some line) = Err line
-
-abbrev pub fitting : Module → ℕ → Result ScriptPlain ℕ → Result ScriptPlain ℕ
-fitting m size (Ok script) = unless_misfit script (misfit m size script)
-fitting m size (Err line) = Err line
-
 -- the script that the text says, where it fits the module; or the first line that isn't in the grammar, or else the misfit's
 abbrev pub script_for : Module → ℕ → List ℕ → Result ScriptPlain ℕ
-script_for m size text = fitting m size (said_script text)
+script_for m size text = fitting (misfit m size) (said_script text)
 
 -- the output is what is seen of the script's session with this budget of units
 pub record Shows (m : Module) (size : ℕ) (script : ScriptPlain) (budget : ℕ) (output : List ℕ) : Type 0 where

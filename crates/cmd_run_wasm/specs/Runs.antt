@@ -1,6 +1,7 @@
 -- Which texts are scripts that fit a module, and what is printed of their runs.
-use Rattle.std.specs.Prelude.{◌≡◌, ℕ, List, Option, Some, None, Result, Ok, Err}
+use Rattle.std.specs.Prelude.{◌≡◌, ℕ, List, Result, Ok, Err}
 use Rattle.sem_laws.specs.Script.{ScriptPlain}
+use Rattle.script_fits.specs.Fits.{fitting}
 use Rattle.script_read.specs.Reading.{said_script}
 use Rattle.script_read.specs.declared.fault.ScriptFault.{ScriptFault}
 use Rattle.script_read.specs.declared.fault.ScriptFault.TheVariants.{Refused, Memory}
@@ -9,17 +10,9 @@ use Rattle.wasm_lang.specs.Modules.{WasmModule}
 use Rattle.wasm_lang_exec.specs.Fits.{misfit}
 use Rattle.wasm_lang_exec.specs.Session.{wasm}
 
-abbrev pub unless_misfit : ScriptPlain → Option ℕ → Result ScriptPlain ℕ
-unless_misfit script None = Ok script
-unless_misfit script (Some line) = Err line
-
-abbrev pub fitting : WasmModule → Result ScriptPlain ℕ → Result ScriptPlain ℕ
-fitting m (Ok script) = unless_misfit script (misfit m script)
-fitting m (Err line) = Err line
-
 -- the script that the text says, where it fits the module; or the first line that isn't in the grammar, or else the misfit's
 abbrev pub script_for : WasmModule → List ℕ → Result ScriptPlain ℕ
-script_for m text = fitting m (said_script text)
+script_for m text = fitting (misfit m) (said_script text)
 
 -- the output is what is seen of the session of the text's script after so many reductions
 pub record Prints (m : WasmModule) (text : List ℕ) (steps : ℕ) (output : List ℕ) : Type 0 where

@@ -1,4 +1,2 @@
 pub mod Examples
-pub mod Lines
-pub mod Misfits
 pub mod FittingExamples

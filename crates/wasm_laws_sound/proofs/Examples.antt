@@ -10,7 +10,8 @@ use Rattle.wasm_lang.specs.Modules.{WasmModule}
 use Rattle.wasm_lang_valid.specs.declared.section.Section.TheVariants as sections
 use Rattle.wasm_lang_valid.specs.Typing.{typed_empty, typed_plain, fixed}
 use Rattle.wasm_lang_valid.specs.Validity.{IsValidModule}
-use Rattle.wasm_lang_exec.proofs.Misfits.{no_misfit_fits}
+use Rattle.wasm_lang_exec.specs.Fits.{tests}
+use Rattle.script_fits.proofs.Misfits.{no_misfit_fits}
 use Rattle.wasm_laws_sound.specs.Places.{place, GoesOn}
 use Rattle.wasm_laws_sound.specs.Laws.{IsWhole}
 use Rattle.wasm_laws_sound.proofs.Sessions.{sessions_go_on}
@@ -63,7 +64,7 @@ sum_is_whole : IsWhole sum
 sum_is_whole = record { is_valid = sum_is_valid; bodies_match = refl }
 
 sum_goes_on : (n : ℕ) → GoesOn sum (place sum script n)
-sum_goes_on n = sessions_go_on sum script n sum_is_whole (no_misfit_fits sum script refl)
+sum_goes_on n = sessions_go_on sum script n sum_is_whole (no_misfit_fits (tests sum) script refl)
 
 -- a sum of one operand isn't valid, and after instantiation, the call and the first get nothing can be reduced
 abbrev short : WasmModule

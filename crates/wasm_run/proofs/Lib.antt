@@ -1,5 +1,4 @@
-pub mod Earlier
 pub mod Hex
-pub mod Named
+pub mod Arguments
 pub mod Given
 pub mod Hosts

@@ -2,12 +2,7 @@
 use Rattle.std.specs.Prelude.{ℕ, ◌/◌, ◌%◌, ◌==◌, ◌&&◌, List, [], ◌∷◌, Option, Some, None, slice_index, ℤ, if◌then◌else◌}
 use Rattle.hex.specs.Hex.{lower_digits}
 use Rattle.wasm_lang.specs.declared.types.ValType.{ValType}
-use Rattle.wasm_lang_exec.specs.Fits.{in_range, lesser}
-
--- the lesser of two lines, where there are two
-abbrev pub earlier : Option ℕ → Option ℕ → Option ℕ
-earlier None o = o
-earlier (Some n) o = lesser n o
+use Rattle.wasm_lang_exec.specs.Fits.{in_range}
 
 -- what follows the hex digits of some bytes in a text, where it begins with them
 abbrev pub after_hex : List ℕ → List ℕ → Option (List ℕ)

@@ -5,11 +5,12 @@ ghost use Rattle.sem_laws.specs.Script.{CallPlain};
 ghost use Rattle.sem_laws.specs.Views.{call_of};
 ghost use Rattle.wasm_tree.specs.Views.{export_of};
 ghost use Rattle.wasm_lang_exec.specs.Session;
+ghost use Rattle.script_fits.specs.Fits as parts;
 ghost use Rattle.wasm_lang_exec.specs.Fits;
 ghost use Rattle.wasm_run.specs.Forms.{after_argument};
 
-use crate::lines::lesser;
 use crate::ranges::in_range;
+use script_fits::lesser;
 use sem_laws::CallLine;
 use wasm_lang::{ExportKind, ValType};
 use wasm_tree::WasmExport;
@@ -53,7 +54,7 @@ fn after_argument<'a>(kind: ValType, args: &'a [i128]) -> Option<&'a [i128]>
 }
 
 // Whether there is an argument for each parameter, in the range of its type.
-#[tactic(auto, using(crate::proofs::Named::taken_some, crate::proofs::Named::taken_none))]
+#[tactic(auto, using(crate::proofs::Arguments::taken_some, crate::proofs::Arguments::taken_none))]
 fn takes_arguments(params: &[ValType], args: &[i128]) -> bool
     ensures { result ≡ Fits.takes_arguments params.now args.now }
 {
@@ -70,7 +71,7 @@ fn takes_arguments(params: &[ValType], args: &[i128]) -> bool
     }
 }
 
-#[tactic(auto, using(crate::proofs::Named::past_all))]
+#[tactic(auto, using(crate::proofs::Arguments::past_all))]
 fn fits_call(valid: &Valid<'_>, call: &CallLine) -> bool
     ensures { result ≡ Fits.fits_call valid.now (call_of call.now) }
 {
@@ -85,9 +86,9 @@ fn fits_call(valid: &Valid<'_>, call: &CallLine) -> bool
 }
 
 /// The first line of a call that doesn't fit.
-#[tactic(auto, using(crate::proofs::Earlier::earlier_lesser, crate::proofs::Earlier::earlier_none))]
+#[tactic(auto, using(script_fits::proofs::FirstLines::earlier_lesser, script_fits::proofs::FirstLines::earlier_none))]
 pub fn first_call(valid: &Valid<'_>, calls: &[CallLine]) -> Option<u64>
-    ensures { result ≡ Fits.least (Fits.lines_of (Fits.fits_call valid.now) (λ (c : CallPlain). c.line) (map call_of calls.now)) }
+    ensures { result ≡ parts.least (parts.lines_of (Fits.fits_call valid.now) (λ (c : CallPlain). c.line) (map call_of calls.now)) }
 {
     let mut first = None;
     for call in calls {

@@ -3,18 +3,19 @@
 ghost use Rattle.std.specs.Prelude.{◌≡◌, [], None, Some, MatchResult};
 ghost use Rattle.sem_laws.specs.Script.{WritePlain, CallPlain, ReplyLinePlain};
 ghost use Rattle.sem_laws.specs.Views.{script_of};
+ghost use Rattle.script_fits.specs.Fits.{least, lines_of, global_lines, unfit_lines, are_given};
 ghost use Rattle.wasm_lang_exec.specs.Fits;
-ghost use Rattle.wasm_lang_exec.specs.Fits.{misfit, global_imports, least, lines_of};
+ghost use Rattle.wasm_lang_exec.specs.Fits.{tests, misfit};
 
 use crate::calls::first_call;
 use crate::globals::{are_given, first_global};
-use crate::lines::earlier;
 use crate::writes::{first_reply, first_write, imported_pages, memory_pages};
+use script_fits::earlier;
 use sem_laws::{Misfit, Script};
 use wasm_validate::Valid;
 
 fn first_in_globals(valid: &Valid<'_>, script: &Script) -> Option<u64>
-    ensures { result ≡ least (Fits.global_lines valid.now [] (script_of script.now).globals) }
+    ensures { result ≡ least (global_lines (Fits.fits_global valid.now) [] (script_of script.now).globals) }
 {
     first_global(valid.module(), script.globals.as_slice())
 }
@@ -41,7 +42,7 @@ fn first_in_replies(valid: &Valid<'_>, script: &Script) -> Option<u64>
 
 // The first line that doesn't fit.
 fn first_unfit(valid: &Valid<'_>, script: &Script) -> Option<u64>
-    ensures { result ≡ least (Fits.unfit_lines valid.now (script_of script.now)) }
+    ensures { result ≡ least (unfit_lines (tests valid.now) (script_of script.now)) }
 {
     let globals = first_in_globals(valid, script);
     let writes = first_in_writes(valid, script);
@@ -52,7 +53,7 @@ fn first_unfit(valid: &Valid<'_>, script: &Script) -> Option<u64>
 
 // Whether each imported global has a line.
 fn all_given(valid: &Valid<'_>, script: &Script) -> bool
-    ensures { result ≡ Fits.are_given (global_imports (valid.now).imports) (script_of script.now).globals }
+    ensures { result ≡ are_given (tests valid.now).imports (script_of script.now).globals }
 {
     are_given(valid.module().imports.as_slice(), script.globals.as_slice())
 }

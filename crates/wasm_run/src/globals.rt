@@ -4,12 +4,13 @@ ghost use Rattle.std.specs.Prelude.{◌≡◌, [], ◌&&◌, map, bytes_eq, not}
 ghost use Rattle.sem_laws.specs.Names.{import_name};
 ghost use Rattle.sem_laws.specs.Views.{global_of};
 ghost use Rattle.wasm_tree.specs.Views.{bytes_of, import_of, module_of};
+ghost use Rattle.script_fits.specs.Fits as parts;
 ghost use Rattle.wasm_lang_exec.specs.Fits;
-ghost use Rattle.wasm_lang_exec.specs.Fits.{global_imports};
+ghost use Rattle.wasm_lang_exec.specs.Fits.{global_imports, global_names};
 
-use crate::lines::lesser;
 use crate::names::is_import_name;
 use crate::ranges::in_range;
+use script_fits::{is_given, lesser};
 use sem_laws::GlobalLine;
 use wasm_lang::ImportKind;
 use wasm_tree::{Import, Module};
@@ -49,18 +50,6 @@ fn has_range(imports: &[Import<'_>], name: &[u8], value: i128) -> bool
     true
 }
 
-// Whether a line gives a value to this name.
-fn is_given(globals: &[GlobalLine], name: &[u8]) -> bool
-    ensures { result ≡ Fits.is_given (map global_of globals.now) name.now }
-{
-    for global in globals {
-        if name == global.name.as_bytes() {
-            return true;
-        }
-    }
-    false
-}
-
 fn fits_global(module: &Module<'_>, before: &[GlobalLine], global: &GlobalLine) -> bool
     ensures { result ≡ Fits.fits_global (module_of «module».now) (map global_of before.now) (global_of global.now) }
 {
@@ -70,9 +59,9 @@ fn fits_global(module: &Module<'_>, before: &[GlobalLine], global: &GlobalLine) 
 }
 
 /// The first line of a global that doesn't fit.
-#[tactic(auto, using(crate::proofs::Earlier::earlier_lesser, crate::proofs::Earlier::earlier_none, crate::proofs::Named::one_more))]
+#[tactic(auto, using(script_fits::proofs::FirstLines::earlier_lesser, script_fits::proofs::FirstLines::earlier_none, script_fits::proofs::Parts::one_more))]
 pub fn first_global(module: &Module<'_>, globals: &[GlobalLine]) -> Option<u64>
-    ensures { result ≡ Fits.least (Fits.global_lines (module_of «module».now) [] (map global_of globals.now)) }
+    ensures { result ≡ parts.least (parts.global_lines (Fits.fits_global (module_of «module».now)) [] (map global_of globals.now)) }
 {
     let mut first = None;
     for (i, global) in globals.iter().enumerate() {
@@ -85,7 +74,7 @@ pub fn first_global(module: &Module<'_>, globals: &[GlobalLine]) -> Option<u64>
 
 // Whether a line gives a value to the import.
 fn has_line(globals: &[GlobalLine], import: &Import<'_>) -> bool
-    ensures { result ≡ Fits.is_given (map global_of globals.now) (import_name (bytes_of import.now.«module») (bytes_of import.now.field)) }
+    ensures { result ≡ parts.is_given (map global_of globals.now) (import_name (bytes_of import.now.«module») (bytes_of import.now.field)) }
 {
     for global in globals {
         if is_named(import, global.name.as_bytes()) {
@@ -97,7 +86,7 @@ fn has_line(globals: &[GlobalLine], import: &Import<'_>) -> bool
 
 /// Whether each imported global has a line.
 pub fn are_given(imports: &[Import<'_>], globals: &[GlobalLine]) -> bool
-    ensures { result ≡ Fits.are_given (global_imports (map import_of imports.now)) (map global_of globals.now) }
+    ensures { result ≡ parts.are_given (global_names (global_imports (map import_of imports.now))) (map global_of globals.now) }
 {
     for import in imports {
         if let ImportKind::Global(_) = import.kind {

@@ -6,7 +6,6 @@ mod first;
 mod fits;
 mod globals;
 mod instance;
-mod lines;
 mod names;
 mod ranges;
 mod session;

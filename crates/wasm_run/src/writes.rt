@@ -7,9 +7,10 @@ ghost use Rattle.sem_laws.specs.Views.{write_of, reply_of, reply_line_of};
 ghost use Rattle.wasm_lang.specs.Modules.{WasmModule};
 ghost use Rattle.wasm_tree.specs.Views.{import_of, module_of};
 ghost use Rattle.wasm_lang_valid.specs.Runnable;
+ghost use Rattle.script_fits.specs.Fits as parts;
 ghost use Rattle.wasm_lang_exec.specs.Fits;
 
-use crate::lines::lesser;
+use script_fits::lesser;
 use sem_laws::{Reply, ReplyLine, WriteLine};
 use wasm_lang::ImportKind;
 use wasm_tree::{Import, Module};
@@ -62,7 +63,7 @@ fn all_lie_in(pages: Option<u32>, writes: &[WriteLine]) -> bool
 }
 
 fn reply_lies_in(pages: Option<u32>, reply: &Reply) -> bool
-    ensures { result ≡ list_all (Fits.lies_in pages) (Fits.writes_of (reply_of reply.now)) }
+    ensures { result ≡ list_all (Fits.lies_in pages) (parts.writes_of (reply_of reply.now)) }
 {
     match reply {
         Reply::Give(_, writes) => all_lie_in(pages, writes.as_slice()),
@@ -71,9 +72,9 @@ fn reply_lies_in(pages: Option<u32>, reply: &Reply) -> bool
 }
 
 /// The first line of bytes that don't lie in a memory of so many pages.
-#[tactic(auto, using(crate::proofs::Earlier::earlier_lesser, crate::proofs::Earlier::earlier_none))]
+#[tactic(auto, using(script_fits::proofs::FirstLines::earlier_lesser, script_fits::proofs::FirstLines::earlier_none))]
 pub fn first_write(pages: Option<u32>, writes: &[WriteLine]) -> Option<u64>
-    ensures { result ≡ Fits.least (Fits.lines_of (Fits.lies_in pages) (λ (w : WritePlain). w.line) (map write_of writes.now)) }
+    ensures { result ≡ parts.least (parts.lines_of (Fits.lies_in pages) (λ (w : WritePlain). w.line) (map write_of writes.now)) }
 {
     let mut first = None;
     for write in writes {
@@ -85,9 +86,9 @@ pub fn first_write(pages: Option<u32>, writes: &[WriteLine]) -> Option<u64>
 }
 
 /// The first line of a reply with bytes that don't.
-#[tactic(auto, using(crate::proofs::Earlier::earlier_lesser, crate::proofs::Earlier::earlier_none))]
+#[tactic(auto, using(script_fits::proofs::FirstLines::earlier_lesser, script_fits::proofs::FirstLines::earlier_none))]
 pub fn first_reply(pages: Option<u32>, replies: &[ReplyLine]) -> Option<u64>
-    ensures { result ≡ Fits.least (Fits.lines_of (λ (r : ReplyLinePlain). list_all (Fits.lies_in pages) (Fits.writes_of r.reply)) (λ r. r.line) (map reply_line_of replies.now)) }
+    ensures { result ≡ parts.least (parts.lines_of (λ (r : ReplyLinePlain). list_all (Fits.lies_in pages) (parts.writes_of r.reply)) (λ r. r.line) (map reply_line_of replies.now)) }
 {
     let mut first = None;
     for line in replies {

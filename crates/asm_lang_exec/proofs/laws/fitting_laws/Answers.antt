@@ -1,11 +1,12 @@
-use Rattle.asm_lang_exec.proofs.Misfits.{no_misfit_fits, what_fits_has_no_misfit, misfit_is_first}
+use Rattle.script_fits.proofs.Misfits.{no_misfit_fits, what_fits_has_no_misfit, misfit_is_first}
+use Rattle.asm_lang_exec.specs.Fits.{tests}
 use Rattle.asm_lang_exec.proofs.laws.fitting_laws.Goals as goal
 
 pub returns-clause-none : goal.returns-clause-none
-returns-clause-none c = no_misfit_fits
+returns-clause-none c m size = no_misfit_fits (tests m size)
 
 pub returns-clause-fits : goal.returns-clause-fits
-returns-clause-fits c = what_fits_has_no_misfit
+returns-clause-fits c m size = what_fits_has_no_misfit (tests m size)
 
 pub returns-clause-first : goal.returns-clause-first
-returns-clause-first c = misfit_is_first
+returns-clause-first c m size = misfit_is_first (tests m size)

@@ -1,17 +1,18 @@
 use Rattle.std.proofs.Common.{ap, sym, ◌∙◌}
 use Rattle.sem_laws.specs.Views.{script_of}
 use Rattle.asm_tree.specs.Views.{module_view}
-use Rattle.asm_lang_exec.specs.Fits.{missing_line}
-use Rattle.asm_run.proofs.Named.{misfit_some, misfit_none}
+use Rattle.script_fits.specs.Fits.{missing_line}
+use Rattle.asm_lang_exec.specs.Fits.{tests}
+use Rattle.script_fits.proofs.Parts.{misfit_some, misfit_none}
 use Rattle.asm_run.proofs.fits.fits_asm.Goals as goal
 
 pub returns-in-Some : goal.returns-in-Some
-returns-in-Some c = misfit_some (module_view c.args.checked.now) c.args.heap_len (script_of c.args.script.now) c.in-Some.line (sym c.in-Some.ensures)
+returns-in-Some c = misfit_some (tests (module_view c.args.checked.now) c.args.heap_len) (script_of c.args.script.now) c.in-Some.line (sym c.in-Some.ensures)
 
 pub returns-then-are_given : goal.returns-then-are_given
 returns-then-are_given c =
-    misfit_none (module_view c.args.checked.now) c.args.heap_len (script_of c.args.script.now) c.are_given.result (sym c.in-None.ensures) (rw c.as_slice.ensures at c.are_given.ensures) ∙ ap missing_line c.if-are_given.true
+    misfit_none (tests (module_view c.args.checked.now) c.args.heap_len) (script_of c.args.script.now) c.are_given.result (sym c.in-None.ensures) (rw c.as_slice.ensures at c.are_given.ensures) ∙ ap missing_line c.if-are_given.true
 
 pub returns-else-are_given : goal.returns-else-are_given
 returns-else-are_given c =
-    misfit_none (module_view c.args.checked.now) c.args.heap_len (script_of c.args.script.now) c.are_given.result (sym c.in-None.ensures) (rw c.as_slice.ensures at c.are_given.ensures) ∙ ap missing_line c.if-are_given.false
+    misfit_none (tests (module_view c.args.checked.now) c.args.heap_len) (script_of c.args.script.now) c.are_given.result (sym c.in-None.ensures) (rw c.as_slice.ensures at c.are_given.ensures) ∙ ap missing_line c.if-are_given.false

@@ -1,7 +1,7 @@
 use Rattle.std.proofs.Common.{◌≡◌, drop, map}
 use Rattle.sem_laws.specs.Views.{global_of}
 use Rattle.asm_tree.specs.Views.{texts_view}
-use Rattle.asm_lang_exec.specs.Fits.{are_given}
+use Rattle.script_fits.specs.Fits.{are_given}
 use Rattle.asm_run.proofs.globals.have_lines.Given as goal
 
 abbrev pub invariant-loop-name : goal.invariant-loop-name

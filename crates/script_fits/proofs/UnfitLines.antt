@@ -3,8 +3,7 @@ use Rattle.std.proofs.Common.{◌≡◌, ◌⊎◌, inl, inr, ℕ, zero, suc, �
 use Rattle.std.proofs.lemmas.List.{append-nil}
 use Rattle.std.specs.Prelude.{take, slice_get}
 use Rattle.sem_laws.specs.Script.{GlobalPlain}
-use Rattle.wasm_lang.specs.Modules.{WasmModule}
-use Rattle.wasm_lang_exec.specs.Fits.{fits_global, unless, global_lines, lines_of, lesser, least}
+use Rattle.script_fits.specs.Fits.{unless, global_lines, lines_of, lesser, least}
 
 abbrev pub IsIn : ℕ → List ℕ → Type 0
 IsIn n [] = ⊥
@@ -107,44 +106,44 @@ line_of_item fits line (y ∷ ys) (suc i) x there unfit = in_unless (fits y) (li
 
 -- ---- those of globals, each after those before it
 
-pub record IsUnfitGlobal (m : WasmModule) (before gs : List GlobalPlain) (n : ℕ) : Type 0 where
+pub record IsUnfitGlobal (fits : List GlobalPlain → GlobalPlain → Bool) (before gs : List GlobalPlain) (n : ℕ) : Type 0 where
   pub place : ℕ
   pub item : GlobalPlain
   pub is_there : slice_get gs place ≡ Some item
-  pub is_unfit : fits_global m (before ++ take place gs) item ≡ false
+  pub is_unfit : fits (before ++ take place gs) item ≡ false
   pub is_line : n ≡ item.line
 
-module _ (m : WasmModule) where
-  further_global : (before : List GlobalPlain) (g : GlobalPlain) (gs : List GlobalPlain) (n : ℕ) → IsUnfitGlobal m (before ++ g ∷ []) gs n → IsUnfitGlobal m before (g ∷ gs) n
+module _ (fits : List GlobalPlain → GlobalPlain → Bool) where
+  further_global : (before : List GlobalPlain) (g : GlobalPlain) (gs : List GlobalPlain) (n : ℕ) → IsUnfitGlobal fits (before ++ g ∷ []) gs n → IsUnfitGlobal fits before (g ∷ gs) n
   further_global before g gs n it = record {
     place = suc it.place;
     item = it.item;
     is_there = it.is_there;
-    is_unfit = subst (λ l. fits_global m l it.item ≡ false) (append_assoc before (g ∷ []) (take it.place gs)) it.is_unfit;
+    is_unfit = subst (λ l. fits l it.item ≡ false) (append_assoc before (g ∷ []) (take it.place gs)) it.is_unfit;
     is_line = it.is_line;
   }
 
-  global_cases : (before : List GlobalPlain) (g : GlobalPlain) (gs : List GlobalPlain) (n : ℕ) (b : Bool) → fits_global m before g ≡ b
-      → (IsIn n (global_lines m (before ++ g ∷ []) gs) → IsUnfitGlobal m (before ++ g ∷ []) gs n)
-      → IsIn n (unless b g.line (global_lines m (before ++ g ∷ []) gs)) → IsUnfitGlobal m before (g ∷ gs) n
+  global_cases : (before : List GlobalPlain) (g : GlobalPlain) (gs : List GlobalPlain) (n : ℕ) (b : Bool) → fits before g ≡ b
+      → (IsIn n (global_lines fits (before ++ g ∷ []) gs) → IsUnfitGlobal fits (before ++ g ∷ []) gs n)
+      → IsIn n (unless b g.line (global_lines fits (before ++ g ∷ []) gs)) → IsUnfitGlobal fits before (g ∷ gs) n
   global_cases before g gs n true is rest h = further_global before g gs n (rest h)
   global_cases before g gs n false is rest h =
       ⊎_elim
-      (λ e. record { place = zero; item = g; is_there = refl; is_unfit = subst (λ l. fits_global m l g ≡ false) (sym (append-nil before)) is; is_line = e })
+      (λ e. record { place = zero; item = g; is_there = refl; is_unfit = subst (λ l. fits l g ≡ false) (sym (append-nil before)) is; is_line = e })
       (λ h. further_global before g gs n (rest h))
       h
 
-  pub global_of_line : (before gs : List GlobalPlain) (n : ℕ) → IsIn n (global_lines m before gs) → IsUnfitGlobal m before gs n
+  pub global_of_line : (before gs : List GlobalPlain) (n : ℕ) → IsIn n (global_lines fits before gs) → IsUnfitGlobal fits before gs n
   global_of_line before [] n h = absurd h
-  global_of_line before (g ∷ gs) n h = global_cases before g gs n (fits_global m before g) refl (λ h. global_of_line (before ++ g ∷ []) gs n h) h
+  global_of_line before (g ∷ gs) n h = global_cases before g gs n (fits before g) refl (λ h. global_of_line (before ++ g ∷ []) gs n h) h
 
-  pub line_of_global : (before gs : List GlobalPlain) (i : ℕ) (g : GlobalPlain) → slice_get gs i ≡ Some g → fits_global m (before ++ take i gs) g ≡ false → IsIn g.line (global_lines m before gs)
+  pub line_of_global : (before gs : List GlobalPlain) (i : ℕ) (g : GlobalPlain) → slice_get gs i ≡ Some g → fits (before ++ take i gs) g ≡ false → IsIn g.line (global_lines fits before gs)
   line_of_global before [] i g there unfit = cc there
   line_of_global before (x ∷ xs) zero g there unfit =
       let same : x ≡ g = cc there in
-      let is : fits_global m before g ≡ false = subst (λ l. fits_global m l g ≡ false) (append-nil before) unfit in
-      subst (λ z. IsIn g.line (unless (fits_global m before z) z.line (global_lines m (before ++ z ∷ []) xs))) (sym same)
-      (subst (λ b. IsIn g.line (unless b g.line (global_lines m (before ++ g ∷ []) xs))) (sym is) (inl refl))
+      let is : fits before g ≡ false = subst (λ l. fits l g ≡ false) (append-nil before) unfit in
+      subst (λ z. IsIn g.line (unless (fits before z) z.line (global_lines fits (before ++ z ∷ []) xs))) (sym same)
+      (subst (λ b. IsIn g.line (unless b g.line (global_lines fits (before ++ g ∷ []) xs))) (sym is) (inl refl))
   line_of_global before (x ∷ xs) (suc i) g there unfit =
-      in_unless (fits_global m before x) g.line x.line (global_lines m (before ++ x ∷ []) xs)
-      (line_of_global (before ++ x ∷ []) xs i g there (subst (λ l. fits_global m l g ≡ false) (sym (append_assoc before (x ∷ []) (take i xs))) unfit))
+      in_unless (fits before x) g.line x.line (global_lines fits (before ++ x ∷ []) xs)
+      (line_of_global (before ++ x ∷ []) xs i g there (subst (λ l. fits l g ≡ false) (sym (append_assoc before (x ∷ []) (take i xs))) unfit))

@@ -1,8 +1,8 @@
 // The first of some lines.
 
 ghost use Rattle.std.specs.Prelude.{◌≡◌};
-ghost use Rattle.asm_lang_exec.specs.Fits;
-ghost use Rattle.asm_run.specs.Forms;
+ghost use Rattle.script_fits.specs.Fits;
+ghost use Rattle.script_fits.specs.Earlier;
 
 /// The lesser of a line and another, where there is another.
 pub fn lesser(line: u64, other: Option<u64>) -> Option<u64>
@@ -22,17 +22,10 @@ pub fn lesser(line: u64, other: Option<u64>) -> Option<u64>
 
 /// The lesser of two lines, where there are two.
 pub fn earlier(line: Option<u64>, other: Option<u64>) -> Option<u64>
-    ensures { result ≡ Forms.earlier line other }
+    ensures { result ≡ Earlier.earlier line other }
 {
     match line {
         None => other,
         Some(line) => lesser(line, other),
     }
-}
-
-/// Whether a number is a signed or an unsigned reading of a word.
-pub fn in_range(value: i128) -> bool
-    ensures { result ≡ Fits.in_range value }
-{
-    value >= -2147483648 && value < 4294967296
 }

@@ -3,48 +3,46 @@ use Rattle.std.proofs.Common.{◌≡◌, ℕ, zero, suc, ◌+◌, ◌<◌, Bool,
 use Rattle.sem_laws.specs.Script.{WritePlain, CallPlain, ReplyLinePlain, ScriptPlain}
 use Rattle.sem_laws.specs.declared.script.GlobalLine.{GlobalLine}
 use Rattle.sem_laws.specs.Views.{global_of}
-use Rattle.asm_lang.specs.Modules.{Module}
-use Rattle.asm_lang_valid.specs.Refusal.{foreign_globals}
-use Rattle.asm_lang_exec.specs.Fits.{fits_write, fits_call, fits_reply, global_lines, lines_of, unfit_lines, least, are_given, missing_line, or_else, misfit}
-use Rattle.asm_run.specs.Forms.{earlier}
-use Rattle.asm_run.proofs.Earlier.{least_append}
+use Rattle.script_fits.specs.Fits.{Tests, global_lines, lines_of, unfit_lines, least, are_given, missing_line, or_else, misfit}
+use Rattle.script_fits.specs.Earlier.{earlier}
+use Rattle.script_fits.proofs.FirstLines.{least_append}
 
-module _ (m : Module) (size : ℕ) (s : ScriptPlain) where
+module _ (tests : Tests) (s : ScriptPlain) where
   abbrev of_globals : List ℕ
-  of_globals = global_lines m [] s.globals
+  of_globals = global_lines tests.fits_global [] s.globals
 
   abbrev of_writes : List ℕ
-  of_writes = lines_of (fits_write m size) (λ (w : WritePlain). w.line) s.writes
+  of_writes = lines_of tests.fits_write (λ (w : WritePlain). w.line) s.writes
 
   abbrev of_calls : List ℕ
-  of_calls = lines_of (fits_call m) (λ (c : CallPlain). c.line) s.calls
+  of_calls = lines_of tests.fits_call (λ (c : CallPlain). c.line) s.calls
 
   abbrev of_replies : List ℕ
-  of_replies = lines_of (λ (r : ReplyLinePlain). fits_reply m size r.reply) (λ r. r.line) s.replies
+  of_replies = lines_of (λ (r : ReplyLinePlain). tests.fits_reply r.reply) (λ r. r.line) s.replies
 
   -- the first line, by the kinds of parts
-  least_four : least (unfit_lines m size s) ≡ earlier (earlier (earlier (least of_globals) (least of_writes)) (least of_calls)) (least of_replies)
+  least_four : least (unfit_lines tests s) ≡ earlier (earlier (earlier (least of_globals) (least of_writes)) (least of_calls)) (least of_replies)
   least_four =
       least_append (of_globals ++ of_writes ++ of_calls) of_replies
       ∙ ap (λ o. earlier o (least of_replies)) (least_append (of_globals ++ of_writes) of_calls ∙ ap (λ o. earlier o (least of_calls)) (least_append of_globals of_writes))
 
   -- the first lines of the kinds, put together
   pub four : (a b c d ab abc abcd : Option ℕ)
-      → a ≡ least (global_lines m [] s.globals)
-      → b ≡ least (lines_of (fits_write m size) (λ (w : WritePlain). w.line) s.writes)
-      → c ≡ least (lines_of (fits_call m) (λ (c : CallPlain). c.line) s.calls)
-      → d ≡ least (lines_of (λ (r : ReplyLinePlain). fits_reply m size r.reply) (λ r. r.line) s.replies)
-      → ab ≡ earlier a b → abc ≡ earlier ab c → abcd ≡ earlier abc d → abcd ≡ least (unfit_lines m size s)
+      → a ≡ least (global_lines tests.fits_global [] s.globals)
+      → b ≡ least (lines_of tests.fits_write (λ (w : WritePlain). w.line) s.writes)
+      → c ≡ least (lines_of tests.fits_call (λ (c : CallPlain). c.line) s.calls)
+      → d ≡ least (lines_of (λ (r : ReplyLinePlain). tests.fits_reply r.reply) (λ r. r.line) s.replies)
+      → ab ≡ earlier a b → abc ≡ earlier ab c → abcd ≡ earlier abc d → abcd ≡ least (unfit_lines tests s)
   four a b c d ab abc abcd ea eb ec ed eab eabc eabcd =
       let one : ab ≡ earlier (least of_globals) (least of_writes) = eab ∙ ap (λ a. earlier a b) ea ∙ ap (earlier (least of_globals)) eb in
       let two : abc ≡ earlier (earlier (least of_globals) (least of_writes)) (least of_calls) = eabc ∙ ap (λ x. earlier x c) one ∙ ap (earlier (earlier (least of_globals) (least of_writes))) ec in
       eabcd ∙ ap (λ x. earlier x d) two ∙ ap (earlier (earlier (earlier (least of_globals) (least of_writes)) (least of_calls))) ed ∙ sym least_four
 
-  pub misfit_some : (line : ℕ) → least (unfit_lines m size s) ≡ Some line → misfit m size s ≡ Some line
-  misfit_some line e = ap (λ o. or_else o (missing_line (are_given (foreign_globals m) s.globals))) e
+  pub misfit_some : (line : ℕ) → least (unfit_lines tests s) ≡ Some line → misfit tests s ≡ Some line
+  misfit_some line e = ap (λ o. or_else o (missing_line (are_given tests.imports s.globals))) e
 
-  pub misfit_none : (given : Bool) → least (unfit_lines m size s) ≡ None → given ≡ are_given (foreign_globals m) s.globals → misfit m size s ≡ missing_line given
-  misfit_none given e is = ap (λ o. or_else o (missing_line (are_given (foreign_globals m) s.globals))) e ∙ ap missing_line (sym is)
+  pub misfit_none : (given : Bool) → least (unfit_lines tests s) ≡ None → given ≡ are_given tests.imports s.globals → misfit tests s ≡ missing_line given
+  misfit_none given e is = ap (λ o. or_else o (missing_line (are_given tests.imports s.globals))) e ∙ ap missing_line (sym is)
 
 -- the lines before one more
 pub one_more : (gs : List GlobalLine) (i : ℕ) (x : GlobalLine) → x ≡ get_or gs i x → i < length gs → map global_of (take (i + 1) gs) ≡ map global_of (take i gs) ++ global_of x ∷ []

@@ -1,7 +1,7 @@
 -- The first of lines, as loops find it.
 use Rattle.std.proofs.Common.{◌≡◌, ℕ, min, List, [], ◌∷◌, ◌++◌, Option, Some, None, refl, sym, ap, ◌∙◌, arith}
-use Rattle.asm_lang_exec.specs.Fits.{lesser, least}
-use Rattle.asm_run.specs.Forms.{earlier}
+use Rattle.script_fits.specs.Fits.{lesser, least}
+use Rattle.script_fits.specs.Earlier.{earlier}
 
 pub earlier_none : (o : Option ℕ) → earlier o None ≡ o
 earlier_none None = refl

@@ -1,8 +1,8 @@
--- What the functions of this crate compute on the way.
+-- The lesser of two lines, as the first line is found part by part.
 use Rattle.std.specs.Prelude.{ℕ, Option, Some, None}
-use Rattle.asm_lang_exec.specs.Fits.{lesser}
+use Rattle.script_fits.specs.Fits.{lesser}
 
--- the lesser of two lines, where there are two
+-- of two, where there are two
 abbrev pub earlier : Option ℕ → Option ℕ → Option ℕ
 earlier None o = o
 earlier (Some n) o = lesser n o
