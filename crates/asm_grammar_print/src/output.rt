@@ -79,10 +79,10 @@ impl Output {
     }
 
     /// What was written.
-    pub fn as_bytes(&self) -> &[u8]
-        ensures { result.now ≡ (written self.now).bytes }
+    pub fn into_bytes(self) -> Vec<u8>
+        ensures { result.items ≡ (written self).bytes }
     {
-        self.bytes.as_slice()
+        self.bytes
     }
 }
 

@@ -155,21 +155,21 @@ fn put_module(out: &mut Output, module: &Module) -> Result<(), AllocError>
 
 /// The bytes of the canonical text.
 #[tactic(auto, using(crate::proofs::Puts::puts, crate::proofs::ModulePuts::puts))]
-fn canonical(alloc: Global, module: &Module) -> Result<Text, AllocError>
-    ensures { IfOk result (λ text. text_bytes text ≡ canonical_text (module_view «module».now)) }
+fn canonical(alloc: Global, module: &Module) -> Result<Vec<u8>, AllocError>
+    ensures { IfOk result (λ text. text.items ≡ canonical_text (module_view «module».now)) }
 {
     let mut out = Output::new(alloc);
     put_module(&mut out, module)?;
-    Text::from_bytes(alloc, out.as_bytes())
+    Ok(out.into_bytes())
 }
 
 /// The canonical text of a module, which reads as a well-formed module again.
 ///
 /// What is written is what stands: no line is broken but after a declaration, and no space stands but where two tokens would
 /// run together without it. An error is want of memory.
-pub fn print(alloc: Global, module: &Module) -> Result<Text, AllocError>
-    ensures canonical { IfOk result (λ text. text_bytes text ≡ canonical_text (module_view «module».now)) }
-    ensures again { IfOk result (λ text. IsWellFormed (module_view «module».now) → IsTextOf (text_bytes text) (module_view «module».now)) }
+pub fn print(alloc: Global, module: &Module) -> Result<Vec<u8>, AllocError>
+    ensures canonical { IfOk result (λ text. text.items ≡ canonical_text (module_view «module».now)) }
+    ensures again { IfOk result (λ text. IsWellFormed (module_view «module».now) → IsTextOf text.items (module_view «module».now)) }
 {
     canonical(alloc, module)
 }

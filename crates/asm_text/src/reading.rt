@@ -54,7 +54,7 @@ pub fn reprinted(alloc: Global, module: &Module) -> Result<Parsed, TextFault>
     ensures { IsWellFormed (module_view «module».now) → IsAgain (module_view «module».now) result }
 {
     match print(alloc, module) {
-        Ok(text) => read(alloc, text.as_bytes()),
+        Ok(text) => read(alloc, text.as_slice()),
         Err(_) => Err(TextFault::Memory),
     }
 }

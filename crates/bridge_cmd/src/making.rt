@@ -58,10 +58,7 @@ fn printed(alloc: Global, text: &[u8]) -> Result<Vec<u8>, Refusal>
         Ok(checked) => checked,
         Err(fault) => return Err(of_text(fault)),
     };
-    let Ok(canonical) = print(alloc, checked.module()) else {
-        return Err(Refusal::OutOfMemory);
-    };
-    match Vec::from_slice(alloc, canonical.as_bytes()) {
+    match print(alloc, checked.module()) {
         Ok(output) => Ok(output),
         Err(_) => Err(Refusal::OutOfMemory),
     }

@@ -23,6 +23,7 @@ use wasm_validate::{Beyond, Rule, Section};
 fn put_pieces<E: Sink>(report: &mut E, pieces: &[&str]) -> Result<(), Failed>
     requires { (n : ℕ) → E.takes report.old n }
 
+    ensures takes { (n : ℕ) → E.takes report.new n }
     ensures never_falls { E.faults report.old ≤ E.faults report.new }
     ensures whole { OnOk result (Gains (concat (map now_of pieces.now))
         (seen (E.told report.old) (E.faults report.old)) (seen (E.told report.new) (E.faults report.new))) }
@@ -43,6 +44,7 @@ fn put_pieces<E: Sink>(report: &mut E, pieces: &[&str]) -> Result<(), Failed>
 pub(crate) fn write_line<E: Sink>(report: &mut E, refusal: &Refusal) -> Result<(), Failed>
     requires { (n : ℕ) → E.takes report.old n }
 
+    ensures takes { (n : ℕ) → E.takes report.new n }
     ensures never_falls { E.faults report.old ≤ E.faults report.new }
     ensures whole { OnOk result (Gains (line_of (reason_of refusal.now))
         (seen (E.told report.old) (E.faults report.old)) (seen (E.told report.new) (E.faults report.new))) }
@@ -79,6 +81,7 @@ pub(crate) fn write_line<E: Sink>(report: &mut E, refusal: &Refusal) -> Result<(
 fn put_text<E: Sink>(report: &mut E, row: AsmRow, at: u64) -> Result<(), Failed>
     requires { (n : ℕ) → E.takes report.old n }
 
+    ensures takes { (n : ℕ) → E.takes report.new n }
     ensures never_falls { E.faults report.old ≤ E.faults report.new }
     ensures whole { OnOk result (Gains (concat (codes "asm.js refused: " ∷ texts.row_name row ∷ codes " at " ∷ decimal at ∷ codes "\n" ∷ []))
         (seen (E.told report.old) (E.faults report.old)) (seen (E.told report.new) (E.faults report.new))) }
@@ -97,6 +100,7 @@ fn put_text<E: Sink>(report: &mut E, row: AsmRow, at: u64) -> Result<(), Failed>
 fn put_binary<E: Sink>(report: &mut E, row: Row, at: u64) -> Result<(), Failed>
     requires { (n : ℕ) → E.takes report.old n }
 
+    ensures takes { (n : ℕ) → E.takes report.new n }
     ensures never_falls { E.faults report.old ≤ E.faults report.new }
     ensures whole { OnOk result (Gains (concat (codes "wasm refused: " ∷ names.row_name row ∷ codes " at " ∷ decimal at ∷ codes "\n" ∷ []))
         (seen (E.told report.old) (E.faults report.old)) (seen (E.told report.new) (E.faults report.new))) }
@@ -118,6 +122,7 @@ fn put_invalid<E: Sink>(
 ) -> Result<(), Failed>
     requires { (n : ℕ) → E.takes report.old n }
 
+    ensures takes { (n : ℕ) → E.takes report.new n }
     ensures never_falls { E.faults report.old ≤ E.faults report.new }
     ensures whole { OnOk result (Gains (concat (codes "wasm refused: B13 Invalid V" ∷ decimal (number rule) ∷ codes " at section " ∷ decimal (id section)
         ∷ codes " index " ∷ decimal index ∷ codes " instruction " ∷ decimal instruction ∷ codes "\n" ∷ []))
@@ -150,6 +155,7 @@ fn put_invalid<E: Sink>(
 fn put_outside<E: Sink>(report: &mut E, row: Beyond, value: u64) -> Result<(), Failed>
     requires { (n : ℕ) → E.takes report.old n }
 
+    ensures takes { (n : ℕ) → E.takes report.new n }
     ensures never_falls { E.faults report.old ≤ E.faults report.new }
     ensures whole { OnOk result (Gains (concat (codes "wasm refused: " ∷ outsiders.row_name row ∷ codes " " ∷ decimal value ∷ codes "\n" ∷ []))
         (seen (E.told report.old) (E.faults report.old)) (seen (E.told report.new) (E.faults report.new))) }
@@ -168,6 +174,7 @@ fn put_outside<E: Sink>(report: &mut E, row: Beyond, value: u64) -> Result<(), F
 fn put_script<E: Sink>(report: &mut E, line: u64) -> Result<(), Failed>
     requires { (n : ℕ) → E.takes report.old n }
 
+    ensures takes { (n : ℕ) → E.takes report.new n }
     ensures never_falls { E.faults report.old ≤ E.faults report.new }
     ensures whole { OnOk result (Gains (concat (codes "script refused: line " ∷ decimal line ∷ codes "\n" ∷ []))
         (seen (E.told report.old) (E.faults report.old)) (seen (E.told report.new) (E.faults report.new))) }

@@ -32,6 +32,12 @@ pub fn bridge<F: Files, O: Sink, E: Sink>(
     ensures absences { F.absences files.old ≤ F.absences files.new }
     ensures given { F.given files.old ≤ F.given files.new }
 
+    // The sinks take any number of bytes still, and no count falls.
+    ensures out_takes { (n : ℕ) → O.takes out.new n }
+    ensures report_takes { (n : ℕ) → E.takes report.new n }
+    ensures out_faults { O.faults out.old ≤ O.faults out.new }
+    ensures report_faults { E.faults report.old ≤ E.faults report.new }
+
     // The cause of each end that speaks of the outside.
     ensures read_fault { result ≡ Status.ReadFault → Rose (F.faults files.old) (F.faults files.new) }
     ensures missing { (script : Bool) → result ≡ Status.Missing script → Rose (F.absences files.old) (F.absences files.new) }

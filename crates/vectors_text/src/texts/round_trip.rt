@@ -2,7 +2,6 @@
 use super::{CLOSE, OPEN, joined};
 use asm_grammar_print::print;
 use asm_text::{read, reprinted};
-use sem_words::Text;
 use std::alloc::Global;
 use std::process::Abort;
 use std::test::*;
@@ -10,7 +9,7 @@ use std::test::*;
 /// A name of what the row shows, a text, and its canonical text.
 type Row = (&'static str, &'static [u8], &'static [u8]);
 
-fn printed(g: Global, text: &[u8]) -> Result<Text, Fail> {
+fn printed(g: Global, text: &[u8]) -> Result<Vec<u8>, Fail> {
     let parsed = read(g, text).ok().ok_or("the text says a module")?;
     Ok(print(g, &parsed.module)?)
 }
@@ -24,12 +23,12 @@ fn comes_back(
     want: &[u8],
 ) -> Result<(), Fail> {
     let parsed = read(g, text).ok().ok_or("the text says a module")?;
-    assert_eq!(rt; print(g, &parsed.module)?.as_bytes(), want, "{name}");
-    assert_eq!(rt; printed(g, want)?.as_bytes(), want, "{name}");
+    assert_eq!(rt; print(g, &parsed.module)?.as_slice(), want, "{name}");
+    assert_eq!(rt; printed(g, want)?.as_slice(), want, "{name}");
     let again = reprinted(g, &parsed.module)
         .ok()
         .ok_or("what is printed says a module")?;
-    assert_eq!(rt; print(g, &again.module)?.as_bytes(), want, "{name}");
+    assert_eq!(rt; print(g, &again.module)?.as_slice(), want, "{name}");
     let there = read(g, want).ok().ok_or("the text says a module")?;
     assert_eq!(rt; again.places.as_slice(), there.places.as_slice(), "{name}");
     Ok(())

@@ -10,12 +10,9 @@ use Rattle.bridge_cmd.proofs.making.printed.Goals as goal
 pub returns-in-Err-clause-barred : goal.returns-in-Err-clause-barred
 returns-in-Err-clause-barred c = λ file is. rw c.of_text.ensures (text_answer (show file) c.args.text.now c.in-Err.fault (reads_text c.args.text.now is) c.in-Err.ensures.refused)
 
-pub returns-in_default-clause-barred : goal.returns-in_default-clause-barred
-returns-in_default-clause-barred c = λ file is. want_of_memory
-
-pub returns-in-Ok-from_slice-clause-made : goal.returns-in-Ok-from_slice-clause-made
-returns-in-Ok-from_slice-clause-made c = λ file is. printed (module_view c.in-Ok.checked) (reads_text c.args.text.now is) c.in-Ok.ensures.accepted
-    (c.in-Ok-from_slice.ensures.items ∙ c.as_bytes.ensures ∙ c.in-Ok-print.ensures.canonical ∙ ap (λ m. canonical_text (module_view m)) c.module.ensures.given)
+pub returns-in-Ok-print-clause-made : goal.returns-in-Ok-print-clause-made
+returns-in-Ok-print-clause-made c = λ file is. printed (module_view c.in-Ok.checked) (reads_text c.args.text.now is) c.in-Ok.ensures.accepted
+    (c.in-Ok-print.ensures.canonical ∙ ap (λ m. canonical_text (module_view m)) c.module.ensures.given)
 
 pub returns-clause-barred : goal.returns-clause-barred
 returns-clause-barred c = λ file is. want_of_memory
