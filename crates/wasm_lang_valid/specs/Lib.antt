@@ -8,3 +8,4 @@ pub mod Validity
 pub mod Runnable
 pub mod Measures
 pub mod Profile
+pub mod Rows
