@@ -1,4 +1,4 @@
--- What is spelled is shaped: names are UTF-8, instructions have opcodes, and bodies are expressions.
+-- What is spelled is shaped: names are UTF-8, instructions have opcodes, bodies are expressions, and there are as many as functions.
 use Rattle.std.proofs.Common.{ℕ, List, [], ◌∷◌}
 use Rattle.std.specs.Prelude.{All}
 use Rattle.std.specs.List.{AllByRecursion}
@@ -63,4 +63,5 @@ spelled_shaped bytes m b = record {
   globals = section_all 6 IsGlobal (λ g. IsShapedCode g.init) shaped_global m.globals _ _ b.globals;
   elements = section_all 9 IsElement (λ e. IsShapedCode e.offset) shaped_element m.elements _ _ b.elements;
   segments = section_all 11 IsSegment (λ s. IsShapedCode s.offset) shaped_segment m.segments _ _ b.segments;
+  bodies_match = b.bodies_match;
 }

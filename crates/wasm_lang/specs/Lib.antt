@@ -5,6 +5,7 @@ pub mod Numbers
 pub mod Grammar
 pub mod Limits
 pub mod Shape
+pub mod Rows
 pub mod Reading
 pub mod ReadingCode
 pub mod ReadingModule

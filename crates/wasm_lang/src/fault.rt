@@ -1,4 +1,6 @@
 //! Why bytes can't be read as a module.
+ghost use Rattle.std.specs.Prelude.{◌≡◌};
+ghost use Rattle.wasm_lang.specs.Rows as rows;
 
 /// Why a field can't be read. The variants stand in the order of their printed numbers, 1 to 12.
 #[derive(Clone, Copy, PartialEq, Eq, Debug)]
@@ -27,6 +29,26 @@ pub enum Row {
     MemoryGrow,
     /// A count passes a limit of the reader.
     Limit,
+}
+
+/// The printed number of a row, 1 to 12.
+pub fn row_number(row: Row) -> u8
+    ensures { result ≡ rows.row_number row }
+{
+    match row {
+        Row::Magic => 1,
+        Row::Version => 2,
+        Row::Truncated => 3,
+        Row::Leb => 4,
+        Row::SectionOrder => 5,
+        Row::SectionSize => 6,
+        Row::UnknownByte => 7,
+        Row::Utf8 => 8,
+        Row::Counts => 9,
+        Row::Float => 10,
+        Row::MemoryGrow => 11,
+        Row::Limit => 12,
+    }
 }
 
 /// The first field that can't be read: why, and its place in the input.

@@ -10,7 +10,7 @@ mod laws;
 mod reading_laws;
 mod types;
 
-pub use fault::{Fault, NumberFault, Row};
+pub use fault::{Fault, NumberFault, Row, row_number};
 pub use laws::{code_laws, number_laws};
 pub use reading_laws::module_laws;
 pub use types::{ExportKind, GlobalType, ImportKind, Limits, MemOp, ValType};

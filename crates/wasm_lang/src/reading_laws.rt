@@ -10,7 +10,7 @@ ghost use Rattle.wasm_lang.specs.Shape.{IsShaped};
 /// A module within the reader's limits is read from each of its spellings, and what is read is spelled so. Bytes have at
 /// most one module: one within the limits, or there is a first field that can't be read, and they have none within them.
 /// Its place is one of the bytes, or their end. A module that bytes spell is shaped: names are UTF-8, instructions have
-/// opcodes, and bodies are expressions.
+/// opcodes, bodies are expressions, and there are as many as functions.
 pub fn module_laws()
     ensures reads_what_is_spelled { (bytes : List ℕ) (m : WasmModule) → IsModuleBytes bytes m → IsWithinReader m → read_module bytes ≡ Ok m }
     ensures spelled_as_read { (bytes : List ℕ) (m : WasmModule) → All (λ b. b < 256) bytes → read_module bytes ≡ Ok m → IsModuleBytes bytes m × IsWithinReader m }

@@ -9,3 +9,4 @@ pub mod Runnable
 pub mod Measures
 pub mod Profile
 pub mod Bytes
+pub mod Rows

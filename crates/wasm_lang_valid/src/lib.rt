@@ -11,6 +11,6 @@ mod rule;
 mod section;
 
 pub use laws::{body_laws, item_laws, module_laws, refusal_laws};
-pub use profile::{Beyond, Outside};
-pub use rule::{Opening, Rule};
-pub use section::Section;
+pub use profile::{Beyond, Outside, beyond_number};
+pub use rule::{Opening, Rule, rule_number};
+pub use section::{Section, section_number};

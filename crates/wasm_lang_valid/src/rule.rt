@@ -1,4 +1,6 @@
 //! The rules of validity, and how a block is opened.
+ghost use Rattle.std.specs.Prelude.{◌≡◌};
+ghost use Rattle.wasm_lang_valid.specs.Rules.{number};
 
 /// How a block was opened: so that a branch to its label leaves it, so that a branch comes back to its
 /// start, or as the first arm of an `if`, which an `else` may follow.
@@ -58,4 +60,34 @@ pub enum Rule {
     IfWithoutElse,
     /// A function type has two results or more.
     TwoResults,
+}
+
+/// The printed number of a rule of validity, 1 to 21, and 0 for marks that do not nest, which no read module has.
+pub fn rule_number(rule: Rule) -> u8
+    ensures { result ≡ number rule }
+{
+    match rule {
+        Rule::Nesting => 0,
+        Rule::NoType => 1,
+        Rule::NoFunction => 2,
+        Rule::NoTable => 3,
+        Rule::NoMemory => 4,
+        Rule::NoGlobal => 5,
+        Rule::NoLocal => 6,
+        Rule::NoLabel => 7,
+        Rule::OtherType => 8,
+        Rule::MissingOperand => 9,
+        Rule::OperandsLeft => 10,
+        Rule::Alignment => 11,
+        Rule::ConstantGlobal => 12,
+        Rule::Initializer => 13,
+        Rule::Size => 14,
+        Rule::SecondMemory => 15,
+        Rule::SecondTable => 16,
+        Rule::RepeatedName => 17,
+        Rule::StartType => 18,
+        Rule::LabelsDiffer => 19,
+        Rule::IfWithoutElse => 20,
+        Rule::TwoResults => 21,
+    }
 }
