@@ -282,7 +282,7 @@ def roots_of_contract():
 def title_of(path):
     """What the first line of a file says it is."""
     first = path.read_text(encoding="utf8").splitlines()[0]
-    return re.sub(r"^(--|//!)\s*", "", first).rstrip(".")
+    return re.sub(r"^(--|//!?)\s*", "", first).rstrip(".")
 
 
 def rewritten(lines, missing, stale):
