@@ -103,9 +103,9 @@ def dedented(lines):
 def members_of(group):
     """The constructors of a `data`, or the fields of a `record`."""
     for line in dedented(group[1:]):
-        found = re.match(r"(?:pub )?([^\s:({]+) :", line)
+        found = re.match(r"(?:pub )?((?:[^\s:({]+ )+):", line)
         if found:
-            yield found.group(1)
+            yield from found.group(1).split()
 
 
 def names_of(group):
@@ -282,7 +282,7 @@ def roots_of_contract():
 def title_of(path):
     """What the first line of a file says it is."""
     first = path.read_text(encoding="utf8").splitlines()[0]
-    return re.sub(r"^(--|//!)\s*", "", first).rstrip(".")
+    return re.sub(r"^(--|//!?)\s*", "", first).rstrip(".")
 
 
 def rewritten(lines, missing, stale):
