@@ -221,3 +221,12 @@ fn other_objects_have_no_foreign_members(rt: HostRuntime) -> Result<(), Fail> {
     }
     Ok(())
 }
+
+#[test]
+fn rules_have_the_numbers_that_are_printed(rt: HostRuntime) -> Result<(), Fail> {
+    assert_eq!(rt; Rule::NameTaken.number(), 8);
+    assert_eq!(rt; Rule::NameTaken.name(), "A8 NameTaken");
+    assert_eq!(rt; Rule::PastLimit.number(), 24);
+    assert_eq!(rt; Rule::PastLimit.name(), "A24 Limit");
+    Ok(())
+}
