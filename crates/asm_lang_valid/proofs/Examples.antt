@@ -3,7 +3,7 @@ use Rattle.std.proofs.Common.{◌≡◌, ℕ, true, false, List, [], ◌∷◌, 
 use Rattle.std.specs.Prelude.{pos, negsuc, codes}
 use Rattle.sem_words.specs.declared.js_value.JsOp.TheVariants.{Mul, Div, Or, And, Shr, Sar}
 use Rattle.sem_words.specs.declared.js_value.JsUnary.TheVariants.{Plus}
-use Rattle.asm_lang.specs.Trees.{Init, number, foreign_int, member, view}
+use Rattle.asm_lang.specs.Trees.{Init, number, foreign_int, foreign_double, member, view}
 use Rattle.asm_lang.specs.Modules.{Expr, lit, var, index, call, table_call, assign, store, unary, binary, chain, comma, no_exprs, exprs, no_links, links, Stmt, block, plain, empty, if_only, returns, while_loop, breaks, continues, labelled, switches, Stmts, no_stmts, stmts, no_clauses, clauses, Variable, Param, Function, one, Module}
 use Rattle.asm_lang_valid.specs.declared.rule.Rule.{Rule}
 use Rattle.asm_lang_valid.specs.declared.rule.Rule.TheVariants.{NameTaken, ForbiddenName, UnknownName, WrongKind, LiteralRange, OutsideInteger, Operand, CallShape, BareByteIndex, ViewShift, TableSize, TableMask, ReturnKind, Label, SwitchCases}
@@ -143,6 +143,19 @@ taken = refl
 
 both_ways : refusal (of (init g (foreign_int (codes "e") (codes "m")) ∷ init x (member (codes "e") (codes "m")) ∷ []) (function f [] no_stmts ∷ [])) ≡ met NameTaken 2
 both_ways = refl
+
+-- a member of what isn't the foreign parameter is none of its members
+other_object : refusal (of (init g (member (codes "e") (codes "m")) ∷ init x (foreign_int (codes "s") (codes "m")) ∷ []) (function f [] no_stmts ∷ [])) ≡ met WrongKind 2
+other_object = refl
+
+other_object_key : refusal (of (init x (foreign_int (codes "s") (codes "__proto__")) ∷ []) (function f [] no_stmts ∷ [])) ≡ met WrongKind 1
+other_object_key = refl
+
+unknown_object_key : refusal (of (init x (foreign_double (codes "q") (codes "__proto__")) ∷ []) (function f [] no_stmts ∷ [])) ≡ met UnknownName 1
+unknown_object_key = refl
+
+foreign_key : refusal (of (init x (foreign_int (codes "e") (codes "__proto__")) ∷ []) (function f [] no_stmts ∷ [])) ≡ met ForbiddenName 1
+foreign_key = refl
 
 eval_is_forbidden : refusal (of (init (codes "eval") (number (pos 0)) ∷ []) (function f [] no_stmts ∷ [])) ≡ met ForbiddenName 1
 eval_is_forbidden = refl

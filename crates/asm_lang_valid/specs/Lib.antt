@@ -1,5 +1,6 @@
 pub mod Scope
 pub mod Rows
+pub mod RuleNames
 pub mod Typing
 pub mod Typed
 pub mod NameRows

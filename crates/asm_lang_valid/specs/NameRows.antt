@@ -110,7 +110,7 @@ abbrev mutual
 
 -- ---- global variables
 
--- a foreign member that is imported as a value, or as a function
+-- the members of the foreign object that are imported as values, and as functions
 pub record Imports : Type 0 where
   pub values : List (List ℕ)
   pub functions : List (List ℕ)
@@ -121,20 +121,20 @@ added ns n = if is_in n ns then ns else ns ++ n ∷ []
 
 -- with those of one more declaration
 abbrev pub with_import : Module → Init → Imports → Imports
-with_import m (foreign_int f p) is = record { values = added is.values p; functions = is.functions }
-with_import m (foreign_double f p) is = record { values = added is.values p; functions = is.functions }
+with_import m (foreign_int f p) is = if is_foreign m f then record { values = added is.values p; functions = is.functions } else is
+with_import m (foreign_double f p) is = if is_foreign m f then record { values = added is.values p; functions = is.functions } else is
 with_import m (member f p) is = if is_foreign m f then record { values = is.values; functions = added is.functions p } else is
 with_import m _ is = is
 
 abbrev pub clashes : Module → Imports → Init → Bool
-clashes m is (foreign_int f p) = is_in p is.functions
-clashes m is (foreign_double f p) = is_in p is.functions
+clashes m is (foreign_int f p) = is_foreign m f && is_in p is.functions
+clashes m is (foreign_double f p) = is_foreign m f && is_in p is.functions
 clashes m is (member f p) = is_foreign m f && is_in p is.values
 clashes m is _ = false
 
 abbrev pub has_forbidden_member : Module → Init → Bool
-has_forbidden_member m (foreign_int f p) = is_forbidden_key p
-has_forbidden_member m (foreign_double f p) = is_forbidden_key p
+has_forbidden_member m (foreign_int f p) = is_foreign m f && is_forbidden_key p
+has_forbidden_member m (foreign_double f p) = is_foreign m f && is_forbidden_key p
 has_forbidden_member m (member f p) = is_foreign m f && is_forbidden_key p
 has_forbidden_member m _ = false
 

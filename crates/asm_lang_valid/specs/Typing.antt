@@ -85,11 +85,11 @@ abbrev pub exprs_length : Exprs → ℕ
 exprs_length no_exprs = 0
 exprs_length (exprs e es) = suc (exprs_length es)
 
--- a call that isn't one of the standard library
 abbrev pub is_builtin : Meaning → Bool
 is_builtin (a_builtin b) = true
 is_builtin _ = false
 
+-- a call that isn't one of the standard library
 abbrev pub is_call : Scope → Expr → Bool
 is_call c (call n es) = not (is_builtin (named c n))
 is_call c (table_call n i es) = true
@@ -116,11 +116,12 @@ abbrev pub or_zero : JsOp → Expr → Bool
 or_zero Or e = is_literal 0 e
 or_zero _ e = false
 
--- what fits the callee of this meaning: a function takes ints, a foreign one what may go out
+-- the type of a call of the standard library, by how many arguments there are and whether all are ints
 abbrev pub builtin_call : Meaning → ℕ → Bool → Option ValueType
 builtin_call (a_builtin b) count ints = row ((count == builtin_arguments b) && ints) (builtin_type b)
 builtin_call _ count ints = None
 
+-- what fits the callee of this meaning: a function takes ints, a foreign one what may go out
 abbrev pub callee_fits : Meaning → Bool → ℕ → Bool → Bool → Bool
 callee_fits (a_function f) result count ints externs = matches (Some (signature_of f)) count result && ints
 callee_fits (a_foreign p) result count ints externs = externs

@@ -5,6 +5,7 @@
 mod laws;
 mod meaning;
 mod rule;
+mod rule_names;
 
 pub use laws::{place_laws, refusal_laws, type_laws};
 pub use meaning::{Builtin, Element};

@@ -16,7 +16,7 @@ use indexmap::IndexSet;
 use sem_words::Text;
 use std::alloc::{AllocError, Global};
 
-/// The members that were imported as values, and those that were as functions.
+/// The members of the foreign object that were imported as values, and those that were as functions.
 #[derive(Drop)]
 pub struct Imports<'a> {
     values: IndexSet<&'a [u8]>,
@@ -40,8 +40,8 @@ pub fn clashes(home: &Module, imports: &Imports<'_>, init: &Init) -> bool
     ensures { result ≡ rows.clashes (module_view home.now) (imports_view imports.now) (init_view init.now) }
 {
     match init {
-        Init::ForeignInt(_, field) | Init::ForeignDouble(_, field) => {
-            has(&imports.functions, field)
+        Init::ForeignInt(object, field) | Init::ForeignDouble(object, field) => {
+            is_foreign(home, object) && has(&imports.functions, field)
         }
         Init::Member(object, field) => is_foreign(home, object) && has(&imports.values, field),
         _ => false,
@@ -60,10 +60,9 @@ pub fn has_forbidden_member(home: &Module, init: &Init) -> bool
     ensures { result ≡ rows.has_forbidden_member (module_view home.now) (init_view init.now) }
 {
     match init {
-        Init::ForeignInt(_, field) | Init::ForeignDouble(_, field) => {
-            is_forbidden_key(field.as_bytes())
-        }
-        Init::Member(object, field) => {
+        Init::ForeignInt(object, field)
+        | Init::ForeignDouble(object, field)
+        | Init::Member(object, field) => {
             is_foreign(home, object) && is_forbidden_key(field.as_bytes())
         }
         _ => false,
@@ -79,8 +78,10 @@ pub fn add_import<'a>(
     ensures { IfOk result (λ _. imports_view imports.new ≡ rows.with_import (module_view home.now) (init_view init.now) (imports_view imports.old)) }
 {
     match init {
-        Init::ForeignInt(_, field) | Init::ForeignDouble(_, field) => {
-            add(&mut imports.values, field)?;
+        Init::ForeignInt(object, field) | Init::ForeignDouble(object, field) => {
+            if is_foreign(home, object) {
+                add(&mut imports.values, field)?;
+            }
             Ok(())
         }
         Init::Member(object, field) => {

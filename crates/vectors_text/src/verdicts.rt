@@ -182,3 +182,51 @@ fn the_first_fault_is_told_with_its_place(rt: HostRuntime) -> Result<(), Fail> {
     }
     Ok(())
 }
+
+/// A whole text, what it breaks, and the offset.
+type Refusal = (&'static [u8], AsmRow, u64);
+
+/// Members of names that aren't the module's second parameter.
+static MEMBERS: [Refusal; 3] = [
+    (
+        b"function m(s,e){\"use asm\";var y=e.a;var x=s.a|0;function f(){return 0;}return f;}",
+        AsmRow::Rule(Rule::WrongKind),
+        40,
+    ),
+    (
+        b"function m(s,e){\"use asm\";var x=s.__proto__|0;function f(){return 0;}return f;}",
+        AsmRow::Rule(Rule::WrongKind),
+        30,
+    ),
+    (
+        b"function m(s,e){\"use asm\";var x=+q.__proto__;function f(){return 0;}return f;}",
+        AsmRow::Rule(Rule::UnknownName),
+        30,
+    ),
+];
+
+/// The text is refused for what it breaks, at the offset.
+fn is_refused(rt: &impl Abort, alloc: Global, refusal: &Refusal) -> Result<(), Fail> {
+    let (text, broken, at) = *refusal;
+    let fault = check_text(alloc, text).err();
+    let told = CheckFault::Refused { row: broken, at };
+    assert_eq!(rt; fault, Some(told), "{}", row_name(broken));
+    Ok(())
+}
+
+#[test]
+fn other_objects_have_no_foreign_members(rt: HostRuntime) -> Result<(), Fail> {
+    for refusal in MEMBERS.iter() {
+        is_refused(&rt, rt.alloc(), refusal)?;
+    }
+    Ok(())
+}
+
+#[test]
+fn rules_have_the_numbers_that_are_printed(rt: HostRuntime) -> Result<(), Fail> {
+    assert_eq!(rt; Rule::NameTaken.number(), 8);
+    assert_eq!(rt; Rule::NameTaken.name(), "A8 NameTaken");
+    assert_eq!(rt; Rule::PastLimit.number(), 24);
+    assert_eq!(rt; Rule::PastLimit.name(), "A24 Limit");
+    Ok(())
+}
