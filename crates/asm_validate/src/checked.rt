@@ -3,6 +3,7 @@
 ghost use Rattle.std.specs.Prelude.{◌≡◌, ◌<◌, ◌^◌, length, map, IfOk, MatchResult, slice_get};
 ghost use Rattle.std.specs.Option.{option_map};
 ghost use Rattle.asm_tree.specs.Views.{module_view, function_view, texts_view};
+ghost use Rattle.asm_lang.specs.Heights.{IsWellFormed};
 ghost use Rattle.asm_lang_valid.specs.LimitRows as limits;
 ghost use Rattle.asm_lang_valid.specs.Refusal as typing;
 ghost use Rattle.asm_lang_valid.specs.Refusal.{IsAccepted};
@@ -19,6 +20,7 @@ use asm_tree::{Function, Module};
 use asm_validate_exprs::signature_of;
 use asm_validate_facts::{ExportOf, Facts, facts_of};
 use asm_validate_limits::ForeignCall;
+use asm_validate_nodes::node_count;
 use sem_words::{List, Text};
 use std::alloc::Global;
 use std::marker::Model;
@@ -30,7 +32,7 @@ pub struct Signature {
     pub result: bool,
 }
 
-/// An accepted module. Its contracts see the module itself.
+/// A well-formed module that is accepted. Its contracts see the module itself.
 #[derive(Drop)]
 pub struct Checked {
     module: Module,
@@ -45,6 +47,7 @@ impl Model for Checked {
     ghost use Rattle.asm_tree.specs.contracts.tree.Expr as exprs;
     ghost use Rattle.asm_tree.specs.contracts.tree.Stmt as stmts;
     ghost use Rattle.asm_tree.specs.Views.{module_view};
+    ghost use Rattle.asm_lang.specs.Heights.{IsWellFormed};
     ghost use Rattle.asm_lang_valid.specs.LimitRows as limits;
     ghost use Rattle.asm_lang_valid.specs.Refusal.{IsAccepted};
     ghost use Rattle.asm_validate_facts.specs.FactsOf.{FactsOf};
@@ -56,14 +59,27 @@ impl Model for Checked {
 
     ghost view = { λ c. c.«module» };
 
-    ghost invariant = { λ c. IsAccepted (module_view c.«module») × FactsOf c.facts (module_view c.«module») × (foreign_list c.foreign_calls ≡ limits.foreign_calls (module_view c.«module»)) };
+    ghost invariant = { λ c. IsWellFormed (module_view c.«module») × IsAccepted (module_view c.«module») × FactsOf c.facts (module_view c.«module») × (foreign_list c.foreign_calls ≡ limits.foreign_calls (module_view c.«module»)) };
 }
 
-/// Accepts a module, or refuses it for the first node that breaks a rule of names, or else of types, or else for the
-/// first that passes a limit, in text order with the parts of an expression before the whole. Of two rules that one node
-/// breaks the first counts.
+/// Accepts a well-formed module, or refuses it for the first node that breaks a rule of names, or else of types, or else
+/// for the first that passes a limit, in text order with the parts of an expression before the whole. Of two rules that
+/// one node breaks the first counts. A module of 2^64 nodes, which no memory has room for, is refused for want of memory.
 pub fn validate(alloc: Global, module: Module) -> Result<Checked, AsmRefusal>
-    requires { module_count (module_view «module») < 2 ^ 64 }
+    requires { IsWellFormed (module_view «module») }
+    ensures given { IfOk result (λ checked. checked ≡ «module») }
+    ensures exactly { MatchResult result (λ _. IsAccepted (module_view «module»)) (IsRefused (module_view «module»)) }
+{
+    match node_count(&module) {
+        None => Err(AsmRefusal::Memory),
+        Some(_) => judge(alloc, module),
+    }
+}
+
+// .. a module whose nodes have numbers of 64 bits.
+fn judge(alloc: Global, module: Module) -> Result<Checked, AsmRefusal>
+    requires well_formed { IsWellFormed (module_view «module») }
+    requires room { module_count (module_view «module») < 2 ^ 64 }
     ensures given { IfOk result (λ checked. checked ≡ «module») }
     ensures exactly { MatchResult result (λ _. IsAccepted (module_view «module»)) (IsRefused (module_view «module»)) }
 {
@@ -92,6 +108,7 @@ impl Checked {
     /// The module.
     pub fn module(&self) -> &Module
         ensures given { result.now ≡ self.now }
+        ensures well_formed { IsWellFormed (module_view self.now) }
         ensures accepted { IsAccepted (module_view self.now) }
     {
         &self.module
