@@ -1,0 +1,39 @@
+//! Worked code and sessions. Each function does nothing, and its contract is what the check computes of small modules.
+ghost use Rattle.std.specs.Prelude.{◌≡◌, ◌∷◌, ◌++◌, [], replicate, codes};
+ghost use Rattle.sem_laws.specs.Observation.{done, call_returned};
+ghost use Rattle.asm2wasm_code.specs.Pieces.{bodies, storing, dividing, continuing, switching, few_cases, dense_cases, tabled, tabled_script, storing_script};
+ghost use Rattle.asm2wasm_code.specs.Worked.{body, storing_code, dividing_code, continuing_code, few_code, dense_code, first_code, first_part, all_clauses_code, clauses_part, gave, imported, IsAlike};
+
+/// `H[a>>2]=H[b>>2]=c`: both indices wait on the stack, so that two scratch locals serve both stores.
+pub fn a_store_in_a_store()
+    ensures { bodies storing ≡ body 2 storing_code ∷ [] }
+{}
+
+/// `(a|0)/(b|0)|0`: the divisors 0 and -1 go by the product.
+pub fn a_guarded_quotient()
+    ensures { bodies dividing ≡ body 2 dividing_code ∷ [] }
+{}
+
+/// `outer:while(a)while(b)continue outer;`
+pub fn a_labelled_continue()
+    ensures { bodies continuing ≡ body 0 continuing_code ∷ [] }
+{}
+
+/// A switch with a default, by tests; one of values that lie close together, by a table; and the parts
+/// of one of many clauses.
+pub fn switches()
+    ensures by_tests { bodies (switching few_cases) ≡ body 2 few_code ∷ [] }
+    ensures by_table { bodies (switching dense_cases) ≡ body 2 dense_code ∷ [] }
+    ensures first_of_many { first_part ≡ first_code }
+    ensures many_clauses { clauses_part ≡ all_clauses_code }
+{}
+
+/// Table calls in the arguments of a table call, a foreign function, and a labelled loop.
+pub fn tables_and_loops()
+    ensures { IsAlike tabled 0 tabled_script 100 1000 (imported (codes "g") (2 ∷ []) ∷ gave 1010 ∷ imported (codes "g") (2 ∷ []) ∷ imported (codes "g") (4 ∷ []) ∷ gave 1006 ∷ []) done [] }
+{}
+
+/// A store in a store, and the outer one outside the heap and inside the memory.
+pub fn stores()
+    ensures { IsAlike storing 8 storing_script 10 1000 (call_returned ∷ call_returned ∷ []) done (9 ∷ 0 ∷ 0 ∷ 0 ∷ 7 ∷ 0 ∷ 0 ∷ 0 ∷ []) }
+{}

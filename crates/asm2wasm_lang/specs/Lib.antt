@@ -1,0 +1,4 @@
+pub mod Heaps
+pub mod Tables
+pub mod Calling
+pub mod Allowed

@@ -1,0 +1,4 @@
+mod Joined
+mod Read
+mod Counted
+mod Checked
