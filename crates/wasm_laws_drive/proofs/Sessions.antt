@@ -1,9 +1,10 @@
 -- More reductions only add to what is seen of a session.
-use Rattle.std.proofs.Common.{◌≡◌, ℕ, zero, suc, ◌+◌, ◌-◌, List, [], ◌∷◌, Option, Some, None, Bool, true, false, refl, sym, ap, subst, arith}
+use Rattle.std.proofs.Common.{◌≡◌, ℕ, zero, suc, ◌+◌, ◌-◌, List, [], ◌∷◌, Option, Some, None, Bool, true, false, refl, sym, ap, ◌∙◌, subst, arith}
+use Rattle.std.proofs.lemmas.Option.{none-some}
 use Rattle.std.specs.Prelude.{ℤ, reverse, ◌&&◌}
 use Rattle.sem_words.specs.declared.word.Word.{Word}
 use Rattle.sem_laws.specs.Script.{CallPlain, ScriptPlain}
-use Rattle.sem_laws.specs.Observation.{EventPlain, ObservationPlain, IsPrefix, IsBelow}
+use Rattle.sem_laws.specs.Observation.{EventPlain, EndPlain, ObservationPlain, IsPrefix, IsBelow}
 use Rattle.sem_laws.proofs.BelowLaws.{below_is_reflexive, prefix_trans}
 use Rattle.wasm_lang.specs.Modules.{WasmModule}
 use Rattle.wasm_lang_exec.specs.Code.{call, ε, ◌▹◌}
@@ -11,7 +12,7 @@ use Rattle.wasm_lang_exec.specs.Store.{Store}
 use Rattle.wasm_lang_exec.specs.Reductions.{callee_at, Code}
 use Rattle.wasm_lang_exec.specs.Session.{Run, finished, spent, over, run, run_call, result_event, with_event, function_named, arguments_for, after_call, one_call, calls_seen, after_start, started, instantiated, entries_fit, bytes_fit, with_bytes, with_entries, first_store, wasm}
 use Rattle.wasm_laws_drive.specs.Drive.{Outcome, Next, Branch, Leave, Ended, Stuck, Spent, drive}
-use Rattle.wasm_laws_drive.specs.Laws.{events_of, Adds, run_of, SessionsAreMonotone, SessionsGrow}
+use Rattle.wasm_laws_drive.specs.Laws.{events_of, Adds, run_of, SessionsAreMonotone, SessionsGrow, EndedSessionsStay}
 use Rattle.wasm_laws_drive.proofs.Events.{same_events}
 use Rattle.wasm_laws_drive.proofs.Counting.{events_stay, more_only_add, run_is_driven}
 
@@ -148,3 +149,47 @@ sessions_grow m script (suc few) (suc many) le =
 
 pub sessions_are_monotone : SessionsAreMonotone
 sessions_are_monotone m script n = sessions_grow m script n (suc n) (omega arith)
+
+-- ---- a session that has ended
+
+-- with more reductions, what follows stays once it has ended
+abbrev StaysOn : Following → Type 0
+StaysOn next = (n k : ℕ) (s : Store) (e : EndPlain) → (next n s).end ≡ Some e → next (n + k) s ≡ next n s
+
+call_ended : (k : ℕ) (r later : Run) (next : Following) (e : EndPlain) → StaysOn next → RunAdds k r later → (after_call r next).end ≡ Some e → after_call later next ≡ after_call r next
+call_ended k (finished values s n) later next e stays adds ends = ap (λ r. after_call r next) adds ∙ stays n k (with_event (result_event values) s) e ends
+call_ended k (spent s) later next e stays adds ends = absurd (none-some e ends)
+call_ended k (over e' s) later next e stays adds ends = ap (λ r. after_call r next) adds
+
+start_ended : (k : ℕ) (r later : Run) (next : Following) (e : EndPlain) → StaysOn next → RunAdds k r later → (after_start r next).end ≡ Some e → after_start later next ≡ after_start r next
+start_ended k (finished values s n) later next e stays adds ends = ap (λ r. after_start r next) adds ∙ stays n k s e ends
+start_ended k (spent s) later next e stays adds ends = absurd (none-some e ends)
+start_ended k (over e' s) later next e stays adds ends = ap (λ r. after_start r next) adds
+
+module _ (m : WasmModule) where
+  one_stays : (f : Option ℕ) (zs : List ℤ) (next : Following) → StaysOn next → StaysOn (λ n s. one_call m f zs n s next)
+  one_stays None zs next stays n k s e ends = absurd (none-some e ends)
+  one_stays (Some f) zs next stays n k s e ends =
+      let arguments = arguments_for (callee_at m f) zs in
+      call_ended k (run_call m n f arguments s) (run_call m (n + k) f arguments s) next e stays (call_adds m n k f arguments s) ends
+
+  calls_stay : (cs : List CallPlain) → StaysOn (calls_seen m cs)
+  calls_stay [] n k s e ends = refl
+  calls_stay (c ∷ cs) n k s e ends = one_stays (function_named m.exports c.name) c.args (calls_seen m cs) (calls_stay cs) n k s e ends
+
+  start_stays : (f : Option ℕ) (next : Following) → StaysOn next → StaysOn (λ n s. started m f n s next)
+  start_stays None next stays n k s e ends = stays n k s e ends
+  start_stays (Some f) next stays n k s e ends = start_ended k (run_call m n f [] s) (run_call m (n + k) f [] s) next e stays (call_adds m n k f [] s) ends
+
+  begun_stays : (fits : Bool) (script : ScriptPlain) → StaysOn (instantiated fits m script)
+  begun_stays false script n k s e ends = refl
+  begun_stays true script n k s e ends =
+      start_stays m.start (calls_seen m script.calls) (calls_stay script.calls) n k (with_bytes m.segments (with_entries m.elements s)) e ends
+
+pub ended_sessions_stay : EndedSessionsStay
+ended_sessions_stay m script zero k e ends = absurd (none-some e ends)
+ended_sessions_stay m script (suc n) k e ends =
+    let s = first_store m script in
+    let more : suc (n + k) ≡ suc n + k = omega arith in
+    subst (λ many. wasm m script many ≡ wasm m script (suc n)) more
+    (begun_stays m (entries_fit s m.elements && bytes_fit s m.segments) script n k s e ends)

@@ -1,10 +1,10 @@
 -- What holds of `drive`, for every module and state: its equation at each construct.
-use Rattle.std.specs.Prelude.{◌≡◌, ℕ, ◌+◌, ◌<◌, ◌≤◌, false, List, [], ◌∷◌, Option, reverse, slice_get}
+use Rattle.std.specs.Prelude.{◌≡◌, ℕ, ◌+◌, ◌<◌, ◌≤◌, false, List, [], ◌∷◌, Option, Some, reverse, slice_get}
 use Rattle.sem_words.specs.declared.word.Word.{Word}
 use Rattle.sem_words.specs.declared.word.Word.TheVariants.{W32, W64}
 use Rattle.sem_words.specs.declared.word.TrapKind.TheVariants as kinds
 use Rattle.sem_laws.specs.Script.{ScriptPlain}
-use Rattle.sem_laws.specs.Observation.{EventPlain, trapped, IsPrefix, IsBelow}
+use Rattle.sem_laws.specs.Observation.{EventPlain, EndPlain, trapped, IsPrefix, IsBelow}
 use Rattle.sem_laws.specs.Simulation.{IsMonotone}
 use Rattle.wasm_lang.specs.declared.types.ValType.{ValType}
 use Rattle.wasm_lang.specs.Instructions.{Plain, const32, const64}
@@ -168,3 +168,7 @@ SessionsAreMonotone = (m : WasmModule) (script : ScriptPlain) → IsMonotone (wa
 -- more reductions only add to what is seen of a session
 abbrev pub SessionsGrow : Type 0
 SessionsGrow = (m : WasmModule) (script : ScriptPlain) (few many : ℕ) → few ≤ many → IsBelow (wasm m script few) (wasm m script many)
+
+-- once a session has ended, more reductions change nothing
+abbrev pub EndedSessionsStay : Type 0
+EndedSessionsStay = (m : WasmModule) (script : ScriptPlain) (n k : ℕ) (e : EndPlain) → (wasm m script n).end ≡ Some e → wasm m script (n + k) ≡ wasm m script n

@@ -1,6 +1,6 @@
 //! The equations of `drive`, for every module and state. Each function does nothing, and its
 //! contract is the law.
-ghost use Rattle.wasm_laws_drive.specs.Laws.{NoCode, NarrowConstant, WideConstant, PlainInstruction, Sequence, Unreachable, Block, Loop, LoopTurn, If, Br, BrIf, BrTable, Return, Call, CallIndirect, ThroughLabel, ThroughFrame, NoMoreAreLeft, MoreOnlyAdd, EventsStay, RunIsDriven, HostCall, SessionsAreMonotone, SessionsGrow};
+ghost use Rattle.wasm_laws_drive.specs.Laws.{NoCode, NarrowConstant, WideConstant, PlainInstruction, Sequence, Unreachable, Block, Loop, LoopTurn, If, Br, BrIf, BrTable, Return, Call, CallIndirect, ThroughLabel, ThroughFrame, NoMoreAreLeft, MoreOnlyAdd, EventsStay, RunIsDriven, HostCall, SessionsAreMonotone, SessionsGrow, EndedSessionsStay};
 
 /// What comes of the inside of a label or a frame is what comes of the whole.
 pub fn contexts()
@@ -50,8 +50,9 @@ pub fn host_calls()
     ensures call { HostCall }
 {}
 
-/// More reductions only add to what is seen of a session.
+/// More reductions only add to what is seen of a session, and change nothing once it has ended.
 pub fn sessions_grow()
     ensures any { SessionsGrow }
     ensures monotone { SessionsAreMonotone }
+    ensures ended { EndedSessionsStay }
 {}

@@ -1,4 +1,4 @@
-use Rattle.wasm_laws_drive.proofs.Sessions.{sessions_grow, sessions_are_monotone}
+use Rattle.wasm_laws_drive.proofs.Sessions.{sessions_grow, sessions_are_monotone, ended_sessions_stay}
 use Rattle.wasm_laws_drive.proofs.laws.sessions_grow.Goals as goal
 
 pub returns-clause-any : goal.returns-clause-any
@@ -6,3 +6,6 @@ returns-clause-any c = sessions_grow
 
 pub returns-clause-monotone : goal.returns-clause-monotone
 returns-clause-monotone c = sessions_are_monotone
+
+pub returns-clause-ended : goal.returns-clause-ended
+returns-clause-ended c = ended_sessions_stay
