@@ -1,0 +1,59 @@
+-- A heap at the front of a memory: elements are read and written under a guard that compares their index, as a word, with the number of
+-- elements in the heap, whatever more the memory has.
+use Rattle.std.specs.Prelude.{◌≡◌, ℕ, ◌+◌, ◌*◌, ◌/◌, ◌^◌, ◌≤◌, Bool, true, false, List, ◌++◌, length, All, Option, Some, None, ℤ, pos, nat_lt}
+use Rattle.sem_words.specs.Words.{word_of}
+use Rattle.sem_words.specs.JsValues.{to_uint32_of}
+use Rattle.heap_views.specs.Heap.{IsHeapLength, load, store, load_bytes, store_bytes}
+use Rattle.heap_views.specs.Numbers.{IsBytes}
+use Rattle.sem_laws.specs.Script.{WritePlain}
+use Rattle.wasm_lang.specs.declared.types.MemOp.{MemOp}
+use Rattle.wasm_lang_exec.specs.Store.{written}
+use Rattle.wasm_lang_exec.specs.Plain.{loaded_number}
+use Rattle.asm_types.specs.Values.{is_between, least}
+use Rattle.asm_lang_valid.specs.declared.meaning.Element.{Element}
+use Rattle.asm_lang_valid.specs.Scope.{shift_of}
+use Rattle.asm_lang_exec.specs.Values.{kind_of, element_value, with_writes}
+use Rattle.asm2wasm_code.specs.Values.{is_signed_element, access}
+
+-- the index is one of an element of 2 ^ k bytes in a heap of this length
+abbrev pub is_within : (k size index : ℕ) → Bool
+is_within k size index = nat_lt index (size / 2 ^ k)
+
+abbrev pub stored_memory : (k index word : ℕ) → Bool → List ℕ → List ℕ
+stored_memory k index word true memory = store_bytes (index * 2 ^ k) (2 ^ k) word memory
+stored_memory k index word false memory = memory
+
+-- the word of the element, or 0
+abbrev pub word_or_zero : MemOp → Option ℕ → ℕ
+word_or_zero op None = 0
+word_or_zero op (Some n) = loaded_number op 32 n
+
+abbrev pub loaded_word : MemOp → (k index : ℕ) → Bool → List ℕ → ℕ
+loaded_word op k index true memory = word_or_zero op (load_bytes (index * 2 ^ k) (2 ^ k) memory)
+loaded_word op k index false memory = 0
+
+-- a signed or an unsigned 32-bit number
+abbrev pub is_index : ℤ → Bool
+is_index z = is_between least (pos (2 ^ 32)) z
+
+abbrev pub StoresAreGuarded : Type 0
+StoresAreGuarded =
+    (v : Element) (z : ℤ) (word : ℕ) (heap past : List ℕ) → IsHeapLength (length heap) → is_index z ≡ true
+    → stored_memory (shift_of v) (word_of 32 z) word (is_within (shift_of v) (length heap) (word_of 32 z)) (heap ++ past) ≡ store (kind_of v) z word heap ++ past
+
+-- the value of an element outside the heap is undefined, as an int 0
+abbrev pub LoadsAreGuarded : Type 0
+LoadsAreGuarded =
+    (v : Element) (z : ℤ) (heap past : List ℕ) → IsHeapLength (length heap) → IsBytes heap → is_index z ≡ true
+    → loaded_word (access v (is_signed_element v)) (shift_of v) (word_of 32 z) (is_within (shift_of v) (length heap) (word_of 32 z)) (heap ++ past) ≡ to_uint32_of (element_value (load (kind_of v) z heap))
+
+-- where the guard holds the bytes are there
+abbrev pub GuardedBytesAreThere : Type 0
+GuardedBytesAreThere =
+    (k index : ℕ) (heap past : List ℕ) → k ≤ 2 → is_within k (length heap) index ≡ true → index * 2 ^ k + 2 ^ k ≤ length (heap ++ past)
+
+-- byte writes of a host inside the heap
+abbrev pub WritesStayInFront : Type 0
+WritesStayInFront =
+    (ws : List WritePlain) (heap past : List ℕ) → All (λ (w : WritePlain). w.at + length w.bytes ≤ length heap) ws
+    → written ws (heap ++ past) ≡ with_writes ws heap ++ past

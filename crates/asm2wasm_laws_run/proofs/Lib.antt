@@ -1,0 +1,3 @@
+pub mod Simulated
+pub mod Straight
+pub mod Guarded

@@ -1,0 +1,3 @@
+pub mod Sim
+pub mod Straight
+pub mod Laws
