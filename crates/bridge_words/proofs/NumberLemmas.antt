@@ -39,6 +39,11 @@ pub heap_words : (n : ℕ) → is_heap n ≡ true → (n % 4 ≡ 0) × (n ≤ 2 
 unfolding is_heap
 heap_words n h = (grind arith, grind arith)
 
+-- the length where none is given
+pub absent_heap : is_heap 65536 ≡ true
+unfolding is_heap
+absent_heap = refl
+
 pub no_heap : (found : Option ℕ) → None ≡ kept (λ n. nat_lt n (2 ^ 32)) found → None ≡ kept is_heap found
 no_heap found e = kept_none is_heap (λ n. nat_lt n (2 ^ 32)) heap_fits found e
 

@@ -51,7 +51,7 @@ fn heap_number(text: &str) -> Option<HeapLength>
     }
 }
 
-#[tactic(auto, unfolding(crate::specs::Job::heap_of))]
+#[tactic(auto, using(crate::proofs::NumberLemmas::absent_heap), unfolding(crate::specs::Job::heap_of))]
 /// The heap's length in bytes.
 pub fn heap_size(given: &Given<'_, '_>) -> Option<HeapLength>
     ensures { option_map (λ length. length.bytes) result ≡ heap_of (given_texts given.now) }

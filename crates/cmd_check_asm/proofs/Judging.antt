@@ -1,12 +1,13 @@
 -- What reading a text and validating its module tell of the text.
-use Rattle.std.proofs.Common.{◌≡◌, ℕ, ◌<◌, ◌^◌, List, [], ◌∷◌, length, map, Result, Ok, Err, Some, refl, sym, ap, ◌∙◌, subst, arith}
+use Rattle.std.proofs.Common.{◌≡◌, ℕ, ◌<◌, List, [], ◌∷◌, length, map, Result, Ok, Err, Some, refl, sym, ap, ◌∙◌, subst, arith}
 use Rattle.std.proofs.lemmas.List.{length-map}
 use Rattle.std.proofs.lemmas.Option.{slice_get-get_or}
 use Rattle.std.specs.Prelude.{IfOk, IfErr, MatchResult}
 use Rattle.asm_lang.specs.Trees.{ModuleTree}
 use Rattle.asm_lang.specs.Modules.{Module, Export, Exports, one, many, module_of, module_places}
 use Rattle.asm_lang.specs.Texts.{SaysModule}
-use Rattle.asm_laws_print.proofs.Printed.{text_fits}
+use Rattle.asm_lang.specs.Heights.{IsWellFormed}
+use Rattle.asm_laws_print.proofs.Printed.{text_fits, fits_well_formed}
 use Rattle.asm_laws_refusal.proofs.Within.{refused_within}
 use Rattle.asm_tree.specs.declared.tree.Module.{Module as Tree}
 use Rattle.asm_tree.specs.Views.{module_view}
@@ -33,10 +34,8 @@ use Rattle.cmd_check_asm.specs.Verdicts.{IsRefusal}
 counted : (text places : List ℕ) (m : Module) → ((t : ModuleTree) → length (module_places t) ≡ module_count (module_of t)) → SaysModule text m places → length places ≡ module_count m
 counted text places m law says = ap length says.have_places ∙ law says.said.tree ∙ ap module_count says.said.is_this
 
-pub nodes_fit : (text places : List ℕ) (m : Module) → ((t : ModuleTree) → length (module_places t) ≡ module_count (module_of t)) → length places < 2 ^ 63 → SaysModule text m places → module_count m < 2 ^ 64
-nodes_fit text places m law few says =
-    let count = counted text places m law says in
-    omega arith
+pub well_formed : (text places : List ℕ) (m : Module) → SaysModule text m places → IsWellFormed m
+well_formed text places m says = fits_well_formed m (text_fits text m says.said) says.within
 
 -- the node that it is refused at has a place
 pub refused_there : (text places : List ℕ) (m : Module) → ((t : ModuleTree) → length (module_places t) ≡ module_count (module_of t)) → SaysModule text m places → (x : Met) → refusal m ≡ Some x → x.node < length places

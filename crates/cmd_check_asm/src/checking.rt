@@ -1,13 +1,12 @@
 //! Whether a text is accepted.
 
-ghost use Rattle.std.specs.Prelude.{◌≡◌, ◌<◌, ◌≤◌, ◌^◌, length, Some, IfOk, IfErr};
+ghost use Rattle.std.specs.Prelude.{◌≡◌, ◌<◌, ◌≤◌, length, Some, IfOk, IfErr};
 ghost use Rattle.sem_words.specs.Lists.{list_items};
-ghost use Rattle.asm_lang.specs.Heights.{module_height, height_limit};
+ghost use Rattle.asm_lang.specs.Heights.{module_height, height_limit, IsWellFormed};
 ghost use Rattle.asm_lang.specs.Modules.{Module as PlainModule, module_places};
 ghost use Rattle.asm_lang.specs.Texts.{IsTextOf};
 ghost use Rattle.asm_tree.specs.Views.{module_view};
 ghost use Rattle.asm_lang_valid.specs.declared.rule.Met.{Met};
-ghost use Rattle.asm_lang_valid.specs.Rows.{module_count};
 ghost use Rattle.asm_lang_valid.specs.Refusal.{refusal};
 ghost use Rattle.asm_lang_valid.specs.Texts.{IsAcceptedText};
 ghost use Rattle.cmd_check_asm.specs.Judged.{IsVerdict};
@@ -37,7 +36,7 @@ pub fn check_text(alloc: Global, text: &[u8]) -> Result<Checked, CheckFault>
 
 // A module that was read.
 fn judge(alloc: Global, parsed: Parsed) -> Result<Checked, CheckFault>
-    requires few { module_count (module_view parsed.«module») < 2 ^ 64 }
+    requires well_formed { IsWellFormed (module_view parsed.«module») }
     requires placed { (x : Met) → refusal (module_view parsed.«module») ≡ Some x → x.node < length (list_items parsed.places) }
     ensures { IsVerdict (module_view parsed.«module») (list_items parsed.places) result }
 {

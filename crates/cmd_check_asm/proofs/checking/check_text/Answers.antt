@@ -1,13 +1,12 @@
-use Rattle.std.proofs.Common.{arith}
 use Rattle.sem_words.specs.Lists.{list_items}
 use Rattle.asm_lang.specs.Modules.{module_places}
 use Rattle.asm_tree.specs.Views.{module_view}
-use Rattle.cmd_check_asm.proofs.Judging.{nodes_fit, refused_there, accepted_text, refused_text, same_module, fault_of_text, no_fault}
+use Rattle.cmd_check_asm.proofs.Judging.{well_formed, refused_there, accepted_text, refused_text, same_module, fault_of_text, no_fault}
 use Rattle.cmd_check_asm.proofs.checking.check_text.Goals as goal
 
 pub judge-requires : goal.judge-requires
 judge-requires c = record {
-  few = nodes_fit c.args.text.now (list_items c.in-Ok.parsed.places) (module_view c.in-Ok.parsed.«module») c.place_laws.ensures (omega (arith, c.in-Ok.parsed.places.items.ok.0, c.in-Ok.parsed.places.items.ok.1, c.in-Ok.parsed.places.items.small)) c.in-Ok.ensures.found;
+  well_formed = well_formed c.args.text.now (list_items c.in-Ok.parsed.places) (module_view c.in-Ok.parsed.«module») c.in-Ok.ensures.found;
   placed = refused_there c.args.text.now (list_items c.in-Ok.parsed.places) (module_view c.in-Ok.parsed.«module») c.place_laws.ensures c.in-Ok.ensures.found;
 }
 
