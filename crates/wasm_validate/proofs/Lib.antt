@@ -1,7 +1,6 @@
 pub mod CodeItems
 pub mod Counting
 pub mod Sections
-pub mod Empty
 pub mod FunctionTypes
 pub mod ImportNames
 pub mod Names

@@ -19,4 +19,6 @@ pub use fault::Invalid;
 pub use measures::Measures;
 pub use module::{Valid, validate};
 pub use running::runnable;
-pub use wasm_lang_valid::{Beyond, Outside, Rule, Section};
+pub use wasm_lang_valid::{
+    Beyond, Outside, Rule, Section, beyond_number, rule_number, section_number,
+};

@@ -1,11 +1,9 @@
 // Valid modules.
 
-ghost use Rattle.std.specs.Prelude.{◌≡◌, ◌≤◌, [], length, map, All, Some, None, IfOk, MatchOption, MatchResult};
-ghost use Rattle.std.specs.Str.{IsUtf8};
-ghost use Rattle.sem_words.specs.Lists.{list_items};
+ghost use Rattle.std.specs.Prelude.{◌≡◌, ◌≤◌, length, Some, None, IfOk, MatchOption, MatchResult};
 ghost use Rattle.wasm_lang.specs.Modules.{WasmModule};
 ghost use Rattle.wasm_lang.specs.Shape.{IsShaped};
-ghost use Rattle.wasm_tree.specs.Views.{import_of, module_of, type_of};
+ghost use Rattle.wasm_tree.specs.Views.{module_of, type_of};
 ghost use Rattle.wasm_lang_valid.specs.Measures.{measures_of as spec_measures};
 ghost use Rattle.wasm_lang_valid.specs.ModuleRules.{function_types, type_of_function};
 ghost use Rattle.wasm_lang_valid.specs.Validity.{IsValidModule};
@@ -22,7 +20,8 @@ use std::marker::Model;
 use wasm_lang_valid::module_laws;
 use wasm_tree::{FuncType, Module};
 
-/// A valid module (WebAssembly Core 1.0, section 3.4.10). Its contracts see the module that it stands for.
+/// A valid module (WebAssembly Core 1.0, section 3.4.10), which is shaped, with a body for each function. Its contracts see
+/// the module that it stands for.
 #[derive(Drop)]
 pub struct Valid<'a> {
     module: Module<'a>,
@@ -35,7 +34,7 @@ impl<'a> Model for Valid<'a> {
 
     ghost view = { λ v. module_of v.«module» };
 
-    ghost invariant = { λ v. IsValidModule (module_of v.«module») × FactsOf v.facts (module_of v.«module») × (said v.measures ≡ spec_measures (module_of v.«module»)) };
+    ghost invariant = { λ v. IsValidModule (module_of v.«module») × IsShaped (module_of v.«module») × FactsOf v.facts (module_of v.«module») × (said v.measures ≡ spec_measures (module_of v.«module»)) };
 }
 
 /// Validates a module, which has to be shaped as every module that was read is.
@@ -66,6 +65,7 @@ impl<'a> Valid<'a> {
     pub fn module(&self) -> &Module<'a>
         ensures given { module_of result.now ≡ self.now }
         ensures valid { IsValidModule self.now }
+        ensures shaped { IsShaped self.now }
     {
         &self.module
     }
