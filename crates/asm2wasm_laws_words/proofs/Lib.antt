@@ -1,0 +1,3 @@
+pub mod Operated
+pub mod Compared
+pub mod Formed
