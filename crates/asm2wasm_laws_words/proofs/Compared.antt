@@ -33,7 +33,7 @@ taken test y z x h = by (are_alike y z) h
 fits_signed : (z : ℤ) → is_between least (pos (2 ^ 31)) z ≡ true → FitsSigned w32 z
 fits_signed z h = grind (arith, ints, nat_tests)
 
-signed_is : (z : ℤ) → is_between least (pos (2 ^ 31)) z ≡ true → signed_of 32 (word_of 32 z) ≡ z
+pub signed_is : (z : ℤ) → is_between least (pos (2 ^ 31)) z ≡ true → signed_of 32 (word_of 32 z) ≡ z
 signed_is z h = signed_of-word_of_32 z (fits_signed z h)
 
 equal_signed : (y z : ℤ) → is_between least (pos (2 ^ 31)) y ≡ true → is_between least (pos (2 ^ 31)) z ≡ true → (word_of 32 y == word_of 32 z) ≡ is_zero (y -ℤ z)

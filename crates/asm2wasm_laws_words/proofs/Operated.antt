@@ -54,7 +54,7 @@ exact_word z x h = by (nat_le (unsigned_abs z) (2 ^ 53)) h
     by true h = ap to_uint32_of (from_some (Whole z) x h)
     by false h = absurd (cc h)
 
-zero_word : (z : ℤ) → is_zero z ≡ true → word_of 32 z ≡ 0
+pub zero_word : (z : ℤ) → is_zero z ≡ true → word_of 32 z ≡ 0
 zero_word z h = grind (arith, ints, nat_tests)
 
 product_word : (y z : ℤ) (x : JsValue) → product_of y z ≡ Some x → word_of 32 (y *ℤ z) ≡ to_uint32_of x

@@ -1,16 +1,17 @@
 -- Operators of asm.js on values, and instructions on the words of these values.
-use Rattle.std.specs.Prelude.{◌≡◌, ◌-◌, ◌^◌, Bool, true, false, not, ◌||◌, ◌==◌, Option, Some, None, Ok}
+use Rattle.std.specs.Prelude.{◌≡◌, ℕ, ◌-◌, ◌^◌, Bool, true, false, not, ◌||◌, ◌==◌, Option, Some, None, Result, Ok, if◌then◌else◌}
 use Rattle.sem_words.specs.declared.word.Bin.{Bin}
 use Rattle.sem_words.specs.declared.word.Bin.TheVariants as bins
 use Rattle.sem_words.specs.declared.word.Rel.{Rel}
 use Rattle.sem_words.specs.declared.word.Rel.TheVariants as rels
 use Rattle.sem_words.specs.declared.js_value.JsValue.{JsValue}
 use Rattle.sem_words.specs.declared.js_value.JsOp.{JsOp}
-use Rattle.sem_words.specs.declared.js_value.JsOp.TheVariants.{Add, Sub, Mul, Or, And, Xor, Shl, Sar, Shr, Lt, Le, Gt, Ge, Eq, Ne}
+use Rattle.sem_words.specs.declared.js_value.JsOp.TheVariants.{Add, Sub, Mul, Div, Rem, Or, And, Xor, Shl, Sar, Shr, Lt, Le, Gt, Ge, Eq, Ne}
 use Rattle.sem_words.specs.declared.js_value.JsUnary.TheVariants.{Neg, BitNot, Not}
 use Rattle.sem_words.specs.JsValues.{to_uint32_of, truthy_of}
 use Rattle.sem_words.specs.JsOperators.{js_binary_of, js_unary_of, js_imul_of, js_clz32_of}
-use Rattle.sem_words.specs.Words.{sub_of, mul_of, leading_zeros_of, bin_of, rel_of}
+use Rattle.sem_words.specs.declared.word.TrapKind.{TrapKind}
+use Rattle.sem_words.specs.Words.{add_of, sub_of, mul_of, leading_zeros_of, bin_of, rel_of}
 use Rattle.wasm_lang_exec.specs.Plain.{flag}
 use Rattle.asm_types.specs.declared.value_type.ValueType.{ValueType}
 use Rattle.asm_types.specs.declared.value_type.ValueType.TheVariants.{Signed, Unsigned, Int}
@@ -96,3 +97,29 @@ FormSaysType = (c : Scope) (e : Expr) (t : ValueType) → type_of c e ≡ Some t
 -- operands that are both signed or both unsigned are unsigned where one of them has that type
 abbrev pub AlikeByOne : Type 0
 AlikeByOne = (a b : ValueType) → accepts alike a b ≡ true → are_below a b (compared (is_unsigned_type a || is_unsigned_type b)) ≡ true
+
+-- ---- quotients and remainders, under their guards
+
+-- a quotient of signed words, by the product where the divisor is 0 or -1
+abbrev pub signed_quotient : ℕ → ℕ → Result ℕ TrapKind
+signed_quotient a b = if rel_of 32 rels.GtU (add_of 32 b 1) 1 then bin_of 32 bins.DivS a b else bin_of 32 bins.Mul a b
+
+-- .. and any other operator, by 0 where the divisor is 0
+abbrev pub guarded : Bin → ℕ → ℕ → Result ℕ TrapKind
+guarded bin a b = if b == 0 then Ok 0 else bin_of 32 bin a b
+
+abbrev pub SignedQuotients : Type 0
+SignedQuotients =
+    (v w x : JsValue) → fits_of Signed v ≡ true → fits_of Signed w ≡ true → js_binary_of Div v w ≡ Some x → signed_quotient (to_uint32_of v) (to_uint32_of w) ≡ Ok (to_uint32_of x)
+
+abbrev pub UnsignedQuotients : Type 0
+UnsignedQuotients =
+    (v w x : JsValue) → fits_of Unsigned v ≡ true → fits_of Unsigned w ≡ true → js_binary_of Div v w ≡ Some x → guarded bins.DivU (to_uint32_of v) (to_uint32_of w) ≡ Ok (to_uint32_of x)
+
+abbrev pub SignedRemainders : Type 0
+SignedRemainders =
+    (v w x : JsValue) → fits_of Signed v ≡ true → fits_of Signed w ≡ true → js_binary_of Rem v w ≡ Some x → guarded bins.RemS (to_uint32_of v) (to_uint32_of w) ≡ Ok (to_uint32_of x)
+
+abbrev pub UnsignedRemainders : Type 0
+UnsignedRemainders =
+    (v w x : JsValue) → fits_of Unsigned v ≡ true → fits_of Unsigned w ≡ true → js_binary_of Rem v w ≡ Some x → guarded bins.RemU (to_uint32_of v) (to_uint32_of w) ≡ Ok (to_uint32_of x)

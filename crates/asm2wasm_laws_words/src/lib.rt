@@ -1,7 +1,7 @@
 //! Operators of asm.js on values, and instructions of WebAssembly on the words of these values.
 #![tactic(auto)]
 
-ghost use Rattle.asm2wasm_laws_words.specs.Laws.{WordsOfResults, WordsOfNegations, WordsOfComplements, WordsOfProducts, WordsOfLeadingZeros, WordsOfComparisons, WordsOfConditions, WordsOfNots, FormSaysType, AlikeByOne};
+ghost use Rattle.asm2wasm_laws_words.specs.Laws.{WordsOfResults, WordsOfNegations, WordsOfComplements, WordsOfProducts, WordsOfLeadingZeros, WordsOfComparisons, WordsOfConditions, WordsOfNots, SignedQuotients, UnsignedQuotients, SignedRemainders, UnsignedRemainders, FormSaysType, AlikeByOne};
 
 /// Operators whose code is one instruction, and those of one operand.
 pub fn instructions()
@@ -27,4 +27,12 @@ pub fn conditions()
 pub fn signedness()
     ensures form { FormSaysType }
     ensures both { AlikeByOne }
+{}
+
+/// Quotients and remainders, under guards that let no divisor through that would trap.
+pub fn quotients()
+    ensures signed { SignedQuotients }
+    ensures unsigned { UnsignedQuotients }
+    ensures signed_rest { SignedRemainders }
+    ensures unsigned_rest { UnsignedRemainders }
 {}
