@@ -19,7 +19,8 @@ use Rattle.asm_lang_valid.specs.declared.meaning.Element.TheVariants.{Int8, Uint
 use Rattle.asm_lang_valid.specs.Scope.{shift_of, a_view}
 use Rattle.asm2wasm_code.specs.Values.{plains, one, number, scaled, access, store_code}
 use Rattle.asm2wasm_laws_run.specs.Straight.{reached, on_from, effects, paid}
-use Rattle.asm2wasm_laws_run.specs.Laws.{store_cost, stored_memory, StoresGuarded}
+use Rattle.asm2wasm_laws_heap.specs.Guards.{stored_memory}
+use Rattle.asm2wasm_laws_run.specs.Laws.{store_cost, StoresGuarded}
 use Rattle.asm2wasm_laws_run.proofs.Straight.{plains_join, runs, chooses}
 
 -- ---- locals

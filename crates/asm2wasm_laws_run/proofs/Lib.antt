@@ -1,3 +1,5 @@
 pub mod Simulated
 pub mod Straight
 pub mod Guarded
+pub mod Chained
+pub mod Stored

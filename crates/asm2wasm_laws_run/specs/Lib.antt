@@ -1,3 +1,4 @@
 pub mod Sim
 pub mod Straight
+pub mod State
 pub mod Laws

@@ -1,0 +1,4 @@
+pub mod Operated
+pub mod Compared
+pub mod Formed
+pub mod Divided
