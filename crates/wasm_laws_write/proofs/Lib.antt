@@ -1,0 +1,4 @@
+mod Numbers
+mod Parts
+mod Entries
+mod Modules
