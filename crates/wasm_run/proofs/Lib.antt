@@ -3,3 +3,4 @@ pub mod Hex
 pub mod Named
 pub mod Given
 pub mod Hosts
+pub mod Whole
