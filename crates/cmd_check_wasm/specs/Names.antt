@@ -1,18 +1,22 @@
--- What the bytes break, with its number.
-use Rattle.std.specs.Prelude.{ℕ, List, codes}
+-- What the bytes break, as it is printed: with its number.
+use Rattle.std.specs.Prelude.{ℕ, List, ◌++◌, codes, decimal}
 use Rattle.wasm_lang.specs.declared.fault.Row.{Row}
 use Rattle.wasm_lang.specs.declared.fault.Row.TheVariants as rows
+use Rattle.wasm_lang.specs.Rows.{row_number}
+
+unfoldable pub row_word : Row → List ℕ
+row_word rows.Magic = codes "Magic"
+row_word rows.Version = codes "Version"
+row_word rows.Truncated = codes "Truncated"
+row_word rows.Leb = codes "Leb"
+row_word rows.SectionOrder = codes "SectionOrder"
+row_word rows.SectionSize = codes "SectionSize"
+row_word rows.UnknownByte = codes "UnknownByte"
+row_word rows.Utf8 = codes "Utf8"
+row_word rows.Counts = codes "Counts"
+row_word rows.Float = codes "Float"
+row_word rows.MemoryGrow = codes "MemoryGrow"
+row_word rows.Limit = codes "Limit"
 
 unfoldable pub row_name : Row → List ℕ
-row_name rows.Magic = codes "B1 Magic"
-row_name rows.Version = codes "B2 Version"
-row_name rows.Truncated = codes "B3 Truncated"
-row_name rows.Leb = codes "B4 Leb"
-row_name rows.SectionOrder = codes "B5 SectionOrder"
-row_name rows.SectionSize = codes "B6 SectionSize"
-row_name rows.UnknownByte = codes "B7 UnknownByte"
-row_name rows.Utf8 = codes "B8 Utf8"
-row_name rows.Counts = codes "B9 Counts"
-row_name rows.Float = codes "B10 Float"
-row_name rows.MemoryGrow = codes "B11 MemoryGrow"
-row_name rows.Limit = codes "B12 Limit"
+row_name row = codes "B" ++ decimal (row_number row) ++ codes " " ++ row_word row

@@ -3,8 +3,7 @@ ghost use Rattle.std.specs.Prelude.{◌≡◌};
 ghost use Rattle.cmd_check_wasm.specs.Faults as spec;
 
 use thiserror::Error;
-use wasm_binary::BinFault;
-use wasm_tree::Row;
+use wasm_binary::{BinFault, Row};
 use wasm_validate::{Invalid, Rule, Section};
 
 /// Why bytes are refused, or want of memory.

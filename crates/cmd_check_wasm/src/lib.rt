@@ -11,4 +11,5 @@ pub use checking::check_bytes;
 pub use counting::counts;
 pub use fault::CheckFault;
 pub use laws::one_verdict;
-pub use names::{row_name, rule_number, section_number};
+pub use names::row_name;
+pub use wasm_validate::{rule_number, section_number};

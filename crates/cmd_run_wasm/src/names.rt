@@ -5,7 +5,6 @@ ghost use Rattle.cmd_run_wasm.specs.Names as names;
 use wasm_validate::Beyond;
 
 /// Why a valid module isn't taken, with its number.
-#[tactic(auto, unfolding(crate::specs::Names::row_name))]
 pub fn outside_name(row: Beyond) -> &'static str
     ensures { result.now ≡ names.row_name row }
 {

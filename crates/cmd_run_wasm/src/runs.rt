@@ -4,9 +4,7 @@ ghost use Rattle.sem_laws.specs.Views.{script_of};
 ghost use Rattle.script_print.specs.Texts as spec;
 ghost use Rattle.wasm_lang_exec.specs.Fits.{misfit};
 ghost use Rattle.wasm_lang_exec.specs.Session.{wasm};
-ghost use Rattle.wasm_lang.specs.Shape.{IsShaped};
 ghost use Rattle.wasm_lang_valid.specs.Runnable.{not_runnable};
-ghost use Rattle.wasm_laws_sound.specs.Laws.{IsWhole};
 ghost use Rattle.cmd_run_wasm.specs.Runs.{Prints, IsScriptRefusal};
 
 use script_print::observation_text;
@@ -24,8 +22,6 @@ pub fn run_script(
     text: &[u8],
     steps: u32,
 ) -> Result<Vec<u8>, ScriptFault>
-    requires shaped { IsShaped valid.now }
-    requires whole { IsWhole valid.now }
     requires runs { not_runnable valid.now ≡ None }
     ensures { MatchResult result (λ output. Prints valid.now text.now steps output.items) (IsScriptRefusal valid.now text.now) }
 {
@@ -43,8 +39,6 @@ fn observation(
     script: &Script,
     steps: u32,
 ) -> Result<Vec<u8>, AllocError>
-    requires shaped { IsShaped valid.now }
-    requires whole { IsWhole valid.now }
     requires runs { not_runnable valid.now ≡ None }
     requires fits { misfit valid.now (script_of script.now) ≡ None }
     ensures { IfOk result (λ output. output.items ≡ spec.observation_text (wasm valid.now (script_of script.now) steps)) }

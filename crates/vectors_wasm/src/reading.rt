@@ -1,9 +1,7 @@
 //! Worked rows.
 
 use std::alloc::{AllocError, Global};
-use wasm_binary::fault::BinFault;
-use wasm_binary::reader::read;
-use wasm_tree::Row;
+use wasm_binary::{BinFault, Row, read};
 
 // A function `m` that adds two numbers of 64 bits.
 const ADDS: [u8; 39] = [

@@ -1,11 +1,14 @@
-//! Worked rows.
-use crate::running::runnable;
+//! Modules that are valid or not, and which of them are run.
+ghost use Rattle.std.specs.Prelude.{◌≡◌, [], map, All, IfOk};
+ghost use Rattle.std.specs.Str.{IsUtf8};
+ghost use Rattle.sem_words.specs.Lists.{list_items};
+ghost use Rattle.wasm_tree.specs.Views.{import_of, module_of};
+
 use sem_words::List;
+use std::alloc::Global;
 use std::test::Fail;
-use wasm_lang::{GlobalType, ImportKind, Limits, ValType};
-use wasm_lang_valid::{Beyond, Outside, Rule, Section};
-use wasm_tree::{Bytes, Import};
-use wasm_validate::{Measures, validate};
+use wasm_tree::{Bytes, GlobalType, Import, ImportKind, Limits, Module, ValType};
+use wasm_validate::{Beyond, Invalid, Measures, Outside, Rule, Section, runnable, validate};
 
 // Imports of these kinds, whose names are empty.
 fn nameless(alloc: Global, kinds: &[ImportKind]) -> Result<List<Import<'static>>, Fail>
@@ -31,6 +34,7 @@ fn with_memory(
 ) -> Result<Module<'static>, Fail>
     ensures imports { IfOk result (λ m. (module_of m).imports ≡ map import_of (list_items imports.entry)) }
     ensures exports { IfOk result (λ m. (module_of m).exports ≡ []) }
+    ensures functions { IfOk result (λ m. (module_of m).functions ≡ []) }
     ensures bodies { IfOk result (λ m. (module_of m).bodies ≡ []) }
     ensures globals { IfOk result (λ m. (module_of m).globals ≡ []) }
     ensures elements { IfOk result (λ m. (module_of m).elements ≡ []) }

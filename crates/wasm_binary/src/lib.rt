@@ -11,4 +11,5 @@ mod sections;
 
 pub use fault::BinFault;
 pub use reader::read;
+pub use wasm_lang::{Row, row_number};
 pub use wasm_tree::{leb_s32, leb_s64, leb_u32};

@@ -4,6 +4,7 @@ ghost use Rattle.wasm_lang.specs.Grammar.{IsModuleBytes};
 ghost use Rattle.wasm_lang.specs.Limits.{IsWithinReader};
 ghost use Rattle.wasm_lang.specs.Modules.{WasmModule};
 ghost use Rattle.wasm_lang.specs.Bytes.{IsRead};
+ghost use Rattle.wasm_lang.specs.Shape.{IsShaped};
 ghost use Rattle.wasm_tree.specs.Views.{module_of};
 ghost use Rattle.wasm_tree.specs.Inputs.{input_of};
 ghost use Rattle.wasm_tree.specs.Slices.{Stands};
@@ -32,6 +33,7 @@ use wasm_tree::{
 /// the limits of this reader are refused. The time is linear in the bytes.
 pub fn read<'a>(alloc: Global, bytes: &'a [u8]) -> Result<Module<'a>, BinFault>
     ensures found { IfOk result (λ m. IsRead bytes.now (module_of m)) }
+    ensures shaped { IfOk result (λ m. IsShaped (module_of m)) }
     ensures only { (m : WasmModule) → IsModuleBytes bytes.now m → IsWithinReader m → IsReadAs m result }
     ensures fault { IfErr result (λ fault. IsRefusal bytes.now fault) }
     ensures lent { IfOk result (λ m. IsLentModule bytes.entry m) }

@@ -2,3 +2,4 @@ pub mod Hex
 pub mod Arguments
 pub mod Given
 pub mod Hosts
+pub mod Whole

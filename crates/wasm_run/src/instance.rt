@@ -3,11 +3,13 @@
 ghost use Rattle.std.specs.Prelude.{◌≡◌, None, IfOk};
 ghost use Rattle.sem_laws.specs.Views.{observation_of, script_of};
 ghost use Rattle.wasm_lang.specs.Shape.{IsShaped};
+ghost use Rattle.wasm_tree.specs.Views.{module_of};
 ghost use Rattle.wasm_lang_valid.specs.Runnable.{not_runnable};
+ghost use Rattle.wasm_lang_valid.specs.Validity.{IsValidModule};
 ghost use Rattle.wasm_lang_exec.specs.Session.{wasm};
 ghost use Rattle.wasm_lang_exec.specs.Fits.{misfit};
 ghost use Rattle.wasm_laws_sound.specs.Laws.{IsWhole};
-ghost use Rattle.wasm_laws_sound.specs.Places.{GoesOn, place, seen};
+ghost use Rattle.wasm_laws_sound.specs.Places.{GoesOn, IsTypedPlace, place, seen};
 ghost use Rattle.wasm_run_frames.specs.Views.{machine_of};
 ghost use Rattle.wasm_run.specs.Runs.{seen_as};
 
@@ -68,6 +70,17 @@ fn observed(
     })
 }
 
+// The module, of which each function has a body.
+#[tactic(auto, using(crate::proofs::Whole::shaped_whole))]
+fn whole_module<'a>(valid: &'a Valid<'a>) -> &'a Module<'a>
+    ensures given { module_of result.now ≡ valid.now }
+    ensures valid { IsValidModule valid.now }
+    ensures whole { IsWhole valid.now }
+    ensures shaped { IsShaped valid.now }
+{
+    valid.module()
+}
+
 impl<'a> Instance<'a> {
     /// An instance of a module that can be run, with a script that fits it. It takes memory, table and globals, so that nothing that
     /// the session stores can be refused later.
@@ -76,14 +89,12 @@ impl<'a> Instance<'a> {
         valid: &'a Valid<'a>,
         script: &'a Script,
     ) -> Result<Instance<'a>, AllocError>
-        requires shaped { IsShaped valid.now }
-        requires whole { IsWhole valid.now }
         requires runnable { not_runnable valid.now ≡ None }
         requires fits { misfit valid.now (script_of script.now) ≡ None }
         ensures code { IfOk result (λ i. i.code ≡ valid.now) }
         ensures script { IfOk result (λ i. i.script ≡ script_of script.now) }
     {
-        let module = valid.module();
+        let module = whole_module(valid);
         let functions = functions_of(alloc, module)?;
         let state = first_state(alloc, module, script)?;
         Ok(Instance {
@@ -96,11 +107,12 @@ impl<'a> Instance<'a> {
     }
 
     /// What is seen of the session after so many reductions: instantiation, the start function and the script's calls are run.
-    /// After any number of reductions the session has ended or has a next one.
+    /// After any number of reductions the session has ended or has a next one, in which no operand is missing or of another type.
     pub fn run(self, steps: u64) -> Result<Observation, AllocError>
         ensures meaning { IfOk result (λ o. observation_of o ≡ wasm self.entry.code self.entry.script steps) }
         ensures seen { wasm self.entry.code self.entry.script steps ≡ seen (place self.entry.code self.entry.script steps) }
         ensures goes_on { GoesOn self.entry.code (place self.entry.code self.entry.script steps) }
+        ensures typed { IsTypedPlace self.entry.code (place self.entry.code self.entry.script steps) }
     {
         sessions_go_on();
         fitting_laws();

@@ -2,8 +2,8 @@ use Rattle.std.proofs.Common.{All, map, sym, subst}
 use Rattle.std.proofs.lemmas.Str.{IsUtf8-nil}
 use Rattle.std.specs.Str.{IsUtf8}
 use Rattle.wasm_tree.specs.Views.{import_of}
-use Rattle.wasm_validate.proofs.Empty.{one_more}
-use Rattle.wasm_validate.proofs.module.tests.nameless.Goals as goal
+use Rattle.vectors_wasm.proofs.Empty.{one_more}
+use Rattle.vectors_wasm.proofs.validity.nameless.Goals as goal
 
 pub loop-kind-preserved : goal.loop-kind-preserved
 loop-kind-preserved c =

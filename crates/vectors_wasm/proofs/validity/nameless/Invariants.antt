@@ -1,7 +1,7 @@
 use Rattle.std.proofs.Common.{All, map}
 use Rattle.std.specs.Str.{IsUtf8}
 use Rattle.wasm_tree.specs.Views.{import_of}
-use Rattle.wasm_validate.proofs.module.tests.nameless.Given as goal
+use Rattle.vectors_wasm.proofs.validity.nameless.Given as goal
 
 abbrev pub invariant-loop-kind : goal.invariant-loop-kind
 invariant-loop-kind l = record {
