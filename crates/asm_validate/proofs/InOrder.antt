@@ -17,40 +17,33 @@ use Rattle.asm_lang_valid.specs.NameRows.{name_rows}
 use Rattle.asm_lang_valid.specs.TypeRows.{type_rows}
 use Rattle.asm_lang_valid.specs.LimitRows.{limit_rows}
 use Rattle.asm_lang_valid.specs.Refusal.{refusal, IsAccepted}
-use Rattle.asm_validate_names.specs.declared.fault.NameFault.{NameFault}
-use Rattle.asm_validate_names.specs.declared.fault.NameFault.TheVariants as names
-use Rattle.asm_validate_names.specs.Seen.{IsRow}
+use Rattle.asm_validate_names.specs.declared.refusal.AsmRefusal.{AsmRefusal}
+use Rattle.asm_validate_names.specs.declared.refusal.AsmRefusal.TheVariants.{Refused, Memory}
+use Rattle.asm_validate_names.specs.Refusals.{IsRow}
 use Rattle.asm_validate_names.proofs.Found.{first_before}
-use Rattle.asm_validate_stmts.specs.declared.fault.TypeFault.{TypeFault}
-use Rattle.asm_validate_stmts.specs.declared.fault.TypeFault.TheVariants as types
-use Rattle.asm_validate_stmts.specs.Faults as judging
-use Rattle.asm_validate_limits.specs.declared.fault.LimitFault.{LimitFault}
-use Rattle.asm_validate_limits.specs.declared.fault.LimitFault.TheVariants as limits
-use Rattle.asm_validate_limits.specs.Called as limiting
 use Rattle.asm_validate_limits.proofs.Few as few
-use Rattle.asm_validate.specs.declared.refusal.AsmRefusal.{AsmRefusal}
-use Rattle.asm_validate.specs.Refusals.{IsRefused, of_names, of_types, of_limits}
+use Rattle.asm_validate.specs.Refusals.{IsRefused}
 
 module _ (m : Module) where
-  pub by_names : (f : NameFault) → IsRow (name_rows m) f → IsRefused m (of_names f)
-  by_names (names.Refused r n) h = first_before (name_rows m) (type_rows m ++ limit_rows m) _ h
-  by_names names.Memory h = tt
+  pub by_names : (f : AsmRefusal) → IsRow (name_rows m) f → IsRefused m f
+  by_names (Refused r n) h = first_before (name_rows m) (type_rows m ++ limit_rows m) _ h
+  by_names Memory h = tt
 
   module _ (named : name_rows m ≡ []) where
     rest : refusal m ≡ first (type_rows m ++ limit_rows m)
     rest = ap (λ l. first (l ++ (type_rows m ++ limit_rows m))) named
 
-    pub by_types : (f : TypeFault) → judging.IsRow (type_rows m) f → IsRefused m (of_types f)
-    by_types (types.Refused r n) h = rest ∙ first_before (type_rows m) (limit_rows m) _ h
-    by_types types.Memory h = tt
+    pub by_types : (f : AsmRefusal) → IsRow (type_rows m) f → IsRefused m f
+    by_types (Refused r n) h = rest ∙ first_before (type_rows m) (limit_rows m) _ h
+    by_types Memory h = tt
 
     module _ (typed : type_rows m ≡ []) where
       last : refusal m ≡ first (limit_rows m)
       last = rest ∙ ap (λ l. first (l ++ limit_rows m)) typed
 
-      pub by_limits : (f : LimitFault) → limiting.IsRow (limit_rows m) f → IsRefused m (of_limits f)
-      by_limits (limits.Refused r n) h = last ∙ h
-      by_limits limits.Memory h = tt
+      pub by_limits : (f : AsmRefusal) → IsRow (limit_rows m) f → IsRefused m f
+      by_limits (Refused r n) h = last ∙ h
+      by_limits Memory h = tt
 
       pub accepted : limit_rows m ≡ [] → IsAccepted m
       accepted h = last ∙ ap first h

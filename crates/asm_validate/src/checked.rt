@@ -15,11 +15,11 @@ ghost use Rattle.asm_validate.specs.Refusals.{IsRefused};
 ghost use Rattle.asm_validate.specs.Signatures.{signature_said};
 
 use crate::phases::check_phases;
-use crate::refusal::AsmRefusal;
 use asm_tree::{Function, Module};
 use asm_validate_exprs::signature_of;
 use asm_validate_facts::{ExportOf, Facts, facts_of};
 use asm_validate_limits::ForeignCall;
+use asm_validate_names::AsmRefusal;
 use asm_validate_nodes::node_count;
 use sem_words::{List, Text};
 use std::alloc::Global;

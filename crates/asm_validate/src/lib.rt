@@ -3,9 +3,9 @@
 
 mod checked;
 mod phases;
-mod refusal;
 
+pub use asm_lang_valid::Rule;
 pub use asm_validate_facts::ExportOf;
 pub use asm_validate_limits::ForeignCall;
+pub use asm_validate_names::AsmRefusal;
 pub use checked::{Checked, Signature, validate};
-pub use refusal::AsmRefusal;

@@ -8,10 +8,9 @@ ghost use Rattle.asm_lang_valid.specs.Refusal.{IsAccepted};
 ghost use Rattle.asm_validate_limits.specs.Called.{foreign_list};
 ghost use Rattle.asm_validate.specs.Refusals.{IsRefused};
 
-use crate::refusal::AsmRefusal;
 use asm_tree::Module;
 use asm_validate_limits::{ForeignCall, check_limits};
-use asm_validate_names::check_names;
+use asm_validate_names::{AsmRefusal, check_names};
 use asm_validate_stmts::check_types;
 use sem_words::List;
 use std::alloc::Global;

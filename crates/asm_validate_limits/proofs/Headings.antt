@@ -11,8 +11,8 @@ use Rattle.asm_lang_valid.specs.declared.rule.Rule.TheVariants.{PastLimit}
 use Rattle.asm_lang_valid.specs.Rows.{body_at, stmts_count, function_count}
 use Rattle.asm_lang_valid.specs.Typing.{Scope}
 use Rattle.asm_lang_valid.specs.LimitRows.{Mark, ForeignCall, counted, names_marks, function_marks, stmts_marks, most_functions, most_params, most_locals}
-use Rattle.asm_validate_limits.specs.declared.fault.LimitFault.{LimitFault}
-use Rattle.asm_validate_limits.specs.declared.fault.LimitFault.TheVariants.{Refused}
+use Rattle.asm_validate_names.specs.declared.refusal.AsmRefusal.{AsmRefusal}
+use Rattle.asm_validate_names.specs.declared.refusal.AsmRefusal.TheVariants.{Refused}
 use Rattle.asm_validate_limits.specs.declared.tally.Tally.{Tally}
 use Rattle.asm_validate_limits.specs.Passes.{calls_of, Passed, IsFault, Tallied, limited}
 use Rattle.asm_validate_limits.specs.Declarations.{heading_marks}
@@ -42,7 +42,7 @@ module _ {A : Type 0} where
   past_here xs before limit at t e =
       let above : limit ≤ before = grind (arith, nat_tests) in
       let node : at + (limit - before) ≡ at = omega arith in
-      let fault : LimitFault = Refused PastLimit (at + (limit - before)) in
+      let fault : AsmRefusal = Refused PastLimit (at + (limit - before)) in
       stop (counted before limit at) (names_marks (before + 1) limit (at + 1) xs) (calls_of t) fault
       (need_err (nat_lt before limit) at t fault (ap (λ n. Err (Refused PastLimit n)) node ∙ ap (λ b. limited b at) (sym e)))
 
@@ -57,10 +57,10 @@ module _ {A : Type 0} where
       past_either (nat_lt before limit) xs before limit at t refl (λ e. past xs (before + 1) limit (at + 1) t (next_below before limit e) left)
 
 -- what the code says of so many names
-abbrev pub Counts : ℕ → ℕ → ℕ → ℕ → Result (Unit {0}) LimitFault → Type 0
+abbrev pub Counts : ℕ → ℕ → ℕ → ℕ → Result (Unit {0}) AsmRefusal → Type 0
 Counts before count limit at r = MatchResult r (λ u. before + count ≤ limit) (λ f. (limit < before + count) × (f ≡ Refused PastLimit (at + (limit - before))))
 
-names_tallied : {A : Type 0} (xs : List A) (before limit at : ℕ) (t : Tally) (r : Result (Unit {0}) LimitFault) → before ≤ limit → Counts before (length xs) limit at r → Tallied (names_marks before limit at xs) 0 t t r
+names_tallied : {A : Type 0} (xs : List A) (before limit at : ℕ) (t : Tally) (r : Result (Unit {0}) AsmRefusal) → before ≤ limit → Counts before (length xs) limit at r → Tallied (names_marks before limit at xs) 0 t t r
 names_tallied xs before limit at t (Ok u) h p = fit xs before limit at t p
 names_tallied xs before limit at t (Err f) h p = subst (IsFault (names_marks before limit at xs) (calls_of t)) (sym p.1) (past xs before limit at t h p.0)
 
@@ -77,26 +77,26 @@ module _ (f : Function) (before at p l : ℕ) (params : p ≡ length (list_items
   abbrev second_names : List Mark
   second_names = names_marks (length (function_view f).params) most_locals (at + 1 + length (function_view f).params) (function_view f).locals
 
-  pub of_params : (t : Tally) (r : Result (Unit {0}) LimitFault) → Counts 0 p most_params (at + 1) r → Tallied first_names 0 t t r
+  pub of_params : (t : Tally) (r : Result (Unit {0}) AsmRefusal) → Counts 0 p most_params (at + 1) r → Tallied first_names 0 t t r
   of_params t r h =
       let least : 0 ≤ most_params = omega arith in
       names_tallied (function_view f).params 0 most_params (at + 1) t r least (subst (λ n. Counts 0 n most_params (at + 1) r) (sym params_length) h)
 
-  pub of_locals : (t : Tally) (r : Result (Unit {0}) LimitFault) → p ≤ most_locals → Counts p l most_locals (at + 1 + p) r → Tallied second_names 0 t t r
+  pub of_locals : (t : Tally) (r : Result (Unit {0}) AsmRefusal) → p ≤ most_locals → Counts p l most_locals (at + 1 + p) r → Tallied second_names 0 t t r
   of_locals t r few h =
       subst (λ n. Tallied (names_marks n most_locals (at + 1 + n) (function_view f).locals) 0 t t r) (sym params_length)
       (names_tallied (function_view f).locals p most_locals (at + 1 + p) t r few (subst (λ n. Counts p n most_locals (at + 1 + p) r) (sym locals_length) h))
 
-  pub too_many : (t c : Tally) (x : LimitFault) → Err x ≡ limited (nat_lt before most_functions) at → Tallied (heading_marks before at (function_view f)) 0 t c (Err x)
+  pub too_many : (t c : Tally) (x : AsmRefusal) → Err x ≡ limited (nat_lt before most_functions) at → Tallied (heading_marks before at (function_view f)) 0 t c (Err x)
   too_many t c x h = stop (counted before most_functions at) (first_names ++ second_names) (calls_of t) x (need_err (nat_lt before most_functions) at t x h)
 
   module _ (few : Ok tt ≡ limited (nat_lt before most_functions) at) where
-    pub many_params : (t : Tally) (x : LimitFault) → Counts 0 p most_params (at + 1) (Err x) → Tallied (heading_marks before at (function_view f)) 0 t t (Err x)
+    pub many_params : (t : Tally) (x : AsmRefusal) → Counts 0 p most_params (at + 1) (Err x) → Tallied (heading_marks before at (function_view f)) 0 t t (Err x)
     many_params t x h =
         then_ (counted before most_functions at) (first_names ++ second_names) 0 0 t t t (Err x) (need_ok (nat_lt before most_functions) at t few)
         (stop first_names second_names (calls_of t) x (of_params t (Err x) h))
 
-    pub counted_names : (t : Tally) (r : Result (Unit {0}) LimitFault) → Counts 0 p most_params (at + 1) (Ok tt) → p ≤ most_locals → Counts p l most_locals (at + 1 + p) r → Tallied (heading_marks before at (function_view f)) 0 t t r
+    pub counted_names : (t : Tally) (r : Result (Unit {0}) AsmRefusal) → Counts 0 p most_params (at + 1) (Ok tt) → p ≤ most_locals → Counts p l most_locals (at + 1 + p) r → Tallied (heading_marks before at (function_view f)) 0 t t r
     counted_names t r h few_params k =
         then_ (counted before most_functions at) (first_names ++ second_names) 0 0 t t t r (need_ok (nat_lt before most_functions) at t few)
         (then_ first_names second_names 0 0 t t t r (of_params t (Ok tt) h) (of_locals t r few_params k))
@@ -112,7 +112,7 @@ module _ (f : Function) (before at p l : ℕ) (params : p ≡ length (list_items
       omega arith
 
   -- the body after the rest
-  module _ (m : plain.Module) (s : Scope) (scope : s ≡ record { home = m; within = function_view f }) (a b c : Tally) (r : Result (Unit {0}) LimitFault) (start : a.at ≡ at) (same_calls : calls_of b ≡ calls_of a) (node : b.at ≡ at + (1 + (p + l))) where
+  module _ (m : plain.Module) (s : Scope) (scope : s ≡ record { home = m; within = function_view f }) (a b c : Tally) (r : Result (Unit {0}) AsmRefusal) (start : a.at ≡ at) (same_calls : calls_of b ≡ calls_of a) (node : b.at ≡ at + (1 + (p + l))) where
     split : function_marks m before at (function_view f) ≡ heading_marks before at (function_view f) ++ stmts_marks s b.at (function_view f).body
     split =
         let there : body_at (function_view f) at ≡ b.at = room ∙ sym node in
@@ -132,7 +132,7 @@ module _ (f : Function) (before at p l : ℕ) (params : p ≡ length (list_items
         (moved (stmts_marks s b.at (function_view f).body) (stmts_count (function_view f).body) (1 + (p + l)) a b c r same_calls moves h))
 
 -- a fault before the body
-pub heading_fault : (m : plain.Module) (f : Function) (before at : ℕ) (s : List ForeignCall) (x : LimitFault) → IsFault (heading_marks before at (function_view f)) s x → IsFault (function_marks m before at (function_view f)) s x
+pub heading_fault : (m : plain.Module) (f : Function) (before at : ℕ) (s : List ForeignCall) (x : AsmRefusal) → IsFault (heading_marks before at (function_view f)) s x → IsFault (function_marks m before at (function_view f)) s x
 heading_fault m f before at s x h =
     let first = names_marks 0 most_params (at + 1) (function_view f).params in
     let second = names_marks (length (function_view f).params) most_locals (at + 1 + length (function_view f).params) (function_view f).locals in

@@ -12,7 +12,7 @@ use Rattle.asm_tree.specs.Views.{global_view, function_view, table_view}
 use Rattle.asm_lang_valid.specs.declared.rule.Rule.TheVariants.{PastLimit}
 use Rattle.asm_lang_valid.specs.Rows.{need, function_count, functions_count}
 use Rattle.asm_lang_valid.specs.LimitRows.{Mark, rows_of, counted, function_marks, functions_marks, globals_marks, tables_marks, member_length, most_globals, longest_name}
-use Rattle.asm_validate_limits.specs.declared.fault.LimitFault.{LimitFault}
+use Rattle.asm_validate_names.specs.declared.refusal.AsmRefusal.{AsmRefusal}
 use Rattle.asm_validate_limits.specs.declared.tally.Tally.{Tally}
 use Rattle.asm_validate_limits.specs.Passes.{calls_of, Passed, IsFault, Tallied}
 use Rattle.asm_validate_limits.specs.Declarations.{global_marks, table_marks}
@@ -33,7 +33,7 @@ node_next all here rest n k a e d p c r h =
     same all (here ++ rest (a.at + 1)) n (0 + (1 + k)) a c r e none
     (then_ here (rest (a.at + 1)) 0 (1 + k) a a c r p (inside (rest (a.at + 1)) (rest (a.at + 1)) (1 + k) k a c r refl refl h))
 
-node_ends : (all here : List Mark) (rest : ℕ → List Mark) (n : ℕ) (a c : Tally) (x : LimitFault) → all ≡ here ++ rest (a.at + 1) → IsFault here (calls_of a) x → Tallied all n a c (Err x)
+node_ends : (all here : List Mark) (rest : ℕ → List Mark) (n : ℕ) (a c : Tally) (x : AsmRefusal) → all ≡ here ++ rest (a.at + 1) → IsFault here (calls_of a) x → Tallied all n a c (Err x)
 node_ends all here rest n a c x e h = same all (here ++ rest (a.at + 1)) n n a c (Err x) e refl (stop here (rest (a.at + 1)) (calls_of a) x h)
 
 -- ---- global variables
@@ -48,7 +48,7 @@ module _ (m : plain.Module) (vs : List Global_) (i : ℕ) (v : Global_) (h : i <
   pub next_global : (a : Tally) → Passed (global_marks m i a.at (global_view v)) 0 a a → Completes (globals_marks m i a.at (map global_view (drop i vs))) (length (drop i vs)) a (globals_marks m (i + 1) (a.at + 1) (map global_view (drop (i + 1) vs))) (length (drop (i + 1) vs)) (entered a)
   next_global a p = node_next _ (global_marks m i a.at (global_view v)) (λ at. globals_marks m (i + 1) at (map global_view (drop (i + 1) vs))) _ _ a (globals_left a.at) (one_shorter vs i v h) p
 
-  pub global_ends : (a c : Tally) (x : LimitFault) → IsFault (global_marks m i a.at (global_view v)) (calls_of a) x → Tallied (globals_marks m i a.at (map global_view (drop i vs))) (length (drop i vs)) a c (Err x)
+  pub global_ends : (a c : Tally) (x : AsmRefusal) → IsFault (global_marks m i a.at (global_view v)) (calls_of a) x → Tallied (globals_marks m i a.at (map global_view (drop i vs))) (length (drop i vs)) a c (Err x)
   global_ends a c x p = node_ends _ (global_marks m i a.at (global_view v)) (λ at. globals_marks m (i + 1) at (map global_view (drop (i + 1) vs))) (length (drop i vs)) a c x (globals_left a.at) p
 
 pub no_globals : (m : plain.Module) (vs : List Global_) (i : ℕ) (a : Tally) → length vs ≤ i → Tallied (globals_marks m i a.at (map global_view (drop i vs))) (length (drop i vs)) a a (Ok tt)
@@ -66,7 +66,7 @@ module _ (before : ℕ) (ts : List Table) (i : ℕ) (t : Table) (h : i < length 
   pub next_table : (a : Tally) → Passed (table_marks before a.at (table_view t)) 0 a a → Completes (tables_marks before a.at (map table_view (drop i ts))) (length (drop i ts)) a (tables_marks (before + length (list_items t.members)) (a.at + 1) (map table_view (drop (i + 1) ts))) (length (drop (i + 1) ts)) (entered a)
   next_table a p = node_next _ (table_marks before a.at (table_view t)) (λ at. tables_marks (before + length (list_items t.members)) at (map table_view (drop (i + 1) ts))) _ _ a (tables_left a.at) (one_shorter ts i t h) p
 
-  pub table_ends : (a c : Tally) (x : LimitFault) → IsFault (table_marks before a.at (table_view t)) (calls_of a) x → Tallied (tables_marks before a.at (map table_view (drop i ts))) (length (drop i ts)) a c (Err x)
+  pub table_ends : (a c : Tally) (x : AsmRefusal) → IsFault (table_marks before a.at (table_view t)) (calls_of a) x → Tallied (tables_marks before a.at (map table_view (drop i ts))) (length (drop i ts)) a c (Err x)
   table_ends a c x p = node_ends _ (table_marks before a.at (table_view t)) (λ at. tables_marks (before + length (list_items t.members)) at (map table_view (drop (i + 1) ts))) (length (drop i ts)) a c x (tables_left a.at) p
 
 pub no_tables : (before : ℕ) (ts : List Table) (i : ℕ) (a : Tally) → length ts ≤ i → Tallied (tables_marks before a.at (map table_view (drop i ts))) (length (drop i ts)) a a (Ok tt)
@@ -92,7 +92,7 @@ module _ (m : plain.Module) (fs : List Function) (i : ℕ) (f : Function) (h : i
   pub next_function : (a b : Tally) → Passed (function_marks m i a.at (function_view f)) (function_count (function_view f)) a b → Completes (functions_marks m i a.at (map function_view (drop i fs))) (functions_count (map function_view (drop i fs))) a (functions_marks m (i + 1) b.at (map function_view (drop (i + 1) fs))) (functions_count (map function_view (drop (i + 1) fs))) b
   next_function a b p = one_more _ (function_marks m i a.at (function_view f)) (λ at. functions_marks m (i + 1) at (map function_view (drop (i + 1) fs))) (function_count (function_view f)) _ _ a b (functions_left a.at) functions_step p
 
-  pub function_ends : (a c : Tally) (x : LimitFault) → IsFault (function_marks m i a.at (function_view f)) (calls_of a) x → Tallied (functions_marks m i a.at (map function_view (drop i fs))) (functions_count (map function_view (drop i fs))) a c (Err x)
+  pub function_ends : (a c : Tally) (x : AsmRefusal) → IsFault (function_marks m i a.at (function_view f)) (calls_of a) x → Tallied (functions_marks m i a.at (map function_view (drop i fs))) (functions_count (map function_view (drop i fs))) a c (Err x)
   function_ends a c x p = fault_here _ (function_marks m i a.at (function_view f)) (λ at. functions_marks m (i + 1) at (map function_view (drop (i + 1) fs))) (function_count (function_view f)) (functions_count (map function_view (drop i fs))) a c x (functions_left a.at) p
 
 pub no_functions : (m : plain.Module) (fs : List Function) (i : ℕ) (a : Tally) → length fs ≤ i → Tallied (functions_marks m i a.at (map function_view (drop i fs))) (functions_count (map function_view (drop i fs))) a a (Ok tt)

@@ -2,20 +2,20 @@
 use Rattle.std.proofs.Common.{◌≡◌, ℕ, ◌+◌, ◌<◌, ◌≤◌, List, [], ◌∷◌, ◌++◌, length, drop, get_or, Result, Ok, Err, refl, sym, ap, ◌∙◌}
 use Rattle.std.proofs.lemmas.List.{at_drop_more, at_drop_all}
 use Rattle.asm_lang_valid.specs.LimitRows.{Mark}
-use Rattle.asm_validate_limits.specs.declared.fault.LimitFault.{LimitFault}
+use Rattle.asm_validate_names.specs.declared.refusal.AsmRefusal.{AsmRefusal}
 use Rattle.asm_validate_limits.specs.declared.tally.Tally.{Tally}
 use Rattle.asm_validate_limits.specs.Passes.{calls_of, Passed, IsFault, Tallied}
 use Rattle.asm_validate_limits.proofs.Passes.{stop, then_at, same, nothing}
 
 -- what passes these marks from here passes all of them
 abbrev pub Completes : List Mark → ℕ → Tally → List Mark → ℕ → Tally → Type 0
-Completes all n a ms k b = (c : Tally) (r : Result (Unit {0}) LimitFault) → Tallied ms k b c r → Tallied all n a c r
+Completes all n a ms k b = (c : Tally) (r : Result (Unit {0}) AsmRefusal) → Tallied ms k b c r → Tallied all n a c r
 
 -- an item, and the others
 pub one_more : (all here : List Mark) (rest : ℕ → List Mark) (n k m : ℕ) (a b : Tally) → all ≡ here ++ rest (a.at + n) → m ≡ n + k → Passed here n a b → Completes all m a (rest b.at) k b
 one_more all here rest n k m a b e d p c r h = same all (here ++ rest (a.at + n)) m (n + k) a c r e d (then_at here rest n k a b c r p h)
 
-pub fault_here : (all here : List Mark) (rest : ℕ → List Mark) (n m : ℕ) (a c : Tally) (x : LimitFault) → all ≡ here ++ rest (a.at + n) → IsFault here (calls_of a) x → Tallied all m a c (Err x)
+pub fault_here : (all here : List Mark) (rest : ℕ → List Mark) (n m : ℕ) (a c : Tally) (x : AsmRefusal) → all ≡ here ++ rest (a.at + n) → IsFault here (calls_of a) x → Tallied all m a c (Err x)
 fault_here all here rest n m a c x e h = same all (here ++ rest (a.at + n)) m m a c (Err x) e refl (stop here (rest (a.at + n)) (calls_of a) x h)
 
 -- how many nodes are left
@@ -34,5 +34,5 @@ module _ {X : Type 0} (f : List X → ℕ → List Mark) (h : List X → ℕ) (g
   pub next : (xs : List X) (i : ℕ) (x : X) (a b : Tally) → i < length xs → x ≡ get_or xs i x → Passed (g x a.at) (n x) a b → Completes (f (drop i xs) a.at) (h (drop i xs)) a (f (drop (i + 1) xs) b.at) (h (drop (i + 1) xs)) b
   next xs i x a b lt is p = one_more (f (drop i xs) a.at) (g x a.at) (f (drop (i + 1) xs)) (n x) (h (drop (i + 1) xs)) (h (drop i xs)) a b (left xs i x a.at lt is) (count_left h n counts xs i x lt is) p
 
-  pub ends : (xs : List X) (i : ℕ) (x : X) (a c : Tally) (y : LimitFault) → i < length xs → x ≡ get_or xs i x → IsFault (g x a.at) (calls_of a) y → Tallied (f (drop i xs) a.at) (h (drop i xs)) a c (Err y)
+  pub ends : (xs : List X) (i : ℕ) (x : X) (a c : Tally) (y : AsmRefusal) → i < length xs → x ≡ get_or xs i x → IsFault (g x a.at) (calls_of a) y → Tallied (f (drop i xs) a.at) (h (drop i xs)) a c (Err y)
   ends xs i x a c y lt is p = fault_here (f (drop i xs) a.at) (g x a.at) (f (drop (i + 1) xs)) (n x) (h (drop i xs)) a c y (left xs i x a.at lt is) p

@@ -18,7 +18,7 @@ use Rattle.asm_lang_valid.specs.Rows.{expr_count, exprs_count, links_count}
 use Rattle.asm_lang_valid.specs.Scope.{Meaning, an_int, an_outside, a_foreign, a_builtin, a_view, a_function, a_table, a_parameter, nothing as undeclared}
 use Rattle.asm_lang_valid.specs.Typing.{Scope, is_call, is_builtin, is_literal, or_zero, named, exprs_length}
 use Rattle.asm_lang_valid.specs.LimitRows.{Mark, expr_marks, exprs_marks, links_marks, comma_marks, call_marks, callee_marks}
-use Rattle.asm_validate_limits.specs.declared.fault.LimitFault.{LimitFault}
+use Rattle.asm_validate_names.specs.declared.refusal.AsmRefusal.{AsmRefusal}
 use Rattle.asm_validate_limits.specs.declared.tally.Tally.{Tally}
 use Rattle.asm_validate_limits.specs.declared.callee.Place.{Place}
 use Rattle.asm_validate_limits.specs.declared.callee.Place.TheVariants.{Operand, Valued, Effect}
@@ -32,13 +32,13 @@ use Rattle.asm_validate_limits.proofs.Shapes.{is_direct, lit_is, decimal_is, var
 abbrev pub entered : Tally → Tally
 entered a = record { calls = a.calls; at = a.at + 1 }
 
-pub inside : (ms ks : List Mark) (n k : ℕ) (a c : Tally) (r : Result (Unit {0}) LimitFault) → ms ≡ ks → n ≡ 1 + k → Tallied ks k (entered a) c r → Tallied ms n a c r
+pub inside : (ms ks : List Mark) (n k : ℕ) (a c : Tally) (r : Result (Unit {0}) AsmRefusal) → ms ≡ ks → n ≡ 1 + k → Tallied ks k (entered a) c r → Tallied ms n a c r
 inside ms ks n k a c r e d h = into ms ks n k a (entered a) c r refl refl e d h
 
 pub alone : (ms : List Mark) (n : ℕ) (a c : Tally) → c ≡ entered a → ms ≡ [] → n ≡ 1 → Passed ms n a c
 alone ms n a c d m k = subst (Passed ms n a) (sym d) (inside ms [] n 0 a (entered a) (Ok tt) m k (nothing (entered a)))
 
-module _ (s : Scope) (e : CodeExpr) (a c : Tally) (r : Result (Unit {0}) LimitFault) where
+module _ (s : Scope) (e : CodeExpr) (a c : Tally) (r : Result (Unit {0}) AsmRefusal) where
   -- an expression of this form, whose parts have these marks
   pub of_form : (x : Expr) (ks : List Mark) (k : ℕ) → expr_view e ≡ x → expr_marks s a.at x ≡ ks → expr_count x ≡ 1 + k → Tallied ks k (entered a) c r → Tallied (expr_marks s a.at (expr_view e)) (expr_count (expr_view e)) a c r
   of_form x ks k h m n t = inside (expr_marks s a.at (expr_view e)) ks (expr_count (expr_view e)) k a c r (ap (expr_marks s a.at) h ∙ m) (ap expr_count h ∙ n) t
@@ -146,7 +146,7 @@ module _ (s : Scope) (a : Tally) where
   pub next_argument : (es : List CodeExpr) (i : ℕ) (e : CodeExpr) (b : Tally) → i < length es → e ≡ get_or es i e → Passed (expr_marks s a.at (expr_view e)) (expr_count (expr_view e)) a b → Completes (arguments_marks s (drop i es) a.at) (nodes_in (drop i es)) a (arguments_marks s (drop (i + 1) es) b.at) (nodes_in (drop (i + 1) es)) b
   next_argument es i e b h is p = next (arguments_marks s) nodes_in (λ e at. expr_marks s at (expr_view e)) (λ e. expr_count (expr_view e)) (λ e es at. refl) (λ e es. refl) es i e a b h is p
 
-  pub argument_ends : (es : List CodeExpr) (i : ℕ) (e : CodeExpr) (c : Tally) (y : LimitFault) → i < length es → e ≡ get_or es i e → IsFault (expr_marks s a.at (expr_view e)) (calls_of a) y → Tallied (arguments_marks s (drop i es) a.at) (nodes_in (drop i es)) a c (Err y)
+  pub argument_ends : (es : List CodeExpr) (i : ℕ) (e : CodeExpr) (c : Tally) (y : AsmRefusal) → i < length es → e ≡ get_or es i e → IsFault (expr_marks s a.at (expr_view e)) (calls_of a) y → Tallied (arguments_marks s (drop i es) a.at) (nodes_in (drop i es)) a c (Err y)
   argument_ends es i e c y h is p = ends (arguments_marks s) nodes_in (λ e at. expr_marks s at (expr_view e)) (λ e. expr_count (expr_view e)) (λ e es at. refl) (λ e es. refl) es i e a c y h is p
 
   pub no_arguments : (es : List CodeExpr) (i : ℕ) → length es ≤ i → Tallied (arguments_marks s (drop i es) a.at) (nodes_in (drop i es)) a a (Ok tt)
@@ -155,7 +155,7 @@ module _ (s : Scope) (a : Tally) where
   pub next_operand : (ls : List CodeLink) (i : ℕ) (l : CodeLink) (b : Tally) → i < length ls → l ≡ get_or ls i l → Passed (expr_marks s a.at (expr_view l.operand)) (expr_count (expr_view l.operand)) a b → Completes (operands_marks s (drop i ls) a.at) (nodes_of (drop i ls)) a (operands_marks s (drop (i + 1) ls) b.at) (nodes_of (drop (i + 1) ls)) b
   next_operand ls i l b h is p = next (operands_marks s) nodes_of (λ l at. expr_marks s at (expr_view l.operand)) (λ l. expr_count (expr_view l.operand)) (operand_first s) operand_counts ls i l a b h is p
 
-  pub operand_ends : (ls : List CodeLink) (i : ℕ) (l : CodeLink) (c : Tally) (y : LimitFault) → i < length ls → l ≡ get_or ls i l → IsFault (expr_marks s a.at (expr_view l.operand)) (calls_of a) y → Tallied (operands_marks s (drop i ls) a.at) (nodes_of (drop i ls)) a c (Err y)
+  pub operand_ends : (ls : List CodeLink) (i : ℕ) (l : CodeLink) (c : Tally) (y : AsmRefusal) → i < length ls → l ≡ get_or ls i l → IsFault (expr_marks s a.at (expr_view l.operand)) (calls_of a) y → Tallied (operands_marks s (drop i ls) a.at) (nodes_of (drop i ls)) a c (Err y)
   operand_ends ls i l c y h is p = ends (operands_marks s) nodes_of (λ l at. expr_marks s at (expr_view l.operand)) (λ l. expr_count (expr_view l.operand)) (operand_first s) operand_counts ls i l a c y h is p
 
   pub no_operands : (ls : List CodeLink) (i : ℕ) → length ls ≤ i → Tallied (operands_marks s (drop i ls) a.at) (nodes_of (drop i ls)) a a (Ok tt)
@@ -199,7 +199,7 @@ module _ (s : Scope) (a : Tally) (es : List CodeExpr) (i : ℕ) (e : CodeExpr) (
   pub next_part : (b : Tally) → Passed (placed_marks s p a.at (expr_view e)) (expr_count (expr_view e)) a b → Completes (parts_marks s (drop i es) a.at) (nodes_in (drop i es)) a (parts_marks s (drop (i + 1) es) b.at) (nodes_in (drop (i + 1) es)) b
   next_part b t = one_more (parts_marks s (drop i es) a.at) (placed_marks s p a.at (expr_view e)) (parts_marks s (drop (i + 1) es)) (expr_count (expr_view e)) (nodes_in (drop (i + 1) es)) (nodes_in (drop i es)) a b part_here (nodes_left es i e h is) t
 
-  pub part_ends : (c : Tally) (y : LimitFault) → IsFault (placed_marks s p a.at (expr_view e)) (calls_of a) y → Tallied (parts_marks s (drop i es) a.at) (nodes_in (drop i es)) a c (Err y)
+  pub part_ends : (c : Tally) (y : AsmRefusal) → IsFault (placed_marks s p a.at (expr_view e)) (calls_of a) y → Tallied (parts_marks s (drop i es) a.at) (nodes_in (drop i es)) a c (Err y)
   part_ends c y t = fault_here (parts_marks s (drop i es) a.at) (placed_marks s p a.at (expr_view e)) (parts_marks s (drop (i + 1) es)) (expr_count (expr_view e)) (nodes_in (drop i es)) a c y part_here t
 
 pub no_parts : (s : Scope) (a : Tally) (es : List CodeExpr) (i : ℕ) → length es ≤ i → Tallied (parts_marks s (drop i es) a.at) (nodes_in (drop i es)) a a (Ok tt)

@@ -5,8 +5,8 @@ use Rattle.asm_lang_valid.specs.declared.rule.Met.{Met}
 use Rattle.asm_lang_valid.specs.declared.rule.Rule.TheVariants.{PastLimit}
 use Rattle.asm_lang_valid.specs.Rows.{first, need}
 use Rattle.asm_lang_valid.specs.LimitRows.{ForeignCall, Mark, a_row, a_use, rows_of, is_among, distinct_after, rows_after, most_foreign_calls}
-use Rattle.asm_validate_limits.specs.declared.fault.LimitFault.{LimitFault}
-use Rattle.asm_validate_limits.specs.declared.fault.LimitFault.TheVariants.{Refused, Memory}
+use Rattle.asm_validate_names.specs.declared.refusal.AsmRefusal.{AsmRefusal}
+use Rattle.asm_validate_names.specs.declared.refusal.AsmRefusal.TheVariants.{Refused, Memory}
 use Rattle.asm_validate_limits.specs.declared.tally.Tally.{Tally}
 use Rattle.asm_validate_limits.specs.Passes.{calls_of, Passed, IsFault, Tallied, limited}
 
@@ -33,11 +33,11 @@ first_before : (xs ys : List Met) (x : Met) → first xs ≡ Some x → first (x
 first_before [] ys x h = cc
 first_before (y ∷ xs) ys x h = h
 
-pub stop : (ms ns : List Mark) (s : List ForeignCall) (x : LimitFault) → IsFault ms s x → IsFault (ms ++ ns) s x
+pub stop : (ms ns : List Mark) (s : List ForeignCall) (x : AsmRefusal) → IsFault ms s x → IsFault (ms ++ ns) s x
 stop ms ns s (Refused r n) h = ap first (rows-append s ms ns) ∙ first_before (rows_after s ms) (rows_after (distinct_after s ms) ns) _ h
 stop ms ns s Memory h = tt
 
-pub then_ : (ms ns : List Mark) (n k : ℕ) (a b c : Tally) (r : Result (Unit {0}) LimitFault) → Passed ms n a b → Tallied ns k b c r → Tallied (ms ++ ns) (n + k) a c r
+pub then_ : (ms ns : List Mark) (n k : ℕ) (a b c : Tally) (r : Result (Unit {0}) AsmRefusal) → Passed ms n a b → Tallied ns k b c r → Tallied (ms ++ ns) (n + k) a c r
 then_ ms ns n k a b c (Ok u) p h =
     let m = p.counted in
     let o = h.counted in
@@ -51,14 +51,14 @@ then_ ms ns n k a b c (Err (Refused r x)) p h =
 then_ ms ns n k a b c (Err Memory) p h = tt
 
 -- .. where the later marks go on at the next node
-pub then_at : (ms : List Mark) (ns : ℕ → List Mark) (n k : ℕ) (a b c : Tally) (r : Result (Unit {0}) LimitFault) → Passed ms n a b → Tallied (ns b.at) k b c r → Tallied (ms ++ ns (a.at + n)) (n + k) a c r
+pub then_at : (ms : List Mark) (ns : ℕ → List Mark) (n k : ℕ) (a b c : Tally) (r : Result (Unit {0}) AsmRefusal) → Passed ms n a b → Tallied (ns b.at) k b c r → Tallied (ms ++ ns (a.at + n)) (n + k) a c r
 then_at ms ns n k a b c r p h = then_ ms (ns (a.at + n)) n k a b c r p (subst (λ t. Tallied (ns t) k b c r) p.counted h)
 
-pub same : (ms ks : List Mark) (n k : ℕ) (a c : Tally) (r : Result (Unit {0}) LimitFault) → ms ≡ ks → n ≡ k → Tallied ks k a c r → Tallied ms n a c r
+pub same : (ms ks : List Mark) (n k : ℕ) (a c : Tally) (r : Result (Unit {0}) AsmRefusal) → ms ≡ ks → n ≡ k → Tallied ks k a c r → Tallied ms n a c r
 same ms ks n k a c r e d h = subst (λ l. Tallied l n a c r) (sym e) (subst (λ m. Tallied ks m a c r) (sym d) h)
 
 -- so many nodes, and then those after them
-pub moved : (ms : List Mark) (n k : ℕ) (a b c : Tally) (r : Result (Unit {0}) LimitFault) → calls_of b ≡ calls_of a → b.at ≡ a.at + k → Tallied ms n b c r → Tallied ms (k + n) a c r
+pub moved : (ms : List Mark) (n k : ℕ) (a b c : Tally) (r : Result (Unit {0}) AsmRefusal) → calls_of b ≡ calls_of a → b.at ≡ a.at + k → Tallied ms n b c r → Tallied ms (k + n) a c r
 moved ms n k a b c (Ok u) calls at h =
     let o = h.counted in
     record {
@@ -70,24 +70,24 @@ moved ms n k a b c (Err (Refused r x)) calls at h = ap first (ap (λ s. rows_aft
 moved ms n k a b c (Err Memory) calls at h = tt
 
 -- a node's own number, and then its parts
-pub into : (ms ks : List Mark) (n k : ℕ) (a b c : Tally) (r : Result (Unit {0}) LimitFault) → calls_of b ≡ calls_of a → b.at ≡ a.at + 1 → ms ≡ ks → n ≡ 1 + k → Tallied ks k b c r → Tallied ms n a c r
+pub into : (ms ks : List Mark) (n k : ℕ) (a b c : Tally) (r : Result (Unit {0}) AsmRefusal) → calls_of b ≡ calls_of a → b.at ≡ a.at + 1 → ms ≡ ks → n ≡ 1 + k → Tallied ks k b c r → Tallied ms n a c r
 into ms ks n k a b c r calls at e d h = same ms ks n (1 + k) a c r e d (moved ks k 1 a b c r calls at h)
 
 pub nothing : (a : Tally) → Passed [] 0 a a
 nothing a = record { none = refl; calls = refl; counted = omega arith }
 
-pub from_err : (ms : List Mark) (n : ℕ) (a c : Tally) (r : Result (Unit {0}) LimitFault) (x : LimitFault) → r ≡ Err x → IsFault ms (calls_of a) x → Tallied ms n a c r
+pub from_err : (ms : List Mark) (n : ℕ) (a c : Tally) (r : Result (Unit {0}) AsmRefusal) (x : AsmRefusal) → r ≡ Err x → IsFault ms (calls_of a) x → Tallied ms n a c r
 from_err ms n a c r x e h = subst (λ r. Tallied ms n a c r) (sym e) h
 
-pub from_ok : (ms : List Mark) (n : ℕ) (a c : Tally) (r : Result (Unit {0}) LimitFault) → r ≡ Ok tt → Passed ms n a c → Tallied ms n a c r
+pub from_ok : (ms : List Mark) (n : ℕ) (a c : Tally) (r : Result (Unit {0}) AsmRefusal) → r ≡ Ok tt → Passed ms n a c → Tallied ms n a c r
 from_ok ms n a c r e h = subst (λ r. Tallied ms n a c r) (sym e) h
 
-pub err_first : (ms ns : List Mark) (n : ℕ) (a c : Tally) (r : Result (Unit {0}) LimitFault) (x : LimitFault) → r ≡ Err x → IsFault ms (calls_of a) x → Tallied (ms ++ ns) n a c r
+pub err_first : (ms ns : List Mark) (n : ℕ) (a c : Tally) (r : Result (Unit {0}) AsmRefusal) (x : AsmRefusal) → r ≡ Err x → IsFault ms (calls_of a) x → Tallied (ms ++ ns) n a c r
 err_first ms ns n a c r x e h = from_err (ms ++ ns) n a c r x e (stop ms ns (calls_of a) x h)
 
 -- ---- what has to hold at a node
 
-pub need_err : (b : Bool) (node : ℕ) (a : Tally) (x : LimitFault) → Err x ≡ limited b node → IsFault (rows_of (need b PastLimit node)) (calls_of a) x
+pub need_err : (b : Bool) (node : ℕ) (a : Tally) (x : AsmRefusal) → Err x ≡ limited b node → IsFault (rows_of (need b PastLimit node)) (calls_of a) x
 need_err true node a x h = cc
 need_err false node a x h = let is : Refused PastLimit node ≡ x = cc in subst (λ y. IsFault (rows_of (need false PastLimit node)) (calls_of a) y) is refl
 
@@ -95,12 +95,12 @@ pub need_ok : (b : Bool) (node : ℕ) (a : Tally) → Ok tt ≡ limited b node �
 need_ok true node a h = nothing a
 need_ok false node a h = cc
 
-pub needed : (b : Bool) (node : ℕ) (a : Tally) (r : Result (Unit {0}) LimitFault) → r ≡ limited b node → Tallied (rows_of (need b PastLimit node)) 0 a a r
+pub needed : (b : Bool) (node : ℕ) (a : Tally) (r : Result (Unit {0}) AsmRefusal) → r ≡ limited b node → Tallied (rows_of (need b PastLimit node)) 0 a a r
 needed true node a r h = subst (λ r. Tallied [] 0 a a r) (sym h) (nothing a)
 needed false node a r h = subst (λ r. Tallied (rows_of (need false PastLimit node)) 0 a a r) (sym h) refl
 
 -- marks of a node that takes no node of its own, and then others
-pub after_none : (ms ns : List Mark) (k : ℕ) (a c : Tally) (r : Result (Unit {0}) LimitFault) → Passed ms 0 a a → Tallied ns k a c r → Tallied (ms ++ ns) k a c r
+pub after_none : (ms ns : List Mark) (k : ℕ) (a c : Tally) (r : Result (Unit {0}) AsmRefusal) → Passed ms 0 a a → Tallied ns k a c r → Tallied (ms ++ ns) k a c r
 after_none ms ns k a c r p h =
     let none : k ≡ 0 + k = omega arith in
     same (ms ++ ns) (ms ++ ns) k (0 + k) a c r refl none (then_ ms ns 0 k a a c r p h)

@@ -15,7 +15,7 @@ use Rattle.asm_tree.proofs.Views.{stmt_view-Block, stmt_view-Plain, stmt_view-Em
 use Rattle.asm_lang_valid.specs.Rows.{option_count, stmt_count, stmts_count, clauses_count}
 use Rattle.asm_lang_valid.specs.Typing.{Scope}
 use Rattle.asm_lang_valid.specs.LimitRows.{Mark, stmt_marks, stmts_marks, clauses_marks, part_marks, option_marks}
-use Rattle.asm_validate_limits.specs.declared.fault.LimitFault.{LimitFault}
+use Rattle.asm_validate_names.specs.declared.refusal.AsmRefusal.{AsmRefusal}
 use Rattle.asm_validate_limits.specs.declared.tally.Tally.{Tally}
 use Rattle.asm_validate_limits.specs.declared.callee.Place.TheVariants.{Operand, Effect}
 use Rattle.asm_validate_limits.specs.Passes.{calls_of, Passed, IsFault, Tallied}
@@ -71,7 +71,7 @@ module _ (s : CodeStmt) where
   pub switch_is : (e : CodeExpr) (l : Listed CodeClause) (ks : List CodeClause) → s ≡ code.Switch e l → ks ≡ list_items l → stmt_view s ≡ switches (expr_view e) (clauses_view ks)
   switch_is e l ks h k = ap stmt_view h ∙ stmt_view-Switch e l ∙ ap (λ x. switches (expr_view e) (clauses_view x)) (sym k)
 
-module _ (s : Scope) (e : CodeStmt) (a c : Tally) (r : Result (Unit {0}) LimitFault) where
+module _ (s : Scope) (e : CodeStmt) (a c : Tally) (r : Result (Unit {0}) AsmRefusal) where
   -- a statement of this form, whose parts have these marks
   pub of_form : (x : Stmt) (ks : List Mark) (k : ℕ) → stmt_view e ≡ x → stmt_marks s a.at x ≡ ks → stmt_count x ≡ 1 + k → Tallied ks k (entered a) c r → Tallied (stmt_marks s a.at (stmt_view e)) (stmt_count (stmt_view e)) a c r
   of_form x ks k h m n t = inside (stmt_marks s a.at (stmt_view e)) ks (stmt_count (stmt_view e)) k a c r (ap (stmt_marks s a.at) h ∙ m) (ap stmt_count h ∙ n) t
@@ -134,7 +134,7 @@ module _ (s : Scope) (a : Tally) where
   pub next_stmt : (ss : List CodeStmt) (i : ℕ) (t : CodeStmt) (b : Tally) → i < length ss → t ≡ get_or ss i t → Passed (stmt_marks s a.at (stmt_view t)) (stmt_count (stmt_view t)) a b → Completes (body_marks s (drop i ss) a.at) (body_count (drop i ss)) a (body_marks s (drop (i + 1) ss) b.at) (body_count (drop (i + 1) ss)) b
   next_stmt ss i t b h is p = next (body_marks s) body_count (λ t at. stmt_marks s at (stmt_view t)) (λ t. stmt_count (stmt_view t)) (λ t ss at. refl) (λ t ss. refl) ss i t a b h is p
 
-  pub stmt_ends : (ss : List CodeStmt) (i : ℕ) (t : CodeStmt) (c : Tally) (y : LimitFault) → i < length ss → t ≡ get_or ss i t → IsFault (stmt_marks s a.at (stmt_view t)) (calls_of a) y → Tallied (body_marks s (drop i ss) a.at) (body_count (drop i ss)) a c (Err y)
+  pub stmt_ends : (ss : List CodeStmt) (i : ℕ) (t : CodeStmt) (c : Tally) (y : AsmRefusal) → i < length ss → t ≡ get_or ss i t → IsFault (stmt_marks s a.at (stmt_view t)) (calls_of a) y → Tallied (body_marks s (drop i ss) a.at) (body_count (drop i ss)) a c (Err y)
   stmt_ends ss i t c y h is p = ends (body_marks s) body_count (λ t at. stmt_marks s at (stmt_view t)) (λ t. stmt_count (stmt_view t)) (λ t ss at. refl) (λ t ss. refl) ss i t a c y h is p
 
   pub no_stmts_left : (ss : List CodeStmt) (i : ℕ) → length ss ≤ i → Tallied (body_marks s (drop i ss) a.at) (body_count (drop i ss)) a a (Ok tt)
@@ -144,7 +144,7 @@ module _ (s : Scope) (a : Tally) where
   next_clause ks i k ss b h is same p =
       next (switch_marks s) switch_count (λ k at. body_marks s (list_items k.body) at) (λ k. body_count (list_items k.body)) (clause_first s) clause_counts ks i k a b h is (subst (λ l. Passed (body_marks s l a.at) (body_count l) a b) same p)
 
-  pub clause_ends : (ks : List CodeClause) (i : ℕ) (k : CodeClause) (ss : List CodeStmt) (c : Tally) (y : LimitFault) → i < length ks → k ≡ get_or ks i k → ss ≡ list_items k.body → IsFault (body_marks s ss a.at) (calls_of a) y → Tallied (switch_marks s (drop i ks) a.at) (switch_count (drop i ks)) a c (Err y)
+  pub clause_ends : (ks : List CodeClause) (i : ℕ) (k : CodeClause) (ss : List CodeStmt) (c : Tally) (y : AsmRefusal) → i < length ks → k ≡ get_or ks i k → ss ≡ list_items k.body → IsFault (body_marks s ss a.at) (calls_of a) y → Tallied (switch_marks s (drop i ks) a.at) (switch_count (drop i ks)) a c (Err y)
   clause_ends ks i k ss c y h is same p =
       ends (switch_marks s) switch_count (λ k at. body_marks s (list_items k.body) at) (λ k. body_count (list_items k.body)) (clause_first s) clause_counts ks i k a c y h is (subst (λ l. IsFault (body_marks s l a.at) (calls_of a) y) same p)
 

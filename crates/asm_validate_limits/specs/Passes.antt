@@ -1,10 +1,10 @@
 -- What a pass over marks finds: the first row, or the calls of foreign functions and how many nodes there were.
-use Rattle.std.specs.Prelude.{◌≡◌, ℕ, ◌+◌, Bool, true, false, List, [], Some, Result, Ok, Err, map}
+use Rattle.std.specs.Prelude.{◌≡◌, ℕ, ◌+◌, Bool, true, false, List, [], Result, Ok, Err, map}
 use Rattle.asm_lang_valid.specs.declared.rule.Rule.TheVariants.{PastLimit}
-use Rattle.asm_lang_valid.specs.Rows.{first}
 use Rattle.asm_lang_valid.specs.LimitRows.{ForeignCall, Mark, rows_after, distinct_after}
-use Rattle.asm_validate_limits.specs.declared.fault.LimitFault.{LimitFault}
-use Rattle.asm_validate_limits.specs.declared.fault.LimitFault.TheVariants.{Refused, Memory}
+use Rattle.asm_validate_names.specs.declared.refusal.AsmRefusal.{AsmRefusal}
+use Rattle.asm_validate_names.specs.declared.refusal.AsmRefusal.TheVariants.{Refused}
+use Rattle.asm_validate_names.specs.Refusals.{IsRow}
 use Rattle.asm_validate_limits.specs.declared.tally.Call.{Call}
 use Rattle.asm_validate_limits.specs.declared.tally.Tally.{Tally}
 
@@ -22,15 +22,14 @@ pub record Passed (ms : List Mark) (count : ℕ) (old new : Tally) : Type 0 wher
   pub counted : new.at ≡ old.at + count
 
 -- the fault is the first row of these marks, after calls that were seen; want of memory says nothing of them
-abbrev pub IsFault : List Mark → List ForeignCall → LimitFault → Type 0
-IsFault ms seen (Refused r n) = first (rows_after seen ms) ≡ Some (record { rule = r; node = n })
-IsFault ms seen Memory = Unit {0}
+abbrev pub IsFault : List Mark → List ForeignCall → AsmRefusal → Type 0
+IsFault ms seen = IsRow (rows_after seen ms)
 
-abbrev pub Tallied : List Mark → ℕ → Tally → Tally → Result (Unit {0}) LimitFault → Type 0
+abbrev pub Tallied : List Mark → ℕ → Tally → Tally → Result (Unit {0}) AsmRefusal → Type 0
 Tallied ms count old new (Ok u) = Passed ms count old new
 Tallied ms count old new (Err f) = IsFault ms (calls_of old) f
 
 -- the answer where something has to hold at a node
-abbrev pub limited : Bool → ℕ → Result (Unit {0}) LimitFault
+abbrev pub limited : Bool → ℕ → Result (Unit {0}) AsmRefusal
 limited true at = Ok tt
 limited false at = Err (Refused PastLimit at)

@@ -11,11 +11,10 @@ ghost use Rattle.asm_validate_names.specs.Meanings.{meaning_view};
 ghost use Rattle.asm_validate_limits.specs.Passes.{Tallied};
 ghost use Rattle.asm_validate_limits.specs.Places as places;
 
-use crate::fault::LimitFault;
 use crate::numbers::MOST_PARAMS;
 use crate::tally::{Tally, needs, use_call};
 use asm_tree::Expr;
-use asm_validate_names::Meaning;
+use asm_validate_names::{AsmRefusal, Meaning};
 use sem_words::{JsOp, Text};
 
 /// Where an expression stands.
@@ -85,7 +84,7 @@ pub fn callee_limits<'a>(
     callee: Option<Meaning<'a>>,
     count: usize,
     node: u64,
-) -> Result<(), LimitFault>
+) -> Result<(), AsmRefusal>
     ensures { Tallied (places.called_marks place (meaning_view callee.entry) count node) 0 tally.old tally.new result }
 {
     match callee {
@@ -100,7 +99,7 @@ fn foreign_limits<'a>(
     name: &'a Text,
     count: usize,
     node: u64,
-) -> Result<(), LimitFault>
+) -> Result<(), AsmRefusal>
     ensures { Tallied (places.called_marks place (a_foreign (text_bytes name.now)) count node) 0 tally.old tally.new result }
 {
     match place {
@@ -116,7 +115,7 @@ fn outward_limits<'a>(
     count: usize,
     valued: bool,
     node: u64,
-) -> Result<(), LimitFault>
+) -> Result<(), AsmRefusal>
     ensures { Tallied (callee_marks (a_foreign (text_bytes name.now)) valued count node) 0 tally.old tally.new result }
 {
     needs(count <= MOST_PARAMS, node)?;

@@ -11,11 +11,10 @@ ghost use Rattle.asm_validate_limits.specs.Places.{option_placed};
 
 use crate::callee::Place;
 use crate::expressions::placed_limits;
-use crate::fault::LimitFault;
 use crate::numbers::MOST_CASES;
 use crate::tally::{Tally, needs};
 use asm_tree::{Clause, Expr};
-use asm_validate_names::Scope;
+use asm_validate_names::{AsmRefusal, Scope};
 
 /// The first limit that is passed in an expression at this place, which may be left out.
 pub fn option_limits<'a>(
@@ -23,7 +22,7 @@ pub fn option_limits<'a>(
     tally: &mut Tally<'a>,
     place: Place,
     expr: &Option<Expr>,
-) -> Result<(), LimitFault>
+) -> Result<(), AsmRefusal>
     requires known { IsCompleteScope scope.now }
     requires room { tally.old.at + option_count (expr_option expr.now) < 2 ^ 64 }
     ensures { Tallied (option_placed (scope_view scope.now) place tally.old.at (expr_option expr.now)) (option_count (expr_option expr.now)) tally.old tally.new result }
@@ -35,7 +34,7 @@ pub fn option_limits<'a>(
 }
 
 /// The number of cases of a switch, which is a node.
-pub fn check_cases(clauses: &[Clause], node: u64) -> Result<(), LimitFault>
+pub fn check_cases(clauses: &[Clause], node: u64) -> Result<(), AsmRefusal>
     ensures { result ≡ limited (nat_le (clauses_length (clauses_view clauses.now)) most_clauses) node }
 {
     let count = case_count(clauses);

@@ -11,10 +11,9 @@ ghost use Rattle.asm_validate_limits.specs.Passes.{Tallied};
 ghost use Rattle.asm_validate_limits.specs.Places.{placed_marks, called_marks, left_place as place_before};
 
 use crate::callee::{Place, callee_limits, left_place, part_place};
-use crate::fault::LimitFault;
 use crate::tally::Tally;
 use asm_tree::{Expr, Link};
-use asm_validate_names::Scope;
+use asm_validate_names::{AsmRefusal, Scope};
 use sem_words::{JsOp, Text};
 
 /// The first limit that is passed in an expression that is no call in a place for calls.
@@ -23,7 +22,7 @@ pub fn expr_limits<'a>(
     scope: &Scope<'_, 'a>,
     tally: &mut Tally<'a>,
     expr: &Expr,
-) -> Result<(), LimitFault>
+) -> Result<(), AsmRefusal>
     requires known { IsCompleteScope scope.now }
     requires room { tally.old.at + expr_count (expr_view expr.now) < 2 ^ 64 }
     ensures { Tallied (expr_marks (scope_view scope.now) tally.old.at (expr_view expr.now)) (expr_count (expr_view expr.now)) tally.old tally.new result }
@@ -52,7 +51,7 @@ fn both_limits<'a>(
     tally: &mut Tally<'a>,
     left: &Expr,
     right: &Expr,
-) -> Result<(), LimitFault>
+) -> Result<(), AsmRefusal>
     requires known { IsCompleteScope scope.now }
     requires room { tally.old.at + (expr_count (expr_view left.now) + expr_count (expr_view right.now)) < 2 ^ 64 }
     ensures { Tallied (expr_marks (scope_view scope.now) tally.old.at (expr_view left.now) ++ expr_marks (scope_view scope.now) (tally.old.at + expr_count (expr_view left.now)) (expr_view right.now)) (expr_count (expr_view left.now) + expr_count (expr_view right.now)) tally.old tally.new result }
@@ -68,7 +67,7 @@ fn binary_limits<'a>(
     op: JsOp,
     left: &Expr,
     right: &Expr,
-) -> Result<(), LimitFault>
+) -> Result<(), AsmRefusal>
     requires known { IsCompleteScope scope.now }
     requires room { tally.old.at + (expr_count (expr_view left.now) + expr_count (expr_view right.now)) < 2 ^ 64 }
     ensures { Tallied (placed_marks (scope_view scope.now) (place_before op (expr_view right.now)) tally.old.at (expr_view left.now) ++ expr_marks (scope_view scope.now) (tally.old.at + expr_count (expr_view left.now)) (expr_view right.now)) (expr_count (expr_view left.now) + expr_count (expr_view right.now)) tally.old tally.new result }
@@ -84,7 +83,7 @@ fn cond_limits<'a>(
     condition: &Expr,
     yes: &Expr,
     no: &Expr,
-) -> Result<(), LimitFault>
+) -> Result<(), AsmRefusal>
     requires known { IsCompleteScope scope.now }
     requires room { tally.old.at + (expr_count (expr_view condition.now) + (expr_count (expr_view yes.now) + expr_count (expr_view no.now))) < 2 ^ 64 }
     ensures { Tallied (expr_marks (scope_view scope.now) tally.old.at (expr_view condition.now) ++ (expr_marks (scope_view scope.now) (tally.old.at + expr_count (expr_view condition.now)) (expr_view yes.now) ++ expr_marks (scope_view scope.now) (tally.old.at + expr_count (expr_view condition.now) + expr_count (expr_view yes.now)) (expr_view no.now))) (expr_count (expr_view condition.now) + (expr_count (expr_view yes.now) + expr_count (expr_view no.now))) tally.old tally.new result }
@@ -100,7 +99,7 @@ fn indexed_limits<'a>(
     tally: &mut Tally<'a>,
     index: &Expr,
     arguments: &[Expr],
-) -> Result<(), LimitFault>
+) -> Result<(), AsmRefusal>
     requires known { IsCompleteScope scope.now }
     requires room { tally.old.at + (expr_count (expr_view index.now) + exprs_count (exprs_view arguments.now)) < 2 ^ 64 }
     ensures { Tallied (expr_marks (scope_view scope.now) tally.old.at (expr_view index.now) ++ exprs_marks (scope_view scope.now) (tally.old.at + expr_count (expr_view index.now)) (exprs_view arguments.now)) (expr_count (expr_view index.now) + exprs_count (exprs_view arguments.now)) tally.old tally.new result }
@@ -115,7 +114,7 @@ fn chain_limits<'a>(
     tally: &mut Tally<'a>,
     first: &Expr,
     links: &[Link],
-) -> Result<(), LimitFault>
+) -> Result<(), AsmRefusal>
     requires known { IsCompleteScope scope.now }
     requires room { tally.old.at + (expr_count (expr_view first.now) + links_count (links_view links.now)) < 2 ^ 64 }
     ensures { Tallied (expr_marks (scope_view scope.now) tally.old.at (expr_view first.now) ++ links_marks (scope_view scope.now) (tally.old.at + expr_count (expr_view first.now)) (links_view links.now)) (expr_count (expr_view first.now) + links_count (links_view links.now)) tally.old tally.new result }
@@ -129,7 +128,7 @@ fn exprs_limits<'a>(
     scope: &Scope<'_, 'a>,
     tally: &mut Tally<'a>,
     exprs: &[Expr],
-) -> Result<(), LimitFault>
+) -> Result<(), AsmRefusal>
     requires known { IsCompleteScope scope.now }
     requires room { tally.old.at + exprs_count (exprs_view exprs.now) < 2 ^ 64 }
     ensures { Tallied (exprs_marks (scope_view scope.now) tally.old.at (exprs_view exprs.now)) (exprs_count (exprs_view exprs.now)) tally.old tally.new result }
@@ -145,7 +144,7 @@ fn links_limits<'a>(
     scope: &Scope<'_, 'a>,
     tally: &mut Tally<'a>,
     links: &[Link],
-) -> Result<(), LimitFault>
+) -> Result<(), AsmRefusal>
     requires known { IsCompleteScope scope.now }
     requires room { tally.old.at + links_count (links_view links.now) < 2 ^ 64 }
     ensures { Tallied (links_marks (scope_view scope.now) tally.old.at (links_view links.now)) (links_count (links_view links.now)) tally.old tally.new result }
@@ -161,7 +160,7 @@ fn comma_limits<'a>(
     scope: &Scope<'_, 'a>,
     tally: &mut Tally<'a>,
     parts: &[Expr],
-) -> Result<(), LimitFault>
+) -> Result<(), AsmRefusal>
     requires known { IsCompleteScope scope.now }
     requires room { tally.old.at + exprs_count (exprs_view parts.now) < 2 ^ 64 }
     ensures { Tallied (comma_marks (scope_view scope.now) tally.old.at (exprs_view parts.now)) (exprs_count (exprs_view parts.now)) tally.old tally.new result }
@@ -179,7 +178,7 @@ pub fn placed_limits<'a>(
     tally: &mut Tally<'a>,
     place: Place,
     expr: &Expr,
-) -> Result<(), LimitFault>
+) -> Result<(), AsmRefusal>
     requires known { IsCompleteScope scope.now }
     requires room { tally.old.at + expr_count (expr_view expr.now) < 2 ^ 64 }
     ensures { Tallied (placed_marks (scope_view scope.now) place tally.old.at (expr_view expr.now)) (expr_count (expr_view expr.now)) tally.old tally.new result }
@@ -200,7 +199,7 @@ fn direct_limits<'a>(
     place: Place,
     name: &Text,
     arguments: &[Expr],
-) -> Result<(), LimitFault>
+) -> Result<(), AsmRefusal>
     requires known { IsCompleteScope scope.now }
     requires room { tally.old.at + (1 + exprs_count (exprs_view arguments.now)) < 2 ^ 64 }
     ensures { Tallied (exprs_marks (scope_view scope.now) (tally.old.at + 1) (exprs_view arguments.now) ++ called_marks place (named (scope_view scope.now) (text_bytes name.now)) (exprs_length (exprs_view arguments.now)) tally.old.at) (1 + exprs_count (exprs_view arguments.now)) tally.old tally.new result }

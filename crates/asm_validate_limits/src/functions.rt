@@ -7,29 +7,28 @@ ghost use Rattle.asm_lang_valid.specs.Rows.{body_at, function_count, functions_c
 ghost use Rattle.asm_lang_valid.specs.LimitRows.{function_marks, functions_marks};
 ghost use Rattle.asm_validate_names.specs.Environments.{IsComplete};
 ghost use Rattle.asm_validate_limits.specs.Passes.{Tallied};
-ghost use Rattle.asm_validate_limits.specs.declared.fault.LimitFault.TheVariants as faults;
+ghost use Rattle.asm_validate_names.specs.declared.refusal.AsmRefusal.TheVariants as refusals;
 ghost use Rattle.asm_validate_limits.specs.declared.tally.Tally.{Tally};
 ghost use Rattle.asm_validate_limits.specs.Declarations.{heading_marks};
 
-use crate::fault::LimitFault;
 use crate::numbers::{MOST_FUNCTIONS, MOST_LOCALS, MOST_PARAMS};
 use crate::statements::stmts_limits;
 use crate::tally::{Tally, needs};
 use asm_lang_valid::Rule;
 use asm_tree::Function;
-use asm_validate_names::{Environment, Scope};
+use asm_validate_names::{AsmRefusal, Environment, Scope};
 use std::alloc::Global;
 
 // So many names, each a node from this one on, before which there are some already.
-fn names_limits(before: usize, count: usize, limit: usize, node: u64) -> Result<(), LimitFault>
+fn names_limits(before: usize, count: usize, limit: usize, node: u64) -> Result<(), AsmRefusal>
     requires before { before ≤ limit }
     requires room { node + count < 2 ^ 64 }
-    ensures { MatchResult result (λ _. before + count ≤ limit) (λ fault. (limit < before + count) × (fault ≡ faults.Refused PastLimit (node + (limit - before)))) }
+    ensures { MatchResult result (λ _. before + count ≤ limit) (λ fault. (limit < before + count) × (fault ≡ refusals.Refused PastLimit (node + (limit - before)))) }
 {
     if count <= limit - before {
         Ok(())
     } else {
-        Err(LimitFault::Refused {
+        Err(AsmRefusal::Refused {
             rule: Rule::PastLimit,
             node: node + (limit - before) as u64,
         })
@@ -37,7 +36,7 @@ fn names_limits(before: usize, count: usize, limit: usize, node: u64) -> Result<
 }
 
 // The number of functions with this one, which is a node, and those of its parameters and locals.
-fn heading_limits(function: &Function, before: usize, node: u64) -> Result<(), LimitFault>
+fn heading_limits(function: &Function, before: usize, node: u64) -> Result<(), AsmRefusal>
     requires { body_at (function_view function.now) node < 2 ^ 64 }
     ensures { (t : Tally) → Tallied (heading_marks before node (function_view function.now)) 0 t t result }
 {
@@ -59,7 +58,7 @@ fn function_limits<'a>(
     tally: &mut Tally<'a>,
     before: usize,
     function: &'a Function,
-) -> Result<(), LimitFault>
+) -> Result<(), AsmRefusal>
     requires complete { IsComplete environment.now }
     requires room { tally.old.at + function_count (function_view function.now) < 2 ^ 64 }
     ensures { Tallied (function_marks (module_view environment.now.home.now) before tally.old.at (function_view function.now)) (function_count (function_view function.now)) tally.old tally.new result }
@@ -76,7 +75,7 @@ pub fn functions_limits<'a>(
     environment: &Environment<'a>,
     tally: &mut Tally<'a>,
     functions: &'a [Function],
-) -> Result<(), LimitFault>
+) -> Result<(), AsmRefusal>
     requires complete { IsComplete environment.now }
     requires room { tally.old.at + functions_count (map function_view functions.now) < 2 ^ 64 }
     ensures { Tallied (functions_marks (module_view environment.now.home.now) 0 tally.old.at (map function_view functions.now)) (functions_count (map function_view functions.now)) tally.old tally.new result }

@@ -9,10 +9,10 @@ ghost use Rattle.asm_validate_limits.specs.declared.tally.Tally.{Tally};
 ghost use Rattle.asm_validate_limits.specs.Passes.{Tallied};
 ghost use Rattle.asm_validate_limits.specs.Declarations.{global_marks};
 
-use crate::fault::LimitFault;
 use crate::numbers::{LONGEST_NAME, MOST_GLOBALS};
 use crate::tally::{Tally, needs};
 use asm_tree::{Global_, Init, Module};
+use asm_validate_names::AsmRefusal;
 use sem_words::Text;
 
 // Whether this is the name of the module's second parameter.
@@ -44,7 +44,7 @@ fn global_limits(
     before: usize,
     global: &Global_,
     node: u64,
-) -> Result<(), LimitFault>
+) -> Result<(), AsmRefusal>
     ensures { (t : Tally) → Tallied (global_marks (module_view home.now) before node (global_view global.now)) 0 t t result }
 {
     needs(before < MOST_GLOBALS, node)?;
@@ -56,7 +56,7 @@ pub fn globals_limits(
     home: &Module,
     globals: &[Global_],
     tally: &mut Tally<'_>,
-) -> Result<(), LimitFault>
+) -> Result<(), AsmRefusal>
     requires { tally.old.at + length globals.now < 2 ^ 64 }
     ensures { Tallied (globals_marks (module_view home.now) 0 tally.old.at (map global_view globals.now)) (length globals.now) tally.old tally.new result }
 {

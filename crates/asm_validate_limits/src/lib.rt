@@ -6,7 +6,6 @@ mod callee;
 mod calls;
 mod clauses;
 mod expressions;
-mod fault;
 mod functions;
 mod globals;
 mod laws;
@@ -17,6 +16,5 @@ mod tables;
 mod tally;
 
 pub use calls::ForeignCall;
-pub use fault::LimitFault;
 pub use laws::limit_laws;
 pub use limits::check_limits;

@@ -5,16 +5,16 @@ ghost use Rattle.asm_tree.specs.Views.{module_view};
 ghost use Rattle.asm_lang_valid.specs.Rows.{functions_count, module_count};
 ghost use Rattle.asm_lang_valid.specs.LimitRows.{marks, limit_rows, foreign_calls};
 ghost use Rattle.asm_validate_names.specs.Environments.{IsComplete};
-ghost use Rattle.asm_validate_limits.specs.Called.{IsRow, foreign_list};
+ghost use Rattle.asm_validate_names.specs.Refusals.{IsRow};
+ghost use Rattle.asm_validate_limits.specs.Called.{foreign_list};
 ghost use Rattle.asm_validate_limits.specs.Passes.{Tallied};
 
 use crate::calls::{ForeignCall, copied};
-use crate::fault::LimitFault;
 use crate::functions::functions_limits;
 use crate::globals::globals_limits;
 use crate::tables::tables_limits;
 use crate::tally::Tally;
-use asm_validate_names::Environment;
+use asm_validate_names::{AsmRefusal, Environment};
 use sem_words::List;
 use std::alloc::Global;
 
@@ -24,7 +24,7 @@ use std::alloc::Global;
 pub fn check_limits(
     alloc: Global,
     environment: &Environment<'_>,
-) -> Result<List<ForeignCall>, LimitFault>
+) -> Result<List<ForeignCall>, AsmRefusal>
     requires complete { IsComplete environment.now }
     requires room { module_count (module_view environment.now.home.now) < 2 ^ 64 }
     ensures exactly { MatchResult result (λ _. limit_rows (module_view environment.now.home.now) ≡ []) (IsRow (limit_rows (module_view environment.now.home.now))) }
@@ -40,7 +40,7 @@ fn module_limits<'a>(
     alloc: Global,
     environment: &Environment<'a>,
     tally: &mut Tally<'a>,
-) -> Result<(), LimitFault>
+) -> Result<(), AsmRefusal>
     requires complete { IsComplete environment.now }
     requires first { tally.old.at ≡ 1 }
     requires room { module_count (module_view environment.now.home.now) < 2 ^ 64 }

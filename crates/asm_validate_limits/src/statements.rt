@@ -13,10 +13,9 @@ ghost use Rattle.asm_validate_limits.specs.declared.callee.Place.TheVariants.{Op
 use crate::callee::Place;
 use crate::clauses::{check_cases, option_limits};
 use crate::expressions::{expr_limits, placed_limits};
-use crate::fault::LimitFault;
 use crate::tally::Tally;
 use asm_tree::{Clause, Expr, Stmt};
-use asm_validate_names::Scope;
+use asm_validate_names::{AsmRefusal, Scope};
 
 /// The first limit that is passed in a statement.
 #[cycle(statements)]
@@ -24,7 +23,7 @@ pub fn stmt_limits<'a>(
     scope: &Scope<'_, 'a>,
     tally: &mut Tally<'a>,
     stmt: &Stmt,
-) -> Result<(), LimitFault>
+) -> Result<(), AsmRefusal>
     requires known { IsCompleteScope scope.now }
     requires room { tally.old.at + stmt_count (stmt_view stmt.now) < 2 ^ 64 }
     ensures { Tallied (stmt_marks (scope_view scope.now) tally.old.at (stmt_view stmt.now)) (stmt_count (stmt_view stmt.now)) tally.old tally.new result }
@@ -58,7 +57,7 @@ pub fn stmts_limits<'a>(
     scope: &Scope<'_, 'a>,
     tally: &mut Tally<'a>,
     stmts: &[Stmt],
-) -> Result<(), LimitFault>
+) -> Result<(), AsmRefusal>
     requires known { IsCompleteScope scope.now }
     requires room { tally.old.at + stmts_count (stmts_view stmts.now) < 2 ^ 64 }
     ensures { Tallied (stmts_marks (scope_view scope.now) tally.old.at (stmts_view stmts.now)) (stmts_count (stmts_view stmts.now)) tally.old tally.new result }
@@ -76,7 +75,7 @@ fn guarded_limits<'a>(
     tally: &mut Tally<'a>,
     condition: &Expr,
     body: &Stmt,
-) -> Result<(), LimitFault>
+) -> Result<(), AsmRefusal>
     requires known { IsCompleteScope scope.now }
     requires room { tally.old.at + (expr_count (expr_view condition.now) + stmt_count (stmt_view body.now)) < 2 ^ 64 }
     ensures { Tallied (expr_marks (scope_view scope.now) tally.old.at (expr_view condition.now) ++ stmt_marks (scope_view scope.now) (tally.old.at + expr_count (expr_view condition.now)) (stmt_view body.now)) (expr_count (expr_view condition.now) + stmt_count (stmt_view body.now)) tally.old tally.new result }
@@ -92,7 +91,7 @@ fn choice_limits<'a>(
     condition: &Expr,
     yes: &Stmt,
     no: &Stmt,
-) -> Result<(), LimitFault>
+) -> Result<(), AsmRefusal>
     requires known { IsCompleteScope scope.now }
     requires room { tally.old.at + (expr_count (expr_view condition.now) + (stmt_count (stmt_view yes.now) + stmt_count (stmt_view no.now))) < 2 ^ 64 }
     ensures { Tallied (expr_marks (scope_view scope.now) tally.old.at (expr_view condition.now) ++ (stmt_marks (scope_view scope.now) (tally.old.at + expr_count (expr_view condition.now)) (stmt_view yes.now) ++ stmt_marks (scope_view scope.now) (tally.old.at + expr_count (expr_view condition.now) + stmt_count (stmt_view yes.now)) (stmt_view no.now))) (expr_count (expr_view condition.now) + (stmt_count (stmt_view yes.now) + stmt_count (stmt_view no.now))) tally.old tally.new result }
@@ -107,7 +106,7 @@ fn pair_limits<'a>(
     tally: &mut Tally<'a>,
     yes: &Stmt,
     no: &Stmt,
-) -> Result<(), LimitFault>
+) -> Result<(), AsmRefusal>
     requires known { IsCompleteScope scope.now }
     requires room { tally.old.at + (stmt_count (stmt_view yes.now) + stmt_count (stmt_view no.now)) < 2 ^ 64 }
     ensures { Tallied (stmt_marks (scope_view scope.now) tally.old.at (stmt_view yes.now) ++ stmt_marks (scope_view scope.now) (tally.old.at + stmt_count (stmt_view yes.now)) (stmt_view no.now)) (stmt_count (stmt_view yes.now) + stmt_count (stmt_view no.now)) tally.old tally.new result }
@@ -123,7 +122,7 @@ fn until_limits<'a>(
     tally: &mut Tally<'a>,
     body: &Stmt,
     condition: &Expr,
-) -> Result<(), LimitFault>
+) -> Result<(), AsmRefusal>
     requires known { IsCompleteScope scope.now }
     requires room { tally.old.at + (stmt_count (stmt_view body.now) + expr_count (expr_view condition.now)) < 2 ^ 64 }
     ensures { Tallied (stmt_marks (scope_view scope.now) tally.old.at (stmt_view body.now) ++ expr_marks (scope_view scope.now) (tally.old.at + stmt_count (stmt_view body.now)) (expr_view condition.now)) (stmt_count (stmt_view body.now) + expr_count (expr_view condition.now)) tally.old tally.new result }
@@ -140,7 +139,7 @@ fn for_limits<'a>(
     condition: &Option<Expr>,
     step: &Option<Expr>,
     body: &Stmt,
-) -> Result<(), LimitFault>
+) -> Result<(), AsmRefusal>
     requires known { IsCompleteScope scope.now }
     requires room { tally.old.at + (option_count (expr_option start.now) + (option_count (expr_option condition.now) + (option_count (expr_option step.now) + stmt_count (stmt_view body.now)))) < 2 ^ 64 }
     ensures { Tallied (option_placed (scope_view scope.now) Effect tally.old.at (expr_option start.now) ++ (option_placed (scope_view scope.now) Operand (tally.old.at + option_count (expr_option start.now)) (expr_option condition.now) ++ (option_placed (scope_view scope.now) Effect (tally.old.at + option_count (expr_option start.now) + option_count (expr_option condition.now)) (expr_option step.now) ++ stmt_marks (scope_view scope.now) (tally.old.at + option_count (expr_option start.now) + option_count (expr_option condition.now) + option_count (expr_option step.now)) (stmt_view body.now)))) (option_count (expr_option start.now) + (option_count (expr_option condition.now) + (option_count (expr_option step.now) + stmt_count (stmt_view body.now)))) tally.old tally.new result }
@@ -157,7 +156,7 @@ fn turn_limits<'a>(
     condition: &Option<Expr>,
     step: &Option<Expr>,
     body: &Stmt,
-) -> Result<(), LimitFault>
+) -> Result<(), AsmRefusal>
     requires known { IsCompleteScope scope.now }
     requires room { tally.old.at + (option_count (expr_option condition.now) + (option_count (expr_option step.now) + stmt_count (stmt_view body.now))) < 2 ^ 64 }
     ensures { Tallied (option_placed (scope_view scope.now) Operand tally.old.at (expr_option condition.now) ++ (option_placed (scope_view scope.now) Effect (tally.old.at + option_count (expr_option condition.now)) (expr_option step.now) ++ stmt_marks (scope_view scope.now) (tally.old.at + option_count (expr_option condition.now) + option_count (expr_option step.now)) (stmt_view body.now))) (option_count (expr_option condition.now) + (option_count (expr_option step.now) + stmt_count (stmt_view body.now))) tally.old tally.new result }
@@ -172,7 +171,7 @@ fn stepped_limits<'a>(
     tally: &mut Tally<'a>,
     step: &Option<Expr>,
     body: &Stmt,
-) -> Result<(), LimitFault>
+) -> Result<(), AsmRefusal>
     requires known { IsCompleteScope scope.now }
     requires room { tally.old.at + (option_count (expr_option step.now) + stmt_count (stmt_view body.now)) < 2 ^ 64 }
     ensures { Tallied (option_placed (scope_view scope.now) Effect tally.old.at (expr_option step.now) ++ stmt_marks (scope_view scope.now) (tally.old.at + option_count (expr_option step.now)) (stmt_view body.now)) (option_count (expr_option step.now) + stmt_count (stmt_view body.now)) tally.old tally.new result }
@@ -189,7 +188,7 @@ fn switch_limits<'a>(
     subject: &Expr,
     clauses: &[Clause],
     node: u64,
-) -> Result<(), LimitFault>
+) -> Result<(), AsmRefusal>
     requires known { IsCompleteScope scope.now }
     requires room { tally.old.at + (expr_count (expr_view subject.now) + clauses_count (clauses_view clauses.now)) < 2 ^ 64 }
     ensures { Tallied (expr_marks (scope_view scope.now) tally.old.at (expr_view subject.now) ++ (rows_of (need (nat_le (clauses_length (clauses_view clauses.now)) most_clauses) PastLimit node) ++ clauses_marks (scope_view scope.now) (tally.old.at + expr_count (expr_view subject.now)) (clauses_view clauses.now))) (expr_count (expr_view subject.now) + clauses_count (clauses_view clauses.now)) tally.old tally.new result }
@@ -204,7 +203,7 @@ fn clauses_limits<'a>(
     scope: &Scope<'_, 'a>,
     tally: &mut Tally<'a>,
     clauses: &[Clause],
-) -> Result<(), LimitFault>
+) -> Result<(), AsmRefusal>
     requires known { IsCompleteScope scope.now }
     requires room { tally.old.at + clauses_count (clauses_view clauses.now) < 2 ^ 64 }
     ensures { Tallied (clauses_marks (scope_view scope.now) tally.old.at (clauses_view clauses.now)) (clauses_count (clauses_view clauses.now)) tally.old tally.new result }

@@ -8,13 +8,13 @@ ghost use Rattle.asm_validate_limits.specs.declared.tally.Tally.{Tally};
 ghost use Rattle.asm_validate_limits.specs.Passes.{Tallied};
 ghost use Rattle.asm_validate_limits.specs.Declarations.{table_marks};
 
-use crate::fault::LimitFault;
 use crate::numbers::{MOST_ENTRIES, MOST_MEMBERS};
 use crate::tally::{Tally, needs};
 use asm_tree::Table;
+use asm_validate_names::AsmRefusal;
 
 // A table, before which all have so many members together, as the next node.
-fn table_limits(before: usize, table: &Table, node: u64) -> Result<(), LimitFault>
+fn table_limits(before: usize, table: &Table, node: u64) -> Result<(), AsmRefusal>
     requires { before ≤ most_entries }
     ensures within { IfOk result (λ _. before + length (list_items table.now.members) ≤ most_entries) }
     ensures tallied { (t : Tally) → Tallied (table_marks before node (table_view table.now)) 0 t t result }
@@ -27,7 +27,7 @@ fn table_limits(before: usize, table: &Table, node: u64) -> Result<(), LimitFaul
 }
 
 /// The first limit that is passed in tables.
-pub fn tables_limits(tables: &[Table], tally: &mut Tally<'_>) -> Result<(), LimitFault>
+pub fn tables_limits(tables: &[Table], tally: &mut Tally<'_>) -> Result<(), AsmRefusal>
     requires { tally.old.at + length tables.now < 2 ^ 64 }
     ensures { Tallied (tables_marks 0 tally.old.at (map table_view tables.now)) (length tables.now) tally.old tally.new result }
 {

@@ -5,9 +5,9 @@ ghost use Rattle.sem_words.specs.Lists.{text_bytes};
 ghost use Rattle.asm_lang_valid.specs.LimitRows.{a_use, most_foreign_calls};
 ghost use Rattle.asm_validate_limits.specs.Passes.{Tallied, calls_of, limited};
 
-use crate::fault::LimitFault;
 use crate::numbers::MOST_FOREIGN_CALLS;
 use asm_lang_valid::Rule;
+use asm_validate_names::AsmRefusal;
 use indexmap::IndexSet;
 use sem_words::Text;
 use std::alloc::Global;
@@ -41,13 +41,13 @@ impl<'a> Tally<'a> {
 }
 
 /// What has to hold at a node.
-pub fn needs(holds: bool, node: u64) -> Result<(), LimitFault>
+pub fn needs(holds: bool, node: u64) -> Result<(), AsmRefusal>
     ensures { result ≡ limited holds node }
 {
     if holds {
         Ok(())
     } else {
-        Err(LimitFault::Refused {
+        Err(AsmRefusal::Refused {
             rule: Rule::PastLimit,
             node,
         })
@@ -61,7 +61,7 @@ pub fn use_call<'a>(
     params: u32,
     valued: bool,
     node: u64,
-) -> Result<(), LimitFault>
+) -> Result<(), AsmRefusal>
     ensures { Tallied (a_use (record { name = text_bytes name.now; params = params; result = valued }) node ∷ []) 0 tally.old tally.new result }
 {
     let call = Call {
@@ -71,7 +71,7 @@ pub fn use_call<'a>(
     };
     match tally.calls.insert(call) {
         Ok(is_new) => needs(is_within(is_new, tally.calls.len()), node),
-        Err(_) => Err(LimitFault::Memory),
+        Err(_) => Err(AsmRefusal::Memory),
     }
 }
 

@@ -16,12 +16,13 @@ use Rattle.asm_lang_valid.specs.declared.rule.Rule.TheVariants.{NameTaken, Forbi
 use Rattle.asm_lang_valid.specs.Rows.{need, first, functions_count, functions_at, tables_at, exports_at}
 use Rattle.asm_lang_valid.specs.Scope.{is_in}
 use Rattle.asm_lang_valid.specs.NameRows.{Imports, with_import, clashes, has_forbidden_member, is_forbidden, init_rows, global_names, globals_names, functions_names, tables_names, exports_names, all_new, any_forbidden, global_texts, function_texts, name_rows, own_name}
-use Rattle.asm_validate_names.specs.declared.fault.NameFault.{NameFault}
+use Rattle.asm_validate_names.specs.declared.refusal.AsmRefusal.{AsmRefusal}
 use Rattle.asm_validate_names.specs.Imported.{no_imports, globals_texts}
 use Rattle.asm_validate_names.specs.Heading.{heading_rows, rest_rows}
-use Rattle.asm_validate_names.specs.Seen.{IsRow, declared_rows, texts_of}
+use Rattle.asm_validate_names.specs.Refusals.{IsRow}
+use Rattle.asm_validate_names.specs.Seen.{declared_rows, texts_of}
 use Rattle.asm_validate_names.proofs.Found.{first_before, first_after}
-use Rattle.asm_validate_names.proofs.Rest.{row_before, row_same, row_rest, same_rows}
+use Rattle.asm_validate_names.proofs.Order.{row_before, row_same, row_rest, same_rows}
 
 pub globals_rest : (m : Module) (b : List (List ℕ)) (is : Imports) (vs : List Global_) (i : ℕ) (v : Global_) (at : ℕ) → i < length vs → v ≡ get_or vs i v → first (globals_names m b is (map global_view (drop i vs)) at) ≡ first (global_names m b is (global_view v) at ++ globals_names m (b ++ text_bytes v.name ∷ []) (with_import m (init_view v.init) is) (map global_view (drop (i + 1) vs)) (at + 1))
 globals_rest m b is vs i v at h e =
@@ -90,7 +91,7 @@ module _ (code : CodeModule) (b : List (List ℕ)) (is : Imports) (gs : List Glo
       ∙ ap (λ j. globals_names m b j m.globals 1) (sym none_yet)
       ∙ ap (λ l. globals_names m b is (map global_view l) 1) (sym globals)
 
-  pub in_globals : (x : NameFault) → IsRow (globals_names m b is (map global_view gs) 1) x → IsRow (rest_rows m) x
+  pub in_globals : (x : AsmRefusal) → IsRow (globals_names m b is (map global_view gs) 1) x → IsRow (rest_rows m) x
   in_globals x h = row_before (globals_names m m.params no_imports m.globals 1) after_globals x (subst (λ l. IsRow l x) (sym globals_same) h)
 
   module _ (none : first (globals_names m b is (map global_view gs) 1) ≡ None) (c : List (List ℕ)) (at : ℕ) (fs : List Function) (texts : c ≡ b ++ globals_texts (map global_view gs)) (next : at ≡ 1 + length gs) (functions : fs ≡ list_items code.functions) where
@@ -112,7 +113,7 @@ module _ (code : CodeModule) (b : List (List ℕ)) (is : Imports) (gs : List Glo
     passed_globals : first (rest_rows m) ≡ first (functions_names m c (map function_view fs) at ++ after_functions)
     passed_globals = first_after (globals_names m m.params no_imports m.globals 1) after_globals (ap first globals_same ∙ none) ∙ ap (λ l. first (l ++ after_functions)) functions_same
 
-    pub in_functions : (x : NameFault) → IsRow (functions_names m c (map function_view fs) at) x → IsRow (rest_rows m) x
+    pub in_functions : (x : AsmRefusal) → IsRow (functions_names m c (map function_view fs) at) x → IsRow (rest_rows m) x
     in_functions x h = row_rest (rest_rows m) _ after_functions x passed_globals h
 
     module _ (done : first (functions_names m c (map function_view fs) at) ≡ None) (d : List (List ℕ)) (mid : ℕ) (ts : List Table) (more : d ≡ c ++ texts_of (map function_view fs)) (then : mid ≡ at + functions_count (map function_view fs)) (tables : ts ≡ list_items code.tables) where
@@ -131,10 +132,10 @@ module _ (code : CodeModule) (b : List (List ℕ)) (is : Imports) (gs : List Glo
       passed_functions : first (rest_rows m) ≡ first (tables_names m d (map table_view ts) mid ++ exports_names m m.exports (exports_at m))
       passed_functions = passed_globals ∙ first_after _ after_functions done ∙ ap (λ l. first (l ++ exports_names m m.exports (exports_at m))) tables_same
 
-      pub in_tables : (x : NameFault) → IsRow (tables_names m d (map table_view ts) mid) x → IsRow (rest_rows m) x
+      pub in_tables : (x : AsmRefusal) → IsRow (tables_names m d (map table_view ts) mid) x → IsRow (rest_rows m) x
       in_tables x h = row_rest (rest_rows m) _ _ x passed_functions h
 
-      pub in_exports : (last : ℕ) (r : Result (Unit {0}) NameFault) → first (tables_names m d (map table_view ts) mid) ≡ None → last ≡ mid + length ts → MatchResult r (λ u. first (exports_names m (exports_view code.exports) last) ≡ None) (IsRow (exports_names m (exports_view code.exports) last)) → MatchResult r (λ u. first (rest_rows m) ≡ None) (IsRow (rest_rows m))
+      pub in_exports : (last : ℕ) (r : Result (Unit {0}) AsmRefusal) → first (tables_names m d (map table_view ts) mid) ≡ None → last ≡ mid + length ts → MatchResult r (λ u. first (exports_names m (exports_view code.exports) last) ≡ None) (IsRow (exports_names m (exports_view code.exports) last)) → MatchResult r (λ u. first (rest_rows m) ≡ None) (IsRow (rest_rows m))
       in_exports last r nothing end h =
           let place : exports_at m ≡ last = (ap (λ k. k + length m.tables) tables_at_is ∙ ap (λ l. mid + length (map table_view l)) (sym tables) ∙ ap (λ k. mid + k) (tables_length ts) ∙ sym end) in
           same_rows r (rest_rows m) (exports_names m (exports_view code.exports) last)
@@ -144,10 +145,10 @@ pub name_rows_are : (m : Module) → first (name_rows m) ≡ first (heading_rows
 name_rows_are m = ap first (sym (append_assoc (need (all_new [] m.params) NameTaken 0) (need (not (any_forbidden (own_name m.name ++ m.params))) ForbiddenName 0) (rest_rows m)))
 
 -- a module whose heading breaks a rule, and any other
-pub in_heading : (m : Module) (x : NameFault) → IsRow (heading_rows m) x → IsRow (name_rows m) x
+pub in_heading : (m : Module) (x : AsmRefusal) → IsRow (heading_rows m) x → IsRow (name_rows m) x
 in_heading m x h = row_rest (name_rows m) (heading_rows m) (rest_rows m) x (name_rows_are m) h
 
-pub after_heading : (m : Module) (r : Result (Unit {0}) NameFault) → first (heading_rows m) ≡ None → MatchResult r (λ u. first (rest_rows m) ≡ None) (IsRow (rest_rows m)) → MatchResult r (λ u. first (name_rows m) ≡ None) (IsRow (name_rows m))
+pub after_heading : (m : Module) (r : Result (Unit {0}) AsmRefusal) → first (heading_rows m) ≡ None → MatchResult r (λ u. first (rest_rows m) ≡ None) (IsRow (rest_rows m)) → MatchResult r (λ u. first (name_rows m) ≡ None) (IsRow (name_rows m))
 after_heading m r none h = same_rows r (name_rows m) (rest_rows m) (name_rows_are m ∙ first_after (heading_rows m) (rest_rows m) none) h
 
 pub nothing : (xs : List Met) → first xs ≡ None → xs ≡ []

@@ -2,6 +2,7 @@ pub mod Parameters
 pub mod Put
 pub mod Variables
 pub mod Found
+pub mod Order
 pub mod Shapes
 pub mod Rest
 pub mod Members

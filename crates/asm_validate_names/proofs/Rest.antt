@@ -1,7 +1,7 @@
 -- The names in a set, and the rows of declarations one after another.
 use Rattle.std.proofs.Common.{◌≡◌, ℕ, ◌+◌, ◌<◌, Bool, true, false, not, ◌||◌, List, [], ◌∷◌, ◌++◌, length, map, drop, get_or, Some, None, nat_eq, refl, sym, ap, ◌∙◌, append_assoc, append-nil, subst, arith}
 use Rattle.std.proofs.lemmas.List.{at_drop_more}
-use Rattle.std.specs.Prelude.{if◌then◌else◌, Result, Ok, Err, MatchResult}
+use Rattle.std.specs.Prelude.{if◌then◌else◌, Result, MatchResult}
 use Rattle.std.specs.Borrow.{Bor}
 use Rattle.std.specs.List.{list_any}
 use Rattle.std.specs.Str.{bytes_eq}
@@ -21,10 +21,11 @@ use Rattle.asm_lang_valid.specs.Typing.{Scope}
 use Rattle.asm_lang_valid.specs.Typed.{scope_of}
 use Rattle.asm_lang_valid.specs.Scope.{is_in}
 use Rattle.asm_lang_valid.specs.NameRows.{is_forbidden, declares, added, params_names, locals_names, function_names, functions_names, stmts_names, param_texts}
-use Rattle.asm_validate_names.specs.declared.fault.NameFault.{NameFault}
-use Rattle.asm_validate_names.specs.declared.fault.NameFault.TheVariants.{Refused, Memory}
-use Rattle.asm_validate_names.specs.Seen.{IsRow, inner_rows, texts_of}
-use Rattle.asm_validate_names.proofs.Found.{first_before, first_after}
+use Rattle.asm_validate_names.specs.declared.refusal.AsmRefusal.{AsmRefusal}
+use Rattle.asm_validate_names.specs.Refusals.{IsRow}
+use Rattle.asm_validate_names.specs.Seen.{inner_rows, texts_of}
+use Rattle.asm_validate_names.proofs.Found.{first_after}
+use Rattle.asm_validate_names.proofs.Order.{row_before, row_rest, same_rows}
 
 pub seen_is : (name : List ℕ) (keys : List (Bor (List ℕ))) → list_any (λ k. pointwise nat_eq name k.now) keys ≡ is_in name (map (λ k. k.now) keys)
 seen_is name [] = refl
@@ -67,22 +68,6 @@ declares_new before n at h = ap (λ b. need b NameTaken at ++ need (not (is_forb
 pub added_new : (before : List (List ℕ)) (n : List ℕ) → true ≡ not (is_in n before) → added before n ≡ before ++ n ∷ []
 added_new before n h = ap (λ b. if b then before else before ++ n ∷ []) (not_true (is_in n before) h)
 
--- ---- rows after one another
-
-pub row_before : (xs ys : List Met) (f : NameFault) → IsRow xs f → IsRow (xs ++ ys) f
-row_before xs ys (Refused r n) h = first_before xs ys _ h
-row_before xs ys Memory h = tt
-
-pub row_same : (xs ys : List Met) (f : NameFault) → first xs ≡ first ys → IsRow ys f → IsRow xs f
-row_same xs ys (Refused r n) e h = e ∙ h
-row_same xs ys Memory e h = tt
-
-pub row_rest : (all xs ys : List Met) (f : NameFault) → first all ≡ first (xs ++ ys) → IsRow xs f → IsRow all f
-row_rest all xs ys f e h = row_same all (xs ++ ys) f e (row_before xs ys f h)
-
-pub none_rest : (all xs ys : List Met) → first all ≡ first (xs ++ ys) → first xs ≡ None → first all ≡ first ys
-none_rest all xs ys e h = e ∙ first_after xs ys h
-
 -- ---- what is left of a list of declarations
 
 pub params_rest : (b : List (List ℕ)) (ps : List Param) (i : ℕ) (p : Param) (at : ℕ) → i < length ps → p ≡ get_or ps i p → first (params_names b (map param_view (drop i ps)) at) ≡ first (declares b (text_bytes p.name) at ++ params_names (b ++ text_bytes p.name ∷ []) (map param_view (drop (i + 1) ps)) (at + 1))
@@ -109,13 +94,6 @@ pub params_length : (ps : List Param) → length (map param_view ps) ≡ length 
 params_length [] = refl
 params_length (p ∷ ps) = omega (arith, params_length ps)
 
-pub err_row : (r : Result (Unit {0}) NameFault) (rows : List Met) (f : NameFault) → r ≡ Err f → IsRow rows f → MatchResult r (λ u. first rows ≡ None) (IsRow rows)
-err_row r rows f h k = subst (λ r. MatchResult r (λ u. first rows ≡ None) (IsRow rows)) (sym h) k
-
-pub same_rows : (r : Result (Unit {0}) NameFault) (xs ys : List Met) → first xs ≡ first ys → MatchResult r (λ u. first ys ≡ None) (IsRow ys) → MatchResult r (λ u. first xs ≡ None) (IsRow xs)
-same_rows (Ok u) xs ys e h = e ∙ h
-same_rows (Err f) xs ys e h = row_same xs ys f e h
-
 pub no_names : (keys : List (Bor (List ℕ))) → keys ≡ [] → map (λ (k : Bor (List ℕ)). k.now) keys ≡ []
 no_names keys h = ap (map (λ (k : Bor (List ℕ)). k.now)) h
 
@@ -127,7 +105,7 @@ module _ (m : modules.Module) (f : Function) (b : List (List ℕ)) (ps : List Pa
   first_rows : params_names [] (function_view f).params at ≡ params_names b (map param_view ps) at
   first_rows = ap (λ c. params_names c (function_view f).params at) (sym empty) ∙ ap (λ l. params_names b (map param_view l) at) (sym params)
 
-  pub inner_params : (x : NameFault) → IsRow (params_names b (map param_view ps) at) x → IsRow inner x
+  pub inner_params : (x : AsmRefusal) → IsRow (params_names b (map param_view ps) at) x → IsRow inner x
   inner_params x h = row_before _ _ x (subst (λ l. IsRow l x) (sym first_rows) h)
 
   module _ (c : List (List ℕ)) (ls : List Local) (mid : ℕ) (none : first (params_names b (map param_view ps) at) ≡ None) (texts : c ≡ b ++ param_texts (map param_view ps)) (next : mid ≡ at + length ps) (locals : ls ≡ list_items f.locals) where
@@ -143,10 +121,10 @@ module _ (m : modules.Module) (f : Function) (b : List (List ℕ)) (ps : List Pa
     inner_rest : (tail : List Met) → first (params_names [] (function_view f).params at ++ (locals_names (param_texts (function_view f).params) (function_view f).locals (at + length (function_view f).params) ++ tail)) ≡ first (locals_names c (map local_view ls) mid ++ tail)
     inner_rest tail = first_after _ _ (ap first first_rows ∙ none) ∙ ap (λ l. first (l ++ tail)) second_rows
 
-    pub inner_locals : (x : NameFault) → IsRow (locals_names c (map local_view ls) mid) x → IsRow inner x
+    pub inner_locals : (x : AsmRefusal) → IsRow (locals_names c (map local_view ls) mid) x → IsRow inner x
     inner_locals x h = row_rest inner _ _ x (inner_rest _) h
 
-    pub inner_body : (s : Scope) (body : List Stmt) (last : ℕ) (r : Result (Unit {0}) NameFault) → first (locals_names c (map local_view ls) mid) ≡ None → last ≡ mid + length ls → s ≡ scope_of m (function_view f) → body ≡ list_items f.body → MatchResult r (λ u. first (stmts_names s last (stmts_view body)) ≡ None) (IsRow (stmts_names s last (stmts_view body))) → MatchResult r (λ u. first inner ≡ None) (IsRow inner)
+    pub inner_body : (s : Scope) (body : List Stmt) (last : ℕ) (r : Result (Unit {0}) AsmRefusal) → first (locals_names c (map local_view ls) mid) ≡ None → last ≡ mid + length ls → s ≡ scope_of m (function_view f) → body ≡ list_items f.body → MatchResult r (λ u. first (stmts_names s last (stmts_view body)) ≡ None) (IsRow (stmts_names s last (stmts_view body))) → MatchResult r (λ u. first inner ≡ None) (IsRow inner)
     inner_body s body last r nothing end scope stmts h =
         let place : at + length (function_view f).params + length (function_view f).locals ≡ last =
         (ap (λ l. at + length (map param_view l) + length (function_view f).locals) (sym params)

@@ -2,6 +2,7 @@ pub mod Meanings
 pub mod Environments
 pub mod Scopes
 pub mod Found
+pub mod Refusals
 pub mod Seen
 pub mod Members
 pub mod Imported

@@ -1,24 +1,17 @@
 -- The names that were seen, and what a pass over declarations finds.
-use Rattle.std.specs.Prelude.{◌≡◌, ℕ, ◌+◌, List, [], ◌++◌, length, Some, Bool, not, map}
+use Rattle.std.specs.Prelude.{ℕ, ◌+◌, List, [], ◌++◌, length, Bool, not, map}
 use Rattle.asm_lang.specs.Modules.{Function, Module}
 use Rattle.std.specs.Borrow.{Bor}
 use Rattle.indexmap.specs.IndexSet.{IndexSet}
 use Rattle.asm_lang_valid.specs.declared.rule.Met.{Met}
 use Rattle.asm_lang_valid.specs.declared.rule.Rule.TheVariants.{NameTaken, ForbiddenName}
-use Rattle.asm_lang_valid.specs.Rows.{first, need, stmts_count}
+use Rattle.asm_lang_valid.specs.Rows.{need, stmts_count}
 use Rattle.asm_lang_valid.specs.Typed.{scope_of}
 use Rattle.asm_lang_valid.specs.NameRows.{params_names, locals_names, stmts_names, param_texts}
-use Rattle.asm_validate_names.specs.declared.fault.NameFault.{NameFault}
-use Rattle.asm_validate_names.specs.declared.fault.NameFault.TheVariants.{Refused, Memory}
 
 -- in the order in which they came
 abbrev pub names : {S : Type 0} → IndexSet (Bor (List ℕ)) S → List (List ℕ)
 names s = map (λ k. k.now) s.keys
-
--- the fault is the first of these rows; want of memory says nothing of them
-abbrev pub IsRow : List Met → NameFault → Type 0
-IsRow rows (Refused r n) = first rows ≡ Some (record { rule = r; node = n })
-IsRow rows Memory = Unit {0}
 
 -- the rows of a function without its own name, of whose parameters the first is node `at`
 abbrev pub inner_rows : Module → Function → ℕ → List Met

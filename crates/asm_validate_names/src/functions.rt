@@ -7,10 +7,11 @@ ghost use Rattle.asm_lang_valid.specs.Rows.{first, function_count, functions_cou
 ghost use Rattle.asm_lang_valid.specs.NameRows as rows;
 ghost use Rattle.asm_lang_valid.specs.NameRows.{param_texts};
 ghost use Rattle.asm_validate_names.specs.Environments.{IsComplete};
-ghost use Rattle.asm_validate_names.specs.Seen.{names, IsRow, inner_rows, inner_count, texts_of};
+ghost use Rattle.asm_validate_names.specs.Refusals.{IsRow};
+ghost use Rattle.asm_validate_names.specs.Seen.{names, inner_rows, inner_count, texts_of};
 
 use crate::environment::Environment;
-use crate::fault::NameFault;
+use crate::refusal::AsmRefusal;
 use crate::scope::Scope;
 use crate::seen::declare;
 use crate::statements::stmts_names;
@@ -23,7 +24,7 @@ fn params_names<'a>(
     seen: &mut IndexSet<&'a [u8]>,
     params: &'a [Param],
     at: &mut u64,
-) -> Result<(), NameFault>
+) -> Result<(), AsmRefusal>
     requires { at.old + length params.now < 2 ^ 64 }
     ensures row { MatchResult result (λ _. first (rows.params_names (names seen.old) (map param_view params.now) at.old) ≡ None) (IsRow (rows.params_names (names seen.old) (map param_view params.now) at.old)) }
     ensures seen { IfOk result (λ _. names seen.new ≡ names seen.old ++ param_texts (map param_view params.now)) }
@@ -41,7 +42,7 @@ fn locals_names<'a>(
     seen: &mut IndexSet<&'a [u8]>,
     locals: &'a [Local],
     at: &mut u64,
-) -> Result<(), NameFault>
+) -> Result<(), AsmRefusal>
     requires { at.old + length locals.now < 2 ^ 64 }
     ensures row { MatchResult result (λ _. first (rows.locals_names (names seen.old) (map local_view locals.now) at.old) ≡ None) (IsRow (rows.locals_names (names seen.old) (map local_view locals.now) at.old)) }
     ensures counted { IfOk result (λ _. at.new ≡ at.old + length locals.now) }
@@ -60,7 +61,7 @@ fn inner_names<'a>(
     environment: &Environment<'a>,
     function: &'a Function,
     at: &mut u64,
-) -> Result<(), NameFault>
+) -> Result<(), AsmRefusal>
     requires complete { IsComplete environment.now }
     requires room { at.old + inner_count (function_view function.now) < 2 ^ 64 }
     ensures row { MatchResult result (λ _. first (inner_rows (module_view environment.now.home.now) (function_view function.now) at.old) ≡ None) (IsRow (inner_rows (module_view environment.now.home.now) (function_view function.now) at.old)) }
@@ -82,7 +83,7 @@ fn function_names<'a>(
     seen: &mut IndexSet<&'a [u8]>,
     function: &'a Function,
     at: &mut u64,
-) -> Result<(), NameFault>
+) -> Result<(), AsmRefusal>
     requires complete { IsComplete environment.now }
     requires room { at.old + function_count (function_view function.now) < 2 ^ 64 }
     ensures row { MatchResult result (λ _. first (rows.function_names (module_view environment.now.home.now) (names seen.old) (function_view function.now) at.old) ≡ None) (IsRow (rows.function_names (module_view environment.now.home.now) (names seen.old) (function_view function.now) at.old)) }
@@ -102,7 +103,7 @@ pub fn functions_names<'a>(
     seen: &mut IndexSet<&'a [u8]>,
     functions: &'a [Function],
     at: &mut u64,
-) -> Result<(), NameFault>
+) -> Result<(), AsmRefusal>
     requires complete { IsComplete environment.now }
     requires room { at.old + functions_count (map function_view functions.now) < 2 ^ 64 }
     ensures row { MatchResult result (λ _. first (rows.functions_names (module_view environment.now.home.now) (names seen.old) (map function_view functions.now) at.old) ≡ None) (IsRow (rows.functions_names (module_view environment.now.home.now) (names seen.old) (map function_view functions.now) at.old)) }

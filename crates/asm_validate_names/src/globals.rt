@@ -9,12 +9,13 @@ ghost use Rattle.asm_lang_valid.specs.NameRows as rows;
 ghost use Rattle.asm_validate_names.specs.Environments.{IsComplete};
 ghost use Rattle.asm_validate_names.specs.Found.{row_of};
 ghost use Rattle.asm_validate_names.specs.Imported.{imports_view, globals_texts};
-ghost use Rattle.asm_validate_names.specs.Seen.{names, IsRow};
+ghost use Rattle.asm_validate_names.specs.Refusals.{IsRow};
+ghost use Rattle.asm_validate_names.specs.Seen.{names};
 
 use crate::environment::Environment;
-use crate::fault::NameFault;
 use crate::imports::{Imports, add_import, clashes, has_forbidden_member};
 use crate::init::{is_foreign, is_heap, is_stdlib};
+use crate::refusal::AsmRefusal;
 use crate::seen::{add, declared};
 use crate::tables::{fit, knows};
 use crate::words::is_forbidden;
@@ -97,7 +98,7 @@ fn global_names<'a>(
     imports: &mut Imports<'a>,
     global: &'a Global_,
     node: u64,
-) -> Result<(), NameFault>
+) -> Result<(), AsmRefusal>
     requires { IsComplete environment.now }
     ensures row { MatchResult result (λ _. first (rows.global_names (module_view environment.now.home.now) (names seen.old) (imports_view imports.old) (global_view global.now) node) ≡ None) (IsRow (rows.global_names (module_view environment.now.home.now) (names seen.old) (imports_view imports.old) (global_view global.now) node)) }
     ensures seen { IfOk result (λ _. names seen.new ≡ names seen.old ++ text_bytes global.now.name ∷ []) }
@@ -116,7 +117,7 @@ pub fn globals_names<'a>(
     imports: &mut Imports<'a>,
     globals: &'a [Global_],
     at: &mut u64,
-) -> Result<(), NameFault>
+) -> Result<(), AsmRefusal>
     requires complete { IsComplete environment.now }
     requires room { at.old + length globals.now < 2 ^ 64 }
     ensures row { MatchResult result (λ _. first (rows.globals_names (module_view environment.now.home.now) (names seen.old) (imports_view imports.old) (map global_view globals.now) at.old) ≡ None) (IsRow (rows.globals_names (module_view environment.now.home.now) (names seen.old) (imports_view imports.old) (map global_view globals.now) at.old)) }

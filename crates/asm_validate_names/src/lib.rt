@@ -5,7 +5,6 @@
 mod declared;
 mod environment;
 mod expressions;
-mod fault;
 mod functions;
 mod globals;
 mod imports;
@@ -13,6 +12,7 @@ mod init;
 mod locals;
 mod meaning;
 mod names;
+mod refusal;
 mod scope;
 mod seen;
 mod statements;
@@ -21,7 +21,7 @@ mod uses;
 mod words;
 
 pub use environment::Environment;
-pub use fault::NameFault;
 pub use meaning::Meaning;
 pub use names::check_names;
+pub use refusal::AsmRefusal;
 pub use scope::Scope;

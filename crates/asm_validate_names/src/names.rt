@@ -6,13 +6,14 @@ ghost use Rattle.asm_lang_valid.specs.Rows.{first, module_count};
 ghost use Rattle.asm_lang_valid.specs.NameRows as rows;
 ghost use Rattle.asm_validate_names.specs.Environments.{IsComplete};
 ghost use Rattle.asm_validate_names.specs.Heading.{heading_rows, rest_rows};
-ghost use Rattle.asm_validate_names.specs.Seen.{names, IsRow};
+ghost use Rattle.asm_validate_names.specs.Refusals.{IsRow};
+ghost use Rattle.asm_validate_names.specs.Seen.{names};
 
 use crate::environment::Environment;
-use crate::fault::NameFault;
 use crate::functions::functions_names;
 use crate::globals::globals_names;
 use crate::imports::Imports;
+use crate::refusal::AsmRefusal;
 use crate::seen::{add, declared};
 use crate::tables::{exports_names, tables_names};
 use crate::words::is_forbidden;
@@ -24,7 +25,7 @@ use std::alloc::{AllocError, Global};
 /// What each name of a module means, where no rule of names is broken, and otherwise the first node that breaks one,
 /// in text order with the parts of an expression before the whole. Of two rules that one node breaks the first
 /// counts.
-pub fn check_names<'a>(alloc: Global, module: &'a Module) -> Result<Environment<'a>, NameFault>
+pub fn check_names<'a>(alloc: Global, module: &'a Module) -> Result<Environment<'a>, AsmRefusal>
     requires { module_count (module_view «module».now) < 2 ^ 64 }
     ensures of { IfOk result (λ e. e.home.now ≡ «module».now) }
     ensures complete { IfOk result IsComplete }
@@ -35,7 +36,7 @@ pub fn check_names<'a>(alloc: Global, module: &'a Module) -> Result<Environment<
     Ok(environment)
 }
 
-fn module_names(alloc: Global, environment: &Environment<'_>) -> Result<(), NameFault>
+fn module_names(alloc: Global, environment: &Environment<'_>) -> Result<(), AsmRefusal>
     requires complete { IsComplete environment.now }
     requires room { module_count (module_view environment.now.home.now) < 2 ^ 64 }
     ensures { MatchResult result (λ _. first (rows.name_rows (module_view environment.now.home.now)) ≡ None) (IsRow (rows.name_rows (module_view environment.now.home.now))) }
@@ -50,7 +51,7 @@ fn declared_names<'a>(
     alloc: Global,
     environment: &Environment<'a>,
     seen: &mut IndexSet<&'a [u8]>,
-) -> Result<(), NameFault>
+) -> Result<(), AsmRefusal>
     requires complete { IsComplete environment.now }
     requires params { names seen.old ≡ (module_view environment.now.home.now).params }
     requires room { module_count (module_view environment.now.home.now) < 2 ^ 64 }
@@ -72,7 +73,7 @@ fn declared_names<'a>(
 }
 
 // The names of the module and of its parameters.
-fn heading_names<'a>(seen: &mut IndexSet<&'a [u8]>, home: &'a Module) -> Result<(), NameFault>
+fn heading_names<'a>(seen: &mut IndexSet<&'a [u8]>, home: &'a Module) -> Result<(), AsmRefusal>
     requires { names seen.old ≡ [] }
     ensures row { MatchResult result (λ _. first (heading_rows (module_view home.now)) ≡ None) (IsRow (heading_rows (module_view home.now))) }
     ensures seen { IfOk result (λ _. names seen.new ≡ (module_view home.now).params) }

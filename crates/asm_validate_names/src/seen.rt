@@ -6,9 +6,10 @@ ghost use Rattle.asm_lang_valid.specs.Rows.{first};
 ghost use Rattle.asm_lang_valid.specs.Scope.{is_in};
 ghost use Rattle.asm_lang_valid.specs.NameRows as rows;
 ghost use Rattle.asm_validate_names.specs.Found.{row_of};
-ghost use Rattle.asm_validate_names.specs.Seen.{names, IsRow, declared_rows};
+ghost use Rattle.asm_validate_names.specs.Refusals.{IsRow};
+ghost use Rattle.asm_validate_names.specs.Seen.{names, declared_rows};
 
-use crate::fault::NameFault;
+use crate::refusal::AsmRefusal;
 use crate::uses::needs;
 use crate::words::{is_forbidden, is_forbidden_key};
 use asm_lang_valid::{Met, Rule};
@@ -31,7 +32,7 @@ pub fn declare<'a>(
     seen: &mut IndexSet<&'a [u8]>,
     name: &'a Text,
     node: u64,
-) -> Result<(), NameFault>
+) -> Result<(), AsmRefusal>
     ensures row { MatchResult result (λ _. first (rows.declares (names seen.old) (text_bytes name.now) node) ≡ None) (IsRow (rows.declares (names seen.old) (text_bytes name.now) node)) }
     ensures seen { IfOk result (λ _. names seen.new ≡ names seen.old ++ text_bytes name.now ∷ []) }
 {
@@ -46,7 +47,7 @@ pub fn declare_key<'a>(
     seen: &mut IndexSet<&'a [u8]>,
     key: &'a Text,
     node: u64,
-) -> Result<(), NameFault>
+) -> Result<(), AsmRefusal>
     ensures row { MatchResult result (λ _. first (rows.declares_key (names seen.old) (text_bytes key.now) node) ≡ None) (IsRow (rows.declares_key (names seen.old) (text_bytes key.now) node)) }
     ensures seen { IfOk result (λ _. names seen.new ≡ names seen.old ++ text_bytes key.now ∷ []) }
 {

@@ -10,11 +10,12 @@ ghost use Rattle.asm_validate_names.specs.Environments.{IsComplete};
 ghost use Rattle.asm_validate_names.specs.Meanings.{meaning_view};
 ghost use Rattle.asm_validate_names.specs.Members.{fit_rows, table_rows, export_rows};
 ghost use Rattle.asm_validate_names.specs.Found.{row_of};
-ghost use Rattle.asm_validate_names.specs.Seen.{names, IsRow};
+ghost use Rattle.asm_validate_names.specs.Refusals.{IsRow};
+ghost use Rattle.asm_validate_names.specs.Seen.{names};
 
 use crate::environment::Environment;
-use crate::fault::NameFault;
 use crate::meaning::Meaning;
+use crate::refusal::AsmRefusal;
 use crate::seen::{declare, declare_key};
 use crate::uses::needs;
 use asm_lang_valid::{Met, Rule};
@@ -110,7 +111,7 @@ fn table_names<'a>(
     seen: &mut IndexSet<&'a [u8]>,
     table: &'a Table,
     node: u64,
-) -> Result<(), NameFault>
+) -> Result<(), AsmRefusal>
     requires { IsComplete environment.now }
     ensures row { MatchResult result (λ _. first (table_rows (module_view environment.now.home.now) (names seen.old) (table_view table.now) node) ≡ None) (IsRow (table_rows (module_view environment.now.home.now) (names seen.old) (table_view table.now) node)) }
     ensures seen { IfOk result (λ _. names seen.new ≡ names seen.old ++ text_bytes table.now.name ∷ []) }
@@ -126,7 +127,7 @@ pub fn tables_names<'a>(
     seen: &mut IndexSet<&'a [u8]>,
     tables: &'a [Table],
     at: &mut u64,
-) -> Result<(), NameFault>
+) -> Result<(), AsmRefusal>
     requires complete { IsComplete environment.now }
     requires room { at.old + length tables.now < 2 ^ 64 }
     ensures row { MatchResult result (λ _. first (rows.tables_names (module_view environment.now.home.now) (names seen.old) (map table_view tables.now) at.old) ≡ None) (IsRow (rows.tables_names (module_view environment.now.home.now) (names seen.old) (map table_view tables.now) at.old)) }
@@ -145,7 +146,7 @@ fn export_names<'a>(
     keys: &mut IndexSet<&'a [u8]>,
     export: &'a Export,
     node: u64,
-) -> Result<(), NameFault>
+) -> Result<(), AsmRefusal>
     requires { IsComplete environment.now }
     ensures row { MatchResult result (λ _. first (export_rows (module_view environment.now.home.now) (names keys.old) (export_view export.now) node) ≡ None) (IsRow (export_rows (module_view environment.now.home.now) (names keys.old) (export_view export.now) node)) }
     ensures seen { IfOk result (λ _. names keys.new ≡ names keys.old ++ text_bytes export.now.key ∷ []) }
@@ -160,7 +161,7 @@ fn keys_names<'a>(
     keys: &mut IndexSet<&'a [u8]>,
     exports: &'a [Export],
     at: u64,
-) -> Result<(), NameFault>
+) -> Result<(), AsmRefusal>
     requires complete { IsComplete environment.now }
     requires room { at + length exports.now < 2 ^ 64 }
     ensures row { MatchResult result (λ _. first (rows.keys_names (module_view environment.now.home.now) (names keys.old) (map export_view exports.now) at) ≡ None) (IsRow (rows.keys_names (module_view environment.now.home.now) (names keys.old) (map export_view exports.now) at)) }
@@ -179,7 +180,7 @@ pub fn exports_names<'a>(
     environment: &Environment<'a>,
     exports: &'a Exports,
     at: u64,
-) -> Result<(), NameFault>
+) -> Result<(), AsmRefusal>
     requires complete { IsComplete environment.now }
     requires room { at + exports_count (exports_view exports.now) < 2 ^ 64 }
     ensures row { MatchResult result (λ _. first (rows.exports_names (module_view environment.now.home.now) (exports_view exports.now) at) ≡ None) (IsRow (rows.exports_names (module_view environment.now.home.now) (exports_view exports.now) at)) }

@@ -17,9 +17,9 @@ use Rattle.asm_validate_labels.specs.Open.{Entry, labels_in}
 use Rattle.asm_validate_labels.specs.Arounds.{around_view}
 use Rattle.asm_validate_names.proofs.Rest.{params_length, locals_length}
 use Rattle.asm_validate_names.proofs.Found.{first_after}
-use Rattle.asm_validate_stmts.specs.declared.fault.TypeFault.{TypeFault}
-use Rattle.asm_validate_stmts.specs.Faults.{IsRow}
-use Rattle.asm_validate_stmts.proofs.Order.{row_before, same_rows}
+use Rattle.asm_validate_names.specs.declared.refusal.AsmRefusal.{AsmRefusal}
+use Rattle.asm_validate_names.specs.Refusals.{IsRow}
+use Rattle.asm_validate_names.proofs.Order.{row_before, same_rows}
 
 abbrev only_labels : List Label → Around
 only_labels ls = record { in_breakable = false; in_loop = false; labels = ls }
@@ -36,7 +36,7 @@ module _ (m : modules.Module) (f : Function) (at mid : ℕ) (ls : List Local) (b
   first_rows : locals_rows (at + 1 + length (function_view f).params) (function_view f).locals ≡ locals_rows mid (map local_view ls)
   first_rows = ap (λ n. locals_rows n (function_view f).locals) place ∙ ap (λ l. locals_rows mid (map local_view l)) (sym locals)
 
-  pub in_locals : (x : TypeFault) → IsRow (locals_rows mid (map local_view ls)) x → IsRow (function_rows m at (function_view f)) x
+  pub in_locals : (x : AsmRefusal) → IsRow (locals_rows mid (map local_view ls)) x → IsRow (function_rows m at (function_view f)) x
   in_locals x h = row_before _ _ x (subst (λ l. IsRow l x) (sym first_rows) h)
 
   body_place : (last : ℕ) → last ≡ mid + length ls → body_at (function_view f) at ≡ last
@@ -46,7 +46,7 @@ module _ (m : modules.Module) (f : Function) (at mid : ℕ) (ls : List Local) (b
       let e = ap length locals in
       omega arith
 
-  pub in_body : (s : Scope) (a : Around) (body : List Stmt) (last : ℕ) (r : Result (Unit {0}) TypeFault) → first (locals_rows mid (map local_view ls)) ≡ None → last ≡ mid + length ls → s ≡ scope_of m (function_view f) → a ≡ at_top → body ≡ list_items f.body → MatchResult r (λ u. first (stmts_rows s a last (stmts_view body)) ≡ None) (IsRow (stmts_rows s a last (stmts_view body))) → MatchResult r (λ u. first (function_rows m at (function_view f)) ≡ None) (IsRow (function_rows m at (function_view f)))
+  pub in_body : (s : Scope) (a : Around) (body : List Stmt) (last : ℕ) (r : Result (Unit {0}) AsmRefusal) → first (locals_rows mid (map local_view ls)) ≡ None → last ≡ mid + length ls → s ≡ scope_of m (function_view f) → a ≡ at_top → body ≡ list_items f.body → MatchResult r (λ u. first (stmts_rows s a last (stmts_view body)) ≡ None) (IsRow (stmts_rows s a last (stmts_view body))) → MatchResult r (λ u. first (function_rows m at (function_view f)) ≡ None) (IsRow (function_rows m at (function_view f)))
   in_body s a body last r none end scope top stmts h =
       same_rows r (function_rows m at (function_view f)) (stmts_rows s a last (stmts_view body))
       (first_after _ _ (ap first first_rows ∙ none)
@@ -56,7 +56,7 @@ module _ (m : modules.Module) (f : Function) (at mid : ℕ) (ls : List Local) (b
       ∙ ap (λ l. first (stmts_rows s a last (stmts_view l))) (sym stmts)) h
 
   -- the node after it
-  pub in_count : (body : List Stmt) (last next : ℕ) (r : Result (Unit {0}) TypeFault) → last ≡ mid + length ls → body ≡ list_items f.body → IfOk r (λ u. next ≡ last + stmts_count (stmts_view body)) → IfOk r (λ u. next ≡ at + function_count (function_view f))
+  pub in_count : (body : List Stmt) (last next : ℕ) (r : Result (Unit {0}) AsmRefusal) → last ≡ mid + length ls → body ≡ list_items f.body → IfOk r (λ u. next ≡ last + stmts_count (stmts_view body)) → IfOk r (λ u. next ≡ at + function_count (function_view f))
   in_count body last next (Ok u) end stmts h =
       let k = body_place last end in
       let b = ap (λ l. stmts_count (stmts_view l)) stmts in

@@ -13,11 +13,11 @@ use Rattle.asm_lang_valid.specs.Rows.{first, functions_count, functions_at, tabl
 use Rattle.asm_lang_valid.specs.TypeRows.{globals_rows, functions_rows, tables_rows, type_rows}
 use Rattle.asm_validate_names.proofs.Found.{first_after}
 use Rattle.asm_validate_names.proofs.Bindings.{globals_length}
-use Rattle.asm_validate_stmts.specs.declared.fault.TypeFault.{TypeFault}
-use Rattle.asm_validate_stmts.specs.Faults.{IsRow}
-use Rattle.asm_validate_stmts.proofs.Order.{row_same, row_before, row_rest}
+use Rattle.asm_validate_names.specs.declared.refusal.AsmRefusal.{AsmRefusal}
+use Rattle.asm_validate_names.specs.Refusals.{IsRow}
+use Rattle.asm_validate_names.proofs.Order.{row_same, row_before, row_rest}
 
-pub err_exactly : (r : Result (Unit {0}) TypeFault) (rows : List Met) (f : TypeFault) → r ≡ Err f → IsRow rows f → MatchResult r (λ u. rows ≡ []) (IsRow rows)
+pub err_exactly : (r : Result (Unit {0}) AsmRefusal) (rows : List Met) (f : AsmRefusal) → r ≡ Err f → IsRow rows f → MatchResult r (λ u. rows ≡ []) (IsRow rows)
 err_exactly r rows f h k = subst (λ r. MatchResult r (λ u. rows ≡ []) (IsRow rows)) (sym h) k
 
 -- `code` is the module, which is `home` too
@@ -30,7 +30,7 @@ module _ (home code : Module) (same : home ≡ code) (gs : List Global_) (global
       ap (λ (h : Module). globals_rows (module_view h) 1 (map global_view (list_items h.globals))) (sym same)
       ∙ ap (λ l. globals_rows (module_view home) 1 (map global_view l)) (sym globals)
 
-  pub in_globals : (f : TypeFault) → IsRow (globals_rows (module_view home) 1 (map global_view gs)) f → IsRow (type_rows m) f
+  pub in_globals : (f : AsmRefusal) → IsRow (globals_rows (module_view home) 1 (map global_view gs)) f → IsRow (type_rows m) f
   in_globals f h = row_before (globals_rows m 1 m.globals) _ f (row_same _ _ f (ap first globals_same) h)
 
   module _ (none : first (globals_rows (module_view home) 1 (map global_view gs)) ≡ None) (at : ℕ) (next : at ≡ 1 + length gs) (fs : List Function) (functions : fs ≡ list_items home.functions) where
@@ -50,7 +50,7 @@ module _ (home code : Module) (same : home ≡ code) (gs : List Global_) (global
         ∙ ap (λ k. first (functions_rows m k m.functions ++ tables_rows m (tables_at m) m.tables)) at_is
         ∙ ap (λ l. first (functions_rows m at (map function_view l) ++ tables_rows m (tables_at m) m.tables)) functions_are
 
-    pub in_functions : (f : TypeFault) → IsRow (functions_rows m at (map function_view fs)) f → IsRow (type_rows m) f
+    pub in_functions : (f : AsmRefusal) → IsRow (functions_rows m at (map function_view fs)) f → IsRow (type_rows m) f
     in_functions f h = row_rest (type_rows m) (functions_rows m at (map function_view fs)) _ f after_globals h
 
     module _ (done : first (functions_rows m at (map function_view fs)) ≡ None) (mid : ℕ) (then : mid ≡ at + functions_count (map function_view fs)) (ts : List Table) (tables : ts ≡ list_items home.tables) where
@@ -70,5 +70,5 @@ module _ (home code : Module) (same : home ≡ code) (gs : List Global_) (global
           ∙ ap (λ k. first (tables_rows m k m.tables)) mid_is
           ∙ ap (λ l. first (tables_rows m mid (map table_view l))) tables_are
 
-      pub in_tables : (f : TypeFault) → IsRow (tables_rows m mid (map table_view ts)) f → IsRow (type_rows m) f
+      pub in_tables : (f : AsmRefusal) → IsRow (tables_rows m mid (map table_view ts)) f → IsRow (type_rows m) f
       in_tables f h = row_same (type_rows m) _ f after_functions h

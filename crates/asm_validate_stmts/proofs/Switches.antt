@@ -16,9 +16,9 @@ use Rattle.asm_validate_labels.specs.declared.places.Place.{Place}
 use Rattle.asm_validate_labels.specs.Open.{Entry}
 use Rattle.asm_validate_labels.specs.Arounds.{around_view}
 use Rattle.asm_validate_names.proofs.Found.{first_after}
-use Rattle.asm_validate_stmts.specs.declared.fault.TypeFault.{TypeFault}
-use Rattle.asm_validate_stmts.specs.Faults.{IsRow}
-use Rattle.asm_validate_stmts.proofs.Order.{row_rest, none_rest, same_rows}
+use Rattle.asm_validate_names.specs.declared.refusal.AsmRefusal.{AsmRefusal}
+use Rattle.asm_validate_names.specs.Refusals.{IsRow}
+use Rattle.asm_validate_names.proofs.Order.{row_rest, none_rest, same_rows}
 use Rattle.asm_validate_stmts.proofs.Rest.{clauses_rest}
 
 -- clause k is the first of those that are left, and every label that was opened before it is closed
@@ -32,7 +32,7 @@ module _ (c : Scope) (p : Place) (es ds : List Entry) (ks : List Clause) (i : �
       ∙ clauses_rest c (around_view p ds) ks i k ss at h is body
       ∙ ap (λ (ls : List Entry). first (stmts_rows c (around_view p ls) at (stmts_view ss) ++ clauses_rows c (around_view p ds) (at + stmts_count (stmts_view ss)) (clauses_view (drop (i + 1) ks)))) (sym kept)
 
-  pub clauses_within : (f : TypeFault) → IsRow own f → IsRow all f
+  pub clauses_within : (f : AsmRefusal) → IsRow own f → IsRow all f
   clauses_within f some = row_rest all own _ f left some
 
   pub clauses_after : (next : ℕ) → first own ≡ None → next ≡ at + stmts_count (stmts_view ss) → first all ≡ first (clauses_rows c (around_view p ds) next (clauses_view (drop (i + 1) ks)))
@@ -53,7 +53,7 @@ module _ (c : Scope) (a : Around) (node at : ℕ) (e : Expr) (cs : Clauses) (beg
       ap (λ n. first (expr_rows c n e ++ (need (agrees Signed (type_of c e)) Operand n ++ (need (cases_fit cs) SwitchCases node ++ clauses_rows c (in_a_switch a) (n + expr_count e) cs)))) (sym begun)
       ∙ ap first (sym (append_assoc (expr_rows c at e) (need (agrees Signed (type_of c e)) Operand at) (need (cases_fit cs) SwitchCases node ++ of_clauses)))
 
-  pub in_subject : (f : TypeFault) → IsRow of_subject f → IsRow (stmt_rows c a node (switches e cs)) f
+  pub in_subject : (f : AsmRefusal) → IsRow of_subject f → IsRow (stmt_rows c a node (switches e cs)) f
   in_subject f some = row_rest (stmt_rows c a node (switches e cs)) of_subject _ f shape some
 
   -- whether its cases fit
@@ -64,11 +64,11 @@ module _ (c : Scope) (a : Around) (node at : ℕ) (e : Expr) (cs : Clauses) (beg
         ∙ first_after of_subject _ none
         ∙ ap (λ t. first (need t SwitchCases node ++ of_clauses)) (sym is)
 
-    pub in_cases : (f : TypeFault) → IsRow (need fits SwitchCases node) f → IsRow (stmt_rows c a node (switches e cs)) f
+    pub in_cases : (f : AsmRefusal) → IsRow (need fits SwitchCases node) f → IsRow (stmt_rows c a node (switches e cs)) f
     in_cases f some = row_rest (stmt_rows c a node (switches e cs)) (need fits SwitchCases node) _ f after_subject some
 
     -- what stands round its clauses, and their first node
-    pub in_clauses : (b : Around) (next : ℕ) (r : Result (Unit {0}) TypeFault) → first (need fits SwitchCases node) ≡ None → b ≡ in_a_switch a → next ≡ at + expr_count e → MatchResult r (λ u. first (clauses_rows c b next cs) ≡ None) (IsRow (clauses_rows c b next cs)) → MatchResult r (λ u. first (stmt_rows c a node (switches e cs)) ≡ None) (IsRow (stmt_rows c a node (switches e cs)))
+    pub in_clauses : (b : Around) (next : ℕ) (r : Result (Unit {0}) AsmRefusal) → first (need fits SwitchCases node) ≡ None → b ≡ in_a_switch a → next ≡ at + expr_count e → MatchResult r (λ u. first (clauses_rows c b next cs) ≡ None) (IsRow (clauses_rows c b next cs)) → MatchResult r (λ u. first (stmt_rows c a node (switches e cs)) ≡ None) (IsRow (stmt_rows c a node (switches e cs)))
     in_clauses b next r fit within count h =
         same_rows r (stmt_rows c a node (switches e cs)) (clauses_rows c b next cs)
         (after_subject

@@ -6,16 +6,15 @@ ghost use Rattle.asm_lang_valid.specs.Rows.{first, function_count, functions_cou
 ghost use Rattle.asm_lang_valid.specs.TypeRows as rows;
 ghost use Rattle.asm_validate_names.specs.Environments.{IsComplete};
 ghost use Rattle.asm_validate_exprs.specs.Found.{row_of};
-ghost use Rattle.asm_validate_stmts.specs.Faults.{IsRow};
+ghost use Rattle.asm_validate_names.specs.Refusals.{IsRow};
 
 use crate::declarations::literal_fits;
-use crate::fault::TypeFault;
 use crate::statements::judge_stmts;
 use asm_lang_valid::{Met, Rule};
 use asm_tree::{Function, Local};
 use asm_validate_exprs::{Context, needs};
 use asm_validate_labels::{Labels, at_top};
-use asm_validate_names::Environment;
+use asm_validate_names::{AsmRefusal, Environment};
 use std::alloc::Global;
 
 #[tactic(auto, using(asm_validate_exprs::proofs::Sequences::sequences))]
@@ -38,7 +37,7 @@ fn function_typed<'a>(
     environment: &Environment<'a>,
     function: &'a Function,
     at: &mut u64,
-) -> Result<(), TypeFault>
+) -> Result<(), AsmRefusal>
     requires complete { IsComplete environment.now }
     requires room { at.old + function_count (function_view function.now) < 2 ^ 64 }
     ensures row { MatchResult result (λ _. first (rows.function_rows (module_view environment.now.home.now) at.old (function_view function.now)) ≡ None) (IsRow (rows.function_rows (module_view environment.now.home.now) at.old (function_view function.now))) }
@@ -64,7 +63,7 @@ pub fn functions_typed<'a>(
     environment: &Environment<'a>,
     functions: &'a [Function],
     at: &mut u64,
-) -> Result<(), TypeFault>
+) -> Result<(), AsmRefusal>
     requires complete { IsComplete environment.now }
     requires room { at.old + functions_count (map function_view functions.now) < 2 ^ 64 }
     ensures row { MatchResult result (λ _. first (rows.functions_rows (module_view environment.now.home.now) at.old (map function_view functions.now)) ≡ None) (IsRow (rows.functions_rows (module_view environment.now.home.now) at.old (map function_view functions.now))) }

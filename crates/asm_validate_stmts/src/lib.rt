@@ -4,11 +4,9 @@
 
 mod conditions;
 mod declarations;
-mod fault;
 mod functions;
 mod phase;
 mod statements;
 mod tables;
 
-pub use fault::TypeFault;
 pub use phase::check_types;

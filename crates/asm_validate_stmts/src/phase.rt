@@ -5,18 +5,17 @@ ghost use Rattle.asm_tree.specs.Views.{module_view};
 ghost use Rattle.asm_lang_valid.specs.Rows.{module_count};
 ghost use Rattle.asm_lang_valid.specs.TypeRows as rows;
 ghost use Rattle.asm_validate_names.specs.Environments.{IsComplete};
-ghost use Rattle.asm_validate_stmts.specs.Faults.{IsRow};
+ghost use Rattle.asm_validate_names.specs.Refusals.{IsRow};
 
 use crate::declarations::globals_typed;
-use crate::fault::TypeFault;
 use crate::functions::functions_typed;
 use crate::tables::tables_typed;
-use asm_validate_names::Environment;
+use asm_validate_names::{AsmRefusal, Environment};
 use std::alloc::Global;
 
 /// The first node of a module that breaks a rule of types, in text order with the parts of an expression before the
 /// whole. Of two rules that one node breaks the first counts.
-pub fn check_types(alloc: Global, environment: &Environment<'_>) -> Result<(), TypeFault>
+pub fn check_types(alloc: Global, environment: &Environment<'_>) -> Result<(), AsmRefusal>
     requires complete { IsComplete environment.now }
     requires room { module_count (module_view environment.now.home.now) < 2 ^ 64 }
     ensures exactly { MatchResult result (λ _. rows.type_rows (module_view environment.now.home.now) ≡ []) (IsRow (rows.type_rows (module_view environment.now.home.now))) }

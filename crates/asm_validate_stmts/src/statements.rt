@@ -9,10 +9,9 @@ ghost use Rattle.asm_lang_valid.specs.TypeRows as rows;
 ghost use Rattle.asm_validate_names.specs.Scopes.{scope_view};
 ghost use Rattle.asm_validate_exprs.specs.Contexts.{IsContext};
 ghost use Rattle.asm_validate_labels.specs.Arounds.{around_view};
-ghost use Rattle.asm_validate_stmts.specs.Faults.{IsRow};
+ghost use Rattle.asm_validate_names.specs.Refusals.{IsRow};
 
 use crate::conditions::{condition, optional_condition, optional_part, returned, subject};
-use crate::fault::TypeFault;
 use asm_lang_valid::Rule;
 use asm_tree::{Clause, Expr, Stmt};
 use asm_validate_exprs::{Context, judge_effect, needs};
@@ -20,6 +19,7 @@ use asm_validate_labels::{
     Labels, Place, break_fits, cases_fit, continue_fits, in_a_loop, in_a_switch, is_loop,
     open_labels,
 };
+use asm_validate_names::AsmRefusal;
 use sem_words::Text;
 
 /// The first row in a statement. `at` is the number of the next node.
@@ -31,7 +31,7 @@ pub fn judge_stmt<'a>(
     place: Place,
     stmt: &'a Stmt,
     at: &mut u64,
-) -> Result<(), TypeFault>
+) -> Result<(), AsmRefusal>
     requires known { IsContext context.now }
     requires room { at.old + stmt_count (stmt_view stmt.now) < 2 ^ 64 }
     ensures row { MatchResult result (λ _. first (rows.stmt_rows (scope_view context.now.scope) (around_view place labels.old.open.entries) at.old (stmt_view stmt.now)) ≡ None) (IsRow (rows.stmt_rows (scope_view context.now.scope) (around_view place labels.old.open.entries) at.old (stmt_view stmt.now))) }
@@ -94,7 +94,7 @@ fn judge_labelled<'a>(
     body: &'a Stmt,
     node: u64,
     at: &mut u64,
-) -> Result<(), TypeFault>
+) -> Result<(), AsmRefusal>
     requires known { IsContext context.now }
     requires begun { at.old ≡ node + 1 }
     requires room { at.old + stmt_count (stmt_view body.now) < 2 ^ 64 }
@@ -120,7 +120,7 @@ fn judge_switch<'a>(
     clauses: &'a [Clause],
     node: u64,
     at: &mut u64,
-) -> Result<(), TypeFault>
+) -> Result<(), AsmRefusal>
     requires known { IsContext context.now }
     requires begun { at.old ≡ node + 1 }
     requires room { at.old + (expr_count (expr_view test.now) + clauses_count (clauses_view clauses.now)) < 2 ^ 64 }
@@ -143,7 +143,7 @@ pub fn judge_stmts<'a>(
     place: Place,
     stmts: &'a [Stmt],
     at: &mut u64,
-) -> Result<(), TypeFault>
+) -> Result<(), AsmRefusal>
     requires known { IsContext context.now }
     requires room { at.old + stmts_count (stmts_view stmts.now) < 2 ^ 64 }
     ensures row { MatchResult result (λ _. first (rows.stmts_rows (scope_view context.now.scope) (around_view place labels.old.open.entries) at.old (stmts_view stmts.now)) ≡ None) (IsRow (rows.stmts_rows (scope_view context.now.scope) (around_view place labels.old.open.entries) at.old (stmts_view stmts.now))) }
@@ -164,7 +164,7 @@ fn judge_clauses<'a>(
     place: Place,
     clauses: &'a [Clause],
     at: &mut u64,
-) -> Result<(), TypeFault>
+) -> Result<(), AsmRefusal>
     requires known { IsContext context.now }
     requires room { at.old + clauses_count (clauses_view clauses.now) < 2 ^ 64 }
     ensures row { MatchResult result (λ _. first (rows.clauses_rows (scope_view context.now.scope) (around_view place labels.old.open.entries) at.old (clauses_view clauses.now)) ≡ None) (IsRow (rows.clauses_rows (scope_view context.now.scope) (around_view place labels.old.open.entries) at.old (clauses_view clauses.now))) }

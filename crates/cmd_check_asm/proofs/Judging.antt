@@ -19,8 +19,8 @@ use Rattle.asm_text.specs.declared.fault.TextFault.{TextFault}
 use Rattle.asm_text.specs.declared.fault.TextFault.TheVariants as texts
 use Rattle.asm_text.specs.Faults.{IsFault}
 use Rattle.asm_text.specs.Said.{IsAnswer}
-use Rattle.asm_validate.specs.declared.refusal.AsmRefusal.{AsmRefusal}
-use Rattle.asm_validate.specs.declared.refusal.AsmRefusal.TheVariants as refusals
+use Rattle.asm_validate_names.specs.declared.refusal.AsmRefusal.{AsmRefusal}
+use Rattle.asm_validate_names.specs.declared.refusal.AsmRefusal.TheVariants as refusals
 use Rattle.asm_validate.specs.Refusals.{IsRefused}
 use Rattle.cmd_check_asm.specs.declared.fault.AsmRow.TheVariants as rows
 use Rattle.cmd_check_asm.specs.declared.fault.CheckFault.{CheckFault}

@@ -3,8 +3,8 @@ use Rattle.std.specs.Prelude.{ℕ, ◌<◌, List, length, slice_index}
 use Rattle.asm_lang_valid.specs.declared.rule.Rule.{Rule}
 use Rattle.asm_text.specs.declared.fault.TextFault.{TextFault}
 use Rattle.asm_text.specs.declared.fault.TextFault.TheVariants as texts
-use Rattle.asm_validate.specs.declared.refusal.AsmRefusal.{AsmRefusal}
-use Rattle.asm_validate.specs.declared.refusal.AsmRefusal.TheVariants as refusals
+use Rattle.asm_validate_names.specs.declared.refusal.AsmRefusal.{AsmRefusal}
+use Rattle.asm_validate_names.specs.declared.refusal.AsmRefusal.TheVariants as refusals
 use Rattle.cmd_check_asm.specs.declared.fault.AsmRow.{AsmRow}
 use Rattle.cmd_check_asm.specs.declared.fault.AsmRow.TheVariants as rows
 use Rattle.cmd_check_asm.specs.declared.fault.CheckFault.{CheckFault}

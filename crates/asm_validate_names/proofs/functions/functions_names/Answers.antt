@@ -3,7 +3,8 @@ use Rattle.asm_tree.specs.Views.{module_view, function_view}
 use Rattle.asm_lang_valid.specs.Rows.{first, function_count}
 use Rattle.asm_lang_valid.specs.NameRows as rows
 use Rattle.asm_validate_names.specs.Seen.{names, texts_of}
-use Rattle.asm_validate_names.proofs.Rest.{none_rest, row_rest, err_row, functions_rest, functions_texts, functions_step}
+use Rattle.asm_validate_names.proofs.Order.{none_rest, row_rest, err_row}
+use Rattle.asm_validate_names.proofs.Rest.{functions_rest, functions_texts, functions_step}
 use Rattle.asm_validate_names.proofs.functions.functions_names.Goals as goal
 
 pub function_names-requires : goal.function_names-requires

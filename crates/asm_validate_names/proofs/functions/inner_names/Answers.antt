@@ -1,10 +1,11 @@
 use Rattle.std.proofs.Common.{rules}
 use Rattle.std.specs.Prelude.{Ok}
 use Rattle.asm_tree.specs.Views.{module_view}
-use Rattle.asm_validate_names.specs.declared.fault.NameFault.TheVariants.{Refused}
+use Rattle.asm_validate_names.specs.declared.refusal.AsmRefusal.TheVariants.{Refused}
 use Rattle.asm_validate_names.specs.Scopes.{scope_view}
 use Rattle.asm_validate_names.specs.Seen.{names}
-use Rattle.asm_validate_names.proofs.Rest.{err_row, no_names, inner_params, inner_body}
+use Rattle.asm_validate_names.proofs.Order.{err_row}
+use Rattle.asm_validate_names.proofs.Rest.{no_names, inner_params, inner_body}
 use Rattle.asm_validate_names.proofs.functions.inner_names.Goals as goal
 
 pub returns-in_err-params_names-clause-row : goal.returns-in_err-params_names-clause-row

@@ -2,10 +2,11 @@ use Rattle.std.proofs.Common.{rules, sym, ap, ◌∙◌}
 use Rattle.asm_tree.specs.declared.tree.Module.{Module}
 use Rattle.asm_tree.specs.Views.{module_view, init_view}
 use Rattle.asm_lang_valid.specs.NameRows as rows
-use Rattle.asm_validate_names.specs.declared.fault.NameFault.TheVariants.{Refused}
+use Rattle.asm_validate_names.specs.declared.refusal.AsmRefusal.TheVariants.{Refused}
 use Rattle.asm_validate_names.specs.Imported.{imports_view}
 use Rattle.asm_validate_names.specs.Seen.{names}
-use Rattle.asm_validate_names.proofs.Rest.{err_row, added_new}
+use Rattle.asm_validate_names.proofs.Order.{err_row}
+use Rattle.asm_validate_names.proofs.Rest.{added_new}
 use Rattle.asm_validate_names.proofs.globals.global_names.Goals as goal
 
 pub returns-in_err-global_row-clause-row : goal.returns-in_err-global_row-clause-row

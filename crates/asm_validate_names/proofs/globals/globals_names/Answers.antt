@@ -5,7 +5,7 @@ use Rattle.asm_lang_valid.specs.Rows.{first}
 use Rattle.asm_lang_valid.specs.NameRows as rows
 use Rattle.asm_validate_names.specs.Imported.{imports_view, globals_texts}
 use Rattle.asm_validate_names.specs.Seen.{names}
-use Rattle.asm_validate_names.proofs.Rest.{none_rest, row_rest, err_row}
+use Rattle.asm_validate_names.proofs.Order.{none_rest, row_rest, err_row}
 use Rattle.asm_validate_names.proofs.Bindings.{globals_rest, globals_longer}
 use Rattle.asm_validate_names.proofs.globals.globals_names.Goals as goal
 

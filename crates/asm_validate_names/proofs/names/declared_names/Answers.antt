@@ -5,7 +5,7 @@ use Rattle.asm_tree.specs.Views.{global_view, function_view, table_view, exports
 use Rattle.asm_lang_valid.specs.Rows.{functions_count, exports_count}
 use Rattle.asm_validate_names.specs.Imported.{imports_view}
 use Rattle.asm_validate_names.specs.Seen.{names}
-use Rattle.asm_validate_names.proofs.Rest.{err_row}
+use Rattle.asm_validate_names.proofs.Order.{err_row}
 use Rattle.asm_validate_names.proofs.Bindings.{in_globals, in_functions, in_tables, in_exports, globals_length, tables_length}
 use Rattle.asm_validate_names.proofs.names.declared_names.Goals as goal
 

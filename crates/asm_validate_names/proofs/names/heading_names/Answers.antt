@@ -2,8 +2,8 @@ use Rattle.std.proofs.Common.{[], ◌++◌, rules, ap, ◌∙◌}
 use Rattle.asm_tree.specs.Views.{texts_view}
 use Rattle.asm_lang_valid.specs.Rows.{first}
 use Rattle.asm_lang_valid.specs.NameRows.{all_new}
-use Rattle.asm_validate_names.specs.declared.fault.NameFault.TheVariants.{Refused}
-use Rattle.asm_validate_names.proofs.Rest.{err_row}
+use Rattle.asm_validate_names.specs.declared.refusal.AsmRefusal.TheVariants.{Refused}
+use Rattle.asm_validate_names.proofs.Order.{err_row}
 use Rattle.asm_validate_names.proofs.Bindings.{declared_same}
 use Rattle.asm_validate_names.proofs.names.heading_names.Goals as goal
 

@@ -3,8 +3,9 @@ use Rattle.asm_tree.specs.declared.tree.Module.{Module}
 use Rattle.asm_tree.specs.Views.{module_view}
 use Rattle.asm_lang_valid.specs.Rows.{first}
 use Rattle.asm_validate_names.specs.Heading.{heading_rows}
-use Rattle.asm_validate_names.specs.Seen.{IsRow}
-use Rattle.asm_validate_names.proofs.Rest.{err_row, no_names}
+use Rattle.asm_validate_names.specs.Refusals.{IsRow}
+use Rattle.asm_validate_names.proofs.Order.{err_row}
+use Rattle.asm_validate_names.proofs.Rest.{no_names}
 use Rattle.asm_validate_names.proofs.Bindings.{in_heading, after_heading}
 use Rattle.asm_validate_names.proofs.names.module_names.Goals as goal
 

@@ -3,7 +3,7 @@ use Rattle.asm_tree.specs.Views.{module_view, export_view}
 use Rattle.asm_lang_valid.specs.Rows.{first}
 use Rattle.asm_lang_valid.specs.NameRows as rows
 use Rattle.asm_validate_names.specs.Seen.{names}
-use Rattle.asm_validate_names.proofs.Rest.{none_rest, row_rest, err_row}
+use Rattle.asm_validate_names.proofs.Order.{none_rest, row_rest, err_row}
 use Rattle.asm_validate_names.proofs.Members.{keys_rest}
 use Rattle.asm_validate_names.proofs.tables.keys_names.Goals as goal
 

@@ -2,7 +2,7 @@ use Rattle.std.proofs.Common.{rules, ◌+◌, map, drop, sym, ap, ◌∙◌, ari
 use Rattle.asm_tree.specs.Views.{module_view, table_view}
 use Rattle.asm_lang_valid.specs.Rows.{first}
 use Rattle.asm_lang_valid.specs.NameRows as rows
-use Rattle.asm_validate_names.proofs.Rest.{none_rest, row_rest, err_row}
+use Rattle.asm_validate_names.proofs.Order.{none_rest, row_rest, err_row}
 use Rattle.asm_validate_names.proofs.Members.{tables_rest}
 use Rattle.asm_validate_names.proofs.tables.tables_names.Goals as goal
 

@@ -2,8 +2,8 @@ use Rattle.std.proofs.Common.{rules, ◌+◌, ap}
 use Rattle.asm_tree.specs.Views.{module_view}
 use Rattle.asm_validate_names.specs.Scopes.{scope_view}
 use Rattle.asm_validate_labels.specs.Arounds.{around_view}
-use Rattle.asm_validate_stmts.specs.declared.fault.TypeFault.TheVariants.{Refused}
-use Rattle.asm_validate_stmts.proofs.Order.{err_row}
+use Rattle.asm_validate_names.specs.declared.refusal.AsmRefusal.TheVariants.{Refused}
+use Rattle.asm_validate_names.proofs.Order.{err_row}
 use Rattle.asm_validate_stmts.proofs.Bodies.{top_is, in_locals, in_body, in_count}
 use Rattle.asm_validate_stmts.proofs.functions.function_typed.Goals as goal
 

@@ -5,7 +5,7 @@ use Rattle.asm_tree.specs.Views.{module_view, function_view}
 use Rattle.asm_lang_valid.specs.Rows.{first, function_count}
 use Rattle.asm_lang_valid.specs.TypeRows as rows
 use Rattle.asm_validate_names.proofs.Rest.{functions_step}
-use Rattle.asm_validate_stmts.proofs.Order.{none_rest, row_rest, err_row}
+use Rattle.asm_validate_names.proofs.Order.{none_rest, row_rest, err_row}
 use Rattle.asm_validate_stmts.proofs.Rest.{functions_rest}
 use Rattle.asm_validate_stmts.proofs.functions.functions_typed.Goals as goal
 

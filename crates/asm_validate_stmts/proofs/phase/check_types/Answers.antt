@@ -5,7 +5,7 @@ use Rattle.asm_tree.specs.Views.{module_view, global_view, function_view, table_
 use Rattle.asm_lang_valid.specs.Rows.{functions_count}
 use Rattle.asm_lang_valid.specs.TypeRows.{type_rows}
 use Rattle.asm_validate_names.proofs.Bindings.{globals_length, tables_length, nothing}
-use Rattle.asm_validate_stmts.specs.declared.fault.TypeFault.TheVariants.{Refused}
+use Rattle.asm_validate_names.specs.declared.refusal.AsmRefusal.TheVariants.{Refused}
 use Rattle.asm_validate_stmts.proofs.Phases.{err_exactly, in_globals, in_functions, in_tables, after_functions}
 use Rattle.asm_validate_stmts.proofs.phase.check_types.Goals as goal
 

@@ -5,8 +5,8 @@ use Rattle.asm_validate_names.proofs.Found.{clauses_step}
 use Rattle.asm_validate_names.proofs.Shapes.{stmt_positive}
 use Rattle.asm_validate_labels.specs.declared.places.Place.{Place}
 use Rattle.asm_validate_labels.specs.Arounds.{around_view}
-use Rattle.asm_validate_stmts.specs.declared.fault.TypeFault.TheVariants.{Refused}
-use Rattle.asm_validate_stmts.proofs.Order.{err_row}
+use Rattle.asm_validate_names.specs.declared.refusal.AsmRefusal.TheVariants.{Refused}
+use Rattle.asm_validate_names.proofs.Order.{err_row}
 use Rattle.asm_validate_stmts.proofs.Switches.{clauses_within, clauses_after, in_subject, in_cases, in_clauses}
 use Rattle.asm_validate_stmts.proofs.statements.+statements.Goals as goal
 
