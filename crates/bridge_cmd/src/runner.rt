@@ -2,9 +2,7 @@
 ghost use Rattle.std.specs.Prelude.{◌≡◌, ℕ, List, None, IfOk, IfErr, MatchResult};
 ghost use Rattle.heap_views.specs.Heap.{IsHeapLength};
 ghost use Rattle.asm_tree.specs.Views.{module_view};
-ghost use Rattle.wasm_lang.specs.Shape.{IsShaped};
 ghost use Rattle.wasm_lang_valid.specs.Runnable.{not_runnable};
-ghost use Rattle.wasm_laws_sound.specs.Laws.{IsWhole};
 ghost use Rattle.bridge_cmd.specs.Command as spec;
 ghost use Rattle.bridge_cmd.specs.Asking.{run_as};
 ghost use Rattle.bridge_cmd.specs.Runs.{IsRunner, text_runner, binary_runner};
@@ -72,8 +70,6 @@ fn binary_played(
     script: &[u8],
     steps: u32,
 ) -> Result<Vec<u8>, Refusal>
-    requires shaped { IsShaped valid.now }
-    requires whole { IsWhole valid.now }
     requires runs { not_runnable valid.now ≡ None }
     ensures ran { IfOk result (λ output. IsPlayed (binary_runner valid.now) steps script.now (written output.items)) }
     ensures refused { IfErr result (λ refusal. IsScriptAnswer (binary_runner valid.now) steps script.now (reason_of refusal)) }
