@@ -17,9 +17,6 @@ int n = lit (pos n)
 abbrev pub signed : Expr → Expr
 signed e = binary Or e (int 0)
 
-abbrev pub name : ℕ → List ℕ
-name letter = letter ∷ []
-
 -- the names a, b and so on
 abbrev pub a : List ℕ
 a = codes "a"
