@@ -1,1 +1,1 @@
-mod Stores
+mod Sessions

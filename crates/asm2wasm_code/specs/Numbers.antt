@@ -33,17 +33,17 @@ abbrev pub global_names : Module → List (List ℕ)
 global_names m = map (λ (v : Variable). v.name) (int_variables m.globals)
 
 -- where a variable stands: a local, or a global after the imported ones
-pub data Variable_place : Type 0 where
-  a_local a_global : (x : ℕ) → Variable_place
-  nowhere : Variable_place
+pub data VariablePlace : Type 0 where
+  a_local a_global : (x : ℕ) → VariablePlace
+  nowhere : VariablePlace
 
 -- a local one hides one of the module
-abbrev pub place_among : (imported : ℕ) → Option ℕ → Option ℕ → Variable_place
+abbrev pub place_among : (imported : ℕ) → Option ℕ → Option ℕ → VariablePlace
 place_among imported (Some i) global = a_local i
 place_among imported None (Some j) = a_global (imported + j)
 place_among imported None None = nowhere
 
-abbrev pub place_of : Scope → List ℕ → Variable_place
+abbrev pub place_of : Scope → List ℕ → VariablePlace
 place_of c n = place_among (length (foreign_globals c.home)) (slot_of (local_names c.within) n) (slot_of (global_names c.home) n)
 
 -- the first local that holds no variable: parameters and locals stand before it

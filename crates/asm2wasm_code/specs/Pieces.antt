@@ -1,10 +1,11 @@
 -- Small modules of asm.js, and the parts of what they are translated to.
-use Rattle.std.specs.Prelude.{ℕ, ℤ, pos, false, List, [], ◌∷◌, Some, None, map, codes}
-use Rattle.sem_words.specs.declared.js_value.JsOp.TheVariants.{Div, Or, And, Sar, Eq}
+use Rattle.std.specs.Prelude.{ℕ, zero, suc, ◌%◌, ℤ, pos, negsuc, false, List, [], ◌∷◌, ◌++◌, Some, None, map, codes, ◌==◌, if◌then◌else◌}
+use Rattle.sem_words.specs.declared.js_value.JsOp.TheVariants.{Div, Rem, Or, And, Shl, Sar, Shr, Lt, Ge, Eq}
+use Rattle.sem_words.specs.declared.js_value.JsUnary.TheVariants.{Neg, BitNot, Not}
 use Rattle.wasm_lang.specs.Modules.{FunctionBody}
 use Rattle.sem_laws.specs.Script.{CallPlain, ReplyLinePlain, give, ScriptPlain}
 use Rattle.asm_lang.specs.Trees.{Init, number, foreign_int, member, view}
-use Rattle.asm_lang.specs.Modules.{Expr, lit, var, call, table_call, assign, store, binary, chain, Exprs, no_exprs, exprs, no_links, links, Stmt, block, plain, if_only, returns, while_loop, breaks, continues, labelled, switches, Stmts, no_stmts, stmts, Clauses, no_clauses, clauses, Variable, Param, Function, Table, one, Module}
+use Rattle.asm_lang.specs.Modules.{Expr, lit, var, call, table_call, assign, store, binary, chain, Exprs, no_exprs, exprs, no_links, links, Stmt, block, plain, if_only, returns, while_loop, breaks, continues, labelled, switches, Stmts, no_stmts, stmts, Clauses, no_clauses, clauses, Variable, Param, Function, Table, one, Module, index, unary, cond, comma, do_while, for_loop}
 use Rattle.asm2wasm_code.specs.Modules.{translation}
 
 -- ---- parts of modules
@@ -15,9 +16,6 @@ int n = lit (pos n)
 -- `e|0`
 abbrev pub signed : Expr → Expr
 signed e = binary Or e (int 0)
-
-abbrev pub name : ℕ → List ℕ
-name letter = letter ∷ []
 
 -- the names a, b and so on
 abbrev pub a : List ℕ
@@ -162,6 +160,70 @@ turning = function f (n ∷ []) (int_variable 0 i ∷ int_variable 100 r ∷ [])
 abbrev pub tabled : Module
 tabled = module_of (variable g (member (codes "e") g) ∷ variable k (foreign_int (codes "e") k) ∷ []) (adding ∷ quotient ∷ turning ∷ []) (record { name = t; members = a ∷ b ∷ [] } ∷ [])
 
+-- ---- loops, a switch with a turn of a loop inside, and operators on signed and unsigned operands
+
+abbrev pub unsigned : Expr → Expr
+unsigned e = binary Shr e (int 0)
+
+abbrev pub adds : List ℕ → Expr → Stmt
+adds n e = sets n (sum (var n) e)
+
+-- `do{i=i+1|0;if((i|0)==2)continue;r=r+i|0;}while((i|0)<5)`
+abbrev pub do_loop : Stmt
+do_loop =
+    do_while (block (statements (adds i (int 1) ∷ if_only (binary Eq (signed (var i)) (int 2)) (continues None) ∷ adds r (var i) ∷ [])))
+    (binary Lt (signed (var i)) (int 5))
+
+-- `for(i=0;(i|0)<4;i=i+1|0)switch(i|0){case 0:r=r+10|0;break;case 2:continue;default:r=r+100|0;case 7:r=r+1000|0;}`
+abbrev pub for_switch : Stmt
+for_switch =
+    for_loop (Some (assign i (int 0))) (Some (binary Lt (signed (var i)) (int 4))) (Some (assign i (sum (var i) (int 1))))
+    (switches (signed (var i))
+    (clauses (Some (pos 0)) (statements (adds r (int 10) ∷ breaks None ∷ []))
+    (clauses (Some (pos 2)) (statements (continues None ∷ []))
+    (clauses None (statements (adds r (int 100) ∷ []))
+    (clauses (Some (pos 7)) (statements (adds r (int 1000) ∷ [])) no_clauses)))))
+
+-- two quotients and two remainders, a choice by an unsigned comparison, a comma and prefix operators
+abbrev pub operators : List Stmt
+operators =
+    adds r (signed (binary Div (signed (var a)) (signed (var b))))
+    ∷ adds r (signed (binary Div (unsigned (var a)) (unsigned (var b))))
+    ∷ adds r (signed (binary Rem (signed (var a)) (signed (var b))))
+    ∷ adds r (signed (binary Rem (unsigned (var a)) (unsigned (var b))))
+    ∷ adds r (cond (binary Ge (unsigned (var a)) (unsigned (assign y (var b)))) (signed (unary BitNot (var a))) (signed (unary Neg (var b))))
+    ∷ adds r (comma (arguments (assign y (sum (var y) (int 7)) ∷ unary Not (var y) ∷ [])))
+    ∷ adds r (signed (binary Shl (var a) (int 3)))
+    ∷ []
+
+abbrev pub operating : Module
+operating = module_of [] (function f (a ∷ b ∷ []) (int_variable 0 i ∷ int_variable 5 r ∷ int_variable 0 y ∷ [])
+    (do_loop ∷ for_switch ∷ operators ++ returns (Some (signed (var r))) ∷ []) ∷ []) []
+
+-- ---- a switch of many clauses, of which each odd one leaves it
+
+abbrev pub many_clauses : (left : ℕ) → (value : ℕ) → Clauses
+many_clauses zero value = clauses None (statements (adds y (int 5) ∷ [])) no_clauses
+many_clauses (suc left) value = clauses (Some (pos value)) (statements (adds y (int 1) ∷ (if value % 2 == 1 then breaks None ∷ [] else []))) (many_clauses left (suc value))
+
+abbrev pub long_switch : Module
+long_switch = module_of [] (function f (x ∷ []) (int_variable 0 y ∷ []) (switches (signed (var x)) (many_clauses 281 0) ∷ returns (Some (signed (var y))) ∷ []) ∷ []) []
+
+-- ---- elements of one and two bytes, `S[a]=b;T[a>>1]=c;return (U[a]|0)+(V[b>>1]|0)|0;`
+
+abbrev pub small_view : List ℕ → List ℕ → Variable
+small_view n k = variable n (view (codes "s") k (codes "h"))
+
+abbrev pub half : List ℕ → Expr
+half n = binary Sar (var n) (int 1)
+
+abbrev pub small_elements : Module
+small_elements = module_of
+    (small_view (codes "S") (codes "Int8Array") ∷ small_view (codes "T") (codes "Uint16Array") ∷ small_view (codes "U") (codes "Uint8Array") ∷ small_view (codes "V") (codes "Int16Array") ∷ [])
+    (function f (a ∷ b ∷ c ∷ []) []
+    (plain (store (codes "S") (signed (var a)) (var b)) ∷ plain (store (codes "T") (half a) (var c))
+    ∷ returns (Some (sum (signed (index (codes "U") (signed (var a)))) (signed (index (codes "V") (half b))))) ∷ []) ∷ []) []
+
 -- ---- scripts
 
 abbrev pub called : List ℤ → ℕ → CallPlain
@@ -186,6 +248,22 @@ storing_script = record {
   calls = called (pos 0 ∷ pos 4 ∷ pos 7 ∷ []) 1 ∷ called (pos 8 ∷ pos 0 ∷ pos 9 ∷ []) 2 ∷ [];
   replies = [];
 }
+
+abbrev pub calls_alone : List CallPlain → ScriptPlain
+calls_alone cs = record { globals = []; writes = []; calls = cs; replies = [] }
+
+-- -7 by 2, the least number by -1, 9 by 0, and -1 by 5
+abbrev pub operating_script : ScriptPlain
+operating_script = calls_alone
+    (called (negsuc 6 ∷ pos 2 ∷ []) 1 ∷ called (negsuc 2147483647 ∷ negsuc 0 ∷ []) 2 ∷ called (pos 9 ∷ pos 0 ∷ []) 3 ∷ called (negsuc 0 ∷ pos 5 ∷ []) 4 ∷ [])
+
+abbrev pub long_script : ScriptPlain
+long_script = calls_alone (called (pos 4 ∷ []) 1 ∷ called (pos 280 ∷ []) 2 ∷ called (negsuc 0 ∷ []) 3 ∷ [])
+
+-- inside, the last element, one past it, and negative indices
+abbrev pub small_script : ScriptPlain
+small_script = calls_alone
+    (called (pos 1 ∷ pos 200 ∷ pos 40000 ∷ []) 1 ∷ called (pos 7 ∷ pos 2 ∷ negsuc 0 ∷ []) 2 ∷ called (pos 8 ∷ pos 6 ∷ pos 3 ∷ []) 3 ∷ called (negsuc 0 ∷ negsuc 1 ∷ pos 3 ∷ []) 4 ∷ [])
 
 -- ---- what they are translated to
 

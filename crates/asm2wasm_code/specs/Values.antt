@@ -25,7 +25,7 @@ use Rattle.asm_lang_valid.specs.declared.meaning.Builtin.{Builtin}
 use Rattle.asm_lang_valid.specs.declared.meaning.Builtin.TheVariants.{Imul, Clz32}
 use Rattle.asm_lang_valid.specs.Scope.{shift_of, Meaning, a_foreign, a_builtin, a_view, a_function, a_table}
 use Rattle.asm_lang_valid.specs.Typing.{Scope, named, exprs_length, or_zero}
-use Rattle.asm2wasm_code.specs.Numbers.{Variable_place, a_local, a_global, nowhere, place_of, first_scratch, import_number, own_number, table_type, base_of}
+use Rattle.asm2wasm_code.specs.Numbers.{VariablePlace, a_local, a_global, nowhere, place_of, first_scratch, import_number, own_number, table_type, base_of}
 
 -- ---- instructions
 
@@ -41,13 +41,13 @@ number n = const32 n
 
 -- ---- variables
 
-abbrev pub get_code : Variable_place → Trees
+abbrev pub get_code : VariablePlace → Trees
 get_code (a_local x) = one (local_get x)
 get_code (a_global x) = one (global_get x)
 get_code nowhere = unreachable ▹ ε
 
 -- puts the value on the stack into a variable, and leaves it there where it is wanted
-abbrev pub put_code : Bool → Variable_place → Trees
+abbrev pub put_code : Bool → VariablePlace → Trees
 put_code true (a_local x) = one (local_tee x)
 put_code false (a_local x) = one (local_set x)
 put_code true (a_global x) = plains (global_set x ∷ global_get x ∷ [])

@@ -4,7 +4,7 @@ use Rattle.sem_words.specs.declared.word.Word.TheVariants.{W32}
 use Rattle.sem_words.specs.declared.word.Bin.TheVariants as bins
 use Rattle.sem_words.specs.declared.word.Rel.TheVariants as rels
 use Rattle.sem_laws.specs.Script.{ScriptPlain}
-use Rattle.sem_laws.specs.Observation.{EventPlain, import_called, call_gave, EndPlain}
+use Rattle.sem_laws.specs.Observation.{EventPlain, import_called, call_gave, EndPlain, done}
 use Rattle.sem_laws.specs.CallingForms.{script_to_wasm, event_to_wasm, end_to_wasm}
 use Rattle.wasm_lang.specs.declared.types.ValType.TheVariants.{I32}
 use Rattle.wasm_lang.specs.declared.types.MemOp.{MemOp}
@@ -17,6 +17,7 @@ use Rattle.asm_lang_exec.specs.Fits.{misfit}
 use Rattle.wasm_laws_trees.specs.Spelled.{flat}
 use Rattle.asm_lang_valid.specs.Typed.{scope_of}
 use Rattle.asm2wasm_code.specs.Bodies.{first_clause, long_code}
+use Rattle.asm2wasm_lang.specs.Allowed.{or_nothing}
 use Rattle.asm2wasm_code.specs.Modules.{translation}
 use Rattle.asm2wasm_code.specs.Pieces.{function, f, x, y, int_variable, few_cases, switching}
 
@@ -117,3 +118,11 @@ pub record IsAlike (m : Module) (size : ℕ) (script : ScriptPlain) (units reduc
   pub target_events : (wasm (translation m size) (script_to_wasm script) reductions).events ≡ map event_to_wasm events
   pub target_end : (wasm (translation m size) (script_to_wasm script) reductions).end ≡ Some (end_to_wasm end)
   pub target_heap : take size (wasm (translation m size) (script_to_wasm script) reductions).heap ≡ heap
+
+-- the script fits, both sessions come to their ends, and they show the same, whatever it is
+pub record ShowsSame (m : Module) (size : ℕ) (script : ScriptPlain) (units reductions : ℕ) : Type 0 where
+  pub fits : misfit m size script ≡ None
+  pub source_end : (or_nothing (asm m size script units)).end ≡ Some done
+  pub target_end : (wasm (translation m size) (script_to_wasm script) reductions).end ≡ Some done
+  pub events : (wasm (translation m size) (script_to_wasm script) reductions).events ≡ map event_to_wasm (or_nothing (asm m size script units)).events
+  pub heap : take size (wasm (translation m size) (script_to_wasm script) reductions).heap ≡ (or_nothing (asm m size script units)).heap

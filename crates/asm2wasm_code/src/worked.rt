@@ -1,8 +1,8 @@
 //! Worked code and sessions. Each function does nothing, and its contract is what the check computes of small modules.
 ghost use Rattle.std.specs.Prelude.{◌≡◌, ◌∷◌, ◌++◌, [], replicate, codes};
 ghost use Rattle.sem_laws.specs.Observation.{done, call_returned};
-ghost use Rattle.asm2wasm_code.specs.Pieces.{bodies, storing, dividing, continuing, switching, few_cases, dense_cases, tabled, tabled_script, storing_script};
-ghost use Rattle.asm2wasm_code.specs.Worked.{body, storing_code, dividing_code, continuing_code, few_code, dense_code, first_code, first_part, all_clauses_code, clauses_part, gave, imported, IsAlike};
+ghost use Rattle.asm2wasm_code.specs.Pieces.{operating, operating_script, long_switch, long_script, small_elements, small_script, bodies, storing, dividing, continuing, switching, few_cases, dense_cases, tabled, tabled_script, storing_script};
+ghost use Rattle.asm2wasm_code.specs.Worked.{ShowsSame, body, storing_code, dividing_code, continuing_code, few_code, dense_code, first_code, first_part, all_clauses_code, clauses_part, gave, imported, IsAlike};
 
 /// `H[a>>2]=H[b>>2]=c`: both indices wait on the stack, so that two scratch locals serve both stores.
 pub fn a_store_in_a_store()
@@ -36,4 +36,11 @@ pub fn tables_and_loops()
 /// A store in a store, and the outer one outside the heap and inside the memory.
 pub fn stores()
     ensures { IsAlike storing 8 storing_script 10 1000 (call_returned ∷ call_returned ∷ []) done (9 ∷ 0 ∷ 0 ∷ 0 ∷ 7 ∷ 0 ∷ 0 ∷ 0 ∷ []) }
+{}
+
+/// Loops, switches, operators of all kinds, and small elements: both sessions show the same.
+pub fn the_same()
+    ensures operators { ShowsSame operating 0 operating_script 100 10000 }
+    ensures many_clauses { ShowsSame long_switch 0 long_script 10 20000 }
+    ensures elements { ShowsSame small_elements 8 small_script 10 1000 }
 {}

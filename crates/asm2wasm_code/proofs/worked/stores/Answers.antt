@@ -1,4 +1,4 @@
-use Rattle.asm2wasm_code.proofs.Stores.{stores_are_alike}
+use Rattle.asm2wasm_code.proofs.Sessions.{stores_are_alike}
 use Rattle.asm2wasm_code.proofs.worked.stores.Goals as goal
 
 pub returns : goal.returns
