@@ -1,5 +1,7 @@
 -- Where no node ends and no module: most of what is being read.
 use Rattle.std.proofs.Common.{◌≡◌, List, [], ◌∷◌, ◌++◌, refl}
+use Rattle.std.specs.Global.{Global}
+use Rattle.std.specs.declared.boxed.Box.{Box}
 use Rattle.asm_lang.specs.Lexemes.{Lexeme}
 use Rattle.asm_lang.specs.Trees.{Init, StmtTrees, VariableTree, ParamTree, FunctionTree, TableTree, ExportTree, Heading}
 use Rattle.asm_lang.specs.Machine.{State, at_marks, at_functions, Step, failed, grammar, ended, stops}
@@ -95,7 +97,7 @@ function_stops h (functions.Params n p (names.After ns)) k = refl
 function_stops h (functions.Params n p (names.Next ns)) k = refl
 function_stops h (functions.Marks n r) k = let idle = idle_marks r (marks_of (lexeme_view n) k) (λ ds. (refl, refl)) in idle.1
 function_stops h (functions.Locals n ds r) k = let idle = idle_locals r (locals_of (lexeme_view n) (params_of ds) k) (λ ls. (refl, refl)) in idle.1
-function_stops h (functions.Body n ds ls r) k = h r (body_of (lexeme_view n) (params_of ds) (variables_of ls) k)
+function_stops h (functions.Body n ds ls r) k = h r.value (body_of (lexeme_view n) (params_of ds) (variables_of ls) k)
 function_stops h _ k = refl
 
 -- before its body no node ends
@@ -130,7 +132,7 @@ idle_export _ es k = (refl, refl)
 -- ---- functions, as a whole
 
 pub function_quiet : (r : FunctionReading) (k : FunctionTree → State)
-    → ((n : CodeLexeme) (ds : Listed CodeParam) (ls : Listed CodeVariable) (b : BodyReading) → r ≡ functions.Body n ds ls b → ⊥)
+    → ((n : CodeLexeme) (ds : Listed CodeParam) (ls : Listed CodeVariable) (b : Box BodyReading Global) → r ≡ functions.Body n ds ls b → ⊥)
     → step_peak (function_reading_view r k) ≡ 0
 function_quiet (functions.Params n p r) k other = names_quiet (lexeme_view n) (lexeme_view p) r k
 function_quiet (functions.Marks n r) k other = marks_quiet (lexeme_view n) r k

@@ -56,7 +56,7 @@ function_reading_view (functions.Params n p r) k = params_step (lexeme_view n) (
 function_reading_view (functions.OpenBrace n ps) k = open_brace_step (lexeme_view n) (named_view ps) k
 function_reading_view (functions.Marks n r) k = marks_step (lexeme_view n) r k
 function_reading_view (functions.Locals n ds r) k = locals_reading_view r (locals_of (lexeme_view n) (params_of ds) k)
-function_reading_view (functions.Body n ds ls r) k = body_view r (body_of (lexeme_view n) (params_of ds) (variables_of ls) k)
+function_reading_view (functions.Body n ds ls r) k = body_view r.value (body_of (lexeme_view n) (params_of ds) (variables_of ls) k)
 
 abbrev pub function_step_view : FunctionStep → (FunctionTree → State) → Lexeme → Step
 function_step_view (function_steps.On r) k t = function_reading_view r k

@@ -39,7 +39,7 @@ pub enum FunctionReading<'a> {
     OpenBrace(Lexeme<'a>, Option<Names<'a>>),
     Marks(Lexeme<'a>, MarksReading<'a>),
     Locals(Lexeme<'a>, List<ParamTree>, LocalsReading<'a>),
-    Body(Lexeme<'a>, List<ParamTree>, List<VariableTree>, BodyReading),
+    Body(Lexeme<'a>, List<ParamTree>, List<VariableTree>, Box<BodyReading>),
 }
 
 /// What one token does to a function.
@@ -89,7 +89,7 @@ impl<'a> FunctionReading<'a> {
                 after_marks(alloc, name, params, locals, token)
             }
             FunctionReading::Body(name, params, locals, body) => {
-                in_body(alloc, name, params, locals, body, token)
+                in_body(alloc, name, params, locals, Box::into_inner(body), token)
             }
         }
     }
@@ -216,7 +216,7 @@ fn in_body<'a>(
 {
     match body.feed(alloc, token)? {
         BodyStep::On(body) => {
-            let reading = FunctionReading::Body(name, params, locals, body);
+            let reading = FunctionReading::Body(name, params, locals, Box::new(alloc, body)?);
             Ok(FunctionStep::On(reading))
         }
         BodyStep::Done(body) => {
