@@ -1,5 +1,5 @@
 //! Calls.
-ghost use Rattle.std.specs.Prelude.{◌≡◌, IfOk};
+ghost use Rattle.std.specs.Prelude.{◌≡◌, ◌++◌, ◌∷◌, [], IfOk};
 ghost use Rattle.sem_words.specs.Lists.{text_bytes};
 ghost use Rattle.asm_tree.specs.Views.{module_view, function_view, exprs_view};
 ghost use Rattle.asm_validate_names.specs.Environments.{IsComplete};
@@ -16,7 +16,8 @@ use crate::machine::{Machine, after};
 use crate::names::{Target, entry_meant, target_meant};
 use asm_run_state::{Called, call_builtin, first_locals, locals_layout};
 use asm_run_work::{
-    Arguments, Callee, Completion, EndWork, ExprWork, Flow, Frame, Kept, Mode, Outcome, Work,
+    Arguments, Callee, Completion, EndWork, ExprWork, Flow, Frame, Kept, Mode, Outcome, Pending,
+    Work,
 };
 use asm_tree::{Expr, Function};
 use asm_validate_names::Environment;
@@ -40,7 +41,12 @@ impl<'a> Machine<'a> {
     {
         match rest.split_first() {
             Some((expr, rest)) => {
-                let piece = ExprWork::Argument(callee, arguments, rest);
+                let pending = Pending {
+                    callee,
+                    arguments,
+                    rest,
+                };
+                let piece = ExprWork::Argument(Box::new(alloc, pending)?);
                 let flow = self.evaluate(Work::Expr(piece), expr)?;
                 Ok(flow)
             }
@@ -49,6 +55,29 @@ impl<'a> Machine<'a> {
                 Ok(flow)
             }
         }
+    }
+
+    /// After an argument with this value.
+    pub fn argument(
+        &mut self,
+        environment: &Environment<'a>,
+        alloc: Global,
+        pending: Pending<'a>,
+        value: Kept,
+    ) -> Result<Flow<'a>, AllocError>
+        requires complete { IsComplete environment.now }
+        requires small { SmallModule (module_view environment.now.home.now) }
+        ensures { IfOk result (λ flow. moved self.new flow ≡ arguments_step (module_view environment.now.home.now) (waiting self.old) (function self.old) (callee_view pending.entry.callee) (pending.entry.arguments ++ value ∷ []) (exprs_view pending.entry.rest.now) (place self.old)) }
+    {
+        let Pending {
+            callee,
+            arguments,
+            rest,
+        } = pending;
+        let mut arguments = arguments;
+        arguments.push(value)?;
+        let flow = self.arguments(environment, alloc, callee, arguments, rest)?;
+        Ok(flow)
     }
 
     // The call, with all arguments.
@@ -167,6 +196,7 @@ impl<'a> Machine<'a> {
             values,
         };
         let outer = mem::replace(&mut self.frame, inner);
+        let outer = Box::new(alloc, outer)?;
         self.work.push(Work::End(EndWork::Call(outer)))?;
         self.work
             .push(Work::End(EndWork::List(callee.body.as_slice())))?;

@@ -76,7 +76,7 @@ impl<'a> Machine<'a> {
     {
         match after_loop(turns.labels, completion) {
             None => {
-                let flow = self.before_turn(turns, turns.step)?;
+                let flow = self.before_turn(turns, turns.step())?;
                 Ok(flow)
             }
             Some(completion) => Ok(after(completion)),
@@ -118,15 +118,15 @@ impl<'a> Machine<'a> {
     }
 
     // After a function's body: the caller's variables are back, and the call has its value.
-    fn leave(&mut self, frame: Frame<'a>, completion: Completion<'a>) -> Flow<'a>
-        ensures { moved self.new result ≡ end_work_step (waiting self.old) (function self.old) (at_call (frame_view frame.entry)) (completion_view completion.entry) (place self.old) }
+    fn leave(&mut self, frame: Box<Frame<'a>>, completion: Completion<'a>) -> Flow<'a>
+        ensures { moved self.new result ≡ end_work_step (waiting self.old) (function self.old) (at_call (frame_view frame.entry.value)) (completion_view completion.entry) (place self.old) }
     {
         let value = match completion {
             Completion::Normal => Kept::new(JsValue::Undef),
             Completion::Returned(value) => value,
             Completion::Broken(_) | Completion::Continued(_) => return Flow::Wrong,
         };
-        self.frame = frame;
+        self.frame = Box::into_inner(frame);
         Flow::Go(Mode::Comes(Outcome::Gave(value)))
     }
 }

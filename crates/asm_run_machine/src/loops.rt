@@ -23,11 +23,11 @@ impl<'a> Machine<'a> {
 
     // The test of a loop, or else its body.
     fn test(&mut self, turns: Loop<'a>) -> Result<Flow<'a>, AllocError>
-        ensures { IfOk result (λ flow. moved self.new flow ≡ test_step (waiting self.old) (function self.old) (loop_view turns.entry) (part_view turns.entry.test) (place self.old)) }
+        ensures { IfOk result (λ flow. moved self.new flow ≡ test_step (waiting self.old) (function self.old) (loop_view turns.entry) (loop_view turns.entry).test (place self.old)) }
     {
-        match turns.test {
+        match turns.test() {
             None => {
-                let flow = self.execute(Work::End(EndWork::Body(turns)), &[], turns.body)?;
+                let flow = self.execute(Work::End(EndWork::Body(turns)), &[], turns.body())?;
                 Ok(flow)
             }
             Some(test) => {

@@ -41,10 +41,9 @@ impl<'a> Machine<'a> {
                 );
                 Ok(self.given(element))
             }
-            ExprWork::Argument(callee, before, rest) => {
-                let mut before = before;
-                before.push(value)?;
-                let flow = self.arguments(environment, alloc, callee, before, rest)?;
+            ExprWork::Argument(pending) => {
+                let pending = Box::into_inner(pending);
+                let flow = self.argument(environment, alloc, pending, value)?;
                 Ok(flow)
             }
             ExprWork::Table(name, arguments) => {

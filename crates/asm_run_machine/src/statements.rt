@@ -42,14 +42,8 @@ impl<'a> Machine<'a> {
                 let flow = self.give_back(value)?;
                 Ok(flow)
             }
-            Stmt::While(test, body) => {
-                let turns = Loop {
-                    labels,
-                    test: Some(test),
-                    step: None,
-                    body,
-                };
-                let flow = self.turn(turns)?;
+            Stmt::While(_, _) => {
+                let flow = self.turn(Loop { labels, stmt })?;
                 Ok(flow)
             }
             Stmt::DoWhile(body, test) => {
@@ -57,14 +51,8 @@ impl<'a> Machine<'a> {
                 let flow = self.do_turn(turns)?;
                 Ok(flow)
             }
-            Stmt::For(start, test, step, body) => {
-                let turns = Loop {
-                    labels,
-                    test: part_of(test),
-                    step: part_of(step),
-                    body,
-                };
-                let flow = self.before_turn(turns, part_of(start))?;
+            Stmt::For(start, _, _, _) => {
+                let flow = self.before_turn(Loop { labels, stmt }, part_of(start))?;
                 Ok(flow)
             }
             Stmt::Break(label) => Ok(after(Completion::Broken(label))),

@@ -28,7 +28,7 @@ impl<'a> Machine<'a> {
             }
             StmtWork::Test(turns) => {
                 if truthy(value.value()) {
-                    let flow = self.execute(Work::End(EndWork::Body(turns)), &[], turns.body)?;
+                    let flow = self.execute(Work::End(EndWork::Body(turns)), &[], turns.body())?;
                     return Ok(flow);
                 }
                 Ok(after(Completion::Normal))

@@ -5,6 +5,7 @@ use Rattle.std.specs.Global.{Global}
 use Rattle.std.specs.declared.boxed.Box.{Box}
 use Rattle.sem_words.specs.Lists.{text_bytes}
 use Rattle.asm_lang.specs.Modules as trees
+use Rattle.asm_lang.specs.Modules.{while_loop, for_loop}
 use Rattle.asm_tree.specs.declared.tree.Expr.{Expr}
 use Rattle.asm_tree.specs.declared.tree.Stmt.{Stmt}
 use Rattle.asm_tree.specs.Views.{texts_view, expr_view, exprs_view, links_view, stmt_view, stmts_view, clauses_view, function_view}
@@ -36,7 +37,7 @@ callee_view (callees.Entry n v) = by_entry (text_bytes n.now) v
 
 abbrev pub expr_work_view : ExprWork → plain.ExprWork
 expr_work_view (exprs.Element n) = at_element (text_bytes n.now)
-expr_work_view (exprs.Argument callee vs es) = at_argument (callee_view callee) vs (exprs_view es.now)
+expr_work_view (exprs.Argument p) = at_argument (callee_view p.value.callee) p.value.arguments (exprs_view p.value.rest.now)
 expr_work_view (exprs.Table n es) = at_table (text_bytes n.now) (exprs_view es.now)
 expr_work_view (exprs.Assign n) = at_assign (text_bytes n.now)
 expr_work_view (exprs.StoreIndex n e) = at_store_index (text_bytes n.now) (expr_view e.now)
@@ -53,8 +54,23 @@ abbrev pub part_view : Option (Bor Expr) → Option trees.Expr
 part_view None = None
 part_view (Some e) = Some (expr_view e.now)
 
+-- the parts of a `while` and of a `for`; another statement stands for a loop without a test
+abbrev pub test_of : trees.Stmt → Option trees.Expr
+test_of (while_loop e s) = Some e
+test_of (for_loop x y z s) = y
+test_of _ = None
+
+abbrev pub step_of : trees.Stmt → Option trees.Expr
+step_of (for_loop x y z s) = z
+step_of _ = None
+
+abbrev pub body_of : trees.Stmt → trees.Stmt
+body_of (while_loop e s) = s
+body_of (for_loop x y z s) = s
+body_of s = s
+
 abbrev pub loop_view : Loop → plain.Loop
-loop_view l = record { labels = texts_view l.labels.now; test = part_view l.test; step = part_view l.step; body = stmt_view l.body.now.value }
+loop_view l = record { labels = texts_view l.labels.now; test = test_of (stmt_view l.stmt.now); step = step_of (stmt_view l.stmt.now); body = body_of (stmt_view l.stmt.now) }
 
 abbrev pub do_loop_view : DoLoop → plain.DoLoop
 do_loop_view l = record { labels = texts_view l.labels.now; body = stmt_view l.body.now.value; test = expr_view l.test.now }
@@ -81,7 +97,7 @@ end_work_view (ends.Body l) = at_body (loop_view l)
 end_work_view (ends.DoBody l) = at_do_body (do_loop_view l)
 end_work_view (ends.Label ns) = at_label (texts_view ns.now)
 end_work_view (ends.Clauses cs) = at_clauses (clauses_view cs.now)
-end_work_view (ends.Call f) = at_call (frame_view f)
+end_work_view (ends.Call f) = at_call (frame_view f.value)
 
 abbrev pub work_view : Work → plain.Work
 work_view (works.Expr w) = of_expr (expr_work_view w)

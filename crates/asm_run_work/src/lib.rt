@@ -6,6 +6,7 @@ mod endings;
 mod frame;
 mod kept;
 mod labels;
+mod parts;
 mod stack;
 mod work;
 
@@ -13,7 +14,8 @@ pub use clauses::from_clause;
 pub use endings::{Completion, after_labels, after_loop, after_switch};
 pub use frame::Frame;
 pub use kept::{Arguments, Kept};
+pub use parts::part_of;
 pub use stack::Stack;
 pub use work::{
-    Callee, DoLoop, EndWork, ExprWork, Flow, Loop, Mode, Outcome, StmtWork, Work, part_of,
+    Callee, DoLoop, EndWork, ExprWork, Flow, Loop, Mode, Outcome, Pending, StmtWork, Work,
 };

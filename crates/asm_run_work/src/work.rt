@@ -1,7 +1,5 @@
-//! What is done next, and what waits for it.
-ghost use Rattle.std.specs.Prelude.{◌≡◌};
-ghost use Rattle.asm_tree.specs.Views.{expr_option};
-ghost use Rattle.asm_run_work.specs.Views.{part_view};
+//! What is done next, and what waits for it. Work is moved at each step, so its items are small: what is
+//! rare and large stands in a box.
 
 use crate::endings::Completion;
 use crate::frame::Frame;
@@ -17,13 +15,22 @@ pub enum Callee<'a> {
     Entry(&'a Text, JsValue),
 }
 
+/// A call whose arguments are evaluated: those that have values, and those that come after the one that is
+/// evaluated now.
+#[derive(Drop)]
+pub struct Pending<'a> {
+    pub callee: Callee<'a>,
+    pub arguments: Arguments,
+    pub rest: &'a [Expr],
+}
+
 /// An expression that waits for the value of one of its parts.
 #[derive(Drop)]
 pub enum ExprWork<'a> {
     /// The index of the element that is read.
     Element(&'a Text),
     /// An argument, after those with values and before the rest.
-    Argument(Callee<'a>, Arguments, &'a [Expr]),
+    Argument(Box<Pending<'a>>),
     /// The index into a table, before the arguments.
     Table(&'a Text, &'a [Expr]),
     Assign(&'a Text),
@@ -41,13 +48,11 @@ pub enum ExprWork<'a> {
     Comma(&'a [Expr]),
 }
 
-/// A loop with its test first.
+/// A loop with its test first, a `while` or a `for`, directly under these labels.
 #[derive(Clone, Copy)]
 pub struct Loop<'a> {
     pub labels: &'a [Text],
-    pub test: Option<&'a Expr>,
-    pub step: Option<&'a Expr>,
-    pub body: &'a Box<Stmt>,
+    pub stmt: &'a Stmt,
 }
 
 /// A loop with its test last.
@@ -82,7 +87,7 @@ pub enum EndWork<'a> {
     /// A switch, before the clauses that are left.
     Clauses(&'a [Clause]),
     /// A call, at the end of the function's body.
-    Call(Frame<'a>),
+    Call(Box<Frame<'a>>),
 }
 
 /// What waits for the part that is done now.
@@ -116,14 +121,4 @@ pub enum Flow<'a> {
     Stops(End),
     Spent,
     Wrong,
-}
-
-/// A part of a `for`, if it is there.
-pub fn part_of(part: &Option<Expr>) -> Option<&Expr>
-    ensures { part_view result ≡ expr_option part.now }
-{
-    match part {
-        None => None,
-        Some(expr) => Some(expr),
-    }
 }
