@@ -1,0 +1,5 @@
+mod Marks
+mod Names
+mod Uses
+mod Within
+mod Signatures
