@@ -1,4 +1,5 @@
 mod Numbers
 mod Parts
-mod Entries
+mod Written
 mod Modules
+mod Short

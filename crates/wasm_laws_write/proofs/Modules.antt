@@ -15,7 +15,7 @@ use Rattle.wasm_laws_write.specs.Fits.{FitsU32, InstructionFits, OptionFits, Lim
 use Rattle.wasm_laws_write.specs.Laws.{FittingAreWritable}
 use Rattle.wasm_laws_write.proofs.Numbers.{Spelled, Writes, u32_spelled, number_short}
 use Rattle.wasm_laws_write.proofs.Parts.{each, both, NeverEmpty, some_number, some_sized, some_limits, vec_spelled, sized_part, sized_spelled, limits_spelled, table_spelled, Always, always, function_type_spelled, CodeFits}
-use Rattle.wasm_laws_write.proofs.Entries.{ImportIsNamed, import_spelled, some_import, ExportIsNamed, export_spelled, some_export, global_spelled, some_global, element_spelled, some_element, segment_spelled, some_segment, body_spelled}
+use Rattle.wasm_laws_write.proofs.Written.{ImportIsNamed, import_spelled, some_import, ExportIsNamed, export_spelled, some_export, global_spelled, some_global, element_spelled, some_element, segment_spelled, some_segment, body_spelled}
 
 section_spelled : {X : Type 0} (id : ℕ) (P : Spelling X) (f : X → List ℕ) (Fits : X → Type 0) → id < 256 → NeverEmpty f → Writes P f Fits → (vs : List X) → AllByRecursion Fits vs → length (vector f vs) < 2 ^ 32 → Spelled (IsSection id P vs) (own.section id f vs)
 section_spelled id P f Fits small some one [] fit h = record { spells = λ us. no_section no_custom; bytes = tt }
