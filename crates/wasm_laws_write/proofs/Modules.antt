@@ -1,13 +1,12 @@
 -- A shaped module whose numbers and sections fit is spelled.
-use Rattle.std.proofs.Common.{◌≡◌, ℕ, ◌^◌, ◌<◌, List, [], ◌∷◌, ◌++◌, length, Option, None, Some, refl, sym, subst, arith, append-nil, length-append}
+use Rattle.std.proofs.Common.{ℕ, ◌^◌, ◌<◌, List, [], ◌∷◌, ◌++◌, length, Option, None, Some, refl, subst, arith, append-nil}
 use Rattle.std.specs.Prelude.{All}
 use Rattle.std.specs.List.{AllByRecursion}
 use Rattle.std.specs.Str.{IsUtf8}
 use Rattle.std.proofs.lemmas.List.Elements.{All-nil, All-cons}
-use Rattle.wasm_lang.specs.Modules.{WasmModule}
 use Rattle.wasm_lang.specs.Numbers.{IsU32}
-use Rattle.wasm_lang.specs.Shape.{IsShaped, IsShapedCode}
-use Rattle.wasm_lang.specs.Grammar.{Spelling, IsVec, IsSized, no_custom, IsSection, no_section, section, IsNumberSection, no_number, number, IsFunctionType, IsImport, IsTable, IsLimits, IsGlobal, IsExport, IsElement, IsFunctionBody, IsSegment, header, IsModuleBytes}
+use Rattle.wasm_lang.specs.Shape.{IsShapedCode}
+use Rattle.wasm_lang.specs.Grammar.{Spelling, IsVec, IsSized, no_custom, IsSection, no_section, section, IsNumberSection, no_number, number, IsFunctionType, IsImport, IsTable, IsLimits, IsGlobal, IsExport, IsElement, IsFunctionBody, IsSegment, header}
 use Rattle.wasm_binary_write.specs.Spelling.{unsigned, vector, sized, function_type, imported, table, limits, global, exported, element, body, segment, start_section, spelling}
 use Rattle.wasm_binary_write.specs.Spelling as own
 use Rattle.wasm_binary_write.proofs.Best.{AreBytes, bytes_append}

@@ -1,22 +1,20 @@
 -- How many bytes parts take at most.
-use Rattle.std.proofs.Common.{◌≡◌, ℕ, zero, suc, ◌+◌, ◌-◌, ◌*◌, ◌/◌, ◌%◌, ◌^◌, ◌<◌, ◌≤◌, Bool, true, false, List, [], ◌∷◌, ◌++◌, length, replicate, Option, Some, None, refl, sym, ap, subst, ◌∙◌, arith, inl, inr, length-append}
+use Rattle.std.proofs.Common.{◌≡◌, ℕ, zero, suc, ◌+◌, ◌-◌, ◌*◌, ◌/◌, ◌^◌, ◌<◌, ◌≤◌, Bool, true, false, List, [], ◌∷◌, ◌++◌, length, replicate, Option, Some, None, refl, sym, ap, subst, ◌∙◌, arith, inl, inr, length-append}
 use Rattle.std.specs.Prelude.{All}
 use Rattle.std.specs.List.{AllByRecursion}
 use Rattle.std.proofs.lemmas.Bool.{cases_lt, lt-ltb, le-ltb}
 use Rattle.wasm_lang.specs.declared.types.ValType.{ValType}
 use Rattle.wasm_lang.specs.declared.types.ValType.TheVariants.{I32, I64}
-use Rattle.wasm_lang.specs.declared.types.Limits.{Limits}
 use Rattle.wasm_lang.specs.declared.types.ImportKind.{ImportKind}
 use Rattle.wasm_lang.specs.declared.types.ImportKind.TheVariants as imports
 use Rattle.wasm_lang.specs.declared.types.ExportKind.{ExportKind}
 use Rattle.wasm_lang.specs.declared.types.ExportKind.TheVariants as exports
-use Rattle.wasm_lang.specs.Instructions.{Plain, nop, drop_operand, select, local_get, local_set, local_tee, global_get, global_set, load, store, memory_size, memory_copy, memory_fill, const32, const64, eqz32, eqz64, rel32, rel64, un32, un64, bin32, bin64, wrap, extend_s, extend_u, sign_extend, Instruction, unreachable, block, loop, if_block, else_mark, end_mark, br, br_if, br_table, return, call, call_indirect, plain}
-use Rattle.wasm_lang.specs.Modules.{FunctionType, Imported, GlobalEntry, Exported, ElementSegment, FunctionBody}
+use Rattle.wasm_lang.specs.Instructions.{Plain, local_get, local_set, local_tee, global_get, global_set, load, store, memory_size, memory_copy, memory_fill, const32, const64, Instruction, block, loop, if_block, br, br_if, br_table, call, call_indirect, plain}
 use Rattle.wasm_binary_write.specs.Opcodes.{opcode_of}
 use Rattle.wasm_binary_write.specs.Spelling.{groups, unsigned, integer, items, vector, sized, value_type, block_type, function_type, limits_to, limits, table, mutability, plain_immediates, immediates, behind, instruction, import_kind, imported, global, export_kind, exported, element, runs_from, runs, run, body}
 use Rattle.wasm_binary_write.specs.Spelling as own
 use Rattle.wasm_binary_write.proofs.Groups.{groups_last, groups_more}
-use Rattle.wasm_laws_write.specs.Fits.{FitsU32, PlainFits, InstructionFits, OptionFits, LimitsFit, ImportFits, ExportFits}
+use Rattle.wasm_laws_write.specs.Fits.{FitsU32, PlainFits, OptionFits, ImportFits, ExportFits}
 use Rattle.wasm_laws_write.specs.Lengths.{instruction_size, code_size, PlainIsNarrow, IsNarrow, total}
 use Rattle.wasm_laws_write.specs.Laws.{NumbersAreShort, NarrowFit, InstructionsAreShort, CodeIsShort, BodiesAreShort, PartsAreShort, VectorsAreShort, TypesAreShort, ImportsAreShort, LimitsAreShort, GlobalsAreShort, ExportsAreShort, ElementsAreShort}
 use Rattle.wasm_laws_write.proofs.Numbers.{low_number_short, number_short}
