@@ -1,12 +1,12 @@
 -- What a property of all declarations says of what a name means.
-use Rattle.std.proofs.Common.{◌≡◌, ℕ, ◌+◌, ◌≤◌, Bool, true, false, List, [], ◌∷◌, length, Option, Some, None, refl, sym, ap, ◌∙◌, subst}
+use Rattle.std.proofs.Common.{◌≡◌, ℕ, ◌≤◌, Bool, true, false, List, [], ◌∷◌, length, Option, Some, None, refl, ap}
 use Rattle.std.specs.Prelude.{bytes_eq, ◌||◌, codes, if◌then◌else◌}
 use Rattle.std.specs.List.{AllByRecursion}
 use Rattle.asm_lang.specs.Trees.{Init, number, decimal, foreign_int, foreign_double, member, math, view}
 use Rattle.asm_lang.specs.Modules.{Variable, Param, Function, Table, Module}
 use Rattle.asm_lang_valid.specs.declared.meaning.Element.{Element}
 use Rattle.asm_lang_valid.specs.declared.meaning.Builtin.TheVariants.{Imul, Clz32}
-use Rattle.asm_lang_valid.specs.Scope.{is_foreign, Meaning, nothing, an_int, an_outside, a_foreign, a_builtin, a_view, a_function, a_table, a_parameter, Constructor, constructors, constructor_in, viewed, math_meaning, init_meaning, among_globals, among_functions, among_tables, is_in, module_meaning, local_init, among_locals, among_params, meaning}
+use Rattle.asm_lang_valid.specs.Scope.{is_foreign, Meaning, nothing, an_int, an_outside, a_foreign, a_builtin, a_function, a_table, a_parameter, Constructor, constructors, constructor_in, viewed, init_meaning, among_globals, among_functions, among_tables, is_in, module_meaning, local_init, among_locals, among_params, meaning}
 use Rattle.asm_lang_valid.specs.LimitRows.{member_length, longest_name}
 use Rattle.asm_lang_valid.specs.Refusal.{is_view, any_view, has_heap}
 use Rattle.asm2wasm_laws_within.specs.Laws.{ViewsMeanAHeap}

@@ -1,11 +1,11 @@
 -- What the rows of limits say of an accepted module.
-use Rattle.std.proofs.Common.{◌≡◌, ℕ, zero, suc, ◌+◌, ◌<◌, ◌≤◌, Bool, true, false, List, [], ◌∷◌, ◌++◌, length, Option, Some, None, refl, sym, ap, ◌∙◌, subst, arith, length-append}
+use Rattle.std.proofs.Common.{◌≡◌, ℕ, zero, suc, ◌+◌, ◌<◌, ◌≤◌, Bool, true, false, List, [], ◌∷◌, ◌++◌, length, Some, None, refl, subst, arith, length-append}
 use Rattle.std.proofs.lemmas.Bool.Decides.{nat_tests}
 use Rattle.std.proofs.lemmas.List.Elements.{All-from_recursion}
 use Rattle.std.specs.Prelude.{nat_lt, nat_le, slice_get, ◌&&◌, if◌then◌else◌}
 use Rattle.std.specs.List.{AllByRecursion}
 use Rattle.asm_lang.specs.Trees.{Init, number, decimal, foreign_int, foreign_double, member, math, view}
-use Rattle.asm_lang.specs.Modules.{Variable, Param, Function, Table, Module}
+use Rattle.asm_lang.specs.Modules.{Variable, Function, Table, Module}
 use Rattle.asm_lang_valid.specs.declared.rule.Rule.TheVariants.{PastLimit}
 use Rattle.asm_lang_valid.specs.declared.rule.Met.{Met}
 use Rattle.asm_lang_valid.specs.Scope.{is_in, init_meaning}
@@ -14,10 +14,10 @@ use Rattle.asm_lang_valid.specs.Typed.{scope_of}
 use Rattle.asm_lang_valid.specs.Rows.{need, first, functions_at, tables_at, body_at, function_count}
 use Rattle.asm_lang_valid.specs.NameRows.{name_rows}
 use Rattle.asm_lang_valid.specs.TypeRows.{type_rows}
-use Rattle.asm_lang_valid.specs.LimitRows.{ForeignCall, Mark, rows_of, is_among, counted, member_length, globals_marks, names_marks, stmts_marks, function_marks, functions_marks, tables_marks, marks, limit_rows, foreign_calls, most_functions, most_params, most_locals, most_globals, most_foreign_calls, most_members, most_entries, longest_name}
+use Rattle.asm_lang_valid.specs.LimitRows.{ForeignCall, Mark, rows_of, is_among, counted, member_length, globals_marks, names_marks, stmts_marks, function_marks, functions_marks, tables_marks, marks, limit_rows, foreign_calls, most_functions, most_params, most_locals, most_globals, most_members, most_entries, longest_name}
 use Rattle.asm_lang_valid.specs.Refusal.{IsAccepted, with_global, global_imports, foreign_globals}
 use Rattle.asm2wasm_laws_within.specs.Uses.{AllUses}
-use Rattle.asm2wasm_laws_within.specs.Within.{members, FunctionIsWithin, CallIsWithin, IsWithin}
+use Rattle.asm2wasm_laws_within.specs.Within.{members, FunctionIsWithin, CallIsWithin}
 use Rattle.asm2wasm_laws_within.specs.Laws.{AcceptedAreWithin, ForeignNamesAreShort, UsesAreListed}
 use Rattle.asm2wasm_laws_within.proofs.Marks.{NoRows, rows_split, rows_none, few_calls, held, uses_split, distinct_all, all_listed}
 use Rattle.asm2wasm_laws_within.proofs.Names.{named_holds, ForeignIsShort, foreign_plainly, init_short}

@@ -8,7 +8,7 @@ use Rattle.asm_lang_valid.specs.Typing.{named, same}
 use Rattle.asm_lang_valid.specs.Typed.{scope_of}
 use Rattle.asm_lang_valid.specs.LimitRows.{ForeignCall, Mark, stmts_marks, is_same, foreign_calls, most_params, longest_name}
 use Rattle.asm_lang_valid.specs.Refusal.{IsAccepted, has_heap}
-use Rattle.asm2wasm_laws_within.specs.Uses.{AllUses, AllListed}
+use Rattle.asm2wasm_laws_within.specs.Uses.{AllListed}
 use Rattle.asm2wasm_laws_within.specs.Within.{IsWithin}
 
 abbrev pub AcceptedAreWithin : Type 0

@@ -1,5 +1,5 @@
 -- The calls of foreign functions among the marks of an expression, a statement or a module.
-use Rattle.std.specs.Prelude.{◌≡◌, ℕ, true, List, [], ◌∷◌}
+use Rattle.std.specs.Prelude.{◌≡◌, true, List, [], ◌∷◌}
 use Rattle.asm_lang_valid.specs.LimitRows.{ForeignCall, Mark, a_row, a_use, is_among}
 
 -- each of them has this property
