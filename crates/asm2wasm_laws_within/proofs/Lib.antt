@@ -1,5 +1,5 @@
-mod Marks
-mod Names
-mod Uses
-mod Within
-mod Signatures
+pub mod Marks
+pub mod Names
+pub mod Uses
+pub mod Within
+pub mod Signatures

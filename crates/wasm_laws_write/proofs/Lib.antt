@@ -1,5 +1,5 @@
-mod Numbers
-mod Parts
-mod Written
-mod Modules
-mod Short
+pub mod Numbers
+pub mod Parts
+pub mod Written
+pub mod Modules
+pub mod Short
