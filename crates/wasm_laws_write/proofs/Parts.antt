@@ -142,12 +142,9 @@ pub always : {X : Type 0} (xs : List X) → AllByRecursion Always xs
 always [] = tt
 always (x ∷ xs) = (tt, always xs)
 
-value_spelled : (t : ValType) → Spelled (IsValType t) (value_type t)
+pub value_spelled : (t : ValType) → Spelled (IsValType t) (value_type t)
 value_spelled I32 = one_byte (IsValType I32) 0x7f (omega arith) (λ us. i32_type)
 value_spelled I64 = one_byte (IsValType I64) 0x7e (omega arith) (λ us. i64_type)
-
-pub type_of_value_spelled : (t : ValType) → Spelled (IsValType t) (value_type t)
-type_of_value_spelled = value_spelled
 
 block_spelled : (t : Option ValType) → Spelled (IsBlockType t) (block_type t)
 block_spelled None = one_byte (IsBlockType None) 0x40 (omega arith) (λ us. no_result)
@@ -217,11 +214,8 @@ plain_spelled (const32 word) fit = word_spelled 32 word (omega arith) fit
 plain_spelled (const64 word) fit = word_spelled 64 word (omega arith) fit
 plain_spelled p fit = record { spells = λ us. refl; bytes = tt }
 
-numbers_spelled : (ns : List ℕ) → All FitsU32 ns → length (vector unsigned ns) < 2 ^ 32 → Spelled (IsVec IsU32 ns) (vector unsigned ns)
+pub numbers_spelled : (ns : List ℕ) → All FitsU32 ns → length (vector unsigned ns) < 2 ^ 32 → Spelled (IsVec IsU32 ns) (vector unsigned ns)
 numbers_spelled ns fit h = vec_spelled IsU32 unsigned FitsU32 some_number (λ n fit few. u32_spelled n fit) ns (each FitsU32 ns fit) h
-
-pub vector_of_numbers_spelled : (ns : List ℕ) → All FitsU32 ns → length (vector unsigned ns) < 2 ^ 32 → Spelled (IsVec IsU32 ns) (vector unsigned ns)
-vector_of_numbers_spelled = numbers_spelled
 
 branches_spelled : (ls : List ℕ) (l : ℕ) → All FitsU32 ls → FitsU32 l → length (vector unsigned ls ++ unsigned l) < 2 ^ 32 → Spelled (AreImmediates (br_table ls l)) (vector unsigned ls ++ unsigned l)
 branches_spelled ls l fits fit h =
