@@ -1,18 +1,15 @@
 -- From the instructions of a tree to those of its spelling.
-use Rattle.std.proofs.Common.{◌≡◌, ℕ, ◌+◌, ◌*◌, ◌≤◌, List, [], ◌∷◌, ◌++◌, length, refl, sym, ap, ◌∙◌, subst, arith}
-use Rattle.std.specs.Prelude.{All}
+use Rattle.std.proofs.Common.{◌≡◌, ◌+◌, List, [], ◌∷◌, ◌++◌, refl, arith}
 use Rattle.std.specs.List.{AllByRecursion}
 use Rattle.std.proofs.lemmas.List.Elements.{All-from_recursion}
-use Rattle.wasm_lang.specs.Instructions as instructions
 use Rattle.wasm_lang.specs.Instructions.{Instruction, else_mark, end_mark}
 use Rattle.wasm_lang.specs.Opcodes.{form_at}
 use Rattle.wasm_lang.specs.Shape.{HasOpcode}
 use Rattle.wasm_lang_exec.specs.Code.{unreachable, block, loop, if_block, br, br_if, br_table, return, call, call_indirect, plain, Trees, ε, ◌▹◌}
-use Rattle.wasm_binary_write.specs.Spelling.{items, instruction}
 use Rattle.wasm_laws_trees.specs.Spelled.{after_else, flat, closed, else_size, size}
 use Rattle.wasm_laws_trees.specs.Laws.{IsWellNested}
 use Rattle.wasm_laws_write.specs.Fits.{InstructionFits}
-use Rattle.wasm_laws_write.specs.Lengths.{instruction_size, code_size, IsNarrow}
+use Rattle.wasm_laws_write.specs.Lengths.{code_size, IsNarrow}
 use Rattle.wasm_laws_write.proofs.Short.{code_is_short, narrow_fit}
 use Rattle.wasm_laws_bytes.specs.Each.{EachIn}
 use Rattle.wasm_laws_bytes.specs.Laws.{SizesAgree, TreesAreShort, TreesAreShaped, NarrowTreesFit, EachJoins}
