@@ -1,4 +1,5 @@
-mod Numbers
-mod Parts
-mod Entries
-mod Modules
+pub mod Numbers
+pub mod Parts
+pub mod Written
+pub mod Modules
+pub mod Short

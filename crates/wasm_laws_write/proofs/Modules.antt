@@ -1,13 +1,12 @@
 -- A shaped module whose numbers and sections fit is spelled.
-use Rattle.std.proofs.Common.{◌≡◌, ℕ, ◌^◌, ◌<◌, List, [], ◌∷◌, ◌++◌, length, Option, None, Some, refl, sym, subst, arith, append-nil, length-append}
+use Rattle.std.proofs.Common.{ℕ, ◌^◌, ◌<◌, List, [], ◌∷◌, ◌++◌, length, Option, None, Some, refl, subst, arith, append-nil}
 use Rattle.std.specs.Prelude.{All}
 use Rattle.std.specs.List.{AllByRecursion}
 use Rattle.std.specs.Str.{IsUtf8}
 use Rattle.std.proofs.lemmas.List.Elements.{All-nil, All-cons}
-use Rattle.wasm_lang.specs.Modules.{WasmModule}
 use Rattle.wasm_lang.specs.Numbers.{IsU32}
-use Rattle.wasm_lang.specs.Shape.{IsShaped, IsShapedCode}
-use Rattle.wasm_lang.specs.Grammar.{Spelling, IsVec, IsSized, no_custom, IsSection, no_section, section, IsNumberSection, no_number, number, IsFunctionType, IsImport, IsTable, IsLimits, IsGlobal, IsExport, IsElement, IsFunctionBody, IsSegment, header, IsModuleBytes}
+use Rattle.wasm_lang.specs.Shape.{IsShapedCode}
+use Rattle.wasm_lang.specs.Grammar.{Spelling, IsVec, IsSized, no_custom, IsSection, no_section, section, IsNumberSection, no_number, number, IsFunctionType, IsImport, IsTable, IsLimits, IsGlobal, IsExport, IsElement, IsFunctionBody, IsSegment, header}
 use Rattle.wasm_binary_write.specs.Spelling.{unsigned, vector, sized, function_type, imported, table, limits, global, exported, element, body, segment, start_section, spelling}
 use Rattle.wasm_binary_write.specs.Spelling as own
 use Rattle.wasm_binary_write.proofs.Best.{AreBytes, bytes_append}
@@ -15,7 +14,7 @@ use Rattle.wasm_laws_write.specs.Fits.{FitsU32, InstructionFits, OptionFits, Lim
 use Rattle.wasm_laws_write.specs.Laws.{FittingAreWritable}
 use Rattle.wasm_laws_write.proofs.Numbers.{Spelled, Writes, u32_spelled, number_short}
 use Rattle.wasm_laws_write.proofs.Parts.{each, both, NeverEmpty, some_number, some_sized, some_limits, vec_spelled, sized_part, sized_spelled, limits_spelled, table_spelled, Always, always, function_type_spelled, CodeFits}
-use Rattle.wasm_laws_write.proofs.Entries.{ImportIsNamed, import_spelled, some_import, ExportIsNamed, export_spelled, some_export, global_spelled, some_global, element_spelled, some_element, segment_spelled, some_segment, body_spelled}
+use Rattle.wasm_laws_write.proofs.Written.{ImportIsNamed, import_spelled, some_import, ExportIsNamed, export_spelled, some_export, global_spelled, some_global, element_spelled, some_element, segment_spelled, some_segment, body_spelled}
 
 section_spelled : {X : Type 0} (id : ℕ) (P : Spelling X) (f : X → List ℕ) (Fits : X → Type 0) → id < 256 → NeverEmpty f → Writes P f Fits → (vs : List X) → AllByRecursion Fits vs → length (vector f vs) < 2 ^ 32 → Spelled (IsSection id P vs) (own.section id f vs)
 section_spelled id P f Fits small some one [] fit h = record { spells = λ us. no_section no_custom; bytes = tt }

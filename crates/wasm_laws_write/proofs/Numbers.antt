@@ -130,20 +130,17 @@ word_spelled bits n p h =
 
 -- ---- how long a number is
 
-short_last : (n : ℕ) → n < 128 → length (unsigned n) ≤ 1
-short_last n h = omega (arith, ap length (groups_last 128 false n h))
+pub low_number_short : (n : ℕ) → n < 128 → length (unsigned n) ≤ 1
+low_number_short n h = omega (arith, ap length (groups_last 128 false n h))
 
 short_more : (k bound n : ℕ) → ((q : ℕ) → q < bound → length (unsigned q) ≤ k) → n < 128 * bound → length (unsigned n) ≤ 1 + k
 short_more k bound n below h =
     elim (cases_lt n 128) [
-      | inl small ↦ omega (arith, short_last n small)
+      | inl small ↦ omega (arith, low_number_short n small)
       | inr large ↦ (let q : n / 128 < bound = omega arith in omega (arith, ap length (groups_more 128 false n (omega arith) large), below (n / 128) q))
     ]
-
-pub low_number_short : (n : ℕ) → n < 128 → length (unsigned n) ≤ 1
-low_number_short = short_last
 
 pub number_short : (n : ℕ) → n < 2 ^ 32 → length (unsigned n) ≤ 5
 number_short n h =
     short_more 4 268435456 n
-    (λ q l. short_more 3 2097152 q (λ q l. short_more 2 16384 q (λ q l. short_more 1 128 q short_last (omega arith)) (omega arith)) (omega arith)) (omega arith)
+    (λ q l. short_more 3 2097152 q (λ q l. short_more 2 16384 q (λ q l. short_more 1 128 q low_number_short (omega arith)) (omega arith)) (omega arith)) (omega arith)

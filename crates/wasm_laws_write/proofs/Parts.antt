@@ -1,5 +1,5 @@
 -- Vectors, names, types and instructions are spelled.
-use Rattle.std.proofs.Common.{◌≡◌, ℕ, zero, suc, ◌+◌, ◌-◌, ◌/◌, ◌%◌, ◌^◌, ◌<◌, ◌≤◌, Bool, true, false, List, [], ◌∷◌, ◌++◌, length, Option, Some, None, refl, sym, ap, subst, ◌∙◌, arith, inl, inr, append_assoc, append-nil, length-append}
+use Rattle.std.proofs.Common.{◌≡◌, ℕ, suc, ◌^◌, ◌<◌, ◌≤◌, Bool, true, false, List, [], ◌∷◌, ◌++◌, length, Option, Some, None, refl, sym, ap, subst, arith, inl, inr, append_assoc, append-nil, length-append}
 use Rattle.std.specs.Prelude.{All, nat_lt, ◌&&◌}
 use Rattle.std.specs.List.{AllByRecursion}
 use Rattle.std.proofs.lemmas.List.Elements.{All-head, All-tail}
@@ -13,7 +13,6 @@ use Rattle.wasm_lang.specs.declared.types.ValType.TheVariants.{I32, I64}
 use Rattle.wasm_lang.specs.declared.types.Limits.{Limits}
 use Rattle.wasm_lang.specs.declared.types.GlobalType.{GlobalType}
 use Rattle.wasm_lang.specs.Instructions.{Plain, local_get, local_set, local_tee, global_get, global_set, load, store, memory_size, memory_copy, memory_fill, const32, const64, Instruction, block, loop, if_block, br, br_if, br_table, call, call_indirect, plain}
-use Rattle.wasm_lang.specs.Modules.{FunctionType}
 use Rattle.wasm_lang.specs.Numbers.{last_unsigned, IsU32}
 use Rattle.wasm_lang.specs.Opcodes.{opcodes, form_at, form_of, IsOpcode}
 use Rattle.wasm_lang.specs.Shape.{HasOpcode, IsShapedCode}
@@ -143,12 +142,9 @@ pub always : {X : Type 0} (xs : List X) → AllByRecursion Always xs
 always [] = tt
 always (x ∷ xs) = (tt, always xs)
 
-value_spelled : (t : ValType) → Spelled (IsValType t) (value_type t)
+pub value_spelled : (t : ValType) → Spelled (IsValType t) (value_type t)
 value_spelled I32 = one_byte (IsValType I32) 0x7f (omega arith) (λ us. i32_type)
 value_spelled I64 = one_byte (IsValType I64) 0x7e (omega arith) (λ us. i64_type)
-
-pub type_of_value_spelled : (t : ValType) → Spelled (IsValType t) (value_type t)
-type_of_value_spelled = value_spelled
 
 block_spelled : (t : Option ValType) → Spelled (IsBlockType t) (block_type t)
 block_spelled None = one_byte (IsBlockType None) 0x40 (omega arith) (λ us. no_result)
@@ -218,11 +214,8 @@ plain_spelled (const32 word) fit = word_spelled 32 word (omega arith) fit
 plain_spelled (const64 word) fit = word_spelled 64 word (omega arith) fit
 plain_spelled p fit = record { spells = λ us. refl; bytes = tt }
 
-numbers_spelled : (ns : List ℕ) → All FitsU32 ns → length (vector unsigned ns) < 2 ^ 32 → Spelled (IsVec IsU32 ns) (vector unsigned ns)
+pub numbers_spelled : (ns : List ℕ) → All FitsU32 ns → length (vector unsigned ns) < 2 ^ 32 → Spelled (IsVec IsU32 ns) (vector unsigned ns)
 numbers_spelled ns fit h = vec_spelled IsU32 unsigned FitsU32 some_number (λ n fit few. u32_spelled n fit) ns (each FitsU32 ns fit) h
-
-pub vector_of_numbers_spelled : (ns : List ℕ) → All FitsU32 ns → length (vector unsigned ns) < 2 ^ 32 → Spelled (IsVec IsU32 ns) (vector unsigned ns)
-vector_of_numbers_spelled = numbers_spelled
 
 branches_spelled : (ls : List ℕ) (l : ℕ) → All FitsU32 ls → FitsU32 l → length (vector unsigned ls ++ unsigned l) < 2 ^ 32 → Spelled (AreImmediates (br_table ls l)) (vector unsigned ls ++ unsigned l)
 branches_spelled ls l fits fit h =

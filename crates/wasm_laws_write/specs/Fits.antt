@@ -1,12 +1,12 @@
 -- Which numbers and sections the binary format has room for (sections 5.2.2, 5.4 and 5.5).
-use Rattle.std.specs.Prelude.{ℕ, ◌^◌, ◌<◌, List, length, All, Option, Some, None}
+use Rattle.std.specs.Prelude.{ℕ, ◌^◌, ◌<◌, length, All, Option, Some, None}
 use Rattle.wasm_lang.specs.declared.types.Limits.{Limits}
 use Rattle.wasm_lang.specs.declared.types.ImportKind.{ImportKind}
 use Rattle.wasm_lang.specs.declared.types.ImportKind.TheVariants as imports
 use Rattle.wasm_lang.specs.declared.types.ExportKind.{ExportKind}
 use Rattle.wasm_lang.specs.declared.types.ExportKind.TheVariants as exports
 use Rattle.wasm_lang.specs.Instructions.{Plain, local_get, local_set, local_tee, global_get, global_set, load, store, const32, const64, Instruction, br, br_if, br_table, call, call_indirect, plain}
-use Rattle.wasm_lang.specs.Modules.{Imported, GlobalEntry, Exported, ElementSegment, DataSegment, FunctionBody, WasmModule}
+use Rattle.wasm_lang.specs.Modules.{ElementSegment, DataSegment, FunctionBody, WasmModule}
 use Rattle.wasm_binary_write.specs.Spelling.{unsigned, vector, sized, function_type, imported, table, limits, global, exported, element, body, segment}
 
 -- an unsigned number of 32 bits

@@ -1,2 +1,3 @@
 pub mod Fits
+pub mod Lengths
 pub mod Laws

@@ -1,7 +1,5 @@
 -- What sections hold is spelled.
 use Rattle.std.proofs.Common.{◌≡◌, ℕ, zero, suc, ◌+◌, ◌^◌, ◌<◌, ◌≤◌, Bool, true, false, List, [], ◌∷◌, ◌++◌, length, replicate, refl, sym, ap, subst, ◌∙◌, arith, length-append}
-use Rattle.std.specs.Prelude.{All}
-use Rattle.std.specs.List.{AllByRecursion}
 use Rattle.std.specs.Str.{IsUtf8}
 use Rattle.std.proofs.lemmas.Bool.{false≢true}
 use Rattle.wasm_lang.specs.declared.types.ValType.{ValType}
@@ -10,16 +8,15 @@ use Rattle.wasm_lang.specs.declared.types.ImportKind.{ImportKind}
 use Rattle.wasm_lang.specs.declared.types.ImportKind.TheVariants as imports
 use Rattle.wasm_lang.specs.declared.types.ExportKind.{ExportKind}
 use Rattle.wasm_lang.specs.declared.types.ExportKind.TheVariants as exports
-use Rattle.wasm_lang.specs.Instructions.{Instruction}
-use Rattle.wasm_lang.specs.Modules.{Imported, GlobalEntry, Exported, ElementSegment, DataSegment, FunctionBody}
+use Rattle.wasm_lang.specs.Modules.{Imported, Exported}
 use Rattle.wasm_lang.specs.Numbers.{IsU32}
 use Rattle.wasm_lang.specs.Shape.{IsShapedCode}
 use Rattle.wasm_lang.specs.Grammar.{Items, no_item, item, IsVec, IsBytes, IsName, IsValType, IsCode, IsGlobalType, IsTable, IsLimits, IsImportKind, function_import, table_import, memory_import, global_import, IsImport, an_import, IsGlobal, a_global, IsExportKind, function_export, table_export, memory_export, global_export, IsExport, an_export, IsElement, an_element, locals_of, IsRun, a_run, IsFunctionBody, a_body, IsSegment, a_segment}
 use Rattle.wasm_binary_write.specs.Spelling.{unsigned, items, vector, sized, value_type, table, limits, import_kind, imported, global, export_kind, exported, element, same_type, runs_from, runs, run, body, segment}
 use Rattle.wasm_binary_write.specs.Spelling as own
-use Rattle.wasm_laws_write.specs.Fits.{FitsU32, InstructionFits, ImportFits, ExportFits, ElementFits, SegmentFits, BodyFits}
+use Rattle.wasm_laws_write.specs.Fits.{ImportFits, ExportFits, ElementFits, SegmentFits, BodyFits}
 use Rattle.wasm_laws_write.proofs.Numbers.{Spelled, Writes, two, behind_byte, u32_spelled}
-use Rattle.wasm_laws_write.proofs.Parts.{NeverEmpty, some_number, some_front, some_sized, some_value, bytes_from, items_spelled, bytes_spelled, name_spelled, type_of_value_spelled, limits_spelled, table_spelled, global_type_spelled, vector_of_numbers_spelled, CodeFits, code_spelled}
+use Rattle.wasm_laws_write.proofs.Parts.{NeverEmpty, some_number, some_front, some_sized, some_value, bytes_from, bytes_spelled, name_spelled, value_spelled, limits_spelled, table_spelled, global_type_spelled, numbers_spelled, CodeFits, code_spelled}
 
 -- ---- imports and exports
 
@@ -87,7 +84,7 @@ element_spelled e fit h =
     let parts = length-append (unsigned e.table) (code ++ fs) in
     let more = length-append code fs in
     let c = code_spelled e.offset (fit.0, fit.1.offset) (omega arith) in
-    let f = vector_of_numbers_spelled e.functions fit.1.functions (omega arith) in
+    let f = numbers_spelled e.functions fit.1.functions (omega arith) in
     two (IsU32 e.table) (Then (IsCode e.offset) (IsVec IsU32 e.functions)) (IsElement e) (unsigned e.table) (code ++ fs) (u32_spelled e.table fit.1.table)
     (both_then (IsCode e.offset) (IsVec IsU32 e.functions) code fs c f) (λ us p t. an_element p t.1 t.2)
 
@@ -147,7 +144,7 @@ locals_again [] = refl
 locals_again (u ∷ us) = locals_from us 1 u
 
 run_spelled : (n : ℕ) (t : ValType) → n < 2 ^ 32 → Spelled (IsRun (n, t)) (run (n, t))
-run_spelled n t h = two (IsU32 n) (IsValType t) (IsRun (n, t)) (unsigned n) (value_type t) (u32_spelled n h) (type_of_value_spelled t) (λ us p q. a_run p q)
+run_spelled n t h = two (IsU32 n) (IsValType t) (IsRun (n, t)) (unsigned n) (value_type t) (u32_spelled n h) (value_spelled t) (λ us p q. a_run p q)
 
 one_more : (n : ℕ) (t : ValType) (rs : List (ℕ × ValType)) → n < 2 ^ 32 → Spelled (Items IsRun rs) (items run rs) → Spelled (Items IsRun ((n, t) ∷ rs)) (items run ((n, t) ∷ rs))
 one_more n t rs h s = two (IsRun (n, t)) (Items IsRun rs) (Items IsRun ((n, t) ∷ rs)) (run (n, t)) (items run rs) (run_spelled n t h) s (λ us p q. item p q)

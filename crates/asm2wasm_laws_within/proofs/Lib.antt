@@ -1,0 +1,5 @@
+pub mod Marks
+pub mod Names
+pub mod Uses
+pub mod Within
+pub mod Signatures

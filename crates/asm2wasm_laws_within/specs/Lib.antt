@@ -1,0 +1,3 @@
+pub mod Uses
+pub mod Within
+pub mod Laws
