@@ -1,6 +1,6 @@
--- What a text breaks, as it is printed: with its number.
+-- What a text breaks, by number and name, as it is printed.
 use Rattle.std.specs.Prelude.{ℕ, List, codes}
-use Rattle.asm_lang_valid.specs.RuleNames.{rule_name}
+use Rattle.asm_lang_valid.specs.RuleNames.{rule_name, rule_number}
 use Rattle.cmd_check_asm.specs.declared.fault.AsmRow.{AsmRow}
 use Rattle.cmd_check_asm.specs.declared.fault.AsmRow.TheVariants as rows
 
@@ -13,3 +13,13 @@ row_name rows.Grammar = codes "A5 Grammar"
 row_name rows.NoUseAsm = codes "A6 NoUseAsm"
 row_name rows.Height = codes "A7 Height"
 row_name (rows.Rule rule) = rule_name rule
+
+abbrev pub row_number : AsmRow → ℕ
+row_number rows.NonAscii = 1
+row_number rows.BadToken = 2
+row_number rows.OpenComment = 3
+row_number rows.LiteralForm = 4
+row_number rows.Grammar = 5
+row_number rows.NoUseAsm = 6
+row_number rows.Height = 7
+row_number (rows.Rule rule) = rule_number rule

@@ -11,4 +11,4 @@ pub use checking::check_text;
 pub use counting::{counts, counts_line};
 pub use fault::{AsmRow, CheckFault};
 pub use laws::one_verdict_of_a_text;
-pub use names::row_name;
+pub use names::{row_name, row_number};

@@ -21,3 +21,19 @@ pub fn row_name(row: AsmRow) -> &'static str
         AsmRow::Rule(rule) => rule.name(),
     }
 }
+
+/// The number of what a text breaks, 1 to 24.
+pub fn row_number(row: AsmRow) -> u8
+    ensures { result ≡ names.row_number row }
+{
+    match row {
+        AsmRow::NonAscii => 1,
+        AsmRow::BadToken => 2,
+        AsmRow::OpenComment => 3,
+        AsmRow::LiteralForm => 4,
+        AsmRow::Grammar => 5,
+        AsmRow::NoUseAsm => 6,
+        AsmRow::Height => 7,
+        AsmRow::Rule(rule) => rule.number(),
+    }
+}
