@@ -1,0 +1,11 @@
+//! From WebAssembly to asm.js: the names of the result.
+#![tactic(auto)]
+
+ghost use Rattle.wasm2js_words.specs.Laws.{SpellingsDiffer, SpellingsAreUsable, RisingNamesAreNew};
+
+/// Names are told apart by their spellings, which may be declared.
+pub fn names()
+    ensures differ { SpellingsDiffer }
+    ensures usable { SpellingsAreUsable }
+    ensures new { RisingNamesAreNew }
+{}
