@@ -5,6 +5,7 @@ use Rattle.asm_lang.specs.Lexemes.{identifier, class_of}
 use Rattle.asm_lang_valid.specs.Scope.{is_in}
 use Rattle.asm_lang_valid.specs.NameRows.{is_forbidden, is_forbidden_key}
 use Rattle.wasm2js_words.specs.Names.{Name, spelled, own_words, Rises}
+use Rattle.wasm2js_words.specs.Words.{Action, statements}
 
 -- different names have different spellings
 abbrev pub SpellingsDiffer : Type 0
@@ -24,3 +25,9 @@ SpellingsAreUsable = (n : Name) → IsUsable n
 -- in a list whose ranks rise no name is declared twice
 abbrev pub RisingNamesAreNew : Type 0
 RisingNamesAreNew = (earlier : List Name) (n : Name) (later : List Name) → Rises (earlier ++ n ∷ later) → is_in (spelled n) (map spelled earlier) ≡ false
+
+-- ---- straight code
+
+-- the statements of one piece of code after another
+abbrev pub StatementsJoin : Type 0
+StatementsJoin = (a b : List Action) → statements (a ++ b) ≡ statements a ++ statements b
