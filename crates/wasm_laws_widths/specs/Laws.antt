@@ -1,9 +1,9 @@
 -- The pass over a body goes over typed code as the types say, and what it counts of one part of a body bounds what it counts of another.
-use Rattle.std.specs.Prelude.{◌≡◌, ◌≤◌, List, ◌∷◌, ◌++◌, Option, Ok}
+use Rattle.std.specs.Prelude.{Bool, ◌≡◌, ◌≤◌, List, ◌∷◌, ◌++◌, Option, Ok}
 use Rattle.wasm_lang.specs.declared.types.ValType.{ValType}
 use Rattle.wasm_lang.specs.Instructions.{Instruction}
-use Rattle.wasm_lang_valid.specs.Typing.{Context, Typed, listed}
-use Rattle.wasm_lang_valid.specs.State.{Level, around, known, closes, steps}
+use Rattle.wasm_lang_valid.specs.Typing.{Context, Typed, listed, Shape, Leaves, Acts}
+use Rattle.wasm_lang_valid.specs.State.{Level, around, known, acted, closes, steps}
 use Rattle.wasm_lang_valid.specs.Measures.{standing, peak}
 
 -- the pass goes over the code in the innermost of these blocks, and leaves the outer ones as they are; where the code leaves a block's
@@ -29,3 +29,14 @@ PeakIsKept =
 -- what stands before an instruction counts
 abbrev pub PeakIsAbove : Type 0
 PeakIsAbove = (base : Context) (i : Instruction) (code : List Instruction) (ls : List Level) → standing ls ≤ peak base ls (i ∷ code)
+
+-- an instruction of this shape has code after it that is reached
+abbrev pub ComesBack : Shape → Type 0
+ComesBack (Leaves takes) = ⊥
+ComesBack _ = Unit {0}
+
+-- where the types of all operands are known, those of what such an instruction leaves are too
+abbrev pub OperandsStayKnown : Type 0
+OperandsStayKnown =
+    (s : Shape) (takes gives below : List ValType) (endless : Bool) → Acts s takes gives → ComesBack s
+    → acted s endless (known (takes ++ below)) ≡ Ok (endless, known (gives ++ below))
