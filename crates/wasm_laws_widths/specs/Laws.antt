@@ -1,0 +1,42 @@
+-- The pass over a body goes over typed code as the types say, and what it counts of one part of a body bounds what it counts of another.
+use Rattle.std.specs.Prelude.{Bool, ◌≡◌, ◌≤◌, List, ◌∷◌, ◌++◌, Option, Ok}
+use Rattle.wasm_lang.specs.declared.types.ValType.{ValType}
+use Rattle.wasm_lang.specs.Instructions.{Instruction}
+use Rattle.wasm_lang_valid.specs.Typing.{Context, Typed, listed, Shape, Leaves, Acts}
+use Rattle.wasm_lang_valid.specs.State.{Level, around, known, acted, closes, steps}
+use Rattle.wasm_lang_valid.specs.Measures.{standing, peak}
+
+-- the pass goes over the code in the innermost of these blocks, and leaves the outer ones as they are; where the code leaves a block's
+-- result, the block may be closed
+pub record Passes (base : Context) (l : Level) (ls : List Level) (code : List Instruction) (after : List ValType) : Type 0 where
+  pub last : Level
+  pub goes_on : steps base (l ∷ ls) code ≡ Ok (last ∷ ls)
+  pub same_opening : last.opening ≡ l.opening
+  pub same_result : last.result ≡ l.result
+  pub closes : (r : Option ValType) → after ≡ listed r → closes r last.endless last.operands ≡ Ok tt
+
+-- from a block whose operands have the types that the code takes, whether or not its stack is open below
+abbrev pub TypedCodePasses : Type 0
+TypedCodePasses =
+    (base c : Context) (code : List Instruction) (before after : List ValType) → Typed c code before after
+    → (l : Level) (ls : List Level) → around base (l ∷ ls) ≡ c → l.operands ≡ known before → Passes base l ls code after
+
+-- what stands in the further code stands in the whole
+abbrev pub PeakIsKept : Type 0
+PeakIsKept =
+    (base : Context) (code rest : List Instruction) (ls next : List Level) → steps base ls code ≡ Ok next → peak base next rest ≤ peak base ls (code ++ rest)
+
+-- what stands before an instruction counts
+abbrev pub PeakIsAbove : Type 0
+PeakIsAbove = (base : Context) (i : Instruction) (code : List Instruction) (ls : List Level) → standing ls ≤ peak base ls (i ∷ code)
+
+-- an instruction of this shape has code after it that is reached
+abbrev pub ComesBack : Shape → Type 0
+ComesBack (Leaves takes) = ⊥
+ComesBack _ = Unit {0}
+
+-- where the types of all operands are known, those of what such an instruction leaves are too
+abbrev pub OperandsStayKnown : Type 0
+OperandsStayKnown =
+    (s : Shape) (takes gives below : List ValType) (endless : Bool) → Acts s takes gives → ComesBack s
+    → acted s endless (known (takes ++ below)) ≡ Ok (endless, known (gives ++ below))
