@@ -1,0 +1,2 @@
+pub mod SmallValues
+pub mod SmallBodies

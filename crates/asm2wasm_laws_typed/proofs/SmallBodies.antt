@@ -1,0 +1,2 @@
+-- How many instructions the code of statements and functions has.
+use Rattle.std.proofs.Common.{◌≡◌, ℕ, ◌+◌, ◌*◌, ◌≤◌, arith}

@@ -1,0 +1,21 @@
+-- What holds of the code of bodies.
+use Rattle.std.specs.Prelude.{ℕ, ◌+◌, ◌*◌, ◌≤◌, Bool, List}
+use Rattle.wasm_laws_trees.specs.Spelled.{size}
+use Rattle.asm_lang.specs.Modules.{Expr, Stmt}
+use Rattle.asm_lang_valid.specs.Rows.{expr_count, stmt_count, function_count}
+use Rattle.asm_lang_valid.specs.Typing.{Scope}
+use Rattle.asm_laws_counts.specs.Counts.{stmt_clauses, body_clauses}
+use Rattle.asm2wasm_code.specs.Values.{expr_code}
+use Rattle.asm2wasm_code.specs.Bodies.{Label, stmt_code, function_code}
+
+-- ---- instructions, where the heap has `heap` bytes
+
+abbrev pub ExpressionsAreSmall : Type 0
+ExpressionsAreSmall = (heap : ℕ) (c : Scope) (wanted : Bool) (d : ℕ) (e : Expr) → size (expr_code heap c wanted d e) ≤ 14 * expr_count e
+
+abbrev pub StatementsAreSmall : Type 0
+StatementsAreSmall = (heap : ℕ) (c : Scope) (ls : List Label) (own : List (List ℕ)) (s : Stmt) → size (stmt_code heap c ls own s) ≤ 14 * (stmt_count s + stmt_clauses s)
+
+-- .. of a function: its parameters and locals are nodes too
+abbrev pub FunctionsAreSmall : Type 0
+FunctionsAreSmall = (heap : ℕ) (c : Scope) → size (function_code heap c) ≤ 14 * (function_count c.within + body_clauses c.within.body)
