@@ -29,7 +29,7 @@ pub plains_size : (ps : List Plain) → size (plains ps) ≡ length ps
 plains_size [] = omega arith
 plains_size (p ∷ ps) = let h = plains_size ps in omega (arith, h)
 
-else_small : (t : Trees) → else_size t (size t) ≤ 1 + size t
+pub else_small : (t : Trees) → else_size t (size t) ≤ 1 + size t
 else_small ε = omega arith
 else_small (x ▹ xs) = omega arith
 
@@ -127,7 +127,7 @@ finished_small : (wanted : Bool) (t : Trees) (n : ℕ) → size t + 5 ≤ n → 
 finished_small true t n h = omega (arith, h)
 finished_small false t n h = omega (arith, h, sizes_add t (one drop_operand))
 
-either_small : (b : Bool) (x y : Trees) (n k : ℕ) → size x + k ≤ n → size y + k ≤ n → size (if b then x else y) + k ≤ n
+pub either_small : (b : Bool) (x y : Trees) (n k : ℕ) → size x + k ≤ n → size y + k ≤ n → size (if b then x else y) + k ≤ n
 either_small true x y n k h i = h
 either_small false x y n k h i = i
 
