@@ -1,2 +1,5 @@
 pub mod SmallValues
 pub mod SmallBodies
+pub mod FlatValues
+pub mod FlatBodies
+pub mod ReachValues

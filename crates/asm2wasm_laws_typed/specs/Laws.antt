@@ -1,12 +1,15 @@
 -- What holds of the code of bodies.
 use Rattle.std.specs.Prelude.{ℕ, ◌+◌, ◌*◌, ◌≤◌, Bool, List}
-use Rattle.wasm_laws_trees.specs.Spelled.{size}
+use Rattle.wasm_laws_trees.specs.Spelled.{size, tree_levels, reach}
+use Rattle.asm_lang.specs.Heights.{expr_height, stmt_heights, stmts_height, function_height}
 use Rattle.asm_lang.specs.Modules.{Expr, Stmt}
 use Rattle.asm_lang_valid.specs.Rows.{expr_count, stmt_count, function_count}
 use Rattle.asm_lang_valid.specs.Typing.{Scope}
 use Rattle.asm_laws_counts.specs.Counts.{stmt_clauses, body_clauses}
+use Rattle.asm2wasm_code.specs.Numbers.{first_scratch}
 use Rattle.asm2wasm_code.specs.Values.{expr_code}
 use Rattle.asm2wasm_code.specs.Bodies.{Label, stmt_code, function_code}
+use Rattle.asm2wasm_laws_typed.specs.Labels.{HasJoinedLabels, HaveJoinedLabels}
 
 -- ---- instructions, where the heap has `heap` bytes
 
@@ -19,3 +22,21 @@ StatementsAreSmall = (heap : ℕ) (c : Scope) (ls : List Label) (own : List (Lis
 -- .. of a function: its parameters and locals are nodes too
 abbrev pub FunctionsAreSmall : Type 0
 FunctionsAreSmall = (heap : ℕ) (c : Scope) → size (function_code heap c) ≤ 14 * (function_count c.within + body_clauses c.within.body)
+
+-- ---- blocks that are open at once
+
+abbrev pub ExpressionsAreFlat : Type 0
+ExpressionsAreFlat = (heap : ℕ) (c : Scope) (wanted : Bool) (d : ℕ) (e : Expr) → tree_levels (expr_code heap c wanted d e) ≤ expr_height e
+
+-- a short switch has a block for each of at most 280 clauses and one more, and labels add one
+abbrev pub StatementsAreFlat : Type 0
+StatementsAreFlat =
+    (heap : ℕ) (c : Scope) (ls : List Label) (own : List (List ℕ)) (s : Stmt) → HasJoinedLabels s → tree_levels (stmt_code heap c ls own s) ≤ 282 * (stmt_heights s).height
+
+abbrev pub FunctionsAreFlat : Type 0
+FunctionsAreFlat = (heap : ℕ) (c : Scope) → HaveJoinedLabels c.within.body → tree_levels (function_code heap c) ≤ 282 * stmts_height c.within.body
+
+-- ---- locals: variables, and as many scratch locals as an expression is high
+
+abbrev pub ExpressionsReach : Type 0
+ExpressionsReach = (heap : ℕ) (c : Scope) (wanted : Bool) (d : ℕ) (e : Expr) → reach (expr_code heap c wanted d e) ≤ first_scratch c.within + d + expr_height e + 1

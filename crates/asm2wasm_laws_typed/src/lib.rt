@@ -1,11 +1,23 @@
 //! The code that bodies of asm.js are translated to: its size, its depth and locals, and its types.
 #![tactic(auto)]
 
-ghost use Rattle.asm2wasm_laws_typed.specs.Laws.{ExpressionsAreSmall, StatementsAreSmall, FunctionsAreSmall};
+ghost use Rattle.asm2wasm_laws_typed.specs.Laws.{ExpressionsAreSmall, StatementsAreSmall, FunctionsAreSmall, ExpressionsAreFlat, StatementsAreFlat, FunctionsAreFlat, ExpressionsReach};
 
 /// A body has at most 14 instructions for each node and clause.
 pub fn sizes()
     ensures expressions { ExpressionsAreSmall }
     ensures statements { StatementsAreSmall }
     ensures functions { FunctionsAreSmall }
+{}
+
+/// Blocks lie at most 282 deep for each level of the text.
+pub fn levels()
+    ensures expressions { ExpressionsAreFlat }
+    ensures statements { StatementsAreFlat }
+    ensures functions { FunctionsAreFlat }
+{}
+
+/// Beside the variables an expression names at most one local more than it is high.
+pub fn locals()
+    ensures expressions { ExpressionsReach }
 {}
