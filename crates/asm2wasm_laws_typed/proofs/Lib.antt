@@ -3,3 +3,4 @@ pub mod SmallBodies
 pub mod FlatValues
 pub mod FlatBodies
 pub mod ReachValues
+pub mod ReachBodies

@@ -40,3 +40,9 @@ FunctionsAreFlat = (heap : ℕ) (c : Scope) → HaveJoinedLabels c.within.body �
 
 abbrev pub ExpressionsReach : Type 0
 ExpressionsReach = (heap : ℕ) (c : Scope) (wanted : Bool) (d : ℕ) (e : Expr) → reach (expr_code heap c wanted d e) ≤ first_scratch c.within + d + expr_height e + 1
+
+abbrev pub StatementsReach : Type 0
+StatementsReach = (heap : ℕ) (c : Scope) (ls : List Label) (own : List (List ℕ)) (s : Stmt) → reach (stmt_code heap c ls own s) ≤ first_scratch c.within + (stmt_heights s).height + 1
+
+abbrev pub FunctionsReach : Type 0
+FunctionsReach = (heap : ℕ) (c : Scope) → reach (function_code heap c) ≤ first_scratch c.within + function_height c.within

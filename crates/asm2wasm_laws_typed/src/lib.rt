@@ -1,7 +1,7 @@
 //! The code that bodies of asm.js are translated to: its size, its depth and locals, and its types.
 #![tactic(auto)]
 
-ghost use Rattle.asm2wasm_laws_typed.specs.Laws.{ExpressionsAreSmall, StatementsAreSmall, FunctionsAreSmall, ExpressionsAreFlat, StatementsAreFlat, FunctionsAreFlat, ExpressionsReach};
+ghost use Rattle.asm2wasm_laws_typed.specs.Laws.{ExpressionsAreSmall, StatementsAreSmall, FunctionsAreSmall, ExpressionsAreFlat, StatementsAreFlat, FunctionsAreFlat, ExpressionsReach, StatementsReach, FunctionsReach};
 
 /// A body has at most 14 instructions for each node and clause.
 pub fn sizes()
@@ -17,7 +17,9 @@ pub fn levels()
     ensures functions { FunctionsAreFlat }
 {}
 
-/// Beside the variables an expression names at most one local more than it is high.
+/// Beside its variables a body names as many locals as it is high.
 pub fn locals()
     ensures expressions { ExpressionsReach }
+    ensures statements { StatementsReach }
+    ensures functions { FunctionsReach }
 {}
