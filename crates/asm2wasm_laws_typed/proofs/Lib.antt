@@ -4,3 +4,7 @@ pub mod FlatValues
 pub mod FlatBodies
 pub mod ReachValues
 pub mod ReachBodies
+pub mod Steps
+pub mod Known
+pub mod TypedPieces
+pub mod TypedValues

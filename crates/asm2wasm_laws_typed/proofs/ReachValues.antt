@@ -26,7 +26,7 @@ use Rattle.asm2wasm_laws_typed.specs.Laws.{ExpressionsReach}
 
 -- ---- pieces
 
-slot_below : (xs : List (List ℕ)) (n : List ℕ) → IfSome (slot_of xs n) (λ i. i < length xs)
+pub slot_below : (xs : List (List ℕ)) (n : List ℕ) → IfSome (slot_of xs n) (λ i. i < length xs)
 slot_below [] n = tt
 slot_below (x ∷ xs) n = by (bytes_eq x n) (slot_of xs n) (slot_below xs n)
   where
@@ -45,7 +45,7 @@ among_below imported n (Some i) p h = h
 among_below imported n None (Some j) h = tt
 among_below imported n None None h = tt
 
-local_count : (f : Function) → length (local_names f) ≡ first_scratch f
+pub local_count : (f : Function) → length (local_names f) ≡ first_scratch f
 local_count f =
     let joined = length-append (map (λ (p : Param). p.name) f.params) (map (λ (v : Variable). v.name) f.locals) in
     omega (arith, joined, length-map f.params (λ (p : Param). p.name), length-map f.locals (λ (v : Variable). v.name))

@@ -1,14 +1,21 @@
 -- What holds of the code of bodies.
-use Rattle.std.specs.Prelude.{ℕ, ◌+◌, ◌*◌, ◌≤◌, Bool, List}
+use Rattle.std.specs.Prelude.{◌≡◌, ℕ, ◌+◌, ◌*◌, ◌≤◌, Bool, true, false, List, ◌∷◌}
+use Rattle.std.specs.Option.{is_some}
+use Rattle.wasm_lang.specs.declared.types.ValType.{ValType}
+use Rattle.wasm_lang.specs.declared.types.ValType.TheVariants.{I32}
+use Rattle.wasm_lang_valid.specs.Typing.{Context}
+use Rattle.wasm_laws_sound.specs.Trees.{IsTyped}
 use Rattle.wasm_laws_trees.specs.Spelled.{size, tree_levels, reach}
 use Rattle.asm_lang.specs.Heights.{expr_height, stmt_heights, stmts_height, function_height}
 use Rattle.asm_lang.specs.Modules.{Expr, Stmt}
 use Rattle.asm_lang_valid.specs.Rows.{expr_count, stmt_count, function_count}
-use Rattle.asm_lang_valid.specs.Typing.{Scope}
+use Rattle.asm_lang_valid.specs.LimitRows.{expr_marks, call_marks, effect_marks}
+use Rattle.asm_lang_valid.specs.Typing.{Scope, type_of, call_fits, effect_fits}
 use Rattle.asm_laws_counts.specs.Counts.{stmt_clauses, body_clauses}
 use Rattle.asm2wasm_code.specs.Numbers.{first_scratch}
-use Rattle.asm2wasm_code.specs.Values.{expr_code}
+use Rattle.asm2wasm_code.specs.Values.{expr_code, void_code}
 use Rattle.asm2wasm_code.specs.Bodies.{Label, stmt_code, function_code}
+use Rattle.asm2wasm_laws_typed.specs.Contexts.{IsContextOf, AreListed}
 use Rattle.asm2wasm_laws_typed.specs.Labels.{HasJoinedLabels, HaveJoinedLabels}
 
 -- ---- instructions, where the heap has `heap` bytes
@@ -46,3 +53,29 @@ StatementsReach = (heap : ℕ) (c : Scope) (ls : List Label) (own : List (List �
 
 abbrev pub FunctionsReach : Type 0
 FunctionsReach = (heap : ℕ) (c : Scope) → reach (function_code heap c) ≤ first_scratch c.within + function_height c.within
+
+-- ---- types; the locals that the code names are there, and `at` is the number of the expression's node
+
+-- an int on the stack, where it is wanted
+abbrev pub given : Bool → List ValType → List ValType
+given true below = I32 ∷ below
+given false below = below
+
+abbrev pub ValuesAreTyped : Type 0
+ValuesAreTyped =
+    (heap : ℕ) (c : Scope) (room : ℕ) (w : Context) → IsContextOf c room w
+    → (wanted : Bool) (d at : ℕ) (e : Expr) → is_some (type_of c e) ≡ true → AreListed c.home (expr_marks c at e) → reach (expr_code heap c wanted d e) ≤ room
+    → (before : List ValType) → IsTyped w (expr_code heap c wanted d e) before (given wanted before)
+
+-- a call with a result, or without
+abbrev pub CallsAreTyped : Type 0
+CallsAreTyped =
+    (heap : ℕ) (c : Scope) (room : ℕ) (w : Context) → IsContextOf c room w
+    → (wanted : Bool) (d at : ℕ) (e : Expr) → call_fits c wanted e ≡ true → AreListed c.home (call_marks c wanted at e) → reach (expr_code heap c wanted d e) ≤ room
+    → (before : List ValType) → IsTyped w (expr_code heap c wanted d e) before (given wanted before)
+
+abbrev pub EffectsAreTyped : Type 0
+EffectsAreTyped =
+    (heap : ℕ) (c : Scope) (room : ℕ) (w : Context) → IsContextOf c room w
+    → (d at : ℕ) (e : Expr) → effect_fits c e ≡ true → AreListed c.home (effect_marks c at e) → reach (void_code heap c d e) ≤ room
+    → (before : List ValType) → IsTyped w (void_code heap c d e) before before

@@ -1,7 +1,7 @@
 //! The code that bodies of asm.js are translated to: its size, its depth and locals, and its types.
 #![tactic(auto)]
 
-ghost use Rattle.asm2wasm_laws_typed.specs.Laws.{ExpressionsAreSmall, StatementsAreSmall, FunctionsAreSmall, ExpressionsAreFlat, StatementsAreFlat, FunctionsAreFlat, ExpressionsReach, StatementsReach, FunctionsReach};
+ghost use Rattle.asm2wasm_laws_typed.specs.Laws.{ExpressionsAreSmall, StatementsAreSmall, FunctionsAreSmall, ExpressionsAreFlat, StatementsAreFlat, FunctionsAreFlat, ExpressionsReach, StatementsReach, FunctionsReach, ValuesAreTyped, CallsAreTyped, EffectsAreTyped};
 
 /// A body has at most 14 instructions for each node and clause.
 pub fn sizes()
@@ -22,4 +22,11 @@ pub fn locals()
     ensures expressions { ExpressionsReach }
     ensures statements { StatementsReach }
     ensures functions { FunctionsReach }
+{}
+
+/// Where an expression of asm.js has a type, its code leaves an int, or nothing where none is wanted.
+pub fn values()
+    ensures typed { ValuesAreTyped }
+    ensures calls { CallsAreTyped }
+    ensures effects { EffectsAreTyped }
 {}
