@@ -8,3 +8,5 @@ pub mod Steps
 pub mod Known
 pub mod TypedPieces
 pub mod TypedValues
+pub mod Opened
+pub mod TypedSwitches

@@ -1,21 +1,22 @@
 -- What holds of the code of bodies.
-use Rattle.std.specs.Prelude.{◌≡◌, ℕ, ◌+◌, ◌*◌, ◌≤◌, Bool, true, false, List, ◌∷◌}
+use Rattle.std.specs.Prelude.{◌≡◌, ℕ, ◌+◌, ◌*◌, ◌≤◌, Bool, true, false, List, [], ◌∷◌, if◌then◌else◌}
 use Rattle.std.specs.Option.{is_some}
 use Rattle.wasm_lang.specs.declared.types.ValType.{ValType}
 use Rattle.wasm_lang.specs.declared.types.ValType.TheVariants.{I32}
-use Rattle.wasm_lang_valid.specs.Typing.{Context}
+use Rattle.wasm_lang_valid.specs.Typing.{Context, IsValid}
 use Rattle.wasm_laws_sound.specs.Trees.{IsTyped}
-use Rattle.wasm_laws_trees.specs.Spelled.{size, tree_levels, reach}
+use Rattle.wasm_laws_trees.specs.Spelled.{closed, size, tree_levels, reach}
 use Rattle.asm_lang.specs.Heights.{expr_height, stmt_heights, stmts_height, function_height}
 use Rattle.asm_lang.specs.Modules.{Expr, Stmt}
 use Rattle.asm_lang_valid.specs.Rows.{expr_count, stmt_count, function_count}
-use Rattle.asm_lang_valid.specs.LimitRows.{expr_marks, call_marks, effect_marks}
-use Rattle.asm_lang_valid.specs.Typing.{Scope, type_of, call_fits, effect_fits}
+use Rattle.asm_lang_valid.specs.LimitRows.{expr_marks, call_marks, effect_marks, stmt_marks, stmts_marks}
+use Rattle.asm_lang_valid.specs.Typing.{Scope, Around, at_top, is_loop, type_of, call_fits, effect_fits, typed, all_typed}
 use Rattle.asm_laws_counts.specs.Counts.{stmt_clauses, body_clauses}
 use Rattle.asm2wasm_code.specs.Numbers.{first_scratch}
 use Rattle.asm2wasm_code.specs.Values.{expr_code, void_code}
 use Rattle.asm2wasm_code.specs.Bodies.{Label, stmt_code, function_code}
 use Rattle.asm2wasm_laws_typed.specs.Contexts.{IsContextOf, AreListed}
+use Rattle.asm2wasm_laws_typed.specs.Opened.{returned, IsPlaced, Covers}
 use Rattle.asm2wasm_laws_typed.specs.Labels.{HasJoinedLabels, HaveJoinedLabels}
 
 -- ---- instructions, where the heap has `heap` bytes
@@ -79,3 +80,17 @@ EffectsAreTyped =
     (heap : ℕ) (c : Scope) (room : ℕ) (w : Context) → IsContextOf c room w
     → (d at : ℕ) (e : Expr) → effect_fits c e ≡ true → AreListed c.home (effect_marks c at e) → reach (void_code heap c d e) ≤ room
     → (before : List ValType) → IsTyped w (void_code heap c d e) before before
+
+-- a statement begins and ends with nothing on the stack
+abbrev pub StatementsAreTyped : Type 0
+StatementsAreTyped =
+    (heap : ℕ) (c : Scope) (room : ℕ) (ls : List Label) (w : Context) → IsPlaced c room ls w
+    → (own : List (List ℕ)) (a : Around) (at : ℕ) (s : Stmt) → Covers a ls (if is_loop s then own else []) → typed c a s ≡ true → AreListed c.home (stmt_marks c at s)
+    → reach (stmt_code heap c ls own s) ≤ room → IsTyped w (stmt_code heap c ls own s) [] []
+
+-- the code of a function is a valid body in its context
+abbrev pub FunctionsAreValid : Type 0
+FunctionsAreValid =
+    (heap : ℕ) (c : Scope) (room : ℕ) (base : Context) → IsContextOf c room base → base.returns ≡ returned c
+    → (at : ℕ) → all_typed c at_top c.within.body ≡ true → AreListed c.home (stmts_marks c at c.within.body)
+    → reach (function_code heap c) ≤ room → IsValid base (closed (function_code heap c))

@@ -1,7 +1,7 @@
 //! The code that bodies of asm.js are translated to: its size, its depth and locals, and its types.
 #![tactic(auto)]
 
-ghost use Rattle.asm2wasm_laws_typed.specs.Laws.{ExpressionsAreSmall, StatementsAreSmall, FunctionsAreSmall, ExpressionsAreFlat, StatementsAreFlat, FunctionsAreFlat, ExpressionsReach, StatementsReach, FunctionsReach, ValuesAreTyped, CallsAreTyped, EffectsAreTyped};
+ghost use Rattle.asm2wasm_laws_typed.specs.Laws.{ExpressionsAreSmall, StatementsAreSmall, FunctionsAreSmall, ExpressionsAreFlat, StatementsAreFlat, FunctionsAreFlat, ExpressionsReach, StatementsReach, FunctionsReach, ValuesAreTyped, CallsAreTyped, EffectsAreTyped, StatementsAreTyped, FunctionsAreValid};
 
 /// A body has at most 14 instructions for each node and clause.
 pub fn sizes()
@@ -29,4 +29,10 @@ pub fn values()
     ensures typed { ValuesAreTyped }
     ensures calls { CallsAreTyped }
     ensures effects { EffectsAreTyped }
+{}
+
+/// The code of a typed statement is typed, and that of a function is a valid body.
+pub fn bodies()
+    ensures statements { StatementsAreTyped }
+    ensures functions { FunctionsAreValid }
 {}
