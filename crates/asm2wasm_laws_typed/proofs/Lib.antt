@@ -10,3 +10,4 @@ pub mod TypedPieces
 pub mod TypedValues
 pub mod Opened
 pub mod TypedSwitches
+pub mod TypedBodies

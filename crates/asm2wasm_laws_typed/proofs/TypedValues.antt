@@ -31,7 +31,7 @@ use Rattle.asm2wasm_laws_typed.proofs.Known.{row_holds, below_has, if_has, then_
 use Rattle.asm2wasm_laws_typed.proofs.TypedPieces.{inside_context, finished_reach, finished_typed, base_typed, unary_typed, builtin_typed, get_typed, put_typed, operator_typed, load_typed, store_typed, stored_typed, callee_typed, entry_typed}
 
 -- one of two pieces, of which both would do, or the first is taken
-of_two : (w : Context) {room : ℕ} (b : Bool) (x y : Trees) (before after : List ValType) → (reach x ≤ room → IsTyped w x before after) → (reach y ≤ room → IsTyped w y before after)
+pub of_two : (w : Context) {room : ℕ} (b : Bool) (x y : Trees) (before after : List ValType) → (reach x ≤ room → IsTyped w x before after) → (reach y ≤ room → IsTyped w y before after)
     → reach (if b then x else y) ≤ room → IsTyped w (if b then x else y) before after
 of_two w true x y before after h i r = h r
 of_two w false x y before after h i r = i r
