@@ -1,6 +1,6 @@
 -- How deep the code of an expression is nested: at most as deep as the expression.
-use Rattle.std.proofs.Common.{◌≡◌, ℕ, suc, ◌+◌, ◌≤◌, max, Bool, true, false, List, [], ◌∷◌, Some, arith}
-use Rattle.std.specs.Prelude.{if◌then◌else◌, ◌==◌, ◌||◌}
+use Rattle.std.proofs.Common.{◌≡◌, ℕ, suc, ◌≤◌, Bool, true, false, List, [], ◌∷◌, Some, arith}
+use Rattle.std.specs.Prelude.{if◌then◌else◌, ◌||◌}
 use Rattle.sem_words.specs.declared.js_value.JsOp.{JsOp}
 use Rattle.sem_words.specs.declared.js_value.JsOp.TheVariants.{Add, Sub, Mul, Div, Rem, Or, And, Xor, Shl, Sar, Shr, Lt, Le, Gt, Ge, Eq, Ne}
 use Rattle.sem_words.specs.declared.js_value.JsUnary.{JsUnary}
@@ -171,7 +171,7 @@ module _ (heap : ℕ) (c : Scope) where
         let ended = levels_join (expr_code heap c true d r) done in
         let alone : tree_levels (expr_code heap c true d l) ≤ expr_height (binary op l r) = omega (arith, first) in
         let both : tree_levels (expr_code heap c true d l ⊕ (expr_code heap c true d r ⊕ done)) ≤ expr_height (binary op l r) =
-            omega (arith, first, second, joined, ended, operator_levels op (is_unsigned l || is_unsigned r) (scratch heap c d) (scratch heap c (suc d))) in
+        omega (arith, first, second, joined, ended, operator_levels op (is_unsigned l || is_unsigned r) (scratch heap c d) (scratch heap c (suc d))) in
         finished_levels wanted _ _ (either_levels (or_zero op r) _ _ _ alone both)
     value_levels wanted d (chain e ls) =
         let first = value_levels true d e in

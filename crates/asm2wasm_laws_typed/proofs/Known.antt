@@ -1,18 +1,17 @@
 -- What follows for the parts of an expression that has a type.
-use Rattle.std.proofs.Common.{◌≡◌, ℕ, suc, ◌+◌, ◌<◌, Bool, true, false, List, [], ◌∷◌, ◌++◌, length, Option, Some, None, map, refl, sym, ap, ◌∙◌}
+use Rattle.std.proofs.Common.{◌≡◌, ℕ, Bool, true, false, List, [], ◌∷◌, ◌++◌, Option, Some, None, refl, sym}
 use Rattle.std.specs.Prelude.{if◌then◌else◌, ◌==◌, ◌&&◌, ◌||◌, option_and_then}
 use Rattle.std.specs.Option.{is_some}
 use Rattle.std.proofs.lemmas.Bool.{and_parts, eqb-true}
 use Rattle.sem_words.specs.declared.js_value.JsOp.{JsOp}
 use Rattle.sem_words.specs.declared.js_value.JsOp.TheVariants.{Mul}
-use Rattle.sem_words.specs.declared.js_value.JsUnary.{JsUnary}
 use Rattle.asm_types.specs.declared.value_type.ValueType.{ValueType}
 use Rattle.asm_types.specs.declared.value_type.ValueType.TheVariants.{Int, Intish}
-use Rattle.asm_types.specs.Rows.{row, binary_row_of, unary_row_of}
+use Rattle.asm_types.specs.Rows.{row, binary_row_of}
 use Rattle.asm_lang.specs.Modules.{Expr, Exprs, no_exprs, exprs, Module}
 use Rattle.asm_lang_valid.specs.LimitRows.{Mark, a_row, a_use}
 use Rattle.asm_lang_valid.specs.Scope.{Meaning, a_view, Signature}
-use Rattle.asm_lang_valid.specs.Typing.{Scope, is_factor, typed_below, index_form, index_fits, operated, same, matches, exprs_length, type_of, all_below}
+use Rattle.asm_lang_valid.specs.Typing.{Scope, is_factor, typed_below, index_form, index_fits, operated, same, matches, type_of, all_below}
 use Rattle.asm_lang_valid.specs.Scope.{shift_of}
 use Rattle.asm2wasm_laws_typed.specs.Contexts.{AreListed}
 

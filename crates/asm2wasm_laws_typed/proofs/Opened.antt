@@ -1,5 +1,5 @@
 -- Labels that stand open, from the outside of a statement to the inside.
-use Rattle.std.proofs.Common.{◌≡◌, ◌⊎◌, inl, inr, ℕ, zero, suc, ◌+◌, ◌<◌, ◌≤◌, Bool, true, false, List, [], ◌∷◌, ◌++◌, length, Option, Some, None, refl, sym, ap, subst, ◌∙◌, arith}
+use Rattle.std.proofs.Common.{◌≡◌, ◌⊎◌, inl, inr, ℕ, zero, suc, ◌<◌, Bool, true, false, List, [], ◌∷◌, ◌++◌, length, Option, Some, None, refl, ap, arith}
 use Rattle.std.specs.Prelude.{if◌then◌else◌, ◌&&◌, ◌||◌, bytes_eq, replicate, slice_get}
 use Rattle.std.proofs.lemmas.Bool.{or_cases, and_parts}
 use Rattle.wasm_lang.specs.declared.types.ValType.{ValType}
@@ -7,7 +7,7 @@ use Rattle.wasm_lang_valid.specs.Typing.{Context, inside}
 use Rattle.asm_lang_valid.specs.Scope.{is_in}
 use Rattle.asm_lang_valid.specs.Typing as around
 use Rattle.asm_lang_valid.specs.Typing.{Scope, Around, at_top, in_a_loop, in_a_switch, has_label, has_loop, labels_in}
-use Rattle.asm2wasm_code.specs.Bodies.{Label, plainly, breakable, named_end, next_turn, labels_inside, is_end_of, is_turn_of, break_label, continue_label, in_body}
+use Rattle.asm2wasm_code.specs.Bodies.{Label, plainly, breakable, named_end, is_turn_of, break_label, continue_label, in_body}
 use Rattle.asm2wasm_laws_typed.specs.Opened.{open_labels, IsPlaced, Covers}
 use Rattle.asm2wasm_laws_typed.proofs.TypedPieces.{inside_context}
 
@@ -91,6 +91,7 @@ label_found b (x ∷ xs) ls n h =
     now : (p q : Bool) → p ≡ true → p || q ≡ true
     now true q h = refl
     now false q h = absurd (cc h)
+
     later : (p q : Bool) → q ≡ true → p || q ≡ true
     later true q h = refl
     later false q h = h
@@ -105,6 +106,7 @@ loop_found true (x ∷ xs) ls n h =
     now : (p q : Bool) → p ≡ true → p || q ≡ true
     now true q h = refl
     now false q h = absurd (cc h)
+
     later : (p q : Bool) → q ≡ true → p || q ≡ true
     later true q h = refl
     later false q h = h

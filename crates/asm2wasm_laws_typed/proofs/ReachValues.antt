@@ -211,7 +211,7 @@ module _ (heap : ℕ) (c : Scope) where
         let ended = reach_joins (expr_code heap c true d r) done in
         let alone : reach (expr_code heap c true d l) ≤ first_scratch c.within + d + expr_height (binary op l r) + 1 = omega (arith, first) in
         let both : reach (expr_code heap c true d l ⊕ (expr_code heap c true d r ⊕ done)) ≤ first_scratch c.within + d + expr_height (binary op l r) + 1 =
-            omega (arith, first, second, joined, ended, operator_reach op (is_unsigned l || is_unsigned r) (scratch heap c d) (scratch heap c (suc d))) in
+        omega (arith, first, second, joined, ended, operator_reach op (is_unsigned l || is_unsigned r) (scratch heap c d) (scratch heap c (suc d))) in
         finished_reach wanted _ _ (either_reach (or_zero op r) _ _ _ alone both)
     value_reach wanted d (chain e ls) =
         let first = value_reach true d e in

@@ -1,13 +1,10 @@
 -- How many instructions the code of statements and functions has.
 use Rattle.std.proofs.Common.{◌≡◌, ℕ, zero, suc, ◌+◌, ◌*◌, ◌≤◌, Bool, true, false, List, [], ◌∷◌, ◌++◌, length, Option, Some, None, ℤ, pos, refl, arith}
-use Rattle.std.specs.Prelude.{if◌then◌else◌, ◌==◌, ◌&&◌, nat_le, nat_lt, ◌+ℤ◌, replicate}
+use Rattle.std.specs.Prelude.{if◌then◌else◌, ◌==◌, nat_le, nat_lt, ◌+ℤ◌, replicate}
 use Rattle.std.proofs.lemmas.Bool.{and_parts}
 use Rattle.std.proofs.lemmas.Bool.Decides.{nat_tests}
-use Rattle.sem_words.specs.declared.word.Bin.TheVariants as bins
-use Rattle.sem_words.specs.declared.word.Rel.TheVariants as rels
-use Rattle.sem_words.specs.Words.{word_of}
-use Rattle.wasm_lang.specs.Instructions.{Plain, bin32, rel32, eqz32, local_get, local_set}
-use Rattle.wasm_lang_exec.specs.Code.{Trees, ε, ◌▹◌, ◌⊕◌, block, loop, if_block, br, br_if, br_table, return}
+use Rattle.wasm_lang.specs.Instructions.{eqz32, local_set}
+use Rattle.wasm_lang_exec.specs.Code.{Trees, ε, ◌▹◌, ◌⊕◌, block, if_block, br, br_if, return}
 use Rattle.wasm_laws_trees.specs.Spelled.{size}
 use Rattle.wasm_laws_trees.proofs.Joined.{sizes_add}
 use Rattle.asm_lang.specs.Modules as text

@@ -1,8 +1,6 @@
 -- How many instructions the code of an expression has. The induction keeps four to spare for each expression.
 use Rattle.std.proofs.Common.{◌≡◌, ℕ, suc, Some, ◌+◌, ◌*◌, ◌≤◌, Bool, true, false, List, [], ◌∷◌, length, refl, arith}
 use Rattle.std.specs.Prelude.{if◌then◌else◌, ◌==◌, ◌||◌}
-use Rattle.sem_words.specs.declared.word.Bin.{Bin}
-use Rattle.sem_words.specs.declared.word.Bin.TheVariants as bins
 use Rattle.sem_words.specs.declared.js_value.JsOp.{JsOp}
 use Rattle.sem_words.specs.declared.js_value.JsOp.TheVariants.{Add, Sub, Mul, Div, Rem, Or, And, Xor, Shl, Sar, Shr, Lt, Le, Gt, Ge, Eq, Ne}
 use Rattle.sem_words.specs.declared.js_value.JsUnary.{JsUnary}
@@ -14,13 +12,12 @@ use Rattle.wasm_lang_exec.specs.Code.{Trees, ε, ◌▹◌, ◌⊕◌, if_block}
 use Rattle.wasm_laws_trees.specs.Spelled.{else_size, size}
 use Rattle.wasm_laws_trees.proofs.Joined.{sizes_add}
 use Rattle.asm_lang.specs.Modules.{Expr, lit, decimal, var, index, call, table_call, assign, store, unary, binary, chain, cond, comma, Exprs, no_exprs, exprs, Links, no_links, links}
-use Rattle.asm_lang_valid.specs.declared.meaning.Builtin.{Builtin}
 use Rattle.asm_lang_valid.specs.declared.meaning.Builtin.TheVariants.{Imul, Clz32}
 use Rattle.asm_lang_valid.specs.Scope.{shift_of, Meaning, a_foreign, a_builtin, a_view, a_function, a_table}
 use Rattle.asm_lang_valid.specs.Rows.{expr_count, exprs_count, links_count}
 use Rattle.asm_lang_valid.specs.Typing.{Scope, named, exprs_length, or_zero}
 use Rattle.asm2wasm_code.specs.Numbers.{VariablePlace, a_local, a_global, nowhere, place_of, base_of}
-use Rattle.asm2wasm_code.specs.Values.{plains, one, get_code, put_code, guarded, signed_quotient, quotient, operator, before_operand, after_operand, scaled, within, load_code, store_code, stored_code, callee_code, dropped, from_base, entry_code, finished, access, is_signed_element, is_unsigned, link_operator, number, scratch, expr_code, arguments_code, links_code, comma_code}
+use Rattle.asm2wasm_code.specs.Values.{plains, one, get_code, put_code, quotient, operator, before_operand, after_operand, scaled, load_code, store_code, stored_code, callee_code, dropped, from_base, entry_code, finished, access, is_signed_element, is_unsigned, link_operator, scratch, expr_code, arguments_code, links_code, comma_code}
 use Rattle.asm2wasm_laws_typed.specs.Laws.{ExpressionsAreSmall}
 
 -- ---- pieces
@@ -189,7 +186,7 @@ module _ (heap : ℕ) (c : Scope) where
         let ended = sizes_add (expr_code heap c true d r) done in
         let alone : size (expr_code heap c true d l) + 5 ≤ 14 * expr_count (binary op l r) = omega (arith, first) in
         let both : size (expr_code heap c true d l ⊕ (expr_code heap c true d r ⊕ done)) + 5 ≤ 14 * expr_count (binary op l r) =
-            omega (arith, first, second, joined, ended, operator_small op (is_unsigned l || is_unsigned r) (scratch heap c d) (scratch heap c (suc d))) in
+        omega (arith, first, second, joined, ended, operator_small op (is_unsigned l || is_unsigned r) (scratch heap c d) (scratch heap c (suc d))) in
         finished_small wanted _ _ (either_small (or_zero op r) _ _ _ 5 alone both)
     value_small wanted d (chain e ls) =
         let first = value_small true d e in

@@ -1,39 +1,28 @@
 -- The types of single instructions, and of the pieces that the code of an expression is made of.
-use Rattle.std.proofs.Common.{◌≡◌, ℕ, zero, suc, ◌+◌, ◌<◌, ◌≤◌, max, Bool, true, false, List, [], ◌∷◌, ◌++◌, length, Option, Some, None, refl, sym, ap, subst, ◌∙◌, arith}
-use Rattle.std.specs.Prelude.{if◌then◌else◌, ◌==◌, ◌&&◌, nat_le, ◌^◌, reverse, replicate, slice_get, Ok}
-use Rattle.std.specs.Option.{is_some}
+use Rattle.std.proofs.Common.{◌≡◌, ℕ, zero, suc, ◌≤◌, Bool, true, false, List, [], ◌∷◌, ◌++◌, Some, refl, sym, ap, ◌∙◌, arith}
+use Rattle.std.specs.Prelude.{nat_le, ◌^◌, reverse, replicate, slice_get, Ok}
 use Rattle.std.proofs.lemmas.List.{reverse-append}
-use Rattle.std.proofs.lemmas.Bool.{and_parts}
-use Rattle.std.proofs.lemmas.Bool.Decides.{nat_tests}
 use Rattle.sem_words.specs.declared.word.Bin.{Bin}
 use Rattle.sem_words.specs.declared.word.Un.{Un}
 use Rattle.sem_words.specs.declared.word.Rel.{Rel}
-use Rattle.sem_words.specs.declared.js_value.JsOp.{JsOp}
-use Rattle.sem_words.specs.declared.js_value.JsOp.TheVariants.{Add, Sub, Mul, Div, Rem, Or, And, Xor, Shl, Sar, Shr, Lt, Le, Gt, Ge, Eq, Ne}
-use Rattle.sem_words.specs.declared.js_value.JsUnary.{JsUnary}
-use Rattle.sem_words.specs.declared.js_value.JsUnary.TheVariants.{Neg, BitNot, Not, Plus}
 use Rattle.wasm_lang.specs.declared.types.ValType.{ValType}
 use Rattle.wasm_lang.specs.declared.types.ValType.TheVariants.{I32}
-use Rattle.wasm_lang.specs.declared.types.MemOp.{MemOp}
 use Rattle.wasm_lang.specs.Instructions as instructions
 use Rattle.wasm_lang.specs.Instructions.{Plain, const32, bin32, rel32, un32, eqz32, local_get, local_set, local_tee, global_get, global_set, drop_operand}
 use Rattle.wasm_lang.specs.Modules.{FunctionType}
 use Rattle.wasm_lang_valid.specs.declared.rule.Rule.TheVariants.{NoLocal, NoGlobal, NoMemory, NoFunction, NoType, NoTable, Alignment, ConstantGlobal}
-use Rattle.wasm_lang_valid.specs.Typing.{Context, Shape, Fixed, Leaves, AnyOne, Acts, fixed, leaves, any_one, plain_shape, plain_late, shape, found, onward, unless, may_set, natural, kind_of, listed, result_of, call_shape, type_of, inside}
-use Rattle.wasm_lang_exec.specs.Code.{Trees, ε, ◌▹◌, ◌⊕◌, if_block, call, call_indirect}
-use Rattle.wasm_laws_sound.specs.Trees.{IsTyped, Steps}
+use Rattle.wasm_lang_valid.specs.Typing.{Context, Fixed, Leaves, AnyOne, fixed, leaves, any_one, plain_shape, plain_late, shape, found, onward, unless, may_set, natural, call_shape, type_of}
+use Rattle.wasm_lang_exec.specs.Code.{Trees, ◌⊕◌}
+use Rattle.wasm_laws_sound.specs.Trees.{Steps}
 use Rattle.wasm_laws_trees.specs.Spelled.{reach}
-use Rattle.wasm_laws_trees.proofs.Joined.{types_join, reach_joins}
+use Rattle.wasm_laws_trees.proofs.Joined.{reach_joins}
 use Rattle.asm_lang_valid.specs.declared.meaning.Element.{Element}
 use Rattle.asm_lang_valid.specs.declared.meaning.Element.TheVariants.{Int8, Uint8, Int16, Uint16, Int32, Uint32}
-use Rattle.asm_lang_valid.specs.Scope.{shift_of, Meaning, a_view}
-use Rattle.asm_lang_valid.specs.Typing.{Scope, named}
-use Rattle.asm_lang_valid.specs.Refusal.{foreign_globals}
+use Rattle.asm_lang_valid.specs.Scope.{shift_of}
 use Rattle.asm2wasm_lang.specs.Calling.{int_type}
-use Rattle.asm2wasm_code.specs.Numbers.{VariablePlace, a_local, a_global, nowhere}
-use Rattle.asm2wasm_code.specs.Values.{plains, one, get_code, put_code, quotient, operator, before_operand, after_operand, scaled, from_base, load_code, store_code, stored_code, finished, access, is_signed_element}
+use Rattle.asm2wasm_code.specs.Values.{access}
 use Rattle.asm2wasm_laws_typed.specs.Laws.{given}
-use Rattle.asm2wasm_laws_typed.specs.Contexts.{IsContextOf, variable_int}
+use Rattle.asm2wasm_laws_typed.specs.Contexts.{variable_int}
 
 -- ---- instructions
 

@@ -1,10 +1,9 @@
 -- The types of the code of statements and functions.
-use Rattle.std.proofs.Common.{◌≡◌, ◌⊎◌, inl, inr, ℕ, zero, suc, ◌+◌, ◌<◌, ◌≤◌, Bool, true, false, List, [], ◌∷◌, ◌++◌, length, Option, Some, None, refl, sym, ap, subst, ◌∙◌, arith, length-append}
+use Rattle.std.proofs.Common.{◌≡◌, ◌⊎◌, inl, inr, ℕ, suc, ◌+◌, ◌<◌, ◌≤◌, Bool, true, false, List, [], ◌∷◌, ◌++◌, length, Option, Some, None, refl, sym, ap, subst, ◌∙◌, arith, length-append}
 use Rattle.std.specs.Prelude.{if◌then◌else◌, ◌==◌, ◌&&◌, not, nat_le, replicate, slice_get}
 use Rattle.std.proofs.lemmas.List.{length-replicate}
 use Rattle.std.proofs.lemmas.Bool.{and_parts}
 use Rattle.asm_types.specs.declared.value_type.ValueType.TheVariants.{Signed, Int}
-use Rattle.wasm_lang.specs.declared.types.ValType.{ValType}
 use Rattle.wasm_lang.specs.declared.types.ValType.TheVariants.{I32}
 use Rattle.wasm_lang.specs.Instructions.{eqz32, local_set}
 use Rattle.wasm_lang_valid.specs.Typing.{Context, inside, listed}
@@ -21,15 +20,14 @@ use Rattle.asm_lang_valid.specs.Scope.{is_in, gives_value, last_gives_value}
 use Rattle.asm_lang_valid.specs.Rows.{need, expr_count, option_count, stmt_count, stmts_count}
 use Rattle.asm_lang_valid.specs.LimitRows.{rows_of, most_clauses, clauses_length, expr_marks, part_marks, option_marks, stmt_marks, stmts_marks, clauses_marks}
 use Rattle.asm_lang_valid.specs.Typing.{Scope, Around, at_top, in_a_loop, in_a_switch, is_loop, has_loop, new_labels, under_labels, typed_below, type_of, condition_fits, part_fits, cases_fit, result_of, typed, all_typed, clauses_typed}
-use Rattle.asm2wasm_code.specs.Values.{number, plains, one, expr_code, void_code}
+use Rattle.asm2wasm_code.specs.Values.{number, plains, one, expr_code}
 use Rattle.asm2wasm_code.specs.Bodies.{Label, plainly, breakable, named_end, next_turn, again, in_body, break_label, continue_label, loop_code, do_code, clauses_count, is_short, dispatch, case_numbers, first_clause, all_further, part_code, test_code, value_local, number_local, stmt_code, stmts_code, short_code, long_code, literal_word, first_value, locals_code, last_code, body_code}
 use Rattle.asm_lang_exec.specs.Meaning.{before_default}
 use Rattle.asm2wasm_laws_typed.specs.Contexts.{IsContextOf, AreListed}
-use Rattle.asm2wasm_laws_typed.specs.Opened.{returned, open_labels, IsPlaced, Covers}
+use Rattle.asm2wasm_laws_typed.specs.Opened.{returned, IsPlaced, Covers}
 use Rattle.asm2wasm_laws_typed.specs.Laws.{StatementsAreTyped, FunctionsAreValid}
 use Rattle.asm2wasm_laws_typed.proofs.Steps.{const_step, rel_step, eqz_step, get_step, set_step, reach_left, reach_right}
 use Rattle.asm2wasm_laws_typed.proofs.Known.{below_has, listed_left, listed_right}
-use Rattle.asm2wasm_laws_typed.proofs.TypedPieces.{inside_context}
 use Rattle.asm2wasm_laws_typed.proofs.TypedValues.{of_two, value_typed, effect_typed}
 use Rattle.asm2wasm_laws_typed.proofs.TypedSwitches.{br_step, br_if_step, return_int, return_nothing, dispatch_typed, first_typed}
 use Rattle.asm2wasm_laws_typed.proofs.Opened.{open_at, entered, nothing_round, widened, in_choice, in_switch, in_clause, in_turns, under}
@@ -124,11 +122,13 @@ module _ (heap : ℕ) (c : Scope) (room : ℕ) where
         let further = listed_right c.home first_marks (second_marks ++ third_marks) m in
         let q = reach_right value choice r in
         types_join w value choice [] (I32 ∷ []) []
-        (value_typed heap c room w p.is_context true 0 (at + 1) e (below_has Int (type_of c e) first_two.0) (listed_left c.home first_marks (second_marks ++ third_marks) m) (reach_left value choice r) [])
-        ([], refl,
-        stmt_typed (plainly ∷ ls) (inside None w) (entered plainly p) [] a (at + 1 + expr_count e) s (widened a (plainly ∷ ls) _ (in_choice a ls v)) first_two.1 (listed_left c.home second_marks third_marks further) (omega (arith, q)),
-        stmt_typed (plainly ∷ ls) (inside None w) (entered plainly p) [] a (at + 1 + expr_count e + stmt_count s) o (widened a (plainly ∷ ls) _ (in_choice a ls v)) fits.1 (listed_right c.home second_marks third_marks further) (omega (arith, q)),
-        refl)
+        (value_typed heap c room w p.is_context true 0 (at + 1) e (below_has Int (type_of c e) first_two.0) (listed_left c.home first_marks (second_marks ++ third_marks) m) (reach_left value choice r) []) (
+          [],
+          refl,
+          stmt_typed (plainly ∷ ls) (inside None w) (entered plainly p) [] a (at + 1 + expr_count e) s (widened a (plainly ∷ ls) _ (in_choice a ls v)) first_two.1 (listed_left c.home second_marks third_marks further) (omega (arith, q)),
+          stmt_typed (plainly ∷ ls) (inside None w) (entered plainly p) [] a (at + 1 + expr_count e + stmt_count s) o (widened a (plainly ∷ ls) _ (in_choice a ls v)) fits.1 (listed_right c.home second_marks third_marks further) (omega (arith, q)),
+          refl,
+        )
     stmt_typed ls w p own a at (returns None) v t m r = return_nothing (p.returns ∙ nothing (result_of c) t) refl
       where
         nothing : (b : Bool) → not b ≡ true → (if b then Some I32 else None) ≡ None
@@ -211,15 +211,18 @@ module _ (heap : ℕ) (c : Scope) (room : ℕ) where
         (value_typed heap c room w p.is_context true 0 (at + 1) e has (listed_left c.home first_marks (limit_marks ++ inner_marks) m) (reach_left value (one (local_set n) ⊕ chosen) r) [])
         (set_step is_n
         (of_two w (is_short cs) few many [] []
-        (λ q. (short_typed ls (inside None w) switched (in_a_switch a) (at + 1 + expr_count e) (dispatch n cs) cs (in_switch a ls v) fits.1 clauses_listed (omega (arith, q))
-            (λ u q. dispatch_typed u n cs (q.is_context.locals n (omega (arith, r1)))
-            (λ i h. label_known (replicate (clauses_count cs) plainly ++ breakable ∷ ls) u q i (omega (arith, h, clauses_open (clauses_count cs) ls)))), refl))
+        (λ q. (
+          short_typed ls (inside None w) switched (in_a_switch a) (at + 1 + expr_count e) (dispatch n cs) cs (in_switch a ls v) fits.1 clauses_listed (omega (arith, q))
+              (λ u q. dispatch_typed u n cs (q.is_context.locals n (omega (arith, r1)))
+              (λ i h. label_known (replicate (clauses_count cs) plainly ++ breakable ∷ ls) u q i (omega (arith, h, clauses_open (clauses_count cs) ls)))),
+          refl,
+        ))
         (λ q.
-            let q1 = reach_left (first_clause n k cs) (block None (long_code heap c ls 0 cs) ▹ ε) q in
-            let q2 = reach_right (first_clause n k cs) (block None (long_code heap c ls 0 cs) ▹ ε) q in
-            let is_k = p.is_context.locals k (omega (arith, q1, reach_joins (case_numbers n k 0 cs) (plains (number (before_default cs) ∷ local_set k ∷ [])))) in
-            types_join w (first_clause n k cs) (block None (long_code heap c ls 0 cs) ▹ ε) [] [] [] (first_typed w n k cs is_n is_k)
-            (long_typed ls (inside None w) switched (in_a_switch a) (at + 1 + expr_count e) 0 cs is_k (in_switch a ls v) fits.1 clauses_listed (omega (arith, q2)), refl))
+        let q1 = reach_left (first_clause n k cs) (block None (long_code heap c ls 0 cs) ▹ ε) q in
+        let q2 = reach_right (first_clause n k cs) (block None (long_code heap c ls 0 cs) ▹ ε) q in
+        let is_k = p.is_context.locals k (omega (arith, q1, reach_joins (case_numbers n k 0 cs) (plains (number (before_default cs) ∷ local_set k ∷ [])))) in
+        types_join w (first_clause n k cs) (block None (long_code heap c ls 0 cs) ▹ ε) [] [] [] (first_typed w n k cs is_n is_k)
+        (long_typed ls (inside None w) switched (in_a_switch a) (at + 1 + expr_count e) 0 cs is_k (in_switch a ls v) fits.1 clauses_listed (omega (arith, q2)), refl))
         r2))
 
     pub stmts_typed : (ls : List Label) (w : Context) → IsPlaced c room ls w → (a : Around) (at : ℕ) (ss : Stmts) → Covers a ls []
@@ -247,8 +250,10 @@ module _ (heap : ℕ) (c : Scope) (room : ℕ) where
         let second_marks = clauses_marks c (at + stmts_count ss) cs in
         let around = short_inside ls (block None ins ▹ stmts_code heap c round ss) cs in
         short_typed ls w p a (at + stmts_count ss) (block None ins ▹ stmts_code heap c round ss) cs v fits.1 (listed_right c.home first_marks second_marks m) r
-        (λ u q. (h (inside None u) (entered plainly q),
-            stmts_typed round u q a at ss (in_clause a (clauses_count cs) (breakable ∷ ls) v) fits.0 (listed_left c.home first_marks second_marks m) (omega (arith, r, around))))
+        (λ u q. (
+          h (inside None u) (entered plainly q),
+          stmts_typed round u q a at ss (in_clause a (clauses_count cs) (breakable ∷ ls) v) fits.0 (listed_left c.home first_marks second_marks m) (omega (arith, r, around)),
+        ))
 
     long_typed : (ls : List Label) (w : Context) → IsPlaced c room (breakable ∷ ls) w → (a : Around) (at j : ℕ) (cs : Clauses) → slice_get w.locals (number_local heap c) ≡ Some I32
         → Covers a (breakable ∷ ls) [] → clauses_typed c a cs ≡ true → AreListed c.home (clauses_marks c at cs) → reach (long_code heap c ls j cs) ≤ room → IsTyped w (long_code heap c ls j cs) [] []
@@ -260,13 +265,15 @@ module _ (heap : ℕ) (c : Scope) (room : ℕ) where
         let fits = and_parts (all_typed c a ss) (clauses_typed c a cs) t in
         let first_marks = stmts_marks c at ss in
         let second_marks = clauses_marks c (at + stmts_count ss) cs in
-        get_step is_k (const_step (rel_step
-        ([], refl,
-        types_join (inside None w) body rest [] [] []
-        (stmts_typed (plainly ∷ breakable ∷ ls) (inside None w) (entered plainly p) a at ss (in_choice a (breakable ∷ ls) v) fits.0 (listed_left c.home first_marks second_marks m) (omega (arith, r, joined)))
-        (const_step (set_step is_k refl)),
-        refl,
-        long_typed ls w p a (at + stmts_count ss) (suc j) cs is_k v fits.1 (listed_right c.home first_marks second_marks m) (omega (arith, r, joined)))))
+        get_step is_k (const_step (rel_step (
+          [],
+          refl,
+          types_join (inside None w) body rest [] [] []
+              (stmts_typed (plainly ∷ breakable ∷ ls) (inside None w) (entered plainly p) a at ss (in_choice a (breakable ∷ ls) v) fits.0 (listed_left c.home first_marks second_marks m) (omega (arith, r, joined)))
+              (const_step (set_step is_k refl)),
+          refl,
+          long_typed ls w p a (at + stmts_count ss) (suc j) cs is_k v fits.1 (listed_right c.home first_marks second_marks m) (omega (arith, r, joined)),
+        )))
 
   -- ---- functions
 

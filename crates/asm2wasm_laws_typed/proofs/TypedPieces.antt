@@ -1,6 +1,6 @@
 -- The types of the pieces that the code of an expression is made of.
-use Rattle.std.proofs.Common.{◌≡◌, ℕ, zero, suc, ◌+◌, ◌<◌, ◌≤◌, max, Bool, true, false, List, [], ◌∷◌, ◌++◌, length, Option, Some, None, refl, sym, ap, subst, ◌∙◌, arith}
-use Rattle.std.specs.Prelude.{if◌then◌else◌, ◌==◌, ◌&&◌, slice_get, nat_le}
+use Rattle.std.proofs.Common.{◌≡◌, ℕ, ◌≤◌, Bool, true, false, List, [], ◌∷◌, Option, Some, None, refl, sym, ap, subst, ◌∙◌, arith}
+use Rattle.std.specs.Prelude.{if◌then◌else◌, ◌==◌, slice_get, nat_le}
 use Rattle.std.specs.Option.{is_some}
 use Rattle.std.proofs.lemmas.Bool.{and_parts, eqb-true}
 use Rattle.sem_words.specs.declared.word.Bin.{Bin}
@@ -13,11 +13,10 @@ use Rattle.wasm_lang.specs.declared.types.ValType.TheVariants.{I32}
 use Rattle.wasm_lang.specs.Instructions as instructions
 use Rattle.wasm_lang.specs.Instructions.{Plain, bin32, local_get, drop_operand}
 use Rattle.wasm_lang_valid.specs.Typing.{Context, type_of, inside}
-use Rattle.wasm_lang_exec.specs.Code.{Trees, ε, ◌▹◌, ◌⊕◌}
+use Rattle.wasm_lang_exec.specs.Code.{Trees, ◌⊕◌}
 use Rattle.wasm_laws_sound.specs.Trees.{IsTyped}
 use Rattle.wasm_laws_trees.specs.Spelled.{reach}
 use Rattle.wasm_laws_trees.proofs.Joined.{types_join, reach_joins}
-use Rattle.asm_lang.specs.Modules.{Table}
 use Rattle.asm_lang_valid.specs.declared.meaning.Element.{Element}
 use Rattle.asm_lang_valid.specs.declared.meaning.Builtin.{Builtin}
 use Rattle.asm_lang_valid.specs.declared.meaning.Builtin.TheVariants.{Imul, Clz32}
@@ -28,7 +27,7 @@ use Rattle.asm_lang_valid.specs.Rows.{need}
 use Rattle.asm_lang_valid.specs.Typing.{Scope, named, matches, builtin_arguments, builtin_type, builtin_call, callee_fits, table_fits}
 use Rattle.asm2wasm_code.specs.Numbers.{VariablePlace, a_local, a_global, nowhere, own_number, import_number}
 use Rattle.asm2wasm_lang.specs.Calling.{int_type}
-use Rattle.asm2wasm_code.specs.Values.{number, plains, one, get_code, put_code, relation, guarded, quotient, operator, before_operand, after_operand, scaled, from_base, load_code, store_code, stored_code, callee_code, builtin_code, dropped, entry_code, finished, access, is_signed_element}
+use Rattle.asm2wasm_code.specs.Values.{number, plains, one, get_code, put_code, guarded, quotient, operator, before_operand, after_operand, scaled, from_base, load_code, store_code, stored_code, callee_code, builtin_code, dropped, entry_code, finished, access, is_signed_element}
 use Rattle.asm2wasm_laws_typed.specs.Contexts.{IsContextOf, AreListed, variable_int}
 use Rattle.asm2wasm_laws_typed.specs.Laws.{given}
 use Rattle.asm2wasm_laws_typed.proofs.Steps.{const_step, bin_step, rel_step, un_step, eqz_step, drop_step, get_step, set_step, tee_step, global_get_step, global_set_step, stop_step, load_step, store_step, ints, call_step, entry_step}
@@ -139,7 +138,7 @@ module _ {c : Scope} {room : ℕ} (w : Context) (k : IsContextOf c room w) where
       let is_x = k.locals x (omega (arith, r)) in
       let inner = inside (Some I32) w in
       let loaded = types_join inner (plains (scaled (shift_of v))) (one (instructions.load (access v (is_signed_element v)) (shift_of v) 0)) (I32 ∷ []) (I32 ∷ []) (I32 ∷ [])
-          (scaled_typed inner (shift_of v) []) (load_step v (memory v refl) refl) in
+      (scaled_typed inner (shift_of v) []) (load_step v (memory v refl) refl) in
       tee_step is_x (const_step (rel_step (before, refl, get_step is_x loaded, const_step refl, refl)))
   load_typed heap x _ before memory r = stop_step [] [] (I32 ∷ before) refl
 
@@ -150,7 +149,7 @@ module _ {c : Scope} {room : ℕ} (w : Context) (k : IsContextOf c room w) where
       let is_y = k.locals y (omega (arith, r)) in
       let inner = inside None w in
       let stored = types_join inner (plains (scaled (shift_of v))) (plains (local_get y ∷ instructions.store (access v false) (shift_of v) 0 ∷ [])) (I32 ∷ []) (I32 ∷ []) []
-          (scaled_typed inner (shift_of v) []) (get_step is_y (store_step v (memory v refl) refl)) in
+      (scaled_typed inner (shift_of v) []) (get_step is_y (store_step v (memory v refl) refl)) in
       set_step is_y (tee_step is_x (const_step (rel_step (before, refl, get_step is_x stored, refl, refl))))
   store_typed heap x y _ before memory r = stop_step (I32 ∷ I32 ∷ []) [] before refl
 

@@ -1,17 +1,15 @@
 -- The types of branches, and of the code that finds the clause of a value.
-use Rattle.std.proofs.Common.{◌≡◌, ℕ, zero, suc, ◌+◌, ◌<◌, ◌≤◌, Bool, true, false, List, [], ◌∷◌, ◌++◌, length, Option, Some, None, ℤ, pos, refl, sym, ap, subst, ◌∙◌, arith}
+use Rattle.std.proofs.Common.{◌≡◌, ℕ, zero, suc, ◌+◌, ◌≤◌, Bool, true, false, List, [], ◌∷◌, Some, None, ℤ, pos, refl, ap, ◌∙◌, arith}
 use Rattle.std.specs.Prelude.{if◌then◌else◌, slice_get, Ok, ◌+ℤ◌, ◌&&◌}
-use Rattle.sem_words.specs.Words.{word_of}
 use Rattle.wasm_lang.specs.declared.types.ValType.{ValType}
 use Rattle.wasm_lang.specs.declared.types.ValType.TheVariants.{I32}
 use Rattle.wasm_lang.specs.Instructions as instructions
 use Rattle.wasm_lang.specs.Instructions.{local_set}
 use Rattle.wasm_lang_valid.specs.declared.rule.Rule.TheVariants.{NoLabel, LabelsDiffer}
 use Rattle.wasm_lang_valid.specs.Typing.{Context, Fixed, Leaves, fixed, leaves, found, onward, unless, all_labels, alike, carries, inside, listed}
-use Rattle.wasm_lang_exec.specs.Code.{Trees, ε, ◌▹◌, ◌⊕◌, block, br, br_if, br_table}
+use Rattle.wasm_lang_exec.specs.Code.{ε, ◌▹◌, ◌⊕◌, br}
 use Rattle.wasm_laws_sound.specs.Trees.{IsTyped, Steps}
-use Rattle.wasm_laws_trees.specs.Spelled.{reach}
-use Rattle.wasm_laws_trees.proofs.Joined.{types_join, reach_joins}
+use Rattle.wasm_laws_trees.proofs.Joined.{types_join}
 use Rattle.asm_lang.specs.Modules.{Clauses, no_clauses, clauses}
 use Rattle.asm_lang_valid.specs.Typing.{values}
 use Rattle.asm_lang_exec.specs.Meaning.{is_case, has_case, before_case, before_default, passed_over}
@@ -103,6 +101,7 @@ dispatch_typed w t cs is_t stand = by (is_dense (values cs))
   where
     default_open : slice_get w.labels (before_default cs) ≡ Some None
     default_open = stand (before_default cs) (default_within cs)
+
     by : (b : Bool) → IsTyped w (if b then table_branch t cs else case_branches t 0 cs ⊕ (br (before_default cs) ▹ ε)) [] []
     by true = get_step is_t (const_step (bin_step (table_step w (targets (suc (span (values cs))) (low (values cs)) cs) (before_default cs) default_open (targets_open w (suc (span (values cs))) (low (values cs)) cs stand) refl)))
     by false = types_join w (case_branches t 0 cs) (br (before_default cs) ▹ ε) [] [] [] (branches_typed w t 0 (clauses_count cs) cs (omega arith) is_t stand) (br_step default_open refl)

@@ -1,28 +1,26 @@
 -- The types of the code of expressions.
-use Rattle.std.proofs.Common.{◌≡◌, ℕ, suc, ◌+◌, ◌<◌, ◌≤◌, Bool, true, false, List, [], ◌∷◌, ◌++◌, length, Option, Some, None, refl, sym, ap, subst, ◌∙◌, arith}
-use Rattle.std.specs.Prelude.{if◌then◌else◌, ◌==◌, ◌&&◌, ◌||◌, slice_get}
+use Rattle.std.proofs.Common.{◌≡◌, ℕ, suc, ◌+◌, ◌<◌, ◌≤◌, Bool, true, false, List, [], ◌∷◌, ◌++◌, length, Option, Some, None, refl, subst, arith}
+use Rattle.std.specs.Prelude.{if◌then◌else◌, ◌&&◌, ◌||◌, slice_get}
 use Rattle.std.specs.Option.{is_some, IfSome}
 use Rattle.std.proofs.lemmas.Bool.{and_parts}
-use Rattle.sem_words.specs.declared.js_value.JsOp.{JsOp}
-use Rattle.asm_types.specs.declared.value_type.ValueType.{ValueType}
 use Rattle.asm_types.specs.declared.value_type.ValueType.TheVariants.{Signed, Int, Intish, Extern}
 use Rattle.asm_types.specs.Rows.{unary_row_of}
 use Rattle.wasm_lang.specs.declared.types.ValType.{ValType}
 use Rattle.wasm_lang.specs.declared.types.ValType.TheVariants.{I32}
-use Rattle.wasm_lang.specs.Instructions.{Plain, bin32, local_get, local_set}
+use Rattle.wasm_lang.specs.Instructions.{bin32, local_get, local_set}
 use Rattle.wasm_lang_valid.specs.Typing.{Context, inside}
 use Rattle.wasm_lang_exec.specs.Code.{Trees, ε, ◌▹◌, ◌⊕◌, if_block}
 use Rattle.wasm_laws_sound.specs.Trees.{IsTyped}
 use Rattle.wasm_laws_trees.specs.Spelled.{reach}
-use Rattle.wasm_laws_trees.proofs.Joined.{types_join, reach_joins}
+use Rattle.wasm_laws_trees.proofs.Joined.{types_join}
 use Rattle.asm_lang.specs.Modules.{Expr, lit, decimal, var, index, call, table_call, assign, store, unary, binary, chain, cond, comma, Exprs, no_exprs, exprs, Links, no_links, links}
-use Rattle.asm_lang_valid.specs.Scope.{Meaning, a_view, a_function, a_foreign, a_table, a_builtin}
+use Rattle.asm_lang_valid.specs.Scope.{Meaning, a_function, a_foreign, a_table, a_builtin}
 use Rattle.asm_lang_valid.specs.Rows.{expr_count}
 use Rattle.asm_lang_valid.specs.LimitRows.{expr_marks, exprs_marks, links_marks, comma_marks, call_marks, callee_marks, effect_marks}
 use Rattle.asm_lang_valid.specs.Refusal.{foreign_globals}
-use Rattle.asm_lang_valid.specs.Typing.{Scope, named, typed_below, is_int, index_fits, operated, exprs_length, is_call, or_zero, matches, callee_fits, table_fits, mask_fits, builtin_call, builtin_type, most_operators, links_length, type_of, all_below, links_fit, call_fits, last_type, effect_fits}
-use Rattle.asm2wasm_code.specs.Numbers.{VariablePlace, a_local, a_global, nowhere, slot_of, global_names, local_names, place_among, place_of, base_of}
-use Rattle.asm2wasm_code.specs.Values.{plains, one, get_code, put_code, operator, before_operand, after_operand, from_base, load_code, store_code, stored_code, callee_code, dropped, entry_code, finished, is_unsigned, link_operator, scratch, expr_code, arguments_code, links_code, comma_code, void_code}
+use Rattle.asm_lang_valid.specs.Typing.{Scope, named, typed_below, is_int, index_fits, operated, exprs_length, is_call, or_zero, callee_fits, table_fits, mask_fits, builtin_call, builtin_type, type_of, all_below, links_fit, call_fits, last_type, effect_fits}
+use Rattle.asm2wasm_code.specs.Numbers.{a_global, slot_of, global_names, local_names, place_among, place_of, base_of}
+use Rattle.asm2wasm_code.specs.Values.{plains, one, get_code, put_code, operator, before_operand, after_operand, from_base, load_code, store_code, stored_code, callee_code, dropped, entry_code, is_unsigned, link_operator, scratch, expr_code, arguments_code, links_code, comma_code, void_code}
 use Rattle.asm2wasm_laws_typed.specs.Contexts.{IsContextOf, AreListed, variable_int}
 use Rattle.asm2wasm_laws_typed.specs.Laws.{given, ValuesAreTyped, CallsAreTyped, EffectsAreTyped}
 use Rattle.asm2wasm_laws_typed.proofs.ReachValues.{slot_below}
@@ -129,16 +127,16 @@ module _ (heap : ℕ) (c : Scope) (room : ℕ) where
         (binary_form c.home (is_call c l) (or_zero op r) (call_fits c true l) Signed all (call_marks c true (at + 1) l) (first_marks ++ second_marks)
         (λ z fits listed. the_first w (or_zero op r) left (left ⊕ (right ⊕ done)) before (I32 ∷ before) z (λ reached. call_typed w k true d (at + 1) l fits listed reached before) q)
         (λ has listed.
-            let both = operated_has op l r (type_of c l) (type_of c r) has in
-            of_two w (or_zero op r) left (left ⊕ (right ⊕ done)) before (I32 ∷ before)
-            (λ reached. value_typed w k true d (at + 1) l both.0 (listed_left c.home first_marks second_marks listed) reached before)
-            (λ reached.
-                let further = reach_right left (right ⊕ done) reached in
-                types_join w left (right ⊕ done) before (I32 ∷ before) (I32 ∷ before)
-                (value_typed w k true d (at + 1) l both.0 (listed_left c.home first_marks second_marks listed) (reach_left left (right ⊕ done) reached) before)
-                (types_join w right done (I32 ∷ before) (I32 ∷ I32 ∷ before) (I32 ∷ before)
-                (value_typed w k true d (at + 1 + expr_count l) r both.1 (listed_right c.home first_marks second_marks listed) (reach_left right done further) (I32 ∷ before))
-                (operator_typed w k op unsigned (scratch heap c d) (scratch heap c (suc d)) before (reach_right right done further)))) q)
+        let both = operated_has op l r (type_of c l) (type_of c r) has in
+        of_two w (or_zero op r) left (left ⊕ (right ⊕ done)) before (I32 ∷ before)
+        (λ reached. value_typed w k true d (at + 1) l both.0 (listed_left c.home first_marks second_marks listed) reached before)
+        (λ reached.
+        let further = reach_right left (right ⊕ done) reached in
+        types_join w left (right ⊕ done) before (I32 ∷ before) (I32 ∷ before)
+        (value_typed w k true d (at + 1) l both.0 (listed_left c.home first_marks second_marks listed) (reach_left left (right ⊕ done) reached) before)
+        (types_join w right done (I32 ∷ before) (I32 ∷ I32 ∷ before) (I32 ∷ before)
+        (value_typed w k true d (at + 1 + expr_count l) r both.1 (listed_right c.home first_marks second_marks listed) (reach_left right done further) (I32 ∷ before))
+        (operator_typed w k op unsigned (scratch heap c d) (scratch heap c (suc d)) before (reach_right right done further)))) q)
         t m)
     value_typed w k wanted d at (chain e ls) t m r before =
         let value = expr_code heap c true d e in
@@ -166,11 +164,13 @@ module _ (heap : ℕ) (c : Scope) (room : ℕ) where
         let further = listed_right c.home marks_e (marks_a ++ marks_b) m in
         finished_typed w wanted _ before
         (types_join w test choice before (I32 ∷ before) (I32 ∷ before)
-        (value_typed w k true d (at + 1) e (below_has Int (type_of c e) first_two.0) (listed_left c.home marks_e (marks_a ++ marks_b) m) (reach_left test choice q) before)
-        (before, refl,
-        value_typed (inside (Some I32) w) (inside_context (Some I32) k) true d (at + 1 + expr_count e) a (below_has Int (type_of c a) first_two.1) (listed_left c.home marks_a marks_b further) (omega (arith, q1)) [],
-        value_typed (inside (Some I32) w) (inside_context (Some I32) k) true d (at + 1 + expr_count e + expr_count a) b (below_has Int (type_of c b) fits.1) (listed_right c.home marks_a marks_b further) (omega (arith, q1)) [],
-        refl))
+        (value_typed w k true d (at + 1) e (below_has Int (type_of c e) first_two.0) (listed_left c.home marks_e (marks_a ++ marks_b) m) (reach_left test choice q) before) (
+          before,
+          refl,
+          value_typed (inside (Some I32) w) (inside_context (Some I32) k) true d (at + 1 + expr_count e) a (below_has Int (type_of c a) first_two.1) (listed_left c.home marks_a marks_b further) (omega (arith, q1)) [],
+          value_typed (inside (Some I32) w) (inside_context (Some I32) k) true d (at + 1 + expr_count e + expr_count a) b (below_has Int (type_of c b) fits.1) (listed_right c.home marks_a marks_b further) (omega (arith, q1)) [],
+          refl,
+        ))
     value_typed w k wanted d at (comma es) t m r before = finished_typed w wanted _ before (comma_typed w k d (at + 1) es t m (finished_reach wanted (comma_code heap c d es) r) before)
 
     arguments_typed : (w : Context) → IsContextOf c room w → (d at : ℕ) (es : Exprs) → AllHave c es → AreListed c.home (exprs_marks c at es)

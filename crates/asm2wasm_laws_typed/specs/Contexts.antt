@@ -1,5 +1,5 @@
 -- What the code of a body finds in its context: the numbers by which a translated module names its variables, functions and types.
-use Rattle.std.specs.Prelude.{◌≡◌, ℕ, ◌+◌, ◌<◌, Bool, true, List, [], ◌∷◌, length, Option, Some, slice_get}
+use Rattle.std.specs.Prelude.{◌≡◌, ℕ, ◌+◌, ◌<◌, true, List, [], ◌∷◌, length, Some, slice_get}
 use Rattle.wasm_lang.specs.declared.types.ValType.TheVariants.{I32}
 use Rattle.wasm_lang.specs.declared.types.GlobalType.{GlobalType}
 use Rattle.wasm_lang_valid.specs.Typing.{Context, type_of}
