@@ -11,3 +11,4 @@ pub mod TypedValues
 pub mod Opened
 pub mod TypedSwitches
 pub mod TypedBodies
+pub mod Said

@@ -1,13 +1,15 @@
 -- What holds of the code of bodies.
 use Rattle.std.specs.Prelude.{◌≡◌, ℕ, ◌+◌, ◌*◌, ◌≤◌, Bool, true, false, List, [], ◌∷◌, if◌then◌else◌}
 use Rattle.std.specs.Option.{is_some}
+use Rattle.std.specs.List.{AllByRecursion}
 use Rattle.wasm_lang.specs.declared.types.ValType.{ValType}
 use Rattle.wasm_lang.specs.declared.types.ValType.TheVariants.{I32}
 use Rattle.wasm_lang_valid.specs.Typing.{Context, IsValid}
 use Rattle.wasm_laws_sound.specs.Trees.{IsTyped}
 use Rattle.wasm_laws_trees.specs.Spelled.{closed, size, tree_levels, reach}
-use Rattle.asm_lang.specs.Heights.{expr_height, stmt_heights, stmts_height, function_height}
-use Rattle.asm_lang.specs.Modules.{Expr, Stmt}
+use Rattle.asm_lang.specs.Heights.{expr_height, stmt_heights, stmts_height, function_height, IsWellFormed}
+use Rattle.asm_lang.specs.Modules.{Expr, Stmt, Function, Module}
+use Rattle.asm_lang_valid.specs.Typed.{scope_of}
 use Rattle.asm_lang_valid.specs.Rows.{expr_count, stmt_count, function_count}
 use Rattle.asm_lang_valid.specs.LimitRows.{expr_marks, call_marks, effect_marks, stmt_marks, stmts_marks}
 use Rattle.asm_lang_valid.specs.Typing.{Scope, Around, at_top, is_loop, type_of, call_fits, effect_fits, typed, all_typed}
@@ -94,3 +96,13 @@ FunctionsAreValid =
     (heap : ℕ) (c : Scope) (room : ℕ) (base : Context) → IsContextOf c room base → base.returns ≡ returned c
     → (at : ℕ) → all_typed c at_top c.within.body ≡ true → AreListed c.home (stmts_marks c at c.within.body)
     → reach (function_code heap c) ≤ room → IsValid base (closed (function_code heap c))
+
+-- ---- what these ask of a module
+
+-- in a module that a text says, labels before one statement are one list
+abbrev pub LabelsAreJoined : Type 0
+LabelsAreJoined = (m : Module) → IsWellFormed m → AllByRecursion (λ (f : Function). HaveJoinedLabels f.body) m.functions
+
+-- each call of a foreign function in a function's body is among those that the module imports
+abbrev pub UsesAreListed : Type 0
+UsesAreListed = (m : Module) → AllByRecursion (λ (f : Function). (at : ℕ) × AreListed m (stmts_marks (scope_of m f) at f.body)) m.functions

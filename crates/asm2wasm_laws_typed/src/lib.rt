@@ -1,7 +1,7 @@
 //! The code that bodies of asm.js are translated to: its size, its depth and locals, and its types.
 #![tactic(auto)]
 
-ghost use Rattle.asm2wasm_laws_typed.specs.Laws.{ExpressionsAreSmall, StatementsAreSmall, FunctionsAreSmall, ExpressionsAreFlat, StatementsAreFlat, FunctionsAreFlat, ExpressionsReach, StatementsReach, FunctionsReach, ValuesAreTyped, CallsAreTyped, EffectsAreTyped, StatementsAreTyped, FunctionsAreValid};
+ghost use Rattle.asm2wasm_laws_typed.specs.Laws.{ExpressionsAreSmall, StatementsAreSmall, FunctionsAreSmall, ExpressionsAreFlat, StatementsAreFlat, FunctionsAreFlat, ExpressionsReach, StatementsReach, FunctionsReach, ValuesAreTyped, CallsAreTyped, EffectsAreTyped, StatementsAreTyped, FunctionsAreValid, LabelsAreJoined, UsesAreListed};
 
 /// A body has at most 14 instructions for each node and clause.
 pub fn sizes()
@@ -35,4 +35,10 @@ pub fn values()
 pub fn bodies()
     ensures statements { StatementsAreTyped }
     ensures functions { FunctionsAreValid }
+{}
+
+/// What the other laws ask of a body holds in a module that a text says.
+pub fn texts()
+    ensures labels { LabelsAreJoined }
+    ensures uses { UsesAreListed }
 {}
