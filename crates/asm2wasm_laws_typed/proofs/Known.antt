@@ -10,9 +10,8 @@ use Rattle.asm_types.specs.declared.value_type.ValueType.TheVariants.{Int, Intis
 use Rattle.asm_types.specs.Rows.{row, binary_row_of}
 use Rattle.asm_lang.specs.Modules.{Expr, Exprs, no_exprs, exprs, Module}
 use Rattle.asm_lang_valid.specs.LimitRows.{Mark, a_row, a_use}
-use Rattle.asm_lang_valid.specs.Scope.{Meaning, a_view, Signature}
+use Rattle.asm_lang_valid.specs.Scope.{Meaning, a_view, Signature, shift_of}
 use Rattle.asm_lang_valid.specs.Typing.{Scope, is_factor, typed_below, index_form, index_fits, operated, same, matches, type_of, all_below}
-use Rattle.asm_lang_valid.specs.Scope.{shift_of}
 use Rattle.asm2wasm_laws_typed.specs.Contexts.{AreListed}
 
 pub row_holds : (b : Bool) (t : ValueType) → is_some (row b t) ≡ true → b ≡ true

@@ -57,7 +57,7 @@ StatementsReach = (heap : ℕ) (c : Scope) (ls : List Label) (own : List (List �
 abbrev pub FunctionsReach : Type 0
 FunctionsReach = (heap : ℕ) (c : Scope) → reach (function_code heap c) ≤ first_scratch c.within + function_height c.within
 
--- ---- types; the locals that the code names are there, and `at` is the number of the expression's node
+-- ---- types; there are all locals that the code names, and `at` is the number of the node
 
 -- an int on the stack, where it is wanted
 abbrev pub given : Bool → List ValType → List ValType
