@@ -1,4 +1,4 @@
-mod Joined
+pub mod Joined
 mod Read
 mod Counted
-mod Checked
+pub mod Checked

@@ -1,0 +1,14 @@
+pub mod SmallValues
+pub mod SmallBodies
+pub mod FlatValues
+pub mod FlatBodies
+pub mod ReachValues
+pub mod ReachBodies
+pub mod Steps
+pub mod Known
+pub mod TypedPieces
+pub mod TypedValues
+pub mod Opened
+pub mod TypedSwitches
+pub mod TypedBodies
+pub mod Said

@@ -1,0 +1,4 @@
+pub mod Labels
+pub mod Contexts
+pub mod Opened
+pub mod Laws
