@@ -1,0 +1,2 @@
+//! Expressions of asm.js, and the code that keeps what they do.
+#![tactic(auto)]
