@@ -72,6 +72,13 @@ module _ (s : Surroundings) (limit : ℕ) where
         (size code) p.units (run_from s.target s.fixed (from ++ stack) code scratch p) (part p) (k.by p scratch stack h many few);
   }
 
+  pub keeps_same : {A : Type 0} (d : ℕ) (from : List Word) (has : A → Type 0) (on : A → List Word) (code : Trees) (part part' : Part A)
+      → ((p : Place) → part p ≡ part' p) → Keeps s limit d from has on code part → Keeps s limit d from has on code part'
+  keeps_same d from has on code part part' e k = record {
+    by = λ p scratch stack h many few.
+        subst (λ o. Sim s.worth ends (Shown s d has on scratch stack) (size code) p.units (run_from s.target s.fixed (from ++ stack) code scratch p) o) (e p) (k.by p scratch stack h many few);
+  }
+
   -- words below are left alone
   pub keeps_over : {A : Type 0} (d : ℕ) (below : List Word) (has : A → Type 0) (on : A → List Word) (code : Trees) (part : Part A)
       → Keeps s limit d [] has on code part → Keeps s limit d below has (λ a. on a ++ below) code part
