@@ -1,3 +1,4 @@
 pub mod Sizes
 pub mod Joined
 pub mod Operated
+pub mod Variables
