@@ -19,11 +19,11 @@ use Rattle.asm_lang_exec.specs.Meaning.{in_type, seen}
 use Rattle.asm2wasm_code.specs.Values.{plains}
 use Rattle.asm2wasm_laws_run.specs.Sim.{Steps, Ends, Shows, Sim}
 use Rattle.asm2wasm_laws_run.specs.Straight.{reached, effects, paid}
-use Rattle.asm2wasm_laws_run.specs.State.{words, store_of, Holds, EndsAlike, run_from}
+use Rattle.asm2wasm_laws_run.specs.State.{words, store_of, Holds, EndsAlike, AnyValue, run_from}
 use Rattle.asm2wasm_laws_run.proofs.Simulated.{sim_in, sim_more, sim_same, sim_shows}
 use Rattle.asm2wasm_laws_run.proofs.Straight.{plains_none, runs}
 use Rattle.asm2wasm_laws_run.proofs.Chained.{sim_then}
-use Rattle.asm2wasm_laws_values.specs.Kept.{Surroundings, Shown, Keeps}
+use Rattle.asm2wasm_laws_values.specs.Kept.{word, a_value, Surroundings, Shown, Keeps}
 
 -- no more reductions than instructions
 pub paid_all : (ps : List Plain) → paid ps ≤ size (plains ps)
@@ -123,6 +123,27 @@ module _ (s : Surroundings) (limit : ℕ) where
         (λ k. Next (at (on a ++ stack) (words p.locals ++ scratch) (store_of s.fixed p) k))
         (record { is = is; holds = h; scratch_then = scratch; as_many = refl; kept = refl; shown = λ k. refl })
         (λ k. let e : 0 + k ≡ k = omega arith in ap (run_from s.target s.fixed (on a ++ stack) ε scratch p) e ∙ no_code s.target (at (on a ++ stack) (words p.locals ++ scratch) (store_of s.fixed p) k));
+  }
+
+  mapped_shown : (d z n : ℕ) (has : JsValue → Type 0) (scratch stack : List Word) (r : Steps) (o : Run JsValue) (f : JsValue → Option JsValue)
+      → ((v x : JsValue) → has v → f v ≡ Some x → word v ≡ word x)
+      → Sim s.worth ends (Shown s d has a_value scratch stack) z n r o
+      → Sim s.worth ends (Shown s d AnyValue a_value scratch stack) z n r (after o (λ v. defined (f v)))
+  mapped_shown d z n has scratch stack r (goes v p) f same x = by (f v) refl
+    where
+      by : (o : Option JsValue) → f v ≡ o → Sim s.worth ends (Shown s d AnyValue a_value scratch stack) z n r (defined o p)
+      by None e = tt
+      by (Some y) e = (x.0, record { is = tt; holds = x.1.holds; scratch_then = x.1.scratch_then; as_many = x.1.as_many; kept = x.1.kept; shown = λ k. x.1.shown k ∙ ap (λ w. Next (at (w ∷ stack) (words p.locals ++ x.1.scratch_then) (store_of s.fixed p) k)) (same v y x.1.is e) }, x.2)
+  mapped_shown d z n has scratch stack r (stops e p) f same x = x
+  mapped_shown d z n has scratch stack r (spent p) f same x = x
+  mapped_shown d z n has scratch stack r wrong f same x = tt
+
+  -- an operation that leaves the word as it is
+  pub keeps_mapped : (d : ℕ) (has : JsValue → Type 0) (code : Trees) (part : Part JsValue) (f : JsValue → Option JsValue)
+      → ((v x : JsValue) → has v → f v ≡ Some x → word v ≡ word x)
+      → Keeps s limit d [] has a_value code part → Keeps s limit d [] AnyValue a_value code (and_then part (λ v. defined (f v)))
+  keeps_mapped d has code part f same k = record {
+    by = λ p scratch stack h many few. mapped_shown d (size code) p.units has scratch stack (run_from s.target s.fixed stack code scratch p) (part p) f same (k.by p scratch stack h many few);
   }
 
   -- ---- plain instructions

@@ -2,3 +2,4 @@ pub mod Sizes
 pub mod Joined
 pub mod Operated
 pub mod Variables
+pub mod Chosen

@@ -22,7 +22,7 @@ use Rattle.asm2wasm_laws_run.proofs.Simulated.{sim_in, sim_more}
 use Rattle.asm2wasm_laws_run.proofs.Straight.{plains_none, runs}
 use Rattle.asm2wasm_laws_run.proofs.Chained.{get_past, set_past}
 use Rattle.asm2wasm_laws_run.proofs.Guarded.{get_same}
-use Rattle.asm2wasm_laws_values.specs.Kept.{word, a_value, no_value, Surroundings, Shown, Keeps}
+use Rattle.asm2wasm_laws_values.specs.Kept.{word, a_value, no_value, result, Surroundings, Shown, Keeps}
 use Rattle.asm2wasm_laws_values.proofs.Joined.{paid_all}
 
 -- ---- lists
@@ -164,10 +164,6 @@ module _ (s : Surroundings) (limit d : ℕ) where
 
     -- ---- writing
 
-    abbrev left : Bool → JsValue → List Word
-    left true v = a_value v
-    left false v = []
-
     module _ (v : JsValue) where
       abbrev local_to : Place → Place
       local_to p = record p { locals = with_value n v p.locals }
@@ -194,7 +190,7 @@ module _ (s : Surroundings) (limit d : ℕ) where
       global_is p j y x = ap (λ o. written o (value_in p.globals n) n v p) y ∙ ap (λ o. written None o n v p) x.is
 
       write_at : (wanted : Bool) (l g : Option ℕ) → slot_of (local_names s.within) n ≡ l → slot_of (global_names s.home) n ≡ g
-          → Keeps s limit d (word v ∷ []) AnyValue (left wanted) (put_code wanted (place_among imported l g)) (write n v)
+          → Keeps s limit d (word v ∷ []) AnyValue (result wanted) (put_code wanted (place_among imported l g)) (write n v)
       write_at true (Some i) g e e' = keeps_doing (word v ∷ []) a_value (local_tee i ∷ []) (write n v)
           (λ p scratch stack h. let x = local_says p (Some i) h e in record {
             value = v;
@@ -244,8 +240,8 @@ module _ (s : Surroundings) (limit d : ℕ) where
         by = λ p scratch stack h many few.
             let y = local_says p None h e in let x = global_says p None h e' in
             let is : write n v p ≡ wrong = ap (λ o. written o (value_in p.globals n) n v p) y ∙ ap (λ o. written None o n v p) x in
-            subst (λ o. Sim s.worth (EndsAlike s.fixed s.home s.heap) (Shown s d AnyValue (left wanted) scratch stack) (size (put_code wanted nowhere)) p.units (run_from s.target s.fixed (word v ∷ stack) (put_code wanted nowhere) scratch p) o) (sym is) tt;
+            subst (λ o. Sim s.worth (EndsAlike s.fixed s.home s.heap) (Shown s d AnyValue (result wanted) scratch stack) (size (put_code wanted nowhere)) p.units (run_from s.target s.fixed (word v ∷ stack) (put_code wanted nowhere) scratch p) o) (sym is) tt;
       }
 
-      pub keeps_write : (wanted : Bool) → Keeps s limit d (word v ∷ []) AnyValue (left wanted) (put_code wanted (place_among imported (slot_of (local_names s.within) n) (slot_of (global_names s.home) n))) (write n v)
+      pub keeps_write : (wanted : Bool) → Keeps s limit d (word v ∷ []) AnyValue (result wanted) (put_code wanted (place_among imported (slot_of (local_names s.within) n) (slot_of (global_names s.home) n))) (write n v)
       keeps_write wanted = write_at wanted (slot_of (local_names s.within) n) (slot_of (global_names s.home) n) refl refl

@@ -1,6 +1,6 @@
 -- When code of WebAssembly keeps what a part of asm.js does: from each place of a function's run the reductions of the code show the
 -- part's run, and no more of them stand beside the units than the code has instructions.
-use Rattle.std.specs.Prelude.{◌≡◌, ℕ, ◌≤◌, true, List, [], ◌∷◌, ◌++◌, length, map, reverse, take}
+use Rattle.std.specs.Prelude.{◌≡◌, ℕ, ◌≤◌, Bool, true, false, List, [], ◌∷◌, ◌++◌, length, map, reverse, take}
 use Rattle.sem_words.specs.declared.word.Word.{Word}
 use Rattle.sem_words.specs.declared.word.Word.TheVariants.{W32}
 use Rattle.sem_words.specs.declared.js_value.JsValue.{JsValue}
@@ -30,6 +30,11 @@ values vs = reverse (map word vs)
 
 abbrev pub no_value : {A : Type 0} → A → List Word
 no_value a = []
+
+-- the value where it is wanted
+abbrev pub result : Bool → JsValue → List Word
+result true v = a_value v
+result false v = []
 
 abbrev pub Fits : ValueType → JsValue → Type 0
 Fits t v = fits_of t v ≡ true
