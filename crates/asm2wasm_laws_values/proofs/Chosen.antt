@@ -43,7 +43,7 @@ nothing_more : {A : Type 0} → (xs : List A) → xs ++ [] ≡ xs
 nothing_more [] = refl
 nothing_more (x ∷ xs) = ap (λ l. x ∷ l) (nothing_more xs)
 
-second_size : (t : Trees) → size t ≤ else_size t (size t)
+pub second_size : (t : Trees) → size t ≤ else_size t (size t)
 second_size ε = omega arith
 second_size (x ▹ t) = omega arith
 

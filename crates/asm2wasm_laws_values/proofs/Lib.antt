@@ -3,3 +3,5 @@ pub mod Joined
 pub mod Operated
 pub mod Variables
 pub mod Chosen
+pub mod Scratch
+pub mod Divided
