@@ -5,3 +5,4 @@ pub mod Variables
 pub mod Chosen
 pub mod Scratch
 pub mod Divided
+pub mod Elements
