@@ -6,3 +6,4 @@ pub mod Chosen
 pub mod Scratch
 pub mod Divided
 pub mod Elements
+pub mod Meant

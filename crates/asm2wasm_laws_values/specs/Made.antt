@@ -1,0 +1,47 @@
+-- What is asked of the calls in an expression, of its foreign uses and of the scratch locals of its code.
+use Rattle.std.specs.Prelude.{◌≡◌, ℕ, ◌+◌, ◌≤◌, Bool, true, List, [], ◌∷◌, length, Some, slice_get, if◌then◌else◌, false}
+use Rattle.sem_words.specs.declared.word.Word.TheVariants.{W32}
+use Rattle.sem_words.specs.declared.js_value.JsValue.{JsValue}
+use Rattle.wasm_lang_exec.specs.Code.{Trees, ε, ◌▹◌, call, call_indirect}
+use Rattle.wasm_laws_trees.specs.Spelled.{reach}
+use Rattle.asm_lang.specs.Modules.{Function, Table}
+use Rattle.asm_lang_valid.specs.Scope.{a_function, a_table, signature_of, first_member, module_meaning}
+use Rattle.asm_lang_valid.specs.Typing.{matches}
+use Rattle.asm_lang_valid.specs.LimitRows.{ForeignCall, Mark, a_row, a_use, is_same, foreign_calls}
+use Rattle.asm_lang_exec.specs.Values.{Calls, call_import}
+use Rattle.asm2wasm_code.specs.Numbers.{first_scratch, import_number, table_type, base_of}
+use Rattle.asm2wasm_laws_run.specs.State.{AnyValue}
+use Rattle.asm2wasm_laws_values.specs.Kept.{values, result, Surroundings, Keeps}
+
+-- ---- foreign uses
+
+abbrev pub is_listed : ForeignCall → List ForeignCall → Bool
+is_listed f [] = false
+is_listed f (g ∷ gs) = if is_same f g then true else is_listed f gs
+
+-- each foreign use among the marks is one of these calls
+abbrev pub AllListed : List ForeignCall → List Mark → Type 0
+AllListed fs [] = Unit {0}
+AllListed fs (a_row r ∷ ms) = AllListed fs ms
+AllListed fs (a_use f at ∷ ms) = (is_listed f fs ≡ true) × AllListed fs ms
+
+-- ---- scratch locals
+
+-- the code names no local past the scratch locals
+abbrev pub Within : Surroundings → Trees → Type 0
+Within s code = reach code ≤ first_scratch s.within + s.scratch
+
+-- ---- calls, with the arguments on the stack, where no more units are left than the limit
+
+pub record CallsKept (s : Surroundings) (limit : ℕ) (calls : Calls) : Type 0 where
+  -- of a function of the module, by its place
+  pub own : (g : Function) (n : ℕ) → slice_get s.home.functions n ≡ Some g → (d : ℕ) (vs : List JsValue) → length vs ≡ length g.params
+      → Keeps s limit d (values vs) AnyValue (result (signature_of g).result) (call (length (foreign_calls s.home) + n) ▹ ε) (calls g vs)
+  -- of a foreign function
+  pub foreign : (name : List ℕ) (wanted : Bool) (d : ℕ) (vs : List JsValue) → let f : ForeignCall = record { name = name; params = length vs; result = wanted } in
+      is_listed f (foreign_calls s.home) ≡ true
+      → Keeps s limit d (values vs) AnyValue (result wanted) (call (import_number s.home f) ▹ ε) (call_import name vs)
+  -- of an entry of a table, whose index is on top
+  pub entry : (n : List ℕ) (t : Table) (j : ℕ) (name : List ℕ) (g : Function) (wanted : Bool) → module_meaning s.home n ≡ a_table t → slice_get t.members j ≡ Some name → module_meaning s.home name ≡ a_function g
+      → (d : ℕ) (vs : List JsValue) → matches (first_member s.home t.members) (length vs) wanted ≡ true
+      → Keeps s limit d (W32 (base_of s.home n + j) ∷ values vs) AnyValue (result wanted) (call_indirect (table_type s.home t) ▹ ε) (calls g vs)
