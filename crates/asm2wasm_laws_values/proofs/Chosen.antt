@@ -30,7 +30,7 @@ use Rattle.asm2wasm_laws_run.specs.Sim as sims
 use Rattle.asm2wasm_laws_run.specs.State.{words, store_of, Holds, EndsAlike, AnyValue, run_from}
 use Rattle.asm2wasm_laws_run.proofs.Simulated.{comes_in, sim_after, sim_in, sim_more, sim_bind}
 use Rattle.asm2wasm_laws_values.specs.Kept.{word, a_value, no_value, result, Surroundings, Shown, Keeps}
-use Rattle.asm2wasm_laws_values.proofs.Joined.{keeps_then, keeps_over, keeps_same, keeps_mapped, keeps_weaker, keeps_operation}
+use Rattle.asm2wasm_laws_values.proofs.Joined.{keeps_then, keeps_over, keeps_same, keeps_mapped, keeps_operation}
 use Rattle.asm2wasm_laws_values.proofs.Operated.{keeps_word}
 
 after_gives : {A : Type 0} → (o : Run A) → after o gives ≡ o
@@ -112,14 +112,14 @@ module _ (s : Surroundings) (limit d : ℕ) where
 
   -- ---- a value that isn't wanted
 
-  pub keeps_dropped : (has : JsValue → Type 0) (code : Trees) (part : Part JsValue) → Keeps s limit d [] has a_value code part → Keeps s limit d [] AnyValue no_value (code ⊕ one drop_operand) part
+  pub keeps_dropped : (has : JsValue → Type 0) (code : Trees) (part : Part JsValue) → Keeps s limit d [] has a_value code part → Keeps s limit d [] has no_value (code ⊕ one drop_operand) part
   keeps_dropped has code part k =
-      keeps_same s limit d [] AnyValue no_value (code ⊕ one drop_operand) (and_then part gives) part (λ p. after_gives (part p))
-      (keeps_then s limit d [] has a_value AnyValue no_value code (one drop_operand) part gives k
-      (λ v g. keeps_operation s limit d (a_value v) AnyValue no_value (drop_operand ∷ []) v tt (λ stack locals store. refl)))
+      keeps_same s limit d [] has no_value (code ⊕ one drop_operand) (and_then part gives) part (λ p. after_gives (part p))
+      (keeps_then s limit d [] has a_value has no_value code (one drop_operand) part gives k
+      (λ v g. keeps_operation s limit d (a_value v) has no_value (drop_operand ∷ []) v g (λ stack locals store. refl)))
 
-  pub keeps_finished : (wanted : Bool) (has : JsValue → Type 0) (code : Trees) (part : Part JsValue) → Keeps s limit d [] has a_value code part → Keeps s limit d [] AnyValue (result wanted) (finished wanted code) part
-  keeps_finished true has code part k = keeps_weaker s limit d [] has AnyValue a_value code part (λ v g. tt) k
+  pub keeps_finished : (wanted : Bool) (has : JsValue → Type 0) (code : Trees) (part : Part JsValue) → Keeps s limit d [] has a_value code part → Keeps s limit d [] has (result wanted) (finished wanted code) part
+  keeps_finished true has code part k = k
   keeps_finished false has code part k = keeps_dropped has code part k
 
   -- ---- chains

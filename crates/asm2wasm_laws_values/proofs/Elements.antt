@@ -53,7 +53,7 @@ few_shifts Uint16 = omega arith
 few_shifts Int32 = omega arith
 few_shifts Uint32 = omega arith
 
-module _ (s : Surroundings) (limit d : ℕ) (enough : d + 2 ≤ s.scratch) (v : Element) (has : has_heap s.home ≡ true) (long : IsHeapLength s.heap) where
+module _ (s : Surroundings) (limit d : ℕ) (some : d + 1 ≤ s.scratch) (v : Element) (has : has_heap s.home ≡ true) (long : IsHeapLength s.heap) where
   abbrev x : ℕ
   x = scratch_x s limit d
 
@@ -90,7 +90,7 @@ module _ (s : Surroundings) (limit d : ℕ) (enough : d + 2 ≤ s.scratch) (v : 
       does : (p : Place) (scratch stack : List Word) → Holds s.home s.heap s.within p → length scratch ≡ s.scratch
           → Guarding s limit d (W32 (word_of 32 z) ∷ []) (within s.heap k x) arm (number 0 ∷ []) (read_element (a_view v) (Whole z)) p scratch stack
       does p scratch stack h many =
-          let old = there s limit d p scratch h scratch d (omega (arith, enough, many)) in
+          let old = there s limit d p scratch h scratch d (omega (arith, some, many)) in
           record {
             value = element_value (load (kind_of v) z p.heap);
             is = refl;
@@ -121,7 +121,7 @@ module _ (s : Surroundings) (limit d : ℕ) (enough : d + 2 ≤ s.scratch) (v : 
           by false is = ap (λ n. Some (reached (W32 n ∷ []) ls (store_of s.fixed p))) (value false is)
           by true is =
               let st = store_of s.fixed p in
-              let at_x = got s limit d p scratch h scratch d (W32 i) (omega (arith, enough, many)) in
+              let at_x = got s limit d p scratch h scratch d (W32 i) (omega (arith, some, many)) in
               let there = bytes_are_there k i p.heap s.fixed.past (few_shifts v) (ap (λ n. is_within k n i) (heap_is p h) ∙ is) in
               let n = little_endian (take (2 ^ k) (drop (i * 2 ^ k) memory)) in
               let bytes : load_bytes (i * 2 ^ k) (2 ^ k) memory ≡ Some n = load_bytes_within (i * 2 ^ k) (2 ^ k) memory there in
@@ -163,8 +163,8 @@ module _ (s : Surroundings) (limit d : ℕ) (enough : d + 2 ≤ s.scratch) (v : 
   few_more true = omega arith
   few_more false = omega arith
 
-  stores : (wanted : Bool) (z : ℤ) (e : JsValue) → is_index z ≡ true → Keeps s limit d (word e ∷ W32 (word_of 32 z) ∷ []) AnyValue (result wanted) (whole wanted) (write_element (a_view v) (Whole z) e)
-  stores wanted z e in_range = record { by = begins }
+  stores : d + 2 ≤ s.scratch → (wanted : Bool) (z : ℤ) (e : JsValue) → is_index z ≡ true → Keeps s limit d (word e ∷ W32 (word_of 32 z) ∷ []) AnyValue (result wanted) (whole wanted) (write_element (a_view v) (Whole z) e)
+  stores enough wanted z e in_range = record { by = begins }
     where
       i : ℕ
       i = word_of 32 z
@@ -238,7 +238,7 @@ module _ (s : Surroundings) (limit d : ℕ) (enough : d + 2 ≤ s.scratch) (v : 
               ∙ no_code s.target (at (result wanted e ++ stack) end st j)
               ∙ ap (λ memory. Next (at (result wanted e ++ stack) end (put_memory memory (store_of s.fixed p)) j)) memory
 
-  pub keeps_store : (wanted : Bool) (z : ℤ) (e : JsValue) → is_index z ≡ true
+  pub keeps_store : d + 2 ≤ s.scratch → (wanted : Bool) (z : ℤ) (e : JsValue) → is_index z ≡ true
       → Keeps s limit d (word e ∷ W32 (word_of 32 z) ∷ []) AnyValue (result wanted) (store_code s.heap x y (a_view v) ⊕ stored_code wanted y) (write_element (a_view v) (Whole z) e)
-  keeps_store true z e in_range = stores true z e in_range
-  keeps_store false z e in_range = stores false z e in_range
+  keeps_store enough true z e in_range = stores enough true z e in_range
+  keeps_store enough false z e in_range = stores enough false z e in_range

@@ -96,6 +96,16 @@ module _ (s : Surroundings) (limit : ℕ) where
   keeps_defined d from has on code None f = record { by = λ p scratch stack h many few. tt }
   keeps_defined d from has on code (Some a) f = record { by = λ p scratch stack h many few. (f a refl).by p scratch stack h many few }
 
+  -- what follows from the operation
+  pub keeps_known : {A : Type 0} (d : ℕ) (from : List Word) (has : A → Type 0) (on : A → List Word) (code : Trees) (o : Option A)
+      → ((a : A) → o ≡ Some a → has a) → Keeps s limit d from (λ a. Unit {0}) on code (defined o) → Keeps s limit d from has on code (defined o)
+  keeps_known d from has on code None f k = record { by = λ p scratch stack h many few. tt }
+  keeps_known d from has on code (Some a) f k = record {
+    by = λ p scratch stack h many few.
+        let x = k.by p scratch stack h many few in
+        (x.0, record { is = f a refl; holds = x.1.holds; scratch_then = x.1.scratch_then; as_many = x.1.as_many; kept = x.1.kept; shown = x.1.shown }, x.2);
+  }
+
   seen_shown : (d z n : ℕ) (t : ValueType) (has : JsValue → Type 0) (on : JsValue → List Word) (scratch stack : List Word) (r : Steps) (o : Run JsValue)
       → Sim s.worth ends (Shown s d has on scratch stack) z n r o
       → Sim s.worth ends (Shown s d (λ v. (in_type (Some t) v ≡ true) × has v) on scratch stack) z n r (after o (λ v. if in_type (Some t) v then gives v else goes_wrong))

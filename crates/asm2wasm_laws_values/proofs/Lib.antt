@@ -7,3 +7,5 @@ pub mod Scratch
 pub mod Divided
 pub mod Elements
 pub mod Meant
+pub mod Rooms
+pub mod Stepped
