@@ -112,15 +112,15 @@ module _ (s : Surroundings) (limit d : ℕ) where
 
   -- ---- a value that isn't wanted
 
-  pub keeps_dropped : (has : JsValue → Type 0) (code : Trees) (part : Part JsValue) → Keeps s limit d [] has a_value code part → Keeps s limit d [] has no_value (code ⊕ one drop_operand) part
-  keeps_dropped has code part k =
-      keeps_same s limit d [] has no_value (code ⊕ one drop_operand) (and_then part gives) part (λ p. after_gives (part p))
-      (keeps_then s limit d [] has a_value has no_value code (one drop_operand) part gives k
+  pub keeps_dropped : (from : List Word) (has : JsValue → Type 0) (code : Trees) (part : Part JsValue) → Keeps s limit d from has a_value code part → Keeps s limit d from has no_value (code ⊕ one drop_operand) part
+  keeps_dropped from has code part k =
+      keeps_same s limit d from has no_value (code ⊕ one drop_operand) (and_then part gives) part (λ p. after_gives (part p))
+      (keeps_then s limit d from has a_value has no_value code (one drop_operand) part gives k
       (λ v g. keeps_operation s limit d (a_value v) has no_value (drop_operand ∷ []) v g (λ stack locals store. refl)))
 
   pub keeps_finished : (wanted : Bool) (has : JsValue → Type 0) (code : Trees) (part : Part JsValue) → Keeps s limit d [] has a_value code part → Keeps s limit d [] has (result wanted) (finished wanted code) part
   keeps_finished true has code part k = k
-  keeps_finished false has code part k = keeps_dropped has code part k
+  keeps_finished false has code part k = keeps_dropped [] has code part k
 
   -- ---- chains
 

@@ -156,6 +156,24 @@ module _ (s : Surroundings) (limit : ℕ) where
     by = λ p scratch stack h many few. mapped_shown d (size code) p.units has scratch stack (run_from s.target s.fixed stack code scratch p) (part p) f same (k.by p scratch stack h many few);
   }
 
+  gives_shown : {A B : Type 0} (d z n : ℕ) (has : A → Type 0) (on : A → List Word) (has_then : B → Type 0) (on_then : B → List Word) (scratch stack : List Word) (r : Steps) (o : Run A) (f : A → B)
+      → ((a : A) → has a → has_then (f a)) → ((a : A) → on a ≡ on_then (f a))
+      → Sim s.worth ends (Shown s d has on scratch stack) z n r o
+      → Sim s.worth ends (Shown s d has_then on_then scratch stack) z n r (after o (λ a. gives (f a)))
+  gives_shown d z n has on has_then on_then scratch stack r (goes a p) f is same x =
+      (x.0, record { is = is a x.1.is; holds = x.1.holds; scratch_then = x.1.scratch_then; as_many = x.1.as_many; kept = x.1.kept; shown = λ k. x.1.shown k ∙ ap (λ ws. Next (at (ws ++ stack) (words p.locals ++ x.1.scratch_then) (store_of s.fixed p) k)) (same a) }, x.2)
+  gives_shown d z n has on has_then on_then scratch stack r (stops e p) f is same x = x
+  gives_shown d z n has on has_then on_then scratch stack r (spent p) f is same x = x
+  gives_shown d z n has on has_then on_then scratch stack r wrong f is same x = tt
+
+  -- another result with the same words
+  pub keeps_gives : {A B : Type 0} (d : ℕ) (from : List Word) (has : A → Type 0) (on : A → List Word) (has_then : B → Type 0) (on_then : B → List Word) (code : Trees) (part : Part A) (f : A → B)
+      → ((a : A) → has a → has_then (f a)) → ((a : A) → on a ≡ on_then (f a))
+      → Keeps s limit d from has on code part → Keeps s limit d from has_then on_then code (and_then part (λ a. gives (f a)))
+  keeps_gives d from has on has_then on_then code part f is same k = record {
+    by = λ p scratch stack h many few. gives_shown d (size code) p.units has on has_then on_then scratch stack (run_from s.target s.fixed (from ++ stack) code scratch p) (part p) f is same (k.by p scratch stack h many few);
+  }
+
   -- ---- plain instructions
 
   -- those that change the place and the stack alone

@@ -9,3 +9,4 @@ pub mod Elements
 pub mod Meant
 pub mod Rooms
 pub mod Stepped
+pub mod Called

@@ -1,5 +1,5 @@
 -- What is asked of the calls in an expression, of its foreign uses and of the scratch locals of its code.
-use Rattle.std.specs.Prelude.{◌≡◌, ℕ, ◌+◌, ◌≤◌, Bool, true, List, [], ◌∷◌, length, Some, slice_get, if◌then◌else◌, false}
+use Rattle.std.specs.Prelude.{◌≡◌, ℕ, ◌+◌, ◌^◌, ◌≤◌, Bool, true, List, [], ◌∷◌, length, Some, slice_get, if◌then◌else◌, false}
 use Rattle.sem_words.specs.declared.word.Word.TheVariants.{W32}
 use Rattle.sem_words.specs.declared.js_value.JsValue.{JsValue}
 use Rattle.wasm_lang_exec.specs.Code.{Trees, ε, ◌▹◌, call, call_indirect}
@@ -41,6 +41,8 @@ pub record CallsKept (s : Surroundings) (limit : ℕ) (calls : Calls) : Type 0 w
   pub foreign : (name : List ℕ) (wanted : Bool) (d : ℕ) (vs : List JsValue) → let f : ForeignCall = record { name = name; params = length vs; result = wanted } in
       is_listed f (foreign_calls s.home) ≡ true
       → Keeps s limit d (values vs) AnyValue (result wanted) (call (import_number s.home f) ▹ ε) (call_import name vs)
+  -- the indices of entries are words
+  pub places : (n : List ℕ) (t : Table) → module_meaning s.home n ≡ a_table t → base_of s.home n + length t.members ≤ 2 ^ 32
   -- of an entry of a table, whose index is on top
   pub entry : (n : List ℕ) (t : Table) (j : ℕ) (name : List ℕ) (g : Function) (wanted : Bool) → module_meaning s.home n ≡ a_table t → slice_get t.members j ≡ Some name → module_meaning s.home name ≡ a_function g
       → (d : ℕ) (vs : List JsValue) → matches (first_member s.home t.members) (length vs) wanted ≡ true
