@@ -10,3 +10,4 @@ pub mod Meant
 pub mod Rooms
 pub mod Stepped
 pub mod Called
+pub mod Evaluated
