@@ -1,5 +1,5 @@
 -- Calls, with their arguments on the stack, and the index of an entry that waits in a scratch local.
-use Rattle.std.proofs.Common.{◌≡◌, ℕ, zero, suc, ◌+◌, ◌%◌, ◌^◌, ◌<◌, ◌≤◌, Bool, true, false, List, [], ◌∷◌, ◌++◌, length, map, reverse, take, Option, Some, None, option_and_then, pos, refl, sym, ap, ◌∙◌, subst, arith}
+use Rattle.std.proofs.Common.{◌≡◌, ℕ, zero, suc, ◌+◌, ◌%◌, ◌^◌, ◌<◌, ◌≤◌, Bool, true, false, List, [], ◌∷◌, ◌++◌, length, map, take, Option, Some, None, option_and_then, pos, refl, sym, ap, ◌∙◌, subst, arith}
 use Rattle.std.proofs.lemmas.Bool.{and_parts, eqb-true}
 use Rattle.std.proofs.lemmas.List.{length-set, take-set-le, reverse-append}
 use Rattle.std.specs.Prelude.{◌==◌, nat_le, slice_get, slice_set, if◌then◌else◌}
@@ -10,27 +10,26 @@ use Rattle.sem_words.specs.declared.word.Un.TheVariants as uns
 use Rattle.sem_words.specs.declared.js_value.JsValue.{JsValue}
 use Rattle.sem_words.specs.declared.js_value.JsValue.TheVariants.{Whole}
 use Rattle.sem_words.specs.JsOperators.{js_imul_of, js_clz32_of}
-use Rattle.sem_words.specs.Words.{word_of}
-use Rattle.wasm_lang.specs.Instructions.{Plain, local_get, local_set, bin32, un32, drop_operand}
-use Rattle.wasm_lang_exec.specs.Code.{Trees, ε, ◌▹◌, ◌⊕◌, plain}
+use Rattle.wasm_lang.specs.Instructions.{local_get, local_set, bin32, un32}
+use Rattle.wasm_lang_exec.specs.Code.{Trees, ◌⊕◌}
 use Rattle.wasm_lang_exec.specs.Store.{Store}
 use Rattle.wasm_lang_exec.specs.Plain.{pushed, with_local}
 use Rattle.wasm_laws_drive.specs.Drive.{onward}
 use Rattle.wasm_laws_drive.specs.Equations.{then_on}
 use Rattle.wasm_laws_trees.specs.Spelled.{size}
-use Rattle.asm_lang.specs.Modules.{Function, Table, Module}
+use Rattle.asm_lang.specs.Modules.{Function, Table}
 use Rattle.asm_lang_valid.specs.declared.meaning.Builtin.{Builtin}
 use Rattle.asm_lang_valid.specs.declared.meaning.Builtin.TheVariants.{Imul, Clz32}
-use Rattle.asm_lang_valid.specs.Scope.{Meaning, nothing, an_int, an_outside, a_foreign, a_builtin, a_view, a_function, a_table, a_parameter, Signature, signature_of, first_member, module_meaning, meaning}
+use Rattle.asm_lang_valid.specs.Scope.{Meaning, nothing, an_int, an_outside, a_foreign, a_builtin, a_view, a_function, a_table, a_parameter, signature_of, first_member, module_meaning, meaning}
 use Rattle.asm_lang_valid.specs.Typing.{Scope, same, matches, callee_fits}
 use Rattle.asm_lang_valid.specs.Typed.{scope_of}
 use Rattle.asm_lang_valid.specs.LimitRows.{most_params, rows_of, callee_marks, foreign_calls, a_use}
 use Rattle.asm_lang_valid.specs.Refusal.{function_number}
 use Rattle.asm_lang_valid.specs.Rows.{need}
 use Rattle.asm_lang_valid.specs.declared.rule.Rule.TheVariants.{PastLimit}
-use Rattle.asm_lang_exec.specs.Runs.{Place, Part, after, and_then, gives, defined}
+use Rattle.asm_lang_exec.specs.Runs.{Place, Part, and_then, gives, defined}
 use Rattle.asm_lang_exec.specs.Values.{Calls, builtin_value, call_import, call_named, function_of, entry_of}
-use Rattle.asm2wasm_code.specs.Numbers.{first_scratch, base_of}
+use Rattle.asm2wasm_code.specs.Numbers.{base_of}
 use Rattle.asm2wasm_code.specs.Values.{plains, one, number, builtin_code, callee_code, dropped, from_base, entry_code}
 use Rattle.asm2wasm_laws_words.proofs.Operated.{words_of_products, words_of_leading_zeros}
 use Rattle.asm2wasm_laws_run.specs.Sim.{Sim, Steps, Shows, Ends}
@@ -41,7 +40,7 @@ use Rattle.asm2wasm_laws_run.proofs.Straight.{runs}
 use Rattle.asm2wasm_laws_run.proofs.Chained.{sim_then}
 use Rattle.asm2wasm_laws_run.proofs.Chained.{get_past, is_there, locals_length}
 use Rattle.asm2wasm_laws_run.proofs.Guarded.{get_same}
-use Rattle.asm2wasm_laws_values.specs.Kept.{word, a_value, values, no_value, result, Surroundings, Shown, Keeps}
+use Rattle.asm2wasm_laws_values.specs.Kept.{word, a_value, values, result, Surroundings, Shown, Keeps}
 use Rattle.asm2wasm_laws_values.specs.Made.{AllListed, CallsKept}
 use Rattle.asm2wasm_laws_values.proofs.Sizes.{sizes_add}
 use Rattle.asm2wasm_laws_values.proofs.Rooms.{listed_parts}

@@ -1,11 +1,10 @@
 -- A choice between two pieces of code, a value that is dropped, the operands of a chain, and an `or` with 0.
-use Rattle.std.proofs.Common.{◌≡◌, ℕ, zero, suc, ◌+◌, ◌≤◌, Bool, true, false, not, List, [], ◌∷◌, ◌++◌, length, Option, Some, pos, Ok, refl, sym, ap, ◌∙◌, subst, arith}
+use Rattle.std.proofs.Common.{◌≡◌, ℕ, zero, suc, ◌+◌, ◌≤◌, Bool, true, false, not, List, [], ◌∷◌, ◌++◌, length, Option, Some, pos, refl, sym, ap, ◌∙◌, subst, arith}
 use Rattle.std.specs.Prelude.{◌==◌, if◌then◌else◌}
 use Rattle.std.proofs.lemmas.Bool.Decides.{nat_tests}
 use Rattle.std.specs.Int.Bits.{bit_or, or_zero_r}
 use Rattle.sem_words.specs.declared.word.Word.{Word}
 use Rattle.sem_words.specs.declared.word.Word.TheVariants.{W32}
-use Rattle.sem_words.specs.declared.word.TrapKind.{TrapKind}
 use Rattle.sem_words.specs.declared.word.Bin.TheVariants as bins
 use Rattle.sem_words.specs.declared.js_value.JsValue.{JsValue}
 use Rattle.sem_words.specs.declared.js_value.JsValue.TheVariants.{Whole}
@@ -13,7 +12,7 @@ use Rattle.sem_words.specs.declared.js_value.JsOp.TheVariants.{Add, Sub, Or}
 use Rattle.sem_words.specs.JsValues.{to_uint32_of}
 use Rattle.sem_words.specs.JsOperators.{js_binary_of}
 use Rattle.wasm_lang.specs.declared.types.ValType.{ValType}
-use Rattle.wasm_lang.specs.Instructions.{Plain, bin32, drop_operand}
+use Rattle.wasm_lang.specs.Instructions.{bin32, drop_operand}
 use Rattle.wasm_lang_exec.specs.Code.{Trees, ε, ◌▹◌, ◌⊕◌, if_block}
 use Rattle.wasm_lang_exec.specs.Reductions.{Code, arity_of, choose}
 use Rattle.wasm_laws_drive.specs.Drive.{Outcome, Next, at, drive}

@@ -1,15 +1,13 @@
 -- Quotients and remainders, under their guards.
-use Rattle.std.proofs.Common.{◌≡◌, ℕ, zero, suc, ◌+◌, ◌≤◌, Bool, true, false, List, [], ◌∷◌, ◌++◌, length, Some, Result, Ok, refl, sym, ap, ◌∙◌, subst, arith}
+use Rattle.std.proofs.Common.{◌≡◌, ℕ, zero, suc, ◌+◌, ◌≤◌, Bool, true, false, List, [], ◌∷◌, ◌++◌, length, Some, Ok, refl, sym, ap, ◌∙◌, arith}
 use Rattle.std.specs.Prelude.{◌==◌, if◌then◌else◌}
 use Rattle.std.proofs.lemmas.Bool.Decides.{nat_tests}
 use Rattle.sem_words.specs.declared.word.Word.{Word}
 use Rattle.sem_words.specs.declared.word.Word.TheVariants.{W32}
-use Rattle.sem_words.specs.declared.word.TrapKind.{TrapKind}
 use Rattle.sem_words.specs.declared.word.Bin.{Bin}
 use Rattle.sem_words.specs.declared.word.Bin.TheVariants as bins
 use Rattle.sem_words.specs.declared.word.Rel.TheVariants as rels
 use Rattle.sem_words.specs.declared.js_value.JsValue.{JsValue}
-use Rattle.sem_words.specs.declared.js_value.JsOp.{JsOp}
 use Rattle.sem_words.specs.declared.js_value.JsOp.TheVariants.{Div, Rem}
 use Rattle.sem_words.specs.Words.{add_of, bin_of, rel_of}
 use Rattle.sem_words.specs.JsValues.{to_uint32_of}
@@ -28,7 +26,7 @@ use Rattle.asm2wasm_laws_run.specs.Straight.{reached, on_from, effects}
 use Rattle.asm2wasm_laws_run.specs.State.{words, store_of, Holds, AnyValue}
 use Rattle.asm2wasm_laws_values.specs.Kept.{word, a_value, Surroundings, Keeps}
 use Rattle.asm2wasm_laws_values.proofs.Joined.{keeps_defined}
-use Rattle.asm2wasm_laws_values.proofs.Scratch.{Guarding, keeps_guarding, scratch_x, scratch_y, all_locals, both_in, as_many_both, kept_both, both_taken, both_used}
+use Rattle.asm2wasm_laws_values.proofs.Scratch.{Guarding, keeps_guarding, scratch_x, scratch_y, both_in, as_many_both, kept_both, both_taken, both_used}
 
 module _ (s : Surroundings) (limit d : ℕ) (enough : d + 2 ≤ s.scratch) where
   abbrev x : ℕ

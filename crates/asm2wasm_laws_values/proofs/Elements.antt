@@ -1,6 +1,6 @@
 -- Elements of a heap: loads and stores under their guards.
-use Rattle.std.proofs.Common.{◌≡◌, ℕ, zero, suc, ◌+◌, ◌*◌, ◌/◌, ◌^◌, ◌<◌, ◌≤◌, Bool, true, false, List, [], ◌∷◌, ◌++◌, length, take, drop, Option, Some, None, ℤ, refl, sym, ap, ◌∙◌, subst, arith, length-append}
-use Rattle.std.specs.Prelude.{slice_get, slice_set, nat_lt, if◌then◌else◌}
+use Rattle.std.proofs.Common.{◌≡◌, ℕ, suc, ◌+◌, ◌*◌, ◌/◌, ◌^◌, ◌<◌, ◌≤◌, Bool, true, false, List, [], ◌∷◌, ◌++◌, length, take, drop, Some, ℤ, refl, sym, ap, ◌∙◌, subst, arith, length-append}
+use Rattle.std.specs.Prelude.{slice_set, nat_lt, if◌then◌else◌}
 use Rattle.std.proofs.lemmas.List.{length-set, take-set-le}
 use Rattle.sem_words.specs.declared.word.Word.{Word}
 use Rattle.sem_words.specs.declared.word.Word.TheVariants.{W32}
@@ -27,8 +27,7 @@ use Rattle.asm_lang_valid.specs.declared.meaning.Element.{Element}
 use Rattle.asm_lang_valid.specs.declared.meaning.Element.TheVariants.{Int8, Uint8, Int16, Uint16, Int32, Uint32}
 use Rattle.asm_lang_valid.specs.Scope.{shift_of, a_view}
 use Rattle.asm_lang_valid.specs.Refusal.{has_heap}
-use Rattle.asm_lang_exec.specs.Runs.{Place, goes, Part}
-use Rattle.asm_lang_exec.specs.Session.{heap_length}
+use Rattle.asm_lang_exec.specs.Runs.{Place, goes}
 use Rattle.asm_lang_exec.specs.Values.{kind_of, element_value, read_element, write_element}
 use Rattle.asm2wasm_code.specs.Values.{plains, one, number, is_signed_element, access, scaled, within, load_code, store_code, stored_code}
 use Rattle.asm2wasm_laws_heap.specs.Guards.{is_within, stored_memory, word_or_zero, loaded_word, is_index}
@@ -99,7 +98,7 @@ module _ (s : Surroundings) (limit d : ℕ) (some : d + 1 ≤ s.scratch) (v : El
             as_many = length-set scratch d (W32 i);
             kept = take-set-le d scratch d (W32 i) (omega arith);
             test = ap (λ o. on_from (with_local x (W32 i) (W32 i ∷ stack) o (words p.locals ++ scratch) (store_of s.fixed p)) (effects (number (s.heap / 2 ^ k) ∷ rel32 rels.LtU ∷ []))) old.1
-            ∙ ap (λ ls. Some (reached (W32 (flag (nat_lt i (s.heap / 2 ^ k))) ∷ stack) ls (store_of s.fixed p))) (put s limit d p scratch h scratch d (W32 i));
+                ∙ ap (λ ls. Some (reached (W32 (flag (nat_lt i (s.heap / 2 ^ k))) ∷ stack) ls (store_of s.fixed p))) (put s limit d p scratch h scratch d (W32 i));
             does = by (is_within k s.heap i) refl;
           }
         where

@@ -1,7 +1,7 @@
 -- Each typed expression is kept by its code.
-use Rattle.std.proofs.Common.{◌≡◌, ℕ, suc, ◌+◌, ◌^◌, ◌<◌, ◌≤◌, Bool, true, false, ◌&&◌, ◌||◌, List, [], ◌∷◌, ◌++◌, length, Option, Some, None, is_some, option_and_then, pos, refl, sym, ap, ◌∙◌, subst, arith}
+use Rattle.std.proofs.Common.{◌≡◌, ℕ, suc, ◌+◌, ◌^◌, ◌<◌, ◌≤◌, Bool, true, false, ◌&&◌, ◌||◌, List, [], ◌∷◌, ◌++◌, length, Option, Some, None, is_some, pos, refl, sym, ap, ◌∙◌, subst, arith}
 use Rattle.std.proofs.lemmas.Bool.{and_parts, eqb-true}
-use Rattle.std.specs.Prelude.{◌==◌, if◌then◌else◌}
+use Rattle.std.specs.Prelude.{if◌then◌else◌}
 use Rattle.sem_words.specs.declared.word.Word.{Word}
 use Rattle.sem_words.specs.declared.word.Word.TheVariants.{W32}
 use Rattle.sem_words.specs.declared.js_value.JsValue.{JsValue}
@@ -17,23 +17,21 @@ use Rattle.wasm_lang.specs.Instructions.{local_get, local_set, bin32, drop_opera
 use Rattle.wasm_lang_exec.specs.Code.{Trees, ε, ◌▹◌, ◌⊕◌, if_block}
 use Rattle.asm_types.specs.declared.value_type.ValueType.{ValueType}
 use Rattle.asm_types.specs.declared.value_type.ValueType.TheVariants.{Signed, Int, Intish, Extern}
-use Rattle.asm_types.specs.Types.{is_below}
 use Rattle.asm_types.specs.Rows.{row, unary_row_of}
-use Rattle.asm_types.specs.Values.{fits_of}
 use Rattle.asm_types.proofs.Sound.{wider, from_row}
-use Rattle.asm_lang.specs.Modules.{Expr, lit, decimal, var, index, call, table_call, assign, store, unary, binary, chain, cond, comma, Exprs, no_exprs, exprs, Links, no_links, links, Table}
+use Rattle.asm_lang.specs.Modules.{Expr, lit, decimal, var, index, call, table_call, assign, store, unary, binary, chain, cond, comma, Exprs, no_exprs, exprs, Links, no_links, links}
 use Rattle.asm_lang_valid.specs.Scope.{Meaning, first_member, nothing, an_int, an_outside, a_foreign, a_builtin, a_view, a_function, a_table, a_parameter}
 use Rattle.asm_lang_valid.specs.Refusal.{foreign_globals, has_heap}
 use Rattle.asm_lang_valid.specs.Rows.{expr_count}
 use Rattle.asm_lang_valid.specs.LimitRows.{Mark, expr_marks, exprs_marks, links_marks, comma_marks, call_marks, callee_marks, foreign_calls}
 use Rattle.asm_lang_valid.specs.Typing.{Scope, named, typed_below, is_int, matches, index_fits, operated, exprs_length, is_call, or_zero, builtin_call, callee_fits, table_fits, mask_fits, type_of, all_below, links_fit, call_fits, last_type}
 use Rattle.asm_lang_valid.specs.Typed.{scope_of}
-use Rattle.asm_lang_exec.specs.Runs.{Place, Run, goes, stops, spent, wrong, Part, after, and_then, gives, goes_wrong, defined, read, write}
+use Rattle.asm_lang_exec.specs.Runs.{Run, goes, stops, spent, wrong, Part, after, and_then, gives, goes_wrong, defined, read, write}
 use Rattle.asm_lang_exec.specs.Values.{Calls, read_element, write_element, call_named, entry_of}
 use Rattle.asm_lang_exec.specs.Meaning.{in_type, seen, eval, eval_all, eval_links, eval_last}
 use Rattle.asm_laws_sound.proofs.Members.{Typed, Good, good_name}
 use Rattle.asm_laws_sound.proofs.Expressions.{from_bind, from_if, from_below, from_some, Masks, Valued, known_binary, index_of, operands_of, builtin_of, masked_known}
-use Rattle.asm2wasm_code.specs.Numbers.{first_scratch, place_of, base_of}
+use Rattle.asm2wasm_code.specs.Numbers.{place_of, base_of}
 use Rattle.asm2wasm_code.specs.Values as translated
 use Rattle.asm2wasm_code.specs.Values.{plains, one, number, is_unsigned, operator, get_code, put_code, load_code, store_code, stored_code, before_operand, after_operand, callee_code, dropped, from_base, entry_code, finished, expr_code, arguments_code, links_code, comma_code}
 use Rattle.asm2wasm_laws_words.specs.Laws.{is_unsigned_type}
@@ -133,7 +131,7 @@ module _ (s : Surroundings) (limit : ℕ) (calls : Calls) (kept : CallsKept s li
 
   -- ---- an expression whose value isn't used
 
-  effect_kept : (e : Expr) (d : ℕ) (ms ns : List Mark) (b : Bool) → (if b then call_fits c false e else is_some (type_of c e)) ≡ true → Listed (if b then ms else ns)
+  pub effect_kept : (e : Expr) (d : ℕ) (ms ns : List Mark) (b : Bool) → (if b then call_fits c false e else is_some (type_of c e)) ≡ true → Listed (if b then ms else ns)
       → (call_fits c false e ≡ true → Listed ms → Keeps s limit d [] AnyValue no_value (code_of false d e) (does e))
       → ((t : ValueType) → type_of c e ≡ Some t → Listed ns → Keeps s limit d [] (Valued t e) no_value (code_of false d e) (does e))
       → Keeps s limit d [] AnyValue no_value (code_of false d e) (does e)

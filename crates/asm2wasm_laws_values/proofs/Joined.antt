@@ -1,8 +1,7 @@
 -- How pieces of code that keep parts are put together.
-use Rattle.std.proofs.Common.{◌≡◌, ℕ, zero, suc, ◌+◌, ◌≤◌, Bool, true, false, List, [], ◌∷◌, ◌++◌, length, map, take, Option, Some, None, refl, sym, ap, ◌∙◌, subst, arith, append_assoc}
+use Rattle.std.proofs.Common.{◌≡◌, ℕ, suc, ◌+◌, ◌≤◌, Bool, true, false, List, [], ◌∷◌, ◌++◌, length, Option, Some, None, refl, sym, ap, ◌∙◌, subst, arith, append_assoc}
 use Rattle.std.specs.Prelude.{if◌then◌else◌}
 use Rattle.sem_words.specs.declared.word.Word.{Word}
-use Rattle.sem_words.specs.declared.word.Word.TheVariants.{W32}
 use Rattle.sem_words.specs.declared.js_value.JsValue.{JsValue}
 use Rattle.wasm_lang.specs.Instructions.{Plain}
 use Rattle.wasm_lang_exec.specs.Code.{Trees, ε, ◌⊕◌}
@@ -17,7 +16,7 @@ use Rattle.asm_types.specs.declared.value_type.ValueType.{ValueType}
 use Rattle.asm_lang_exec.specs.Runs.{Place, Run, goes, stops, spent, wrong, Part, after, and_then, gives, goes_wrong, defined}
 use Rattle.asm_lang_exec.specs.Meaning.{in_type, seen}
 use Rattle.asm2wasm_code.specs.Values.{plains}
-use Rattle.asm2wasm_laws_run.specs.Sim.{Steps, Ends, Shows, Sim}
+use Rattle.asm2wasm_laws_run.specs.Sim.{Steps, Ends, Sim}
 use Rattle.asm2wasm_laws_run.specs.Straight.{reached, effects, paid}
 use Rattle.asm2wasm_laws_run.specs.State.{words, store_of, Holds, EndsAlike, AnyValue, run_from}
 use Rattle.asm2wasm_laws_run.proofs.Simulated.{sim_in, sim_more, sim_same, sim_shows}

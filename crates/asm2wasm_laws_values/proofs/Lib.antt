@@ -11,3 +11,4 @@ pub mod Rooms
 pub mod Stepped
 pub mod Called
 pub mod Evaluated
+pub mod Whole

@@ -5,7 +5,7 @@ use Rattle.asm_lang.specs.Trees.{Init, number, decimal, foreign_int, foreign_dou
 use Rattle.asm_lang.specs.Modules.{Variable, Function, Table, Module}
 use Rattle.asm_lang_valid.specs.declared.meaning.Element.{Element}
 use Rattle.asm_lang_valid.specs.declared.meaning.Builtin.TheVariants.{Imul, Clz32}
-use Rattle.asm_lang_valid.specs.Scope.{is_foreign, Meaning, nothing, an_int, an_outside, a_foreign, a_builtin, a_view, a_function, a_table, a_parameter, Constructor, constructors, constructor_in, viewed, math_meaning, init_meaning, among_globals, among_functions, among_tables, is_in, module_meaning, meaning}
+use Rattle.asm_lang_valid.specs.Scope.{is_foreign, Meaning, an_int, an_outside, a_foreign, a_builtin, a_view, a_function, a_table, a_parameter, Constructor, constructors, constructor_in, viewed, init_meaning, among_globals, among_functions, among_tables, is_in, module_meaning, meaning}
 use Rattle.asm_lang_valid.specs.Refusal.{is_view, any_view, has_heap, function_number}
 use Rattle.asm_laws_sound.proofs.Names.{kinds_of, kind_in, of_kind, name_meaning}
 

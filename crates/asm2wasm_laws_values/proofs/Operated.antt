@@ -1,23 +1,18 @@
 -- Literals, and operators on operands that are on the stack.
-use Rattle.std.proofs.Common.{◌≡◌, ℕ, ◌-◌, ◌^◌, Bool, true, false, List, [], ◌∷◌, ◌++◌, Option, Some, None, Result, Ok, ℤ, refl, sym, ap, ◌∙◌, subst}
-use Rattle.std.specs.Prelude.{if◌then◌else◌}
+use Rattle.std.proofs.Common.{◌≡◌, ℕ, ◌-◌, ◌^◌, Bool, true, List, [], ◌∷◌, Option, Some, ℤ, refl, ap}
 use Rattle.sem_words.specs.declared.word.Word.{Word}
 use Rattle.sem_words.specs.declared.word.Word.TheVariants.{W32}
-use Rattle.sem_words.specs.declared.word.TrapKind.{TrapKind}
 use Rattle.sem_words.specs.declared.word.Bin.{Bin}
 use Rattle.sem_words.specs.declared.word.Bin.TheVariants as bins
 use Rattle.sem_words.specs.declared.word.Rel.{Rel}
-use Rattle.sem_words.specs.declared.word.Rel.TheVariants as rels
 use Rattle.sem_words.specs.declared.js_value.JsValue.{JsValue}
 use Rattle.sem_words.specs.declared.js_value.JsValue.TheVariants.{Whole}
 use Rattle.sem_words.specs.declared.js_value.JsOp.{JsOp}
-use Rattle.sem_words.specs.declared.js_value.JsOp.TheVariants.{Add, Sub, Lt, Le, Gt, Ge, Eq, Ne}
 use Rattle.sem_words.specs.declared.js_value.JsUnary.{JsUnary}
 use Rattle.sem_words.specs.declared.js_value.JsUnary.TheVariants.{Neg, BitNot, Not, Plus}
 use Rattle.sem_words.specs.Words.{word_of}
-use Rattle.sem_words.specs.JsValues.{to_uint32_of}
 use Rattle.sem_words.specs.JsOperators.{js_binary_of, js_unary_of}
-use Rattle.wasm_lang.specs.Instructions.{Plain, const32, bin32, rel32, eqz32}
+use Rattle.wasm_lang.specs.Instructions.{const32, bin32, rel32, eqz32}
 use Rattle.wasm_lang_exec.specs.Code.{Trees, ◌⊕◌}
 use Rattle.wasm_lang_exec.specs.Plain.{answer32}
 use Rattle.asm_types.specs.declared.value_type.ValueType.{ValueType}
@@ -27,11 +22,11 @@ use Rattle.asm_types.specs.Rows.{unary_row_of}
 use Rattle.asm_types.specs.Values.{fits_of}
 use Rattle.asm_types.proofs.Sound.{wider, from_row}
 use Rattle.asm_lang_exec.specs.Runs.{Part, and_then, gives, defined}
-use Rattle.asm2wasm_code.specs.Values.{plains, one, number, before_operand, after_operand}
+use Rattle.asm2wasm_code.specs.Values.{one, number, before_operand, after_operand}
 use Rattle.asm2wasm_laws_words.specs.Laws.{instruction_of, relation_of, compared}
 use Rattle.asm2wasm_laws_words.proofs.Operated.{words_of_results, words_of_negations, words_of_complements}
 use Rattle.asm2wasm_laws_words.proofs.Compared.{words_of_comparisons, words_of_nots}
-use Rattle.asm2wasm_laws_run.specs.Straight.{reached, on_from, effects}
+use Rattle.asm2wasm_laws_run.specs.Straight.{on_from, effects}
 use Rattle.asm2wasm_laws_run.specs.State.{AnyValue}
 use Rattle.asm2wasm_laws_values.specs.Kept.{word, a_value, Surroundings, Keeps}
 use Rattle.asm2wasm_laws_values.proofs.Joined.{keeps_then, keeps_over, keeps_same, keeps_defined, keeps_operation}

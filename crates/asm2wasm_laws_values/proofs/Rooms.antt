@@ -1,10 +1,8 @@
 -- Scratch locals that code names, and foreign uses, of pieces that are put together.
-use Rattle.std.proofs.Common.{◌≡◌, ℕ, suc, ◌+◌, ◌≤◌, true, List, [], ◌∷◌, ◌++◌, arith}
-use Rattle.std.specs.Prelude.{max}
+use Rattle.std.proofs.Common.{List, [], ◌∷◌, ◌++◌, arith}
 use Rattle.wasm_lang.specs.declared.types.ValType.{ValType}
 use Rattle.std.specs.Prelude.{Option}
 use Rattle.wasm_lang_exec.specs.Code.{unreachable, block, loop, if_block, br, br_if, br_table, return, call, call_indirect, plain, Trees, ε, ◌▹◌, ◌⊕◌}
-use Rattle.wasm_laws_trees.specs.Spelled.{reach}
 use Rattle.wasm_laws_trees.specs.Laws.{ReachJoins}
 use Rattle.asm_lang_valid.specs.LimitRows.{ForeignCall, Mark, a_row, a_use}
 use Rattle.asm2wasm_laws_values.specs.Kept.{Surroundings}

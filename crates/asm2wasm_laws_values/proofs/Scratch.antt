@@ -12,14 +12,14 @@ use Rattle.wasm_lang.specs.Instructions.{Plain, local_get, local_set, bin32}
 use Rattle.wasm_lang_exec.specs.Code.{Trees, ε, ◌▹◌, ◌⊕◌, if_block}
 use Rattle.wasm_lang_exec.specs.Store.{Store}
 use Rattle.wasm_lang_exec.specs.Plain.{answer32, pushed, with_local}
-use Rattle.wasm_lang_exec.specs.Reductions.{Code, choose}
-use Rattle.wasm_laws_drive.specs.Drive.{Next, at, drive}
+use Rattle.wasm_lang_exec.specs.Reductions.{choose}
+use Rattle.wasm_laws_drive.specs.Drive.{Next, at}
 use Rattle.wasm_laws_drive.proofs.Instructions.{no_code}
 use Rattle.wasm_laws_trees.specs.Spelled.{size, else_size}
 use Rattle.asm_lang_exec.specs.Runs.{Place, goes, Part}
 use Rattle.asm2wasm_code.specs.Numbers.{first_scratch}
 use Rattle.asm2wasm_code.specs.Values.{plains}
-use Rattle.asm2wasm_laws_run.specs.Sim.{Sim, Shows, Ends}
+use Rattle.asm2wasm_laws_run.specs.Sim.{Sim, Ends}
 use Rattle.asm2wasm_laws_run.specs.Straight.{reached, on_from, effects, paid}
 use Rattle.asm2wasm_laws_run.specs.State.{words, store_of, Holds, EndsAlike, AnyValue, run_from}
 use Rattle.asm2wasm_laws_run.proofs.Simulated.{sim_in, sim_more}

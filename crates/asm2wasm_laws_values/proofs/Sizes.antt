@@ -1,7 +1,6 @@
 -- Sizes of code that is put together.
-use Rattle.std.proofs.Common.{◌≡◌, ◌+◌, arith}
-use Rattle.wasm_lang_exec.specs.Code.{unreachable, block, loop, if_block, br, br_if, br_table, return, call, call_indirect, plain, Trees, ε, ◌▹◌, ◌⊕◌}
-use Rattle.wasm_laws_trees.specs.Spelled.{size}
+use Rattle.std.proofs.Common.{arith}
+use Rattle.wasm_lang_exec.specs.Code.{unreachable, block, loop, if_block, br, br_if, br_table, return, call, call_indirect, plain, ε, ◌▹◌}
 use Rattle.wasm_laws_trees.specs.Laws.{SizesAdd}
 
 pub sizes_add : SizesAdd

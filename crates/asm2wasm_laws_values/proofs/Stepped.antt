@@ -1,23 +1,17 @@
 -- One construct at a time, where its parts are kept.
-use Rattle.std.proofs.Common.{◌≡◌, ℕ, zero, suc, ◌+◌, ◌≤◌, ◌^◌, Bool, true, false, ◌&&◌, ◌||◌, List, [], ◌∷◌, ◌++◌, length, Option, Some, None, option_and_then, ℤ, pos, refl, sym, ap, ◌∙◌, subst, ⊎_elim, arith}
+use Rattle.std.proofs.Common.{◌≡◌, ℕ, ◌+◌, ◌≤◌, Bool, true, false, ◌&&◌, ◌||◌, [], ◌∷◌, Some, option_and_then, refl, sym, ap, ◌∙◌, subst, ⊎_elim, arith}
 use Rattle.std.proofs.lemmas.Bool.{and_parts, or_cases}
-use Rattle.std.specs.Prelude.{◌==◌, if◌then◌else◌}
-use Rattle.sem_words.specs.declared.word.Word.{Word}
-use Rattle.sem_words.specs.declared.word.Word.TheVariants.{W32}
-use Rattle.sem_words.specs.declared.word.Bin.{Bin}
+use Rattle.std.specs.Prelude.{if◌then◌else◌}
 use Rattle.sem_words.specs.declared.word.Bin.TheVariants as bins
 use Rattle.sem_words.specs.declared.word.Rel.TheVariants as rels
 use Rattle.sem_words.specs.declared.js_value.JsValue.{JsValue}
-use Rattle.sem_words.specs.declared.js_value.JsValue.TheVariants.{Whole}
 use Rattle.sem_words.specs.declared.js_value.JsOp.{JsOp}
 use Rattle.sem_words.specs.declared.js_value.JsOp.TheVariants.{Add, Sub, Mul, Div, Rem, Or, And, Xor, Shl, Sar, Shr, Lt, Le, Gt, Ge, Eq, Ne}
 use Rattle.sem_words.specs.JsOperators.{js_binary_of}
 use Rattle.heap_views.specs.Heap.{IsHeapLength}
 use Rattle.wasm_lang_exec.specs.Code.{Trees, ◌⊕◌}
-use Rattle.wasm_laws_trees.specs.Spelled.{reach}
 use Rattle.asm_types.specs.declared.value_type.ValueType.{ValueType}
 use Rattle.asm_types.specs.declared.value_type.ValueType.TheVariants.{Signed, Unsigned, Int}
-use Rattle.asm_types.specs.Types.{is_below}
 use Rattle.asm_types.specs.Rows.{row, accepts, alike, takes_of, binary_row_of}
 use Rattle.asm_types.specs.Values.{fits_of}
 use Rattle.asm_types.proofs.Sound.{wider, from_row}
@@ -30,15 +24,12 @@ use Rattle.asm_lang_exec.specs.Runs.{Part, and_then, defined}
 use Rattle.asm_lang_exec.specs.Values.{read_element, write_element}
 use Rattle.asm_laws_sound.proofs.Expressions.{from_bind, Valued, IndexOf}
 use Rattle.asm_laws_sound.proofs.Names.{literal_below}
-use Rattle.asm2wasm_code.specs.Values as translated
-use Rattle.asm2wasm_code.specs.Values.{operator, quotient, load_code, store_code, stored_code}
+use Rattle.asm2wasm_code.specs.Values.{operator, load_code, store_code, stored_code}
 use Rattle.asm2wasm_laws_words.specs.Laws.{compared, is_unsigned_type}
 use Rattle.asm2wasm_laws_words.proofs.Formed.{alike_by_one}
-use Rattle.asm2wasm_laws_heap.specs.Guards.{is_index}
 use Rattle.asm2wasm_laws_run.specs.State.{AnyValue, IsIndex}
 use Rattle.asm2wasm_laws_values.specs.Kept.{word, a_value, result, Surroundings, Keeps}
 use Rattle.asm2wasm_laws_values.specs.Made.{Within}
-use Rattle.asm2wasm_laws_values.proofs.Rooms.{first_within, second_within}
 use Rattle.asm2wasm_laws_values.proofs.Joined.{keeps_then, keeps_over}
 use Rattle.asm2wasm_laws_values.proofs.Operated.{keeps_word, keeps_relation}
 use Rattle.asm2wasm_laws_values.proofs.Scratch.{scratch_x, scratch_y}

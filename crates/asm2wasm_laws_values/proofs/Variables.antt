@@ -1,11 +1,10 @@
 -- Variables, local ones and those of the module.
-use Rattle.std.proofs.Common.{◌≡◌, ℕ, zero, suc, ◌+◌, ◌≤◌, Bool, true, false, List, [], ◌∷◌, ◌++◌, length, map, take, Option, Some, None, refl, sym, ap, ◌∙◌, subst, arith}
+use Rattle.std.proofs.Common.{◌≡◌, ℕ, zero, suc, ◌+◌, ◌≤◌, Bool, true, false, List, [], ◌∷◌, ◌++◌, length, Option, Some, None, refl, sym, ap, ◌∙◌, subst}
 use Rattle.std.specs.Prelude.{slice_get, slice_set, option_map, bytes_eq, if◌then◌else◌}
 use Rattle.sem_words.specs.declared.word.Word.{Word}
 use Rattle.sem_words.specs.declared.js_value.JsValue.{JsValue}
 use Rattle.wasm_lang.specs.Instructions.{Plain, local_get, local_set, local_tee, global_get, global_set}
 use Rattle.wasm_lang_exec.specs.Code.{ε}
-use Rattle.wasm_lang_exec.specs.Store.{Store}
 use Rattle.wasm_lang_exec.specs.Plain.{pushed, with_local, with_global}
 use Rattle.wasm_lang_exec.specs.Reductions.{Code}
 use Rattle.wasm_laws_drive.specs.Drive.{Next, at, drive}
@@ -199,7 +198,7 @@ module _ (s : Surroundings) (limit d : ℕ) where
             units = refl;
             holds = local_holds p h;
             effect = ap (λ o. on_from (with_local i (word v) (word v ∷ stack) o (words p.locals ++ scratch) (store_of s.fixed p)) (effects [])) (get_front (words p.locals) scratch i (word x.value) x.found)
-            ∙ ap (λ ls. Some (reached (word v ∷ stack) ls (store_of s.fixed p))) (set_local p scratch i x);
+                ∙ ap (λ ls. Some (reached (word v ∷ stack) ls (store_of s.fixed p))) (set_local p scratch i x);
           })
       write_at false (Some i) g e e' = keeps_doing (word v ∷ []) no_value (local_set i ∷ []) (write n v)
           (λ p scratch stack h. let x = local_says p (Some i) h e in record {
@@ -209,7 +208,7 @@ module _ (s : Surroundings) (limit d : ℕ) where
             units = refl;
             holds = local_holds p h;
             effect = ap (λ o. on_from (with_local i (word v) stack o (words p.locals ++ scratch) (store_of s.fixed p)) (effects [])) (get_front (words p.locals) scratch i (word x.value) x.found)
-            ∙ ap (λ ls. Some (reached stack ls (store_of s.fixed p))) (set_local p scratch i x);
+                ∙ ap (λ ls. Some (reached stack ls (store_of s.fixed p))) (set_local p scratch i x);
           })
       write_at true None (Some j) e e' = keeps_doing (word v ∷ []) a_value (global_set (imported + j) ∷ global_get (imported + j) ∷ []) (write n v)
           (λ p scratch stack h. let y = local_says p None h e in let x = global_says p (Some j) h e' in let st = store_of s.fixed p in
@@ -221,8 +220,8 @@ module _ (s : Surroundings) (limit d : ℕ) where
             units = refl;
             holds = global_holds p h;
             effect = ap (λ o. on_from (with_global (imported + j) (word v) stack o ls st) (effects (global_get (imported + j) ∷ []))) found
-            ∙ ap (λ o. on_from (pushed o stack ls (record st { globals = slice_set st.globals (imported + j) (word v) })) (effects [])) (get_same st.globals (imported + j) (word x.value) (word v) found)
-            ∙ ap (λ gs. Some (reached (word v ∷ stack) ls (record st { globals = gs }))) (set_global p j x);
+                ∙ ap (λ o. on_from (pushed o stack ls (record st { globals = slice_set st.globals (imported + j) (word v) })) (effects [])) (get_same st.globals (imported + j) (word x.value) (word v) found)
+                ∙ ap (λ gs. Some (reached (word v ∷ stack) ls (record st { globals = gs }))) (set_global p j x);
           })
       write_at false None (Some j) e e' = keeps_doing (word v ∷ []) no_value (global_set (imported + j) ∷ []) (write n v)
           (λ p scratch stack h. let y = local_says p None h e in let x = global_says p (Some j) h e' in let st = store_of s.fixed p in
@@ -234,7 +233,7 @@ module _ (s : Surroundings) (limit d : ℕ) where
             units = refl;
             holds = global_holds p h;
             effect = ap (λ o. on_from (with_global (imported + j) (word v) stack o ls st) (effects [])) found
-            ∙ ap (λ gs. Some (reached stack ls (record st { globals = gs }))) (set_global p j x);
+                ∙ ap (λ gs. Some (reached stack ls (record st { globals = gs }))) (set_global p j x);
           })
       write_at wanted None None e e' = record {
         by = λ p scratch stack h many few.
