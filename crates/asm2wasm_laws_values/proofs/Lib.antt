@@ -12,3 +12,4 @@ pub mod Stepped
 pub mod Called
 pub mod Evaluated
 pub mod Whole
+pub mod Foreign

@@ -12,7 +12,7 @@ use Rattle.asm_lang_exec.specs.Meaning.{eval}
 use Rattle.asm2wasm_code.specs.Values.{expr_code}
 use Rattle.asm2wasm_laws_run.specs.State.{AnyValue}
 use Rattle.asm2wasm_laws_values.specs.Kept.{Fits, no_value, result, Surroundings, Keeps}
-use Rattle.asm2wasm_laws_values.specs.Made.{AllListed, Within, CallsKept}
+use Rattle.asm2wasm_laws_values.specs.Made.{AllListed, Within, CallsKept, OwnKept, IsMade}
 
 -- a function of an accepted module, whose foreign globals are given and whose heap has a length
 pub record IsAmong (s : Surroundings) : Type 0 where
@@ -43,3 +43,9 @@ EffectsAreKept =
     (s : Surroundings) (limit : ℕ) (calls : Calls) (e : Expr) (d at : ℕ) → IsAmong s → CallsKept s limit calls
     → effect_fits (scope s) e ≡ true → Within s (expr_code s.heap (scope s) false d e) → AllListed (foreign_calls s.home) (effect_marks (scope s) at e)
     → Keeps s limit d [] AnyValue no_value (expr_code s.heap (scope s) false d e) (eval true calls (scope s) e)
+
+-- ---- calls that leave the function's module, or go by a table
+
+-- where functions of the module are kept, so are all calls
+abbrev pub AllCallsAreKept : Type 0
+AllCallsAreKept = (s : Surroundings) (limit : ℕ) (calls : Calls) → IsAmong s → IsMade s.target s.fixed s.home → OwnKept s limit calls → CallsKept s limit calls
