@@ -1,0 +1,15 @@
+pub mod Sizes
+pub mod Joined
+pub mod Operated
+pub mod Variables
+pub mod Chosen
+pub mod Scratch
+pub mod Divided
+pub mod Elements
+pub mod Meant
+pub mod Rooms
+pub mod Stepped
+pub mod Called
+pub mod Evaluated
+pub mod Whole
+pub mod Foreign

@@ -1,0 +1,13 @@
+//! Expressions of asm.js, and the code that keeps what they do: from each place of a function's run the
+//! reductions of the code show the run of the expression.
+#![tactic(auto)]
+
+ghost use Rattle.asm2wasm_laws_values.specs.Laws.{ExpressionsAreKept, CallsAreKept, EffectsAreKept};
+
+/// Each expression of each form, at each depth of calls of table entries, where the calls themselves
+/// are kept.
+pub fn expressions()
+    ensures typed { ExpressionsAreKept }
+    ensures calls { CallsAreKept }
+    ensures effects { EffectsAreKept }
+{}
