@@ -176,9 +176,13 @@ module _ (s : Surroundings) (limit d : ℕ) (name : List ℕ) (wanted : Bool) (v
 
           answers : (a a' : ImportAnswer) → Alike (heap_length s.home s.heap) a a' → ((k : ℕ) → r (1 + k) ≡ wasm.after_import s.target a' results ε (at stack ls st k))
               → Sim s.worth (EndsAlike s.fixed s.home s.heap) (Shown s d AnyValue (result wanted) scratch stack) 1 p.units r (answered a p)
-          answers (ends e) a' alike run =
-              (end_to_wasm e, st, record { no_trap = alike.1; heap = h.heap; is = refl; store = refl }, p.units,
-              comes_in s.worth 1 p.units r (λ k. Ended (end_to_wasm e) st) (λ k. run k ∙ ap (λ a. wasm.after_import s.target a results ε (at stack ls st k)) alike.0))
+          answers (ends e) a' alike run = (
+            end_to_wasm e,
+            st,
+            record { no_trap = alike.1; heap = h.heap; is = refl; store = refl },
+            p.units,
+            comes_in s.worth 1 p.units r (λ k. Ended (end_to_wasm e) st) (λ k. run k ∙ ap (λ a. wasm.after_import s.target a results ε (at stack ls st k)) alike.0),
+          )
           answers (goes_on g) a' alike run =
               sim_in s.worth (EndsAlike s.fixed s.home s.heap) JsValue (Shown s d AnyValue (result wanted) scratch stack) 1 value to r (λ k. Next (at (result wanted value ++ stack) ls (store_of s.fixed to) k))
               (record {
