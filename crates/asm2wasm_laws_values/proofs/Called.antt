@@ -52,7 +52,7 @@ use Rattle.asm2wasm_laws_values.proofs.Meant.{in_module, function_said}
 pub values_more : (v : JsValue) (vs : List JsValue) → values vs ++ (word v ∷ []) ≡ values (v ∷ vs)
 values_more v vs = sym (reverse-append (word v ∷ []) (map word vs))
 
-same_is : (a b : Bool) → same a b ≡ true → b ≡ a
+pub same_is : (a b : Bool) → same a b ≡ true → b ≡ a
 same_is true b h = h
 same_is false true h = absurd (cc h)
 same_is false false h = refl

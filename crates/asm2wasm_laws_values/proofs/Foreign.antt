@@ -1,5 +1,5 @@
 -- Calls of foreign functions.
-use Rattle.std.proofs.Common.{◌≡◌, ℕ, zero, suc, ◌+◌, ◌%◌, ◌^◌, ◌<◌, ◌≤◌, Bool, true, false, List, [], ◌∷◌, ◌++◌, length, map, reverse, replicate, Option, Some, None, refl, sym, ap, ◌∙◌, subst, arith}
+use Rattle.std.proofs.Common.{◌≡◌, ℕ, suc, ◌+◌, ◌^◌, ◌<◌, ◌≤◌, Bool, true, false, List, [], ◌∷◌, ◌++◌, length, map, replicate, Some, refl, sym, ap, ◌∙◌, subst, arith}
 use Rattle.std.specs.Prelude.{codes, if◌then◌else◌}
 use Rattle.std.specs.Str.{bytes_eq}
 use Rattle.std.specs.List.{All, AllByRecursion}
@@ -11,13 +11,12 @@ use Rattle.sem_words.specs.declared.word.Word.TheVariants.{W32}
 use Rattle.sem_words.specs.declared.js_value.JsValue.{JsValue}
 use Rattle.sem_words.specs.JsValues.{to_uint32_of}
 use Rattle.sem_words.specs.JsOperators.{signed_value}
-use Rattle.sem_words.specs.Words.{word_of, signed_of}
 use Rattle.sem_words.proofs.WordLaws.{word_of-signed_of_32}
 use Rattle.heap_views.specs.Numbers.{IsBytes}
 use Rattle.heap_views.proofs.RunLemmas.{length-with_run, IsBytes-with_run}
 use Rattle.heap_views.specs.Heap.{with_run}
 use Rattle.sem_laws.specs.Script.{WritePlain, ReplyPlain, give, throw}
-use Rattle.sem_laws.specs.Observation.{EventPlain, import_called, EndPlain, stopped, no_reply, trap_name}
+use Rattle.sem_laws.specs.Observation.{stopped, trap_name}
 use Rattle.sem_laws.specs.Imports.{low_word, high_word, high_name, Replies, Given, ImportAnswer, goes_on, ends, take_reply, answer_import}
 use Rattle.sem_laws.specs.CallingForms.{foreign_import, event_to_wasm, end_to_wasm}
 use Rattle.sem_laws.proofs.NameLaws.{fixed_names_are_kept}
@@ -25,23 +24,22 @@ use Rattle.wasm_lang.specs.declared.types.ValType.{ValType}
 use Rattle.wasm_lang.specs.declared.types.ValType.TheVariants.{I32}
 use Rattle.wasm_lang_exec.specs.Code.{Trees, ε, ◌▹◌, call}
 use Rattle.wasm_lang_exec.specs.Store.{Store, written}
-use Rattle.wasm_lang_exec.specs.Reductions.{Code, an_import, callee_at, top_of, below_top, and_value, result_word}
-use Rattle.wasm_laws_drive.specs.Drive.{Next, Ended, at, drive}
+use Rattle.wasm_lang_exec.specs.Reductions.{an_import, callee_at, top_of, below_top, and_value, result_word}
+use Rattle.wasm_laws_drive.specs.Drive.{Next, Ended, at}
 use Rattle.wasm_laws_drive.specs.Equations as wasm
 use Rattle.wasm_laws_drive.proofs.Instructions.{no_code, call_enters}
-use Rattle.asm_lang_valid.specs.LimitRows.{ForeignCall, foreign_calls}
-use Rattle.asm_lang_exec.specs.Runs.{Place, goes, stops}
+use Rattle.asm_lang_valid.specs.LimitRows.{ForeignCall}
+use Rattle.asm_lang_exec.specs.Runs.{Place}
 use Rattle.asm_lang_exec.specs.Session.{heap_length}
 use Rattle.asm_lang_exec.specs.Values.{with_writes, answered, call_import}
 use Rattle.asm2wasm_lang.specs.Allowed.{replied_writes}
 use Rattle.asm2wasm_lang.specs.Calling.{int_type}
 use Rattle.asm2wasm_code.specs.Numbers.{import_number}
 use Rattle.asm2wasm_laws_heap.proofs.Writes.{writes_stay_in_front}
-use Rattle.asm2wasm_laws_run.specs.Sim.{Sim, Steps, Ends, Shows}
+use Rattle.asm2wasm_laws_run.specs.Sim.{Sim, Steps}
 use Rattle.asm2wasm_laws_run.specs.State.{words, store_of, Stays, Holds, IsNoTrap, EndsAlike, AnyValue, run_from}
 use Rattle.asm2wasm_laws_run.proofs.Simulated.{comes_in, sim_in}
 use Rattle.asm2wasm_laws_values.specs.Kept.{word, values, result, Surroundings, Shown, Keeps}
-use Rattle.asm2wasm_laws_values.specs.Made.{is_listed}
 
 -- ---- operands
 

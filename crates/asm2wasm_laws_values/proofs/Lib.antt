@@ -13,3 +13,4 @@ pub mod Called
 pub mod Evaluated
 pub mod Whole
 pub mod Foreign
+pub mod Entries

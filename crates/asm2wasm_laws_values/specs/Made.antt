@@ -38,10 +38,14 @@ Within s code = reach code ≤ first_scratch s.within + s.scratch
 
 -- ---- calls, with the arguments on the stack, where no more units are left than the limit
 
+-- of a function of the module, by its place: its result is left where it has one, and all scratch locals are as they were
+abbrev pub OwnKept : (s : Surroundings) (limit : ℕ) (calls : Calls) → Type 0
+OwnKept s limit calls =
+    (g : Function) (n : ℕ) → slice_get s.home.functions n ≡ Some g → (d : ℕ) (vs : List JsValue) → length vs ≡ length g.params
+    → Keeps s limit d (values vs) AnyValue (result (signature_of g).result) (call (length (foreign_calls s.home) + n) ▹ ε) (calls g vs)
+
 pub record CallsKept (s : Surroundings) (limit : ℕ) (calls : Calls) : Type 0 where
-  -- of a function of the module, by its place
-  pub own : (g : Function) (n : ℕ) → slice_get s.home.functions n ≡ Some g → (d : ℕ) (vs : List JsValue) → length vs ≡ length g.params
-      → Keeps s limit d (values vs) AnyValue (result (signature_of g).result) (call (length (foreign_calls s.home) + n) ▹ ε) (calls g vs)
+  pub own : OwnKept s limit calls
   -- of a foreign function
   pub foreign : (name : List ℕ) (wanted : Bool) (d : ℕ) (vs : List JsValue) → let f : ForeignCall = record { name = name; params = length vs; result = wanted } in
       is_listed f (foreign_calls s.home) ≡ true
@@ -52,12 +56,6 @@ pub record CallsKept (s : Surroundings) (limit : ℕ) (calls : Calls) : Type 0 w
   pub entry : (n : List ℕ) (t : Table) (j : ℕ) (name : List ℕ) (g : Function) (wanted : Bool) → module_meaning s.home n ≡ a_table t → slice_get t.members j ≡ Some name → module_meaning s.home name ≡ a_function g
       → (d : ℕ) (vs : List JsValue) → matches (first_member s.home t.members) (length vs) wanted ≡ true
       → Keeps s limit d (W32 (base_of s.home n + j) ∷ values vs) AnyValue (result wanted) (call_indirect (table_type s.home t) ▹ ε) (calls g vs)
-
--- those of functions of the module alone
-abbrev pub OwnKept : (s : Surroundings) (limit : ℕ) (calls : Calls) → Type 0
-OwnKept s limit calls =
-    (g : Function) (n : ℕ) → slice_get s.home.functions n ≡ Some g → (d : ℕ) (vs : List JsValue) → length vs ≡ length g.params
-    → Keeps s limit d (values vs) AnyValue (result (signature_of g).result) (call (length (foreign_calls s.home) + n) ▹ ε) (calls g vs)
 
 -- ---- the translated module, as far as calls know it
 
