@@ -1,0 +1,4 @@
+pub mod Lists
+pub mod Types
+pub mod Imports
+pub mod Called

@@ -1,0 +1,30 @@
+-- What a module of asm.js is translated to.
+use Rattle.std.specs.Prelude.{◌≡◌, ℕ, ◌+◌, true, length, Some, slice_get}
+use Rattle.wasm_lang_valid.specs.ModuleRules.{function_types, type_of_function}
+use Rattle.asm_lang.specs.Modules.{Function, Module}
+use Rattle.asm_lang_valid.specs.Scope.{signature_of}
+use Rattle.asm_lang_valid.specs.LimitRows.{ForeignCall, is_among, foreign_calls}
+use Rattle.asm2wasm_code.specs.Numbers.{import_number, asked_signature}
+use Rattle.asm2wasm_code.specs.Modules.{type_for, translation}
+use Rattle.asm2wasm_lang.specs.Calling.{IsCalledAs}
+
+-- ---- functions
+
+-- the foreign functions come first, then those of the module
+abbrev pub FunctionsAreCounted : Type 0
+FunctionsAreCounted = (m : Module) (size : ℕ) → length (function_types (translation m size)) ≡ length (foreign_calls m) + length m.functions
+
+-- function i of the module stands i places after the foreign ones, and takes and gives what its signature says
+abbrev pub FunctionsHaveTypes : Type 0
+FunctionsHaveTypes =
+    (m : Module) (size i : ℕ) (f : Function) → slice_get m.functions i ≡ Some f → type_of_function (translation m size) (length (foreign_calls m) + i) ≡ Some (type_for (signature_of f))
+
+-- .. and a foreign one what its calls ask for
+abbrev pub ImportsHaveTypes : Type 0
+ImportsHaveTypes =
+    (m : Module) (size : ℕ) (f : ForeignCall) → is_among f (foreign_calls m) ≡ true → type_of_function (translation m size) (import_number m f) ≡ Some (type_for (asked_signature f))
+
+-- ---- calling form
+
+abbrev pub TranslationIsCalled : Type 0
+TranslationIsCalled = (m : Module) (size : ℕ) → IsCalledAs m size (translation m size)
