@@ -21,7 +21,7 @@ use Rattle.asm2wasm_laws_modules.specs.Laws.{FunctionsAreCounted, FunctionsHaveT
 
 -- ---- foreign calls by their numbers
 
-call_at : (f : ForeignCall) (fs : List ForeignCall) → is_among f fs ≡ true → slice_get fs (number_among f fs) ≡ Some f
+pub call_at : (f : ForeignCall) (fs : List ForeignCall) → is_among f fs ≡ true → slice_get fs (number_among f fs) ≡ Some f
 call_at f [] h = absurd (cc h)
 call_at f (g ∷ gs) h = by (is_same f g) refl (call_at f gs) h
   where
@@ -56,31 +56,32 @@ module _ (m : Module) (size : ℕ) where
 found_type : (w : WasmModule) (f t : ℕ) → slice_get (function_types w) f ≡ Some t → type_of_function w f ≡ slice_get w.types t
 found_type w f t e = rw e refl
 
-pub functions_have_types : FunctionsHaveTypes
-functions_have_types m size i f h =
+-- the numbers of the types
+pub own_number_at : (m : Module) (size i : ℕ) (f : Function) → slice_get m.functions i ≡ Some f → slice_get (function_types (translation m size)) (length (foreign_calls m) + i) ≡ Some (type_number m (signature_of f))
+own_number_at m size i f h =
     let calls = map (call_type m size) (foreign_calls m) in
     let own = map (own_type m size) m.functions in
     let many : length calls ≡ length (foreign_calls m) = length-map (foreign_calls m) (call_type m size) in
-    let number : slice_get (function_types (translation m size)) (length (foreign_calls m) + i) ≡ Some (type_number m (signature_of f)) =
-    ap (λ ts. slice_get ts (length (foreign_calls m) + i)) (types_are m size)
-    ∙ ap (λ n. slice_get (calls ++ own) (n + i)) (sym many)
-    ∙ get_second calls own i
-    ∙ slice_get-map (own_type m size) m.functions i
-    ∙ ap (option_map (own_type m size)) h
-    in
-    found_type (translation m size) (length (foreign_calls m) + i) (type_number m (signature_of f)) number ∙ type_at m (signature_of f) (function_known m i f h)
+    ap (λ ts. slice_get ts (length (foreign_calls m) + i)) (types_are m size) ∙ ap (λ n. slice_get (calls ++ own) (n + i)) (sym many) ∙ get_second calls own i
+    ∙ slice_get-map (own_type m size) m.functions i ∙ ap (option_map (own_type m size)) h
+
+pub import_number_at : (m : Module) (size : ℕ) (f : ForeignCall) → is_among f (foreign_calls m) ≡ true → slice_get (function_types (translation m size)) (import_number m f) ≡ Some (type_number m (asked_signature f))
+import_number_at m size f h =
+    let calls = map (call_type m size) (foreign_calls m) in
+    let own = map (own_type m size) m.functions in
+    ap (λ ts. slice_get ts (import_number m f)) (types_are m size)
+    ∙ get_first calls own (import_number m f) (type_number m (asked_signature f)) (slice_get-map (call_type m size) (foreign_calls m) (import_number m f) ∙ ap (option_map (call_type m size)) (call_at f (foreign_calls m) h))
+
+pub call_known : (m : Module) (f : ForeignCall) → is_among f (foreign_calls m) ≡ true → Known m (asked_signature f)
+call_known m f h = all_at (λ f. Known m (asked_signature f)) (foreign_calls m) (import_number m f) f (calls_known m) (call_at f (foreign_calls m) h)
+
+pub functions_have_types : FunctionsHaveTypes
+functions_have_types m size i f h =
+    found_type (translation m size) (length (foreign_calls m) + i) (type_number m (signature_of f)) (own_number_at m size i f h) ∙ type_at m (signature_of f) (function_known m i f h)
 
 pub imports_have_types : ImportsHaveTypes
 imports_have_types m size f h =
-    let calls = map (call_type m size) (foreign_calls m) in
-    let own = map (own_type m size) m.functions in
-    let here = call_at f (foreign_calls m) h in
-    let number : slice_get (function_types (translation m size)) (import_number m f) ≡ Some (type_number m (asked_signature f)) =
-    ap (λ ts. slice_get ts (import_number m f)) (types_are m size)
-    ∙ get_first calls own (import_number m f) (type_number m (asked_signature f)) (slice_get-map (call_type m size) (foreign_calls m) (import_number m f) ∙ ap (option_map (call_type m size)) here)
-    in
-    let known = all_at (λ f. Known m (asked_signature f)) (foreign_calls m) (import_number m f) f (calls_known m) here in
-    found_type (translation m size) (import_number m f) (type_number m (asked_signature f)) number ∙ type_at m (asked_signature f) known
+    found_type (translation m size) (import_number m f) (type_number m (asked_signature f)) (import_number_at m size f h) ∙ type_at m (asked_signature f) (call_known m f h)
 
 pub functions_are_counted : FunctionsAreCounted
 functions_are_counted m size =

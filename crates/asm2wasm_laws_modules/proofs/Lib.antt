@@ -2,3 +2,5 @@ pub mod Lists
 pub mod Types
 pub mod Imports
 pub mod Called
+pub mod Names
+pub mod Contexts

@@ -1,12 +1,19 @@
 -- What a module of asm.js is translated to.
-use Rattle.std.specs.Prelude.{◌≡◌, ℕ, ◌+◌, true, length, Some, slice_get}
+use Rattle.std.specs.Prelude.{◌≡◌, ℕ, ◌+◌, max, true, length, Some, slice_get}
 use Rattle.wasm_lang_valid.specs.ModuleRules.{function_types, type_of_function}
+use Rattle.wasm_lang_valid.specs.declared.section.Section.TheVariants as sections
+use Rattle.wasm_lang_valid.specs.Validity.{body_context, IsFineSection}
+use Rattle.wasm_laws_trees.specs.Spelled.{reach}
 use Rattle.asm_lang.specs.Modules.{Function, Module}
+use Rattle.asm_lang_valid.specs.Typed.{scope_of}
+use Rattle.asm_lang_valid.specs.Refusal.{IsAccepted}
 use Rattle.asm_lang_valid.specs.Scope.{signature_of}
 use Rattle.asm_lang_valid.specs.LimitRows.{ForeignCall, is_among, foreign_calls}
-use Rattle.asm2wasm_code.specs.Numbers.{import_number, asked_signature}
-use Rattle.asm2wasm_code.specs.Modules.{type_for, translation}
+use Rattle.asm2wasm_code.specs.Numbers.{first_scratch, import_number, asked_signature}
+use Rattle.asm2wasm_code.specs.Modules.{type_for, body_for, translation}
+use Rattle.asm2wasm_code.specs.Bodies.{function_code}
 use Rattle.asm2wasm_lang.specs.Calling.{IsCalledAs}
+use Rattle.asm2wasm_laws_typed.specs.Contexts.{IsContextOf}
 
 -- ---- functions
 
@@ -23,6 +30,22 @@ FunctionsHaveTypes =
 abbrev pub ImportsHaveTypes : Type 0
 ImportsHaveTypes =
     (m : Module) (size : ℕ) (f : ForeignCall) → is_among f (foreign_calls m) ≡ true → type_of_function (translation m size) (import_number m f) ≡ Some (type_for (asked_signature f))
+
+-- ---- bodies
+
+-- the locals of a function's code
+abbrev pub room_of : Module → ℕ → Function → ℕ
+room_of m size f = max (first_scratch f) (reach (function_code size (scope_of m f)))
+
+-- a body finds in its context what the translation named
+abbrev pub ContextsAreKnown : Type 0
+ContextsAreKnown =
+    (m : Module) (size i : ℕ) (f : Function) → slice_get m.functions i ≡ Some f
+    → IsContextOf (scope_of m f) (room_of m size f) (body_context (translation m size) i (body_for m size f))
+
+-- .. and is valid there
+abbrev pub BodiesAreValid : Type 0
+BodiesAreValid = (m : Module) (size : ℕ) → IsAccepted m → IsFineSection (translation m size) sections.Code
 
 -- ---- calling form
 
