@@ -4,3 +4,5 @@ pub mod Imports
 pub mod Called
 pub mod Names
 pub mod Contexts
+pub mod Callees
+pub mod Made

@@ -1,8 +1,12 @@
 -- What a module of asm.js is translated to.
-use Rattle.std.specs.Prelude.{◌≡◌, ℕ, ◌+◌, max, true, length, Some, slice_get}
+use Rattle.std.specs.Prelude.{◌≡◌, ℕ, ◌+◌, max, true, List, length, map, Option, Some, slice_get}
+use Rattle.sem_laws.specs.Script.{ScriptPlain}
+use Rattle.sem_laws.specs.CallingForms.{foreign_import}
 use Rattle.wasm_lang_valid.specs.ModuleRules.{function_types, type_of_function}
 use Rattle.wasm_lang_valid.specs.declared.section.Section.TheVariants as sections
 use Rattle.wasm_lang_valid.specs.Validity.{body_context, IsFineSection}
+use Rattle.wasm_lang_exec.specs.Reductions.{an_import, a_function, callee_at}
+use Rattle.wasm_lang_exec.specs.Session.{first_store, entries_fit, with_entries}
 use Rattle.wasm_laws_trees.specs.Spelled.{reach}
 use Rattle.asm_lang.specs.Modules.{Function, Module}
 use Rattle.asm_lang_valid.specs.Typed.{scope_of}
@@ -13,6 +17,9 @@ use Rattle.asm2wasm_code.specs.Numbers.{first_scratch, import_number, asked_sign
 use Rattle.asm2wasm_code.specs.Modules.{type_for, body_for, translation}
 use Rattle.asm2wasm_code.specs.Bodies.{function_code}
 use Rattle.asm2wasm_lang.specs.Calling.{IsCalledAs}
+use Rattle.asm2wasm_lang.specs.Tables.{entries_of}
+use Rattle.asm2wasm_laws_run.specs.State.{Fixed}
+use Rattle.asm2wasm_laws_values.specs.Made.{IsMade}
 use Rattle.asm2wasm_laws_typed.specs.Contexts.{IsContextOf}
 
 -- ---- functions
@@ -51,3 +58,30 @@ BodiesAreValid = (m : Module) (size : ℕ) → IsAccepted m → IsFineSection (t
 
 abbrev pub TranslationIsCalled : Type 0
 TranslationIsCalled = (m : Module) (size : ℕ) → IsCalledAs m size (translation m size)
+
+-- ---- what is called
+
+-- the type, the locals and the code of a function of the module
+abbrev pub FunctionsAreCalled : Type 0
+FunctionsAreCalled =
+    (m : Module) (size i : ℕ) (f : Function) → slice_get m.functions i ≡ Some f
+    → callee_at (translation m size) (length (foreign_calls m) + i) ≡ Some (a_function (type_for (signature_of f)) (body_for m size f).locals (function_code size (scope_of m f)))
+
+abbrev pub ImportsAreCalled : Type 0
+ImportsAreCalled =
+    (m : Module) (size : ℕ) (f : ForeignCall) → is_among f (foreign_calls m) ≡ true
+    → callee_at (translation m size) (import_number m f) ≡ Some (an_import (foreign_import f.name) (type_for (asked_signature f)))
+
+-- the members of all tables, one table after the other
+abbrev pub table_entries : Module → List (Option ℕ)
+table_entries m = map (λ i. Some (length (foreign_calls m) + i)) (entries_of m)
+
+-- they stand in the table when a session begins
+abbrev pub TablesAreFilled : Type 0
+TablesAreFilled =
+    (m : Module) (size : ℕ) (s : ScriptPlain) → let w = translation m size in
+    (entries_fit (first_store w s) w.elements ≡ true) × ((with_entries w.elements (first_store w s)).table ≡ table_entries m)
+
+-- calls find what an accepted module calls
+abbrev pub CallsAreMade : Type 0
+CallsAreMade = (m : Module) (size : ℕ) (x : Fixed) → IsAccepted m → x.entries ≡ table_entries m → IsMade (translation m size) x m

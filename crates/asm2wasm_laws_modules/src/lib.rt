@@ -2,7 +2,7 @@
 //! and how it is called.
 #![tactic(auto)]
 
-ghost use Rattle.asm2wasm_laws_modules.specs.Laws.{FunctionsAreCounted, FunctionsHaveTypes, ImportsHaveTypes, ContextsAreKnown, BodiesAreValid, TranslationIsCalled};
+ghost use Rattle.asm2wasm_laws_modules.specs.Laws.{FunctionsAreCounted, FunctionsHaveTypes, ImportsHaveTypes, ContextsAreKnown, BodiesAreValid, TranslationIsCalled, FunctionsAreCalled, ImportsAreCalled, TablesAreFilled, CallsAreMade};
 
 /// Functions, by number.
 pub fn functions()
@@ -21,3 +21,14 @@ pub fn bodies()
 pub fn calling()
     ensures { TranslationIsCalled }
 {}
+
+/// What calls find: functions by number and the entries of the table.
+pub fn calls()
+    ensures functions { FunctionsAreCalled }
+    ensures imports { ImportsAreCalled }
+    ensures table { TablesAreFilled }
+    ensures made { CallsAreMade }
+{
+    wasm_laws_trees::spellings();
+    asm2wasm_lang::tables_end_to_end();
+}
