@@ -6,3 +6,5 @@ pub mod Names
 pub mod Contexts
 pub mod Callees
 pub mod Made
+pub mod Accepted
+pub mod Valid

@@ -4,7 +4,7 @@ use Rattle.sem_laws.specs.Script.{ScriptPlain}
 use Rattle.sem_laws.specs.CallingForms.{foreign_import}
 use Rattle.wasm_lang_valid.specs.ModuleRules.{function_types, type_of_function}
 use Rattle.wasm_lang_valid.specs.declared.section.Section.TheVariants as sections
-use Rattle.wasm_lang_valid.specs.Validity.{body_context, IsFineSection}
+use Rattle.wasm_lang_valid.specs.Validity.{body_context, IsFineSection, IsValidModule}
 use Rattle.wasm_lang_exec.specs.Reductions.{an_import, a_function, callee_at}
 use Rattle.wasm_lang_exec.specs.Session.{first_store, entries_fit, with_entries}
 use Rattle.wasm_laws_trees.specs.Spelled.{reach}
@@ -16,6 +16,7 @@ use Rattle.asm_lang_valid.specs.LimitRows.{ForeignCall, is_among, foreign_calls}
 use Rattle.asm2wasm_code.specs.Numbers.{first_scratch, import_number, asked_signature}
 use Rattle.asm2wasm_code.specs.Modules.{type_for, body_for, translation}
 use Rattle.asm2wasm_code.specs.Bodies.{function_code}
+use Rattle.asm2wasm_lang.specs.Heaps.{is_heap_length}
 use Rattle.asm2wasm_lang.specs.Calling.{IsCalledAs}
 use Rattle.asm2wasm_lang.specs.Tables.{entries_of}
 use Rattle.asm2wasm_laws_run.specs.State.{Fixed}
@@ -85,3 +86,9 @@ TablesAreFilled =
 -- calls find what an accepted module calls
 abbrev pub CallsAreMade : Type 0
 CallsAreMade = (m : Module) (size : ℕ) (x : Fixed) → IsAccepted m → x.entries ≡ table_entries m → IsMade (translation m size) x m
+
+-- ---- validity
+
+-- an accepted module with a heap of a length that there is gives a valid one
+abbrev pub TranslationIsValid : Type 0
+TranslationIsValid = (m : Module) (size : ℕ) → IsAccepted m → is_heap_length size ≡ true → IsValidModule (translation m size)

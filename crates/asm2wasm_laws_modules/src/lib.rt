@@ -2,7 +2,7 @@
 //! and how it is called.
 #![tactic(auto)]
 
-ghost use Rattle.asm2wasm_laws_modules.specs.Laws.{FunctionsAreCounted, FunctionsHaveTypes, ImportsHaveTypes, ContextsAreKnown, BodiesAreValid, TranslationIsCalled, FunctionsAreCalled, ImportsAreCalled, TablesAreFilled, CallsAreMade};
+ghost use Rattle.asm2wasm_laws_modules.specs.Laws.{FunctionsAreCounted, FunctionsHaveTypes, ImportsHaveTypes, ContextsAreKnown, BodiesAreValid, TranslationIsCalled, FunctionsAreCalled, ImportsAreCalled, TablesAreFilled, CallsAreMade, TranslationIsValid};
 
 /// Functions, by number.
 pub fn functions()
@@ -31,4 +31,11 @@ pub fn calls()
 {
     wasm_laws_trees::spellings();
     asm2wasm_lang::tables_end_to_end();
+}
+
+/// The module is valid.
+pub fn validity()
+    ensures { TranslationIsValid }
+{
+    asm2wasm_lang::heap_lengths();
 }
