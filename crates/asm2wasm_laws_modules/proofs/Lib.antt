@@ -8,3 +8,4 @@ pub mod Callees
 pub mod Made
 pub mod Accepted
 pub mod Valid
+pub mod Readable

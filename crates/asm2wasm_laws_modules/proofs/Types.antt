@@ -35,7 +35,7 @@ signatures_equal s t h =
     let signature : ℕ → Bool → Signature = λ p r. record { params = p; result = r } in
     ap (λ p. signature p s.result) (eqb-true s.params t.params parts.0) ∙ ap (signature t.params) (same_is s.result t.result parts.1)
 
-is_itself : (s : Signature) → is_signature s s ≡ true
+pub is_itself : (s : Signature) → is_signature s s ≡ true
 is_itself s = and_from (s.params == s.params) (same s.result s.result) (equals_itself s.params) (same_itself s.result)
 
 -- ---- what is known has a place

@@ -2,12 +2,14 @@
 use Rattle.std.specs.Prelude.{◌≡◌, ℕ, ◌+◌, max, true, List, length, map, Option, Some, slice_get}
 use Rattle.sem_laws.specs.Script.{ScriptPlain}
 use Rattle.sem_laws.specs.CallingForms.{foreign_import}
+use Rattle.wasm_lang.specs.Limits.{IsWithinReader}
 use Rattle.wasm_lang_valid.specs.ModuleRules.{function_types, type_of_function}
 use Rattle.wasm_lang_valid.specs.declared.section.Section.TheVariants as sections
 use Rattle.wasm_lang_valid.specs.Validity.{body_context, IsFineSection, IsValidModule}
 use Rattle.wasm_lang_exec.specs.Reductions.{an_import, a_function, callee_at}
 use Rattle.wasm_lang_exec.specs.Session.{first_store, entries_fit, with_entries}
 use Rattle.wasm_laws_trees.specs.Spelled.{reach}
+use Rattle.asm_lang.specs.Heights.{IsWellFormed}
 use Rattle.asm_lang.specs.Modules.{Function, Module}
 use Rattle.asm_lang_valid.specs.Typed.{scope_of}
 use Rattle.asm_lang_valid.specs.Refusal.{IsAccepted}
@@ -92,3 +94,7 @@ CallsAreMade = (m : Module) (size : ℕ) (x : Fixed) → IsAccepted m → x.entr
 -- an accepted module with a heap of a length that there is gives a valid one
 abbrev pub TranslationIsValid : Type 0
 TranslationIsValid = (m : Module) (size : ℕ) → IsAccepted m → is_heap_length size ≡ true → IsValidModule (translation m size)
+
+-- .. within the limits of a reader, if the module is one that a text says
+abbrev pub TranslationIsWithin : Type 0
+TranslationIsWithin = (m : Module) (size : ℕ) → IsAccepted m → IsWellFormed m → IsWithinReader (translation m size)

@@ -2,7 +2,7 @@
 //! and how it is called.
 #![tactic(auto)]
 
-ghost use Rattle.asm2wasm_laws_modules.specs.Laws.{FunctionsAreCounted, FunctionsHaveTypes, ImportsHaveTypes, ContextsAreKnown, BodiesAreValid, TranslationIsCalled, FunctionsAreCalled, ImportsAreCalled, TablesAreFilled, CallsAreMade, TranslationIsValid};
+ghost use Rattle.asm2wasm_laws_modules.specs.Laws.{FunctionsAreCounted, FunctionsHaveTypes, ImportsHaveTypes, ContextsAreKnown, BodiesAreValid, TranslationIsCalled, FunctionsAreCalled, ImportsAreCalled, TablesAreFilled, CallsAreMade, TranslationIsValid, TranslationIsWithin};
 
 /// Functions, by number.
 pub fn functions()
@@ -38,4 +38,11 @@ pub fn validity()
     ensures { TranslationIsValid }
 {
     asm2wasm_lang::heap_lengths();
+}
+
+/// The module is one that a reader takes.
+pub fn limits()
+    ensures { TranslationIsWithin }
+{
+    wasm_laws_trees::spellings();
 }
