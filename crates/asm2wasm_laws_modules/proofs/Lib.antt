@@ -9,3 +9,5 @@ pub mod Made
 pub mod Accepted
 pub mod Valid
 pub mod Readable
+pub mod Bytes
+pub mod Fitting

@@ -1,7 +1,7 @@
 -- What a module of asm.js is translated to.
-use Rattle.std.specs.Prelude.{◌≡◌, ℕ, ◌+◌, max, true, List, length, map, Option, Some, slice_get}
+use Rattle.std.specs.Prelude.{◌≡◌, ℕ, ◌+◌, max, true, List, length, map, Option, Some, None, slice_get}
 use Rattle.sem_laws.specs.Script.{ScriptPlain}
-use Rattle.sem_laws.specs.CallingForms.{foreign_import}
+use Rattle.sem_laws.specs.CallingForms.{foreign_import, script_to_wasm}
 use Rattle.wasm_lang.specs.Limits.{IsWithinReader}
 use Rattle.wasm_lang_valid.specs.ModuleRules.{function_types, type_of_function}
 use Rattle.wasm_lang_valid.specs.declared.section.Section.TheVariants as sections
@@ -9,6 +9,8 @@ use Rattle.wasm_lang_valid.specs.Validity.{body_context, IsFineSection, IsValidM
 use Rattle.wasm_lang_exec.specs.Reductions.{an_import, a_function, callee_at}
 use Rattle.wasm_lang_exec.specs.Session.{first_store, entries_fit, with_entries}
 use Rattle.wasm_laws_trees.specs.Spelled.{reach}
+use Rattle.wasm_lang_exec.specs.Fits as machine
+use Rattle.asm_lang_exec.specs.Fits as source
 use Rattle.asm_lang.specs.Heights.{IsWellFormed}
 use Rattle.asm_lang.specs.Modules.{Function, Module}
 use Rattle.asm_lang_valid.specs.Typed.{scope_of}
@@ -98,3 +100,9 @@ TranslationIsValid = (m : Module) (size : ℕ) → IsAccepted m → is_heap_leng
 -- .. within the limits of a reader, if the module is one that a text says
 abbrev pub TranslationIsWithin : Type 0
 TranslationIsWithin = (m : Module) (size : ℕ) → IsAccepted m → IsWellFormed m → IsWithinReader (translation m size)
+
+-- ---- scripts
+
+-- a script that fits the module of a text fits the translated one, with each foreign name as that of an import
+abbrev pub ScriptsFit : Type 0
+ScriptsFit = (m : Module) (size : ℕ) (s : ScriptPlain) → IsWellFormed m → source.misfit m size s ≡ None → machine.misfit (translation m size) (script_to_wasm s) ≡ None

@@ -2,7 +2,7 @@
 //! and how it is called.
 #![tactic(auto)]
 
-ghost use Rattle.asm2wasm_laws_modules.specs.Laws.{FunctionsAreCounted, FunctionsHaveTypes, ImportsHaveTypes, ContextsAreKnown, BodiesAreValid, TranslationIsCalled, FunctionsAreCalled, ImportsAreCalled, TablesAreFilled, CallsAreMade, TranslationIsValid, TranslationIsWithin};
+ghost use Rattle.asm2wasm_laws_modules.specs.Laws.{FunctionsAreCounted, FunctionsHaveTypes, ImportsHaveTypes, ContextsAreKnown, BodiesAreValid, TranslationIsCalled, FunctionsAreCalled, ImportsAreCalled, TablesAreFilled, CallsAreMade, TranslationIsValid, TranslationIsWithin, ScriptsFit};
 
 /// Functions, by number.
 pub fn functions()
@@ -45,4 +45,12 @@ pub fn limits()
     ensures { TranslationIsWithin }
 {
     wasm_laws_trees::spellings();
+}
+
+/// A script that fits the text fits the module.
+pub fn scripts()
+    ensures { ScriptsFit }
+{
+    asm2wasm_lang::heap_lengths();
+    asm_laws_print::well_formed_modules();
 }
