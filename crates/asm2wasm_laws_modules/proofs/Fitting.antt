@@ -100,7 +100,7 @@ module _ (m : Module) (size : ℕ) where
   no_more None = refl
   no_more (Some n) = refl
 
-  pages_are : machine_pages.pages w ≡ pages_by (has_heap m)
+  pub pages_are : machine_pages.pages w ≡ pages_by (has_heap m)
   pages_are = no_more (machine_pages.imported_pages w.imports) ∙ imported_pages_are
 
   -- ---- bytes

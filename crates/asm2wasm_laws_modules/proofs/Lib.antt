@@ -11,3 +11,4 @@ pub mod Valid
 pub mod Readable
 pub mod Bytes
 pub mod Fitting
+pub mod Running

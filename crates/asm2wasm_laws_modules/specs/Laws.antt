@@ -3,6 +3,7 @@ use Rattle.std.specs.Prelude.{◌≡◌, ℕ, ◌+◌, max, true, List, length, 
 use Rattle.sem_laws.specs.Script.{ScriptPlain}
 use Rattle.sem_laws.specs.CallingForms.{foreign_import, script_to_wasm}
 use Rattle.wasm_lang.specs.Limits.{IsWithinReader}
+use Rattle.wasm_lang_valid.specs.Runnable.{not_runnable}
 use Rattle.wasm_lang_valid.specs.ModuleRules.{function_types, type_of_function}
 use Rattle.wasm_lang_valid.specs.declared.section.Section.TheVariants as sections
 use Rattle.wasm_lang_valid.specs.Validity.{body_context, IsFineSection, IsValidModule}
@@ -100,6 +101,10 @@ TranslationIsValid = (m : Module) (size : ℕ) → IsAccepted m → is_heap_leng
 -- .. within the limits of a reader, if the module is one that a text says
 abbrev pub TranslationIsWithin : Type 0
 TranslationIsWithin = (m : Module) (size : ℕ) → IsAccepted m → IsWellFormed m → IsWithinReader (translation m size)
+
+-- .. and can be run
+abbrev pub TranslationIsRunnable : Type 0
+TranslationIsRunnable = (m : Module) (size : ℕ) → is_heap_length size ≡ true → not_runnable (translation m size) ≡ None
 
 -- ---- scripts
 

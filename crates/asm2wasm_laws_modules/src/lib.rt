@@ -2,7 +2,7 @@
 //! and how it is called.
 #![tactic(auto)]
 
-ghost use Rattle.asm2wasm_laws_modules.specs.Laws.{FunctionsAreCounted, FunctionsHaveTypes, ImportsHaveTypes, ContextsAreKnown, BodiesAreValid, TranslationIsCalled, FunctionsAreCalled, ImportsAreCalled, TablesAreFilled, CallsAreMade, TranslationIsValid, TranslationIsWithin, ScriptsFit};
+ghost use Rattle.asm2wasm_laws_modules.specs.Laws.{FunctionsAreCounted, FunctionsHaveTypes, ImportsHaveTypes, ContextsAreKnown, BodiesAreValid, TranslationIsCalled, FunctionsAreCalled, ImportsAreCalled, TablesAreFilled, CallsAreMade, TranslationIsValid, TranslationIsWithin, TranslationIsRunnable, ScriptsFit};
 
 /// Functions, by number.
 pub fn functions()
@@ -45,6 +45,13 @@ pub fn limits()
     ensures { TranslationIsWithin }
 {
     wasm_laws_trees::spellings();
+}
+
+/// The module can be run.
+pub fn runnable()
+    ensures { TranslationIsRunnable }
+{
+    asm2wasm_lang::heap_lengths();
 }
 
 /// A script that fits the text fits the module.
