@@ -13,11 +13,11 @@ use Rattle.asm_lang_valid.specs.Refusal.{foreign_globals, has_heap}
 use Rattle.asm2wasm_lang.specs.Heaps.{pages_for}
 use Rattle.asm2wasm_lang.specs.Calling.{exactly}
 use Rattle.asm2wasm_code.specs.Numbers.{number_among, import_number, asked_signature, type_number}
-use Rattle.asm2wasm_code.specs.Modules.{from_env, imported_function, imported_global, imported_memory, translation}
+use Rattle.asm2wasm_code.specs.Modules.{from_env, imported_function, imported_global, imported_memory, body_for, translation}
 use Rattle.asm2wasm_laws_within.proofs.Marks.{same_calls_are_equal}
 use Rattle.asm2wasm_laws_modules.proofs.Lists.{get_second, get_first, all_at}
 use Rattle.asm2wasm_laws_modules.proofs.Types.{Known, calls_known, function_known, type_at}
-use Rattle.asm2wasm_laws_modules.specs.Laws.{FunctionsAreCounted, FunctionsHaveTypes, ImportsHaveTypes}
+use Rattle.asm2wasm_laws_modules.specs.Laws.{FunctionsAreCounted, FunctionsAreAsMany, FunctionsHaveTypes, ImportsHaveTypes}
 
 -- ---- foreign calls by their numbers
 
@@ -89,3 +89,6 @@ functions_are_counted m size =
     let own = map (own_type m size) m.functions in
     ap length (types_are m size) ∙ length-append calls own ∙ ap (λ n. n + length own) (length-map (foreign_calls m) (call_type m size))
     ∙ ap (λ n. length (foreign_calls m) + n) (length-map m.functions (own_type m size))
+
+pub functions_are_as_many : FunctionsAreAsMany
+functions_are_as_many m size = (length-map m.functions (λ f. type_number m (signature_of f)), length-map m.functions (body_for m size))

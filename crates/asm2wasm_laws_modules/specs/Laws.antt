@@ -34,6 +34,11 @@ use Rattle.asm2wasm_laws_typed.specs.Contexts.{IsContextOf}
 abbrev pub FunctionsAreCounted : Type 0
 FunctionsAreCounted = (m : Module) (size : ℕ) → length (function_types (translation m size)) ≡ length (foreign_calls m) + length m.functions
 
+-- each function of the text is one of the module, with a body
+abbrev pub FunctionsAreAsMany : Type 0
+FunctionsAreAsMany =
+    (m : Module) (size : ℕ) → (length (translation m size).functions ≡ length m.functions) × (length (translation m size).bodies ≡ length m.functions)
+
 -- function i of the module stands i places after the foreign ones, and takes and gives what its signature says
 abbrev pub FunctionsHaveTypes : Type 0
 FunctionsHaveTypes =

@@ -2,11 +2,12 @@
 //! and how it is called.
 #![tactic(auto)]
 
-ghost use Rattle.asm2wasm_laws_modules.specs.Laws.{FunctionsAreCounted, FunctionsHaveTypes, ImportsHaveTypes, ContextsAreKnown, BodiesAreValid, TranslationIsCalled, FunctionsAreCalled, ImportsAreCalled, TablesAreFilled, CallsAreMade, TranslationIsValid, TranslationIsWithin, TranslationIsRunnable, ScriptsFit};
+ghost use Rattle.asm2wasm_laws_modules.specs.Laws.{FunctionsAreCounted, FunctionsAreAsMany, FunctionsHaveTypes, ImportsHaveTypes, ContextsAreKnown, BodiesAreValid, TranslationIsCalled, FunctionsAreCalled, ImportsAreCalled, TablesAreFilled, CallsAreMade, TranslationIsValid, TranslationIsWithin, TranslationIsRunnable, ScriptsFit};
 
 /// Functions, by number.
 pub fn functions()
     ensures counted { FunctionsAreCounted }
+    ensures as_many { FunctionsAreAsMany }
     ensures own { FunctionsHaveTypes }
     ensures imported { ImportsHaveTypes }
 {}
