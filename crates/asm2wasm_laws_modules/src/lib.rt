@@ -1,5 +1,5 @@
-//! The module of WebAssembly that a module of asm.js is translated to: its functions and their types,
-//! and how it is called.
+//! The module of WebAssembly that a module of asm.js is translated to: its functions and its table, how
+//! it is called, that it is valid and can be read and run, and which scripts fit it.
 #![tactic(auto)]
 
 ghost use Rattle.asm2wasm_laws_modules.specs.Laws.{FunctionsAreCounted, FunctionsAreAsMany, FunctionsHaveTypes, ImportsHaveTypes, ContextsAreKnown, BodiesAreValid, TranslationIsCalled, FunctionsAreCalled, ImportsAreCalled, TablesAreFilled, CallsAreMade, TranslationIsValid, TranslationIsWithin, TranslationIsRunnable, ScriptsFit};
