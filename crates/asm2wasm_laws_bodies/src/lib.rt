@@ -1,0 +1,2 @@
+//! Statements of asm.js, and the code that keeps what they do.
+#![tactic(auto)]
