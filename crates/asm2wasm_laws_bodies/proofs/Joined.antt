@@ -7,7 +7,7 @@ use Rattle.wasm_laws_drive.specs.Drive.{Outcome, Next, at, onward}
 use Rattle.wasm_laws_drive.specs.Equations.{then_on}
 use Rattle.wasm_laws_drive.proofs.Sequences.{sequence}
 use Rattle.wasm_laws_trees.specs.Spelled.{size}
-use Rattle.asm_lang_exec.specs.Runs.{Place, Part, and_then, gives}
+use Rattle.asm_lang_exec.specs.Runs.{Place, Run, goes, stops, spent, wrong, Part, after, and_then, gives}
 use Rattle.asm2wasm_laws_run.specs.Sim.{Steps, Ends, Sim}
 use Rattle.asm2wasm_laws_run.specs.Sim as sims
 use Rattle.asm2wasm_laws_run.specs.State.{words, store_of, Holds, EndsAlike, run_from}
@@ -15,6 +15,12 @@ use Rattle.asm2wasm_laws_run.proofs.Simulated.{comes_in, sim_after, sim_now, sim
 use Rattle.asm2wasm_laws_run.proofs.Chained.{code_keeps}
 use Rattle.asm2wasm_laws_values.specs.Kept.{Surroundings, Shown, Keeps}
 use Rattle.asm2wasm_laws_bodies.specs.Followed.{Course, on_code, Arrived, Follows}
+
+pub after_gives : {A : Type 0} → (o : Run A) → after o gives ≡ o
+after_gives (goes a p) = refl
+after_gives (stops e p) = refl
+after_gives (spent p) = refl
+after_gives wrong = refl
 
 module _ (s : Surroundings) (limit : ℕ) where
   abbrev ends : Ends
@@ -66,6 +72,15 @@ module _ (s : Surroundings) (limit : ℕ) where
           sim_same s.worth ends A (Arrived s has on scratch) z p.units (course (words p.locals ++ scratch) (store_of s.fixed p)) (later (words p.locals ++ scratch) (store_of s.fixed p)) (part p)
           (λ k. e (words p.locals ++ scratch) (store_of s.fixed p) k) (f.by p scratch h many few);
     }
+
+    pub follows_part : (z : ℕ) (course : Course) (part part' : Part A) → ((p : Place) → part p ≡ part' p) → Follows s limit z course has on part → Follows s limit z course has on part'
+    follows_part z course part part' e f = record {
+      by = λ p scratch h many few. subst (λ o. Sim s.worth ends (Arrived s has on scratch) z p.units (course (words p.locals ++ scratch) (store_of s.fixed p)) o) (e p) (f.by p scratch h many few);
+    }
+
+    -- fewer units
+    pub follows_limit : (lower z : ℕ) (course : Course) (part : Part A) → lower ≤ limit → Follows s limit z course has on part → Follows s lower z course has on part
+    follows_limit lower z course part le f = record { by = λ p scratch h many few. f.by p scratch h many (omega (arith, few, le)) }
 
     pub follows_now : (course : Course) (a : A) → has a → ((l : List Word) (st : Store) (k : ℕ) → course l st k ≡ on a l st k) → Follows s limit 0 course has on (gives a)
     follows_now course a is e = record {

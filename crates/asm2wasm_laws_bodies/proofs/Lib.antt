@@ -1,1 +1,4 @@
 pub mod Joined
+pub mod Left
+pub mod Tested
+pub mod Turned
