@@ -2,3 +2,4 @@ pub mod Joined
 pub mod Left
 pub mod Tested
 pub mod Turned
+pub mod Executed
