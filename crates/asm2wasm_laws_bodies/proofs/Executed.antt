@@ -18,10 +18,8 @@ use Rattle.asm_types.proofs.Sound.{wider}
 use Rattle.asm_lang.specs.Modules.{Expr, Stmt, plain, empty, if_only, if_else, returns, while_loop, do_while, for_loop, breaks, continues, labelled, switches, Stmts, no_stmts, stmts, Clauses, no_clauses, clauses}
 use Rattle.asm_lang.specs.Modules as text
 use Rattle.asm_lang_valid.specs.Rows.{need, expr_count, option_count, stmt_count, stmts_count}
-
 use Rattle.asm_lang_valid.specs.declared.rule.Rule.TheVariants.{PastLimit}
 use Rattle.asm_lang_valid.specs.LimitRows.{Mark, clauses_length, most_clauses, rows_of, expr_marks, effect_marks, part_marks, option_marks, stmt_marks, stmts_marks, clauses_marks, foreign_calls}
-
 use Rattle.asm_lang_valid.specs.Typing.{Scope, typed_below, type_of, effect_fits, Around, in_a_loop, in_a_switch, under_labels, condition_fits, part_fits, result_of, return_fits, cases_fit, typed, all_typed, clauses_typed}
 use Rattle.asm_lang_exec.specs.Runs.{Place, Part, and_then, gives}
 use Rattle.asm_lang_exec.specs.Values.{Calls}
@@ -39,6 +37,7 @@ use Rattle.asm2wasm_laws_values.proofs.Rooms.{first_within, second_within, arms_
 use Rattle.asm2wasm_laws_values.proofs.Sizes.{sizes_add}
 use Rattle.asm2wasm_laws_values.proofs.Whole.{expressions_are_kept, effects_are_kept}
 use Rattle.asm2wasm_laws_bodies.specs.Followed.{Course, on_code, Follows, Any, ends_as, KeepsEnd}
+use Rattle.asm2wasm_laws_bodies.specs.Laws.{ClausesKept, SwitchesKept, StatementsAreKept, ListsAreKept}
 use Rattle.asm2wasm_laws_bodies.proofs.Joined.{follows_bind, follows_in, follows_more, follows_now, follows_then, follows_kept}
 use Rattle.asm2wasm_laws_bodies.proofs.Left.{out, out_keeps, no_more, ends_now, ends_soon, leaves_named, leaves_list}
 use Rattle.asm2wasm_laws_bodies.proofs.Tested.{tested, follows_if, follows_test}
@@ -71,12 +70,6 @@ module _ (s : Surroundings) (limit bound : ℕ) (calls : Calls) (is : IsAmong s)
 
   abbrev Kept : List Label → Trees → Part Completion → Type 0
   Kept ls code part = KeepsEnd s limit ls wanted code part
-
-  -- the statements of each clause, under any labels
-  abbrev pub ClausesKept : Clauses → Type 0
-  ClausesKept no_clauses = Unit {0}
-  ClausesKept (clauses v ss cs) =
-      ((ls : List Label) → Within s (stmts_code s.heap c ls ss) → size (stmts_code s.heap c ls ss) ≤ s.worth → Kept ls (stmts_code s.heap c ls ss) (exec_all true calls c bound ss)) × ClausesKept cs
 
   -- ---- expressions in statements
 
@@ -125,14 +118,7 @@ module _ (s : Surroundings) (limit bound : ℕ) (calls : Calls) (is : IsAmong s)
       (λ l st k. let one : 1 + k ≡ suc k = omega arith in ap (on_code s.target [] (block None body ▹ ε) l st) one ∙ block_enters s.target None body ε (at [] l st (suc k)))
       (follows_bind s limit (out s) (size body) 1 (on_code s.target [] body) Any (ends_as (named_end ns ∷ ls) wanted) Any (ends_as ls wanted) part (λ d. gives (label_end ns d)) (out_keeps s ε) f (λ d is. leaves_named s limit ls wanted ns d)))
 
-  -- how a switch is kept, whose value and clauses are
-  abbrev pub SwitchKept : Type 0
-  SwitchKept =
-      (ls : List Label) (own : List (List ℕ)) (e : Expr) (cs : Clauses) → cases_fit cs ≡ true → Keeps s limit 0 [] (Fits Signed) a_value (value_code s.heap c 0 e) (does e) → ClausesKept cs
-      → Within s (stmt_code s.heap c ls own (switches e cs)) → size (stmt_code s.heap c ls own (switches e cs)) ≤ s.worth
-      → Kept ls (stmt_code s.heap c ls own (switches e cs)) (exec true calls c bound own (switches e cs))
-
-  module _ (switch_kept : SwitchKept) where
+  module _ (switch_kept : SwitchesKept s limit bound calls) where
     mutual
       pub stmt_kept : (x : Stmt) (ls : List Label) (own : List (List ℕ)) (a : Around) (place : ℕ) → typed c a x ≡ true → Within s (stmt_code s.heap c ls own x) → Listed (stmt_marks c place x)
           → size (stmt_code s.heap c ls own x) ≤ s.worth → Kept ls (stmt_code s.heap c ls own x) (exec true calls c bound own x)
@@ -254,9 +240,15 @@ module _ (s : Surroundings) (limit bound : ℕ) (calls : Calls) (is : IsAmong s)
           (stmt_kept x ls [] a place p.0 (first_within s first more room) both.0 (omega (arith, few, all)))
           (λ d t. leaves_list s limit ls wanted (size more) more (exec_all true calls c bound ss) d (stmts_kept ss ls a (place + stmt_count x) p.1 (second_within s first more room) both.1 (omega (arith, few, all)))))
 
-      pub clauses_kept : (cs : Clauses) (a : Around) (place : ℕ) → clauses_typed c a cs ≡ true → Listed (clauses_marks c place cs) → ClausesKept cs
+      pub clauses_kept : (cs : Clauses) (a : Around) (place : ℕ) → clauses_typed c a cs ≡ true → Listed (clauses_marks c place cs) → ClausesKept s limit bound calls cs
       clauses_kept no_clauses a place h l = tt
       clauses_kept (clauses v ss cs) a place h l =
           let p = and_parts _ _ h in
           let both = listed_parts (foreign_calls s.home) (stmts_marks c place ss) (clauses_marks c (place + stmts_count ss) cs) l in
           (λ ls room few. stmts_kept ss ls a place p.0 room both.0 few, clauses_kept cs a (place + stmts_count ss) p.1 both.1)
+
+pub statements_are_kept : StatementsAreKept
+statements_are_kept s limit bound calls ls own a place x is kept switched le h l room few = stmt_kept s limit bound calls is kept le switched x ls own a place h room l few
+
+pub lists_are_kept : ListsAreKept
+lists_are_kept s limit bound calls ls a place ss is kept switched le h l room few = stmts_kept s limit bound calls is kept le switched ss ls a place h room l few

@@ -77,14 +77,16 @@ module _ (s : Surroundings) (ls : List Label) (wanted : Bool) (inner : Trees) wh
 
   -- no turn is left, and no unit
   pub no_turn : (limit : ℕ) → limit ≤ 0 → Ends limit 0 entered out_of_units
-  no_turn limit none = record { by = λ p scratch h many few. record {
-    cost = 0;
-    store = store_of s.fixed p;
-    no_fewer = omega (arith, few, none);
-    no_more = omega arith;
-    by = ap (out s) (loop_enters s.target None inner ε (at [] (words p.locals ++ scratch) (store_of s.fixed p) 0));
-    seen = refl;
-  } }
+  no_turn limit none = record {
+    by = λ p scratch h many few. record {
+      cost = 0;
+      store = store_of s.fixed p;
+      no_fewer = omega (arith, few, none);
+      no_more = omega arith;
+      by = ap (out s) (loop_enters s.target None inner ε (at [] (words p.locals ++ scratch) (store_of s.fixed p) 0));
+      seen = refl;
+    };
+  }
 
   -- ---- after the body
 
