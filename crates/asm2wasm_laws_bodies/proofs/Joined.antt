@@ -23,7 +23,7 @@ after_gives (spent p) = refl
 after_gives wrong = refl
 
 module _ (s : Surroundings) (limit : ℕ) where
-  abbrev ends : Ends
+  abbrev pub ends : Ends
   ends = EndsAlike s.fixed s.home s.heap
 
   -- a part, and then what its result leads to, in surroundings of the code
