@@ -31,7 +31,7 @@ use Rattle.asm2wasm_laws_bodies.specs.Followed.{on_code}
 use Rattle.asm2wasm_laws_bodies.proofs.Tested.{chosen_by}
 use Rattle.asm2wasm_laws_bodies.proofs.Scratched.{Reaches}
 
-case_range : (v : ℤ) (vs : List ℤ) → in_range (v ∷ vs) ≡ true → (is_between least (pos (2 ^ 31)) v ≡ true) × (in_range vs ≡ true)
+pub case_range : (v : ℤ) (vs : List ℤ) → in_range (v ∷ vs) ≡ true → (is_between least (pos (2 ^ 31)) v ≡ true) × (in_range vs ≡ true)
 case_range v vs h = let p = and_parts (is_between least (pos (2 ^ 31)) v) (in_range vs) h in (p.0, p.1)
 
 pub equal_words : (z v : ℤ) → is_between least (pos (2 ^ 31)) z ≡ true → is_between least (pos (2 ^ 31)) v ≡ true → (word_of 32 z == word_of 32 v) ≡ is_case z (Some v)

@@ -6,3 +6,4 @@ pub mod Executed
 pub mod Scratched
 pub mod Dispatched
 pub mod Blocks
+pub mod Tabled
