@@ -107,3 +107,65 @@ no_target : (n i : ℕ) (z : ℤ) (cs : Clauses) → nat_lt i n ≡ false → sl
 no_target zero i z cs h = refl
 no_target (suc n) zero z cs h = absurd (let some : nat_lt 0 (suc n) ≡ true = grind (arith, nat_tests) in cc (sym h ∙ some))
 no_target (suc n) (suc i) z cs h = let less : nat_lt i n ≡ false = grind (arith, nat_tests) in no_target n i (z +ℤ pos 1) cs less
+
+-- ---- the table
+
+record Bounds (vs : List ℤ) : Type 0 where
+  high : ℤ
+  low_signed : IsSigned (low vs)
+  high_signed : IsSigned high
+  ordered : int_le (low vs) high ≡ true
+  is_span : span vs ≡ unsigned_abs (high -ℤ low vs)
+  between : Between (low vs) high vs
+
+bounds : (vs : List ℤ) → is_dense vs ≡ true → in_range vs ≡ true → Bounds vs
+bounds [] d h = absurd (cc d)
+bounds (v ∷ vs) d h =
+    let p = case_range v vs h in
+    let e = extremes v vs in
+    let f = extremes_signed v vs p.0 p.1 in
+    record {
+      high = greatest v vs;
+      low_signed = f.0;
+      high_signed = f.1;
+      ordered = in_turn (least v vs) v (greatest v vs) e.0 e.1;
+      is_span = refl;
+      between = (e.0, e.1, e.2);
+    }
+
+module _ (w : WasmModule) (t : ℕ) (z : ℤ) (fits : IsSigned z) (cs : Clauses) (dense : is_dense (values cs) ≡ true) (h : in_range (values cs) ≡ true) where
+  abbrev index : ℕ
+  index = sub_of 32 (word_of 32 z) (word_of 32 (low (values cs)))
+
+  abbrev all : List ℕ
+  all = targets (suc (span (values cs))) (low (values cs)) cs
+
+  finds : default_to (before_default cs) (slice_get all index) ≡ passed_over z cs
+  finds =
+      let b = bounds (values cs) dense h in
+      let inside = index_inside (low (values cs)) b.high z b.low_signed b.high_signed fits b.ordered in
+      by b (int_le (low (values cs)) z && int_le z b.high) refl (ap (λ n. nat_lt index (suc n)) b.is_span ∙ inside)
+    where
+      by : (b : Bounds (values cs)) (x : Bool) → (int_le (low (values cs)) z && int_le z b.high) ≡ x → nat_lt index (suc (span (values cs))) ≡ (int_le (low (values cs)) z && int_le z b.high)
+          → default_to (before_default cs) (slice_get all index) ≡ passed_over z cs
+      by b true e n =
+          let le = (and_parts (int_le (low (values cs)) z) (int_le z b.high) e).0 in
+          ap (default_to (before_default cs)) (target_at (suc (span (values cs))) index (low (values cs)) cs (n ∙ e)) ∙ ap (λ z. passed_over z cs) (index_is (low (values cs)) z b.low_signed fits le)
+      by b false e n =
+          ap (default_to (before_default cs)) (no_target (suc (span (values cs))) index (low (values cs)) cs (n ∙ e))
+          ∙ sym (ap (λ x. if x then before_case z cs else before_default cs) (none_outside (low (values cs)) b.high z cs b.between e))
+
+  pub table_reaches : (l : List Word) (st : Store) → slice_get l t ≡ Some (W32 (word_of 32 z))
+      → Reaches (size (table_branch t cs)) (on_code w [] (table_branch t cs) l st) (λ k. Branch (passed_over z cs) (at [] l st k))
+  table_reaches l st got = record {
+    cost = 3;
+    few = omega arith;
+    by = λ k.
+        let n : 3 + k ≡ 2 + suc k = omega arith in
+        let tail = br_table all (before_default cs) ▹ ε in
+        ap (on_code w [] (table_branch t cs) l st) n
+        ∙ runs w (local_get t ∷ value.number (word_of 32 (low (values cs))) ∷ bin32 bins.Sub ∷ []) [] l st (reached (W32 index ∷ []) l st) tail (suc k)
+        (ap (λ o. on_from (pushed o [] l st) (effects (value.number (word_of 32 (low (values cs))) ∷ bin32 bins.Sub ∷ []))) got)
+        ∙ br_table_chooses w all (before_default cs) ε (at (W32 index ∷ []) l st (suc k))
+        ∙ ap (λ n. Branch n (at [] l st k)) finds;
+  }
