@@ -7,3 +7,4 @@ pub mod Scratched
 pub mod Dispatched
 pub mod Blocks
 pub mod Tabled
+pub mod Long
