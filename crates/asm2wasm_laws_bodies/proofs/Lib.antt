@@ -8,3 +8,4 @@ pub mod Dispatched
 pub mod Blocks
 pub mod Tabled
 pub mod Long
+pub mod Numbered

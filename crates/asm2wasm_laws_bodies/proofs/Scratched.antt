@@ -28,7 +28,7 @@ pub record Reaches (most : ℕ) (from to : ℕ → Outcome) : Type 0 where
   pub by : (k : ℕ) → from (cost + k) ≡ to k
 
 module _ (s : Surroundings) (limit i place : ℕ) (is : first_scratch s.within + i ≡ place) (free : i < s.scratch) where
-  there : (p : Place) (scratch : List Word) → Holds s.home s.heap s.within p → length scratch ≡ s.scratch → (old : Word) × (slice_get (words p.locals ++ scratch) place ≡ Some old)
+  pub there : (p : Place) (scratch : List Word) → Holds s.home s.heap s.within p → length scratch ≡ s.scratch → (old : Word) × (slice_get (words p.locals ++ scratch) place ≡ Some old)
   there p scratch h many =
       let n = locals_length s.within p.locals h.locals in
       let x = is_there scratch i (omega (arith, free, many)) in
@@ -95,3 +95,19 @@ module _ (s : Surroundings) (limit i place : ℕ) (is : first_scratch s.within +
           few = omega arith;
           by = λ k. runs s.target (local_set place ∷ []) (v ∷ []) l st (reached [] (slice_set l place v) st) more k (ap (λ o. on_from (with_local place v [] o l st) (effects [])) got);
         }) f
+
+-- reductions for which there have to be two such locals
+pub follows_both : {A : Type 0} (s : Surroundings) (limit t number : ℕ) → first_scratch s.within + 0 ≡ t → first_scratch s.within + 1 ≡ number → 1 < s.scratch
+    → (has : A → Type 0) (on : A → Course) (most z : ℕ) (course later : Course) (part : Part A)
+    → ((l : List Word) (st : Store) (old old' : Word) → slice_get l t ≡ Some old → slice_get l number ≡ Some old' → Reaches most (course l st) (later l st))
+    → Follows s limit z later has on part → Follows s limit (most + z) course has on part
+follows_both {A} s limit t number is is' free has on most z course later part e f = record {
+  by = λ p scratch h many few.
+      let old = there s limit 0 t is (omega (arith, free)) p scratch h many in
+      let old' = there s limit 1 number is' free p scratch h many in
+      let r = course (words p.locals ++ scratch) (store_of s.fixed p) in
+      let r' = later (words p.locals ++ scratch) (store_of s.fixed p) in
+      let x = e (words p.locals ++ scratch) (store_of s.fixed p) old.0 old'.0 old.1 old'.1 in
+      sim_more s.worth (ends s limit) A (Arrived s has on scratch) (x.cost + z) (most + z) p.units r (part p) (let le = x.few in omega (arith, le))
+      (sim_after s.worth (ends s limit) A (Arrived s has on scratch) x.cost z p.units p.units r r' (part p) (comes_in s.worth x.cost p.units r r' x.by) (f.by p scratch h many few));
+}
