@@ -34,11 +34,11 @@ module _ (s : Surroundings) (limit bound : ℕ) (calls : Calls) (ls : List Label
   abbrev blocks : ℕ → List Label
   blocks n = replicate n plainly ++ breakable ∷ ls
 
-  abbrev leads : ℕ → Led → Course
+  abbrev pub leads : ℕ → Led → Course
   leads n (to_clause j) l st k = Branch j (at [] l st k)
   leads n (ended d) l st k = ends_as (blocks n) wanted d l st k
 
-  abbrev IsLed : ℕ → Led → Type 0
+  abbrev pub IsLed : ℕ → Led → Type 0
   IsLed n (to_clause j) = j ≤ n
   IsLed n (ended d) = Unit {0}
 
@@ -100,7 +100,7 @@ module _ (s : Surroundings) (limit bound : ℕ) (calls : Calls) (ls : List Label
     passes (ended (returned v)) is = follows_more s limit (IsLed n) (leads n) 0 (1 + size code) (λ l st k. out_to s code (leads (suc n) (ended (returned v)) l st k)) (gives (ended (returned v))) (omega arith) (follows_now s limit (IsLed n) (leads n) (λ l st k. out_to s code (leads (suc n) (ended (returned v)) l st k)) (ended (returned v)) tt (λ l st k. refl))
 
   -- out of the outermost block
-  abbrev ends_switch : Clauses → Led → Part Completion
+  abbrev pub ends_switch : Clauses → Led → Part Completion
   ends_switch cs x = and_then (run_from cs x) (λ d. gives (switch_end d))
 
   last_out : (x : Led) → IsLed 0 x → Follows s limit 1 (λ l st k. out s (leads 0 x l st k)) Any (ends_as ls wanted) (ends_switch no_clauses x)

@@ -9,3 +9,4 @@ pub mod Blocks
 pub mod Tabled
 pub mod Long
 pub mod Numbered
+pub mod Switched
