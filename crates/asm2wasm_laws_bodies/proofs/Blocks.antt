@@ -1,10 +1,9 @@
 -- The clauses of a short switch, each after a block.
-use Rattle.std.proofs.Common.{◌≡◌, ℕ, zero, suc, ◌+◌, ◌≤◌, Bool, true, false, List, [], ◌∷◌, ◌++◌, Option, Some, None, ℤ, refl, sym, ap, ◌∙◌, subst, arith}
+use Rattle.std.proofs.Common.{◌≡◌, ℕ, zero, suc, ◌+◌, ◌≤◌, Bool, true, List, [], ◌∷◌, ◌++◌, Option, Some, None, ℤ, refl, ap, ◌∙◌, arith}
 use Rattle.std.specs.Prelude.{replicate}
 use Rattle.sem_words.specs.declared.word.Word.{Word}
 use Rattle.wasm_lang_exec.specs.Code.{Trees, ε, ◌▹◌, block}
-use Rattle.wasm_lang_exec.specs.Store.{Store}
-use Rattle.wasm_laws_drive.specs.Drive.{Outcome, Next, Branch, Leave, at, onward}
+use Rattle.wasm_laws_drive.specs.Drive.{Next, Branch, at}
 use Rattle.wasm_laws_drive.proofs.Instructions.{block_enters}
 use Rattle.wasm_laws_trees.specs.Spelled.{size}
 use Rattle.asm_lang.specs.Modules.{Stmts, Clauses, no_clauses, clauses}
@@ -17,7 +16,7 @@ use Rattle.asm2wasm_laws_values.specs.Kept.{Surroundings}
 use Rattle.asm2wasm_laws_values.specs.Made.{Within}
 use Rattle.asm2wasm_laws_values.specs.Laws.{scope}
 use Rattle.asm2wasm_laws_bodies.specs.Followed.{Course, on_code, Follows, Any, ends_as}
-use Rattle.asm2wasm_laws_bodies.specs.Laws.{ClausesKept}
+use Rattle.asm2wasm_laws_bodies.proofs.Asked.{ClausesKept}
 use Rattle.asm2wasm_laws_bodies.proofs.Joined.{follows_bind, follows_in, follows_more, follows_now, follows_part}
 use Rattle.asm2wasm_laws_bodies.proofs.Left.{out, out_to, out_keeps, out_next, no_more, ends_now, leaves_switch}
 

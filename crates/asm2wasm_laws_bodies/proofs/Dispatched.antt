@@ -1,6 +1,6 @@
 -- How a short switch finds its clause.
-use Rattle.std.proofs.Common.{◌≡◌, ℕ, zero, suc, ◌+◌, ◌^◌, ◌≤◌, Bool, true, false, not, ◌&&◌, List, [], ◌∷◌, Option, Some, None, ℤ, pos, refl, sym, ap, ◌∙◌, subst, arith}
-use Rattle.std.specs.Prelude.{◌==◌, int_le, slice_get, if◌then◌else◌}
+use Rattle.std.proofs.Common.{◌≡◌, ℕ, suc, ◌+◌, ◌^◌, Bool, true, false, not, List, [], ◌∷◌, Some, None, ℤ, pos, refl, ap, ◌∙◌, subst, arith}
+use Rattle.std.specs.Prelude.{◌==◌, slice_get, if◌then◌else◌}
 use Rattle.std.proofs.lemmas.Bool.{and_parts}
 use Rattle.std.proofs.lemmas.Bool.Decides.{nat_tests}
 use Rattle.std.proofs.lemmas.Int.{ints}
@@ -13,12 +13,11 @@ use Rattle.wasm_lang_exec.specs.Code.{Trees, ε, ◌▹◌, ◌⊕◌, br, br_if
 use Rattle.wasm_lang_exec.specs.Store.{Store}
 use Rattle.wasm_lang_exec.specs.Plain.{flag, pushed}
 use Rattle.wasm_lang.specs.Modules.{WasmModule}
-use Rattle.wasm_laws_drive.specs.Drive.{Outcome, Branch, at, onward}
+use Rattle.wasm_laws_drive.specs.Drive.{Branch, at, onward}
 use Rattle.wasm_laws_drive.proofs.Instructions.{br_branches, br_if_chooses}
-use Rattle.wasm_laws_drive.proofs.Sequences.{trees_assoc}
 use Rattle.wasm_laws_trees.specs.Spelled.{size}
 use Rattle.asm_types.specs.Values.{is_between, least}
-use Rattle.asm_lang.specs.Modules.{Stmts, Clauses, no_clauses, clauses}
+use Rattle.asm_lang.specs.Modules.{Clauses, no_clauses, clauses}
 use Rattle.asm_lang_valid.specs.Typing.{values, in_range}
 use Rattle.asm_lang_exec.specs.Meaning.{is_case, before_case, has_case}
 use Rattle.asm2wasm_code.specs.Values as value
@@ -26,7 +25,6 @@ use Rattle.asm2wasm_code.specs.Values.{plains}
 use Rattle.asm2wasm_code.specs.Bodies.{case_branches}
 use Rattle.asm2wasm_laws_run.specs.Straight.{reached, on_from, effects}
 use Rattle.asm2wasm_laws_run.proofs.Straight.{runs}
-use Rattle.asm2wasm_laws_values.proofs.Sizes.{sizes_add}
 use Rattle.asm2wasm_laws_bodies.specs.Followed.{on_code}
 use Rattle.asm2wasm_laws_bodies.proofs.Tested.{chosen_by}
 use Rattle.asm2wasm_laws_bodies.proofs.Scratched.{Reaches}

@@ -1,15 +1,13 @@
 -- Each typed statement is kept by its code.
-use Rattle.std.proofs.Common.{◌≡◌, ℕ, suc, ◌+◌, ◌≤◌, Bool, true, false, not, ◌&&◌, List, [], ◌∷◌, ◌++◌, Option, Some, None, refl, sym, ap, ◌∙◌, subst, arith}
+use Rattle.std.proofs.Common.{◌≡◌, ℕ, suc, ◌+◌, ◌≤◌, Bool, true, false, not, List, [], ◌∷◌, ◌++◌, Option, Some, None, refl, sym, ap, ◌∙◌, subst, arith}
 use Rattle.std.proofs.lemmas.Bool.{and_parts}
 use Rattle.std.specs.Prelude.{nat_le}
 use Rattle.sem_words.specs.declared.word.Word.{Word}
 use Rattle.sem_words.specs.declared.js_value.JsValue.{JsValue}
 use Rattle.sem_words.specs.declared.js_value.JsValue.TheVariants.{Undef, Bool as Boolean}
-use Rattle.sem_words.specs.JsValues.{truthy_of}
 use Rattle.wasm_lang_exec.specs.Code.{Trees, ε, ◌▹◌, ◌⊕◌, block, if_block, br, br_if, return}
 use Rattle.wasm_lang_exec.specs.Store.{Store}
-use Rattle.wasm_laws_drive.specs.Drive.{Outcome, Next, Branch, Leave, at, onward}
-use Rattle.wasm_laws_drive.specs.Equations.{then_on}
+use Rattle.wasm_laws_drive.specs.Drive.{Outcome, Next, Branch, Leave, at}
 use Rattle.wasm_laws_drive.proofs.Instructions.{block_enters, br_branches, return_leaves}
 use Rattle.wasm_laws_trees.specs.Spelled.{size}
 use Rattle.asm_types.specs.declared.value_type.ValueType.{ValueType}
@@ -20,8 +18,8 @@ use Rattle.asm_lang.specs.Modules as text
 use Rattle.asm_lang_valid.specs.Rows.{need, expr_count, option_count, stmt_count, stmts_count}
 use Rattle.asm_lang_valid.specs.declared.rule.Rule.TheVariants.{PastLimit}
 use Rattle.asm_lang_valid.specs.LimitRows.{Mark, clauses_length, most_clauses, rows_of, expr_marks, effect_marks, part_marks, option_marks, stmt_marks, stmts_marks, clauses_marks, foreign_calls}
-use Rattle.asm_lang_valid.specs.Typing.{Scope, typed_below, type_of, effect_fits, Around, in_a_loop, in_a_switch, under_labels, condition_fits, part_fits, result_of, return_fits, cases_fit, typed, all_typed, clauses_typed}
-use Rattle.asm_lang_exec.specs.Runs.{Place, Part, and_then, gives}
+use Rattle.asm_lang_valid.specs.Typing.{Scope, typed_below, type_of, effect_fits, Around, in_a_loop, in_a_switch, under_labels, condition_fits, part_fits, result_of, typed, all_typed, clauses_typed}
+use Rattle.asm_lang_exec.specs.Runs.{Part, and_then, gives}
 use Rattle.asm_lang_exec.specs.Values.{Calls}
 use Rattle.asm_lang_exec.specs.Meaning.{eval, Completion, normal, broken, continued, returned, label_end, unless_left, turns, exec_part, exec_test, exec, exec_all}
 use Rattle.asm_laws_sound.proofs.Expressions.{from_below}
@@ -29,15 +27,15 @@ use Rattle.asm2wasm_code.specs.Values.{value_code, void_code}
 use Rattle.asm2wasm_code.specs.Bodies.{Label, plainly, named_end, break_label, continue_label, in_body, again, loop_code, part_code, test_code, stmt_code, stmts_code}
 use Rattle.asm2wasm_laws_run.specs.State.{AnyValue}
 use Rattle.asm2wasm_laws_run.specs.Sim as sims
-use Rattle.asm2wasm_laws_values.specs.Kept.{Fits, word, a_value, no_value, result, Surroundings, Keeps}
+use Rattle.asm2wasm_laws_values.specs.Kept.{Fits, a_value, no_value, result, Surroundings, Keeps}
 use Rattle.asm2wasm_laws_values.specs.Made.{AllListed, Within, CallsKept}
 use Rattle.asm2wasm_laws_values.specs.Laws.{IsAmong, scope}
 use Rattle.asm2wasm_laws_values.proofs.Joined.{keeps_weaker}
 use Rattle.asm2wasm_laws_values.proofs.Rooms.{first_within, second_within, arms_within, listed_parts}
 use Rattle.asm2wasm_laws_values.proofs.Sizes.{sizes_add}
 use Rattle.asm2wasm_laws_values.proofs.Whole.{expressions_are_kept, effects_are_kept}
-use Rattle.asm2wasm_laws_bodies.specs.Followed.{Course, on_code, Follows, Any, ends_as, KeepsEnd}
-use Rattle.asm2wasm_laws_bodies.specs.Laws.{ClausesKept, SwitchesKept, StatementsAreKept, ListsAreKept}
+use Rattle.asm2wasm_laws_bodies.specs.Followed.{on_code, Follows, Any, ends_as, KeepsEnd}
+use Rattle.asm2wasm_laws_bodies.proofs.Asked.{ClausesKept, SwitchesKept}
 use Rattle.asm2wasm_laws_bodies.proofs.Joined.{follows_bind, follows_in, follows_more, follows_now, follows_then, follows_kept}
 use Rattle.asm2wasm_laws_bodies.proofs.Left.{out, out_keeps, no_more, ends_now, ends_soon, leaves_named, leaves_list}
 use Rattle.asm2wasm_laws_bodies.proofs.Tested.{tested, follows_if, follows_test}
@@ -246,9 +244,3 @@ module _ (s : Surroundings) (limit bound : ℕ) (calls : Calls) (is : IsAmong s)
           let p = and_parts _ _ h in
           let both = listed_parts (foreign_calls s.home) (stmts_marks c place ss) (clauses_marks c (place + stmts_count ss) cs) l in
           (λ ls room few. stmts_kept ss ls a place p.0 room both.0 few, clauses_kept cs a (place + stmts_count ss) p.1 both.1)
-
-pub statements_are_kept : StatementsAreKept
-statements_are_kept s limit bound calls ls own a place x is kept switched le h l room few = stmt_kept s limit bound calls is kept le switched x ls own a place h room l few
-
-pub lists_are_kept : ListsAreKept
-lists_are_kept s limit bound calls ls a place ss is kept switched le h l room few = stmts_kept s limit bound calls is kept le switched ss ls a place h room l few

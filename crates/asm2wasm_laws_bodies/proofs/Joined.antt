@@ -1,5 +1,5 @@
 -- How courses of code are put together.
-use Rattle.std.proofs.Common.{◌≡◌, ℕ, suc, ◌+◌, ◌≤◌, List, [], ◌∷◌, ◌++◌, length, refl, sym, ap, ◌∙◌, subst, arith}
+use Rattle.std.proofs.Common.{◌≡◌, ℕ, ◌+◌, ◌≤◌, List, [], ◌++◌, length, refl, ap, ◌∙◌, subst, arith}
 use Rattle.sem_words.specs.declared.word.Word.{Word}
 use Rattle.wasm_lang_exec.specs.Code.{Trees, ◌⊕◌}
 use Rattle.wasm_lang_exec.specs.Store.{Store}

@@ -1,20 +1,20 @@
 -- How code leaves the blocks round it.
-use Rattle.std.proofs.Common.{◌≡◌, ℕ, zero, suc, ◌+◌, ◌≤◌, Bool, true, false, List, [], ◌∷◌, Option, Some, None, refl, ap, ◌∙◌, arith}
+use Rattle.std.proofs.Common.{◌≡◌, ℕ, suc, ◌+◌, ◌≤◌, Bool, true, false, List, [], ◌∷◌, Some, None, refl, ap, ◌∙◌, arith}
 use Rattle.std.specs.Prelude.{if◌then◌else◌}
 use Rattle.sem_words.specs.declared.word.Word.{Word}
 use Rattle.wasm_lang_exec.specs.Code.{Trees, ε}
 use Rattle.wasm_lang_exec.specs.Store.{Store}
-use Rattle.wasm_laws_drive.specs.Drive.{Outcome, Next, Branch, Leave, at, onward}
+use Rattle.wasm_laws_drive.specs.Drive.{Outcome, Next, Branch, at, onward}
 use Rattle.wasm_laws_drive.specs.Equations.{then_on, at_label}
 use Rattle.wasm_laws_drive.proofs.Instructions.{no_code}
 use Rattle.asm_lang_valid.specs.Scope.{is_in}
 use Rattle.asm_lang_exec.specs.Runs.{Part, gives}
 use Rattle.asm_lang_exec.specs.Meaning.{Completion, normal, broken, continued, returned, label_end, switch_end, unless_left}
-use Rattle.asm2wasm_code.specs.Bodies.{Label, plainly, breakable, named_end, break_label, continue_label}
+use Rattle.asm2wasm_code.specs.Bodies.{Label, plainly, breakable, named_end, break_label}
 use Rattle.asm2wasm_laws_run.specs.Sim as sims
 use Rattle.asm2wasm_laws_values.specs.Kept.{Surroundings}
 use Rattle.asm2wasm_laws_bodies.specs.Followed.{Course, Follows, Any, ends_as}
-use Rattle.asm2wasm_laws_bodies.proofs.Joined.{follows_more, follows_in, follows_now, follows_soon}
+use Rattle.asm2wasm_laws_bodies.proofs.Joined.{follows_more, follows_now, follows_soon}
 
 module _ (s : Surroundings) where
   -- out of a block, with more code after it

@@ -1,5 +1,5 @@
 -- The clauses of a long switch, each in an if by the number of the first one that is run.
-use Rattle.std.proofs.Common.{◌≡◌, ℕ, zero, suc, ◌+◌, ◌<◌, ◌≤◌, Bool, true, false, not, List, [], ◌∷◌, ◌++◌, Option, Some, None, ℤ, refl, sym, ap, ◌∙◌, subst, arith}
+use Rattle.std.proofs.Common.{◌≡◌, ℕ, zero, suc, ◌+◌, ◌<◌, ◌≤◌, Bool, true, false, not, List, [], ◌∷◌, Some, None, refl, ap, ◌∙◌, arith}
 use Rattle.std.specs.Prelude.{◌==◌, nat_le, slice_get, slice_set, if◌then◌else◌}
 use Rattle.std.proofs.lemmas.Bool.Decides.{nat_tests}
 use Rattle.sem_words.specs.declared.word.Word.{Word}
@@ -10,20 +10,20 @@ use Rattle.wasm_lang_exec.specs.Code.{Trees, ε, ◌▹◌, ◌⊕◌, if_block}
 use Rattle.wasm_lang_exec.specs.Store.{Store}
 use Rattle.wasm_lang_exec.specs.Plain.{flag, pushed, with_local}
 use Rattle.wasm_lang_exec.specs.Reductions.{choose}
-use Rattle.wasm_laws_drive.specs.Drive.{Outcome, Next, Branch, Leave, at, onward}
+use Rattle.wasm_laws_drive.specs.Drive.{at, onward}
 use Rattle.wasm_laws_drive.specs.Equations.{then_on}
 use Rattle.wasm_laws_drive.proofs.Instructions.{if_chooses}
 use Rattle.wasm_laws_drive.proofs.Sequences.{sequence}
 use Rattle.wasm_laws_trees.specs.Spelled.{size}
 use Rattle.asm_lang.specs.Modules.{Stmts, Clauses, no_clauses, clauses}
 use Rattle.asm_lang_valid.specs.Typing.{result_of}
-use Rattle.asm_lang_exec.specs.Runs.{Part, and_then, gives}
+use Rattle.asm_lang_exec.specs.Runs.{Part, and_then}
 use Rattle.asm_lang_exec.specs.Values.{Calls}
 use Rattle.asm_lang_exec.specs.Meaning.{Completion, normal, broken, continued, returned, unless_left, exec_all, exec_clauses}
 use Rattle.asm2wasm_code.specs.Numbers.{first_scratch}
 use Rattle.asm2wasm_code.specs.Values as value
 use Rattle.asm2wasm_code.specs.Values.{plains}
-use Rattle.asm2wasm_code.specs.Bodies.{Label, plainly, breakable, reached, all_further, number_local, stmts_code, long_code}
+use Rattle.asm2wasm_code.specs.Bodies.{Label, plainly, breakable, reached, all_further, stmts_code, long_code}
 use Rattle.asm2wasm_laws_run.specs.Straight.{on_from, effects}
 use Rattle.asm2wasm_laws_run.specs.Straight as straight
 use Rattle.asm2wasm_laws_run.specs.Sim as sims
@@ -33,12 +33,11 @@ use Rattle.asm2wasm_laws_values.specs.Kept.{Surroundings}
 use Rattle.asm2wasm_laws_values.specs.Made.{Within}
 use Rattle.asm2wasm_laws_values.specs.Laws.{scope}
 use Rattle.asm2wasm_laws_values.proofs.Sizes.{sizes_add}
-use Rattle.asm2wasm_laws_values.proofs.Rooms.{first_within, second_within, arms_within, reach_joins}
+use Rattle.asm2wasm_laws_values.proofs.Rooms.{reach_joins}
 use Rattle.asm2wasm_laws_bodies.specs.Followed.{Course, on_code, Follows, Any, ends_as}
-use Rattle.asm2wasm_laws_bodies.specs.Laws.{ClausesKept}
-use Rattle.asm2wasm_laws_bodies.proofs.Joined.{follows_bind, follows_in, follows_more, follows_same}
-use Rattle.asm2wasm_laws_bodies.proofs.Left.{out_to, out_keeps, out_next, no_more, ends_now}
-use Rattle.asm2wasm_laws_bodies.proofs.Tested.{chosen_by}
+use Rattle.asm2wasm_laws_bodies.proofs.Asked.{ClausesKept}
+use Rattle.asm2wasm_laws_bodies.proofs.Joined.{follows_bind, follows_more, follows_same}
+use Rattle.asm2wasm_laws_bodies.proofs.Left.{out_to, out_next, no_more, ends_now}
 use Rattle.asm2wasm_laws_bodies.proofs.Scratched.{Reaches, follows_known, follows_any, follows_preset}
 
 -- from clause j on, so many clauses are passed over, where i is the number of the first one that is run

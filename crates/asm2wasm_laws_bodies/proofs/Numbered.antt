@@ -1,5 +1,5 @@
 -- How a long switch finds the number of its first clause.
-use Rattle.std.proofs.Common.{◌≡◌, ℕ, zero, suc, ◌+◌, ◌^◌, ◌≤◌, Bool, true, false, not, List, [], ◌∷◌, Option, Some, None, ℤ, pos, refl, sym, ap, ◌∙◌, subst, arith}
+use Rattle.std.proofs.Common.{◌≡◌, ℕ, zero, suc, ◌+◌, ◌^◌, Bool, true, false, not, List, [], ◌∷◌, Some, None, ℤ, pos, refl, ap, ◌∙◌, subst, arith}
 use Rattle.std.specs.Prelude.{◌==◌, slice_get, slice_set, if◌then◌else◌}
 use Rattle.sem_words.specs.declared.word.Word.{Word}
 use Rattle.sem_words.specs.declared.word.Word.TheVariants.{W32}
@@ -9,7 +9,7 @@ use Rattle.wasm_lang.specs.Instructions.{local_get, local_set, rel32}
 use Rattle.wasm_lang_exec.specs.Code.{Trees, ε, ◌▹◌, ◌⊕◌, br_if}
 use Rattle.wasm_lang_exec.specs.Store.{Store}
 use Rattle.wasm_lang_exec.specs.Plain.{flag, pushed, with_local}
-use Rattle.wasm_laws_drive.specs.Drive.{Outcome, Branch, at, onward}
+use Rattle.wasm_laws_drive.specs.Drive.{Branch, at, onward}
 use Rattle.wasm_laws_drive.proofs.Instructions.{br_if_chooses}
 use Rattle.wasm_laws_trees.specs.Spelled.{size}
 use Rattle.asm_types.specs.Values.{is_between, least}

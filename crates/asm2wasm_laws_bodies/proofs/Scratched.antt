@@ -1,5 +1,5 @@
 -- A scratch local that code sets, and what it does with its value.
-use Rattle.std.proofs.Common.{◌≡◌, ℕ, zero, suc, ◌+◌, ◌<◌, ◌≤◌, List, [], ◌∷◌, ◌++◌, length, Some, refl, sym, ap, ◌∙◌, subst, arith}
+use Rattle.std.proofs.Common.{◌≡◌, ℕ, ◌+◌, ◌<◌, ◌≤◌, List, [], ◌∷◌, ◌++◌, length, Some, sym, ap, ◌∙◌, arith}
 use Rattle.std.specs.Prelude.{slice_get, slice_set}
 use Rattle.std.proofs.lemmas.List.{length-set}
 use Rattle.sem_words.specs.declared.word.Word.{Word}
@@ -12,7 +12,7 @@ use Rattle.asm_lang_exec.specs.Runs.{Place, Part, gives}
 use Rattle.asm2wasm_code.specs.Numbers.{first_scratch}
 use Rattle.asm2wasm_code.specs.Values.{one}
 use Rattle.asm2wasm_laws_run.specs.Straight.{reached, on_from, effects}
-use Rattle.asm2wasm_laws_run.specs.State.{words, store_of, Holds, EndsAlike}
+use Rattle.asm2wasm_laws_run.specs.State.{words, store_of, Holds}
 use Rattle.asm2wasm_laws_run.proofs.Simulated.{comes_in, sim_after, sim_in, sim_more, sim_same, sim_shows}
 use Rattle.asm2wasm_laws_run.proofs.Straight.{runs}
 use Rattle.asm2wasm_laws_run.proofs.Chained.{get_past, set_past, is_there, locals_length}

@@ -1,22 +1,21 @@
 -- Each switch is kept, short or long.
-use Rattle.std.proofs.Common.{◌≡◌, ℕ, zero, suc, ◌+◌, ◌^◌, ◌<◌, ◌≤◌, Bool, true, false, ◌&&◌, List, [], ◌∷◌, ◌++◌, Option, Some, None, ℤ, pos, refl, sym, ap, ◌∙◌, subst, arith}
+use Rattle.std.proofs.Common.{◌≡◌, ℕ, zero, suc, ◌+◌, ◌^◌, ◌<◌, ◌≤◌, Bool, true, false, ◌&&◌, List, [], ◌∷◌, ◌++◌, Some, None, ℤ, pos, refl, sym, ap, ◌∙◌, subst, arith}
 use Rattle.std.proofs.lemmas.Bool.{and_parts}
 use Rattle.std.specs.Prelude.{slice_get, slice_set, if◌then◌else◌}
 use Rattle.sem_words.specs.declared.word.Word.{Word}
 use Rattle.sem_words.specs.declared.word.Word.TheVariants.{W32}
 use Rattle.sem_words.specs.declared.js_value.JsValue.{JsValue}
-use Rattle.sem_words.specs.declared.js_value.JsValue.TheVariants.{Whole}
 use Rattle.sem_words.specs.Words.{word_of}
 use Rattle.wasm_lang.specs.Instructions.{local_set}
 use Rattle.wasm_lang_exec.specs.Code.{Trees, ε, ◌▹◌, ◌⊕◌, block, br}
 use Rattle.wasm_lang_exec.specs.Store.{Store}
-use Rattle.wasm_laws_drive.specs.Drive.{Outcome, Next, Branch, at, onward}
+use Rattle.wasm_laws_drive.specs.Drive.{Next, Branch, at}
 use Rattle.wasm_laws_drive.proofs.Instructions.{block_enters}
 use Rattle.wasm_laws_trees.specs.Spelled.{size}
 use Rattle.asm_types.specs.declared.value_type.ValueType.TheVariants.{Signed}
 use Rattle.asm_types.specs.Values.{is_between, least}
-use Rattle.asm_lang.specs.Modules.{Expr, switches, Clauses, no_clauses, clauses}
-use Rattle.asm_lang_valid.specs.Typing.{values, result_of, distinct, in_range, close_together, cases_fit}
+use Rattle.asm_lang.specs.Modules.{switches, Clauses, no_clauses, clauses}
+use Rattle.asm_lang_valid.specs.Typing.{values, result_of, distinct, in_range, close_together}
 use Rattle.asm_lang_exec.specs.Runs.{Part, and_then, gives, defined}
 use Rattle.asm_lang_exec.specs.Values.{Calls}
 use Rattle.asm_lang_exec.specs.Meaning.{eval, Completion, as_whole, is_case, before_case, before_default, has_case, passed_over, switch_end, exec, exec_clauses}
@@ -26,19 +25,19 @@ use Rattle.asm2wasm_code.specs.Values.{one, value_code, plains}
 use Rattle.asm2wasm_code.specs.Values as value
 use Rattle.asm2wasm_code.specs.Bodies.{Label, breakable, clauses_count, is_short, is_dense, case_branches, case_numbers, table_branch, dispatch, first_clause, stmt_code, short_code, long_code}
 use Rattle.asm2wasm_laws_run.proofs.Guarded.{get_same, get_other}
-use Rattle.asm2wasm_laws_values.specs.Kept.{Fits, word, a_value, Surroundings, Keeps}
+use Rattle.asm2wasm_laws_values.specs.Kept.{Fits, word, a_value, Surroundings}
 use Rattle.asm2wasm_laws_values.specs.Made.{Within}
 use Rattle.asm2wasm_laws_values.specs.Laws.{scope}
 use Rattle.asm2wasm_laws_values.proofs.Sizes.{sizes_add}
 use Rattle.asm2wasm_laws_values.proofs.Rooms.{second_within, reach_joins}
-use Rattle.asm2wasm_laws_bodies.specs.Followed.{Course, on_code, Follows, Any, ends_as, KeepsEnd}
-use Rattle.asm2wasm_laws_bodies.specs.Laws.{ClausesKept, SwitchesKept}
+use Rattle.asm2wasm_laws_bodies.specs.Followed.{on_code, Follows, Any, ends_as, KeepsEnd}
+use Rattle.asm2wasm_laws_bodies.proofs.Asked.{ClausesKept, SwitchesKept}
 use Rattle.asm2wasm_laws_bodies.proofs.Joined.{follows_bind, follows_in, follows_more, follows_then, follows_kept}
-use Rattle.asm2wasm_laws_bodies.proofs.Left.{out, out_to, out_keeps, leaves_switch}
+use Rattle.asm2wasm_laws_bodies.proofs.Left.{out, out_keeps, leaves_switch}
 use Rattle.asm2wasm_laws_bodies.proofs.Scratched.{Reaches, follows_set, follows_preset, follows_any, follows_both}
 use Rattle.asm2wasm_laws_bodies.proofs.Dispatched.{chain_reaches}
 use Rattle.asm2wasm_laws_bodies.proofs.Tabled.{table_reaches}
-use Rattle.asm2wasm_laws_bodies.proofs.Blocks.{Led, to_clause, leads, IsLed, ends_switch, follows_clauses}
+use Rattle.asm2wasm_laws_bodies.proofs.Blocks.{to_clause, leads, IsLed, follows_clauses}
 use Rattle.asm2wasm_laws_bodies.proofs.Numbered.{numbers}
 use Rattle.asm2wasm_laws_bodies.proofs.Long.{Passes, follows_long}
 
@@ -188,7 +187,7 @@ switches_kept s limit bound calls ls own e cs fit k kept room few =
     let range = (and_parts (distinct (values cs)) (in_range (values cs)) p.0).1 in
     let code = value_code s.heap (scope s) 0 e in
     let all = sizes_add code (rest_by s limit bound calls ls cs range kept (pos 0) refl (is_short cs)) in
-    by range (second_within s code (rest_by s limit bound calls ls cs range kept (pos 0) refl (is_short cs)) room) (omega (arith, few, all)) 
+    by range (second_within s code (rest_by s limit bound calls ls cs range kept (pos 0) refl (is_short cs)) room) (omega (arith, few, all))
   where
     by : in_range (values cs) ≡ true → Within s (one (local_set (first_scratch s.within)) ⊕ (if is_short cs then block None (short_code s.heap (scope s) ls (dispatch (first_scratch s.within) cs) cs) ▹ ε else first_clause (first_scratch s.within) (suc (first_scratch s.within)) cs ⊕ (block None (long_code s.heap (scope s) ls 0 cs) ▹ ε)))
         → size (one (local_set (first_scratch s.within)) ⊕ (if is_short cs then block None (short_code s.heap (scope s) ls (dispatch (first_scratch s.within) cs) cs) ▹ ε else first_clause (first_scratch s.within) (suc (first_scratch s.within)) cs ⊕ (block None (long_code s.heap (scope s) ls 0 cs) ▹ ε))) ≤ s.worth

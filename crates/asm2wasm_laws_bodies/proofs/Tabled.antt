@@ -1,6 +1,6 @@
 -- How a switch whose values lie close together finds its clause by a table.
-use Rattle.std.proofs.Common.{◌≡◌, ℕ, zero, suc, ◌+◌, ◌^◌, ◌≤◌, Bool, true, false, not, ◌&&◌, List, [], ◌∷◌, length, Option, Some, None, ℤ, pos, ◌+ℤ◌, ◌-ℤ◌, refl, sym, ap, ◌∙◌, subst, arith}
-use Rattle.std.specs.Prelude.{int_le, int_lt, nat_lt, nat_le, unsigned_abs, slice_get, if◌then◌else◌}
+use Rattle.std.proofs.Common.{◌≡◌, ℕ, zero, suc, ◌+◌, ◌^◌, Bool, true, false, ◌&&◌, List, [], ◌∷◌, Some, None, ℤ, pos, ◌+ℤ◌, ◌-ℤ◌, refl, sym, ap, ◌∙◌, arith}
+use Rattle.std.specs.Prelude.{int_le, int_lt, nat_lt, unsigned_abs, slice_get, if◌then◌else◌}
 use Rattle.std.proofs.lemmas.Bool.{and_parts}
 use Rattle.std.proofs.lemmas.Bool.Decides.{nat_tests}
 use Rattle.std.proofs.lemmas.Int.{ints}
@@ -10,15 +10,15 @@ use Rattle.sem_words.specs.declared.word.Bin.TheVariants as bins
 use Rattle.sem_words.specs.Words.{word_of, sub_of}
 use Rattle.wasm_lang.specs.Instructions.{local_get, bin32}
 use Rattle.wasm_lang.specs.Modules.{WasmModule}
-use Rattle.wasm_lang_exec.specs.Code.{Trees, ε, ◌▹◌, ◌⊕◌, br_table}
+use Rattle.wasm_lang_exec.specs.Code.{ε, ◌▹◌, br_table}
 use Rattle.wasm_lang_exec.specs.Store.{Store}
 use Rattle.wasm_lang_exec.specs.Plain.{pushed}
 use Rattle.wasm_lang_exec.specs.Reductions.{default_to}
-use Rattle.wasm_laws_drive.specs.Drive.{Outcome, Branch, at, onward}
+use Rattle.wasm_laws_drive.specs.Drive.{Branch, at}
 use Rattle.wasm_laws_drive.proofs.Instructions.{br_table_chooses}
 use Rattle.wasm_laws_trees.specs.Spelled.{size}
 use Rattle.asm_types.specs.Values.{is_between, least as least_signed}
-use Rattle.asm_lang.specs.Modules.{Stmts, Clauses, no_clauses, clauses}
+use Rattle.asm_lang.specs.Modules.{Clauses, no_clauses, clauses}
 use Rattle.asm_lang_valid.specs.Typing.{values, in_range}
 use Rattle.asm_lang_exec.specs.Meaning.{is_case, before_case, before_default, has_case, passed_over}
 use Rattle.asm2wasm_code.specs.Values as value

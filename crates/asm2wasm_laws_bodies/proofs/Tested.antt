@@ -11,8 +11,7 @@ use Rattle.wasm_lang_exec.specs.Code.{Trees, ε, ◌▹◌, ◌⊕◌, if_block,
 use Rattle.wasm_lang_exec.specs.Store.{Store}
 use Rattle.wasm_lang_exec.specs.Plain.{flag}
 use Rattle.wasm_lang_exec.specs.Reductions.{Code, choose}
-use Rattle.wasm_laws_drive.specs.Drive.{Outcome, Next, Branch, at, drive, onward}
-use Rattle.wasm_laws_drive.specs.Equations.{then_on}
+use Rattle.wasm_laws_drive.specs.Drive.{Next, Branch, at, drive, onward}
 use Rattle.wasm_laws_drive.proofs.Instructions.{no_code, if_chooses, br_if_chooses}
 use Rattle.wasm_laws_trees.specs.Spelled.{size}
 use Rattle.asm_types.specs.declared.value_type.ValueType.TheVariants.{Int}
@@ -27,7 +26,7 @@ use Rattle.asm2wasm_laws_values.specs.Kept.{Fits, word, a_value, Surroundings, K
 use Rattle.asm2wasm_laws_values.proofs.Sizes.{sizes_add}
 use Rattle.asm2wasm_laws_values.proofs.Chosen.{second_size}
 use Rattle.asm2wasm_laws_bodies.specs.Followed.{Course, on_code, Follows, Any, ends_as, KeepsEnd}
-use Rattle.asm2wasm_laws_bodies.proofs.Joined.{after_gives, follows_bind, follows_in, follows_more, follows_same, follows_part, follows_soon, follows_then, follows_kept}
+use Rattle.asm2wasm_laws_bodies.proofs.Joined.{after_gives, follows_bind, follows_in, follows_more, follows_part, follows_soon, follows_then, follows_kept}
 use Rattle.asm2wasm_laws_bodies.proofs.Left.{out, out_keeps, leaves_plainly}
 
 -- the word of a condition that holds isn't 0

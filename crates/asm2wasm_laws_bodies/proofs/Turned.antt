@@ -1,32 +1,30 @@
 -- Loops: each turn pays a unit with the reduction that enters the loop.
-use Rattle.std.proofs.Common.{◌≡◌, ℕ, zero, suc, ◌+◌, ◌≤◌, Bool, true, false, not, List, [], ◌∷◌, ◌++◌, length, Option, Some, None, refl, sym, ap, ◌∙◌, subst, arith}
+use Rattle.std.proofs.Common.{◌≡◌, ℕ, zero, suc, ◌+◌, ◌≤◌, Bool, true, false, not, List, [], ◌∷◌, ◌++◌, length, Some, None, refl, ap, ◌∙◌, arith}
 use Rattle.std.specs.Prelude.{◌==◌, if◌then◌else◌}
 use Rattle.sem_words.specs.declared.word.Word.{Word}
 use Rattle.sem_words.specs.declared.word.Word.TheVariants.{W32}
 use Rattle.sem_words.specs.declared.js_value.JsValue.{JsValue}
 use Rattle.sem_words.specs.JsValues.{to_uint32_of, truthy_of}
 use Rattle.wasm_lang_exec.specs.Code.{Trees, ε, ◌▹◌, ◌⊕◌, block, loop, br_if}
-use Rattle.wasm_lang_exec.specs.Store.{Store}
-use Rattle.wasm_lang_exec.specs.Reductions.{Code, choose}
-use Rattle.wasm_laws_drive.specs.Drive.{Outcome, Next, Branch, Leave, at, drive, onward}
+use Rattle.wasm_laws_drive.specs.Drive.{Outcome, Next, Branch, at, onward}
 use Rattle.wasm_laws_drive.specs.Equations.{then_on, at_label}
-use Rattle.wasm_laws_drive.proofs.Instructions.{no_code, block_enters, loop_enters, br_branches, br_if_chooses}
+use Rattle.wasm_laws_drive.proofs.Instructions.{block_enters, loop_enters, br_branches, br_if_chooses}
 use Rattle.wasm_laws_drive.proofs.Sequences.{sequence}
 use Rattle.wasm_laws_trees.specs.Spelled.{size}
 use Rattle.asm_types.specs.declared.value_type.ValueType.TheVariants.{Int}
 use Rattle.asm_lang_valid.specs.Scope.{is_in}
 use Rattle.asm_lang_exec.specs.Runs.{Place, Part, after, and_then, gives, out_of_units, paid, pay}
 use Rattle.asm_lang_exec.specs.Meaning.{Completion, normal, broken, continued, returned, loop_end, unless_ended, turns, do_turns}
-use Rattle.asm2wasm_code.specs.Bodies.{Label, in_body, again, break_label, continue_label, loop_code, do_code}
+use Rattle.asm2wasm_code.specs.Bodies.{Label, in_body, again, continue_label, loop_code, do_code}
 use Rattle.asm2wasm_laws_run.specs.Sim.{Sim}
 use Rattle.asm2wasm_laws_run.specs.Sim as sims
 use Rattle.asm2wasm_laws_run.specs.State.{words, store_of, Holds, EndsAlike}
 use Rattle.asm2wasm_laws_run.proofs.Simulated.{sim_unit}
-use Rattle.asm2wasm_laws_values.specs.Kept.{Fits, word, a_value, Surroundings, Keeps}
+use Rattle.asm2wasm_laws_values.specs.Kept.{Fits, a_value, Surroundings, Keeps}
 use Rattle.asm2wasm_laws_values.proofs.Sizes.{sizes_add}
 use Rattle.asm2wasm_laws_bodies.specs.Followed.{Course, on_code, Arrived, Follows, Any, ends_as, KeepsEnd}
 use Rattle.asm2wasm_laws_bodies.proofs.Joined.{follows_bind, follows_in, follows_more, follows_same, follows_soon, follows_limit, follows_kept}
-use Rattle.asm2wasm_laws_bodies.proofs.Left.{out, out_to, out_keeps, out_next, no_more, ends_now, ends_soon}
+use Rattle.asm2wasm_laws_bodies.proofs.Left.{out, out_to, out_next, no_more, ends_now}
 use Rattle.asm2wasm_laws_bodies.proofs.Tested.{tested, zero_word, chosen_by}
 
 module _ (s : Surroundings) (ls : List Label) (wanted : Bool) (inner : Trees) where

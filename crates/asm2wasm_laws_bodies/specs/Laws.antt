@@ -1,15 +1,13 @@
 -- What holds of the code of statements.
-use Rattle.std.specs.Prelude.{◌≡◌, ℕ, ◌≤◌, true, List, []}
+use Rattle.std.specs.Prelude.{◌≡◌, ℕ, ◌≤◌, true, List}
 use Rattle.wasm_laws_trees.specs.Spelled.{size}
-use Rattle.asm_types.specs.declared.value_type.ValueType.TheVariants.{Signed}
-use Rattle.asm_lang.specs.Modules.{Expr, Stmt, switches, Stmts, Clauses, no_clauses, clauses}
+use Rattle.asm_lang.specs.Modules.{Stmt, Stmts}
 use Rattle.asm_lang_valid.specs.LimitRows.{stmt_marks, stmts_marks, foreign_calls}
-use Rattle.asm_lang_valid.specs.Typing.{Around, result_of, cases_fit, typed, all_typed}
+use Rattle.asm_lang_valid.specs.Typing.{Around, result_of, typed, all_typed}
 use Rattle.asm_lang_exec.specs.Values.{Calls}
-use Rattle.asm_lang_exec.specs.Meaning.{eval, exec, exec_all}
+use Rattle.asm_lang_exec.specs.Meaning.{exec, exec_all}
 use Rattle.asm2wasm_code.specs.Bodies.{Label, stmt_code, stmts_code}
-use Rattle.asm2wasm_code.specs.Values.{value_code}
-use Rattle.asm2wasm_laws_values.specs.Kept.{Fits, a_value, Surroundings, Keeps}
+use Rattle.asm2wasm_laws_values.specs.Kept.{Surroundings}
 use Rattle.asm2wasm_laws_values.specs.Made.{AllListed, Within, CallsKept}
 use Rattle.asm2wasm_laws_values.specs.Laws.{IsAmong, scope}
 use Rattle.asm2wasm_laws_bodies.specs.Followed.{KeepsEnd}
@@ -27,27 +25,15 @@ module _ (s : Surroundings) (limit bound : ℕ) (calls : Calls) where
       Within s (stmts_code s.heap (scope s) ls ss) → size (stmts_code s.heap (scope s) ls ss) ≤ s.worth
       → KeepsEnd s limit ls (result_of (scope s)) (stmts_code s.heap (scope s) ls ss) (exec_all true calls (scope s) bound ss)
 
-  -- the statements of each clause, under any labels
-  abbrev pub ClausesKept : Clauses → Type 0
-  ClausesKept no_clauses = Unit {0}
-  ClausesKept (clauses v ss cs) = ((ls : List Label) → StmtsKept ls ss) × ClausesKept cs
-
-  -- each switch is kept, whose value and clauses are
-  abbrev pub SwitchesKept : Type 0
-  SwitchesKept =
-      (ls : List Label) (own : List (List ℕ)) (e : Expr) (cs : Clauses) → cases_fit cs ≡ true
-      → Keeps s limit 0 [] (Fits Signed) a_value (value_code s.heap (scope s) 0 e) (eval true calls (scope s) e)
-      → ClausesKept cs → StmtKept ls own (switches e cs)
-
--- a typed statement of each form, where calls and switches are kept, and no more units are left than turns may be made
+-- a typed statement of each form, where calls are kept, and no more units are left than turns may be made
 abbrev pub StatementsAreKept : Type 0
 StatementsAreKept =
     (s : Surroundings) (limit bound : ℕ) (calls : Calls) (ls : List Label) (own : List (List ℕ)) (a : Around) (at : ℕ) (x : Stmt)
-    → IsAmong s → CallsKept s limit calls → SwitchesKept s limit bound calls → limit ≤ bound
+    → IsAmong s → CallsKept s limit calls → limit ≤ bound
     → typed (scope s) a x ≡ true → AllListed (foreign_calls s.home) (stmt_marks (scope s) at x) → StmtKept s limit bound calls ls own x
 
 abbrev pub ListsAreKept : Type 0
 ListsAreKept =
     (s : Surroundings) (limit bound : ℕ) (calls : Calls) (ls : List Label) (a : Around) (at : ℕ) (ss : Stmts)
-    → IsAmong s → CallsKept s limit calls → SwitchesKept s limit bound calls → limit ≤ bound
+    → IsAmong s → CallsKept s limit calls → limit ≤ bound
     → all_typed (scope s) a ss ≡ true → AllListed (foreign_calls s.home) (stmts_marks (scope s) at ss) → StmtsKept s limit bound calls ls ss

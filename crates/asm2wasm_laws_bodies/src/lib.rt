@@ -1,5 +1,5 @@
-//! Statements of asm.js of every form but `switch`, and the code that keeps what they do, where each
-//! switch is kept whose value and clauses are.
+//! Statements of asm.js of every form, and the code that keeps what they do. Bodies of functions, whose
+//! last return has no instruction of its own, and calls of functions aren't here.
 #![tactic(auto)]
 
 ghost use Rattle.asm2wasm_laws_bodies.specs.Laws.{StatementsAreKept, ListsAreKept};

@@ -1,4 +1,4 @@
-use Rattle.asm2wasm_laws_bodies.proofs.Executed.{statements_are_kept, lists_are_kept}
+use Rattle.asm2wasm_laws_bodies.proofs.Whole.{statements_are_kept, lists_are_kept}
 use Rattle.asm2wasm_laws_bodies.proofs.statements.Goals as goal
 
 pub returns-clause-each : goal.returns-clause-each
