@@ -71,7 +71,7 @@ module _ (s : Surroundings) (limit bound : ℕ) (calls : Calls) (is : IsAmong s)
 
   -- ---- expressions in statements
 
-  below_kept : (top : ValueType) (e : Expr) (place : ℕ) → typed_below top (type_of c e) ≡ true → Within s (value_code s.heap c 0 e) → Listed (expr_marks c place e) → Keeps s limit 0 [] (Fits top) a_value (value_code s.heap c 0 e) (does e)
+  pub below_kept : (top : ValueType) (e : Expr) (place : ℕ) → typed_below top (type_of c e) ≡ true → Within s (value_code s.heap c 0 e) → Listed (expr_marks c place e) → Keeps s limit 0 [] (Fits top) a_value (value_code s.heap c 0 e) (does e)
   below_kept top e place h room l =
       let x = from_below top (type_of c e) h in
       keeps_weaker s limit 0 [] (Fits x.type) (Fits top) a_value (value_code s.heap c 0 e) (does e) (λ v g. wider x.type top v x.is_lower g)

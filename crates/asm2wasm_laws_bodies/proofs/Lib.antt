@@ -12,3 +12,4 @@ pub mod Numbered
 pub mod Long
 pub mod Switched
 pub mod Whole
+pub mod Framed
