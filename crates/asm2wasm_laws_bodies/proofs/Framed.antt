@@ -77,23 +77,6 @@ module _ (s : Surroundings) (limit bound : ℕ) (calls : Calls) (is : IsAmong s)
   abbrev does : Stmts → Part JsValue
   does ss = and_then (exec_all true calls c bound ss) (λ d. function_end d)
 
-  -- a return with a value, or another statement
-  last_is : (x : Stmt) → (last_code s.heap c x ≡ stmt_code s.heap c [] [] x) × (gives_value x ≡ false) ⊎ (gives_value x ≡ true)
-  last_is (returns (Some e)) = inr refl
-  last_is (returns None) = inl (refl, refl)
-  last_is (block ss) = inl (refl, refl)
-  last_is (plain e) = inl (refl, refl)
-  last_is empty = inl (refl, refl)
-  last_is (if_only e x) = inl (refl, refl)
-  last_is (if_else e x y) = inl (refl, refl)
-  last_is (while_loop e x) = inl (refl, refl)
-  last_is (do_while x e) = inl (refl, refl)
-  last_is (for_loop x y z b) = inl (refl, refl)
-  last_is (breaks n) = inl (refl, refl)
-  last_is (continues n) = inl (refl, refl)
-  last_is (labelled ns x) = inl (refl, refl)
-  last_is (switches e cs) = inl (refl, refl)
-
   only_one : (o : Run Completion) → after o (λ d. function_end d) ≡ after (after o (λ d. unless_left d (gives normal))) (λ d. function_end d)
   only_one (goes normal p) = refl
   only_one (goes (broken n) p) = refl
@@ -108,3 +91,77 @@ module _ (s : Surroundings) (limit bound : ℕ) (calls : Calls) (is : IsAmong s)
   returns_it (stops e p) = refl
   returns_it (spent p) = refl
   returns_it wrong = refl
+
+  abbrev wanted : Bool
+  wanted = result_of (scope s)
+
+  other_kept : (x : Stmt) (a : Around) (place : ℕ) → last_code s.heap c x ≡ stmt_code s.heap c [] [] x → wanted ≡ false → typed c a x ≡ true → Within s (last_code s.heap c x) → AllListed (foreign_calls s.home) (stmt_marks c place x)
+      → size (last_code s.heap c x) ≤ s.worth → Back wanted (1 + size (last_code s.heap c x)) (λ l st k. framed wanted (on_code s.target [] (last_code s.heap c x) l st k)) (does (stmts x no_stmts))
+  other_kept x a place e none h room l few =
+      let last = stmt_code s.heap c [] [] x in
+      subst (λ t. Back wanted (1 + size t) (λ l st k. framed wanted (on_code s.target [] t l st k)) (does (stmts x no_stmts))) (sym e)
+      (follows_more s limit Any (back_with wanted) (size last + 1) (1 + size last) (λ l st k. framed wanted (on_code s.target [] last l st k)) (does (stmts x no_stmts)) (omega arith)
+      (follows_part s limit Any (back_with wanted) (size last + 1) (λ l st k. framed wanted (on_code s.target [] last l st k)) (and_then (exec true calls c bound [] x) (λ d. function_end d)) (does (stmts x no_stmts)) (λ p. only_one (exec true calls c bound [] x p))
+      (follows_bind s limit (framed wanted) (size last) 1 (on_code s.target [] last) Any (ends_as [] wanted) Any (back_with wanted) (exec true calls c bound [] x) (λ d. function_end d) (frame_keeps wanted)
+      (stmt_kept s limit bound calls is kept le (switches_kept s limit bound calls) x [] [] a place h (subst (λ t. Within s t) e room) l (subst (λ t. size t ≤ s.worth) e few))
+      (λ d u. ends_body wanted 1 d (omega arith) (λ n. none)))))
+
+  value_back : (b : Bool) (v : JsValue) → b ≡ true → (l : List Word) (st : Store) (k : ℕ) → framed b (Next (at (a_value v ++ []) l st (1 + k))) ≡ back_with b v l st k
+  value_back true v e = values_back true v
+  value_back false v e = absurd (cc e)
+
+  last_kept : (x : Stmt) (a : Around) (place : ℕ) → typed c a x ≡ true → Within s (last_code s.heap c x) → AllListed (foreign_calls s.home) (stmt_marks c place x)
+      → size (last_code s.heap c x) ≤ s.worth → gives_value x ≡ wanted → Back wanted (1 + size (last_code s.heap c x)) (λ l st k. framed wanted (on_code s.target [] (last_code s.heap c x) l st k)) (does (stmts x no_stmts))
+  last_kept (returns (Some e)) a place h room l few g =
+      let p = and_parts _ _ h in
+      let value = value_code s.heap c 0 e in
+      let run = eval true calls c e in
+      follows_more s limit Any (back_with wanted) (size value + 1) (1 + size value) (λ l st k. framed wanted (on_code s.target [] value l st k)) (does (stmts (returns (Some e)) no_stmts)) (omega arith)
+      (follows_part s limit Any (back_with wanted) (size value + 1) (λ l st k. framed wanted (on_code s.target [] value l st k)) (and_then run gives) (does (stmts (returns (Some e)) no_stmts)) (λ p. returns_it (run p))
+      (follows_bind s limit (framed wanted) (size value) 1 (on_code s.target [] value) (Fits Signed) (λ v l st k. Next (at (a_value v ++ []) l st k)) Any (back_with wanted) run gives (frame_keeps wanted)
+      (follows_kept s limit (Fits Signed) a_value value run (below_kept s limit bound calls is kept le Signed e (place + 1) p.1 room l))
+      (λ v f. follows_soon s limit Any (back_with wanted) 1 1 (λ l st k. framed wanted (Next (at (a_value v ++ []) l st k))) v (omega arith) tt (value_back wanted v (sym g)))))
+  last_kept x a place h room l few g = other_kept x a place refl (sym g) h room l few
+
+  -- after a statement that isn't the last
+  ends_or_goes_on : (z : ℕ) (more : Trees) (rest : Part Completion) (d : Completion) → Back wanted (1 + z) (λ l st k. framed wanted (onward s.target more (at [] l st k))) (and_then rest (λ d. function_end d))
+      → Back wanted (1 + z) (λ l st k. framed wanted (then_on (ends_as [] wanted d l st k) (onward s.target more))) (and_then (unless_left d rest) (λ d. function_end d))
+  ends_or_goes_on z more rest normal f = f
+  ends_or_goes_on z more rest (broken n) f = wrong_ends (1 + z) wanted (λ l st k. framed wanted (ends_as [] wanted (broken n) l st k))
+  ends_or_goes_on z more rest (continued n) f = wrong_ends (1 + z) wanted (λ l st k. framed wanted (ends_as [] wanted (continued n) l st k))
+  ends_or_goes_on z more rest (returned v) f = goes_back (1 + z) wanted v (λ l st k. framed wanted (ends_as [] wanted (returned v) l st k)) (return_back wanted v)
+
+  regrouped : (rest : Part Completion) (o : Run Completion) → after o (λ d. and_then (unless_left d rest) (λ d. function_end d)) ≡ after (after o (λ d. unless_left d rest)) (λ d. function_end d)
+  regrouped rest (goes d p) = refl
+  regrouped rest (stops e p) = refl
+  regrouped rest (spent p) = refl
+  regrouped rest wrong = refl
+
+  around_keeps : (more : Trees) → sims.Keeps (λ r. framed wanted (then_on r (onward s.target more)))
+  around_keeps more = record { ended = λ e st. refl; spent = λ st. refl }
+
+  pub body_kept : (ss : Stmts) (a : Around) (place : ℕ) → all_typed c a ss ≡ true → Within s (body_code s.heap c ss) → AllListed (foreign_calls s.home) (stmts_marks c place ss)
+      → size (body_code s.heap c ss) ≤ s.worth → last_gives_value ss ≡ wanted → Back wanted (1 + size (body_code s.heap c ss)) (λ l st k. framed wanted (on_code s.target [] (body_code s.heap c ss) l st k)) (does ss)
+  body_kept no_stmts a place h room l few g =
+      follows_same s limit Any (back_with wanted) (1 + 0) (λ l st k. framed wanted (on_code s.target [] ε l st k)) (λ l st k. framed wanted (ends_as [] wanted normal l st k)) (does no_stmts)
+      (λ l st k. ap (framed wanted) (no_more s l st k)) (ends_body wanted (1 + 0) normal (omega arith) (λ n. sym g))
+  body_kept (stmts x no_stmts) a place h room l few g =
+      let p = and_parts _ _ h in
+      let both = listed_parts (foreign_calls s.home) (stmt_marks c place x) [] l in
+      last_kept x a place p.0 room both.0 few g
+  body_kept (stmts x (stmts y ys)) a place h room l few g =
+      let p = and_parts _ _ h in
+      let first = stmt_code s.heap c [] [] x in
+      let more = body_code s.heap c (stmts y ys) in
+      let rest = exec_all true calls c bound (stmts y ys) in
+      let both = listed_parts (foreign_calls s.home) (stmt_marks c place x) (stmts_marks c (place + stmt_count x) (stmts y ys)) l in
+      let all = sizes_add first more in
+      follows_more s limit Any (back_with wanted) (size first + (1 + size more)) (1 + size (first ⊕ more)) (λ l st k. framed wanted (on_code s.target [] (first ⊕ more) l st k)) (does (stmts x (stmts y ys))) (omega (arith, all))
+      (follows_same s limit Any (back_with wanted) (size first + (1 + size more)) (λ l st k. framed wanted (on_code s.target [] (first ⊕ more) l st k)) (λ l st k. framed wanted (then_on (on_code s.target [] first l st k) (onward s.target more))) (does (stmts x (stmts y ys)))
+      (λ l st k. ap (framed wanted) (sequence s.target first more (at [] l st k)))
+      (follows_part s limit Any (back_with wanted) (size first + (1 + size more)) (λ l st k. framed wanted (then_on (on_code s.target [] first l st k) (onward s.target more)))
+      (and_then (exec true calls c bound [] x) (λ d. and_then (unless_left d rest) (λ d. function_end d))) (does (stmts x (stmts y ys))) (λ p. regrouped rest (exec true calls c bound [] x p))
+      (follows_bind s limit (λ r. framed wanted (then_on r (onward s.target more))) (size first) (1 + size more) (on_code s.target [] first) Any (ends_as [] wanted) Any (back_with wanted)
+      (exec true calls c bound [] x) (λ d. and_then (unless_left d rest) (λ d. function_end d)) (around_keeps more)
+      (stmt_kept s limit bound calls is kept le (switches_kept s limit bound calls) x [] [] a place p.0 (first_within s first more room) both.0 (omega (arith, few, all)))
+      (λ d u. ends_or_goes_on (size more) more rest d (body_kept (stmts y ys) a (place + stmt_count x) p.1 (second_within s first more room) both.1 (omega (arith, few, all)) g)))))
