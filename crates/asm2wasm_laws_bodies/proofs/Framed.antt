@@ -1,17 +1,17 @@
 -- The body of a function in its frame: its last return leaves its value without an instruction.
-use Rattle.std.proofs.Common.{◌≡◌, ◌⊎◌, inl, inr, ℕ, zero, suc, ◌+◌, ◌≤◌, Bool, true, false, List, [], ◌∷◌, ◌++◌, Option, Some, None, refl, sym, ap, ◌∙◌, subst, arith}
+use Rattle.std.proofs.Common.{◌≡◌, ℕ, suc, ◌+◌, ◌≤◌, Bool, true, false, List, [], ◌++◌, Some, refl, sym, ap, subst, arith}
 use Rattle.std.proofs.lemmas.Bool.{and_parts}
 use Rattle.sem_words.specs.declared.word.Word.{Word}
 use Rattle.sem_words.specs.declared.js_value.JsValue.{JsValue}
 use Rattle.sem_words.specs.declared.js_value.JsValue.TheVariants.{Undef}
 use Rattle.wasm_lang_exec.specs.Code.{Trees, ε, ◌⊕◌}
 use Rattle.wasm_lang_exec.specs.Store.{Store}
-use Rattle.wasm_laws_drive.specs.Drive.{Outcome, Next, Branch, Leave, at, onward}
+use Rattle.wasm_laws_drive.specs.Drive.{Outcome, Next, Leave, at, onward}
 use Rattle.wasm_laws_drive.specs.Equations.{then_on, at_frame}
 use Rattle.wasm_laws_drive.proofs.Sequences.{sequence}
 use Rattle.wasm_laws_trees.specs.Spelled.{size}
 use Rattle.asm_types.specs.declared.value_type.ValueType.TheVariants.{Signed}
-use Rattle.asm_lang.specs.Modules.{Stmt, block, plain, empty, if_only, if_else, returns, while_loop, do_while, for_loop, breaks, continues, labelled, switches, Stmts, no_stmts, stmts}
+use Rattle.asm_lang.specs.Modules.{Stmt, returns, Stmts, no_stmts, stmts}
 use Rattle.asm_lang_valid.specs.Scope.{gives_value, last_gives_value}
 use Rattle.asm_lang_valid.specs.Rows.{stmt_count}
 use Rattle.asm_lang_valid.specs.LimitRows.{stmt_marks, stmts_marks, foreign_calls}
@@ -28,14 +28,11 @@ use Rattle.asm2wasm_laws_values.specs.Laws.{IsAmong, scope}
 use Rattle.asm2wasm_laws_values.proofs.Rooms.{first_within, second_within, listed_parts}
 use Rattle.asm2wasm_laws_values.proofs.Sizes.{sizes_add}
 use Rattle.asm2wasm_laws_bodies.specs.Followed.{Course, on_code, Follows, Any, ends_as}
+use Rattle.asm2wasm_laws_bodies.specs.Laws.{results}
 use Rattle.asm2wasm_laws_bodies.proofs.Joined.{follows_bind, follows_more, follows_now, follows_part, follows_same, follows_soon, follows_kept}
 use Rattle.asm2wasm_laws_bodies.proofs.Left.{no_more}
 use Rattle.asm2wasm_laws_bodies.proofs.Executed.{below_kept, stmt_kept}
 use Rattle.asm2wasm_laws_bodies.proofs.Switched.{switches_kept}
-
-abbrev pub results : Bool → ℕ
-results true = 1
-results false = 0
 
 module _ (s : Surroundings) (limit bound : ℕ) (calls : Calls) (is : IsAmong s) (kept : CallsKept s limit calls) (le : limit ≤ bound) (below : List Word) (code : Trees) (outer : List Word) where
   abbrev pub framed : Bool → Outcome → Outcome

@@ -1,16 +1,21 @@
 -- What holds of the code of statements.
-use Rattle.std.specs.Prelude.{◌≡◌, ℕ, ◌≤◌, true, List}
+use Rattle.std.specs.Prelude.{◌≡◌, ℕ, ◌+◌, ◌≤◌, Bool, true, false, List, [], ◌++◌}
+use Rattle.sem_words.specs.declared.word.Word.{Word}
+use Rattle.wasm_lang_exec.specs.Code.{Trees}
+use Rattle.wasm_laws_drive.specs.Drive.{at, onward}
+use Rattle.wasm_laws_drive.specs.Equations.{at_frame}
 use Rattle.wasm_laws_trees.specs.Spelled.{size}
 use Rattle.asm_lang.specs.Modules.{Stmt, Stmts}
 use Rattle.asm_lang_valid.specs.LimitRows.{stmt_marks, stmts_marks, foreign_calls}
-use Rattle.asm_lang_valid.specs.Typing.{Around, result_of, typed, all_typed}
+use Rattle.asm_lang_valid.specs.Typing.{Around, at_top, result_of, typed, all_typed}
+use Rattle.asm_lang_exec.specs.Runs.{and_then}
 use Rattle.asm_lang_exec.specs.Values.{Calls}
-use Rattle.asm_lang_exec.specs.Meaning.{exec, exec_all}
-use Rattle.asm2wasm_code.specs.Bodies.{Label, stmt_code, stmts_code}
-use Rattle.asm2wasm_laws_values.specs.Kept.{Surroundings}
+use Rattle.asm_lang_exec.specs.Meaning.{exec, exec_all, function_end}
+use Rattle.asm2wasm_code.specs.Bodies.{Label, stmt_code, stmts_code, body_code}
+use Rattle.asm2wasm_laws_values.specs.Kept.{result, Surroundings}
 use Rattle.asm2wasm_laws_values.specs.Made.{AllListed, Within, CallsKept}
 use Rattle.asm2wasm_laws_values.specs.Laws.{IsAmong, scope}
-use Rattle.asm2wasm_laws_bodies.specs.Followed.{KeepsEnd}
+use Rattle.asm2wasm_laws_bodies.specs.Followed.{on_code, Follows, Any, KeepsEnd}
 
 module _ (s : Surroundings) (limit bound : ℕ) (calls : Calls) where
   -- a statement under these labels, whose code isn't larger than a unit is worth: its meaning is the checked one, where each loop makes
@@ -37,3 +42,24 @@ ListsAreKept =
     (s : Surroundings) (limit bound : ℕ) (calls : Calls) (ls : List Label) (a : Around) (at : ℕ) (ss : Stmts)
     → IsAmong s → CallsKept s limit calls → limit ≤ bound
     → all_typed (scope s) a ss ≡ true → AllListed (foreign_calls s.home) (stmts_marks (scope s) at ss) → StmtsKept s limit bound calls ls ss
+
+-- ---- functions
+
+-- how many values a function leaves
+abbrev pub results : Bool → ℕ
+results true = 1
+results false = 0
+
+-- the body of a function in its frame, whose last return is its expression alone: in the caller's code after it the result is on the
+-- stack, over the values below, and the caller's locals are back
+abbrev pub BodiesAreKept : Type 0
+BodiesAreKept =
+    (s : Surroundings) (limit bound : ℕ) (calls : Calls) (place : ℕ) (below : List Word) (code : Trees) (outer : List Word)
+    → IsAmong s → CallsKept s limit calls → limit ≤ bound
+    → all_typed (scope s) at_top s.within.body ≡ true → AllListed (foreign_calls s.home) (stmts_marks (scope s) place s.within.body)
+    → let body = body_code s.heap (scope s) s.within.body in
+    Within s body → size body ≤ s.worth
+    → let wanted = result_of (scope s) in
+    Follows s limit (1 + size body) (λ l st k. at_frame s.target below (results wanted) code outer (on_code s.target [] body l st k)) Any
+    (λ v l st k. onward s.target code (at (result wanted v ++ below) outer st k))
+    (and_then (exec_all true calls (scope s) bound s.within.body) (λ d. function_end d))
