@@ -13,3 +13,4 @@ pub mod Long
 pub mod Switched
 pub mod Whole
 pub mod Framed
+pub mod First
