@@ -1,17 +1,20 @@
 -- What holds of the code of statements.
-use Rattle.std.specs.Prelude.{◌≡◌, ℕ, ◌+◌, ◌≤◌, Bool, true, false, List, [], ◌++◌}
+use Rattle.std.specs.Prelude.{◌≡◌, ℕ, ◌+◌, ◌≤◌, Bool, true, false, List, [], ◌++◌, length, map, replicate}
 use Rattle.sem_words.specs.declared.word.Word.{Word}
-use Rattle.wasm_lang_exec.specs.Code.{Trees}
+use Rattle.sem_words.specs.declared.word.Word.TheVariants.{W32}
+use Rattle.wasm_lang.specs.Modules.{WasmModule}
+use Rattle.wasm_lang_exec.specs.Store.{Store}
+use Rattle.wasm_lang_exec.specs.Code.{Trees, ◌⊕◌}
 use Rattle.wasm_laws_drive.specs.Drive.{at, onward}
 use Rattle.wasm_laws_drive.specs.Equations.{at_frame}
 use Rattle.wasm_laws_trees.specs.Spelled.{size}
-use Rattle.asm_lang.specs.Modules.{Stmt, Stmts}
+use Rattle.asm_lang.specs.Modules.{Stmt, Stmts, Variable}
 use Rattle.asm_lang_valid.specs.LimitRows.{stmt_marks, stmts_marks, foreign_calls}
-use Rattle.asm_lang_valid.specs.Typing.{Around, at_top, result_of, typed, all_typed}
+use Rattle.asm_lang_valid.specs.Typing.{Scope, Around, at_top, result_of, typed, all_typed}
 use Rattle.asm_lang_exec.specs.Runs.{and_then}
 use Rattle.asm_lang_exec.specs.Values.{Calls}
 use Rattle.asm_lang_exec.specs.Meaning.{exec, exec_all, function_end}
-use Rattle.asm2wasm_code.specs.Bodies.{Label, stmt_code, stmts_code, body_code}
+use Rattle.asm2wasm_code.specs.Bodies.{Label, stmt_code, stmts_code, body_code, literal_word, locals_code}
 use Rattle.asm2wasm_laws_values.specs.Kept.{result, Surroundings}
 use Rattle.asm2wasm_laws_values.specs.Made.{AllListed, Within, CallsKept}
 use Rattle.asm2wasm_laws_values.specs.Laws.{IsAmong, scope}
@@ -63,3 +66,12 @@ BodiesAreKept =
     Follows s limit (1 + size body) (λ l st k. at_frame s.target below (results wanted) code outer (on_code s.target [] body l st k)) Any
     (λ v l st k. onward s.target code (at (result wanted v ++ below) outer st k))
     (and_then (exec_all true calls (scope s) bound s.within.body) (λ d. function_end d))
+
+-- the first values of a function's locals, which stand after its parameters and are 0 where it begins
+abbrev pub LocalsAreSet : Type 0
+LocalsAreSet =
+    (heap : ℕ) (c : Scope) (w : WasmModule) (more : Trees) (st : Store) (vs : List Variable) (params scratch : List Word)
+    → let code = locals_code heap c (length params) vs in
+    (cost : ℕ) × (cost ≤ size code)
+    × ((k : ℕ) → on_code w [] (code ⊕ more) (params ++ (replicate (length vs) (W32 0) ++ scratch)) st (cost + k)
+    ≡ on_code w [] more (params ++ (map (λ (v : Variable). W32 (literal_word heap c v.init)) vs ++ scratch)) st k)
