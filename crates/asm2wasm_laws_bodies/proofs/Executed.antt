@@ -29,7 +29,7 @@ use Rattle.asm2wasm_laws_run.specs.State.{AnyValue}
 use Rattle.asm2wasm_laws_run.specs.Sim as sims
 use Rattle.asm2wasm_laws_values.specs.Kept.{Fits, a_value, no_value, result, Surroundings, Keeps}
 use Rattle.asm2wasm_laws_values.specs.Made.{AllListed, Within, CallsKept}
-use Rattle.asm2wasm_laws_values.specs.Laws.{IsAmong, scope}
+use Rattle.asm2wasm_laws_values.specs.Laws.{AreAccepted, scope}
 use Rattle.asm2wasm_laws_values.proofs.Joined.{keeps_weaker}
 use Rattle.asm2wasm_laws_values.proofs.Rooms.{first_within, second_within, arms_within, listed_parts}
 use Rattle.asm2wasm_laws_values.proofs.Sizes.{sizes_add}
@@ -53,7 +53,7 @@ a_result : (b : Bool) (v : JsValue) → b ≡ true → a_value v ≡ result b v
 a_result true v h = refl
 a_result false v h = absurd (cc h)
 
-module _ (s : Surroundings) (limit bound : ℕ) (calls : Calls) (is : IsAmong s) (kept : CallsKept s limit calls) (le : limit ≤ bound) where
+module _ (s : Surroundings) (limit bound : ℕ) (calls : Calls) (is : AreAccepted s) (kept : CallsKept s limit calls) (le : limit ≤ bound) where
   abbrev c : Scope
   c = scope s
 

@@ -24,7 +24,7 @@ use Rattle.asm2wasm_code.specs.Bodies.{stmt_code, last_code, body_code}
 use Rattle.asm2wasm_laws_run.specs.Sim as sims
 use Rattle.asm2wasm_laws_values.specs.Kept.{Fits, a_value, result, Surroundings}
 use Rattle.asm2wasm_laws_values.specs.Made.{AllListed, Within, CallsKept}
-use Rattle.asm2wasm_laws_values.specs.Laws.{IsAmong, scope}
+use Rattle.asm2wasm_laws_values.specs.Laws.{AreAccepted, scope}
 use Rattle.asm2wasm_laws_values.proofs.Rooms.{first_within, second_within, listed_parts}
 use Rattle.asm2wasm_laws_values.proofs.Sizes.{sizes_add}
 use Rattle.asm2wasm_laws_bodies.specs.Followed.{Course, on_code, Follows, Any, ends_as}
@@ -34,7 +34,7 @@ use Rattle.asm2wasm_laws_bodies.proofs.Left.{no_more}
 use Rattle.asm2wasm_laws_bodies.proofs.Executed.{below_kept, stmt_kept}
 use Rattle.asm2wasm_laws_bodies.proofs.Switched.{switches_kept}
 
-module _ (s : Surroundings) (limit bound : ℕ) (calls : Calls) (is : IsAmong s) (kept : CallsKept s limit calls) (le : limit ≤ bound) (below : List Word) (code : Trees) (outer : List Word) where
+module _ (s : Surroundings) (limit bound : ℕ) (calls : Calls) (is : AreAccepted s) (kept : CallsKept s limit calls) (le : limit ≤ bound) (below : List Word) (code : Trees) (outer : List Word) where
   abbrev pub framed : Bool → Outcome → Outcome
   framed b r = at_frame s.target below (results b) code outer r
 

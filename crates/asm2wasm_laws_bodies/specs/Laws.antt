@@ -17,7 +17,7 @@ use Rattle.asm_lang_exec.specs.Meaning.{exec, exec_all, function_end}
 use Rattle.asm2wasm_code.specs.Bodies.{Label, stmt_code, stmts_code, body_code, literal_word, locals_code}
 use Rattle.asm2wasm_laws_values.specs.Kept.{result, Surroundings}
 use Rattle.asm2wasm_laws_values.specs.Made.{AllListed, Within, CallsKept}
-use Rattle.asm2wasm_laws_values.specs.Laws.{IsAmong, scope}
+use Rattle.asm2wasm_laws_values.specs.Laws.{AreAccepted, scope}
 use Rattle.asm2wasm_laws_bodies.specs.Followed.{on_code, Follows, Any, KeepsEnd}
 
 module _ (s : Surroundings) (limit bound : ℕ) (calls : Calls) where
@@ -37,13 +37,13 @@ module _ (s : Surroundings) (limit bound : ℕ) (calls : Calls) where
 abbrev pub StatementsAreKept : Type 0
 StatementsAreKept =
     (s : Surroundings) (limit bound : ℕ) (calls : Calls) (ls : List Label) (own : List (List ℕ)) (a : Around) (at : ℕ) (x : Stmt)
-    → IsAmong s → CallsKept s limit calls → limit ≤ bound
+    → AreAccepted s → CallsKept s limit calls → limit ≤ bound
     → typed (scope s) a x ≡ true → AllListed (foreign_calls s.home) (stmt_marks (scope s) at x) → StmtKept s limit bound calls ls own x
 
 abbrev pub ListsAreKept : Type 0
 ListsAreKept =
     (s : Surroundings) (limit bound : ℕ) (calls : Calls) (ls : List Label) (a : Around) (at : ℕ) (ss : Stmts)
-    → IsAmong s → CallsKept s limit calls → limit ≤ bound
+    → AreAccepted s → CallsKept s limit calls → limit ≤ bound
     → all_typed (scope s) a ss ≡ true → AllListed (foreign_calls s.home) (stmts_marks (scope s) at ss) → StmtsKept s limit bound calls ls ss
 
 -- ---- functions
@@ -58,7 +58,7 @@ results false = 0
 abbrev pub BodiesAreKept : Type 0
 BodiesAreKept =
     (s : Surroundings) (limit bound : ℕ) (calls : Calls) (place : ℕ) (below : List Word) (code : Trees) (outer : List Word)
-    → IsAmong s → CallsKept s limit calls → limit ≤ bound
+    → AreAccepted s → CallsKept s limit calls → limit ≤ bound
     → all_typed (scope s) at_top s.within.body ≡ true → AllListed (foreign_calls s.home) (stmts_marks (scope s) place s.within.body)
     → let body = body_code s.heap (scope s) s.within.body in
     Within s body → size body ≤ s.worth
