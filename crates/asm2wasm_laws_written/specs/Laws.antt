@@ -1,0 +1,19 @@
+-- What the binary format asks of the instructions of translated code.
+use Rattle.std.specs.Prelude.{ℕ, Bool, List}
+use Rattle.wasm_lang.specs.Shape.{HasOpcode}
+use Rattle.asm2wasm_laws_written.specs.Each.{EachIn}
+use Rattle.asm_lang.specs.Modules.{Expr, Stmt}
+use Rattle.asm_lang_valid.specs.Typing.{Scope}
+use Rattle.asm2wasm_code.specs.Values.{expr_code}
+use Rattle.asm2wasm_code.specs.Bodies.{Label, stmt_code, function_code}
+
+-- ---- each instruction has an opcode, where the heap has `heap` bytes
+
+abbrev pub ExpressionsHaveOpcodes : Type 0
+ExpressionsHaveOpcodes = (heap : ℕ) (c : Scope) (wanted : Bool) (d : ℕ) (e : Expr) → EachIn HasOpcode (expr_code heap c wanted d e)
+
+abbrev pub StatementsHaveOpcodes : Type 0
+StatementsHaveOpcodes = (heap : ℕ) (c : Scope) (ls : List Label) (own : List (List ℕ)) (s : Stmt) → EachIn HasOpcode (stmt_code heap c ls own s)
+
+abbrev pub FunctionsHaveOpcodes : Type 0
+FunctionsHaveOpcodes = (heap : ℕ) (c : Scope) → EachIn HasOpcode (function_code heap c)
