@@ -1,3 +1,4 @@
 pub mod Spelled
 pub mod OpcodesOfValues
 pub mod OpcodesOfBodies
+pub mod OpcodesOfGlobals

@@ -2,10 +2,12 @@
 use Rattle.std.specs.Prelude.{ℕ, Bool, List}
 use Rattle.wasm_lang.specs.Shape.{HasOpcode}
 use Rattle.asm2wasm_laws_written.specs.Each.{EachIn}
-use Rattle.asm_lang.specs.Modules.{Expr, Stmt}
+use Rattle.asm_lang.specs.Trees.{Init}
+use Rattle.asm_lang.specs.Modules.{Expr, Stmt, Module}
 use Rattle.asm_lang_valid.specs.Typing.{Scope}
 use Rattle.asm2wasm_code.specs.Values.{expr_code}
 use Rattle.asm2wasm_code.specs.Bodies.{Label, stmt_code, function_code}
+use Rattle.asm2wasm_code.specs.Modules.{first_value}
 
 -- ---- each instruction has an opcode, where the heap has `heap` bytes
 
@@ -17,3 +19,7 @@ StatementsHaveOpcodes = (heap : ℕ) (c : Scope) (ls : List Label) (own : List (
 
 abbrev pub FunctionsHaveOpcodes : Type 0
 FunctionsHaveOpcodes = (heap : ℕ) (c : Scope) → EachIn HasOpcode (function_code heap c)
+
+-- .. and so has what a variable of the module begins with
+abbrev pub FirstValuesHaveOpcodes : Type 0
+FirstValuesHaveOpcodes = (m : Module) (i : Init) → HasOpcode (first_value m i)
