@@ -2,3 +2,4 @@ pub mod Spelled
 pub mod OpcodesOfValues
 pub mod OpcodesOfBodies
 pub mod OpcodesOfGlobals
+pub mod Ascii

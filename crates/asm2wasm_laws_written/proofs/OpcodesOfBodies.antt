@@ -1,16 +1,16 @@
 -- Each instruction of the code of statements and functions has an opcode.
-use Rattle.std.proofs.Common.{ℕ, suc, Bool, true, false, List, [], ◌∷◌, ◌++◌, length, Option, Some, None}
+use Rattle.std.proofs.Common.{ℕ, suc, true, false, List, [], ◌∷◌, ◌++◌, length, Option, Some, None}
 use Rattle.std.specs.Prelude.{if◌then◌else◌, ◌==◌, replicate}
 use Rattle.sem_words.specs.declared.word.Rel.TheVariants as rels
 use Rattle.sem_words.specs.declared.word.Bin.TheVariants as bins
 use Rattle.wasm_lang.specs.Instructions.{eqz32, local_set}
-use Rattle.wasm_lang_exec.specs.Code.{Trees, ε, ◌▹◌, ◌⊕◌, block, loop, if_block, br, br_if, return}
+use Rattle.wasm_lang_exec.specs.Code.{Trees, ε, ◌▹◌, ◌⊕◌, block, if_block, br, br_if, return}
 use Rattle.asm_lang.specs.Modules as text
 use Rattle.asm_lang.specs.Modules.{Expr, Stmt, if_only, if_else, returns, while_loop, do_while, for_loop, breaks, continues, labelled, switches, empty, Stmts, no_stmts, stmts, Clauses, no_clauses, clauses, Variable}
 use Rattle.asm_lang_valid.specs.Typing.{Scope, values}
 use Rattle.asm_lang_exec.specs.Meaning.{before_default}
 use Rattle.asm2wasm_code.specs.Values.{number, plains, one, expr_code}
-use Rattle.asm2wasm_code.specs.Bodies.{Label, plainly, breakable, named_end, again, loop_code, do_code, clauses_count, is_short, is_dense, table_branch, case_branches, dispatch, case_numbers, first_clause, reached, all_further, part_code, test_code, value_local, number_local, stmt_code, stmts_code, short_code, long_code, literal_word, first_value, locals_code, last_code, body_code, in_body}
+use Rattle.asm2wasm_code.specs.Bodies.{Label, plainly, breakable, named_end, again, loop_code, do_code, clauses_count, is_short, is_dense, table_branch, case_branches, dispatch, case_numbers, first_clause, all_further, part_code, test_code, value_local, number_local, stmt_code, stmts_code, short_code, long_code, literal_word, first_value, locals_code, last_code, body_code, in_body}
 use Rattle.asm2wasm_laws_written.specs.Laws.{StatementsHaveOpcodes, FunctionsHaveOpcodes}
 use Rattle.asm2wasm_laws_written.proofs.OpcodesOfValues.{Opcodes, joined, either_opcodes, plains_or_none, block_opcode, loop_opcode, if_opcode, br_opcode, br_if_opcode, br_table_opcode, return_opcode, get_opcode, set_opcode, number_opcode, eqz_opcode, rel_opcode, bin_opcode, value_opcodes}
 

@@ -1,7 +1,6 @@
 -- Each instruction of the code of an expression has an opcode.
-use Rattle.std.proofs.Common.{◌≡◌, ℕ, suc, ◌+◌, Bool, true, false, List, [], ◌∷◌, Option, Some, None, refl}
+use Rattle.std.proofs.Common.{ℕ, suc, Bool, true, false, List, [], ◌∷◌, Option, Some, None, refl}
 use Rattle.std.specs.Prelude.{if◌then◌else◌, ◌==◌, ◌||◌}
-use Rattle.std.specs.List.{AllByRecursion}
 use Rattle.sem_words.specs.declared.word.Bin.{Bin}
 use Rattle.sem_words.specs.declared.word.Bin.TheVariants as bins
 use Rattle.sem_words.specs.declared.word.Un.{Un}
@@ -28,7 +27,7 @@ use Rattle.asm_lang_valid.specs.declared.meaning.Builtin.TheVariants.{Imul, Clz3
 use Rattle.asm_lang_valid.specs.Scope.{shift_of, Meaning, a_foreign, a_builtin, a_view, a_function, a_table}
 use Rattle.asm_lang_valid.specs.Typing.{Scope, named, exprs_length, or_zero}
 use Rattle.asm2wasm_code.specs.Numbers.{VariablePlace, a_local, a_global, nowhere, place_of, base_of}
-use Rattle.asm2wasm_code.specs.Values.{number, plains, one, get_code, put_code, guarded, quotient, operator, before_operand, after_operand, scaled, within, load_code, store_code, stored_code, callee_code, dropped, from_base, entry_code, finished, access, is_signed_element, is_unsigned, link_operator, scratch, expr_code, arguments_code, links_code, comma_code}
+use Rattle.asm2wasm_code.specs.Values.{number, plains, one, get_code, put_code, guarded, quotient, operator, before_operand, after_operand, scaled, load_code, store_code, stored_code, callee_code, dropped, from_base, entry_code, finished, access, is_signed_element, is_unsigned, link_operator, scratch, expr_code, arguments_code, links_code, comma_code}
 use Rattle.asm2wasm_laws_written.specs.Laws.{ExpressionsHaveOpcodes}
 
 -- ---- single instructions

@@ -1,7 +1,7 @@
-//! Each instruction of the code that bodies of asm.js are translated to has an opcode in the binary format.
+//! Of the module that a module of asm.js is translated to: each instruction has an opcode in the binary format, and names are UTF-8.
 #![tactic(auto)]
 
-ghost use Rattle.asm2wasm_laws_written.specs.Laws.{ExpressionsHaveOpcodes, StatementsHaveOpcodes, FunctionsHaveOpcodes, FirstValuesHaveOpcodes};
+ghost use Rattle.asm2wasm_laws_written.specs.Laws.{ExpressionsHaveOpcodes, StatementsHaveOpcodes, FunctionsHaveOpcodes, FirstValuesHaveOpcodes, PropertiesAreUtf8};
 
 /// Each instruction of a body has an opcode, and so has the first value of a variable.
 pub fn opcodes()
@@ -9,4 +9,9 @@ pub fn opcodes()
     ensures statements { StatementsHaveOpcodes }
     ensures functions { FunctionsHaveOpcodes }
     ensures globals { FirstValuesHaveOpcodes }
+{}
+
+/// Names and members of a text are UTF-8.
+pub fn names()
+    ensures { PropertiesAreUtf8 }
 {}
