@@ -1,0 +1,5 @@
+pub mod Spelled
+pub mod OpcodesOfValues
+pub mod OpcodesOfBodies
+pub mod OpcodesOfGlobals
+pub mod Ascii
