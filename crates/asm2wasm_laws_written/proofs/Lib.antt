@@ -1,4 +1,3 @@
-pub mod Spelled
 pub mod OpcodesOfValues
 pub mod OpcodesOfBodies
 pub mod OpcodesOfGlobals

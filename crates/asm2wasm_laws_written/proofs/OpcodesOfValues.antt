@@ -18,8 +18,8 @@ use Rattle.wasm_lang.specs.Instructions.{Plain, const32, bin32, rel32, un32, eqz
 use Rattle.wasm_lang.specs.Opcodes.{form_at}
 use Rattle.wasm_lang.specs.Shape.{HasOpcode}
 use Rattle.wasm_lang_exec.specs.Code.{Trees, ε, ◌▹◌, ◌⊕◌, if_block}
-use Rattle.asm2wasm_laws_written.specs.Each.{EachIn}
-use Rattle.asm2wasm_laws_written.proofs.Spelled.{each_joins}
+use Rattle.wasm_laws_bytes.specs.Each.{EachIn}
+use Rattle.wasm_laws_bytes.proofs.Spelled.{each_joins}
 use Rattle.asm_lang.specs.Modules.{Expr, lit, decimal, var, index, call, table_call, assign, store, unary, binary, chain, cond, comma, Exprs, no_exprs, exprs, Links, no_links, links}
 use Rattle.asm_lang_valid.specs.declared.meaning.Element.{Element}
 use Rattle.asm_lang_valid.specs.declared.meaning.Element.TheVariants.{Int8, Uint8, Int16, Uint16, Int32, Uint32}

@@ -2,7 +2,7 @@
 use Rattle.std.specs.Prelude.{◌≡◌, ℕ, Bool, true, List}
 use Rattle.std.specs.Str.{IsUtf8}
 use Rattle.wasm_lang.specs.Shape.{HasOpcode}
-use Rattle.asm2wasm_laws_written.specs.Each.{EachIn}
+use Rattle.wasm_laws_bytes.specs.Each.{EachIn}
 use Rattle.asm_lang_tokens.specs.Forms.{kind_of}
 use Rattle.asm_lang.specs.Lexemes.{class_of, is_word}
 use Rattle.asm_lang.specs.Trees.{Init}
