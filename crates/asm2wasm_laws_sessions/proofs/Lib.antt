@@ -1,3 +1,4 @@
 pub mod Called
 pub mod Begun
 pub mod Named
+pub mod Matched
