@@ -2,3 +2,4 @@ pub mod Called
 pub mod Begun
 pub mod Named
 pub mod Matched
+pub mod Whole
