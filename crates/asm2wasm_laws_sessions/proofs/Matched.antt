@@ -48,10 +48,10 @@ module _ (m : Module) (size : ℕ) (s : ScriptPlain) (hold : size ≤ pages_for 
       → IsSameAs by (ended p.events e p.heap) (ended (map event_to_wasm p.events) (end_to_wasm e) (p.heap ++ past))
   ends_same p e long = record { events = refl; end = refl; heap = heaps_agree p.heap long }
 
-  module _ (source : Session) (worth more : ℕ) where
-    abbrev target : Session
-    target = target_session w s
+  abbrev target : Session
+  target = target_session w s
 
+  module _ (source : Session) (worth more : ℕ) where
     module _ (bound : ℕ → ℕ) (n : ℕ) (few : more + worth * n ≤ bound n) where
       -- from what is the same in both
       matched_ends : (p : Place) (e : EndPlain) (budget : ℕ) → budget ≤ more + worth * n → length p.heap ≡ heap_length m size → source n ≡ ended p.events e p.heap
@@ -85,32 +85,32 @@ module _ (m : Module) (size : ℕ) (s : ScriptPlain) (hold : size ≤ pages_for 
           }
       matched wrong seen right is r = absurd (none-some seen right)
 
-    -- ---- ends
+  -- ---- ends
 
-    no_trap_goes_over : (e : EndPlain) → IsNoTrap e → IsNoTrap (end_to_wasm e)
-    no_trap_goes_over done h = tt
-    no_trap_goes_over (stopped name args) h = tt
-    no_trap_goes_over (no_reply name args) h = tt
-    no_trap_goes_over (trapped kind) h = absurd h
+  no_trap_goes_over : (e : EndPlain) → IsNoTrap e → IsNoTrap (end_to_wasm e)
+  no_trap_goes_over done h = tt
+  no_trap_goes_over (stopped name args) h = tt
+  no_trap_goes_over (no_reply name args) h = tt
+  no_trap_goes_over (trapped kind) h = absurd h
 
-    -- two budgets at which the session has ended show one end
-    one_end : (n k : ℕ) (e e' : EndPlain) → (target n).end ≡ Some e → (target k).end ≡ Some e' → e' ≡ e
-    one_end n k e e' h h' =
-        let turned : n + k ≡ k + n = omega arith in
-        let same : target k ≡ target n =
-        sym (ended_sessions_stay w (script_to_wasm s) k n e' h') ∙ ap target (sym turned) ∙ ended_sessions_stay w (script_to_wasm s) n k e h
-        in
-        let both : Some e' ≡ Some e = sym h' ∙ ap (λ (x : ObservationPlain). x.end) same ∙ h in
-        cc both
+  -- two budgets at which the session has ended show one end
+  one_end : (n k : ℕ) (e e' : EndPlain) → (target n).end ≡ Some e → (target k).end ≡ Some e' → e' ≡ e
+  one_end n k e e' h h' =
+      let turned : n + k ≡ k + n = omega arith in
+      let same : target k ≡ target n =
+      sym (ended_sessions_stay w (script_to_wasm s) k n e' h') ∙ ap target (sym turned) ∙ ended_sessions_stay w (script_to_wasm s) n k e h
+      in
+      let both : Some e' ≡ Some e = sym h' ∙ ap (λ (x : ObservationPlain). x.end) same ∙ h in
+      cc both
 
-    pub no_trap : (n : ℕ) (o : Run (Unit {0})) (seen : ObservationPlain) → observed o ≡ Some seen → Reaches (fixed_for m size s) (heap_length m size) worth more n target o
-        → (e : EndPlain) → (target n).end ≡ Some e → IsNoTrap e
-    no_trap n (goes u p) seen right r e h = subst IsNoTrap (one_end n r.1.budget e done h (ap (λ (x : ObservationPlain). x.end) r.1.by)) tt
-    no_trap n (stops e' p) seen right r e h = subst IsNoTrap (one_end n r.2.budget e (end_to_wasm e') h (ap (λ (x : ObservationPlain). x.end) r.2.by)) (no_trap_goes_over e' r.0)
-    no_trap n (spent p) seen right r e h =
-        let budget = r.0.budget in
-        let many = r.1 in
-        let more : n + (budget - n) ≡ budget = omega (arith, many) in
-        let same : target budget ≡ target n = ap target (sym more) ∙ ended_sessions_stay w (script_to_wasm s) n (budget - n) e h in
-        absurd (none-some e (sym (ap (λ (x : ObservationPlain). x.end) r.0.by) ∙ ap (λ (x : ObservationPlain). x.end) same ∙ h))
-    no_trap n wrong seen right r e h = absurd (none-some seen right)
+  pub no_trap : (worth more n : ℕ) (o : Run (Unit {0})) (seen : ObservationPlain) → observed o ≡ Some seen → Reaches (fixed_for m size s) (heap_length m size) worth more n target o
+      → (e : EndPlain) → (target n).end ≡ Some e → IsNoTrap e
+  no_trap worth more n (goes u p) seen right r e h = subst IsNoTrap (one_end n r.1.budget e done h (ap (λ (x : ObservationPlain). x.end) r.1.by)) tt
+  no_trap worth more n (stops e' p) seen right r e h = subst IsNoTrap (one_end n r.2.budget e (end_to_wasm e') h (ap (λ (x : ObservationPlain). x.end) r.2.by)) (no_trap_goes_over e' r.0)
+  no_trap worth more n (spent p) seen right r e h =
+      let budget = r.0.budget in
+      let many = r.1 in
+      let rest : n + (budget - n) ≡ budget = omega (arith, many) in
+      let same : target budget ≡ target n = ap target (sym rest) ∙ ended_sessions_stay w (script_to_wasm s) n (budget - n) e h in
+      absurd (none-some e (sym (ap (λ (x : ObservationPlain). x.end) r.0.by) ∙ ap (λ (x : ObservationPlain). x.end) same ∙ h))
+  no_trap worth more n wrong seen right r e h = absurd (none-some seen right)

@@ -1,4 +1,4 @@
--- Whole sessions, where calls of the module's own functions are kept.
+-- Whole sessions.
 use Rattle.std.proofs.Common.{◌≡◌, ℕ, ◌+◌, ◌*◌, ◌≤◌, length, Some, None, true, refl, sym, ap, ◌∙◌, arith}
 use Rattle.std.proofs.lemmas.List.{length-map}
 use Rattle.heap_views.specs.Heap.{IsHeapLength}
@@ -31,7 +31,8 @@ use Rattle.asm2wasm_laws_run.specs.State.{IsNoTrap, store_of}
 use Rattle.asm2wasm_laws_values.specs.Kept.{Surroundings}
 use Rattle.asm2wasm_laws_values.specs.Made.{OwnKept}
 use Rattle.asm2wasm_laws_values.specs.Laws.{AreAccepted}
-use Rattle.asm2wasm_laws_modules.specs.Laws.{table_entries, FunctionsAreCalled, TranslationIsValid, TranslationIsCalled, ScriptsFit}
+use Rattle.asm2wasm_laws_functions.specs.Laws.{FunctionsAreKept, NodesPay}
+use Rattle.asm2wasm_laws_modules.specs.Laws.{FunctionsAreCalled, TranslationIsValid, TranslationIsCalled, ScriptsFit}
 use Rattle.asm2wasm_laws_modules.proofs.Bytes.{imported_bytes}
 use Rattle.asm2wasm_laws_sessions.specs.Reached.{fixed_for, Reaches}
 use Rattle.asm2wasm_laws_sessions.specs.Laws.{SessionsAreMatched, SessionsNeverTrap, TranslationIsAllowed, TranslationIsBounded}
@@ -44,17 +45,11 @@ use Rattle.asm2wasm_laws_sessions.proofs.Matched.{matched, no_trap}
 abbrev worth_of : Module → ℕ
 worth_of m = 14 * most_nodes m.functions + 2
 
--- calls of the module's own functions are kept, where units are worth so much
-abbrev pub OwnAreKept : Type 0
-OwnAreKept =
-    (s : Surroundings) (limit : ℕ) → AreAccepted s → s.target ≡ translation s.home s.heap → s.fixed.entries ≡ table_entries s.home → 14 * most_nodes s.home.functions + 2 ≤ s.worth
-    → OwnKept s limit (call_at true s.home limit)
-
 enough : (nodes calls n : ℕ) → 1 + calls + (14 * nodes + 2) * n ≤ 64 * (nodes + 1) * (n + calls + 1)
 enough nodes calls n = omega arith
 
 module _ (called : FunctionsAreCalled) (hold : (size : ℕ) → size ≤ pages_for size * page) (of_heap : (size : ℕ) → is_heap_length size ≡ true → IsHeapLength size)
-    (formed_fits : (m : Module) → IsWellFormed m → FitsModule m) (kept : OwnAreKept) where
+    (formed_fits : (m : Module) → IsWellFormed m → FitsModule m) (kept : FunctionsAreKept) (pay : NodesPay) where
   module _ (m : Module) (size : ℕ) (s : ScriptPlain) (ok : IsAccepted m) (formed : IsWellFormed m) (heap : is_heap_length size ≡ true) (bytes : WritesBytes s) (fit : misfit m size s ≡ None) where
     abbrev w : WasmModule
     w = translation m size
@@ -65,12 +60,18 @@ module _ (called : FunctionsAreCalled) (hold : (size : ℕ) → size ≤ pages_f
     parts : FitsTo m size s
     parts = fits_to m size s fits bytes (imported_bytes m (formed_fits m formed))
 
-    are_accepted : AreAccepted (hosted w (fixed_for m size s) (worth_of m) m size)
+    abbrev around : Surroundings
+    around = hosted w (fixed_for m size s) (worth_of m) m size
+
+    are_accepted : AreAccepted around
     are_accepted = record {
       accepted = ok;
       given = ap length (given_is m size s parts.named parts.asks) ∙ length-map (foreign_globals m) _;
       heap_fits = λ h. of_heap size heap;
     }
+
+    own_kept : (n : ℕ) → OwnKept around n (call_at true m n)
+    own_kept n = kept around n n (record { accepted = are_accepted; target = refl; entries = refl }) (pay around (omega arith)) (omega arith)
 
     abbrev run_of : ℕ → Run (Unit {0})
     run_of n = host_calls (call_at true m n) m s.calls (first_place m size s n)
@@ -80,7 +81,7 @@ module _ (called : FunctionsAreCalled) (hold : (size : ℕ) → size ≤ pages_f
         let x = fixed_for m size s in
         reaches_after x (heap_length m size) (worth_of m) 1 (length s.calls) n n 1 0 (target_session w s) (λ k. calls_seen w s.calls k (store_of x (first_place m size s n))) (run_of n) (omega arith) (omega arith) (omega arith)
         (session_begins m size s (hold size) parts n)
-        (calls_reached w x (worth_of m) m size n (call_at true m n) (kept (hosted w x (worth_of m) m size) n are_accepted refl refl (omega arith)) s.calls (all_name_exports m size called s fits)
+        (calls_reached w x (worth_of m) m size n (call_at true m n) (own_kept n) s.calls (all_name_exports m size called s fits)
         (first_place m size s n) (begins_holding m size s parts n) (omega arith))
 
     seen : (n : ℕ) → (seen : ObservationPlain) × (observed (run_of n) ≡ Some seen)
@@ -98,7 +99,7 @@ module _ (called : FunctionsAreCalled) (hold : (size : ℕ) → size ≤ pages_f
     pub never_trap : (n : ℕ) (e : EndPlain) → (target_session w s n).end ≡ Some e → IsNoTrap e
     never_trap n e h =
         let there = seen n in
-        no_trap m size s (hold size) parts (source_session m size s) (worth_of m) (1 + length s.calls) n (run_of n) there.0 there.1 (reached n) e h
+        no_trap m size s (hold size) parts (worth_of m) (1 + length s.calls) n (run_of n) there.0 there.1 (reached n) e h
 
     pub simulate : Sim (comparison w s) (source_session m size s) (target_session w s) × ((n : ℕ) → SourceIsBelow (comparison w s) (source_session m size s n) (target_session w s (enough_for m s n)))
         × ((n : ℕ) → TargetIsBelow (comparison w s) (target_session w s n) (source_session m size s n))
