@@ -1,0 +1,5 @@
+pub mod Called
+pub mod Begun
+pub mod Named
+pub mod Matched
+pub mod Whole
