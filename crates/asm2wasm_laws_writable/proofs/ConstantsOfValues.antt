@@ -1,0 +1,210 @@
+-- Constants of the code of an expression are words.
+use Rattle.std.proofs.Common.{ℕ, suc, ◌/◌, ◌^◌, ◌<◌, ◌≤◌, Bool, true, false, List, [], ◌∷◌, Some, arith}
+use Rattle.std.specs.Prelude.{if◌then◌else◌, ◌==◌, ◌||◌}
+use Rattle.std.proofs.Math.Nat.{div-le_self}
+use Rattle.sem_words.specs.declared.word.Bin.{Bin}
+use Rattle.sem_words.specs.declared.word.Bin.TheVariants as bins
+use Rattle.sem_words.specs.declared.js_value.JsOp.{JsOp}
+use Rattle.sem_words.specs.declared.js_value.JsOp.TheVariants.{Add, Sub, Mul, Div, Rem, Or, And, Xor, Shl, Sar, Shr, Lt, Le, Gt, Ge, Eq, Ne}
+use Rattle.sem_words.specs.declared.js_value.JsUnary.{JsUnary}
+use Rattle.sem_words.specs.declared.js_value.JsUnary.TheVariants.{Neg, BitNot, Not, Plus}
+use Rattle.sem_words.proofs.WordLaws.{word_of-IsWord}
+use Rattle.wasm_lang.specs.declared.types.ValType.TheVariants.{I32}
+use Rattle.wasm_lang.specs.Instructions as instructions
+use Rattle.wasm_lang.specs.Instructions.{Plain, bin32, local_get, local_set, drop_operand}
+use Rattle.wasm_lang_exec.specs.Code.{Trees, ε, ◌▹◌, ◌⊕◌, if_block}
+use Rattle.wasm_laws_bytes.specs.Each.{EachIn}
+use Rattle.wasm_laws_bytes.proofs.Spelled.{each_joins}
+use Rattle.asm_lang.specs.Modules.{Expr, lit, decimal, var, index, call, table_call, assign, store, unary, binary, chain, cond, comma, Exprs, no_exprs, exprs, Links, no_links, links}
+use Rattle.asm_lang_valid.specs.declared.meaning.Element.{Element}
+use Rattle.asm_lang_valid.specs.declared.meaning.Element.TheVariants.{Int8, Uint8, Int16, Uint16, Int32, Uint32}
+use Rattle.asm_lang_valid.specs.declared.meaning.Builtin.TheVariants.{Imul, Clz32}
+use Rattle.asm_lang_valid.specs.Scope.{shift_of, Meaning, a_foreign, a_builtin, a_view, a_function, a_table}
+use Rattle.asm_lang_valid.specs.Typing.{Scope, named, exprs_length, or_zero}
+use Rattle.asm2wasm_code.specs.Numbers.{VariablePlace, a_local, a_global, nowhere, place_of, base_of}
+use Rattle.asm2wasm_code.specs.Values.{number, plains, one, get_code, put_code, guarded, quotient, operator, before_operand, after_operand, scaled, load_code, store_code, stored_code, callee_code, dropped, from_base, entry_code, finished, access, is_signed_element, is_unsigned, link_operator, scratch, expr_code, arguments_code, links_code, comma_code}
+use Rattle.asm2wasm_laws_writable.specs.Parts.{ConstantFits}
+
+-- ---- pieces
+
+abbrev pub Fit : Trees → Type 0
+Fit code = EachIn ConstantFits code
+
+pub joined : (a b : Trees) → Fit a → Fit b → Fit (a ⊕ b)
+joined = each_joins ConstantFits
+
+pub either_fit : (b : Bool) (x y : Trees) → Fit x → Fit y → Fit (if b then x else y)
+either_fit true x y h i = h
+either_fit false x y h i = i
+
+pub plains_or_none : (b : Bool) (ps : List Plain) → Fit (plains ps) → Fit (plains (if b then [] else ps))
+plains_or_none true ps h = tt
+plains_or_none false ps h = h
+
+get_fit : (p : VariablePlace) → Fit (get_code p)
+get_fit (a_local x) = (tt, tt)
+get_fit (a_global x) = (tt, tt)
+get_fit nowhere = (tt, tt)
+
+put_fit : (wanted : Bool) (p : VariablePlace) → Fit (put_code wanted p)
+put_fit true (a_local x) = (tt, tt)
+put_fit false (a_local x) = (tt, tt)
+put_fit true (a_global x) = (tt, (tt, tt))
+put_fit false (a_global x) = (tt, tt)
+put_fit true nowhere = (tt, tt)
+put_fit false nowhere = (tt, tt)
+
+guarded_fit : (x y : ℕ) (op : Bin) → Fit (guarded x y op)
+guarded_fit x y op = (tt, (tt, (tt, (tt, (tt, (tt, (tt, tt))), (omega arith, tt), tt))))
+
+quotient_fit : (unsigned : Bool) (x y : ℕ) → Fit (quotient unsigned x y)
+quotient_fit true x y = guarded_fit x y bins.DivU
+quotient_fit false x y = (tt, (tt, (tt, (omega arith, (tt, (omega arith, (tt, (tt, (tt, (tt, (tt, tt))), (tt, (tt, (tt, tt))), tt))))))))
+
+operator_fit : (op : JsOp) (unsigned : Bool) (x y : ℕ) → Fit (operator op unsigned x y)
+operator_fit Add u x y = (tt, tt)
+operator_fit Sub u x y = (tt, tt)
+operator_fit Mul u x y = (tt, tt)
+operator_fit Div u x y = quotient_fit u x y
+operator_fit Rem u x y = guarded_fit x y (if u then bins.RemU else bins.RemS)
+operator_fit Or u x y = (tt, tt)
+operator_fit And u x y = (tt, tt)
+operator_fit Xor u x y = (tt, tt)
+operator_fit Shl u x y = (tt, tt)
+operator_fit Sar u x y = (tt, tt)
+operator_fit Shr u x y = (tt, tt)
+operator_fit Lt u x y = (tt, tt)
+operator_fit Le u x y = (tt, tt)
+operator_fit Gt u x y = (tt, tt)
+operator_fit Ge u x y = (tt, tt)
+operator_fit Eq u x y = (tt, tt)
+operator_fit Ne u x y = (tt, tt)
+
+before_fit : (op : JsUnary) → Fit (before_operand op)
+before_fit Neg = (omega arith, tt)
+before_fit BitNot = (omega arith, tt)
+before_fit Not = tt
+before_fit Plus = tt
+
+after_fit : (op : JsUnary) → Fit (after_operand op)
+after_fit Neg = (tt, tt)
+after_fit BitNot = (tt, tt)
+after_fit Not = (tt, tt)
+after_fit Plus = (tt, tt)
+
+-- ---- elements of a view
+
+shift_low : (v : Element) → shift_of v < 2 ^ 32
+shift_low Int8 = omega arith
+shift_low Uint8 = omega arith
+shift_low Int16 = omega arith
+shift_low Uint16 = omega arith
+shift_low Int32 = omega arith
+shift_low Uint32 = omega arith
+
+elements_low : (heap k : ℕ) → heap < 2 ^ 32 → heap / 2 ^ k < 2 ^ 32
+elements_low heap k low = let le : heap / 2 ^ k ≤ heap = div-le_self heap (2 ^ k) in omega (arith, low, le)
+
+element_fit : (x k : ℕ) (t : Trees) → k < 2 ^ 32 → Fit t → Fit (one (local_get x) ⊕ (plains (scaled k) ⊕ t))
+element_fit x k t low h = (tt, joined (plains (scaled k)) t (plains_or_none (k == 0) (number k ∷ bin32 bins.Shl ∷ []) (low, (tt, tt))) h)
+
+load_fit : (heap x : ℕ) → heap < 2 ^ 32 → (v : Meaning) → Fit (load_code heap x v)
+load_fit heap x low (a_view v) =
+    let read = one (instructions.load (access v (is_signed_element v)) (shift_of v) 0) in
+    (tt, (elements_low heap (shift_of v) low, (tt, (tt, element_fit x (shift_of v) read (shift_low v) (omega arith, tt), (omega arith, tt), tt))))
+load_fit heap x low _ = (tt, tt)
+
+store_fit : (heap x y : ℕ) → heap < 2 ^ 32 → (v : Meaning) → Fit (store_code heap x y v)
+store_fit heap x y low (a_view v) =
+    let written = plains (local_get y ∷ instructions.store (access v false) (shift_of v) 0 ∷ []) in
+    (tt, (tt, (elements_low heap (shift_of v) low, (tt, (tt, element_fit x (shift_of v) written (shift_low v) (tt, (omega arith, tt)), tt, tt)))))
+store_fit heap x y low _ = (tt, tt)
+
+stored_fit : (wanted : Bool) (y : ℕ) → Fit (stored_code wanted y)
+stored_fit true y = (tt, tt)
+stored_fit false y = tt
+
+-- ---- calls
+
+callee_fit : (c : Scope) (wanted : Bool) (n : List ℕ) (count : ℕ) (v : Meaning) → Fit (callee_code c wanted n count v)
+callee_fit c wanted n count (a_function f) = (tt, tt)
+callee_fit c wanted n count (a_foreign p) = (tt, tt)
+callee_fit c wanted n count (a_builtin Imul) = (tt, tt)
+callee_fit c wanted n count (a_builtin Clz32) = (tt, tt)
+callee_fit c wanted n count _ = (tt, tt)
+
+dropped_fit : (wanted : Bool) (v : Meaning) → Fit (dropped wanted v)
+dropped_fit true v = tt
+dropped_fit false (a_builtin b) = (tt, tt)
+dropped_fit false _ = tt
+
+base_fit : (base : ℕ) → base < 2 ^ 32 → Fit (plains (from_base base))
+base_fit base low = plains_or_none (base == 0) (number base ∷ bin32 bins.Add ∷ []) (low, (tt, tt))
+
+entry_fit : (c : Scope) (v : Meaning) → Fit (entry_code c v)
+entry_fit c (a_table t) = (tt, tt)
+entry_fit c _ = (tt, tt)
+
+finished_fit : (wanted : Bool) (t : Trees) → Fit t → Fit (finished wanted t)
+finished_fit true t h = h
+finished_fit false t h = joined t (one drop_operand) h (tt, tt)
+
+-- ---- expressions
+
+module _ (heap : ℕ) (c : Scope) (low : heap < 2 ^ 32) (bases : (n : List ℕ) → base_of c.home n < 2 ^ 32) where
+  mutual
+    pub value_fit : (wanted : Bool) (d : ℕ) (e : Expr) → Fit (expr_code heap c wanted d e)
+    value_fit wanted d (lit z) = finished_fit wanted _ (word_of-IsWord 32 z, tt)
+    value_fit wanted d (decimal bs) = finished_fit wanted _ (tt, tt)
+    value_fit wanted d (var n) = finished_fit wanted _ (get_fit (place_of c n))
+    value_fit wanted d (index n i) =
+        let x = scratch heap c d in
+        finished_fit wanted _ (joined (expr_code heap c true d i) (load_code heap x (named c n)) (value_fit true d i) (load_fit heap x low (named c n)))
+    value_fit wanted d (call n es) =
+        let callee = callee_code c wanted n (exprs_length es) (named c n) in
+        let ended = joined callee (dropped wanted (named c n)) (callee_fit c wanted n (exprs_length es) (named c n)) (dropped_fit wanted (named c n)) in
+        joined (arguments_code heap c d es) (callee ⊕ dropped wanted (named c n)) (arguments_fit d es) ended
+    value_fit wanted d (table_call n i es) =
+        let x = scratch heap c d in
+        let entry = one (local_get x) ⊕ entry_code c (named c n) in
+        let arguments = arguments_code heap c (suc d) es in
+        let base = plains (from_base (base_of c.home n)) in
+        let called = joined arguments entry (arguments_fit (suc d) es) (tt, entry_fit c (named c n)) in
+        let based = joined base (one (local_set x) ⊕ (arguments ⊕ entry)) (base_fit (base_of c.home n) (bases n)) (tt, called) in
+        joined (expr_code heap c true d i) (base ⊕ (one (local_set x) ⊕ (arguments ⊕ entry))) (value_fit true d i) based
+    value_fit wanted d (assign n e) = joined (expr_code heap c true d e) (put_code wanted (place_of c n)) (value_fit true d e) (put_fit wanted (place_of c n))
+    value_fit wanted d (store n i e) =
+        let x = scratch heap c d in
+        let y = scratch heap c (suc d) in
+        let kept = store_code heap x y (named c n) in
+        let last = stored_code wanted y in
+        let ended = joined kept last (store_fit heap x y low (named c n)) (stored_fit wanted y) in
+        let further = joined (expr_code heap c true d e) (kept ⊕ last) (value_fit true d e) ended in
+        joined (expr_code heap c true d i) (expr_code heap c true d e ⊕ (kept ⊕ last)) (value_fit true d i) further
+    value_fit wanted d (unary op e) =
+        let ended = joined (expr_code heap c true d e) (after_operand op) (value_fit true d e) (after_fit op) in
+        finished_fit wanted _ (joined (before_operand op) (expr_code heap c true d e ⊕ after_operand op) (before_fit op) ended)
+    value_fit wanted d (binary op l r) =
+        let done = operator op (is_unsigned l || is_unsigned r) (scratch heap c d) (scratch heap c (suc d)) in
+        let ended = joined (expr_code heap c true d r) done (value_fit true d r) (operator_fit op (is_unsigned l || is_unsigned r) (scratch heap c d) (scratch heap c (suc d))) in
+        let both = joined (expr_code heap c true d l) (expr_code heap c true d r ⊕ done) (value_fit true d l) ended in
+        finished_fit wanted _ (either_fit (or_zero op r) _ _ (value_fit true d l) both)
+    value_fit wanted d (chain e ls) = finished_fit wanted _ (joined (expr_code heap c true d e) (links_code heap c d ls) (value_fit true d e) (links_fit d ls))
+    value_fit wanted d (cond e a b) =
+        let choice = if_block (Some I32) (expr_code heap c true d a) (expr_code heap c true d b) ▹ ε in
+        finished_fit wanted _ (joined (expr_code heap c true d e) choice (value_fit true d e) (tt, value_fit true d a, value_fit true d b, tt))
+    value_fit wanted d (comma es) = finished_fit wanted _ (comma_fit d es)
+
+    arguments_fit : (d : ℕ) (es : Exprs) → Fit (arguments_code heap c d es)
+    arguments_fit d no_exprs = tt
+    arguments_fit d (exprs e es) = joined (expr_code heap c true d e) (arguments_code heap c d es) (value_fit true d e) (arguments_fit d es)
+
+    links_fit : (d : ℕ) (ls : Links) → Fit (links_code heap c d ls)
+    links_fit d no_links = tt
+    links_fit d (links minus e ls) =
+        joined (expr_code heap c true d e) (one (bin32 (link_operator minus)) ⊕ links_code heap c d ls) (value_fit true d e) (tt, links_fit d ls)
+
+    comma_fit : (d : ℕ) (es : Exprs) → Fit (comma_code heap c d es)
+    comma_fit d no_exprs = (tt, tt)
+    comma_fit d (exprs e no_exprs) = value_fit true d e
+    comma_fit d (exprs e (exprs x es)) = joined (expr_code heap c false d e) (comma_code heap c d (exprs x es)) (value_fit false d e) (comma_fit d (exprs x es))

@@ -1,0 +1,12 @@
+pub mod Lists
+pub mod Named
+pub mod ConstantsOfValues
+pub mod ConstantsOfBodies
+pub mod Constants
+pub mod Narrow
+pub mod Properties
+pub mod Shaped
+pub mod Numbers
+pub mod Short
+pub mod Sections
+pub mod Said

@@ -1,0 +1,58 @@
+-- What keeps the numbers of an instruction small, and what a short text leaves of a module.
+use Rattle.std.specs.Prelude.{ℕ, ◌+◌, ◌^◌, ◌<◌, ◌≤◌, length, All}
+use Rattle.std.specs.List.{concat}
+use Rattle.wasm_lang.specs.Instructions.{Plain, local_get, local_set, local_tee, global_get, global_set, load, store, const32, const64, Instruction, br, br_if, br_table, call, call_indirect, plain}
+use Rattle.wasm_lang_valid.specs.Typing.{Context}
+use Rattle.wasm_laws_write.specs.Fits.{FitsU32}
+use Rattle.asm_lang.specs.Modules.{Module}
+use Rattle.asm_lang_valid.specs.Rows.{functions_count, exports_count}
+use Rattle.asm_laws_counts.specs.Counts.{functions_clauses}
+use Rattle.asm_laws_counts.specs.Names.{module_names}
+
+-- ---- what an instruction names, a local, a global, a function, a type or a label, has a number below n, and an alignment is small
+
+abbrev pub PlainNamesBelow : ℕ → Plain → Type 0
+PlainNamesBelow n (local_get x) = x < n
+PlainNamesBelow n (local_set x) = x < n
+PlainNamesBelow n (local_tee x) = x < n
+PlainNamesBelow n (global_get x) = x < n
+PlainNamesBelow n (global_set x) = x < n
+PlainNamesBelow n (load op align offset) = align < 128
+PlainNamesBelow n (store op align offset) = align < 128
+PlainNamesBelow n p = Unit {0}
+
+abbrev pub NamesBelow : ℕ → Instruction → Type 0
+NamesBelow n (br l) = l < n
+NamesBelow n (br_if l) = l < n
+NamesBelow n (br_table ls l) = All (λ k. k < n) ls × (l < n)
+NamesBelow n (call f) = f < n
+NamesBelow n (call_indirect t) = t < n
+NamesBelow n (plain p) = PlainNamesBelow n p
+NamesBelow n i = Unit {0}
+
+-- a context that has at most n of each
+pub record HasAtMost (n : ℕ) (c : Context) : Type 0 where
+  pub types : length c.types ≤ n
+  pub functions : length c.functions ≤ n
+  pub globals : length c.globals ≤ n
+  pub locals : length c.locals ≤ n
+
+-- ---- constants and offsets are words, and no constant is wide
+
+abbrev pub PlainConstantFits : Plain → Type 0
+PlainConstantFits (load op align offset) = FitsU32 offset
+PlainConstantFits (store op align offset) = FitsU32 offset
+PlainConstantFits (const32 word) = word < 2 ^ 32
+PlainConstantFits (const64 word) = ⊥
+PlainConstantFits p = Unit {0}
+
+abbrev pub ConstantFits : Instruction → Type 0
+ConstantFits (plain p) = PlainConstantFits p
+ConstantFits i = Unit {0}
+
+-- ---- a module that a text of at most 16,777,216 bytes says: its nodes, the clauses of its switches, and its names
+
+pub record IsOfShortText (m : Module) : Type 0 where
+  pub nodes : functions_count m.functions + functions_clauses m.functions ≤ 2 ^ 25
+  pub exports : exports_count m.exports ≤ 2 ^ 25
+  pub names : length (concat (module_names m)) ≤ 2 ^ 24
