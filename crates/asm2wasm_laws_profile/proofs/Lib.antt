@@ -1,1 +1,2 @@
 pub mod Peak
+pub mod Flat

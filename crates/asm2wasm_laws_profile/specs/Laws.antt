@@ -1,12 +1,30 @@
 -- What holds of the translation of a small module.
-use Rattle.std.specs.Prelude.{◌+◌, ◌≤◌, List, length}
+use Rattle.std.specs.Prelude.{◌≡◌, ℕ, ◌+◌, ◌*◌, ◌≤◌, true, List, length}
 use Rattle.wasm_lang.specs.Instructions.{Instruction}
-use Rattle.wasm_lang_valid.specs.Typing.{Context}
-use Rattle.wasm_lang_valid.specs.State.{Level}
 use Rattle.wasm_lang_valid.specs.Measures.{standing, peak}
+use Rattle.wasm_lang_valid.specs.Profile.{IsInProfile}
+use Rattle.wasm_lang_valid.specs.State.{Level}
+use Rattle.wasm_lang_valid.specs.Typing.{Context}
+use Rattle.wasm_laws_trees.specs.Spelled.{tree_levels}
+use Rattle.wasm_laws_bytes.specs.Each.{EachIn}
+use Rattle.asm_lang.specs.Heights.{stmts_height, IsWellFormed}
+use Rattle.asm_lang.specs.Modules.{Module}
+use Rattle.asm_lang_valid.specs.Refusal.{IsAccepted}
+use Rattle.asm_lang_valid.specs.Typing.{Scope}
+use Rattle.asm2wasm_lang.specs.Heaps.{is_heap_length}
+use Rattle.asm2wasm_code.specs.Bodies.{function_code}
+use Rattle.asm2wasm_code.specs.Modules.{translation}
+use Rattle.asm2wasm_laws_typed.specs.Labels.{HaveJoinedLabels}
+use Rattle.asm2wasm_laws_profile.specs.Small.{HaveNoSwitch, IsSmall}
 
 -- ---- operands
 
 -- an instruction leaves at most one operand more than stood before it
 abbrev pub PeakIsBelowLength : Type 0
 PeakIsBelowLength = (base : Context) (ls : List Level) (code : List Instruction) → peak base ls code ≤ standing ls + length code
+
+-- ---- blocks that are open at once
+
+-- a loop opens three, and its labels one
+abbrev pub FunctionsAreFlat : Type 0
+FunctionsAreFlat = (heap : ℕ) (c : Scope) → HaveJoinedLabels c.within.body → HaveNoSwitch c.within.body → tree_levels (function_code heap c) ≤ 4 * stmts_height c.within.body
