@@ -1,2 +1,5 @@
 pub mod Peak
 pub mod Flat
+pub mod LightValues
+pub mod LightBodies
+pub mod Foreign

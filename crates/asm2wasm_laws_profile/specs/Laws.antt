@@ -1,21 +1,22 @@
 -- What holds of the translation of a small module.
-use Rattle.std.specs.Prelude.{◌≡◌, ℕ, ◌+◌, ◌*◌, ◌≤◌, true, List, length}
+use Rattle.std.specs.Prelude.{◌≡◌, ℕ, ◌+◌, ◌*◌, ◌≤◌, false, List, [], length, All}
+use Rattle.std.specs.List.{AllByRecursion}
 use Rattle.wasm_lang.specs.Instructions.{Instruction}
 use Rattle.wasm_lang_valid.specs.Measures.{standing, peak}
-use Rattle.wasm_lang_valid.specs.Profile.{IsInProfile}
 use Rattle.wasm_lang_valid.specs.State.{Level}
 use Rattle.wasm_lang_valid.specs.Typing.{Context}
 use Rattle.wasm_laws_trees.specs.Spelled.{tree_levels}
 use Rattle.wasm_laws_bytes.specs.Each.{EachIn}
-use Rattle.asm_lang.specs.Heights.{stmts_height, IsWellFormed}
-use Rattle.asm_lang.specs.Modules.{Module}
-use Rattle.asm_lang_valid.specs.Refusal.{IsAccepted}
+use Rattle.asm_lang.specs.Heights.{stmts_height}
+use Rattle.asm_lang.specs.Modules.{Variable, Function, Module}
+use Rattle.asm_lang_valid.specs.LimitRows.{foreign_calls}
+use Rattle.asm_lang_valid.specs.Refusal.{foreign_globals}
+use Rattle.asm_lang_valid.specs.Typed.{scope_of}
 use Rattle.asm_lang_valid.specs.Typing.{Scope}
-use Rattle.asm2wasm_lang.specs.Heaps.{is_heap_length}
 use Rattle.asm2wasm_code.specs.Bodies.{function_code}
-use Rattle.asm2wasm_code.specs.Modules.{translation}
 use Rattle.asm2wasm_laws_typed.specs.Labels.{HaveJoinedLabels}
-use Rattle.asm2wasm_laws_profile.specs.Small.{HaveNoSwitch, IsSmall}
+use Rattle.asm2wasm_laws_profile.specs.Small.{is_foreign_member, HaveNoSwitch}
+use Rattle.asm2wasm_laws_profile.specs.Light.{IsLight}
 
 -- ---- operands
 
@@ -28,3 +29,14 @@ PeakIsBelowLength = (base : Context) (ls : List Level) (code : List Instruction)
 -- a loop opens three, and its labels one
 abbrev pub FunctionsAreFlat : Type 0
 FunctionsAreFlat = (heap : ℕ) (c : Scope) → HaveJoinedLabels c.within.body → HaveNoSwitch c.within.body → tree_levels (function_code heap c) ≤ 4 * stmts_height c.within.body
+
+-- ---- instructions, where the heap has `heap` bytes
+
+abbrev pub FunctionsAreLight : Type 0
+FunctionsAreLight = (m : Module) (heap : ℕ) → m.tables ≡ [] → AllByRecursion (λ (f : Function). EachIn IsLight (function_code heap (scope_of m f))) m.functions
+
+-- ---- imports
+
+-- without foreign members nothing is called or read of the foreign object
+abbrev pub NothingIsForeign : Type 0
+NothingIsForeign = (m : Module) → All (λ (v : Variable). is_foreign_member m v.init ≡ false) m.globals → (foreign_calls m ≡ []) × (foreign_globals m ≡ [])

@@ -1,7 +1,7 @@
 //! The translation of a small module of asm.js is a module that the translator from WebAssembly takes.
 #![tactic(auto)]
 
-ghost use Rattle.asm2wasm_laws_profile.specs.Laws.{PeakIsBelowLength, FunctionsAreFlat};
+ghost use Rattle.asm2wasm_laws_profile.specs.Laws.{PeakIsBelowLength, FunctionsAreFlat, FunctionsAreLight, NothingIsForeign};
 
 /// Each instruction leaves at most one operand more than stood before it.
 pub fn operands()
@@ -11,4 +11,14 @@ pub fn operands()
 /// Where a function has no switch, blocks lie at most four deep for each level of its text.
 pub fn levels()
     ensures { FunctionsAreFlat }
+{}
+
+/// Where a module has no table, its code calls no entry of one; and it never joins words of 64 bits.
+pub fn instructions()
+    ensures { FunctionsAreLight }
+{}
+
+/// A module without foreign members asks nothing of the foreign object.
+pub fn imports()
+    ensures { NothingIsForeign }
 {}
