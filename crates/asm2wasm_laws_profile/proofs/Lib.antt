@@ -3,3 +3,5 @@ pub mod Flat
 pub mod LightValues
 pub mod LightBodies
 pub mod Foreign
+pub mod Bodies
+pub mod Whole

@@ -1,21 +1,24 @@
 -- What holds of the translation of a small module.
-use Rattle.std.specs.Prelude.{◌≡◌, ℕ, ◌+◌, ◌*◌, ◌≤◌, false, List, [], length, All}
+use Rattle.std.specs.Prelude.{◌≡◌, ℕ, ◌+◌, ◌*◌, ◌≤◌, true, false, List, [], length, All}
 use Rattle.std.specs.List.{AllByRecursion}
 use Rattle.wasm_lang.specs.Instructions.{Instruction}
 use Rattle.wasm_lang_valid.specs.Measures.{standing, peak}
+use Rattle.wasm_lang_valid.specs.Profile.{IsInProfile}
 use Rattle.wasm_lang_valid.specs.State.{Level}
 use Rattle.wasm_lang_valid.specs.Typing.{Context}
 use Rattle.wasm_laws_trees.specs.Spelled.{tree_levels}
 use Rattle.wasm_laws_bytes.specs.Each.{EachIn}
-use Rattle.asm_lang.specs.Heights.{stmts_height}
+use Rattle.asm_lang.specs.Heights.{stmts_height, IsWellFormed}
 use Rattle.asm_lang.specs.Modules.{Variable, Function, Module}
 use Rattle.asm_lang_valid.specs.LimitRows.{foreign_calls}
-use Rattle.asm_lang_valid.specs.Refusal.{foreign_globals}
+use Rattle.asm_lang_valid.specs.Refusal.{foreign_globals, IsAccepted}
 use Rattle.asm_lang_valid.specs.Typed.{scope_of}
 use Rattle.asm_lang_valid.specs.Typing.{Scope}
+use Rattle.asm2wasm_lang.specs.Heaps.{is_heap_length}
 use Rattle.asm2wasm_code.specs.Bodies.{function_code}
+use Rattle.asm2wasm_code.specs.Modules.{translation}
 use Rattle.asm2wasm_laws_typed.specs.Labels.{HaveJoinedLabels}
-use Rattle.asm2wasm_laws_profile.specs.Small.{is_foreign_member, HaveNoSwitch}
+use Rattle.asm2wasm_laws_profile.specs.Small.{is_foreign_member, HaveNoSwitch, IsSmall}
 use Rattle.asm2wasm_laws_profile.specs.Light.{IsLight}
 
 -- ---- operands
@@ -40,3 +43,9 @@ FunctionsAreLight = (m : Module) (heap : ℕ) → m.tables ≡ [] → AllByRecur
 -- without foreign members nothing is called or read of the foreign object
 abbrev pub NothingIsForeign : Type 0
 NothingIsForeign = (m : Module) → All (λ (v : Variable). is_foreign_member m v.init ≡ false) m.globals → (foreign_calls m ≡ []) × (foreign_globals m ≡ [])
+
+-- ---- modules
+
+-- a small accepted module that a text says, with a heap of a length that there is, gives one that the other translator takes
+abbrev pub TranslationIsInProfile : Type 0
+TranslationIsInProfile = (m : Module) (size : ℕ) → IsAccepted m → IsWellFormed m → IsSmall m → is_heap_length size ≡ true → IsInProfile (translation m size)

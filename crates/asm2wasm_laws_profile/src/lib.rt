@@ -1,7 +1,7 @@
 //! The translation of a small module of asm.js is a module that the translator from WebAssembly takes.
 #![tactic(auto)]
 
-ghost use Rattle.asm2wasm_laws_profile.specs.Laws.{PeakIsBelowLength, FunctionsAreFlat, FunctionsAreLight, NothingIsForeign};
+ghost use Rattle.asm2wasm_laws_profile.specs.Laws.{PeakIsBelowLength, FunctionsAreFlat, FunctionsAreLight, NothingIsForeign, TranslationIsInProfile};
 
 /// Each instruction leaves at most one operand more than stood before it.
 pub fn operands()
@@ -22,3 +22,11 @@ pub fn instructions()
 pub fn imports()
     ensures { NothingIsForeign }
 {}
+
+/// What a small module is translated to is valid, and can be translated back.
+pub fn profile()
+    ensures { TranslationIsInProfile }
+{
+    wasm_laws_trees::spellings();
+    asm2wasm_lang::heap_lengths();
+}
