@@ -1,5 +1,5 @@
 -- What is counted of the bodies of a small module.
-use Rattle.std.proofs.Common.{◌≡◌, ℕ, zero, suc, ◌+◌, ◌-◌, ◌*◌, ◌≤◌, max, Bool, true, false, List, [], ◌∷◌, ◌++◌, length, map, Some, None, refl, sym, ap, ◌∙◌, subst, arith}
+use Rattle.std.proofs.Common.{◌≡◌, ℕ, suc, ◌+◌, ◌-◌, ◌≤◌, max, false, List, [], ◌∷◌, ◌++◌, length, map, Some, None, refl, ap, ◌∙◌, subst, arith}
 use Rattle.std.specs.Prelude.{slice_get, cond, ◌||◌}
 use Rattle.std.specs.List.{AllByRecursion}
 use Rattle.std.proofs.lemmas.List.{length-append, length-replicate}
@@ -10,19 +10,18 @@ use Rattle.wasm_lang.specs.Modules.{FunctionType}
 use Rattle.wasm_lang_valid.specs.Measures.{deepest, body_slots, slots_from, peak, called, called_in, called_types, is_wide_mul_div, has_mul_div, first_mul_div}
 use Rattle.wasm_lang_valid.specs.State.{at_start}
 use Rattle.wasm_lang_valid.specs.Validity.{own_type, body_context}
-use Rattle.wasm_laws_trees.specs.Spelled.{flat, closed, size, reach}
+use Rattle.wasm_laws_trees.specs.Spelled.{flat, closed, reach}
 use Rattle.wasm_laws_trees.specs.Laws.{SizeBoundsLength, LevelsAreKept}
 use Rattle.wasm_laws_bytes.specs.Each.{EachIn}
 use Rattle.wasm_laws_bytes.proofs.Spelled.{each_closed}
 use Rattle.asm_lang.specs.Heights.{stmts_height, function_height}
 use Rattle.asm_lang.specs.Modules.{Stmt, block, if_only, if_else, while_loop, do_while, for_loop, labelled, switches, Stmts, no_stmts, stmts, Function, Module}
 use Rattle.asm_lang_valid.specs.Rows.{function_count}
-use Rattle.asm_lang_valid.specs.Scope.{signature_of}
 use Rattle.asm_lang_valid.specs.Typed.{scope_of}
 use Rattle.asm_laws_counts.specs.Counts.{stmt_clauses, body_clauses}
 use Rattle.asm2wasm_code.specs.Numbers.{first_scratch}
 use Rattle.asm2wasm_code.specs.Bodies.{function_code}
-use Rattle.asm2wasm_code.specs.Modules.{type_for, body_for, translation}
+use Rattle.asm2wasm_code.specs.Modules.{body_for, translation}
 use Rattle.asm2wasm_laws_typed.specs.Labels.{HaveJoinedLabels}
 use Rattle.asm2wasm_laws_typed.proofs.SmallBodies.{functions_are_small}
 use Rattle.asm2wasm_laws_typed.proofs.ReachBodies.{functions_reach}

@@ -14,7 +14,7 @@ use Rattle.asm_lang_valid.specs.Typed.{scope_of}
 use Rattle.asm_lang_valid.specs.Typing.{Scope, named, exprs_length, is_call, or_zero}
 use Rattle.asm_lang_valid.specs.Rows.{need, expr_count, option_count, stmt_count, stmts_count, body_at, function_count, functions_at, tables_at}
 use Rattle.asm_lang_valid.specs.LimitRows.{ForeignCall, Mark, rows_of, callee_marks, expr_marks, exprs_marks, links_marks, comma_marks, call_marks, effect_marks, part_marks, option_marks, clauses_length, stmt_marks, stmts_marks, clauses_marks, counted, member_length, globals_marks, names_marks, function_marks, functions_marks, tables_marks, marks, foreign_calls, most_functions, most_params, most_locals, most_globals, most_clauses, most_members, most_entries, longest_name}
-use Rattle.asm_lang_valid.specs.Refusal.{with_global, global_imports, foreign_globals}
+use Rattle.asm_lang_valid.specs.Refusal.{with_global, global_imports}
 use Rattle.asm2wasm_laws_within.specs.Uses.{AllUses}
 use Rattle.asm2wasm_laws_within.proofs.Marks.{uses_join, distinct_all}
 use Rattle.asm2wasm_laws_within.proofs.Names.{Plainly, named_holds}

@@ -2,8 +2,6 @@
 use Rattle.std.proofs.Common.{◌≡◌, ℕ, suc, true, false, List, [], ◌∷◌, ◌++◌, length, Option, Some, None, refl, ap}
 use Rattle.std.specs.List.{AllByRecursion}
 use Rattle.std.specs.Prelude.{if◌then◌else◌, ◌==◌, replicate, slice_get}
-use Rattle.sem_words.specs.declared.word.Rel.TheVariants as rels
-use Rattle.sem_words.specs.declared.word.Bin.TheVariants as bins
 use Rattle.wasm_lang.specs.Instructions.{eqz32, local_set}
 use Rattle.wasm_lang_exec.specs.Code.{Trees, ε, ◌▹◌, ◌⊕◌, block, if_block, br, br_if, return}
 use Rattle.asm_lang.specs.Modules as text

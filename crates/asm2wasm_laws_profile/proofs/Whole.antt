@@ -1,9 +1,9 @@
 -- The translation of a small module meets no row of those that aren't translated.
 use Rattle.std.proofs.Common.{◌≡◌, ℕ, suc, ◌+◌, ◌*◌, ◌≤◌, max, Bool, true, false, List, [], ◌∷◌, ◌++◌, length, map, Option, Some, None, refl, sym, ap, ◌∙◌, subst, arith}
-use Rattle.std.specs.Prelude.{slice_get, if◌then◌else◌, cond, nat_lt, codes}
+use Rattle.std.specs.Prelude.{slice_get, if◌then◌else◌, nat_lt, codes}
 use Rattle.std.specs.List.{AllByRecursion}
 use Rattle.std.proofs.lemmas.Bool.Decides.{nat_tests}
-use Rattle.std.proofs.lemmas.List.{length-append, length-map, length-replicate}
+use Rattle.std.proofs.lemmas.List.{length-map, length-replicate}
 use Rattle.std.proofs.lemmas.List.Elements.{recursion_from_All}
 use Rattle.wasm_lang.specs.declared.types.ValType.TheVariants.{I32}
 use Rattle.wasm_lang.specs.declared.types.ImportKind.{ImportKind}
@@ -12,10 +12,10 @@ use Rattle.wasm_lang.specs.Modules.{Imported, GlobalEntry, WasmModule}
 use Rattle.wasm_lang_valid.specs.Measures.{deepest, slots_from, called_types, distinct, first_mixed, first_mul_div}
 use Rattle.wasm_lang_valid.specs.ModuleRules.{is_table, imported_functions, imported_globals, function_types, global_types}
 use Rattle.wasm_lang_valid.specs.Profile.{wide_import, offset_from_import, segment_outside, imported_entries, own_entries, or_zero, table_length, memory_bytes, most_levels, most_functions, most_globals, most_slots, most_entries, most_cells, too_many, params_past, names_past, padded, size_past, outside_profile}
-use Rattle.wasm_lang_valid.specs.Runnable.{is_mutable, first_import, or_else, above, imported_pages, own_pages, pages, most_pages_to_run}
+use Rattle.wasm_lang_valid.specs.Runnable.{is_mutable, first_import, or_else, above, imported_pages, pages, most_pages_to_run}
 use Rattle.wasm_laws_trees.specs.Laws.{SizeBoundsLength, LevelsAreKept}
 use Rattle.asm_lang.specs.Heights.{leaves_height, functions_height, exports_height, function_height, IsWellFormed}
-use Rattle.asm_lang.specs.Modules.{Variable, Function, Table, Module}
+use Rattle.asm_lang.specs.Modules.{Variable, Function, Module}
 use Rattle.asm_lang_valid.specs.LimitRows.{ForeignCall, foreign_calls}
 use Rattle.asm_lang_valid.specs.Refusal.{foreign_globals, has_heap}
 use Rattle.asm_lang_valid.specs.Rows.{function_count}

@@ -1,5 +1,5 @@
 -- A module of asm.js that is small, and has nothing that its translation would import, tabulate or branch by.
-use Rattle.std.specs.Prelude.{◌≡◌, ℕ, ◌≤◌, Bool, true, false, [], length, All}
+use Rattle.std.specs.Prelude.{◌≡◌, ◌≤◌, Bool, true, false, [], length, All}
 use Rattle.asm_lang.specs.Trees.{Init, foreign_int, foreign_double, member}
 use Rattle.asm_lang.specs.Heights.{module_height}
 use Rattle.asm_lang.specs.Modules.{Stmt, block, if_only, if_else, while_loop, do_while, for_loop, labelled, switches, Stmts, no_stmts, stmts, Variable, Function, Module}
