@@ -5,3 +5,4 @@ pub mod LightBodies
 pub mod Foreign
 pub mod Bodies
 pub mod Whole
+pub mod Examples
