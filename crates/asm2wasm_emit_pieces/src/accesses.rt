@@ -1,0 +1,113 @@
+//! Elements of a view. An index outside the heap reads 0 and writes nothing.
+ghost use Rattle.std.specs.Prelude.{◌≡◌, ◌+◌, ◌/◌, ◌^◌, ◌<◌, ◌≤◌, ◌++◌, OnOk};
+ghost use Rattle.wasm_laws_trees.specs.Spelled.{flat};
+ghost use Rattle.wasm_laws_write.specs.Lengths.{IsNarrow};
+ghost use Rattle.wasm_laws_bytes.specs.Each.{EachIn};
+ghost use Rattle.asm_lang_valid.specs.Scope.{a_view, shift_of};
+ghost use Rattle.asm2wasm_code.specs.Values as code;
+
+use crate::output::Output;
+use asm_lang_valid::Element;
+use sem_words::{Bin, Rel};
+use std::alloc::AllocError;
+use wasm_lang::{MemOp, ValType};
+use wasm_tree::Instr;
+
+/// The element of the index on the stack, which is kept in the local `x`. The heap has `size` bytes.
+pub fn load(output: &mut Output, size: usize, x: usize, element: Element) -> Result<(), AllocError>
+    requires narrow { EachIn IsNarrow (code.load_code size x (a_view element)) }
+    ensures { OnOk result (output.new ≡ output.old ++ flat (code.load_code size x (a_view element))) }
+{
+    let exponent = exponent_of(element);
+    let op = access(element, is_signed(element));
+    within(output, size, exponent, x)?;
+    output.push(Instr::If(Some(ValType::I32)))?;
+    output.local_get(x)?;
+    scaled(output, exponent)?;
+    output.push(Instr::Load(op, exponent, 0))?;
+    output.push(Instr::Else)?;
+    output.number(0)?;
+    output.push(Instr::End)
+}
+
+/// Puts the value on the stack, which is left in the local `y`, into the element of the index below it.
+pub fn store(
+    output: &mut Output,
+    size: usize,
+    x: usize,
+    y: usize,
+    element: Element,
+) -> Result<(), AllocError>
+    requires narrow { EachIn IsNarrow (code.store_code size x y (a_view element)) }
+    ensures { OnOk result (output.new ≡ output.old ++ flat (code.store_code size x y (a_view element))) }
+{
+    let exponent = exponent_of(element);
+    let op = access(element, false);
+    output.local_set(y)?;
+    within(output, size, exponent, x)?;
+    output.push(Instr::If(None))?;
+    output.local_get(x)?;
+    scaled(output, exponent)?;
+    output.local_get(y)?;
+    output.push(Instr::Store(op, exponent, 0))?;
+    output.push(Instr::End)
+}
+
+// Whether the index on the stack is one of an element of the heap.
+fn within(output: &mut Output, size: usize, exponent: u32, x: usize) -> Result<(), AllocError>
+    requires small { exponent ≤ 2 }
+    requires local { x < 2 ^ 32 }
+    requires elements { size / 2 ^ exponent < 2 ^ 32 }
+    ensures { OnOk result (output.new ≡ output.old ++ flat (code.plains (code.within size exponent x))) }
+{
+    output.local_tee(x)?;
+    output.number(size >> exponent)?;
+    output.push(Instr::Rel32(Rel::LtU))
+}
+
+// The place of the element of the index on the stack.
+fn scaled(output: &mut Output, exponent: u32) -> Result<(), AllocError>
+    ensures { OnOk result (output.new ≡ output.old ++ flat (code.plains (code.scaled exponent))) }
+{
+    if exponent == 0 {
+        return Ok(());
+    }
+    output.push(Instr::Const32(exponent))?;
+    output.push(Instr::Bin32(Bin::Shl))
+}
+
+// An element has 2 to this number of bytes.
+fn exponent_of(element: Element) -> u32
+    ensures exact { result ≡ shift_of element }
+    ensures small { result ≤ 2 }
+{
+    match element {
+        Element::Int8 | Element::Uint8 => 0,
+        Element::Int16 | Element::Uint16 => 1,
+        Element::Int32 | Element::Uint32 => 2,
+    }
+}
+
+fn is_signed(element: Element) -> bool
+    ensures { result ≡ code.is_signed_element element }
+{
+    match element {
+        Element::Int8 | Element::Int16 => true,
+        Element::Uint8 | Element::Uint16 | Element::Int32 | Element::Uint32 => false,
+    }
+}
+
+fn access(element: Element, signed: bool) -> MemOp
+    ensures { result ≡ code.access element signed }
+{
+    let size = match element {
+        Element::Int8 | Element::Uint8 => 1,
+        Element::Int16 | Element::Uint16 => 2,
+        Element::Int32 | Element::Uint32 => 4,
+    };
+    MemOp {
+        wide: false,
+        size,
+        signed,
+    }
+}
