@@ -1,7 +1,8 @@
 -- The values of the cases of a switch, and the table of their clauses.
 use Rattle.std.specs.Prelude.{ℕ, zero, suc, ◌+◌, ◌<◌, List, [], ◌∷◌, length, Option, Some, None, ℤ, pos, ◌+ℤ◌, ◌-ℤ◌, unsigned_abs, slice_set, if◌then◌else◌}
-use Rattle.asm_lang.specs.Modules.{Clauses}
-use Rattle.asm_lang_exec.specs.Meaning.{before_case, has_case}
+use Rattle.wasm_lang_exec.specs.Code.{Trees, ε, ◌▹◌, ◌⊕◌, br}
+use Rattle.asm_lang.specs.Modules.{no_stmts, Clauses, no_clauses, clauses}
+use Rattle.asm_lang_exec.specs.Meaning.{before_case, before_default, has_case}
 use Rattle.asm2wasm_code.specs.Bodies as code
 use Rattle.asm2wasm_emit_switches.specs.declared.range.CaseRange.{CaseRange}
 
@@ -30,3 +31,11 @@ with_target (Some v) low i ls = slice_set ls (unsigned_abs (v -ℤ low)) i
 abbrev pub IsWithin : Option ℤ → (low : ℤ) → (size : ℕ) → Type 0
 IsWithin None low n = Unit {0}
 IsWithin (Some v) low n = unsigned_abs (v -ℤ low) < n
+
+-- a clause without statements alone
+abbrev pub one_clause : Option ℤ → Clauses
+one_clause v = clauses v no_stmts no_clauses
+
+-- a test for each case, and then the default
+abbrev pub tests_for : (t : ℕ) → Clauses → Trees
+tests_for t cs = code.case_branches t 0 cs ⊕ (br (before_default cs) ▹ ε)
