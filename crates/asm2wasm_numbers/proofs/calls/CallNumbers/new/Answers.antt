@@ -1,0 +1,8 @@
+use Rattle.std.proofs.Common.{length}
+use Rattle.asm2wasm_numbers.proofs.Counted.{none_found}
+use Rattle.asm2wasm_numbers.proofs.calls.CallNumbers.new.Goals as goal
+
+pub invariant_of-result : goal.invariant_of-result
+invariant_of-result c = record {
+  known = λ f. c.in_ok-put_calls.ensures f (none_found c.new-numbers.result.entries f (length c.args.calls.now) c.new-numbers.ensures.empty);
+}

@@ -1,0 +1,7 @@
+use Rattle.std.proofs.Common.{◌≡◌, ◌++◌, drop}
+use Rattle.asm_tree.specs.Views.{texts_view}
+use Rattle.link_tables.specs.Names.{names_in}
+use Rattle.asm2wasm_numbers.proofs.names.text_slots.Given as goal
+
+abbrev pub invariant-loop-text : goal.invariant-loop-text
+invariant-loop-text l = names_in l.names.items ++ texts_view (drop l.text-index l.texts) ≡ texts_view l.texts

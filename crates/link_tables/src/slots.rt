@@ -1,0 +1,84 @@
+// Names by their places.
+ghost use Rattle.std.specs.Prelude.{◌≡◌, ◌<◌, ◌≤◌, ◌^◌, ℕ, List, Some, IfOk, IfSome, if◌then◌else◌, length};
+ghost use Rattle.std.specs.Str.{bytes_eq};
+ghost use Rattle.asm2wasm_code.specs.Numbers.{slot_of};
+ghost use Rattle.link_tables.specs.Names.{names_in, found, slot_or_length};
+
+use indexmap::IndexMap;
+use std::alloc::{AllocError, Global};
+use std::marker::Model;
+
+/// Names in order, each found by a map. Of equal names the first counts.
+#[derive(Drop)]
+pub struct Slots<'a> {
+    names: Vec<&'a [u8]>,
+    slots: IndexMap<&'a [u8], usize>,
+}
+
+impl<'a> Model for Slots<'a> {
+    ghost use Rattle.std.specs.Prelude.{◌≡◌, List, ℕ};
+    ghost use Rattle.asm2wasm_code.specs.Numbers.{slot_of};
+    ghost use Rattle.link_tables.specs.Names.{names_in, found};
+
+    ghost Value = { List (List ℕ) };
+
+    ghost view = { λ s. names_in s.names.items };
+
+    ghost invariant = { λ s. (n : List ℕ) → found s.slots n ≡ slot_of (names_in s.names.items) n };
+}
+
+impl<'a> Slots<'a> {
+    /// The places of these names.
+    pub fn new(alloc: Global, names: Vec<&'a [u8]>) -> Result<Slots<'a>, AllocError>
+        ensures { IfOk result (λ slots. slots ≡ names_in names.entry.items) }
+    {
+        let slots = slots_of(alloc, names.as_slice())?;
+        Ok(Slots { names, slots })
+    }
+
+    /// The place of a name, if it is one of these.
+    pub fn slot(&self, name: &[u8]) -> Option<usize>
+        ensures place { result ≡ slot_of self.now name.now }
+        ensures small { IfSome result (λ i. i < 2 ^ 63) }
+    {
+        match self.slots.get(name) {
+            Some(slot) => Some(*slot),
+            None => None,
+        }
+    }
+
+    /// The place of a name, or how many names there are.
+    pub fn slot_or_len(&self, name: &[u8]) -> usize
+        ensures place { result ≡ slot_or_length self.now name.now }
+        ensures small { result < 2 ^ 63 }
+    {
+        match self.slots.get(name) {
+            Some(slot) => *slot,
+            None => self.names.len(),
+        }
+    }
+}
+
+// Later names are put in first, so that an earlier one takes their place.
+fn slots_of<'a>(alloc: Global, names: &[&'a [u8]]) -> Result<IndexMap<&'a [u8], usize>, AllocError>
+    ensures { IfOk result (λ slots. (n : List ℕ) → found slots n ≡ slot_of (names_in names.now) n) }
+{
+    let mut slots = IndexMap::new(alloc);
+    let mut i = names.len();
+    while i > 0 {
+        i -= 1;
+        put(&mut slots, names[i], i)?;
+    }
+    Ok(slots)
+}
+
+fn put<'a>(
+    slots: &mut IndexMap<&'a [u8], usize>,
+    name: &'a [u8],
+    slot: usize,
+) -> Result<(), AllocError>
+    ensures { IfOk result (λ _. (n : List ℕ) → found slots.new n ≡ (if bytes_eq name.now n then Some slot else found slots.old n)) }
+{
+    slots.insert(name, slot)?;
+    Ok(())
+}
