@@ -126,6 +126,7 @@ impl<'a> Instance<'a> {
             state: self.state,
             events: List::new(alloc),
             replies: Replies::of(self.script),
+            ending: End::Done,
         };
         let functions = self.functions.as_slice();
         let end = run_session(

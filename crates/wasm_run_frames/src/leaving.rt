@@ -28,7 +28,7 @@ fn place_of(target: Target) -> usize
 fn land(machine: &mut Machine<'_>, label: Label, floor: usize) -> Flow
     ensures { (bodies : ℕ → List Instruction) (m : WasmModule) (n : ℕ) (r : Outcome) →
         Branches bodies m (record (machine_of machine.old) { enclosing = of_label (label_of label) ∷ (machine_of machine.old).enclosing }) floor 0 n r
-        → Comes bodies m result (machine_of machine.new) n r }
+        → Comes bodies m result machine.new n r }
 {
     if !carry(&mut machine.operands, label.arity, floor, label.floor) {
         return Flow::Stuck;
@@ -41,7 +41,7 @@ fn land(machine: &mut Machine<'_>, label: Label, floor: usize) -> Flow
 fn give_to(machine: &mut Machine<'_>, frame: Frame, floor: usize) -> Flow
     ensures { (bodies : ℕ → List Instruction) (m : WasmModule) (n : ℕ) (r : Outcome) →
         Returns bodies m (record (machine_of machine.old) { enclosing = of_frame (frame_of frame) ∷ (machine_of machine.old).enclosing }) floor n r
-        → Comes bodies m result (machine_of machine.new) n r }
+        → Comes bodies m result machine.new n r }
 {
     if !carry(&mut machine.operands, frame.arity, floor, frame.floor) {
         return Flow::Stuck;
@@ -55,7 +55,7 @@ fn give_to(machine: &mut Machine<'_>, frame: Frame, floor: usize) -> Flow
 /// A branch to the label that many labels out.
 pub fn branch(machine: &mut Machine<'_>, label: u32) -> Flow
     ensures { (bodies : ℕ → List Instruction) (m : WasmModule) (floor n : ℕ) (r : Outcome) →
-        floor ≡ length (machine_of machine.old).below → Branches bodies m (machine_of machine.old) floor label n r → Comes bodies m result (machine_of machine.new) n r }
+        floor ≡ length (machine_of machine.old).below → Branches bodies m (machine_of machine.old) floor label n r → Comes bodies m result machine.new n r }
 {
     let mut left = label;
     let mut floor = machine.operands.floor();
@@ -84,7 +84,7 @@ pub fn branch(machine: &mut Machine<'_>, label: u32) -> Flow
 /// A return.
 pub fn give_back(machine: &mut Machine<'_>) -> Flow
     ensures { (bodies : ℕ → List Instruction) (m : WasmModule) (floor n : ℕ) (r : Outcome) →
-        floor ≡ length (machine_of machine.old).below → Returns bodies m (machine_of machine.old) floor n r → Comes bodies m result (machine_of machine.new) n r }
+        floor ≡ length (machine_of machine.old).below → Returns bodies m (machine_of machine.old) floor n r → Comes bodies m result machine.new n r }
 {
     let mut floor = machine.operands.floor();
     'labels: loop {
@@ -127,7 +127,7 @@ pub fn end_block(machine: &mut Machine<'_>, place: usize) -> Flow
     ensures { (bodies : ℕ → List Instruction) (m : WasmModule) (n : ℕ) (r : Outcome) →
         IsEndAt (bodies (machine_of machine.old).function) (machine_of machine.old) place
         → Runs bodies m (machine_of machine.old) (suc n) r
-        → Comes bodies m result (machine_of machine.new) n r }
+        → Comes bodies m result machine.new n r }
 {
     let Some(next) = machine.enclosing.pop() else {
         return Flow::Stuck;

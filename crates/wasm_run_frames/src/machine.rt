@@ -33,7 +33,7 @@ pub enum Enclosing {
 }
 
 /// A machine at a place of a function, with the function's locals. What encloses it stands with the innermost last; where nothing
-/// does, the host's call has come back.
+/// does, the host's call has come back. Where the session is over, `ending` says how it ended; until then it says nothing.
 #[derive(Drop)]
 pub struct Machine<'a> {
     pub operands: Operands,
@@ -44,13 +44,14 @@ pub struct Machine<'a> {
     pub state: State,
     pub events: List<Event>,
     pub replies: Replies<'a>,
+    pub ending: End,
 }
 
-/// What becomes of a machine at an instruction: it goes on, the session is over, or there is no next step, since an operand is missing
-/// or of another type.
-#[derive(Drop)]
+/// What becomes of a machine at an instruction: it goes on, the session is over, with the machine's ending, or there is no next step,
+/// since an operand is missing or of another type.
+#[derive(Clone, Copy)]
 pub enum Flow {
     On,
-    Over(End),
+    Over,
     Stuck,
 }

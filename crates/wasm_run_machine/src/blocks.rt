@@ -31,7 +31,7 @@ pub fn open_block(
 ) -> Result<Flow, AllocError>
     requires { machine.old.at < length body.now }
     ensures { IfOk result (λ flow. (bodies : ℕ → List Instruction) (m : WasmModule) →
-        DoesIn bodies m body.now (plain.block kind) (machine_of machine.old) flow (machine_of machine.new)) }
+        DoesIn bodies m body.now (plain.block kind) (machine_of machine.old) flow machine.new) }
 {
     let _length = body.len();
     let at = machine.at;
@@ -49,7 +49,7 @@ pub fn open_loop(
 ) -> Result<Flow, AllocError>
     requires { machine.old.at < length body.now }
     ensures { IfOk result (λ flow. (bodies : ℕ → List Instruction) (m : WasmModule) →
-        DoesIn bodies m body.now (plain.loop kind) (machine_of machine.old) flow (machine_of machine.new)) }
+        DoesIn bodies m body.now (plain.loop kind) (machine_of machine.old) flow machine.new) }
 {
     let _length = body.len();
     let at = machine.at;
@@ -79,7 +79,7 @@ pub fn open_if(
 ) -> Result<Flow, AllocError>
     requires { machine.old.at < length body.now }
     ensures { IfOk result (λ flow. (bodies : ℕ → List Instruction) (m : WasmModule) →
-        DoesIn bodies m body.now (plain.if_block kind) (machine_of machine.old) flow (machine_of machine.new)) }
+        DoesIn bodies m body.now (plain.if_block kind) (machine_of machine.old) flow machine.new) }
 {
     let at = machine.at;
     let Some(condition) = machine.operands.pop32() else {
@@ -95,7 +95,7 @@ pub fn open_if(
 pub fn end(machine: &mut Machine<'_>, body: &Body) -> Flow
     requires { machine.old.at < length body.now }
     ensures { (bodies : ℕ → List Instruction) (m : WasmModule) →
-        DoesIn bodies m body.now plain.end_mark (machine_of machine.old) result (machine_of machine.new) }
+        DoesIn bodies m body.now plain.end_mark (machine_of machine.old) result machine.new }
 {
     let _length = body.len();
     let place = machine.at + 1;
@@ -106,7 +106,7 @@ pub fn end(machine: &mut Machine<'_>, body: &Body) -> Flow
 pub fn end_arm(machine: &mut Machine<'_>, body: &Body) -> Flow
     requires { machine.old.at < length body.now }
     ensures { (bodies : ℕ → List Instruction) (m : WasmModule) →
-        DoesIn bodies m body.now plain.else_mark (machine_of machine.old) result (machine_of machine.new) }
+        DoesIn bodies m body.now plain.else_mark (machine_of machine.old) result machine.new }
 {
     let place = body.past_end(machine.at);
     end_block(machine, place)

@@ -14,7 +14,7 @@ use wasm_run_frames::{Flow, Machine, branch, give_back};
 /// `br`.
 pub fn branch_always(machine: &mut Machine<'_>, body: &Body, label: u32) -> Flow
     ensures { (bodies : Bodies) (m : WasmModule) →
-        DoesIn bodies m body.now (plain.br label) (machine_of machine.old) result (machine_of machine.new) }
+        DoesIn bodies m body.now (plain.br label) (machine_of machine.old) result machine.new }
 {
     let _length = body.len();
     let flow = branch(machine, label);
@@ -25,7 +25,7 @@ pub fn branch_always(machine: &mut Machine<'_>, body: &Body, label: u32) -> Flow
 pub fn branch_if(machine: &mut Machine<'_>, body: &Body, label: u32) -> Flow
     requires { machine.old.at < length body.now }
     ensures { (bodies : Bodies) (m : WasmModule) →
-        DoesIn bodies m body.now (plain.br_if label) (machine_of machine.old) result (machine_of machine.new) }
+        DoesIn bodies m body.now (plain.br_if label) (machine_of machine.old) result machine.new }
 {
     let _length = body.len();
     let Some(condition) = machine.operands.pop32() else {
@@ -57,7 +57,7 @@ pub fn branch_by_table(
     default: u32,
 ) -> Flow
     ensures { (bodies : Bodies) (m : WasmModule) →
-        DoesIn bodies m body.now (plain.br_table (list_items labels.now) default) (machine_of machine.old) result (machine_of machine.new) }
+        DoesIn bodies m body.now (plain.br_table (list_items labels.now) default) (machine_of machine.old) result machine.new }
 {
     let _length = body.len();
     let Some(index) = machine.operands.pop32() else {
@@ -71,7 +71,7 @@ pub fn branch_by_table(
 /// `return`.
 pub fn leave(machine: &mut Machine<'_>, body: &Body) -> Flow
     ensures { (bodies : Bodies) (m : WasmModule) →
-        DoesIn bodies m body.now plain.return (machine_of machine.old) result (machine_of machine.new) }
+        DoesIn bodies m body.now plain.return (machine_of machine.old) result machine.new }
 {
     let _length = body.len();
     give_back(machine)

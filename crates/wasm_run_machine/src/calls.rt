@@ -68,13 +68,16 @@ fn ask(
 ) -> Result<Flow, AllocError>
     ensures { IfOk result (λ flow. (bodies : Bodies) (m : WasmModule) (n : ℕ) (r : Outcome) →
         Asks bodies m (machine_of machine.old) (text_bytes name.now) arguments.items results.now n r
-        → Comes bodies m flow (machine_of machine.new) n r) }
+        → Comes bodies m flow machine.new n r) }
 {
     match machine
         .replies
         .answer(alloc, name.as_bytes(), List::from_vec(arguments))?
     {
-        Answer::Ends(end) => Ok(Flow::Over(end)),
+        Answer::Ends(end) => {
+            machine.ending = end;
+            Ok(Flow::Over)
+        }
         Answer::Goes(given) => {
             let word = given.word;
             take_given(machine, given)?;
@@ -95,7 +98,7 @@ pub fn call(
     ensures { IfOk result (λ flow. (n : ℕ) (r : Outcome) →
         AreFunctions (module_of «module».now) functions.now
         → Calls (bodies_of functions.now) (module_of «module».now) (machine_of machine.old) (callee_at (module_of «module».now) function) n r
-        → Comes (bodies_of functions.now) (module_of «module».now) flow (machine_of machine.new) n r) }
+        → Comes (bodies_of functions.now) (module_of «module».now) flow machine.new n r) }
 {
     let place = function as usize;
     let Some(function) = function_at(functions, place) else {

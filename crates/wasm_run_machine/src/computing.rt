@@ -57,7 +57,7 @@ pub fn plain(machine: &mut Machine<'_>, body: &Body, instr: &Instr) -> Result<Fl
     requires inside { machine.old.at < length body.now }
     requires paid { is_paid_plain (instr_of instr.now) ≡ true }
     ensures { IfOk result (λ flow. (bodies : ℕ → List Instruction) (m : WasmModule) →
-        DoesIn bodies m body.now (instr_of instr.now) (machine_of machine.old) flow (machine_of machine.new)) }
+        DoesIn bodies m body.now (instr_of instr.now) (machine_of machine.old) flow machine.new) }
 {
     let _length = body.len();
     let next = machine.at + 1;
@@ -72,7 +72,10 @@ pub fn plain(machine: &mut Machine<'_>, body: &Body, instr: &Instr) -> Result<Fl
             machine.at = next;
             Ok(Flow::On)
         }
-        Effect::Traps(kind) => Ok(Flow::Over(End::Trap(kind))),
+        Effect::Traps(kind) => {
+            machine.ending = End::Trap(kind);
+            Ok(Flow::Over)
+        }
         Effect::Sticks => Ok(Flow::Stuck),
     }
 }

@@ -1,10 +1,13 @@
 //! A run of a machine.
-ghost use Rattle.std.specs.Prelude.{◌≡◌, [], IfOk, reverse, MatchOption};
+ghost use Rattle.std.specs.Prelude.{◌≡◌, ℕ, List, [], IfOk, reverse, MatchOption};
+ghost use Rattle.wasm_lang.specs.Instructions.{Instruction};
+ghost use Rattle.wasm_lang.specs.Modules.{WasmModule};
 ghost use Rattle.wasm_tree.specs.Views.{module_of};
 ghost use Rattle.wasm_lang_exec.specs.Session.{run_call};
 ghost use Rattle.wasm_laws_drive.specs.Drive.{Outcome};
 ghost use Rattle.wasm_laws_machine.specs.Meaning.{Shows};
 ghost use Rattle.wasm_run_frames.specs.Views.{machine_of};
+ghost use Rattle.wasm_run_frames.specs.Flows.{Comes};
 ghost use Rattle.wasm_run_machine.specs.Functions.{AllHaveForms, AreFunctions, bodies_of};
 ghost use Rattle.wasm_run_machine.specs.Runs.{CameTo, RanAs};
 
@@ -12,6 +15,7 @@ use crate::steps::step;
 use crate::{Callee, Function, call, function_at, push_constants};
 use sem_laws::End;
 use std::alloc::{AllocError, Global};
+use std::mem;
 use wasm_run_flat::Body;
 use wasm_run_frames::{Flow, Machine};
 use wasm_tree::Module;
@@ -36,6 +40,14 @@ fn body_at(functions: &[Function], function: usize) -> Option<&Body>
             Callee::Own(body, _) => Some(body),
         },
     }
+}
+
+// The session is over, as the machine's ending says.
+fn over(machine: &mut Machine<'_>) -> Ran
+    ensures { (bodies : ℕ → List Instruction) (m : WasmModule) (n : ℕ) (r : Outcome) →
+        Comes bodies m Flow.Over machine.old n r → CameTo result (machine_of machine.new) r }
+{
+    Ran::Over(mem::replace(&mut machine.ending, End::Done))
 }
 
 /// Runs a machine for so many reductions.
@@ -66,7 +78,7 @@ pub fn run(
         left -= 1;
         match step(alloc, module, functions, body, machine)? {
             Flow::On => {}
-            Flow::Over(end) => return Ok(Ran::Over(end)),
+            Flow::Over => return Ok(over(machine)),
             Flow::Stuck => return Ok(Ran::Spent),
         }
     }
@@ -94,7 +106,7 @@ pub fn call_host(
             let ran = run(alloc, module, functions, machine, steps - 1)?;
             Ok(ran)
         }
-        Flow::Over(end) => Ok(Ran::Over(end)),
+        Flow::Over => Ok(over(machine)),
         Flow::Stuck => Ok(Ran::Spent),
     }
 }

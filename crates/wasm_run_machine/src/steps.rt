@@ -30,7 +30,7 @@ fn call_by_number(
 ) -> Result<Flow, AllocError>
     requires { machine.old.at < length body.now }
     ensures { IfOk result (λ flow. AreFunctions (module_of «module».now) functions.now
-        → DoesIn (bodies_of functions.now) (module_of «module».now) body.now (flat.call function) (machine_of machine.old) flow (machine_of machine.new)) }
+        → DoesIn (bodies_of functions.now) (module_of «module».now) body.now (flat.call function) (machine_of machine.old) flow machine.new) }
 {
     let _length = body.len();
     machine.at += 1;
@@ -59,17 +59,19 @@ fn call_by_entry(
 ) -> Result<Flow, AllocError>
     requires { machine.old.at < length body.now }
     ensures { IfOk result (λ flow. AreFunctions (module_of «module».now) functions.now
-        → DoesIn (bodies_of functions.now) (module_of «module».now) body.now (flat.call_indirect kind) (machine_of machine.old) flow (machine_of machine.new)) }
+        → DoesIn (bodies_of functions.now) (module_of «module».now) body.now (flat.call_indirect kind) (machine_of machine.old) flow machine.new) }
 {
     let _length = body.len();
     let Some(index) = machine.operands.pop32() else {
         return Ok(Flow::Stuck);
     };
     let Some(function) = entry_at(&machine.state.table, index) else {
-        return Ok(Flow::Over(End::Trap(TrapKind::TableEntry)));
+        machine.ending = End::Trap(TrapKind::TableEntry);
+        return Ok(Flow::Over);
     };
     if !has_type(module, functions, kind, function) {
-        return Ok(Flow::Over(End::Trap(TrapKind::OtherType)));
+        machine.ending = End::Trap(TrapKind::OtherType);
+        return Ok(Flow::Over);
     }
     machine.at += 1;
     let flow = call(alloc, module, functions, function, machine)?;
@@ -88,7 +90,7 @@ pub fn step(
     ensures { IfOk result (λ flow. (i : Instruction) →
         AreFunctions (module_of «module».now) functions.now
         → is_free i ≡ false
-        → DoesIn (bodies_of functions.now) (module_of «module».now) body.now i (machine_of machine.old) flow (machine_of machine.new)) }
+        → DoesIn (bodies_of functions.now) (module_of «module».now) body.now i (machine_of machine.old) flow machine.new) }
 {
     let at = machine.at;
     if at >= body.len() {
@@ -100,7 +102,10 @@ pub fn step(
     match kind_of(instr) {
         Kind::Constant => Ok(Flow::Stuck),
         Kind::Plain => Ok(plain(machine, body, instr)?),
-        Kind::Unreachable => Ok(Flow::Over(End::Trap(TrapKind::Unreachable))),
+        Kind::Unreachable => {
+            machine.ending = End::Trap(TrapKind::Unreachable);
+            Ok(Flow::Over)
+        }
         Kind::Block(kind) => Ok(open_block(machine, body, kind)?),
         Kind::Loop(kind) => Ok(open_loop(machine, body, kind)?),
         Kind::If(kind) => Ok(open_if(machine, body, kind)?),

@@ -48,9 +48,9 @@ steps-preserved c = λ r are s.
     let body = c.in-Some.body.now in
     let got = slice_get-get_or body v.at return (has_one bodies m v c.steps.left r body same shown) in
     let i = get_or body v.at return in
-    let comes : Comes bodies m c.in_ok-step.field-0 (machine_of c.step.new.machine) (c.steps.left - 1) r =
+    let comes : Comes bodies m c.in_ok-step.field-0 c.step.new.machine (c.steps.left - 1) r =
     c.in_ok-step.ensures i are (c.in_ok-push_constants.ensures.none_left i got) (c.steps.left - 1) r same got (pays bodies m v c.steps.left r c.if-left-eq0.false shown) in
-    subst (λ (f : Flow). Comes bodies m f (machine_of c.step.new.machine) (c.steps.left - 1) r) c.in-On.is comes
+    subst (λ (f : Flow). Comes bodies m f c.step.new.machine (c.steps.left - 1) r) c.in-On.is comes
 
 pub returns-in-Over : goal.returns-in-Over
 returns-in-Over c = λ r are s.
@@ -63,9 +63,9 @@ returns-in-Over c = λ r are s.
     let body = c.in-Some.body.now in
     let got = slice_get-get_or body v.at return (has_one bodies m v c.steps.left r body same shown) in
     let i = get_or body v.at return in
-    let comes : Comes bodies m c.in_ok-step.field-0 (machine_of c.step.new.machine) (c.steps.left - 1) r =
+    let comes : Comes bodies m c.in_ok-step.field-0 c.step.new.machine (c.steps.left - 1) r =
     c.in_ok-step.ensures i are (c.in_ok-push_constants.ensures.none_left i got) (c.steps.left - 1) r same got (pays bodies m v c.steps.left r c.if-left-eq0.false shown) in
-    subst (λ (f : Flow). Comes bodies m f (machine_of c.step.new.machine) (c.steps.left - 1) r) c.in-Over.is comes
+    c.over.ensures bodies m (c.steps.left - 1) r (subst (λ (f : Flow). Comes bodies m f c.step.new.machine (c.steps.left - 1) r) c.in-Over.is comes)
 
 pub returns-in-Stuck : goal.returns-in-Stuck
 returns-in-Stuck c = λ r are s.
@@ -78,6 +78,6 @@ returns-in-Stuck c = λ r are s.
     let body = c.in-Some.body.now in
     let got = slice_get-get_or body v.at return (has_one bodies m v c.steps.left r body same shown) in
     let i = get_or body v.at return in
-    let comes : Comes bodies m c.in_ok-step.field-0 (machine_of c.step.new.machine) (c.steps.left - 1) r =
+    let comes : Comes bodies m c.in_ok-step.field-0 c.step.new.machine (c.steps.left - 1) r =
     c.in_ok-step.ensures i are (c.in_ok-push_constants.ensures.none_left i got) (c.steps.left - 1) r same got (pays bodies m v c.steps.left r c.if-left-eq0.false shown) in
-    ap run_of (subst (λ (f : Flow). Comes bodies m f (machine_of c.step.new.machine) (c.steps.left - 1) r) c.in-Stuck.is comes)
+    ap run_of (subst (λ (f : Flow). Comes bodies m f c.step.new.machine (c.steps.left - 1) r) c.in-Stuck.is comes)
