@@ -1,0 +1,5 @@
+pub mod Heaps
+pub mod Tables
+pub mod Calling
+pub mod Allowed
+pub mod Worked
