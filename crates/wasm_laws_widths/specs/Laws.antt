@@ -1,10 +1,12 @@
 -- The pass over a body goes over typed code as the types say, and what it counts of one part of a body bounds what it counts of another.
-use Rattle.std.specs.Prelude.{Bool, ◌≡◌, ◌≤◌, List, ◌∷◌, ◌++◌, Option, Ok}
+use Rattle.std.specs.Prelude.{Bool, ◌≡◌, ◌≤◌, List, [], ◌∷◌, ◌++◌, Option, Some, Ok}
 use Rattle.wasm_lang.specs.declared.types.ValType.{ValType}
 use Rattle.wasm_lang.specs.Instructions.{Instruction}
-use Rattle.wasm_lang_valid.specs.Typing.{Context, Typed, listed, Shape, Leaves, Acts}
-use Rattle.wasm_lang_valid.specs.State.{Level, around, known, acted, closes, steps}
+use Rattle.wasm_lang_valid.specs.Typing.{Context, Typed, IsValid, listed, Shape, Leaves, Acts}
+use Rattle.wasm_lang_valid.specs.State.{Level, around, known, acted, closes, steps, at_start}
 use Rattle.wasm_lang_valid.specs.Measures.{standing, peak}
+use Rattle.wasm_lang_exec.specs.Code.{Trees, tree_of}
+use Rattle.wasm_laws_widths.specs.Depth.{depth}
 
 -- the pass goes over the code in the innermost of these blocks, and leaves the outer ones as they are; where the code leaves a block's
 -- result, the block may be closed
@@ -40,3 +42,9 @@ abbrev pub OperandsStayKnown : Type 0
 OperandsStayKnown =
     (s : Shape) (takes gives below : List ValType) (endless : Bool) → Acts s takes gives → ComesBack s
     → acted s endless (known (takes ++ below)) ≡ Ok (endless, known (gives ++ below))
+
+-- operands of a valid body stand no deeper in what is reached than the pass counts
+abbrev pub DepthIsWithin : Type 0
+DepthIsWithin =
+    (base : Context) (code : List Instruction) (trees : Trees) → IsValid base code → tree_of code ≡ Some trees
+    → depth (around base (at_start base.returns)) trees 0 [] ≤ peak base (at_start base.returns) code
