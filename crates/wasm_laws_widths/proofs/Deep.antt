@@ -12,7 +12,7 @@ use Rattle.wasm_lang_valid.specs.Typing.{Context, Shape, Fixed, AnyOne, TwoAlike
 use Rattle.wasm_lang_valid.specs.State.{Level, fresh, around, known, acted, closes, on_top, opened, step, steps, at_start}
 use Rattle.wasm_lang_valid.specs.Measures.{standing, peak}
 use Rattle.wasm_lang_exec.specs.Code.{Tree, unreachable, block, loop, if_block, br, br_if, br_table, return, call, call_indirect, plain, Trees, ε, ◌▹◌, ◌⊕◌, one, Open, a_block, a_loop, an_if, an_else, nest}
-use Rattle.wasm_laws_widths.specs.Depth.{further_depth, depth}
+use Rattle.wasm_laws_widths.specs.Depth.{in_further, depth}
 use Rattle.wasm_laws_widths.specs.Laws.{ComesBack, DepthIsWithin}
 use Rattle.wasm_laws_widths.proofs.Known.{known_append, operands_stay_known}
 use Rattle.wasm_laws_widths.proofs.Pass.{peak_is_kept, peak_is_above, step_plain, typed_code_passes}
@@ -105,7 +105,7 @@ module _ (base c : Context) (i : Instruction) (below : List ValType) (l : Level)
   -- what is further stands within the peak
   goes_on : (s : Shape) (takes gives : List ValType) → shape c i ≡ Ok s → Acts s takes gives → late c i ≡ Ok tt → around base (l ∷ ls) ≡ c → l.operands ≡ known (takes ++ below)
       → ((l1 : Level) → around base (l1 ∷ ls) ≡ c → l1.operands ≡ known (gives ++ below) → further (gives ++ below) ≤ peak base (l1 ∷ ls) more)
-      → further_depth (Ok s) (takes ++ below) further ≤ peak base (l ∷ ls) (i ∷ more)
+      → in_further (Ok s) (takes ++ below) further ≤ peak base (l ∷ ls) (i ∷ more)
   goes_on _ _ _ has (fixed {takes = takes} {gives = gives}) keeps e is then =
       let l1 = record l { operands = known (gives ++ below) } in
       let st = simple_step base c i (Fixed takes gives) takes gives below l ls has fixed keeps tt e is in
@@ -123,10 +123,10 @@ module _ (base c : Context) (i : Instruction) (below : List ValType) (l : Level)
 
   simple_bound : (s : Shape) (takes gives : List ValType) → shape c i ≡ Ok s → Acts s takes gives → late c i ≡ Ok tt → around base (l ∷ ls) ≡ c → l.operands ≡ known (takes ++ below)
       → ((l1 : Level) → around base (l1 ∷ ls) ≡ c → l1.operands ≡ known (gives ++ below) → further (gives ++ below) ≤ peak base (l1 ∷ ls) more)
-      → max (standing ls + length (takes ++ below)) (further_depth (shape c i) (takes ++ below) further) ≤ peak base (l ∷ ls) (i ∷ more)
+      → max (standing ls + length (takes ++ below)) (in_further (shape c i) (takes ++ below) further) ≤ peak base (l ∷ ls) (i ∷ more)
   simple_bound s takes gives has acts keeps e is then =
       both_within _ _ _ (here base l ls (takes ++ below) i more is)
-      (subst (λ r. further_depth r (takes ++ below) further ≤ peak base (l ∷ ls) (i ∷ more)) (sym has) (goes_on s takes gives has acts keeps e is then))
+      (subst (λ r. in_further r (takes ++ below) further ≤ peak base (l ∷ ls) (i ∷ more)) (sym has) (goes_on s takes gives has acts keeps e is then))
 
 module _ {c : Context} {rest : List Instruction} {before : List ValType} {middle : List ValType} where
   in_front : (i : Instruction) (x : Tree)
@@ -205,8 +205,9 @@ module _ {c : Context} {r : Option ValType} {body rest : List Instruction} {belo
         ∙ further.is_read (read ⊕ one (block r b.trees)) opens more
         ∙ ap (λ t. nest t opens more) (join_assoc read (one (block r b.trees)) further.trees);
     bound = λ base l ls j more e is.
-        in_turn _ _ _ (block_bound c r body rest below Straight r refl typed b further base l ls j more e is (ap (inside r) e))
-        (stepped base (l ∷ ls) (fresh Straight r ∷ l ∷ ls) (flat.block r) ((body ++ end_mark ∷ rest) ++ j ∷ more) refl);
+        both_within _ _ _ (here base l ls below (flat.block r) ((body ++ end_mark ∷ rest) ++ j ∷ more) is)
+        (in_turn _ _ _ (block_bound c r body rest below Straight r refl typed b further base l ls j more e is (ap (inside r) e))
+        (stepped base (l ∷ ls) (fresh Straight r ∷ l ∷ ls) (flat.block r) ((body ++ end_mark ∷ rest) ++ j ∷ more) refl));
   }
 
   deep_loop : Typed (inside None c) body [] (listed r) → Deep (inside None c) body [] → Deep c rest (listed r ++ below) → Deep c (flat.loop r ∷ (body ++ end_mark ∷ rest)) below
@@ -218,8 +219,9 @@ module _ {c : Context} {r : Option ValType} {body rest : List Instruction} {belo
         ∙ further.is_read (read ⊕ one (loop r b.trees)) opens more
         ∙ ap (λ t. nest t opens more) (join_assoc read (one (loop r b.trees)) further.trees);
     bound = λ base l ls j more e is.
-        in_turn _ _ _ (block_bound c r body rest below Back None refl typed b further base l ls j more e is (ap (inside None) e))
-        (stepped base (l ∷ ls) (fresh Back r ∷ l ∷ ls) (flat.loop r) ((body ++ end_mark ∷ rest) ++ j ∷ more) refl);
+        both_within _ _ _ (here base l ls below (flat.loop r) ((body ++ end_mark ∷ rest) ++ j ∷ more) is)
+        (in_turn _ _ _ (block_bound c r body rest below Back None refl typed b further base l ls j more e is (ap (inside None) e))
+        (stepped base (l ∷ ls) (fresh Back r ∷ l ∷ ls) (flat.loop r) ((body ++ end_mark ∷ rest) ++ j ∷ more) refl));
   }
 
 -- ---- .. an if with one arm, and with two
