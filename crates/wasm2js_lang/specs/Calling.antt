@@ -1,7 +1,7 @@
 -- How a module of asm.js that stands for one of WebAssembly is called, and what it asks of its host: a 64-bit word is two ints, exports and
 -- imports have the names of the other language, and a memory is a heap.
-use Rattle.std.specs.Prelude.{◌≡◌, ℕ, ◌+◌, Bool, true, false, List, [], ◌∷◌, map, Option, Some, None, All, codes, slice_get, option_map, if◌then◌else◌}
-use Rattle.std.specs.List.{flat_map, list_any}
+use Rattle.std.specs.Prelude.{◌≡◌, ℕ, ◌+◌, Bool, true, false, List, [], ◌∷◌, map, Option, Some, None, codes, slice_get, option_map, if◌then◌else◌}
+use Rattle.std.specs.List.{AllByRecursion, flat_map, list_any}
 use Rattle.sem_laws.specs.Imports.{high_name}
 use Rattle.sem_laws.specs.Observation.{trap_name}
 use Rattle.sem_laws.specs.Names.{import_name, export_name}
@@ -114,7 +114,7 @@ foreign_doubles a = flat_map (λ (v : Variable). double_member v.init) a.globals
 
 -- each of these names is one of those
 abbrev pub AreAmong : List (List ℕ) → List (List ℕ) → Type 0
-AreAmong xs ys = All (λ name. is_in name ys ≡ true) xs
+AreAmong xs ys = AllByRecursion (λ name. is_in name ys ≡ true) xs
 
 pub record IsCalledAs (w : WasmModule) (a : Module) : Type 0 where
   pub exported : entries_given a ≡ map Some (entries_asked w)

@@ -1,5 +1,5 @@
--- A small module of WebAssembly, and what is asked of one of asm.js that stands for it.
-use Rattle.std.specs.Prelude.{ℕ, true, false, List, [], ◌∷◌, None, ℤ, pos, negsuc, codes}
+-- A small module of WebAssembly, what is asked of one of asm.js that stands for it, and one that is called so.
+use Rattle.std.specs.Prelude.{ℕ, true, false, List, [], ◌∷◌, Some, None, ℤ, pos, negsuc, codes, map}
 use Rattle.sem_laws.specs.Script.{CallPlain, ScriptPlain}
 use Rattle.sem_laws.specs.CallingForms.{ShapePlain}
 use Rattle.wasm_lang.specs.declared.types.ValType.{ValType}
@@ -8,6 +8,8 @@ use Rattle.wasm_lang.specs.declared.types.ImportKind.TheVariants as imports
 use Rattle.wasm_lang.specs.declared.types.ExportKind.TheVariants as exports
 use Rattle.wasm_lang.specs.Instructions.{plain, const32, local_get, call_indirect, end_mark}
 use Rattle.wasm_lang.specs.Modules.{FunctionType, WasmModule}
+use Rattle.asm_lang.specs.Trees.{member}
+use Rattle.asm_lang.specs.Modules.{lit, Stmts, no_stmts, stmts, returns, Variable, Param, Function, Export, many, Module}
 use Rattle.wasm2js_lang.specs.Tables.{a_function, empty, other, MaskedTable}
 use Rattle.wasm2js_lang.specs.Calling.{Entry, entry}
 
@@ -69,3 +71,36 @@ small_split =
     ∷ call_line (codes "$hi") [] 1
     ∷ call_line (codes "c") (pos 1 ∷ []) 2
     ∷ [])
+
+-- ---- a module of asm.js that is called as asked; what its functions do is no part of that
+
+abbrev pub foreign_function : List ℕ → List ℕ → Variable
+foreign_function name key = record { name = name; init = member (codes "foreign") key }
+
+abbrev pub parameter : List ℕ → Param
+parameter name = record { name = name; double = false }
+
+abbrev pub taking : List ℕ → List (List ℕ) → Stmts → Function
+taking name params body = record { name = name; params = map parameter params; locals = []; body = body }
+
+-- `return 0;`
+abbrev pub gives_zero : Stmts
+gives_zero = stmts (returns (Some (lit (pos 0)))) no_stmts
+
+abbrev pub exported_as : List ℕ → List ℕ → Export
+exported_as key function = record { key = key; function = function }
+
+abbrev pub small_text : Module
+small_text = record {
+  name = None;
+  params = codes "stdlib" ∷ codes "foreign" ∷ codes "heap" ∷ [];
+  globals = foreign_function (codes "$trap") (codes "$trap") ∷ foreign_function (codes "$high") (codes "$high") ∷ foreign_function (codes "i0") (codes "p") ∷ [];
+  functions =
+      taking (codes "f2") (codes "x0" ∷ codes "X0" ∷ codes "x1" ∷ []) gives_zero
+      ∷ taking (codes "f3") (codes "x0" ∷ []) gives_zero
+      ∷ taking (codes "$init") [] no_stmts
+      ∷ taking (codes "$hi") [] gives_zero
+      ∷ [];
+  tables = [];
+  exports = many (exported_as (codes "$init") (codes "$init") ∷ exported_as (codes "$hi") (codes "$hi") ∷ exported_as (codes "$x612d62") (codes "f2") ∷ exported_as (codes "c") (codes "f3") ∷ []);
+}

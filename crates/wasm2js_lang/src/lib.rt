@@ -8,9 +8,9 @@ ghost use Rattle.asm_lang.specs.Modules.{Module};
 ghost use Rattle.asm2wasm_lang.specs.Heaps.{is_heap_length};
 ghost use Rattle.wasm2js_lang.specs.Heaps.{heap_for};
 ghost use Rattle.wasm2js_lang.specs.Tables.{masked};
-ghost use Rattle.wasm2js_lang.specs.Calling.{shapes_of, entries_asked, functions_asked};
+ghost use Rattle.wasm2js_lang.specs.Calling.{shapes_of, entries_asked, functions_asked, IsCalledAs};
 ghost use Rattle.wasm2js_lang.specs.Allowed.{script_for, IsAllowed, TrapsAreCalls};
-ghost use Rattle.wasm2js_lang.specs.Worked.{small, small_tables, small_shapes, small_entries, small_script, small_split};
+ghost use Rattle.wasm2js_lang.specs.Worked.{small, small_tables, small_shapes, small_entries, small_script, small_split, small_text};
 
 /// The heap of so many pages is the shortest that holds them.
 pub fn heap_of_pages()
@@ -37,4 +37,5 @@ pub fn small_module()
     ensures entries { entries_asked small ≡ small_entries }
     ensures functions { functions_asked small ≡ codes "p" ∷ [] }
     ensures script { script_for small small_script ≡ small_split }
+    ensures called { IsCalledAs small small_text }
 {}
