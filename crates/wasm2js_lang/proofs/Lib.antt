@@ -1,2 +1,2 @@
-mod Lengths
+pub mod Lengths
 mod Traps
