@@ -1,2 +1,4 @@
 pub mod Lengths
+pub mod Masked
+pub mod Padded
 mod Traps

@@ -2,4 +2,5 @@ pub mod Heaps
 pub mod Tables
 pub mod Calling
 pub mod Allowed
+pub mod Laws
 pub mod Worked

@@ -10,6 +10,7 @@ ghost use Rattle.wasm2js_lang.specs.Heaps.{heap_for};
 ghost use Rattle.wasm2js_lang.specs.Tables.{masked};
 ghost use Rattle.wasm2js_lang.specs.Calling.{shapes_of, entries_asked, functions_asked, IsCalledAs};
 ghost use Rattle.wasm2js_lang.specs.Allowed.{script_for, IsAllowed, TrapsAreCalls};
+ghost use Rattle.wasm2js_lang.specs.Laws.{CalledTypesHaveTables, CellsAreOfEntries, CellsArePadded};
 ghost use Rattle.wasm2js_lang.specs.Worked.{small, small_tables, small_shapes, small_entries, small_script, small_split, small_text};
 
 /// The heap of so many pages is the shortest that holds them.
@@ -23,6 +24,13 @@ pub fn heap_of_pages()
     ensures of_many { heap_for 129 ≡ 16777216 }
     ensures of_more { heap_for 257 ≡ 33554432 }
     ensures of_most { heap_for 4096 ≡ 268435456 }
+{}
+
+/// A call finds its table, and an index the cell of the entry there, or an empty one past the table.
+pub fn masked_tables()
+    ensures found { CalledTypesHaveTables }
+    ensures cells { CellsAreOfEntries }
+    ensures padded { CellsArePadded }
 {}
 
 /// The traps of what is allowed are calls of the trap import.
