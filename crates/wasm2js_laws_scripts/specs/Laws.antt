@@ -6,6 +6,7 @@ use Rattle.hex.specs.Hex.{IsBytes}
 use Rattle.sem_laws.specs.Script.{ScriptPlain}
 use Rattle.sem_laws.specs.CallingForms.{shape_of_name}
 use Rattle.wasm_lang.specs.Modules.{FunctionType, Exported, WasmModule}
+use Rattle.wasm_lang.specs.Shape.{IsShaped}
 use Rattle.wasm_lang_valid.specs.Profile.{outside_profile}
 use Rattle.wasm_lang_exec.specs.Session.{function_named, first_memory}
 use Rattle.wasm_lang_exec.specs.Fits as machine
@@ -22,6 +23,10 @@ ShapesAreFound = (w : WasmModule) (name : List ℕ) (t : FunctionType) → machi
 
 abbrev pub ExportsAreBytes : WasmModule → Type 0
 ExportsAreBytes w = AllByRecursion (λ (e : Exported). IsBytes e.name) w.exports
+
+-- .. as those of a module that bytes spell are
+abbrev pub ShapedExportsAreBytes : Type 0
+ShapedExportsAreBytes = (w : WasmModule) → IsShaped w → ExportsAreBytes w
 
 abbrev pub ScriptsFit : Type 0
 ScriptsFit =
