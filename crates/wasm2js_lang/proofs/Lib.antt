@@ -1,3 +1,4 @@
+mod Instantiated
 pub mod Lengths
 pub mod Masked
 pub mod Padded

@@ -23,14 +23,15 @@ use Rattle.wasm2js_lang.specs.Laws.{CellsArePadded}
 
 -- ---- rows of the profile
 
-pub record AreNone (imported outside size : Option ℕ) : Type 0 where
+pub record AreNone (table imported outside size : Option ℕ) : Type 0 where
+  pub no_table : table ≡ None
   pub no_import : imported ≡ None
   pub all_inside : outside ≡ None
   pub small : size ≡ None
 
 rows_are_none : (a b c d e f g h i : Beyond) (p q r s t u v w x : Option ℕ) (rest : Option Outside)
-    → row_or a p (row_or b q (row_or c r (row_or d s (row_or e t (row_or f u (row_or g v (row_or h w (row_or i x rest)))))))) ≡ None → AreNone t u x
-rows_are_none a b c d e f g h i None None None None None None None None None rest is = record { no_import = refl; all_inside = refl; small = refl }
+    → row_or a p (row_or b q (row_or c r (row_or d s (row_or e t (row_or f u (row_or g v (row_or h w (row_or i x rest)))))))) ≡ None → AreNone p t u x
+rows_are_none a b c d e f g h i None None None None None None None None None rest is = record { no_table = refl; no_import = refl; all_inside = refl; small = refl }
 rows_are_none a b c d e f g h i None None None None None None None None (Some n) rest is = cc is
 rows_are_none a b c d e f g h i None None None None None None None (Some n) x rest is = cc is
 rows_are_none a b c d e f g h i None None None None None None (Some n) w x rest is = cc is
@@ -42,7 +43,7 @@ rows_are_none a b c d e f g h i None (Some n) r s t u v w x rest is = cc is
 rows_are_none a b c d e f g h i (Some n) q r s t u v w x rest is = cc is
 
 module _ (w : WasmModule) where
-  pub within_rows : outside_profile w ≡ None → AreNone (offset_from_import 0 w.elements w.segments) (segment_outside (table_length w) (memory_bytes w) 0 w.elements w.segments) (size_past w)
+  pub within_rows : outside_profile w ≡ None → AreNone (first_import is_table 0 w.imports) (offset_from_import 0 w.elements w.segments) (segment_outside (table_length w) (memory_bytes w) 0 w.elements w.segments) (size_past w)
   within_rows h =
       rows_are_none ImportedTable MutableImport MixedImport WideImport OffsetFromImport SegmentOutside MemoryLarge Levels Size
       (first_import is_table 0 w.imports) (first_import is_mutable 0 w.imports) (measures_of w).mixed (wide_import w 0 w.imports)
@@ -51,7 +52,7 @@ module _ (w : WasmModule) where
 
 -- ---- sizes
 
-where_none : (b : Bool) (n : ℕ) (o : Option ℕ) → where_so b n o ≡ None → (b ≡ false) × (o ≡ None)
+pub where_none : (b : Bool) (n : ℕ) (o : Option ℕ) → where_so b n o ≡ None → (b ≡ false) × (o ≡ None)
 where_none true n o h = cc h
 where_none false n o h = (refl, h)
 
@@ -113,7 +114,7 @@ is_constant m (plain (code.global_get x) ∷ j ∷ []) h g = cc g
 is_constant m (plain p ∷ j ∷ []) h g = absurd (never (is_end j) h)
 is_constant m (i ∷ j ∷ []) h g = absurd (never (is_end j) h)
 
-meets_last : (b : Bool) (r : Rule) (o : Option Rule) → meets b r o ≡ None → o ≡ None
+pub meets_last : (b : Bool) (r : Rule) (o : Option Rule) → meets b r o ≡ None → o ≡ None
 meets_last true r o h = h
 meets_last false r o h = cc h
 
@@ -157,6 +158,14 @@ all_alike zero i x h = absurd (omega (arith, h))
 all_alike (suc n) zero x h = refl
 all_alike (suc n) (suc i) x h = all_alike n i x (omega (arith, h))
 
+pub fine : (w : WasmModule) → IsInProfile w → (i : ℕ) (e : ElementSegment) → slice_get w.elements i ≡ Some e → element_rule w e ≡ None
+fine w profile i e h = ap (λ o. at o (element_rule w)) (sym h) ∙ profile.valid sections.Elements i (within w.elements i e h)
+  where
+    within : {A : Type 0} → (xs : List A) (i : ℕ) (x : A) → slice_get xs i ≡ Some x → i < length xs
+    within [] i x h = cc h
+    within (y ∷ xs) zero x h = omega arith
+    within (y ∷ xs) (suc i) x h = let m = within xs i x h in omega (arith, m)
+
 pub cells_are_padded : CellsArePadded
 cells_are_padded w t profile =
     let rows = within_rows w profile.within in
@@ -173,14 +182,6 @@ cells_are_padded w t profile =
           ∙ all_alike (padded room - length (entries_of w)) (i - length (map (cell w t) (entries_of w))) empty (left (length (map (cell w t) (entries_of w))) (length (entries_of w)) room (padded room) i front entries low high);
     }
   where
-    fine : (w : WasmModule) → IsInProfile w → (i : ℕ) (e : ElementSegment) → slice_get w.elements i ≡ Some e → element_rule w e ≡ None
-    fine w profile i e h = ap (λ o. at o (element_rule w)) (sym h) ∙ profile.valid sections.Elements i (within w.elements i e h)
-      where
-        within : {A : Type 0} → (xs : List A) (i : ℕ) (x : A) → slice_get xs i ≡ Some x → i < length xs
-        within [] i x h = cc h
-        within (y ∷ xs) zero x h = omega arith
-        within (y ∷ xs) (suc i) x h = let m = within xs i x h in omega (arith, m)
-
     total : (cells more entries room padded : ℕ) → cells ≡ room → more ≡ padded - entries → entries ≡ room → room ≤ padded → cells + more ≡ padded
     total cells more entries room padded p q r h = omega (arith, p, q, r, h)
 

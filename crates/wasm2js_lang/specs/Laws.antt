@@ -1,8 +1,10 @@
 -- What holds of masked tables.
 use Rattle.std.specs.Prelude.{◌≡◌, ◌≢◌, ℕ, ◌<◌, ◌≤◌, true, length, Option, Some, slice_get}
+use Rattle.sem_laws.specs.Script.{ScriptPlain}
 use Rattle.wasm_lang.specs.Modules.{FunctionType, WasmModule}
 use Rattle.wasm_lang_valid.specs.Measures.{called_types, is_among}
 use Rattle.wasm_lang_valid.specs.Profile.{table_length, padded, IsInProfile}
+use Rattle.wasm_lang_exec.specs.Session.{with_entries, first_store}
 use Rattle.wasm2js_lang.specs.Tables.{empty, cell, entries_of, cells_of, masked}
 
 -- a type that a call names has a table, under the least number of that type
@@ -28,3 +30,7 @@ pub record ArePadded (w : WasmModule) (t : FunctionType) : Type 0 where
 
 abbrev pub CellsArePadded : Type 0
 CellsArePadded = (w : WasmModule) (t : FunctionType) → IsInProfile w → ArePadded w t
+
+-- the entries are those of the table as a session begins
+abbrev pub EntriesAreTheTable : Type 0
+EntriesAreTheTable = (w : WasmModule) (s : ScriptPlain) → IsInProfile w → (with_entries w.elements (first_store w s)).table ≡ entries_of w

@@ -10,7 +10,7 @@ ghost use Rattle.wasm2js_lang.specs.Heaps.{heap_for};
 ghost use Rattle.wasm2js_lang.specs.Tables.{masked};
 ghost use Rattle.wasm2js_lang.specs.Calling.{shapes_of, entries_asked, functions_asked, IsCalledAs};
 ghost use Rattle.wasm2js_lang.specs.Allowed.{script_for, IsAllowed, TrapsAreCalls};
-ghost use Rattle.wasm2js_lang.specs.Laws.{CalledTypesHaveTables, CellsAreOfEntries, CellsArePadded};
+ghost use Rattle.wasm2js_lang.specs.Laws.{CalledTypesHaveTables, CellsAreOfEntries, CellsArePadded, EntriesAreTheTable};
 ghost use Rattle.wasm2js_lang.specs.Worked.{small, small_tables, small_shapes, small_entries, small_script, small_split, small_text};
 
 /// The heap of so many pages is the shortest that holds them.
@@ -31,6 +31,7 @@ pub fn masked_tables()
     ensures found { CalledTypesHaveTables }
     ensures cells { CellsAreOfEntries }
     ensures padded { CellsArePadded }
+    ensures entries { EntriesAreTheTable }
 {}
 
 /// The traps of what is allowed are calls of the trap import.
