@@ -8,7 +8,7 @@ use Rattle.wasm_lang_valid.specs.State.{known, take_all}
 use Rattle.wasm_lang_valid.proofs.Stands.{same_refl}
 use Rattle.wasm_laws_widths.specs.Laws.{OperandsStayKnown}
 
-known_append : (a b : List ValType) → known (a ++ b) ≡ known a ++ known b
+pub known_append : (a b : List ValType) → known (a ++ b) ≡ known a ++ known b
 known_append [] b = refl
 known_append (t ∷ a) b = ap (λ s. Some t ∷ s) (known_append a b)
 

@@ -1,2 +1,7 @@
 pub mod Known
 pub mod Pass
+pub mod Deep
+mod Lesser
+mod Named
+pub mod Levels
+mod Slots

@@ -44,7 +44,7 @@ steps_append base ls mid (i ∷ is) b e =
 first_step : (base : Context) (ls mid : List Level) (i : Instruction) (is : List Instruction) → step base ls i ≡ Ok mid → steps base ls (i ∷ is) ≡ steps base mid is
 first_step base ls mid i is e = ap (λ r. onward r (λ next. steps base next is)) e
 
-step_plain : (base : Context) (ls : List Level) (i : Instruction) (s : Shape) → shape (around base ls) i ≡ Ok s → step base ls i ≡ plainly (around base ls) i ls
+pub step_plain : (base : Context) (ls : List Level) (i : Instruction) (s : Shape) → shape (around base ls) i ≡ Ok s → step base ls i ≡ plainly (around base ls) i ls
 step_plain base ls (block r) s e = cc
 step_plain base ls (loop r) s e = cc
 step_plain base ls (if_block r) s e = cc

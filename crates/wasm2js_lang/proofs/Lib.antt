@@ -1,0 +1,5 @@
+mod Instantiated
+pub mod Lengths
+pub mod Masked
+pub mod Padded
+mod Traps

@@ -1,0 +1,6 @@
+pub mod Heaps
+pub mod Tables
+pub mod Calling
+pub mod Allowed
+pub mod Laws
+pub mod Worked

@@ -1,0 +1,106 @@
+-- A small module of WebAssembly, what is asked of one of asm.js that stands for it, and one that is called so.
+use Rattle.std.specs.Prelude.{ℕ, true, false, List, [], ◌∷◌, Some, None, ℤ, pos, negsuc, codes, map}
+use Rattle.sem_laws.specs.Script.{CallPlain, ScriptPlain}
+use Rattle.sem_laws.specs.CallingForms.{ShapePlain}
+use Rattle.wasm_lang.specs.declared.types.ValType.{ValType}
+use Rattle.wasm_lang.specs.declared.types.ValType.TheVariants.{I32, I64}
+use Rattle.wasm_lang.specs.declared.types.ImportKind.TheVariants as imports
+use Rattle.wasm_lang.specs.declared.types.ExportKind.TheVariants as exports
+use Rattle.wasm_lang.specs.Instructions.{plain, const32, local_get, call_indirect, end_mark}
+use Rattle.wasm_lang.specs.Modules.{FunctionType, WasmModule}
+use Rattle.asm_lang.specs.Trees.{member}
+use Rattle.asm_lang.specs.Modules.{lit, Stmts, no_stmts, stmts, returns, Variable, Param, Function, Export, many, Module}
+use Rattle.wasm2js_lang.specs.Tables.{a_function, empty, other, MaskedTable}
+use Rattle.wasm2js_lang.specs.Calling.{Entry, entry}
+
+abbrev pub type : List ValType → List ValType → FunctionType
+type params results = record { params = params; results = results }
+
+-- It imports a function. Function 1 is called through the table, where 1 stands at 0 and at 1, and 2, which is of another type, at 2.
+-- Two of its types are one form. Of a table of five, the last two entries are empty.
+abbrev pub small : WasmModule
+small = record {
+  types = type (I32 ∷ []) (I32 ∷ []) ∷ type (I64 ∷ I32 ∷ []) (I64 ∷ []) ∷ type (I32 ∷ []) (I32 ∷ []) ∷ [];
+  imports = record { module_name = codes "env"; name = codes "p"; kind = imports.Func 1 } ∷ [];
+  functions = 0 ∷ 1 ∷ 2 ∷ [];
+  tables = record { min = 5; max = None } ∷ [];
+  memories = [];
+  globals = [];
+  exports = record { name = codes "a-b"; kind = exports.Func 2 } ∷ record { name = codes "t"; kind = exports.Table 0 } ∷ record { name = codes "c"; kind = exports.Func 3 } ∷ [];
+  start = None;
+  elements =
+      record { table = 0; offset = plain (const32 0) ∷ end_mark ∷ []; functions = 1 ∷ 2 ∷ 2 ∷ [] }
+      ∷ record { table = 0; offset = plain (const32 1) ∷ end_mark ∷ []; functions = 1 ∷ [] }
+      ∷ [];
+  bodies =
+      record { locals = []; code = plain (local_get 0) ∷ end_mark ∷ [] }
+      ∷ record { locals = []; code = plain (local_get 0) ∷ end_mark ∷ [] }
+      ∷ record { locals = []; code = plain (const32 5) ∷ plain (local_get 0) ∷ call_indirect 2 ∷ end_mark ∷ [] }
+      ∷ [];
+  segments = [];
+}
+
+-- one table of eight, under the lesser of the two numbers
+abbrev pub small_tables : List MaskedTable
+small_tables = record { function_type = 0; cells = a_function 1 ∷ a_function 1 ∷ other ∷ empty ∷ empty ∷ empty ∷ empty ∷ empty ∷ [] } ∷ []
+
+abbrev pub small_shapes : List ShapePlain
+small_shapes =
+    record { key = codes "a-b"; wide = true ∷ false ∷ []; wide_result = true }
+    ∷ record { key = codes "c"; wide = false ∷ []; wide_result = false }
+    ∷ []
+
+abbrev pub small_entries : List Entry
+small_entries = entry (codes "$init") 0 false ∷ entry (codes "$hi") 0 true ∷ entry (codes "$x612d62") 3 true ∷ entry (codes "c") 1 true ∷ []
+
+-- ---- a script, and the one with which a module of asm.js is called
+
+abbrev pub call_line : List ℕ → List ℤ → ℕ → CallPlain
+call_line name args line = record { name = name; args = args; line = line }
+
+abbrev pub calling : List CallPlain → ScriptPlain
+calling calls = record { globals = []; writes = []; calls = calls; replies = [] }
+
+abbrev pub small_script : ScriptPlain
+small_script = calling (call_line (codes "a-b") (negsuc 0 ∷ pos 7 ∷ []) 1 ∷ call_line (codes "c") (pos 1 ∷ []) 2 ∷ [])
+
+abbrev pub small_split : ScriptPlain
+small_split =
+    calling (call_line (codes "$init") [] 0
+    ∷ call_line (codes "$x612d62") (pos 4294967295 ∷ pos 4294967295 ∷ pos 7 ∷ []) 1
+    ∷ call_line (codes "$hi") [] 1
+    ∷ call_line (codes "c") (pos 1 ∷ []) 2
+    ∷ [])
+
+-- ---- a module of asm.js that is called as asked; what its functions do is no part of that
+
+abbrev pub foreign_function : List ℕ → List ℕ → Variable
+foreign_function name key = record { name = name; init = member (codes "foreign") key }
+
+abbrev pub parameter : List ℕ → Param
+parameter name = record { name = name; double = false }
+
+abbrev pub taking : List ℕ → List (List ℕ) → Stmts → Function
+taking name params body = record { name = name; params = map parameter params; locals = []; body = body }
+
+-- `return 0;`
+abbrev pub gives_zero : Stmts
+gives_zero = stmts (returns (Some (lit (pos 0)))) no_stmts
+
+abbrev pub exported_as : List ℕ → List ℕ → Export
+exported_as key function = record { key = key; function = function }
+
+abbrev pub small_text : Module
+small_text = record {
+  name = None;
+  params = codes "stdlib" ∷ codes "foreign" ∷ codes "heap" ∷ [];
+  globals = foreign_function (codes "$trap") (codes "$trap") ∷ foreign_function (codes "$high") (codes "$high") ∷ foreign_function (codes "i0") (codes "p") ∷ [];
+  functions =
+      taking (codes "f2") (codes "x0" ∷ codes "X0" ∷ codes "x1" ∷ []) gives_zero
+      ∷ taking (codes "f3") (codes "x0" ∷ []) gives_zero
+      ∷ taking (codes "$init") [] no_stmts
+      ∷ taking (codes "$hi") [] gives_zero
+      ∷ [];
+  tables = [];
+  exports = many (exported_as (codes "$init") (codes "$init") ∷ exported_as (codes "$hi") (codes "$hi") ∷ exported_as (codes "$x612d62") (codes "f2") ∷ exported_as (codes "c") (codes "f3") ∷ []);
+}

@@ -1,0 +1,3 @@
+pub mod FineExprs
+pub mod FineTerms
+pub mod FineActions
