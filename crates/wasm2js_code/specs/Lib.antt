@@ -6,3 +6,7 @@ pub mod Bodies
 pub mod Rooms
 pub mod Tables
 pub mod Modules
+pub mod Pieces
+pub mod Programs
+pub mod Sessions
+pub mod Worked

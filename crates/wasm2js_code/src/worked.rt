@@ -1,0 +1,95 @@
+//! Worked code and sessions. Each function does nothing, and its contract is what the check computes of small modules.
+ghost use Rattle.std.specs.Prelude.{◌≡◌, ◌∷◌, [], true, pos, negsuc, Some, codes};
+ghost use Rattle.sem_words.specs.declared.word.Word.TheVariants.{W32};
+ghost use Rattle.sem_laws.specs.Observation.{done, stopped, running, ended, call_returned, call_gave, import_called};
+ghost use Rattle.wasm2js_code.specs.Pieces.{loading, storing, choosing, adding, tabled};
+ghost use Rattle.wasm2js_code.specs.Programs.{adding_shape, adding_script, no_shape, starting, starting_script, asking, asking_script, copying, copying_script, narrow, narrow_script, dividing, by_zero_script, overflow_script, wide, wide_shape, wide_script, shape};
+ghost use Rattle.wasm2js_code.specs.Sessions.{variables, variables_shape, variables_script, turning, turning_script, calling, calling_shapes, calling_script, entry_script, entry_shape, remembering, memory_shape, memory_script};
+ghost use Rattle.wasm2js_code.specs.Worked.{text_of, tables_of, target_seen, IsAlike};
+
+/// The four bytes from 3 past the address lie in a page where the address is at most 65529; they are
+/// read as a word where its place is a multiple of four.
+pub fn a_guarded_load()
+    ensures { text_of loading (codes "f0") ≡ codes "function f0(x0){x0=x0|0;var s0=0;s0=x0;if(s0>>>0>65529)$trap(2);if((s0+3|0)&3|0){s0=$load32(s0+3|0)|0;}else{s0=$w[s0+3>>2]|0;}return s0|0;}" }
+{}
+
+/// Both words of a store of 64 bits are written after one test of all eight bytes.
+pub fn an_unaligned_store()
+    ensures { text_of storing (codes "f0") ≡ codes "function f0(x0,x1,X1){x0=x0|0;x1=x1|0;X1=X1|0;var s0=0;var S0=0;var s1=0;var S1=0;s0=x0;s1=x1;S1=X1;if(s0>>>0>65528)$trap(2);if(s0&3|0){$store64(s0,s1,S1);}else{$w[s0>>2]=s1;$w[s0+4>>2]=S1;}}" }
+{}
+
+/// A branch by an index, to the inner block, whose result stands where it has to, and to the outer one,
+/// to which it is moved.
+pub fn a_branch_by_an_index()
+    ensures { text_of choosing (codes "f0") ≡ codes "function f0(x0){x0=x0|0;var s0=0;var s1=0;var s2=0;L0:{s0=7;L1:{s1=10;s2=x0;switch(s2|0){case 0:break L1;case 1:s0=s1;break L0;default:break L1;}}s0=s0+s1|0;s0=20;}return s0|0;}" }
+{}
+
+/// A sum of words of 64 bits with its carry; the high word of the result is left in `$h`.
+pub fn a_wide_sum()
+    ensures { text_of adding (codes "f0") ≡ codes "function f0(x0,X0,x1,X1){x0=x0|0;X0=X0|0;x1=x1|0;X1=X1|0;var s0=0;var S0=0;var s1=0;var S1=0;s0=x0;S0=X0;s1=x1;S1=X1;s0=s0+s1|0;S0=S0+S1+(s0>>>0<s1>>>0)|0;$h=S0;return s0|0;}" }
+{}
+
+/// Calls of an entry: types of one form share a table, an entry of another type and one that isn't there
+/// have functions that trap.
+pub fn a_call_of_an_entry()
+    ensures wide { text_of tabled (codes "f2") ≡ codes "function f2(x0){x0=x0|0;var s0=0;var S0=0;var s1=0;s0=5;s1=x0;if(s1>>>0>3)$trap(5);s0=t0[s1&3](s0)|0;S0=$h;$h=S0;return s0|0;}" }
+    ensures no_result { text_of tabled (codes "f3") ≡ codes "function f3(x0){x0=x0|0;var s0=0;var s1=0;s0=6;s1=x0;if(s1>>>0>3)$trap(5);t1[s1&3](s0);}" }
+    ensures tables { tables_of tabled ≡ codes "var t0=[f0,o3,e3,e3];\nvar t1=[o2,f1,e2,e2];\n" }
+    ensures no_entry { text_of tabled (codes "e3") ≡ codes "function e3(x0){x0=x0|0;$trap(5);return 0;}" }
+    ensures other_entry { text_of tabled (codes "o2") ≡ codes "function o2(x0){x0=x0|0;$trap(6);}" }
+{}
+
+/// 4294967295 + 4294967295 is 8589934590. `$init`, the function and `$hi` take a unit each, and the high
+/// word is shown by the last one.
+pub fn a_session_of_a_wide_sum()
+    ensures alike { IsAlike adding adding_shape adding_script 100 100 }
+    ensures at_0 { target_seen adding adding_shape adding_script 0 ≡ Some (running []) }
+    ensures at_1 { target_seen adding adding_shape adding_script 1 ≡ Some (running (call_returned ∷ [])) }
+    ensures at_2 { target_seen adding adding_shape adding_script 2 ≡ Some (running (call_returned ∷ call_gave (W32 4294967294) ∷ [])) }
+    ensures at_3 { target_seen adding adding_shape adding_script 3 ≡ Some (ended (call_returned ∷ call_gave (W32 4294967294) ∷ call_gave (W32 1) ∷ []) done []) }
+{}
+
+/// A start function that calls an import, and then traps: all of it in the call of `$init`.
+pub fn a_session_of_a_start_function()
+    ensures alike { IsAlike starting no_shape starting_script 100 100 }
+    ensures at_2 { target_seen starting no_shape starting_script 2 ≡ Some (running []) }
+    ensures at_3 { target_seen starting no_shape starting_script 3 ≡ Some (ended (import_called (codes "p") (W32 9 ∷ []) ∷ []) (stopped (codes "$trap") (W32 1 ∷ [])) []) }
+{}
+
+/// Operators on words of 32 bits; and the quotients that trap.
+pub fn narrow_operators()
+    ensures all { IsAlike narrow no_shape narrow_script 2000 1000 }
+    ensures by_zero { IsAlike dividing no_shape by_zero_script 100 100 }
+    ensures overflow { IsAlike dividing no_shape overflow_script 100 100 }
+{}
+
+/// Operators on words of 64 bits.
+pub fn wide_operators()
+    ensures { IsAlike wide wide_shape wide_script 2000 2000 }
+{}
+
+/// Locals, globals and choices of both types.
+pub fn variables_of_both_types()
+    ensures { IsAlike variables variables_shape variables_script 200 200 }
+{}
+
+/// Loops, ifs, branches by an index to blocks and to a loop, and branches out of the function.
+pub fn branches()
+    ensures { IsAlike turning no_shape turning_script 1000 1000 }
+{}
+
+/// Calls of a function and of an import with words of both types; the import is exported under a name
+/// that asm.js can't spell.
+pub fn calls()
+    ensures { IsAlike calling calling_shapes calling_script 300 300 }
+{}
+
+/// Entries of a table: one of the right type, one of another type, one that isn't there, one past the
+/// table, and one past all tables.
+pub fn entries()
+    ensures right { IsAlike tabled entry_shape (entry_script (pos 0)) 100 100 }
+    ensures other { IsAlike tabled entry_shape (entry_script (pos 1)) 100 100 }
+    ensures empty { IsAlike tabled entry_shape (entry_script (pos 2)) 100 100 }
+    ensures past { IsAlike tabled entry_shape (entry_script (pos 3)) 100 100 }
+    ensures far { IsAlike tabled entry_shape (entry_script (negsuc 0)) 100 100 }
+{}
