@@ -1,11 +1,12 @@
 -- Sessions that are compared by computing both.
-use Rattle.std.specs.Prelude.{[], ◌∷◌, Some, refl, codes}
+use Rattle.std.specs.Prelude.{◌≡◌, [], ◌∷◌, Some, refl}
 use Rattle.hex.specs.Hex.{encode_with}
 use Rattle.heap_views.specs.Heap as heaps
+use Rattle.sem_laws.specs.Observation.{call_returned}
 use Rattle.sem_words.specs.Words.{leading_zeros_of, trailing_zeros_of, set_bits_of}
-use Rattle.wasm2js_code.specs.Programs.{no_shape, narrow, narrow_script, wide, wide_shape, wide_script}
-use Rattle.wasm2js_code.specs.Sessions.{calling, calling_shapes, calling_script}
-use Rattle.wasm2js_code.specs.Worked.{IsAlike}
+use Rattle.wasm2js_code.specs.Programs.{no_shape, asking, asking_script, asking_shape, copying, copying_script, narrow, narrow_script, wide, wide_shape, wide_script}
+use Rattle.wasm2js_code.specs.Sessions.{calling, calling_shapes, calling_script, remembering, memory_shape, memory_script}
+use Rattle.wasm2js_code.specs.Worked.{events_at, first_bytes, IsAlike}
 
 pub narrow_is_alike : IsAlike narrow no_shape narrow_script 2000 1000
 unfolding leading_zeros_of trailing_zeros_of set_bits_of
@@ -18,3 +19,27 @@ wide_is_alike = record { accepted = refl; fits = refl; target_fits = refl; ends 
 pub calls_are_alike : IsAlike calling calling_shapes calling_script 300 300
 unfolding encode_with
 calls_are_alike = record { accepted = refl; fits = refl; target_fits = refl; ends = refl; same = refl }
+
+pub asking_is_alike : IsAlike asking asking_shape asking_script 100 100
+unfolding heaps.load heaps.store heaps.load_bytes heaps.store_bytes heaps.run_at heaps.with_run
+asking_is_alike = record { accepted = refl; fits = refl; target_fits = refl; ends = refl; same = refl }
+
+pub copying_is_alike : IsAlike copying no_shape copying_script 100 100
+unfolding heaps.load heaps.store heaps.load_bytes heaps.store_bytes heaps.run_at heaps.with_run heaps.copied
+copying_is_alike = record { accepted = refl; fits = refl; target_fits = refl; ends = refl; same = refl }
+
+pub events_in_a_copy : events_at copying no_shape copying_script 8 ≡ Some (call_returned ∷ [])
+unfolding heaps.load heaps.store heaps.load_bytes heaps.store_bytes heaps.run_at heaps.with_run
+events_in_a_copy = refl
+
+pub events_after_a_copy : events_at copying no_shape copying_script 9 ≡ Some (call_returned ∷ call_returned ∷ [])
+unfolding heaps.load heaps.store heaps.load_bytes heaps.store_bytes heaps.run_at heaps.with_run
+events_after_a_copy = refl
+
+pub bytes_after_a_copy : first_bytes 8 copying no_shape copying_script 11 ≡ Some (1 ∷ 1 ∷ 2 ∷ 3 ∷ 4 ∷ 5 ∷ 0 ∷ 0 ∷ [])
+unfolding heaps.load heaps.store heaps.load_bytes heaps.store_bytes heaps.run_at heaps.with_run
+bytes_after_a_copy = refl
+
+pub remembering_is_alike : IsAlike remembering memory_shape memory_script 500 500
+unfolding heaps.load heaps.store heaps.load_bytes heaps.store_bytes heaps.run_at heaps.with_run heaps.filled
+remembering_is_alike = record { accepted = refl; fits = refl; target_fits = refl; ends = refl; same = refl }

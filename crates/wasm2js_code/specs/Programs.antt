@@ -69,6 +69,9 @@ asking = record nothing_at_all {
   bodies = body [] (call 0 ∷ int 0 ∷ plain (load (record { wide = true; size = 2; signed = true }) 0 1) ∷ plain (bin64 bins.Add) ∷ []) ∷ [];
 }
 
+abbrev pub asking_shape : List ShapePlain
+asking_shape = shape [] true
+
 abbrev pub asking_script : ScriptPlain
 asking_script = record (calls (called [] 1 ∷ [])) { replies = replied (5 * 2 ^ 32 + 7) (record { at = 1; bytes = 200 ∷ 255 ∷ []; line = 9 } ∷ []) ∷ [] }
 

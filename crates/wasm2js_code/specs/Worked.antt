@@ -38,6 +38,13 @@ heap_of w = heap_for (or_zero (pages w))
 abbrev pub target_seen : WasmModule → List ShapePlain → ScriptPlain → ℕ → Option ObservationPlain
 target_seen w shapes script n = asm (translated w) (heap_of w) (split shapes script) n
 
+abbrev pub events_at : WasmModule → List ShapePlain → ScriptPlain → ℕ → Option (List EventPlain)
+events_at w shapes script n = option_map (λ o. o.events) (target_seen w shapes script n)
+
+-- so many bytes of the heap at the end
+abbrev pub first_bytes : ℕ → WasmModule → List ShapePlain → ScriptPlain → ℕ → Option (List ℕ)
+first_bytes count w shapes script n = option_map (λ o. take count o.heap) (target_seen w shapes script n)
+
 -- a sight of the source in the target's terms, and one of the target, of whose heap so many bytes are those of the memory
 
 abbrev pub from_source : ObservationPlain → ObservationPlain

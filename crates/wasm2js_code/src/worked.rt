@@ -3,9 +3,9 @@ ghost use Rattle.std.specs.Prelude.{◌≡◌, ◌∷◌, [], true, pos, negsuc,
 ghost use Rattle.sem_words.specs.declared.word.Word.TheVariants.{W32};
 ghost use Rattle.sem_laws.specs.Observation.{done, stopped, running, ended, call_returned, call_gave, import_called};
 ghost use Rattle.wasm2js_code.specs.Pieces.{loading, storing, choosing, adding, tabled};
-ghost use Rattle.wasm2js_code.specs.Programs.{adding_shape, adding_script, no_shape, starting, starting_script, asking, asking_script, copying, copying_script, narrow, narrow_script, dividing, by_zero_script, overflow_script, wide, wide_shape, wide_script, shape};
+ghost use Rattle.wasm2js_code.specs.Programs.{adding_shape, adding_script, no_shape, starting, starting_script, asking, asking_shape, asking_script, copying, copying_script, narrow, narrow_script, dividing, by_zero_script, overflow_script, wide, wide_shape, wide_script, shape};
 ghost use Rattle.wasm2js_code.specs.Sessions.{variables, variables_shape, variables_script, turning, turning_script, calling, calling_shapes, calling_script, entry_script, entry_shape, remembering, memory_shape, memory_script};
-ghost use Rattle.wasm2js_code.specs.Worked.{text_of, tables_of, target_seen, IsAlike};
+ghost use Rattle.wasm2js_code.specs.Worked.{text_of, tables_of, target_seen, events_at, first_bytes, IsAlike};
 
 /// The four bytes from 3 past the address lie in a page where the address is at most 65529; they are
 /// read as a word where its place is a multiple of four.
@@ -92,4 +92,23 @@ pub fn entries()
     ensures empty { IsAlike tabled entry_shape (entry_script (pos 2)) 100 100 }
     ensures past { IsAlike tabled entry_shape (entry_script (pos 3)) 100 100 }
     ensures far { IsAlike tabled entry_shape (entry_script (negsuc 0)) 100 100 }
+{}
+
+/// A reply of 64 bits whose high word is asked for, and the bytes that it writes.
+pub fn a_reply_with_byte_writes()
+    ensures { IsAlike asking asking_shape asking_script 100 100 }
+{}
+
+/// A copy to one byte further takes a unit for each byte, from the last one on, and one more; a copy that
+/// passes the end of the memory traps.
+pub fn copies()
+    ensures alike { IsAlike copying no_shape copying_script 100 100 }
+    ensures before_the_last_turn { events_at copying no_shape copying_script 8 ≡ Some (call_returned ∷ []) }
+    ensures after_it { events_at copying no_shape copying_script 9 ≡ Some (call_returned ∷ call_returned ∷ []) }
+    ensures at_the_end { first_bytes 8 copying no_shape copying_script 11 ≡ Some (1 ∷ 1 ∷ 2 ∷ 3 ∷ 4 ∷ 5 ∷ 0 ∷ 0 ∷ []) }
+{}
+
+/// Stores and loads of all forms at places of both kinds, a fill, and a store that passes the end.
+pub fn stores_and_loads()
+    ensures { IsAlike remembering memory_shape memory_script 500 500 }
 {}
