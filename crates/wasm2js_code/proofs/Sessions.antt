@@ -5,7 +5,7 @@ use Rattle.heap_views.specs.Heap as heaps
 use Rattle.sem_laws.specs.Observation.{call_returned}
 use Rattle.sem_words.specs.Words.{leading_zeros_of, trailing_zeros_of, set_bits_of}
 use Rattle.wasm2js_code.specs.Programs.{no_shape, asking, asking_script, asking_shape, copying, copying_script, narrow, narrow_script, wide, wide_shape, wide_script}
-use Rattle.wasm2js_code.specs.Sessions.{calling, calling_shapes, calling_script, remembering, memory_shape, memory_script}
+use Rattle.wasm2js_code.specs.Sessions.{branching, branching_script, calling, calling_shapes, calling_script, remembering, memory_shape, memory_script}
 use Rattle.wasm2js_code.specs.Worked.{events_at, first_bytes, IsAlike}
 
 pub narrow_is_alike : IsAlike narrow no_shape narrow_script 2000 1000
@@ -43,3 +43,6 @@ bytes_after_a_copy = refl
 pub remembering_is_alike : IsAlike remembering memory_shape memory_script 500 500
 unfolding heaps.load heaps.store heaps.load_bytes heaps.store_bytes heaps.run_at heaps.with_run heaps.filled
 remembering_is_alike = record { accepted = refl; fits = refl; target_fits = refl; ends = refl; same = refl }
+
+pub many_labels_are_alike : IsAlike branching no_shape branching_script 200 200
+many_labels_are_alike = record { accepted = refl; fits = refl; target_fits = refl; ends = refl; same = refl }

@@ -1,5 +1,5 @@
 -- Further modules of WebAssembly that are run in both languages: variables, control, calls, tables and the memory.
-use Rattle.std.specs.Prelude.{ℕ, ◌+◌, ◌^◌, Bool, false, true, List, [], ◌∷◌, ◌++◌, Some, None, ℤ, pos, negsuc, codes}
+use Rattle.std.specs.Prelude.{ℕ, ◌+◌, ◌*◌, ◌^◌, Bool, false, true, List, [], ◌∷◌, ◌++◌, replicate, Some, None, ℤ, pos, negsuc, codes}
 use Rattle.std.specs.List.{flat_map}
 use Rattle.sem_words.specs.declared.word.Bin.TheVariants as bins
 use Rattle.sem_words.specs.declared.word.Rel.TheVariants as rels
@@ -71,6 +71,18 @@ turning = alone (type (I32 ∷ []) (I32 ∷ [])) (I32 ∷ I32 ∷ []) turns_code
 abbrev pub turning_script : ScriptPlain
 turning_script = calls (called (pos 6 ∷ []) 1 ∷ called (pos 4 ∷ []) 2 ∷ called (pos 2 ∷ []) 3 ∷ called (negsuc 0 ∷ []) 4 ∷ called (pos 5 ∷ []) 5 ∷ [])
 
+-- ---- a branch by an index with more labels than one switch has cases: 512 leads past both blocks
+
+abbrev pub many_labels : List ℕ
+many_labels = replicate 512 0 ++ 1 ∷ []
+
+abbrev pub branching : WasmModule
+branching = alone (type (I32 ∷ []) (I32 ∷ [])) []
+    (block None ∷ block None ∷ get 0 ∷ br_table many_labels 0 ∷ end_mark ∷ int 10 ∷ return ∷ end_mark ∷ int 20 ∷ [])
+
+abbrev pub branching_script : ScriptPlain
+branching_script = calls (called (pos 0 ∷ []) 1 ∷ called (pos 511 ∷ []) 2 ∷ called (pos 512 ∷ []) 3 ∷ called (pos 513 ∷ []) 4 ∷ called (negsuc 0 ∷ []) 5 ∷ [])
+
 -- ---- a function that calls itself with a result of 64 bits, and imports that are called with words of both types, and exported
 
 abbrev pub calling_code : List Instruction
@@ -93,6 +105,20 @@ calling_shapes = record { key = codes "p again"; wide = false ∷ true ∷ false
 
 abbrev pub calling_script : ScriptPlain
 calling_script = answered 4 (called (pos 3 ∷ negsuc 0 ∷ []) 1 ∷ record { name = codes "p again"; args = pos 1 ∷ negsuc 1 ∷ pos 3 ∷ []; line = 2 } ∷ [])
+
+-- ---- a module that imports `$trap` and `$high` itself
+
+abbrev pub trapping : WasmModule
+trapping = record nothing_at_all {
+  types = type [] (I32 ∷ []) ∷ type (I32 ∷ []) [] ∷ type [] [] ∷ [];
+  imports = from_env (codes "p") 0 ∷ from_env (codes "$high") 0 ∷ from_env (codes "$trap") 1 ∷ [];
+  functions = 2 ∷ [];
+  exports = exported (codes "f") 3 ∷ [];
+  bodies = body [] (call 0 ∷ plain drop_operand ∷ call 1 ∷ call 2 ∷ []) ∷ [];
+}
+
+abbrev pub trapping_script : ScriptPlain
+trapping_script = record (calls (called [] 1 ∷ [])) { replies = replied (9 * 2 ^ 32 + 1) [] ∷ [] }
 
 -- ---- entries: of the right type, of another one, empty, past the table, and past all tables
 
