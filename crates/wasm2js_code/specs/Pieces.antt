@@ -1,21 +1,13 @@
 -- Small modules of WebAssembly, with scripts for them.
-use Rattle.std.specs.Prelude.{ℕ, zero, suc, ◌+◌, ◌-◌, ◌*◌, ◌^◌, false, true, List, [], ◌∷◌, ◌++◌, length, map, replicate, Option, Some, None, ℤ, pos, negsuc, codes}
-use Rattle.std.specs.List.{flat_map}
-use Rattle.sem_words.specs.declared.word.Bin.{Bin}
+use Rattle.std.specs.Prelude.{ℕ, false, true, List, [], ◌∷◌, ◌++◌, Some, None, codes}
 use Rattle.sem_words.specs.declared.word.Bin.TheVariants as bins
-use Rattle.sem_words.specs.declared.word.Un.{Un}
-use Rattle.sem_words.specs.declared.word.Un.TheVariants as uns
-use Rattle.sem_words.specs.declared.word.Rel.{Rel}
-use Rattle.sem_words.specs.declared.word.Rel.TheVariants as rels
-use Rattle.sem_laws.specs.Script.{CallPlain, ReplyPlain, give, WritePlain, ReplyLinePlain, GlobalPlain, ScriptPlain}
-use Rattle.sem_laws.specs.CallingForms.{ShapePlain}
 use Rattle.wasm_lang.specs.declared.types.ValType.{ValType}
 use Rattle.wasm_lang.specs.declared.types.ValType.TheVariants.{I32, I64}
 use Rattle.wasm_lang.specs.declared.types.Limits.{Limits}
 use Rattle.wasm_lang.specs.declared.types.ImportKind.TheVariants as imports
 use Rattle.wasm_lang.specs.declared.types.ExportKind.TheVariants as exports
 use Rattle.wasm_lang.specs.declared.types.MemOp.{MemOp}
-use Rattle.wasm_lang.specs.Instructions.{Instruction, Plain, block, loop, if_block, else_mark, end_mark, br, br_if, br_table, return, call, call_indirect, unreachable, plain, const32, const64, local_get, local_set, local_tee, global_get, global_set, select, drop_operand, nop, eqz32, eqz64, rel32, rel64, un32, un64, bin32, bin64, wrap, extend_s, extend_u, sign_extend, load, store, memory_size, memory_copy, memory_fill}
+use Rattle.wasm_lang.specs.Instructions.{Instruction, block, end_mark, br_table, call_indirect, plain, const32, const64, local_get, local_set, drop_operand, bin32, bin64, extend_s, load, store}
 use Rattle.wasm_lang.specs.Modules.{FunctionType, Imported, GlobalEntry, Exported, ElementSegment, DataSegment, FunctionBody, WasmModule}
 
 -- ---- parts of modules

@@ -1,5 +1,5 @@
 -- Modules of WebAssembly that are run in both languages, with their scripts and how they are called.
-use Rattle.std.specs.Prelude.{ℕ, ◌+◌, ◌-◌, ◌*◌, ◌^◌, false, true, List, [], ◌∷◌, ◌++◌, replicate, Option, Some, None, ℤ, pos, negsuc, codes, Bool}
+use Rattle.std.specs.Prelude.{ℕ, ◌+◌, ◌-◌, ◌*◌, ◌^◌, false, true, List, [], ◌∷◌, ◌++◌, replicate, Some, ℤ, pos, negsuc, codes, Bool}
 use Rattle.std.specs.List.{flat_map}
 use Rattle.sem_words.specs.declared.word.Bin.{Bin}
 use Rattle.sem_words.specs.declared.word.Bin.TheVariants as bins
@@ -7,15 +7,12 @@ use Rattle.sem_words.specs.declared.word.Un.{Un}
 use Rattle.sem_words.specs.declared.word.Un.TheVariants as uns
 use Rattle.sem_words.specs.declared.word.Rel.{Rel}
 use Rattle.sem_words.specs.declared.word.Rel.TheVariants as rels
-use Rattle.sem_laws.specs.Script.{CallPlain, give, WritePlain, ReplyLinePlain, GlobalPlain, ScriptPlain}
+use Rattle.sem_laws.specs.Script.{CallPlain, give, WritePlain, ReplyLinePlain, ScriptPlain}
 use Rattle.sem_laws.specs.CallingForms.{ShapePlain}
-use Rattle.wasm_lang.specs.declared.types.ValType.{ValType}
 use Rattle.wasm_lang.specs.declared.types.ValType.TheVariants.{I32, I64}
-use Rattle.wasm_lang.specs.declared.types.MemOp.{MemOp}
-use Rattle.wasm_lang.specs.declared.types.ImportKind.TheVariants as imports
-use Rattle.wasm_lang.specs.Instructions.{Instruction, Plain, block, loop, if_block, else_mark, end_mark, br, br_if, br_table, return, call, call_indirect, unreachable, plain, global_get, global_set, local_tee, select, drop_operand, nop, eqz32, eqz64, rel32, rel64, un32, un64, bin32, bin64, wrap, extend_s, extend_u, sign_extend, load, store, memory_size, memory_copy, memory_fill}
-use Rattle.wasm_lang.specs.Modules.{FunctionType, FunctionBody, Imported, WasmModule}
-use Rattle.wasm2js_code.specs.Pieces.{type, body, get, set, int, long, from_env, exported, limits, bytes, elements, global, nothing_at_all, alone, with_page}
+use Rattle.wasm_lang.specs.Instructions.{Instruction, Plain, call, unreachable, plain, eqz32, eqz64, rel32, rel64, un32, un64, bin32, bin64, wrap, extend_s, extend_u, sign_extend, load, memory_copy}
+use Rattle.wasm_lang.specs.Modules.{FunctionType, WasmModule}
+use Rattle.wasm2js_code.specs.Pieces.{type, body, get, int, long, from_env, exported, limits, bytes, nothing_at_all, alone, with_page}
 
 -- ---- scripts
 

@@ -1,14 +1,13 @@
 -- Further modules of WebAssembly that are run in both languages: variables, control, calls, tables and the memory.
 use Rattle.std.specs.Prelude.{ℕ, ◌+◌, ◌*◌, ◌^◌, Bool, false, true, List, [], ◌∷◌, ◌++◌, replicate, Some, None, ℤ, pos, negsuc, codes}
-use Rattle.std.specs.List.{flat_map}
 use Rattle.sem_words.specs.declared.word.Bin.TheVariants as bins
 use Rattle.sem_words.specs.declared.word.Rel.TheVariants as rels
-use Rattle.sem_laws.specs.Script.{CallPlain, GlobalPlain, ScriptPlain}
+use Rattle.sem_laws.specs.Script.{ScriptPlain}
 use Rattle.sem_laws.specs.CallingForms.{ShapePlain}
 use Rattle.wasm_lang.specs.declared.types.ValType.TheVariants.{I32, I64}
 use Rattle.wasm_lang.specs.declared.types.MemOp.{MemOp}
 use Rattle.wasm_lang.specs.declared.types.ImportKind.TheVariants as imports
-use Rattle.wasm_lang.specs.Instructions.{Instruction, Plain, block, loop, if_block, else_mark, end_mark, br, br_if, br_table, return, call, plain, global_get, global_set, local_tee, select, drop_operand, nop, eqz32, rel32, bin32, bin64, wrap, extend_u, load, store, memory_size, memory_fill}
+use Rattle.wasm_lang.specs.Instructions.{Instruction, block, loop, if_block, else_mark, end_mark, br, br_if, br_table, return, call, plain, global_get, global_set, local_tee, select, drop_operand, nop, eqz32, rel32, bin32, bin64, wrap, extend_u, load, store, memory_size, memory_fill}
 use Rattle.wasm_lang.specs.Modules.{Imported, WasmModule}
 use Rattle.wasm2js_code.specs.Pieces.{type, body, get, set, int, long, from_env, exported, limits, bytes, global, nothing_at_all, alone}
 use Rattle.wasm2js_code.specs.Programs.{called, calls, replied, answered, shape}

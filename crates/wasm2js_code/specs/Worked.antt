@@ -1,8 +1,8 @@
 -- What is computed of the small modules: their code, and what is seen of sessions in both languages.
-use Rattle.std.specs.Prelude.{◌≡◌, ℕ, ◌*◌, List, [], ◌∷◌, length, take, Option, Some, None, option_map, is_some, true, bytes_eq, if◌then◌else◌}
+use Rattle.std.specs.Prelude.{◌≡◌, ℕ, List, [], ◌∷◌, take, Option, Some, None, option_map, is_some, true, bytes_eq, if◌then◌else◌}
 use Rattle.std.specs.List.{flat_map}
 use Rattle.sem_laws.specs.Script.{ScriptPlain}
-use Rattle.sem_laws.specs.Observation.{EventPlain, EndPlain, ObservationPlain, as_stop}
+use Rattle.sem_laws.specs.Observation.{EventPlain, ObservationPlain, as_stop}
 use Rattle.sem_laws.specs.CallingForms.{ShapePlain, split, split_event, split_end, without_init}
 use Rattle.wasm_lang.specs.Modules.{WasmModule}
 use Rattle.wasm_lang_valid.specs.Profile.{memory_bytes, or_zero}
