@@ -1,11 +1,11 @@
 -- What is computed of the small modules: their code, and what is seen of sessions in both languages.
-use Rattle.std.specs.Prelude.{◌≡◌, ℕ, List, [], ◌∷◌, take, Option, Some, None, option_map, is_some, true, bytes_eq, if◌then◌else◌}
-use Rattle.std.specs.List.{flat_map}
+use Rattle.std.specs.Prelude.{◌≡◌, ℕ, List, [], take, Option, Some, None, option_map, is_some, true, bytes_eq}
+use Rattle.std.specs.List.{find, flat_map}
 use Rattle.sem_laws.specs.Script.{ScriptPlain}
 use Rattle.sem_laws.specs.Observation.{EventPlain, ObservationPlain, as_stop}
 use Rattle.sem_laws.specs.CallingForms.{ShapePlain, split, split_event, split_end, without_init}
 use Rattle.wasm_lang.specs.Modules.{WasmModule}
-use Rattle.wasm_lang_valid.specs.Profile.{memory_bytes, or_zero}
+use Rattle.wasm_lang_valid.specs.Profile.{memory_bytes, or_zero, outside_profile}
 use Rattle.wasm_lang_valid.specs.Runnable.{pages}
 use Rattle.wasm_lang_exec.specs.Session.{wasm}
 use Rattle.wasm_lang_exec.specs.Fits as source_fits
@@ -18,13 +18,13 @@ use Rattle.wasm2js_code.specs.Modules.{translated, heap_for}
 
 -- ---- code
 
-abbrev pub texts_named : List ℕ → List Function → List ℕ
-texts_named name [] = []
-texts_named name (f ∷ fs) = if bytes_eq f.name name then joined [] (function_text f) else texts_named name fs
+abbrev pub text_if : Option Function → List ℕ
+text_if None = []
+text_if (Some f) = joined [] (function_text f)
 
 -- the canonical text of the function of this name
 abbrev pub text_of : WasmModule → (name : List ℕ) → List ℕ
-text_of w name = texts_named name (translated w).functions
+text_of w name = text_if (find (λ f. bytes_eq f.name name) (translated w).functions)
 
 abbrev pub tables_of : WasmModule → List ℕ
 tables_of w = joined [] (tables_text (translated w).tables)
@@ -53,9 +53,10 @@ from_source o = record { events = flat_map split_event o.events; end = option_ma
 abbrev pub from_target : (bytes : ℕ) → ObservationPlain → ObservationPlain
 from_target bytes o = record { events = without_init o.events; end = option_map as_stop o.end; heap = take bytes o.heap }
 
--- the translation is accepted; the script fits, and so does the target's; with so many reductions and units both sessions come to their
+-- the module is within the limits and its translation is accepted; the script fits, and so does the target's; with so many reductions and units both sessions come to their
 -- ends, and show the same
 pub record IsAlike (w : WasmModule) (shapes : List ShapePlain) (script : ScriptPlain) (reductions units : ℕ) : Type 0 where
+  pub within : outside_profile w ≡ None
   pub accepted : IsAccepted (translated w)
   pub fits : source_fits.misfit w script ≡ None
   pub target_fits : target_fits.misfit (translated w) (heap_of w) (split shapes script) ≡ None

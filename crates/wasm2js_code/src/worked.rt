@@ -1,10 +1,10 @@
 //! Worked code and sessions. Each function does nothing, and its contract is what the check computes of small modules.
-ghost use Rattle.std.specs.Prelude.{◌≡◌, ◌∷◌, [], true, pos, negsuc, Some, codes};
+ghost use Rattle.std.specs.Prelude.{◌≡◌, ◌∷◌, [], pos, negsuc, Some, codes};
 ghost use Rattle.sem_words.specs.declared.word.Word.TheVariants.{W32};
 ghost use Rattle.sem_laws.specs.Observation.{done, stopped, running, ended, call_returned, call_gave, import_called};
 ghost use Rattle.wasm2js_code.specs.Modules.{heap_for};
 ghost use Rattle.wasm2js_code.specs.Pieces.{loading, storing, choosing, adding, tabled};
-ghost use Rattle.wasm2js_code.specs.Programs.{adding_shape, adding_script, no_shape, starting, starting_script, asking, asking_shape, asking_script, copying, copying_script, narrow, narrow_script, dividing, by_zero_script, overflow_script, wide, wide_shape, wide_script, shape};
+ghost use Rattle.wasm2js_code.specs.Programs.{adding_shape, adding_script, no_shape, starting, starting_script, asking, asking_shape, asking_script, copying, copying_script, narrow, narrow_script, dividing, by_zero_script, overflow_script, wide, wide_shape, wide_script};
 ghost use Rattle.wasm2js_code.specs.Sessions.{variables, variables_shape, variables_script, turning, turning_script, branching, branching_script, trapping, trapping_script, calling, calling_shapes, calling_script, entry_script, entry_shape, remembering, memory_shape, memory_script};
 ghost use Rattle.wasm2js_code.specs.Worked.{text_of, tables_of, target_seen, events_at, first_bytes, IsAlike};
 
@@ -101,9 +101,13 @@ pub fn entries()
     ensures far { IsAlike tabled entry_shape (entry_script (negsuc 0)) 100 100 }
 {}
 
-/// A reply of 64 bits whose high word is asked for, and the bytes that it writes.
+/// A reply of 64 bits whose high word is asked for, and the bytes that it writes: 5 * 2^32 + 7, and -56
+/// of two bytes. The call of the import takes no unit of its own.
 pub fn a_reply_with_byte_writes()
-    ensures { IsAlike asking asking_shape asking_script 100 100 }
+    ensures alike { IsAlike asking asking_shape asking_script 100 100 }
+    ensures at_2 { events_at asking asking_shape asking_script 2 ≡ Some (call_returned ∷ []) }
+    ensures at_3 { events_at asking asking_shape asking_script 3 ≡ Some (call_returned ∷ import_called (codes "p") [] ∷ call_gave (W32 4294967247) ∷ []) }
+    ensures at_4 { events_at asking asking_shape asking_script 4 ≡ Some (call_returned ∷ import_called (codes "p") [] ∷ call_gave (W32 4294967247) ∷ call_gave (W32 4) ∷ []) }
 {}
 
 /// A copy to one byte further takes a unit for each byte, from the last one on, and one more; a copy that
