@@ -10,7 +10,7 @@ use Rattle.wasm_lang_valid.specs.Runnable.{pages}
 use Rattle.wasm_lang_exec.specs.Session.{wasm}
 use Rattle.wasm_lang_exec.specs.Fits as source_fits
 use Rattle.asm_lang.specs.Modules.{Function}
-use Rattle.asm_lang.specs.Printing.{joined, function_text, tables_text}
+use Rattle.asm_lang.specs.Printing.{joined, globals_text, function_text, tables_text, exports_text}
 use Rattle.asm_lang_exec.specs.Session.{asm}
 use Rattle.asm_lang_exec.specs.Fits as target_fits
 use Rattle.asm_lang_valid.specs.Refusal.{IsAccepted}
@@ -28,6 +28,12 @@ text_of w name = text_if (find (λ f. bytes_eq f.name name) (translated w).funct
 
 abbrev pub tables_of : WasmModule → List ℕ
 tables_of w = joined [] (tables_text (translated w).tables)
+
+abbrev pub variables_of : WasmModule → List ℕ
+variables_of w = joined [] (globals_text (translated w).globals)
+
+abbrev pub exports_of : WasmModule → List ℕ
+exports_of w = joined [] (exports_text (translated w).exports)
 
 -- ---- sessions
 

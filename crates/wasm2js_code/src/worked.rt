@@ -6,7 +6,7 @@ ghost use Rattle.wasm2js_code.specs.Modules.{heap_for};
 ghost use Rattle.wasm2js_code.specs.Pieces.{loading, storing, choosing, adding, tabled};
 ghost use Rattle.wasm2js_code.specs.Programs.{adding_shape, adding_script, no_shape, starting, starting_script, asking, asking_shape, asking_script, copying, copying_script, narrow, narrow_script, dividing, by_zero_script, overflow_script, wide, wide_shape, wide_script};
 ghost use Rattle.wasm2js_code.specs.Sessions.{variables, variables_shape, variables_script, turning, turning_script, branching, branching_script, trapping, trapping_script, calling, calling_shapes, calling_script, entry_script, entry_shape, remembering, memory_shape, memory_script};
-ghost use Rattle.wasm2js_code.specs.Worked.{text_of, tables_of, target_seen, events_at, first_bytes, IsAlike};
+ghost use Rattle.wasm2js_code.specs.Worked.{text_of, tables_of, variables_of, exports_of, target_seen, events_at, first_bytes, IsAlike};
 
 /// The four bytes from 3 past the address lie in a page where the address is at most 65529; they are
 /// read as a word where its place is a multiple of four.
@@ -38,6 +38,31 @@ pub fn a_call_of_an_entry()
     ensures tables { tables_of tabled ≡ codes "var t0=[f0,o3,e3,e3];\nvar t1=[o2,f1,e2,e2];\n" }
     ensures no_entry { text_of tabled (codes "e3") ≡ codes "function e3(x0){x0=x0|0;$trap(5);return 0;}" }
     ensures other_entry { text_of tabled (codes "o2") ≡ codes "function o2(x0){x0=x0|0;$trap(6);}" }
+{}
+
+/// Helpers: words of 64 bits as two words, a quotient with its traps, a load at any place, a copy and a
+/// fill of a page.
+pub fn helpers()
+    ensures shift { text_of loading (codes "$shl") ≡ codes "function $shl(x0,x1,x2){x0=x0|0;x1=x1|0;x2=x2|0;if(x2&32){$q=x0<<x2;return 0|0;}$q=(x1<<x2)+(x0>>>1>>>~x2)|0;return x0<<x2|0;}" }
+    ensures rotation { text_of loading (codes "$rotl") ≡ codes "function $rotl(x0,x1,x2){x0=x0|0;x1=x1|0;x2=x2|0;var s0=0;if(x2&32){s0=x0;x0=x1;x1=s0;}$q=(x1<<x2)+(x0>>>1>>>~x2)|0;return(x0<<x2)+(x1>>>1>>>~x2)|0;}" }
+    ensures zeros { text_of loading (codes "$ctz") ≡ codes "function $ctz(x0,x1){x0=x0|0;x1=x1|0;if(x0){return 32-$clz32(~x0&(x0-1|0))|0;}return 64-$clz32(~x1&(x1-1|0))|0;}" }
+    ensures bits { text_of loading (codes "$pop") ≡ codes "function $pop(x0){x0=x0|0;var s0=0;while(x0){s0=s0+(x0&1)|0;x0=x0>>>1;}return s0|0;}" }
+    ensures quotient { text_of loading (codes "$divs") ≡ codes "function $divs(x0,x1){x0=x0|0;x1=x1|0;if((x1|0)==(0|0))$trap(3);if((x0|0)==(-2147483648|0)&(x1|0)==(-1|0))$trap(4);return(x0|0)/(x1|0)|0;}" }
+    ensures load { text_of loading (codes "$load64") ≡ codes "function $load64(x0){x0=x0|0;$q=($u8[x0+4>>0]|0)+(($u8[x0+5>>0]|0)<<8)+(($u8[x0+6>>0]|0)<<16)+(($u8[x0+7>>0]|0)<<24)|0;return($u8[x0>>0]|0)+(($u8[x0+1>>0]|0)<<8)+(($u8[x0+2>>0]|0)<<16)+(($u8[x0+3>>0]|0)<<24)|0;}" }
+    ensures copy { text_of loading (codes "$copy") ≡ codes "function $copy(x0,x1,x2){x0=x0|0;x1=x1|0;x2=x2|0;var s0=0;if(x2>>>0>65536)$trap(2);if(x0>>>0>65536-x2>>>0)$trap(2);if(x1>>>0>65536-x2>>>0)$trap(2);if(x0>>>0<=x1>>>0){if(((x0|x1)&3|0)==(0|0)){while((s0|0)<=(x2-4|0)){$w[x0+s0>>2]=$w[x1+s0>>2]|0;s0=s0+4|0;}}while((s0|0)<(x2|0)){$u8[x0+s0>>0]=$u8[x1+s0>>0]|0;s0=s0+1|0;}}else{if(((x0|x1|x2)&3|0)==(0|0)){while((x2|0)>(0|0)){x2=x2-4|0;$w[x0+x2>>2]=$w[x1+x2>>2]|0;}}else{while((x2|0)>(0|0)){x2=x2-1|0;$u8[x0+x2>>0]=$u8[x1+x2>>0]|0;}}}}" }
+    ensures fill { text_of loading (codes "$fill") ≡ codes "function $fill(x0,x1,x2){x0=x0|0;x1=x1|0;x2=x2|0;var s0=0;var s1=0;if(x2>>>0>65536)$trap(2);if(x0>>>0>65536-x2>>>0)$trap(2);if((x0&3|0)==(0|0)){s1=$imul(x1&255,16843009);while((s0|0)<=(x2-4|0)){$w[x0+s0>>2]=s1;s0=s0+4|0;}}while((s0|0)<(x2|0)){$u8[x0+s0>>0]=x1;s0=s0+1|0;}}" }
+{}
+
+/// The declarations of a module with imports, globals of both types and no memory, and of one with a
+/// memory; its segment, by words where it can be; the function that calls an import; exports.
+pub fn declarations()
+    ensures variables { variables_of variables ≡ codes "var $imul=stdlib.Math.imul;\nvar $clz32=stdlib.Math.clz32;\nvar $trap=foreign.$trap;\nvar $high=foreign.$high;\nvar $q=0;\nvar $h=0;\nvar i0=foreign.p;\nvar i1=foreign.q;\nvar g0=foreign.base|0;\nvar g1=foreign.base|0;\nvar g2=-2147483648;\nvar G2=256;\n" }
+    ensures views { variables_of loading ≡ codes "var $u8=new stdlib.Uint8Array(heap);\nvar $i8=new stdlib.Int8Array(heap);\nvar $w=new stdlib.Int32Array(heap);\nvar $imul=stdlib.Math.imul;\nvar $clz32=stdlib.Math.clz32;\nvar $trap=foreign.$trap;\nvar $high=foreign.$high;\nvar $q=0;\nvar $h=0;\n" }
+    ensures segment { text_of remembering (codes "$init") ≡ codes "function $init(){$u8[6]=1;$u8[7]=2;$w[2]=100992003;$u8[12]=255;$u8[13]=8;}" }
+    ensures start { text_of starting (codes "$init") ≡ codes "function $init(){f1();}" }
+    ensures narrow_import { text_of starting (codes "f0") ≡ codes "function f0(x0){x0=x0|0;i0(x0|0);}" }
+    ensures wide_import { text_of asking (codes "f0") ≡ codes "function f0(){var s0=0;s0=i0()|0;$h=$high()|0;return s0|0;}" }
+    ensures exports { exports_of calling ≡ codes "return{$init:$init,$hi:$hi,f:f1,$x7020616761696e:f0};" }
 {}
 
 /// 4294967295 + 4294967295 is 8589934590. `$init`, the function and `$hi` take a unit each, and the high
@@ -102,7 +127,7 @@ pub fn entries()
 {}
 
 /// A reply of 64 bits whose high word is asked for, and the bytes that it writes: 5 * 2^32 + 7, and -56
-/// of two bytes. The call of the import takes no unit of its own.
+/// of two bytes. What the import does itself takes no unit.
 pub fn a_reply_with_byte_writes()
     ensures alike { IsAlike asking asking_shape asking_script 100 100 }
     ensures at_2 { events_at asking asking_shape asking_script 2 ≡ Some (call_returned ∷ []) }
