@@ -1,6 +1,6 @@
 -- The module of asm.js that a module of WebAssembly is translated to.
-use Rattle.std.specs.Prelude.{ℕ, suc, ◌+◌, ◌-◌, ◌*◌, ◌/◌, ◌%◌, ◌^◌, nat_le, List, [], ◌∷◌, ◌++◌, length, take, drop, map, Option, Some, None, slice_get, codes, pos, if◌then◌else◌}
-use Rattle.std.specs.List.{find, flat_map}
+use Rattle.std.specs.Prelude.{ℕ, suc, ◌+◌, ◌-◌, ◌*◌, ◌/◌, ◌%◌, ◌^◌, nat_le, List, [], ◌∷◌, ◌++◌, length, take, drop, Option, Some, None, slice_get, codes, pos, if◌then◌else◌}
+use Rattle.std.specs.List.{flat_map}
 use Rattle.sem_words.specs.Words.{signed_of}
 use Rattle.heap_views.specs.Numbers.{little_endian}
 use Rattle.sem_laws.specs.Imports.{low_word, high_word}
@@ -14,6 +14,7 @@ use Rattle.wasm_lang.specs.Modules.{FunctionType, GlobalEntry, Exported, DataSeg
 use Rattle.wasm_lang_valid.specs.ModuleRules.{function_types, global_types, has_table, has_memory}
 use Rattle.wasm_lang_valid.specs.Typing.{Context, result_of}
 use Rattle.wasm_lang_valid.specs.Profile.{constant_offset, or_zero, memory_bytes}
+use Rattle.wasm_lang_exec.specs.Store.{page}
 use Rattle.wasm_lang_exec.specs.Code.{Trees}
 use Rattle.wasm_lang_exec.specs.Reductions.{Callee, an_import, a_function, callees}
 use Rattle.wasm_lang_exec.specs.Fits.{GlobalImport, global_imports}
@@ -221,14 +222,11 @@ translated m = record {
 
 -- ---- the heap's length
 
--- 2^12, 2^13 and so on to 2^23
-abbrev pub short_lengths : List ℕ
-short_lengths = map (λ k. 2 ^ k) (12 ∷ 13 ∷ 14 ∷ 15 ∷ 16 ∷ 17 ∷ 18 ∷ 19 ∷ 20 ∷ 21 ∷ 22 ∷ 23 ∷ [])
-
-abbrev pub or_multiple : (bytes : ℕ) → Option ℕ → ℕ
-or_multiple bytes (Some n) = n
-or_multiple bytes None = (bytes + (2 ^ 24 - 1)) / 2 ^ 24 * 2 ^ 24
+-- the first of these powers of two that is no less, and past them the least multiple of 2 ^ 24
+abbrev pub first_no_less : (exponents : List ℕ) → ℕ → ℕ
+first_no_less [] n = (n + (2 ^ 24 - 1)) / 2 ^ 24 * 2 ^ 24
+first_no_less (k ∷ ks) n = if nat_le n (2 ^ k) then 2 ^ k else first_no_less ks n
 
 -- the least length of a heap that holds so many pages
 abbrev pub heap_for : (pages : ℕ) → ℕ
-heap_for pages = let bytes = pages * 65536 in or_multiple bytes (find (λ n. nat_le bytes n) short_lengths)
+heap_for n = first_no_less (12 ∷ 13 ∷ 14 ∷ 15 ∷ 16 ∷ 17 ∷ 18 ∷ 19 ∷ 20 ∷ 21 ∷ 22 ∷ 23 ∷ []) (n * page)

@@ -1,7 +1,7 @@
 -- The tables of asm.js that stand for the table of WebAssembly: one for each form of type that a call of an entry names. In each of them an
 -- entry of another type, and a place where no entry stands, has a function that traps.
 use Rattle.std.specs.Prelude.{ℕ, ◌+◌, ◌-◌, ◌*◌, ◌/◌, ◌%◌, Bool, true, false, ◌&&◌, List, [], ◌∷◌, ◌++◌, length, map, replicate, Option, Some, None, slice_get, ◌==◌, if◌then◌else◌}
-use Rattle.std.specs.List.{filter, list_any, flat_map, range_with_len}
+use Rattle.std.specs.List.{list_any, flat_map, range_with_len}
 use Rattle.wasm_lang.specs.declared.types.ValType.{ValType}
 use Rattle.wasm_lang.specs.declared.types.ValType.TheVariants.{I32, I64}
 use Rattle.wasm_lang.specs.Modules.{FunctionType, ElementSegment, WasmModule}
@@ -17,16 +17,14 @@ use Rattle.wasm2js_code.specs.Helpers.{argument, function_of}
 
 -- ---- cells
 
+-- what a call finds: a function of the type that it names, nothing, or a function of another type
 pub data Cell : Type 0 where
-  -- the function of this number
-  entry : (function : ℕ) → Cell
-  -- no element stands there
+  a_function : (function : ℕ) → Cell
   empty : Cell
-  -- a function of another type
   other : Cell
 
+-- the least number of a type of the form, and the cells
 pub record MaskedTable : Type 0 where
-  -- the least number of a type of the form
   pub function_type : ℕ
   pub cells : List Cell
 
@@ -38,37 +36,31 @@ with_elements (e ∷ es) entries = with_elements es (replaced (or_zero (constant
 abbrev pub entries_of : WasmModule → List (Option ℕ)
 entries_of m = with_elements m.elements (replicate (table_length m) None)
 
-abbrev pub has_form : Option FunctionType → Option FunctionType → Bool
-has_form (Some t) (Some u) = same_type t u
-has_form _ u = false
+abbrev pub has_form : FunctionType → Option FunctionType → Bool
+has_form t None = false
+has_form t (Some u) = same_type t u
 
-abbrev pub cell_for : WasmModule → (n : ℕ) → Option ℕ → Cell
-cell_for m n None = empty
-cell_for m n (Some f) = if has_form (slice_get m.types n) (type_of_function m f) then entry f else other
+abbrev pub cell : WasmModule → FunctionType → Option ℕ → Cell
+cell m t None = empty
+cell m t (Some f) = if has_form t (type_of_function m f) then a_function f else other
 
 -- how many cells each table has: a power of two
 abbrev pub cell_count : WasmModule → ℕ
 cell_count m = padded (table_length m)
 
-abbrev pub cells_of : WasmModule → (n : ℕ) → List Cell
-cells_of m n = map (cell_for m n) (entries_of m) ++ replicate (cell_count m - table_length m) empty
+abbrev pub cells_of : WasmModule → FunctionType → List Cell
+cells_of m t = map (cell m t) (entries_of m) ++ replicate (cell_count m - length (entries_of m)) empty
 
--- ---- forms
+-- ---- tables: one for each form that calls of an entry name, also where they aren't reached
 
 -- of several types of one form the one with the least number counts
-abbrev pub is_called : List FunctionType → List FunctionType → (n : ℕ) → Option FunctionType → Bool
-is_called types called n None = false
-is_called types called n (Some t) = (form_number types t == n) && is_among t called
-
--- the forms that calls of an entry name, also where they aren't reached
-abbrev pub called_forms : WasmModule → List ℕ
-called_forms m = let called = called_types m.types m.bodies in filter (λ n. is_called m.types called n (slice_get m.types n)) (range_with_len 0 (length m.types))
-
-abbrev pub masked_table : WasmModule → ℕ → MaskedTable
-masked_table m n = record { function_type = n; cells = cells_of m n }
+abbrev pub masked_at : WasmModule → (called : List FunctionType) → (n : ℕ) → Option FunctionType → List MaskedTable
+masked_at m called n None = []
+masked_at m called n (Some t) =
+    if (form_number m.types t == n) && is_among t called then record { function_type = n; cells = cells_of m t } ∷ [] else []
 
 abbrev pub masked : WasmModule → List MaskedTable
-masked m = map (masked_table m) (called_forms m)
+masked m = let called = called_types m.types m.bodies in flat_map (λ n. masked_at m called n (slice_get m.types n)) (range_with_len 0 (length m.types))
 
 -- ---- what stands for missing entries, by how many words are taken and whether there is a result
 
@@ -89,7 +81,7 @@ abbrev pub stub_of : WasmModule → MaskedTable → ℕ
 stub_of m t = stub_number (slice_get m.types t.function_type)
 
 abbrev pub cell_name : (stub : ℕ) → Cell → Name
-cell_name stub (entry f) = numbered function f
+cell_name stub (a_function f) = numbered function f
 cell_name stub empty = numbered no_entry stub
 cell_name stub other = numbered other_entry stub
 
