@@ -1,7 +1,7 @@
 // node tools/engine.mjs PROGRAM [SEED [COUNT]]
-// Random texts of the first form: what the engine computes by the text, and by the module that PROGRAM makes of it.
+// Random modules of asm.js: what the engine computes by the text, and by the module of WebAssembly that PROGRAM makes of it.
 import { execFileSync } from "node:child_process";
-import { mkdtempSync, readFileSync, rmSync, writeFileSync } from "node:fs";
+import { mkdtempSync, rmSync, writeFileSync } from "node:fs";
 import { tmpdir } from "node:os";
 import { join } from "node:path";
 
@@ -14,47 +14,135 @@ function below(n) {
 }
 
 const pick = (items) => items[below(items.length)];
-const EDGES = [0, 1, -1, 2, 31, 127, 128, 8191, 8192, 65535, 2147483647, -2147483648, -2147483647, 1234567890];
-const LITERALS = [0, 1, 63, 64, 127, 128, 8191, 8192, 1048575, 1048576, 134217727, 134217728, 2147483647];
+const EDGES = [0, 1, -1, 2, 3, 31, 32, 127, 255, 4095, 4096, 65535, 2147483647, -2147483648, -2147483647, 1234567890];
+const LITERALS = [0, 1, 2, 3, 4, 7, 31, 63, 64, 128, 4095, 8192, 1048576, 134217728, 2147483647, -1, -5, -2147483648];
 const word = () => (below(3) ? pick(EDGES) : below(4294967296) | 0);
 
-function randomText() {
-  const letters = "abcdefghijklmnopqrstuvwxyz";
-  const name = () => Array.from({ length: 1 + below(8) }, () => pick(letters)).join("") ;
-  const reserved = /^(break|case|catch|class|const|continue|debugger|default|delete|do|else|enum|export|extends|false|finally|for|function|if|import|in|instanceof|let|new|null|return|super|switch|this|throw|true|try|typeof|var|void|while|with|yield|eval)$/;
-  const fresh = (taken) => {
-    for (;;) {
-      const n = name();
-      if (!reserved.test(n) && !taken.includes(n)) return n;
-    }
+const HEAP = 4096;
+// Each view with how far an index is shifted.
+const VIEWS = [["I8", "Int8Array", 0], ["U8", "Uint8Array", 0], ["I16", "Int16Array", 1], ["U16", "Uint16Array", 1], ["I32", "Int32Array", 2], ["U32", "Uint32Array", 2]];
+const GLOBALS = ["g0", "g1"];
+
+// An expression of type int, no deeper than `depth`, over these variables; it may call the functions of a smaller number.
+function int(depth, scope) {
+  const e = () => int(depth - 1, scope);
+  if (depth <= 0) return below(2) ? pick(scope.variables) : `(${pick(LITERALS)})`;
+  const view = () => {
+    const [name, , shift] = pick(VIEWS);
+    return `${name}[${below(3) ? `(${e()}&4095)` : e()}>>${shift}]`;
   };
-  const module = fresh([]);
-  const func = fresh([module]);
-  const params = [];
-  for (let k = below(9); k > 0; k--) params.push(fresh([...params, module, func]));
-  const operand = () => (params.length && below(3) ? pick(params) : String(below(2) ? pick(LITERALS) : below(2147483648)));
-  const body = below(5) ? `${operand()}${pick("+-&|^")}${operand()}` : operand();
-  const marks = params.map((p) => `${p}=${p}|0;`).join("");
-  const text = `function ${module}(){"use asm";function ${func}(${params.join(",")}){${marks}return ${body}|0;}return ${func};}`;
-  return { text, module, func, params };
+  const forms = [
+    () => pick(scope.variables),
+    () => `(${e()}${pick("+-")}${e()}|0)`,
+    () => `(${e()}${pick(["&", "|", "^", "<<", ">>"])}${e()})`,
+    () => `(${e()}>>>${e()}|0)`,
+    () => `((${e()}|0)${pick("/%")}(${e()}|0)|0)`,
+    () => `((${e()}>>>0)${pick("/%")}(${e()}>>>0)|0)`,
+    () => `((${e()}|0)${pick(["<", "<=", ">", ">=", "==", "!="])}(${e()}|0))`,
+    () => `((${e()}>>>0)${pick(["<", "<=", ">", ">=", "==", "!="])}(${e()}>>>0))`,
+    () => pick([`(~${e()})`, `(-${e()}|0)`, `(!${e()})`]),
+    () => `(${e()}?${e()}:${e()})`,
+    () => `(${view()}|0)`,
+    () => `(${view()}=${e()})`,
+    () => `(imul(${e()},${e()})|0)`,
+    () => `(clz32(${e()})|0)`,
+    () => `(${pick(scope.variables)}=${e()})`,
+    () => `(${e()},${e()})`,
+    () => `(host(${e()}|0)|0)`,
+    () => (scope.callees ? `(f${below(scope.callees)}(${e()},${e()})|0)` : pick(scope.variables)),
+    () => (scope.callees >= 2 ? `(t[${e()}&1](${e()},${e()})|0)` : e()),
+  ];
+  return pick(forms)();
 }
+
+// A statement. Loops have few turns, and each has a counter of its own.
+function statement(depth, scope, inside) {
+  const e = () => int(2, scope);
+  const s = (more = inside) => statement(depth - 1, scope, more);
+  const plain = () => pick([`${pick(scope.variables)}=${e()};`, `host(${e()}|0);`, `U8[${e()}&4095]=${e()};`]);
+  if (depth <= 0) return plain();
+  const loop = { breaks: true, turns: true };
+  const forms = [
+    plain,
+    () => `if(${e()})${s()}`,
+    () => `if(${e()}){${s()}}else{${s()}${s()}}`,
+    () => `{${s()}${s()}}`,
+    () => {
+      const k = scope.counters++;
+      const turns = 1 + below(3);
+      const body = `{${s(loop)}${s(loop)}}`;
+      return pick([
+        `for(k${k}=0;(k${k}|0)<${turns};k${k}=k${k}+1|0)${body}`,
+        `k${k}=${turns};while(k${k}){k${k}=k${k}-1|0;${body}}`,
+        `k${k}=${turns};do{k${k}=k${k}-1|0;${body}}while(k${k});`,
+        `k${k}=${turns};o${k}:while(k${k}){k${k}=k${k}-1|0;i${k}:{${body}if(${e()})${pick([`break o${k}`, `continue o${k}`, `break i${k}`])};${s(loop)}}}`,
+      ]);
+    },
+    () => {
+      const values = [0, 1, 2, 3, 5, 9, -1, 1000000].filter(() => below(2));
+      const clauses = values.map((v) => `case ${v}:${s({ ...inside, breaks: true })}${below(2) ? "break;" : ""}`);
+      return `switch(${e()}&${pick([3, 15, -1])}){${clauses.join("")}${below(2) ? `default:${s({ ...inside, breaks: true })}` : ""}}`;
+    },
+    () => (inside.breaks && below(2) ? `if(${e()})break;` : plain()),
+    () => (inside.turns && below(2) ? `if(${e()})continue;` : plain()),
+    () => (below(3) ? plain() : `return ${e()}|0;`),
+  ];
+  return pick(forms)();
+}
+
+function randomFunction(number) {
+  const scope = { variables: ["a", "b", "x", "y", ...GLOBALS], callees: number, counters: 0 };
+  const body = Array.from({ length: 2 + below(3) }, () => statement(number ? 2 : 3, scope, { breaks: false, turns: false })).join("");
+  const counters = Array.from({ length: scope.counters }, (_, k) => `,k${k}=0`).join("");
+  return `function f${number}(a,b){a=a|0;b=b|0;var x=${pick(LITERALS)},y=0${counters};${body}return ${int(2, scope)}|0;}`;
+}
+
+// A module with three functions, of which the last two call those before them.
+function randomText() {
+  const views = VIEWS.map(([name, kind]) => `var ${name}=new stdlib.${kind}(heap);`).join("");
+  return (
+    `function m(stdlib,foreign,heap){"use asm";${views}var imul=stdlib.Math.imul,clz32=stdlib.Math.clz32,host=foreign.host,g0=${pick(LITERALS)},g1=foreign.given|0;` +
+    `${[0, 1, 2].map(randomFunction).join("")}var t=[f0,f1];return {f0:f0,f1:f1,f2:f2};}`
+  );
+}
+
+// What is seen of some calls: how often the import was called and a sum over its arguments, the results, and the heap's bytes.
+function seen(make, calls) {
+  let [count, sum] = [0, 0];
+  const host = (x) => {
+    count++;
+    return (sum = (Math.imul(sum, 31) + x) | 0);
+  };
+  const { exported, bytes } = make(host, 42);
+  const results = calls.map(([name, a, b]) => exported[name](a, b));
+  return `${count} ${sum} / ${results.join(" ")} / ${bytes().join(" ")}`;
+}
+
+const byText = (text) => (host, given) => {
+  const heap = new ArrayBuffer(HEAP);
+  // Without its directive the engine runs it as JavaScript.
+  const exported = new Function(`${text.replace('"use asm";', "")} return m;`)()(globalThis, { host, given }, heap);
+  return { exported, bytes: () => new Uint8Array(heap) };
+};
+
+const byModule = (bytes) => (host, given) => {
+  const memory = new WebAssembly.Memory({ initial: 1, maximum: 1 });
+  const { exports } = new WebAssembly.Instance(new WebAssembly.Module(bytes), { env: { host, given, memory } });
+  return { exported: exports, bytes: () => new Uint8Array(memory.buffer, 0, HEAP) };
+};
 
 const folder = mkdtempSync(join(tmpdir(), "bridge-"));
 let failed = 0;
 for (let k = 0; k < Number(countText); k++) {
-  const form = randomText();
+  const text = randomText();
   const file = join(folder, "m.js");
-  writeFileSync(file, form.text + (below(2) ? "\n" : ""));
-  const bytes = execFileSync(program, ["asm2wasm", file]);
-  const byText = new Function(`${form.text.replace('"use asm";', "")} return ${form.module}();`)();
-  const byModule = new WebAssembly.Instance(new WebAssembly.Module(bytes)).exports[form.func];
-  for (let j = 0; j < 20; j++) {
-    const args = form.params.map(word);
-    if (byText(...args) !== byModule(...args)) {
-      console.log(`differs at ${args.join(" ")}: ${byText(...args)} by the text, ${byModule(...args)} by the module of ${form.text}`);
-      failed++;
-      break;
-    }
+  writeFileSync(file, text);
+  const bytes = execFileSync(program, ["asm2wasm", "--heap", String(HEAP), file]);
+  const calls = Array.from({ length: 8 }, () => [pick(["f0", "f1", "f2"]), word(), word()]);
+  const [expected, got] = [seen(byText(text), calls), seen(byModule(bytes), calls)];
+  if (expected !== got) {
+    console.log(`differs: ${expected}\nby the module: ${got}\nof ${text}\ncalls ${calls.join("; ")}`);
+    failed++;
   }
 }
 rmSync(folder, { recursive: true });

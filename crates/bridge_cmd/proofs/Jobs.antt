@@ -29,7 +29,7 @@ use Rattle.bridge_cmd.specs.declared.words.Action.{Action}
 use Rattle.bridge_cmd.specs.declared.words.Action.TheVariants.{Make, Run}
 use Rattle.bridge_cmd.specs.Command.{Asked, Running, as_binary, run, asked, asm_js, web_assembly, begins_with_zero, language_of, read_as, file_of}
 use Rattle.bridge_cmd.specs.Answers.{IsAnswered, a_bar, want_of_memory, IsScriptAnswer, an_unfit_line, no_room, MayAnswer, a_refusal, a_read_fault, no_memory}
-use Rattle.bridge_cmd.specs.Job.{Job, refused, file_limit, Holds, IsFileJob, absent, long, held, IsBarred, other_text, not_accepted, not_valid, outside, IsMade, translated, text_counted, bytes_counted, printed, listed, IsPlayed, unfit, ran, IsModuleJob, barred, made, scripted, IsJob, no_command, commanded}
+use Rattle.bridge_cmd.specs.Job.{Job, refused, file_limit, Holds, IsFileJob, absent, long, held, IsBarred, not_accepted, not_valid, outside, IsMade, translated, text_counted, bytes_counted, printed, listed, IsPlayed, unfit, ran, IsModuleJob, barred, made, scripted, IsJob, no_command, commanded}
 use Rattle.bridge_cmd.specs.Runs.{Runner, text_runner, binary_runner, IsRunner, a_text, a_binary, script_for, Prints}
 use Rattle.bridge_cmd.specs.Outcome.{EndsAs, IsCutShort, by_a_read, by_want, MayReport}
 use Rattle.bridge_cmd.specs.Reason.{Reason, read_fault, missing, too_large}
@@ -52,19 +52,12 @@ one_row bytes r q x y =
     cc
 
 one_bar : (a : Asked) (bytes : List ℕ) (r q : Reason) → IsBarred a bytes r → IsBarred a bytes q → status_of r ≡ status_of q
-one_bar a bytes r q (other_text x t) (other_text y u) = refl
-one_bar a bytes r q (other_text x t) (not_accepted g y j) = absurd cc
-one_bar a bytes r q (other_text x t) (not_valid g y j n) = absurd cc
-one_bar a bytes r q (other_text x t) (outside row o) = absurd cc
-one_bar a bytes r q (not_accepted f x i) (other_text y u) = absurd cc
 one_bar a bytes r q (not_accepted f x i) (not_accepted g y j) = ap (λ e. status_of (reason_of_text e)) (laws.one_fault bytes f g i j)
 one_bar a bytes r q (not_accepted f x i) (not_valid g y j n) = absurd cc
 one_bar a bytes r q (not_accepted f x i) (outside row o) = absurd cc
-one_bar a bytes r q (not_valid f x i n) (other_text y u) = absurd cc
 one_bar a bytes r q (not_valid f x i n) (not_accepted g y j) = absurd cc
 one_bar a bytes r q (not_valid f x i n) (not_valid g y j n') = ap (λ e. status_of (reason_of_check e)) (one_fault bytes f g i j n n')
 one_bar a bytes r q (not_valid f x i n) (outside row o) = absurd (n (not_both bytes o.«module» f o.taken i))
-one_bar a bytes r q (outside row o) (other_text y u) = absurd cc
 one_bar a bytes r q (outside row o) (not_accepted g y j) = absurd cc
 one_bar a bytes r q (outside row o) (not_valid g y j n) = absurd (n (not_both bytes o.«module» g o.taken j))
 one_bar a bytes r q (outside row o) (outside row' o') =
@@ -73,17 +66,12 @@ one_bar a bytes r q (outside row o) (outside row' o') =
 -- ---- a module that isn't taken makes nothing
 
 bar_makes_nothing : (a : Asked) (bytes output : List ℕ) (r : Reason) → IsBarred a bytes r → IsMade a bytes output → ⊥
-bar_makes_nothing a bytes output r (other_text x t) (translated i) = t i.tree i.read
-bar_makes_nothing a bytes output r (other_text x t) (text_counted c) = cc
-bar_makes_nothing a bytes output r (other_text x t) (bytes_counted c) = cc
-bar_makes_nothing a bytes output r (other_text x t) (printed m y i o) = cc
-bar_makes_nothing a bytes output r (other_text x t) (listed m y i o) = cc
-bar_makes_nothing a bytes output r (not_accepted f x i) (translated j) = cc
+bar_makes_nothing a bytes output r (not_accepted f x i) (translated m w j k b l) = laws.not_faulty bytes m f j i
 bar_makes_nothing a bytes output r (not_accepted f x i) (text_counted c) = laws.not_faulty bytes c.«module» f c.accepted i
 bar_makes_nothing a bytes output r (not_accepted f x i) (bytes_counted c) = cc
 bar_makes_nothing a bytes output r (not_accepted f x i) (printed m y j o) = laws.not_faulty bytes m f j i
 bar_makes_nothing a bytes output r (not_accepted f x i) (listed m y j o) = cc
-bar_makes_nothing a bytes output r (not_valid f x i n) (translated j) = cc
+bar_makes_nothing a bytes output r (not_valid f x i n) (translated m w j k b l) = cc
 bar_makes_nothing a bytes output r (not_valid f x i n) (text_counted c) = cc
 bar_makes_nothing a bytes output r (not_valid f x i n) (bytes_counted c) = n (not_both bytes c.«module» f c.taken i)
 bar_makes_nothing a bytes output r (not_valid f x i n) (printed m y j o) = cc
@@ -92,8 +80,6 @@ bar_makes_nothing a bytes output r (outside row o) i = elim i [ ]
 
 bar_runs_nothing : (running : Running) (file script bytes : List ℕ) (steps : ℕ) (runner : Runner) (r : Reason)
     → IsBarred (run running file script steps) bytes r → IsRunner bytes running runner → ⊥
-bar_runs_nothing running file script bytes steps runner r (other_text x t) (a_text m i) = cc
-bar_runs_nothing running file script bytes steps runner r (other_text x t) (a_binary m i) = cc
 bar_runs_nothing running file script bytes steps runner r (not_accepted f x j) (a_text m i) = laws.not_faulty bytes m f i j
 bar_runs_nothing running file script bytes steps runner r (not_accepted f x j) (a_binary m i) = cc
 bar_runs_nothing running file script bytes steps runner r (not_valid f x j n) (a_text m i) = cc
@@ -176,7 +162,6 @@ check_quiet (checks.Invalid rule section index instruction) = refl
 check_quiet checks.Memory = refl
 
 pub answered_quietly : (a : Asked) (bytes : List ℕ) (r : Reason) → IsAnswered a bytes r → tells_files r ≡ false
-answered_quietly a bytes r (a_bar (other_text x t)) = refl
 answered_quietly a bytes r (a_bar (not_accepted f x i)) = text_quiet f
 answered_quietly a bytes r (a_bar (not_valid f x i n)) = check_quiet f
 answered_quietly a bytes r (a_bar (outside row o)) = refl
@@ -268,7 +253,7 @@ of_command words told a r n no_memory = no_memory
 
 -- an action's file is that of its module
 pub file_done : (action : Action) (file : List ℕ) → file_of (done_by action file) ≡ file
-file_done (Make AsmToWasm) file = refl
+file_done (Make (AsmToWasm heap)) file = refl
 file_done (Make CheckAsm) file = refl
 file_done (Make CheckWasm) file = refl
 file_done (Make Show) file = refl
@@ -294,7 +279,6 @@ abbrev NoUsage : (Job → Type 0) → Type 0
 NoUsage Is = (r : Reason) → Is (refused r) → status_of r ≡ Usage → ⊥
 
 bar_usage : (a : Asked) (bytes : List ℕ) (r : Reason) → IsBarred a bytes r → status_of r ≡ Usage → ⊥
-bar_usage a bytes r (other_text x t) is = cc
 bar_usage a bytes r (not_accepted f x i) is = text_usage f is
 bar_usage a bytes r (not_valid f x i n) is = check_usage f is
 bar_usage a bytes r (outside row o) is = cc

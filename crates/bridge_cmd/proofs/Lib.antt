@@ -2,3 +2,4 @@ pub mod Files
 pub mod Gaining
 pub mod Jobs
 pub mod Pieces
+pub mod Translated

@@ -11,7 +11,7 @@ use Rattle.bridge_cmd.specs.declared.words.Action.TheVariants.{Make, Run}
 use Rattle.bridge_cmd.specs.declared.words.Command.{Command}
 
 abbrev pub made_by : Making → List ℕ → Asked
-made_by AsmToWasm file = spec.asm_to_wasm file
+made_by (AsmToWasm heap) file = spec.asm_to_wasm file heap.bytes
 made_by CheckAsm file = spec.check_asm file
 made_by CheckWasm file = spec.check_wasm file
 made_by Show file = spec.show file

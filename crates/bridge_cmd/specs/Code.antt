@@ -6,7 +6,7 @@ use Rattle.bridge_cmd.specs.declared.status.Status.TheVariants.{Done, Usage, Asm
 abbrev pub code_of : Status → ℕ
 code_of Done = 0
 code_of Usage = 1
-code_of (AsmRefused fault) = 2
+code_of (AsmRefused row at) = 2
 code_of (WasmRefused fault) = 3
 code_of (ScriptRefused line) = 4
 code_of ReadFault = 5

@@ -10,7 +10,8 @@ pub data Running : Type 0 where
 
 -- a command, with the names of its files, and how many units or reductions a run may take
 pub data Asked : Type 0 where
-  asm_to_wasm : (file : List ℕ) → Asked
+  -- with a heap of so many bytes
+  asm_to_wasm : (file : List ℕ) (heap : ℕ) → Asked
   check_asm : (file : List ℕ) → Asked
   check_wasm : (file : List ℕ) → Asked
   show : (file : List ℕ) → Asked
@@ -18,15 +19,14 @@ pub data Asked : Type 0 where
 
 -- the file of the module
 abbrev pub file_of : Asked → List ℕ
-file_of (asm_to_wasm file) = file
+file_of (asm_to_wasm file heap) = file
 file_of (check_asm file) = file
 file_of (check_wasm file) = file
 file_of (show file) = file
 file_of (run running file script steps) = file
 
--- a module of the first form has no heap, so that its length is of no use
 abbrev pub command_of : JobRead → Asked
-command_of (words.asm_to_wasm file heap) = asm_to_wasm file
+command_of (words.asm_to_wasm file heap) = asm_to_wasm file heap
 command_of (words.check_asm file) = check_asm file
 command_of (words.check_wasm file) = check_wasm file
 command_of (words.show file) = show file
@@ -38,7 +38,6 @@ asked words = option_map command_of (job_of words)
 
 -- the language of a module's bytes
 pub data Language : Type 0 where
-  first_form : Language
   asm_js : Language
   web_assembly : Language
 
@@ -52,7 +51,7 @@ language_of bytes = if begins_with_zero bytes then web_assembly else asm_js
 
 -- .. in which a command reads it
 abbrev pub read_as : Asked → List ℕ → Language
-read_as (asm_to_wasm file) bytes = first_form
+read_as (asm_to_wasm file heap) bytes = asm_js
 read_as (check_asm file) bytes = asm_js
 read_as (check_wasm file) bytes = web_assembly
 read_as (show file) bytes = language_of bytes

@@ -2,7 +2,6 @@
 -- checked; or the output.
 use Rattle.std.specs.Prelude.{◌≡◌, ◌≢◌, ◌<◌, ◌≤◌, ℕ, Bool, true, false, List, Option, Some, None, Err, IfSome, IsSomeAnd, length}
 use Rattle.bridge_io.specs.Outside.{Told, content_of}
-use Rattle.first_form.specs.Translation.{Translates}
 use Rattle.asm_lang.specs.Modules.{Module}
 use Rattle.asm_lang.specs.Printing.{canonical_text}
 use Rattle.cmd_check_asm.specs.declared.fault.CheckFault.{CheckFault as TextFault}
@@ -16,8 +15,9 @@ use Rattle.cmd_check_wasm.specs.declared.fault.CheckFault.TheVariants.{Memory}
 use Rattle.cmd_check_wasm.specs.Verdicts.{IsCounted, IsRefused}
 use Rattle.wasm_listing.specs.Listing.{listing}
 use Rattle.cmd_run_wasm.specs.Modules.{IsOutside}
-use Rattle.bridge_cmd.specs.Command.{Asked, asm_to_wasm, check_asm, check_wasm, show, Running, as_binary, run, file_of, asked, first_form, asm_js, web_assembly, language_of, read_as}
-use Rattle.bridge_cmd.specs.Reason.{Reason, faulty_words, not_of_the_form, not_run, bad_script, missing, too_large}
+use Rattle.asm2wasm_lang.specs.Allowed.{IsAllowed, IsBounded, IsShortest}
+use Rattle.bridge_cmd.specs.Command.{Asked, asm_to_wasm, check_asm, check_wasm, show, Running, as_binary, run, file_of, asked, asm_js, web_assembly, language_of, read_as}
+use Rattle.bridge_cmd.specs.Reason.{Reason, faulty_words, not_run, bad_script, missing, too_large}
 use Rattle.bridge_cmd.specs.Runs.{Runner, IsRunner, script_for, Prints}
 use Rattle.bridge_cmd.specs.Refused.{reason_of_check, reason_of_text}
 
@@ -53,7 +53,6 @@ pub data IsFileJob (told : Option Told) (is_script : Bool) (file : List ℕ) (Of
 
 -- why a command doesn't take its module's bytes
 pub data IsBarred : Asked → List ℕ → Reason → Type 0 where
-  other_text : {a : Asked} {bytes : List ℕ} → read_as a bytes ≡ first_form → Translates bytes None → IsBarred a bytes not_of_the_form
   not_accepted : {a : Asked} {bytes : List ℕ} (fault : TextFault) → read_as a bytes ≡ asm_js → texts.HasRefusal bytes fault
       → IsBarred a bytes (reason_of_text fault)
   not_valid : {a : Asked} {bytes : List ℕ} (fault : CheckFault) → read_as a bytes ≡ web_assembly → IsRefused bytes fault → fault ≢ Memory
@@ -62,7 +61,8 @@ pub data IsBarred : Asked → List ℕ → Reason → Type 0 where
 
 -- what a command without a script makes of its module's bytes
 pub data IsMade : Asked → List ℕ → List ℕ → Type 0 where
-  translated : {file bytes output : List ℕ} → Translates bytes (Some output) → IsMade (asm_to_wasm file) bytes output
+  translated : {file bytes output : List ℕ} {heap : ℕ} (m : Module) (w : WasmModule) → IsAcceptedText bytes m → IsAllowed m heap w → IsBounded m heap w → IsShortest output w
+      → IsMade (asm_to_wasm file heap) bytes output
   text_counted : {file bytes output : List ℕ} → texts.IsCounted bytes output → IsMade (check_asm file) bytes output
   bytes_counted : {file bytes output : List ℕ} → IsCounted bytes output → IsMade (check_wasm file) bytes output
   printed : {file bytes output : List ℕ} (m : Module) → language_of bytes ≡ asm_js → IsAcceptedText bytes m → output ≡ canonical_text m

@@ -14,7 +14,6 @@ use Rattle.cmd_run_wasm.specs.Names as outsiders
 
 pub data Reason : Type 0 where
   faulty_words : Reason
-  not_of_the_form : Reason
   -- the text isn't accepted: why, and the offset
   not_asm : (row : AsmRow) (at : ℕ) → Reason
   -- the bytes aren't of the binary format: why, and the offset
@@ -33,7 +32,6 @@ pub data Reason : Type 0 where
 
 abbrev pub parts_of : Reason → List (List ℕ)
 parts_of faulty_words = codes "usage: bridge COMMAND [--heap N] [--steps N] [FILE] [SCRIPT]" ∷ []
-parts_of not_of_the_form = codes "asm.js refused: A0 NotYet at 0" ∷ []
 parts_of (not_asm row at) = codes "asm.js refused: " ∷ texts.row_name row ∷ codes " at " ∷ decimal at ∷ []
 parts_of (not_a_binary row at) = codes "wasm refused: " ∷ row_name row ∷ codes " at " ∷ decimal at ∷ []
 parts_of (not_valid rule section index instruction) =

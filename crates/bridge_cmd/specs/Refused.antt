@@ -1,10 +1,9 @@
 -- What the code's refusals say, and the status of each.
 use Rattle.std.specs.Prelude.{ℕ, Bool, List, string_bytes}
-use Rattle.bridge_cmd.specs.Reason.{Reason, faulty_words, not_of_the_form, not_asm, not_a_binary, not_valid, not_run, bad_script, read_fault, missing, too_large, out_of_memory}
+use Rattle.bridge_cmd.specs.Reason.{Reason, faulty_words, not_asm, not_a_binary, not_valid, not_run, bad_script, read_fault, missing, too_large, out_of_memory}
 use Rattle.bridge_cmd.specs.declared.refusal.Refusal.{Refusal}
 use Rattle.bridge_cmd.specs.declared.refusal.Refusal as refusal
 use Rattle.bridge_cmd.specs.declared.status.Status as status
-use Rattle.bridge_cmd.specs.declared.status.AsmFault as asm
 use Rattle.bridge_cmd.specs.declared.status.WasmFault as wasm
 use Rattle.bridge_io.specs.declared.reading.GatherFault as gathering
 use Rattle.bridge_words.specs.declared.fault.WordsFault as words
@@ -15,7 +14,6 @@ use Rattle.script_read.specs.declared.fault.ScriptFault as scripts
 
 abbrev pub reason_of : Refusal → Reason
 reason_of refusal.TheVariants.FaultyWords = faulty_words
-reason_of refusal.TheVariants.NotOfTheForm = not_of_the_form
 reason_of (refusal.TheVariants.NotAsm row at) = not_asm row at
 reason_of (refusal.TheVariants.NotABinary row at) = not_a_binary row at
 reason_of (refusal.TheVariants.NotValid rule section index instruction) = not_valid rule section index instruction
@@ -28,8 +26,7 @@ reason_of refusal.TheVariants.OutOfMemory = out_of_memory
 
 abbrev pub status_of : Reason → status.Status
 status_of faulty_words = status.TheVariants.Usage
-status_of not_of_the_form = status.TheVariants.AsmRefused asm.TheVariants.NotOfTheForm
-status_of (not_asm row at) = status.TheVariants.AsmRefused (asm.TheVariants.Text row at)
+status_of (not_asm row at) = status.TheVariants.AsmRefused row at
 status_of (not_a_binary row at) = status.TheVariants.WasmRefused (wasm.TheVariants.Binary row at)
 status_of (not_valid rule section index instruction) = status.TheVariants.WasmRefused (wasm.TheVariants.Invalid rule section index instruction)
 status_of (not_run row value) = status.TheVariants.WasmRefused (wasm.TheVariants.Outside row value)

@@ -1,9 +1,9 @@
 //! From the words to the output.
-ghost use Rattle.std.specs.Prelude.{◌≡◌, ◌≤◌, ◌⊎◌, IfOk, IfErr, None, Bool, map, string_bytes, ℕ, List};
+ghost use Rattle.std.specs.Prelude.{◌≡◌, ◌≤◌, ◌⊎◌, IfOk, IfErr, None, Bool, map, string_bytes, length, ℕ, List};
 ghost use Rattle.bridge_io.specs.Outside.{Rose, RoseBy};
 ghost use Rattle.bridge_cmd.specs.Asking.{done_by};
 ghost use Rattle.bridge_cmd.specs.Command as spec;
-ghost use Rattle.bridge_cmd.specs.Job.{IsJob, IsModuleJob, written};
+ghost use Rattle.bridge_cmd.specs.Job.{file_limit, IsJob, IsModuleJob, written};
 ghost use Rattle.bridge_cmd.specs.Answers.{MayAnswer};
 ghost use Rattle.bridge_cmd.specs.Reason.{faulty_words, read_fault, missing, too_large, out_of_memory};
 ghost use Rattle.bridge_cmd.specs.Refused.{reason_of};
@@ -22,6 +22,7 @@ fn module_output<F: Files>(
     bytes: &[u8],
     files: &mut F,
 ) -> Result<Vec<u8>, Refusal>
+    requires { length bytes.now ≤ file_limit }
     ensures told { F.told files.new ≡ F.told files.old }
     ensures faults { F.faults files.old ≤ F.faults files.new }
     ensures absences { F.absences files.old ≤ F.absences files.new }

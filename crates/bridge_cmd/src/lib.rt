@@ -13,7 +13,7 @@ mod words;
 
 pub use asm_validate::Rule as AsmRule;
 pub use cmd_check_asm::{AsmRow, row_number as asm_row_number};
-pub use status::{AsmFault, Status, WasmFault};
+pub use status::{Status, WasmFault};
 pub use top::bridge;
 pub use wasm_lang::{Row, row_number};
 pub use wasm_validate::{Beyond, Rule, Section, beyond_number, rule_number, section_number};

@@ -1,30 +1,55 @@
 //! Commands that read one file.
-ghost use Rattle.std.specs.Prelude.{◌≡◌, ℕ, true, false, List, IfOk, IfErr};
+ghost use Rattle.std.specs.Prelude.{◌≡◌, ◌≤◌, ℕ, true, false, List, length, IfOk, IfErr};
 ghost use Rattle.bridge_cmd.specs.Asking.{made_by};
 ghost use Rattle.bridge_cmd.specs.Command as spec;
-ghost use Rattle.bridge_cmd.specs.Job.{IsMade};
+ghost use Rattle.asm_tree.specs.Views.{module_view};
+ghost use Rattle.wasm_binary_write.specs.Spelling.{spelling};
+ghost use Rattle.asm2wasm_code.specs.Modules.{translation};
+ghost use Rattle.asm2wasm_laws_writable.specs.Parts.{IsOfShortText};
+ghost use Rattle.bridge_cmd.specs.Job.{file_limit, IsMade};
 ghost use Rattle.bridge_cmd.specs.Answers.{IsAnswered};
 ghost use Rattle.bridge_cmd.specs.Refused.{reason_of};
 
 use crate::refusal::{Refusal, of_check, of_text};
 use crate::words::Making;
 use asm_grammar_print::print;
+use asm_validate::Checked;
+use asm2wasm::translate;
+use bridge_words::HeapLength;
 use cmd_check_asm::check_text;
 use cmd_check_wasm::check_bytes;
-use first_form::translate;
-use std::alloc::Global;
+use std::alloc::{AllocError, Global};
+use wasm_binary_write::{spelling_laws, write};
 use wasm_listing::listing;
 
-/// The bytes of the WebAssembly module of a text of the first form.
-fn translation(alloc: Global, text: &[u8]) -> Result<Vec<u8>, Refusal>
-    ensures made { (file : List ℕ) → IfOk result (λ output. IsMade (spec.asm_to_wasm file) text.now output.items) }
-    ensures barred { (file : List ℕ) → IfErr result (λ refusal. IsAnswered (spec.asm_to_wasm file) text.now (reason_of refusal)) }
+/// The bytes of a module of WebAssembly for an accepted module of asm.js with a heap of this length.
+fn translated(alloc: Global, text: &[u8], heap: HeapLength) -> Result<Vec<u8>, Refusal>
+    requires { length text.now ≤ file_limit }
+    ensures made { (file : List ℕ) → IfOk result (λ output. IsMade (spec.asm_to_wasm file heap.bytes) text.now output.items) }
+    ensures barred { (file : List ℕ) → IfErr result (λ refusal. IsAnswered (spec.asm_to_wasm file heap.bytes) text.now (reason_of refusal)) }
 {
-    match translate(alloc, text) {
-        Ok(Some(bytes)) => Ok(bytes),
-        Ok(None) => Err(Refusal::NotOfTheForm),
+    asm2wasm_laws_writable::texts();
+    asm2wasm_laws_writable::writable();
+    asm2wasm_laws_sessions::translations();
+    spelling_laws();
+    let checked = match check_text(alloc, text) {
+        Ok(checked) => checked,
+        Err(fault) => return Err(of_text(fault)),
+    };
+    let _home = checked.module();
+    match written(alloc, &checked, heap) {
+        Ok(output) => Ok(output),
         Err(_) => Err(Refusal::OutOfMemory),
     }
+}
+
+// The shortest spelling of the translation.
+fn written(alloc: Global, checked: &Checked, heap: HeapLength) -> Result<Vec<u8>, AllocError>
+    requires { IsOfShortText (module_view checked.now) }
+    ensures { IfOk result (λ output. output.items ≡ spelling (translation (module_view checked.now) heap.bytes)) }
+{
+    let translation = translate(alloc, checked, heap.bytes)?;
+    write(alloc, &translation)
 }
 
 /// The counts line of an accepted module of asm.js.
@@ -100,11 +125,12 @@ fn shown(alloc: Global, bytes: &[u8]) -> Result<Vec<u8>, Refusal>
 
 /// What is made of a module's bytes.
 pub(crate) fn made(alloc: Global, making: Making, bytes: &[u8]) -> Result<Vec<u8>, Refusal>
+    requires { length bytes.now ≤ file_limit }
     ensures made { (file : List ℕ) → IfOk result (λ output. IsMade (made_by making file) bytes.now output.items) }
     ensures barred { (file : List ℕ) → IfErr result (λ refusal. IsAnswered (made_by making file) bytes.now (reason_of refusal)) }
 {
     match making {
-        Making::AsmToWasm => translation(alloc, bytes),
+        Making::AsmToWasm(heap) => translated(alloc, bytes, heap),
         Making::CheckAsm => text_counts(alloc, bytes),
         Making::CheckWasm => bytes_counts(alloc, bytes),
         Making::Show => shown(alloc, bytes),

@@ -2,7 +2,7 @@
 ghost use Rattle.std.specs.Prelude.{◌≡◌, string_bytes};
 ghost use Rattle.bridge_cmd.specs.Refused.{reason_of, reason_of_check, reason_of_text, reason_of_words, reason_of_run, reason_of_script, reason_at, status_of};
 
-use crate::status::{AsmFault, Status, WasmFault};
+use crate::status::{Status, WasmFault};
 use bridge_io::GatherFault;
 use bridge_words::WordsFault;
 use cmd_check_asm::AsmRow;
@@ -16,7 +16,6 @@ use wasm_validate::{Beyond, Rule, Section};
 #[derive(Drop)]
 pub(crate) enum Refusal {
     FaultyWords,
-    NotOfTheForm,
     NotAsm {
         row: AsmRow,
         at: u64,
@@ -51,11 +50,7 @@ impl Refusal {
     {
         match self {
             Refusal::FaultyWords => Status::Usage,
-            Refusal::NotOfTheForm => Status::AsmRefused(AsmFault::NotOfTheForm),
-            Refusal::NotAsm { row, at } => Status::AsmRefused(AsmFault::Text {
-                row: *row,
-                at: *at,
-            }),
+            Refusal::NotAsm { row, at } => Status::AsmRefused { row: *row, at: *at },
             Refusal::NotABinary { row, at } => Status::WasmRefused(WasmFault::Binary {
                 row: *row,
                 at: *at,

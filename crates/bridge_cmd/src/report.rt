@@ -59,7 +59,6 @@ pub(crate) fn write_line<E: Sink>(report: &mut E, refusal: &Refusal) -> Result<(
                 "\n",
             ],
         ),
-        Refusal::NotOfTheForm => put_pieces(report, &["asm.js refused: A0 NotYet at 0", "\n"]),
         Refusal::NotAsm { row, at } => put_text(report, *row, *at),
         Refusal::NotABinary { row, at } => put_binary(report, *row, *at),
         Refusal::NotValid {

@@ -6,15 +6,6 @@ use cmd_check_asm::AsmRow;
 use wasm_tree::Row;
 use wasm_validate::{Beyond, Rule, Section};
 
-/// Why the text is no asm.js module that the command takes.
-#[derive(Clone, Copy, Debug, PartialEq, Eq)]
-pub enum AsmFault {
-    /// It isn't of the first form, the only one that is translated so far.
-    NotOfTheForm,
-    /// It isn't accepted: why, and the offset in bytes.
-    Text { row: AsmRow, at: u64 },
-}
-
 /// Why the bytes are no WebAssembly module that the command takes.
 #[derive(Clone, Copy, Debug, PartialEq, Eq)]
 pub enum WasmFault {
@@ -44,8 +35,8 @@ pub enum Status {
     Done,
     /// The words are no command.
     Usage,
-    /// The text is no asm.js module that the command takes.
-    AsmRefused(AsmFault),
+    /// The text is no accepted module of asm.js: why, and the offset in bytes.
+    AsmRefused { row: AsmRow, at: u64 },
     /// The bytes are no WebAssembly module that the command takes.
     WasmRefused(WasmFault),
     /// The script isn't in its grammar or doesn't fit the module: the line, from 1.
@@ -70,7 +61,7 @@ impl Status {
         match self {
             Status::Done => 0,
             Status::Usage => 1,
-            Status::AsmRefused(_) => 2,
+            Status::AsmRefused { .. } => 2,
             Status::WasmRefused(_) => 3,
             Status::ScriptRefused { .. } => 4,
             Status::ReadFault => 5,

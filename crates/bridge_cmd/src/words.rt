@@ -10,7 +10,8 @@ use std::alloc::Global;
 /// What is made of a module's bytes alone.
 #[derive(Clone, Copy)]
 pub(crate) enum Making {
-    AsmToWasm,
+    /// With a heap of this length.
+    AsmToWasm(HeapLength),
     CheckAsm,
     CheckWasm,
     Show,
@@ -71,7 +72,7 @@ pub(crate) fn asked(alloc: Global, words: &[String]) -> Result<Command, WordsFau
     ensures { Answers asked_by (spec.asked (map string_bytes words.now)) result }
 {
     match read_words(alloc, words)? {
-        Job::AsmToWasm(file, _) => Ok(to_make(Making::AsmToWasm, file)),
+        Job::AsmToWasm(file, heap) => Ok(to_make(Making::AsmToWasm(heap), file)),
         Job::CheckAsm(file) => Ok(to_make(Making::CheckAsm, file)),
         Job::CheckWasm(file) => Ok(to_make(Making::CheckWasm, file)),
         Job::Show(file) => Ok(to_make(Making::Show, file)),

@@ -8,7 +8,8 @@ const ADD: &[u8] = b"function m(){\"use asm\";function f(a,b){a=a|0;b=b|0;return
 const LOOPING: &[u8] =
     b"function m(s,e){\"use asm\";var g=e.g;function f(){while(1)g();}return f;}";
 
-static ROWS: [Row; 16] = [
+/// Sessions that end.
+pub(crate) static ROWS: [Row; 23] = [
     Row {
         name: "a function without parameters",
         module: b"function m(){\"use asm\";function f(){return 0;}return f;}",
@@ -94,18 +95,67 @@ static ROWS: [Row; 16] = [
         printed: b"import g\nend stopped g\n",
     },
     Row {
-        name: "units that run out",
-        module: LOOPING,
-        options: &["--steps", "2"],
-        script: b"call f\nreply 0\nreply 0\nreply 0",
-        printed: b"import g\nstill running\n",
-    },
-    Row {
         name: "a module of usual form",
         module: USUAL,
         options: &[],
         script: b"global STACKTOP 1000\ncall stackAlloc 5\ncall stackAlloc 0\ncall _put 16 -2\nreply 0",
         printed: b"result 1000\nresult 1008\nimport abort -2\nresult -6\nend done\nheap 16 fafffffffe0000000000000000000000\n",
+    },
+    Row {
+        name: "a store in a store",
+        module: b"function m(s,f,h){\"use asm\";var H=new s.Int32Array(h);function g(a,b,c){a=a|0;b=b|0;c=c|0;H[a>>2]=H[b>>2]=c;return H[a>>2]|0;}return g;}",
+        options: &["--heap", "4096"],
+        script: b"call g 0 4 7\ncall g 4096 8 9\ncall g 12 -4 3",
+        printed: b"result 7\nresult 0\nresult 3\nend done\nheap 0 07000000070000000900000003000000\n",
+    },
+    Row {
+        name: "turns of labelled loops",
+        module: b"function m(){\"use asm\";function f(n){n=n|0;var i=0,j=0,r=0;a:for(;(i|0)<(n|0);i=i+1|0){j=0;do{j=j+1|0;if((j|0)==2)continue a;if((i|0)==3)break a;r=r+j|0;}while((j|0)<5);}return r+(i<<8)|0;}return f;}",
+        options: &[],
+        script: b"call f 2\ncall f 9",
+        printed: b"result 514\nresult 771\nend done\n",
+    },
+    Row {
+        name: "a turn of a loop from inside a switch",
+        module: b"function m(){\"use asm\";function f(n){n=n|0;var r=0;while(n){n=n-1|0;switch(n|0){case 3:continue;case 2:r=r+10|0;break;default:r=r+1|0;}r=r+100|0;}return r|0;}return f;}",
+        options: &[],
+        script: b"call f 5",
+        printed: b"result 413\nend done\n",
+    },
+    Row {
+        name: "a switch by a table of labels",
+        module: b"function m(){\"use asm\";function f(x){x=x|0;switch(x|0){case -2:return 1;case 0:return 2;case -1:return 3;case 2:return 4;case 1:return 5;}return 6;}return f;}",
+        options: &[],
+        script: b"call f -2\ncall f -1\ncall f 0\ncall f 1\ncall f 2\ncall f 3\ncall f -3\ncall f -2147483648",
+        printed: b"result 1\nresult 3\nresult 2\nresult 5\nresult 4\nresult 6\nresult 6\nresult 6\nend done\n",
+    },
+    Row {
+        name: "operators of the standard library, conditions and commas",
+        module: b"function m(s){\"use asm\";var p=s.Math.imul,z=s.Math.clz32;function f(a,b){a=a|0;b=b|0;var c=0;c=(a>>>0)<(b>>>0)?p(a,b)|0:(z(a)|0);return (a=c,~a,!a|0,a+(b%3|0)|0)|0;}return f;}",
+        options: &[],
+        script: b"call f 3 5\ncall f -1 7\ncall f 16 1",
+        printed: b"result 17\nresult 1\nresult 28\nend done\n",
+    },
+    Row {
+        name: "unsigned quotients",
+        module: b"function m(){\"use asm\";function f(a,b){a=a|0;b=b|0;return ((a>>>0)/(b>>>0)>>>0)+((a>>>0)%(b>>>0)|0)|0;}return f;}",
+        options: &[],
+        script: b"call f -1 10\ncall f 7 0",
+        printed: b"result 429496734\nresult 0\nend done\n",
+    },
+    Row {
+        name: "calls by two tables, one inside the other",
+        module: b"function m(s,e){\"use asm\";var g=e.g;function a(x){x=x|0;return x+1|0;}function b(x){x=x|0;g(x|0);return x+2|0;}function n(){}function f(i){i=i|0;u[i&1]();return t[i&1](t[i>>1&1](g(i|0)|0)|0)|0;}var u=[n,n],t=[a,b];return f;}",
+        options: &[],
+        script: b"call f 2\ncall f 1\nreply 40\nreply 0\nreply 50\nreply 0",
+        printed: b"import g 2\nimport g 40\nresult 43\nimport g 1\nimport g 51\nresult 53\nend done\n",
+    },
+    Row {
+        name: "variables of the module",
+        module: b"function m(s,e){\"use asm\";var a=7,b=e.b|0,c=-1;function f(){a=a+b|0;c=a*3|0;return c|0;}function g(){var a=100,d=5;a=a+d|0;return a+c|0;}return {f:f,g:g};}",
+        options: &[],
+        script: b"global b 5\ncall f\ncall g\ncall f",
+        printed: b"result 36\nresult 141\nresult 51\nend done\n",
     },
     Row {
         name: "an empty script",
@@ -129,6 +179,18 @@ fn sessions_are_printed(rt: HostRuntime) -> Result<(), Fail> {
         prints(&rt, rt.alloc(), "run-asm", row)?;
     }
     Ok(())
+}
+
+#[test]
+fn units_run_out(rt: HostRuntime) -> Result<(), Fail> {
+    let row = Row {
+        name: "units that run out",
+        module: LOOPING,
+        options: &["--steps", "2"],
+        script: b"call f\nreply 0\nreply 0\nreply 0",
+        printed: b"import g\nstill running\n",
+    };
+    prints(&rt, rt.alloc(), "run-asm", &row)
 }
 
 #[test]

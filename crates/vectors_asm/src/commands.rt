@@ -74,7 +74,7 @@ static ROWS: [Row; 35] = [
         &["asm2wasm", "times.js"],
         2,
         b"",
-        b"asm.js refused: A0 NotYet at 0\n",
+        b"asm.js refused: A14 Operand at 59\n",
     ),
     (&["asm2wasm", "no.js"], 7, b"", b"missing: no.js\n"),
     (

@@ -21,4 +21,6 @@ mod program;
 #[cfg(test)]
 mod rows;
 #[cfg(test)]
+mod translations;
+#[cfg(test)]
 mod writing;

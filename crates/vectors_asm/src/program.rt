@@ -44,6 +44,13 @@ pub(crate) struct Ending {
     report: MemSink,
 }
 
+impl Ending {
+    /// What was written to the output.
+    pub(crate) fn output(&self) -> &[u8] {
+        self.out.bytes()
+    }
+}
+
 /// A call of the program with these words after its name, and the files `m` and `s`.
 pub(crate) fn call(
     alloc: Global,
@@ -55,7 +62,7 @@ pub(crate) fn call(
     let mut files = MemFiles::new(alloc);
     files.add("m", module)?;
     files.add("s", script)?;
-    let mut out = MemSink::new(alloc, 1000, 1000)?;
+    let mut out = MemSink::new(alloc, 100_000, 1000)?;
     let mut report = MemSink::new(alloc, 1000, 1000)?;
     let status = bridge(alloc, &all, &mut files, &mut out, &mut report);
     Ok(Ending {

@@ -1,0 +1,7 @@
+//! The translation of accepted modules of asm.js to valid modules of WebAssembly.
+#![tactic(auto)]
+
+mod bodies;
+mod translating;
+
+pub use translating::translate;

@@ -1,0 +1,33 @@
+-- What is written of an accepted text is the shortest spelling of a module that may be written for it.
+use Rattle.std.proofs.Common.{◌≡◌, ◌≤◌, ℕ, true, List, length, refl, sym, ◌∙◌, subst}
+use Rattle.wasm_lang.specs.Grammar.{IsModuleBytes}
+use Rattle.wasm_lang.specs.Modules.{WasmModule}
+use Rattle.wasm_lang.specs.Shape.{IsWritable}
+use Rattle.wasm_binary_write.specs.Spelling.{spelling}
+use Rattle.asm_lang.specs.Heights.{IsWellFormed}
+use Rattle.asm_lang.specs.Modules.{Module}
+use Rattle.asm_lang_valid.specs.Texts.{IsAcceptedText}
+use Rattle.asm2wasm_lang.specs.Heaps.{is_heap_length}
+use Rattle.asm2wasm_code.specs.Modules.{translation}
+use Rattle.asm2wasm_laws_sessions.specs.Laws.{TranslationIsAllowed, TranslationIsBounded}
+use Rattle.asm2wasm_laws_writable.specs.Laws.{TranslationIsWritable}
+use Rattle.bridge_words.specs.Number.{is_heap}
+use Rattle.bridge_cmd.specs.Command.{asm_to_wasm}
+use Rattle.bridge_cmd.specs.Job.{file_limit, IsMade, translated}
+
+-- the lengths that the words may give are those that a module is translated for
+pub same_lengths : (n : ℕ) → is_heap n ≡ true → is_heap_length n ≡ true
+unfolding is_heap is_heap_length
+same_lengths n h = h
+
+pub made : TranslationIsAllowed → TranslationIsBounded → TranslationIsWritable
+    → ((w : WasmModule) → IsWritable w → IsModuleBytes (spelling w) w)
+    → ((w : WasmModule) (bytes : List ℕ) → IsModuleBytes bytes w → length (spelling w) ≤ length bytes)
+    → (file text output : List ℕ) (heap : ℕ) (m : Module) → IsAcceptedText text m → IsWellFormed m → length text ≤ file_limit → is_heap heap ≡ true
+    → output ≡ spelling (translation m heap) → IsMade (asm_to_wasm file heap) text output
+made allowed bounded writable spells shortest file text output heap m accepted formed short length_is is =
+    let w = translation m heap in
+    let fits = same_lengths heap length_is in
+    subst (IsMade (asm_to_wasm file heap) text) (sym is)
+    (translated m w accepted (allowed m heap accepted.accepted formed fits) (bounded m heap accepted.accepted formed fits)
+    (record { spells = spells w (writable text m heap accepted short fits); no_shorter = shortest w }))

@@ -1,0 +1,24 @@
+use Rattle.std.proofs.Common.{refl, sym, subst}
+use Rattle.asm_tree.specs.Views.{module_view}
+use Rattle.asm_lang.specs.Heights.{IsWellFormed}
+use Rattle.bridge_cmd.specs.Command.{asm_to_wasm}
+use Rattle.bridge_cmd.specs.Answers.{want_of_memory}
+use Rattle.bridge_cmd.proofs.Jobs.{text_answer}
+use Rattle.bridge_cmd.proofs.Translated.{made}
+use Rattle.bridge_cmd.proofs.making.translated.Goals as goal
+
+pub returns-in-Err-clause-barred : goal.returns-in-Err-clause-barred
+returns-in-Err-clause-barred c = λ file.
+    rw c.of_text.ensures (text_answer (asm_to_wasm file c.args.heap.bytes) c.args.text.now c.in-Err.fault refl c.in-Err.ensures.refused)
+
+pub written-requires : goal.written-requires
+written-requires c = c.texts.ensures c.args.text.now (module_view c.in-Ok.checked) c.in-Ok.ensures.accepted c.requires
+
+pub returns-in-Ok-written-clause-made : goal.returns-in-Ok-written-clause-made
+returns-in-Ok-written-clause-made c = λ file.
+    made c.translations.ensures.allowed c.translations.ensures.bounded c.writable.ensures c.spelling_laws.ensures.spells c.spelling_laws.ensures.shortest
+    file c.args.text.now c.in-Ok-written.output.items c.args.heap.bytes (module_view c.in-Ok.checked) c.in-Ok.ensures.accepted
+    c.module-home.ensures.well_formed c.requires c.args.heap.allowed c.in-Ok-written.ensures
+
+pub returns-clause-barred : goal.returns-clause-barred
+returns-clause-barred c = λ file. want_of_memory
