@@ -181,16 +181,17 @@ fn sessions_are_printed(rt: HostRuntime) -> Result<(), Fail> {
     Ok(())
 }
 
+static OUT_OF_UNITS: Row = Row {
+    name: "units that run out",
+    module: LOOPING,
+    options: &["--steps", "2"],
+    script: b"call f\nreply 0\nreply 0\nreply 0",
+    printed: b"import g\nstill running\n",
+};
+
 #[test]
 fn units_run_out(rt: HostRuntime) -> Result<(), Fail> {
-    let row = Row {
-        name: "units that run out",
-        module: LOOPING,
-        options: &["--steps", "2"],
-        script: b"call f\nreply 0\nreply 0\nreply 0",
-        printed: b"import g\nstill running\n",
-    };
-    prints(&rt, rt.alloc(), "run-asm", &row)
+    prints(&rt, rt.alloc(), "run-asm", &OUT_OF_UNITS)
 }
 
 #[test]
