@@ -55,10 +55,10 @@ function int(depth, scope) {
   return pick(forms)();
 }
 
-// A statement. Loops have few turns, and each has a counter of its own.
+// A statement. Loops have few turns, each has a counter of its own, and calls of the module's functions stand outside of them.
 function statement(depth, scope, inside) {
   const e = () => int(2, scope);
-  const s = (more = inside) => statement(depth - 1, scope, more);
+  const s = (more = inside) => statement(depth - 1, more.turns ? { ...scope, callees: 0 } : scope, more);
   const plain = () => pick([`${pick(scope.variables)}=${e()};`, `host(${e()}|0);`, `U8[${e()}&4095]=${e()};`]);
   if (depth <= 0) return plain();
   const loop = { breaks: true, turns: true };
@@ -68,14 +68,14 @@ function statement(depth, scope, inside) {
     () => `if(${e()}){${s()}}else{${s()}${s()}}`,
     () => `{${s()}${s()}}`,
     () => {
-      const k = scope.counters++;
+      const k = scope.counts.loops++;
       const turns = 1 + below(3);
       const body = `{${s(loop)}${s(loop)}}`;
       return pick([
         `for(k${k}=0;(k${k}|0)<${turns};k${k}=k${k}+1|0)${body}`,
-        `k${k}=${turns};while(k${k}){k${k}=k${k}-1|0;${body}}`,
-        `k${k}=${turns};do{k${k}=k${k}-1|0;${body}}while(k${k});`,
-        `k${k}=${turns};o${k}:while(k${k}){k${k}=k${k}-1|0;i${k}:{${body}if(${e()})${pick([`break o${k}`, `continue o${k}`, `break i${k}`])};${s(loop)}}}`,
+        `{k${k}=${turns};while(k${k}){k${k}=k${k}-1|0;${body}}}`,
+        `{k${k}=${turns};do{k${k}=k${k}-1|0;${body}}while(k${k});}`,
+        `{k${k}=${turns};o${k}:while(k${k}){k${k}=k${k}-1|0;i${k}:{${body}if(${e()})${pick([`break o${k}`, `continue o${k}`, `break i${k}`])};${s(loop)}}}}`,
       ]);
     },
     () => {
@@ -91,9 +91,9 @@ function statement(depth, scope, inside) {
 }
 
 function randomFunction(number) {
-  const scope = { variables: ["a", "b", "x", "y", ...GLOBALS], callees: number, counters: 0 };
+  const scope = { variables: ["a", "b", "x", "y", ...GLOBALS], callees: number, counts: { loops: 0 } };
   const body = Array.from({ length: 2 + below(3) }, () => statement(number ? 2 : 3, scope, { breaks: false, turns: false })).join("");
-  const counters = Array.from({ length: scope.counters }, (_, k) => `,k${k}=0`).join("");
+  const counters = Array.from({ length: scope.counts.loops }, (_, k) => `,k${k}=0`).join("");
   return `function f${number}(a,b){a=a|0;b=b|0;var x=${pick(LITERALS)},y=0${counters};${body}return ${int(2, scope)}|0;}`;
 }
 
