@@ -131,7 +131,7 @@ pub(crate) static ROWS: [Row; 23] = [
     },
     Row {
         name: "operators of the standard library, conditions and commas",
-        module: b"function m(s){\"use asm\";var p=s.Math.imul,z=s.Math.clz32;function f(a,b){a=a|0;b=b|0;var c=0;c=(a>>>0)<(b>>>0)?p(a,b)|0:(z(a)|0);return (a=c,~a,!a|0,a+(b%3|0)|0)|0;}return f;}",
+        module: b"function m(s){\"use asm\";var p=s.Math.imul,z=s.Math.clz32;function f(a,b){a=a|0;b=b|0;var c=0;c=(a>>>0)<(b>>>0)?p(a,b)|0:(z(a)|0);return (a=c,~a,!a|0,a+((b|0)%3|0)|0)|0;}return f;}",
         options: &[],
         script: b"call f 3 5\ncall f -1 7\ncall f 16 1",
         printed: b"result 17\nresult 1\nresult 28\nend done\n",
