@@ -2,6 +2,7 @@
 #![tactic(auto)]
 
 mod bodies;
+mod standing;
 mod translating;
 
 pub use translating::translate;

@@ -2,8 +2,11 @@
 ghost use Rattle.std.specs.Prelude.{◌≡◌, true, map, IfOk};
 ghost use Rattle.sem_words.specs.Lists.{list_items};
 ghost use Rattle.wasm_tree.specs.Views.{type_of, import_of, global_of, export_of, element_of, module_of};
+ghost use Rattle.wasm_lang.specs.Limits.{IsWithinReader};
+ghost use Rattle.wasm_lang.specs.Shape.{IsShaped, IsWritable};
 ghost use Rattle.asm_tree.specs.Views.{module_view};
 ghost use Rattle.asm_lang_valid.specs.Scope.{signature_of};
+ghost use Rattle.asm2wasm_lang.specs.Allowed.{IsAllowed, IsBounded};
 ghost use Rattle.asm2wasm_lang.specs.Heaps.{is_heap_length};
 ghost use Rattle.asm2wasm_lang.specs.Calling.{exports_given};
 ghost use Rattle.asm2wasm_code.specs.Numbers.{signatures, type_number, int_variables};
@@ -11,8 +14,10 @@ ghost use Rattle.asm2wasm_code.specs.Modules.{type_for, imports_of, table_for, g
 ghost use Rattle.asm2wasm_laws_writable.specs.Parts.{IsOfShortText};
 ghost use Rattle.asm2wasm_sections.specs.Few.{FewTypes, FewFunctions, FewEntries, FewGlobals};
 ghost use Rattle.asm2wasm.specs.Narrow.{AreNarrow};
+ghost use Rattle.asm2wasm.specs.Standing.{NeverTraps, HasFunctions, HasTables};
 
 use crate::bodies::bodies;
+use crate::standing::translation_stands;
 use asm_validate::Checked;
 use asm2wasm_numbers::ModuleNumbers;
 use asm2wasm_sections::laws::numbers_are_few;
@@ -39,6 +44,9 @@ struct Middle<'a> {
 }
 
 /// The module of WebAssembly for an accepted module of asm.js, which a short text says, with a heap of so many bytes.
+///
+/// It is valid, called as asked, and shows what the text shows, at a bounded pace. Its sessions never trap; it can be
+/// written, and a reader takes it.
 pub fn translate<'a>(
     alloc: Global,
     checked: &'a Checked,
@@ -46,8 +54,18 @@ pub fn translate<'a>(
 ) -> Result<Module<'a>, AllocError>
     requires length { is_heap_length heap ≡ true }
     requires short { IsOfShortText (module_view checked.now) }
-    ensures { IfOk result (λ w. module_of w ≡ translation (module_view checked.now) heap) }
+    ensures exact { IfOk result (λ w. module_of w ≡ translation (module_view checked.now) heap) }
+    ensures allowed { IfOk result (λ w. IsAllowed (module_view checked.now) heap (module_of w)) }
+    ensures bounded { IfOk result (λ w. IsBounded (module_view checked.now) heap (module_of w)) }
+    ensures never_traps { IfOk result (λ w. NeverTraps (module_view checked.now) heap (module_of w)) }
+    ensures within { IfOk result (λ w. IsWithinReader (module_of w)) }
+    ensures shaped { IfOk result (λ w. IsShaped (module_of w)) }
+    ensures writable { IfOk result (λ w. IsWritable (module_of w)) }
+    ensures functions { IfOk result (λ w. HasFunctions (module_view checked.now) heap (module_of w)) }
+    ensures tables { IfOk result (λ w. HasTables (module_view checked.now) (module_of w)) }
 {
+    translation_stands();
+    let _home = checked.module();
     let numbers = ModuleNumbers::new(alloc, checked)?;
     translated(alloc, &numbers, heap)
 }

@@ -1,0 +1,90 @@
+-- The translation of a module stands for it.
+use Rattle.std.proofs.Common.{◌≡◌, ℕ, ◌+◌, true, List, [], ◌∷◌, ◌++◌, length, map, Some, Result, IfOk, refl, sym, ap, ◌∙◌, subst, arith}
+use Rattle.std.specs.Prelude.{Ok, Err, slice_get, option_map}
+use Rattle.std.proofs.lemmas.List.{length-append}
+use Rattle.std.proofs.lemmas.Option.{slice_get-map}
+use Rattle.sem_laws.specs.Observation.{trapped}
+use Rattle.wasm_lang.specs.Modules.{WasmModule}
+use Rattle.wasm_lang_valid.specs.ModuleRules.{imported_functions}
+use Rattle.wasm_lang_exec.specs.Session.{first_store, with_entries}
+use Rattle.wasm_laws_write.specs.Laws.{FittingAreWritable}
+use Rattle.asm_lang.specs.Heights.{IsWellFormed}
+use Rattle.asm_lang.specs.Modules.{Table, Module}
+use Rattle.asm_lang_valid.specs.LimitRows.{foreign_calls}
+use Rattle.asm_lang_valid.specs.Refusal.{IsAccepted, function_number}
+use Rattle.asm2wasm_lang.specs.Heaps.{is_heap_length}
+use Rattle.asm2wasm_lang.specs.Tables.{entries_of, bases_of}
+use Rattle.asm2wasm_code.specs.Modules.{table_for, elements_for, translation}
+use Rattle.asm2wasm_laws_modules.specs.Laws.{FunctionsAreCounted, FunctionsAreAsMany, FunctionsAreCalled, TablesAreFilled, TranslationIsWithin}
+use Rattle.asm2wasm_laws_sessions.specs.Laws.{SessionsNeverTrap, TranslationIsAllowed, TranslationIsBounded}
+use Rattle.asm2wasm_laws_writable.specs.Parts.{IsOfShortText}
+use Rattle.asm2wasm_laws_writable.specs.Laws.{TranslationIsShaped, TranslationsNumbersFit, TranslationsSectionsFit}
+use Rattle.asm2wasm.specs.Standing.{NeverTraps, HasFunctions, tables_for, segments_for, HasTables, StandsFor}
+
+-- ---- traps
+
+never_traps : SessionsNeverTrap → (m : Module) (size : ℕ) → IsAccepted m → IsWellFormed m → is_heap_length size ≡ true → NeverTraps m size (translation m size)
+never_traps no_traps m size accepted formed h = λ s bytes fits n kind is. no_traps m size s accepted formed h bytes fits n (trapped kind) is
+
+-- ---- functions
+
+front_length : {A : Type 0} (xs ys : List A) (a b : ℕ) → length (xs ++ ys) ≡ a + b → length ys ≡ b → length xs ≡ a
+front_length xs ys a b whole rest = omega (arith, length-append xs ys, whole, rest)
+
+has_functions : FunctionsAreCounted → FunctionsAreAsMany → FunctionsAreCalled → (m : Module) (size : ℕ) → HasFunctions m size (translation m size)
+has_functions counted as_many called m size =
+    let w = translation m size in record {
+      imported = front_length (imported_functions w.imports) w.functions (length (foreign_calls m)) (length m.functions) (counted m size) (as_many m size).0;
+      as_many = (as_many m size).0;
+      called = called m size;
+    }
+
+-- ---- the table
+
+same_tables : (m : Module) (ts : List Table) → table_for m ts ≡ tables_for ts (length (entries_of m))
+same_tables m [] = refl
+same_tables m (t ∷ ts) = refl
+
+same_segments : (m : Module) (ts : List Table) → elements_for m ts ≡ segments_for ts (map (λ n. length (foreign_calls m) + n) (entries_of m))
+same_segments m [] = refl
+same_segments m (t ∷ ts) = refl
+
+abbrev EndToEnd : Type 0
+EndToEnd =
+    (m : Module) (n i base : ℕ) (t : Table) (name : List ℕ) → slice_get m.tables n ≡ Some t → slice_get (bases_of m) n ≡ Some base → slice_get t.members i ≡ Some name
+    → slice_get (entries_of m) (base + i) ≡ Some (function_number m.functions name)
+
+has_tables : TablesAreFilled → EndToEnd → (m : Module) (size : ℕ) → HasTables m (translation m size)
+has_tables filled end_to_end m size =
+    let w = translation m size in
+    let k = length (foreign_calls m) in record {
+      table = same_tables m m.tables;
+      segment = same_segments m m.tables;
+      fits = λ s. (filled m size s).0;
+      filled = λ s n i base t name at begins member.
+          ap (λ es. slice_get es (base + i)) (filled m size s).1
+          ∙ slice_get-map (λ j. Some (k + j)) (entries_of m) (base + i)
+          ∙ ap (option_map (λ j. Some (k + j))) (end_to_end m n i base t name at begins member);
+    }
+
+-- ---- the whole
+
+pub translation_stands : TranslationIsAllowed → TranslationIsBounded → SessionsNeverTrap → TranslationIsWithin
+    → TranslationIsShaped → TranslationsNumbersFit → TranslationsSectionsFit → FittingAreWritable
+    → FunctionsAreCounted → FunctionsAreAsMany → FunctionsAreCalled → TablesAreFilled → EndToEnd
+    → (m : Module) (size : ℕ) → IsAccepted m → IsWellFormed m → IsOfShortText m → is_heap_length size ≡ true → StandsFor m size (translation m size)
+translation_stands allowed bounded no_traps within shaped numbers sections writable counted as_many called filled end_to_end m size accepted formed short h = record {
+  allowed = allowed m size accepted formed h;
+  bounded = bounded m size accepted formed h;
+  never_traps = never_traps no_traps m size accepted formed h;
+  within = within m size accepted formed;
+  shaped = shaped m size formed;
+  writable = writable (translation m size) (shaped m size formed) (numbers m size accepted formed short h) (sections m size accepted formed short h);
+  functions = has_functions counted as_many called m size;
+  tables = has_tables filled end_to_end m size;
+}
+
+-- what holds of a module holds of the one that was made, where it is this one
+pub of_made : {A E : Type 0} (view : A → WasmModule) (w : WasmModule) (P : WasmModule → Type 0) (r : Result A E) → P w → IfOk r (λ x. view x ≡ w) → IfOk r (λ x. P (view x))
+of_made view w P (Ok x) holds is = subst P (sym is) holds
+of_made view w P (Err e) holds is = tt

@@ -1,0 +1,24 @@
+//! What is proved of the translation.
+ghost use Rattle.std.specs.Prelude.{◌≡◌, ℕ, true};
+ghost use Rattle.asm_lang.specs.Heights.{IsWellFormed};
+ghost use Rattle.asm_lang.specs.Modules.{Module};
+ghost use Rattle.asm_lang_valid.specs.Refusal.{IsAccepted};
+ghost use Rattle.asm2wasm_lang.specs.Heaps.{is_heap_length};
+ghost use Rattle.asm2wasm_code.specs.Modules.{translation};
+ghost use Rattle.asm2wasm_laws_writable.specs.Parts.{IsOfShortText};
+ghost use Rattle.asm2wasm.specs.Standing.{StandsFor};
+
+/// The translation of an accepted module that a short text says stands for it.
+pub(crate) fn translation_stands()
+    ensures { (m : Module) (size : ℕ) → IsAccepted m → IsWellFormed m → IsOfShortText m → is_heap_length size ≡ true → StandsFor m size (translation m size) }
+{
+    asm2wasm_laws_sessions::translations();
+    asm2wasm_laws_sessions::sessions();
+    asm2wasm_laws_modules::limits();
+    asm2wasm_laws_modules::functions();
+    asm2wasm_laws_modules::calls();
+    asm2wasm_laws_writable::shapes();
+    asm2wasm_laws_writable::rooms();
+    wasm_laws_write::writable();
+    asm2wasm_lang::tables_end_to_end();
+}

@@ -1,0 +1,12 @@
+//! What scripts that are read from texts write.
+#![tactic(auto)]
+
+ghost use Rattle.std.specs.Prelude.{◌≡◌, ℕ, List, Ok};
+ghost use Rattle.sem_laws.specs.Script.{ScriptPlain};
+ghost use Rattle.script_read.specs.Reading.{said_script};
+ghost use Rattle.asm2wasm_lang.specs.Allowed.{WritesBytes};
+
+/// Each script that a text says writes bytes, by its heap lines and by its replies.
+pub fn read_scripts_write_bytes()
+    ensures { (text : List ℕ) (s : ScriptPlain) → said_script text ≡ Ok s → WritesBytes s }
+{}
