@@ -1,7 +1,8 @@
 -- The types that calls named, one more at a time.
-use Rattle.std.proofs.Common.{◌≡◌, inl, inr, ℕ, ◌+◌, ◌<◌, Bool, true, false, not, cond, ◌||◌, nat_eq, List, [], ◌∷◌, ◌++◌, length, get_or, map, take, Some, None, refl, sym, ap, ◌∙◌, subst, arith, append_assoc, append-nil}
+use Rattle.std.proofs.Common.{◌≡◌, inl, inr, ℕ, ◌+◌, ◌^◌, ◌<◌, ◌≤◌, Bool, true, false, not, cond, ◌||◌, nat_eq, List, [], ◌∷◌, ◌++◌, length, get_or, map, take, Some, None, refl, sym, ap, ◌∙◌, subst, arith, append_assoc, append-nil}
 use Rattle.std.specs.Global.{Vec}
-use Rattle.std.specs.List.{list_any}
+use Rattle.std.specs.List.{list_any, IsDistinct}
+use Rattle.std.proofs.lemmas.Map.Steps.{length-le_from_distinct_below}
 use Rattle.std.specs.Prelude.{slice_get, Result, Ok, Err, IfOk, if◌then◌else◌}
 use Rattle.std.specs.Cmp.Lexicographic.{pointwise}
 use Rattle.std.proofs.lemmas.List.{map-append, length-append}
@@ -45,6 +46,20 @@ noted f keys new k is e = by (holds keys f) refl
     by true h = subst (IsNoted f keys) (sym (e ∙ ap (λ b. if b then keys else keys ++ k ∷ []) (same ∙ h))) (known h)
     by false h = subst (IsNoted f keys) (sym (e ∙ ap (λ b. if b then keys else keys ++ k ∷ []) (same ∙ h))) (fresh h k is)
 
+abbrev AreSmall : List ℕ → Type 0
+AreSmall keys = (n : ℕ) → list_any (nat_eq n) keys ≡ true → n < 2 ^ 32
+
+one_small : (n : ℕ) (keys : List ℕ) → n < 2 ^ 32 → AreSmall keys → AreSmall (keys ++ n ∷ [])
+one_small n keys low are k e = elim (bool (list_any (nat_eq k) keys)) [ inl h ↦ are k h | inr h ↦ this (sym (list_any-append (nat_eq k) keys (n ∷ []) ∙ ap (λ b. b || (nat_eq k n || false)) h ∙ or_false (nat_eq k n)) ∙ e) ]
+  where
+    this : nat_eq k n ≡ true → k < 2 ^ 32
+    this q = let same : n ≡ k = sym (grind arith) in subst (λ m. m < 2 ^ 32) same low
+
+-- one more number, and one more form at most
+one_longer_each : (n : ℕ) (numbers more : List ℕ) → more ≡ numbers ++ n ∷ [] → (keys new : List (Vec ℕ)) (f : List ℕ) → IsNoted f keys new → length keys ≤ length numbers → length new ≤ length more
+one_longer_each n numbers more e keys _ f (known h) le = let l = ap length e ∙ length-append numbers (n ∷ []) in omega (arith, l, le)
+one_longer_each n numbers more e keys _ f (fresh h k is) le = let l = ap length e ∙ length-append numbers (n ∷ []) in let m = length-append keys (k ∷ []) in omega (arith, l, m, le)
+
 module _ (types before : List FunctionType) (n : ℕ) (t : FunctionType) (stands : slice_get types n ≡ Some t) where
   abbrev AreNumbers : List ℕ → List FunctionType → Type 0
   AreNumbers keys called = (n : ℕ) → list_any (nat_eq n) keys ≡ true → (t : FunctionType) × (slice_get types n ≡ Some t) × (is_among t called ≡ true)
@@ -82,13 +97,28 @@ module _ (types before : List FunctionType) (n : ℕ) (t : FunctionType) (stands
       let same : a.0 ≡ t = let q : Some a.0 ≡ Some t = sym a.1 ∙ stands in cc in
       let there : is_among t before ≡ true = subst (λ u. is_among u before ≡ true) same a.2 in
       let f = subst (λ ks. AreForms ks (before ++ t ∷ [])) (sym forms) (same_forms c.forms.keys there (is.forms, is.count)) in
-      record { numbers = subst (λ ks. AreNumbers ks (before ++ t ∷ [])) (sym numbers) (still c.numbers.keys is.numbers); forms = f.0; count = f.1 }
+      record {
+        numbers = subst (λ ks. AreNumbers ks (before ++ t ∷ [])) (sym numbers) (still c.numbers.keys is.numbers);
+        forms = f.0;
+        count = f.1;
+        small = subst AreSmall (sym numbers) is.small;
+        few_numbers = subst (λ ks. length ks ≤ 2 ^ 32) (sym numbers) is.few_numbers;
+        few_forms = subst (λ ks. length ks ≤ length d.numbers.keys) (sym forms) (subst (λ ks. length c.forms.keys ≤ length ks) (sym numbers) is.few_forms);
+      }
 
   -- .. and wasn't
-  pub unseen : (c d : Called) → d.numbers.keys ≡ c.numbers.keys ++ n ∷ [] → IsNoted (form t) c.forms.keys d.forms.keys → IsCalled c types before → IsCalled d types (before ++ t ∷ [])
-  unseen c d numbers forms is =
+  pub unseen : (c d : Called) → n < 2 ^ 32 → IsDistinct nat_eq d.numbers.keys → d.numbers.keys ≡ c.numbers.keys ++ n ∷ [] → IsNoted (form t) c.forms.keys d.forms.keys → IsCalled c types before → IsCalled d types (before ++ t ∷ [])
+  unseen c d low apart numbers forms is =
       let f = noted_forms c.forms.keys d.forms.keys forms (is.forms, is.count) in
-      record { numbers = subst (λ ks. AreNumbers ks (before ++ t ∷ [])) (sym numbers) (one_number c.numbers.keys is.numbers); forms = f.0; count = f.1 }
+      let small = subst AreSmall (sym numbers) (one_small n c.numbers.keys low is.small) in
+      record {
+        numbers = subst (λ ks. AreNumbers ks (before ++ t ∷ [])) (sym numbers) (one_number c.numbers.keys is.numbers);
+        forms = f.0;
+        count = f.1;
+        small = small;
+        few_numbers = length-le_from_distinct_below d.numbers.keys (2 ^ 32) apart small;
+        few_forms = one_longer_each n c.numbers.keys d.numbers.keys numbers c.forms.keys d.forms.keys (form t) forms is.few_forms;
+      }
 
 -- what one instruction calls
 

@@ -1,6 +1,6 @@
 // The types that indirect calls name, those of one form counted once.
 
-ghost use Rattle.std.specs.Prelude.{◌≡◌, ◌++◌, ◌∷◌, [], List, map, length, Some, slice_get, IfOk};
+ghost use Rattle.std.specs.Prelude.{◌≡◌, ◌≤◌, ◌^◌, ◌++◌, ◌∷◌, [], List, map, length, Some, slice_get, IfOk};
 ghost use Rattle.wasm_lang.specs.declared.types.ValType.{ValType};
 ghost use Rattle.wasm_lang.specs.Modules.{FunctionType};
 ghost use Rattle.wasm_tree.specs.Views.{instr_of, type_of};
@@ -83,9 +83,10 @@ impl Called {
         }
     }
 
-    /// How many there are.
+    /// How many there are: no more than numbers of 32 bits.
     pub fn count(&self) -> usize
-        ensures { (types called : List FunctionType) → IsCalled self.now types called → result ≡ distinct called }
+        ensures counted { (types called : List FunctionType) → IsCalled self.now types called → result ≡ distinct called }
+        ensures few { (types called : List FunctionType) → IsCalled self.now types called → result ≤ 2 ^ 32 }
     {
         self.forms.len()
     }
