@@ -13,10 +13,10 @@ use Rattle.wasm_lang.specs.Modules.{FunctionType}
 use Rattle.wasm_tree.specs.declared.instr.Instr.{Instr}
 use Rattle.wasm_tree.specs.Views.{instr_of}
 use Rattle.wasm_lang_valid.proofs.Main.{one_longer}
-use Rattle.wasm_lang_valid.specs.Measures.{called, called_in, is_among, distinct}
+use Rattle.wasm_lang_valid.specs.Measures.{called, called_in, same_type, is_among, distinct}
 use Rattle.wasm_validate_bodies.specs.declared.called.Called.{Called}
 use Rattle.wasm_validate_bodies.specs.Calls.{form, holds, IsNoted, known, fresh, IsCalled}
-use Rattle.wasm_validate_bodies.proofs.Forms.{form_same, bool, or_false, among_more, among_same, distinct_more, among_self, among_still}
+use Rattle.wasm_validate_bodies.proofs.Forms.{form_same, bool, or_false, among_more, among_same, distinct_more, among_self, among_still, type_is}
 
 pub if_ok : {A E : Type 0} {P Q : A → Type 0} (r : Result A E) → IfOk r P → ((x : A) → P x → Q x) → IfOk r Q
 if_ok (Ok x) p f = f x p
@@ -90,6 +90,15 @@ module _ (types before : List FunctionType) (n : ℕ) (t : FunctionType) (stands
       this : nat_eq k n ≡ true → (u : FunctionType) × (slice_get types k ≡ Some u) × (is_among u (before ++ t ∷ []) ≡ true)
       this q = (t, subst (λ n. slice_get types n ≡ Some t) (sym (grind arith)) stands, among_self t before)
 
+  abbrev AreNamed : List FunctionType → Type 0
+  AreNamed called = (u : FunctionType) → is_among u called ≡ true → (k : ℕ) × (k < 2 ^ 32) × (slice_get types k ≡ Some u)
+
+  one_named : n < 2 ^ 32 → AreNamed before → AreNamed (before ++ t ∷ [])
+  one_named low are u e = elim (bool (is_among u before)) [ inl h ↦ are u h | inr h ↦ this (sym (among_more u t before ∙ ap (λ b. b || same_type u t) h) ∙ e) ]
+    where
+      this : same_type u t ≡ true → (k : ℕ) × (k < 2 ^ 32) × (slice_get types k ≡ Some u)
+      this q = (n, low, stands ∙ ap Some (sym (type_is u t q)))
+
   -- the number was seen before
   pub seen : (c d : Called) → list_any (nat_eq n) c.numbers.keys ≡ true → d.numbers.keys ≡ c.numbers.keys → d.forms.keys ≡ c.forms.keys → IsCalled c types before → IsCalled d types (before ++ t ∷ [])
   seen c d h numbers forms is =
@@ -101,6 +110,7 @@ module _ (types before : List FunctionType) (n : ℕ) (t : FunctionType) (stands
         numbers = subst (λ ks. AreNumbers ks (before ++ t ∷ [])) (sym numbers) (still c.numbers.keys is.numbers);
         forms = f.0;
         count = f.1;
+        named = one_named (is.small n h) is.named;
         small = subst AreSmall (sym numbers) is.small;
         few_numbers = subst (λ ks. length ks ≤ 2 ^ 32) (sym numbers) is.few_numbers;
         few_forms = subst (λ ks. length ks ≤ length d.numbers.keys) (sym forms) (subst (λ ks. length c.forms.keys ≤ length ks) (sym numbers) is.few_forms);
@@ -115,6 +125,7 @@ module _ (types before : List FunctionType) (n : ℕ) (t : FunctionType) (stands
         numbers = subst (λ ks. AreNumbers ks (before ++ t ∷ [])) (sym numbers) (one_number c.numbers.keys is.numbers);
         forms = f.0;
         count = f.1;
+        named = one_named low is.named;
         small = small;
         few_numbers = length-le_from_distinct_below d.numbers.keys (2 ^ 32) apart small;
         few_forms = one_longer_each n c.numbers.keys d.numbers.keys numbers c.forms.keys d.forms.keys (form t) forms is.few_forms;

@@ -30,6 +30,7 @@ pub record IsCalled (c : Called) (types called : List FunctionType) : Type 0 whe
   pub numbers : (n : ℕ) → list_any (nat_eq n) c.numbers.keys ≡ true → (t : FunctionType) × (slice_get types n ≡ Some t) × (is_among t called ≡ true)
   pub forms : (t : FunctionType) → holds c.forms.keys (form t) ≡ is_among t called
   pub count : length c.forms.keys ≡ distinct called
+  pub named : (t : FunctionType) → is_among t called ≡ true → (n : ℕ) × (n < 2 ^ 32) × (slice_get types n ≡ Some t)
   pub small : (n : ℕ) → list_any (nat_eq n) c.numbers.keys ≡ true → n < 2 ^ 32
   pub few_numbers : length c.numbers.keys ≤ 2 ^ 32
   pub few_forms : length c.forms.keys ≤ length c.numbers.keys
