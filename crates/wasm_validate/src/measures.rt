@@ -1,6 +1,6 @@
 // What is counted of a valid module.
 
-ghost use Rattle.std.specs.Prelude.{◌≡◌, length, IfOk};
+ghost use Rattle.std.specs.Prelude.{◌≡◌, ◌≤◌, ◌^◌, length, IfOk};
 ghost use Rattle.wasm_tree.specs.Views.{module_of};
 ghost use Rattle.wasm_lang_valid.specs.Measures.{measures_of as spec_measures};
 ghost use Rattle.wasm_validate.specs.Counted.{CountsOf, said};
@@ -18,7 +18,7 @@ pub struct Measures {
     /// The greatest number of slots of a body: parameters, locals, and the most operands that stand in all
     /// open blocks before an instruction.
     pub slots: usize,
-    /// How many types the indirect calls name, those of one form counted once.
+    /// How many types the indirect calls name, those of one form counted once. Types have numbers of 32 bits.
     pub call_types: usize,
     /// The number of the first import of a name that is imported as a function and as a global; the functions
     /// `$trap` and `$high` of the module `env` count as imported.
@@ -34,7 +34,8 @@ pub fn measures_of(
     counts: &Counts,
 ) -> Result<Measures, AllocError>
     requires { CountsOf counts.now (module_of «module».now) (length (module_of «module».now).bodies) }
-    ensures { IfOk result (λ measures. said measures ≡ spec_measures (module_of «module».now)) }
+    ensures exactly { IfOk result (λ measures. said measures ≡ spec_measures (module_of «module».now)) }
+    ensures few { IfOk result (λ measures. measures.call_types ≤ 2 ^ 32) }
 {
     let mixed = first_mixed(alloc, module.imports.as_slice())?;
     Ok(Measures {

@@ -1,6 +1,6 @@
 // Valid modules.
 
-ghost use Rattle.std.specs.Prelude.{◌≡◌, ◌≤◌, length, Some, None, IfOk, MatchOption, MatchResult};
+ghost use Rattle.std.specs.Prelude.{◌≡◌, ◌≤◌, ◌^◌, length, Some, None, IfOk, MatchOption, MatchResult};
 ghost use Rattle.wasm_lang.specs.Modules.{WasmModule};
 ghost use Rattle.wasm_lang.specs.Shape.{IsShaped};
 ghost use Rattle.wasm_tree.specs.Views.{module_of, type_of};
@@ -34,7 +34,7 @@ impl<'a> Model for Valid<'a> {
 
     ghost view = { λ v. module_of v.«module» };
 
-    ghost invariant = { λ v. IsValidModule (module_of v.«module») × IsShaped (module_of v.«module») × FactsOf v.facts (module_of v.«module») × (said v.measures ≡ spec_measures (module_of v.«module»)) };
+    ghost invariant = { λ v. IsValidModule (module_of v.«module») × IsShaped (module_of v.«module») × FactsOf v.facts (module_of v.«module») × (said v.measures ≡ spec_measures (module_of v.«module»)) × (v.measures.call_types ≤ 2 ^ 32) };
 }
 
 /// Validates a module, which has to be shaped as every module that was read is.
@@ -80,7 +80,8 @@ impl<'a> Valid<'a> {
 
     /// What is counted of the module. It takes no memory.
     pub fn measures(&self) -> Measures
-        ensures { said result ≡ spec_measures self.now }
+        ensures exactly { said result ≡ spec_measures self.now }
+        ensures few { result.call_types ≤ 2 ^ 32 }
     {
         self.measures
     }

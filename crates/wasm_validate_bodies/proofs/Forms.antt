@@ -47,7 +47,7 @@ all_self : (ts : List ValType) → pointwise same ts ts ≡ true
 all_self [] = refl
 all_self (t ∷ ts) = ap (λ b. b && pointwise same ts ts) (same_self t) ∙ all_self ts
 
-type_self : (t : FunctionType) → same_type t t ≡ true
+pub type_self : (t : FunctionType) → same_type t t ≡ true
 type_self t = ap (λ b. b && pointwise same t.results t.results) (all_self t.params) ∙ all_self t.results
 
 both : (a b : Bool) → a && b ≡ true → (a ≡ true) × (b ≡ true)
@@ -66,7 +66,7 @@ all_are [] (u ∷ us) e = cc
 all_are (t ∷ ts) [] e = cc
 all_are (t ∷ ts) (u ∷ us) e = let h = both (same t u) (pointwise same ts us) e in ap (λ x. x ∷ ts) (same_is t u h.0) ∙ ap (λ xs. u ∷ xs) (all_are ts us h.1)
 
-type_is : (t u : FunctionType) → same_type t u ≡ true → t ≡ u
+pub type_is : (t u : FunctionType) → same_type t u ≡ true → t ≡ u
 type_is t u e =
     let h = both (pointwise same t.params u.params) (pointwise same t.results u.results) e in
     let p = all_are t.params u.params h.0 in

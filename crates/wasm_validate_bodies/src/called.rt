@@ -1,11 +1,11 @@
 // The types that indirect calls name, those of one form counted once.
 
-ghost use Rattle.std.specs.Prelude.{◌≡◌, ◌++◌, ◌∷◌, [], List, map, length, Some, slice_get, IfOk};
+ghost use Rattle.std.specs.Prelude.{◌≡◌, ◌≤◌, ◌^◌, ◌++◌, ◌∷◌, [], List, map, length, Some, slice_get, IfOk};
 ghost use Rattle.wasm_lang.specs.declared.types.ValType.{ValType};
 ghost use Rattle.wasm_lang.specs.Modules.{FunctionType};
 ghost use Rattle.wasm_tree.specs.Views.{instr_of, type_of};
 ghost use Rattle.wasm_lang_valid.specs.Measures;
-ghost use Rattle.wasm_lang_valid.specs.Measures.{distinct};
+ghost use Rattle.wasm_lang_valid.specs.Measures.{distinct, is_among};
 ghost use Rattle.wasm_validate_bodies.specs.Calls;
 ghost use Rattle.wasm_validate_bodies.specs.Calls.{IsCalled, IsNoted};
 
@@ -83,16 +83,24 @@ impl Called {
         }
     }
 
-    /// How many there are.
+    /// Whether a type of this form is among them.
+    pub fn has(&self, form: &Vec<u8>) -> bool
+        ensures { (types called : List FunctionType) (t : FunctionType) → IsCalled self.now types called → form.now.items ≡ Calls.form t → result ≡ is_among t called }
+    {
+        self.forms.contains(form)
+    }
+
+    /// How many there are: no more than numbers of 32 bits.
     pub fn count(&self) -> usize
-        ensures { (types called : List FunctionType) → IsCalled self.now types called → result ≡ distinct called }
+        ensures counted { (types called : List FunctionType) → IsCalled self.now types called → result ≡ distinct called }
+        ensures few { (types called : List FunctionType) → IsCalled self.now types called → result ≤ 2 ^ 32 }
     {
         self.forms.len()
     }
 }
 
-// A type's form in bytes: the parameters, a mark, and the results.
-fn form_of(alloc: Global, function_type: &FuncType) -> Result<Vec<u8>, AllocError>
+/// A type's form in bytes: the parameters, a mark, and the results.
+pub fn form_of(alloc: Global, function_type: &FuncType) -> Result<Vec<u8>, AllocError>
     ensures { IfOk result (λ form. form.items ≡ Calls.form (type_of function_type.now)) }
 {
     let mut form = Vec::new(alloc);

@@ -14,7 +14,7 @@ mod operands;
 mod scope;
 
 pub use body::check_body;
-pub use called::Called;
+pub use called::{Called, form_of};
 pub use counts::{has_mul_div, larger, levels_of};
 pub use fault::{BodyFault, Fault};
 pub use scope::{Scope, result_of};

@@ -1,0 +1,7 @@
+use Rattle.std.proofs.Common.{◌≡◌, drop, map}
+use Rattle.wasm_tree.specs.Views.{import_of}
+use Rattle.wasm_lang_valid.specs.Runnable.{imported_pages}
+use Rattle.wasm_profile.proofs.memory.imported_memory.Given as goal
+
+abbrev pub invariant-loop-import : goal.invariant-loop-import
+invariant-loop-import l = imported_pages (map import_of l.imports) ≡ imported_pages (map import_of (drop l.import-index l.imports))

@@ -1,0 +1,16 @@
+//! Which valid modules of WebAssembly can be translated to asm.js, and the lengths that a translation needs.
+#![tactic(auto)]
+
+mod heaps;
+mod imports;
+mod memory;
+mod rows;
+mod segments;
+mod sizes;
+mod table;
+
+pub use heaps::heap_for;
+pub use memory::memory_bytes;
+pub use rows::profile;
+pub use table::{padded, table_length};
+pub use wasm_validate::{Beyond, Outside, Valid};
