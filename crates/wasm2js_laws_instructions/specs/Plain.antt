@@ -1,0 +1,53 @@
+-- What is to be shown of each instruction that computes, reads or writes, with no asm.js in it: that its code does on words and the heap
+-- what it does on operands, locals and the store.
+use Rattle.std.specs.Prelude.{◌≡◌, ℕ, ◌^◌, ◌<◌, ◌≤◌, true, List, ◌++◌, drop, Ok}
+use Rattle.sem_words.specs.Words.{trap_code}
+use Rattle.sem_laws.specs.Imports.{Replies}
+use Rattle.sem_laws.specs.Observation.{EventPlain}
+use Rattle.wasm_lang.specs.declared.types.ValType.{ValType}
+use Rattle.wasm_lang.specs.Instructions.{Plain}
+use Rattle.wasm_lang_valid.specs.Typing.{Shape, Acts, plain_shape}
+use Rattle.wasm_lang_exec.specs.Plain as machine
+use Rattle.wasm_lang_exec.specs.Plain.{Effect, do_plain}
+use Rattle.wasm_laws_drive.specs.Equations.{is_constant}
+use Rattle.wasm2js_words.specs.Names.{Name}
+use Rattle.wasm2js_words.specs.Words.{Action}
+use Rattle.wasm2js_code.specs.Actions.{actions}
+use Rattle.wasm2js_code.specs.Bodies.{Aim, after_plain}
+use Rattle.wasm2js_laws_words.specs.Sound.{AreSoundActions}
+use Rattle.wasm2js_laws_places.specs.Straight.{Words, Helping, ActionsAsk, Outcome, goes, stops, run_actions, actions_units}
+use Rattle.wasm2js_laws_places.specs.Places.{operands, locals_of, store_with, IsHeap, Stays}
+use Rattle.wasm2js_laws_control.specs.Control.{Function, under_aims}
+
+-- words of 32 bits
+abbrev pub AreWords : Words → Type 0
+AreWords words = (n : Name) → words n < 2 ^ 32
+
+module _ (f : Function) (helping : Helping) where
+  -- an instruction's effect, and what its code comes to: the operands have these types then, and those below stay; or both trap
+  abbrev pub IsAlike : (b : ℕ) → List ValType → Words → (heap : List ℕ) → Replies → List EventPlain → Effect → Outcome → Type 0
+  IsAlike b us words heap replies events (machine.goes values locals store) (goes words' heap') =
+      (values ≡ operands b us words') × (locals ≡ locals_of f.context.locals words') × (store ≡ store_with f.setting words' heap' replies events)
+      × Stays b words words' × (drop f.setting.bytes heap' ≡ drop f.setting.bytes heap)
+  IsAlike b us words heap replies events (machine.traps kind) (stops k heap') = (k ≡ trap_code kind) × (heap' ≡ heap)
+  IsAlike b us words heap replies events e o = ⊥
+
+  abbrev pub code_of : Plain → (b : ℕ) → List ValType → List Action
+  code_of p b ts = actions f.setting.bytes f.context p b ts
+
+  -- above b operands, where the block's have the types ts, and us afterwards
+  pub record IsPlain (p : Plain) (b : ℕ) (ts us : List ValType) : Type 0 where
+    pub types : after_plain f.context p ts ≡ us
+    pub sound : AreSoundActions f.scope (code_of p b ts)
+    pub asks : ActionsAsk (code_of p b ts)
+    pub paid : (words : Words) (heap : List ℕ) → actions_units helping (code_of p b ts) words heap ≤ f.pace
+    -- a constant is no reduction
+    pub free : is_constant p ≡ true → (words : Words) (heap : List ℕ) → actions_units helping (code_of p b ts) words heap ≡ 0
+    pub alike : (words : Words) (heap : List ℕ) (replies : Replies) (events : List EventPlain) → AreWords words → IsHeap f.setting.bytes heap
+        → IsAlike b us words heap replies events (do_plain p (operands b ts words) (locals_of f.context.locals words) (store_with f.setting words heap replies events))
+        (run_actions helping (code_of p b ts) words heap)
+
+  abbrev pub PlainIs : Plain → Type 0
+  PlainIs p =
+      (ls : List Aim) (b : ℕ) (form : Shape) (takes gives below : List ValType) → plain_shape (under_aims f.context ls) p ≡ Ok form → Acts form takes gives
+      → IsPlain p b (takes ++ below) (gives ++ below)
