@@ -51,6 +51,10 @@ memory_helper names.copy = Some (signature 3 false)
 memory_helper names.fill = Some (signature 3 false)
 memory_helper f = None
 
+-- a local of the source is among these
+abbrev pub IsNamed : (x : ℕ) → List ℕ → Type 0
+IsNamed x xs = list_any (λ y. x == y) xs ≡ true
+
 module _ (s : Scope) where
   -- variables
   abbrev pub AreInts : List Name → Type 0
@@ -89,20 +93,17 @@ module _ (s : Scope) where
     pub helpers : (f : Fixed) (form : Signature) → memory_helper f ≡ Some form → IsHelper s f form.params form.result
 
   -- what code in this context may name; calls of entries name these types; the memory and each table have so many bytes and cells
-  pub record Provides (c : Context) (IsCalled : FunctionType → Type 0) (memory_bytes cells : ℕ) : Type 0 where
+  pub record Provides (c : Context) (is_called : FunctionType → Bool) (memory_bytes cells : ℕ) : Type 0 where
     pub fixed : HasFixed
     pub memory : c.memory ≡ true → HasMemory
     pub globals : (x : ℕ) (g : GlobalType) → slice_get c.globals x ≡ Some g → AreInts (names_of g.kind (global_pair x))
     pub functions : (f : ℕ) (t : FunctionType) → type_of c f ≡ Some t → IsFunction (numbered names.function f) (signature_for t)
-    pub tables : (t : FunctionType) → IsCalled t → IsTable (numbered names.table (form_number c.types t)) cells (signature_for t)
+    pub tables : (t : FunctionType) → is_called t ≡ true → IsTable (numbered names.table (form_number c.types t)) cells (signature_for t)
     pub few_bytes : memory_bytes ≤ 2 ^ 28
     pub some_cells : 0 < cells
     pub few_cells : cells ≤ 2 ^ 16
 
   -- ---- what a function's own variables are
-
-  abbrev pub IsNamed : (x : ℕ) → List ℕ → Type 0
-  IsNamed x xs = list_any (λ y. x == y) xs ≡ true
 
   -- operands and locals of the source
   pub record HasRoom (c : Context) (r : Room) : Type 0 where

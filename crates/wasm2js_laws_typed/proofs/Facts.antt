@@ -78,4 +78,4 @@ module _ (s : Scope) (c : Context) (b : ℕ) where
   -- all words of the topmost operand
   pub first_words : (t : ValType) (below : List ValType) (xs : List ℕ) → HasRoom s c (here b (t ∷ below) xs) → AreInts s (names_of t (operand_pair (b + length below)))
   first_words I32 below xs h = (first_low I32 below xs h, tt)
-  first_words I64 below xs h = (first_low I64 below xs h, first_high below xs h, tt)
+  first_words I64 below xs h = (first_low I64 below xs h, (first_high below xs h, tt))

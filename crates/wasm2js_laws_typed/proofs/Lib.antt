@@ -1,1 +1,5 @@
 pub mod Facts
+pub mod SoundCode
+pub mod SoundAccess
+pub mod SoundPlain
+pub mod ShallowPlain
