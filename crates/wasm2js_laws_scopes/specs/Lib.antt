@@ -1,1 +1,2 @@
 pub mod Provided
+pub mod Laws
