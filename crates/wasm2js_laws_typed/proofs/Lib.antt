@@ -3,3 +3,5 @@ pub mod SoundCode
 pub mod SoundAccess
 pub mod SoundPlain
 pub mod ShallowPlain
+pub mod FineBlocks
+pub mod FineJumps

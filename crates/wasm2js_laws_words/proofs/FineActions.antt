@@ -24,10 +24,10 @@ use Rattle.wasm2js_laws_words.proofs.FineTerms.{has_depth, term_fine, arguments_
 
 -- ---- marks
 
-no_marks : (ms : List Mark) → ms ≡ [] → AllByRecursion IsTrapUse ms
+pub no_marks : (ms : List Mark) → ms ≡ [] → AllByRecursion IsTrapUse ms
 no_marks ms h = subst (AllByRecursion IsTrapUse) (sym h) tt
 
-both_marks : (a b : List Mark) → AllByRecursion IsTrapUse a → AllByRecursion IsTrapUse b → AllByRecursion IsTrapUse (a ++ b)
+pub both_marks : (a b : List Mark) → AllByRecursion IsTrapUse a → AllByRecursion IsTrapUse b → AllByRecursion IsTrapUse (a ++ b)
 both_marks [] b p q = q
 both_marks (m ∷ a) b p q = (p.0, both_marks a b p.1 q)
 
@@ -43,7 +43,7 @@ equal_self n = grind (arith, nat_tests)
 some_if : (b : Bool) (o : Option ValueType) (t : ValueType) → b ≡ true → o ≡ Some t → is_some (if b then o else None) ≡ true
 some_if b o t p q = rw (p, q) refl
 
-both_true : (a b : Bool) → a ≡ true → b ≡ true → (a && b) ≡ true
+pub both_true : (a b : Bool) → a ≡ true → b ≡ true → (a && b) ≡ true
 both_true a b p q = rw (p, q) refl
 
 -- ---- heights
@@ -186,10 +186,10 @@ module _ (c : Scope) (around : Around) where
 
   -- ---- statements in a row
 
-  none_fine : (h : ℕ) → AreFine c around [] h
+  pub none_fine : (h : ℕ) → AreFine c around [] h
   none_fine h = record { are_typed = refl; printed = tt; low = omega arith; marks = λ at. tt }
 
-  one_more_fine : (s : Stmt) (ss : List Stmt) (h k m : ℕ) → h ≤ m → k ≤ m → IsFine c around s h → AreFine c around ss k → AreFine c around (s ∷ ss) m
+  pub one_more_fine : (s : Stmt) (ss : List Stmt) (h k m : ℕ) → h ≤ m → k ≤ m → IsFine c around s h → AreFine c around ss k → AreFine c around (s ∷ ss) m
   one_more_fine s ss h k m p q f g = record {
     are_typed = both_true _ _ f.is_typed g.are_typed;
     printed = (f.printed, g.printed);
