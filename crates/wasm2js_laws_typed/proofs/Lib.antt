@@ -5,3 +5,4 @@ pub mod SoundPlain
 pub mod ShallowPlain
 pub mod FineBlocks
 pub mod FineJumps
+pub mod FineCalls

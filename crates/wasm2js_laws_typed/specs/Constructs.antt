@@ -1,14 +1,17 @@
 -- The statements of control instructions, as asm.js: typed, printable, low, and with marks of the trap alone.
-use Rattle.std.specs.Prelude.{◌≡◌, ℕ, suc, ◌+◌, ◌≤◌, ◌<◌, Bool, true, false, List, [], ◌∷◌, ◌++◌, Option, Some, None, slice_get, is_some}
+use Rattle.std.specs.Prelude.{◌≡◌, ℕ, suc, ◌+◌, ◌^◌, ◌≤◌, ◌<◌, Bool, true, false, List, [], ◌∷◌, ◌++◌, reverse, Option, Some, None, slice_get, is_some}
 use Rattle.wasm_lang.specs.declared.types.ValType.{ValType}
-use Rattle.wasm_lang_valid.specs.Typing.{Context, listed}
+use Rattle.wasm_lang.specs.declared.types.ValType.TheVariants.{I32}
+use Rattle.wasm_lang.specs.Modules.{FunctionType}
+use Rattle.wasm_lang_valid.specs.Typing.{Context, listed, result_of as type_result}
 use Rattle.asm_lang.specs.Modules.{Stmt, if_only, if_else}
 use Rattle.asm_lang_valid.specs.Typing.{Scope, Label, Around, result_of, in_a_loop, has_label}
+use Rattle.wasm2js_words.specs.Names.{numbered, function, table}
 use Rattle.wasm2js_laws_words.specs.Sound.{IsInt}
 use Rattle.wasm2js_laws_words.specs.Laws.{IsFine}
-use Rattle.wasm2js_laws_scopes.specs.Provided.{HasFixed, HasRoom}
+use Rattle.wasm2js_laws_scopes.specs.Provided.{HasFixed, HasRoom, IsFunction, IsTable, signature_for}
 use Rattle.wasm2js_code.specs.Actions.{under, low}
-use Rattle.wasm2js_code.specs.Bodies.{Aim, past, again, out, labels_round, label_name, signed_word, under_label, endless, leave_with, jump}
+use Rattle.wasm2js_code.specs.Bodies.{Aim, past, again, out, labels_round, label_name, signed_word, under_label, endless, leave_with, jump, call_stmts, form_number, indirect_stmts}
 use Rattle.wasm2js_code.specs.Helpers.{block_of}
 use Rattle.wasm2js_code.specs.Rooms.{here}
 
@@ -77,3 +80,20 @@ JumpsAreFine =
     (s : Scope) (a : Around) (c : Context) (labels : List (Option ValType)) (ls : List Aim) (k b : ℕ) (r : Option ValType) (below : List ValType) (xs : List ℕ) → HasFixed s
     → result_of s ≡ is_some c.returns → AreAims c.returns labels ls b → slice_get labels k ≡ Some r → a.labels ≡ labels_for ls → HasRoom s c (here b (listed r ++ below) xs)
     → AllFine s a 8 (jump ls k b (listed r ++ below))
+
+-- ---- calls
+
+-- a call of a function of this type, whose arguments stand on top, the last one topmost
+abbrev pub CallsAreFine : Type 0
+CallsAreFine =
+    (s : Scope) (a : Around) (c : Context) (f b : ℕ) (t : FunctionType) (below : List ValType) (xs : List ℕ) → HasFixed s → IsFunction s (numbered function f) (signature_for t)
+    → HasRoom s c (here b (reverse t.params ++ below) xs) → HasRoom s c (here b (listed (type_result t) ++ below) [])
+    → AllFine s a 8 (call_stmts f b (reverse t.params ++ below) (Some t))
+
+-- .. of an entry of a table, whose number stands above them
+abbrev pub EntryCallsAreFine : Type 0
+EntryCallsAreFine =
+    (s : Scope) (a : Around) (c : Context) (cells b : ℕ) (types : List FunctionType) (t : FunctionType) (below : List ValType) (xs : List ℕ) → HasFixed s → 0 < cells → cells ≤ 2 ^ 16
+    → IsTable s (numbered table (form_number types t)) cells (signature_for t)
+    → HasRoom s c (here b (I32 ∷ (reverse t.params ++ below)) xs) → HasRoom s c (here b (listed (type_result t) ++ below) [])
+    → AllFine s a 8 (indirect_stmts cells types b (I32 ∷ (reverse t.params ++ below)) (Some t))

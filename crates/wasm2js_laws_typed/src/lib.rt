@@ -2,7 +2,7 @@
 #![tactic(auto)]
 
 ghost use Rattle.wasm2js_laws_typed.specs.Laws.{PlainIsSound, PlainIsShallow};
-ghost use Rattle.wasm2js_laws_typed.specs.Constructs.{BlocksAreFine, LoopsAreFine, ArmsAreFine, TestsAreFine, LabelsAreNew, ReturnsAreFine, JumpsAreFine};
+ghost use Rattle.wasm2js_laws_typed.specs.Constructs.{BlocksAreFine, LoopsAreFine, ArmsAreFine, TestsAreFine, LabelsAreNew, ReturnsAreFine, JumpsAreFine, CallsAreFine, EntryCallsAreFine};
 
 /// Instructions that compute, and read and write locals, globals and the memory.
 pub fn instructions()
@@ -23,4 +23,10 @@ pub fn jumps()
     ensures labels { LabelsAreNew }
     ensures returned { ReturnsAreFine }
     ensures branches { JumpsAreFine }
+{}
+
+/// Calls of functions, and of entries of a table.
+pub fn calls()
+    ensures functions { CallsAreFine }
+    ensures entries { EntryCallsAreFine }
 {}

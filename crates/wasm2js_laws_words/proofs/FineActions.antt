@@ -33,11 +33,11 @@ both_marks (m ∷ a) b p q = (p.0, both_marks a b p.1 q)
 
 -- ---- tests
 
-same_self : (b : Bool) → same b b ≡ true
+pub same_self : (b : Bool) → same b b ≡ true
 same_self true = refl
 same_self false = refl
 
-equal_self : (n : ℕ) → (n == n) ≡ true
+pub equal_self : (n : ℕ) → (n == n) ≡ true
 equal_self n = grind (arith, nat_tests)
 
 some_if : (b : Bool) (o : Option ValueType) (t : ValueType) → b ≡ true → o ≡ Some t → is_some (if b then o else None) ≡ true
@@ -69,7 +69,7 @@ either_low e f s t a b p q r = omega (arith, p, q, r)
 module _ (c : Scope) (around : Around) where
   -- ---- assignments and writes
 
-  assigned : (n : Name) (e : Expr) (t : ValueType) → named c (spelled n) ≡ an_int → typed_below Int (type_of c e) ≡ true → type_of c e ≡ Some t → is_some (type_of c (assign (spelled n) e)) ≡ true
+  pub assigned : (n : Name) (e : Expr) (t : ValueType) → named c (spelled n) ≡ an_int → typed_below Int (type_of c e) ≡ true → type_of c e ≡ Some t → is_some (type_of c (assign (spelled n) e)) ≡ true
   assigned n e t h below is = some_if (is_int (named c (spelled n)) && typed_below Int (type_of c e)) (type_of c e) t (both_true _ _ (ap is_int h) below) is
 
   put_fine : (n : Name) (t : Term) → IsSoundSimple c (put n t) → IsFine c around (simple_statement (put n t)) (4 + 3 * term_depth t)
