@@ -24,26 +24,26 @@ use Rattle.wasm2js_laws_words.proofs.FineTerms.{has_depth, term_fine, arguments_
 
 -- ---- marks
 
-no_marks : (ms : List Mark) → ms ≡ [] → AllByRecursion IsTrapUse ms
+pub no_marks : (ms : List Mark) → ms ≡ [] → AllByRecursion IsTrapUse ms
 no_marks ms h = subst (AllByRecursion IsTrapUse) (sym h) tt
 
-both_marks : (a b : List Mark) → AllByRecursion IsTrapUse a → AllByRecursion IsTrapUse b → AllByRecursion IsTrapUse (a ++ b)
+pub both_marks : (a b : List Mark) → AllByRecursion IsTrapUse a → AllByRecursion IsTrapUse b → AllByRecursion IsTrapUse (a ++ b)
 both_marks [] b p q = q
 both_marks (m ∷ a) b p q = (p.0, both_marks a b p.1 q)
 
 -- ---- tests
 
-same_self : (b : Bool) → same b b ≡ true
+pub same_self : (b : Bool) → same b b ≡ true
 same_self true = refl
 same_self false = refl
 
-equal_self : (n : ℕ) → (n == n) ≡ true
+pub equal_self : (n : ℕ) → (n == n) ≡ true
 equal_self n = grind (arith, nat_tests)
 
 some_if : (b : Bool) (o : Option ValueType) (t : ValueType) → b ≡ true → o ≡ Some t → is_some (if b then o else None) ≡ true
 some_if b o t p q = rw (p, q) refl
 
-both_true : (a b : Bool) → a ≡ true → b ≡ true → (a && b) ≡ true
+pub both_true : (a b : Bool) → a ≡ true → b ≡ true → (a && b) ≡ true
 both_true a b p q = rw (p, q) refl
 
 -- ---- heights
@@ -69,7 +69,7 @@ either_low e f s t a b p q r = omega (arith, p, q, r)
 module _ (c : Scope) (around : Around) where
   -- ---- assignments and writes
 
-  assigned : (n : Name) (e : Expr) (t : ValueType) → named c (spelled n) ≡ an_int → typed_below Int (type_of c e) ≡ true → type_of c e ≡ Some t → is_some (type_of c (assign (spelled n) e)) ≡ true
+  pub assigned : (n : Name) (e : Expr) (t : ValueType) → named c (spelled n) ≡ an_int → typed_below Int (type_of c e) ≡ true → type_of c e ≡ Some t → is_some (type_of c (assign (spelled n) e)) ≡ true
   assigned n e t h below is = some_if (is_int (named c (spelled n)) && typed_below Int (type_of c e)) (type_of c e) t (both_true _ _ (ap is_int h) below) is
 
   put_fine : (n : Name) (t : Term) → IsSoundSimple c (put n t) → IsFine c around (simple_statement (put n t)) (4 + 3 * term_depth t)
@@ -186,10 +186,10 @@ module _ (c : Scope) (around : Around) where
 
   -- ---- statements in a row
 
-  none_fine : (h : ℕ) → AreFine c around [] h
+  pub none_fine : (h : ℕ) → AreFine c around [] h
   none_fine h = record { are_typed = refl; printed = tt; low = omega arith; marks = λ at. tt }
 
-  one_more_fine : (s : Stmt) (ss : List Stmt) (h k m : ℕ) → h ≤ m → k ≤ m → IsFine c around s h → AreFine c around ss k → AreFine c around (s ∷ ss) m
+  pub one_more_fine : (s : Stmt) (ss : List Stmt) (h k m : ℕ) → h ≤ m → k ≤ m → IsFine c around s h → AreFine c around ss k → AreFine c around (s ∷ ss) m
   one_more_fine s ss h k m p q f g = record {
     are_typed = both_true _ _ f.is_typed g.are_typed;
     printed = (f.printed, g.printed);

@@ -1,0 +1,110 @@
+-- Blocks, loops and arms are fine where what stands in them is.
+use Rattle.std.proofs.Common.{◌≡◌, ℕ, suc, ◌+◌, ◌≤◌, max, Bool, true, false, not, ◌&&◌, List, [], ◌∷◌, ◌++◌, refl, sym, ap, subst, arith}
+use Rattle.std.specs.List.{AllByRecursion}
+use Rattle.asm_lang.specs.Modules.{Stmt, if_only, if_else, lit}
+use Rattle.asm_lang_valid.specs.Rows.{expr_count, stmt_count}
+use Rattle.asm_lang_valid.specs.LimitRows.{expr_marks}
+use Rattle.asm_lang_valid.specs.Typing.{Scope, Around, in_a_loop, has_label, typed, all_typed}
+use Rattle.wasm2js_words.specs.Names.{numbered, label, spelled}
+use Rattle.wasm2js_words.specs.Words.{natural, stmts_in}
+use Rattle.wasm2js_laws_words.specs.Sound.{IsInt}
+use Rattle.wasm2js_laws_words.specs.Laws.{IsTrapUse, IsFineExpr, IsFine, AreFine}
+use Rattle.wasm2js_laws_words.proofs.FineExprs.{is_identifier, higher, intish, signed_int, is_typed_below, variable_fine, signed_fine}
+use Rattle.wasm2js_laws_words.proofs.FineActions.{no_marks, both_marks, both_true, none_fine, one_more_fine}
+use Rattle.asm_types.specs.declared.value_type.ValueType.TheVariants.{Signed, Int, Intish}
+use Rattle.wasm2js_code.specs.Actions.{low}
+use Rattle.wasm2js_code.specs.Bodies.{label_name, signed_word, under_label, endless}
+use Rattle.wasm2js_code.specs.Helpers.{block_of}
+use Rattle.wasm2js_laws_typed.specs.Constructs.{AllFine, with_label, BlocksAreFine, LoopsAreFine, ArmsAreFine, TestsAreFine}
+
+-- ---- lists of statements
+
+module _ (s : Scope) (a : Around) where
+  pub all_join : (h : ℕ) (xs ys : List Stmt) → AllFine s a h xs → AllFine s a h ys → AllFine s a h (xs ++ ys)
+  all_join h [] ys f g = g
+  all_join h (x ∷ xs) ys f g = (f.0, all_join h xs ys f.1 g)
+
+  pub is_higher : (x : Stmt) (h k : ℕ) → h ≤ k → IsFine s a x h → IsFine s a x k
+  is_higher x h k le f = record { is_typed = f.is_typed; printed = f.printed; low = within f.low le; marks = f.marks }
+    where
+      within : {m h k : ℕ} → m ≤ h → h ≤ k → m ≤ k
+      within p q = omega (arith, p, q)
+
+  pub all_higher : (h k : ℕ) (xs : List Stmt) → h ≤ k → AllFine s a h xs → AllFine s a k xs
+  all_higher h k [] le f = tt
+  all_higher h k (x ∷ xs) le f = (is_higher x h k le f.0, all_higher h k xs le f.1)
+
+  pub together : (h : ℕ) (xs : List Stmt) → AllFine s a h xs → AreFine s a xs h
+  together h [] f = none_fine s a h
+  together h (x ∷ xs) f = one_more_fine s a x xs h h h (omega arith) (omega arith) f.0 (together h xs f.1)
+
+-- ---- the word of an operand as a condition
+
+module _ (s : Scope) where
+  pub word_signed : (d : ℕ) → IsInt s (low d) → IsFineExpr s (signed_word d) Signed 2
+  word_signed d h = signed_fine s (intish s (variable_fine s (low d) h))
+
+  pub word_fine : (d : ℕ) → IsInt s (low d) → IsFineExpr s (signed_word d) Int 2
+  word_fine d h = signed_int s (word_signed d h)
+
+-- ---- blocks
+
+not_there : (b : Bool) → b ≡ false → (not b && true) ≡ true
+not_there b e = rw e refl
+
+block_low : (k h : ℕ) → k ≤ h → 1 + k ≤ 1 + h
+block_low k h p = omega (arith, p)
+
+loop_low : (k h : ℕ) → 1 ≤ h → k ≤ h → 1 + max 1 (max 1 k) ≤ 1 + h
+loop_low k h p q = omega (arith, p, q)
+
+test_low : (e k h : ℕ) → e ≤ 2 → 2 ≤ h → k ≤ h → 1 + max e (max 1 k) ≤ 1 + h
+test_low e k h p q r = omega (arith, p, q, r)
+
+arms_low : (e k m h : ℕ) → e ≤ 2 → 2 ≤ h → k ≤ h → m ≤ h → 1 + max e (max (max 1 k) (max 1 m)) ≤ 1 + h
+arms_low e k m h p q r t = omega (arith, p, q, r, t)
+
+pub blocks_are_fine : BlocksAreFine
+blocks_are_fine s a n h ss new f =
+    let g = together s (with_label false n a) h ss f in
+    record {
+      is_typed = both_true _ _ (not_there (has_label a.labels (label_name n)) new) g.are_typed;
+      printed = (refl, (is_identifier (numbered label n), tt), refl, g.printed);
+      low = block_low _ h g.low;
+      marks = λ at. g.marks (at + 1 + 1);
+    }
+
+pub loops_are_fine : LoopsAreFine
+loops_are_fine s a n h ss new some f =
+    let g = together s (in_a_loop (with_label true n a)) h ss f in
+    record {
+      is_typed = both_true _ _ (not_there (has_label a.labels (label_name n)) new) (both_true _ _ refl g.are_typed);
+      printed = (refl, (is_identifier (numbered label n), tt), refl, (omega arith, g.printed));
+      low = loop_low _ h some g.low;
+      marks = λ at. g.marks _;
+    }
+
+pub tests_are_fine : TestsAreFine
+tests_are_fine s a d h ss is some f =
+    let e = word_fine s d is in
+    let g = together s a h ss f in
+    record {
+      is_typed = both_true _ _ (is_typed_below s e) g.are_typed;
+      printed = (e.printed, g.printed);
+      low = test_low _ _ h e.low some g.low;
+      marks = λ at. both_marks (expr_marks s (at + 1) (signed_word d)) _ (no_marks (expr_marks s (at + 1) (signed_word d)) (e.no_marks (at + 1))) (g.marks (at + 1 + expr_count (signed_word d) + 1));
+    }
+
+pub arms_are_fine : ArmsAreFine
+arms_are_fine s a n d h first second new is some f g =
+    let e = word_fine s d is in
+    let p = together s (with_label false n a) h first f in
+    let q = together s (with_label false n a) h second g in
+    record {
+      is_typed = both_true _ _ (not_there (has_label a.labels (label_name n)) new) (both_true _ _ (both_true _ _ (is_typed_below s e) p.are_typed) q.are_typed);
+      printed = (refl, (is_identifier (numbered label n), tt), refl, (e.printed, refl, p.printed, q.printed));
+      low = arms_low _ _ _ h e.low some p.low q.low;
+      marks = λ at. 
+          both_marks (expr_marks s (at + 1 + 1) (signed_word d)) _ (no_marks (expr_marks s (at + 1 + 1) (signed_word d)) (e.no_marks (at + 1 + 1)))
+          (both_marks _ _ (p.marks (at + 1 + 1 + expr_count (signed_word d) + 1)) (q.marks (at + 1 + 1 + expr_count (signed_word d) + stmt_count (block_of first) + 1)));
+    }

@@ -1,0 +1,91 @@
+-- Loads and stores are sound where their variables are ints.
+use Rattle.std.proofs.Common.{◌≡◌, ℕ, ◌+◌, ◌^◌, ◌<◌, ◌≤◌, Bool, true, false, ◌&&◌, ◌||◌, List, [], ◌∷◌, ◌++◌, refl, sym, subst, arith}
+use Rattle.std.specs.Prelude.{nat_lt, ◌==◌, if◌then◌else◌}
+use Rattle.wasm_lang.specs.declared.types.MemOp.{MemOp}
+use Rattle.asm_lang_valid.specs.Typing.{Scope}
+use Rattle.wasm2js_words.specs.Names as names
+use Rattle.wasm2js_words.specs.Names.{Name, fixed, spare_high}
+use Rattle.wasm2js_words.specs.Words.{read, both, shift_right, put, ask, tell, byte, whole, write_byte, write_whole, Simple, Action}
+use Rattle.wasm2js_laws_words.specs.Sound.{IsInt, IsSound, AreSoundSimple, AreSoundActions}
+use Rattle.wasm2js_laws_scopes.specs.Provided.{signature, HasFixed, HasMemory}
+use Rattle.wasm2js_code.specs.Pairs.{Pair, simples, literal, sign_of}
+use Rattle.wasm2js_code.specs.Actions.{place, by_place, half, load_word, load_high, load_code, store_word, store_code}
+use Rattle.wasm2js_laws_typed.specs.Laws.{is_access}
+use Rattle.wasm2js_laws_typed.proofs.SoundCode.{all_simple, join_sound, place_sound, guarded_sound, byte_sound, half_sound, apart_sound, last_is}
+
+-- one of four
+chosen : (s : Scope) (x y z : Bool) (a b c d : List Action)
+    → AreSoundActions s a → AreSoundActions s b → AreSoundActions s c → (x ≡ false → y ≡ false → z ≡ false → AreSoundActions s d)
+    → AreSoundActions s (if x then a else (if y then b else (if z then c else d)))
+chosen s true y z a b c d f g h k = f
+chosen s false true z a b c d f g h k = g
+chosen s false false true a b c d f g h k = h
+chosen s false false false a b c d f g h k = k refl refl refl
+
+if_sound : (s : Scope) (x : Bool) (a : List Action) → (x ≡ true → AreSoundActions s a) → AreSoundActions s (if x then a else [])
+if_sound s true a f = f refl
+if_sound s false a f = tt
+
+first_true : (a b : Bool) → (a && b) ≡ true → a ≡ true
+first_true true b h = refl
+first_true false b h = absurd (cc h)
+
+near : (size offset bytes : ℕ) → bytes ≤ 2 ^ 28 → size + offset ≤ bytes → offset + 4 < 2 ^ 32
+near size offset bytes few h = omega (arith, few, h)
+
+nearer : (offset k : ℕ) → k ≤ 4 → offset + 4 < 2 ^ 32 → offset + k < 2 ^ 32
+nearer offset k le h = omega (arith, le, h)
+
+at_it : (offset : ℕ) → offset + 4 < 2 ^ 32 → offset < 2 ^ 32
+at_it offset h = omega (arith, h)
+
+module _ (s : Scope) (given : HasFixed s) (memory : HasMemory s) (bytes : ℕ) (few : bytes ≤ 2 ^ 28) (op : MemOp) (formed : is_access op ≡ true) (offset : ℕ) where
+  is_wide : (op.size == 1) ≡ false → (op.size == 2) ≡ false → (op.size == 4) ≡ false → op.wide ≡ true
+  is_wide p q r = last_is s (op.size == 1) (op.size == 2) (op.size == 4) op.wide formed p q r
+
+  module _ (p : Pair) (f : IsInt s p.low) (g : op.wide ≡ true → IsInt s p.high) where
+    load_word_sound : offset + 4 < 2 ^ 32 → AreSoundActions s (load_word op offset p)
+    load_word_sound h =
+        let here : IsSound s (place p.low offset) = place_sound s p.low offset f (at_it offset h) in
+        chosen s (op.size == 1) (op.size == 2) (op.size == 4) _ _ _ _
+        (all_simple s (put p.low (byte op.signed (place p.low offset)) ∷ []) ((f, byte_sound s given memory bytes few op.signed (place p.low offset) here), tt))
+        (all_simple s (put p.low (half op.signed p.low offset) ∷ []) ((f, half_sound s given memory bytes few op.signed p.low offset f (nearer offset 1 (omega arith) h)), tt))
+        (apart_sound s given memory bytes few p.low offset (ask p.low names.load_32 (place p.low offset ∷ []) ∷ []) (put p.low (whole (place p.low offset)) ∷ []) f (at_it offset h)
+        ((f, memory.helpers names.load_32 (signature 1 true) refl, (here, tt)), tt) ((f, (memory.words, here)), tt))
+        (λ x y z.
+        let high = g (is_wide x y z) in
+        apart_sound s given memory bytes few p.low offset (ask p.low names.load_64 (place p.low offset ∷ []) ∷ put p.high (read (fixed spare_high)) ∷ [])
+        (put p.high (whole (place p.low (offset + 4))) ∷ put p.low (whole (place p.low offset)) ∷ []) f (at_it offset h)
+        ((f, memory.helpers names.load_64 (signature 1 true) refl, (here, tt)), ((high, given.spare), tt))
+        ((high, (memory.words, place_sound s p.low (offset + 4) f h)), ((f, (memory.words, here)), tt)))
+
+    high_of : (signed : Bool) → IsSound s (if signed then sign_of (read p.low) else literal 0)
+    high_of true = (f, refl)
+    high_of false = refl
+
+    load_high_sound : AreSoundActions s (load_high op p)
+    load_high_sound = if_sound s (op.wide && nat_lt op.size 8) _ (λ e. all_simple s (put p.high (if op.signed then sign_of (read p.low) else literal 0) ∷ []) ((g (first_true _ _ e), high_of op.signed), tt))
+
+    pub load_sound : AreSoundActions s (load_code bytes op offset p)
+    load_sound = guarded_sound s given memory bytes few op.size offset p.low _ f
+        (λ h. join_sound s (load_word op offset p) (load_high op p) (load_word_sound (near op.size offset bytes few h)) load_high_sound)
+
+  module _ (a : Name) (v : Pair) (e : IsInt s a) (f : IsInt s v.low) (g : op.wide ≡ true → IsInt s v.high) where
+    store_word_sound : offset + 4 < 2 ^ 32 → AreSoundActions s (store_word op offset a v)
+    store_word_sound h =
+        let here : IsSound s (place a offset) = place_sound s a offset e (at_it offset h) in
+        chosen s (op.size == 1) (op.size == 2) (op.size == 4) _ _ _ _
+        (all_simple s (write_byte (place a offset) (read v.low) ∷ []) ((memory.bytes, here, f), tt))
+        (all_simple s (write_byte (place a offset) (read v.low) ∷ write_byte (place a (offset + 1)) (both shift_right (read v.low) (literal 8)) ∷ [])
+        ((memory.bytes, here, f), ((memory.bytes, place_sound s a (offset + 1) e (nearer offset 1 (omega arith) h), (f, refl)), tt)))
+        (apart_sound s given memory bytes few a offset (tell names.store_32 (place a offset ∷ read v.low ∷ []) ∷ []) (write_whole (place a offset) (read v.low) ∷ []) e (at_it offset h)
+        ((memory.helpers names.store_32 (signature 2 false) refl, (here, (f, tt))), tt) ((memory.words, here, f), tt))
+        (λ x y z.
+        let high = g (is_wide x y z) in
+        apart_sound s given memory bytes few a offset (tell names.store_64 (place a offset ∷ read v.low ∷ read v.high ∷ []) ∷ [])
+        (write_whole (place a offset) (read v.low) ∷ write_whole (place a (offset + 4)) (read v.high) ∷ []) e (at_it offset h)
+        ((memory.helpers names.store_64 (signature 3 false) refl, (here, (f, (high, tt)))), tt)
+        ((memory.words, here, f), ((memory.words, place_sound s a (offset + 4) e h, high), tt)))
+
+    pub store_sound : AreSoundActions s (store_code bytes op offset a v)
+    store_sound = guarded_sound s given memory bytes few op.size offset a _ e (λ h. store_word_sound (near op.size offset bytes few h))
