@@ -1,0 +1,5 @@
+pub mod Stepping
+pub mod Labels
+pub mod Blocks
+pub mod Loops
+pub mod Kept

@@ -1,0 +1,4 @@
+pub mod Straight
+pub mod Places
+pub mod Helped
+pub mod Worked

@@ -1,0 +1,35 @@
+-- Straight code that is worked out: sums of two words, and loads from a memory of eight bytes.
+use Rattle.std.specs.Prelude.{ℕ, false, List, [], ◌∷◌, None}
+use Rattle.wasm_lang.specs.declared.types.MemOp.{MemOp}
+use Rattle.wasm2js_words.specs.Names.{numbered, operand_low, operand_high}
+use Rattle.wasm2js_code.specs.Pairs.{operand_pair, simples}
+use Rattle.wasm2js_code.specs.Wide.{wide_sum}
+use Rattle.wasm2js_code.specs.Actions.{load_code}
+use Rattle.wasm2js_laws_places.specs.Straight.{Words, with_word, gives, Helping, Outcome, goes, stops, run_actions}
+
+-- each helper gives 77, for three units
+abbrev pub any_help : Helping
+any_help = record { answer = λ f words heap. gives 77 None heap; cost = λ f words. 3 }
+
+-- those of two operands, each the low word first
+abbrev pub words_of : (a_low a_high b_low b_high : ℕ) → Words
+words_of a_low a_high b_low b_high =
+    with_word (numbered operand_low 0) a_low
+    (with_word (numbered operand_high 0) a_high (with_word (numbered operand_low 1) b_low (with_word (numbered operand_high 1) b_high (λ n. 0))))
+
+-- likewise, of what code leaves
+abbrev pub seen_words : Outcome → List ℕ
+seen_words (goes words heap) = words (numbered operand_low 0) ∷ words (numbered operand_high 0) ∷ words (numbered operand_low 1) ∷ words (numbered operand_high 1) ∷ []
+seen_words (stops kind heap) = []
+
+abbrev pub added_up : (a_low a_high b_low b_high : ℕ) → Outcome
+added_up a_low a_high b_low b_high = run_actions any_help (simples (wide_sum (operand_pair 0) (operand_pair 1) (operand_pair 0))) (words_of a_low a_high b_low b_high) []
+
+abbrev pub a_heap : List ℕ
+a_heap = 1 ∷ 2 ∷ 3 ∷ 4 ∷ 5 ∷ 6 ∷ 7 ∷ 8 ∷ []
+
+abbrev pub four_bytes : MemOp
+four_bytes = record { wide = false; size = 4; signed = false }
+
+abbrev pub loaded_at : ℕ → Outcome
+loaded_at a = run_actions any_help (load_code 8 four_bytes 0 (operand_pair 0)) (words_of a 0 0 0) a_heap

@@ -1,0 +1,19 @@
+//! From WebAssembly to asm.js: which state of WebAssembly a place of asm.js stands for, and what straight code does without asm.js.
+#![tactic(auto)]
+
+ghost use Rattle.std.specs.Prelude.{◌≡◌, ◌∷◌, []};
+ghost use Rattle.wasm2js_laws_places.specs.Straight.{stops};
+ghost use Rattle.wasm2js_laws_places.specs.Worked.{seen_words, added_up, loaded_at, a_heap};
+
+/// The carry of the low words goes into the high one.
+pub fn a_sum_with_carry()
+    ensures { seen_words (added_up 4294967295 5 3 6) ≡ 2 ∷ 12 ∷ 3 ∷ 6 ∷ [] }
+{}
+
+/// Four bytes at an address that is a multiple of four are read where they lie in the memory; at another
+/// one a helper reads them, and past the memory there is a trap.
+pub fn a_load_that_is_guarded()
+    ensures together { seen_words (loaded_at 4) ≡ 134678021 ∷ 0 ∷ 0 ∷ 0 ∷ [] }
+    ensures apart { seen_words (loaded_at 3) ≡ 77 ∷ 0 ∷ 0 ∷ 0 ∷ [] }
+    ensures past { loaded_at 5 ≡ stops 2 a_heap }
+{}
