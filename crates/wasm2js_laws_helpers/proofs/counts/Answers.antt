@@ -1,0 +1,8 @@
+use Rattle.wasm2js_laws_helpers.proofs.Zeros.{leading_zeros_help, trailing_zeros_help}
+use Rattle.wasm2js_laws_helpers.proofs.counts.Goals as goal
+
+pub returns-clause-leading : goal.returns-clause-leading
+returns-clause-leading c = leading_zeros_help
+
+pub returns-clause-trailing : goal.returns-clause-trailing
+returns-clause-trailing c = trailing_zeros_help

@@ -1,0 +1,18 @@
+//! The helper functions of what WebAssembly is translated to do what their operators mean.
+#![tactic(auto)]
+
+ghost use Rattle.wasm2js_laws_helpers.specs.Laws.{ShiftLeftHelps, ShiftRightSignedHelps, ShiftRightHelps, RotateLeftHelps, LeadingZerosHelp, TrailingZerosHelp};
+
+/// Shifts and rotations of words of 64 bits.
+pub fn turns()
+    ensures left { ShiftLeftHelps }
+    ensures right_signed { ShiftRightSignedHelps }
+    ensures right { ShiftRightHelps }
+    ensures rotation { RotateLeftHelps }
+{}
+
+/// Counts of the bits of words of 64 bits.
+pub fn counts()
+    ensures leading { LeadingZerosHelp }
+    ensures trailing { TrailingZerosHelp }
+{}
