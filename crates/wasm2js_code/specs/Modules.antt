@@ -1,5 +1,5 @@
 -- The module of asm.js that a module of WebAssembly is translated to.
-use Rattle.std.specs.Prelude.{ℕ, suc, ◌+◌, ◌-◌, ◌*◌, ◌/◌, ◌%◌, ◌^◌, nat_le, List, [], ◌∷◌, ◌++◌, length, take, drop, Option, Some, None, slice_get, codes, pos, if◌then◌else◌}
+use Rattle.std.specs.Prelude.{ℕ, suc, ◌+◌, ◌-◌, ◌*◌, ◌/◌, ◌%◌, List, [], ◌∷◌, ◌++◌, length, take, drop, Option, Some, None, slice_get, codes, pos, if◌then◌else◌}
 use Rattle.std.specs.List.{flat_map}
 use Rattle.sem_words.specs.Words.{signed_of}
 use Rattle.heap_views.specs.Numbers.{little_endian}
@@ -14,7 +14,6 @@ use Rattle.wasm_lang.specs.Modules.{FunctionType, GlobalEntry, Exported, DataSeg
 use Rattle.wasm_lang_valid.specs.ModuleRules.{function_types, global_types, has_table, has_memory}
 use Rattle.wasm_lang_valid.specs.Typing.{Context, result_of}
 use Rattle.wasm_lang_valid.specs.Profile.{constant_offset, or_zero, memory_bytes}
-use Rattle.wasm_lang_exec.specs.Store.{page}
 use Rattle.wasm_lang_exec.specs.Code.{Trees}
 use Rattle.wasm_lang_exec.specs.Reductions.{Callee, an_import, a_function, callees}
 use Rattle.wasm_lang_exec.specs.Fits.{GlobalImport, global_imports}
@@ -219,14 +218,3 @@ translated m = record {
   tables = tables_for m;
   exports = many (exports_of m);
 }
-
--- ---- the heap's length
-
--- the first of these powers of two that is no less, and past them the least multiple of 2 ^ 24
-abbrev pub first_no_less : (exponents : List ℕ) → ℕ → ℕ
-first_no_less [] n = (n + (2 ^ 24 - 1)) / 2 ^ 24 * 2 ^ 24
-first_no_less (k ∷ ks) n = if nat_le n (2 ^ k) then 2 ^ k else first_no_less ks n
-
--- the least length of a heap that holds so many pages
-abbrev pub heap_for : (pages : ℕ) → ℕ
-heap_for n = first_no_less (12 ∷ 13 ∷ 14 ∷ 15 ∷ 16 ∷ 17 ∷ 18 ∷ 19 ∷ 20 ∷ 21 ∷ 22 ∷ 23 ∷ []) (n * page)

@@ -1,66 +1,20 @@
 -- The tables of asm.js that stand for the table of WebAssembly: one for each form of type that a call of an entry names. In each of them an
 -- entry of another type, and a place where no entry stands, has a function that traps.
-use Rattle.std.specs.Prelude.{ℕ, ◌+◌, ◌-◌, ◌*◌, ◌/◌, ◌%◌, Bool, true, false, ◌&&◌, List, [], ◌∷◌, ◌++◌, length, map, replicate, Option, Some, None, slice_get, ◌==◌, if◌then◌else◌}
+use Rattle.std.specs.Prelude.{ℕ, ◌+◌, ◌*◌, ◌/◌, ◌%◌, Bool, true, false, ◌&&◌, List, [], ◌∷◌, ◌++◌, map, Option, Some, None, slice_get, ◌==◌, if◌then◌else◌}
 use Rattle.std.specs.List.{list_any, flat_map, range_with_len}
 use Rattle.wasm_lang.specs.declared.types.ValType.{ValType}
 use Rattle.wasm_lang.specs.declared.types.ValType.TheVariants.{I32, I64}
-use Rattle.wasm_lang.specs.Modules.{FunctionType, ElementSegment, WasmModule}
-use Rattle.wasm_lang_valid.specs.ModuleRules.{type_of_function}
-use Rattle.wasm_lang_valid.specs.Measures.{same_type, is_among, called_types}
-use Rattle.wasm_lang_valid.specs.Profile.{constant_offset, or_zero, padded, table_length}
-use Rattle.wasm_lang_exec.specs.Session.{replaced}
+use Rattle.wasm_lang.specs.Modules.{FunctionType, WasmModule}
+use Rattle.wasm_lang_valid.specs.Profile.{padded, table_length}
 use Rattle.asm_lang.specs.Modules.{returns, Function, Table}
 use Rattle.wasm2js_words.specs.Names.{Name, Numbered, numbered, function, table, no_entry, other_entry, spelled}
 use Rattle.wasm2js_words.specs.Words.{natural, trap_call}
-use Rattle.wasm2js_code.specs.Bodies.{form_number}
+pub use Rattle.wasm2js_lang.specs.Tables.{Cell, a_function, empty, other, MaskedTable, masked}
 use Rattle.wasm2js_code.specs.Helpers.{argument, function_of}
-
--- ---- cells
-
--- what a call finds: a function of the type that it names, nothing, or a function of another type
-pub data Cell : Type 0 where
-  a_function : (function : ℕ) → Cell
-  empty : Cell
-  other : Cell
-
--- the least number of a type of the form, and the cells
-pub record MaskedTable : Type 0 where
-  pub function_type : ℕ
-  pub cells : List Cell
-
--- the table after the elements; those of a module that can be translated lie at constant places
-abbrev pub with_elements : List ElementSegment → List (Option ℕ) → List (Option ℕ)
-with_elements [] entries = entries
-with_elements (e ∷ es) entries = with_elements es (replaced (or_zero (constant_offset e.offset)) (map Some e.functions) entries)
-
-abbrev pub entries_of : WasmModule → List (Option ℕ)
-entries_of m = with_elements m.elements (replicate (table_length m) None)
-
-abbrev pub has_form : FunctionType → Option FunctionType → Bool
-has_form t None = false
-has_form t (Some u) = same_type t u
-
-abbrev pub cell : WasmModule → FunctionType → Option ℕ → Cell
-cell m t None = empty
-cell m t (Some f) = if has_form t (type_of_function m f) then a_function f else other
 
 -- how many cells each table has: a power of two
 abbrev pub cell_count : WasmModule → ℕ
 cell_count m = padded (table_length m)
-
-abbrev pub cells_of : WasmModule → FunctionType → List Cell
-cells_of m t = map (cell m t) (entries_of m) ++ replicate (cell_count m - length (entries_of m)) empty
-
--- ---- tables: one for each form that calls of an entry name, also where they aren't reached
-
--- of several types of one form the one with the least number counts
-abbrev pub masked_at : WasmModule → (called : List FunctionType) → (n : ℕ) → Option FunctionType → List MaskedTable
-masked_at m called n None = []
-masked_at m called n (Some t) =
-    if (form_number m.types t == n) && is_among t called then record { function_type = n; cells = cells_of m t } ∷ [] else []
-
-abbrev pub masked : WasmModule → List MaskedTable
-masked m = let called = called_types m.types m.bodies in flat_map (λ n. masked_at m called n (slice_get m.types n)) (range_with_len 0 (length m.types))
 
 -- ---- what stands for missing entries, by how many words are taken and whether there is a result
 

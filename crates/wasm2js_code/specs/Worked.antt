@@ -5,8 +5,7 @@ use Rattle.sem_laws.specs.Script.{ScriptPlain}
 use Rattle.sem_laws.specs.Observation.{EventPlain, ObservationPlain, as_stop}
 use Rattle.sem_laws.specs.CallingForms.{ShapePlain, split, split_event, split_end, without_init}
 use Rattle.wasm_lang.specs.Modules.{WasmModule}
-use Rattle.wasm_lang_valid.specs.Profile.{memory_bytes, or_zero, outside_profile}
-use Rattle.wasm_lang_valid.specs.Runnable.{pages}
+use Rattle.wasm_lang_valid.specs.Profile.{memory_bytes, outside_profile}
 use Rattle.wasm_lang_exec.specs.Session.{wasm}
 use Rattle.wasm_lang_exec.specs.Fits as source_fits
 use Rattle.asm_lang.specs.Modules.{Function}
@@ -14,7 +13,8 @@ use Rattle.asm_lang.specs.Printing.{joined, globals_text, function_text, tables_
 use Rattle.asm_lang_exec.specs.Session.{asm}
 use Rattle.asm_lang_exec.specs.Fits as target_fits
 use Rattle.asm_lang_valid.specs.Refusal.{IsAccepted}
-use Rattle.wasm2js_code.specs.Modules.{translated, heap_for}
+use Rattle.wasm2js_lang.specs.Heaps.{heap_bytes}
+use Rattle.wasm2js_code.specs.Modules.{translated}
 
 -- ---- code
 
@@ -37,12 +37,9 @@ exports_of w = joined [] (exports_text (translated w).exports)
 
 -- ---- sessions
 
-abbrev pub heap_of : WasmModule → ℕ
-heap_of w = heap_for (or_zero (pages w))
-
 -- what is seen of the translation with so many units
 abbrev pub target_seen : WasmModule → List ShapePlain → ScriptPlain → ℕ → Option ObservationPlain
-target_seen w shapes script n = asm (translated w) (heap_of w) (split shapes script) n
+target_seen w shapes script n = asm (translated w) (heap_bytes w) (split shapes script) n
 
 abbrev pub events_at : WasmModule → List ShapePlain → ScriptPlain → ℕ → Option (List EventPlain)
 events_at w shapes script n = option_map (λ o. o.events) (target_seen w shapes script n)
@@ -65,6 +62,6 @@ pub record IsAlike (w : WasmModule) (shapes : List ShapePlain) (script : ScriptP
   pub within : outside_profile w ≡ None
   pub accepted : IsAccepted (translated w)
   pub fits : source_fits.misfit w script ≡ None
-  pub target_fits : target_fits.misfit (translated w) (heap_of w) (split shapes script) ≡ None
+  pub target_fits : target_fits.misfit (translated w) (heap_bytes w) (split shapes script) ≡ None
   pub ends : is_some (wasm w script reductions).end ≡ true
   pub same : option_map (from_target (memory_bytes w)) (target_seen w shapes script units) ≡ Some (from_source (wasm w script reductions))

@@ -2,7 +2,6 @@
 ghost use Rattle.std.specs.Prelude.{◌≡◌, ◌∷◌, [], pos, negsuc, Some, codes};
 ghost use Rattle.sem_words.specs.declared.word.Word.TheVariants.{W32};
 ghost use Rattle.sem_laws.specs.Observation.{done, stopped, running, ended, call_returned, call_gave, import_called};
-ghost use Rattle.wasm2js_code.specs.Modules.{heap_for};
 ghost use Rattle.wasm2js_code.specs.Pieces.{loading, storing, choosing, adding, tabled};
 ghost use Rattle.wasm2js_code.specs.Programs.{adding_shape, adding_script, no_shape, starting, starting_script, asking, asking_shape, asking_script, copying, copying_script, narrow, narrow_script, dividing, by_zero_script, overflow_script, wide, wide_shape, wide_script};
 ghost use Rattle.wasm2js_code.specs.Sessions.{variables, variables_shape, variables_script, turning, turning_script, branching, branching_script, trapping, trapping_script, calling, calling_shapes, calling_script, entry_script, entry_shape, remembering, memory_shape, memory_script};
@@ -147,13 +146,4 @@ pub fn copies()
 /// Stores and loads of all forms at places of both kinds, a fill, and a store that passes the end.
 pub fn stores_and_loads()
     ensures { IsAlike remembering memory_shape memory_script 500 500 }
-{}
-
-/// The least length of a heap that holds so many pages.
-pub fn heap_lengths()
-    ensures no_page { heap_for 0 ≡ 4096 }
-    ensures one { heap_for 1 ≡ 65536 }
-    ensures seventeen { heap_for 17 ≡ 2097152 }
-    ensures past_the_short_ones { heap_for 129 ≡ 16777216 }
-    ensures most { heap_for 4096 ≡ 268435456 }
 {}
