@@ -4,5 +4,9 @@
 #![tactic(auto)]
 
 mod pair;
+mod results;
+mod truths;
 
 pub use pair::{Pair, global_pair, local_pair, operand_pair};
+pub use results::{moved, put_extended, put_sign, wide_binary, wide_extend, wide_unary};
+pub use truths::{wide_compare, wide_zero};

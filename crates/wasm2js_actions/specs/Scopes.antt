@@ -5,7 +5,7 @@ use Rattle.wasm_lang.specs.Instructions.{Instruction, plain}
 use Rattle.wasm_lang_valid.specs.Typing.{Context}
 use Rattle.wasm2js_words.specs.Words.{Action}
 use Rattle.wasm2js_code.specs.Actions.{actions}
-use Rattle.wasm2js_actions.specs.declared.instruction.InstructionScope.{InstructionScope}
+use Rattle.wasm2js_actions.specs.declared.plain.InstructionScope.{InstructionScope}
 
 -- a context has the types of these locals and globals
 pub record Suits (scope : InstructionScope) (c : Context) : Type 0 where

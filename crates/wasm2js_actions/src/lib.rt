@@ -4,6 +4,6 @@
 //! takes stood.
 #![tactic(auto)]
 
-mod instruction;
+mod plain;
 
-pub use instruction::{InstructionScope, instruction};
+pub use plain::{InstructionScope, instruction};
