@@ -1,9 +1,8 @@
 -- The forms of the types before, one type more, and which types have tables.
-use Rattle.std.proofs.Common.{◌≡◌, ◌⊎◌, inl, inr, ℕ, zero, suc, ◌+◌, ◌<◌, ◌≤◌, ◌^◌, Bool, true, false, ◌&&◌, ◌||◌, not, nat_eq, List, [], ◌∷◌, ◌++◌, length, get_or, map, take, drop, Some, refl, sym, ap, ◌∙◌, subst, arith, append_assoc, append-nil}
+use Rattle.std.proofs.Common.{◌≡◌, ◌⊎◌, inl, inr, ℕ, zero, suc, ◌+◌, ◌<◌, ◌≤◌, ◌^◌, Bool, true, false, ◌&&◌, ◌||◌, not, nat_eq, List, [], ◌∷◌, ◌++◌, length, get_or, map, take, drop, Some, refl, sym, ap, ◌∙◌, arith, append_assoc}
 use Rattle.std.specs.Global.{Vec}
 use Rattle.std.specs.Prelude.{slice_get, if◌then◌else◌, Result, Ok, Err}
 use Rattle.std.specs.Result.{is_err, OnOk}
-use Rattle.std.specs.List.{list_any}
 use Rattle.std.specs.Cmp.Lexicographic.{pointwise}
 use Rattle.std.proofs.lemmas.List.{drop_more, map-append}
 use Rattle.std.proofs.lemmas.List.Folds.{list_any-append}
@@ -15,7 +14,7 @@ use Rattle.wasm_lang_valid.proofs.Main.{one_longer}
 use Rattle.wasm_lang_valid.specs.Measures.{called_types, is_among, same_type}
 use Rattle.wasm_validate_bodies.specs.declared.called.Called.{Called}
 use Rattle.wasm_validate_bodies.specs.Calls.{form, holds, IsNoted, known, fresh, IsCalled}
-use Rattle.wasm_validate_bodies.proofs.Forms.{form_same, bool, or_false, among_more, among_same, type_self}
+use Rattle.wasm_validate_bodies.proofs.Forms.{form_same, or_false, among_more, among_same, type_self}
 use Rattle.wasm2js_lang.specs.Tables.{MaskedTable, masked_from}
 use Rattle.wasm2js_tables.specs.declared.cells.MaskedTable.{MaskedTable as Coded}
 use Rattle.wasm2js_tables.specs.Views.{masked_view}

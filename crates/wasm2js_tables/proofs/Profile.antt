@@ -1,12 +1,12 @@
 -- The elements of a module in the profile lie inside its table.
-use Rattle.std.proofs.Common.{◌≡◌, ℕ, zero, suc, ◌+◌, ◌≤◌, Bool, true, false, List, [], ◌∷◌, length, Option, Some, None, refl, ap, ◌∙◌, subst, arith}
+use Rattle.std.proofs.Common.{◌≡◌, ℕ, zero, suc, ◌+◌, ◌≤◌, Bool, true, false, List, [], ◌∷◌, length, Option, Some, None, refl, subst, arith}
 use Rattle.std.specs.Prelude.{slice_get, nat_lt}
 use Rattle.std.proofs.lemmas.Bool.Decides.{nat_tests}
 use Rattle.wasm_lang.specs.declared.types.ValType.TheVariants.{I32}
 use Rattle.wasm_lang.specs.Modules.{ElementSegment, DataSegment, WasmModule}
 use Rattle.wasm_lang_valid.specs.ModuleRules.{init_rule, element_rule, are_functions}
 use Rattle.wasm_lang_valid.specs.Validity.{IsValidModule}
-use Rattle.wasm_lang_valid.specs.Profile.{where_so, or_zero, is_global_offset, constant_offset, passes, offset_from_import, segment_outside, table_length, memory_bytes, outside_profile, IsInProfile}
+use Rattle.wasm_lang_valid.specs.Profile.{where_so, or_zero, is_global_offset, constant_offset, passes, offset_from_import, segment_outside, table_length, memory_bytes, outside_profile}
 use Rattle.wasm2js_lang.proofs.Padded.{within_rows, is_constant, meets_last, fine}
 use Rattle.wasm2js_tables.specs.Inside.{AreInside}
 
