@@ -1,2 +1,4 @@
 pub mod Put
 pub mod Calls
+pub mod Noted
+pub mod Profile

@@ -4,9 +4,7 @@
 mod called;
 mod cells;
 mod entries;
-// types
+mod types;
 
 pub use cells::{Cell, MaskedTable};
-pub use called::called_of;
-pub use cells::cells_of;
-pub use entries::entries_of;
+pub use types::masked;
