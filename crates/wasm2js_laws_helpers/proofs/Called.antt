@@ -53,7 +53,7 @@ same_variables false p q e f = f
 same_word : (n : Name) (p q : Place) → q.locals ≡ p.locals → q.globals ≡ p.globals → word_at q n ≡ word_at p n
 same_word n p q e f = ap (λ bs. word_bound (value_in bs (spelled n))) (same_variables (is_own n) p q e f)
 
-words_after : (h : Option ℕ) (p q : Place) → q.locals ≡ p.locals → HasHigh h p.globals q.globals → (n : Name) → word_at q n ≡ with_high h (word_at p) n
+pub words_after : (h : Option ℕ) (p q : Place) → q.locals ≡ p.locals → HasHigh h p.globals q.globals → (n : Name) → word_at q n ≡ with_high h (word_at p) n
 words_after None p q e f n = same_word n p q e f
 words_after (Some x) p q e f n =
     same_word n (record p { globals = with_value (name_of spare_high) f.value p.globals }) q e f.is

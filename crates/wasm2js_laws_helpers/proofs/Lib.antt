@@ -4,3 +4,4 @@ pub mod Bodies
 pub mod Turned
 pub mod Rotated
 pub mod Zeros
+pub mod Bits

@@ -1,5 +1,6 @@
 -- What the helpers on words do, on numbers.
-use Rattle.std.specs.Prelude.{ℕ, List, [], ◌∷◌, Some, None}
+use Rattle.std.specs.Prelude.{ℕ, zero, suc, ◌+◌, ◌/◌, List, [], ◌∷◌, Some, None, ◌==◌, if◌then◌else◌}
+use Rattle.sem_words.specs.Words.{set_bits_of}
 use Rattle.sem_laws.specs.Imports.{low_word, high_word}
 use Rattle.wasm2js_laws_places.specs.Straight.{Answer, gives}
 use Rattle.wasm2js_laws_numbers.specs.Laws.{joined}
@@ -20,3 +21,17 @@ turned op _ heap = one_word 0 heap
 abbrev pub counted : (ℕ → ℕ → ℕ) → List ℕ → (heap : List ℕ) → Answer
 counted op (a ∷ x ∷ []) heap = one_word (op 64 (joined a x)) heap
 counted op _ heap = one_word 0 heap
+
+-- how many bits there are up to the highest that is set, of the k low ones
+unfoldable pub length_of : (k : ℕ) → ℕ → ℕ
+length_of zero a = 0
+length_of (suc k) a = if a == 0 then 0 else suc (length_of k (a / 2))
+
+-- the set bits of a word of 32 bits; a unit for the call, for each bit, and for the test that ends the loop
+abbrev pub set_bits_answer : List ℕ → (heap : List ℕ) → Answer
+set_bits_answer (a ∷ []) heap = one_word (set_bits_of 32 a) heap
+set_bits_answer _ heap = one_word 0 heap
+
+abbrev pub set_bits_units : List ℕ → ℕ
+set_bits_units (a ∷ []) = 2 + length_of 32 a
+set_bits_units _ = 1

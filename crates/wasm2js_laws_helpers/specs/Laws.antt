@@ -10,11 +10,11 @@ use Rattle.asm_lang_exec.specs.Runs.{Place}
 use Rattle.asm_lang_exec.specs.Meaning.{call_at}
 use Rattle.wasm2js_words.specs.Names.{clz32}
 use Rattle.wasm2js_words.specs.Words.{name_of}
-use Rattle.wasm2js_code.specs.Helpers.{shift_left_function, shift_right_signed_function, shift_right_function, rotate_left_function, leading_zeros_function, trailing_zeros_function}
+use Rattle.wasm2js_code.specs.Helpers.{shift_left_function, shift_right_signed_function, shift_right_function, rotate_left_function, leading_zeros_function, trailing_zeros_function, set_bits_function}
 use Rattle.wasm2js_laws_places.specs.Straight.{Answer}
 use Rattle.wasm2js_laws_places.specs.Places.{IsHeap}
 use Rattle.wasm2js_laws_places.specs.Helped.{Helps}
-use Rattle.wasm2js_laws_helpers.specs.Answers.{turned, counted}
+use Rattle.wasm2js_laws_helpers.specs.Answers.{turned, counted, length_of, set_bits_answer, set_bits_units}
 
 -- each call of the function gives this, and takes one unit, where calls lie at most so deep
 abbrev pub HelpsAtOnce : Module → Function → (List ℕ → List ℕ → Answer) → Type 0
@@ -42,3 +42,11 @@ LeadingZerosHelp = (m : Module) → HasZeros m → HelpsAtOnce m leading_zeros_f
 
 abbrev pub TrailingZerosHelp : Type 0
 TrailingZerosHelp = (m : Module) → HasZeros m → HelpsAtOnce m trailing_zeros_function (counted trailing_zeros_of)
+
+abbrev pub SetBitsHelp : Type 0
+SetBitsHelp =
+    (m : Module) (bound bytes : ℕ) (vs : List JsValue) (p : Place) → IsHeap bytes p.heap → p.units ≤ bound
+    → Helps bytes (set_bits_answer (map to_uint32_of vs) p.heap) (set_bits_units (map to_uint32_of vs)) p (call_at false m bound set_bits_function vs p)
+
+abbrev pub FewUnits : Type 0
+FewUnits = (a : ℕ) → length_of 32 a ≤ 32

@@ -1,7 +1,7 @@
 //! The helper functions of what WebAssembly is translated to do what their operators mean.
 #![tactic(auto)]
 
-ghost use Rattle.wasm2js_laws_helpers.specs.Laws.{ShiftLeftHelps, ShiftRightSignedHelps, ShiftRightHelps, RotateLeftHelps, LeadingZerosHelp, TrailingZerosHelp};
+ghost use Rattle.wasm2js_laws_helpers.specs.Laws.{ShiftLeftHelps, ShiftRightSignedHelps, ShiftRightHelps, RotateLeftHelps, LeadingZerosHelp, TrailingZerosHelp, SetBitsHelp, FewUnits};
 
 /// Shifts and rotations of words of 64 bits.
 pub fn turns()
@@ -11,8 +11,10 @@ pub fn turns()
     ensures rotation { RotateLeftHelps }
 {}
 
-/// Counts of the bits of words of 64 bits.
+/// Counts of the bits of words of 64 bits, and of the set bits of a word of 32 bits, which takes at most 34 units.
 pub fn counts()
     ensures leading { LeadingZerosHelp }
     ensures trailing { TrailingZerosHelp }
+    ensures set { SetBitsHelp }
+    ensures few { FewUnits }
 {}
