@@ -1,8 +1,8 @@
 -- Lists of nodes.
-use Rattle.std.proofs.Common.{◌≡◌, ℕ, List, [], ◌∷◌, ◌++◌, map, refl, sym, ap, ◌∙◌}
+use Rattle.std.proofs.Common.{◌≡◌, List, [], ◌∷◌, map, refl, ap, ◌∙◌}
 use Rattle.sem_words.specs.Lists.{list_items}
 use Rattle.sem_words.specs.declared.list.List.{List as Listed}
-use Rattle.asm_lang.specs.Modules.{Expr, Exprs, exprs, Stmt, Stmts, stmts, block}
+use Rattle.asm_lang.specs.Modules.{exprs, Stmt, stmts, block}
 use Rattle.asm_tree.specs.declared.tree.Stmt.{Stmt as CodeStmt}
 use Rattle.asm_tree.specs.declared.tree.Stmt.TheVariants as code_stmts
 use Rattle.asm_tree.specs.Views as views

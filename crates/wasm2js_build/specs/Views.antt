@@ -1,5 +1,5 @@
 -- What names and terms of the code say, as plain data.
-use Rattle.std.specs.Prelude.{ℕ, Bool, false, List, map}
+use Rattle.std.specs.Prelude.{false, List, map}
 use Rattle.wasm2js_words.specs.Names as plain
 use Rattle.wasm2js_words.specs.Names.{numbered, fixed}
 use Rattle.wasm2js_words.specs.Words as words

@@ -12,9 +12,7 @@ ghost use Rattle.wasm2js_build.specs.Blocks.{statements_of};
 
 use crate::building::{argument_list, expr, int_expr, number_expr};
 use crate::names::{Fixed, Name};
-use crate::nodes::{
-    binary, call, natural, plainly, put_in, shifted, signed, store_in, trap_call,
-};
+use crate::nodes::{binary, call, natural, plainly, put_in, shifted, signed, store_in, trap_call};
 use crate::spelling::spell;
 use crate::statements::{
     block_statement, gives, if_else, if_only, locals_of, params_of, while_loop,
@@ -133,7 +131,12 @@ impl Block {
         ensures { IfOk result (λ _. statements_of self.new ≡ statements_of self.old ++ plain.if_else (signed_number (expr_for (term_view test.now))) (plain.block (stmts_in (statements_of first))) (plain.block (stmts_in (statements_of second))) ∷ []) }
     {
         let test = number_expr(self.alloc, test, true)?;
-        let statement = if_else(self.alloc, test, first.into_statement(), second.into_statement())?;
+        let statement = if_else(
+            self.alloc,
+            test,
+            first.into_statement(),
+            second.into_statement(),
+        )?;
         self.push(statement)
     }
 
@@ -147,11 +150,21 @@ impl Block {
     }
 
     /// `if(test){first}else{second}`
-    pub fn when_else(&mut self, test: &Term<'_>, first: Block, second: Block) -> Result<(), AllocError>
+    pub fn when_else(
+        &mut self,
+        test: &Term<'_>,
+        first: Block,
+        second: Block,
+    ) -> Result<(), AllocError>
         ensures { IfOk result (λ _. statements_of self.new ≡ statements_of self.old ++ plain.if_else (int_of (term_view test.now)) (helpers.block_of (statements_of first)) (helpers.block_of (statements_of second)) ∷ []) }
     {
         let test = int_expr(self.alloc, test)?;
-        let statement = if_else(self.alloc, test, first.into_statement(), second.into_statement())?;
+        let statement = if_else(
+            self.alloc,
+            test,
+            first.into_statement(),
+            second.into_statement(),
+        )?;
         self.push(statement)
     }
 
@@ -185,11 +198,7 @@ impl Block {
 }
 
 // `helper(arguments)`
-fn helper_call(
-    alloc: Global,
-    helper: Fixed,
-    arguments: &[Term<'_>],
-) -> Result<Expr, AllocError>
+fn helper_call(alloc: Global, helper: Fixed, arguments: &[Term<'_>]) -> Result<Expr, AllocError>
     ensures { IfOk result (λ e. expr_view e ≡ words.called (fixed_view helper) (words.arguments (terms_view arguments.now))) }
 {
     let arguments = argument_list(alloc, arguments)?;

@@ -14,7 +14,5 @@ pub use building::{expr, int_expr};
 pub use names::{Fixed, Name, Numbered};
 pub use nodes::{binary, call, natural, plainly, put_in, signed, variable, with_expr};
 pub use spelling::spell;
-pub use statements::{
-    block_statement, if_else, if_only, returns, returns_nothing, while_loop,
-};
+pub use statements::{block_statement, if_else, if_only, returns, returns_nothing, while_loop};
 pub use terms::{BitOp, Relation, Term};

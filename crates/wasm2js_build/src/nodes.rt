@@ -194,12 +194,7 @@ pub fn put_in(alloc: Global, name: Name, value: Expr) -> Result<Stmt, AllocError
 /// `view[at]=value;`
 #[inline(never)]
 #[tactic(auto, using(asm_tree::proofs::Views::views))]
-pub(crate) fn store_in(
-    alloc: Global,
-    view: Name,
-    at: Expr,
-    value: Expr,
-) -> Result<Stmt, AllocError>
+pub(crate) fn store_in(alloc: Global, view: Name, at: Expr, value: Expr) -> Result<Stmt, AllocError>
     ensures { IfOk result (λ s. stmt_view s ≡ plain.plain (plain.store (spelled (name_view view)) (expr_view at) (expr_view value))) }
 {
     let view = spell(alloc, view)?;
@@ -212,6 +207,10 @@ pub(crate) fn store_in(
 pub(crate) fn trap_call(alloc: Global, kind: u32) -> Result<Stmt, AllocError>
     ensures { IfOk result (λ s. stmt_view s ≡ words.trap_call kind) }
 {
-    let e = call_of_one(alloc, Name::Always(crate::names::Fixed::Trap), natural(kind as u64))?;
+    let e = call_of_one(
+        alloc,
+        Name::Always(crate::names::Fixed::Trap),
+        natural(kind as u64),
+    )?;
     Ok(plainly(e))
 }

@@ -45,12 +45,7 @@ pub fn if_only(alloc: Global, test: Expr, statement: Stmt) -> Result<Stmt, Alloc
 /// `if(test)first else second`
 #[inline(never)]
 #[tactic(auto, using(asm_tree::proofs::Views::views))]
-pub fn if_else(
-    alloc: Global,
-    test: Expr,
-    first: Stmt,
-    second: Stmt,
-) -> Result<Stmt, AllocError>
+pub fn if_else(alloc: Global, test: Expr, first: Stmt, second: Stmt) -> Result<Stmt, AllocError>
     ensures { IfOk result (λ s. stmt_view s ≡ plain.if_else (expr_view test) (stmt_view first) (stmt_view second)) }
 {
     let first = boxed(alloc, first)?;
@@ -109,7 +104,10 @@ fn with_param(alloc: Global, params: List<Param>, name: Name) -> Result<List<Par
 {
     let name = spell(alloc, name)?;
     let mut params = params;
-    match params.push(Param { name, double: false }) {
+    match params.push(Param {
+        name,
+        double: false,
+    }) {
         Ok(()) => Ok(params),
         Err(_) => Err(AllocError),
     }

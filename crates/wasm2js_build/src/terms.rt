@@ -119,7 +119,12 @@ impl<'a> Term<'a> {
 
     /// `a+b+c+d`
     #[tactic(auto, using(crate::proofs::Views::terms))]
-    pub fn sum_of_four(a: &'a Term<'a>, b: &'a Term<'a>, c: &'a Term<'a>, d: &'a Term<'a>) -> Term<'a>
+    pub fn sum_of_four(
+        a: &'a Term<'a>,
+        b: &'a Term<'a>,
+        c: &'a Term<'a>,
+        d: &'a Term<'a>,
+    ) -> Term<'a>
         ensures { term_view result ≡ words.sum (term_view a.now) (further false (term_view b.now) (further false (term_view c.now) (further false (term_view d.now) no_more))) }
     {
         Term::SumOfFour(a, b, c, d)

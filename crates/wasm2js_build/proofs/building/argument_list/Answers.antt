@@ -1,4 +1,4 @@
-use Rattle.std.proofs.Common.{rules, ◌≡◌, drop, [], ◌++◌, map, sym, ap, ◌∙◌, arith, append-nil}
+use Rattle.std.proofs.Common.{◌≡◌, drop, [], ◌++◌, map, sym, ap, ◌∙◌, arith, append-nil}
 use Rattle.std.proofs.Math.ListN.{drop_of_length-le}
 use Rattle.sem_words.specs.Lists.{list_items}
 use Rattle.asm_tree.specs.Views.{expr_view, exprs_in}
