@@ -6,3 +6,5 @@ pub mod ShallowPlain
 pub mod FineBlocks
 pub mod FineJumps
 pub mod FineCalls
+pub mod Cases
+pub mod FineSwitches

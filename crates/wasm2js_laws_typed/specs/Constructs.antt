@@ -5,13 +5,13 @@ use Rattle.wasm_lang.specs.declared.types.ValType.TheVariants.{I32}
 use Rattle.wasm_lang.specs.Modules.{FunctionType}
 use Rattle.wasm_lang_valid.specs.Typing.{Context, listed, result_of as type_result}
 use Rattle.asm_lang.specs.Modules.{Stmt, if_only, if_else}
-use Rattle.asm_lang_valid.specs.Typing.{Scope, Label, Around, result_of, in_a_loop, has_label}
+use Rattle.asm_lang_valid.specs.Typing.{Scope, Label, Around, result_of, in_a_loop, in_a_switch, has_label}
 use Rattle.wasm2js_words.specs.Names.{numbered, function, table}
 use Rattle.wasm2js_laws_words.specs.Sound.{IsInt}
 use Rattle.wasm2js_laws_words.specs.Laws.{IsFine}
 use Rattle.wasm2js_laws_scopes.specs.Provided.{HasFixed, HasRoom, IsFunction, IsTable, signature_for}
 use Rattle.wasm2js_code.specs.Actions.{under, low}
-use Rattle.wasm2js_code.specs.Bodies.{Aim, past, again, out, labels_round, label_name, signed_word, under_label, endless, leave_with, jump, call_stmts, form_number, indirect_stmts}
+use Rattle.wasm2js_code.specs.Bodies.{Aim, past, again, out, labels_round, label_name, signed_word, under_label, endless, leave_with, jump, call_stmts, form_number, indirect_stmts, by_index}
 use Rattle.wasm2js_code.specs.Helpers.{block_of}
 use Rattle.wasm2js_code.specs.Rooms.{here}
 
@@ -97,3 +97,16 @@ EntryCallsAreFine =
     → IsTable s (numbered table (form_number types t)) cells (signature_for t)
     → HasRoom s c (here b (I32 ∷ (reverse t.params ++ below)) xs) → HasRoom s c (here b (listed (type_result t) ++ below) [])
     → AllFine s a 8 (indirect_stmts cells types b (I32 ∷ (reverse t.params ++ below)) (Some t))
+
+-- ---- branches by an index
+
+-- what stands for the label of each of these numbers
+abbrev pub EachFine : Scope → Around → (ℕ → List Stmt) → List ℕ → Type 0
+EachFine s a to [] = Unit {0}
+EachFine s a to (k ∷ ks) = AllFine s a 8 (to k) × EachFine s a to ks
+
+-- a row of switches by the word of an operand
+abbrev pub SwitchesAreFine : Type 0
+SwitchesAreFine =
+    (s : Scope) (a : Around) (d : ℕ) (to : ℕ → List Stmt) (ks : List ℕ) (default : ℕ) → IsInt s (low d) → EachFine s (in_a_switch a) to ks → AllFine s (in_a_switch a) 8 (to default)
+    → AllFine s a 9 (by_index to (signed_word d) ks default)

@@ -2,7 +2,7 @@
 #![tactic(auto)]
 
 ghost use Rattle.wasm2js_laws_typed.specs.Laws.{PlainIsSound, PlainIsShallow};
-ghost use Rattle.wasm2js_laws_typed.specs.Constructs.{BlocksAreFine, LoopsAreFine, ArmsAreFine, TestsAreFine, LabelsAreNew, ReturnsAreFine, JumpsAreFine, CallsAreFine, EntryCallsAreFine};
+ghost use Rattle.wasm2js_laws_typed.specs.Constructs.{BlocksAreFine, LoopsAreFine, ArmsAreFine, TestsAreFine, LabelsAreNew, ReturnsAreFine, JumpsAreFine, CallsAreFine, EntryCallsAreFine, SwitchesAreFine};
 
 /// Instructions that compute, and read and write locals, globals and the memory.
 pub fn instructions()
@@ -29,4 +29,9 @@ pub fn jumps()
 pub fn calls()
     ensures functions { CallsAreFine }
     ensures entries { EntryCallsAreFine }
+{}
+
+/// Branches by an index, whatever the number of labels.
+pub fn switches()
+    ensures { SwitchesAreFine }
 {}
