@@ -96,9 +96,9 @@ aimed_in (Some aim) label h = record { aim = aim; there = refl; carried = cc h }
 -- ---- in its code
 
 module _ (f : Function) (fair : IsFair f) (ks : List ℕ) (d most : ℕ) (code : Trees) (ls : List Aim) (b : ℕ) (below after : List ValType) (label : Option ValType) (around : List Surrounding)
-  (before : Words) (next : Completion → Part (Unit {0})) (nested : AreNested ls b) (ex : Exits f most ls b after false around before next)
-  (carried : (j : ℕ) → slice_get (map carried_by ls) (default_to d (slice_get ks j)) ≡ Some label)
-  (p : Place) (w : List EventPlain) (i : Inside f most w p) (stays : Stays b before (word_at p)) where
+    (before : Words) (next : Completion → Part (Unit {0})) (nested : AreNested ls b) (ex : Exits f most ls b after false around before next)
+    (carried : (j : ℕ) → slice_get (map carried_by ls) (default_to d (slice_get ks j)) ≡ Some label)
+    (p : Place) (w : List EventPlain) (i : Inside f most w p) (stays : Stays b before (word_at p)) where
   abbrev us : List ValType
   us = listed label ++ below
 
