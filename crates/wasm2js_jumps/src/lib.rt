@@ -1,6 +1,12 @@
 //! Jumps and calls of asm.js, as the code of one instruction of WebAssembly each.
 #![tactic(auto)]
 
+mod aims;
+mod jumps;
 mod nodes;
+mod values;
 
+pub use aims::{Aim, aim_at, label_of};
+pub use jumps::{jump, leave_with};
 pub use nodes::{block_of, break_to, bare_break, continue_to, endless, if_else, if_only, labelled};
+pub use values::signed_word;
