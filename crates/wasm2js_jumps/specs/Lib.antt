@@ -1,1 +1,3 @@
 pub mod Aims
+pub mod Clauses
+pub mod Jumps

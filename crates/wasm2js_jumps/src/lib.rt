@@ -4,9 +4,11 @@
 mod aims;
 mod jumps;
 mod nodes;
+mod switches;
 mod values;
 
 pub use aims::{Aim, aim_at, label_of};
 pub use jumps::{jump, leave_with};
 pub use nodes::{block_of, break_to, bare_break, continue_to, endless, if_else, if_only, labelled};
+pub use switches::{Jumps, by_index};
 pub use values::signed_word;
