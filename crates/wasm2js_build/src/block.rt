@@ -3,16 +3,25 @@ ghost use Rattle.std.specs.Prelude.{◌≡◌, [], ◌∷◌, ◌++◌, List, ma
 ghost use Rattle.sem_words.specs.Lists.{list_items};
 ghost use Rattle.asm_lang.specs.Modules as plain;
 ghost use Rattle.asm_tree.specs.Views.{expr_view, stmt_view, function_view};
+ghost use Rattle.wasm2js_words.specs.Names as names;
 ghost use Rattle.wasm2js_words.specs.Words as words;
 ghost use Rattle.wasm2js_words.specs.Words.{simple_statement, signed_number, expr as expr_for, int_of, stmts_in};
 ghost use Rattle.wasm2js_code.specs.Helpers as helpers;
 ghost use Rattle.wasm2js_build.specs.Views.{name_view, fixed_view, term_view, terms_view};
 ghost use Rattle.wasm2js_build.specs.Blocks.{statements_of};
 
+use crate::building::{argument_list, expr, int_expr, number_expr};
 use crate::names::{Fixed, Name};
+use crate::nodes::{
+    binary, call, natural, plainly, put_in, shifted, signed, store_in, trap_call,
+};
+use crate::spelling::spell;
+use crate::statements::{
+    block_statement, gives, if_else, if_only, locals_of, params_of, while_loop,
+};
 use crate::terms::Term;
 use asm_tree::{Expr, Function, Stmt};
-use sem_words::List;
+use sem_words::{JsOp, List};
 use std::alloc::{AllocError, Global};
 
 /// A list of statements that grows at its end. Contracts read the statements by `statements_of`.
@@ -40,6 +49,13 @@ impl Block {
         self.statements
     }
 
+    /// The statements as one, `{..}`.
+    pub fn into_statement(self) -> Stmt
+        ensures { stmt_view result ≡ helpers.block_of (statements_of self) }
+    {
+        block_statement(self.statements)
+    }
+
     /// One more statement.
     pub fn push(&mut self, statement: Stmt) -> Result<(), AllocError>
         ensures { IfOk result (λ _. statements_of self.new ≡ statements_of self.old ++ stmt_view statement ∷ []) }
@@ -54,95 +70,170 @@ impl Block {
     pub fn put(&mut self, to: Name, value: &Term<'_>) -> Result<(), AllocError>
         ensures { IfOk result (λ _. statements_of self.new ≡ statements_of self.old ++ simple_statement (words.put (name_view to) (term_view value.now)) ∷ []) }
     {
-        Err(AllocError)
+        let value = int_expr(self.alloc, value)?;
+        let statement = put_in(self.alloc, to, value)?;
+        self.push(statement)
     }
 
     /// `to=helper(arguments)|0;`
     pub fn ask(&mut self, to: Name, helper: Fixed, arguments: &[Term<'_>]) -> Result<(), AllocError>
         ensures { IfOk result (λ _. statements_of self.new ≡ statements_of self.old ++ simple_statement (words.ask (name_view to) (fixed_view helper) (terms_view arguments.now)) ∷ []) }
     {
-        Err(AllocError)
+        let answer = answer(self.alloc, helper, arguments)?;
+        let statement = put_in(self.alloc, to, answer)?;
+        self.push(statement)
     }
 
     /// `helper(arguments);`
     pub fn tell(&mut self, helper: Fixed, arguments: &[Term<'_>]) -> Result<(), AllocError>
         ensures { IfOk result (λ _. statements_of self.new ≡ statements_of self.old ++ simple_statement (words.tell (fixed_view helper) (terms_view arguments.now)) ∷ []) }
     {
-        Err(AllocError)
+        let call = helper_call(self.alloc, helper, arguments)?;
+        self.push(plainly(call))
     }
 
     /// `if(value>>>0>most)$trap(kind);`
     pub fn guard(&mut self, value: &Term<'_>, most: u64, kind: u32) -> Result<(), AllocError>
         ensures { IfOk result (λ _. statements_of self.new ≡ statements_of self.old ++ simple_statement (words.guard (term_view value.now) most kind) ∷ []) }
     {
-        Err(AllocError)
+        let statement = guard_statement(self.alloc, value, most, kind)?;
+        self.push(statement)
     }
 
     /// `$trap(kind);`
     pub fn stop(&mut self, kind: u32) -> Result<(), AllocError>
         ensures { IfOk result (λ _. statements_of self.new ≡ statements_of self.old ++ simple_statement (words.stop kind) ∷ []) }
     {
-        Err(AllocError)
+        let statement = trap_call(self.alloc, kind)?;
+        self.push(statement)
     }
 
     /// `$u8[at>>0]=value;`
     pub fn write_byte(&mut self, at: &Term<'_>, value: &Term<'_>) -> Result<(), AllocError>
         ensures { IfOk result (λ _. statements_of self.new ≡ statements_of self.old ++ simple_statement (words.write_byte (term_view at.now) (term_view value.now)) ∷ []) }
     {
-        Err(AllocError)
+        let at = expr(self.alloc, at)?;
+        let value = int_expr(self.alloc, value)?;
+        let statement = byte_statement(self.alloc, at, value)?;
+        self.push(statement)
     }
 
     /// `$w[at>>2]=value;`
     pub fn write_whole(&mut self, at: &Term<'_>, value: &Term<'_>) -> Result<(), AllocError>
         ensures { IfOk result (λ _. statements_of self.new ≡ statements_of self.old ++ simple_statement (words.write_whole (term_view at.now) (term_view value.now)) ∷ []) }
     {
-        Err(AllocError)
+        let at = expr(self.alloc, at)?;
+        let value = int_expr(self.alloc, value)?;
+        let statement = whole_statement(self.alloc, at, value)?;
+        self.push(statement)
     }
 
     /// `if(test|0){first}else{second}`
     pub fn either(&mut self, test: &Term<'_>, first: Block, second: Block) -> Result<(), AllocError>
         ensures { IfOk result (λ _. statements_of self.new ≡ statements_of self.old ++ plain.if_else (signed_number (expr_for (term_view test.now))) (plain.block (stmts_in (statements_of first))) (plain.block (stmts_in (statements_of second))) ∷ []) }
     {
-        Err(AllocError)
+        let test = number_expr(self.alloc, test, true)?;
+        let statement = if_else(self.alloc, test, first.into_statement(), second.into_statement())?;
+        self.push(statement)
     }
 
     /// `if(test){inner}`
     pub fn when(&mut self, test: &Term<'_>, inner: Block) -> Result<(), AllocError>
         ensures { IfOk result (λ _. statements_of self.new ≡ statements_of self.old ++ helpers.when (term_view test.now) (statements_of inner) ∷ []) }
     {
-        Err(AllocError)
+        let test = int_expr(self.alloc, test)?;
+        let statement = if_only(self.alloc, test, inner.into_statement())?;
+        self.push(statement)
     }
 
     /// `if(test){first}else{second}`
     pub fn when_else(&mut self, test: &Term<'_>, first: Block, second: Block) -> Result<(), AllocError>
         ensures { IfOk result (λ _. statements_of self.new ≡ statements_of self.old ++ plain.if_else (int_of (term_view test.now)) (helpers.block_of (statements_of first)) (helpers.block_of (statements_of second)) ∷ []) }
     {
-        Err(AllocError)
+        let test = int_expr(self.alloc, test)?;
+        let statement = if_else(self.alloc, test, first.into_statement(), second.into_statement())?;
+        self.push(statement)
     }
 
     /// `if(test)$trap(kind);`
     pub fn trap_when(&mut self, test: &Term<'_>, kind: u32) -> Result<(), AllocError>
         ensures { IfOk result (λ _. statements_of self.new ≡ statements_of self.old ++ plain.if_only (int_of (term_view test.now)) (words.trap_call kind) ∷ []) }
     {
-        Err(AllocError)
+        let test = int_expr(self.alloc, test)?;
+        let trap = trap_call(self.alloc, kind)?;
+        let statement = if_only(self.alloc, test, trap)?;
+        self.push(statement)
     }
 
     /// `while(test){inner}`
     pub fn repeat(&mut self, test: &Term<'_>, inner: Block) -> Result<(), AllocError>
         ensures { IfOk result (λ _. statements_of self.new ≡ statements_of self.old ++ helpers.repeat (term_view test.now) (statements_of inner) ∷ []) }
     {
-        Err(AllocError)
+        let test = int_expr(self.alloc, test)?;
+        let statement = while_loop(self.alloc, test, inner.into_statement())?;
+        self.push(statement)
     }
 
     /// `return value|0;`
     pub fn gives(&mut self, value: &Term<'_>) -> Result<(), AllocError>
         ensures { IfOk result (λ _. statements_of self.new ≡ statements_of self.old ++ helpers.gives (term_view value.now) ∷ []) }
     {
-        Err(AllocError)
+        let value = expr(self.alloc, value)?;
+        let statement = gives(self.alloc, value)?;
+        self.push(statement)
     }
 }
 
+// `helper(arguments)`
+fn helper_call(
+    alloc: Global,
+    helper: Fixed,
+    arguments: &[Term<'_>],
+) -> Result<Expr, AllocError>
+    ensures { IfOk result (λ e. expr_view e ≡ words.called (fixed_view helper) (words.arguments (terms_view arguments.now))) }
+{
+    let arguments = argument_list(alloc, arguments)?;
+    call(alloc, Name::Always(helper), arguments)
+}
+
+// `helper(arguments)|0`
+fn answer(alloc: Global, helper: Fixed, arguments: &[Term<'_>]) -> Result<Expr, AllocError>
+    ensures { IfOk result (λ e. expr_view e ≡ signed_number (words.called (fixed_view helper) (words.arguments (terms_view arguments.now)))) }
+{
+    let call = helper_call(alloc, helper, arguments)?;
+    signed(alloc, call)
+}
+
+fn guard_statement(
+    alloc: Global,
+    value: &Term<'_>,
+    most: u64,
+    kind: u32,
+) -> Result<Stmt, AllocError>
+    ensures { IfOk result (λ s. stmt_view s ≡ simple_statement (words.guard (term_view value.now) most kind)) }
+{
+    let value = number_expr(alloc, value, false)?;
+    let test = binary(alloc, JsOp::Gt, value, natural(most))?;
+    let trap = trap_call(alloc, kind)?;
+    if_only(alloc, test, trap)
+}
+
+fn byte_statement(alloc: Global, at: Expr, value: Expr) -> Result<Stmt, AllocError>
+    ensures { IfOk result (λ s. stmt_view s ≡ plain.plain (plain.store (words.name_of names.view_of_bytes) (words.indexed 0 (expr_view at)) (expr_view value))) }
+{
+    let at = shifted(alloc, at, 0)?;
+    store_in(alloc, Name::Always(Fixed::ViewOfBytes), at, value)
+}
+
+fn whole_statement(alloc: Global, at: Expr, value: Expr) -> Result<Stmt, AllocError>
+    ensures { IfOk result (λ s. stmt_view s ≡ plain.plain (plain.store (words.name_of names.view_of_words) (words.indexed 2 (expr_view at)) (expr_view value))) }
+{
+    let at = shifted(alloc, at, 2)?;
+    store_in(alloc, Name::Always(Fixed::ViewOfWords), at, value)
+}
+
 /// A function of ints, whose local variables begin with 0.
+#[tactic(auto, using(crate::proofs::Lists::stmts_are))]
 pub fn function(
     alloc: Global,
     name: Name,
@@ -152,5 +243,13 @@ pub fn function(
 ) -> Result<Function, AllocError>
     ensures { IfOk result (λ f. function_view f ≡ helpers.function_of (name_view name) (map name_view params.now) (map name_view locals.now) (statements_of body)) }
 {
-    Err(AllocError)
+    let name = spell(alloc, name)?;
+    let params = params_of(alloc, params)?;
+    let locals = locals_of(alloc, locals)?;
+    Ok(Function {
+        name,
+        params,
+        locals,
+        body: body.into_list(),
+    })
 }

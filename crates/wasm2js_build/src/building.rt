@@ -1,0 +1,237 @@
+//! From terms to expressions.
+ghost use Rattle.std.specs.Prelude.{◌≡◌, [], ◌∷◌, ◌++◌, true, false, IfOk};
+ghost use Rattle.sem_words.specs.Lists.{list_items};
+ghost use Rattle.asm_lang.specs.Modules as plain;
+ghost use Rattle.asm_tree.specs.Views.{expr_view, exprs_view, links_view};
+ghost use Rattle.wasm2js_words.specs.Names as plain_names;
+ghost use Rattle.wasm2js_words.specs.Words.{bit_operator, relation_operator, as_number, as_int, byte_view, name_of, indexed, arguments, expr as expr_for, int_of};
+ghost use Rattle.wasm2js_build.specs.Views.{bit_view, relation_view, term_view, terms_view};
+
+use crate::names::{Fixed, Name};
+use crate::nodes::{
+    binary, call_of_one, call_of_two, chain, chosen, element, flipped, literal, shifted, signed,
+    unsigned, variable, with_expr,
+};
+use crate::terms::{BitOp, Relation, Term};
+use asm_tree::{Expr, Link};
+use sem_words::{JsOp, List};
+use std::alloc::{AllocError, Global};
+
+/// The expression of a term, as it is.
+#[cycle(building)]
+#[inline(never)]
+#[tactic(auto, using(crate::proofs::Views::terms))]
+pub fn expr(alloc: Global, term: &Term<'_>) -> Result<Expr, AllocError>
+    ensures { IfOk result (λ e. expr_view e ≡ expr_for (term_view term.now)) }
+{
+    match term {
+        Term::Read(name) => variable(alloc, *name),
+        Term::Number(value) => Ok(literal(*value)),
+        Term::Both(operator, a, b) => {
+            let a = int_expr(alloc, a)?;
+            let b = int_expr(alloc, b)?;
+            binary(alloc, js_bit(*operator), a, b)
+        }
+        Term::Flip(a) => {
+            let a = int_expr(alloc, a)?;
+            flipped(alloc, a)
+        }
+        Term::SumOfTwo(a, minus, b) => {
+            let a = int_expr(alloc, a)?;
+            let b = int_expr(alloc, b)?;
+            sum_of_two(alloc, a, *minus, b)
+        }
+        Term::SumOfThree(a, first, b, second, c) => {
+            let a = int_expr(alloc, a)?;
+            let b = int_expr(alloc, b)?;
+            let c = int_expr(alloc, c)?;
+            sum_of_three(alloc, a, (*first, b), (*second, c))
+        }
+        Term::SumOfFour(a, b, c, d) => {
+            let a = int_expr(alloc, a)?;
+            let b = int_expr(alloc, b)?;
+            let c = int_expr(alloc, c)?;
+            let d = int_expr(alloc, d)?;
+            sum_of_four(alloc, a, b, c, d)
+        }
+        Term::Product(a, b) => {
+            let a = int_expr(alloc, a)?;
+            let b = int_expr(alloc, b)?;
+            call_of_two(alloc, Name::Always(Fixed::Imul), a, b)
+        }
+        Term::Zeros(a) => {
+            let a = int_expr(alloc, a)?;
+            call_of_one(alloc, Name::Always(Fixed::Clz32), a)
+        }
+        Term::Compare(is_signed, relation, a, b) => {
+            let a = number_expr(alloc, a, *is_signed)?;
+            let b = number_expr(alloc, b, *is_signed)?;
+            binary(alloc, js_relation(*relation), a, b)
+        }
+        Term::Choose(test, a, b) => {
+            let test = number_expr(alloc, test, true)?;
+            let a = int_expr(alloc, a)?;
+            let b = int_expr(alloc, b)?;
+            chosen(alloc, test, a, b)
+        }
+        Term::Byte(is_signed, at) => {
+            let at = expr(alloc, at)?;
+            byte(alloc, *is_signed, at)
+        }
+        Term::Whole(at) => {
+            let at = expr(alloc, at)?;
+            whole(alloc, at)
+        }
+    }
+}
+
+/// The expression of a term, of type int.
+#[cycle(building)]
+#[inline(never)]
+pub fn int_expr(alloc: Global, term: &Term<'_>) -> Result<Expr, AllocError>
+    ensures { IfOk result (λ e. expr_view e ≡ int_of (term_view term.now)) }
+{
+    let e = expr(alloc, term)?;
+    int_form(alloc, term, e)
+}
+
+// What the heap holds and sums are only intish.
+#[tactic(auto, using(crate::proofs::Views::terms))]
+fn int_form(alloc: Global, term: &Term<'_>, e: Expr) -> Result<Expr, AllocError>
+    ensures { IfOk result (λ r. expr_view r ≡ as_int (term_view term.now) (expr_view e)) }
+{
+    match term {
+        Term::SumOfTwo(_, _, _)
+        | Term::SumOfThree(_, _, _, _, _)
+        | Term::SumOfFour(_, _, _, _)
+        | Term::Byte(_, _)
+        | Term::Whole(_) => signed(alloc, e),
+        Term::Read(_)
+        | Term::Number(_)
+        | Term::Both(_, _, _)
+        | Term::Flip(_)
+        | Term::Product(_, _)
+        | Term::Zeros(_)
+        | Term::Compare(_, _, _, _)
+        | Term::Choose(_, _, _) => Ok(e),
+    }
+}
+
+fn js_bit(operator: BitOp) -> JsOp
+    ensures { result ≡ bit_operator (bit_view operator) }
+{
+    match operator {
+        BitOp::And => JsOp::And,
+        BitOp::Or => JsOp::Or,
+        BitOp::Xor => JsOp::Xor,
+        BitOp::Shl => JsOp::Shl,
+        BitOp::Sar => JsOp::Sar,
+        BitOp::Shr => JsOp::Shr,
+    }
+}
+
+fn js_relation(relation: Relation) -> JsOp
+    ensures { result ≡ relation_operator (relation_view relation) }
+{
+    match relation {
+        Relation::Equal => JsOp::Eq,
+        Relation::Unequal => JsOp::Ne,
+        Relation::Less => JsOp::Lt,
+        Relation::AtMost => JsOp::Le,
+        Relation::Greater => JsOp::Gt,
+        Relation::AtLeast => JsOp::Ge,
+    }
+}
+
+/// The number of a term, with its sign or without.
+#[cycle(building)]
+#[inline(never)]
+pub(crate) fn number_expr(
+    alloc: Global,
+    term: &Term<'_>,
+    is_signed: bool,
+) -> Result<Expr, AllocError>
+    ensures { IfOk result (λ e. expr_view e ≡ as_number is_signed (expr_for (term_view term.now))) }
+{
+    let e = expr(alloc, term)?;
+    if is_signed {
+        signed(alloc, e)
+    } else {
+        unsigned(alloc, e)
+    }
+}
+
+// A byte at the place of an expression.
+fn byte(alloc: Global, is_signed: bool, at: Expr) -> Result<Expr, AllocError>
+    ensures { IfOk result (λ e. expr_view e ≡ plain.index (name_of (byte_view is_signed)) (indexed 0 (expr_view at))) }
+{
+    let at = shifted(alloc, at, 0)?;
+    let view = if is_signed {
+        Fixed::ViewOfSignedBytes
+    } else {
+        Fixed::ViewOfBytes
+    };
+    element(alloc, Name::Always(view), at)
+}
+
+fn whole(alloc: Global, at: Expr) -> Result<Expr, AllocError>
+    ensures { IfOk result (λ e. expr_view e ≡ plain.index (name_of plain_names.view_of_words) (indexed 2 (expr_view at))) }
+{
+    let at = shifted(alloc, at, 2)?;
+    element(alloc, Name::Always(Fixed::ViewOfWords), at)
+}
+
+fn sum_of_two(alloc: Global, a: Expr, minus: bool, b: Expr) -> Result<Expr, AllocError>
+    ensures { IfOk result (λ e. expr_view e ≡ plain.chain (expr_view a) (plain.links minus (expr_view b) plain.no_links)) }
+{
+    let links = with_link(List::new(alloc), minus, b)?;
+    chain(alloc, a, links)
+}
+
+fn sum_of_three(
+    alloc: Global,
+    a: Expr,
+    b: (bool, Expr),
+    c: (bool, Expr),
+) -> Result<Expr, AllocError>
+    ensures { IfOk result (λ e. expr_view e ≡ plain.chain (expr_view a) (plain.links b.0 (expr_view b.1) (plain.links c.0 (expr_view c.1) plain.no_links))) }
+{
+    let links = with_link(List::new(alloc), b.0, b.1)?;
+    let links = with_link(links, c.0, c.1)?;
+    chain(alloc, a, links)
+}
+
+fn sum_of_four(alloc: Global, a: Expr, b: Expr, c: Expr, d: Expr) -> Result<Expr, AllocError>
+    ensures { IfOk result (λ e. expr_view e ≡ plain.chain (expr_view a) (plain.links false (expr_view b) (plain.links false (expr_view c) (plain.links false (expr_view d) plain.no_links)))) }
+{
+    let links = with_link(List::new(alloc), false, b)?;
+    let links = with_link(links, false, c)?;
+    let links = with_link(links, false, d)?;
+    chain(alloc, a, links)
+}
+
+// One more operand of a sum.
+#[inline(never)]
+#[tactic(auto, using(asm_tree::proofs::Views::views))]
+fn with_link(links: List<Link>, minus: bool, operand: Expr) -> Result<List<Link>, AllocError>
+    ensures { IfOk result (λ r. links_view (list_items r) ≡ plain.more_links (links_view (list_items links)) minus (expr_view operand)) }
+{
+    let mut links = links;
+    match links.push(Link { minus, operand }) {
+        Ok(()) => Ok(links),
+        Err(_) => Err(AllocError),
+    }
+}
+
+/// The arguments of a call, each of type int.
+#[tactic(auto, using(crate::proofs::Lists::arguments_are))]
+pub(crate) fn argument_list(alloc: Global, terms: &[Term<'_>]) -> Result<List<Expr>, AllocError>
+    ensures { IfOk result (λ r. exprs_view (list_items r) ≡ arguments (terms_view terms.now)) }
+{
+    let mut exprs = List::new(alloc);
+    for term in terms {
+        let e = int_expr(alloc, term)?;
+        exprs = with_expr(exprs, e)?;
+    }
+    Ok(exprs)
+}
