@@ -1,0 +1,186 @@
+//! Operators whose result has 64 bits.
+ghost use Rattle.std.specs.Prelude.{◌≡◌, [], ◌∷◌, ◌++◌, IfOk};
+ghost use Rattle.sem_words.specs.declared.word.Un.TheVariants as uns;
+ghost use Rattle.wasm2js_words.specs.Names as names;
+ghost use Rattle.wasm2js_words.specs.Words as words;
+ghost use Rattle.wasm2js_words.specs.Words.{simple_statements};
+ghost use Rattle.wasm2js_code.specs.Pairs as pairs;
+ghost use Rattle.wasm2js_code.specs.Wide as wide;
+ghost use Rattle.wasm2js_build.specs.Views.{name_view, fixed_view, bit_view, term_view};
+ghost use Rattle.wasm2js_build.specs.Blocks.{statements_of};
+ghost use Rattle.split_words.specs.Views.{pair_view};
+
+use crate::pair::Pair;
+use sem_words::{Bin, Un};
+use std::alloc::AllocError;
+use wasm_lang::ValType;
+use wasm2js_build::{BitOp, Block, Fixed, Name, Relation, Term};
+
+/// A value of this type from one place to another.
+pub fn moved(block: &mut Block, kind: ValType, from: Pair, to: Pair) -> Result<(), AllocError>
+    ensures { IfOk result (λ _. statements_of block.new ≡ statements_of block.old ++ simple_statements (pairs.moved kind (pair_view from) (pair_view to))) }
+{
+    block.put(to.low, &Term::read(from.low))?;
+    match kind {
+        ValType::I32 => Ok(()),
+        ValType::I64 => block.put(to.high, &Term::read(from.high)),
+    }
+}
+
+/// A product, a quotient and a remainder have no statement: they aren't made of words of 32 bits here.
+pub fn wide_binary(block: &mut Block, op: Bin, a: Pair, b: Pair, to: Pair) -> Result<(), AllocError>
+    ensures { IfOk result (λ _. statements_of block.new ≡ statements_of block.old ++ simple_statements (wide.wide_binary op (pair_view a) (pair_view b) (pair_view to))) }
+{
+    match op {
+        Bin::Add => sum(block, a, b, to),
+        Bin::Sub => difference(block, a, b, to),
+        Bin::Mul | Bin::DivS | Bin::DivU | Bin::RemS | Bin::RemU => Ok(()),
+        Bin::And => bits(block, BitOp::And, a, b, to),
+        Bin::Or => bits(block, BitOp::Or, a, b, to),
+        Bin::Xor => bits(block, BitOp::Xor, a, b, to),
+        Bin::Shl => turn(block, Fixed::ShiftLeft, a, to, &Term::read(b.low)),
+        Bin::ShrS => turn(block, Fixed::ShiftRightSigned, a, to, &Term::read(b.low)),
+        Bin::ShrU => turn(block, Fixed::ShiftRight, a, to, &Term::read(b.low)),
+        Bin::Rotl => turn(block, Fixed::RotateLeft, a, to, &Term::read(b.low)),
+        Bin::Rotr => turn_right(block, a, b, to),
+    }
+}
+
+pub fn wide_unary(block: &mut Block, op: Un, a: Pair, to: Pair) -> Result<(), AllocError>
+    ensures { IfOk result (λ _. statements_of block.new ≡ statements_of block.old ++ simple_statements (wide.wide_unary op (pair_view a) (pair_view to))) }
+{
+    match op {
+        Un::Clz => count(block, Fixed::LeadingZeros, a, to),
+        Un::Ctz => count(block, Fixed::TrailingZeros, a, to),
+        Un::Popcnt => set_bits(block, a, to),
+    }
+}
+
+/// The low bits, of which there are 8, 16 or 32, extended with their sign.
+pub fn wide_extend(block: &mut Block, bits: u32, a: Pair, to: Pair) -> Result<(), AllocError>
+    ensures { IfOk result (λ _. statements_of block.new ≡ statements_of block.old ++ simple_statements (wide.wide_extend bits (pair_view a) (pair_view to))) }
+{
+    if bits == 32 {
+        block.put(to.low, &Term::read(a.low))?;
+    } else {
+        put_extended(block, bits, a.low, to.low)?;
+    }
+    put_sign(block, to.low, to.high)
+}
+
+/// The low bits of a word, extended with their sign.
+pub fn put_extended(block: &mut Block, bits: u32, from: Name, to: Name) -> Result<(), AllocError>
+    ensures { IfOk result (λ _. statements_of block.new ≡ statements_of block.old ++ simple_statements (words.put (name_view to) (pairs.extended bits (words.read (name_view from))) ∷ [])) }
+{
+    let places = Term::number(32u32.saturating_sub(bits) as i64);
+    let a = Term::read(from);
+    let far = Term::both(BitOp::Shl, &a, &places);
+    block.put(to, &Term::both(BitOp::Sar, &far, &places))
+}
+
+/// The high word of a number of 64 bits that has the value of the low word's signed reading.
+pub fn put_sign(block: &mut Block, low: Name, high: Name) -> Result<(), AllocError>
+    ensures { IfOk result (λ _. statements_of block.new ≡ statements_of block.old ++ simple_statements (words.put (name_view high) (pairs.sign_of (words.read (name_view low))) ∷ [])) }
+{
+    let word = Term::read(low);
+    let places = Term::number(31);
+    block.put(high, &Term::both(BitOp::Sar, &word, &places))
+}
+
+// The carry of the low words goes into the high one.
+fn sum(block: &mut Block, a: Pair, b: Pair, to: Pair) -> Result<(), AllocError>
+    ensures { IfOk result (λ _. statements_of block.new ≡ statements_of block.old ++ simple_statements (wide.wide_sum (pair_view a) (pair_view b) (pair_view to))) }
+{
+    let b_low = Term::read(b.low);
+    block.put(to.low, &Term::plus(&Term::read(a.low), &b_low))?;
+    let low = Term::read(to.low);
+    let carry = Term::compare(false, Relation::Less, &low, &b_low);
+    let a_high = Term::read(a.high);
+    let b_high = Term::read(b.high);
+    block.put(to.high, &Term::sum_of_three(&a_high, &b_high, &carry))
+}
+
+// So does what the low words borrow, while they stand.
+fn difference(block: &mut Block, a: Pair, b: Pair, to: Pair) -> Result<(), AllocError>
+    ensures { IfOk result (λ _. statements_of block.new ≡ statements_of block.old ++ simple_statements (wide.wide_difference (pair_view a) (pair_view b) (pair_view to))) }
+{
+    let a_low = Term::read(a.low);
+    let b_low = Term::read(b.low);
+    let borrow = Term::compare(false, Relation::Less, &a_low, &b_low);
+    let a_high = Term::read(a.high);
+    let b_high = Term::read(b.high);
+    block.put(to.high, &Term::less_two(&a_high, &b_high, &borrow))?;
+    block.put(to.low, &Term::minus(&a_low, &b_low))
+}
+
+fn bits(block: &mut Block, op: BitOp, a: Pair, b: Pair, to: Pair) -> Result<(), AllocError>
+    ensures { IfOk result (λ _. statements_of block.new ≡ statements_of block.old ++ simple_statements (wide.wide_bits (bit_view op) (pair_view a) (pair_view b) (pair_view to))) }
+{
+    block.put(
+        to.low,
+        &Term::both(op, &Term::read(a.low), &Term::read(b.low)),
+    )?;
+    block.put(
+        to.high,
+        &Term::both(op, &Term::read(a.high), &Term::read(b.high)),
+    )
+}
+
+// By a helper that takes both words and a count.
+fn turn(
+    block: &mut Block,
+    helper: Fixed,
+    a: Pair,
+    to: Pair,
+    count: &Term<'_>,
+) -> Result<(), AllocError>
+    ensures { IfOk result (λ _. statements_of block.new ≡ statements_of block.old ++ simple_statements (wide.wide_turn (fixed_view helper) (pair_view a) (pair_view to) (term_view count.now))) }
+{
+    block.ask(
+        to.low,
+        helper,
+        &[Term::read(a.low), Term::read(a.high), *count],
+    )?;
+    block.put(to.high, &Term::read(Name::Always(Fixed::SpareHigh)))
+}
+
+fn turn_right(block: &mut Block, a: Pair, b: Pair, to: Pair) -> Result<(), AllocError>
+    ensures { IfOk result (λ _. statements_of block.new ≡ statements_of block.old ++ simple_statements (wide.wide_turn names.rotate_left (pair_view a) (pair_view to) (pairs.minus (pairs.literal 0) (words.read (pair_view b).low)))) }
+{
+    let none = Term::number(0);
+    let places = Term::read(b.low);
+    turn(
+        block,
+        Fixed::RotateLeft,
+        a,
+        to,
+        &Term::minus(&none, &places),
+    )
+}
+
+// A number of bits, which is at most 64.
+fn count(block: &mut Block, helper: Fixed, a: Pair, to: Pair) -> Result<(), AllocError>
+    ensures { IfOk result (λ _. statements_of block.new ≡ statements_of block.old ++ simple_statements (wide.wide_count (fixed_view helper) (pair_view a) (pair_view to))) }
+{
+    block.ask(to.low, helper, &[Term::read(a.low), Term::read(a.high)])?;
+    block.put(to.high, &Term::number(0))
+}
+
+fn set_bits(block: &mut Block, a: Pair, to: Pair) -> Result<(), AllocError>
+    ensures { IfOk result (λ _. statements_of block.new ≡ statements_of block.old ++ simple_statements (wide.wide_unary uns.Popcnt (pair_view a) (pair_view to))) }
+{
+    set_bits_of_words(block, a, to)?;
+    block.put(
+        to.low,
+        &Term::plus(&Term::read(to.low), &Term::read(to.high)),
+    )?;
+    block.put(to.high, &Term::number(0))
+}
+
+// Those of each word in a word of its own.
+fn set_bits_of_words(block: &mut Block, a: Pair, to: Pair) -> Result<(), AllocError>
+    ensures { IfOk result (λ _. statements_of block.new ≡ statements_of block.old ++ simple_statements (words.ask (name_view to.low) names.set_bits (words.read (name_view a.low) ∷ []) ∷ words.ask (name_view to.high) names.set_bits (words.read (name_view a.high) ∷ []) ∷ [])) }
+{
+    block.ask(to.low, Fixed::SetBits, &[Term::read(a.low)])?;
+    block.ask(to.high, Fixed::SetBits, &[Term::read(a.high)])
+}

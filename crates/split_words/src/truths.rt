@@ -1,0 +1,96 @@
+//! Operators whose result is a truth value.
+ghost use Rattle.std.specs.Prelude.{◌≡◌, [], ◌∷◌, ◌++◌, IfOk};
+ghost use Rattle.sem_words.specs.declared.word.Rel.TheVariants as rels;
+ghost use Rattle.wasm2js_words.specs.Words as words;
+ghost use Rattle.wasm2js_words.specs.Words.{simple_statements};
+ghost use Rattle.wasm2js_code.specs.Wide as wide;
+ghost use Rattle.wasm2js_build.specs.Views.{name_view, relation_view};
+ghost use Rattle.wasm2js_build.specs.Blocks.{statements_of};
+ghost use Rattle.split_words.specs.Views.{pair_view};
+
+use crate::pair::Pair;
+use sem_words::Rel;
+use std::alloc::AllocError;
+use wasm2js_build::{BitOp, Block, Name, Relation, Term};
+
+pub fn wide_compare(
+    block: &mut Block,
+    op: Rel,
+    a: Pair,
+    b: Pair,
+    to: Name,
+) -> Result<(), AllocError>
+    ensures { IfOk result (λ _. statements_of block.new ≡ statements_of block.old ++ simple_statements (wide.wide_compare op (pair_view a) (pair_view b) (name_view to))) }
+{
+    match op {
+        Rel::Eq => put_equal(block, a, b, to),
+        Rel::Ne => put_unequal(block, a, b, to),
+        Rel::LtS => put_order(block, true, Relation::Less, a, b, to),
+        Rel::LtU => put_order(block, false, Relation::Less, a, b, to),
+        Rel::GtS => put_order(block, true, Relation::Greater, a, b, to),
+        Rel::GtU => put_order(block, false, Relation::Greater, a, b, to),
+        Rel::LeS => put_order(block, true, Relation::AtMost, a, b, to),
+        Rel::LeU => put_order(block, false, Relation::AtMost, a, b, to),
+        Rel::GeS => put_order(block, true, Relation::AtLeast, a, b, to),
+        Rel::GeU => put_order(block, false, Relation::AtLeast, a, b, to),
+    }
+}
+
+/// Whether both words are 0.
+pub fn wide_zero(block: &mut Block, a: Pair, to: Name) -> Result<(), AllocError>
+    ensures { IfOk result (λ _. statements_of block.new ≡ statements_of block.old ++ simple_statements (words.put (name_view to) (wide.is_wide_zero (pair_view a)) ∷ [])) }
+{
+    let none = Term::number(0);
+    let low = Term::read(a.low);
+    let low_is_zero = Term::compare(true, Relation::Equal, &low, &none);
+    let high = Term::read(a.high);
+    let high_is_zero = Term::compare(true, Relation::Equal, &high, &none);
+    block.put(to, &Term::both(BitOp::And, &low_is_zero, &high_is_zero))
+}
+
+fn put_equal(block: &mut Block, a: Pair, b: Pair, to: Name) -> Result<(), AllocError>
+    ensures { IfOk result (λ _. statements_of block.new ≡ statements_of block.old ++ simple_statements (words.put (name_view to) (wide.are_equal (pair_view a) (pair_view b)) ∷ [])) }
+{
+    let a_low = Term::read(a.low);
+    let b_low = Term::read(b.low);
+    let low = Term::compare(true, Relation::Equal, &a_low, &b_low);
+    let a_high = Term::read(a.high);
+    let b_high = Term::read(b.high);
+    let high = Term::compare(true, Relation::Equal, &a_high, &b_high);
+    block.put(to, &Term::both(BitOp::And, &low, &high))
+}
+
+fn put_unequal(block: &mut Block, a: Pair, b: Pair, to: Name) -> Result<(), AllocError>
+    ensures { IfOk result (λ _. statements_of block.new ≡ statements_of block.old ++ simple_statements (wide.wide_compare rels.Ne (pair_view a) (pair_view b) (name_view to))) }
+{
+    let a_low = Term::read(a.low);
+    let b_low = Term::read(b.low);
+    let low = Term::compare(true, Relation::Equal, &a_low, &b_low);
+    let a_high = Term::read(a.high);
+    let b_high = Term::read(b.high);
+    let high = Term::compare(true, Relation::Equal, &a_high, &b_high);
+    let equal = Term::both(BitOp::And, &low, &high);
+    let none = Term::number(0);
+    block.put(to, &Term::compare(true, Relation::Equal, &equal, &none))
+}
+
+// The high words decide where they differ.
+fn put_order(
+    block: &mut Block,
+    signed: bool,
+    relation: Relation,
+    a: Pair,
+    b: Pair,
+    to: Name,
+) -> Result<(), AllocError>
+    ensures { IfOk result (λ _. statements_of block.new ≡ statements_of block.old ++ simple_statements (words.put (name_view to) (wide.in_order signed (relation_view relation) (pair_view a) (pair_view b)) ∷ [])) }
+{
+    let a_high = Term::read(a.high);
+    let b_high = Term::read(b.high);
+    let alike = Term::compare(true, Relation::Equal, &a_high, &b_high);
+    let a_low = Term::read(a.low);
+    let b_low = Term::read(b.low);
+    let by_low = Term::compare(false, relation, &a_low, &b_low);
+    let by_high = Term::compare(signed, relation, &a_high, &b_high);
+    block.put(to, &Term::choose(&alike, &by_low, &by_high))
+}
