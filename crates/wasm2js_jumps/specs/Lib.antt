@@ -1,0 +1,4 @@
+pub mod Aims
+pub mod Clauses
+pub mod Jumps
+pub mod Arguments

@@ -1,0 +1,42 @@
+//! What branches do.
+ghost use Rattle.std.specs.Prelude.{◌≡◌, suc, drop, option_map, slice_get};
+ghost use Rattle.wasm2js_words.specs.Names.{numbered, label as label_kind};
+ghost use Rattle.wasm2js_code.specs.Bodies.{labels_round};
+ghost use Rattle.wasm2js_build.specs.Views.{name_view};
+ghost use Rattle.wasm2js_jumps.specs.Aims.{aim_view, aims_view};
+
+use wasm_lang::ValType;
+use wasm2js_build::{Name, Numbered};
+
+/// What a branch to a label does. A base is how many operands lie below those of the label's block.
+#[derive(Clone, Copy)]
+pub enum Aim {
+    /// It leaves a block or an `if`, with its result.
+    Past { base: u64, result: Option<ValType> },
+    /// It goes on with a loop.
+    Again { base: u64 },
+    /// It leaves the function.
+    Out { result: Option<ValType> },
+}
+
+/// What a branch to this label does. The innermost aim is the last.
+pub fn aim_at(aims: &[Aim], label: u32) -> Option<Aim>
+    ensures { option_map aim_view result ≡ slice_get (aims_view aims.now) label }
+{
+    let label = label as usize;
+    if label < aims.len() {
+        Some(aims[aims.len() - 1 - label])
+    } else {
+        None
+    }
+}
+
+/// The name of the label.
+pub fn label_of(aims: &[Aim], label: u32) -> Name
+    ensures { name_view result ≡ numbered label_kind (labels_round (drop (suc label) (aims_view aims.now))) }
+{
+    let label = label as usize;
+    let count = aims.len();
+    let round = if label + 2 <= count { count - label - 2 } else { 0 };
+    Name::Counted(Numbered::Label, round as u64)
+}

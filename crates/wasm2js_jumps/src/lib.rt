@@ -1,0 +1,16 @@
+//! Jumps and calls of asm.js, as the code of one instruction of WebAssembly each.
+#![tactic(auto)]
+
+mod aims;
+mod calls;
+mod jumps;
+mod nodes;
+mod switches;
+mod values;
+
+pub use aims::{Aim, aim_at, label_of};
+pub use calls::{CalledTable, call_entry, call_function, result_type};
+pub use jumps::{jump, leave_with};
+pub use nodes::{block_of, break_to, bare_break, continue_to, endless, if_else, if_only, labelled};
+pub use switches::{Jumps, by_index};
+pub use values::signed_word;
