@@ -45,7 +45,7 @@ turn_starts n turn h = let d = div-mul-le_self n 512 in omega arith
 -- one switch, and those after it
 pub switch_turn : (to : ℕ → List Stmt) (s : Expr) (full turn : ℕ) (ks : List ℕ) (d : ℕ) → turn < full
     → switches_from to s (full - turn) (turn * 512) (drop (turn * 512) ks) d
-      ≡ switches s (cases to (turn * 512) (take 512 (drop (turn * 512) ks)) no_clauses) ∷ switches_from to s (full - (turn + 1)) ((turn + 1) * 512) (drop ((turn + 1) * 512) ks) d
+    ≡ switches s (cases to (turn * 512) (take 512 (drop (turn * 512) ks)) no_clauses) ∷ switches_from to s (full - (turn + 1)) ((turn + 1) * 512) (drop ((turn + 1) * 512) ks) d
 switch_turn to s full turn ks d h =
     let left : full - turn ≡ suc (full - (turn + 1)) = omega arith in
     let next : turn * 512 + 512 ≡ (turn + 1) * 512 = omega arith in

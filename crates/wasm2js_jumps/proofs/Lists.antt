@@ -7,4 +7,3 @@ use Rattle.wasm2js_words.specs.Words as words
 pub same_stmts : (ss : List Stmt) → views.stmts_in ss ≡ words.stmts_in ss
 same_stmts [] = refl
 same_stmts (s ∷ ss) = ap (stmts s) (same_stmts ss)
-

@@ -37,6 +37,10 @@ pub fn label_of(aims: &[Aim], label: u32) -> Name
 {
     let label = label as usize;
     let count = aims.len();
-    let round = if label + 2 <= count { count - label - 2 } else { 0 };
+    let round = if label + 2 <= count {
+        count - label - 2
+    } else {
+        0
+    };
     Name::Counted(Numbered::Label, round as u64)
 }

@@ -76,12 +76,7 @@ fn arguments(alloc: Global, depth: u64, types: &[ValType]) -> Result<List<Expr>,
     words_of(alloc, depth, types)
 }
 
-fn word_answered(
-    alloc: Global,
-    depth: u64,
-    call: Expr,
-    block: &mut Block,
-) -> Result<(), AllocError>
+fn word_answered(alloc: Global, depth: u64, call: Expr, block: &mut Block) -> Result<(), AllocError>
     ensures { IfOk result (λ _. statements_of block.new ≡ statements_of block.old ++ words.put_in (low depth) (words.signed_number (expr_view call)) ∷ []) }
 {
     let value = signed(alloc, call)?;
@@ -173,7 +168,12 @@ fn entry_call(
 {
     let values = arguments(alloc, depth, types)?;
     let cell = cell_index(alloc, table.cells, index)?;
-    table_call(alloc, Name::Counted(Numbered::Table, table.number), cell, values)
+    table_call(
+        alloc,
+        Name::Counted(Numbered::Table, table.number),
+        cell,
+        values,
+    )
 }
 
 /// A call of the entry that the operand of number `index` tells, whose first argument is the operand above so many others.

@@ -136,5 +136,11 @@ pub fn jump(
 ) -> Result<(), AllocError>
     ensures { IfOk result (λ _. statements_of block.new ≡ statements_of block.old ++ bodies.branch (slice_get (aims_view aims.now) label) (bodies.label_of (aims_view aims.now) label) depth) }
 {
-    branch(alloc, aim_at(aims, label), label_of(aims, label), depth, block)
+    branch(
+        alloc,
+        aim_at(aims, label),
+        label_of(aims, label),
+        depth,
+        block,
+    )
 }

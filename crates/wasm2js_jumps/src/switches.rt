@@ -151,7 +151,13 @@ pub fn by_index(
     let full = labels.len() / MOST_CASES;
     for turn in 0..full {
         let first = turn * MOST_CASES;
-        one_switch(jumps, subject, first, &labels[first..first + MOST_CASES], block)?;
+        one_switch(
+            jumps,
+            subject,
+            first,
+            &labels[first..first + MOST_CASES],
+            block,
+        )?;
     }
     let first = full * MOST_CASES;
     last_switch(jumps, subject, first, &labels[first..], default, block)

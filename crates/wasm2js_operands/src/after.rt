@@ -124,5 +124,10 @@ pub fn after_call(
     ensures kept { IsKept base types.old.items types.new.items }
     ensures value { IfOk result (λ _. over base types.new.items ≡ bodies.after_call (type_of function_type.now) (over base types.old.items)) }
 {
-    act(types, base, function_type.params.len(), result_type(function_type))
+    act(
+        types,
+        base,
+        function_type.params.len(),
+        result_type(function_type),
+    )
 }
