@@ -7,7 +7,13 @@ use Rattle.sem_laws.specs.Observation.{trapped}
 use Rattle.wasm_lang.specs.Modules.{WasmModule}
 use Rattle.wasm_lang_valid.specs.ModuleRules.{imported_functions}
 use Rattle.wasm_lang_exec.specs.Session.{first_store, with_entries}
+use Rattle.wasm_lang_valid.specs.declared.rule.Rule.{Rule}
+use Rattle.wasm_lang_valid.specs.declared.section.Section.{Section}
+use Rattle.wasm_lang_valid.specs.Validity.{IsValidModule, RefusesModule}
 use Rattle.wasm_laws_write.specs.Laws.{FittingAreWritable}
+use Rattle.wasm_validate.specs.declared.fault.Invalid.{Invalid}
+use Rattle.wasm_validate.specs.declared.fault.Invalid.TheVariants as faults
+use Rattle.wasm_validate.specs.Refusals.{IsInvalid}
 use Rattle.asm_lang.specs.Heights.{IsWellFormed}
 use Rattle.asm_lang.specs.Modules.{Table, Module}
 use Rattle.asm_lang_valid.specs.LimitRows.{foreign_calls}
@@ -88,3 +94,13 @@ translation_stands allowed bounded no_traps within shaped numbers sections writa
 pub of_made : {A E : Type 0} (view : A → WasmModule) (w : WasmModule) (P : WasmModule → Type 0) (r : Result A E) → P w → IfOk r (λ x. view x ≡ w) → IfOk r (λ x. P (view x))
 of_made view w P (Ok x) holds is = subst P (sym is) holds
 of_made view w P (Err e) holds is = tt
+
+-- ---- validation
+
+abbrev NotBoth : Type 0
+NotBoth = (w : WasmModule) (rule : Rule) (section : Section) (index instruction : ℕ) → IsValidModule w → RefusesModule w rule section index instruction → ⊥
+
+-- a valid module isn't refused, so that what the validator says against it is want of memory
+pub only_memory : NotBoth → (w : WasmModule) → IsValidModule w → (fault : Invalid) → IsInvalid w fault → fault ≡ faults.Memory
+only_memory never w valid (faults.Rule rule section index instruction) refuses = absurd (never w rule section index instruction valid refuses)
+only_memory never w valid faults.Memory refuses = refl

@@ -4,5 +4,7 @@
 mod bodies;
 mod standing;
 mod translating;
+mod validated;
 
 pub use translating::translate;
+pub use validated::translate_valid;

@@ -1,0 +1,83 @@
+-- The table of a small module with two tables, and modules that don't stand for their text: one whose segment has the functions of a table in
+-- another order, one without a function, and one that divides without a guard.
+use Rattle.std.proofs.Common.{◌≡◌, ℕ, ◌+◌, List, [], ◌∷◌, length, map, Some, None, refl, ap}
+use Rattle.std.specs.Prelude.{pos}
+use Rattle.std.proofs.lemmas.List.Elements.{All-nil}
+use Rattle.heap_views.specs.Numbers.{IsBytes}
+use Rattle.sem_words.specs.declared.word.Bin.TheVariants as bins
+use Rattle.sem_words.specs.declared.word.TrapKind.TheVariants as kinds
+use Rattle.sem_words.specs.declared.js_value.JsOp.TheVariants.{Div}
+use Rattle.sem_laws.specs.Script.{WritePlain, ReplyLinePlain, ScriptPlain}
+use Rattle.wasm_lang.specs.Instructions.{plain, const32, local_get, bin32, end_mark}
+use Rattle.wasm_lang.specs.Modules.{ElementSegment, WasmModule}
+use Rattle.asm_lang.specs.Modules.{binary, returns, var, Table, Module}
+use Rattle.asm_lang_valid.specs.LimitRows.{foreign_calls}
+use Rattle.asm2wasm_lang.specs.Allowed.{replied_writes, AreBytes, WritesBytes}
+use Rattle.asm2wasm_lang.specs.Calling.{exactly}
+use Rattle.asm2wasm_lang.specs.Tables.{entries_of, bases_of}
+use Rattle.asm2wasm_code.specs.Modules.{translation}
+use Rattle.asm2wasm_code.specs.Pieces.{a, b, f, r, t, x, y, signed, function, module_of, called, calls_alone, tabled, continuing}
+use Rattle.asm2wasm.specs.Standing.{NeverTraps, HasFunctions, tables_for, segments_for, HasTables}
+
+-- ---- two tables, after one foreign function
+
+abbrev table : List ℕ → List (List ℕ) → Table
+table name members = record { name = name; members = members }
+
+abbrev two_tables : Module
+two_tables = module_of tabled.globals tabled.functions (table t (a ∷ b ∷ []) ∷ table r (f ∷ b ∷ []) ∷ [])
+
+abbrev segment : List ℕ → ElementSegment
+segment fs = record { table = 0; offset = plain (const32 0) ∷ end_mark ∷ []; functions = fs }
+
+bases : bases_of two_tables ≡ 0 ∷ 2 ∷ []
+bases = refl
+
+one_table : tables_for two_tables.tables (length (entries_of two_tables)) ≡ exactly 4 ∷ []
+one_table = refl
+
+one_segment : segments_for two_tables.tables (map (λ n. length (foreign_calls two_tables) + n) (entries_of two_tables)) ≡ segment (1 ∷ 2 ∷ 3 ∷ 2 ∷ []) ∷ []
+one_segment = refl
+
+no_table : tables_for continuing.tables (length (entries_of continuing)) ≡ []
+no_table = refl
+
+-- ---- another order
+
+abbrev turned : WasmModule
+turned = record (translation tabled 4096) { elements = segment (2 ∷ 1 ∷ []) ∷ [] }
+
+abbrev first_functions : List ElementSegment → List ℕ
+first_functions [] = []
+first_functions (s ∷ ss) = s.functions
+
+turned_has_not : HasTables tabled turned → ⊥
+turned_has_not h = let e : 2 ∷ 1 ∷ [] ≡ 1 ∷ 2 ∷ [] = ap first_functions h.segment in cc e
+
+-- ---- no function
+
+without_functions : HasFunctions tabled 4096 (record (translation tabled 4096) { functions = [] }) → ⊥
+without_functions h = let e = h.as_many in cc e
+
+-- ---- a quotient without a guard
+
+abbrev quotient : Module
+quotient = module_of [] (function f (x ∷ y ∷ []) [] (returns (Some (signed (binary Div (signed (var x)) (signed (var y))))) ∷ []) ∷ []) []
+
+abbrev unguarded : WasmModule
+unguarded = record (translation quotient 4096) {
+  bodies = record { locals = []; code = plain (local_get 0) ∷ plain (local_get 1) ∷ plain (bin32 bins.DivS) ∷ end_mark ∷ [] } ∷ [];
+}
+
+-- 7 by 0
+abbrev by_zero : ScriptPlain
+by_zero = calls_alone (called (pos 7 ∷ pos 0 ∷ []) 1 ∷ [])
+
+writes_nothing : WritesBytes by_zero
+writes_nothing = record {
+  before = All-nil (λ (w : WritePlain). IsBytes w.bytes);
+  replied = All-nil (λ (r : ReplyLinePlain). AreBytes (replied_writes r.reply));
+}
+
+unguarded_traps : NeverTraps quotient 4096 unguarded → ⊥
+unguarded_traps never = never by_zero writes_nothing refl 10 kinds.ZeroDivisor refl
