@@ -1,6 +1,6 @@
 -- A branch by an index in its code.
-use Rattle.std.proofs.Common.{◌≡◌, ℕ, zero, suc, ◌+◌, ◌-◌, ◌*◌, ◌/◌, ◌^◌, ◌<◌, ◌≤◌, Bool, true, false, ◌&&◌, List, [], ◌∷◌, ◌++◌, length, take, Option, Some, None, Result, Ok, Err, refl, sym, ap, ◌∙◌, subst, arith}
-use Rattle.std.specs.Prelude.{slice_get, map, option_map, if◌then◌else◌}
+use Rattle.std.proofs.Common.{◌≡◌, ℕ, zero, suc, ◌+◌, ◌-◌, ◌*◌, ◌/◌, ◌^◌, ◌≤◌, Bool, true, false, List, [], ◌∷◌, ◌++◌, length, take, Option, Some, None, Result, Ok, Err, refl, sym, ap, ◌∙◌, subst, arith}
+use Rattle.std.specs.Prelude.{slice_get, map, option_map}
 use Rattle.std.proofs.lemmas.List.{append_assoc}
 use Rattle.std.proofs.lemmas.Option.{slice_get-map}
 use Rattle.std.proofs.lemmas.Bool.{and_parts}
@@ -30,7 +30,6 @@ use Rattle.wasm2js_laws_pace.specs.Following.{Rest}
 use Rattle.wasm2js_laws_places.specs.Straight.{Words}
 use Rattle.wasm2js_laws_places.specs.Places.{word_at, operands, Stays}
 use Rattle.wasm2js_laws_control.specs.Control.{Function, IsFair, Inside, state_at, sight, code_sight, IsFollowed, statements_to, carried_by, AreNested, Exits, IsKept}
-use Rattle.wasm2js_laws_control.specs.Laws.{IsKeptFirst}
 use Rattle.wasm2js_laws_control.proofs.Stepping.{free_step}
 use Rattle.wasm2js_laws_instructions.proofs.Ending.{are_words}
 use Rattle.wasm2js_laws_branches.proofs.Jumps.{jump_followed}
@@ -96,9 +95,9 @@ aimed_in (Some aim) label h = record { aim = aim; there = refl; carried = cc h }
 -- ---- in its code
 
 module _ (f : Function) (fair : IsFair f) (ks : List ℕ) (d most : ℕ) (code : Trees) (ls : List Aim) (b : ℕ) (below after : List ValType) (label : Option ValType) (around : List Surrounding)
-  (before : Words) (next : Completion → Part (Unit {0})) (nested : AreNested ls b) (ex : Exits f most ls b after false around before next)
-  (carried : (j : ℕ) → slice_get (map carried_by ls) (default_to d (slice_get ks j)) ≡ Some label)
-  (p : Place) (w : List EventPlain) (i : Inside f most w p) (stays : Stays b before (word_at p)) where
+    (before : Words) (next : Completion → Part (Unit {0})) (nested : AreNested ls b) (ex : Exits f most ls b after false around before next)
+    (carried : (j : ℕ) → slice_get (map carried_by ls) (default_to d (slice_get ks j)) ≡ Some label)
+    (p : Place) (w : List EventPlain) (i : Inside f most w p) (stays : Stays b before (word_at p)) where
   abbrev us : List ValType
   us = listed label ++ below
 
