@@ -1,13 +1,13 @@
 -- Which clause of a switch is chosen by an index.
-use Rattle.std.proofs.Common.{◌≡◌, ℕ, zero, suc, ◌+◌, ◌-◌, ◌*◌, ◌^◌, ◌<◌, ◌≤◌, Bool, true, false, ◌&&◌, List, [], ◌∷◌, ◌++◌, length, take, drop, Option, Some, None, ℤ, refl, sym, ap, ◌∙◌, subst, arith}
+use Rattle.std.proofs.Common.{◌≡◌, ℕ, zero, suc, ◌+◌, ◌^◌, ◌<◌, ◌≤◌, true, false, List, [], ◌∷◌, length, Some, ℤ, refl, ap, ◌∙◌, arith}
 use Rattle.std.specs.Prelude.{slice_get, ◌==◌, if◌then◌else◌}
 use Rattle.std.proofs.lemmas.Bool.Decides.{nat_tests, Decides-eqb}
 use Rattle.std.proofs.lemmas.Int.{ints}
 use Rattle.sem_words.specs.Words.{signed_of}
-use Rattle.asm_lang.specs.Modules.{Stmt, Clauses, no_clauses, clauses}
+use Rattle.asm_lang.specs.Modules.{Stmt, Clauses}
 use Rattle.asm_lang_valid.specs.Typing.{Scope}
 use Rattle.asm_lang_exec.specs.Runs.{Part}
-use Rattle.asm_lang_exec.specs.Meaning.{Completion, normal, is_case, has_case, before_case, before_default, passed_over}
+use Rattle.asm_lang_exec.specs.Meaning.{Completion, is_case, has_case, before_case, before_default, passed_over}
 use Rattle.asm_laws_continuation.specs.Following.{Before, CallsBefore, exec_all_to, exec_clauses_to, unless_left_to}
 use Rattle.wasm2js_words.specs.Words.{stmts_in}
 use Rattle.wasm2js_code.specs.Bodies.{cases}

@@ -1,49 +1,30 @@
 -- A branch by an index: the switches come to the branch to its label.
-use Rattle.std.proofs.Common.{◌≡◌, ℕ, zero, suc, ◌+◌, ◌-◌, ◌*◌, ◌/◌, ◌^◌, ◌<◌, ◌≤◌, ◌⊎◌, inl, inr, Bool, true, false, ◌&&◌, List, [], ◌∷◌, ◌++◌, length, take, drop, Option, Some, None, Result, Ok, Err, pos, refl, sym, ap, ◌∙◌, subst, ⊎_elim, arith}
-use Rattle.std.specs.Prelude.{slice_get, map, option_map, if◌then◌else◌}
+use Rattle.std.proofs.Common.{◌≡◌, ℕ, zero, suc, ◌+◌, ◌-◌, ◌*◌, ◌^◌, ◌<◌, ◌≤◌, List, [], ◌∷◌, length, take, drop, Option, Some, None, pos, refl, sym, ap, ◌∙◌, subst, ⊎_elim, arith}
+use Rattle.std.specs.Prelude.{slice_get}
 use Rattle.std.specs.Int.Bits.{or_zero_r}
-use Rattle.std.proofs.lemmas.List.{append_assoc, length-take, length-drop}
-use Rattle.std.proofs.lemmas.Option.{slice_get-map}
-use Rattle.std.proofs.lemmas.Bool.{and_parts, cases_lt}
-use Rattle.sem_words.specs.declared.word.Word.{Word}
+use Rattle.std.proofs.lemmas.List.{length-take, length-drop}
+use Rattle.std.proofs.lemmas.Bool.{cases_lt}
 use Rattle.sem_words.specs.declared.js_value.JsValue.TheVariants.{Whole}
 use Rattle.sem_words.specs.declared.js_value.JsOp.TheVariants.{Or}
 use Rattle.sem_words.specs.JsValues.{to_uint32_of}
 use Rattle.sem_words.specs.JsOperators.{js_binary_of}
 use Rattle.sem_words.specs.Words.{signed_of}
 use Rattle.sem_laws.specs.Observation.{EventPlain}
-use Rattle.wasm_lang.specs.declared.types.ValType.{ValType}
-use Rattle.wasm_lang.specs.declared.types.ValType.TheVariants.{I32, I64}
-use Rattle.wasm_lang_valid.specs.declared.rule.Rule.{Rule}
-use Rattle.wasm_lang_valid.specs.declared.rule.Rule.TheVariants.{NoLabel, LabelsDiffer}
-use Rattle.wasm_lang_valid.specs.Typing.{listed, Shape, Leaves, Acts, leaves as leaves_acts, found, onward as onward_rule, unless, all_labels, same_result, carries, alike}
-use Rattle.wasm_lang_exec.specs.Code.{br_table, Trees, ◌▹◌}
 use Rattle.wasm_lang_exec.specs.Reductions.{default_to}
-use Rattle.wasm_laws_drive.specs.Drive.{Branch}
-use Rattle.wasm_laws_drive.specs.Equations.{take_number}
-use Rattle.wasm_laws_drive.specs.Contexts.{Surrounding, closed}
-use Rattle.wasm_laws_drive.proofs.Stepping.{br_table_step}
 use Rattle.asm_lang.specs.Modules.{Stmt, Clauses, no_clauses, clauses, switches}
 use Rattle.asm_lang_exec.specs.Runs.{Place, Part, and_then, defined, read}
-use Rattle.asm_lang_exec.specs.Meaning.{Completion, normal, as_whole, switch_end, passed_over}
+use Rattle.asm_lang_exec.specs.Meaning.{Completion, as_whole, switch_end, passed_over}
 use Rattle.asm_laws_continuation.specs.Following.{Before, exec_to, exec_all_to, exec_clauses_to, unless_left_to}
 use Rattle.wasm2js_words.specs.Names.{numbered, operand_low, spelled}
 use Rattle.wasm2js_words.specs.Words.{stmts_in}
-use Rattle.wasm2js_code.specs.Actions.{under}
-use Rattle.wasm2js_code.specs.Bodies as bodies
-use Rattle.wasm2js_code.specs.Bodies.{Aim, label_of, jump, signed_word, most_cases, cases, switches_from, by_index, comes_to_end}
+use Rattle.wasm2js_code.specs.Bodies.{signed_word, most_cases, cases, switches_from}
 use Rattle.wasm2js_laws_pace.specs.Following.{Rest}
-use Rattle.wasm2js_laws_places.specs.Straight.{Words}
-use Rattle.wasm2js_laws_places.specs.Places.{word_at, operands, Stays}
+use Rattle.wasm2js_laws_places.specs.Places.{word_at}
 use Rattle.wasm2js_laws_actions.proofs.Reading.{read_then}
 use Rattle.wasm2js_laws_actions.proofs.Variables.{variable_read}
-use Rattle.wasm2js_laws_control.specs.Control.{Function, IsFair, Inside, state_at, sight, code_sight, IsFollowed, statements_to, carried_by, under_aims, AreNested, Exits, IsKept}
-use Rattle.wasm2js_laws_control.specs.Laws.{IsKeptFirst}
-use Rattle.wasm2js_laws_control.proofs.Stepping.{free_step}
+use Rattle.wasm2js_laws_control.specs.Control.{Function, Inside, IsFollowed}
 use Rattle.wasm2js_laws_instructions.proofs.Ending.{are_words}
-use Rattle.wasm2js_laws_branches.proofs.Jumps.{jump_followed}
-use Rattle.wasm2js_laws_switches.specs.Laws.{IndexedBranchesAreKept}
-use Rattle.wasm2js_laws_switches.proofs.Cases.{Found, is_found, chosen, found_runs, none_runs}
+use Rattle.wasm2js_laws_switches.proofs.Cases.{is_found, chosen, found_runs, none_runs}
 
 -- ---- lists
 

@@ -1,6 +1,6 @@
 -- A branch by an index in its code.
-use Rattle.std.proofs.Common.{◌≡◌, ℕ, zero, suc, ◌+◌, ◌-◌, ◌*◌, ◌/◌, ◌^◌, ◌<◌, ◌≤◌, Bool, true, false, ◌&&◌, List, [], ◌∷◌, ◌++◌, length, take, Option, Some, None, Result, Ok, Err, refl, sym, ap, ◌∙◌, subst, arith}
-use Rattle.std.specs.Prelude.{slice_get, map, option_map, if◌then◌else◌}
+use Rattle.std.proofs.Common.{◌≡◌, ℕ, zero, suc, ◌+◌, ◌-◌, ◌*◌, ◌/◌, ◌^◌, ◌≤◌, Bool, true, false, List, [], ◌∷◌, ◌++◌, length, take, Option, Some, None, Result, Ok, Err, refl, sym, ap, ◌∙◌, subst, arith}
+use Rattle.std.specs.Prelude.{slice_get, map, option_map}
 use Rattle.std.proofs.lemmas.List.{append_assoc}
 use Rattle.std.proofs.lemmas.Option.{slice_get-map}
 use Rattle.std.proofs.lemmas.Bool.{and_parts}
@@ -30,7 +30,6 @@ use Rattle.wasm2js_laws_pace.specs.Following.{Rest}
 use Rattle.wasm2js_laws_places.specs.Straight.{Words}
 use Rattle.wasm2js_laws_places.specs.Places.{word_at, operands, Stays}
 use Rattle.wasm2js_laws_control.specs.Control.{Function, IsFair, Inside, state_at, sight, code_sight, IsFollowed, statements_to, carried_by, AreNested, Exits, IsKept}
-use Rattle.wasm2js_laws_control.specs.Laws.{IsKeptFirst}
 use Rattle.wasm2js_laws_control.proofs.Stepping.{free_step}
 use Rattle.wasm2js_laws_instructions.proofs.Ending.{are_words}
 use Rattle.wasm2js_laws_branches.proofs.Jumps.{jump_followed}
