@@ -1,6 +1,6 @@
 -- The set bits of a word, by a loop over its bits.
-use Rattle.std.proofs.Common.{◌≡◌, ℕ, zero, suc, ◌+◌, ◌-◌, ◌*◌, ◌/◌, ◌%◌, ◌^◌, ◌<◌, ◌≤◌, Bool, true, false, not, List, [], ◌∷◌, Option, Some, None, ℤ, pos, refl, sym, ap, ◌∙◌, subst, arith}
-use Rattle.std.specs.Prelude.{if◌then◌else◌, ◌==◌, map, bit_and}
+use Rattle.std.proofs.Common.{◌≡◌, ℕ, zero, suc, ◌+◌, ◌*◌, ◌/◌, ◌%◌, ◌^◌, ◌<◌, ◌≤◌, Bool, true, false, not, List, [], ◌∷◌, None, pos, refl, sym, ap, ◌∙◌, subst, arith}
+use Rattle.std.specs.Prelude.{if◌then◌else◌, ◌==◌, bit_and}
 use Rattle.std.proofs.lemmas.Bool.Decides.{nat_tests}
 use Rattle.std.proofs.lemmas.Nat.{and_mask}
 use Rattle.std.proofs.Math.Nat.{pow-suc}
@@ -10,7 +10,7 @@ use Rattle.sem_words.specs.JsValues.{to_uint32_of, truthy_of}
 use Rattle.sem_words.specs.JsOperators.{signed_value, unsigned_value}
 use Rattle.sem_words.specs.Words.{add_of, shr_u_of, set_bits_of}
 use Rattle.asm_types.proofs.Sound.{to_uint32_lt}
-use Rattle.asm_lang.specs.Modules.{Stmt, Function, Module}
+use Rattle.asm_lang.specs.Modules.{Stmt, Module}
 use Rattle.asm_lang_valid.specs.Typing.{Scope}
 use Rattle.asm_lang_valid.specs.Typed.{scope_of}
 use Rattle.asm_lang_exec.specs.Runs as runs
@@ -20,19 +20,19 @@ use Rattle.asm_lang_exec.specs.Meaning.{eval, Completion, normal, broken, contin
 use Rattle.wasm2js_words.specs.Names.{spelled}
 use Rattle.wasm2js_words.specs.Words.{Term, read, conjunction, shift_right, both, int_of}
 use Rattle.wasm2js_code.specs.Pairs.{literal, plus}
-use Rattle.wasm2js_code.specs.Helpers.{sets, gives, argument, own, repeat, block_of, first, set_bits_function}
+use Rattle.wasm2js_code.specs.Helpers.{sets, gives, argument, own, block_of, first, set_bits_function}
 use Rattle.wasm2js_laws_places.specs.Straight as straight
 use Rattle.wasm2js_laws_places.specs.Straight.{value}
 use Rattle.wasm2js_laws_places.specs.Places.{word_at, names_in, IsHeap}
-use Rattle.wasm2js_laws_places.specs.Helped.{IsOn, IsShort, Helps}
+use Rattle.wasm2js_laws_places.specs.Helped.{Helps}
 use Rattle.wasm2js_laws_actions.proofs.Numbers.{is_true}
 use Rattle.wasm2js_laws_actions.proofs.Reading.{read_then}
 use Rattle.wasm2js_laws_numbers.proofs.Counted.{set_bits_step}
-use Rattle.wasm2js_laws_helpers.specs.Answers.{length_of, set_bits_answer, set_bits_units}
+use Rattle.wasm2js_laws_helpers.specs.Answers.{length_of}
 use Rattle.wasm2js_laws_helpers.specs.Laws.{SetBitsHelp, FewUnits}
 use Rattle.wasm2js_laws_helpers.proofs.Called.{Returns, placed, called, words_after}
-use Rattle.wasm2js_laws_helpers.proofs.Computed.{Known, int_read, given}
-use Rattle.wasm2js_laws_helpers.proofs.Turned.{marked_word, the_locals}
+use Rattle.wasm2js_laws_helpers.proofs.Computed.{int_read, given}
+use Rattle.wasm2js_laws_helpers.proofs.Turned.{marked_word}
 use Rattle.wasm2js_laws_helpers.proofs.Bodies.{run}
 
 -- ---- numbers

@@ -5,3 +5,7 @@ pub mod Turned
 pub mod Rotated
 pub mod Zeros
 pub mod Bits
+pub mod Quotients
+pub mod Trapped
+pub mod Divided
+pub mod Divisions

@@ -30,7 +30,7 @@ use Rattle.wasm2js_laws_helpers.proofs.Turned.{marked_word, the_locals}
 use Rattle.wasm2js_laws_helpers.proofs.Bodies.{left, run, when_then}
 
 -- the variables of a helper with two arguments
-abbrev two_locals : (a b : JsValue) → List Binding
+abbrev pub two_locals : (a b : JsValue) → List Binding
 two_locals a b = binding (spelled (argument 0)) a ∷ binding (spelled (argument 1)) b ∷ []
 
 -- a function with two arguments, by its body at the marked ones

@@ -1,8 +1,10 @@
 -- What the helpers on words do, on numbers.
-use Rattle.std.specs.Prelude.{ℕ, zero, suc, ◌+◌, ◌/◌, List, [], ◌∷◌, Some, None, ◌==◌, if◌then◌else◌}
-use Rattle.sem_words.specs.Words.{set_bits_of}
+use Rattle.std.specs.Prelude.{ℕ, zero, suc, ◌+◌, ◌/◌, List, [], ◌∷◌, Some, None, Result, Ok, Err, ◌==◌, if◌then◌else◌}
+use Rattle.sem_words.specs.declared.word.Bin.{Bin}
+use Rattle.sem_words.specs.declared.word.TrapKind.{TrapKind}
+use Rattle.sem_words.specs.Words.{set_bits_of, bin_of, trap_code}
 use Rattle.sem_laws.specs.Imports.{low_word, high_word}
-use Rattle.wasm2js_laws_places.specs.Straight.{Answer, gives}
+use Rattle.wasm2js_laws_places.specs.Straight.{Answer, gives, traps}
 use Rattle.wasm2js_laws_numbers.specs.Laws.{joined}
 
 -- a word of 64 bits, whose high word is left in `$q`
@@ -35,3 +37,12 @@ set_bits_answer _ heap = one_word 0 heap
 abbrev pub set_bits_units : List ℕ → ℕ
 set_bits_units (a ∷ []) = 2 + length_of 32 a
 set_bits_units _ = 1
+
+-- division of words of 32 bits, which may trap
+abbrev pub checked : Result ℕ TrapKind → (heap : List ℕ) → Answer
+checked (Ok n) heap = one_word n heap
+checked (Err kind) heap = traps (trap_code kind)
+
+abbrev pub divided : Bin → List ℕ → (heap : List ℕ) → Answer
+divided op (a ∷ b ∷ []) heap = checked (bin_of 32 op a b) heap
+divided op _ heap = one_word 0 heap

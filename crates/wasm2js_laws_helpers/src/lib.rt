@@ -1,7 +1,7 @@
 //! The helper functions of what WebAssembly is translated to do what their operators mean.
 #![tactic(auto)]
 
-ghost use Rattle.wasm2js_laws_helpers.specs.Laws.{ShiftLeftHelps, ShiftRightSignedHelps, ShiftRightHelps, RotateLeftHelps, LeadingZerosHelp, TrailingZerosHelp, SetBitsHelp, FewUnits};
+ghost use Rattle.wasm2js_laws_helpers.specs.Laws.{ShiftLeftHelps, ShiftRightSignedHelps, ShiftRightHelps, RotateLeftHelps, LeadingZerosHelp, TrailingZerosHelp, SetBitsHelp, FewUnits, DivideSignedHelps, DivideHelps, RemainderSignedHelps, RemainderHelps};
 
 /// Shifts and rotations of words of 64 bits.
 pub fn turns()
@@ -17,4 +17,12 @@ pub fn counts()
     ensures trailing { TrailingZerosHelp }
     ensures set { SetBitsHelp }
     ensures few { FewUnits }
+{}
+
+/// Quotients and remainders of words of 32 bits, which trap exactly where the operators do.
+pub fn division()
+    ensures quotient_signed { DivideSignedHelps }
+    ensures quotient { DivideHelps }
+    ensures rest_signed { RemainderSignedHelps }
+    ensures rest { RemainderHelps }
 {}
