@@ -104,7 +104,7 @@ arms_are_fine s a n d h first second new is some f g =
       is_typed = both_true _ _ (not_there (has_label a.labels (label_name n)) new) (both_true _ _ (both_true _ _ (is_typed_below s e) p.are_typed) q.are_typed);
       printed = (refl, (is_identifier (numbered label n), tt), refl, (e.printed, refl, p.printed, q.printed));
       low = arms_low _ _ _ h e.low some p.low q.low;
-      marks = λ at. 
+      marks = λ at.
           both_marks (expr_marks s (at + 1 + 1) (signed_word d)) _ (no_marks (expr_marks s (at + 1 + 1) (signed_word d)) (e.no_marks (at + 1 + 1)))
           (both_marks _ _ (p.marks (at + 1 + 1 + expr_count (signed_word d) + 1)) (q.marks (at + 1 + 1 + expr_count (signed_word d) + stmt_count (block_of first) + 1)));
     }

@@ -106,17 +106,20 @@ module _ (s : Scope) (c : Context) (b : ℕ) where
     answered_fine : (r : Option ValType) (e : Expr) → IsFineCall e (is_some r) → HasRoom s c (here b (listed r ++ below) []) → AllFine s a 8 (answered r (b + length below) e)
     answered_fine None e f h =
         let yes = f.is in
-        let fits = f.fits in
-        (record {
-          is_typed = rw (yes, fits) refl;
-          printed = f.printed;
-          low = effect_low (expr_height e) f.low;
-          marks = λ at. no_marks _ (let m = f.marks (at + 1) in rw (yes, m) refl);
-        }, tt)
+        let fits = f.fits in (
+          record {
+            is_typed = rw (yes, fits) refl;
+            printed = f.printed;
+            low = effect_low (expr_height e) f.low;
+            marks = λ at. no_marks _ (let m = f.marks (at + 1) in rw (yes, m) refl);
+          },
+          tt,
+        )
     answered_fine (Some I32) e f h = (result_fine e f (first_low s c b I32 below [] h), tt)
-    answered_fine (Some I64) e f h =
-        (result_fine e f (first_low s c b I64 below [] h),
-        (is_higher s a _ 7 8 (omega arith) (simple_fine s a (put (operand_pair (b + length below)).high (read high_result)) (first_high s c b below [] h, given.high)), tt))
+    answered_fine (Some I64) e f h = (
+      result_fine e f (first_low s c b I64 below [] h),
+      (is_higher s a _ 7 8 (omega arith) (simple_fine s a (put (operand_pair (b + length below)).high (read high_result)) (first_high s c b below [] h, given.high)), tt),
+    )
 
   -- ---- of a function
 
@@ -183,11 +186,12 @@ module _ (s : Scope) (c : Context) (b cells : ℕ) (some : 0 < cells) (few : cel
 pub entry_calls_are_fine : EntryCallsAreFine
 entry_calls_are_fine s a c cells b types t below xs given some few is h k =
     let room : HasRoom s c (here b (reverse t.params ++ below) xs) = record { operands = λ d lt. h.operands d (omega (arith, lt)); high_words = h.high_words; locals = h.locals } in
-    let i = first_low s c b I32 (reverse t.params ++ below) xs h in
-    (is_higher s a _ 7 8 (omega arith) (simple_fine s a (guard (read (low (b + length (reverse t.params ++ below)))) (cells - 1) 5) (i, fits few, (given.traps, omega arith))),
-    subst (λ d. AllFine s a 8 (answered (type_result t) d (table_call (spelled (numbered table (form_number types t))) (binary And (word_in (low (b + length (reverse t.params ++ below)))) (natural (cells - 1))) (arguments_from d t.params))))
-    (sym (same_depth s c b t.params below))
-    (answered_fine s c b a below given (type_result t) _ (entry_call s c b cells some few (b + length (reverse t.params ++ below)) (numbered table (form_number types t)) t below i is (arguments_fine s c b t.params below xs room)) k))
+    let i = first_low s c b I32 (reverse t.params ++ below) xs h in (
+      is_higher s a _ 7 8 (omega arith) (simple_fine s a (guard (read (low (b + length (reverse t.params ++ below)))) (cells - 1) 5) (i, fits few, (given.traps, omega arith))),
+      subst (λ d. AllFine s a 8 (answered (type_result t) d (table_call (spelled (numbered table (form_number types t))) (binary And (word_in (low (b + length (reverse t.params ++ below)))) (natural (cells - 1))) (arguments_from d t.params))))
+          (sym (same_depth s c b t.params below))
+          (answered_fine s c b a below given (type_result t) _ (entry_call s c b cells some few (b + length (reverse t.params ++ below)) (numbered table (form_number types t)) t below i is (arguments_fine s c b t.params below xs room)) k),
+    )
   where
     fits : cells ≤ 2 ^ 16 → cells - 1 < 2 ^ 32
     fits h = omega (arith, h)

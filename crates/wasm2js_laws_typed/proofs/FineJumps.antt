@@ -53,9 +53,10 @@ module _ (s : Scope) (a : Around) where
   -- values that are moved are read alone
   pub moved_fine : (t : ValType) (d base : ℕ) → AreSoundSimple s (moved t (operand_pair d) (operand_pair base)) → AllFine s a 8 (simple_statements (moved t (operand_pair d) (operand_pair base)))
   moved_fine I32 d base h = (is_higher s a _ 7 8 (omega arith) (simple_fine s a (put (operand_pair base).low (read (operand_pair d).low)) h.0), tt)
-  moved_fine I64 d base h =
-      (is_higher s a _ 7 8 (omega arith) (simple_fine s a (put (operand_pair base).low (read (operand_pair d).low)) h.0),
-      (is_higher s a _ 7 8 (omega arith) (simple_fine s a (put (operand_pair base).high (read (operand_pair d).high)) h.1.0), tt))
+  moved_fine I64 d base h = (
+    is_higher s a _ 7 8 (omega arith) (simple_fine s a (put (operand_pair base).low (read (operand_pair d).low)) h.0),
+    (is_higher s a _ 7 8 (omega arith) (simple_fine s a (put (operand_pair base).high (read (operand_pair d).high)) h.1.0), tt),
+  )
 
   returned : (d : ℕ) → result_of s ≡ true → IsInt s (low d) → IsFine s a (returns (Some (signed_word d))) 8
   returned d gives h =
@@ -69,9 +70,10 @@ module _ (s : Scope) (a : Around) where
     leave_fine : (r : Option ValType) → result_of s ≡ is_some r → HasRoom s c (here b (listed r ++ below) xs) → AllFine s a 8 (leave_with r (under 1 b (listed r ++ below)))
     leave_fine None gives h = (record { is_typed = rw gives refl; printed = tt; low = omega arith; marks = λ at. tt }, tt)
     leave_fine (Some I32) gives h = (returned (b + length below) gives (first_low s c b I32 below xs h), tt)
-    leave_fine (Some I64) gives h =
-        (is_higher s a _ 7 8 (omega arith) (simple_fine s a (put high_result (read (operand_pair (b + length below)).high)) (given.high, first_high s c b below xs h)),
-        (returned (b + length below) gives (first_low s c b I64 below xs h), tt))
+    leave_fine (Some I64) gives h = (
+      is_higher s a _ 7 8 (omega arith) (simple_fine s a (put high_result (read (operand_pair (b + length below)).high)) (given.high, first_high s c b below xs h)),
+      (returned (b + length below) gives (first_low s c b I64 below xs h), tt),
+    )
 
     -- ---- a value to where a block's result stands
 
@@ -158,7 +160,7 @@ find result labels (again base ∷ ls) b (suc k) r h e =
     (find result h.0 ls base k r h.3 (ap (λ ls. slice_get ls (suc k)) (sym h.1) ∙ e))
 
 module _ (s : Scope) (a : Around) (c : Context) (ls : List Aim) (k b : ℕ) (r : Option ValType) (below : List ValType) (xs : List ℕ) (given : HasFixed s) (gives : result_of s ≡ is_some c.returns)
-  (around : a.labels ≡ labels_for ls) (h : HasRoom s c (here b (listed r ++ below) xs)) where
+    (around : a.labels ≡ labels_for ls) (h : HasRoom s c (here b (listed r ++ below) xs)) where
   found_fine : Found c.returns ls k r b → AllFine s a 8 (jump ls k b (listed r ++ below))
   found_fine (at_past base e le there) =
       subst (λ o. AllFine s a 8 (branch o (label_of ls k) (under 1 b (listed r ++ below)))) (sym e)

@@ -154,10 +154,11 @@ module _ (s : Scope) (a : Around) (d : ℕ) (is : IsInt s (low d)) (to : ℕ →
   from_fine default g (suc full) q ks le lt h f =
       let t = taken 512 ks (omega (arith, le)) in
       let r = dropped 512 ks (omega (arith, le)) in
-      let next : suc q * 512 ≡ q * 512 + 512 = omega arith in
-      (switch_fine q (take 512 ks) no_clauses refl refl (omega (arith, t)) (omega (arith, t, h, le)) (each_take 512 ks f) (none_fine s (in_a_switch a)),
-      subst (λ i. AllFine s a 9 (switches_from to (signed_word d) full i (drop 512 ks) default)) next
-      (from_fine default g full (suc q) (drop 512 ks) (omega (arith, r, le)) (omega (arith, r, lt)) (omega (arith, r, h)) (each_drop 512 ks f)))
+      let next : suc q * 512 ≡ q * 512 + 512 = omega arith in (
+        switch_fine q (take 512 ks) no_clauses refl refl (omega (arith, t)) (omega (arith, t, h, le)) (each_take 512 ks f) (none_fine s (in_a_switch a)),
+        subst (λ i. AllFine s a 9 (switches_from to (signed_word d) full i (drop 512 ks) default)) next
+            (from_fine default g full (suc q) (drop 512 ks) (omega (arith, r, le)) (omega (arith, r, lt)) (omega (arith, r, h)) (each_drop 512 ks f)),
+      )
 
 pub switches_are_fine : SwitchesAreFine
 switches_are_fine s a d to ks default is f g =
