@@ -8,3 +8,6 @@ pub mod FineJumps
 pub mod FineCalls
 pub mod Cases
 pub mod FineSwitches
+pub mod RoomParts
+pub mod TypedShapes
+pub mod FineBodies

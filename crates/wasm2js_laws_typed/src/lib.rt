@@ -3,6 +3,7 @@
 
 ghost use Rattle.wasm2js_laws_typed.specs.Laws.{PlainIsSound, PlainIsShallow};
 ghost use Rattle.wasm2js_laws_typed.specs.Constructs.{BlocksAreFine, LoopsAreFine, ArmsAreFine, TestsAreFine, LabelsAreNew, ReturnsAreFine, JumpsAreFine, CallsAreFine, EntryCallsAreFine, SwitchesAreFine};
+ghost use Rattle.wasm2js_laws_typed.specs.Bodies.{CodeIsFine};
 
 /// Instructions that compute, and read and write locals, globals and the memory.
 pub fn instructions()
@@ -34,4 +35,9 @@ pub fn calls()
 /// Branches by an index, whatever the number of labels.
 pub fn switches()
     ensures { SwitchesAreFine }
+{}
+
+/// The statements of typed code, by induction on its tree.
+pub fn code()
+    ensures { CodeIsFine }
 {}

@@ -148,7 +148,7 @@ module _ (c : Scope) (around : Around) where
 
   -- ---- traps
 
-  trap_fine : (kind : ℕ) → named c (name_of trap) ≡ a_foreign (name_of trap) → kind < 2 ^ 31 → IsFine c around (trap_call kind) 3
+  pub trap_fine : (kind : ℕ) → named c (name_of trap) ≡ a_foreign (name_of trap) → kind < 2 ^ 31 → IsFine c around (trap_call kind) 3
   trap_fine kind is small =
       let t : literal_type (pos kind) ≡ Some Fixnum = ap (λ b. if b then Some Fixnum else row (nat_lt kind (2 ^ 32)) Unsigned) (in_words kind small) in
       record {
