@@ -1,0 +1,206 @@
+//! Operators on words of 32 bits, changes of width, and constants.
+ghost use Rattle.std.specs.Prelude.{◌≡◌, [], ◌∷◌, ◌++◌, true, IfOk};
+ghost use Rattle.sem_words.specs.declared.word.Un.TheVariants as uns;
+ghost use Rattle.sem_words.specs.Words.{signed_of};
+ghost use Rattle.sem_laws.specs.Imports.{low_word, high_word};
+ghost use Rattle.wasm2js_words.specs.Words as words;
+ghost use Rattle.wasm2js_words.specs.Words.{simple_statements};
+ghost use Rattle.wasm2js_code.specs.Pairs as pairs;
+ghost use Rattle.wasm2js_code.specs.Actions as code;
+ghost use Rattle.wasm2js_build.specs.Views.{name_view, fixed_view, bit_view, relation_view};
+ghost use Rattle.wasm2js_build.specs.Blocks.{statements_of};
+ghost use Rattle.split_words.specs.Views.{pair_view};
+
+use sem_words::{Bin, Rel, Un};
+use split_words::{Pair, put_extended, put_sign, wide_extend};
+use std::alloc::AllocError;
+use wasm2js_build::{BitOp, Block, Fixed, Name, Relation, Term};
+
+/// Of the operands in a and b, in a.
+pub fn binary(block: &mut Block, op: Bin, a: Name, b: Name) -> Result<(), AllocError>
+    ensures { IfOk result (λ _. statements_of block.new ≡ statements_of block.old ++ simple_statements (code.narrow_binary op (name_view a) (name_view b))) }
+{
+    match op {
+        Bin::Add => block.put(a, &Term::plus(&Term::read(a), &Term::read(b))),
+        Bin::Sub => block.put(a, &Term::minus(&Term::read(a), &Term::read(b))),
+        Bin::Mul => block.put(a, &Term::product(&Term::read(a), &Term::read(b))),
+        Bin::DivS => ask_both(block, Fixed::DivideSigned, a, b),
+        Bin::DivU => ask_both(block, Fixed::Divide, a, b),
+        Bin::RemS => ask_both(block, Fixed::RemainderSigned, a, b),
+        Bin::RemU => ask_both(block, Fixed::Remainder, a, b),
+        Bin::And => put_both(block, BitOp::And, a, b),
+        Bin::Or => put_both(block, BitOp::Or, a, b),
+        Bin::Xor => put_both(block, BitOp::Xor, a, b),
+        Bin::Shl => put_both(block, BitOp::Shl, a, b),
+        Bin::ShrS => put_both(block, BitOp::Sar, a, b),
+        Bin::ShrU => put_both(block, BitOp::Shr, a, b),
+        Bin::Rotl => turn_left(block, a, b),
+        Bin::Rotr => turn_right(block, a, b),
+    }
+}
+
+pub fn unary(block: &mut Block, op: Un, a: Name) -> Result<(), AllocError>
+    ensures { IfOk result (λ _. statements_of block.new ≡ statements_of block.old ++ simple_statements (code.narrow_unary op (name_view a))) }
+{
+    match op {
+        Un::Clz => block.put(a, &Term::zeros(&Term::read(a))),
+        Un::Ctz => trailing_zeros(block, a),
+        Un::Popcnt => block.ask(a, Fixed::SetBits, &[Term::read(a)]),
+    }
+}
+
+/// Of the operands in a and b, in a.
+pub fn relation(block: &mut Block, op: Rel, a: Name, b: Name) -> Result<(), AllocError>
+    ensures { IfOk result (λ _. statements_of block.new ≡ statements_of block.old ++ simple_statements (words.put (name_view a) (code.narrow_relation op (words.read (name_view a)) (words.read (name_view b))) ∷ [])) }
+{
+    match op {
+        Rel::Eq => put_compared(block, true, Relation::Equal, a, b),
+        Rel::Ne => put_compared(block, true, Relation::Unequal, a, b),
+        Rel::LtS => put_compared(block, true, Relation::Less, a, b),
+        Rel::LtU => put_compared(block, false, Relation::Less, a, b),
+        Rel::GtS => put_compared(block, true, Relation::Greater, a, b),
+        Rel::GtU => put_compared(block, false, Relation::Greater, a, b),
+        Rel::LeS => put_compared(block, true, Relation::AtMost, a, b),
+        Rel::LeU => put_compared(block, false, Relation::AtMost, a, b),
+        Rel::GeS => put_compared(block, true, Relation::AtLeast, a, b),
+        Rel::GeU => put_compared(block, false, Relation::AtLeast, a, b),
+    }
+}
+
+/// Whether the word in a is 0.
+pub fn is_zero(block: &mut Block, a: Name) -> Result<(), AllocError>
+    ensures { IfOk result (λ _. statements_of block.new ≡ statements_of block.old ++ simple_statements (words.put (name_view a) (words.compare true words.equal (words.read (name_view a)) (pairs.literal 0)) ∷ [])) }
+{
+    let word = Term::read(a);
+    let none = Term::number(0);
+    block.put(a, &Term::compare(true, Relation::Equal, &word, &none))
+}
+
+/// The low bits of an operand, of 64 bits where it is wide, extended with their sign.
+pub fn sign_extended(block: &mut Block, wide: bool, bits: u32, a: Pair) -> Result<(), AllocError>
+    ensures { IfOk result (λ _. statements_of block.new ≡ statements_of block.old ++ simple_statements (code.sign_extended wide bits (pair_view a))) }
+{
+    if !wide {
+        put_extended(block, bits, a.low, a.low)
+    } else if bits == 32 {
+        put_sign(block, a.low, a.high)
+    } else {
+        wide_extend(block, bits, a, a)
+    }
+}
+
+/// A literal.
+pub fn put_number(block: &mut Block, to: Name, value: i64) -> Result<(), AllocError>
+    ensures { IfOk result (λ _. statements_of block.new ≡ statements_of block.old ++ simple_statements (words.put (name_view to) (words.number value) ∷ [])) }
+{
+    block.put(to, &Term::number(value))
+}
+
+/// A constant by its word.
+pub fn narrow_constant(block: &mut Block, to: Name, word: u32) -> Result<(), AllocError>
+    ensures { IfOk result (λ _. statements_of block.new ≡ statements_of block.old ++ simple_statements (words.put (name_view to) (words.number (signed_of 32 word)) ∷ [])) }
+{
+    put_number(block, to, signed_number(word))
+}
+
+pub fn wide_constant(block: &mut Block, to: Pair, word: u64) -> Result<(), AllocError>
+    ensures { IfOk result (λ _. statements_of block.new ≡ statements_of block.old ++ simple_statements (words.put (name_view to.low) (words.number (signed_of 32 (low_word word))) ∷ words.put (name_view to.high) (words.number (signed_of 32 (high_word word))) ∷ [])) }
+{
+    put_number(block, to.low, signed_number(low_half(word)))?;
+    put_number(block, to.high, signed_number(high_half(word)))
+}
+
+// The number of a word with its sign.
+fn signed_number(word: u32) -> i64
+    ensures { result ≡ signed_of 32 word }
+{
+    if word < 0x8000_0000 {
+        word as i64
+    } else {
+        word as i64 - 0x1_0000_0000
+    }
+}
+
+fn low_half(word: u64) -> u32
+    ensures { result ≡ low_word word }
+{
+    (word % 0x1_0000_0000) as u32
+}
+
+fn high_half(word: u64) -> u32
+    ensures { result ≡ high_word word }
+{
+    (word / 0x1_0000_0000) as u32
+}
+
+fn ask_both(block: &mut Block, helper: Fixed, a: Name, b: Name) -> Result<(), AllocError>
+    ensures { IfOk result (λ _. statements_of block.new ≡ statements_of block.old ++ simple_statements (words.ask (name_view a) (fixed_view helper) (words.read (name_view a) ∷ words.read (name_view b) ∷ []) ∷ [])) }
+{
+    block.ask(a, helper, &[Term::read(a), Term::read(b)])
+}
+
+fn put_both(block: &mut Block, op: BitOp, a: Name, b: Name) -> Result<(), AllocError>
+    ensures { IfOk result (λ _. statements_of block.new ≡ statements_of block.old ++ simple_statements (words.put (name_view a) (words.both (bit_view op) (words.read (name_view a)) (words.read (name_view b))) ∷ [])) }
+{
+    block.put(a, &Term::both(op, &Term::read(a), &Term::read(b)))
+}
+
+fn put_compared(
+    block: &mut Block,
+    signed: bool,
+    relation: Relation,
+    a: Name,
+    b: Name,
+) -> Result<(), AllocError>
+    ensures { IfOk result (λ _. statements_of block.new ≡ statements_of block.old ++ simple_statements (words.put (name_view a) (words.compare signed (relation_view relation) (words.read (name_view a)) (words.read (name_view b))) ∷ [])) }
+{
+    block.put(
+        a,
+        &Term::compare(signed, relation, &Term::read(a), &Term::read(b)),
+    )
+}
+
+// By 32 places less those to the left, two shifts to the right, since a shift by 32 places is none.
+fn turn_left(block: &mut Block, a: Name, b: Name) -> Result<(), AllocError>
+    ensures { IfOk result (λ _. statements_of block.new ≡ statements_of block.old ++ simple_statements (words.put (name_view a) (pairs.funnel_left (words.read (name_view a)) (words.read (name_view a)) (words.read (name_view b))) ∷ [])) }
+{
+    let word = Term::read(a);
+    let places = Term::read(b);
+    let moved = Term::both(BitOp::Shl, &word, &places);
+    let one = Term::number(1);
+    let again = Term::read(a);
+    let half = Term::both(BitOp::Shr, &again, &one);
+    let places = Term::read(b);
+    let rest = Term::flip(&places);
+    let back = Term::both(BitOp::Shr, &half, &rest);
+    block.put(a, &Term::plus(&moved, &back))
+}
+
+fn turn_right(block: &mut Block, a: Name, b: Name) -> Result<(), AllocError>
+    ensures { IfOk result (λ _. statements_of block.new ≡ statements_of block.old ++ simple_statements (words.put (name_view a) (pairs.funnel_right (words.read (name_view a)) (words.read (name_view a)) (words.read (name_view b))) ∷ [])) }
+{
+    let word = Term::read(a);
+    let places = Term::read(b);
+    let moved = Term::both(BitOp::Shr, &word, &places);
+    let one = Term::number(1);
+    let again = Term::read(a);
+    let double = Term::both(BitOp::Shl, &again, &one);
+    let places = Term::read(b);
+    let rest = Term::flip(&places);
+    let back = Term::both(BitOp::Shl, &double, &rest);
+    block.put(a, &Term::plus(&moved, &back))
+}
+
+// By the bits below the lowest one that is set.
+fn trailing_zeros(block: &mut Block, a: Name) -> Result<(), AllocError>
+    ensures { IfOk result (λ _. statements_of block.new ≡ statements_of block.old ++ simple_statements (code.narrow_unary uns.Ctz (name_view a))) }
+{
+    let word = Term::read(a);
+    let others = Term::flip(&word);
+    let one = Term::number(1);
+    let before = Term::minus(&word, &one);
+    let below = Term::both(BitOp::And, &others, &before);
+    let leading = Term::zeros(&below);
+    let all = Term::number(32);
+    block.put(a, &Term::minus(&all, &leading))
+}

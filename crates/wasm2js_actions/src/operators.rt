@@ -1,0 +1,114 @@
+//! Instructions by the numbers of their operands, of which the deepest stands above d others.
+ghost use Rattle.std.specs.Prelude.{◌≡◌, ◌+◌, ◌<◌, ◌^◌, ◌/◌, [], ◌∷◌, ◌++◌, true, IfOk};
+ghost use Rattle.sem_words.specs.Words.{signed_of};
+ghost use Rattle.sem_laws.specs.Imports.{low_word, high_word};
+ghost use Rattle.wasm_lang_exec.specs.Store.{page};
+ghost use Rattle.wasm2js_words.specs.Words as words;
+ghost use Rattle.wasm2js_words.specs.Words.{simple_statements};
+ghost use Rattle.wasm2js_code.specs.Pairs as pairs;
+ghost use Rattle.wasm2js_code.specs.Wide as wide;
+ghost use Rattle.wasm2js_code.specs.Actions as code;
+ghost use Rattle.wasm2js_build.specs.Blocks.{statements_of};
+
+use crate::depths::{high, low};
+use crate::numeric::{
+    binary, is_zero, narrow_constant, put_number, relation, sign_extended, unary, wide_constant,
+};
+use sem_words::{Bin, Rel, Un};
+use split_words::{operand_pair, put_sign, wide_binary, wide_compare, wide_unary, wide_zero};
+use std::alloc::AllocError;
+use wasm2js_build::Block;
+
+pub fn binary_at(block: &mut Block, op: Bin, d: u64) -> Result<(), AllocError>
+    requires { d + 1 < 2 ^ 64 }
+    ensures { IfOk result (λ _. statements_of block.new ≡ statements_of block.old ++ simple_statements (code.narrow_binary op (code.low d) (code.low (d + 1)))) }
+{
+    binary(block, op, low(d), low(d + 1))
+}
+
+pub fn unary_at(block: &mut Block, op: Un, d: u64) -> Result<(), AllocError>
+    ensures { IfOk result (λ _. statements_of block.new ≡ statements_of block.old ++ simple_statements (code.narrow_unary op (code.low d))) }
+{
+    unary(block, op, low(d))
+}
+
+pub fn relation_at(block: &mut Block, op: Rel, d: u64) -> Result<(), AllocError>
+    requires { d + 1 < 2 ^ 64 }
+    ensures { IfOk result (λ _. statements_of block.new ≡ statements_of block.old ++ simple_statements (words.put (code.low d) (code.narrow_relation op (words.read (code.low d)) (words.read (code.low (d + 1)))) ∷ [])) }
+{
+    relation(block, op, low(d), low(d + 1))
+}
+
+pub fn zero_at(block: &mut Block, d: u64) -> Result<(), AllocError>
+    ensures { IfOk result (λ _. statements_of block.new ≡ statements_of block.old ++ simple_statements (words.put (code.low d) (words.compare true words.equal (words.read (code.low d)) (pairs.literal 0)) ∷ [])) }
+{
+    is_zero(block, low(d))
+}
+
+pub fn wide_binary_at(block: &mut Block, op: Bin, d: u64) -> Result<(), AllocError>
+    requires { d + 1 < 2 ^ 64 }
+    ensures { IfOk result (λ _. statements_of block.new ≡ statements_of block.old ++ simple_statements (wide.wide_binary op (pairs.operand_pair d) (pairs.operand_pair (d + 1)) (pairs.operand_pair d))) }
+{
+    wide_binary(
+        block,
+        op,
+        operand_pair(d),
+        operand_pair(d + 1),
+        operand_pair(d),
+    )
+}
+
+pub fn wide_unary_at(block: &mut Block, op: Un, d: u64) -> Result<(), AllocError>
+    ensures { IfOk result (λ _. statements_of block.new ≡ statements_of block.old ++ simple_statements (wide.wide_unary op (pairs.operand_pair d) (pairs.operand_pair d))) }
+{
+    wide_unary(block, op, operand_pair(d), operand_pair(d))
+}
+
+pub fn wide_relation_at(block: &mut Block, op: Rel, d: u64) -> Result<(), AllocError>
+    requires { d + 1 < 2 ^ 64 }
+    ensures { IfOk result (λ _. statements_of block.new ≡ statements_of block.old ++ simple_statements (wide.wide_compare op (pairs.operand_pair d) (pairs.operand_pair (d + 1)) (code.low d))) }
+{
+    wide_compare(block, op, operand_pair(d), operand_pair(d + 1), low(d))
+}
+
+pub fn wide_zero_at(block: &mut Block, d: u64) -> Result<(), AllocError>
+    ensures { IfOk result (λ _. statements_of block.new ≡ statements_of block.old ++ simple_statements (words.put (code.low d) (wide.is_wide_zero (pairs.operand_pair d)) ∷ [])) }
+{
+    wide_zero(block, operand_pair(d), low(d))
+}
+
+pub fn extend_signed_at(block: &mut Block, d: u64) -> Result<(), AllocError>
+    ensures { IfOk result (λ _. statements_of block.new ≡ statements_of block.old ++ simple_statements (words.put (pairs.operand_pair d).high (pairs.sign_of (words.read (code.low d))) ∷ [])) }
+{
+    put_sign(block, low(d), high(d))
+}
+
+pub fn extend_at(block: &mut Block, d: u64) -> Result<(), AllocError>
+    ensures { IfOk result (λ _. statements_of block.new ≡ statements_of block.old ++ simple_statements (words.put (pairs.operand_pair d).high (pairs.literal 0) ∷ [])) }
+{
+    put_number(block, high(d), 0)
+}
+
+pub fn sign_extend_at(block: &mut Block, wide: bool, bits: u32, d: u64) -> Result<(), AllocError>
+    ensures { IfOk result (λ _. statements_of block.new ≡ statements_of block.old ++ simple_statements (code.sign_extended wide bits (pairs.operand_pair d))) }
+{
+    sign_extended(block, wide, bits, operand_pair(d))
+}
+
+pub fn constant_at(block: &mut Block, word: u32, d: u64) -> Result<(), AllocError>
+    ensures { IfOk result (λ _. statements_of block.new ≡ statements_of block.old ++ simple_statements (words.put (code.low d) (words.number (signed_of 32 word)) ∷ [])) }
+{
+    narrow_constant(block, low(d), word)
+}
+
+pub fn wide_constant_at(block: &mut Block, word: u64, d: u64) -> Result<(), AllocError>
+    ensures { IfOk result (λ _. statements_of block.new ≡ statements_of block.old ++ simple_statements (words.put (code.low d) (words.number (signed_of 32 (low_word word))) ∷ words.put (pairs.operand_pair d).high (words.number (signed_of 32 (high_word word))) ∷ [])) }
+{
+    wide_constant(block, operand_pair(d), word)
+}
+
+pub fn size_at(block: &mut Block, bytes: u64, d: u64) -> Result<(), AllocError>
+    ensures { IfOk result (λ _. statements_of block.new ≡ statements_of block.old ++ simple_statements (words.put (code.low d) (pairs.literal (bytes / page)) ∷ [])) }
+{
+    put_number(block, low(d), (bytes / 0x1_0000) as i64)
+}
