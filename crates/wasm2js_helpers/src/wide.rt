@@ -1,0 +1,302 @@
+//! Helpers on words of 64 bits: each takes a low word, a high word and perhaps a count, gives the low word of its result, and leaves the
+//! high one in a variable.
+ghost use Rattle.std.specs.Prelude.{◌≡◌, ◌++◌, ◌∷◌, [], List, map, IfOk, pos};
+ghost use Rattle.sem_words.specs.Lists.{list_items};
+ghost use Rattle.asm_tree.specs.Views.{function_view};
+ghost use Rattle.wasm2js_words.specs.Words as words;
+ghost use Rattle.wasm2js_words.specs.Words.{both, conjunction, shift_left, shift_right, shift_right_signed, zeros};
+ghost use Rattle.wasm2js_code.specs.Pairs as pairs;
+ghost use Rattle.wasm2js_code.specs.Pairs.{literal, sign_of, funnel_right, plus, minus};
+ghost use Rattle.wasm2js_code.specs.Actions.{low_ones};
+ghost use Rattle.wasm2js_code.specs.Helpers as helpers;
+ghost use Rattle.wasm2js_code.specs.Helpers.{when, repeat, sets, gives, is_far, shift_left_function, shift_right_function, shift_right_signed_function, rotate_left_function, leading_zeros_function, trailing_zeros_function, set_bits_function};
+ghost use Rattle.wasm2js_build.specs.Views.{name_view, term_view};
+ghost use Rattle.wasm2js_build.specs.Blocks.{statements_of};
+
+use crate::short::{
+    add, argument, first, gives_both, of_one, of_three, of_two, own, put_both, second, spare, third,
+};
+use asm_tree::Function;
+use sem_words::List;
+use std::alloc::{AllocError, Global};
+use wasm2js_build::{BitOp, Block, Fixed, Name, Term};
+
+/// Adds the helpers.
+#[tactic(auto, using(std::proofs::lemmas::List::append_assoc))]
+pub fn wide_helpers(alloc: Global, functions: &mut List<Function>) -> Result<(), AllocError>
+    ensures { IfOk result (λ _. map function_view (list_items functions.new) ≡ map function_view (list_items functions.old) ++ helpers.wide_helpers) }
+{
+    add_shifts(alloc, functions)?;
+    add_turn(alloc, functions)?;
+    add_counts(alloc, functions)
+}
+
+#[tactic(auto, using(std::proofs::lemmas::List::append_assoc))]
+fn add_shifts(alloc: Global, functions: &mut List<Function>) -> Result<(), AllocError>
+    ensures { IfOk result (λ _. map function_view (list_items functions.new) ≡ map function_view (list_items functions.old) ++ shift_left_function ∷ shift_right_signed_function ∷ shift_right_function ∷ []) }
+{
+    add(functions, shift_left(alloc)?)?;
+    add(functions, shift_right_signed(alloc)?)?;
+    add(functions, shift_right(alloc)?)
+}
+
+fn add_turn(alloc: Global, functions: &mut List<Function>) -> Result<(), AllocError>
+    ensures { IfOk result (λ _. map function_view (list_items functions.new) ≡ map function_view (list_items functions.old) ++ rotate_left_function ∷ []) }
+{
+    add(functions, rotate_left(alloc)?)
+}
+
+#[tactic(auto, using(std::proofs::lemmas::List::append_assoc))]
+fn add_counts(alloc: Global, functions: &mut List<Function>) -> Result<(), AllocError>
+    ensures { IfOk result (λ _. map function_view (list_items functions.new) ≡ map function_view (list_items functions.old) ++ leading_zeros_function ∷ trailing_zeros_function ∷ set_bits_function ∷ []) }
+{
+    add(functions, leading_zeros(alloc)?)?;
+    add(functions, trailing_zeros(alloc)?)?;
+    add(functions, set_bits(alloc)?)
+}
+
+// The count modulo 64 is 32 or more.
+fn when_far(block: &mut Block, inner: Block) -> Result<(), AllocError>
+    ensures { IfOk result (λ _. statements_of block.new ≡ statements_of block.old ++ when is_far (statements_of inner) ∷ []) }
+{
+    let count = third();
+    let least = Term::number(32);
+    let test = Term::both(BitOp::And, &count, &least);
+    block.when(&test, inner)
+}
+
+// `to=(a<<count)+(b>>>1>>>~count);`
+fn put_funnel_left(block: &mut Block, to: Name, a: Name, b: Name) -> Result<(), AllocError>
+    ensures { IfOk result (λ _. statements_of block.new ≡ statements_of block.old ++ sets (name_view to) (pairs.funnel_left (words.read (name_view a)) (words.read (name_view b)) helpers.third) ∷ []) }
+{
+    let a = Term::read(a);
+    let count = third();
+    let moved = Term::both(BitOp::Shl, &a, &count);
+    let b = Term::read(b);
+    let one = Term::number(1);
+    let half = Term::both(BitOp::Shr, &b, &one);
+    let count = third();
+    let rest = Term::flip(&count);
+    let carried = Term::both(BitOp::Shr, &half, &rest);
+    let value = Term::plus(&moved, &carried);
+    block.put(to, &value)
+}
+
+// `return (a<<count)+(b>>>1>>>~count)|0;`
+fn gives_funnel_left(block: &mut Block, a: Name, b: Name) -> Result<(), AllocError>
+    ensures { IfOk result (λ _. statements_of block.new ≡ statements_of block.old ++ gives (pairs.funnel_left (words.read (name_view a)) (words.read (name_view b)) helpers.third) ∷ []) }
+{
+    let a = Term::read(a);
+    let count = third();
+    let moved = Term::both(BitOp::Shl, &a, &count);
+    let b = Term::read(b);
+    let one = Term::number(1);
+    let half = Term::both(BitOp::Shr, &b, &one);
+    let count = third();
+    let rest = Term::flip(&count);
+    let carried = Term::both(BitOp::Shr, &half, &rest);
+    let value = Term::plus(&moved, &carried);
+    block.gives(&value)
+}
+
+// `return (low>>>count)+(high<<1<<~count)|0;`
+fn gives_funnel_right(block: &mut Block) -> Result<(), AllocError>
+    ensures { IfOk result (λ _. statements_of block.new ≡ statements_of block.old ++ gives (funnel_right helpers.first helpers.second helpers.third) ∷ []) }
+{
+    let low = first();
+    let count = third();
+    let moved = Term::both(BitOp::Shr, &low, &count);
+    let high = second();
+    let one = Term::number(1);
+    let double = Term::both(BitOp::Shl, &high, &one);
+    let count = third();
+    let rest = Term::flip(&count);
+    let carried = Term::both(BitOp::Shl, &double, &rest);
+    let value = Term::plus(&moved, &carried);
+    block.gives(&value)
+}
+
+// ---- shifts
+
+fn shift_left_far(alloc: Global) -> Result<Block, AllocError>
+    ensures { IfOk result (λ b. statements_of b ≡ sets helpers.spare (both shift_left helpers.first helpers.third) ∷ gives (literal 0) ∷ []) }
+{
+    let mut block = Block::new(alloc);
+    put_both(&mut block, spare(), BitOp::Shl, &first(), &third())?;
+    block.gives(&Term::number(0))?;
+    Ok(block)
+}
+
+fn shift_left(alloc: Global) -> Result<Function, AllocError>
+    ensures { IfOk result (λ f. function_view f ≡ shift_left_function) }
+{
+    let mut block = Block::new(alloc);
+    when_far(&mut block, shift_left_far(alloc)?)?;
+    put_funnel_left(&mut block, spare(), argument(1), argument(0))?;
+    gives_both(&mut block, BitOp::Shl, &first(), &third())?;
+    of_three(alloc, Fixed::ShiftLeft, &[], block)
+}
+
+fn shift_right_signed_far(alloc: Global) -> Result<Block, AllocError>
+    ensures { IfOk result (λ b. statements_of b ≡ sets helpers.spare (sign_of helpers.second) ∷ gives (both shift_right_signed helpers.second helpers.third) ∷ []) }
+{
+    let mut block = Block::new(alloc);
+    put_both(
+        &mut block,
+        spare(),
+        BitOp::Sar,
+        &second(),
+        &Term::number(31),
+    )?;
+    gives_both(&mut block, BitOp::Sar, &second(), &third())?;
+    Ok(block)
+}
+
+fn shift_right_signed(alloc: Global) -> Result<Function, AllocError>
+    ensures { IfOk result (λ f. function_view f ≡ shift_right_signed_function) }
+{
+    let mut block = Block::new(alloc);
+    when_far(&mut block, shift_right_signed_far(alloc)?)?;
+    put_both(&mut block, spare(), BitOp::Sar, &second(), &third())?;
+    gives_funnel_right(&mut block)?;
+    of_three(alloc, Fixed::ShiftRightSigned, &[], block)
+}
+
+fn shift_right_far(alloc: Global) -> Result<Block, AllocError>
+    ensures { IfOk result (λ b. statements_of b ≡ sets helpers.spare (literal 0) ∷ gives (both shift_right helpers.second helpers.third) ∷ []) }
+{
+    let mut block = Block::new(alloc);
+    block.put(spare(), &Term::number(0))?;
+    gives_both(&mut block, BitOp::Shr, &second(), &third())?;
+    Ok(block)
+}
+
+fn shift_right(alloc: Global) -> Result<Function, AllocError>
+    ensures { IfOk result (λ f. function_view f ≡ shift_right_function) }
+{
+    let mut block = Block::new(alloc);
+    when_far(&mut block, shift_right_far(alloc)?)?;
+    put_both(&mut block, spare(), BitOp::Shr, &second(), &third())?;
+    gives_funnel_right(&mut block)?;
+    of_three(alloc, Fixed::ShiftRight, &[], block)
+}
+
+// The words are exchanged where the count is far.
+fn exchange(alloc: Global) -> Result<Block, AllocError>
+    ensures { IfOk result (λ b. statements_of b ≡ sets (helpers.own 0) helpers.first ∷ sets (helpers.argument 0) helpers.second ∷ sets (helpers.argument 1) (words.read (helpers.own 0)) ∷ []) }
+{
+    let mut block = Block::new(alloc);
+    block.put(own(0), &first())?;
+    block.put(argument(0), &second())?;
+    block.put(argument(1), &Term::read(own(0)))?;
+    Ok(block)
+}
+
+fn rotate_left(alloc: Global) -> Result<Function, AllocError>
+    ensures { IfOk result (λ f. function_view f ≡ rotate_left_function) }
+{
+    let mut block = Block::new(alloc);
+    when_far(&mut block, exchange(alloc)?)?;
+    put_funnel_left(&mut block, spare(), argument(1), argument(0))?;
+    gives_funnel_left(&mut block, argument(0), argument(1))?;
+    of_three(alloc, Fixed::RotateLeft, &[own(0)], block)
+}
+
+// ---- counts of bits
+
+fn gives_high_zeros(alloc: Global) -> Result<Block, AllocError>
+    ensures { IfOk result (λ b. statements_of b ≡ gives (zeros helpers.second) ∷ []) }
+{
+    let high = second();
+    let count = Term::zeros(&high);
+    let mut block = Block::new(alloc);
+    block.gives(&count)?;
+    Ok(block)
+}
+
+fn gives_low_zeros(block: &mut Block) -> Result<(), AllocError>
+    ensures { IfOk result (λ _. statements_of block.new ≡ statements_of block.old ++ gives (plus (literal 32) (zeros helpers.first)) ∷ []) }
+{
+    let low = first();
+    let count = Term::zeros(&low);
+    let above = Term::number(32);
+    let value = Term::plus(&above, &count);
+    block.gives(&value)
+}
+
+fn leading_zeros(alloc: Global) -> Result<Function, AllocError>
+    ensures { IfOk result (λ f. function_view f ≡ leading_zeros_function) }
+{
+    let mut block = Block::new(alloc);
+    block.when(&second(), gives_high_zeros(alloc)?)?;
+    gives_low_zeros(&mut block)?;
+    of_two(alloc, Fixed::LeadingZeros, block)
+}
+
+// How many bits stand below the lowest one of a word, and this many less 32 more.
+fn gives_trailing(block: &mut Block, most: i64, word: Name) -> Result<(), AllocError>
+    ensures { IfOk result (λ _. statements_of block.new ≡ statements_of block.old ++ gives (minus (words.number most) (zeros (low_ones (words.read (name_view word))))) ∷ []) }
+{
+    let word = Term::read(word);
+    let one = Term::number(1);
+    let others = Term::flip(&word);
+    let below = Term::minus(&word, &one);
+    let ones = Term::both(BitOp::And, &others, &below);
+    let count = Term::zeros(&ones);
+    let most = Term::number(most);
+    let value = Term::minus(&most, &count);
+    block.gives(&value)
+}
+
+fn low_trailing(alloc: Global) -> Result<Block, AllocError>
+    ensures { IfOk result (λ b. statements_of b ≡ gives (minus (literal 32) (zeros (low_ones helpers.first))) ∷ []) }
+{
+    let mut block = Block::new(alloc);
+    gives_trailing(&mut block, 32, argument(0))?;
+    Ok(block)
+}
+
+fn trailing_zeros(alloc: Global) -> Result<Function, AllocError>
+    ensures { IfOk result (λ f. function_view f ≡ trailing_zeros_function) }
+{
+    let mut block = Block::new(alloc);
+    block.when(&first(), low_trailing(alloc)?)?;
+    gives_trailing(&mut block, 64, argument(1))?;
+    of_two(alloc, Fixed::TrailingZeros, block)
+}
+
+// The lowest bit counts.
+fn count_bit(block: &mut Block) -> Result<(), AllocError>
+    ensures { IfOk result (λ _. statements_of block.new ≡ statements_of block.old ++ sets (helpers.own 0) (plus (words.read (helpers.own 0)) (both conjunction helpers.first (literal 1))) ∷ []) }
+{
+    let word = first();
+    let one = Term::number(1);
+    let bit = Term::both(BitOp::And, &word, &one);
+    let count = Term::read(own(0));
+    let value = Term::plus(&count, &bit);
+    block.put(own(0), &value)
+}
+
+fn each_bit(alloc: Global) -> Result<Block, AllocError>
+    ensures { IfOk result (λ b. statements_of b ≡ sets (helpers.own 0) (plus (words.read (helpers.own 0)) (both conjunction helpers.first (literal 1))) ∷ sets (helpers.argument 0) (both shift_right helpers.first (literal 1)) ∷ []) }
+{
+    let mut block = Block::new(alloc);
+    count_bit(&mut block)?;
+    put_both(
+        &mut block,
+        argument(0),
+        BitOp::Shr,
+        &first(),
+        &Term::number(1),
+    )?;
+    Ok(block)
+}
+
+fn set_bits(alloc: Global) -> Result<Function, AllocError>
+    ensures { IfOk result (λ f. function_view f ≡ set_bits_function) }
+{
+    let mut block = Block::new(alloc);
+    block.repeat(&first(), each_bit(alloc)?)?;
+    block.gives(&Term::read(own(0)))?;
+    of_one(alloc, Fixed::SetBits, &[own(0)], block)
+}
