@@ -1,0 +1,16 @@
+-- The code of an instruction on words of 64 bits does on their low and high words what the instruction does on operands.
+use Rattle.std.specs.Prelude.{◌≡◌, ℕ, List, ◌++◌, Ok}
+use Rattle.wasm_lang.specs.declared.types.ValType.{ValType}
+use Rattle.wasm_lang.specs.Instructions.{Plain}
+use Rattle.wasm_lang_valid.specs.Typing.{Shape, Acts, plain_shape}
+use Rattle.wasm2js_code.specs.Bodies.{Aim}
+use Rattle.wasm2js_laws_words.specs.Sound.{AreSoundActions}
+use Rattle.wasm2js_laws_places.specs.Straight.{Helping}
+use Rattle.wasm2js_laws_control.specs.Control.{Function, under_aims}
+use Rattle.wasm2js_laws_instructions.specs.Plain.{IsPlain, code_of}
+
+-- wherever its code may stand: the variables of the operands that it uses are declared, and the helpers that it asks
+abbrev pub IsWide : Plain → Type 0
+IsWide p =
+    (f : Function) (helping : Helping) (ls : List Aim) (b : ℕ) (form : Shape) (takes gives below : List ValType) → plain_shape (under_aims f.context ls) p ≡ Ok form → Acts form takes gives
+    → AreSoundActions f.scope (code_of f helping p b (takes ++ below)) → IsPlain f helping p b (takes ++ below) (gives ++ below)
