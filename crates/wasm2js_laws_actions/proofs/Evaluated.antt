@@ -115,7 +115,7 @@ module _ (calls : Calls) (c : Scope) where
       index_then k e x p (Reads (element_word (load (kind_of v) (index_at k x) p.heap)) p) (λ i. read_element (named c n) i) is tt h
       (subst (λ m. Reads (element_word (load (kind_of v) (index_at k x) p.heap)) p (read_element m (Whole (index_at k x)) p)) (sym view) (refl, element_is _))
 
-  byte_read : (signed : Bool) (e : Expr) (x : ℕ) (p : Place) → named c (name_of (byte_view signed)) ≡ a_view (byte_element signed) → Reads x p (ev e p)
+  pub byte_read : (signed : Bool) (e : Expr) (x : ℕ) (p : Place) → named c (name_of (byte_view signed)) ≡ a_view (byte_element signed) → Reads x p (ev e p)
       → Reads (element_word (load (byte_kind signed) (index_at 0 x) p.heap)) p (ev (index (name_of (byte_view signed)) (indexed 0 e)) p)
   byte_read true e x p view h = element_read (name_of (byte_view true)) Int8 0 e x p refl view h
   byte_read false e x p view h = element_read (name_of (byte_view false)) Uint8 0 e x p refl view h

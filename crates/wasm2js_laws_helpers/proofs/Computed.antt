@@ -9,20 +9,21 @@ use Rattle.sem_words.specs.Words.{leading_zeros_of}
 use Rattle.asm_types.proofs.Sound.{to_uint32_lt}
 use Rattle.asm_lang.specs.Modules.{Expr, Stmt, unary, no_exprs, exprs}
 use Rattle.asm_lang_valid.specs.declared.meaning.Builtin.TheVariants.{Clz32}
-use Rattle.asm_lang_valid.specs.Scope.{a_builtin}
+use Rattle.asm_lang_valid.specs.Scope.{a_builtin, a_view}
 use Rattle.asm_lang_valid.specs.Typing.{Scope, named}
 use Rattle.asm_lang_exec.specs.Runs as runs
 use Rattle.asm_lang_exec.specs.Runs.{Binding, Place, Run, wrong, Part, after, and_then, defined, value_in, with_value, written}
 use Rattle.asm_lang_exec.specs.Values.{Calls, call_named}
 use Rattle.asm_lang_exec.specs.Meaning.{eval, eval_all, eval_links, link_operator, returned, unless_left, exec_all}
 use Rattle.wasm2js_words.specs.Names.{clz32, spelled}
-use Rattle.wasm2js_words.specs.Words.{called, Term, read, number, both, flip, sum, product, zeros, compare, choose, byte, whole, Summands, no_more, further, as_int, bit_operator, name_of, expr, summands, int_of, stmts_in, signed_number}
+use Rattle.wasm2js_words.specs.Words.{called, Term, read, number, both, flip, sum, product, zeros, compare, choose, byte, whole, Summands, no_more, further, as_int, bit_operator, name_of, expr, summands, int_of, stmts_in, signed_number, byte_view}
 use Rattle.wasm2js_code.specs.Helpers.{gives}
+use Rattle.wasm2js_laws_words.specs.Sound.{byte_element}
 use Rattle.wasm2js_laws_places.specs.Straight.{Words, value, summed, bits_of, added}
 use Rattle.wasm2js_laws_actions.specs.Reads.{Reads}
 use Rattle.wasm2js_laws_actions.proofs.Numbers.{bits_read, links_read, zeros_read, flipped}
 use Rattle.wasm2js_laws_actions.proofs.Reading.{read_then, all_then, one_more}
-use Rattle.wasm2js_laws_actions.proofs.Evaluated.{two, signed_read}
+use Rattle.wasm2js_laws_actions.proofs.Evaluated.{two, signed_read, byte_read}
 use Rattle.wasm2js_laws_helpers.proofs.Called.{Returns}
 
 zeros_called : (x : ℕ) (calls : Calls) (vs : List JsValue) (p : Place) → map to_uint32_of vs ≡ x ∷ [] → Reads (leading_zeros_of 32 x) p (call_named calls (a_builtin Clz32) vs p)
@@ -49,7 +50,7 @@ module _ (calls : Calls) (c : Scope) (words : Words) where
       Known (zeros t) = (named c (name_of clz32) ≡ a_builtin Clz32) × Known t
       Known (compare signed r x y) = ⊥
       Known (choose t x y) = ⊥
-      Known (byte signed at) = ⊥
+      Known (byte signed at) = (named c (name_of (byte_view signed)) ≡ a_view (byte_element signed)) × Known at
       Known (whole at) = ⊥
 
       pub AllKnown : Summands → Type 0
@@ -94,7 +95,7 @@ module _ (calls : Calls) (c : Scope) (words : Words) where
       expr_read (zeros t) k = leading_read (int_of t) _ k.0 (as_int_read t (expr t) _ (expr_read t k.1))
       expr_read (compare signed r x y) k = absurd k
       expr_read (choose t x y) k = absurd k
-      expr_read (byte signed t) k = absurd k
+      expr_read (byte signed t) k = byte_read calls c signed (expr t) _ p k.0 (expr_read t k.1)
       expr_read (whole t) k = absurd k
 
       summands_read : (ts : Summands) (x : ℕ) (v : JsValue) → AllKnown ts → to_uint32_of v ≡ x → Reads (summed ts x words p.heap) p (eval_links false calls c (summands ts) v p)
