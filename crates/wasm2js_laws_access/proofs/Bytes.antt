@@ -52,8 +52,8 @@ four heap a b c d e f g all small h =
     let hc : c + 1 ≤ length heap = omega (arith, h, f) in
     let hd : d + 1 ≤ length heap = omega (arith, h, g) in
     let parts =
-        word_sum (number_of 1 a heap) (number_of 1 b heap) (number_of 1 c heap) (number_of 1 d heap)
-        (byte_below a heap all ha) (byte_below b heap all hb) (byte_below c heap all hc) (byte_below d heap all hd) in
+    word_sum (number_of 1 a heap) (number_of 1 b heap) (number_of 1 c heap) (number_of 1 d heap)
+    (byte_below a heap all ha) (byte_below b heap all hb) (byte_below c heap all hc) (byte_below d heap all hd) in
     let three = onward 3 a b heap e (omega (arith, h)) in
     let two = onward 2 b c heap (omega (arith, e, f)) (omega (arith, h, e)) in
     let one = onward 1 c d heap (omega (arith, f, g)) (omega (arith, h, f)) in
