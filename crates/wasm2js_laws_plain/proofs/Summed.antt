@@ -1,0 +1,50 @@
+-- Sums, differences and products.
+use Rattle.std.proofs.Common.{◌≡◌, ℕ, ◌+◌, List, [], ◌∷◌, ◌++◌, length, Result, Ok, refl, sym, subst}
+use Rattle.sem_words.specs.declared.word.Bin.{Bin}
+use Rattle.sem_words.specs.declared.word.Bin.TheVariants.{Add, Sub, Mul}
+use Rattle.sem_words.specs.Words.{bin_of}
+use Rattle.wasm_lang.specs.declared.types.ValType.{ValType}
+use Rattle.wasm_lang.specs.declared.types.ValType.TheVariants.{I32}
+use Rattle.wasm_lang.specs.Instructions.{bin32}
+use Rattle.wasm_lang_valid.specs.declared.rule.Rule.{Rule}
+use Rattle.wasm_lang_valid.specs.Typing.{Shape, Fixed, Acts, fixed}
+use Rattle.wasm2js_words.specs.Words.{Term, read, put, simply, product}
+use Rattle.wasm2js_code.specs.Pairs.{plus, minus}
+use Rattle.wasm2js_code.specs.Actions.{low}
+use Rattle.wasm2js_laws_words.specs.Sound.{AreSoundActions}
+use Rattle.wasm2js_laws_places.specs.Straight.{Words, value, Helping}
+use Rattle.wasm2js_laws_control.specs.Control.{Function}
+use Rattle.wasm2js_laws_instructions.specs.Plain.{IsPlain, AreWords, code_of}
+use Rattle.wasm2js_laws_plain.specs.Laws.{Always}
+use Rattle.wasm2js_laws_plain.proofs.Puts.{put_is, two_alike}
+
+same_takes : {ts us takes gives : List ValType} → Acts (Fixed ts us) takes gives → (takes ≡ ts) × (gives ≡ us)
+same_takes fixed = (refl, refl)
+
+-- what a fixed shape takes and gives
+pub of_fixed : (P : List ValType → List ValType → Type 0) (ts us takes gives : List ValType) (form : Shape)
+    → ◌≡◌ {A = Result Shape Rule} (Ok (Fixed ts us)) (Ok form) → Acts form takes gives → P ts us → P takes gives
+of_fixed P ts us takes gives form is acts h =
+    let e : Fixed ts us ≡ form = cc is in
+    let same = same_takes (subst (λ f. Acts f takes gives) (sym e) acts) in
+    subst (λ gs. P takes gs) (sym same.1) (subst (λ ws. P ws us) (sym same.0) h)
+
+-- of two words, where the code puts a term
+pub two_words : (op : Bin) (t : ℕ → Term)
+    → ((f : Function) (helping : Helping) (b : ℕ) (below : List ValType) → code_of f helping (bin32 op) b (I32 ∷ I32 ∷ below) ≡ simply (put (low (b + length below)) (t (b + length below))) ∷ [])
+    → ((d : ℕ) (words : Words) (heap : List ℕ) → AreWords words → bin_of 32 op (words (low d)) (words (low (d + 1))) ≡ Ok (value (t d) words heap))
+    → Always (bin32 op)
+two_words op t code same f helping ls b form takes gives below is acts =
+    of_fixed (λ takes gives. AreSoundActions f.scope (code_of f helping (bin32 op) b (takes ++ below)) → IsPlain f helping (bin32 op) b (takes ++ below) (gives ++ below))
+    (I32 ∷ I32 ∷ []) (I32 ∷ []) takes gives form is acts
+    (λ sound. put_is f helping (bin32 op) b (I32 ∷ I32 ∷ below) below (t (b + length below)) refl (code f helping b below) sound
+    (λ words heap replies events are. two_alike f helping b below words heap replies events (bin_of 32 op) (value (t (b + length below)) words heap) (same (b + length below) words heap are)))
+
+pub sum_is : Always (bin32 Add)
+sum_is = two_words Add (λ d. plus (read (low d)) (read (low (d + 1)))) (λ f helping b below. refl) (λ d words heap are. refl)
+
+pub difference_is : Always (bin32 Sub)
+difference_is = two_words Sub (λ d. minus (read (low d)) (read (low (d + 1)))) (λ f helping b below. refl) (λ d words heap are. refl)
+
+pub product_is : Always (bin32 Mul)
+product_is = two_words Mul (λ d. product (read (low d)) (read (low (d + 1)))) (λ f helping b below. refl) (λ d words heap are. refl)
