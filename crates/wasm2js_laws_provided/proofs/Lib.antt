@@ -5,3 +5,5 @@ pub mod Found
 pub mod Within
 pub mod Globals
 pub mod Functions
+pub mod Sizes
+pub mod Tables
