@@ -1,0 +1,9 @@
+use Rattle.wasm2js_laws_provided.proofs.Globals.{globals_are_provided}
+use Rattle.wasm2js_laws_provided.proofs.Functions.{functions_are_provided}
+use Rattle.wasm2js_laws_provided.proofs.meanings.Goals as goal
+
+pub returns-clause-globals : goal.returns-clause-globals
+returns-clause-globals c = globals_are_provided
+
+pub returns-clause-functions : goal.returns-clause-functions
+returns-clause-functions c = functions_are_provided

@@ -1,0 +1,50 @@
+-- What the functions of a translated module are given to use: all that the context of the source's code names.
+use Rattle.std.specs.Prelude.{◌≡◌, ℕ, Bool, true, List, length, Some, slice_get}
+use Rattle.std.specs.List.{AllByRecursion, list_all}
+use Rattle.wasm_lang.specs.declared.types.GlobalType.{GlobalType}
+use Rattle.wasm_lang.specs.Modules.{FunctionType, WasmModule}
+use Rattle.wasm_lang.specs.Shape.{IsShaped}
+use Rattle.wasm_lang_valid.specs.Measures.{called_types, is_among}
+use Rattle.wasm_lang_valid.specs.ModuleRules.{type_of_function, global_types}
+use Rattle.wasm_lang_valid.specs.Profile.{IsInProfile}
+use Rattle.asm_lang.specs.Modules.{Stmt, Table}
+use Rattle.asm_lang_valid.specs.Scope.{Signature, module_meaning, function_signature}
+use Rattle.asm_lang_valid.specs.Typed.{scope_of}
+use Rattle.wasm2js_words.specs.Names.{Name, numbered, function, table}
+use Rattle.wasm2js_code.specs.Bodies.{form_number}
+use Rattle.wasm2js_code.specs.Helpers.{function_of}
+use Rattle.wasm2js_code.specs.Modules.{translated}
+use Rattle.wasm2js_code.specs.Pairs.{global_pair, names_of}
+use Rattle.wasm2js_code.specs.Tables.{cell_count}
+use Rattle.wasm2js_laws_scopes.specs.Provided.{AreInts, IsFunction, IsTable, signature_for}
+use Rattle.wasm2js_laws_scopes.specs.Laws.{is_own}
+
+-- ---- in any function that declares names of its own alone
+
+-- the words of globals
+abbrev pub GlobalsAreProvided : Type 0
+GlobalsAreProvided =
+    (w : WasmModule) → IsInProfile w → (name : Name) (params locals : List Name) (ss : List Stmt) → list_all is_own params ≡ true → list_all is_own locals ≡ true
+    → (x : ℕ) (g : GlobalType) → slice_get (global_types w) x ≡ Some g → AreInts (scope_of (translated w) (function_of name params locals ss)) (names_of g.kind (global_pair x))
+
+-- the functions, imported ones first
+abbrev pub FunctionsAreProvided : Type 0
+FunctionsAreProvided =
+    (w : WasmModule) → IsInProfile w → IsShaped w → (name : Name) (params locals : List Name) (ss : List Stmt) → list_all is_own params ≡ true → list_all is_own locals ≡ true
+    → (f : ℕ) (t : FunctionType) → type_of_function w f ≡ Some t → IsFunction (scope_of (translated w) (function_of name params locals ss)) (numbered function f) (signature_for t)
+
+-- a call of an entry names this type
+abbrev pub is_called : WasmModule → FunctionType → Bool
+is_called w t = is_among t (called_types w.types w.bodies)
+
+-- the table of each type that such a call names
+abbrev pub TablesAreProvided : Type 0
+TablesAreProvided =
+    (w : WasmModule) → IsInProfile w → IsShaped w → (name : Name) (params locals : List Name) (ss : List Stmt) → list_all is_own params ≡ true → list_all is_own locals ≡ true
+    → (t : FunctionType) → is_called w t ≡ true → IsTable (scope_of (translated w) (function_of name params locals ss)) (numbered table (form_number w.types t)) (cell_count w) (signature_for t)
+
+-- all tables have so many members, and those of one table are functions of one signature
+abbrev pub MembersAreAlike : Type 0
+MembersAreAlike =
+    (w : WasmModule) → IsInProfile w → IsShaped w → (i : ℕ) (t : Table) → slice_get (translated w).tables i ≡ Some t
+    → (length t.members ≡ cell_count w) × ((form : Signature) × AllByRecursion (λ n. function_signature (module_meaning (translated w) n) ≡ Some form) t.members)

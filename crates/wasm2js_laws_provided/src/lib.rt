@@ -1,0 +1,16 @@
+//! From WebAssembly to asm.js: what the functions of a translated module are given to use.
+#![tactic(auto)]
+
+ghost use Rattle.wasm2js_laws_provided.specs.Laws.{GlobalsAreProvided, FunctionsAreProvided, TablesAreProvided, MembersAreAlike};
+
+/// What the names of globals and functions mean.
+pub fn meanings()
+    ensures globals { GlobalsAreProvided }
+    ensures functions { FunctionsAreProvided }
+{}
+
+/// What the names of tables mean, and what stands in them.
+pub fn called_entries()
+    ensures named { TablesAreProvided }
+    ensures members { MembersAreAlike }
+{}
