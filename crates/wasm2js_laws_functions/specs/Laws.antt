@@ -1,0 +1,25 @@
+-- The functions of a translated module.
+use Rattle.std.specs.Prelude.{◌≡◌, ℕ, ◌<◌, List, Some, slice_get}
+use Rattle.std.specs.List.{AllByRecursion}
+use Rattle.wasm_lang.specs.declared.types.ValType.{ValType}
+use Rattle.wasm_lang.specs.Modules.{FunctionType, WasmModule}
+use Rattle.wasm_lang_valid.specs.Profile.{memory_bytes}
+use Rattle.wasm_lang_exec.specs.Code.{Trees}
+use Rattle.wasm_lang_exec.specs.Reductions.{an_import, a_function, callees}
+use Rattle.asm_lang.specs.Modules.{Function}
+use Rattle.asm_lang_valid.specs.Typed.{scope_of}
+use Rattle.wasm2js_code.specs.Modules.{context_of, own_function, translated}
+use Rattle.wasm2js_code.specs.Tables.{cell_count}
+use Rattle.wasm2js_laws_scopes.specs.Provided.{Provides}
+use Rattle.wasm2js_laws_functions.specs.Functions.{of_trap, IsFineFunction, is_called, IsSource}
+
+-- names mean in this function what they are meant for
+abbrev pub IsProvided : WasmModule → Function → FunctionType → List ValType → Type 0
+IsProvided w f t more = Provides (scope_of (translated w) f) (context_of w t more) (is_called w) (memory_bytes w) (cell_count w)
+
+-- function k of the source, with a body
+abbrev pub OwnFunctionsAreFine : Type 0
+OwnFunctionsAreFine =
+    (w : WasmModule) (k : ℕ) (t : FunctionType) (more : List ValType) (code : Trees) → IsSource w → slice_get (callees w) k ≡ Some (Some (a_function t more code))
+    → IsProvided w (own_function w k t more code) t more
+    → IsFineFunction (translated w) of_trap (own_function w k t more code)
