@@ -7,3 +7,4 @@ pub mod Globals
 pub mod Functions
 pub mod Sizes
 pub mod Tables
+pub mod Whole

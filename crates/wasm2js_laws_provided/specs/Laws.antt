@@ -1,22 +1,24 @@
 -- What the functions of a translated module are given to use: all that the context of the source's code names.
 use Rattle.std.specs.Prelude.{◌≡◌, ℕ, Bool, true, List, length, Some, slice_get}
 use Rattle.std.specs.List.{AllByRecursion, list_all}
+use Rattle.wasm_lang.specs.declared.types.ValType.{ValType}
 use Rattle.wasm_lang.specs.declared.types.GlobalType.{GlobalType}
 use Rattle.wasm_lang.specs.Modules.{FunctionType, WasmModule}
 use Rattle.wasm_lang.specs.Shape.{IsShaped}
 use Rattle.wasm_lang_valid.specs.Measures.{called_types, is_among}
 use Rattle.wasm_lang_valid.specs.ModuleRules.{type_of_function, global_types}
-use Rattle.wasm_lang_valid.specs.Profile.{IsInProfile}
+use Rattle.wasm_lang_valid.specs.Profile.{memory_bytes, IsInProfile}
+use Rattle.wasm_lang_exec.specs.Code.{Trees}
 use Rattle.asm_lang.specs.Modules.{Stmt, Table}
 use Rattle.asm_lang_valid.specs.Scope.{Signature, module_meaning, function_signature}
 use Rattle.asm_lang_valid.specs.Typed.{scope_of}
 use Rattle.wasm2js_words.specs.Names.{Name, numbered, function, table}
 use Rattle.wasm2js_code.specs.Bodies.{form_number}
 use Rattle.wasm2js_code.specs.Helpers.{function_of}
-use Rattle.wasm2js_code.specs.Modules.{translated}
+use Rattle.wasm2js_code.specs.Modules.{context_of, own_function, translated}
 use Rattle.wasm2js_code.specs.Pairs.{global_pair, names_of}
 use Rattle.wasm2js_code.specs.Tables.{cell_count}
-use Rattle.wasm2js_laws_scopes.specs.Provided.{AreInts, IsFunction, IsTable, signature_for}
+use Rattle.wasm2js_laws_scopes.specs.Provided.{AreInts, IsFunction, IsTable, Provides, signature_for}
 use Rattle.wasm2js_laws_scopes.specs.Laws.{is_own}
 
 -- ---- in any function that declares names of its own alone
@@ -48,3 +50,10 @@ abbrev pub MembersAreAlike : Type 0
 MembersAreAlike =
     (w : WasmModule) → IsInProfile w → IsShaped w → (i : ℕ) (t : Table) → slice_get (translated w).tables i ≡ Some t
     → (length t.members ≡ cell_count w) × ((form : Signature) × AllByRecursion (λ n. function_signature (module_meaning (translated w) n) ≡ Some form) t.members)
+
+-- ---- in the functions of the source
+
+abbrev pub ModulesProvide : Type 0
+ModulesProvide =
+    (w : WasmModule) → IsInProfile w → IsShaped w → (k : ℕ) (t : FunctionType) (more : List ValType) (code : Trees)
+    → Provides (scope_of (translated w) (own_function w k t more code)) (context_of w t more) (is_called w) (memory_bytes w) (cell_count w)

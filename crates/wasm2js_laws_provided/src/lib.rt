@@ -1,7 +1,7 @@
 //! From WebAssembly to asm.js: what the functions of a translated module are given to use.
 #![tactic(auto)]
 
-ghost use Rattle.wasm2js_laws_provided.specs.Laws.{GlobalsAreProvided, FunctionsAreProvided, TablesAreProvided, MembersAreAlike};
+ghost use Rattle.wasm2js_laws_provided.specs.Laws.{GlobalsAreProvided, FunctionsAreProvided, TablesAreProvided, MembersAreAlike, ModulesProvide};
 
 /// What the names of globals and functions mean.
 pub fn meanings()
@@ -13,4 +13,9 @@ pub fn meanings()
 pub fn called_entries()
     ensures named { TablesAreProvided }
     ensures members { MembersAreAlike }
+{}
+
+/// A function of the source, whatever its code, may use all that its context names.
+pub fn whole_modules()
+    ensures { ModulesProvide }
 {}
