@@ -8,3 +8,4 @@ pub mod Functions
 pub mod Sizes
 pub mod Tables
 pub mod Whole
+pub mod Foreign

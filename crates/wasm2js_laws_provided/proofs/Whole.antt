@@ -5,10 +5,9 @@ use Rattle.wasm_lang.specs.declared.types.ValType.{ValType}
 use Rattle.wasm_lang.specs.Modules.{FunctionType, WasmModule}
 use Rattle.wasm_lang_valid.specs.ModuleRules.{function_types, type_of_function}
 use Rattle.wasm_lang_valid.specs.Typing.{type_of}
-use Rattle.asm_lang.specs.Modules.{Stmt}
-use Rattle.wasm2js_words.specs.Names.{Name, numbered, function}
+use Rattle.wasm2js_words.specs.Names.{numbered, function}
 use Rattle.wasm2js_code.specs.Bodies.{body_stmts}
-use Rattle.wasm2js_code.specs.Modules.{param_names, context_of, own_function}
+use Rattle.wasm2js_code.specs.Modules.{param_names, context_of}
 use Rattle.wasm2js_code.specs.Rooms.{body_room, declared_names}
 use Rattle.wasm2js_code.specs.Tables.{cell_count}
 use Rattle.wasm_lang_valid.specs.Profile.{memory_bytes}

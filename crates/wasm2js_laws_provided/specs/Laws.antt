@@ -9,10 +9,13 @@ use Rattle.wasm_lang_valid.specs.Measures.{called_types, is_among}
 use Rattle.wasm_lang_valid.specs.ModuleRules.{type_of_function, global_types}
 use Rattle.wasm_lang_valid.specs.Profile.{memory_bytes, IsInProfile}
 use Rattle.wasm_lang_exec.specs.Code.{Trees}
+use Rattle.wasm_lang_exec.specs.Reductions.{an_import, callee_at}
 use Rattle.asm_lang.specs.Modules.{Stmt, Table}
-use Rattle.asm_lang_valid.specs.Scope.{Signature, module_meaning, function_signature}
+use Rattle.asm_lang_valid.specs.Scope.{Signature, a_foreign, module_meaning, function_signature}
 use Rattle.asm_lang_valid.specs.Typed.{scope_of}
-use Rattle.wasm2js_words.specs.Names.{Name, numbered, function, table}
+use Rattle.asm_lang_valid.specs.Typing.{named}
+use Rattle.wasm2js_words.specs.Names.{Name, numbered, function, foreign, table, high, spelled}
+use Rattle.wasm2js_words.specs.Words.{name_of}
 use Rattle.wasm2js_code.specs.Bodies.{form_number}
 use Rattle.wasm2js_code.specs.Helpers.{function_of}
 use Rattle.wasm2js_code.specs.Modules.{context_of, own_function, translated}
@@ -34,6 +37,19 @@ abbrev pub FunctionsAreProvided : Type 0
 FunctionsAreProvided =
     (w : WasmModule) → IsInProfile w → IsShaped w → (name : Name) (params locals : List Name) (ss : List Stmt) → list_all is_own params ≡ true → list_all is_own locals ≡ true
     → (f : ℕ) (t : FunctionType) → type_of_function w f ≡ Some t → IsFunction (scope_of (translated w) (function_of name params locals ss)) (numbered function f) (signature_for t)
+
+-- what imported functions are imported as, by the names that the host knows them by
+abbrev pub ForeignAreProvided : Type 0
+ForeignAreProvided =
+    (w : WasmModule) → IsInProfile w → (name : Name) (params locals : List Name) (ss : List Stmt) → list_all is_own params ≡ true → list_all is_own locals ≡ true
+    → (k : ℕ) (key : List ℕ) (t : FunctionType) → callee_at w k ≡ Some (an_import key t)
+    → named (scope_of (translated w) (function_of name params locals ss)) (spelled (numbered foreign k)) ≡ a_foreign key
+
+-- the foreign function that gives the high word of a result
+abbrev pub HighIsForeign : Type 0
+HighIsForeign =
+    (w : WasmModule) (name : Name) (params locals : List Name) (ss : List Stmt) → list_all is_own params ≡ true → list_all is_own locals ≡ true
+    → named (scope_of (translated w) (function_of name params locals ss)) (name_of high) ≡ a_foreign (name_of high)
 
 -- a call of an entry names this type
 abbrev pub is_called : WasmModule → FunctionType → Bool

@@ -1,12 +1,14 @@
 //! From WebAssembly to asm.js: what the functions of a translated module are given to use.
 #![tactic(auto)]
 
-ghost use Rattle.wasm2js_laws_provided.specs.Laws.{GlobalsAreProvided, FunctionsAreProvided, TablesAreProvided, MembersAreAlike, ModulesProvide};
+ghost use Rattle.wasm2js_laws_provided.specs.Laws.{GlobalsAreProvided, FunctionsAreProvided, ForeignAreProvided, HighIsForeign, TablesAreProvided, MembersAreAlike, ModulesProvide};
 
-/// What the names of globals and functions mean.
+/// What the names of globals, functions and imported functions mean.
 pub fn meanings()
     ensures globals { GlobalsAreProvided }
     ensures functions { FunctionsAreProvided }
+    ensures foreign { ForeignAreProvided }
+    ensures high { HighIsForeign }
 {}
 
 /// What the names of tables mean, and what stands in them.
