@@ -1,24 +1,23 @@
 -- The names that a translated module declares, in order: their ranks rise.
-use Rattle.std.proofs.Common.{◌≡◌, ℕ, zero, suc, ◌+◌, ◌*◌, ◌≤◌, length, rules, Bool, true, false, List, [], ◌∷◌, ◌++◌, map, Option, Some, None, refl, sym, ap, ◌∙◌, subst, arith}
+use Rattle.std.proofs.Common.{◌≡◌, ℕ, zero, suc, ◌+◌, ◌*◌, length, rules, Bool, true, false, List, [], ◌∷◌, ◌++◌, map, Option, Some, None, refl, sym, ap, ◌∙◌, subst, arith}
 use Rattle.std.specs.Prelude.{if◌then◌else◌}
 use Rattle.std.specs.List.{flat_map, range_with_len}
 use Rattle.std.proofs.lemmas.List.{append_assoc, map-append}
 use Rattle.wasm_lang.specs.Instructions.{Instruction, plain, const32, const64, global_get}
 use Rattle.wasm_lang.specs.Modules.{FunctionType, GlobalEntry, WasmModule}
-use Rattle.wasm_lang_valid.specs.Measures.{called_types, is_among}
 use Rattle.wasm_lang_valid.specs.ModuleRules.{has_memory}
 use Rattle.wasm_lang_valid.specs.Profile.{memory_bytes}
 use Rattle.wasm_lang_exec.specs.Reductions.{Callee, an_import, a_function, callees}
 use Rattle.wasm_lang_exec.specs.Fits.{GlobalImport, global_imports}
-use Rattle.asm_lang.specs.Modules.{Variable, Function, Table, Module}
+use Rattle.asm_lang.specs.Modules.{Variable, Function, Table}
 use Rattle.asm_lang_valid.specs.NameRows.{global_texts, function_texts}
 use Rattle.wasm2js_words.specs.Names as names
 use Rattle.wasm2js_words.specs.Names.{Name, numbered, fixed, spelled, Rises}
 use Rattle.wasm2js_lang.specs.Tables.{MaskedTable, masked_from, masked, cells_of}
 use Rattle.wasm2js_code.specs.Helpers.{wide_helpers, division_helpers, memory_helpers}
-use Rattle.wasm2js_code.specs.Modules.{function_for, functions_from, init_function, high_function, helpers, functions_of, view_variables, fixed_variables, foreign_variables, given_variable, imported_variables, first_values, own_variables, global_variables, variables_of, translated}
-use Rattle.wasm2js_code.specs.Tables.{is_empty, is_other, is_needed, stub_numbers, stubs_for, stubs, table_for, tables_for}
-use Rattle.wasm2js_laws_provided.proofs.Order.{Places, Later, places_from, Reaches, places_join, group_before, first_group, last_group}
+use Rattle.wasm2js_code.specs.Modules.{function_for, functions_from, init_function, high_function, helpers, view_variables, fixed_variables, foreign_variables, given_variable, imported_variables, first_values, own_variables, global_variables, translated}
+use Rattle.wasm2js_code.specs.Tables.{is_empty, is_other, is_needed, stub_numbers, stubs_for, stubs, table_for}
+use Rattle.wasm2js_laws_provided.proofs.Order.{Places, places_from, Reaches, places_join, group_before, first_group, last_group}
 use Rattle.wasm2js_laws_provided.proofs.Entries.{Entry, entries, variable_entry, function_entry, table_entry}
 
 abbrev pub variable_texts : List Variable → List (List ℕ)

@@ -1,5 +1,5 @@
 -- What a declared name of a translated module means.
-use Rattle.std.proofs.Common.{◌≡◌, ℕ, Bool, true, false, ◌||◌, List, [], ◌∷◌, ◌++◌, map, refl, sym, ap, ◌∙◌, subst}
+use Rattle.std.proofs.Common.{◌≡◌, Bool, true, false, ◌||◌, List, [], ◌∷◌, ◌++◌, map, sym, ap, ◌∙◌}
 use Rattle.std.specs.Prelude.{codes, bytes_eq}
 use Rattle.std.specs.List.{list_all}
 use Rattle.wasm_lang.specs.Modules.{WasmModule}
@@ -14,7 +14,7 @@ use Rattle.wasm2js_code.specs.Modules.{stdlib_name, foreign_name, heap_name, var
 use Rattle.wasm2js_code.specs.Tables.{tables_for}
 use Rattle.wasm2js_laws_scopes.specs.Laws.{is_own}
 use Rattle.wasm2js_laws_scopes.proofs.Declared.{module_names_are_seen}
-use Rattle.wasm2js_laws_provided.proofs.Entries.{Entry, entry, variable_entry, function_entry, table_entry, entries, entry_means, In, in_left, in_right, in_map}
+use Rattle.wasm2js_laws_provided.proofs.Entries.{Entry, variable_entry, function_entry, table_entry, entries, entry_means, In, in_left, in_right, in_map}
 use Rattle.wasm2js_laws_provided.proofs.Declared.{declared_names, entries_are_named, declared_names_rise}
 
 second_false : (a b : Bool) → (a || b) ≡ false → b ≡ false

@@ -1,11 +1,8 @@
 -- The functions of a module, by their numbers, and their signatures.
-use Rattle.std.proofs.Common.{◌≡◌, ℕ, zero, suc, ◌+◌, ◌*◌, ◌≤◌, Bool, true, false, List, [], ◌∷◌, ◌++◌, map, length, Option, Some, None, is_some, inl, inr, refl, sym, ap, ◌∙◌, subst, arith, length-append, append-nil}
-use Rattle.std.specs.Prelude.{slice_get, if◌then◌else◌, ◌==◌, ◌/◌}
-use Rattle.std.specs.List.{list_all, flat_map}
-use Rattle.std.proofs.lemmas.List.{length-map}
+use Rattle.std.proofs.Common.{◌≡◌, ℕ, zero, suc, ◌+◌, Bool, false, List, [], ◌∷◌, ◌++◌, map, length, Option, Some, None, is_some, inl, refl, sym, ap, ◌∙◌, subst, arith}
+use Rattle.std.specs.Prelude.{slice_get}
 use Rattle.wasm_lang.specs.declared.types.ValType.{ValType}
 use Rattle.wasm_lang.specs.declared.types.ValType.TheVariants.{I32, I64}
-use Rattle.wasm_lang.specs.Instructions.{Plain}
 use Rattle.wasm_lang.specs.Modules.{FunctionType, WasmModule}
 use Rattle.wasm_lang.specs.Shape.{IsShaped}
 use Rattle.wasm_lang_valid.specs.ModuleRules.{type_of_function}
@@ -15,21 +12,18 @@ use Rattle.wasm_lang_exec.specs.Code.{unreachable, block, loop, if_block, br, br
 use Rattle.wasm_lang_exec.specs.Reductions as machine
 use Rattle.wasm_lang_exec.specs.Reductions.{Callee, an_import, a_function, callees, callee_at, found}
 use Rattle.wasm_laws_sound.proofs.Functions.{typed_functions}
-use Rattle.asm_lang.specs.Modules as text
-use Rattle.asm_lang.specs.Modules.{Expr, Stmt, Function, Module}
+use Rattle.asm_lang.specs.Modules.{Expr, Stmt, Function}
 use Rattle.asm_lang_valid.specs.Scope as scopes
 use Rattle.asm_lang_valid.specs.Scope.{gives_value, last_gives_value, signature_of, Signature}
 use Rattle.wasm2js_words.specs.Names as names
 use Rattle.wasm2js_words.specs.Names.{Name, numbered, spelled}
 use Rattle.wasm2js_words.specs.Words.{Action, simply, either, Simple, put, ask, tell, guard, stop, write_byte, write_whole, stmts_in, statement, statements, simple_statement}
-use Rattle.wasm2js_code.specs.Pairs.{local_pair, names_of}
-use Rattle.wasm2js_code.specs.Actions.{under, low, actions}
-use Rattle.wasm2js_code.specs.Bodies.{Aim, out, leave_with, branch, jump, label_of, by_index, switches_from, most_cases, answered, call_of, call_stmts, table_call_of, indirect_stmts, after_plain, types_after_call, stmts_of, closing, body_stmts}
-use Rattle.wasm2js_code.specs.Helpers.{int_param, function_of}
-use Rattle.wasm2js_code.specs.Modules.{param_names, context_of, own_function, sent, wrapper_body, wrapper, function_for, functions_from, init_function, high_function, helpers, functions_of, translated}
+use Rattle.wasm2js_code.specs.Actions.{under, actions}
+use Rattle.wasm2js_code.specs.Bodies.{out, leave_with, jump, switches_from, most_cases, answered, call_stmts, indirect_stmts, after_plain, types_after_call, stmts_of, closing, body_stmts}
+use Rattle.wasm2js_code.specs.Helpers.{int_param}
+use Rattle.wasm2js_code.specs.Modules.{param_names, context_of, own_function, wrapper_body, wrapper, function_for, functions_from, init_function, high_function, helpers, functions_of, translated}
 use Rattle.wasm2js_code.specs.Tables.{words_of, cell_count, stubs}
-use Rattle.wasm2js_laws_scopes.specs.Provided.{signature, signature_for, IsFunction}
-use Rattle.wasm2js_laws_scopes.specs.Laws.{is_own}
+use Rattle.wasm2js_laws_scopes.specs.Provided.{signature, signature_for}
 use Rattle.wasm2js_laws_provided.specs.Laws.{FunctionsAreProvided}
 use Rattle.wasm2js_laws_provided.proofs.Entries.{In, in_left, in_right}
 use Rattle.wasm2js_laws_provided.proofs.Found.{function_found, is_seen}

@@ -1,5 +1,5 @@
 -- The variables of a module's globals.
-use Rattle.std.proofs.Common.{◌≡◌, ℕ, zero, suc, ◌+◌, ◌<◌, Bool, true, false, not, ◌&&◌, List, [], ◌∷◌, ◌++◌, map, length, Option, Some, None, ◌⊎◌, inl, inr, refl, sym, ap, ◌∙◌, subst, arith}
+use Rattle.std.proofs.Common.{◌≡◌, ℕ, zero, suc, ◌+◌, ◌<◌, Bool, true, false, not, List, [], ◌∷◌, ◌++◌, map, length, Option, Some, None, ◌⊎◌, inl, inr, refl, sym, ap, ◌∙◌, subst, arith}
 use Rattle.std.specs.Prelude.{slice_get, if◌then◌else◌}
 use Rattle.std.specs.List.{list_all}
 use Rattle.std.proofs.lemmas.Bool.{and_parts}
@@ -9,21 +9,20 @@ use Rattle.wasm_lang.specs.declared.types.ValType.TheVariants.{I32, I64}
 use Rattle.wasm_lang.specs.declared.types.GlobalType.{GlobalType}
 use Rattle.wasm_lang.specs.declared.types.ImportKind.{ImportKind}
 use Rattle.wasm_lang.specs.declared.types.ImportKind.TheVariants as imports
-use Rattle.wasm_lang.specs.Instructions as code
 use Rattle.wasm_lang.specs.Instructions.{Instruction, plain, const32, const64, global_get}
 use Rattle.wasm_lang.specs.Modules.{Imported, GlobalEntry, WasmModule}
 use Rattle.wasm_lang_valid.specs.declared.rule.Rule.{Rule}
 use Rattle.wasm_lang_valid.specs.declared.rule.Rule.TheVariants.{Initializer, NoGlobal}
 use Rattle.wasm_lang_valid.specs.declared.section.Section.TheVariants as sections
-use Rattle.wasm_lang_valid.specs.ModuleRules.{has_memory, meets, at, imported_globals, global_types, global_of, is_global, is_constant, is_end, value_rule, init_rule, item_rule}
+use Rattle.wasm_lang_valid.specs.ModuleRules.{has_memory, meets, at, imported_globals, global_types, global_of, is_global, is_constant, is_end, value_rule, init_rule}
 use Rattle.wasm_lang_valid.specs.Profile.{where_so, is_wide_kind, wide_import, IsInProfile}
 use Rattle.wasm_lang_valid.specs.Typing.{same, same_result}
 use Rattle.wasm_lang_exec.specs.Reductions.{callees}
 use Rattle.wasm_lang_exec.specs.Fits.{GlobalImport, with_import, global_imports}
 use Rattle.asm_lang.specs.Modules.{Stmt, Variable, Module}
-use Rattle.asm_lang_valid.specs.Scope.{an_int, init_meaning, module_meaning}
+use Rattle.asm_lang_valid.specs.Scope.{an_int, init_meaning}
 use Rattle.asm_lang_valid.specs.Typed.{scope_of}
-use Rattle.wasm2js_words.specs.Names.{Name, numbered, global_low, global_high, spelled}
+use Rattle.wasm2js_words.specs.Names.{Name, numbered, global_low, spelled}
 use Rattle.wasm2js_code.specs.Pairs.{global_pair, names_of}
 use Rattle.wasm2js_code.specs.Helpers.{function_of}
 use Rattle.wasm2js_code.specs.Modules.{fixed_variables, view_variables, foreign_variables, given_variable, word_variable, imported_variables, first_values, own_variables, global_variables, variables_of, translated}

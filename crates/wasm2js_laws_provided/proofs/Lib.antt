@@ -7,3 +7,5 @@ pub mod Globals
 pub mod Functions
 pub mod Sizes
 pub mod Tables
+pub mod Whole
+pub mod Foreign

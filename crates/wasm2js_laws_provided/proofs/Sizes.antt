@@ -1,9 +1,9 @@
 -- How many cells a table has.
-use Rattle.std.proofs.Common.{◌≡◌, ℕ, zero, suc, ◌+◌, ◌*◌, ◌<◌, ◌≤◌, Bool, true, false, cond, refl, arith}
+use Rattle.std.proofs.Common.{◌≡◌, ℕ, zero, suc, ◌*◌, ◌<◌, ◌≤◌, Bool, true, false, cond, refl, arith}
 use Rattle.std.specs.Prelude.{◌^◌, nat_le}
 use Rattle.std.proofs.lemmas.Bool.Decides.{nat_tests}
 use Rattle.wasm_lang.specs.Modules.{WasmModule}
-use Rattle.wasm_lang_valid.specs.Profile.{doubled, padded, table_length, most_entries}
+use Rattle.wasm_lang_valid.specs.Profile.{doubled, table_length}
 use Rattle.wasm2js_lang.proofs.Padded.{few_entries}
 use Rattle.wasm2js_code.specs.Tables.{cell_count}
 use Rattle.wasm2js_laws_provided.proofs.Within.{AreWithin}

@@ -1,7 +1,7 @@
 -- The tables of a module: what stands in them, and their signatures.
-use Rattle.std.proofs.Common.{◌≡◌, ◌≢◌, ℕ, zero, suc, ◌+◌, ◌*◌, ◌<◌, ◌≤◌, Bool, true, false, not, ◌&&◌, ◌||◌, List, [], ◌∷◌, ◌++◌, map, replicate, length, Option, Some, None, ◌⊎◌, inl, inr, is_some, refl, sym, ap, ◌∙◌, subst, arith}
-use Rattle.std.specs.Prelude.{◌-◌, slice_get, if◌then◌else◌, ◌==◌, ◌/◌, ◌%◌, pos}
-use Rattle.std.specs.List.{AllByRecursion, list_all, list_any, flat_map, range_with_len}
+use Rattle.std.proofs.Common.{◌≡◌, ◌≢◌, ℕ, zero, suc, ◌+◌, ◌*◌, ◌<◌, ◌≤◌, Bool, true, false, ◌&&◌, ◌||◌, List, [], ◌∷◌, ◌++◌, map, replicate, length, Option, Some, None, ◌⊎◌, inl, inr, is_some, refl, sym, ap, ◌∙◌, subst, arith}
+use Rattle.std.specs.Prelude.{◌-◌, slice_get, if◌then◌else◌, ◌==◌, ◌/◌, ◌%◌}
+use Rattle.std.specs.List.{AllByRecursion, list_any, flat_map, range_with_len}
 use Rattle.std.specs.Cmp.Lexicographic.{pointwise}
 use Rattle.std.proofs.lemmas.Bool.{and_parts, and_from}
 use Rattle.std.proofs.lemmas.Bool.Decides.{nat_tests}
@@ -16,10 +16,9 @@ use Rattle.wasm_lang_valid.specs.ModuleRules.{type_of_function}
 use Rattle.wasm_lang_valid.specs.Profile.{table_length, padded, IsInProfile}
 use Rattle.wasm_lang_valid.specs.Typing.{same, result_of}
 use Rattle.wasm_lang_exec.specs.Reductions.{callees}
-use Rattle.asm_lang.specs.Modules.{Stmt, returns, Function, Table, Module}
+use Rattle.asm_lang.specs.Modules.{returns, Function, Table}
 use Rattle.asm_lang_valid.specs.Scope as scopes
 use Rattle.asm_lang_valid.specs.Scope.{module_meaning, signature_of, function_signature, first_member, last_gives_value, Signature}
-use Rattle.asm_lang_valid.specs.Typing.{named}
 use Rattle.asm_lang_valid.specs.Typed.{scope_of}
 use Rattle.wasm2js_words.specs.Names as names
 use Rattle.wasm2js_words.specs.Names.{Name, Numbered, numbered, spelled}
@@ -30,15 +29,14 @@ use Rattle.wasm2js_lang.proofs.Padded.{cells_are_padded}
 use Rattle.wasm2js_code.specs.Bodies.{form_number}
 use Rattle.wasm2js_code.specs.Helpers.{argument, int_param, function_of}
 use Rattle.wasm2js_code.specs.Modules.{functions_from, init_function, high_function, helpers, functions_of, translated}
-use Rattle.wasm2js_code.specs.Tables.{cell_count, words_of, result_mark, stub_number, stub_of, cell_name, table_for, tables_for, stub_function, is_empty, is_other, is_needed, stub_numbers, stubs_for, stubs}
+use Rattle.wasm2js_code.specs.Tables.{cell_count, words_of, result_mark, stub_number, stub_of, cell_name, table_for, tables_for, stub_function, is_empty, is_other, is_needed, stubs_for, stubs}
 use Rattle.wasm2js_laws_scopes.specs.Provided.{signature, signature_for, IsTable}
-use Rattle.wasm2js_laws_scopes.specs.Laws.{is_own}
-use Rattle.wasm2js_laws_provided.specs.Laws.{is_called, TablesAreProvided, MembersAreAlike}
+use Rattle.wasm2js_laws_provided.specs.Laws.{TablesAreProvided, MembersAreAlike}
 use Rattle.wasm2js_laws_provided.proofs.Entries.{In, in_left, in_right, in_map}
 use Rattle.wasm2js_laws_provided.proofs.Found.{function_found, table_found, is_seen}
-use Rattle.wasm2js_laws_provided.proofs.Within.{AreWithin, rows_are_within, few_params}
+use Rattle.wasm2js_laws_provided.proofs.Within.{rows_are_within, few_params}
 use Rattle.wasm2js_laws_provided.proofs.Sizes.{some_cells}
-use Rattle.wasm2js_laws_provided.proofs.Functions.{words_counted, function_declared}
+use Rattle.wasm2js_laws_provided.proofs.Functions.{function_declared}
 
 -- ---- types of one form are one type
 
