@@ -34,8 +34,9 @@ use Rattle.wasm2js_laws_words.specs.Sound.{HasTrap}
 use Rattle.wasm2js_laws_pace.specs.Following.{Rest}
 use Rattle.wasm2js_laws_places.specs.Straight.{Words}
 use Rattle.wasm2js_laws_places.specs.Places.{word_at, operands, store_of, Stays}
-use Rattle.wasm2js_laws_control.specs.Control.{Function, IsFair, Inside, state_at, sight, code_sight, IsFollowed, statements_to, carried_by, under_aims, AreNested, Exits, IsKept}
+use Rattle.wasm2js_laws_control.specs.Control.{Function, IsFair, Inside, state_at, sight, code_sight, IsFollowed, statements_to, MayStand, carried_by, under_aims, AreNested, Exits, IsKept}
 use Rattle.wasm2js_laws_control.specs.Laws.{IsKeptFirst}
+use Rattle.wasm2js_laws_control.proofs.Standing.{after_condition}
 use Rattle.wasm2js_laws_control.proofs.Stepping.{free_step}
 use Rattle.wasm2js_laws_control.proofs.Kept.{decided_by}
 use Rattle.wasm2js_laws_instructions.proofs.Ending.{trap_same}
@@ -80,7 +81,7 @@ module _ (f : Function) (most : ℕ) (ls : List Aim) (b : ℕ) (after : List Val
 
 module _ (f : Function) (fair : IsFair f) where
   br_kept : (k : ℕ) → IsKeptFirst f (br k)
-  br_kept k most code ls b ts after around before next small typed nested ex rest =
+  br_kept k most code ls b ts after around before next small typed standing nested ex rest =
       let found = aimed ls k (λ label. Leaves (listed label)) typed.form typed.has_form in
       let acts : Acts (Leaves (listed (carried_by found.aim))) typed.takes typed.gives = subst (λ s. Acts s typed.takes typed.gives) found.shaped typed.acts in
       let takes = leaves_take (listed (carried_by found.aim)) typed.takes typed.gives acts in
@@ -98,7 +99,7 @@ module _ (f : Function) (fair : IsFair f) where
           (jump_followed f fair most around next ls b after (comes_to_end (br k ▹ code)) before nested ex p w i stays aim k us there))
 
   return_kept : IsKeptFirst f return
-  return_kept most code ls b ts after around before next small typed nested ex rest =
+  return_kept most code ls b ts after around before next small typed standing nested ex rest =
       let shaped : Leaves (listed f.context.returns) ≡ typed.form = cc typed.has_form in
       let acts : Acts (Leaves (listed f.context.returns)) typed.takes typed.gives = subst (λ s. Acts s typed.takes typed.gives) (sym shaped) typed.acts in
       let takes = leaves_take (listed f.context.returns) typed.takes typed.gives acts in
@@ -115,7 +116,7 @@ module _ (f : Function) (fair : IsFair f) where
           (leave_followed f fair most around next f.context.returns Leave b us p w i ex.leaves)
 
   unreachable_kept : HasTrap f.scope → IsKeptFirst f unreachable
-  unreachable_kept has most code ls b ts after around before next small typed nested ex rest p w i stays =
+  unreachable_kept has most code ls b ts after around before next small typed standing nested ex rest p w i stays =
       subst (λ m. IsFollowed f p r (call_named_to f.calls m (Whole (pos 1) ∷ []) (λ v. nothing normal) p)) (sym has)
       (record {
         cost = 1;
@@ -178,7 +179,7 @@ module _ (f : Function) (fair : IsFair f) where
     condition_kept = decided_by f start (numbered operand_low (b + length us)) p jumps goes_further i.apart by_word
 
   br_if_kept : (k : ℕ) → IsKeptFirst f (br_if k)
-  br_if_kept k most code ls b ts after around before next small typed nested ex rest =
+  br_if_kept k most code ls b ts after around before next small typed standing nested ex rest =
       let found = aimed ls k (λ label. Fixed (I32 ∷ listed label) (listed label)) typed.form typed.has_form in
       let label : List ValType = listed (carried_by found.aim) in
       let acts : Acts (Fixed (I32 ∷ label) label) typed.takes typed.gives = subst (λ s. Acts s typed.takes typed.gives) found.shaped typed.acts in
@@ -186,8 +187,9 @@ module _ (f : Function) (fair : IsFair f) where
       let us : List ValType = label ++ typed.below in
       let is : ts ≡ I32 ∷ us = typed.operands ∙ ap (λ x. x ++ typed.below) parts.0 in
       let further : IsTyped (under_aims f.context ls) code us after = subst (λ x. IsTyped (under_aims f.context ls) code (x ++ typed.below) after) parts.1 typed.goes_on in
+      let on : MayStand f code b us = after_condition f b k code (I32 ∷ us) (subst (λ ts. MayStand f (br_if k ▹ code) b ts) is standing) in
       subst (λ ts. IsKept f most (br_if k ▹ code) ls b ts around before next) (sym is)
-      (λ p w i stays. condition_kept k most code ls b us typed.below after found.aim around before next nested ex found.there refl (rest us further ex) p w i stays)
+      (λ p w i stays. condition_kept k most code ls b us typed.below after found.aim around before next nested ex found.there refl (rest us further on ex) p w i stays)
 
 pub branches_are_kept : BranchesAreKept
 branches_are_kept f fair has unreachable h = unreachable_kept f fair has

@@ -31,8 +31,9 @@ use Rattle.wasm2js_laws_places.specs.Places.{word_at, AreApart, operands, Stays}
 use Rattle.wasm2js_laws_actions.proofs.Numbers.{is_true}
 use Rattle.wasm2js_laws_actions.proofs.Reading.{read_then}
 use Rattle.wasm2js_laws_actions.proofs.Variables.{variable_read}
-use Rattle.wasm2js_laws_control.specs.Control.{Function, IsFair, Inside, state_at, code_sight, IsFollowed, statements_to, under_aims, AreNested, Exits, IsKept}
+use Rattle.wasm2js_laws_control.specs.Control.{Function, IsFair, Inside, state_at, code_sight, IsFollowed, statements_to, MayStand, under_aims, AreNested, Exits, IsKept}
 use Rattle.wasm2js_laws_control.specs.Laws.{OpensNone, IsKeptFirst, CodeIsKept}
+use Rattle.wasm2js_laws_control.proofs.Standing.{block_body, after_block, loop_body, after_loop, first_arm, second_arm, after_arms}
 use Rattle.wasm2js_laws_control.proofs.Stepping.{stays_itself, free_step}
 use Rattle.wasm2js_laws_control.proofs.Labels.{nested_past, nested_again}
 use Rattle.wasm2js_laws_control.proofs.Blocks.{next_inside, block_exits}
@@ -60,43 +61,43 @@ module _ (f : Function) (fair : IsFair f) (first_kept : (t : Tree) → OpensNone
   abbrev Kept : Trees → Type 0
   Kept code =
       (most : ℕ) (ls : List Aim) (b : ℕ) (ts after : List ValType) (around : List Surrounding) (before : Words) (next : Completion → Part (Unit {0})) → most ≤ f.bound
-      → IsTyped (under_aims f.context ls) code ts after → AreNested ls b → Exits f most ls b after (comes_to_end code) around before next → IsKept f most code ls b ts around before next
+      → IsTyped (under_aims f.context ls) code ts after → MayStand f code b ts → AreNested ls b → Exits f most ls b after (comes_to_end code) around before next → IsKept f most code ls b ts around before next
 
   none_kept : Kept ε
-  none_kept most ls b ts after around before next le typed nested ex p w i stays =
+  none_kept most ls b ts after around before next le typed stands nested ex p w i stays =
       subst (λ us. IsFollowed f p (code_sight f around ε b us p w) (next normal p)) (sym typed) (ex.on refl p w i stays)
 
   block_kept : (r : Option ValType) (body code : Trees) → Kept body → Kept code → Kept (block r body ▹ code)
-  block_kept r body code inner rest most ls b ts after around before next le typed nested ex p w i stays =
+  block_kept r body code inner rest most ls b ts after around before next le typed stands nested ex p w i stays =
       let base : ℕ = b + length ts in
-      let kept = rest most ls b (listed r ++ ts) after around before next le typed.1 nested ex in
+      let kept = rest most ls b (listed r ++ ts) after around before next le typed.1 (after_block f b r body code ts stands) nested ex in
       let round : List Surrounding = in_label (operands b ts (word_at p)) (arity_of r) ε code ∷ around in
       let inside = next_inside f fair most ls b base ts r code around before next p refl stays nested kept in
       let run = statements_to f body (past base r ∷ ls) base [] inside p in
       free_step f fair most w p (operands b ts (word_at p)) (in_block f.home around (arity_of r) ε body code) (code_sight f around (block r body ▹ code) b ts p w) (code_sight f round body base [] p w) run i
       (λ n. ap f.watch (block_step f.home around r body code (state_at f (operands b ts (word_at p)) p w n))) (λ n. refl)
-      (inner most (past base r ∷ ls) base [] (listed r) round (word_at p) inside le typed.0 (nested_past ls b base (omega arith) nested r)
+      (inner most (past base r ∷ ls) base [] (listed r) round (word_at p) inside le typed.0 (block_body f b r body code ts stands) (nested_past ls b base (omega arith) nested r)
       (block_exits f fair most ls b base ts r code around before next p refl stays nested kept after (comes_to_end code) ex (comes_to_end body)) p w i (stays_itself base (word_at p)))
 
   loop_kept : (r : Option ValType) (body code : Trees) → Kept body → Kept code → Kept (loop r body ▹ code)
-  loop_kept r body code inner rest most ls b ts after around before next le typed nested ex p w i stays =
+  loop_kept r body code inner rest most ls b ts after around before next le typed stands nested ex p w i stays =
       let base : ℕ = b + length ts in
-      let kept = rest most ls b (listed r ++ ts) after around before next le typed.1 nested ex in
+      let kept = rest most ls b (listed r ++ ts) after around before next le typed.1 (after_loop f b r body code ts stands) nested ex in
       let few = i.units in
       turns_are_kept f fair most ls b ts after r body code around before next (comes_to_end code) nested ex kept
-      (λ k round words further small exits. inner k (again base ∷ ls) base [] (listed r) round words further small typed.0 (nested_again ls b base (omega arith) nested) exits)
+      (λ k round words further small exits. inner k (again base ∷ ls) base [] (listed r) round words further small typed.0 (loop_body f b r body code ts stands) (nested_again ls b base (omega arith) nested) exits)
       f.bound (omega arith) p w i stays (omega (arith, few, le))
 
   module _ (r : Option ValType) (x y code : Trees) (x_kept : Kept x) (y_kept : Kept y) (rest : Kept code) (most : ℕ) (ls : List Aim) (b : ℕ) (us after : List ValType)
       (around : List Surrounding) (before : Words) (next : Completion → Part (Unit {0})) (le : most ≤ f.bound)
       (x_typed : IsTyped (under_aims f.context (past (b + length us) r ∷ ls)) x [] (listed r)) (y_typed : IsTyped (under_aims f.context (past (b + length us) r ∷ ls)) y [] (listed r))
-      (typed : IsTyped (under_aims f.context ls) code (listed r ++ us) after) (nested : AreNested ls b) (ex : Exits f most ls b after (comes_to_end code) around before next)
+      (typed : IsTyped (under_aims f.context ls) code (listed r ++ us) after) (stands : MayStand f (if_block r x y ▹ code) b (I32 ∷ us)) (nested : AreNested ls b) (ex : Exits f most ls b after (comes_to_end code) around before next)
       (p : Place) (w : List EventPlain) (i : Inside f most w p) (stays : Stays b before (word_at p)) where
     abbrev base : ℕ
     base = b + length us
 
     kept : IsKept f most code ls b (listed r ++ us) around before next
-    kept = rest most ls b (listed r ++ us) after around before next le typed nested ex
+    kept = rest most ls b (listed r ++ us) after around before next le typed (after_arms f b r x y code us stands) nested ex
 
     abbrev round : List Surrounding
     round = in_label (operands b us (word_at p)) (arity_of r) ε code ∷ around
@@ -105,20 +106,20 @@ module _ (f : Function) (fair : IsFair f) (first_kept : (t : Tree) → OpensNone
     inside = next_inside f fair most ls b base us r code around before next p refl stays nested kept
 
     -- one of the two arms
-    arm : (z : Trees) → Kept z → IsTyped (under_aims f.context (past base r ∷ ls)) z [] (listed r)
+    arm : (z : Trees) → Kept z → IsTyped (under_aims f.context (past base r ∷ ls)) z [] (listed r) → MayStand f z base []
         → IsFollowed f p (code_sight f round z base [] p w) (statements_to f z (past base r ∷ ls) base [] inside p)
-    arm z z_kept z_typed =
-        z_kept most (past base r ∷ ls) base [] (listed r) round (word_at p) inside le z_typed (nested_past ls b base (omega arith) nested r)
+    arm z z_kept z_typed z_stands =
+        z_kept most (past base r ∷ ls) base [] (listed r) round (word_at p) inside le z_typed z_stands (nested_past ls b base (omega arith) nested r)
         (block_exits f fair most ls b base us r code around before next p refl stays nested kept after (comes_to_end code) ex (comes_to_end z)) p w i (stays_itself base (word_at p))
 
     abbrev arms : ℕ → Part (Unit {0})
     arms n = if not (n == 0) then statements_to f x (past base r ∷ ls) base [] inside else statements_to f y (past base r ∷ ls) base [] inside
 
     chosen : (n : ℕ) → IsFollowed f p (code_sight f round (choose n x y) base [] p w) (arms n p)
-    chosen zero = arm y y_kept y_typed
+    chosen zero = arm y y_kept y_typed (second_arm f b r x y code us stands)
     chosen (suc n) =
         subst (λ c. IsFollowed f p (code_sight f round x base [] p w) ((if not c then statements_to f x (past base r ∷ ls) base [] inside else statements_to f y (past base r ∷ ls) base [] inside) p))
-        (sym (not_zero n)) (arm x x_kept x_typed)
+        (sym (not_zero n)) (arm x x_kept x_typed (first_arm f b r x y code us stands))
 
     abbrev test : ℕ
     test = word_at p (numbered operand_low base)
@@ -138,13 +139,14 @@ module _ (f : Function) (fair : IsFair f) (first_kept : (t : Tree) → OpensNone
         (statements_to f y (past base r ∷ ls) base [] inside) i.apart both_arms
 
   if_kept : (r : Option ValType) (x y code : Trees) → Kept x → Kept y → Kept code → Kept (if_block r x y ▹ code)
-  if_kept r x y code x_kept y_kept rest most ls b ts after around before next le typed nested ex =
+  if_kept r x y code x_kept y_kept rest most ls b ts after around before next le typed stands nested ex =
+      let stands' = subst (λ ts. MayStand f (if_block r x y ▹ code) b ts) typed.1 stands in
       subst (λ ts. IsKept f most (if_block r x y ▹ code) ls b ts around before next) (sym typed.1)
-      (λ p w i stays. arms_kept r x y code x_kept y_kept rest most ls b typed.0 after around before next le typed.2 typed.3 typed.4 nested ex p w i stays)
+      (λ p w i stays. arms_kept r x y code x_kept y_kept rest most ls b typed.0 after around before next le typed.2 typed.3 typed.4 stands' nested ex p w i stays)
 
   first_of_all : (t : Tree) (code : Trees) → OpensNone t → Kept code → Kept (t ▹ code)
-  first_of_all t code none rest most ls b ts after around before next le typed nested ex =
-      first_kept t none most code ls b ts after around before next le typed nested ex (λ us typed' ex'. rest most ls b us after around before next le typed' nested ex')
+  first_of_all t code none rest most ls b ts after around before next le typed stands nested ex =
+      first_kept t none most code ls b ts after around before next le typed stands nested ex (λ us typed' stands' ex'. rest most ls b us after around before next le typed' stands' nested ex')
 
   all_kept : (code : Trees) → Kept code
   all_kept ε = none_kept

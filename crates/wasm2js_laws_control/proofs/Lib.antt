@@ -1,3 +1,4 @@
+pub mod Standing
 pub mod Stepping
 pub mod Labels
 pub mod Blocks

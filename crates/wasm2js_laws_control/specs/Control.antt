@@ -12,7 +12,7 @@ use Rattle.sem_laws.specs.Simulation.{Comparison}
 use Rattle.sem_laws.specs.Laws.{KeepsOrder}
 use Rattle.wasm_lang.specs.declared.types.ValType.{ValType}
 use Rattle.wasm_lang.specs.declared.types.ValType.TheVariants.{I32, I64}
-use Rattle.wasm_lang.specs.Modules.{WasmModule}
+use Rattle.wasm_lang.specs.Modules.{FunctionType, WasmModule}
 use Rattle.wasm_lang_valid.specs.Typing.{Context, listed}
 use Rattle.wasm_lang_exec.specs.Code.{Trees, ε}
 use Rattle.wasm_lang_exec.specs.Store.{Store}
@@ -27,9 +27,12 @@ use Rattle.asm_laws_continuation.specs.Following.{CallsBefore, exec_all_to}
 use Rattle.wasm2js_words.specs.Names.{fixed, result_high}
 use Rattle.wasm2js_words.specs.Words.{stmts_in}
 use Rattle.wasm2js_code.specs.Bodies.{Aim, past, again, out, label_of, stmts_of}
+use Rattle.wasm2js_code.specs.Rooms.{room_of}
+use Rattle.wasm2js_laws_scopes.specs.Provided.{Provides, HasRoom}
 use Rattle.wasm2js_laws_pace.specs.Following.{Rest, Follows}
 use Rattle.wasm2js_laws_places.specs.Straight.{Words}
 use Rattle.wasm2js_laws_places.specs.Places.{Setting, word_at, names_in, AreApart, operands, locals_of, store_of, World, Stays}
+use Rattle.wasm2js_laws_control.specs.Standing.{IsTranslatedCode}
 
 -- ---- what is fixed while a function runs
 
@@ -40,8 +43,9 @@ pub record Function : Type 0 where
   pub by : Comparison
   pub pace : ℕ
   pub unpaid : ℕ
-  -- what the code may refer to, and the cells of each table
+  -- what the code may refer to, the types that calls of entries name, and the cells of each table
   pub context : Context
+  pub called : FunctionType → Bool
   pub cells : ℕ
   -- the function of asm.js, with what its calls do, how many turns and calls there may be, and the names of its variables
   pub scope : Scope
@@ -65,6 +69,12 @@ pub record IsFair (f : Function) : Type 0 where
   pub ended : (e : EndPlain) (s : Store) → f.watch (Ended e s) ≡ seen_end e s
   pub spent : (s : Store) → f.watch (Spent s) ≡ seen_running s
   pub some : 1 ≤ f.pace
+  pub provides : Provides f.scope f.context f.called f.setting.bytes f.cells
+
+-- code may stand above so many operands, where the block's have these types: the function has variables for it, and all of it is translated
+pub record MayStand (f : Function) (code : Trees) (b : ℕ) (ts : List ValType) : Type 0 where
+  pub room : HasRoom f.scope f.context (room_of f.context code b ts)
+  pub translated : IsTranslatedCode f.context.types f.called code
 
 -- a place in the function with at most so many units, which stands for a store with these events
 pub record Inside (f : Function) (most : ℕ) (events : List EventPlain) (p : Place) : Type 0 where

@@ -1,22 +1,25 @@
 -- What is to be shown of each instruction that computes, reads or writes, with no asm.js in it: that its code does on words and the heap
 -- what it does on operands, locals and the store.
-use Rattle.std.specs.Prelude.{◌≡◌, ℕ, ◌^◌, ◌<◌, ◌≤◌, true, List, ◌++◌, drop, Ok}
-use Rattle.sem_words.specs.Words.{trap_code}
+use Rattle.std.specs.Prelude.{◌≡◌, ℕ, ◌^◌, ◌<◌, ◌≤◌, true, List, ◌++◌, map, drop, Ok}
+use Rattle.sem_words.specs.declared.word.Bin.TheVariants as bins
+use Rattle.sem_words.specs.Words.{trap_code, shl_of, shr_s_of, shr_u_of, rotl_of, leading_zeros_of, trailing_zeros_of}
 use Rattle.sem_laws.specs.Imports.{Replies}
 use Rattle.sem_laws.specs.Observation.{EventPlain}
 use Rattle.wasm_lang.specs.declared.types.ValType.{ValType}
+use Rattle.wasm_lang.specs.declared.types.GlobalType.{GlobalType}
 use Rattle.wasm_lang.specs.Instructions.{Plain}
 use Rattle.wasm_lang_valid.specs.Typing.{Shape, Acts, plain_shape}
 use Rattle.wasm_lang_exec.specs.Plain as machine
 use Rattle.wasm_lang_exec.specs.Plain.{Effect, do_plain}
 use Rattle.wasm_laws_drive.specs.Equations.{is_constant}
-use Rattle.wasm2js_words.specs.Names.{Name}
+use Rattle.wasm2js_words.specs.Names as names
+use Rattle.wasm2js_words.specs.Names.{Fixed, Name}
 use Rattle.wasm2js_words.specs.Words.{Action}
 use Rattle.wasm2js_code.specs.Actions.{actions}
 use Rattle.wasm2js_code.specs.Bodies.{Aim, after_plain}
-use Rattle.wasm2js_laws_words.specs.Sound.{AreSoundActions}
-use Rattle.wasm2js_laws_places.specs.Straight.{Words, Helping, ActionsAsk, Outcome, goes, stops, run_actions, actions_units}
+use Rattle.wasm2js_laws_places.specs.Straight.{Words, Answer, Helping, ActionsAsk, Outcome, goes, stops, run_actions, actions_units}
 use Rattle.wasm2js_laws_places.specs.Places.{operands, locals_of, store_with, IsHeap, Stays}
+use Rattle.wasm2js_laws_helpers.specs.Answers.{turned, counted, divided, set_bits_answer, set_bits_units}
 use Rattle.wasm2js_laws_control.specs.Control.{Function, under_aims}
 
 -- words of 32 bits
@@ -38,7 +41,6 @@ module _ (f : Function) (helping : Helping) where
   -- above b operands, where the block's have the types ts, and us afterwards
   pub record IsPlain (p : Plain) (b : ℕ) (ts us : List ValType) : Type 0 where
     pub types : after_plain f.context p ts ≡ us
-    pub sound : AreSoundActions f.scope (code_of p b ts)
     pub asks : ActionsAsk (code_of p b ts)
     pub paid : (words : Words) (heap : List ℕ) → actions_units helping (code_of p b ts) words heap ≤ f.pace
     -- a constant is no reduction
@@ -51,3 +53,35 @@ module _ (f : Function) (helping : Helping) where
   PlainIs p =
       (ls : List Aim) (b : ℕ) (form : Shape) (takes gives below : List ValType) → plain_shape (under_aims f.context ls) p ≡ Ok form → Acts form takes gives
       → IsPlain p b (takes ++ below) (gives ++ below)
+
+-- ---- what laws of instructions take of a function, and of what helpers do
+
+abbrev pub Answers : Helping → Fixed → (List ℕ → (heap : List ℕ) → Answer) → (units : List ℕ → ℕ) → Type 0
+Answers helping f answer units = (args heap : List ℕ) → (helping.answer f args heap ≡ answer args heap) × (helping.cost f args ≡ units args)
+
+abbrev pub AnswersAtOnce : Helping → Fixed → (List ℕ → (heap : List ℕ) → Answer) → Type 0
+AnswersAtOnce helping f answer = Answers helping f answer (λ args. 1)
+
+-- the helpers on words do what their operators do
+pub record AreUsual (helping : Helping) : Type 0 where
+  pub shift_left : AnswersAtOnce helping names.shift_left (turned shl_of)
+  pub shift_right_signed : AnswersAtOnce helping names.shift_right_signed (turned shr_s_of)
+  pub shift_right : AnswersAtOnce helping names.shift_right (turned shr_u_of)
+  pub rotate_left : AnswersAtOnce helping names.rotate_left (turned rotl_of)
+  pub leading_zeros : AnswersAtOnce helping names.leading_zeros (counted leading_zeros_of)
+  pub trailing_zeros : AnswersAtOnce helping names.trailing_zeros (counted trailing_zeros_of)
+  pub set_bits : Answers helping names.set_bits set_bits_answer set_bits_units
+  pub divide_signed : AnswersAtOnce helping names.divide_signed (divided bins.DivS)
+  pub divide : AnswersAtOnce helping names.divide (divided bins.DivU)
+  pub remainder_signed : AnswersAtOnce helping names.remainder_signed (divided bins.RemS)
+  pub remainder : AnswersAtOnce helping names.remainder (divided bins.RemU)
+
+pub record Supports (f : Function) (helping : Helping) : Type 0 where
+  pub kinds : f.setting.kinds ≡ map (λ (g : GlobalType). g.kind) f.context.globals
+  pub helpers : AreUsual helping
+  -- for the set bits of two words
+  pub pace : 68 ≤ f.pace
+
+-- in each such function
+abbrev pub Always : Plain → Type 0
+Always p = (f : Function) (helping : Helping) → Supports f helping → PlainIs f helping p

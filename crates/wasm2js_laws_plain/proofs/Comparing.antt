@@ -11,10 +11,8 @@ use Rattle.wasm_lang_exec.specs.Plain.{flag}
 use Rattle.wasm2js_words.specs.Words.{conjunction, disjunction, exclusion, shift_left, shift_right_signed, shift_right, Term, read, both, compare, equal}
 use Rattle.wasm2js_code.specs.Pairs.{literal}
 use Rattle.wasm2js_code.specs.Actions.{low, narrow_relation}
-use Rattle.wasm2js_laws_words.specs.Sound.{AreSoundActions}
 use Rattle.wasm2js_laws_places.specs.Straight.{Words, truth, value}
-use Rattle.wasm2js_laws_instructions.specs.Plain.{IsPlain, code_of}
-use Rattle.wasm2js_laws_plain.specs.Laws.{Always}
+use Rattle.wasm2js_laws_instructions.specs.Plain.{IsPlain, Always}
 use Rattle.wasm2js_laws_plain.proofs.Puts.{put_is, one_alike, two_alike}
 use Rattle.wasm2js_laws_plain.proofs.Summed.{of_fixed, two_words}
 
@@ -55,19 +53,19 @@ compared GeS a b words heap = flag_truth (rel_of 32 GeS (value a words heap) (va
 compared GeU a b words heap = flag_truth (rel_of 32 GeU (value a words heap) (value b words heap))
 
 pub relation_is : (op : Rel) → Always (rel32 op)
-relation_is op f helping ls b form takes gives below is acts =
-    of_fixed (λ takes gives. AreSoundActions f.scope (code_of f helping (rel32 op) b (takes ++ below)) → IsPlain f helping (rel32 op) b (takes ++ below) (gives ++ below))
+relation_is op f helping supports ls b form takes gives below is acts =
+    of_fixed (λ takes gives. IsPlain f helping (rel32 op) b (takes ++ below) (gives ++ below))
     (I32 ∷ I32 ∷ []) (I32 ∷ []) takes gives form is acts
-    (λ sound. let d = b + length below in
-    put_is f helping (rel32 op) b (I32 ∷ I32 ∷ below) below (narrow_relation op (read (low d)) (read (low (d + 1)))) refl refl sound
+    (let d = b + length below in
+    put_is f helping (rel32 op) b (I32 ∷ I32 ∷ below) below (narrow_relation op (read (low d)) (read (low (d + 1)))) refl refl
     (λ words heap replies events are. two_alike f helping b below words heap replies events (λ x y. Ok (flag (rel_of 32 op x y))) (value (narrow_relation op (read (low d)) (read (low (d + 1)))) words heap)
     (ap Ok (compared op (read (low d)) (read (low (d + 1))) words heap))))
 
 pub zero_test_is : Always eqz32
-zero_test_is f helping ls b form takes gives below is acts =
-    of_fixed (λ takes gives. AreSoundActions f.scope (code_of f helping eqz32 b (takes ++ below)) → IsPlain f helping eqz32 b (takes ++ below) (gives ++ below))
+zero_test_is f helping supports ls b form takes gives below is acts =
+    of_fixed (λ takes gives. IsPlain f helping eqz32 b (takes ++ below) (gives ++ below))
     (I32 ∷ []) (I32 ∷ []) takes gives form is acts
-    (λ sound. let d = b + length below in
-    put_is f helping eqz32 b (I32 ∷ below) below (compare true equal (read (low d)) (literal 0)) refl refl sound
+    (let d = b + length below in
+    put_is f helping eqz32 b (I32 ∷ below) below (compare true equal (read (low d)) (literal 0)) refl refl
     (λ words heap replies events are. one_alike f helping b below words heap replies events (λ x. Ok (flag (x == 0))) (value (compare true equal (read (low d)) (literal 0)) words heap)
     (ap Ok (flag_truth (words (low d) == 0)))))

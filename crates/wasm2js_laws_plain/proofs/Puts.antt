@@ -16,7 +16,6 @@ use Rattle.wasm2js_words.specs.Words.{Term, put, simply}
 use Rattle.wasm2js_code.specs.Actions.{low}
 use Rattle.wasm2js_code.specs.Pairs.{local_pair, operand_pair, global_pair}
 use Rattle.wasm2js_code.specs.Bodies.{after_plain}
-use Rattle.wasm2js_laws_words.specs.Sound.{AreSoundActions}
 use Rattle.wasm2js_laws_places.specs.Straight.{Words, with_word, value, Helping, goes, ActionsAsk, run_actions, actions_units}
 use Rattle.wasm2js_laws_places.specs.Places.{value_at, operands, locals_from, locals_of, globals_from, store_with, Stays}
 use Rattle.wasm2js_laws_control.specs.Control.{Function}
@@ -103,14 +102,13 @@ module _ (f : Function) (helping : Helping) (b : ℕ) (below : List ValType) (wo
 -- ---- an instruction whose code puts one word
 
 pub put_is : (f : Function) (helping : Helping) (p : Plain) (b : ℕ) (ts below : List ValType) (t : Term)
-    → after_plain f.context p ts ≡ I32 ∷ below → code_of f helping p b ts ≡ simply (put (low (b + length below)) t) ∷ [] → AreSoundActions f.scope (code_of f helping p b ts)
+    → after_plain f.context p ts ≡ I32 ∷ below → code_of f helping p b ts ≡ simply (put (low (b + length below)) t) ∷ []
     → ((words : Words) (heap : List ℕ) (replies : Replies) (events : List EventPlain) → AreWords words
     → IsAlike f helping b (I32 ∷ below) words heap replies events (do_plain p (operands b ts words) (locals_of f.context.locals words) (store_with f.setting words heap replies events))
     (goes (with_word (low (b + length below)) (value t words heap) words) heap))
     → IsPlain f helping p b ts (I32 ∷ below)
-put_is f helping p b ts below t types code sound alike = record {
+put_is f helping p b ts below t types code alike = record {
   types = types;
-  sound = sound;
   asks = subst ActionsAsk (sym code) (tt, tt);
   paid = λ words heap. subst (λ c. actions_units helping c words heap ≤ f.pace) (sym code) (omega arith);
   free = λ e words heap. subst (λ c. actions_units helping c words heap ≡ 0) (sym code) refl;

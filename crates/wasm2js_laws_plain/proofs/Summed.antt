@@ -11,11 +11,9 @@ use Rattle.wasm_lang_valid.specs.Typing.{Shape, Fixed, Acts, fixed}
 use Rattle.wasm2js_words.specs.Words.{Term, read, put, simply, product}
 use Rattle.wasm2js_code.specs.Pairs.{plus, minus}
 use Rattle.wasm2js_code.specs.Actions.{low}
-use Rattle.wasm2js_laws_words.specs.Sound.{AreSoundActions}
 use Rattle.wasm2js_laws_places.specs.Straight.{Words, value, Helping}
 use Rattle.wasm2js_laws_control.specs.Control.{Function}
-use Rattle.wasm2js_laws_instructions.specs.Plain.{IsPlain, AreWords, code_of}
-use Rattle.wasm2js_laws_plain.specs.Laws.{Always}
+use Rattle.wasm2js_laws_instructions.specs.Plain.{IsPlain, AreWords, code_of, Always}
 use Rattle.wasm2js_laws_plain.proofs.Puts.{put_is, two_alike}
 
 same_takes : {ts us takes gives : List ValType} → Acts (Fixed ts us) takes gives → (takes ≡ ts) × (gives ≡ us)
@@ -34,10 +32,10 @@ pub two_words : (op : Bin) (t : ℕ → Term)
     → ((f : Function) (helping : Helping) (b : ℕ) (below : List ValType) → code_of f helping (bin32 op) b (I32 ∷ I32 ∷ below) ≡ simply (put (low (b + length below)) (t (b + length below))) ∷ [])
     → ((d : ℕ) (words : Words) (heap : List ℕ) → AreWords words → bin_of 32 op (words (low d)) (words (low (d + 1))) ≡ Ok (value (t d) words heap))
     → Always (bin32 op)
-two_words op t code same f helping ls b form takes gives below is acts =
-    of_fixed (λ takes gives. AreSoundActions f.scope (code_of f helping (bin32 op) b (takes ++ below)) → IsPlain f helping (bin32 op) b (takes ++ below) (gives ++ below))
+two_words op t code same f helping supports ls b form takes gives below is acts =
+    of_fixed (λ takes gives. IsPlain f helping (bin32 op) b (takes ++ below) (gives ++ below))
     (I32 ∷ I32 ∷ []) (I32 ∷ []) takes gives form is acts
-    (λ sound. put_is f helping (bin32 op) b (I32 ∷ I32 ∷ below) below (t (b + length below)) refl (code f helping b below) sound
+    (put_is f helping (bin32 op) b (I32 ∷ I32 ∷ below) below (t (b + length below)) refl (code f helping b below)
     (λ words heap replies events are. two_alike f helping b below words heap replies events (bin_of 32 op) (value (t (b + length below)) words heap) (same (b + length below) words heap are)))
 
 pub sum_is : Always (bin32 Add)

@@ -162,7 +162,7 @@ module _ (f : Function) (fair : IsFair f) (ks : List ℕ) (d most : ℕ) (code :
       (subst (λ k. (others more : Before (Unit {0}) Completion) → IsFollowed f p (sight f around (Branch target) values p w) (exec_all_to f.calls f.scope f.bound (stmts_in (to k)) (after_clause others more) p)) near_same target_goes))
 
 pub indexed_branches_are_kept : IndexedBranchesAreKept
-indexed_branches_are_kept f fair ks d most code ls b ts after around before next small typed nested ex rest =
+indexed_branches_are_kept f fair ks d most code ls b ts after around before next small typed standing nested ex rest =
     let labels = map carried_by ls in
     let on = onward_ok (all_labels labels ks) (λ _. found NoLabel (slice_get labels d) (λ label. Leaves (I32 ∷ listed label))) typed.form typed.has_form in
     let label = found_ok (slice_get labels d) (λ label. Leaves (I32 ∷ listed label)) typed.form on.1 in

@@ -1,22 +1,19 @@
 -- Differences, and operators that go bit by bit.
-use Rattle.std.proofs.Common.{◌≡◌, ℕ, ◌+◌, ◌≤◌, Bool, true, false, List, [], ◌∷◌, ◌++◌, length, Result, Ok, refl, sym, ap, ◌∙◌, subst, arith}
+use Rattle.std.proofs.Common.{◌≡◌, ℕ, ◌+◌, List, [], ◌∷◌, ◌++◌, length, Ok, refl, sym, ap, ◌∙◌, arith}
 use Rattle.std.specs.Prelude.{◌*◌, ◌^◌, nat_lt, bit_and, bit_or, bit_xor}
 use Rattle.sem_words.specs.declared.word.Bin.{Bin}
 use Rattle.sem_words.specs.declared.word.Bin.TheVariants.{Sub, And, Or, Xor}
 use Rattle.sem_words.specs.Words.{sub_of, bin_of}
 use Rattle.wasm_lang.specs.declared.types.ValType.{ValType}
 use Rattle.wasm_lang.specs.declared.types.ValType.TheVariants.{I64}
-use Rattle.wasm_lang.specs.Instructions.{Plain, bin64}
-use Rattle.wasm_lang_valid.specs.Typing.{Shape, Acts}
-use Rattle.wasm2js_laws_words.specs.Sound.{AreSoundActions}
+use Rattle.wasm_lang.specs.Instructions.{bin64}
 use Rattle.wasm2js_laws_numbers.specs.Laws as numbers
 use Rattle.wasm2js_laws_numbers.specs.Laws.{BitsAreApart}
 use Rattle.wasm2js_laws_numbers.proofs.Carried.{differences_borrow}
 use Rattle.wasm2js_laws_numbers.proofs.Extended.{conjunctions, disjunctions, exclusions}
 use Rattle.wasm2js_laws_places.specs.Straight.{Words, with_word, truth, Helping}
 use Rattle.wasm2js_laws_control.specs.Control.{Function}
-use Rattle.wasm2js_laws_instructions.specs.Plain.{IsPlain, AreWords, code_of}
-use Rattle.wasm2js_laws_wide.specs.Laws.{IsWide}
+use Rattle.wasm2js_laws_instructions.specs.Plain.{IsPlain, AreWords, Always}
 use Rattle.wasm2js_laws_wide.proofs.Kept.{is_self, low, high, Keeps, kept_all, kept_low, kept_high, two_to_wide}
 use Rattle.wasm2js_laws_wide.proofs.Summed.{of_fixed, same_truth}
 
@@ -82,16 +79,15 @@ module _ (d : ℕ) (words : Words) where
 
 -- of two operands, by what is shown of them above others
 pub of_two : (op : Bin)
-    → ((f : Function) (helping : Helping) (b : ℕ) (below : List ValType) → AreSoundActions f.scope (code_of f helping (bin64 op) b (I64 ∷ I64 ∷ below)) → IsPlain f helping (bin64 op) b (I64 ∷ I64 ∷ below) (I64 ∷ below))
-    → IsWide (bin64 op)
-of_two op h f helping ls b form takes gives below is acts =
-    of_fixed (λ takes gives. AreSoundActions f.scope (code_of f helping (bin64 op) b (takes ++ below)) → IsPlain f helping (bin64 op) b (takes ++ below) (gives ++ below))
+    → ((f : Function) (helping : Helping) (b : ℕ) (below : List ValType) → IsPlain f helping (bin64 op) b (I64 ∷ I64 ∷ below) (I64 ∷ below))
+    → Always (bin64 op)
+of_two op h f helping supports ls b form takes gives below is acts =
+    of_fixed (λ takes gives. IsPlain f helping (bin64 op) b (takes ++ below) (gives ++ below))
     (I64 ∷ I64 ∷ []) (I64 ∷ []) takes gives form is acts (h f helping b below)
 
-pub difference_is : IsWide (bin64 Sub)
-difference_is = of_two Sub (λ f helping b below sound. record {
+pub difference_is : Always (bin64 Sub)
+difference_is = of_two Sub (λ f helping b below. record {
   types = refl;
-  sound = sound;
   asks = (tt, (tt, tt));
   paid = λ words heap. omega arith;
   free = λ e words heap. refl;
@@ -99,10 +95,9 @@ difference_is = of_two Sub (λ f helping b below sound. record {
       two_to_wide f helping b below words (differed (b + length below) words) heap replies events (difference_keeps (b + length below) words) (bin_of 64 Sub) (ap Ok (difference_same (b + length below) words are));
 })
 
-pub conjunction_is : IsWide (bin64 And)
-conjunction_is = of_two And (λ f helping b below sound. record {
+pub conjunction_is : Always (bin64 And)
+conjunction_is = of_two And (λ f helping b below. record {
   types = refl;
-  sound = sound;
   asks = (tt, (tt, tt));
   paid = λ words heap. omega arith;
   free = λ e words heap. refl;
@@ -111,10 +106,9 @@ conjunction_is = of_two And (λ f helping b below sound. record {
       (ap Ok (bits_same (b + length below) words bit_and conjunctions are));
 })
 
-pub disjunction_is : IsWide (bin64 Or)
-disjunction_is = of_two Or (λ f helping b below sound. record {
+pub disjunction_is : Always (bin64 Or)
+disjunction_is = of_two Or (λ f helping b below. record {
   types = refl;
-  sound = sound;
   asks = (tt, (tt, tt));
   paid = λ words heap. omega arith;
   free = λ e words heap. refl;
@@ -123,10 +117,9 @@ disjunction_is = of_two Or (λ f helping b below sound. record {
       (ap Ok (bits_same (b + length below) words bit_or disjunctions are));
 })
 
-pub exclusion_is : IsWide (bin64 Xor)
-exclusion_is = of_two Xor (λ f helping b below sound. record {
+pub exclusion_is : Always (bin64 Xor)
+exclusion_is = of_two Xor (λ f helping b below. record {
   types = refl;
-  sound = sound;
   asks = (tt, (tt, tt));
   paid = λ words heap. omega arith;
   free = λ e words heap. refl;

@@ -1,5 +1,5 @@
 -- Code that changes the word or words of one operand: what else stays, and when it is alike.
-use Rattle.std.proofs.Common.{◌≡◌, ℕ, suc, ◌+◌, ◌<◌, ◌≤◌, Bool, true, false, List, [], ◌∷◌, ◌++◌, length, Result, Ok, refl, sym, ap, ◌∙◌, subst, arith}
+use Rattle.std.proofs.Common.{◌≡◌, ℕ, suc, ◌+◌, ◌<◌, ◌≤◌, true, false, List, [], ◌∷◌, length, Result, Ok, refl, sym, ap, ◌∙◌, subst, arith}
 use Rattle.std.specs.Prelude.{◌==◌, ◌*◌, ◌^◌, take}
 use Rattle.std.proofs.lemmas.Bool.Decides.{nat_tests}
 use Rattle.sem_words.specs.declared.word.Word.{Word}
@@ -11,9 +11,8 @@ use Rattle.wasm_lang.specs.declared.types.ValType.{ValType}
 use Rattle.wasm_lang.specs.declared.types.ValType.TheVariants.{I32, I64}
 use Rattle.wasm_lang_exec.specs.Plain as machine
 use Rattle.wasm_lang_exec.specs.Plain.{Effect, answer32, answer64, both64, with32, with64}
-use Rattle.wasm2js_words.specs.Names.{Name, Fixed, numbered, fixed, spare_high, local_low, local_high, operand_low, operand_high, global_low, global_high}
+use Rattle.wasm2js_words.specs.Names.{Name, Fixed, numbered, fixed, local_low, local_high, operand_low, operand_high, global_low, global_high}
 use Rattle.wasm2js_code.specs.Pairs.{Pair, local_pair, operand_pair, global_pair}
-use Rattle.wasm2js_laws_numbers.specs.Laws.{joined}
 use Rattle.wasm2js_laws_places.specs.Straight.{Words, with_word, Helping, goes}
 use Rattle.wasm2js_laws_places.specs.Places.{value_at, operands, locals_from, locals_of, globals_from, store_with, Stays}
 use Rattle.wasm2js_laws_control.specs.Control.{Function}
@@ -59,6 +58,16 @@ kept_all d words = record {
 pub kept_low : (d x : ℕ) (words after : Words) → Keeps d words after → Keeps d words (with_word (numbered operand_low d) x after)
 kept_low d x words after k = record {
   lows = λ n h. rw (is_below d n h) (k.lows n h);
+  highs = k.highs;
+  local_lows = k.local_lows;
+  local_highs = k.local_highs;
+  global_lows = k.global_lows;
+  global_highs = k.global_highs;
+}
+
+pub kept_fixed : (d x : ℕ) (g : Fixed) (words after : Words) → Keeps d words after → Keeps d words (with_word (fixed g) x after)
+kept_fixed d x g words after k = record {
+  lows = k.lows;
   highs = k.highs;
   local_lows = k.local_lows;
   local_highs = k.local_highs;
@@ -135,3 +144,27 @@ module _ (f : Function) (helping : Helping) (b : ℕ) (below : List ValType) (wo
   two_to_wide h e =
       subst (λ r. Alike I64 (answer64 r (operands b below words) (locals_of f.context.locals words) (store_with f.setting words heap replies events)))
       (sym (ap (λ d. h (Whole Deepest) (Whole d)) top ∙ e)) (value_alike I64 (W64 (after (low Deepest) + 2 ^ 32 * after (high Deepest))) refl)
+
+  pub two_to_narrow : (h : ℕ → ℕ → Result ℕ TrapKind) → h (Whole Deepest) (Whole (Deepest + 1)) ≡ Ok (after (low Deepest))
+      → Alike I32 (both64 h answer32 (operands b (I64 ∷ I64 ∷ below) words) (locals_of f.context.locals words) (store_with f.setting words heap replies events))
+  two_to_narrow h e =
+      subst (λ r. Alike I32 (answer32 r (operands b below words) (locals_of f.context.locals words) (store_with f.setting words heap replies events)))
+      (sym (ap (λ d. h (Whole Deepest) (Whole d)) top ∙ e)) (value_alike I32 (W32 (after (low Deepest))) refl)
+
+  pub one_to_narrow : (h : ℕ → Result ℕ TrapKind) → h (Whole Deepest) ≡ Ok (after (low Deepest))
+      → Alike I32 (with64 h answer32 (operands b (I64 ∷ below) words) (locals_of f.context.locals words) (store_with f.setting words heap replies events))
+  one_to_narrow h e =
+      subst (λ r. Alike I32 (answer32 r (operands b below words) (locals_of f.context.locals words) (store_with f.setting words heap replies events)))
+      (sym e) (value_alike I32 (W32 (after (low Deepest))) refl)
+
+  pub narrow_to_wide : (h : ℕ → Result ℕ TrapKind) → h (words (low Deepest)) ≡ Ok (after (low Deepest) + 2 ^ 32 * after (high Deepest))
+      → Alike I64 (with32 h answer64 (operands b (I32 ∷ below) words) (locals_of f.context.locals words) (store_with f.setting words heap replies events))
+  narrow_to_wide h e =
+      subst (λ r. Alike I64 (answer64 r (operands b below words) (locals_of f.context.locals words) (store_with f.setting words heap replies events)))
+      (sym e) (value_alike I64 (W64 (after (low Deepest) + 2 ^ 32 * after (high Deepest))) refl)
+
+  pub one_to_wide : (h : ℕ → Result ℕ TrapKind) → h (Whole Deepest) ≡ Ok (after (low Deepest) + 2 ^ 32 * after (high Deepest))
+      → Alike I64 (with64 h answer64 (operands b (I64 ∷ below) words) (locals_of f.context.locals words) (store_with f.setting words heap replies events))
+  one_to_wide h e =
+      subst (λ r. Alike I64 (answer64 r (operands b below words) (locals_of f.context.locals words) (store_with f.setting words heap replies events)))
+      (sym e) (value_alike I64 (W64 (after (low Deepest) + 2 ^ 32 * after (high Deepest))) refl)

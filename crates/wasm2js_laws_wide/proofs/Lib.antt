@@ -1,3 +1,6 @@
 pub mod Kept
 pub mod Summed
 pub mod Bitwise
+pub mod Compared
+pub mod Turned
+pub mod Counted

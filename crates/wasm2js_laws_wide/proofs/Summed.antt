@@ -1,22 +1,17 @@
 -- Sums.
-use Rattle.std.proofs.Common.{◌≡◌, ℕ, ◌+◌, ◌≤◌, Bool, true, false, List, [], ◌∷◌, ◌++◌, length, Result, Ok, refl, sym, ap, ◌∙◌, subst, arith}
+use Rattle.std.proofs.Common.{◌≡◌, ℕ, ◌+◌, Bool, true, false, List, [], ◌∷◌, ◌++◌, length, Result, Ok, refl, sym, ap, ◌∙◌, subst, arith}
 use Rattle.std.specs.Prelude.{◌*◌, ◌^◌, nat_lt}
 use Rattle.sem_words.specs.declared.word.Bin.TheVariants.{Add}
 use Rattle.sem_words.specs.Words.{add_of, bin_of}
-use Rattle.sem_laws.specs.Imports.{Replies}
-use Rattle.sem_laws.specs.Observation.{EventPlain}
 use Rattle.wasm_lang.specs.declared.types.ValType.{ValType}
 use Rattle.wasm_lang.specs.declared.types.ValType.TheVariants.{I64}
-use Rattle.wasm_lang.specs.Instructions.{Plain, bin64}
+use Rattle.wasm_lang.specs.Instructions.{bin64}
 use Rattle.wasm_lang_valid.specs.declared.rule.Rule.{Rule}
 use Rattle.wasm_lang_valid.specs.Typing.{Shape, Fixed, Acts, fixed}
-use Rattle.wasm2js_laws_words.specs.Sound.{AreSoundActions}
 use Rattle.wasm2js_laws_numbers.specs.Laws as numbers
 use Rattle.wasm2js_laws_numbers.proofs.Carried.{sums_carry}
-use Rattle.wasm2js_laws_places.specs.Straight.{Words, with_word, truth, Helping}
-use Rattle.wasm2js_laws_control.specs.Control.{Function}
-use Rattle.wasm2js_laws_instructions.specs.Plain.{IsPlain, AreWords, code_of}
-use Rattle.wasm2js_laws_wide.specs.Laws.{IsWide}
+use Rattle.wasm2js_laws_places.specs.Straight.{Words, with_word, truth}
+use Rattle.wasm2js_laws_instructions.specs.Plain.{IsPlain, AreWords, Always}
 use Rattle.wasm2js_laws_wide.proofs.Kept.{is_self, is_next, low, high, Keeps, kept_all, kept_low, kept_high, two_to_wide}
 
 same_takes : {ts us takes gives : List ValType} → Acts (Fixed ts us) takes gives → (takes ≡ ts) × (gives ≡ us)
@@ -72,13 +67,12 @@ module _ (d : ℕ) (words : Words) where
   sum_keeps : Keeps d words summed
   sum_keeps = kept_high d sum_high words with_sum (kept_low d sum_low words words (kept_all d words))
 
-pub sum_is : IsWide (bin64 Add)
-sum_is f helping ls b form takes gives below is acts =
-    of_fixed (λ takes gives. AreSoundActions f.scope (code_of f helping (bin64 Add) b (takes ++ below)) → IsPlain f helping (bin64 Add) b (takes ++ below) (gives ++ below))
+pub sum_is : Always (bin64 Add)
+sum_is f helping supports ls b form takes gives below is acts =
+    of_fixed (λ takes gives. IsPlain f helping (bin64 Add) b (takes ++ below) (gives ++ below))
     (I64 ∷ I64 ∷ []) (I64 ∷ []) takes gives form is acts
-    (λ sound. record {
+    (record {
       types = refl;
-      sound = sound;
       asks = (tt, (tt, tt));
       paid = λ words heap. omega arith;
       free = λ e words heap. refl;

@@ -1,19 +1,43 @@
 //! From WebAssembly to asm.js: instructions on words of 64 bits, whose code does on low and high words what they do on operands.
 #![tactic(auto)]
 
-ghost use Rattle.sem_words.specs.declared.word.Bin.TheVariants.{Add, Sub, And, Or, Xor};
-ghost use Rattle.wasm_lang.specs.Instructions.{bin64};
-ghost use Rattle.wasm2js_laws_wide.specs.Laws.{IsWide};
+ghost use Rattle.sem_words.specs.declared.word.Bin.TheVariants.{Add, Sub, And, Or, Xor, Shl, ShrS, ShrU, Rotl, Rotr};
+ghost use Rattle.sem_words.specs.declared.word.Un.TheVariants.{Clz, Ctz, Popcnt};
+ghost use Rattle.sem_words.specs.declared.word.Rel.{Rel};
+ghost use Rattle.wasm_lang.specs.Instructions.{bin64, rel64, eqz64, un64};
+ghost use Rattle.wasm2js_laws_instructions.specs.Plain.{Always};
 
 /// Sums and differences.
 pub fn sums()
-    ensures sum { IsWide (bin64 Add) }
-    ensures difference { IsWide (bin64 Sub) }
+    ensures sum { Always (bin64 Add) }
+    ensures difference { Always (bin64 Sub) }
 {}
 
 /// Operators that go bit by bit.
 pub fn bits()
-    ensures conjunction { IsWide (bin64 And) }
-    ensures disjunction { IsWide (bin64 Or) }
-    ensures exclusion { IsWide (bin64 Xor) }
+    ensures conjunction { Always (bin64 And) }
+    ensures disjunction { Always (bin64 Or) }
+    ensures exclusion { Always (bin64 Xor) }
+{}
+
+/// Comparisons, and the test for zero.
+pub fn comparisons()
+    ensures each { (op : Rel) → Always (rel64 op) }
+    ensures zero { Always eqz64 }
+{}
+
+/// Shifts and rotations.
+pub fn turns()
+    ensures shift_left { Always (bin64 Shl) }
+    ensures shift_right_signed { Always (bin64 ShrS) }
+    ensures shift_right { Always (bin64 ShrU) }
+    ensures rotation_left { Always (bin64 Rotl) }
+    ensures rotation_right { Always (bin64 Rotr) }
+{}
+
+/// Counts of bits.
+pub fn counts()
+    ensures leading { Always (un64 Clz) }
+    ensures trailing { Always (un64 Ctz) }
+    ensures set { Always (un64 Popcnt) }
 {}
