@@ -9,3 +9,6 @@ pub mod Returning
 pub mod Stubs
 pub mod Checking
 pub mod HelperBodies
+pub mod Foreign
+pub mod Wrapping
+pub mod Starting
