@@ -1,17 +1,19 @@
 -- The functions of a translated module.
-use Rattle.std.specs.Prelude.{◌≡◌, ℕ, ◌<◌, List, Some, slice_get}
+use Rattle.std.specs.Prelude.{◌≡◌, ℕ, ◌<◌, ◌^◌, List, [], Some, slice_get}
 use Rattle.std.specs.List.{AllByRecursion}
 use Rattle.wasm_lang.specs.declared.types.ValType.{ValType}
 use Rattle.wasm_lang.specs.Modules.{FunctionType, WasmModule}
 use Rattle.wasm_lang_valid.specs.Profile.{memory_bytes}
+use Rattle.wasm_lang_valid.specs.Validity.{no_type}
 use Rattle.wasm_lang_exec.specs.Code.{Trees}
 use Rattle.wasm_lang_exec.specs.Reductions.{an_import, a_function, callees}
 use Rattle.asm_lang.specs.Modules.{Function}
 use Rattle.asm_lang_valid.specs.Typed.{scope_of}
-use Rattle.wasm2js_code.specs.Modules.{context_of, own_function, translated}
-use Rattle.wasm2js_code.specs.Tables.{cell_count}
+use Rattle.wasm2js_words.specs.Names.{Numbered}
+use Rattle.wasm2js_code.specs.Modules.{context_of, own_function, wrapper, init_function, high_function, helpers, translated}
+use Rattle.wasm2js_code.specs.Tables.{cell_count, stub_function}
 use Rattle.wasm2js_laws_scopes.specs.Provided.{Provides}
-use Rattle.wasm2js_laws_functions.specs.Functions.{of_trap, IsFineFunction, is_called, IsSource}
+use Rattle.wasm2js_laws_functions.specs.Functions.{of_trap, of_import, IsFineFunction, is_called, IsSource}
 
 -- names mean in this function what they are meant for
 abbrev pub IsProvided : WasmModule → Function → FunctionType → List ValType → Type 0
@@ -23,3 +25,25 @@ OwnFunctionsAreFine =
     (w : WasmModule) (k : ℕ) (t : FunctionType) (more : List ValType) (code : Trees) → IsSource w → slice_get (callees w) k ≡ Some (Some (a_function t more code))
     → IsProvided w (own_function w k t more code) t more
     → IsFineFunction (translated w) of_trap (own_function w k t more code)
+
+-- what stands for an entry that is missing, or of another type, by its signature
+abbrev pub StubsAreFine : Type 0
+StubsAreFine = (w : WasmModule) (name : Numbered) (kind stub : ℕ) → kind < 2 ^ 31 → stub < 4002 → IsFineFunction (translated w) of_trap (stub_function name kind stub)
+
+-- the last high word
+abbrev pub HighIsFine : Type 0
+HighIsFine = (w : WasmModule) → IsFineFunction (translated w) of_trap high_function
+
+-- the helpers, those on the memory where there is one
+abbrev pub HelpersAreFine : Type 0
+HelpersAreFine = (w : WasmModule) → IsSource w → AllByRecursion (IsFineFunction (translated w) of_trap) (helpers w)
+
+-- function k, where it is imported
+abbrev pub WrappersAreFine : Type 0
+WrappersAreFine =
+    (w : WasmModule) (k : ℕ) (name : List ℕ) (t : FunctionType) → IsSource w → slice_get (callees w) k ≡ Some (Some (an_import name t))
+    → IsFineFunction (translated w) (of_import name t) (wrapper k t)
+
+-- what a session begins with
+abbrev pub InitIsFine : Type 0
+InitIsFine = (w : WasmModule) → IsSource w → IsProvided w (init_function w) no_type [] → IsFineFunction (translated w) of_trap (init_function w)

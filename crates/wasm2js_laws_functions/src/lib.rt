@@ -1,9 +1,17 @@
 //! From WebAssembly to asm.js: each function of a translated module is typed, printable, low and within the limits.
 #![tactic(auto)]
 
-ghost use Rattle.wasm2js_laws_functions.specs.Laws.{OwnFunctionsAreFine};
+ghost use Rattle.wasm2js_laws_functions.specs.Laws.{OwnFunctionsAreFine, WrappersAreFine, StubsAreFine, HighIsFine, HelpersAreFine};
 
-/// The functions that the source defines.
-pub fn own()
-    ensures { OwnFunctionsAreFine }
+/// The functions of the source, those with a body and those that are imported.
+pub fn functions()
+    ensures own { OwnFunctionsAreFine }
+    ensures wrappers { WrappersAreFine }
+{}
+
+/// The helpers, what stands for missing entries, and the function of the last high word.
+pub fn further()
+    ensures helpers { HelpersAreFine }
+    ensures stubs { StubsAreFine }
+    ensures high { HighIsFine }
 {}
