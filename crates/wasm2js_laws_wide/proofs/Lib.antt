@@ -4,3 +4,4 @@ pub mod Bitwise
 pub mod Compared
 pub mod Turned
 pub mod Counted
+pub mod Extending
