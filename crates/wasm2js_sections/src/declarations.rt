@@ -16,7 +16,7 @@ use std::alloc::{AllocError, Global};
 use wasm_tree::{GlobalDef, Import, ImportKind, Module};
 use wasm_validate::Valid;
 
-/// The variables.
+/// The variables of what a valid module is translated to, in the order in which they are declared.
 pub fn variables(alloc: Global, valid: &Valid<'_>) -> Result<List<Global_>, AllocError>
     ensures { IfOk result (λ vs. map global_view (list_items vs) ≡ modules.variables_of valid.now) }
 {

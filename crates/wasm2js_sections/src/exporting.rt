@@ -19,7 +19,7 @@ use wasm_tree::{ExportKind, WasmExport};
 use wasm_validate::Valid;
 use wasm2js_build::{Fixed, Name, Numbered, spell};
 
-/// The exports.
+/// The exports of what a valid module is translated to. Those of the source that are no functions are left out.
 #[tactic(auto, using(std::proofs::lemmas::List::append_assoc))]
 pub fn exports(alloc: Global, valid: &Valid<'_>) -> Result<Exports, AllocError>
     ensures { IfOk result (λ e. exports_view e ≡ many (exports_of valid.now)) }

@@ -10,7 +10,7 @@ use asm_tree::{Function, Stmt};
 use std::alloc::{AllocError, Global};
 use wasm2js_build::{Block, Fixed, Name, function, returns, signed, variable};
 
-/// The function.
+/// `$hi`, which is the same in each module.
 pub fn high_function(alloc: Global) -> Result<Function, AllocError>
     ensures { IfOk result (λ f. function_view f ≡ modules.high_function) }
 {

@@ -1,4 +1,4 @@
-//! The parts of the module of asm.js that a module of WebAssembly is translated to which are no helper, translated function, stub or table.
+//! Of the module of asm.js that a module of WebAssembly is translated to: the variables, the exports, `$init` and `$hi`.
 #![tactic(auto)]
 
 mod declarations;

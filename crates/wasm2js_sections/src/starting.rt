@@ -15,7 +15,7 @@ use wasm_tree::{Instr, Segment};
 use wasm_validate::Valid;
 use wasm2js_build::{Block, Fixed, Name, Numbered, call, function, plainly};
 
-/// The function.
+/// `$init` of what a valid module is translated to, with a statement for each four bytes of the segments, or fewer.
 pub fn init_function(alloc: Global, valid: &Valid<'_>) -> Result<Function, AllocError>
     ensures { IfOk result (λ f. function_view f ≡ modules.init_function valid.now) }
 {
