@@ -35,7 +35,7 @@ use Rattle.wasm2js_words.specs.Names.{Name, Fixed, numbered, function, fixed, in
 use Rattle.wasm2js_words.specs.Words.{name_of}
 use Rattle.wasm2js_laws_words.specs.Laws.{IsFineExpr, IsFine}
 use Rattle.wasm2js_laws_words.proofs.FineExprs.{is_identifier, is_typed_below, intish, literal_fine}
-use Rattle.wasm2js_laws_words.proofs.FineActions.{both_true, no_marks, some_if}
+use Rattle.wasm2js_laws_words.proofs.FineActions.{both_true, no_marks}
 use Rattle.wasm2js_code.specs.Helpers.{function_of}
 use Rattle.wasm2js_code.specs.Modules.{set_byte, set_word, set_bytes, set_words, to_word, set_run, segment_stmts, start_stmts, init_function, context_of, translated}
 use Rattle.wasm2js_laws_scopes.specs.Provided.{HasMemory, IsFunction, signature_for}
@@ -44,12 +44,15 @@ use Rattle.wasm2js_laws_typed.specs.Constructs.{AllFine}
 use Rattle.wasm2js_laws_typed.proofs.Facts.{plain_literal, signed_literal}
 use Rattle.wasm2js_laws_typed.proofs.FineBlocks.{all_join, together}
 use Rattle.wasm2js_laws_functions.specs.Functions.{IsFineFunction, of_trap, IsSource}
-use Rattle.wasm2js_laws_functions.specs.Laws.{InitIsFine}
+use Rattle.wasm2js_laws_functions.specs.Laws.{IsProvided, InitIsFine}
 use Rattle.wasm2js_laws_functions.proofs.Limited.{where_none, at_most, limited}
 use Rattle.wasm2js_laws_functions.proofs.Made.{made_of_fine}
 use Rattle.wasm2js_laws_functions.proofs.HelperBodies.{memory_small}
 
 -- ---- one write
+
+some_if : (b : Bool) (o : Option ValueType) (t : ValueType) → b ≡ true → o ≡ Some t → is_some (if b then o else None) ≡ true
+some_if b o t p q = rw (p, q) refl
 
 module _ (s : Scope) (a : Around) where
   write_fine : (v : Element) (view : Fixed) (i : ℕ) (z : ℤ) → named s (name_of view) ≡ a_view v → index_fits (a_view v) (lit (pos i)) (expr_type s (lit (pos i))) ≡ true
@@ -226,3 +229,46 @@ module _ (w : WasmModule) where
       by : (o : Option ℕ) → slice_get (function_types w) f ≡ o → (t : FunctionType) × (type_of c f ≡ Some t) × (signature_for t ≡ record { params = 0; result = false })
       by None e = let none : is_start (type_of_function w f) ≡ false = rw e refl in cc (none, h)
       by (Some n) e = let some : type_of_function w f ≡ slice_get w.types n = rw e refl in found n (slice_get w.types n) refl e (sym (ap is_start some) ∙ h)
+
+  -- ---- the function
+
+  module _ (source : IsSource w) (given : IsProvided w (init_function w) no_type []) where
+    abbrev s : Scope
+    s = scope_of (translated w) (init_function w)
+
+    memory_there : (d : DataSegment) → segment_rule w d ≡ None → has_memory w ≡ true
+    memory_there d h = (and_parts (nat_eq d.memory 0) (has_memory w) (meets_none (is_memory_number w d.memory) _ _ h)).1
+
+    put : (i : ℕ) (d : DataSegment) → slice_get w.segments i ≡ Some d → IsPut s at_top d
+    put i d e =
+        let limits = limited w source.within in
+        let rule : segment_rule w d ≡ None = sym (ap (λ o. at o (segment_rule w)) e) ∙ source.whole.is_valid sections.Data i (slice_get_within w.segments i d e) in
+        let constant = past_element_offsets 0 w.elements w.segments limits.constant in
+        let global = at_place (λ (d : DataSegment). is_global_offset d.offset ≡ false) w.segments i d (none_global constant.0 w.segments constant.1) e in
+        let n = is_constant w d.offset (meets_rest (is_memory_number w d.memory) _ _ rule) global in
+        let outside = past_elements (table_length w) (memory_bytes w) 0 w.elements w.segments limits.inside in
+        let fits = at_place (λ (d : DataSegment). passes (constant_offset d.offset) (length d.bytes) (memory_bytes w) ≡ false) w.segments i d (none_passes (memory_bytes w) outside.0 w.segments outside.1) e in
+        record {
+          memory = given.memory (memory_there d rule);
+          inside = in_turn (inside_room (constant_offset d.offset) n.0 (length d.bytes) (memory_bytes w) n.1 fits) (memory_small w source);
+          bytes = recursion_from_All (λ b. b < 256) d.bytes
+              (at_place (λ (d : DataSegment). All (λ b. b < 256) d.bytes) w.segments i d (recursion_from_All (λ (d : DataSegment). All (λ b. b < 256) d.bytes) w.segments source.bytes) e);
+        }
+
+    starts : (o : Option ℕ) → w.start ≡ o → AllFine s at_top 3 (start_stmts o)
+    starts None e = tt
+    starts (Some f) e =
+        let one : 0 < start_count w.start = subst (λ o. 0 < start_count o) (sym e) (omega arith) in
+        let rule : start_rule w f ≡ None = sym (ap (λ o. at o (start_rule w)) e) ∙ source.whole.is_valid sections.Start 0 one in
+        let t = start_type f (meets_none (is_start (type_of_function w f)) _ _ (meets_rest (is_function w f) _ _ rule)) in
+        let is = given.functions f t.0 t.1 in
+        start_fine s at_top f (record { function = is.function; is_this = is.is_this; signature = is.signature ∙ t.2 })
+
+    fine : IsFineFunction (translated w) of_trap (init_function w)
+    fine =
+        let ss = flat_map segment_stmts w.segments ++ start_stmts w.start in
+        made_of_fine (translated w) (fixed init) [] [] ss 3 (omega arith)
+        (together s at_top 3 ss (all_join s at_top 3 (flat_map segment_stmts w.segments) _ (segments_fine s at_top w.segments (all_from_places (IsPut s at_top) w.segments put)) (starts w.start refl))) (omega arith) (omega arith)
+
+pub init_is_fine : InitIsFine
+init_is_fine w source given = fine w source given
