@@ -1,7 +1,7 @@
 //! From WebAssembly to asm.js: each function of a translated module is typed, printable, low and within the limits.
 #![tactic(auto)]
 
-ghost use Rattle.wasm2js_laws_functions.specs.Laws.{OwnFunctionsAreFine, WrappersAreFine, StubsAreFine, InitIsFine, HighIsFine, HelpersAreFine};
+ghost use Rattle.wasm2js_laws_functions.specs.Laws.{OwnFunctionsAreFine, WrappersAreFine, StubsAreFine, InitIsFine, HighIsFine, HelpersAreFine, FunctionsAreFine};
 
 /// The functions of the source, those with a body and those that are imported.
 pub fn functions()
@@ -15,4 +15,9 @@ pub fn further()
     ensures stubs { StubsAreFine }
     ensures init { InitIsFine }
     ensures high { HighIsFine }
+{}
+
+/// All functions of a translated module.
+pub fn all()
+    ensures { FunctionsAreFine }
 {}
