@@ -1,5 +1,5 @@
 -- Bodies of helpers as data, and a test that computes: where it holds, a helper is fine.
-use Rattle.std.proofs.Common.{◌≡◌, ℕ, suc, ◌+◌, ◌*◌, ◌^◌, ◌≤◌, ◌<◌, max, Bool, true, false, ◌&&◌, List, [], ◌∷◌, ◌++◌, length, map, Option, Some, inl, inr, refl, sym, ap, ◌∙◌, subst, arith}
+use Rattle.std.proofs.Common.{◌≡◌, ℕ, ◌+◌, ◌*◌, ◌^◌, ◌≤◌, ◌<◌, max, Bool, true, false, ◌&&◌, List, [], ◌∷◌, ◌++◌, length, map, Some, inl, inr, refl, ap, subst, arith}
 use Rattle.std.specs.Prelude.{is_some, nat_le, nat_lt, bytes_eq, ◌||◌}
 use Rattle.std.specs.List.{list_all}
 use Rattle.std.proofs.lemmas.Bool.{and_parts}
@@ -14,21 +14,20 @@ use Rattle.asm_types.specs.Rows.{row}
 use Rattle.wasm_lang.specs.Modules.{WasmModule}
 use Rattle.wasm_lang_valid.specs.ModuleRules.{has_memory}
 use Rattle.asm_lang.specs.Modules.{Expr, binary, Stmt, if_only, if_else, returns}
-use Rattle.asm_lang.specs.Heights.{expr_height}
 use Rattle.asm_laws_print.specs.Spelled.{FitsExpr}
 use Rattle.asm_lang_valid.specs.Scope.{is_in, an_int, among_locals, module_meaning, last_gives_value}
 use Rattle.asm_lang_valid.specs.Rows.{expr_count, stmt_count}
 use Rattle.asm_lang_valid.specs.LimitRows.{expr_marks}
 use Rattle.asm_lang_valid.specs.Typing.{Scope, Around, at_top, named, in_a_loop, literal_type, result_of, type_of, is_call}
 use Rattle.asm_lang_valid.specs.Typed.{scope_of}
-use Rattle.wasm2js_words.specs.Names.{Name, fixed, spelled}
-use Rattle.wasm2js_words.specs.Words.{Term, read, number, both, flip, sum, product, zeros, compare, choose, byte, whole, Summands, no_more, further, Simple, put, guard, write_byte, write_whole, expr, int_of, as_number, signed_number, simple_statement, trap_call, stmts_in}
+use Rattle.wasm2js_words.specs.Names.{Name, spelled}
+use Rattle.wasm2js_words.specs.Words.{Term, read, number, both, flip, sum, product, zeros, compare, choose, byte, whole, Summands, no_more, further, put, guard, write_byte, write_whole, expr, int_of, as_number, signed_number, simple_statement, trap_call, stmts_in}
 use Rattle.wasm2js_laws_words.specs.Sound.{IsInt, IsSound, AreSound, summands_length, some_summands, term_depth}
 use Rattle.wasm2js_laws_words.specs.Laws.{IsFineExpr, IsFine}
 use Rattle.wasm2js_laws_words.proofs.FineExprs.{is_typed_below, signed_fine, plain_fine}
 use Rattle.wasm2js_laws_words.proofs.FineTerms.{term_fine}
 use Rattle.wasm2js_laws_words.proofs.FineActions.{both_true, no_marks, both_marks, simple_fine, trap_fine}
-use Rattle.wasm2js_code.specs.Helpers.{int_param, zero_variable, function_of, block_of, when, repeat, gives, sets, first, second, spare}
+use Rattle.wasm2js_code.specs.Helpers.{zero_variable, function_of, block_of, when, repeat, gives, sets, first, second, spare}
 use Rattle.wasm2js_code.specs.Modules.{translated}
 use Rattle.wasm2js_laws_scopes.specs.Laws.{is_own}
 use Rattle.wasm2js_laws_scopes.specs.Provided.{AreInts, HasFixed, HasMemory}
@@ -61,7 +60,6 @@ mutual
     ◌▸◌ : Piece → Pieces → Pieces
 
 infixr 60 ◌▸◌
-
 abbrev pub divided_value : Bool → JsOp → Expr
 divided_value signed op = binary op (as_number signed (expr first)) (as_number signed (expr second))
 

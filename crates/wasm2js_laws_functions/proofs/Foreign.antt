@@ -10,10 +10,10 @@ use Rattle.wasm_lang.specs.declared.types.ImportKind.{ImportKind}
 use Rattle.wasm_lang.specs.declared.types.ImportKind.TheVariants as imports
 use Rattle.wasm_lang.specs.Modules.{FunctionType, Imported, FunctionBody, WasmModule}
 use Rattle.wasm_lang_valid.specs.declared.section.Section.TheVariants as sections
-use Rattle.wasm_lang_valid.specs.ModuleRules.{is_type, has_memory, import_rule, item_rule, at}
+use Rattle.wasm_lang_valid.specs.ModuleRules.{is_type, has_memory, import_rule, at}
 use Rattle.wasm_lang_valid.specs.Validity.{no_type, IsValidModule}
 use Rattle.wasm_lang_exec.specs.Code.{Trees, tree_of}
-use Rattle.wasm_lang_exec.specs.Reductions.{Callee, an_import, a_function, if_function, imported_callee, imported_callees, own_callee, own_callees, callees}
+use Rattle.wasm_lang_exec.specs.Reductions.{Callee, an_import, if_function, imported_callee, imported_callees, own_callee, own_callees, callees}
 use Rattle.wasm_laws_sound.proofs.Functions.{meets_none}
 use Rattle.asm_lang.specs.Modules.{Stmt, Variable, Module}
 use Rattle.asm_lang_valid.specs.Scope as scopes

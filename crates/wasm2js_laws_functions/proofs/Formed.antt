@@ -1,10 +1,9 @@
 -- The instructions in the tree of a body are those of its expression: they have opcodes, their constants are words, and the types that
 -- calls of entries name are among those that are called.
-use Rattle.std.proofs.Common.{◌≡◌, ℕ, zero, suc, ◌<◌, ◌^◌, Bool, true, false, cond, List, [], ◌∷◌, ◌++◌, Option, Some, None, refl, sym, ap, ◌∙◌, subst}
-use Rattle.std.specs.Prelude.{slice_get, All, ◌&&◌, ◌||◌}
+use Rattle.std.proofs.Common.{◌≡◌, ℕ, zero, suc, Bool, true, false, List, [], ◌∷◌, ◌++◌, Some, refl, sym, subst}
+use Rattle.std.specs.Prelude.{slice_get, All, ◌||◌}
 use Rattle.std.specs.List.{AllByRecursion}
 use Rattle.std.specs.Cmp.Lexicographic.{pointwise}
-use Rattle.std.specs.Map.{lookup}
 use Rattle.std.proofs.lemmas.List.Elements.{recursion_from_All}
 use Rattle.wasm_lang.specs.declared.types.ValType.{ValType}
 use Rattle.wasm_lang.specs.declared.types.ValType.TheVariants.{I32, I64}
@@ -16,7 +15,7 @@ use Rattle.wasm_lang.specs.Shape.{HasOpcode, IsShapedCode}
 use Rattle.wasm_lang.proofs.Table.{all_pass, found_passes}
 use Rattle.wasm_lang_valid.specs.Typing.{same}
 use Rattle.wasm_lang_valid.specs.Measures.{called, called_in, called_types, same_type, is_among}
-use Rattle.wasm_lang_exec.specs.Code.{Tree, unreachable, block, loop, if_block, br, br_if, br_table, return, call, call_indirect, plain, Trees, ε, ◌▹◌, ◌⊕◌, one, Open, a_block, a_loop, an_if, an_else, nest, tree_of}
+use Rattle.wasm_lang_exec.specs.Code.{unreachable, block, loop, if_block, br, br_if, br_table, return, call, call_indirect, plain, Trees, ε, ◌▹◌, ◌⊕◌, one, Open, a_block, a_loop, an_if, an_else, nest, tree_of}
 use Rattle.wasm2js_laws_typed.specs.Laws.{is_access, IsFormed}
 use Rattle.wasm2js_laws_typed.specs.Bodies.{IsFormedCode}
 use Rattle.wasm2js_laws_functions.specs.Functions.{HasWord, is_called}

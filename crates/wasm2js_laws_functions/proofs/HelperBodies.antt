@@ -1,5 +1,5 @@
 -- The helpers are fine.
-use Rattle.std.proofs.Common.{◌≡◌, ℕ, ◌+◌, ◌*◌, ◌^◌, ◌≤◌, ◌<◌, Bool, true, false, cond, List, [], ◌∷◌, ◌++◌, length, Option, Some, None, refl, sym, ap, subst, arith}
+use Rattle.std.proofs.Common.{◌≡◌, ℕ, ◌+◌, ◌*◌, ◌^◌, ◌≤◌, ◌<◌, Bool, true, false, cond, List, [], ◌∷◌, ◌++◌, Option, Some, None, refl, sym, arith}
 use Rattle.std.specs.Prelude.{nat_lt, if◌then◌else◌, negsuc}
 use Rattle.std.specs.List.{AllByRecursion}
 use Rattle.std.proofs.lemmas.Bool.Decides.{nat_tests}
@@ -15,12 +15,11 @@ use Rattle.wasm2js_words.specs.Words.{Term, conjunction, disjunction, shift_left
 use Rattle.wasm2js_code.specs.Pairs.{literal, plus, minus, sign_of, funnel_left, funnel_right}
 use Rattle.wasm2js_code.specs.Actions.{low_ones, place}
 use Rattle.wasm2js_code.specs.Helpers.{argument, own, first, second, third, spare, one_argument, two_arguments, three_arguments, is_far, shift_left_function, shift_right_signed_function, shift_right_function, rotate_left_function, leading_zeros_function, trailing_zeros_function, set_bits_function, wide_helpers, division_helpers, word_at, access_helpers, is_whole, four_times, copy_function, fill_function, memory_helpers}
-use Rattle.wasm2js_code.specs.Helpers as helping
 use Rattle.wasm2js_code.specs.Modules.{helpers, translated}
 use Rattle.wasm2js_laws_functions.specs.Functions.{IsFineFunction, of_trap, IsSource}
 use Rattle.wasm2js_laws_functions.specs.Laws.{HelpersAreFine}
 use Rattle.wasm2js_laws_functions.proofs.Limited.{at_most as no_more, limited}
-use Rattle.wasm2js_laws_functions.proofs.Checking.{Piece, set, give, in_case, while_so, one_of, test, bound, set_byte, set_word, divided, Pieces, done, ◌▸◌, stmts_of, variables, answers, check_pieces, checked}
+use Rattle.wasm2js_laws_functions.proofs.Checking.{Piece, set, give, in_case, while_so, one_of, test, bound, set_byte, set_word, divided, Pieces, done, ◌▸◌, variables, answers, check_pieces, checked}
 
 module _ (w : WasmModule) where
   abbrev Fine : Function → Type 0
@@ -86,9 +85,13 @@ module _ (w : WasmModule) where
   division_fine : AllByRecursion Fine division_helpers
   division_fine = (
     checked w false none (fixed names.divide_signed) two_arguments [] (by_zero ▸ overflow ▸ divided true Div ▸ done) refl refl (omega arith) (omega arith) refl refl,
-    (checked w false none (fixed names.divide) two_arguments [] (by_zero ▸ divided false Div ▸ done) refl refl (omega arith) (omega arith) refl refl,
-    (checked w false none (fixed names.remainder_signed) two_arguments [] (by_zero ▸ divided true Rem ▸ done) refl refl (omega arith) (omega arith) refl refl,
-    (checked w false none (fixed names.remainder) two_arguments [] (by_zero ▸ divided false Rem ▸ done) refl refl (omega arith) (omega arith) refl refl, tt))),
+    (
+      checked w false none (fixed names.divide) two_arguments [] (by_zero ▸ divided false Div ▸ done) refl refl (omega arith) (omega arith) refl refl,
+      (
+        checked w false none (fixed names.remainder_signed) two_arguments [] (by_zero ▸ divided true Rem ▸ done) refl refl (omega arith) (omega arith) refl refl,
+        (checked w false none (fixed names.remainder) two_arguments [] (by_zero ▸ divided false Rem ▸ done) refl refl (omega arith) (omega arith) refl refl, tt),
+      ),
+    ),
   )
 
   -- ---- the memory
@@ -107,9 +110,13 @@ module _ (w : WasmModule) where
     access_fine : AllByRecursion Fine access_helpers
     access_fine = (
       checked w true there (fixed names.load_32) one_argument [] (give (word_at 0) ▸ done) refl refl (omega arith) (omega arith) refl refl,
-      (checked w true there (fixed names.load_64) one_argument [] (set spare (word_at 4) ▸ give (word_at 0) ▸ done) refl refl (omega arith) (omega arith) refl refl,
-      (checked w true there (fixed names.store_32) two_arguments [] (write 0 second done) refl refl (omega arith) (omega arith) refl refl,
-      (checked w true there (fixed names.store_64) three_arguments [] (write 0 second (write 4 third done)) refl refl (omega arith) (omega arith) refl refl, tt))),
+      (
+        checked w true there (fixed names.load_64) one_argument [] (set spare (word_at 4) ▸ give (word_at 0) ▸ done) refl refl (omega arith) (omega arith) refl refl,
+        (
+          checked w true there (fixed names.store_32) two_arguments [] (write 0 second done) refl refl (omega arith) (omega arith) refl refl,
+          (checked w true there (fixed names.store_64) three_arguments [] (write 0 second (write 4 third done)) refl refl (omega arith) (omega arith) refl refl, tt),
+        ),
+      ),
     )
 
     -- ---- runs of bytes
@@ -158,10 +165,10 @@ module _ (w : WasmModule) where
       is_number = let more : bytes < 2 ^ 32 = omega (arith, few) in grind (arith, nat_tests, more)
 
       copy_checked : check_pieces (variables three_arguments (own 0 ∷ [])) true (answers copy_body) copy_body ≡ true
-      copy_checked = let e = is_fixnum in let f = is_number in rw (e, f) refl
+      copy_checked = let e = is_fixnum in let f = is_number in rw (e, f) (refl {a = true})
 
       fill_checked : check_pieces (variables three_arguments (own 0 ∷ own 1 ∷ [])) true (answers fill_body) fill_body ≡ true
-      fill_checked = let e = is_fixnum in let f = is_number in rw (e, f) refl
+      fill_checked = let e = is_fixnum in let f = is_number in rw (e, f) (refl {a = true})
 
       copy_fine : Fine (copy_function bytes)
       copy_fine = checked w true there (fixed names.copy) three_arguments (own 0 ∷ []) copy_body refl refl (omega arith) (omega arith) refl copy_checked

@@ -12,3 +12,4 @@ pub mod HelperBodies
 pub mod Foreign
 pub mod Wrapping
 pub mod Starting
+pub mod Together

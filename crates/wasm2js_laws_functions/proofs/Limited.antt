@@ -1,15 +1,15 @@
 -- What the profile says of a module, as inequalities.
-use Rattle.std.proofs.Common.{◌≡◌, ℕ, zero, suc, ◌+◌, ◌*◌, ◌^◌, ◌<◌, ◌≤◌, Bool, true, false, cond, List, [], ◌∷◌, length, Option, Some, None, refl, sym, ap, ◌∙◌, subst, arith}
+use Rattle.std.proofs.Common.{◌≡◌, ℕ, zero, suc, ◌*◌, ◌≤◌, Bool, true, false, cond, List, [], ◌∷◌, length, Option, Some, None, refl, subst, arith}
 use Rattle.std.specs.Prelude.{slice_get, nat_lt}
 use Rattle.std.proofs.lemmas.Bool.Decides.{nat_tests}
-use Rattle.wasm_lang.specs.Modules.{FunctionType, DataSegment, WasmModule}
+use Rattle.wasm_lang.specs.Modules.{FunctionType, WasmModule}
 use Rattle.wasm_lang_valid.specs.declared.profile.Beyond.{Beyond}
 use Rattle.wasm_lang_valid.specs.declared.profile.Beyond.TheVariants.{ImportedTable, MutableImport, MixedImport, WideImport, OffsetFromImport, SegmentOutside, MemoryLarge, Levels, Size, WideMulDiv}
 use Rattle.wasm_lang_valid.specs.declared.profile.Outside.{Outside}
 use Rattle.wasm_lang_valid.specs.Measures.{measures_of}
 use Rattle.wasm_lang_valid.specs.ModuleRules.{is_table, function_types, global_types}
 use Rattle.wasm_lang_valid.specs.Runnable.{is_mutable, first_import, above, most_pages_to_run, pages, row_or}
-use Rattle.wasm_lang_valid.specs.Profile.{where_so, or_zero, wide_import, offset_from_import, segment_outside, table_length, memory_bytes, most_levels, most_params, too_many, params_past, names_past, size_past, most_functions, most_globals, most_slots, most_entries, most_cells, padded, outside_profile}
+use Rattle.wasm_lang_valid.specs.Profile.{where_so, wide_import, offset_from_import, segment_outside, table_length, memory_bytes, most_levels, most_params, too_many, params_past, names_past, size_past, most_functions, most_globals, most_slots, most_entries, most_cells, padded, outside_profile}
 
 -- ---- rows
 
@@ -76,9 +76,9 @@ pub record IsLimited (w : WasmModule) : Type 0 where
 pub limited : (w : WasmModule) → outside_profile w ≡ None → IsLimited w
 limited w h =
     let rows = rows_are_none ImportedTable MutableImport MixedImport WideImport OffsetFromImport SegmentOutside MemoryLarge Levels Size
-        (first_import is_table 0 w.imports) (first_import is_mutable 0 w.imports) (measures_of w).mixed (wide_import w 0 w.imports)
-        (offset_from_import 0 w.elements w.segments) (segment_outside (table_length w) (memory_bytes w) 0 w.elements w.segments)
-        (above most_pages_to_run (pages w)) (above most_levels (Some (measures_of w).levels)) (size_past w) (row_or WideMulDiv (measures_of w).mul_div None) h in
+    (first_import is_table 0 w.imports) (first_import is_mutable 0 w.imports) (measures_of w).mixed (wide_import w 0 w.imports)
+    (offset_from_import 0 w.elements w.segments) (segment_outside (table_length w) (memory_bytes w) 0 w.elements w.segments)
+    (above most_pages_to_run (pages w)) (above most_levels (Some (measures_of w).levels)) (size_past w) (row_or WideMulDiv (measures_of w).mul_div None) h in
     let cells = too_many most_cells ((measures_of w).call_types * padded (table_length w)) (names_past w.imports) in
     let entries = too_many most_entries (table_length w) cells in
     let slots = too_many most_slots (measures_of w).slots entries in

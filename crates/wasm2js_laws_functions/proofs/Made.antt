@@ -1,9 +1,9 @@
 -- A function that is made of fine statements, with as few variables as may be, is fine.
-use Rattle.std.proofs.Common.{◌≡◌, ℕ, zero, suc, ◌+◌, ◌≤◌, max, Bool, true, false, ◌&&◌, List, [], ◌∷◌, ◌++◌, length, map, refl, sym, ap, subst, arith}
+use Rattle.std.proofs.Common.{◌≡◌, ℕ, ◌+◌, ◌≤◌, max, true, List, [], ◌∷◌, length, map, refl, sym, subst, arith}
 use Rattle.std.specs.List.{AllByRecursion}
 use Rattle.std.proofs.lemmas.List.{length-map}
 use Rattle.asm_lang.specs.Modules.{Stmt, Function, Module}
-use Rattle.asm_lang.specs.Heights.{leaves_height, function_height, stmts_height}
+use Rattle.asm_lang.specs.Heights.{leaves_height, stmts_height}
 use Rattle.asm_laws_print.specs.Fitting.{FitsParam, FitsLocal, FitsStmts}
 use Rattle.asm_lang_valid.specs.Typing.{at_top, all_typed}
 use Rattle.asm_lang_valid.specs.Typed.{scope_of, locals_typed}

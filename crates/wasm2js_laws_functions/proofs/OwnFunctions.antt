@@ -1,32 +1,30 @@
 -- The functions that the source defines are fine.
-use Rattle.std.proofs.Common.{◌≡◌, ℕ, zero, suc, ◌+◌, ◌*◌, ◌≤◌, max, Bool, true, false, List, [], ◌∷◌, ◌++◌, length, Option, Some, None, refl, sym, ap, ◌∙◌, subst, arith, length-append}
+use Rattle.std.proofs.Common.{◌≡◌, ℕ, ◌+◌, ◌*◌, ◌≤◌, max, List, [], ◌∷◌, ◌++◌, length, Option, Some, None, refl, sym, ap, subst, arith, length-append}
 use Rattle.std.specs.Prelude.{slice_get, is_some}
 use Rattle.std.specs.List.{flat_map, range_with_len}
 use Rattle.std.proofs.lemmas.Option.{slice_get_within}
 use Rattle.wasm_lang.specs.declared.types.ValType.{ValType}
-use Rattle.wasm_lang.specs.Modules.{FunctionType, FunctionBody, WasmModule}
+use Rattle.wasm_lang.specs.Modules.{FunctionType, WasmModule}
 use Rattle.wasm_lang_valid.specs.declared.section.Section.TheVariants as sections
 use Rattle.wasm_lang_valid.specs.Measures.{measures_of}
 use Rattle.wasm_lang_valid.specs.Profile.{memory_bytes}
-use Rattle.wasm_lang_valid.specs.State.{around, at_start}
-use Rattle.wasm_lang_valid.specs.Typing.{Context, IsValid, listed, result_of}
-use Rattle.wasm_lang_valid.specs.Validity.{own_type, body_context, IsValidBody}
-use Rattle.wasm_lang_exec.specs.Code.{Trees, tree_of}
+use Rattle.wasm_lang_valid.specs.Typing.{Context, listed, result_of}
+use Rattle.wasm_lang_valid.specs.Validity.{IsValidBody}
+use Rattle.wasm_lang_exec.specs.Code.{Trees}
 use Rattle.wasm_lang_exec.specs.Reductions.{a_function, callees, found}
-use Rattle.wasm_laws_sound.specs.Trees.{IsTyped}
 use Rattle.wasm_laws_sound.proofs.Functions.{functions_are_typed}
 use Rattle.wasm_laws_trees.specs.Spelled.{tree_levels}
 use Rattle.wasm_laws_widths.specs.Depth.{depth}
 use Rattle.wasm_laws_widths.proofs.Slots.{bodies_are_within}
-use Rattle.asm_lang.specs.Modules.{Stmt, Function}
+use Rattle.asm_lang.specs.Modules.{Function}
 use Rattle.asm_lang_valid.specs.Typing as target
 use Rattle.asm_lang_valid.specs.Typing.{Scope, Around, at_top}
 use Rattle.asm_lang_valid.specs.Typed.{scope_of}
-use Rattle.wasm2js_words.specs.Names.{Name, numbered, function}
+use Rattle.wasm2js_words.specs.Names.{numbered, function}
 use Rattle.wasm2js_code.specs.Actions.{under}
 use Rattle.wasm2js_code.specs.Bodies.{out, leave_with, stmts_of, closing, body_stmts}
 use Rattle.wasm2js_code.specs.Modules.{param_names, context_of, own_function, translated}
-use Rattle.wasm2js_code.specs.Rooms.{Room, here, with_room, room_of, body_room, local_names, operand_names, declared_names}
+use Rattle.wasm2js_code.specs.Rooms.{Room, here, room_of, body_room, local_names, operand_names, declared_names}
 use Rattle.wasm2js_code.specs.Tables.{cell_count}
 use Rattle.wasm2js_laws_scopes.specs.Provided.{HasRoom}
 use Rattle.wasm2js_laws_scopes.proofs.Declared.{room_is_declared}

@@ -1,10 +1,8 @@
 -- Statements of functions that are made for a purpose: returns, and foreign calls.
-use Rattle.std.proofs.Common.{◌≡◌, ℕ, ◌+◌, ◌≤◌, ◌<◌, ◌^◌, max, Bool, true, false, ◌&&◌, List, [], ◌∷◌, ◌++◌, length, map, Option, Some, None, refl, sym, ap, ◌∙◌, subst, arith}
-use Rattle.std.specs.Prelude.{pos}
-use Rattle.std.specs.List.{AllByRecursion, list_all, range_with_len}
+use Rattle.std.proofs.Common.{◌≡◌, ℕ, ◌+◌, ◌≤◌, true, List, [], ◌∷◌, ◌++◌, Some, refl, sym, subst, arith}
+use Rattle.std.specs.List.{AllByRecursion}
 use Rattle.asm_types.specs.declared.value_type.ValueType.TheVariants.{Fixnum, Signed}
-use Rattle.asm_lang.specs.Modules.{Expr, Stmt, returns}
-use Rattle.asm_lang.specs.Heights.{expr_height}
+use Rattle.asm_lang.specs.Modules.{Expr, returns}
 use Rattle.asm_lang_valid.specs.Typing.{Scope, Around, result_of}
 use Rattle.asm_lang_valid.specs.LimitRows.{ForeignCall, Mark, expr_marks}
 use Rattle.wasm2js_words.specs.Words.{natural}

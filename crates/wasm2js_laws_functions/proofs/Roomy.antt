@@ -13,14 +13,13 @@ use Rattle.wasm_lang_valid.specs.declared.rule.Rule.{Rule}
 use Rattle.wasm_lang_valid.specs.declared.rule.Rule.TheVariants.{NoLabel, NoFunction, NoType, NoTable}
 use Rattle.wasm_lang_valid.specs.Typing.{Context, Shape, Fixed, Leaves, AnyOne, TwoAlike, Acts, found, unless, onward, listed, result_of as type_result, type_of, call_shape, plain_shape, shape, inside}
 use Rattle.wasm_lang_exec.specs.Code.{unreachable, block, loop, if_block, br, br_if, br_table, return, call, call_indirect, plain, Trees, ε, ◌▹◌}
-use Rattle.wasm_laws_sound.specs.Trees.{Steps, IsTyped}
+use Rattle.wasm_laws_sound.specs.Trees.{IsTyped}
 use Rattle.wasm_laws_widths.specs.Depth.{in_further, depth}
-use Rattle.wasm2js_words.specs.Names.{Name}
 use Rattle.wasm2js_code.specs.Pairs.{Pair, names_of, local_pair, operand_pair}
 use Rattle.wasm2js_code.specs.Actions.{under}
-use Rattle.wasm2js_code.specs.Bodies.{after_shape, after_form, after_plain, types_after_call}
+use Rattle.wasm2js_code.specs.Bodies.{after_form, after_plain, types_after_call}
 use Rattle.wasm2js_code.specs.Modules.{param_names}
-use Rattle.wasm2js_code.specs.Rooms.{wide_from, here, local_named, room_of, local_names, operand_names}
+use Rattle.wasm2js_code.specs.Rooms.{wide_from, room_of, local_names, operand_names}
 use Rattle.wasm2js_laws_typed.proofs.SoundPlain.{of_fixed, under_none}
 use Rattle.wasm2js_laws_typed.proofs.TypedShapes.{same_shape, GoesOn, plain_goes_on, plain_after}
 

@@ -1,6 +1,6 @@
 -- A function has a result exactly where its type has one.
-use Rattle.std.proofs.Common.{◌≡◌, ℕ, zero, suc, ◌+◌, ◌/◌, Bool, true, false, List, [], ◌∷◌, ◌++◌, length, drop, take, Option, Some, None, refl, sym, ap, ◌∙◌, subst}
-use Rattle.std.specs.Prelude.{is_some, slice_get, if◌then◌else◌, ◌==◌}
+use Rattle.std.proofs.Common.{◌≡◌, ℕ, zero, suc, ◌+◌, false, List, [], ◌∷◌, ◌++◌, drop, Option, Some, None, refl, sym, ap, ◌∙◌, subst}
+use Rattle.std.specs.Prelude.{is_some, slice_get}
 use Rattle.wasm_lang.specs.declared.types.ValType.{ValType}
 use Rattle.wasm_lang.specs.declared.types.ValType.TheVariants.{I32, I64}
 use Rattle.wasm_lang.specs.Modules.{FunctionType}
@@ -8,9 +8,9 @@ use Rattle.wasm_lang_valid.specs.Typing.{Context, listed, result_of as type_resu
 use Rattle.wasm_lang_exec.specs.Code.{unreachable, block, loop, if_block, br, br_if, br_table, return, call, call_indirect, plain, Trees, ε, ◌▹◌}
 use Rattle.asm_lang.specs.Modules.{Expr, Stmt, returns}
 use Rattle.asm_lang_valid.specs.Scope.{gives_value, last_gives_value}
-use Rattle.wasm2js_words.specs.Words.{Simple, put, ask, tell, guard, stop, write_byte, write_whole, Action, simply, either, simple_statement, statement, statements, stmts_in}
+use Rattle.wasm2js_words.specs.Words.{Simple, put, ask, tell, guard, stop, write_byte, write_whole, Action, simply, either, simple_statement, statements, stmts_in}
 use Rattle.wasm2js_code.specs.Actions.{actions}
-use Rattle.wasm2js_code.specs.Bodies.{Aim, out, label_of, signed_word, high_result, leave_with, branch, jump, switches_from, by_index, answered, call_stmts, indirect_stmts, types_after_call, after_plain, stmts_of, closing, body_stmts}
+use Rattle.wasm2js_code.specs.Bodies.{out, signed_word, leave_with, jump, switches_from, answered, call_stmts, indirect_stmts, types_after_call, after_plain, stmts_of, closing, body_stmts}
 
 -- ---- the last statement
 

@@ -1,25 +1,22 @@
 -- The function that a session begins with is fine.
-use Rattle.std.proofs.Common.{◌≡◌, ℕ, zero, suc, ◌+◌, ◌-◌, ◌*◌, ◌/◌, ◌%◌, ◌^◌, ◌≤◌, ◌<◌, max, Bool, true, false, ◌&&◌, List, [], ◌∷◌, ◌++◌, length, take, drop, Option, Some, None, refl, sym, ap, ◌∙◌, subst, arith, length-append}
+use Rattle.std.proofs.Common.{◌≡◌, ℕ, zero, suc, ◌+◌, ◌*◌, ◌/◌, ◌^◌, ◌≤◌, ◌<◌, Bool, true, false, ◌&&◌, List, [], ◌∷◌, ◌++◌, length, take, drop, Option, Some, None, refl, sym, ap, ◌∙◌, subst, arith}
 use Rattle.std.specs.Prelude.{ℤ, pos, is_some, slice_get, All, nat_lt, nat_eq, if◌then◌else◌}
-use Rattle.std.specs.List.{AllByRecursion, list_all, flat_map}
+use Rattle.std.specs.List.{AllByRecursion, flat_map}
 use Rattle.std.proofs.lemmas.Bool.{and_parts}
 use Rattle.std.proofs.lemmas.Bool.Decides.{nat_tests}
 use Rattle.std.proofs.lemmas.List.Elements.{recursion_from_All}
 use Rattle.std.proofs.lemmas.Option.{slice_get_within}
 use Rattle.sem_words.specs.Words.{signed_of}
 use Rattle.heap_views.specs.Numbers.{little_endian}
-use Rattle.wasm_lang.specs.declared.types.ValType.{ValType}
 use Rattle.wasm_lang.specs.declared.types.ValType.TheVariants.{I32}
 use Rattle.wasm_lang.specs.Instructions as code
 use Rattle.wasm_lang.specs.Instructions.{Instruction, plain}
 use Rattle.wasm_lang.specs.Modules.{FunctionType, ElementSegment, DataSegment, WasmModule}
-use Rattle.wasm_lang_valid.specs.declared.rule.Rule.{Rule}
 use Rattle.wasm_lang_valid.specs.declared.rule.Rule.TheVariants.{Initializer}
 use Rattle.wasm_lang_valid.specs.declared.section.Section.TheVariants as sections
-use Rattle.wasm_lang_valid.specs.ModuleRules.{meets, is_end, is_empty, has_memory, is_function, is_start, is_memory_number, init_rule, segment_rule, start_rule, type_of_function, item_rule, at, function_types}
-use Rattle.wasm_lang_valid.specs.Profile.{where_so, or_zero, is_global_offset, constant_offset, passes, global_segment, offset_from_import, outside_memory, segment_outside, table_length, memory_bytes}
-use Rattle.wasm_lang_valid.specs.Typing.{Context, result_of as type_result, type_of}
-use Rattle.wasm_lang_valid.specs.Validity.{no_type, start_count, IsValidModule}
+use Rattle.wasm_lang_valid.specs.ModuleRules.{meets, is_end, is_empty, has_memory, is_function, is_start, is_memory_number, init_rule, segment_rule, start_rule, type_of_function, at}
+use Rattle.wasm_lang_valid.specs.Profile.{or_zero, is_global_offset, constant_offset, passes, global_segment, offset_from_import, outside_memory, segment_outside, table_length, memory_bytes}
+use Rattle.wasm_lang_valid.specs.Validity.{start_count}
 use Rattle.wasm_laws_sound.proofs.Functions.{meets_none, meets_rest}
 use Rattle.asm_types.specs.declared.value_type.ValueType.{ValueType}
 use Rattle.asm_types.specs.declared.value_type.ValueType.TheVariants.{Int, Intish}
@@ -28,28 +25,29 @@ use Rattle.asm_lang.specs.Modules.{Expr, lit, call, store, no_exprs, Stmt}
 use Rattle.asm_lang_valid.specs.declared.meaning.Element.{Element}
 use Rattle.asm_lang_valid.specs.declared.meaning.Element.TheVariants.{Uint8, Int32}
 use Rattle.asm_lang_valid.specs.Scope.{a_view, shift_of, Signature, last_gives_value}
-use Rattle.asm_lang_valid.specs.LimitRows.{expr_marks}
-use Rattle.asm_lang_valid.specs.Typing.{Scope, Around, at_top, named, literal_type, typed_below, index_fits, type_of as expr_type}
+use Rattle.asm_lang_valid.specs.Typing.{Scope, Around, at_top, named, literal_type, index_fits, type_of as expr_type}
 use Rattle.asm_lang_valid.specs.Typed.{scope_of}
-use Rattle.wasm2js_words.specs.Names.{Name, Fixed, numbered, function, fixed, init, view_of_bytes, view_of_words, spelled}
+use Rattle.wasm2js_words.specs.Names.{Fixed, numbered, function, fixed, init, view_of_bytes, view_of_words}
 use Rattle.wasm2js_words.specs.Words.{name_of}
 use Rattle.wasm2js_laws_words.specs.Laws.{IsFineExpr, IsFine}
 use Rattle.wasm2js_laws_words.proofs.FineExprs.{is_identifier, is_typed_below, intish, literal_fine}
-use Rattle.wasm2js_laws_words.proofs.FineActions.{both_true, no_marks, some_if}
-use Rattle.wasm2js_code.specs.Helpers.{function_of}
-use Rattle.wasm2js_code.specs.Modules.{set_byte, set_word, set_bytes, set_words, to_word, set_run, segment_stmts, start_stmts, init_function, context_of, translated}
+use Rattle.wasm2js_laws_words.proofs.FineActions.{both_true, no_marks}
+use Rattle.wasm2js_code.specs.Modules.{set_byte, set_word, set_bytes, set_words, to_word, set_run, segment_stmts, start_stmts, init_function, translated}
 use Rattle.wasm2js_laws_scopes.specs.Provided.{HasMemory, IsFunction, signature_for}
 use Rattle.wasm2js_laws_scopes.proofs.HeadNames.{memories_are_provided}
 use Rattle.wasm2js_laws_typed.specs.Constructs.{AllFine}
 use Rattle.wasm2js_laws_typed.proofs.Facts.{plain_literal, signed_literal}
 use Rattle.wasm2js_laws_typed.proofs.FineBlocks.{all_join, together}
 use Rattle.wasm2js_laws_functions.specs.Functions.{IsFineFunction, of_trap, IsSource}
-use Rattle.wasm2js_laws_functions.specs.Laws.{InitIsFine}
+use Rattle.wasm2js_laws_functions.specs.Laws.{HasFunctions, InitIsFine}
 use Rattle.wasm2js_laws_functions.proofs.Limited.{where_none, at_most, limited}
 use Rattle.wasm2js_laws_functions.proofs.Made.{made_of_fine}
 use Rattle.wasm2js_laws_functions.proofs.HelperBodies.{memory_small}
 
 -- ---- one write
+
+some_if : (b : Bool) (o : Option ValueType) (t : ValueType) → b ≡ true → o ≡ Some t → is_some (if b then o else None) ≡ true
+some_if b o t p q = rw (p, q) refl
 
 module _ (s : Scope) (a : Around) where
   write_fine : (v : Element) (view : Fixed) (i : ℕ) (z : ℤ) → named s (name_of view) ≡ a_view v → index_fits (a_view v) (lit (pos i)) (expr_type s (lit (pos i))) ≡ true
@@ -205,9 +203,6 @@ no_items [] h = refl
 no_items (x ∷ xs) h = cc h
 
 module _ (w : WasmModule) where
-  abbrev c : Context
-  c = context_of w no_type []
-
   no_signature : (t : FunctionType) → (is_empty t.params && is_empty t.results) ≡ true → signature_for t ≡ record { params = 0; result = false }
   no_signature t h =
       let p = and_parts (is_empty t.params) (is_empty t.results) h in
@@ -215,14 +210,52 @@ module _ (w : WasmModule) where
       let f = no_items t.results p.1 in
       rw (e, f) refl
 
-  start_type : (f : ℕ) → is_start (type_of_function w f) ≡ true → (t : FunctionType) × (type_of c f ≡ Some t) × (signature_for t ≡ record { params = 0; result = false })
-  start_type f h = by (slice_get (function_types w) f) refl
+  start_type : (f : ℕ) → is_start (type_of_function w f) ≡ true → (t : FunctionType) × (type_of_function w f ≡ Some t) × (signature_for t ≡ record { params = 0; result = false })
+  start_type f h = by (type_of_function w f) refl h
     where
-      found : (n : ℕ) (o : Option FunctionType) → slice_get w.types n ≡ o → slice_get (function_types w) f ≡ Some n → is_start o ≡ true
-          → (t : FunctionType) × (type_of c f ≡ Some t) × (signature_for t ≡ record { params = 0; result = false })
-      found n None e is h = cc h
-      found n (Some t) e is h = (t, rw (is, e) refl, no_signature t h)
+      by : (o : Option FunctionType) → type_of_function w f ≡ o → is_start o ≡ true → (t : FunctionType) × (type_of_function w f ≡ Some t) × (signature_for t ≡ record { params = 0; result = false })
+      by None e h = absurd (cc h)
+      by (Some t) e h = (t, e, no_signature t h)
 
-      by : (o : Option ℕ) → slice_get (function_types w) f ≡ o → (t : FunctionType) × (type_of c f ≡ Some t) × (signature_for t ≡ record { params = 0; result = false })
-      by None e = let none : is_start (type_of_function w f) ≡ false = rw e refl in cc (none, h)
-      by (Some n) e = let some : type_of_function w f ≡ slice_get w.types n = rw e refl in found n (slice_get w.types n) refl e (sym (ap is_start some) ∙ h)
+  -- ---- the function
+
+  module _ (source : IsSource w) (given : HasFunctions w (init_function w)) where
+    abbrev s : Scope
+    s = scope_of (translated w) (init_function w)
+
+    memory_there : (d : DataSegment) → segment_rule w d ≡ None → has_memory w ≡ true
+    memory_there d h = (and_parts (nat_eq d.memory 0) (has_memory w) (meets_none (is_memory_number w d.memory) _ _ h)).1
+
+    put : (i : ℕ) (d : DataSegment) → slice_get w.segments i ≡ Some d → IsPut s at_top d
+    put i d e =
+        let limits = limited w source.within in
+        let rule : segment_rule w d ≡ None = sym (ap (λ o. at o (segment_rule w)) e) ∙ source.whole.is_valid sections.Data i (slice_get_within w.segments i d e) in
+        let constant = past_element_offsets 0 w.elements w.segments limits.constant in
+        let global = at_place (λ (d : DataSegment). is_global_offset d.offset ≡ false) w.segments i d (none_global constant.0 w.segments constant.1) e in
+        let n = is_constant w d.offset (meets_rest (is_memory_number w d.memory) _ _ rule) global in
+        let outside = past_elements (table_length w) (memory_bytes w) 0 w.elements w.segments limits.inside in
+        let fits = at_place (λ (d : DataSegment). passes (constant_offset d.offset) (length d.bytes) (memory_bytes w) ≡ false) w.segments i d (none_passes (memory_bytes w) outside.0 w.segments outside.1) e in
+        record {
+          memory = memories_are_provided w (fixed init) [] [] (flat_map segment_stmts w.segments ++ start_stmts w.start) refl refl (memory_there d rule);
+          inside = in_turn (inside_room (constant_offset d.offset) n.0 (length d.bytes) (memory_bytes w) n.1 fits) (memory_small w source);
+          bytes = recursion_from_All (λ b. b < 256) d.bytes
+              (at_place (λ (d : DataSegment). All (λ b. b < 256) d.bytes) w.segments i d (recursion_from_All (λ (d : DataSegment). All (λ b. b < 256) d.bytes) w.segments source.bytes) e);
+        }
+
+    starts : (o : Option ℕ) → w.start ≡ o → AllFine s at_top 3 (start_stmts o)
+    starts None e = tt
+    starts (Some f) e =
+        let one : 0 < start_count w.start = subst (λ o. 0 < start_count o) (sym e) (omega arith) in
+        let rule : start_rule w f ≡ None = sym (ap (λ o. at o (start_rule w)) e) ∙ source.whole.is_valid sections.Start 0 one in
+        let t = start_type f (meets_none (is_start (type_of_function w f)) _ _ (meets_rest (is_function w f) _ _ rule)) in
+        let is = given f t.0 t.1 in
+        start_fine s at_top f (record { function = is.function; is_this = is.is_this; signature = is.signature ∙ t.2 })
+
+    fine : IsFineFunction (translated w) of_trap (init_function w)
+    fine =
+        let ss = flat_map segment_stmts w.segments ++ start_stmts w.start in
+        made_of_fine (translated w) (fixed init) [] [] ss 3 (omega arith)
+        (together s at_top 3 ss (all_join s at_top 3 (flat_map segment_stmts w.segments) _ (segments_fine s at_top w.segments (all_from_places (IsPut s at_top) w.segments put)) (starts w.start refl))) (omega arith) (omega arith)
+
+pub init_is_fine : InitIsFine
+init_is_fine w source given = fine w source given

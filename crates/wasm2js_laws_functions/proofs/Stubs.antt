@@ -1,5 +1,5 @@
 -- What stands for missing entries of a table, and the function that gives the last high word, are fine.
-use Rattle.std.proofs.Common.{◌≡◌, ℕ, zero, suc, ◌+◌, ◌*◌, ◌/◌, ◌%◌, ◌^◌, ◌≤◌, ◌<◌, max, Bool, true, false, ◌&&◌, List, [], ◌∷◌, ◌++◌, length, map, Option, Some, None, refl, sym, ap, ◌∙◌, subst, arith}
+use Rattle.std.proofs.Common.{◌≡◌, ℕ, zero, suc, ◌+◌, ◌/◌, ◌%◌, ◌^◌, ◌≤◌, ◌<◌, Bool, true, false, List, [], ◌∷◌, length, map, Some, refl, sym, ap, ◌∙◌, subst, arith}
 use Rattle.std.specs.Prelude.{◌==◌, if◌then◌else◌}
 use Rattle.std.specs.List.{list_all, range_with_len}
 use Rattle.std.proofs.lemmas.List.{length-map}
@@ -7,14 +7,13 @@ use Rattle.wasm_lang.specs.Modules.{WasmModule}
 use Rattle.asm_lang.specs.Modules.{Stmt, Function, returns}
 use Rattle.asm_lang_valid.specs.Typing.{Scope, at_top}
 use Rattle.asm_lang_valid.specs.Typed.{scope_of}
-use Rattle.wasm2js_words.specs.Names.{Name, Numbered, numbered, fixed, last_high}
+use Rattle.wasm2js_words.specs.Names.{Name, numbered, fixed, last_high}
 use Rattle.wasm2js_words.specs.Words.{natural, signed_number, trap_call}
 use Rattle.wasm2js_laws_words.proofs.FineExprs.{intish, variable_fine, signed_fine}
 use Rattle.wasm2js_laws_words.proofs.FineActions.{trap_fine}
 use Rattle.wasm2js_code.specs.Bodies.{word_in, high_result}
 use Rattle.wasm2js_code.specs.Helpers.{argument, function_of}
 use Rattle.wasm2js_code.specs.Modules.{high_function, translated}
-use Rattle.wasm2js_code.specs.Tables.{stub_function}
 use Rattle.wasm2js_laws_scopes.specs.Laws.{is_own}
 use Rattle.wasm2js_laws_scopes.specs.Provided.{HasFixed}
 use Rattle.wasm2js_laws_scopes.proofs.HeadNames.{heads_are_provided}

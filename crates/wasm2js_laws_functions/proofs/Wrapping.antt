@@ -1,6 +1,6 @@
 -- Functions that call imported ones are fine.
-use Rattle.std.proofs.Common.{◌≡◌, ℕ, zero, suc, ◌+◌, ◌*◌, ◌≤◌, max, Bool, true, false, ◌&&◌, List, [], ◌∷◌, ◌++◌, length, Option, Some, None, inl, inr, refl, sym, ap, ◌∙◌, subst, arith, length-append}
-use Rattle.std.specs.Prelude.{is_some, slice_get, bytes_eq, nat_le, ◌==◌, ◌||◌}
+use Rattle.std.proofs.Common.{◌≡◌, ℕ, suc, ◌+◌, ◌≤◌, max, Bool, true, false, List, [], ◌∷◌, length, Option, Some, None, refl, ap, ◌∙◌, arith}
+use Rattle.std.specs.Prelude.{is_some, slice_get, bytes_eq, nat_le, ◌||◌}
 use Rattle.std.specs.List.{AllByRecursion, list_all}
 use Rattle.std.proofs.lemmas.Bool.Decides.{nat_tests}
 use Rattle.std.proofs.lemmas.Slice.Eq.{bytes_eq-Decides}
@@ -9,7 +9,6 @@ use Rattle.asm_types.specs.declared.value_type.ValueType.TheVariants.{Fixnum, Si
 use Rattle.asm_types.specs.Types.{is_below}
 use Rattle.wasm_lang.specs.declared.types.ValType.{ValType}
 use Rattle.wasm_lang.specs.declared.types.ValType.TheVariants.{I32, I64}
-use Rattle.wasm_lang.specs.declared.types.ImportKind.{ImportKind}
 use Rattle.wasm_lang.specs.Modules.{FunctionType, WasmModule}
 use Rattle.wasm_lang_valid.specs.Typing.{result_of as type_result}
 use Rattle.wasm_lang_exec.specs.Reductions.{an_import, callees}
@@ -22,27 +21,25 @@ use Rattle.asm_lang_valid.specs.Scope.{a_foreign}
 use Rattle.asm_lang_valid.specs.Rows.{expr_count, stmt_count}
 use Rattle.asm_lang_valid.specs.LimitRows as limits
 use Rattle.asm_lang_valid.specs.LimitRows.{ForeignCall, Mark, a_use, expr_marks, exprs_marks, call_marks, stmt_marks, stmts_marks}
-use Rattle.asm_lang_valid.specs.Typing.{Scope, at_top, named, same, typed_below, is_call, type_of, all_below, exprs_length, call_fits, result_of, typed, all_typed}
+use Rattle.asm_lang_valid.specs.Typing.{Scope, at_top, named, typed_below, is_call, type_of, all_below, exprs_length, call_fits, result_of, all_typed}
 use Rattle.asm_lang_valid.specs.Typed.{scope_of}
 use Rattle.wasm2js_words.specs.Names as names
 use Rattle.wasm2js_words.specs.Names.{Name, numbered, function, foreign, operand_low, fixed, spelled}
 use Rattle.wasm2js_words.specs.Words.{signed_number, put_in, name_of, stmts_in}
 use Rattle.wasm2js_laws_words.specs.Sound.{IsInt}
 use Rattle.wasm2js_laws_words.specs.Laws.{IsFineExpr}
-use Rattle.wasm2js_laws_words.proofs.FineExprs.{is_identifier, is_typed_below, intish, variable_fine, signed_fine}
+use Rattle.wasm2js_laws_words.proofs.FineExprs.{is_identifier, intish, variable_fine, signed_fine}
 use Rattle.wasm2js_laws_words.proofs.FineActions.{both_true, assigned, equal_self, same_self}
-use Rattle.wasm2js_code.specs.Pairs.{names_of, local_pair}
 use Rattle.wasm2js_code.specs.Actions.{low}
 use Rattle.wasm2js_code.specs.Bodies.{word_in, signed_word, high_result}
 use Rattle.wasm2js_code.specs.Helpers.{function_of}
-use Rattle.wasm2js_code.specs.Modules.{param_names, sent, wrapper_body, wrapper_locals, wrapper, translated}
-use Rattle.wasm2js_code.specs.Rooms.{Room}
+use Rattle.wasm2js_code.specs.Modules.{param_names, sent, wrapper_body, wrapper_locals, translated}
 use Rattle.wasm2js_code.specs.Tables.{words_of}
 use Rattle.wasm2js_laws_scopes.specs.Laws.{is_own}
 use Rattle.wasm2js_laws_scopes.specs.Provided.{AreInts, HasFixed}
 use Rattle.wasm2js_laws_scopes.proofs.Declared.{variables_are_own}
 use Rattle.wasm2js_laws_scopes.proofs.HeadNames.{heads_are_provided}
-use Rattle.wasm2js_laws_functions.specs.Functions.{IsUse, high_use, import_use, of_import, IsFineFunction, IsSource}
+use Rattle.wasm2js_laws_functions.specs.Functions.{IsUse, high_use, IsFineFunction, IsSource}
 use Rattle.wasm2js_laws_functions.specs.Laws.{WrappersAreFine}
 use Rattle.wasm2js_laws_functions.proofs.Limited.{limited}
 use Rattle.wasm2js_laws_functions.proofs.Made.{made}
@@ -63,10 +60,10 @@ same_bytes n = (bytes_eq-Decides n n).1 refl
 is_same_call : (c : ForeignCall) → limits.is_same c c ≡ true
 is_same_call c = let e = same_bytes c.name in let f = equal_self c.params in let g = same_self c.result in rw (e, f, g) refl
 
-first_among : (c : ForeignCall) (cs : List ForeignCall) → limits.is_among c (c ∷ cs) ≡ true
+pub first_among : (c : ForeignCall) (cs : List ForeignCall) → limits.is_among c (c ∷ cs) ≡ true
 first_among c cs = let e = is_same_call c in rw e refl
 
-later_among : (c d : ForeignCall) (cs : List ForeignCall) → limits.is_among c cs ≡ true → limits.is_among c (d ∷ cs) ≡ true
+pub later_among : (c d : ForeignCall) (cs : List ForeignCall) → limits.is_among c cs ≡ true → limits.is_among c (d ∷ cs) ≡ true
 later_among c d cs h = rw h (or_true (limits.is_same c d))
 
 -- ---- numbers that are sent out
@@ -77,7 +74,7 @@ signed_is_extern Signed h = refl
 signed_is_extern Unsigned h = cc h
 signed_is_extern Int h = cc h
 signed_is_extern Intish h = cc h
-signed_is_extern Extern h = cc h
+signed_is_extern Extern h = refl
 signed_is_extern Void h = cc h
 
 words_long : (x : ℕ) (ts : List ValType) → length (param_names x ts) ≡ words_of ts

@@ -1,5 +1,5 @@
 -- What is asked of a function of a translated module, and of the numbers of the source.
-use Rattle.std.specs.Prelude.{◌≡◌, ℕ, ◌+◌, ◌^◌, ◌<◌, ◌≤◌, true, List, [], ◌∷◌, length, All, Bool, None, is_some}
+use Rattle.std.specs.Prelude.{◌≡◌, ℕ, ◌+◌, ◌^◌, ◌<◌, ◌≤◌, true, List, [], ◌∷◌, length, All, Bool, Option, Some, None, is_some}
 use Rattle.std.specs.List.{AllByRecursion}
 use Rattle.wasm_lang.specs.Instructions.{Instruction, plain, const32, const64}
 use Rattle.wasm_lang.specs.Modules.{FunctionType, WasmModule}
@@ -7,11 +7,12 @@ use Rattle.wasm_lang.specs.Shape.{IsShaped}
 use Rattle.wasm_lang_valid.specs.Measures.{called_types, is_among}
 use Rattle.wasm_lang_valid.specs.Profile.{outside_profile}
 use Rattle.wasm_lang_valid.specs.Typing.{result_of}
+use Rattle.wasm_lang_exec.specs.Reductions.{Callee, an_import, callees}
 use Rattle.wasm_laws_sound.specs.Laws.{IsWhole}
 use Rattle.asm_lang.specs.Modules.{Function, Module}
-use Rattle.asm_lang.specs.Heights.{function_height}
+use Rattle.asm_lang.specs.Heights.{function_height, functions_height}
 use Rattle.asm_laws_print.specs.Fitting.{FitsFunction}
-use Rattle.asm_lang_valid.specs.Typed.{scope_of, function_typed}
+use Rattle.asm_lang_valid.specs.Typed.{scope_of, function_typed, functions_typed}
 use Rattle.asm_lang_valid.specs.LimitRows as limits
 use Rattle.asm_lang_valid.specs.LimitRows.{ForeignCall, Mark, a_row, a_use, stmts_marks}
 use Rattle.wasm2js_words.specs.Names.{high}
@@ -43,6 +44,16 @@ import_use name t = record { name = name; params = words_of t.params; result = i
 abbrev pub of_import : (name : List ℕ) → FunctionType → List ForeignCall
 of_import name t = import_use name t ∷ high_use ∷ []
 
+-- those of all imported functions
+abbrev pub import_uses : List (Option Callee) → List ForeignCall
+import_uses [] = []
+import_uses (Some (an_import name t) ∷ cs) = import_use name t ∷ import_uses cs
+import_uses (c ∷ cs) = import_uses cs
+
+-- the foreign calls of a translated module
+abbrev pub uses_of : WasmModule → List ForeignCall
+uses_of w = trap_use ∷ high_use ∷ import_uses (callees w)
+
 -- ---- functions
 
 -- one below the module's height
@@ -57,6 +68,13 @@ pub record IsFineFunction (m : Module) (uses : List ForeignCall) (f : Function) 
   pub marks : (at : ℕ) → AllByRecursion (IsUse uses) (stmts_marks (scope_of m f) at f.body)
   pub few_params : length f.params ≤ limits.most_params
   pub few_variables : length f.params + length f.locals ≤ limits.most_locals
+
+-- each function of a module, and what follows for all of them
+pub record AreFineFunctions (m : Module) (uses : List ForeignCall) : Type 0 where
+  pub each : AllByRecursion (IsFineFunction m uses) m.functions
+  pub are_typed : functions_typed m m.functions ≡ true
+  pub printed : AllByRecursion FitsFunction m.functions
+  pub low : functions_height m.functions ≤ most_height
 
 -- ---- the source
 

@@ -1,7 +1,6 @@
 use Rattle.wasm2js_laws_functions.proofs.functions.Goals as goal
 use Rattle.wasm2js_laws_functions.proofs.OwnFunctions.{own_functions_are_fine}
 use Rattle.wasm2js_laws_functions.proofs.Wrapping.{wrappers_are_fine}
-use Rattle.wasm2js_laws_functions.proofs.Starting.{start_type}
 
 pub returns-clause-own : goal.returns-clause-own
 returns-clause-own c = own_functions_are_fine
