@@ -1,6 +1,6 @@
 -- Words that become words of 64 bits, low bits that are extended with their sign, and constants.
 use Rattle.std.proofs.Common.{◌≡◌, ℕ, ◌+◌, ◌<◌, ◌≤◌, true, List, [], ◌∷◌, ◌++◌, length, drop, Ok, refl, sym, ap, ◌∙◌, subst, arith}
-use Rattle.std.specs.Prelude.{◌*◌, ◌^◌, ◌%◌, ◌/◌}
+use Rattle.std.specs.Prelude.{◌*◌, ◌^◌}
 use Rattle.sem_words.specs.declared.word.Word.TheVariants.{W64}
 use Rattle.sem_words.specs.Words.{signed_of, word_of, shr_s_of, extend_of}
 use Rattle.sem_words.proofs.WordLaws.{word_of-signed_of_32}
@@ -15,7 +15,7 @@ use Rattle.wasm2js_laws_numbers.proofs.Extended.{wide_extensions}
 use Rattle.wasm2js_laws_places.specs.Straight.{Words, with_word, Helping, ActionsAsk, run_actions, actions_units}
 use Rattle.wasm2js_laws_places.specs.Places.{operands, locals_of, store_with}
 use Rattle.wasm2js_laws_control.specs.Control.{Function}
-use Rattle.wasm2js_laws_instructions.specs.Plain.{AreWords, IsAlike, IsPlain, code_of, Always}
+use Rattle.wasm2js_laws_instructions.specs.Plain.{IsAlike, IsPlain, code_of, Always}
 use Rattle.wasm_lang_exec.specs.Plain as machine
 use Rattle.wasm2js_laws_wide.proofs.Kept.{is_self, low, high, Keeps, kept_all, kept_low, kept_high, value_alike, one_to_wide, narrow_to_wide}
 use Rattle.wasm2js_laws_wide.proofs.Summed.{of_fixed}

@@ -1,0 +1,5 @@
+pub mod Lists
+pub mod Moved
+pub mod Local
+pub mod Global
+pub mod Chosen
