@@ -1,0 +1,9 @@
+use Rattle.wasm2js_laws_names.proofs.Own.{functions_have_no_rows}
+use Rattle.wasm2js_laws_names.proofs.Members.{tables_have_no_rows}
+use Rattle.wasm2js_laws_names.proofs.declarations.Goals as goal
+
+pub returns-clause-functions : goal.returns-clause-functions
+returns-clause-functions c = functions_have_no_rows
+
+pub returns-clause-tables : goal.returns-clause-tables
+returns-clause-tables c = tables_have_no_rows

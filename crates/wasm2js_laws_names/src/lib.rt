@@ -1,0 +1,10 @@
+//! From WebAssembly to asm.js: the names of a translated module are declared once, and used for what they mean.
+#![tactic(auto)]
+
+ghost use Rattle.wasm2js_laws_names.specs.Laws.{FunctionsHaveNoRows, TablesHaveNoRows};
+
+/// What a module declares: its variables, functions and tables.
+pub fn declarations()
+    ensures functions { FunctionsHaveNoRows }
+    ensures tables { TablesHaveNoRows }
+{}
