@@ -1,3 +1,4 @@
 pub mod Fresh
 pub mod Own
 pub mod Members
+pub mod Keys

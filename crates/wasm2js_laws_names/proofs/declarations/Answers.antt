@@ -1,5 +1,6 @@
 use Rattle.wasm2js_laws_names.proofs.Own.{functions_have_no_rows}
 use Rattle.wasm2js_laws_names.proofs.Members.{tables_have_no_rows}
+use Rattle.wasm2js_laws_names.proofs.Keys.{exports_have_no_rows}
 use Rattle.wasm2js_laws_names.proofs.declarations.Goals as goal
 
 pub returns-clause-functions : goal.returns-clause-functions
@@ -7,3 +8,6 @@ returns-clause-functions c = functions_have_no_rows
 
 pub returns-clause-tables : goal.returns-clause-tables
 returns-clause-tables c = tables_have_no_rows
+
+pub returns-clause-exports : goal.returns-clause-exports
+returns-clause-exports c = exports_have_no_rows
