@@ -153,7 +153,7 @@ module _ (w : WasmModule) where
 
 -- ---- keys
 
-same_bytes : (xs : List ℕ) → pointwise nat_eq xs xs ≡ true
+pub same_bytes : (xs : List ℕ) → pointwise nat_eq xs xs ≡ true
 same_bytes [] = refl
 same_bytes (x ∷ xs) = let e : nat_eq x x ≡ true = grind (arith, nat_tests) in rw e (same_bytes xs)
 
