@@ -35,7 +35,7 @@ AreImports [] = Unit {0}
 AreImports (c ∷ cs) = IsImport c × AreImports cs
 
 module _ (w : WasmModule) where
-  abbrev HasType : ImportKind → Type 0
+  abbrev pub HasType : ImportKind → Type 0
   HasType (imports.Func t) = is_type w t ≡ true
   HasType kind = Unit {0}
 
