@@ -19,7 +19,7 @@ use Rattle.asm_laws_machine.specs.Sizes.{expr_size, exprs_size, links_size, opti
 use Rattle.asm_laws_machine.specs.Laws.{Falls}
 
 -- the units stay
-abbrev Stays : {A : Type 0} → ℕ → Run A → Type 0
+abbrev pub Stays : {A : Type 0} → ℕ → Run A → Type 0
 Stays u (goes a p) = p.units ≡ u
 Stays u (stops e p) = Unit {0}
 Stays u (spent p) = Unit {0}
@@ -64,20 +64,20 @@ low_defined (Some a) g q each = each a
 
 -- ---- parts that take no unit
 
-stays_defined : {A : Type 0} (o : Option A) (p : Place) → Stays p.units (defined o p)
+pub stays_defined : {A : Type 0} (o : Option A) (p : Place) → Stays p.units (defined o p)
 stays_defined None p = tt
 stays_defined (Some a) p = refl
 
-stays_written : (o g : Option JsValue) (n : List ℕ) (v : JsValue) (p : Place) → Stays p.units (written o g n v p)
+pub stays_written : (o g : Option JsValue) (n : List ℕ) (v : JsValue) (p : Place) → Stays p.units (written o g n v p)
 stays_written (Some x) g n v p = refl
 stays_written None (Some x) n v p = refl
 stays_written None None n v p = tt
 
-stays_read_element : (x : Meaning) (v : JsValue) (p : Place) → Stays p.units (read_element x v p)
+pub stays_read_element : (x : Meaning) (v : JsValue) (p : Place) → Stays p.units (read_element x v p)
 stays_read_element (a_view e) (Whole i) p = refl
 stays_read_element _ _ p = tt
 
-stays_write_element : (x : Meaning) (v w : JsValue) (p : Place) → Stays p.units (write_element x v w p)
+pub stays_write_element : (x : Meaning) (v w : JsValue) (p : Place) → Stays p.units (write_element x v w p)
 stays_write_element (a_view e) (Whole i) w p = refl
 stays_write_element _ _ w p = tt
 

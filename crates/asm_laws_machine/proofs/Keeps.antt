@@ -1,6 +1,6 @@
 -- A step comes to no other literals than those of what it begins with and of the module.
-use Rattle.std.proofs.Common.{◌≡◌, ℕ, zero, suc, Bool, true, false, List, [], ◌∷◌, ◌++◌, Option, Some, None}
-use Rattle.std.specs.Prelude.{ℤ, if◌then◌else◌}
+use Rattle.std.proofs.Common.{ℕ, zero, suc, Bool, true, false, List, [], ◌∷◌, ◌++◌, Option, Some, None}
+use Rattle.std.specs.Prelude.{if◌then◌else◌}
 use Rattle.sem_words.specs.declared.js_value.JsValue.{JsValue}
 use Rattle.sem_words.specs.JsValues.{truthy_of}
 use Rattle.sem_words.specs.JsOperators.{js_binary_of, js_unary_of}
@@ -10,7 +10,7 @@ use Rattle.asm_lang_valid.specs.Typing.{named}
 use Rattle.asm_lang_valid.specs.Typed.{scope_of}
 use Rattle.asm_lang_exec.specs.Runs.{Place, Run, goes, stops, spent, wrong, Part, after, and_then, defined, pay, read, write, back_to}
 use Rattle.asm_lang_exec.specs.Values.{read_element, write_element, call_import, builtin_value, entry_of}
-use Rattle.asm_lang_exec.specs.Meaning.{Completion, normal, broken, continued, returned, loop_end, switch_end, as_whole, passed_over, first_locals, function_end}
+use Rattle.asm_lang_exec.specs.Meaning.{Completion, normal, broken, continued, returned, loop_end, as_whole, passed_over, first_locals, function_end}
 use Rattle.asm_laws_machine.specs.Work.{Callee, by_name, by_entry, ExprWork, at_element, at_argument, at_table, at_assign, at_store_index, at_store_value, at_unary, at_left, at_right, at_links, at_cond, at_comma, Loop, DoLoop, StmtWork, at_plain, at_return, at_if, at_test, at_step, at_do_test, at_switch, EndWork, at_list, at_body, at_do_body, at_label, at_clauses, at_call, Work, of_expr, of_stmt, of_end, Outcome, gave, did, Machine}
 use Rattle.asm_laws_machine.specs.Steps.{to_value, entered, enter_step, named_step, callee_step, arguments_step, links_step, comma_step, eval_step, expr_work_step, test_step, turn_step, do_turn_step, part_step, while_of, for_of, do_of, exec_step, past, clause_step, otherwise_step, stmt_work_step, list_step, unless_ended_step, end_work_step, work_step}
 use Rattle.asm_laws_machine.specs.Literals.{SmallExpr, SmallExprs, SmallLinks, SmallPart, SmallStmt, SmallStmts, SmallClauses, SmallOtherwise, SmallFunction, SmallModule, SmallExprWork, SmallLoop, SmallDoLoop, SmallStmtWork, SmallEndWork, SmallWork, SmallWorks, SmallRun}

@@ -5,3 +5,4 @@ pub mod Sessions
 pub mod Named
 pub mod Keeps
 pub mod Typed
+pub mod AtOnce

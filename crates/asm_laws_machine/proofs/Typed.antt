@@ -1,9 +1,9 @@
 -- What is typed has literals in [-2^31, 2^32).
-use Rattle.std.proofs.Common.{◌≡◌, ℕ, suc, ◌+◌, ◌≤◌, ◌^◌, Bool, true, false, ◌&&◌, ◌||◌, List, [], ◌∷◌, ◌++◌, Option, Some, None, is_some, ℤ, pos, negsuc, unsigned_abs, refl, sym, ap, ◌∙◌, subst, arith, ◌⊎◌, inl, inr, ⊎_elim}
+use Rattle.std.proofs.Common.{◌≡◌, ℕ, ◌≤◌, ◌^◌, Bool, true, false, ◌&&◌, ◌||◌, List, [], ◌∷◌, ◌++◌, Option, Some, None, is_some, ℤ, pos, negsuc, unsigned_abs, refl, ap, arith, ◌⊎◌, inl, inr, ⊎_elim}
 use Rattle.std.proofs.lemmas.Bool.{and_parts, eqb-true}
 use Rattle.std.proofs.lemmas.Bool.Decides.{nat_tests}
 use Rattle.std.proofs.lemmas.List.Elements.{All-nil, All-cons}
-use Rattle.std.specs.Prelude.{if◌then◌else◌, option_and_then, All}
+use Rattle.std.specs.Prelude.{if◌then◌else◌, option_and_then}
 use Rattle.sem_words.specs.declared.js_value.JsOp.{JsOp}
 use Rattle.sem_words.specs.declared.js_value.JsOp.TheVariants.{Or}
 use Rattle.asm_types.specs.declared.value_type.ValueType.{ValueType}
@@ -13,20 +13,19 @@ use Rattle.asm_types.proofs.Sound.{from_row}
 use Rattle.asm_lang.specs.Trees.{Init, number}
 use Rattle.asm_lang.specs.Modules.{Expr, lit, decimal, var, index, call, table_call, assign, store, unary, binary, chain, cond, comma, Exprs, no_exprs, exprs, Links, no_links, links, Stmt, block, plain, empty, if_only, if_else, returns, while_loop, do_while, for_loop, breaks, continues, labelled, switches, Stmts, no_stmts, stmts, Clauses, no_clauses, clauses, Variable, Function, Module}
 use Rattle.asm_lang_valid.specs.Scope.{Meaning, nothing, an_int, an_outside, a_foreign, a_builtin, a_view, a_function, a_table, a_parameter, signature_of, first_member}
-use Rattle.asm_lang_valid.specs.Typing.{Scope, named, literal_type, is_literal, most_operators, typed_below, is_int, index_fits, operated, exprs_length, is_call, or_zero, matches, builtin_call, callee_fits, table_fits, mask_fits, type_of, all_below, links_fit, call_fits, last_type, effect_fits, Around, at_top, in_a_loop, in_a_switch, under_labels, condition_fits, part_fits, result_of, return_fits, cases_fit, typed, all_typed, clauses_typed, new_labels, links_length}
+use Rattle.asm_lang_valid.specs.Typing.{Scope, named, literal_type, is_literal, typed_below, is_int, index_fits, operated, exprs_length, is_call, or_zero, matches, builtin_call, callee_fits, table_fits, mask_fits, type_of, all_below, links_fit, call_fits, last_type, effect_fits, Around, at_top, in_a_loop, in_a_switch, under_labels, condition_fits, part_fits, result_of, return_fits, cases_fit, typed, all_typed, clauses_typed, new_labels}
 use Rattle.asm_lang_valid.specs.Typed.{scope_of, literal_fits, member_fits, globals_typed, locals_typed, function_typed, functions_typed, tables_typed, module_typed}
 use Rattle.asm_lang_valid.specs.Refusal.{IsAccepted}
-use Rattle.asm_types.specs.Types.{is_below}
 use Rattle.asm_types.specs.Rows.{binary_row_of}
 use Rattle.sem_words.specs.declared.js_value.JsOp.TheVariants.{Mul}
-use Rattle.asm_lang_valid.specs.Typing.{product, is_factor, builtin_arguments, builtin_type, index_form}
+use Rattle.asm_lang_valid.specs.Typing.{product, is_factor, builtin_type, index_form}
 use Rattle.asm_lang_valid.specs.Scope.{shift_of}
 use Rattle.asm_lang_valid.specs.NameRows.{name_rows}
 use Rattle.asm_lang_valid.specs.TypeRows.{type_rows}
 use Rattle.asm_lang_valid.specs.LimitRows.{limit_rows}
 use Rattle.asm_lang_valid.specs.Refusal.{all_rows}
 use Rattle.asm_lang_valid.proofs.Agree.{iff, module_agrees, first_none, none_both}
-use Rattle.asm_laws_machine.specs.Literals.{IsSmall, SmallExpr, SmallExprs, SmallLinks, SmallPart, SmallStmt, SmallStmts, SmallClauses, SmallInit, SmallVariables, SmallFunction, SmallFunctions, SmallModule}
+use Rattle.asm_laws_machine.specs.Literals.{SmallExpr, SmallExprs, SmallLinks, SmallPart, SmallStmt, SmallStmts, SmallClauses, SmallInit, SmallVariables, SmallFunctions, SmallModule}
 
 from_bind : {A B : Type 0} (k : A → Option B) (o : Option A) (b : B) → option_and_then k o ≡ Some b → (a : A) × (o ≡ Some a) × (k a ≡ Some b)
 from_bind k None b h = absurd (cc h)

@@ -1,10 +1,13 @@
 -- The laws of the machine's steps.
 use Rattle.std.specs.Prelude.{◌≡◌, ℕ, ◌<◌, ◌≤◌, ◌+◌, List, ◌∷◌}
+use Rattle.sem_words.specs.declared.js_value.JsValue.{JsValue}
+use Rattle.asm_lang_valid.specs.Typed.{scope_of}
 use Rattle.asm_lang.specs.Modules.{Expr, Stmt, Function, Module}
 use Rattle.asm_lang_exec.specs.Runs.{Place, Run, goes, stops, spent, wrong, Part, after}
 use Rattle.asm_lang_exec.specs.Meaning.{Completion}
-use Rattle.asm_laws_machine.specs.Work.{Work, Outcome, evaluates, executes, Machine}
-use Rattle.asm_laws_machine.specs.Steps.{eval_step, exec_step, work_step}
+use Rattle.asm_laws_machine.specs.Work.{Work, Outcome, gave, evaluates, executes, Machine}
+use Rattle.asm_laws_machine.specs.Steps.{to_value, eval_step, exec_step, work_step}
+use Rattle.asm_laws_machine.specs.AtOnce.{at_once}
 use Rattle.asm_laws_machine.specs.Resuming.{Over, resume, mode_to, machine_to}
 use Rattle.asm_laws_machine.specs.Sizes.{expr_size, stmt_size, work_size, total, machine_size}
 
@@ -41,3 +44,13 @@ StatementsFall = (ws : List Work) (f : Function) (own : List (List ℕ)) (s : St
 
 abbrev pub WorkFalls : Type 0
 WorkFalls = (m : Module) (w : Work) (ws : List Work) (f : Function) (o : Outcome) (p : Place) → Falls p.units (work_size w + total ws) (work_step m w o ws f p)
+
+-- ---- an expression that has a value at once
+
+abbrev pub AtOnceSteps : Type 0
+AtOnceSteps =
+    (m : Module) (bound : ℕ) (next : Completion → Part Over) (ws : List Work) (f : Function) (e : Expr) (p : Place) (v : JsValue) (q : Place) → at_once (scope_of m f) e p ≡ goes v q
+    → mode_to m bound next (evaluates e) ws f p ≡ resume m bound next ws f (gave v) q
+
+abbrev pub AtOnceFalls : Type 0
+AtOnceFalls = (m : Module) (ws : List Work) (f : Function) (e : Expr) (p : Place) (v : JsValue) (q : Place) → at_once (scope_of m f) e p ≡ goes v q → Falls p.units (expr_size e + total ws) (to_value ws f v q)

@@ -1,5 +1,6 @@
 pub mod Work
 pub mod Steps
+pub mod AtOnce
 pub mod Resuming
 pub mod Sizes
 pub mod Laws

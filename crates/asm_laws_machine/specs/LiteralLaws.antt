@@ -1,5 +1,5 @@
 -- Steps come to no other literals.
-use Rattle.std.specs.Prelude.{◌≡◌, ℕ, List, Some}
+use Rattle.std.specs.Prelude.{◌≡◌, ℕ, List}
 use Rattle.asm_lang.specs.Modules.{Expr, Stmt, Function, Module}
 use Rattle.asm_lang_valid.specs.Scope.{a_function, module_meaning}
 use Rattle.asm_lang_exec.specs.Runs.{Place}

@@ -3,7 +3,7 @@
 use Rattle.std.specs.Prelude.{ℤ, ◌^◌, ◌≤◌, List, [], ◌∷◌, All, Option, Some, None, unsigned_abs}
 use Rattle.asm_lang.specs.Trees.{Init, number}
 use Rattle.asm_lang.specs.Modules.{Expr, lit, decimal, var, index, call, table_call, assign, store, unary, binary, chain, cond, comma, Exprs, no_exprs, exprs, Links, no_links, links, Stmt, block, plain, empty, if_only, if_else, returns, while_loop, do_while, for_loop, breaks, continues, labelled, switches, Stmts, no_stmts, stmts, Clauses, no_clauses, clauses, Variable, Function, Module}
-use Rattle.asm_lang_exec.specs.Runs.{Place, Run, goes, stops, spent, wrong}
+use Rattle.asm_lang_exec.specs.Runs.{Run, goes, stops, spent, wrong}
 use Rattle.asm_laws_machine.specs.Work.{ExprWork, at_element, at_argument, at_table, at_assign, at_store_index, at_store_value, at_unary, at_left, at_right, at_links, at_cond, at_comma, Loop, DoLoop, StmtWork, at_plain, at_return, at_if, at_test, at_step, at_do_test, at_switch, EndWork, at_list, at_body, at_do_body, at_label, at_clauses, at_call, Work, of_expr, of_stmt, of_end, Mode, evaluates, executes, comes, Machine}
 
 abbrev pub IsSmall : ℤ → Type 0

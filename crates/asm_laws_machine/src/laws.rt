@@ -1,5 +1,5 @@
 //! The laws. Each function does nothing, and its contract is the law.
-ghost use Rattle.asm_laws_machine.specs.Laws.{ExpressionsStep, StatementsStep, WorkSteps, ExpressionsFall, StatementsFall, WorkFalls};
+ghost use Rattle.asm_laws_machine.specs.Laws.{ExpressionsStep, StatementsStep, WorkSteps, ExpressionsFall, StatementsFall, WorkFalls, AtOnceSteps, AtOnceFalls};
 ghost use Rattle.asm_laws_machine.specs.Sessions.{CallsBegin, SessionsRun};
 
 /// A machine is what its next step leads to.
@@ -14,6 +14,12 @@ pub fn falling_laws()
     ensures expressions { ExpressionsFall }
     ensures statements { StatementsFall }
     ensures work { WorkFalls }
+{}
+
+/// Where an expression has a value at once, the step to it leads to what the machine is, and leaves less work.
+pub fn at_once_laws()
+    ensures steps { AtOnceSteps }
+    ensures fall { AtOnceFalls }
 {}
 
 /// A session is what calls of machines come to.

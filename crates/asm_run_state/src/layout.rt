@@ -1,5 +1,5 @@
 //! The names of variables.
-ghost use Rattle.std.specs.Prelude.{◌≡◌, ℕ, List, Some, IfOk, IfSome, is_some, if◌then◌else◌};
+ghost use Rattle.std.specs.Prelude.{◌≡◌, ◌<◌, ℕ, List, Some, IfOk, IfSome, is_some, length, if◌then◌else◌};
 ghost use Rattle.std.specs.Bool.{OnFalse};
 ghost use Rattle.std.specs.Str.{bytes_eq};
 ghost use Rattle.sem_words.specs.JsValues.{IsValue};
@@ -12,22 +12,26 @@ use sem_words::JsValue;
 use std::alloc::{AllocError, Global};
 use std::marker::Model;
 
-/// The names of variables in order, each found by a map. Of equal names the first counts.
+// Up to so many names are compared one by one, which is faster than a map, and takes no memory.
+const FEW: usize = 8;
+
+/// The names of variables in order. Of equal names the first counts.
 #[derive(Drop)]
 pub struct Layout<'a> {
     names: Vec<&'a [u8]>,
+    /// Where there are more than a few.
     slots: IndexMap<&'a [u8], usize>,
 }
 
 impl<'a> Model for Layout<'a> {
-    ghost use Rattle.std.specs.Prelude.{◌≡◌, List, ℕ};
+    ghost use Rattle.std.specs.Prelude.{◌≡◌, ◌<◌, List, ℕ, length};
     ghost use Rattle.asm_run_state.specs.Variables.{names_in, slot_of, found};
 
     ghost Value = { List (List ℕ) };
 
     ghost view = { λ layout. names_in layout.names.items };
 
-    ghost invariant = { λ layout. (n : List ℕ) → found layout.slots n ≡ slot_of (names_in layout.names.items) n };
+    ghost invariant = { λ layout. 8 < length layout.names.items → (n : List ℕ) → found layout.slots n ≡ slot_of (names_in layout.names.items) n };
 }
 
 impl<'a> Layout<'a> {
@@ -35,7 +39,7 @@ impl<'a> Layout<'a> {
     pub fn new(alloc: Global, names: Vec<&'a [u8]>) -> Result<Layout<'a>, AllocError>
         ensures { IfOk result (λ layout. layout ≡ names_in names.entry.items) }
     {
-        let slots = slots_of(alloc, names.as_slice())?;
+        let slots = slots_for(alloc, names.as_slice())?;
         Ok(Layout { names, slots })
     }
 
@@ -43,6 +47,9 @@ impl<'a> Layout<'a> {
     pub fn slot(&self, name: &[u8]) -> Option<usize>
         ensures { result ≡ slot_of self.now name.now }
     {
+        if self.names.len() <= FEW {
+            return slot_among(self.names.as_slice(), name);
+        }
         match self.slots.get(name) {
             Some(slot) => Some(*slot),
             None => None,
@@ -74,6 +81,29 @@ impl<'a> Layout<'a> {
             None => false,
         }
     }
+}
+
+// The slot of a name among these, if it is one of them.
+fn slot_among(names: &[&[u8]], name: &[u8]) -> Option<usize>
+    ensures { result ≡ slot_of (names_in names.now) name.now }
+{
+    for (i, known) in names.iter().enumerate() {
+        if *known == name {
+            return Some(i);
+        }
+    }
+    None
+}
+
+// A map of the names, where there are more than a few.
+fn slots_for<'a>(alloc: Global, names: &[&'a [u8]]) -> Result<IndexMap<&'a [u8], usize>, AllocError>
+    ensures { IfOk result (λ slots. 8 < length names.now → (n : List ℕ) → found slots n ≡ slot_of (names_in names.now) n) }
+{
+    if names.len() <= FEW {
+        return Ok(IndexMap::new(alloc));
+    }
+    let slots = slots_of(alloc, names)?;
+    Ok(slots)
 }
 
 // Later names are put in first, so that an earlier one takes their place.

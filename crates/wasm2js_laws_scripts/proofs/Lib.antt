@@ -1,4 +1,4 @@
 pub mod Calls
 pub mod Fitting
 pub mod Heaps
-mod Names
+pub mod Names

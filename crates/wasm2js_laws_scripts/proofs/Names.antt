@@ -63,7 +63,7 @@ encodes_low : (cs : List ℕ) → scalars cs ≡ true → AreLow (encodes cs)
 encodes_low [] h = tt
 encodes_low (c ∷ cs) h = let p = and_parts (scalar c) (scalars cs) h in both_low (encode c) (encodes cs) (encode_low c p.0) (encodes_low cs p.1)
 
-utf8_bytes : (bs : List ℕ) → IsUtf8 bs → IsBytes bs
+pub utf8_bytes : (bs : List ℕ) → IsUtf8 bs → IsBytes bs
 utf8_bytes bs h = low_bytes bs (subst AreLow h.1.1 (encodes_low h.0 h.1.0))
 
 pub shaped_exports_are_bytes : ShapedExportsAreBytes

@@ -1,1 +1,1 @@
-mod Past
+pub mod Past

@@ -4,4 +4,4 @@ pub mod Deep
 mod Lesser
 mod Named
 pub mod Levels
-mod Slots
+pub mod Slots

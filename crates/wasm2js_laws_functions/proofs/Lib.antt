@@ -1,0 +1,15 @@
+pub mod Limited
+pub mod Made
+pub mod Roomy
+pub mod Signed
+pub mod Formed
+pub mod Found
+pub mod OwnFunctions
+pub mod Returning
+pub mod Stubs
+pub mod Checking
+pub mod HelperBodies
+pub mod Foreign
+pub mod Wrapping
+pub mod Starting
+pub mod Together

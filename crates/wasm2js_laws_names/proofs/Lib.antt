@@ -1,0 +1,6 @@
+pub mod Fresh
+pub mod Own
+pub mod Members
+pub mod Keys
+pub mod Mixed
+pub mod Variables

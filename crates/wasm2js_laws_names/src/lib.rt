@@ -1,0 +1,12 @@
+//! From WebAssembly to asm.js: the names of a translated module are declared once, and used for what they mean.
+#![tactic(auto)]
+
+ghost use Rattle.wasm2js_laws_names.specs.Laws.{VariablesHaveNoRows, FunctionsHaveNoRows, TablesHaveNoRows, ExportsHaveNoRows};
+
+/// What a module declares: its variables, functions, tables and exports.
+pub fn declarations()
+    ensures variables { VariablesHaveNoRows }
+    ensures functions { FunctionsHaveNoRows }
+    ensures tables { TablesHaveNoRows }
+    ensures exports { ExportsHaveNoRows }
+{}

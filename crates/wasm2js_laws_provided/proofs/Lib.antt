@@ -1,0 +1,11 @@
+pub mod Order
+pub mod Entries
+pub mod Declared
+pub mod Found
+pub mod Within
+pub mod Globals
+pub mod Functions
+pub mod Sizes
+pub mod Tables
+pub mod Whole
+pub mod Foreign

@@ -1,0 +1,7 @@
+pub mod Flags
+pub mod Joining
+pub mod Rooms
+pub mod Stacks
+pub mod Steps
+pub mod Walking
+pub mod Wide

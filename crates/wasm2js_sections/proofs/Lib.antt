@@ -1,0 +1,4 @@
+pub mod Imports
+pub mod ByName
+pub mod Runs
+pub mod Lists
