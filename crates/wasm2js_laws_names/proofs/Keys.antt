@@ -1,6 +1,6 @@
 -- The exports of a module: each has a key of its own, and names a function.
-use Rattle.std.proofs.Common.{◌≡◌, ℕ, zero, suc, ◌+◌, ◌<◌, Bool, true, false, ◌&&◌, ◌||◌, not, List, [], ◌∷◌, ◌++◌, map, length, Option, Some, None, inl, inr, refl, sym, ap, ◌∙◌, subst, arith, append-nil}
-use Rattle.std.specs.Prelude.{slice_get, take, codes, bytes_eq, nat_eq, if◌then◌else◌}
+use Rattle.std.proofs.Common.{◌≡◌, ℕ, zero, suc, ◌+◌, Bool, true, false, ◌&&◌, ◌||◌, not, List, [], ◌∷◌, ◌++◌, map, length, Option, Some, None, inl, inr, refl, sym, ap, ◌∙◌, subst, arith, append-nil}
+use Rattle.std.specs.Prelude.{slice_get, take, codes, bytes_eq, nat_eq}
 use Rattle.std.specs.Cmp.Lexicographic.{pointwise}
 use Rattle.std.specs.List.{AllByRecursion, flat_map, list_all}
 use Rattle.std.proofs.lemmas.Bool.{and_parts}
@@ -27,15 +27,14 @@ use Rattle.wasm_lang_exec.specs.Reductions.{callees}
 use Rattle.asm_lang.specs.Modules.{Function, Export, Module}
 use Rattle.asm_lang_valid.specs.declared.rule.Rule.TheVariants.{NameTaken, ForbiddenName}
 use Rattle.asm_lang_valid.specs.Rows.{need, exports_at}
-use Rattle.asm_lang_valid.specs.Scope as scopes
 use Rattle.asm_lang_valid.specs.Scope.{is_in, module_meaning}
 use Rattle.asm_lang_valid.specs.NameRows as rows
 use Rattle.asm_lang_valid.specs.NameRows.{is_forbidden_key, declares_key, function_uses, keys_names}
 use Rattle.wasm2js_words.specs.Names.{numbered, function, fixed, init, last_high, spelled}
-use Rattle.wasm2js_code.specs.Modules.{functions_from, init_function, high_function, helpers, functions_of, export, export_for, exports_of, translated}
+use Rattle.wasm2js_code.specs.Modules.{functions_from, init_function, high_function, helpers, export_for, exports_of, translated}
 use Rattle.wasm2js_code.specs.Tables.{stubs}
 use Rattle.wasm2js_laws_scripts.proofs.Names.{shaped_exports_are_bytes}
-use Rattle.wasm2js_laws_provided.proofs.Entries.{are_apart, In, in_right}
+use Rattle.wasm2js_laws_provided.proofs.Entries.{are_apart, in_right}
 use Rattle.wasm2js_laws_provided.proofs.Found.{function_found}
 use Rattle.wasm2js_laws_provided.proofs.Foreign.{HasType, type_there, is_less, imports_typed}
 use Rattle.wasm2js_laws_provided.proofs.Functions.{function_declared}

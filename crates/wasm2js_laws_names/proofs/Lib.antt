@@ -4,3 +4,4 @@ pub mod Members
 pub mod Keys
 pub mod Mixed
 pub mod Variables
+pub mod Whole

@@ -1,14 +1,13 @@
 -- The members of tables are functions.
-use Rattle.std.proofs.Common.{◌≡◌, ℕ, ◌+◌, Bool, true, false, ◌&&◌, not, List, [], ◌∷◌, ◌++◌, Option, Some, None, refl, sym, ap, ◌∙◌}
+use Rattle.std.proofs.Common.{◌≡◌, ℕ, ◌+◌, true, false, ◌&&◌, List, [], ◌∷◌, ◌++◌, Some, refl, ap, ◌∙◌}
 use Rattle.std.specs.Prelude.{if◌then◌else◌}
 use Rattle.std.specs.List.{AllByRecursion}
 use Rattle.asm_lang.specs.Modules.{Table, Module}
 use Rattle.asm_lang_valid.specs.declared.rule.Rule.TheVariants.{UnknownName, WrongKind}
-use Rattle.asm_lang_valid.specs.declared.rule.Met.{Met}
 use Rattle.asm_lang_valid.specs.Rows.{need, tables_at}
 use Rattle.asm_lang_valid.specs.Scope as scopes
 use Rattle.asm_lang_valid.specs.Scope.{Meaning, Signature, function_signature, module_meaning}
-use Rattle.asm_lang_valid.specs.NameRows.{global_texts, function_texts, declares, is_declared, is_function, knows, all_known, all_functions, function_uses, tables_names}
+use Rattle.asm_lang_valid.specs.NameRows.{global_texts, function_texts, declares, is_declared, is_function, all_known, all_functions, function_uses, tables_names}
 use Rattle.wasm2js_code.specs.Modules.{translated}
 use Rattle.wasm2js_laws_provided.proofs.Declared.{table_texts}
 use Rattle.wasm2js_laws_provided.proofs.Tables.{members_are_alike}

@@ -1,10 +1,10 @@
 -- No name is imported both as a function and as a global.
-use Rattle.std.proofs.Common.{◌≡◌, ℕ, suc, ◌+◌, Bool, true, false, cond, ◌&&◌, ◌||◌, List, [], ◌∷◌, ◌++◌, Option, Some, None, ◌⊎◌, inl, inr, refl, sym, ap, ◌∙◌, subst}
-use Rattle.std.specs.Prelude.{slice_get, codes, nat_eq}
+use Rattle.std.proofs.Common.{◌≡◌, ℕ, ◌+◌, Bool, true, false, cond, ◌&&◌, ◌||◌, List, [], ◌∷◌, ◌++◌, Option, Some, None, inl, inr, refl, sym, ap, ◌∙◌, subst}
+use Rattle.std.specs.Prelude.{codes, nat_eq}
 use Rattle.std.specs.Cmp.Lexicographic.{pointwise}
 use Rattle.wasm_lang.specs.declared.types.ImportKind.{ImportKind}
 use Rattle.wasm_lang.specs.declared.types.ImportKind.TheVariants as imports
-use Rattle.wasm_lang.specs.Modules.{Imported, WasmModule}
+use Rattle.wasm_lang.specs.Modules.{Imported}
 use Rattle.wasm_lang_valid.specs.Measures.{same_import, is_function_import, is_global_import, is_imported_so, is_given, mixes, first_mixed}
 use Rattle.wasm2js_laws_provided.proofs.Entries.{In, in_left, in_right}
 use Rattle.wasm2js_laws_names.proofs.Keys.{same_bytes}

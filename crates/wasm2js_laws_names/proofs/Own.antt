@@ -5,24 +5,22 @@ use Rattle.std.specs.List.{AllByRecursion, flat_map, list_any, range_with_len}
 use Rattle.std.proofs.lemmas.List.{append_assoc, map-append}
 use Rattle.wasm_lang.specs.declared.types.ValType.{ValType}
 use Rattle.wasm_lang.specs.declared.types.ValType.TheVariants.{I32, I64}
-use Rattle.wasm_lang.specs.Modules.{FunctionType, WasmModule}
+use Rattle.wasm_lang.specs.Modules.{WasmModule}
 use Rattle.wasm_lang_valid.specs.ModuleRules.{has_memory}
 use Rattle.wasm_lang_valid.specs.Profile.{memory_bytes}
 use Rattle.wasm_lang_valid.specs.Typing.{result_of}
 use Rattle.wasm_lang_exec.specs.Reductions.{Callee, an_import, a_function, callees}
-use Rattle.asm_lang.specs.Modules.{Stmt, Variable, Param, Function, Module}
-use Rattle.asm_lang_valid.specs.declared.rule.Met.{Met}
+use Rattle.asm_lang.specs.Modules.{Variable, Param, Function, Module}
 use Rattle.asm_lang_valid.specs.Rows.{body_at, function_count}
 use Rattle.asm_lang_valid.specs.Scope.{is_in}
-use Rattle.asm_lang_valid.specs.NameRows.{global_texts, declares, params_names, locals_names, param_texts, stmts_names, function_names, functions_names}
-use Rattle.wasm2js_words.specs.Names.{Name, numbered, local_low, operand_low, spelled, Rises}
+use Rattle.asm_lang_valid.specs.NameRows.{global_texts, declares, params_names, locals_names, param_texts, function_names, functions_names}
+use Rattle.wasm2js_words.specs.Names.{Name, spelled, Rises}
 use Rattle.wasm2js_lang.specs.Tables.{MaskedTable, masked}
-use Rattle.wasm2js_code.specs.Actions.{low}
-use Rattle.wasm2js_code.specs.Helpers.{int_param, zero_variable, function_of, argument, own, one_argument, two_arguments, three_arguments, wide_helpers, division_helpers, memory_helpers}
+use Rattle.wasm2js_code.specs.Helpers.{int_param, zero_variable, argument, own, one_argument, two_arguments, three_arguments, wide_helpers, division_helpers, memory_helpers}
 use Rattle.wasm2js_code.specs.Modules.{param_names, context_of, wrapper_locals, function_for, functions_from, init_function, high_function, helpers, functions_of, translated}
 use Rattle.wasm2js_code.specs.Pairs.{local_pair, operand_pair, names_of}
 use Rattle.wasm2js_code.specs.Rooms.{Room, body_room, local_names, operand_names, declared_names}
-use Rattle.wasm2js_code.specs.Tables.{stub_function, is_empty, is_other, is_needed, stub_numbers, stubs_for, stubs}
+use Rattle.wasm2js_code.specs.Tables.{is_empty, is_other, is_needed, stub_numbers, stubs_for, stubs}
 use Rattle.asm_laws_uses.specs.Laws.{BodyUsesNames}
 use Rattle.asm_laws_uses.proofs.Uses.{functions_use_names}
 use Rattle.wasm2js_laws_provided.proofs.Declared.{spellings, texts_of, variable_texts}

@@ -1,6 +1,6 @@
 -- The variables of a module: what they take from the host is a function or a value, and no name is both.
-use Rattle.std.proofs.Common.{◌≡◌, ℕ, zero, suc, ◌+◌, Bool, true, false, ◌&&◌, ◌||◌, not, List, [], ◌∷◌, ◌++◌, map, length, Option, Some, None, inl, inr, refl, sym, ap, ◌∙◌, subst, arith}
-use Rattle.std.specs.Prelude.{slice_get, codes, bytes_eq, option_map, All, if◌then◌else◌}
+use Rattle.std.proofs.Common.{◌≡◌, ℕ, zero, suc, ◌+◌, Bool, true, false, ◌||◌, not, List, [], ◌∷◌, ◌++◌, length, Option, Some, None, inl, inr, refl, sym, ap, ◌∙◌, subst, arith}
+use Rattle.std.specs.Prelude.{slice_get, codes, option_map, All, if◌then◌else◌}
 use Rattle.std.specs.List.{AllByRecursion}
 use Rattle.std.specs.Str.{IsUtf8}
 use Rattle.std.proofs.lemmas.List.{append_assoc}
@@ -18,23 +18,21 @@ use Rattle.wasm_lang_valid.specs.Profile.{IsInProfile}
 use Rattle.wasm_lang_exec.specs.Code.{Trees, tree_of}
 use Rattle.wasm_lang_exec.specs.Reductions.{Callee, an_import, a_function, if_function, imported_callee, imported_callees, own_callee, own_callees, callees}
 use Rattle.wasm_lang_exec.specs.Fits.{GlobalImport, with_import as with_global, global_imports}
-use Rattle.asm_lang.specs.Trees.{Init, member, foreign_int}
 use Rattle.asm_lang.specs.Modules.{Variable, Module}
-use Rattle.asm_lang_valid.specs.declared.rule.Met.{Met}
 use Rattle.asm_lang_valid.specs.declared.rule.Rule.TheVariants.{NameTaken, ForbiddenName}
 use Rattle.asm_lang_valid.specs.Rows.{need}
 use Rattle.asm_lang_valid.specs.Scope.{is_in}
 use Rattle.asm_lang_valid.specs.NameRows.{is_forbidden, is_forbidden_key, Imports, added, with_import, clashes, has_forbidden_member, init_rows, global_names, globals_names}
-use Rattle.wasm2js_words.specs.Names.{Name, numbered, global_low, global_high}
-use Rattle.wasm2js_code.specs.Modules.{foreign_name, view_variables, fixed_variables, foreign_variables, given_variable, imported_variables, first_values, own_variables, global_variables, variables_of, translated}
+use Rattle.wasm2js_words.specs.Names.{Name, numbered, global_low}
+use Rattle.wasm2js_code.specs.Modules.{view_variables, fixed_variables, foreign_variables, given_variable, imported_variables, first_values, own_variables, global_variables, variables_of, translated}
 use Rattle.wasm2js_laws_scripts.proofs.Names.{utf8_bytes}
 use Rattle.wasm2js_laws_provided.proofs.Declared.{variable_texts}
 use Rattle.wasm2js_laws_provided.proofs.Entries.{are_apart, In}
 use Rattle.wasm2js_laws_provided.proofs.Within.{rows_are_within}
 use Rattle.wasm2js_laws_names.specs.Laws.{no_imports, VariablesHaveNoRows}
-use Rattle.wasm2js_laws_names.proofs.Fresh.{none_join, in_neither, NewTexts, MayBeDeclared, params_of, globals_new, globals_allowed}
+use Rattle.wasm2js_laws_names.proofs.Fresh.{none_join, NewTexts, MayBeDeclared, params_of, globals_new, globals_allowed}
 use Rattle.wasm2js_laws_names.proofs.Keys.{plain_allowed}
-use Rattle.wasm2js_laws_names.proofs.Mixed.{AreSame, none_mixed, none_given, trap_is_given, high_is_given}
+use Rattle.wasm2js_laws_names.proofs.Mixed.{none_mixed, none_given, trap_is_given, high_is_given}
 
 -- ---- rows, where each declaration goes with those before it
 

@@ -1,7 +1,7 @@
 //! From WebAssembly to asm.js: the names of a translated module are declared once, and used for what they mean.
 #![tactic(auto)]
 
-ghost use Rattle.wasm2js_laws_names.specs.Laws.{VariablesHaveNoRows, FunctionsHaveNoRows, TablesHaveNoRows, ExportsHaveNoRows};
+ghost use Rattle.wasm2js_laws_names.specs.Laws.{VariablesHaveNoRows, FunctionsHaveNoRows, TablesHaveNoRows, ExportsHaveNoRows, NamesHaveNoRows};
 
 /// What a module declares: its variables, functions, tables and exports.
 pub fn declarations()
@@ -9,4 +9,9 @@ pub fn declarations()
     ensures functions { FunctionsHaveNoRows }
     ensures tables { TablesHaveNoRows }
     ensures exports { ExportsHaveNoRows }
+{}
+
+/// A module is refused for no name, where its functions are typed.
+pub fn names_of_modules()
+    ensures { NamesHaveNoRows }
 {}

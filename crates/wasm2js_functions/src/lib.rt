@@ -1,0 +1,6 @@
+//! The functions of asm.js that stand for those of a module of WebAssembly.
+#![tactic(auto)]
+
+mod facts;
+mod listing;
+mod wrappers;
