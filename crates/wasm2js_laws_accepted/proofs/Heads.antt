@@ -1,6 +1,6 @@
 -- The variables and the exports of a translated module are typed, and can be printed.
-use Rattle.std.proofs.Common.{◌≡◌, ℕ, zero, suc, ◌+◌, ◌^◌, ◌<◌, Bool, true, false, ◌&&◌, not, List, [], ◌∷◌, ◌++◌, length, Option, Some, None, refl, sym, ap, ◌∙◌, subst, arith}
-use Rattle.std.specs.Prelude.{ℤ, pos, negsuc, All, codes, slice_get, option_map, is_some, ◌||◌, if◌then◌else◌}
+use Rattle.std.proofs.Common.{◌≡◌, ℕ, zero, suc, ◌^◌, ◌<◌, Bool, true, false, ◌&&◌, not, List, [], ◌∷◌, ◌++◌, length, Option, Some, None, refl, ap, subst, arith}
+use Rattle.std.specs.Prelude.{ℤ, pos, negsuc, All, codes, slice_get, option_map, ◌||◌, if◌then◌else◌}
 use Rattle.std.specs.List.{AllByRecursion, flat_map}
 use Rattle.std.specs.Int.{w32}
 use Rattle.std.specs.Str.{IsUtf8}
@@ -33,7 +33,7 @@ use Rattle.wasm2js_laws_words.proofs.FineExprs.{is_identifier}
 use Rattle.wasm2js_code.specs.Modules.{foreign_name, view_variables, fixed_variables, foreign_variables, word_variable, given_variable, imported_variables, first_values, own_variables, global_variables, variables_of, export_for, exports_of, translated}
 use Rattle.wasm2js_laws_typed.proofs.Facts.{signed_literal, low_fits, high_fits}
 use Rattle.wasm2js_laws_scripts.proofs.Names.{utf8_bytes}
-use Rattle.wasm2js_laws_functions.specs.Functions.{HasWord, IsSource}
+use Rattle.wasm2js_laws_functions.specs.Functions.{HasWord}
 use Rattle.wasm2js_laws_accepted.specs.Laws.{HaveFirstWords}
 use Rattle.wasm2js_laws_accepted.proofs.Properties.{plain_is_property}
 
@@ -116,8 +116,10 @@ module _ (m : Module) (other : is_stdlib m foreign_name ≡ false) where
   views_fine : (b : Bool) → AllFine (if b then view_variables else [])
   views_fine true = (
     record { typed = refl; printed = (is_identifier (fixed names.view_of_bytes), (refl, refl, refl)) },
-    (record { typed = refl; printed = (is_identifier (fixed names.view_of_signed_bytes), (refl, refl, refl)) },
-    (record { typed = refl; printed = (is_identifier (fixed names.view_of_words), (refl, refl, refl)) }, tt)),
+    (
+      record { typed = refl; printed = (is_identifier (fixed names.view_of_signed_bytes), (refl, refl, refl)) },
+      (record { typed = refl; printed = (is_identifier (fixed names.view_of_words), (refl, refl, refl)) }, tt),
+    ),
   )
   views_fine false = tt
 
@@ -127,11 +129,19 @@ module _ (m : Module) (other : is_stdlib m foreign_name ≡ false) where
   fixed_fine : AllFine fixed_variables
   fixed_fine = (
     record { typed = refl; printed = (is_identifier (fixed names.imul), (refl, refl)) },
-    (record { typed = refl; printed = (is_identifier (fixed names.clz32), (refl, refl)) },
-    (record { typed = member_typed (codes "$trap"); printed = (is_identifier (fixed names.trap), (refl, refl)) },
-    (record { typed = member_typed (codes "$high"); printed = (is_identifier (fixed names.high), (refl, refl)) },
-    (record { typed = refl; printed = (is_identifier (fixed names.spare_high), omega arith) },
-    (record { typed = refl; printed = (is_identifier (fixed names.result_high), omega arith) }, tt))))),
+    (
+      record { typed = refl; printed = (is_identifier (fixed names.clz32), (refl, refl)) },
+      (
+        record { typed = member_typed (codes "$trap"); printed = (is_identifier (fixed names.trap), (refl, refl)) },
+        (
+          record { typed = member_typed (codes "$high"); printed = (is_identifier (fixed names.high), (refl, refl)) },
+          (
+            record { typed = refl; printed = (is_identifier (fixed names.spare_high), omega arith) },
+            (record { typed = refl; printed = (is_identifier (fixed names.result_high), omega arith) }, tt),
+          ),
+        ),
+      ),
+    ),
   )
 
   foreign_fine : (k : ℕ) (cs : List (Option Callee)) → AllByRecursion HasProperty cs → AllFine (foreign_variables k cs)

@@ -6,14 +6,12 @@ use Rattle.std.proofs.lemmas.Bool.{and_parts, and_from}
 use Rattle.wasm_lang.specs.Modules.{WasmModule}
 use Rattle.wasm_lang.specs.Shape.{IsShaped}
 use Rattle.wasm_lang_valid.specs.Profile.{doubled, table_length, IsInProfile}
-use Rattle.asm_lang.specs.Lexemes.{identifier}
 use Rattle.asm_lang.specs.Modules.{Table, Module}
-use Rattle.asm_laws_print.specs.Spelled.{HasClass}
 use Rattle.asm_laws_print.specs.Fitting.{AreNames, some_names, FitsTable}
 use Rattle.asm_lang_valid.specs.Scope.{Signature, module_meaning, function_signature}
 use Rattle.asm_lang_valid.specs.Typing.{same}
 use Rattle.asm_lang_valid.specs.Typed.{is_power_of_two, same_signature, all_alike, alike, table_typed, tables_typed}
-use Rattle.wasm2js_words.specs.Names.{Name, numbered, table, spelled}
+use Rattle.wasm2js_words.specs.Names.{numbered, table, spelled}
 use Rattle.wasm2js_laws_words.proofs.FineExprs.{is_identifier}
 use Rattle.wasm2js_laws_words.proofs.FineActions.{equal_self, same_self}
 use Rattle.wasm2js_code.specs.Modules.{translated}
