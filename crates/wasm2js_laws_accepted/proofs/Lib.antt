@@ -1,0 +1,4 @@
+pub mod Properties
+pub mod Heads
+pub mod TableParts
+pub mod Whole

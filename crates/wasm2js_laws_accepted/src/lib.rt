@@ -1,0 +1,11 @@
+//! From WebAssembly to asm.js: what a module is translated to is accepted, and can be printed and read again.
+#![tactic(auto)]
+
+ghost use Rattle.wasm2js_laws_accepted.specs.Laws.{TranslationsAreTyped, TranslationsAreAccepted, TranslationsAreWellFormed};
+
+/// A translated module is typed, meets no row of a refusal, and is well formed.
+pub fn acceptance()
+    ensures typed { TranslationsAreTyped }
+    ensures accepted { TranslationsAreAccepted }
+    ensures well_formed { TranslationsAreWellFormed }
+{}
