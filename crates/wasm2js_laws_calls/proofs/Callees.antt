@@ -1,5 +1,5 @@
 -- The types of what is called, as the module and its table say them.
-use Rattle.std.proofs.Common.{◌≡◌, ℕ, zero, suc, Bool, true, false, ◌&&◌, List, [], ◌∷◌, ◌++◌, length, Option, Some, None, refl, sym, ap, ◌∙◌, subst}
+use Rattle.std.proofs.Common.{◌≡◌, ℕ, zero, suc, false, ◌&&◌, List, [], ◌∷◌, ◌++◌, length, Option, Some, None, refl, ap, ◌∙◌}
 use Rattle.std.specs.Prelude.{slice_get, option_map}
 use Rattle.std.specs.Cmp.Lexicographic.{pointwise}
 use Rattle.wasm_lang.specs.declared.types.ValType.{ValType}
@@ -7,12 +7,11 @@ use Rattle.wasm_lang.specs.declared.types.ImportKind.{ImportKind}
 use Rattle.wasm_lang.specs.declared.types.ImportKind.TheVariants as imports
 use Rattle.wasm_lang.specs.Modules.{FunctionType, Imported, FunctionBody, WasmModule}
 use Rattle.wasm_lang_valid.specs.Measures as measures
-use Rattle.wasm_lang_valid.specs.ModuleRules.{function_of, imported_functions, function_types, type_of_function}
+use Rattle.wasm_lang_valid.specs.ModuleRules.{function_of, imported_functions, type_of_function}
 use Rattle.wasm_lang_valid.specs.Typing.{same}
 use Rattle.wasm_lang_valid.specs.Validity.{IsValidModule}
 use Rattle.wasm_lang_exec.specs.Code.{Trees, tree_of}
 use Rattle.wasm_lang_exec.specs.Reductions.{Callee, an_import, a_function, type_of, if_function, imported_callee, imported_callees, own_callee, own_callees, callees, callee_at, found, same_types, same_type, of_type}
-use Rattle.wasm_laws_sound.specs.Configurations.{AreTypedFunctions}
 use Rattle.wasm_laws_sound.proofs.Functions.{typed_functions}
 use Rattle.sem_laws.specs.Names.{import_name}
 use Rattle.wasm2js_lang.specs.Tables.{has_form}

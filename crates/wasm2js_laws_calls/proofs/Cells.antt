@@ -1,12 +1,11 @@
 -- A table: how an index is masked, and what stands at it.
-use Rattle.std.proofs.Common.{◌≡◌, ℕ, zero, suc, ◌+◌, ◌*◌, ◌^◌, ◌<◌, ◌≤◌, Bool, true, false, List, [], ◌∷◌, ◌++◌, map, replicate, length, Option, Some, None, pos, cond, refl, sym, ap, ◌∙◌, subst, arith}
-use Rattle.std.specs.Prelude.{◌-◌, ◌%◌, ◌-ℤ◌, nat_le, nat_lt, slice_get, option_map, if◌then◌else◌}
+use Rattle.std.proofs.Common.{◌≡◌, ℕ, zero, suc, ◌*◌, ◌^◌, ◌<◌, ◌≤◌, Bool, true, false, List, [], ◌∷◌, map, replicate, length, Option, Some, None, pos, cond, refl, sym, ap, ◌∙◌, subst, arith}
+use Rattle.std.specs.Prelude.{◌-◌, ◌%◌, ◌-ℤ◌, nat_le, nat_lt, slice_get, if◌then◌else◌}
 use Rattle.std.specs.Int.Bits.{bit_and}
 use Rattle.std.proofs.lemmas.Nat.{and_mask}
 use Rattle.std.proofs.lemmas.List.{length-append, length-map}
-use Rattle.std.proofs.lemmas.Option.{slice_get-map, slice_get_past}
+use Rattle.std.proofs.lemmas.Option.{slice_get_past}
 use Rattle.std.proofs.lemmas.Bool.Decides.{nat_tests}
-use Rattle.sem_words.specs.declared.js_value.JsValue.{JsValue}
 use Rattle.sem_words.specs.declared.js_value.JsValue.TheVariants.{Whole}
 use Rattle.sem_words.specs.JsValues.{to_uint32_of}
 use Rattle.sem_words.specs.JsOperators.{signed_value}
@@ -17,7 +16,7 @@ use Rattle.wasm2js_lang.specs.Tables.{Cell, empty, cell, entries_of, cells_of}
 use Rattle.wasm2js_lang.proofs.Masked.{cells_are_of_entries}
 use Rattle.wasm2js_lang.proofs.Padded.{cells_are_padded}
 use Rattle.wasm2js_code.specs.Tables.{cell_count}
-use Rattle.wasm2js_laws_provided.proofs.Sizes.{some_cells, few_cells}
+use Rattle.wasm2js_laws_provided.proofs.Sizes.{few_cells}
 use Rattle.wasm2js_laws_provided.proofs.Within.{rows_are_within}
 
 -- ---- a table has 2 ^ k cells

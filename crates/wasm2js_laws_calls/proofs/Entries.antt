@@ -1,5 +1,5 @@
 -- Calls of entries of the table, in their code.
-use Rattle.std.proofs.Common.{◌≡◌, ℕ, zero, suc, ◌+◌, ◌<◌, ◌≤◌, Bool, true, false, nat_lt, List, [], ◌∷◌, ◌++◌, map, length, Option, Some, None, Ok, pos, refl, sym, ap, ◌∙◌, subst, arith}
+use Rattle.std.proofs.Common.{◌≡◌, ℕ, zero, suc, ◌+◌, ◌<◌, ◌≤◌, Bool, true, false, nat_lt, List, [], ◌∷◌, ◌++◌, length, Option, Some, None, Ok, pos, refl, sym, ap, ◌∙◌, subst, arith}
 use Rattle.std.specs.Prelude.{◌-◌, reverse, slice_get, option_map, option_and_then, if◌then◌else◌}
 use Rattle.std.specs.Int.Bits.{bit_and}
 use Rattle.std.proofs.lemmas.Option.{slice_get-map}
@@ -18,16 +18,13 @@ use Rattle.wasm_lang.specs.declared.types.ValType.TheVariants.{I32}
 use Rattle.wasm_lang.specs.Modules.{FunctionType}
 use Rattle.wasm_lang.specs.Shape.{IsShaped}
 use Rattle.wasm_lang_valid.specs.ModuleRules.{type_of_function}
-use Rattle.wasm_lang_valid.specs.Measures.{same_type}
 use Rattle.wasm_lang_valid.specs.Profile.{IsInProfile}
-use Rattle.wasm_lang_valid.specs.declared.rule.Rule.{Rule}
 use Rattle.wasm_lang_valid.specs.declared.rule.Rule.TheVariants.{NoType, NoTable}
 use Rattle.wasm_lang_valid.specs.Typing.{Shape, found, onward as onward_rules, unless, listed, result_of, call_shape}
-use Rattle.wasm_lang_valid.specs.Typing as typing
 use Rattle.wasm_lang_exec.specs.Code.{call_indirect, Trees, ◌▹◌}
 use Rattle.wasm_lang_exec.specs.Reductions.{callee_at, of_type}
 use Rattle.wasm_laws_sound.specs.Trees.{IsTyped}
-use Rattle.wasm_laws_drive.specs.Drive.{State, Outcome, Ended, at}
+use Rattle.wasm_laws_drive.specs.Drive.{Ended}
 use Rattle.wasm_laws_drive.specs.Equations.{pay, take_number, called, called_by}
 use Rattle.wasm_laws_drive.specs.Contexts.{Surrounding, closed}
 use Rattle.wasm_laws_drive.proofs.Instructions.{call_indirect_enters}
@@ -39,7 +36,7 @@ use Rattle.asm_lang_valid.specs.Typing.{named}
 use Rattle.asm_lang_exec.specs.Runs.{Place, Part, and_then, defined, read}
 use Rattle.asm_lang_exec.specs.Values.{function_of, entry_of}
 use Rattle.asm_lang_exec.specs.Meaning.{Completion, normal}
-use Rattle.asm_laws_continuation.specs.Following.{eval_to, eval_all_to, exec_to, exec_all_to, unless_left_to}
+use Rattle.asm_laws_continuation.specs.Following.{eval_all_to, exec_to, exec_all_to, unless_left_to}
 use Rattle.wasm2js_words.specs.Names as names
 use Rattle.wasm2js_words.specs.Names.{numbered, operand_low, spelled}
 use Rattle.wasm2js_words.specs.Words as words
@@ -49,7 +46,7 @@ use Rattle.wasm2js_lang.specs.Tables.{Cell, empty, other, cell, cells_of, entrie
 use Rattle.wasm2js_lang.specs.Laws.{HasTable}
 use Rattle.wasm2js_lang.proofs.Masked.{called_types_have_tables}
 use Rattle.wasm2js_code.specs.Actions.{low}
-use Rattle.wasm2js_code.specs.Bodies.{Aim, word_in, answered, arguments_from, form_number, table_call_of, indirect_stmts, types_after_call, comes_to_end, stmts_of}
+use Rattle.wasm2js_code.specs.Bodies.{Aim, word_in, answered, arguments_from, form_number, table_call_of, indirect_stmts, types_after_call, stmts_of}
 use Rattle.wasm2js_code.specs.Modules.{translated}
 use Rattle.wasm2js_code.specs.Rooms.{here, room_of}
 use Rattle.wasm2js_code.specs.Tables.{cell_count, stub_number, stub_of, cell_name, table_for}
@@ -62,8 +59,7 @@ use Rattle.wasm2js_laws_places.specs.Straight.{Words}
 use Rattle.wasm2js_laws_places.specs.Places.{word_at, operands, locals_of, store_of, Stays}
 use Rattle.wasm2js_laws_actions.proofs.Reading.{read_then}
 use Rattle.wasm2js_laws_actions.proofs.Variables.{variable_read}
-use Rattle.wasm2js_laws_control.specs.Control.{Function, IsFair, Inside, state_at, code_sight, IsFollowed, statements_to, MayStand, under_aims, AreNested, Exits, IsKept}
-use Rattle.wasm2js_laws_control.specs.Laws.{IsKeptFirst}
+use Rattle.wasm2js_laws_control.specs.Control.{Function, IsFair, Inside, state_at, code_sight, IsFollowed, statements_to, MayStand, under_aims, IsKept}
 use Rattle.wasm2js_laws_control.proofs.Standing.{other_room}
 use Rattle.wasm2js_laws_control.proofs.Stepping.{appended, no_step}
 use Rattle.wasm2js_laws_calls.specs.Called.{Passes, seen_with, call_then, CallsFollow}

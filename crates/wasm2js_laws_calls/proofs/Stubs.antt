@@ -18,7 +18,7 @@ use Rattle.wasm_lang.specs.declared.types.ValType.TheVariants.{I32, I64}
 use Rattle.wasm_lang.specs.Modules.{FunctionType, WasmModule}
 use Rattle.wasm_lang_valid.specs.Profile.{IsInProfile}
 use Rattle.wasm_lang_exec.specs.Reductions.{callees}
-use Rattle.wasm_laws_drive.specs.Drive.{State, Outcome, Ended}
+use Rattle.wasm_laws_drive.specs.Drive.{Ended}
 use Rattle.wasm_laws_drive.specs.Equations as drive
 use Rattle.asm_lang.specs.Modules.{Stmt, returns, Function as TextFunction}
 use Rattle.asm_lang_valid.specs.Scope.{a_function, module_meaning}
@@ -29,8 +29,8 @@ use Rattle.asm_laws_continuation.specs.Following.{call_named_to, call_at_to, exe
 use Rattle.wasm2js_words.specs.Names as names
 use Rattle.wasm2js_words.specs.Names.{Name, Numbered, numbered, spelled}
 use Rattle.wasm2js_words.specs.Words.{natural, trap_call, stmts_in}
-use Rattle.wasm2js_lang.specs.Tables.{Cell, empty, other, MaskedTable, cells_of, masked}
-use Rattle.wasm2js_code.specs.Helpers.{argument, function_of}
+use Rattle.wasm2js_lang.specs.Tables.{Cell, empty, other, cells_of, masked}
+use Rattle.wasm2js_code.specs.Helpers.{argument}
 use Rattle.wasm2js_code.specs.Modules.{functions_from, init_function, high_function, helpers, functions_of, translated}
 use Rattle.wasm2js_code.specs.Tables.{words_of, result_mark, stub_number, stub_of, cell_name, stub_function, is_empty, is_other, is_needed, stubs_for, stubs}
 use Rattle.wasm2js_laws_scopes.specs.Laws.{is_own}
