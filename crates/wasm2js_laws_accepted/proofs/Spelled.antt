@@ -1,5 +1,5 @@
 -- A module that bytes spell has words for constants and bytes in its segments.
-use Rattle.std.proofs.Common.{◌≡◌, ℕ, zero, suc, ◌+◌, ◌-◌, ◌*◌, ◌^◌, ◌<◌, ◌≤◌, Bool, true, false, List, [], ◌∷◌, ◌++◌, length, Option, Some, None, ap, ◌∙◌, subst, arith}
+use Rattle.std.proofs.Common.{◌≡◌, ℕ, ◌+◌, ◌-◌, ◌*◌, ◌^◌, ◌<◌, ◌≤◌, Bool, List, [], ◌∷◌, ◌++◌, length, Option, ap, ◌∙◌, subst, arith}
 use Rattle.std.specs.Prelude.{All}
 use Rattle.std.specs.List.{AllByRecursion}
 use Rattle.std.proofs.lemmas.List.Elements.{All-from_recursion, recursion_from_All}
@@ -7,14 +7,14 @@ use Rattle.std.proofs.lemmas.Nat.{pow-add, pow_pos}
 use Rattle.std.proofs.Math.Pow.{pow_mono}
 use Rattle.wasm_lang.specs.declared.types.ValType.{ValType}
 use Rattle.wasm_lang.specs.declared.types.GlobalType.{GlobalType}
-use Rattle.wasm_lang.specs.Instructions.{Plain, nop, drop_operand, select, local_get, local_set, local_tee, global_get, global_set, load, store, memory_size, memory_copy, memory_fill, const32, const64, Instruction, unreachable, block, loop, if_block, else_mark, end_mark, br, br_if, br_table, return, call, call_indirect, plain}
-use Rattle.wasm_lang.specs.Modules.{GlobalEntry, DataSegment, FunctionBody, WasmModule}
+use Rattle.wasm_lang.specs.Instructions.{Plain, local_get, local_set, local_tee, global_get, global_set, load, store, memory_size, memory_copy, memory_fill, const32, const64, Instruction, unreachable, block, loop, if_block, else_mark, end_mark, br, br_if, br_table, return, call, call_indirect, plain}
+use Rattle.wasm_lang.specs.Modules.{GlobalEntry, DataSegment, FunctionBody}
 use Rattle.wasm_lang.specs.Numbers.{IsUnsigned, last_unsigned, more_unsigned, IsInteger, last_positive, last_negative, more_integer, IsU32}
-use Rattle.wasm_lang.specs.Grammar.{Spelling, Items, no_item, item, IsVec, IsBytes, IsSized, IsValType, i32_type, i64_type, IsBlockType, no_result, one_result, IsMutable, is_constant, is_variable, IsGlobalType, global_type, IsMemoryImmediate, ArePlainImmediates, AreImmediates, IsInstruction, instruction, IsCode, IsGlobal, a_global, IsRun, a_run, IsFunctionBody, a_body, IsSegment, a_segment, IsCustoms, no_custom, custom, IsSection, no_section, section, IsNumberSection, no_number, number, IsModuleBytes}
+use Rattle.wasm_lang.specs.Grammar.{Spelling, Items, no_item, item, IsVec, IsBytes, IsSized, IsValType, i32_type, i64_type, IsBlockType, no_result, one_result, IsMutable, is_constant, is_variable, IsGlobalType, global_type, IsMemoryImmediate, ArePlainImmediates, AreImmediates, IsInstruction, instruction, IsCode, IsGlobal, a_global, IsRun, a_run, IsFunctionBody, a_body, IsSegment, a_segment, IsCustoms, no_custom, custom, IsSection, no_section, section, IsNumberSection, no_number, number}
 use Rattle.wasm_lang.proofs.Shaped.{spelled_shaped}
 use Rattle.wasm_laws_sound.proofs.Functions.{spelled_are_whole}
-use Rattle.wasm2js_laws_functions.specs.Functions.{HasWord, IsSource}
-use Rattle.wasm2js_laws_accepted.specs.Laws.{HaveFirstWords, SpelledAreSources}
+use Rattle.wasm2js_laws_functions.specs.Functions.{HasWord}
+use Rattle.wasm2js_laws_accepted.specs.Laws.{SpelledAreSources}
 
 abbrev Low : List ℕ → Type 0
 Low xs = AllByRecursion (λ b. b < 256) xs
@@ -208,8 +208,7 @@ spelled_are_sources w spelled profile =
     let start = number_section_low 8 w.start b.after_exports b.after_start b.start exports in
     let elements = section_low 9 _ w.elements b.after_start b.after_elements b.elements start in
     let count = number_section_low 12 b.data_count b.after_elements b.after_data_count b.data_count_section elements in
-    let bodies = section_low 10 (IsSized IsFunctionBody) w.bodies b.after_data_count b.after_bodies b.bodies count in
-    (
+    let bodies = section_low 10 (IsSized IsFunctionBody) w.bodies b.after_data_count b.after_bodies b.bodies count in (
       record {
         whole = spelled_are_whole w spelled profile.valid;
         shaped = spelled_shaped bytes w b;
