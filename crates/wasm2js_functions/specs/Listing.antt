@@ -15,11 +15,14 @@ abbrev pub wrappers_from : WasmModule → (k : ℕ) → List ℕ → List text.F
 wrappers_from m k [] = []
 wrappers_from m k (t ∷ ts) = wrapper_for k (slice_get m.types t) ++ wrappers_from m (suc k) ts
 
--- the function of number k, from its type's number and its body
-abbrev pub own_for : WasmModule → (k t : ℕ) → FunctionBody → List text.Function
-own_for m k t b = function_for m k (own_callee (slice_get m.types t) b (tree_of b.code))
+-- the function of number k, from the number of its type and its body
+abbrev pub own_at : WasmModule → (k : ℕ) → Option ℕ → Option FunctionBody → List text.Function
+own_at m k (Some t) (Some b) = function_for m k (own_callee (slice_get m.types t) b (tree_of b.code))
+own_at m k (Some t) None = []
+own_at m k None b = []
 
--- of these types and with these bodies, from number k on
+-- those of these types and with these bodies, from number k on
 abbrev pub own_from : WasmModule → (k : ℕ) → List ℕ → List FunctionBody → List text.Function
-own_from m k (t ∷ ts) (b ∷ bs) = own_for m k t b ++ own_from m (suc k) ts bs
-own_from m k _ bs = []
+own_from m k (t ∷ ts) (b ∷ bs) = own_at m k (Some t) (Some b) ++ own_from m (suc k) ts bs
+own_from m k (t ∷ ts) [] = []
+own_from m k [] bs = []

@@ -2,11 +2,15 @@
 ghost use Rattle.std.specs.Prelude.{◌≡◌, ◌++◌, map, IfOk};
 ghost use Rattle.wasm_tree.specs.Views.{import_of, global_of, module_of};
 ghost use Rattle.wasm_lang_valid.specs.ModuleRules as rules;
+ghost use Rattle.wasm_lang_valid.specs.Profile as profile;
+ghost use Rattle.wasm2js_code.specs.Tables.{cell_count};
 ghost use Rattle.wasm2js_functions.specs.Facts.{FactsOf};
 
 use std::alloc::{AllocError, Global};
 use wasm_lang::{GlobalType, ImportKind};
+use wasm_profile::{memory_bytes, padded, table_length};
 use wasm_tree::{GlobalDef, Import, Module};
+use wasm2js_bodies::Sizes;
 
 /// The numbers of the functions' types and how many of the functions are imported, the types of the globals, the imported ones
 /// first, and whether there is a table and a memory.
@@ -17,8 +21,9 @@ pub struct Facts {
     pub globals: Vec<GlobalType>,
     pub table: bool,
     pub memory: bool,
+    /// The bytes of the memory, and the cells of each table.
+    pub sizes: Sizes,
 }
-
 
 /// The facts of a module.
 pub fn facts_of(alloc: Global, module: &Module<'_>) -> Result<Facts, AllocError>
@@ -36,8 +41,20 @@ pub fn facts_of(alloc: Global, module: &Module<'_>) -> Result<Facts, AllocError>
         globals,
         table: imports_table(imports) || !module.tables.is_empty(),
         memory: imports_memory(imports) || !module.memories.is_empty(),
+        sizes: sizes_of(module),
     })
 }
+
+fn sizes_of(module: &Module<'_>) -> Sizes
+    ensures bytes { result.bytes ≡ profile.memory_bytes (module_of «module».now) }
+    ensures cells { result.cells ≡ cell_count (module_of «module».now) }
+{
+    Sizes {
+        bytes: memory_bytes(module),
+        cells: padded(table_length(module)),
+    }
+}
+
 fn imported_functions(alloc: Global, imports: &[Import<'_>]) -> Result<Vec<u32>, AllocError>
     ensures { IfOk result (λ types. types.items ≡ rules.imported_functions (map import_of imports.now)) }
 {

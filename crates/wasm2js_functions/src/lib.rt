@@ -3,4 +3,7 @@
 
 mod facts;
 mod listing;
+mod own;
 mod wrappers;
+
+pub use listing::push_functions;

@@ -122,11 +122,7 @@ fn wrapper_locals(alloc: Global, gives: Option<ValType>) -> Result<Vec<Name>, Al
 }
 
 /// The function that calls the imported function of this number.
-pub fn wrapper(
-    alloc: Global,
-    number: u64,
-    function_type: &FuncType,
-) -> Result<Function, AllocError>
+pub fn wrapper(alloc: Global, number: u64, function_type: &FuncType) -> Result<Function, AllocError>
     ensures { IfOk result (λ f. function_view f ≡ modules.wrapper number (type_of function_type.now)) }
 {
     let gives = result_type(function_type);
