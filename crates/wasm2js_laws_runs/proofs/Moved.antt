@@ -24,7 +24,7 @@ use Rattle.wasm2js_laws_places.specs.Places.{operands, locals_of, globals_of, st
 use Rattle.wasm2js_laws_control.specs.Control.{Function}
 use Rattle.wasm2js_laws_instructions.specs.Plain.{IsAlike, IsPlain, code_of, Supports}
 use Rattle.wasm2js_laws_wide.proofs.Kept.{low}
-use Rattle.wasm2js_laws_wide.proofs.Summed.{of_fixed}
+use Rattle.wasm2js_laws_typed.proofs.SoundPlain.{of_fixed}
 use Rattle.wasm2js_laws_loads.proofs.Guarded.{nothing_after}
 use Rattle.wasm2js_laws_loads.proofs.Numbers.{memory_length}
 use Rattle.wasm2js_laws_runs.specs.Answers.{filled_run, fill_units, copied_run, copy_units, units_upwards, units_downwards, is_aligned}
