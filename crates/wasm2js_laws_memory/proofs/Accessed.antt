@@ -1,5 +1,5 @@
 -- Access by access.
-use Rattle.std.proofs.Common.{◌≡◌, ℕ, ◌+◌, ◌≤◌, true, refl}
+use Rattle.std.proofs.Common.{◌≡◌, ◌+◌, ◌≤◌, true, refl}
 use Rattle.wasm_lang.specs.Instructions.{Plain, nop, drop_operand, select, local_get, local_set, local_tee, global_get, global_set, load, store, memory_size, memory_copy, memory_fill, const32, const64, eqz32, eqz64, rel32, rel64, un32, un64, bin32, bin64, wrap, extend_s, extend_u, sign_extend}
 use Rattle.wasm2js_laws_typed.specs.Laws.{IsFormed}
 use Rattle.wasm2js_laws_control.specs.Control.{Function}
