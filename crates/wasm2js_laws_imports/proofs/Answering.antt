@@ -1,12 +1,12 @@
 -- How a call of an imported function is answered in both languages.
-use Rattle.std.proofs.Common.{◌≡◌, ℕ, suc, ◌+◌, ◌*◌, ◌^◌, ◌<◌, ◌≤◌, Bool, true, false, List, [], ◌∷◌, ◌++◌, length, take, drop, map, refl, sym, ap, ◌∙◌, subst, arith}
+use Rattle.std.proofs.Common.{◌≡◌, ℕ, suc, ◌+◌, ◌*◌, ◌^◌, ◌<◌, ◌≤◌, Bool, true, false, List, [], ◌∷◌, ◌++◌, length, take, drop, map, refl, sym, ap, ◌∙◌, arith}
 use Rattle.std.specs.Prelude.{◌/◌, ◌%◌, bytes_eq, if◌then◌else◌}
 use Rattle.std.specs.List.{AllByRecursion, flat_map}
-use Rattle.std.proofs.lemmas.List.{length-take, take-append-drop, take-append-le, drop-append-le}
+use Rattle.std.proofs.lemmas.List.{length-take, take-append-drop}
 use Rattle.heap_views.specs.Heap.{with_run}
 use Rattle.heap_views.proofs.RunLemmas.{length-with_run, IsBytes-with_run, with_run-append}
 use Rattle.sem_words.specs.declared.word.Word.{Word}
-use Rattle.sem_words.specs.declared.word.Word.TheVariants.{W32, W64}
+use Rattle.sem_words.specs.declared.word.Word.TheVariants.{W32}
 use Rattle.sem_laws.specs.Observation.{import_called, stopped, no_reply, trap_name}
 use Rattle.sem_laws.specs.Imports.{low_word, high_word, high_name, Replies, ImportAnswer, goes_on, ends, take_reply, answer_import}
 use Rattle.sem_laws.specs.Script.{WritePlain, ReplyPlain, give, throw}
@@ -19,7 +19,7 @@ use Rattle.wasm2js_words.specs.Names.{Name}
 use Rattle.wasm2js_code.specs.Pairs.{local_pair}
 use Rattle.wasm2js_code.specs.Modules.{param_names}
 use Rattle.wasm2js_laws_places.specs.Straight.{Words}
-use Rattle.wasm2js_laws_places.specs.Places.{value_at, locals_from, IsHeap, IsWritable}
+use Rattle.wasm2js_laws_places.specs.Places.{locals_from, IsHeap, IsWritable}
 
 -- ---- by the same reply, with words of 64 bits as two
 

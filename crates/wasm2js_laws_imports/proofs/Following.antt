@@ -1,6 +1,6 @@
 -- Calls of imported functions follow, and so do all calls.
-use Rattle.std.proofs.Common.{◌≡◌, ℕ, zero, suc, List, ◌++◌, refl, arith}
-use Rattle.std.specs.Prelude.{bytes_eq, reverse}
+use Rattle.std.proofs.Common.{zero, suc, ◌++◌, refl, arith}
+use Rattle.std.specs.Prelude.{reverse}
 use Rattle.std.proofs.lemmas.Slice.Eq.{bytes_eq-Decides}
 use Rattle.sem_laws.specs.Imports.{high_name}
 use Rattle.wasm_lang_exec.specs.Reductions.{an_import}

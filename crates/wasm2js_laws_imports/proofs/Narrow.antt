@@ -13,10 +13,10 @@ use Rattle.wasm_lang.specs.declared.types.ImportKind.{ImportKind}
 use Rattle.wasm_lang.specs.declared.types.ImportKind.TheVariants as imports
 use Rattle.wasm_lang.specs.Modules.{FunctionType, Imported, FunctionBody, WasmModule}
 use Rattle.wasm_lang_valid.specs.Measures as measures
-use Rattle.wasm_lang_valid.specs.Profile.{has_wide_result, is_wide_kind, wide_import, where_so}
+use Rattle.wasm_lang_valid.specs.Profile.{has_wide_result, is_wide_kind, wide_import}
 use Rattle.wasm_lang_valid.specs.Typing.{same_result, result_of}
 use Rattle.wasm_lang_exec.specs.Code.{Trees, tree_of}
-use Rattle.wasm_lang_exec.specs.Reductions.{Callee, an_import, a_function, if_function, imported_callee, imported_callees, own_callee, own_callees, callees, callee_at, found}
+use Rattle.wasm_lang_exec.specs.Reductions.{Callee, an_import, if_function, imported_callee, imported_callees, own_callee, own_callees, callees, callee_at, found}
 use Rattle.wasm2js_lang.proofs.Padded.{where_none}
 
 -- ---- the name

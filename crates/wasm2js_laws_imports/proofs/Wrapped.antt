@@ -1,6 +1,6 @@
 -- The call of an imported function, by its wrapper.
-use Rattle.std.proofs.Common.{◌≡◌, ℕ, zero, suc, ◌+◌, ◌*◌, ◌^◌, ◌<◌, ◌≤◌, Bool, true, false, List, [], ◌∷◌, ◌++◌, map, length, take, drop, Option, Some, None, pos, refl, sym, ap, ◌∙◌, subst, arith}
-use Rattle.std.specs.Prelude.{◌%◌, bytes_eq, reverse, option_map, if◌then◌else◌}
+use Rattle.std.proofs.Common.{◌≡◌, ℕ, zero, suc, ◌+◌, ◌*◌, ◌^◌, ◌≤◌, Bool, true, false, List, [], ◌∷◌, ◌++◌, map, length, take, drop, Option, Some, None, pos, refl, sym, ap, ◌∙◌, subst, arith}
+use Rattle.std.specs.Prelude.{bytes_eq, reverse, option_map, if◌then◌else◌}
 use Rattle.std.specs.List.{AllByRecursion, list_all, flat_map}
 use Rattle.std.specs.Int.Bits.{bit_or}
 use Rattle.std.proofs.lemmas.Bool.{and_parts, and_from}
@@ -23,8 +23,7 @@ use Rattle.wasm_lang.specs.declared.types.ValType.TheVariants.{I32, I64}
 use Rattle.wasm_lang.specs.Modules.{FunctionType}
 use Rattle.wasm_lang_valid.specs.Typing.{listed, result_of}
 use Rattle.wasm_lang_exec.specs.Code.{Trees}
-use Rattle.wasm_lang_exec.specs.Store.{Store, written}
-use Rattle.wasm_lang_exec.specs.Session.{seen_end}
+use Rattle.wasm_lang_exec.specs.Store.{written}
 use Rattle.wasm_lang_exec.specs.Reductions.{an_import, callee_at, top_of, below_top, and_value, result_word}
 use Rattle.wasm_laws_drive.specs.Drive.{State, Outcome, at, onward}
 use Rattle.wasm_laws_drive.specs.Equations as drive
@@ -36,7 +35,7 @@ use Rattle.asm_lang.specs.Modules.{Expr, no_exprs, returns}
 use Rattle.asm_lang_valid.specs.Scope.{a_foreign, is_in}
 use Rattle.asm_lang_valid.specs.Typed.{scope_of}
 use Rattle.asm_lang_valid.specs.Typing.{Scope, named}
-use Rattle.asm_lang_exec.specs.Runs.{Binding, Place, Run, Part, after, and_then, defined, paid, read, write, back_to}
+use Rattle.asm_lang_exec.specs.Runs.{Binding, Place, Part, after, and_then, defined, paid, read, write, back_to}
 use Rattle.asm_lang_exec.specs.Values.{word, with_writes, answered}
 use Rattle.asm_lang_exec.specs.Meaning.{Completion, normal, returned, first_locals, function_end}
 use Rattle.asm_laws_continuation.specs.Following.{CallsBefore, call_named_to, call_at_to, eval_to, eval_all_to, exec_all_to, with_locals_to}
