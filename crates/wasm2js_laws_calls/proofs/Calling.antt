@@ -27,7 +27,7 @@ use Rattle.wasm2js_laws_pace.specs.Following.{Rest}
 use Rattle.wasm2js_laws_places.specs.Straight.{Words}
 use Rattle.wasm2js_laws_places.specs.Places.{word_at, operands, locals_of, Stays}
 use Rattle.wasm2js_laws_control.specs.Control.{Function, IsFair, Inside, state_at, code_sight, IsFollowed, statements_to, MayStand, under_aims, IsKept}
-use Rattle.wasm2js_laws_control.proofs.Standing.{other_room}
+use Rattle.wasm2js_laws_typed.proofs.RoomParts.{right_room}
 use Rattle.wasm2js_laws_control.proofs.Stepping.{appended, no_step}
 use Rattle.wasm2js_laws_calls.specs.Called.{seen_with, call_then, CallsFollow}
 use Rattle.wasm2js_laws_calls.specs.Laws.{IsWithin, CallsAreKept}
@@ -133,8 +133,8 @@ after_call_room f g t code b below is h =
     subst (λ (xs : List ValType). MayStand f code b (listed (result_of t) ++ xs)) (stay_below t.params below)
     (subst (λ o. MayStand f code b (types_after_call o (reverse t.params ++ below))) is
     (record {
-      room = other_room f.scope f.context (here b (reverse t.params ++ below) []) (room_of f.context code b (types_after_call (type_of f.context g) (reverse t.params ++ below))) h.room;
-      translated = h.translated;
+      room = right_room f.scope f.context (here b (reverse t.params ++ below) []) (room_of f.context code b (types_after_call (type_of f.context g) (reverse t.params ++ below))) h.room;
+      formed = h.formed;
     }))
 
 pub calls_are_kept : CallsAreKept

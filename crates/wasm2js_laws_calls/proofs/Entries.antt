@@ -60,7 +60,7 @@ use Rattle.wasm2js_laws_places.specs.Places.{word_at, operands, locals_of, store
 use Rattle.wasm2js_laws_actions.proofs.Reading.{read_then}
 use Rattle.wasm2js_laws_actions.proofs.Variables.{variable_read}
 use Rattle.wasm2js_laws_control.specs.Control.{Function, IsFair, Inside, state_at, code_sight, IsFollowed, statements_to, MayStand, under_aims, IsKept}
-use Rattle.wasm2js_laws_control.proofs.Standing.{other_room}
+use Rattle.wasm2js_laws_typed.proofs.RoomParts.{right_room}
 use Rattle.wasm2js_laws_control.proofs.Stepping.{appended, no_step}
 use Rattle.wasm2js_laws_calls.specs.Called.{Passes, seen_with, call_then, CallsFollow}
 use Rattle.wasm2js_laws_calls.specs.Laws.{IsWithin, IndirectCallsAreKept}
@@ -289,8 +289,8 @@ after_entry_room f n t code b below is h =
     subst (λ (xs : List ValType). MayStand f code b (listed (result_of t) ++ xs)) (stay_below t.params below)
     (subst (λ o. MayStand f code b (types_after_call o (reverse t.params ++ below))) is
     (record {
-      room = other_room f.scope f.context (here b (I32 ∷ (reverse t.params ++ below)) []) (room_of f.context code b (types_after_call (slice_get f.context.types n) (reverse t.params ++ below))) h.room;
-      translated = h.translated.1;
+      room = right_room f.scope f.context (here b (I32 ∷ (reverse t.params ++ below)) []) (room_of f.context code b (types_after_call (slice_get f.context.types n) (reverse t.params ++ below))) h.room;
+      formed = h.formed.1;
     }))
 
 -- the form of what is called, where there is a table
@@ -310,4 +310,4 @@ indirect_calls_are_kept f fair profile shaped within follow n most code ls b ts 
     let kept = rest (listed (result_of t) ++ typed.below) further on ex in
     subst (λ ts. IsKept f most (call_indirect n ▹ code) ls b ts around before next) (sym is)
     (λ p w i stays.
-    one_entry_kept f fair profile shaped within follow n t it.there (standing.translated.0 t it.there) most code ls b typed.below around before next le kept p w i stays)
+    one_entry_kept f fair profile shaped within follow n t it.there (standing.formed.0 t it.there) most code ls b typed.below around before next le kept p w i stays)

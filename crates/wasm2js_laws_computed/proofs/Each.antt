@@ -9,7 +9,7 @@ use Rattle.sem_words.specs.declared.word.Un.TheVariants.{Clz, Ctz, Popcnt}
 use Rattle.wasm_lang.specs.Instructions.{Plain, nop, drop_operand, select, local_get, local_set, local_tee, global_get, global_set, load, store, memory_size, memory_copy, memory_fill, const32, const64, eqz32, eqz64, rel32, rel64, un32, un64, bin32, bin64, wrap, extend_s, extend_u, sign_extend}
 use Rattle.wasm_lang_valid.specs.Measures.{is_mul_div}
 use Rattle.wasm_lang_exec.specs.Code.{Tree, unreachable, block, loop, if_block, br, br_if, br_table, return, call, call_indirect, plain}
-use Rattle.wasm2js_laws_control.specs.Standing.{is_extended}
+use Rattle.wasm2js_laws_typed.specs.Laws.{is_extended}
 use Rattle.wasm2js_laws_control.specs.Control.{Function}
 use Rattle.wasm2js_laws_control.specs.Laws.{OpensNone, IsKeptFirst}
 use Rattle.wasm2js_laws_control.proofs.Kept.{code_is_kept}

@@ -12,7 +12,7 @@ use Rattle.asm_laws_continuation.specs.Laws.{AllFollow}
 use Rattle.wasm2js_code.specs.Bodies.{Aim, comes_to_end}
 use Rattle.wasm2js_laws_places.specs.Straight.{Words, Helping}
 use Rattle.wasm2js_laws_places.specs.Helped.{AreHelpers}
-use Rattle.wasm2js_laws_control.specs.Standing.{IsTranslated}
+use Rattle.wasm2js_laws_typed.specs.Laws.{IsFormed}
 use Rattle.wasm2js_laws_control.specs.Control.{Function, IsFair, MayStand, under_aims, AreNested, Exits, IsKept}
 use Rattle.wasm2js_laws_control.specs.Laws.{IsKeptFirst}
 use Rattle.wasm2js_laws_instructions.specs.Plain.{Supports, Always}
@@ -26,7 +26,7 @@ accesses_memory p = false
 
 -- the code of each other instruction does what the instruction does
 abbrev pub EachIs : Type 0
-EachIs = (p : Plain) → accesses_memory p ≡ false → IsTranslated p → Always p
+EachIs = (p : Plain) → accesses_memory p ≡ false → IsFormed p → Always p
 
 -- a function whose helpers do what they should
 pub record IsHelped (f : Function) : Type 0 where

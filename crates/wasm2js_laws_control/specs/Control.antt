@@ -32,7 +32,7 @@ use Rattle.wasm2js_laws_scopes.specs.Provided.{Provides, HasRoom}
 use Rattle.wasm2js_laws_pace.specs.Following.{Rest, Follows}
 use Rattle.wasm2js_laws_places.specs.Straight.{Words}
 use Rattle.wasm2js_laws_places.specs.Places.{Setting, word_at, names_in, AreApart, operands, locals_of, store_of, World, Stays}
-use Rattle.wasm2js_laws_control.specs.Standing.{IsTranslatedCode}
+use Rattle.wasm2js_laws_typed.specs.Bodies.{IsFormedCode}
 
 -- ---- what is fixed while a function runs
 
@@ -71,10 +71,10 @@ pub record IsFair (f : Function) : Type 0 where
   pub some : 1 ≤ f.pace
   pub provides : Provides f.scope f.context f.called f.setting.bytes f.cells
 
--- code may stand above so many operands, where the block's have these types: the function has variables for it, and all of it is translated
+-- code may stand above so many operands, where the block's have these types: the function has variables for it, and its instructions are formed
 pub record MayStand (f : Function) (code : Trees) (b : ℕ) (ts : List ValType) : Type 0 where
   pub room : HasRoom f.scope f.context (room_of f.context code b ts)
-  pub translated : IsTranslatedCode f.context.types f.called code
+  pub formed : IsFormedCode f.context.types f.called code
 
 -- a place in the function with at most so many units, which stands for a store with these events
 pub record Inside (f : Function) (most : ℕ) (events : List EventPlain) (p : Place) : Type 0 where

@@ -1,6 +1,6 @@
 -- The instructions in the tree of a body are those of its expression: they have opcodes, their constants are words, and the types that
 -- calls of entries name are among those that are called.
-use Rattle.std.proofs.Common.{◌≡◌, ℕ, zero, suc, Bool, true, false, List, [], ◌∷◌, ◌++◌, Some, refl, sym, subst}
+use Rattle.std.proofs.Common.{◌≡◌, ℕ, zero, suc, ◌+◌, Bool, true, false, cond, List, [], ◌∷◌, ◌++◌, length, Some, None, refl, sym, subst}
 use Rattle.std.specs.Prelude.{slice_get, All, ◌||◌}
 use Rattle.std.specs.List.{AllByRecursion}
 use Rattle.std.specs.Cmp.Lexicographic.{pointwise}
@@ -13,33 +13,59 @@ use Rattle.wasm_lang.specs.Modules.{FunctionType, FunctionBody, WasmModule}
 use Rattle.wasm_lang.specs.Opcodes.{opcodes, form_at, form_of}
 use Rattle.wasm_lang.specs.Shape.{HasOpcode, IsShapedCode}
 use Rattle.wasm_lang.proofs.Table.{all_pass, found_passes}
+use Rattle.wasm_lang_valid.specs.ModuleRules.{imported_functions}
 use Rattle.wasm_lang_valid.specs.Typing.{same}
-use Rattle.wasm_lang_valid.specs.Measures.{called, called_in, called_types, same_type, is_among}
+use Rattle.wasm_lang_valid.specs.Measures.{called, called_in, called_types, same_type, is_among, is_wide_mul_div, has_mul_div, first_mul_div, measures_of}
 use Rattle.wasm_lang_exec.specs.Code.{unreachable, block, loop, if_block, br, br_if, br_table, return, call, call_indirect, plain, Trees, ε, ◌▹◌, ◌⊕◌, one, Open, a_block, a_loop, an_if, an_else, nest, tree_of}
-use Rattle.wasm2js_laws_typed.specs.Laws.{is_access, IsFormed}
+use Rattle.wasm2js_laws_typed.specs.Laws.{is_loaded, is_stored, is_extended, IsFormed}
 use Rattle.wasm2js_laws_typed.specs.Bodies.{IsFormedCode}
 use Rattle.wasm2js_laws_functions.specs.Functions.{HasWord, is_called}
 
--- ---- the sizes of accesses
+-- ---- loads, stores and extensions
 
-abbrev has_size : Instruction → Bool
-has_size (flat.plain (load op align offset)) = is_access op
-has_size (flat.plain (store op align offset)) = is_access op
-has_size i = true
+abbrev is_there : Instruction → Bool
+is_there (flat.plain (load op align offset)) = is_loaded op.wide op.signed op.size
+is_there (flat.plain (store op align offset)) = is_stored op.wide op.signed op.size
+is_there (flat.plain (sign_extend wide bits)) = is_extended wide bits
+is_there i = true
 
-all_sizes : all_pass (λ b i. has_size i) opcodes ≡ true
-all_sizes = refl
+all_there : all_pass (λ b i. is_there i) opcodes ≡ true
+all_there = refl
 
-form_has_size : (i : Instruction) → HasOpcode i → has_size (form_of i) ≡ true
+form_is_there : (i : Instruction) → HasOpcode i → is_there (form_of i) ≡ true
 unfolding form_at
-form_has_size i h = found_passes (λ b i. has_size i) h.0 opcodes (form_of i) all_sizes h.1
+form_is_there i h = found_passes (λ b i. is_there i) h.0 opcodes (form_of i) all_there h.1
 
-plain_is_formed : (p : Plain) → has_size (form_of (flat.plain p)) ≡ true → HasWord (flat.plain p) → IsFormed p
-plain_is_formed (const32 n) h w = w
-plain_is_formed (const64 n) h w = w
-plain_is_formed (load op align offset) h w = h
-plain_is_formed (store op align offset) h w = h
-plain_is_formed p h w = tt
+plain_is_formed : (p : Plain) → is_there (form_of (flat.plain p)) ≡ true → HasWord (flat.plain p) → is_wide_mul_div (flat.plain p) ≡ false → IsFormed p
+plain_is_formed (const32 n) h w m = w
+plain_is_formed (const64 n) h w m = w
+plain_is_formed (load op align offset) h w m = h
+plain_is_formed (store op align offset) h w m = h
+plain_is_formed (bin64 op) h w m = m
+plain_is_formed (sign_extend wide bits) h w m = h
+plain_is_formed p h w m = tt
+
+-- ---- words of 64 bits aren't multiplied or divided
+
+abbrev AreNoProducts : List Instruction → Type 0
+AreNoProducts is = AllByRecursion (λ i. is_wide_mul_div i ≡ false) is
+
+no_products : (is : List Instruction) → has_mul_div is ≡ false → AreNoProducts is
+no_products [] h = tt
+no_products (i ∷ is) h = by (is_wide_mul_div i) refl (no_products is) h
+  where
+    by : (t : Bool) → is_wide_mul_div i ≡ t → (has_mul_div is ≡ false → AreNoProducts is) → (t || has_mul_div is) ≡ false → AreNoProducts (i ∷ is)
+    by true e f h = absurd (cc h)
+    by false e f h = (e, f h)
+
+no_first : (n : ℕ) (bs : List FunctionBody) → first_mul_div n bs ≡ None → AllByRecursion (λ (b : FunctionBody). has_mul_div b.code ≡ false) bs
+no_first n [] h = tt
+no_first n (b ∷ bs) h = by (has_mul_div b.code) refl (no_first (n + 1) bs) h
+  where
+    by : (t : Bool) → has_mul_div b.code ≡ t → (first_mul_div (n + 1) bs ≡ None → AllByRecursion (λ (b : FunctionBody). has_mul_div b.code ≡ false) bs)
+        → cond t (Some n) (first_mul_div (n + 1) bs) ≡ None → AllByRecursion (λ (b : FunctionBody). has_mul_div b.code ≡ false) (b ∷ bs)
+    by true e f h = absurd (cc h)
+    by false e f h = (e, f h)
 
 -- ---- from the expression to the tree
 
@@ -144,25 +170,25 @@ module _ (types : List FunctionType) where
   call_is_among n t e = rw e (let f = same_self t in rw f refl)
 
   module _ (all_called : FunctionType → Bool) where
-    formed_code : (code : List Instruction) → AllByRecursion HasOpcode code → AllByRecursion HasWord code → ((t : FunctionType) → is_among t (called_in types code) ≡ true → all_called t ≡ true)
+    formed_code : (code : List Instruction) → AllByRecursion HasOpcode code → AllByRecursion HasWord code → AreNoProducts code → ((t : FunctionType) → is_among t (called_in types code) ≡ true → all_called t ≡ true)
         → AllByRecursion (IsFormedHere types all_called) code
-    formed_code [] o w c = tt
-    formed_code (i ∷ is) o w c = (here i o.0 w.0 (λ t h. c t (among_left t (called types i) (called_in types is) h)), formed_code is o.1 w.1 (λ t h. c t (among_right t (called types i) (called_in types is) h)))
+    formed_code [] o w m c = tt
+    formed_code (i ∷ is) o w m c = (here i o.0 w.0 m.0 (λ t h. c t (among_left t (called types i) (called_in types is) h)), formed_code is o.1 w.1 m.1 (λ t h. c t (among_right t (called types i) (called_in types is) h)))
       where
-        here : (i : Instruction) → HasOpcode i → HasWord i → ((t : FunctionType) → is_among t (called types i) ≡ true → all_called t ≡ true) → IsFormedHere types all_called i
-        here (flat.plain p) o w c = plain_is_formed p (form_has_size (flat.plain p) o) w
-        here (flat.call_indirect n) o w c = λ t e. c t (call_is_among n t e)
-        here flat.unreachable o w c = tt
-        here (flat.block r) o w c = tt
-        here (flat.loop r) o w c = tt
-        here (flat.if_block r) o w c = tt
-        here flat.else_mark o w c = tt
-        here flat.end_mark o w c = tt
-        here (flat.br l) o w c = tt
-        here (flat.br_if l) o w c = tt
-        here (flat.br_table ls d) o w c = tt
-        here flat.return o w c = tt
-        here (flat.call f) o w c = tt
+        here : (i : Instruction) → HasOpcode i → HasWord i → is_wide_mul_div i ≡ false → ((t : FunctionType) → is_among t (called types i) ≡ true → all_called t ≡ true) → IsFormedHere types all_called i
+        here (flat.plain p) o w m c = plain_is_formed p (form_is_there (flat.plain p) o) w m
+        here (flat.call_indirect n) o w m c = λ t e. c t (call_is_among n t e)
+        here flat.unreachable o w m c = tt
+        here (flat.block r) o w m c = tt
+        here (flat.loop r) o w m c = tt
+        here (flat.if_block r) o w m c = tt
+        here flat.else_mark o w m c = tt
+        here flat.end_mark o w m c = tt
+        here (flat.br l) o w m c = tt
+        here (flat.br_if l) o w m c = tt
+        here (flat.br_table ls d) o w m c = tt
+        here flat.return o w m c = tt
+        here (flat.call f) o w m c = tt
 
 -- ---- a body of a module
 
@@ -171,10 +197,11 @@ at_place P [] i x h e = absurd (cc e)
 at_place P (y ∷ xs) zero x h e = let same : y ≡ x = cc e in subst P same h.0
 at_place P (y ∷ xs) (suc i) x h e = at_place P xs i x h.1 e
 
-pub body_is_formed : (w : WasmModule) (i : ℕ) (b : FunctionBody) (trees : Trees) → All (λ b. IsShapedCode b.code) w.bodies → All (λ b. All HasWord b.code) w.bodies
+pub body_is_formed : (w : WasmModule) (i : ℕ) (b : FunctionBody) (trees : Trees) → All (λ b. IsShapedCode b.code) w.bodies → All (λ b. All HasWord b.code) w.bodies → (measures_of w).mul_div ≡ None
     → slice_get w.bodies i ≡ Some b → tree_of b.code ≡ Some trees → IsFormedCode w.types (is_called w) trees
-body_is_formed w i b trees shaped words is tree =
+body_is_formed w i b trees shaped words products is tree =
     let s = at_place (λ (b : FunctionBody). IsShapedCode b.code) w.bodies i b (recursion_from_All (λ (b : FunctionBody). IsShapedCode b.code) w.bodies shaped) is in
     let v = at_place (λ (b : FunctionBody). All HasWord b.code) w.bodies i b (recursion_from_All (λ (b : FunctionBody). All HasWord b.code) w.bodies words) is in
+    let m = at_place (λ (b : FunctionBody). has_mul_div b.code ≡ false) w.bodies i b (no_first (length (imported_functions w.imports)) w.bodies products) is in
     formed_tree w.types (is_called w) b.code trees
-    (formed_code w.types (is_called w) b.code (recursion_from_All HasOpcode b.code s.opcodes) (recursion_from_All HasWord b.code v) (λ t h. among_body w.types w.bodies i b t is h)) tree
+    (formed_code w.types (is_called w) b.code (recursion_from_All HasOpcode b.code s.opcodes) (recursion_from_All HasWord b.code v) (no_products b.code m) (λ t h. among_body w.types w.bodies i b t is h)) tree

@@ -13,16 +13,17 @@ use Rattle.wasm_lang_valid.specs.Profile.{where_so, wide_import, offset_from_imp
 
 -- ---- rows
 
-pub record AreNone (offsets outside large levels size : Option ℕ) : Type 0 where
+pub record AreNone (offsets outside large levels size : Option ℕ) (rest : Option Outside) : Type 0 where
   pub constant : offsets ≡ None
   pub inside : outside ≡ None
   pub small : large ≡ None
   pub shallow : levels ≡ None
   pub few : size ≡ None
+  pub others : rest ≡ None
 
 rows_are_none : (a b c d e f g h i : Beyond) (p q r s t u v w x : Option ℕ) (rest : Option Outside)
-    → row_or a p (row_or b q (row_or c r (row_or d s (row_or e t (row_or f u (row_or g v (row_or h w (row_or i x rest)))))))) ≡ None → AreNone t u v w x
-rows_are_none a b c d e f g h i None None None None None None None None None rest is = record { constant = refl; inside = refl; small = refl; shallow = refl; few = refl }
+    → row_or a p (row_or b q (row_or c r (row_or d s (row_or e t (row_or f u (row_or g v (row_or h w (row_or i x rest)))))))) ≡ None → AreNone t u v w x rest
+rows_are_none a b c d e f g h i None None None None None None None None None rest is = record { constant = refl; inside = refl; small = refl; shallow = refl; few = refl; others = is }
 rows_are_none a b c d e f g h i None None None None None None None None (Some n) rest is = cc is
 rows_are_none a b c d e f g h i None None None None None None None (Some n) x rest is = cc is
 rows_are_none a b c d e f g h i None None None None None None (Some n) w x rest is = cc is
@@ -32,6 +33,10 @@ rows_are_none a b c d e f g h i None None None (Some n) t u v w x rest is = cc i
 rows_are_none a b c d e f g h i None None (Some n) s t u v w x rest is = cc is
 rows_are_none a b c d e f g h i None (Some n) r s t u v w x rest is = cc is
 rows_are_none a b c d e f g h i (Some n) q r s t u v w x rest is = cc is
+
+only_row : (a : Beyond) (p : Option ℕ) → row_or a p None ≡ None → p ≡ None
+only_row a None h = refl
+only_row a (Some n) h = cc h
 
 pub where_none : (b : Bool) (n : ℕ) (o : Option ℕ) → where_so b n o ≡ None → (b ≡ false) × (o ≡ None)
 where_none true n o h = cc h
@@ -69,6 +74,7 @@ pub record IsLimited (w : WasmModule) : Type 0 where
   pub cells : (measures_of w).call_types * padded (table_length w) ≤ most_cells
   pub names : names_past w.imports ≡ None
   pub levels : (measures_of w).levels ≤ most_levels
+  pub products : (measures_of w).mul_div ≡ None
   pub pages : above most_pages_to_run (pages w) ≡ None
   pub constant : offset_from_import 0 w.elements w.segments ≡ None
   pub inside : segment_outside (table_length w) (memory_bytes w) 0 w.elements w.segments ≡ None
@@ -98,6 +104,7 @@ limited w h =
       cells = at_most most_cells ((measures_of w).call_types * padded (table_length w)) f.0;
       names = f.1;
       levels = none_above most_levels (measures_of w).levels rows.shallow;
+      products = only_row WideMulDiv (measures_of w).mul_div rows.others;
       pages = rows.small;
       constant = rows.constant;
       inside = rows.inside;

@@ -111,7 +111,7 @@ module _ (w : WasmModule) (t : FunctionType) (more : List ValType) (code : Trees
         → AllFine s at_top (30 + tree_levels code) (body_stmts (memory_bytes w) (cell_count w) c code)
     all_fine source there i own given =
         let typed = (functions_are_typed w source.whole).are_typed k (a_function t more code) (ap found there) in
-        let formed = body_is_formed w i own.body code source.shaped.bodies source.words own.is_body own.has_tree in
+        let formed = body_is_formed w i own.body code source.shaped.bodies source.words (limited w source.within).products own.is_body own.has_tree in
         let answers : target.result_of s ≡ is_some c.returns = body_gives (memory_bytes w) (cell_count w) c code in
         let first = left_room s c (here 0 (listed c.returns) []) (room_of c code 0 []) has_room in
         let rest = right_room s c (here 0 (listed c.returns) []) (room_of c code 0 []) has_room in

@@ -36,7 +36,7 @@ use Rattle.wasm2js_laws_places.specs.Helped.{IsOn, IsTrap, IsShort, Does, AreHel
 use Rattle.wasm2js_laws_actions.proofs.Doing.{apart_kept}
 use Rattle.wasm2js_laws_actions.proofs.Executed.{actions_are_done, actions_are_followed}
 use Rattle.wasm2js_laws_control.specs.Control.{Function, IsFair, MayStand, Inside, state_at, code_sight, IsFollowed, statements_to, IsKept}
-use Rattle.wasm2js_laws_control.specs.Standing.{IsTranslated}
+use Rattle.wasm2js_laws_typed.specs.Laws.{IsFormed}
 use Rattle.wasm2js_laws_control.specs.Laws.{IsKeptFirst}
 use Rattle.wasm2js_laws_control.proofs.Stepping.{appended, stays_on, stands, step, no_step}
 use Rattle.wasm2js_laws_instructions.specs.Plain.{IsAlike, IsPlain, PlainIs, code_of}
@@ -207,7 +207,7 @@ module _ (f : Function) (fair : IsFair f) (calls : Calls) (follow : AllFollow ca
       (is.free e (word_at p) p.heap) on (subst (λ e. IsAlike f helping b then_types (word_at p) p.heap p.replies w e outcome) known alike) does)
 
 module _ (f : Function) (fair : IsFair f) (calls : Calls) (follow : AllFollow calls f.calls) (helping : Helping) (helpers : AreHelpers f.scope calls f.bound f.setting.bytes helping) where
-  one_kept : (ins : Plain) → (IsTranslated ins → PlainIs f helping ins)
+  one_kept : (ins : Plain) → (IsFormed ins → PlainIs f helping ins)
       → ((most : ℕ) (code : Trees) (ls : List Aim) (b : ℕ) (ts us : List ValType) (around : List Surrounding) (before : Words) (next : Completion → Part (Unit {0})) → most ≤ f.bound
       → IsPlain f helping ins b ts us → AreSoundActions f.scope (code_of f helping ins b ts) → IsKept f most code ls b us around before next → IsKept f most (plain ins ▹ code) ls b ts around before next)
       → IsKeptFirst f (plain ins)
@@ -215,30 +215,30 @@ module _ (f : Function) (fair : IsFair f) (calls : Calls) (follow : AllFollow ca
       let stands' = subst (λ ts. MayStand f (plain ins ▹ code) b ts) typed.operands standing in
       let sound = code_sound f fair helping ins code ls b typed.form typed.takes typed.gives typed.below typed.has_form typed.acts stands' in
       let on = rest_stands f fair helping ins code ls b typed.form typed.takes typed.gives typed.below typed.has_form typed.acts stands' in
-      let known = is standing.translated.0 ls b typed.form typed.takes typed.gives typed.below typed.has_form typed.acts in
+      let known = is standing.formed.0 ls b typed.form typed.takes typed.gives typed.below typed.has_form typed.acts in
       subst (λ ts. IsKept f most (plain ins ▹ code) ls b ts around before next) (sym typed.operands)
       (each most code ls b (typed.takes ++ typed.below) (typed.gives ++ typed.below) around before next small known sound (rest (typed.gives ++ typed.below) typed.goes_on on ex))
 
-  paid_kept : (ins : Plain) → is_constant ins ≡ false → (IsTranslated ins → PlainIs f helping ins) → IsKeptFirst f (plain ins)
+  paid_kept : (ins : Plain) → is_constant ins ≡ false → (IsFormed ins → PlainIs f helping ins) → IsKeptFirst f (plain ins)
   paid_kept ins e is =
       one_kept ins is
       (λ most code ls b ts us around before next small known sound rest p w i stays. paid_followed f fair calls follow helping helpers ins most code ls b ts us around before next small known sound rest p w i stays e)
 
-  narrow_kept : (n : ℕ) → (IsTranslated (const32 n) → PlainIs f helping (const32 n)) → IsKeptFirst f (plain (const32 n))
+  narrow_kept : (n : ℕ) → (IsFormed (const32 n) → PlainIs f helping (const32 n)) → IsKeptFirst f (plain (const32 n))
   narrow_kept n is =
       one_kept (const32 n) is
       (λ most code ls b ts us around before next small known sound rest p w i stays.
       free_followed f fair calls follow helping helpers (const32 n) most code ls b ts us around before next small known sound rest p w i stays (W32 n ∷ operands b ts (word_at p)) refl refl
       (λ j. ap (λ o. f.watch (closed f.home around o)) (narrow_constant f.home n code (state_at f (operands b ts (word_at p)) p w j))))
 
-  wide_kept : (n : ℕ) → (IsTranslated (const64 n) → PlainIs f helping (const64 n)) → IsKeptFirst f (plain (const64 n))
+  wide_kept : (n : ℕ) → (IsFormed (const64 n) → PlainIs f helping (const64 n)) → IsKeptFirst f (plain (const64 n))
   wide_kept n is =
       one_kept (const64 n) is
       (λ most code ls b ts us around before next small known sound rest p w i stays.
       free_followed f fair calls follow helping helpers (const64 n) most code ls b ts us around before next small known sound rest p w i stays (W64 n ∷ operands b ts (word_at p)) refl refl
       (λ j. ap (λ o. f.watch (closed f.home around o)) (wide_constant f.home n code (state_at f (operands b ts (word_at p)) p w j))))
 
-  each_kept : (ins : Plain) → (IsTranslated ins → PlainIs f helping ins) → IsKeptFirst f (plain ins)
+  each_kept : (ins : Plain) → (IsFormed ins → PlainIs f helping ins) → IsKeptFirst f (plain ins)
   each_kept (const32 n) is = narrow_kept n is
   each_kept (const64 n) is = wide_kept n is
   each_kept ins is = paid_kept ins refl is

@@ -5,7 +5,7 @@ use Rattle.asm_lang_exec.specs.Values.{Calls}
 use Rattle.asm_laws_continuation.specs.Laws.{AllFollow}
 use Rattle.wasm2js_laws_places.specs.Straight.{Helping}
 use Rattle.wasm2js_laws_places.specs.Helped.{AreHelpers}
-use Rattle.wasm2js_laws_control.specs.Standing.{IsTranslated}
+use Rattle.wasm2js_laws_typed.specs.Laws.{IsFormed}
 use Rattle.wasm2js_laws_control.specs.Control.{Function, IsFair}
 use Rattle.wasm2js_laws_control.specs.Laws.{IsKeptFirst}
 use Rattle.wasm2js_laws_instructions.specs.Plain.{PlainIs}
@@ -14,4 +14,4 @@ use Rattle.wasm2js_laws_instructions.specs.Plain.{PlainIs}
 abbrev pub PlainsAreKept : Type 0
 PlainsAreKept =
     (f : Function) → IsFair f → (calls : Calls) → AllFollow calls f.calls → (helping : Helping) → AreHelpers f.scope calls f.bound f.setting.bytes helping
-    → (p : Plain) → (IsTranslated p → PlainIs f helping p) → IsKeptFirst f (plain p)
+    → (p : Plain) → (IsFormed p → PlainIs f helping p) → IsKeptFirst f (plain p)

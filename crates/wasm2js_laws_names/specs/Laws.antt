@@ -17,12 +17,12 @@ no_imports = record { values = []; functions = [] }
 abbrev pub VariablesHaveNoRows : Type 0
 VariablesHaveNoRows = (w : WasmModule) → IsInProfile w → IsShaped w → let m = translated w in globals_names m m.params no_imports m.globals 1 ≡ []
 
--- its functions are typed
-abbrev pub IsTyped : Module → Type 0
-IsTyped m = functions_typed m m.functions ≡ true
+-- each function is typed in its scope
+abbrev pub HasTypedFunctions : Module → Type 0
+HasTypedFunctions m = functions_typed m m.functions ≡ true
 
 abbrev pub FunctionsHaveNoRows : Type 0
-FunctionsHaveNoRows = (w : WasmModule) → IsTyped (translated w) → let m = translated w in functions_names m (m.params ++ global_texts m) m.functions (functions_at m) ≡ []
+FunctionsHaveNoRows = (w : WasmModule) → HasTypedFunctions (translated w) → let m = translated w in functions_names m (m.params ++ global_texts m) m.functions (functions_at m) ≡ []
 
 abbrev pub TablesHaveNoRows : Type 0
 TablesHaveNoRows = (w : WasmModule) → IsInProfile w → IsShaped w → let m = translated w in tables_names m (m.params ++ (global_texts m ++ function_texts m)) m.tables (tables_at m) ≡ []
@@ -33,4 +33,4 @@ ExportsHaveNoRows = (w : WasmModule) → IsInProfile w → IsShaped w → let m 
 -- ---- the whole
 
 abbrev pub NamesHaveNoRows : Type 0
-NamesHaveNoRows = (w : WasmModule) → IsInProfile w → IsShaped w → IsTyped (translated w) → name_rows (translated w) ≡ []
+NamesHaveNoRows = (w : WasmModule) → IsInProfile w → IsShaped w → HasTypedFunctions (translated w) → name_rows (translated w) ≡ []

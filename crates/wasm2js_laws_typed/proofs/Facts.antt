@@ -1,14 +1,12 @@
 -- Numbers that are literals, and what operands there is room for.
-use Rattle.std.proofs.Common.{◌≡◌, ℕ, suc, ◌+◌, ◌-◌, ◌*◌, ◌/◌, ◌%◌, ◌^◌, ◌<◌, ◌≤◌, Bool, true, false, List, [], ◌∷◌, ◌++◌, length, Option, Some, None, refl, sym, ap, ◌∙◌, subst, arith}
-use Rattle.std.specs.Prelude.{ℤ, pos, negsuc, is_some, nat_lt, if◌then◌else◌, FitsSigned}
+use Rattle.std.proofs.Common.{◌≡◌, ℕ, ◌+◌, ◌^◌, ◌<◌, Bool, true, false, List, ◌∷◌, length, refl, arith}
+use Rattle.std.specs.Prelude.{ℤ, pos, negsuc, is_some, nat_lt, FitsSigned}
 use Rattle.std.specs.Int.{w32}
 use Rattle.std.proofs.lemmas.Bool.Decides.{nat_tests}
 use Rattle.std.proofs.lemmas.Int.{ints}
 use Rattle.sem_words.specs.Words.{signed_of}
 use Rattle.sem_words.proofs.WordLaws.{signed_of-fits_32}
 use Rattle.sem_laws.specs.Imports.{low_word, high_word}
-use Rattle.asm_types.specs.declared.value_type.ValueType.TheVariants.{Fixnum, Signed, Unsigned}
-use Rattle.asm_types.specs.Rows.{row}
 use Rattle.asm_lang_valid.specs.Typing.{Scope, literal_type}
 use Rattle.wasm_lang.specs.declared.types.ValType.{ValType}
 use Rattle.wasm_lang.specs.declared.types.ValType.TheVariants.{I32, I64}

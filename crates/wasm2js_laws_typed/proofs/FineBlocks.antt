@@ -1,19 +1,17 @@
 -- Blocks, loops and arms are fine where what stands in them is.
-use Rattle.std.proofs.Common.{◌≡◌, ℕ, suc, ◌+◌, ◌≤◌, max, Bool, true, false, not, ◌&&◌, List, [], ◌∷◌, ◌++◌, refl, sym, ap, subst, arith}
-use Rattle.std.specs.List.{AllByRecursion}
-use Rattle.asm_lang.specs.Modules.{Stmt, if_only, if_else, lit}
+use Rattle.std.proofs.Common.{◌≡◌, ℕ, ◌+◌, ◌≤◌, max, Bool, true, false, not, ◌&&◌, List, [], ◌∷◌, ◌++◌, refl, arith}
+use Rattle.asm_lang.specs.Modules.{Stmt}
 use Rattle.asm_lang_valid.specs.Rows.{expr_count, stmt_count}
 use Rattle.asm_lang_valid.specs.LimitRows.{expr_marks}
-use Rattle.asm_lang_valid.specs.Typing.{Scope, Around, in_a_loop, has_label, typed, all_typed}
-use Rattle.wasm2js_words.specs.Names.{numbered, label, spelled}
-use Rattle.wasm2js_words.specs.Words.{natural, stmts_in}
+use Rattle.asm_lang_valid.specs.Typing.{Scope, Around, in_a_loop, has_label}
+use Rattle.wasm2js_words.specs.Names.{numbered, label}
 use Rattle.wasm2js_laws_words.specs.Sound.{IsInt}
-use Rattle.wasm2js_laws_words.specs.Laws.{IsTrapUse, IsFineExpr, IsFine, AreFine}
-use Rattle.wasm2js_laws_words.proofs.FineExprs.{is_identifier, higher, intish, signed_int, is_typed_below, variable_fine, signed_fine}
+use Rattle.wasm2js_laws_words.specs.Laws.{IsFineExpr, IsFine, AreFine}
+use Rattle.wasm2js_laws_words.proofs.FineExprs.{is_identifier, intish, signed_int, is_typed_below, variable_fine, signed_fine}
 use Rattle.wasm2js_laws_words.proofs.FineActions.{no_marks, both_marks, both_true, none_fine, one_more_fine}
-use Rattle.asm_types.specs.declared.value_type.ValueType.TheVariants.{Signed, Int, Intish}
+use Rattle.asm_types.specs.declared.value_type.ValueType.TheVariants.{Signed, Int}
 use Rattle.wasm2js_code.specs.Actions.{low}
-use Rattle.wasm2js_code.specs.Bodies.{label_name, signed_word, under_label, endless}
+use Rattle.wasm2js_code.specs.Bodies.{label_name, signed_word}
 use Rattle.wasm2js_code.specs.Helpers.{block_of}
 use Rattle.wasm2js_laws_typed.specs.Constructs.{AllFine, with_label, BlocksAreFine, LoopsAreFine, ArmsAreFine, TestsAreFine}
 

@@ -1,21 +1,20 @@
 -- The statements of typed code are fine, by induction on its tree.
-use Rattle.std.proofs.Common.{◌≡◌, ℕ, zero, suc, ◌+◌, ◌*◌, ◌^◌, ◌<◌, ◌≤◌, max, Bool, true, false, ◌&&◌, List, [], ◌∷◌, ◌++◌, reverse, length, drop, Option, Some, None, Result, Ok, Err, is_some, refl, sym, ap, ◌∙◌, subst, arith}
+use Rattle.std.proofs.Common.{◌≡◌, ℕ, ◌+◌, ◌*◌, ◌≤◌, max, Bool, true, false, List, [], ◌∷◌, ◌++◌, reverse, length, drop, Option, Some, None, Result, Ok, Err, is_some, refl, sym, ap, ◌∙◌, subst, arith}
 use Rattle.std.specs.Prelude.{slice_get, if◌then◌else◌}
 use Rattle.std.proofs.lemmas.Bool.{and_parts}
 use Rattle.std.proofs.lemmas.List.{length-reverse}
 use Rattle.std.proofs.Math.Seq.{drop-append_seam}
 use Rattle.wasm_lang.specs.declared.types.ValType.{ValType}
 use Rattle.wasm_lang.specs.declared.types.ValType.TheVariants.{I32, I64}
-use Rattle.wasm_lang.specs.Instructions as flat
 use Rattle.wasm_lang.specs.Instructions.{Plain}
 use Rattle.wasm_lang.specs.Modules.{FunctionType}
 use Rattle.wasm_lang_valid.specs.declared.rule.Rule.{Rule}
 use Rattle.wasm_lang_valid.specs.declared.rule.Rule.TheVariants.{NoLabel, NoFunction, NoType, NoTable}
 use Rattle.wasm_lang_valid.specs.Typing.{Context, Shape, Fixed, Leaves, Acts, found, unless, onward, listed, result_of as type_result, type_of, call_shape, plain_shape, all_labels, same_result, carries, alike}
 use Rattle.wasm_lang_exec.specs.Code.{unreachable, block, loop, if_block, br, br_if, br_table, return, call, call_indirect, plain, Trees, ε, ◌▹◌}
-use Rattle.wasm_laws_sound.specs.Trees.{Steps, IsTyped}
+use Rattle.wasm_laws_sound.specs.Trees.{IsTyped}
 use Rattle.wasm_laws_trees.specs.Spelled.{tree_levels}
-use Rattle.asm_lang.specs.Modules.{Stmt, breaks}
+use Rattle.asm_lang.specs.Modules.{breaks}
 use Rattle.asm_lang_valid.specs.Typing.{Scope, Around, result_of, in_a_loop, in_a_switch, has_label}
 use Rattle.wasm2js_words.specs.Words.{Action, simply, stop, statements}
 use Rattle.wasm2js_laws_words.specs.Sound.{AreSoundActions, action_depth, actions_depth}
@@ -26,7 +25,7 @@ use Rattle.wasm2js_code.specs.Bodies.{Aim, past, again, out, labels_round, label
 use Rattle.wasm2js_code.specs.Rooms.{here, local_named, room_of, with_room}
 use Rattle.wasm2js_laws_typed.specs.Constructs.{AllFine, EachFine, with_label, AreAims, labels_for}
 use Rattle.wasm2js_laws_typed.specs.Bodies.{IsFormedCode, CodeIsFine}
-use Rattle.wasm2js_laws_typed.proofs.SoundPlain.{plain_is_sound, of_fixed, under_none}
+use Rattle.wasm2js_laws_typed.proofs.SoundPlain.{plain_is_sound, of_fixed}
 use Rattle.wasm2js_laws_typed.proofs.ShallowPlain.{plain_is_shallow}
 use Rattle.wasm2js_laws_typed.proofs.FineBlocks.{all_join, is_higher, all_higher, blocks_are_fine, loops_are_fine, arms_are_fine, tests_are_fine}
 use Rattle.wasm2js_laws_typed.proofs.FineJumps.{labels_are_new, returns_are_fine, jumps_are_fine}

@@ -1,6 +1,6 @@
 -- Calls are fine.
-use Rattle.std.proofs.Common.{◌≡◌, ℕ, zero, suc, ◌+◌, ◌-◌, ◌^◌, ◌<◌, ◌≤◌, max, Bool, true, false, not, ◌&&◌, List, [], ◌∷◌, ◌++◌, reverse, length, drop, Option, Some, None, is_some, refl, sym, ap, ◌∙◌, subst, arith}
-use Rattle.std.specs.Prelude.{pos, ◌==◌, if◌then◌else◌}
+use Rattle.std.proofs.Common.{◌≡◌, ℕ, suc, ◌+◌, ◌-◌, ◌^◌, ◌<◌, ◌≤◌, max, Bool, true, List, [], ◌∷◌, ◌++◌, reverse, length, Option, Some, None, is_some, refl, sym, ap, ◌∙◌, subst, arith}
+use Rattle.std.specs.Prelude.{pos, ◌==◌}
 use Rattle.std.proofs.lemmas.Bool.Decides.{nat_tests}
 use Rattle.std.proofs.lemmas.List.{append_assoc, reverse-append, length-reverse}
 use Rattle.std.proofs.Math.Seq.{drop-append_seam}
@@ -10,8 +10,8 @@ use Rattle.wasm_lang.specs.declared.types.ValType.{ValType}
 use Rattle.wasm_lang.specs.declared.types.ValType.TheVariants.{I32, I64}
 use Rattle.wasm_lang.specs.Modules.{FunctionType}
 use Rattle.wasm_lang_valid.specs.Typing.{Context, listed, result_of as type_result}
-use Rattle.asm_lang.specs.Modules.{Expr, Exprs, call, table_call, binary, var}
-use Rattle.asm_lang.specs.Heights.{expr_height, exprs_height}
+use Rattle.asm_lang.specs.Modules.{Expr, Exprs, call, table_call, binary}
+use Rattle.asm_lang.specs.Heights.{expr_height}
 use Rattle.asm_laws_print.specs.Spelled.{FitsExpr}
 use Rattle.asm_lang_valid.specs.Scope.{Signature, last_gives_value}
 use Rattle.asm_lang_valid.specs.Rows.{expr_count}
@@ -26,7 +26,7 @@ use Rattle.wasm2js_laws_words.proofs.FineActions.{no_marks, assigned, equal_self
 use Rattle.wasm2js_laws_scopes.specs.Provided.{HasFixed, HasRoom, IsFunction, IsTable, signature_for}
 use Rattle.wasm2js_code.specs.Pairs.{operand_pair}
 use Rattle.wasm2js_code.specs.Actions.{under, low}
-use Rattle.wasm2js_code.specs.Bodies.{high_result, word_in, arguments_from, answered, call_of, call_stmts, table_call_of, form_number, indirect_stmts}
+use Rattle.wasm2js_code.specs.Bodies.{high_result, word_in, arguments_from, answered, call_of, form_number}
 use Rattle.wasm2js_code.specs.Rooms.{here, wide_from}
 use Rattle.wasm2js_code.specs.Tables.{words_of}
 use Rattle.wasm2js_laws_typed.specs.Constructs.{AllFine, CallsAreFine, EntryCallsAreFine}

@@ -1,18 +1,15 @@
 -- Branches and returns are fine.
-use Rattle.std.proofs.Common.{◌≡◌, ℕ, zero, suc, ◌+◌, ◌-◌, ◌<◌, ◌≤◌, max, Bool, true, false, not, ◌&&◌, ◌||◌, List, [], ◌∷◌, ◌++◌, length, drop, Option, Some, None, is_some, refl, sym, ap, ◌∙◌, subst, arith}
+use Rattle.std.proofs.Common.{◌≡◌, ℕ, zero, suc, ◌+◌, ◌<◌, ◌≤◌, Bool, true, false, ◌&&◌, ◌||◌, List, [], ◌∷◌, ◌++◌, length, drop, Option, Some, None, is_some, refl, sym, ap, ◌∙◌, subst, arith}
 use Rattle.std.specs.Prelude.{slice_get, bytes_eq, ◌==◌, if◌then◌else◌}
-use Rattle.std.proofs.lemmas.Bool.Decides.{nat_tests}
-use Rattle.asm_types.specs.declared.value_type.ValueType.TheVariants.{Signed}
 use Rattle.wasm_lang.specs.declared.types.ValType.{ValType}
 use Rattle.wasm_lang.specs.declared.types.ValType.TheVariants.{I32, I64}
 use Rattle.wasm_lang_valid.specs.Typing.{Context, listed}
-use Rattle.asm_lang.specs.Modules.{Stmt, returns, breaks, continues}
+use Rattle.asm_lang.specs.Modules.{Stmt, returns, breaks}
 use Rattle.asm_lang_valid.specs.LimitRows.{expr_marks}
-use Rattle.asm_lang_valid.specs.Typing.{Scope, Label, Around, result_of, has_label, has_loop, typed_below, type_of}
-use Rattle.wasm2js_words.specs.Names as names
-use Rattle.wasm2js_words.specs.Names.{Name, numbered, label, fixed, spelled}
-use Rattle.wasm2js_words.specs.Words.{read, put, Simple, simple_statements}
-use Rattle.wasm2js_laws_words.specs.Sound.{IsInt, AreSoundSimple, simples_depth, simple_depth}
+use Rattle.asm_lang_valid.specs.Typing.{Scope, Around, result_of, has_label, has_loop}
+use Rattle.wasm2js_words.specs.Names.{numbered, label}
+use Rattle.wasm2js_words.specs.Words.{read, put, simple_statements}
+use Rattle.wasm2js_laws_words.specs.Sound.{IsInt, AreSoundSimple}
 use Rattle.wasm2js_laws_words.specs.Laws.{IsFine}
 use Rattle.wasm2js_laws_words.proofs.FineExprs.{is_identifier, is_typed_below}
 use Rattle.wasm2js_laws_words.proofs.FineActions.{simple_fine, both_true, no_marks}
@@ -25,7 +22,7 @@ use Rattle.wasm2js_code.specs.Rooms.{here}
 use Rattle.wasm2js_laws_typed.specs.Constructs.{AllFine, labels_for, AreAims, LabelsAreNew, ReturnsAreFine, JumpsAreFine}
 use Rattle.wasm2js_laws_typed.proofs.Facts.{first_low, first_high, first_words}
 use Rattle.wasm2js_laws_typed.proofs.SoundCode.{moved_sound}
-use Rattle.wasm2js_laws_typed.proofs.FineBlocks.{all_join, is_higher, all_higher, word_signed}
+use Rattle.wasm2js_laws_typed.proofs.FineBlocks.{all_join, is_higher, word_signed}
 
 -- ---- labels
 

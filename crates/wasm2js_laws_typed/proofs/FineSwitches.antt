@@ -1,5 +1,5 @@
 -- Branches by an index are fine.
-use Rattle.std.proofs.Common.{◌≡◌, ℕ, zero, suc, ◌+◌, ◌-◌, ◌*◌, ◌/◌, ◌%◌, ◌^◌, ◌<◌, ◌≤◌, max, Bool, true, false, ◌&&◌, List, [], ◌∷◌, ◌++◌, length, take, drop, Option, Some, None, refl, sym, ap, ◌∙◌, subst, arith}
+use Rattle.std.proofs.Common.{◌≡◌, ℕ, zero, suc, ◌+◌, ◌*◌, ◌/◌, ◌^◌, ◌<◌, ◌≤◌, max, Bool, true, false, List, [], ◌∷◌, length, take, drop, None, refl, ap, subst, arith}
 use Rattle.std.specs.Prelude.{ℤ, pos, negsuc, nat_le, nat_lt, FitsSigned}
 use Rattle.std.specs.Int.{w32}
 use Rattle.std.proofs.lemmas.Int.{ints}
@@ -7,7 +7,6 @@ use Rattle.std.specs.List.{AllByRecursion}
 use Rattle.std.proofs.lemmas.Bool.Decides.{nat_tests}
 use Rattle.sem_words.specs.Words.{signed_of}
 use Rattle.sem_words.proofs.WordLaws.{signed_of-fits_32}
-use Rattle.asm_types.specs.declared.value_type.ValueType.TheVariants.{Signed}
 use Rattle.asm_lang.specs.Modules.{Stmt, Clauses, clauses, no_clauses, switches}
 use Rattle.asm_lang.specs.Heights.{clauses_height}
 use Rattle.asm_laws_print.specs.Fitting.{FitsNumber, FitsClauses}
@@ -21,7 +20,7 @@ use Rattle.wasm2js_laws_words.specs.Laws.{IsTrapUse, IsFine}
 use Rattle.wasm2js_laws_words.proofs.FineExprs.{is_typed_below}
 use Rattle.wasm2js_laws_words.proofs.FineActions.{no_marks, both_marks, both_true}
 use Rattle.wasm2js_code.specs.Actions.{low}
-use Rattle.wasm2js_code.specs.Bodies.{signed_word, cases, most_cases, switches_from, by_index}
+use Rattle.wasm2js_code.specs.Bodies.{signed_word, cases, switches_from}
 use Rattle.wasm2js_laws_typed.specs.Constructs.{AllFine, EachFine, SwitchesAreFine}
 use Rattle.wasm2js_laws_typed.proofs.Cases.{lows, highs, low_values, high_values, low_distinct, high_distinct, low_range, high_range, low_close, high_close}
 use Rattle.wasm2js_laws_typed.proofs.FineBlocks.{together, word_signed}

@@ -1,16 +1,16 @@
 -- Loads and stores are sound where their variables are ints.
-use Rattle.std.proofs.Common.{◌≡◌, ℕ, ◌+◌, ◌^◌, ◌<◌, ◌≤◌, Bool, true, false, ◌&&◌, ◌||◌, List, [], ◌∷◌, ◌++◌, refl, sym, subst, arith}
+use Rattle.std.proofs.Common.{◌≡◌, ℕ, ◌+◌, ◌^◌, ◌<◌, ◌≤◌, Bool, true, false, ◌&&◌, ◌||◌, List, [], ◌∷◌, refl, arith}
 use Rattle.std.specs.Prelude.{nat_lt, ◌==◌, if◌then◌else◌}
 use Rattle.wasm_lang.specs.declared.types.MemOp.{MemOp}
 use Rattle.asm_lang_valid.specs.Typing.{Scope}
 use Rattle.wasm2js_words.specs.Names as names
 use Rattle.wasm2js_words.specs.Names.{Name, fixed, spare_high}
-use Rattle.wasm2js_words.specs.Words.{read, both, shift_right, put, ask, tell, byte, whole, write_byte, write_whole, Simple, Action}
-use Rattle.wasm2js_laws_words.specs.Sound.{IsInt, IsSound, AreSoundSimple, AreSoundActions}
+use Rattle.wasm2js_words.specs.Words.{read, both, shift_right, put, ask, tell, byte, whole, write_byte, write_whole, Action}
+use Rattle.wasm2js_laws_words.specs.Sound.{IsInt, IsSound, AreSoundActions}
 use Rattle.wasm2js_laws_scopes.specs.Provided.{signature, HasFixed, HasMemory}
-use Rattle.wasm2js_code.specs.Pairs.{Pair, simples, literal, sign_of}
-use Rattle.wasm2js_code.specs.Actions.{place, by_place, half, load_word, load_high, load_code, store_word, store_code}
-use Rattle.wasm2js_laws_typed.specs.Laws.{is_access}
+use Rattle.wasm2js_code.specs.Pairs.{Pair, literal, sign_of}
+use Rattle.wasm2js_code.specs.Actions.{place, half, load_word, load_high, load_code, store_word, store_code}
+use Rattle.wasm2js_laws_typed.specs.Laws.{is_loaded, is_stored}
 use Rattle.wasm2js_laws_typed.proofs.SoundCode.{all_simple, join_sound, place_sound, guarded_sound, byte_sound, half_sound, apart_sound, last_is}
 
 -- one of four
@@ -38,6 +38,37 @@ nearer offset k le h = omega (arith, le, h)
 
 at_it : (offset : ℕ) → offset + 4 < 2 ^ 32 → offset < 2 ^ 32
 at_it offset h = omega (arith, h)
+
+-- ---- the sizes of accesses: 1, 2 or 4 bytes, and else a word of 64 bits
+
+abbrev pub is_access : MemOp → Bool
+is_access op = (op.size == 1) || ((op.size == 2) || ((op.size == 4) || op.wide))
+
+one_of_two : (t u v w : Bool) → (t || u) ≡ true → (t || (u || (v || w))) ≡ true
+one_of_two true u v w h = refl
+one_of_two false true v w h = refl
+one_of_two false false v w h = absurd (cc h)
+
+one_of_three : (t u v w : Bool) → (t || (u || v)) ≡ true → (t || (u || (v || w))) ≡ true
+one_of_three true u v w h = refl
+one_of_three false true v w h = refl
+one_of_three false false true w h = refl
+one_of_three false false false w h = absurd (cc h)
+
+any_of_four : (t u v : Bool) → (t || (u || (v || true))) ≡ true
+any_of_four true u v = refl
+any_of_four false true v = refl
+any_of_four false false true = refl
+any_of_four false false false = refl
+
+pub loads_access : (wide signed : Bool) (n : ℕ) → is_loaded wide signed n ≡ true → ((n == 1) || ((n == 2) || ((n == 4) || wide))) ≡ true
+loads_access false false n h = one_of_three (n == 1) (n == 2) (n == 4) false h
+loads_access false true n h = one_of_two (n == 1) (n == 2) (n == 4) false h
+loads_access true signed n h = any_of_four (n == 1) (n == 2) (n == 4)
+
+pub stores_access : (wide signed : Bool) (n : ℕ) → is_stored wide signed n ≡ true → ((n == 1) || ((n == 2) || ((n == 4) || wide))) ≡ true
+stores_access wide false n h = loads_access wide false n h
+stores_access wide true n h = absurd (cc h)
 
 module _ (s : Scope) (given : HasFixed s) (memory : HasMemory s) (bytes : ℕ) (few : bytes ≤ 2 ^ 28) (op : MemOp) (formed : is_access op ≡ true) (offset : ℕ) where
   is_wide : (op.size == 1) ≡ false → (op.size == 2) ≡ false → (op.size == 4) ≡ false → op.wide ≡ true

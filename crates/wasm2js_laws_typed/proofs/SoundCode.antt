@@ -1,6 +1,6 @@
 -- The code of operators is sound where its variables are ints.
-use Rattle.std.proofs.Common.{◌≡◌, ℕ, suc, ◌+◌, ◌-◌, ◌^◌, ◌<◌, ◌≤◌, Bool, true, false, ◌&&◌, ◌||◌, List, [], ◌∷◌, ◌++◌, length, Option, Some, None, refl, sym, ap, subst, arith}
-use Rattle.std.specs.Prelude.{nat_le, nat_lt, ◌==◌, if◌then◌else◌}
+use Rattle.std.proofs.Common.{◌≡◌, ℕ, ◌+◌, ◌-◌, ◌^◌, ◌<◌, ◌≤◌, Bool, true, false, ◌||◌, List, [], ◌∷◌, ◌++◌, Option, Some, refl, sym, subst, arith}
+use Rattle.std.specs.Prelude.{nat_le, ◌==◌, if◌then◌else◌}
 use Rattle.std.proofs.lemmas.Bool.Decides.{nat_tests}
 use Rattle.sem_words.specs.declared.word.Bin.{Bin}
 use Rattle.sem_words.specs.declared.word.Bin.TheVariants as bins
@@ -10,16 +10,15 @@ use Rattle.sem_words.specs.declared.word.Rel.{Rel}
 use Rattle.sem_words.specs.declared.word.Rel.TheVariants as rels
 use Rattle.wasm_lang.specs.declared.types.ValType.{ValType}
 use Rattle.wasm_lang.specs.declared.types.ValType.TheVariants.{I32, I64}
-use Rattle.wasm_lang.specs.declared.types.MemOp.{MemOp}
 use Rattle.asm_lang_valid.specs.Typing.{Scope}
 use Rattle.wasm2js_words.specs.Names as names
 use Rattle.wasm2js_words.specs.Names.{Name, Fixed, fixed}
-use Rattle.wasm2js_words.specs.Words.{read, Term, BitOp, conjunction, disjunction, exclusion, Relation, less, at_most, greater, at_least, Simple, put, ask, tell, stop, guard, byte, whole, write_byte, write_whole, Action, simply}
+use Rattle.wasm2js_words.specs.Words.{read, Term, Simple, put, stop, guard, byte, Action, simply}
 use Rattle.wasm2js_laws_words.specs.Sound.{IsInt, IsHelper, IsSound, AreSoundSimple, AreSoundActions}
 use Rattle.wasm2js_laws_scopes.specs.Provided.{signature, AreInts, HasFixed, HasMemory}
 use Rattle.wasm2js_code.specs.Pairs.{Pair, names_of, simples, moved, literal, plus, minus, sign_of}
-use Rattle.wasm2js_code.specs.Actions.{narrow_binary, narrow_unary, narrow_relation, selected, moved_if, place, guarded, by_place, half, load_word, load_high, load_code, store_word, store_code, sign_extended}
-use Rattle.wasm2js_code.specs.Wide.{wide_binary, wide_unary, wide_relation, wide_extend, wide_turn, wide_bits}
+use Rattle.wasm2js_code.specs.Actions.{narrow_binary, narrow_unary, narrow_relation, selected, moved_if, place, guarded, by_place, half, sign_extended}
+use Rattle.wasm2js_code.specs.Wide.{wide_binary, wide_unary, wide_relation, wide_extend, wide_turn}
 use Rattle.wasm2js_laws_typed.proofs.Facts.{plain_literal}
 
 module _ (s : Scope) where

@@ -1,8 +1,7 @@
 -- The actions of plain instructions are sound, instruction by instruction.
-use Rattle.std.proofs.Common.{◌≡◌, ℕ, suc, ◌+◌, ◌-◌, ◌/◌, ◌^◌, ◌<◌, ◌≤◌, Bool, true, false, ◌||◌, List, [], ◌∷◌, ◌++◌, length, drop, Option, Some, None, Result, Ok, Err, refl, sym, ap, ◌∙◌, subst, arith}
-use Rattle.std.specs.Prelude.{slice_get, ◌==◌, if◌then◌else◌}
+use Rattle.std.proofs.Common.{◌≡◌, ℕ, ◌+◌, ◌/◌, ◌^◌, ◌<◌, ◌≤◌, Bool, true, false, List, [], ◌∷◌, ◌++◌, length, drop, Option, Some, None, Result, Ok, refl, sym, ap, subst, arith}
+use Rattle.std.specs.Prelude.{slice_get, ◌==◌}
 use Rattle.std.proofs.lemmas.Bool.Decides.{nat_tests}
-use Rattle.sem_words.specs.Words.{signed_of}
 use Rattle.sem_laws.specs.Imports.{low_word, high_word}
 use Rattle.wasm_lang.specs.declared.types.ValType.{ValType}
 use Rattle.wasm_lang.specs.declared.types.ValType.TheVariants.{I32, I64}
@@ -12,20 +11,19 @@ use Rattle.wasm_lang.specs.Instructions.{Plain, nop, drop_operand, select, local
 use Rattle.wasm_lang.specs.Modules.{FunctionType}
 use Rattle.wasm_lang_valid.specs.declared.rule.Rule.{Rule}
 use Rattle.wasm_lang_valid.specs.declared.rule.Rule.TheVariants.{NoMemory, NoGlobal, NoLocal}
-use Rattle.wasm_lang_valid.specs.Typing.{Context, Shape, Fixed, Leaves, AnyOne, TwoAlike, Acts, fixed, two_alike, any_one, found, unless, kind_of, plain_shape}
+use Rattle.wasm_lang_valid.specs.Typing.{Context, Shape, Fixed, TwoAlike, Acts, fixed, two_alike, found, unless, kind_of, plain_shape}
 use Rattle.asm_lang_valid.specs.Typing.{Scope}
 use Rattle.wasm2js_words.specs.Names as names
-use Rattle.wasm2js_words.specs.Words.{read, number, put, tell, compare, equal, Term, Simple}
-use Rattle.wasm2js_laws_words.specs.Sound.{IsInt, IsSound, AllSound, AreSoundSimple, AreSoundActions}
+use Rattle.wasm2js_laws_words.specs.Sound.{IsInt, AllSound, AreSoundSimple, AreSoundActions}
 use Rattle.wasm2js_laws_scopes.specs.Provided.{signature, AreInts, HasRoom, IsNamed, Provides}
-use Rattle.wasm2js_code.specs.Pairs.{Pair, names_of, local_pair, operand_pair, global_pair, simples, literal, sign_of}
-use Rattle.wasm2js_code.specs.Actions.{under, low, three, selected, moved_if, kind_in, narrow_relation, narrow_unary, narrow_binary, sign_extended, load_code, store_code, actions}
-use Rattle.wasm2js_code.specs.Wide.{wide_binary, wide_unary, wide_compare, is_wide_zero}
+use Rattle.wasm2js_code.specs.Pairs.{names_of, local_pair, operand_pair, global_pair}
+use Rattle.wasm2js_code.specs.Actions.{under, low, three, selected, kind_in, narrow_unary, narrow_binary, sign_extended, actions}
+use Rattle.wasm2js_code.specs.Wide.{wide_binary, wide_unary}
 use Rattle.wasm2js_code.specs.Rooms.{here, local_named}
 use Rattle.wasm2js_laws_typed.specs.Laws.{IsFormed, PlainIsSound}
 use Rattle.wasm2js_laws_typed.proofs.Facts.{plain_literal, signed_literal, low_fits, high_fits, first_low, second_low, top_of_two, third_low, middle_of_three, top_of_three, first_high, second_high, top_high_of_two, first_words}
 use Rattle.wasm2js_laws_typed.proofs.SoundCode.{all_simple, moved_if_sound, selected_sound, narrow_binary_sound, narrow_unary_sound, narrow_relation_sound, wide_binary_sound, wide_unary_sound, wide_relation_sound, narrow_extended_sound, wide_extended_sound}
-use Rattle.wasm2js_laws_typed.proofs.SoundAccess.{load_sound, store_sound}
+use Rattle.wasm2js_laws_typed.proofs.SoundAccess.{loads_access, stores_access, load_sound, store_sound}
 
 -- ---- what a shape takes and gives
 
@@ -114,12 +112,12 @@ module _ (s : Scope) (c : Context) (is_called : FunctionType → Bool) (bytes ce
     load_is_sound : (op : MemOp) (align offset : ℕ) (m : Bool) → c.memory ≡ m → IsFormed (load op align offset) → unless m NoMemory (Fixed (I32 ∷ []) (kind_of op.wide ∷ [])) ≡ Ok form → Goal (load op align offset) takes gives
     load_is_sound op align offset false e formed is = absurd (cc is)
     load_is_sound op align offset true e formed is = of_fixed (Goal (load op align offset)) (I32 ∷ []) (kind_of op.wide ∷ []) takes gives form is acts
-        (λ before after. load_sound s given.fixed (given.memory e) bytes given.few_bytes op formed offset (operand_pair (b + length below)) (first_low s c b I32 below _ before) (high_if_wide op.wide after))
+        (λ before after. load_sound s given.fixed (given.memory e) bytes given.few_bytes op (loads_access op.wide op.signed op.size formed) offset (operand_pair (b + length below)) (first_low s c b I32 below _ before) (high_if_wide op.wide after))
 
     store_is_sound : (op : MemOp) (align offset : ℕ) (m : Bool) → c.memory ≡ m → IsFormed (store op align offset) → unless m NoMemory (Fixed (kind_of op.wide ∷ I32 ∷ []) []) ≡ Ok form → Goal (store op align offset) takes gives
     store_is_sound op align offset false e formed is = absurd (cc is)
     store_is_sound op align offset true e formed is = of_fixed (Goal (store op align offset)) (kind_of op.wide ∷ I32 ∷ []) [] takes gives form is acts
-        (λ before after. store_sound s given.fixed (given.memory e) bytes given.few_bytes op formed offset (low (b + length below)) (operand_pair (b + length below + 1))
+        (λ before after. store_sound s given.fixed (given.memory e) bytes given.few_bytes op (stores_access op.wide op.signed op.size formed) offset (low (b + length below)) (operand_pair (b + length below + 1))
         (second_low s c b (kind_of op.wide) I32 below _ before) (top_of_two s c b (kind_of op.wide) I32 below _ before) (value_if_wide op.wide _ before))
 
     page_count : bytes ≤ 2 ^ 28 → bytes / 65536 < 2 ^ 32

@@ -1,5 +1,5 @@
 -- What a typed instruction takes and leaves, whatever labels stand round it.
-use Rattle.std.proofs.Common.{◌≡◌, ℕ, Bool, true, false, List, [], ◌∷◌, ◌++◌, length, drop, Option, Some, None, Result, Ok, Err, refl, sym, ap, ◌∙◌, subst}
+use Rattle.std.proofs.Common.{◌≡◌, Bool, true, false, List, [], ◌∷◌, ◌++◌, drop, Option, Some, None, Result, Ok, Err, refl, sym, ap, ◌∙◌, subst}
 use Rattle.std.specs.Prelude.{slice_get}
 use Rattle.std.proofs.lemmas.List.{append_assoc}
 use Rattle.std.proofs.Math.Seq.{drop-append_seam}
@@ -7,7 +7,7 @@ use Rattle.wasm_lang.specs.declared.types.ValType.{ValType}
 use Rattle.wasm_lang.specs.Instructions.{Plain, nop, drop_operand, select, local_get, local_set, local_tee, global_get, global_set, load, store, memory_size, memory_copy, memory_fill, const32, const64, eqz32, eqz64, rel32, rel64, un32, un64, bin32, bin64, wrap, extend_s, extend_u, sign_extend}
 use Rattle.wasm_lang_valid.specs.declared.rule.Rule.{Rule}
 use Rattle.wasm_lang_valid.specs.declared.rule.Rule.TheVariants.{NoLabel}
-use Rattle.wasm_lang_valid.specs.Typing.{Context, Shape, Fixed, Leaves, AnyOne, TwoAlike, Acts, fixed, leaves, any_one, two_alike, found, unless, listed, plain_shape}
+use Rattle.wasm_lang_valid.specs.Typing.{Context, Shape, Leaves, Acts, fixed, leaves, any_one, two_alike, found, unless, listed, plain_shape}
 use Rattle.wasm2js_code.specs.Bodies.{after_shape, after_form, after_plain}
 
 pub same_shape : (c : Context) (labels : List (Option ValType)) (p : Plain) → plain_shape (record c { labels = labels }) p ≡ plain_shape c p

@@ -1,27 +1,40 @@
 -- The code of instructions, and the statements of bodies, as asm.js.
-use Rattle.std.specs.Prelude.{◌≡◌, ℕ, ◌+◌, ◌^◌, ◌<◌, ◌≤◌, Bool, true, ◌||◌, ◌==◌, List, [], ◌++◌, Ok}
+use Rattle.std.specs.Prelude.{◌≡◌, ℕ, ◌^◌, ◌<◌, ◌≤◌, Bool, true, false, ◌||◌, ◌==◌, List, [], ◌++◌, Ok}
 use Rattle.wasm_lang.specs.declared.types.ValType.{ValType}
-use Rattle.wasm_lang.specs.declared.types.MemOp.{MemOp}
-use Rattle.wasm_lang.specs.Instructions.{Plain, const32, const64, load, store}
+use Rattle.wasm_lang.specs.Instructions.{Plain, const32, const64, load, store, bin64, sign_extend}
 use Rattle.wasm_lang.specs.Modules.{FunctionType}
+use Rattle.wasm_lang_valid.specs.Measures.{is_mul_div}
 use Rattle.wasm_lang_valid.specs.Typing.{Context, Shape, Acts, plain_shape}
 use Rattle.asm_lang_valid.specs.Typing.{Scope}
 use Rattle.wasm2js_laws_words.specs.Sound.{AreSoundActions, actions_depth}
 use Rattle.wasm2js_laws_scopes.specs.Provided.{Provides, HasRoom}
 use Rattle.wasm2js_code.specs.Actions.{actions}
-use Rattle.wasm2js_code.specs.Bodies.{after_plain}
 use Rattle.wasm2js_code.specs.Rooms.{here, local_named}
 
--- 1, 2 or 4 bytes, and else a word of 64 bits
-abbrev pub is_access : MemOp → Bool
-is_access op = (op.size == 1) || ((op.size == 2) || ((op.size == 4) || op.wide))
+-- the bytes of loads and stores, and the bits that are extended with their sign
 
--- a constant is a word of its type, and an access to the memory has a size
+abbrev pub is_loaded : (wide signed : Bool) → ℕ → Bool
+is_loaded false false n = (n == 1) || ((n == 2) || (n == 4))
+is_loaded false true n = (n == 1) || (n == 2)
+is_loaded true false n = (n == 1) || ((n == 2) || ((n == 4) || (n == 8)))
+is_loaded true true n = (n == 1) || ((n == 2) || (n == 4))
+
+abbrev pub is_stored : (wide signed : Bool) → ℕ → Bool
+is_stored wide false n = is_loaded wide false n
+is_stored wide true n = false
+
+abbrev pub is_extended : (wide : Bool) → ℕ → Bool
+is_extended false n = (n == 8) || (n == 16)
+is_extended true n = (n == 8) || ((n == 16) || (n == 32))
+
+-- an instruction that can be spelled, whose constant is a word, and that is no product, quotient or remainder of words of 64 bits
 abbrev pub IsFormed : Plain → Type 0
 IsFormed (const32 n) = n < 2 ^ 32
 IsFormed (const64 n) = n < 2 ^ 64
-IsFormed (load op align offset) = is_access op ≡ true
-IsFormed (store op align offset) = is_access op ≡ true
+IsFormed (load op align offset) = is_loaded op.wide op.signed op.size ≡ true
+IsFormed (store op align offset) = is_stored op.wide op.signed op.size ≡ true
+IsFormed (bin64 op) = is_mul_div op ≡ false
+IsFormed (sign_extend wide bits) = is_extended wide bits ≡ true
 IsFormed p = Unit {0}
 
 -- The actions of a plain instruction may stand in a function that has room for the operands before and after it, and for the local that

@@ -1,0 +1,111 @@
+-- Blocks, loops and ifs, and the walk past their ends.
+use Rattle.std.proofs.Common.{◌≡◌, ℕ, ◌+◌, ◌<◌, Bool, List, [], ◌∷◌, ◌++◌, drop, Option, Some, None, refl, sym, ap, subst, ◌∙◌, arith}
+use Rattle.std.specs.Prelude.{slice_get, if◌then◌else◌}
+use Rattle.wasm_lang.specs.declared.types.ValType.{ValType}
+use Rattle.wasm_lang.specs.Instructions as flat
+use Rattle.wasm_lang.specs.Instructions.{Instruction}
+use Rattle.wasm_lang_valid.specs.Typing.{Context, listed}
+use Rattle.wasm_lang_exec.specs.Code.{block, loop, if_block, Trees, ◌▹◌}
+use Rattle.wasm_run_flat.specs.Jumps.{past_end, other_arm}
+use Rattle.wasm_run_flat.specs.Places.{code_at}
+use Rattle.wasm_run_flat.specs.declared.target.Target.TheVariants.{Past, Again}
+use Rattle.wasm_run_flat.proofs.Standing.{block_opens, loop_opens, first_arm_opens, second_arm_opens}
+use Rattle.wasm_laws_flat.proofs.Past.{past_block, past_loop, past_if}
+use Rattle.asm_lang.specs.Modules.{Stmt, breaks, if_else}
+use Rattle.wasm2js_code.specs.Helpers.{block_of}
+use Rattle.wasm2js_code.specs.Actions.{under}
+use Rattle.wasm2js_code.specs.Bodies.{Aim, past, again, stmts_of, comes_to_end, labels_round, under_label, endless, signed_word}
+use Rattle.wasm2js_bodies.specs.Walks.{IsInside, size, GoesOn, IsOver}
+use Rattle.wasm2js_bodies.proofs.Steps.{goes_on}
+
+-- ---- inside
+
+module _ (body : List Instruction) (at : ℕ) (r : Option ValType) (s : IsInside body at) where
+  pub inside_block : slice_get body at ≡ Some (flat.block r) → IsInside body (at + 1)
+  inside_block here = record { targets = Past (past_end body at) ∷ s.targets; stands = (block_opens body at s.targets r s.stands here).stands }
+
+  pub inside_loop : slice_get body at ≡ Some (flat.loop r) → IsInside body (at + 1)
+  inside_loop here = record { targets = Again at ∷ s.targets; stands = (loop_opens body at s.targets r s.stands here).stands }
+
+  pub inside_first : slice_get body at ≡ Some (flat.if_block r) → IsInside body (at + 1)
+  inside_first here = record { targets = Past (past_end body at) ∷ s.targets; stands = (first_arm_opens body at s.targets r s.stands here).stands }
+
+  pub inside_second : slice_get body at ≡ Some (flat.if_block r) → IsInside body (other_arm body at)
+  inside_second here = record { targets = Past (past_end body at) ∷ s.targets; stands = (second_arm_opens body at s.targets r s.stands here).stands }
+
+  pub block_smaller : slice_get body at ≡ Some (flat.block r) → size (code_at body (at + 1)) < size (code_at body at)
+  block_smaller here =
+      let n = past_block body at s.targets r s.stands here in
+      let less : size (code_at body (at + 1)) < size (block r (code_at body (at + 1)) ▹ code_at body (past_end body at)) = omega arith in
+      subst (λ (is : Trees). size (code_at body (at + 1)) < size is) (sym n.code) less
+
+  pub loop_smaller : slice_get body at ≡ Some (flat.loop r) → size (code_at body (at + 1)) < size (code_at body at)
+  loop_smaller here =
+      let n = past_loop body at s.targets r s.stands here in
+      let less : size (code_at body (at + 1)) < size (loop r (code_at body (at + 1)) ▹ code_at body (past_end body at)) = omega arith in
+      subst (λ (is : Trees). size (code_at body (at + 1)) < size is) (sym n.code) less
+
+  pub first_smaller : slice_get body at ≡ Some (flat.if_block r) → size (code_at body (at + 1)) < size (code_at body at)
+  first_smaller here =
+      let n = past_if body at s.targets r s.stands here in
+      let less : size (code_at body (at + 1)) < size (if_block r (code_at body (at + 1)) (code_at body (other_arm body at)) ▹ code_at body (past_end body at)) = omega arith in
+      subst (λ (is : Trees). size (code_at body (at + 1)) < size is) (sym n.code) less
+
+  pub second_smaller : slice_get body at ≡ Some (flat.if_block r) → size (code_at body (other_arm body at)) < size (code_at body at)
+  second_smaller here =
+      let n = past_if body at s.targets r s.stands here in
+      let less : size (code_at body (other_arm body at)) < size (if_block r (code_at body (at + 1)) (code_at body (other_arm body at)) ▹ code_at body (past_end body at)) = omega arith in
+      subst (λ (is : Trees). size (code_at body (other_arm body at)) < size is) (sym n.code) less
+
+-- ---- past the end
+
+module _ (bytes cells : ℕ) (c : Context) (body : List Instruction) (at : ℕ) (ls : List Aim) (b n : ℕ) (r : Option ValType) (ts us : List ValType) (before after inner : List Stmt) (s : IsInside body at) where
+  pub block_step : slice_get body at ≡ Some (flat.block r) → n ≡ under 0 b ts → us ≡ listed r ++ ts
+      → (reached : Bool) → IsOver bytes cells c body (at + 1) reached (past n r ∷ ls) n [] [] inner
+      → after ≡ before ++ under_label (labels_round ls) (block_of inner) ∷ []
+      → GoesOn bytes cells c body at (past_end body at) ls b ts us before after
+  block_step here base gives reached o made =
+      let code = code_at body (at + 1) in
+      let d = under 0 b ts in
+      let is : inner ≡ stmts_of bytes cells c code (past d r ∷ ls) d [] = o.statements ∙ ap (λ (m : ℕ). stmts_of bytes cells c code (past m r ∷ ls) m []) base in
+      subst (λ (vs : List ValType). GoesOn bytes cells c body at (past_end body at) ls b ts vs before after) (sym gives)
+      (goes_on bytes cells c body at ls b ts before after (under_label (labels_round ls) (block_of (stmts_of bytes cells c code (past d r ∷ ls) d [])) ∷ [])
+      (listed r ++ ts) (past_end body at) s.targets (block r code) (past_block body at s.targets r s.stands here)
+      (made ∙ ap (λ (ss : List Stmt). before ++ under_label (labels_round ls) (block_of ss) ∷ []) is)
+      (λ is. refl) (λ is. refl))
+
+  pub loop_step : slice_get body at ≡ Some (flat.loop r) → n ≡ under 0 b ts → us ≡ listed r ++ ts
+      → (reached : Bool) → IsOver bytes cells c body (at + 1) reached (again n ∷ ls) n [] [] inner
+      → after ≡ before ++ under_label (labels_round ls) (endless (inner ++ (if reached then breaks None ∷ [] else []))) ∷ []
+      → GoesOn bytes cells c body at (past_end body at) ls b ts us before after
+  loop_step here base gives reached o made =
+      let code = code_at body (at + 1) in
+      let d = under 0 b ts in
+      let is : inner ≡ stmts_of bytes cells c code (again d ∷ ls) d [] = o.statements ∙ ap (λ (m : ℕ). stmts_of bytes cells c code (again m ∷ ls) m []) base in
+      subst (λ (vs : List ValType). GoesOn bytes cells c body at (past_end body at) ls b ts vs before after) (sym gives)
+      (goes_on bytes cells c body at ls b ts before after
+      (under_label (labels_round ls) (endless (stmts_of bytes cells c code (again d ∷ ls) d [] ++ (if comes_to_end code then breaks None ∷ [] else []))) ∷ [])
+      (listed r ++ ts) (past_end body at) s.targets (loop r code) (past_loop body at s.targets r s.stands here)
+      (made ∙ ap (λ (ss : List Stmt). before ++ under_label (labels_round ls) (endless (ss ++ (if reached then breaks None ∷ [] else []))) ∷ []) is
+      ∙ ap (λ (e : Bool). before ++ under_label (labels_round ls) (endless (stmts_of bytes cells c code (again d ∷ ls) d [] ++ (if e then breaks None ∷ [] else []))) ∷ []) o.ending)
+      (λ is. refl) (λ is. refl))
+
+  pub if_step : (other : List Stmt) → slice_get body at ≡ Some (flat.if_block r) → n ≡ under 1 b ts → us ≡ listed r ++ drop 1 ts
+      → (first second : Bool) → IsOver bytes cells c body (at + 1) first (past n r ∷ ls) n [] [] inner
+      → IsOver bytes cells c body (other_arm body at) second (past n r ∷ ls) n [] [] other
+      → after ≡ before ++ under_label (labels_round ls) (if_else (signed_word n) (block_of inner) (block_of other)) ∷ []
+      → GoesOn bytes cells c body at (past_end body at) ls b ts us before after
+  if_step other here base gives first second o p made =
+      let code = code_at body (at + 1) in
+      let more = code_at body (other_arm body at) in
+      let d = under 1 b ts in
+      let is : inner ≡ stmts_of bytes cells c code (past d r ∷ ls) d [] = o.statements ∙ ap (λ (m : ℕ). stmts_of bytes cells c code (past m r ∷ ls) m []) base in
+      let are : other ≡ stmts_of bytes cells c more (past d r ∷ ls) d [] = p.statements ∙ ap (λ (m : ℕ). stmts_of bytes cells c more (past m r ∷ ls) m []) base in
+      subst (λ (vs : List ValType). GoesOn bytes cells c body at (past_end body at) ls b ts vs before after) (sym gives)
+      (goes_on bytes cells c body at ls b ts before after
+      (under_label (labels_round ls) (if_else (signed_word d) (block_of (stmts_of bytes cells c code (past d r ∷ ls) d [])) (block_of (stmts_of bytes cells c more (past d r ∷ ls) d []))) ∷ [])
+      (listed r ++ drop 1 ts) (past_end body at) s.targets (if_block r code more) (past_if body at s.targets r s.stands here)
+      (made ∙ ap (λ (m : ℕ). before ++ under_label (labels_round ls) (if_else (signed_word m) (block_of inner) (block_of other)) ∷ []) base
+      ∙ ap (λ (ss : List Stmt). before ++ under_label (labels_round ls) (if_else (signed_word d) (block_of ss) (block_of other)) ∷ []) is
+      ∙ ap (λ (ss : List Stmt). before ++ under_label (labels_round ls) (if_else (signed_word d) (block_of (stmts_of bytes cells c code (past d r ∷ ls) d [])) (block_of ss)) ∷ []) are)
+      (λ is. refl) (λ is. refl))

@@ -1,0 +1,6 @@
+pub mod Steps
+pub mod Blocks
+pub mod Lists
+pub mod Done
+pub mod Plains
+pub mod Whole

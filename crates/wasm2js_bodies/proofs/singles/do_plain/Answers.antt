@@ -1,0 +1,12 @@
+use Rattle.wasm_tree.specs.Views.{instr_of}
+use Rattle.wasm2js_build.specs.Blocks.{statements_of}
+use Rattle.wasm2js_operands.specs.Operands.{over}
+use Rattle.wasm2js_operands.specs.Scopes.{context_in}
+use Rattle.wasm2js_bodies.proofs.Plains.{plain_step}
+use Rattle.wasm2js_bodies.proofs.singles.do_plain.Goals as goal
+
+pub returns-clause-step : goal.returns-clause-step
+returns-clause-step c = λ ls.
+    plain_step c.args.walk.now.sizes.bytes c.args.walk.now.sizes.cells (context_in c.args.walk.now.scope.now) c.args.body.now c.args.at c.place_after-place.result ls c.args.base (over c.args.base c.args.types.now.items) (over c.args.base c.after_plain.new.types.items)
+    (statements_of c.args.block.now) (statements_of c.put_instruction.new.block) (instr_of c.args.instr.now) c.requires.plain c.requires.inside c.requires.here c.place_after-place.ensures
+    c.in_ok-put_instruction.ensures c.in_ok-after_plain.ensures.value

@@ -1,0 +1,82 @@
+use Rattle.std.proofs.Common.{rules, ◌≡◌, ◌<◌, ◌≤◌, ℕ, length, vec_len, sym, ap, subst, arith}
+use Rattle.wasm_run_flat.specs.Places.{code_at}
+use Rattle.wasm_run_flat.proofs.Standing.{stands_inside}
+use Rattle.wasm2js_build.specs.Blocks.{statements_of}
+use Rattle.wasm2js_jumps.specs.Aims.{aim_view, aims_view}
+use Rattle.wasm2js_operands.specs.Scopes.{context_in}
+use Rattle.wasm2js_bodies.specs.Walks.{IsInside, size}
+use Rattle.wasm2js_bodies.proofs.Blocks.{inside_block, inside_loop, inside_first, inside_second, block_smaller, loop_smaller, first_smaller, second_smaller}
+use Rattle.wasm2js_bodies.proofs.Done.{block_done, loop_done, if_done}
+use Rattle.wasm2js_bodies.proofs.walk.+walk.Goals as goal
+
+pub do_block-put_inside-requires : goal.do_block-put_inside-requires
+do_block-put_inside-requires t c =
+    let d = c.decreases in
+    let e = sym c.place_after-first.ensures in
+    let less = subst (λ (n : ℕ). size (code_at c.args.body.now n) < size (code_at c.args.body.now c.args.at)) e (block_smaller c.args.body.now c.args.at c.args.result_type c.requires.inside c.requires.here) in
+    (omega arith, subst (IsInside c.args.body.now) e (inside_block c.args.body.now c.args.at c.args.result_type c.requires.inside c.requires.here))
+
+pub do_loop-put_inside-requires : goal.do_loop-put_inside-requires
+do_loop-put_inside-requires t c =
+    let d = c.decreases in
+    let e = sym c.place_after-first.ensures in
+    let less = subst (λ (n : ℕ). size (code_at c.args.body.now n) < size (code_at c.args.body.now c.args.at)) e (loop_smaller c.args.body.now c.args.at c.args.result_type c.requires.inside c.requires.here) in
+    (omega arith, subst (IsInside c.args.body.now) e (inside_loop c.args.body.now c.args.at c.args.result_type c.requires.inside c.requires.here))
+
+pub do_if-put_inside-requires : goal.do_if-put_inside-requires
+do_if-put_inside-requires t c =
+    let d = c.decreases in
+    let e = sym c.place_after-first.ensures in
+    let less = subst (λ (n : ℕ). size (code_at c.args.body.now n) < size (code_at c.args.body.now c.args.at)) e (first_smaller c.args.body.now c.args.at c.args.result_type c.requires.inside c.requires.here) in
+    (omega arith, subst (IsInside c.args.body.now) e (inside_first c.args.body.now c.args.at c.args.result_type c.requires.inside c.requires.here))
+
+pub do_if-put_inside-requires-2 : goal.do_if-put_inside-requires-2
+do_if-put_inside-requires-2 t c =
+    let d = c.decreases in
+    let e = sym c.other_arm.ensures in
+    let less = subst (λ (n : ℕ). size (code_at c.args.body.now n) < size (code_at c.args.body.now c.args.at)) e (second_smaller c.args.body.now c.args.at c.args.result_type c.requires.inside c.requires.here) in
+    (omega arith, subst (IsInside c.args.body.now) e (inside_second c.args.body.now c.args.at c.args.result_type c.requires.inside c.requires.here))
+
+-- inside the body there is an instruction
+pub step-returns-in_default-clause-value : goal.step-returns-in_default-clause-value
+step-returns-in_default-clause-value t c =
+    let h = stands_inside c.args.body.now c.args.at c.requires.inside.targets c.requires.inside.stands in
+    let k : length c.args.body.now ≤ c.args.at = c.in_default.ensures in
+    let none : ⊥ = omega (arith, h, k) in
+    absurd none
+
+pub do_block-returns-clause-value : goal.do_block-returns-clause-value
+do_block-returns-clause-value t c =
+    let count : vec_len c.args.types.now ≡ length c.args.types.now.items = search rules in
+    block_done c.args.walk.now.sizes.bytes c.args.walk.now.sizes.cells (context_in c.args.walk.now.scope.now) c.args.body.now c.args.at (aims_view c.args.aims.now.items) c.args.base c.args.result_type
+    c.place_after-first.result c.past_end.result (vec_len c.args.types.now) c.in_ok-put_inside.field-0 (aims_view c.put_inside.new.aims.items) (aim_view c.past-aim.result)
+    c.args.types.now.items c.put_inside.new.types.items c.close_block.new.types.items
+    (statements_of c.args.block.now) (statements_of c.close_block.new.block) (statements_of c.new-inner.result) (statements_of c.put_inside.new.block)
+    c.requires.inside c.requires.here (omega (arith, count)) count c.place_after-first.ensures c.past_end.ensures c.past-aim.ensures c.new-inner.ensures
+    c.in_ok-put_inside.ensures.value c.in_ok-put_inside.ensures.types (ap aims_view c.in_ok-put_inside.ensures.aims) c.in_ok-close_block.ensures.types c.in_ok-close_block.ensures.statements
+
+pub do_loop-returns-clause-value : goal.do_loop-returns-clause-value
+do_loop-returns-clause-value t c =
+    let count : vec_len c.args.types.now ≡ length c.args.types.now.items = search rules in
+    loop_done c.args.walk.now.sizes.bytes c.args.walk.now.sizes.cells (context_in c.args.walk.now.scope.now) c.args.body.now c.args.at (aims_view c.args.aims.now.items) c.args.base c.args.result_type
+    c.place_after-first.result c.past_end.result (vec_len c.args.types.now) c.in_ok-reached.reached (aims_view c.put_inside.new.aims.items) (aim_view c.again-aim.result)
+    c.args.types.now.items c.put_inside.new.types.items c.close_loop.new.types.items
+    (statements_of c.args.block.now) (statements_of c.close_loop.new.block) (statements_of c.new-inner.result) (statements_of c.put_inside.new.block)
+    c.requires.inside c.requires.here (omega (arith, count)) count c.place_after-first.ensures c.past_end.ensures c.again-aim.ensures c.new-inner.ensures
+    c.in_ok-reached.ensures.value c.in_ok-reached.ensures.types (ap aims_view c.in_ok-reached.ensures.aims) c.in_ok-close_loop.ensures.types c.in_ok-close_loop.ensures.statements
+
+pub do_if-returns-clause-value : goal.do_if-returns-clause-value
+do_if-returns-clause-value t c =
+    let n : vec_len c.remove.new.types ≡ length c.remove.new.types.items = search rules in
+    let m : vec_len c.put_inside.new.types ≡ length c.put_inside.new.types.items = search rules in
+    let d : vec_len c.put_inside-2.new.types ≡ length c.put_inside-2.new.types.items = search rules in
+    if_done c.args.walk.now.sizes.bytes c.args.walk.now.sizes.cells (context_in c.args.walk.now.scope.now) c.args.body.now c.args.at (aims_view c.args.aims.now.items) c.args.base c.args.result_type
+    c.place_after-first.result c.other_arm.result c.past_end.result (vec_len c.remove.new.types) (vec_len c.put_inside.new.types) (vec_len c.put_inside-2.new.types)
+    c.in_ok-put_inside.field-0 c.in_ok-put_inside-2.field-0 (aims_view c.put_inside.new.aims.items) (aims_view c.put_inside-2.new.aims.items) (aim_view c.past-aim.result)
+    c.args.types.now.items c.remove.new.types.items c.put_inside.new.types.items c.put_inside-2.new.types.items c.close_if.new.types.items
+    (statements_of c.args.block.now) (statements_of c.close_if.new.block) (statements_of c.new-yes.result) (statements_of c.new-no.result) (statements_of c.put_inside.new.block) (statements_of c.put_inside-2.new.block)
+    c.requires.inside c.requires.here c.remove.ensures.kept.there c.remove.ensures.value n m d
+    c.place_after-first.ensures c.other_arm.ensures c.past_end.ensures c.past-aim.ensures c.new-yes.ensures c.new-no.ensures
+    c.in_ok-put_inside.ensures.value c.in_ok-put_inside.ensures.types (ap aims_view c.in_ok-put_inside.ensures.aims)
+    c.in_ok-put_inside-2.ensures.value c.in_ok-put_inside-2.ensures.types (ap aims_view c.in_ok-put_inside-2.ensures.aims)
+    c.in_ok-close_if.ensures.types c.in_ok-close_if.ensures.statements

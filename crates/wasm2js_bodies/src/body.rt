@@ -1,0 +1,53 @@
+//! The whole body of a function.
+ghost use Rattle.std.specs.Prelude.{◌≡◌, ◌∷◌, [], ◌++◌, Some, IsSome, IfOk};
+ghost use Rattle.wasm_lang_exec.specs.Code.{Trees, tree_of};
+ghost use Rattle.wasm_run_flat.specs.Places.{code_at};
+ghost use Rattle.wasm2js_code.specs.Bodies as bodies;
+ghost use Rattle.wasm2js_build.specs.Blocks.{statements_of};
+ghost use Rattle.wasm2js_operands.specs.Scopes.{context_in};
+ghost use Rattle.wasm2js_bodies.specs.Walks.{IsInside};
+
+use crate::closing::{close, enter};
+use crate::singles::{Sizes, Walk};
+use crate::walk::put_code;
+use std::alloc::{AllocError, Global};
+use wasm_run_flat::Body;
+use wasm2js_build::Block;
+use wasm2js_jumps::Aim;
+use wasm2js_operands::BodyScope;
+
+// The statements of the code of a body. A branch to its label leaves the function.
+fn put_all(walk: &Walk<'_>, body: &Body, block: &mut Block) -> Result<(), AllocError>
+    requires { IsInside body.now 0 }
+    ensures { IfOk result (λ _. statements_of block.new ≡ statements_of block.old ++ bodies.stmts_of walk.now.sizes.bytes walk.now.sizes.cells (context_in walk.now.scope.now) (code_at body.now 0) (bodies.out walk.now.scope.now.returns ∷ []) 0 []) }
+{
+    let mut types = Vec::new(walk.alloc);
+    let mut aims = Vec::new(walk.alloc);
+    let leaves = Aim::Out {
+        result: walk.scope.returns,
+    };
+    enter(&mut aims, leaves)?;
+    put_code(walk, body, &mut types, &mut aims, 0, 0, block)?;
+    Ok(())
+}
+
+/// The statements of the body of a function, which is an expression: its blocks are closed and it ends with its own end.
+pub fn body_statements(
+    alloc: Global,
+    sizes: Sizes,
+    scope: &BodyScope<'_>,
+    body: &Body,
+) -> Result<Block, AllocError>
+    requires { IsSome (tree_of body.now) }
+    ensures { (tree : Trees) → tree_of body.now ≡ Some tree → IfOk result (λ block. statements_of block ≡ bodies.body_stmts sizes.bytes sizes.cells (context_in scope.now) tree) }
+{
+    let walk = Walk {
+        alloc,
+        sizes,
+        scope,
+    };
+    let mut block = Block::new(alloc);
+    put_all(&walk, body, &mut block)?;
+    close(alloc, scope.returns, &mut block)?;
+    Ok(block)
+}

@@ -1,0 +1,130 @@
+//! Calls.
+ghost use Rattle.std.specs.Prelude.{◌≡◌, ◌≤◌, ◌+◌, ◌++◌, suc, length, drop, map, slice_get, vec_len, IfOk};
+ghost use Rattle.asm_lang.specs.Modules as plain;
+ghost use Rattle.wasm_lang_valid.specs.Measures as measures;
+ghost use Rattle.wasm_lang_valid.specs.Typing as typing;
+ghost use Rattle.wasm_tree.specs.Views.{type_of};
+ghost use Rattle.wasm2js_code.specs.Actions as actions;
+ghost use Rattle.wasm2js_code.specs.Bodies as bodies;
+ghost use Rattle.wasm2js_build.specs.Blocks.{statements_of};
+ghost use Rattle.wasm2js_operands.specs.Operands.{over, IsKept};
+ghost use Rattle.wasm2js_operands.specs.Scopes.{context_in};
+
+use std::alloc::{AllocError, Global};
+use wasm_lang::ValType;
+use wasm_tree::FuncType;
+use wasm2js_build::Block;
+use wasm2js_jumps::{CalledTable, call_entry, call_function};
+use wasm2js_operands::{BodyScope, after_call, remove, under};
+
+fn call_with(
+    alloc: Global,
+    types: &mut Vec<ValType>,
+    base: usize,
+    function: u32,
+    function_type: &FuncType,
+    block: &mut Block,
+) -> Result<(), AllocError>
+    requires { base ≤ vec_len types.old }
+    ensures kept { IfOk result (λ _. IsKept base types.old.items types.new.items) }
+    ensures types { IfOk result (λ _. over base types.new.items ≡ bodies.after_call (type_of function_type.now) (over base types.old.items)) }
+    ensures statements { IfOk result (λ _. statements_of block.new ≡ statements_of block.old ++ bodies.call_of function (actions.under (length (type_of function_type.now).params) base (over base types.old.items)) (type_of function_type.now)) }
+{
+    let depth = under(types, base, function_type.params.len());
+    call_function(alloc, function, depth, function_type, block)?;
+    after_call(types, base, function_type)?;
+    Ok(())
+}
+
+/// `call`
+pub fn put_call(
+    alloc: Global,
+    scope: &BodyScope<'_>,
+    types: &mut Vec<ValType>,
+    base: usize,
+    function: u32,
+    block: &mut Block,
+) -> Result<(), AllocError>
+    requires { base ≤ vec_len types.old }
+    ensures kept { IfOk result (λ _. IsKept base types.old.items types.new.items) }
+    ensures types { IfOk result (λ _. over base types.new.items ≡ bodies.types_after_call (typing.type_of (context_in scope.now) function) (over base types.old.items)) }
+    ensures statements { IfOk result (λ _. statements_of block.new ≡ statements_of block.old ++ bodies.call_stmts function base (over base types.old.items) (typing.type_of (context_in scope.now) function)) }
+{
+    match scope.function_type(function) {
+        None => Ok(()),
+        Some(function_type) => {
+            call_with(alloc, types, base, function, function_type, block)?;
+            Ok(())
+        }
+    }
+}
+
+fn is_same(t: &FuncType, u: &FuncType) -> bool
+    ensures { result ≡ measures.same_type (type_of t.now) (type_of u.now) }
+{
+    t.params.as_slice() == u.params.as_slice() && t.results.as_slice() == u.results.as_slice()
+}
+
+// The least number of a type of this form.
+fn form_number(types: &[FuncType], function_type: &FuncType) -> u64
+    ensures { result ≡ bodies.form_number (map type_of types.now) (type_of function_type.now) }
+{
+    for (number, own) in types.iter().enumerate() {
+        if is_same(own, function_type) {
+            return number as u64;
+        }
+    }
+    types.len() as u64
+}
+
+fn call_entry_with(
+    alloc: Global,
+    table: CalledTable,
+    types: &mut Vec<ValType>,
+    base: usize,
+    function_type: &FuncType,
+    block: &mut Block,
+) -> Result<(), AllocError>
+    requires { base ≤ vec_len types.old }
+    ensures kept { IfOk result (λ _. IsKept base types.old.items types.new.items) }
+    ensures types { IfOk result (λ _. over base types.new.items ≡ bodies.after_call (type_of function_type.now) (drop 1 (over base types.old.items))) }
+    ensures statements { IfOk result (λ _. statements_of block.new ≡ statements_of block.old ++ bodies.table_call_of table.cells table.number (actions.under 1 base (over base types.old.items)) (actions.under (suc (length (type_of function_type.now).params)) base (over base types.old.items)) (type_of function_type.now)) }
+{
+    let index = under(types, base, 1);
+    let depth = under(types, base, function_type.params.len() + 1);
+    call_entry(alloc, table, index, depth, function_type, block)?;
+    remove(types, base, 1);
+    after_call(types, base, function_type)?;
+    Ok(())
+}
+
+/// `call_indirect`, through tables of so many cells.
+pub fn put_call_indirect(
+    alloc: Global,
+    cells: u64,
+    scope: &BodyScope<'_>,
+    types: &mut Vec<ValType>,
+    base: usize,
+    number: u32,
+    block: &mut Block,
+) -> Result<(), AllocError>
+    requires { base ≤ vec_len types.old }
+    ensures kept { IfOk result (λ _. IsKept base types.old.items types.new.items) }
+    ensures types { IfOk result (λ _. over base types.new.items ≡ bodies.types_after_call (slice_get (context_in scope.now).types number) (drop 1 (over base types.old.items))) }
+    ensures statements { IfOk result (λ _. statements_of block.new ≡ statements_of block.old ++ bodies.indirect_stmts cells (context_in scope.now).types base (over base types.old.items) (slice_get (context_in scope.now).types number)) }
+{
+    match scope.type_at(number) {
+        None => {
+            remove(types, base, 1);
+            Ok(())
+        }
+        Some(function_type) => {
+            let table = CalledTable {
+                number: form_number(scope.types, function_type),
+                cells,
+            };
+            call_entry_with(alloc, table, types, base, function_type, block)?;
+            Ok(())
+        }
+    }
+}

@@ -1,0 +1,5 @@
+pub mod Bodies
+pub mod Lists
+pub mod OwnFunctions
+pub mod Sent
+pub mod Viewed

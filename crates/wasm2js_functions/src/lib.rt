@@ -1,0 +1,9 @@
+//! The functions of asm.js that stand for those of a module of WebAssembly.
+#![tactic(auto)]
+
+mod facts;
+mod listing;
+mod own;
+mod wrappers;
+
+pub use listing::push_functions;

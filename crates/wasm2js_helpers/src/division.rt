@@ -1,0 +1,138 @@
+//! Quotients and remainders of words of 32 bits, which trap.
+ghost use Rattle.std.specs.Prelude.{◌≡◌, ◌++◌, ◌∷◌, [], List, map, Some, IfOk, pos, negsuc};
+ghost use Rattle.sem_words.specs.Lists.{list_items};
+ghost use Rattle.asm_lang.specs.Modules as plain;
+ghost use Rattle.asm_tree.specs.Views.{expr_view, stmt_view, function_view};
+ghost use Rattle.wasm2js_words.specs.Names as names;
+ghost use Rattle.wasm2js_words.specs.Words as words;
+ghost use Rattle.wasm2js_code.specs.Helpers as helpers;
+ghost use Rattle.wasm2js_helpers.specs.Pieces.{divide_signed_function, divide_function, remainder_signed_function, remainder_function};
+ghost use Rattle.wasm2js_build.specs.Views.{fixed_view};
+ghost use Rattle.wasm2js_build.specs.Blocks.{statements_of};
+
+use crate::short::{add, first, of_two, second};
+use asm_tree::{Expr, Function, Stmt};
+use sem_words::{JsOp, List};
+use std::alloc::{AllocError, Global};
+use wasm2js_build::{BitOp, Block, Fixed, Relation, Term, binary, expr, natural, returns, signed};
+
+/// Adds the helpers.
+#[tactic(auto, using(std::proofs::lemmas::List::append_assoc))]
+pub fn division_helpers(alloc: Global, functions: &mut List<Function>) -> Result<(), AllocError>
+    ensures { IfOk result (λ _. map function_view (list_items functions.new) ≡ map function_view (list_items functions.old) ++ helpers.division_helpers) }
+{
+    add_quotients(alloc, functions)?;
+    add_remainders(alloc, functions)
+}
+
+#[tactic(auto, using(std::proofs::lemmas::List::append_assoc))]
+fn add_quotients(alloc: Global, functions: &mut List<Function>) -> Result<(), AllocError>
+    ensures { IfOk result (λ _. map function_view (list_items functions.new) ≡ map function_view (list_items functions.old) ++ divide_signed_function ∷ divide_function ∷ []) }
+{
+    add(functions, divide_signed(alloc)?)?;
+    add(functions, divide(alloc)?)
+}
+
+#[tactic(auto, using(std::proofs::lemmas::List::append_assoc))]
+fn add_remainders(alloc: Global, functions: &mut List<Function>) -> Result<(), AllocError>
+    ensures { IfOk result (λ _. map function_view (list_items functions.new) ≡ map function_view (list_items functions.old) ++ remainder_signed_function ∷ remainder_function ∷ []) }
+{
+    add(functions, remainder_signed(alloc)?)?;
+    add(functions, remainder(alloc)?)
+}
+
+fn divide_signed(alloc: Global) -> Result<Function, AllocError>
+    ensures { IfOk result (λ f. function_view f ≡ divide_signed_function) }
+{
+    let mut block = Block::new(alloc);
+    test_divisor(&mut block)?;
+    test_overflow(&mut block)?;
+    block.push(signed_result(alloc, JsOp::Div)?)?;
+    of_two(alloc, Fixed::DivideSigned, block)
+}
+
+fn divide(alloc: Global) -> Result<Function, AllocError>
+    ensures { IfOk result (λ f. function_view f ≡ divide_function) }
+{
+    plain_function(alloc, Fixed::Divide, JsOp::Div)
+}
+
+// The least number by -1 has the remainder 0.
+fn remainder_signed(alloc: Global) -> Result<Function, AllocError>
+    ensures { IfOk result (λ f. function_view f ≡ remainder_signed_function) }
+{
+    let mut block = Block::new(alloc);
+    test_divisor(&mut block)?;
+    block.push(signed_result(alloc, JsOp::Rem)?)?;
+    of_two(alloc, Fixed::RemainderSigned, block)
+}
+
+fn remainder(alloc: Global) -> Result<Function, AllocError>
+    ensures { IfOk result (λ f. function_view f ≡ remainder_function) }
+{
+    plain_function(alloc, Fixed::Remainder, JsOp::Rem)
+}
+
+fn plain_function(alloc: Global, name: Fixed, operator: JsOp) -> Result<Function, AllocError>
+    ensures { IfOk result (λ f. function_view f ≡ helpers.function_of (names.fixed (fixed_view name)) helpers.two_arguments [] (helpers.divisor_test ∷ helpers.plain_result operator ∷ [])) }
+{
+    let mut block = Block::new(alloc);
+    test_divisor(&mut block)?;
+    block.push(plain_result(alloc, operator)?)?;
+    of_two(alloc, name, block)
+}
+
+// Trap 3 for a divisor 0.
+fn test_divisor(block: &mut Block) -> Result<(), AllocError>
+    ensures { IfOk result (λ _. statements_of block.new ≡ statements_of block.old ++ helpers.divisor_test ∷ []) }
+{
+    let divisor = second();
+    let zero = Term::number(0);
+    let test = Term::compare(true, Relation::Equal, &divisor, &zero);
+    block.trap_when(&test, 3)
+}
+
+// Trap 4 for the least number by -1.
+fn test_overflow(block: &mut Block) -> Result<(), AllocError>
+    ensures { IfOk result (λ _. statements_of block.new ≡ statements_of block.old ++ helpers.overflow_test ∷ []) }
+{
+    let dividend = first();
+    let least = Term::number(-2_147_483_648);
+    let is_least = Term::compare(true, Relation::Equal, &dividend, &least);
+    let divisor = second();
+    let minus_one = Term::number(-1);
+    let is_minus_one = Term::compare(true, Relation::Equal, &divisor, &minus_one);
+    let test = Term::both(BitOp::And, &is_least, &is_minus_one);
+    block.trap_when(&test, 4)
+}
+
+fn signed_result(alloc: Global, operator: JsOp) -> Result<Stmt, AllocError>
+    ensures { IfOk result (λ s. stmt_view s ≡ helpers.signed_result operator) }
+{
+    let dividend = signed(alloc, expr(alloc, &first())?)?;
+    let divisor = signed(alloc, expr(alloc, &second())?)?;
+    result_of(alloc, operator, dividend, divisor)
+}
+
+fn plain_result(alloc: Global, operator: JsOp) -> Result<Stmt, AllocError>
+    ensures { IfOk result (λ s. stmt_view s ≡ helpers.plain_result operator) }
+{
+    let dividend = unsigned(alloc, expr(alloc, &first())?)?;
+    let divisor = unsigned(alloc, expr(alloc, &second())?)?;
+    result_of(alloc, operator, dividend, divisor)
+}
+
+// `return (left operator right)|0;`
+fn result_of(alloc: Global, operator: JsOp, left: Expr, right: Expr) -> Result<Stmt, AllocError>
+    ensures { IfOk result (λ s. stmt_view s ≡ plain.returns (Some (words.signed_number (plain.binary operator (expr_view left) (expr_view right))))) }
+{
+    let value = signed(alloc, binary(alloc, operator, left, right)?)?;
+    Ok(returns(value))
+}
+
+// `e>>>0`
+fn unsigned(alloc: Global, e: Expr) -> Result<Expr, AllocError>
+    ensures { IfOk result (λ r. expr_view r ≡ words.plain_number (expr_view e)) }
+{
+    binary(alloc, JsOp::Shr, e, natural(0))
+}

@@ -1,0 +1,5 @@
+pub mod Properties
+pub mod Heads
+pub mod TableParts
+pub mod Whole
+pub mod Spelled

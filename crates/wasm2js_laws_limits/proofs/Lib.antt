@@ -1,0 +1,4 @@
+pub mod Counting
+pub mod Entering
+pub mod Naming
+pub mod Marking
