@@ -1,8 +1,7 @@
 -- The arguments of a script's call: what is passed in asm.js has the words that are passed in WebAssembly.
-use Rattle.std.proofs.Common.{◌≡◌, ℕ, suc, ◌+◌, ◌*◌, ◌-◌, ◌/◌, ◌%◌, ◌^◌, ◌<◌, true, List, [], ◌∷◌, map, pos, negsuc, refl, sym, ap, ◌∙◌, arith}
+use Rattle.std.proofs.Common.{◌≡◌, ℕ, ◌+◌, ◌*◌, ◌%◌, ◌^◌, ◌<◌, true, List, [], ◌∷◌, map, pos, negsuc, refl, ap, ◌∙◌, arith}
 use Rattle.std.specs.Prelude.{ℤ}
 use Rattle.std.proofs.lemmas.Bool.{and_parts}
-use Rattle.sem_words.specs.declared.word.Word.{Word}
 use Rattle.sem_words.specs.declared.word.Word.TheVariants.{W32, W64}
 use Rattle.sem_words.specs.declared.js_value.JsValue.TheVariants.{Whole}
 use Rattle.sem_words.specs.Words.{word_of}

@@ -1,6 +1,6 @@
 -- The calls of a script, one after the other.
-use Rattle.std.proofs.Common.{◌≡◌, ℕ, suc, ◌+◌, ◌*◌, ◌^◌, ◌<◌, ◌≤◌, Bool, true, false, List, [], ◌∷◌, ◌++◌, length, map, take, drop, append-nil, append_assoc, Option, Some, None, refl, sym, ap, ◌∙◌, subst, arith}
-use Rattle.std.specs.Prelude.{reverse, is_some, if◌then◌else◌, codes}
+use Rattle.std.proofs.Common.{◌≡◌, ℕ, suc, ◌+◌, ◌*◌, ◌^◌, ◌<◌, ◌≤◌, Bool, true, List, [], ◌∷◌, ◌++◌, length, map, take, drop, append-nil, append_assoc, Option, Some, None, refl, sym, ap, ◌∙◌, subst, arith}
+use Rattle.std.specs.Prelude.{reverse, is_some, if◌then◌else◌}
 use Rattle.std.specs.List.{AllByRecursion, flat_map, list_any}
 use Rattle.std.proofs.lemmas.List.{length-take}
 use Rattle.sem_words.specs.declared.word.Word.{Word}
@@ -11,8 +11,7 @@ use Rattle.sem_words.specs.JsValues.{to_uint32_of}
 use Rattle.asm_types.proofs.Sound.{to_uint32_lt}
 use Rattle.sem_laws.specs.Script.{CallPlain, ScriptPlain}
 use Rattle.sem_laws.specs.Imports.{low_word, high_word}
-use Rattle.sem_laws.specs.Names.{export_name}
-use Rattle.sem_laws.specs.Observation.{EventPlain, call_gave, call_returned, EndPlain, ObservationPlain, done, running, ended, IsPrefix}
+use Rattle.sem_laws.specs.Observation.{EventPlain, call_gave, call_returned, EndPlain, ObservationPlain, running, IsPrefix}
 use Rattle.sem_laws.proofs.BelowLaws.{prefix_trans}
 use Rattle.sem_laws.specs.Simulation.{Comparison, HeapsAgree, TargetIsBelow}
 use Rattle.sem_laws.specs.CallingForms.{ShapePlain, hi_call, split_args, split_call_by, split_call, split_event, without_init}
@@ -40,9 +39,9 @@ use Rattle.asm_lang.specs.Modules as text
 use Rattle.asm_lang_valid.specs.Scope.{signature_of, is_in}
 use Rattle.asm_lang_exec.specs.Runs.{Place, Part, gives, and_then, defined, add_event}
 use Rattle.asm_lang_exec.specs.Values.{word}
-use Rattle.asm_lang_exec.specs.Session.{first_heap, exported_function, result_event}
+use Rattle.asm_lang_exec.specs.Session.{first_heap, result_event}
 use Rattle.asm_laws_continuation.specs.Following.{CallsBefore, call_at_to, host_calls_to}
-use Rattle.wasm2js_words.specs.Names.{Name, fixed, result_high, spelled}
+use Rattle.wasm2js_words.specs.Names.{fixed, result_high, spelled}
 use Rattle.wasm2js_lang.specs.Calling.{is_wide, shape, shapes_of}
 use Rattle.wasm2js_lang.specs.Heaps.{heap_bytes}
 use Rattle.wasm2js_lang.specs.Allowed.{script_for, comparison}
@@ -53,7 +52,7 @@ use Rattle.wasm2js_laws_provided.proofs.Functions.{IsDeclared, function_declared
 use Rattle.wasm2js_laws_functions.specs.Functions.{IsSource}
 use Rattle.wasm2js_laws_pace.specs.Following.{Rest, Follows}
 use Rattle.wasm2js_laws_pace.proofs.Paced.{same_is_followed}
-use Rattle.wasm2js_laws_places.specs.Places.{is_own, word_at, names_in, Setting, store_of, World}
+use Rattle.wasm2js_laws_places.specs.Places.{word_at, Setting, store_of, World}
 use Rattle.wasm2js_laws_control.specs.Control.{Function}
 use Rattle.wasm2js_laws_calls.specs.Called.{given_back, seen_with, call_then, IsReturn}
 use Rattle.wasm2js_laws_host.specs.Hosts.{Phase, calling, Matches, setting_of, host, IsHosted, HostedCallsFollow}
@@ -249,7 +248,7 @@ module _ (w : WasmModule) (s : ScriptPlain) (c : ℕ) (source : IsSource w) (one
         wide =
             let one_more : length cs + 1 ≡ suc (length cs) = omega arith in
             subst (λ o. Follows by c (suc (length cs)) q (left_of wide_event)
-                (and_then (defined o) (λ g. calls g [] (λ u. and_then (add_event (result_event g u)) (λ _. host_calls_to calls (translated w) others gives))) (with_more q.units (call_gave (W32 low) ∷ []))))
+            (and_then (defined o) (λ g. calls g [] (λ u. and_then (add_event (result_event g u)) (λ _. host_calls_to calls (translated w) others gives))) (with_more q.units (call_gave (W32 low) ∷ []))))
             (sym (high_exported w))
             (subst (λ z. Follows by c z q (left_of wide_event) (calls high_function [] after_high (with_more q.units (call_gave (W32 low) ∷ [])))) one_more
             (high_called w by keeps c (length cs) q (λ n h. ap (is_in (spelled n)) world.names ∙ names_apart w (script_for w s) n h) (call_gave (W32 low)) (left_of wide_event) shows after_high
@@ -312,9 +311,9 @@ module _ (w : WasmModule) (s : ScriptPlain) (c : ℕ) (source : IsSource w) (one
         (λ n. calls_seen w cs n (with_event (machine.result_event (given_back (result_of t) v q ++ [])) (store_of x q es))) (next v q)
         (λ n. ap watch (no_code w (at (given_back (result_of t) v q ++ []) [] (store_of x q es) n)))
         (subst (λ b. Follows by c (suc (length cs)) q (λ n. calls_seen w cs n (with_event (machine.result_event (given_back (result_of t) v q ++ [])) (store_of x q es)))
-            (called_next bound call.line cs rest sh.wide_result (record q { events = q.events ++ (if b then call_gave (word v) else call_returned) ∷ [] }))) (sym signed)
+        (called_next bound call.line cs rest sh.wide_result (record q { events = q.events ++ (if b then call_gave (word v) else call_returned) ∷ [] }))) (sym signed)
         (subst (λ wide. Follows by c (suc (length cs)) q (λ n. calls_seen w cs n (with_event (machine.result_event (given_back (result_of t) v q ++ [])) (store_of x q es)))
-            (called_next bound call.line cs rest wide (record q { events = q.events ++ (if is_some (result_of t) then call_gave (word v) else call_returned) ∷ [] }))) wide_is
+        (called_next bound call.line cs rest wide (record q { events = q.events ++ (if is_some (result_of t) then call_gave (word v) else call_returned) ∷ [] }))) wide_is
         (after_return bound call.line cs rest q es few' (same ∙ none) world' (result_of t) v)))
 
     goes : Follows by c (suc (length cs)) p (λ n. calls_seen w (call ∷ cs) n (store_of x p events)) (call_at_to (translated w) bound g (map Whole (split_args (map is_wide t.params) call.args)) next p)
@@ -330,10 +329,10 @@ module _ (w : WasmModule) (s : ScriptPlain) (c : ℕ) (source : IsSource w) (one
         (host_calls_to (call_at_to (translated w) bound) (translated w) (flat_map (split_call (shapes_of w)) (call ∷ cs)) gives p)
     one_followed =
         subst (λ o. Follows by c (suc (length cs)) p (λ n. calls_seen w (call ∷ cs) n (store_of x p events))
-            (host_calls_to (call_at_to (translated w) bound) (translated w) (split_call_by o call ++ flat_map (split_call (shapes_of w)) cs) gives p))
+        (host_calls_to (call_at_to (translated w) bound) (translated w) (split_call_by o call ++ flat_map (split_call (shapes_of w)) cs) gives p))
         (sym (shapes_are_found w call.name t (ap (type_at w) it.named ∙ it.typed)))
         (subst (λ o. Follows by c (suc (length cs)) p (λ n. calls_seen w (call ∷ cs) n (store_of x p events))
-            (and_then (defined o) (λ f. call_at_to (translated w) bound f (map Whole (split_args (map is_wide t.params) call.args)) (λ v. and_then (add_event (result_event f v)) (λ _. called_next bound call.line cs rest sh.wide_result))) p))
+        (and_then (defined o) (λ f. call_at_to (translated w) bound f (map Whole (split_args (map is_wide t.params) call.args)) (λ v. and_then (add_event (result_event f v)) (λ _. called_next bound call.line cs rest sh.wide_result))) p))
         (sym (function_exported w (shaped_exports_are_bytes w source.shaped) call.name it.number g it.named declared.meaning)) goes)
 
   -- ---- all of them

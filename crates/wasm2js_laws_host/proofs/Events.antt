@@ -1,13 +1,13 @@
 -- How events match in the two parts of a session.
-use Rattle.std.proofs.Common.{◌≡◌, ℕ, Bool, true, false, List, [], ◌∷◌, ◌++◌, append_assoc, refl, sym, ap, ◌∙◌}
-use Rattle.std.specs.Prelude.{if◌then◌else◌, ◌||◌}
-use Rattle.std.specs.List.{flat_map, list_any}
+use Rattle.std.proofs.Common.{◌≡◌, ℕ, Bool, true, false, List, [], ◌∷◌, ◌++◌, refl, sym, ap, ◌∙◌}
+use Rattle.std.specs.Prelude.{if◌then◌else◌}
+use Rattle.std.specs.List.{flat_map}
 use Rattle.std.proofs.lemmas.List.Concat.{flat_map-append}
 use Rattle.sem_words.specs.declared.word.Word.{Word}
 use Rattle.sem_words.specs.declared.word.Word.TheVariants.{W32, W64}
 use Rattle.sem_laws.specs.Observation.{EventPlain, import_called, call_gave, call_returned}
 use Rattle.sem_laws.specs.CallingForms.{split_word, split_event, without_init}
-use Rattle.wasm2js_laws_host.specs.Hosts.{starting, calling, Phase, has_return, no_match, shown_in, Matches}
+use Rattle.wasm2js_laws_host.specs.Hosts.{starting, calling, Phase, has_return, no_match, Matches}
 
 -- ---- nothing goes over to what matches nothing
 

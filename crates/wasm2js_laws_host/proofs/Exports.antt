@@ -1,5 +1,5 @@
 -- What is exported under a name: the function that the module has by the name that the export names.
-use Rattle.std.proofs.Common.{◌≡◌, ℕ, zero, suc, Bool, true, false, List, [], ◌∷◌, ◌++◌, map, Option, Some, None, inl, inr, refl, sym, ap, ◌∙◌, subst}
+use Rattle.std.proofs.Common.{◌≡◌, ℕ, suc, Bool, true, false, List, [], ◌∷◌, ◌++◌, map, Option, Some, None, inl, inr, refl, sym, ap, ◌∙◌, subst}
 use Rattle.std.specs.Prelude.{slice_get, option_and_then, if◌then◌else◌, bytes_eq, codes}
 use Rattle.std.specs.List.{AllByRecursion, flat_map}
 use Rattle.std.proofs.lemmas.Slice.Eq.{bytes_eq-Decides}
@@ -15,12 +15,12 @@ use Rattle.asm_lang.specs.Trees.{Init, number, decimal, foreign_int, foreign_dou
 use Rattle.asm_lang.specs.Modules.{Variable, Function, Table, Export, Module}
 use Rattle.asm_lang_valid.specs.declared.meaning.Element.{Element}
 use Rattle.asm_lang_valid.specs.declared.meaning.Builtin.TheVariants.{Imul, Clz32}
-use Rattle.asm_lang_valid.specs.Scope.{Meaning, a_function, an_outside, a_view, a_builtin, a_foreign, a_table, a_parameter, init_meaning, math_meaning, Constructor, viewed, among_globals, among_functions, among_tables, is_in, is_foreign, constructors, constructor_in, module_meaning}
+use Rattle.asm_lang_valid.specs.Scope.{Meaning, a_function, an_outside, a_builtin, a_foreign, a_table, a_parameter, init_meaning, math_meaning, Constructor, viewed, among_globals, among_functions, among_tables, is_in, is_foreign, constructors, constructor_in, module_meaning}
 use Rattle.asm_lang_valid.specs.Refusal as text
 use Rattle.asm_lang_valid.specs.Refusal.{function_number, exported}
 use Rattle.asm_lang_exec.specs.Session.{export_number, exported_function}
 use Rattle.wasm2js_words.specs.Names.{Name, numbered, fixed, function, init, last_high, spelled}
-use Rattle.wasm2js_code.specs.Modules.{init_function, high_function, functions_from, helpers, functions_of, export, export_for, exports_of, translated}
+use Rattle.wasm2js_code.specs.Modules.{init_function, high_function, functions_from, helpers, functions_of, export_for, exports_of, translated}
 use Rattle.wasm2js_code.specs.Tables.{stubs}
 use Rattle.wasm2js_laws_provided.proofs.Entries.{in_right}
 use Rattle.wasm2js_laws_provided.proofs.Found.{function_found}

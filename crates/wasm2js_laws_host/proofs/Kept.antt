@@ -1,5 +1,5 @@
 -- What is left of a session keeps the events that there were; and stores of places that differ in units and events alone.
-use Rattle.std.proofs.Common.{◌≡◌, ℕ, zero, Bool, true, false, List, [], ◌∷◌, ◌++◌, Option, Some, None, refl, ap, ◌∙◌}
+use Rattle.std.proofs.Common.{◌≡◌, ℕ, Bool, true, false, List, [], ◌∷◌, ◌++◌, Option, Some, None, refl, ap, ◌∙◌}
 use Rattle.std.specs.Prelude.{reverse}
 use Rattle.std.proofs.Math.Path.{fun_ext}
 use Rattle.sem_laws.specs.Script.{CallPlain}

@@ -1,6 +1,6 @@
 -- No variable of a function is among the module's.
-use Rattle.std.proofs.Common.{◌≡◌, ℕ, suc, Bool, true, false, List, [], ◌∷◌, ◌++◌, map, length, Option, Some, None, refl, sym, ap, ◌∙◌, subst}
-use Rattle.std.specs.Prelude.{bytes_eq, ◌||◌, if◌then◌else◌}
+use Rattle.std.proofs.Common.{◌≡◌, ℕ, suc, Bool, true, false, List, [], ◌∷◌, ◌++◌, length, Option, Some, None, refl, ap, ◌∙◌}
+use Rattle.std.specs.Prelude.{bytes_eq, ◌||◌}
 use Rattle.std.specs.List.{AllByRecursion}
 use Rattle.std.proofs.lemmas.Slice.Eq.{bytes_eq-Decides}
 use Rattle.sem_words.specs.declared.js_value.JsValue.{JsValue}
@@ -13,7 +13,7 @@ use Rattle.wasm_lang_exec.specs.Reductions.{Callee, an_import, a_function, calle
 use Rattle.asm_lang.specs.Modules.{Variable}
 use Rattle.asm_lang_valid.specs.Scope.{is_in}
 use Rattle.asm_lang_exec.specs.Session.{global_value, with_binding, first_globals}
-use Rattle.wasm2js_words.specs.Names.{Name, numbered, spelled}
+use Rattle.wasm2js_words.specs.Names.{Name, spelled}
 use Rattle.wasm2js_words.proofs.Spelling.{spellings_differ}
 use Rattle.wasm2js_code.specs.Modules.{variables_of}
 use Rattle.wasm2js_laws_provided.proofs.Declared.{variable_texts, spellings, head_names, foreign_names, imported_names, first_names, own_names, global_names, globals_are_named}

@@ -1,5 +1,5 @@
 -- What follows from further on follows from an earlier place with as many units, and with more units that no reduction pays for.
-use Rattle.std.proofs.Common.{◌≡◌, ℕ, ◌+◌, ◌*◌, ◌<◌, ◌≤◌, List, sym, subst, arith}
+use Rattle.std.proofs.Common.{◌≡◌, ℕ, ◌≤◌, List, arith}
 use Rattle.sem_laws.specs.Observation.{EventPlain, IsPrefix}
 use Rattle.sem_laws.proofs.BelowLaws.{prefix_trans}
 use Rattle.sem_laws.specs.Simulation.{Comparison}

@@ -7,7 +7,7 @@ use Rattle.sem_laws.specs.Script.{ScriptPlain}
 use Rattle.sem_laws.specs.Observation.{EventPlain, import_called, call_gave, call_returned, EndPlain, ObservationPlain}
 use Rattle.sem_laws.specs.CallingForms.{split_word, split_event, without_init, comparison_to_asm}
 use Rattle.wasm_lang.specs.declared.types.GlobalType.{GlobalType}
-use Rattle.wasm_lang.specs.Modules.{FunctionType, WasmModule}
+use Rattle.wasm_lang.specs.Modules.{WasmModule}
 use Rattle.wasm_lang_valid.specs.ModuleRules.{global_types}
 use Rattle.wasm_lang_valid.specs.Profile.{memory_bytes}
 use Rattle.wasm_lang_exec.specs.Store.{Store}
