@@ -1,0 +1,10 @@
+//! From WebAssembly to asm.js: the helper functions of a translated module, and that they do what is said of them.
+#![tactic(auto)]
+
+ghost use Rattle.wasm2js_laws_helping.specs.Laws.{WordsAreUsual, FixedNamesMean};
+
+/// What helpers do on words, and what their names mean, as all names of a module that are always the same.
+pub fn helpers()
+    ensures words { WordsAreUsual }
+    ensures names { FixedNamesMean }
+{}
