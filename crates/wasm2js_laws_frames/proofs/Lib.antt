@@ -1,0 +1,4 @@
+pub mod Entered
+pub mod Left
+pub mod Bodies
+pub mod Depths
