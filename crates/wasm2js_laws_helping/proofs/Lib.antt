@@ -1,3 +1,4 @@
 pub mod Named
 pub mod Usual
 pub mod Called
+pub mod Standing
