@@ -29,11 +29,11 @@ use Rattle.wasm2js_laws_places.specs.Straight.{Words, with_word, value, index_at
 use Rattle.wasm2js_laws_places.specs.Places.{operands, locals_of, store_with, IsHeap}
 use Rattle.wasm2js_laws_access.specs.Answers.{low_word_in, high_word_in}
 use Rattle.wasm2js_laws_access.proofs.Bytes.{reads_word, reads_words}
-use Rattle.wasm2js_laws_control.specs.Standing.{is_loaded}
+use Rattle.wasm2js_laws_typed.specs.Laws.{is_loaded}
 use Rattle.wasm2js_laws_control.specs.Control.{Function}
 use Rattle.wasm2js_laws_instructions.specs.Plain.{IsAlike, IsPlain, Supports}
 use Rattle.wasm2js_laws_wide.proofs.Kept.{is_self, low, high, kept_all, kept_low, kept_high, kept_fixed, value_alike}
-use Rattle.wasm2js_laws_wide.proofs.Summed.{of_fixed}
+use Rattle.wasm2js_laws_typed.proofs.SoundPlain.{of_fixed}
 use Rattle.wasm2js_laws_loads.specs.Laws.{AreReaders, LoadsAreRead}
 use Rattle.wasm2js_laws_loads.proofs.Guarded.{guarded_asks, guarded_units, guarded_run, nothing_after, place_is}
 use Rattle.wasm2js_laws_loads.proofs.Numbers.{loaded_inside, loaded_outside, some_is, number_of, number_below, number_parts, narrow_number, byte_is, whole_is, is_aligned, half_sum, wide_8, wide_16, wide_32}
@@ -375,6 +375,6 @@ load_is_kept f helping op align offset b form takes gives below acts h true c is
     of_fixed (λ takes gives. IsPlain f helping (load op align offset) b (takes ++ below) (gives ++ below)) (I32 ∷ []) (kind_of op.wide ∷ []) takes gives form is acts (h c)
 
 pub loads_are_read : LoadsAreRead
-loads_are_read op align offset translated f helping supports readers ls b form takes gives below is acts =
+loads_are_read op align offset formed f helping supports readers ls b form takes gives below is acts =
     load_is_kept f helping op align offset b form takes gives below acts
-    (load_plain f helping supports op align offset b below (code_loads helping f.setting.bytes offset readers op.wide op.signed op.size translated)) f.context.memory refl is
+    (load_plain f helping supports op align offset b below (code_loads helping f.setting.bytes offset readers op.wide op.signed op.size formed)) f.context.memory refl is

@@ -5,7 +5,7 @@ use Rattle.wasm_lang.specs.Instructions.{load}
 use Rattle.wasm2js_words.specs.Names as names
 use Rattle.wasm2js_laws_places.specs.Straight.{Helping}
 use Rattle.wasm2js_laws_access.specs.Answers.{loaded_word, loaded_words}
-use Rattle.wasm2js_laws_control.specs.Standing.{IsTranslated}
+use Rattle.wasm2js_laws_typed.specs.Laws.{IsFormed}
 use Rattle.wasm2js_laws_control.specs.Control.{Function}
 use Rattle.wasm2js_laws_instructions.specs.Plain.{PlainIs, AnswersAtOnce, Supports}
 
@@ -17,5 +17,5 @@ pub record AreReaders (helping : Helping) : Type 0 where
 -- each load is what its code does
 abbrev pub LoadsAreRead : Type 0
 LoadsAreRead =
-    (op : MemOp) (align offset : ℕ) → IsTranslated (load op align offset) → (f : Function) (helping : Helping) → Supports f helping → AreReaders helping
+    (op : MemOp) (align offset : ℕ) → IsFormed (load op align offset) → (f : Function) (helping : Helping) → Supports f helping → AreReaders helping
     → PlainIs f helping (load op align offset)

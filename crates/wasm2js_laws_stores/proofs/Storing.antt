@@ -23,11 +23,11 @@ use Rattle.wasm2js_code.specs.Bodies.{after_form}
 use Rattle.wasm2js_laws_numbers.specs.Laws.{joined}
 use Rattle.wasm2js_laws_places.specs.Straight.{Words, value, index_at, Helping, Outcome, goes, stops, told, then_do, ActionsAsk, run_simples, run_action, run_actions, simples_units, actions_units}
 use Rattle.wasm2js_laws_places.specs.Places.{operands, locals_of, globals_of, store_with, IsHeap}
-use Rattle.wasm2js_laws_control.specs.Standing.{is_stored}
+use Rattle.wasm2js_laws_typed.specs.Laws.{is_stored}
 use Rattle.wasm2js_laws_control.specs.Control.{Function}
 use Rattle.wasm2js_laws_instructions.specs.Plain.{AreWords, IsAlike, IsPlain, Supports}
 use Rattle.wasm2js_laws_wide.proofs.Kept.{low, high}
-use Rattle.wasm2js_laws_wide.proofs.Summed.{of_fixed}
+use Rattle.wasm2js_laws_typed.proofs.SoundPlain.{of_fixed}
 use Rattle.wasm2js_laws_loads.proofs.Guarded.{guarded_asks, guarded_units, guarded_run, nothing_after, place_is}
 use Rattle.wasm2js_laws_loads.proofs.Numbers.{memory_length, is_aligned}
 use Rattle.wasm2js_laws_loads.proofs.Words.{access_to}
@@ -336,6 +336,6 @@ store_is_kept f helping op align offset b form takes gives below acts h true c i
     of_fixed (λ takes gives. IsPlain f helping (store op align offset) b (takes ++ below) (gives ++ below)) (kind_of op.wide ∷ I32 ∷ []) [] takes gives form is acts (h c)
 
 pub stores_are_written : StoresAreWritten
-stores_are_written op align offset translated f helping supports writers ls b form takes gives below is acts =
+stores_are_written op align offset formed f helping supports writers ls b form takes gives below is acts =
     store_is_kept f helping op align offset b form takes gives below acts
-    (store_plain f helping supports op.wide op.signed op.size align offset b below (code_stores helping f.setting.bytes offset writers op.wide op.signed op.size translated)) f.context.memory refl is
+    (store_plain f helping supports op.wide op.signed op.size align offset b below (code_stores helping f.setting.bytes offset writers op.wide op.signed op.size formed)) f.context.memory refl is

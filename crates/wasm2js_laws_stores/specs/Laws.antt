@@ -11,7 +11,7 @@ use Rattle.wasm2js_laws_numbers.specs.Laws.{joined}
 use Rattle.wasm2js_laws_places.specs.Straight.{Helping}
 use Rattle.wasm2js_laws_helpers.specs.Laws.{HelpsAtOnce}
 use Rattle.wasm2js_laws_access.specs.Laws.{HasBytes}
-use Rattle.wasm2js_laws_control.specs.Standing.{IsTranslated}
+use Rattle.wasm2js_laws_typed.specs.Laws.{IsFormed}
 use Rattle.wasm2js_laws_control.specs.Control as control
 use Rattle.wasm2js_laws_instructions.specs.Plain.{PlainIs, AnswersAtOnce, Supports}
 use Rattle.wasm2js_laws_stores.specs.Answers.{with_low_word, with_high_word, stored_word, stored_words}
@@ -48,5 +48,5 @@ pub record AreWriters (helping : Helping) : Type 0 where
 -- each store is what its code does
 abbrev pub StoresAreWritten : Type 0
 StoresAreWritten =
-    (op : MemOp) (align offset : ℕ) → IsTranslated (store op align offset) → (f : control.Function) (helping : Helping) → Supports f helping → AreWriters helping
+    (op : MemOp) (align offset : ℕ) → IsFormed (store op align offset) → (f : control.Function) (helping : Helping) → Supports f helping → AreWriters helping
     → PlainIs f helping (store op align offset)
