@@ -1,0 +1,4 @@
+pub mod Written
+pub mod Helping
+pub mod Laws
+pub mod Standing
