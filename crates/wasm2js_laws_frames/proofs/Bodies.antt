@@ -1,5 +1,5 @@
 -- The call of a function with a body.
-use Rattle.std.proofs.Common.{◌≡◌, ℕ, zero, suc, ◌+◌, ◌<◌, ◌≤◌, max, Bool, true, false, ◌&&◌, ◌||◌, List, [], ◌∷◌, ◌++◌, map, length, Option, Some, None, refl, sym, ap, ◌∙◌, subst, arith}
+use Rattle.std.proofs.Common.{◌≡◌, ℕ, zero, suc, ◌≤◌, Bool, true, false, ◌||◌, List, [], ◌∷◌, ◌++◌, map, length, Option, Some, None, refl, sym, ap, ◌∙◌, subst, arith}
 use Rattle.std.specs.Prelude.{bytes_eq, slice_get, reverse, option_map, if◌then◌else◌}
 use Rattle.std.specs.List.{list_all}
 use Rattle.std.proofs.lemmas.Bool.{and_parts, and_from}
@@ -14,37 +14,35 @@ use Rattle.wasm_lang.specs.Modules.{FunctionType, WasmModule}
 use Rattle.wasm_lang_valid.specs.ModuleRules.{function_types, type_of_function}
 use Rattle.wasm_lang_valid.specs.Profile.{memory_bytes}
 use Rattle.wasm_lang_valid.specs.Typing.{listed, result_of, type_of}
-use Rattle.wasm_lang_exec.specs.Code.{Trees, ε}
+use Rattle.wasm_lang_exec.specs.Code.{Trees}
 use Rattle.wasm_lang_exec.specs.Store.{zeros_of}
 use Rattle.wasm_lang_exec.specs.Reductions.{a_function, callee_at, top_of, below_top, and_value}
 use Rattle.wasm_laws_sound.specs.Configurations.{IsTypedCallee}
 use Rattle.wasm_laws_sound.proofs.Functions.{typed_functions}
-use Rattle.wasm_laws_drive.specs.Drive.{State, Outcome, at, onward}
-use Rattle.wasm_laws_drive.specs.Equations.{pay, entered, called, at_frame}
+use Rattle.wasm_laws_drive.specs.Drive.{State, at, onward}
+use Rattle.wasm_laws_drive.specs.Equations.{entered, called}
 use Rattle.wasm_laws_drive.specs.Contexts.{Surrounding, in_frame, closed}
 use Rattle.wasm_laws_drive.proofs.Closing.{spent_stays}
 use Rattle.asm_lang.specs.Modules as text
-use Rattle.asm_lang_valid.specs.Scope.{is_in, module_meaning}
+use Rattle.asm_lang_valid.specs.Scope.{is_in}
 use Rattle.asm_lang_valid.specs.Typed.{scope_of}
-use Rattle.asm_lang_valid.specs.Typing.{named}
-use Rattle.asm_lang_exec.specs.Runs.{Binding, Place, spent, Part, and_then, defined, paid}
+use Rattle.asm_lang_exec.specs.Runs.{Binding, Place, Part, and_then, defined, paid}
 use Rattle.asm_lang_exec.specs.Meaning.{Completion, first_locals, function_end}
-use Rattle.asm_laws_continuation.specs.Following.{call_at_to, exec_all_to, with_locals_to, unless_left_to}
+use Rattle.asm_laws_continuation.specs.Following.{call_at_to, exec_all_to, with_locals_to}
 use Rattle.wasm2js_words.specs.Names.{Name, numbered, local_low, local_high, operand_low, operand_high, global_low, global_high, function, foreign, table, no_entry, other_entry, label, fixed, spelled}
 use Rattle.wasm2js_words.specs.Words.{stmts_in}
 use Rattle.wasm2js_words.proofs.Spelling.{spellings_differ}
 use Rattle.wasm2js_code.specs.Bodies.{out, closing, body_stmts, stmts_of, comes_to_end}
 use Rattle.wasm2js_code.specs.Modules.{param_names, context_of, own_function, translated}
-use Rattle.wasm2js_code.specs.Rooms.{Room, here, room_of, body_room, declared_names}
+use Rattle.wasm2js_code.specs.Rooms.{here, room_of, body_room, declared_names}
 use Rattle.wasm2js_code.specs.Tables.{cell_count}
 use Rattle.wasm2js_laws_scopes.specs.Laws as scopes
-use Rattle.wasm2js_laws_scopes.specs.Provided.{HasRoom}
 use Rattle.wasm2js_laws_scopes.proofs.Declared.{room_is_declared, module_names_are_seen, variables_are_own}
 use Rattle.wasm2js_laws_functions.proofs.Roomy.{two, wide_low, narrow}
 use Rattle.wasm2js_laws_pace.specs.Following.{Rest, Stands}
 use Rattle.wasm2js_laws_pace.proofs.Paced.{steps_are_paid, stands_still}
-use Rattle.wasm2js_laws_places.specs.Places.{is_own, word_at, names_in, AreApart, locals_of, store_of, World, Stays}
-use Rattle.wasm2js_laws_control.specs.Control.{Function, IsFair, Match, Inside, MayStand, code_sight, IsFollowed, statements_to, IsKept}
+use Rattle.wasm2js_laws_places.specs.Places.{is_own, word_at, names_in, AreApart, locals_of, store_of, World}
+use Rattle.wasm2js_laws_control.specs.Control.{Function, Match, Inside, MayStand, code_sight, IsFollowed, statements_to, IsKept}
 use Rattle.wasm2js_laws_control.proofs.Standing.{other_room}
 use Rattle.wasm2js_laws_control.proofs.Stepping.{appended, stays_itself}
 use Rattle.wasm2js_laws_computed.specs.Laws.{IsHelped}
@@ -53,7 +51,7 @@ use Rattle.wasm2js_laws_calls.specs.Called.{Passes, seen_with, call_then, IsRetu
 use Rattle.wasm2js_laws_calls.specs.Laws.{IsWithin}
 use Rattle.wasm2js_laws_calls.proofs.Calling.{calls_are_kept}
 use Rattle.wasm2js_laws_calls.proofs.Entries.{indirect_calls_are_kept}
-use Rattle.wasm2js_laws_frames.specs.Frames.{at_depth, names_of_body, in_body, IsSettled, AreReady}
+use Rattle.wasm2js_laws_frames.specs.Frames.{at_depth, in_body, IsSettled, AreReady}
 use Rattle.wasm2js_laws_frames.proofs.Entered.{bound_from, parameters_are, as_many, names_bound, zero_bindings, zero_words, zero_names, words_in, locals_entered, same_locals}
 use Rattle.wasm2js_laws_frames.proofs.Left.{store_same, nested_out, then_ends, then_closes, body_exits}
 

@@ -1,11 +1,9 @@
 -- Calls follow however deep they lie, by induction on the depth.
-use Rattle.std.proofs.Common.{◌≡◌, ℕ, zero, suc, ◌≤◌, List, ◌++◌, Some, refl, sym, ap, ◌∙◌, subst, arith}
+use Rattle.std.proofs.Common.{◌≡◌, ℕ, zero, suc, List, ◌++◌, Some, refl, sym, ap, ◌∙◌, subst, arith}
 use Rattle.std.specs.Prelude.{reverse}
 use Rattle.sem_words.specs.declared.word.Word.{Word}
-use Rattle.sem_words.specs.declared.js_value.JsValue.{JsValue}
 use Rattle.sem_laws.specs.Observation.{EventPlain}
 use Rattle.wasm_lang.specs.Modules.{FunctionType}
-use Rattle.wasm_lang_valid.specs.ModuleRules.{type_of_function}
 use Rattle.wasm_lang_exec.specs.Code.{Trees}
 use Rattle.wasm_lang_exec.specs.Reductions.{Callee, an_import, a_function, callee_at, type_of}
 use Rattle.wasm_laws_sound.proofs.Functions.{typed_functions}

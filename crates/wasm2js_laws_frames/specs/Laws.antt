@@ -1,5 +1,5 @@
 -- Calls of the functions of a translated module follow.
-use Rattle.std.specs.Prelude.{◌≡◌, ℕ}
+use Rattle.std.specs.Prelude.{◌≡◌}
 use Rattle.asm_laws_continuation.specs.Following.{call_at_to}
 use Rattle.wasm2js_code.specs.Modules.{translated}
 use Rattle.wasm2js_laws_control.specs.Control.{Function}
