@@ -29,8 +29,13 @@ use Rattle.wasm2js_laws_helpers.proofs.Bits.{set_bits_help}
 use Rattle.wasm2js_laws_helpers.proofs.Divisions.{divide_signed_helps, divide_helps, remainder_signed_helps, remainder_helps}
 use Rattle.wasm2js_laws_access.specs.Laws.{HasBytes, load_32_function, load_64_function}
 use Rattle.wasm2js_laws_access.proofs.Loaded.{load_word_helps, load_words_help}
-use Rattle.wasm2js_laws_helping.specs.Helping.{helper_answer, helper_cost, helping, store_32_function, store_64_function, on_memory, fixed_meaning}
-use Rattle.wasm2js_laws_helping.specs.Laws.{AreWriting, SeesNames, HelpersHelp}
+use Rattle.wasm2js_laws_stores.specs.Laws.{store_32_function, store_64_function}
+use Rattle.wasm2js_laws_stores.proofs.Stored.{store_word_helps, store_words_help}
+use Rattle.wasm2js_laws_runs.specs.Laws.{HasViews}
+use Rattle.wasm2js_laws_runs.proofs.Filling.{fill_helps}
+use Rattle.wasm2js_laws_runs.proofs.Copying.{copy_helps}
+use Rattle.wasm2js_laws_helping.specs.Helping.{helper_answer, helper_cost, helping, on_memory, fixed_meaning}
+use Rattle.wasm2js_laws_helping.specs.Laws.{SeesNames, HelpersHelp}
 use Rattle.wasm2js_laws_helping.proofs.Named.{fixed_names_mean}
 
 same_function : (g h : Function) → a_function g ≡ a_function h → g ≡ h
@@ -48,7 +53,7 @@ no_view : (b : Bool) (o : Element) (g : Function) → on_memory b (a_view o) ≡
 no_view true o g e = cc e
 no_view false o g e = cc e
 
-module _ (w : WasmModule) (written : has_memory w ≡ true → AreWriting w) (bound : ℕ) where
+module _ (w : WasmModule) (bound : ℕ) where
   abbrev Calls : Fixed → Function → Type 0
   Calls f g =
       (vs : List JsValue) (p : Place) → IsHeap (memory_bytes w) p.heap → p.units ≤ bound
@@ -62,6 +67,14 @@ module _ (w : WasmModule) (written : has_memory w ≡ true → AreWriting w) (bo
 
   bytes_are_seen : has_memory w ≡ true → HasBytes (translated w)
   bytes_are_seen e = fixed_names_mean w names.view_of_bytes ∙ ap (λ b. on_memory b (a_view Uint8)) e
+
+  views_are_seen : has_memory w ≡ true → HasViews (translated w)
+  views_are_seen e = record {
+    bytes = bytes_are_seen e;
+    words = fixed_names_mean w names.view_of_words ∙ ap (λ b. on_memory b (a_view Int32)) e;
+    products = fixed_names_mean w names.imul;
+    traps = traps_are_seen;
+  }
 
   always : (f : Fixed) (g h : Function) → a_function g ≡ a_function h → Calls f g → Calls f h
   always f g h e c = subst (Calls f) (same_function g h e) c
@@ -92,13 +105,13 @@ module _ (w : WasmModule) (written : has_memory w ≡ true → AreWriting w) (bo
   helper_helps names.remainder g h e = always names.remainder remainder_function g e (remainder_helps (translated w) traps_are_seen bound (memory_bytes w))
   helper_helps names.load_32 g h e = with_memory names.load_32 load_32_function g e (λ i. load_word_helps (translated w) (bytes_are_seen i) bound (memory_bytes w))
   helper_helps names.load_64 g h e = with_memory names.load_64 load_64_function g e (λ i. load_words_help (translated w) (bytes_are_seen i) bound (memory_bytes w))
-  helper_helps names.store_32 g h e = with_memory names.store_32 store_32_function g e (λ i. (written i).store_32 bound (memory_bytes w))
-  helper_helps names.store_64 g h e = with_memory names.store_64 store_64_function g e (λ i. (written i).store_64 bound (memory_bytes w))
-  helper_helps names.copy g h e = with_memory names.copy (copy_function (memory_bytes w)) g e (λ i. (written i).copy bound)
-  helper_helps names.fill g h e = with_memory names.fill (fill_function (memory_bytes w)) g e (λ i. (written i).fill bound)
+  helper_helps names.store_32 g h e = with_memory names.store_32 store_32_function g e (λ i. store_word_helps (translated w) (bytes_are_seen i) bound (memory_bytes w))
+  helper_helps names.store_64 g h e = with_memory names.store_64 store_64_function g e (λ i. store_words_help (translated w) (bytes_are_seen i) bound (memory_bytes w))
+  helper_helps names.copy g h e = with_memory names.copy (copy_function (memory_bytes w)) g e (λ i. copy_helps (translated w) (views_are_seen i) (memory_bytes w) bound)
+  helper_helps names.fill g h e = with_memory names.fill (fill_function (memory_bytes w)) g e (λ i. fill_helps (translated w) (views_are_seen i) (memory_bytes w) bound)
   helper_helps names.init g h e = absurd (cc h)
   helper_helps names.last_high g h e = absurd (cc h)
 
 pub helpers_help : HelpersHelp
-helpers_help w written c bound home seen f g h e =
-    helper_helps w written bound f g h (sym (fixed_names_mean w f) ∙ ap (λ m. module_meaning m (name_of f)) (sym home) ∙ sym (seen (fixed f) refl) ∙ e)
+helpers_help w c bound home seen f g h e =
+    helper_helps w bound f g h (sym (fixed_names_mean w f) ∙ ap (λ m. module_meaning m (name_of f)) (sym home) ∙ sym (seen (fixed f) refl) ∙ e)

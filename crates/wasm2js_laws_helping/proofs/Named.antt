@@ -24,7 +24,8 @@ use Rattle.wasm2js_laws_provided.proofs.Entries.{In, in_left, in_right, are_apar
 use Rattle.wasm2js_laws_provided.proofs.Declared.{texts_of, table_texts, spellings, helper_names, callee_names, callees_names, only, stub_names, last_names, table_names, function_names, functions_are_named, tables_are_named}
 use Rattle.wasm2js_laws_provided.proofs.Found.{no_parameter, variable_found, function_found}
 use Rattle.wasm2js_laws_scopes.proofs.HeadNames.{missed, numbered_others}
-use Rattle.wasm2js_laws_helping.specs.Helping.{store_32_function, store_64_function, on_memory, fixed_meaning}
+use Rattle.wasm2js_laws_stores.specs.Laws.{store_32_function, store_64_function}
+use Rattle.wasm2js_laws_helping.specs.Helping.{on_memory, fixed_meaning}
 use Rattle.wasm2js_laws_helping.specs.Laws.{FixedNamesMean}
 
 -- ---- names that are declared only where there is a memory

@@ -2,9 +2,10 @@
 use Rattle.std.proofs.Common.{◌≡◌, ℕ, ◌≤◌, true, false, List, map, refl, sym, ap, ◌∙◌, subst, arith}
 use Rattle.wasm_lang.specs.declared.types.ValType.{ValType}
 use Rattle.wasm_lang.specs.declared.types.GlobalType.{GlobalType}
+use Rattle.wasm_lang.specs.Instructions.{Plain, load, store, memory_copy, memory_fill}
 use Rattle.wasm_lang.specs.Modules.{FunctionType, WasmModule}
 use Rattle.wasm_lang.specs.Shape.{IsShaped}
-use Rattle.wasm_lang_valid.specs.ModuleRules.{has_memory, global_types}
+use Rattle.wasm_lang_valid.specs.ModuleRules.{global_types}
 use Rattle.wasm_lang_valid.specs.Profile.{memory_bytes, IsInProfile}
 use Rattle.wasm_lang_valid.specs.Typing.{Context}
 use Rattle.wasm_lang_exec.specs.Code.{Trees}
@@ -23,14 +24,17 @@ use Rattle.wasm2js_laws_scopes.proofs.Declared.{module_names_are_seen, variables
 use Rattle.wasm2js_laws_provided.specs.Laws.{is_called}
 use Rattle.wasm2js_laws_provided.proofs.Whole.{modules_provide}
 use Rattle.wasm2js_laws_places.specs.Helped.{AreHelpers}
+use Rattle.wasm2js_laws_typed.specs.Laws.{IsFormed}
 use Rattle.wasm2js_laws_control.specs.Control.{Function, IsFair}
-use Rattle.wasm2js_laws_instructions.specs.Plain.{Supports}
+use Rattle.wasm2js_laws_instructions.specs.Plain.{PlainIs, Supports}
 use Rattle.wasm2js_laws_instructions.proofs.Computing.{plains_are_kept}
-use Rattle.wasm2js_laws_computed.specs.Laws.{IsHelped}
+use Rattle.wasm2js_laws_computed.specs.Laws.{accesses_memory, IsHelped}
+use Rattle.wasm2js_laws_loads.proofs.Loaded.{loads_are_read}
+use Rattle.wasm2js_laws_stores.proofs.Storing.{stores_are_written}
+use Rattle.wasm2js_laws_runs.proofs.Moved.{fill_is_done, copy_is_done}
 use Rattle.wasm2js_laws_helping.specs.Helping.{helping}
-use Rattle.wasm2js_laws_helping.specs.Laws.{AreWriting, SeesNames}
-use Rattle.wasm2js_laws_helping.specs.Standing as laws
-use Rattle.wasm2js_laws_helping.specs.Standing.{StandsFor, IsCompared, HelpersStand, HelpersSupport, FunctionsAreHelped}
+use Rattle.wasm2js_laws_helping.specs.Laws.{SeesNames}
+use Rattle.wasm2js_laws_helping.specs.Standing.{StandsFor, IsCompared, HelpersStand, HelpersSupport, FunctionsAreHelped, Pays, AccessesAreKept}
 use Rattle.wasm2js_laws_helping.proofs.Usual.{words_are_usual}
 use Rattle.wasm2js_laws_helping.proofs.Called.{helpers_help}
 
@@ -42,16 +46,16 @@ module _ (w : WasmModule) (k : ℕ) (t : FunctionType) (more : List ValType) (co
       let own = variables_are_own t.params more r in
       module_names_are_seen (translated w) (numbered function k) (param_names 0 t.params) (declared_names r _ more) (body_stmts (memory_bytes w) (cell_count w) (context_of w t more) code) n own.0 own.1 h
 
-  own_helpers : (has_memory w ≡ true → AreWriting w) → (bound : ℕ)
+  own_helpers : (bound : ℕ)
       → AreHelpers (scope_of (translated w) (own_function w k t more code)) (call_at false (translated w) bound) bound (memory_bytes w) (helping (memory_bytes w))
-  own_helpers written bound = helpers_help w written (scope_of (translated w) (own_function w k t more code)) bound refl own_sees
+  own_helpers bound = helpers_help w (scope_of (translated w) (own_function w k t more code)) bound refl own_sees
 
 module _ (f : Function) (k : ℕ) (t : FunctionType) (more : List ValType) (code : Trees) (stands : StandsFor f k t more code) where
-  helpers_here : (has_memory f.home ≡ true → AreWriting f.home) → AreHelpers f.scope (call_at false (translated f.home) f.bound) f.bound f.setting.bytes (helping f.setting.bytes)
-  helpers_here written =
+  helpers_here : AreHelpers f.scope (call_at false (translated f.home) f.bound) f.bound f.setting.bytes (helping f.setting.bytes)
+  helpers_here =
       subst (λ c. AreHelpers c (call_at false (translated f.home) f.bound) f.bound f.setting.bytes (helping f.setting.bytes)) (sym stands.scope)
       (subst (λ n. AreHelpers (scope_of (translated f.home) (own_function f.home k t more code)) (call_at false (translated f.home) f.bound) f.bound n (helping n)) (sym stands.bytes)
-      (own_helpers f.home k t more code written f.bound))
+      (own_helpers f.home k t more code f.bound))
 
   supports_here : 68 ≤ f.pace → Supports f (helping f.setting.bytes)
   supports_here pace = record {
@@ -86,22 +90,31 @@ module _ (f : Function) (k : ℕ) (t : FunctionType) (more : List ValType) (code
   follows_here = subst (λ calls. AllFollow (call_at false (translated f.home) f.bound) calls) (sym stands.calls) (calls_follow (translated f.home) f.bound)
 
 pub helpers_stand : HelpersStand
-helpers_stand f k t more code written stands = helpers_here f k t more code stands written
+helpers_stand f k t more code stands = helpers_here f k t more code stands
 
 pub helpers_support : HelpersSupport
 helpers_support f k t more code stands pace = supports_here f k t more code stands pace
 
 pub functions_are_helped : FunctionsAreHelped
-functions_are_helped f k t more code profile shaped written stands compared = record {
+functions_are_helped f k t more code profile shaped stands compared = record {
   fair = fair_here f k t more code stands profile shaped compared;
   calls = call_at false (translated f.home) f.bound;
   follow = follows_here f k t more code stands;
   helping = helping f.setting.bytes;
-  helpers = helpers_here f k t more code stands written;
+  helpers = helpers_here f k t more code stands;
   supports = supports_here f k t more code stands compared.pace;
 }
 
-pub standing_plains_are_kept : laws.PlainsAreKept
-standing_plains_are_kept f k t more code profile shaped written stands compared p h =
+access_is : (f : Function) (p : Plain) → accesses_memory p ≡ true → Pays f p → IsFormed p → Supports f (helping f.setting.bytes) → PlainIs f (helping f.setting.bytes) p
+access_is f (load op align offset) h pays formed supports =
+    loads_are_read op align offset formed f (helping f.setting.bytes) supports (record { load_32 = λ args heap. (refl, refl); load_64 = λ args heap. (refl, refl) })
+access_is f (store op align offset) h pays formed supports =
+    stores_are_written op align offset formed f (helping f.setting.bytes) supports (record { store_32 = λ args heap. (refl, refl); store_64 = λ args heap. (refl, refl) })
+access_is f memory_copy h pays formed supports = copy_is_done f (helping f.setting.bytes) supports (record { fill = λ args heap. (refl, refl); copy = λ args heap. (refl, refl) }) pays
+access_is f memory_fill h pays formed supports = fill_is_done f (helping f.setting.bytes) supports (record { fill = λ args heap. (refl, refl); copy = λ args heap. (refl, refl) }) pays
+access_is f p h pays formed supports = absurd (cc h)
+
+pub accesses_are_kept : AccessesAreKept
+accesses_are_kept f k t more code profile shaped stands compared p h pays =
     plains_are_kept f (fair_here f k t more code stands profile shaped compared) (call_at false (translated f.home) f.bound) (follows_here f k t more code stands) (helping f.setting.bytes)
-    (helpers_here f k t more code stands written) p h
+    (helpers_here f k t more code stands) p (λ formed. access_is f p h pays formed (supports_here f k t more code stands compared.pace))

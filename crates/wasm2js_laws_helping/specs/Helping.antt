@@ -1,24 +1,25 @@
 -- The helpers of a translated module: what each does and what its name means.
-use Rattle.std.specs.Prelude.{ℕ, Bool, List, [], ◌++◌, if◌then◌else◌}
+use Rattle.std.specs.Prelude.{ℕ, Bool, List, if◌then◌else◌}
 use Rattle.sem_words.specs.declared.word.Bin.TheVariants as bins
 use Rattle.sem_words.specs.Words.{shl_of, shr_s_of, shr_u_of, rotl_of, leading_zeros_of, trailing_zeros_of}
 use Rattle.wasm_lang.specs.Modules.{WasmModule}
 use Rattle.wasm_lang_valid.specs.ModuleRules.{has_memory}
 use Rattle.wasm_lang_valid.specs.Profile.{memory_bytes}
-use Rattle.asm_lang.specs.Modules.{Function}
 use Rattle.asm_lang_valid.specs.declared.meaning.Builtin.TheVariants.{Imul, Clz32}
 use Rattle.asm_lang_valid.specs.declared.meaning.Element.TheVariants.{Int8, Uint8, Int32}
 use Rattle.asm_lang_valid.specs.Scope.{Meaning, nothing, an_int, a_foreign, a_builtin, a_view, a_function}
 use Rattle.wasm2js_words.specs.Names as names
-use Rattle.wasm2js_words.specs.Names.{Fixed, fixed, word}
-use Rattle.wasm2js_code.specs.Helpers.{function_of, two_arguments, three_arguments, second, third, write_word, shift_left_function, shift_right_signed_function, shift_right_function, rotate_left_function, leading_zeros_function, trailing_zeros_function, set_bits_function, copy_function, fill_function}
+use Rattle.wasm2js_words.specs.Names.{Fixed, word}
+use Rattle.wasm2js_code.specs.Helpers.{shift_left_function, shift_right_signed_function, shift_right_function, rotate_left_function, leading_zeros_function, trailing_zeros_function, set_bits_function, copy_function, fill_function}
 use Rattle.wasm2js_code.specs.Modules.{init_function, high_function}
-use Rattle.wasm2js_laws_places.specs.Straight.{Answer, gives, Helping}
+use Rattle.wasm2js_laws_places.specs.Straight.{Answer, Helping}
 use Rattle.wasm2js_laws_helpers.specs.Answers.{one_word, turned, counted, divided, set_bits_answer, set_bits_units}
 use Rattle.wasm2js_laws_helpers.specs.Laws.{divide_signed_function, divide_function, remainder_signed_function, remainder_function}
 use Rattle.wasm2js_laws_access.specs.Answers.{loaded_word, loaded_words}
 use Rattle.wasm2js_laws_access.specs.Laws.{load_32_function, load_64_function}
-use Rattle.wasm2js_laws_helping.specs.Written.{stored_word, stored_words, filled_run, fill_units, copied_run, copy_units}
+use Rattle.wasm2js_laws_stores.specs.Answers.{stored_word, stored_words}
+use Rattle.wasm2js_laws_stores.specs.Laws.{store_32_function, store_64_function}
+use Rattle.wasm2js_laws_runs.specs.Answers.{filled_run, fill_units, copied_run, copy_units}
 
 -- ---- what each does, in a memory of so many bytes
 
@@ -54,12 +55,6 @@ module _ (bytes : ℕ) where
   helping = record { answer = helper_answer; cost = helper_cost }
 
 -- ---- what each fixed name means
-
-abbrev pub store_32_function : Function
-store_32_function = function_of (fixed names.store_32) two_arguments [] (write_word 0 second)
-
-abbrev pub store_64_function : Function
-store_64_function = function_of (fixed names.store_64) three_arguments [] (write_word 0 second ++ write_word 4 third)
 
 -- what is declared only where there is a memory
 abbrev pub on_memory : Bool → Meaning → Meaning

@@ -1,4 +1,3 @@
-pub mod Written
 pub mod Helping
 pub mod Laws
 pub mod Standing

@@ -1,5 +1,5 @@
 -- Functions of a translated module that stand for functions of the source, and their helpers.
-use Rattle.std.specs.Prelude.{◌≡◌, ℕ, ◌≤◌, true, false, List, [], ◌∷◌, map, drop}
+use Rattle.std.specs.Prelude.{◌≡◌, ℕ, ◌+◌, ◌≤◌, true, false, List, [], ◌∷◌, map, drop}
 use Rattle.sem_words.specs.declared.word.Word.TheVariants.{W32}
 use Rattle.sem_words.specs.declared.word.TrapKind.{TrapKind}
 use Rattle.sem_words.specs.Words.{trap_code}
@@ -7,10 +7,10 @@ use Rattle.sem_laws.specs.Observation.{EventPlain, EndPlain, trapped, stopped, t
 use Rattle.sem_laws.specs.Laws.{KeepsOrder}
 use Rattle.wasm_lang.specs.declared.types.ValType.{ValType}
 use Rattle.wasm_lang.specs.declared.types.GlobalType.{GlobalType}
-use Rattle.wasm_lang.specs.Instructions.{Plain}
+use Rattle.wasm_lang.specs.Instructions.{Plain, memory_copy, memory_fill}
 use Rattle.wasm_lang.specs.Modules.{FunctionType}
 use Rattle.wasm_lang.specs.Shape.{IsShaped}
-use Rattle.wasm_lang_valid.specs.ModuleRules.{has_memory, global_types}
+use Rattle.wasm_lang_valid.specs.ModuleRules.{global_types}
 use Rattle.wasm_lang_valid.specs.Profile.{memory_bytes, IsInProfile}
 use Rattle.wasm_lang_exec.specs.Code.{plain, Trees}
 use Rattle.wasm_lang_exec.specs.Store.{Store}
@@ -23,13 +23,11 @@ use Rattle.wasm2js_code.specs.Modules.{context_of, own_function, translated}
 use Rattle.wasm2js_code.specs.Tables.{cell_count}
 use Rattle.wasm2js_laws_provided.specs.Laws.{is_called}
 use Rattle.wasm2js_laws_places.specs.Helped.{AreHelpers}
-use Rattle.wasm2js_laws_typed.specs.Laws.{IsFormed}
 use Rattle.wasm2js_laws_control.specs.Control.{Function, Match}
 use Rattle.wasm2js_laws_control.specs.Laws.{IsKeptFirst}
-use Rattle.wasm2js_laws_instructions.specs.Plain.{PlainIs, Supports}
-use Rattle.wasm2js_laws_computed.specs.Laws.{IsHelped}
+use Rattle.wasm2js_laws_instructions.specs.Plain.{Supports}
+use Rattle.wasm2js_laws_computed.specs.Laws.{accesses_memory, IsHelped}
 use Rattle.wasm2js_laws_helping.specs.Helping.{helping}
-use Rattle.wasm2js_laws_helping.specs.Laws.{AreWriting}
 
 -- It is what function k of the source is translated to, which has this type, these further locals and this code, and its calls are its module's.
 pub record StandsFor (f : Function) (k : ℕ) (t : FunctionType) (more : List ValType) (code : Trees) : Type 0 where
@@ -55,7 +53,7 @@ pub record IsCompared (f : Function) : Type 0 where
 -- its helpers are those of the module, and do what instructions need
 abbrev pub HelpersStand : Type 0
 HelpersStand =
-    (f : Function) (k : ℕ) (t : FunctionType) (more : List ValType) (code : Trees) → (has_memory f.home ≡ true → AreWriting f.home) → StandsFor f k t more code
+    (f : Function) (k : ℕ) (t : FunctionType) (more : List ValType) (code : Trees) → StandsFor f k t more code
     → AreHelpers f.scope (call_at false (translated f.home) f.bound) f.bound f.setting.bytes (helping f.setting.bytes)
 
 abbrev pub HelpersSupport : Type 0
@@ -63,11 +61,18 @@ HelpersSupport = (f : Function) (k : ℕ) (t : FunctionType) (more : List ValTyp
 
 abbrev pub FunctionsAreHelped : Type 0
 FunctionsAreHelped =
-    (f : Function) (k : ℕ) (t : FunctionType) (more : List ValType) (code : Trees) → IsInProfile f.home → IsShaped f.home → (has_memory f.home ≡ true → AreWriting f.home)
+    (f : Function) (k : ℕ) (t : FunctionType) (more : List ValType) (code : Trees) → IsInProfile f.home → IsShaped f.home
     → StandsFor f k t more code → IsCompared f → IsHelped f
 
--- an instruction whose code does what it does, by these helpers, is kept
-abbrev pub PlainsAreKept : Type 0
-PlainsAreKept =
-    (f : Function) (k : ℕ) (t : FunctionType) (more : List ValType) (code : Trees) → IsInProfile f.home → IsShaped f.home → (has_memory f.home ≡ true → AreWriting f.home)
-    → StandsFor f k t more code → IsCompared f → (p : Plain) → (IsFormed p → PlainIs f (helping f.setting.bytes) p) → IsKeptFirst f (plain p)
+-- ---- accesses to the memory
+
+-- a reduction may pay for a loop over the whole memory
+abbrev pub Pays : Function → Plain → Type 0
+Pays f memory_copy = f.setting.bytes + 80 ≤ f.pace
+Pays f memory_fill = f.setting.bytes + 80 ≤ f.pace
+Pays f p = Unit {0}
+
+abbrev pub AccessesAreKept : Type 0
+AccessesAreKept =
+    (f : Function) (k : ℕ) (t : FunctionType) (more : List ValType) (code : Trees) → IsInProfile f.home → IsShaped f.home → StandsFor f k t more code → IsCompared f
+    → (p : Plain) → accesses_memory p ≡ true → Pays f p → IsKeptFirst f (plain p)

@@ -2,7 +2,7 @@
 #![tactic(auto)]
 
 ghost use Rattle.wasm2js_laws_helping.specs.Laws.{WordsAreUsual, FixedNamesMean, HelpersHelp};
-ghost use Rattle.wasm2js_laws_helping.specs.Standing.{HelpersStand, HelpersSupport, FunctionsAreHelped, PlainsAreKept};
+ghost use Rattle.wasm2js_laws_helping.specs.Standing.{HelpersStand, HelpersSupport, FunctionsAreHelped, AccessesAreKept};
 
 /// What helpers do on words, and what their names mean, as all names of a module that are always the same.
 pub fn helpers()
@@ -10,15 +10,15 @@ pub fn helpers()
     ensures names { FixedNamesMean }
 {}
 
-/// Calls of each, where those of the helpers that write the memory do what is said of them.
+/// Calls of each, however deep calls may lie.
 pub fn calls()
     ensures { HelpersHelp }
 {}
 
-/// Functions that stand for those of the source: their helpers are these, and with them code is kept.
+/// Functions that stand for those of the source: these are their helpers, with which instructions are kept, also those that access the memory.
 pub fn functions()
     ensures helpers { HelpersStand }
     ensures supported { HelpersSupport }
     ensures helped { FunctionsAreHelped }
-    ensures plains { PlainsAreKept }
+    ensures accesses { AccessesAreKept }
 {}

@@ -1,4 +1,4 @@
-use Rattle.wasm2js_laws_helping.proofs.Standing.{helpers_stand, helpers_support, functions_are_helped, standing_plains_are_kept}
+use Rattle.wasm2js_laws_helping.proofs.Standing.{helpers_stand, helpers_support, functions_are_helped, accesses_are_kept}
 use Rattle.wasm2js_laws_helping.proofs.functions.Goals as goal
 
 pub returns-clause-helpers : goal.returns-clause-helpers
@@ -10,5 +10,5 @@ returns-clause-supported c = helpers_support
 pub returns-clause-helped : goal.returns-clause-helped
 returns-clause-helped c = functions_are_helped
 
-pub returns-clause-plains : goal.returns-clause-plains
-returns-clause-plains c = standing_plains_are_kept
+pub returns-clause-accesses : goal.returns-clause-accesses
+returns-clause-accesses c = accesses_are_kept
