@@ -1,5 +1,5 @@
 -- How the body of a function is left: the caller goes on with its own variables and what was given back.
-use Rattle.std.proofs.Common.{◌≡◌, ℕ, zero, suc, ◌+◌, ◌<◌, ◌≤◌, Bool, true, List, [], ◌∷◌, ◌++◌, length, take, Option, Some, None, refl, sym, ap, ◌∙◌, subst, arith}
+use Rattle.std.proofs.Common.{◌≡◌, ℕ, zero, suc, ◌<◌, ◌≤◌, Bool, List, [], ◌∷◌, ◌++◌, length, take, Option, Some, None, refl, sym, ap, ◌∙◌, subst, arith}
 use Rattle.std.specs.Prelude.{slice_get}
 use Rattle.sem_words.specs.declared.word.Word.{Word}
 use Rattle.sem_words.specs.declared.js_value.JsValue.{JsValue}
@@ -7,25 +7,24 @@ use Rattle.sem_words.specs.declared.js_value.JsValue.TheVariants.{Undef}
 use Rattle.sem_laws.specs.Observation.{EventPlain}
 use Rattle.wasm_lang.specs.declared.types.ValType.{ValType}
 use Rattle.wasm_lang.specs.declared.types.ValType.TheVariants.{I32, I64}
-use Rattle.wasm_lang.specs.Modules.{FunctionType}
-use Rattle.wasm_lang_valid.specs.Typing.{listed, result_of}
+use Rattle.wasm_lang_valid.specs.Typing.{listed}
 use Rattle.wasm_lang_exec.specs.Code.{Trees, ε}
 use Rattle.wasm_lang_exec.specs.Reductions.{top_of, arity_of}
 use Rattle.wasm_laws_drive.specs.Drive.{State, Outcome, Branch, Leave, at, onward}
-use Rattle.wasm_laws_drive.specs.Equations.{pay, take_values}
+use Rattle.wasm_laws_drive.specs.Equations.{take_values}
 use Rattle.wasm_laws_drive.specs.Contexts.{Surrounding, in_frame, closed}
-use Rattle.wasm_laws_drive.specs.Steps.{goes_with, to_caller}
+use Rattle.wasm_laws_drive.specs.Steps.{to_caller}
 use Rattle.wasm_laws_drive.proofs.Stepping.{end_of_frame, branch_out_of_frame, return_out_of_frame}
 use Rattle.asm_lang_exec.specs.Runs.{Place, Part, and_then, back_to}
-use Rattle.asm_lang_exec.specs.Meaning.{Completion, normal, broken, continued, returned, function_end}
+use Rattle.asm_lang_exec.specs.Meaning.{Completion, broken, continued, returned, function_end}
 use Rattle.asm_laws_continuation.specs.Following.{exec_all_to, unless_left_to}
 use Rattle.wasm2js_words.specs.Names.{numbered, global_low, global_high}
 use Rattle.wasm2js_words.specs.Words.{stmts_in}
-use Rattle.wasm2js_code.specs.Bodies.{Aim, past, again, out, label_of, closing}
+use Rattle.wasm2js_code.specs.Bodies.{past, again, out, label_of, closing}
 use Rattle.wasm2js_laws_pace.specs.Following.{Rest}
 use Rattle.wasm2js_laws_pace.proofs.Paced.{same_is_followed}
 use Rattle.wasm2js_laws_places.specs.Straight.{Words}
-use Rattle.wasm2js_laws_places.specs.Places.{word_at, operands, locals_of, globals_from, globals_of, Setting, store_of, World, Stays}
+use Rattle.wasm2js_laws_places.specs.Places.{word_at, operands, globals_from, globals_of, Setting, store_of, World, Stays}
 use Rattle.wasm2js_laws_control.specs.Control.{Function, IsFair, Match, Inside, state_at, sight, code_sight, IsFollowed, AreNested, Gives, Exits}
 use Rattle.wasm2js_laws_control.proofs.Stepping.{free_step, no_step}
 use Rattle.wasm2js_laws_instructions.proofs.Ending.{counts_alike}
