@@ -1,5 +1,5 @@
 -- What uses a name does the same whether a variable of the function is an int, a double, or nothing that the module declares.
-use Rattle.std.proofs.Common.{◌≡◌, ℕ, zero, suc, Bool, true, false, List, [], ◌∷◌, ◌++◌, Option, Some, None, refl, sym, ap, ◌∙◌, subst, map}
+use Rattle.std.proofs.Common.{◌≡◌, ℕ, suc, Bool, true, false, List, [], ◌∷◌, ◌++◌, Option, Some, None, refl, sym, ap, ◌∙◌, subst, map}
 use Rattle.std.proofs.lemmas.List.Elements.{All-weaker}
 use Rattle.std.specs.Prelude.{is_some, option_map, bytes_eq, if◌then◌else◌}
 use Rattle.sem_words.specs.declared.js_value.JsValue.{JsValue}
@@ -9,7 +9,7 @@ use Rattle.asm_lang_valid.specs.declared.meaning.Element.{Element}
 use Rattle.asm_lang_valid.specs.Scope.{Meaning, nothing, an_int, an_outside, a_foreign, a_builtin, a_view, a_function, a_table, a_parameter, local_init, among_params, among_locals, module_meaning}
 use Rattle.asm_lang_valid.specs.Typing.{named}
 use Rattle.asm_lang_valid.specs.Typed.{scope_of}
-use Rattle.asm_lang_exec.specs.Runs.{Place, Run, wrong, Part, and_then, goes_wrong, defined}
+use Rattle.asm_lang_exec.specs.Runs.{Place, wrong, Part, and_then, goes_wrong, defined}
 use Rattle.asm_lang_exec.specs.Values.{read_element, write_element, entry_of}
 use Rattle.asm_run_state.specs.Variables.{slot_of}
 use Rattle.asm_laws_machine.specs.Work as plain

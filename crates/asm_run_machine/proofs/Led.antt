@@ -1,7 +1,9 @@
 -- What a step in code has reached.
 use Rattle.std.proofs.Common.{◌≡◌, ℕ, ◌+◌, ◌<◌, ◌≤◌, List, [], ◌∷◌, refl, sym, ap, ◌∙◌, subst, arith}
+use Rattle.std.specs.Prelude.{Result, Ok, Err, IfOk}
 use Rattle.std.specs.Borrow.{Bor}
 use Rattle.sem_words.specs.declared.text.Text.{Text}
+use Rattle.sem_words.specs.declared.js_value.JsValue.{JsValue}
 use Rattle.asm_lang.specs.Modules.{Function, Module}
 use Rattle.asm_tree.specs.declared.tree.Expr.{Expr}
 use Rattle.asm_tree.specs.declared.tree.Stmt.{Stmt}
@@ -9,10 +11,11 @@ use Rattle.asm_tree.specs.Views.{texts_view, expr_view, stmt_view}
 use Rattle.asm_lang_exec.specs.Runs.{Place, Run, goes, stops, spent, wrong, after}
 use Rattle.asm_laws_machine.specs.Work as plain
 use Rattle.asm_laws_machine.specs.Steps.{eval_step, exec_step, work_step}
-use Rattle.asm_laws_machine.specs.Sizes.{total}
-use Rattle.asm_laws_machine.specs.Resuming.{Over, resume, machine_to}
+use Rattle.asm_laws_machine.specs.Sizes.{total, machine_size}
+use Rattle.asm_laws_machine.specs.Resuming.{resume, mode_to, machine_to}
 use Rattle.asm_laws_machine.specs.Laws.{Falls}
 use Rattle.asm_laws_machine.proofs.Means.{eval_means, exec_means, work_means}
+use Rattle.asm_laws_machine.proofs.AtOnce.{once_means, once_falls}
 use Rattle.asm_laws_machine.proofs.Falls.{eval_falls, exec_falls, work_falls}
 use Rattle.asm_laws_machine.specs.Literals.{SmallModule, SmallMode, SmallWorks, SmallRun}
 use Rattle.asm_laws_machine.proofs.Keeps.{eval_keeps, exec_keeps, work_keeps}
@@ -29,6 +32,7 @@ use Rattle.asm_run_machine.specs.declared.running.Ended.{Ended}
 use Rattle.asm_run_machine.specs.declared.running.Ended.TheVariants.{Body, Stops as Stopped, Spent as Unpaid, Wrong as Mistaken}
 use Rattle.asm_run_machine.specs.declared.running.Reached.{Reached}
 use Rattle.asm_run_machine.specs.declared.running.Reached.TheVariants.{Goes, Ends}
+use Rattle.asm_run_machine.specs.AtOnce.{Gives}
 use Rattle.asm_run_machine.specs.Machines.{waiting, function, place, moved}
 use Rattle.asm_run_machine.specs.Reached.{Next, ended_to, goes_to, reached_to, Leads, SmallLeft, size, Within, StepFalls, reached_of, bottom_of}
 
@@ -65,6 +69,49 @@ module _ (m : Module) (s t : Machine) (mode : Mode) (flow : Flow) (r : Run plain
 
   pub small : SmallRun r → SmallLeft t (reached_of flow)
   small h = flow_small t flow (subst SmallRun (sym e) h)
+
+-- ---- an expression that has a value at once, and one that is as before
+
+module _ (m : Module) (s t : Machine) (e : Bor Expr) (work : waiting t ≡ waiting s) (same : function t ≡ function s) where
+  module _ (v : JsValue) (gives : Gives m s (expr_view e.now) v t) where
+    pub once_leads : Leads m s (Evaluates e) t (Goes (Comes (Gave v)))
+    once_leads bound next le =
+        ap (λ ws. resume m bound next ws (function t) (plain.gave v) (place t)) work
+        ∙ ap (λ f. resume m bound next (waiting s) f (plain.gave v) (place t)) same
+        ∙ sym (once_means m bound next (waiting s) (function s) (expr_view e.now) (place s) v (place t) gives)
+
+    pub once_less : StepFalls s (Evaluates e) t (Goes (Comes (Gave v)))
+    once_less =
+        subst (λ ws. Falls s.world.units (size s (Evaluates e)) (goes (plain.machine (plain.comes (plain.gave v)) ws (function s)) (place t))) (sym work)
+        (once_falls m (waiting s) (function s) (expr_view e.now) (place s) v (place t) gives)
+
+    pub once_small : SmallWorks (waiting s) → SmallLeft t (Goes (Comes (Gave v)))
+    once_small w = (tt, subst SmallWorks (sym work) w)
+
+-- what comes of a machine comes of one with the same work in the same function at the same place
+module _ (m : Module) (s t : Machine) (mode : Mode) (work : waiting t ≡ waiting s) (same : function t ≡ function s) (stays : place t ≡ place s) (u : Machine) where
+  units_same : t.world.units ≡ s.world.units
+  units_same = ap (λ (p : Place). p.units) stays
+
+  size_same : size t mode ≡ size s mode
+  size_same = ap (λ ws. machine_size (plain.machine (mode_view mode) ws (function t))) work ∙ ap (λ f. machine_size (plain.machine (mode_view mode) (waiting s) f)) same
+
+  pub leads_same : (r : Reached) → Leads m t mode u r → Leads m s mode u r
+  leads_same r h bound next le =
+      h bound next (subst (λ n. n ≤ bound) (sym units_same) le)
+      ∙ ap (λ ws. mode_to m bound next (mode_view mode) ws (function t) (place t)) work
+      ∙ ap (λ f. mode_to m bound next (mode_view mode) (waiting s) f (place t)) same
+      ∙ ap (λ p. mode_to m bound next (mode_view mode) (waiting s) (function s) p) stays
+
+  within_same : (e : Ended) → Within t u e → Within s u e
+  within_same (Body d) h = subst (λ n. u.world.units ≤ n) units_same h
+  within_same (Stopped e) h = tt
+  within_same Unpaid h = tt
+  within_same Mistaken h = tt
+
+  pub falls_same : (r : Reached) → StepFalls t mode u r → StepFalls s mode u r
+  falls_same (Goes next) h = (subst (λ n. u.world.units ≤ n) units_same h.0, λ e. subst (λ n. size u next < n) size_same (h.1 (e ∙ sym units_same)))
+  falls_same (Ends e) h = within_same e h
 
 -- ---- the arms of a step
 
@@ -154,3 +201,7 @@ within_then s t u (Body d) le h = omega (arith, le, h)
 within_then s t u (Stopped e) le h = tt
 within_then s t u Unpaid le h = tt
 within_then s t u Mistaken le h = tt
+
+pub ok_more : {A E : Type 0} (r : Result A E) (P Q : A → Type 0) → IfOk r P → ((a : A) → P a → Q a) → IfOk r Q
+ok_more (Ok a) P Q h more = more a h
+ok_more (Err e) P Q h more = tt

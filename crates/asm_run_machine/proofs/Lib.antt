@@ -1,3 +1,4 @@
+pub mod AtOnce
 pub mod Hiding
 pub mod Led
 pub mod Trees

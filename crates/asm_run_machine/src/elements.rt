@@ -1,5 +1,5 @@
 //! Elements of views that names mean.
-ghost use Rattle.std.specs.Prelude.{◌≡◌, IfSome};
+ghost use Rattle.std.specs.Prelude.{◌≡◌, IfNone, IfSome};
 ghost use Rattle.sem_words.specs.Lists.{text_bytes};
 ghost use Rattle.sem_words.specs.JsValues.{IsValue};
 ghost use Rattle.asm_tree.specs.Views.{module_view, function_view};
@@ -35,7 +35,7 @@ pub fn read_element(
     }
 }
 
-/// Writes that element, and gives the value before its conversion.
+/// Writes that element, and gives the value before its conversion. Nothing is changed where there is none.
 pub fn write_element(
     environment: &Environment<'_>,
     world: &mut World<'_>,
@@ -48,6 +48,7 @@ pub fn write_element(
     requires value { IsValue value }
     ensures value { (locals : Bindings) → defined result (place_of world.new locals) ≡ values.write_element (named (scope_of (module_view environment.now.home.now) (function_view frame.now.function.now)) (text_bytes name.now)) index value (place_of world.old locals) }
     ensures keeps { IfSome result IsValue }
+    ensures unchanged { IfNone result ((locals : Bindings) → place_of world.new locals ≡ place_of world.old locals) }
 {
     match view_meant(environment, frame, name) {
         Some(element) => world.write_element(element, index, value),

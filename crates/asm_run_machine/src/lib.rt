@@ -2,6 +2,7 @@
 //! takes no more of the host's stack however deep its calls are.
 #![tactic(auto)]
 
+mod at_once;
 mod calls;
 mod elements;
 mod ends;
@@ -11,6 +12,7 @@ mod machine;
 mod names;
 mod operands;
 mod running;
+mod simple;
 mod statements;
 mod tests_of;
 

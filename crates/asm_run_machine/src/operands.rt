@@ -124,8 +124,8 @@ impl<'a> Machine<'a> {
     }
 }
 
-// What joins an operand of a chain to what stands before it.
-fn operator_of(link: &Link) -> JsOp
+/// What joins an operand of a chain to what stands before it.
+pub fn operator_of(link: &Link) -> JsOp
     ensures { result ≡ link_operator link.now.minus }
 {
     if link.minus { JsOp::Sub } else { JsOp::Add }

@@ -1,15 +1,16 @@
 //! Runs a function's body to its end.
 ghost use Rattle.std.specs.Prelude.{◌≡◌, IfOk};
-ghost use Rattle.asm_tree.specs.Views.{module_view};
+ghost use Rattle.asm_tree.specs.Views.{module_view, expr_view};
 ghost use Rattle.asm_validate_names.specs.Environments.{IsComplete};
 ghost use Rattle.asm_laws_machine.specs.Steps.{work_step};
-ghost use Rattle.asm_laws_machine.specs.Literals.{SmallMode, SmallModule, SmallWorks};
+ghost use Rattle.asm_laws_machine.specs.Literals.{SmallExpr, SmallMode, SmallModule, SmallWorks};
 ghost use Rattle.asm_run_work.specs.Views.{work_view, outcome_view, mode_view};
 ghost use Rattle.asm_run_machine.specs.Machines.{waiting, function, place, moved};
 ghost use Rattle.asm_run_machine.specs.Reached.{Leads, SmallLeft, StepFalls, UnitsFall, Within, reached_of, bottom_of};
 
 use crate::machine::Machine;
 use asm_run_work::{Completion, Flow, Mode, Outcome, Work};
+use asm_tree::Expr;
 use asm_validate_names::Environment;
 use sem_laws::End;
 use std::alloc::{AllocError, Global};
@@ -62,6 +63,46 @@ impl<'a> Machine<'a> {
         }
     }
 
+    // The step of an expression to its first part.
+    fn part(
+        &mut self,
+        environment: &Environment<'a>,
+        alloc: Global,
+        expr: &'a Expr,
+    ) -> Result<Reached<'a>, AllocError>
+        requires complete { IsComplete environment.now }
+        requires small { SmallModule (module_view environment.now.home.now) }
+        requires literals { SmallExpr (expr_view expr.now) }
+        requires work { SmallWorks (waiting self.old) }
+        ensures leads { IfOk result (λ r. Leads (module_view environment.now.home.now) self.old (Mode.Evaluates expr.entry) self.new r) }
+        ensures falls { IfOk result (λ r. StepFalls self.old (Mode.Evaluates expr.entry) self.new r) }
+        ensures small { IfOk result (λ r. SmallLeft self.new r) }
+    {
+        let flow = self.eval(environment, alloc, expr)?;
+        Ok(made_of(flow))
+    }
+
+    // The value of an expression, where it is taken at once, and else that step.
+    fn value_or_part(
+        &mut self,
+        environment: &Environment<'a>,
+        alloc: Global,
+        expr: &'a Expr,
+    ) -> Result<Reached<'a>, AllocError>
+        requires complete { IsComplete environment.now }
+        requires small { SmallModule (module_view environment.now.home.now) }
+        requires literals { SmallExpr (expr_view expr.now) }
+        requires work { SmallWorks (waiting self.old) }
+        ensures leads { IfOk result (λ r. Leads (module_view environment.now.home.now) self.old (Mode.Evaluates expr.entry) self.new r) }
+        ensures falls { IfOk result (λ r. StepFalls self.old (Mode.Evaluates expr.entry) self.new r) }
+        ensures small { IfOk result (λ r. SmallLeft self.new r) }
+    {
+        match self.at_once(environment, expr) {
+            Some(value) => Ok(Reached::Goes(Mode::Comes(Outcome::Gave(value)))),
+            None => self.part(environment, alloc, expr),
+        }
+    }
+
     // One step.
     fn step(
         &mut self,
@@ -78,10 +119,7 @@ impl<'a> Machine<'a> {
         ensures small { IfOk result (λ r. SmallLeft self.new r) }
     {
         match mode {
-            Mode::Evaluates(expr) => {
-                let flow = self.eval(environment, alloc, expr)?;
-                Ok(made_of(flow))
-            }
+            Mode::Evaluates(expr) => self.value_or_part(environment, alloc, expr),
             Mode::Executes(labels, stmt) => {
                 let flow = self.exec(labels, stmt)?;
                 Ok(made_of(flow))

@@ -1,6 +1,8 @@
 -- Translated modules are accepted.
 use Rattle.std.specs.Prelude.{◌≡◌, true, All}
 use Rattle.wasm_lang.specs.Modules.{WasmModule}
+use Rattle.wasm_lang.specs.Shape.{IsWritable}
+use Rattle.wasm_lang_valid.specs.Profile.{IsInProfile}
 use Rattle.asm_lang.specs.Heights.{IsWellFormed}
 use Rattle.asm_lang_valid.specs.Refusal.{IsAccepted}
 use Rattle.asm_lang_valid.specs.Typed.{module_typed}
@@ -20,3 +22,9 @@ TranslationsAreAccepted = (w : WasmModule) → IsSource w → HaveFirstWords w �
 -- some text says the module
 abbrev pub TranslationsAreWellFormed : Type 0
 TranslationsAreWellFormed = (w : WasmModule) → IsSource w → HaveFirstWords w → IsWellFormed (translated w)
+
+-- ---- where the premises come from
+
+-- a module that some bytes spell, valid and in the profile, has them all
+abbrev pub SpelledAreSources : Type 0
+SpelledAreSources = (w : WasmModule) → IsWritable w → IsInProfile w → IsSource w × HaveFirstWords w

@@ -1,11 +1,16 @@
 //! From WebAssembly to asm.js: what a module is translated to is accepted, and can be printed and read again.
 #![tactic(auto)]
 
-ghost use Rattle.wasm2js_laws_accepted.specs.Laws.{TranslationsAreTyped, TranslationsAreAccepted, TranslationsAreWellFormed};
+ghost use Rattle.wasm2js_laws_accepted.specs.Laws.{TranslationsAreTyped, TranslationsAreAccepted, TranslationsAreWellFormed, SpelledAreSources};
 
 /// A translated module is typed, meets no row of a refusal, and is well formed.
 pub fn acceptance()
     ensures typed { TranslationsAreTyped }
     ensures accepted { TranslationsAreAccepted }
     ensures well_formed { TranslationsAreWellFormed }
+{}
+
+/// A module that was read has all that is asked of the source.
+pub fn sources()
+    ensures { SpelledAreSources }
 {}

@@ -1,5 +1,5 @@
 -- Calls of functions by their numbers, in their code.
-use Rattle.std.proofs.Common.{◌≡◌, ℕ, ◌+◌, ◌≤◌, List, [], ◌∷◌, ◌++◌, length, Option, Some, None, Ok, refl, sym, ap, ◌∙◌, subst}
+use Rattle.std.proofs.Common.{◌≡◌, ℕ, ◌+◌, ◌≤◌, List, [], ◌++◌, length, Option, Some, None, Ok, refl, sym, ap, ◌∙◌, subst}
 use Rattle.std.specs.Prelude.{reverse, slice_get}
 use Rattle.sem_words.specs.declared.word.Word.{Word}
 use Rattle.sem_words.specs.declared.js_value.JsValue.{JsValue}
@@ -11,26 +11,23 @@ use Rattle.wasm_lang_valid.specs.declared.rule.Rule.TheVariants.{NoFunction}
 use Rattle.wasm_lang_valid.specs.Typing.{Context, Shape, Fixed, Acts, fixed as fixed_acts, found, type_of, listed, result_of, call_shape}
 use Rattle.wasm_lang_exec.specs.Code.{call, Trees, ◌▹◌}
 use Rattle.wasm_laws_sound.specs.Trees.{IsTyped}
-use Rattle.wasm_laws_drive.specs.Drive.{onward}
 use Rattle.wasm_laws_drive.specs.Contexts.{Surrounding, closed}
 use Rattle.wasm_laws_drive.proofs.Instructions.{call_enters}
 use Rattle.asm_lang.specs.Modules as text
-use Rattle.asm_lang_valid.specs.Scope.{a_function, module_meaning}
 use Rattle.asm_lang_valid.specs.Typing.{named}
 use Rattle.asm_lang_exec.specs.Runs.{Place, Part}
 use Rattle.asm_lang_exec.specs.Meaning.{Completion}
 use Rattle.asm_laws_continuation.specs.Following.{call_named_to, eval_to, exec_all_to, unless_left_to}
 use Rattle.wasm2js_words.specs.Names.{numbered, function, spelled}
 use Rattle.wasm2js_words.specs.Words.{stmts_in}
-use Rattle.wasm2js_code.specs.Bodies.{Aim, arguments_from, call_of, call_stmts, types_after_call, comes_to_end, stmts_of}
+use Rattle.wasm2js_code.specs.Bodies.{Aim, arguments_from, call_of, call_stmts, types_after_call, stmts_of}
 use Rattle.wasm2js_code.specs.Rooms.{here, room_of}
 use Rattle.wasm2js_laws_scopes.specs.Provided.{IsFunction, signature_for}
 use Rattle.wasm2js_laws_pace.specs.Following.{Rest}
 use Rattle.wasm2js_laws_places.specs.Straight.{Words}
 use Rattle.wasm2js_laws_places.specs.Places.{word_at, operands, locals_of, Stays}
-use Rattle.wasm2js_laws_control.specs.Control.{Function, IsFair, Inside, state_at, code_sight, IsFollowed, statements_to, MayStand, under_aims, AreNested, Exits, IsKept}
-use Rattle.wasm2js_laws_control.specs.Laws.{IsKeptFirst}
-use Rattle.wasm2js_laws_control.proofs.Standing.{other_room}
+use Rattle.wasm2js_laws_control.specs.Control.{Function, IsFair, Inside, state_at, code_sight, IsFollowed, statements_to, MayStand, under_aims, IsKept}
+use Rattle.wasm2js_laws_typed.proofs.RoomParts.{right_room}
 use Rattle.wasm2js_laws_control.proofs.Stepping.{appended, no_step}
 use Rattle.wasm2js_laws_calls.specs.Called.{seen_with, call_then, CallsFollow}
 use Rattle.wasm2js_laws_calls.specs.Laws.{IsWithin, CallsAreKept}
@@ -136,8 +133,8 @@ after_call_room f g t code b below is h =
     subst (λ (xs : List ValType). MayStand f code b (listed (result_of t) ++ xs)) (stay_below t.params below)
     (subst (λ o. MayStand f code b (types_after_call o (reverse t.params ++ below))) is
     (record {
-      room = other_room f.scope f.context (here b (reverse t.params ++ below) []) (room_of f.context code b (types_after_call (type_of f.context g) (reverse t.params ++ below))) h.room;
-      translated = h.translated;
+      room = right_room f.scope f.context (here b (reverse t.params ++ below) []) (room_of f.context code b (types_after_call (type_of f.context g) (reverse t.params ++ below))) h.room;
+      formed = h.formed;
     }))
 
 pub calls_are_kept : CallsAreKept

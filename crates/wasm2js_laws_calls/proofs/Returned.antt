@@ -32,7 +32,7 @@ use Rattle.wasm2js_laws_places.specs.Places.{word_bound, word_at, names_in, AreA
 use Rattle.wasm2js_laws_places.specs.Helped.{IsOn}
 use Rattle.wasm2js_laws_actions.proofs.Numbers.{small}
 use Rattle.wasm2js_laws_actions.proofs.Doing.{Leaves, write_leaves, still_on, apart_kept}
-use Rattle.wasm2js_laws_control.specs.Control.{Function, Match, IsFair, Inside, state_at, code_sight, IsFollowed, statements_to, IsKept}
+use Rattle.wasm2js_laws_control.specs.Control.{Function, Match, IsFair, Inside, code_sight, IsFollowed, statements_to, IsKept}
 use Rattle.wasm2js_laws_control.proofs.Stepping.{stays_on, no_step}
 use Rattle.wasm2js_laws_control.proofs.Labels.{operands_stay}
 use Rattle.wasm2js_laws_instructions.proofs.Ending.{counts_alike}

@@ -1,9 +1,11 @@
 -- Calls are kept, where calls follow.
-use Rattle.std.specs.Prelude.{◌≡◌, ℕ, Bool, true, false, Some}
+use Rattle.std.specs.Prelude.{◌≡◌, ℕ, true, false, Some}
 use Rattle.wasm_lang.specs.Modules.{FunctionType}
+use Rattle.wasm_lang.specs.Shape.{IsShaped}
 use Rattle.wasm_lang_valid.specs.ModuleRules.{type_of_function}
 use Rattle.wasm_lang_valid.specs.Typing.{type_of}
-use Rattle.wasm_lang_exec.specs.Code.{call}
+use Rattle.wasm_lang_valid.specs.Profile.{IsInProfile}
+use Rattle.wasm_lang_exec.specs.Code.{call, call_indirect}
 use Rattle.asm_lang_valid.specs.Scope.{module_meaning}
 use Rattle.asm_lang_valid.specs.Typing.{named}
 use Rattle.asm_laws_continuation.specs.Following.{call_at_to}
@@ -31,3 +33,6 @@ pub record IsWithin (f : Function) : Type 0 where
 
 abbrev pub CallsAreKept : Type 0
 CallsAreKept = (f : Function) → IsFair f → IsWithin f → CallsFollow f → (g : ℕ) → IsKeptFirst f (call g)
+
+abbrev pub IndirectCallsAreKept : Type 0
+IndirectCallsAreKept = (f : Function) → IsFair f → IsInProfile f.home → IsShaped f.home → IsWithin f → CallsFollow f → (n : ℕ) → IsKeptFirst f (call_indirect n)

@@ -1,13 +1,10 @@
 -- Code that may stand somewhere: so may its parts.
-use Rattle.std.proofs.Common.{◌≡◌, ℕ, ◌+◌, Bool, true, false, ◌||◌, List, [], ◌∷◌, ◌++◌, length, drop, Option, refl, arith}
-use Rattle.std.specs.Prelude.{◌==◌}
-use Rattle.std.specs.List.{list_any}
+use Rattle.std.proofs.Common.{ℕ, ◌+◌, List, [], ◌∷◌, ◌++◌, length, drop, Option}
 use Rattle.wasm_lang.specs.declared.types.ValType.{ValType}
 use Rattle.wasm_lang.specs.declared.types.ValType.TheVariants.{I32}
 use Rattle.wasm_lang.specs.Instructions.{Plain}
-use Rattle.wasm_lang_valid.specs.Typing.{Context, listed}
+use Rattle.wasm_lang_valid.specs.Typing.{listed}
 use Rattle.wasm_lang_exec.specs.Code.{block, loop, if_block, br_if, plain, Trees, ◌▹◌}
-use Rattle.asm_lang_valid.specs.Typing.{Scope}
 use Rattle.wasm2js_code.specs.Bodies.{after_plain}
 use Rattle.wasm2js_code.specs.Rooms.{Room, with_room, here, local_named, room_of}
 use Rattle.wasm2js_laws_scopes.specs.Provided.{HasRoom}

@@ -1,8 +1,7 @@
 -- Where an instruction may stand, its code is sound.
-use Rattle.std.proofs.Common.{◌≡◌, ℕ, Bool, true, false, ◌||◌, List, ◌++◌, map, Ok, refl, sym, ◌∙◌, subst}
-use Rattle.std.specs.Prelude.{◌==◌}
+use Rattle.std.proofs.Common.{◌≡◌, ℕ, List, ◌++◌, map, Ok, sym, ◌∙◌, subst}
 use Rattle.wasm_lang.specs.declared.types.ValType.{ValType}
-use Rattle.wasm_lang.specs.Instructions.{Plain, const32, const64, load, store}
+use Rattle.wasm_lang.specs.Instructions.{Plain}
 use Rattle.wasm_lang_valid.specs.Typing.{Shape, Acts, plain_shape}
 use Rattle.wasm_lang_exec.specs.Code.{plain, Trees, ◌▹◌}
 use Rattle.wasm2js_code.specs.Bodies.{Aim}

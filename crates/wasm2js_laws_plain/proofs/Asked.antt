@@ -24,7 +24,7 @@ use Rattle.wasm2js_laws_helpers.proofs.Bits.{few_units}
 use Rattle.wasm2js_laws_control.specs.Control.{Function}
 use Rattle.wasm2js_laws_instructions.specs.Plain.{IsAlike, IsPlain, code_of, AnswersAtOnce, Supports, Always}
 use Rattle.wasm2js_laws_plain.proofs.Puts.{word_alike}
-use Rattle.wasm2js_laws_plain.proofs.Summed.{of_fixed}
+use Rattle.wasm2js_laws_typed.proofs.SoundPlain.{of_fixed}
 
 no_units_after : (helping : Helping) (o : Outcome) → units_after o (actions_units helping []) ≡ 0
 no_units_after helping (goes words heap) = refl

@@ -16,7 +16,7 @@ use Rattle.wasm2js_laws_places.specs.Straight.{Words, Helping, goes, ActionsAsk,
 use Rattle.wasm2js_laws_places.specs.Places.{operands, locals_of, store_with}
 use Rattle.wasm2js_laws_control.specs.Control.{Function}
 use Rattle.wasm2js_laws_instructions.specs.Plain.{AreWords, IsAlike, IsPlain, code_of, Always}
-use Rattle.wasm2js_laws_plain.proofs.Summed.{of_fixed}
+use Rattle.wasm2js_laws_typed.proofs.SoundPlain.{of_fixed}
 use Rattle.wasm2js_laws_plain.proofs.Constant.{drop_none}
 
 silent_is : (f : Function) (helping : Helping) (p : Plain) (b : ℕ) (ts us : List ValType) → after_plain f.context p ts ≡ us → code_of f helping p b ts ≡ [] →

@@ -14,7 +14,8 @@ use Rattle.wasm2js_code.specs.Actions.{low, narrow_relation}
 use Rattle.wasm2js_laws_places.specs.Straight.{Words, truth, value}
 use Rattle.wasm2js_laws_instructions.specs.Plain.{IsPlain, Always}
 use Rattle.wasm2js_laws_plain.proofs.Puts.{put_is, one_alike, two_alike}
-use Rattle.wasm2js_laws_plain.proofs.Summed.{of_fixed, two_words}
+use Rattle.wasm2js_laws_typed.proofs.SoundPlain.{of_fixed}
+use Rattle.wasm2js_laws_plain.proofs.Summed.{two_words}
 
 pub conjunction_is : Always (bin32 And)
 conjunction_is = two_words And (λ d. both conjunction (read (low d)) (read (low (d + 1)))) (λ f helping b below. refl) (λ d words heap are. refl)

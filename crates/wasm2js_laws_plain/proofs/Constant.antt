@@ -13,7 +13,7 @@ use Rattle.wasm2js_laws_places.specs.Places.{operands, locals_of, store_with}
 use Rattle.wasm2js_laws_instructions.specs.Plain.{IsAlike, IsPlain, Always}
 use Rattle.wasm2js_laws_places.specs.Straight.{goes, with_word, value}
 use Rattle.wasm2js_laws_plain.proofs.Puts.{put_is, word_alike}
-use Rattle.wasm2js_laws_plain.proofs.Summed.{of_fixed}
+use Rattle.wasm2js_laws_typed.proofs.SoundPlain.{of_fixed}
 
 pub drop_none : (ts : List ValType) → drop 0 ts ≡ ts
 drop_none [] = refl

@@ -10,7 +10,7 @@ use Rattle.wasm2js_laws_numbers.proofs.Extended.{narrow_extensions}
 use Rattle.wasm2js_laws_places.specs.Straight.{Words, value}
 use Rattle.wasm2js_laws_instructions.specs.Plain.{IsPlain, AreWords, Always}
 use Rattle.wasm2js_laws_plain.proofs.Puts.{put_is, one_alike}
-use Rattle.wasm2js_laws_plain.proofs.Summed.{of_fixed}
+use Rattle.wasm2js_laws_typed.proofs.SoundPlain.{of_fixed}
 
 extended_is : (bits : ℕ) → ((d : ℕ) (words : Words) (heap : List ℕ) → AreWords words → extend_of 32 bits (words (low d)) ≡ value (extended bits (read (low d))) words heap) → Always (sign_extend false bits)
 extended_is bits same f helping supports ls b form takes gives below is acts =

@@ -1,31 +1,19 @@
 -- Sums, differences and products.
-use Rattle.std.proofs.Common.{◌≡◌, ℕ, ◌+◌, List, [], ◌∷◌, ◌++◌, length, Result, Ok, refl, sym, subst}
+use Rattle.std.proofs.Common.{◌≡◌, ℕ, ◌+◌, List, [], ◌∷◌, ◌++◌, length, Ok, refl}
 use Rattle.sem_words.specs.declared.word.Bin.{Bin}
 use Rattle.sem_words.specs.declared.word.Bin.TheVariants.{Add, Sub, Mul}
 use Rattle.sem_words.specs.Words.{bin_of}
 use Rattle.wasm_lang.specs.declared.types.ValType.{ValType}
 use Rattle.wasm_lang.specs.declared.types.ValType.TheVariants.{I32}
 use Rattle.wasm_lang.specs.Instructions.{bin32}
-use Rattle.wasm_lang_valid.specs.declared.rule.Rule.{Rule}
-use Rattle.wasm_lang_valid.specs.Typing.{Shape, Fixed, Acts, fixed}
 use Rattle.wasm2js_words.specs.Words.{Term, read, put, simply, product}
 use Rattle.wasm2js_code.specs.Pairs.{plus, minus}
 use Rattle.wasm2js_code.specs.Actions.{low}
 use Rattle.wasm2js_laws_places.specs.Straight.{Words, value, Helping}
+use Rattle.wasm2js_laws_typed.proofs.SoundPlain.{of_fixed}
 use Rattle.wasm2js_laws_control.specs.Control.{Function}
 use Rattle.wasm2js_laws_instructions.specs.Plain.{IsPlain, AreWords, code_of, Always}
 use Rattle.wasm2js_laws_plain.proofs.Puts.{put_is, two_alike}
-
-same_takes : {ts us takes gives : List ValType} → Acts (Fixed ts us) takes gives → (takes ≡ ts) × (gives ≡ us)
-same_takes fixed = (refl, refl)
-
--- what a fixed shape takes and gives
-pub of_fixed : (P : List ValType → List ValType → Type 0) (ts us takes gives : List ValType) (form : Shape)
-    → ◌≡◌ {A = Result Shape Rule} (Ok (Fixed ts us)) (Ok form) → Acts form takes gives → P ts us → P takes gives
-of_fixed P ts us takes gives form is acts h =
-    let e : Fixed ts us ≡ form = cc is in
-    let same = same_takes (subst (λ f. Acts f takes gives) (sym e) acts) in
-    subst (λ gs. P takes gs) (sym same.1) (subst (λ ws. P ws us) (sym same.0) h)
 
 -- of two words, where the code puts a term
 pub two_words : (op : Bin) (t : ℕ → Term)

@@ -17,7 +17,8 @@ use Rattle.wasm2js_laws_places.specs.Straight.{Words, value, Helping}
 use Rattle.wasm2js_laws_control.specs.Control.{Function}
 use Rattle.wasm2js_laws_instructions.specs.Plain.{IsPlain, AreWords, code_of, Always}
 use Rattle.wasm2js_laws_plain.proofs.Puts.{put_is, one_alike}
-use Rattle.wasm2js_laws_plain.proofs.Summed.{of_fixed, two_words}
+use Rattle.wasm2js_laws_typed.proofs.SoundPlain.{of_fixed}
+use Rattle.wasm2js_laws_plain.proofs.Summed.{two_words}
 
 pub rotation_left_is : Always (bin32 Rotl)
 rotation_left_is = two_words Rotl (λ d. funnel_left (read (low d)) (read (low d)) (read (low (d + 1)))) (λ f helping b below. refl)

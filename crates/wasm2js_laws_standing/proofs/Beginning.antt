@@ -1,10 +1,10 @@
 -- Code of the source is typed and formed, and its function declares its room.
-use Rattle.std.proofs.Common.{◌≡◌, ℕ, zero, suc, ◌≤◌, ◌<◌, List, [], ◌∷◌, length, Option, Some, None, refl, sym, ap, subst, arith}
+use Rattle.std.proofs.Common.{◌≡◌, ℕ, zero, suc, List, [], ◌∷◌, Option, Some, refl, sym, ap, subst, arith}
 use Rattle.std.specs.Prelude.{slice_get}
 use Rattle.wasm_lang.specs.declared.types.ValType.{ValType}
 use Rattle.wasm_lang.specs.Modules.{FunctionType, WasmModule}
 use Rattle.wasm_lang_valid.specs.Profile.{memory_bytes}
-use Rattle.wasm_lang_valid.specs.Typing.{Context, listed, result_of}
+use Rattle.wasm_lang_valid.specs.Typing.{Context, listed}
 use Rattle.wasm_lang_exec.specs.Code.{Trees}
 use Rattle.wasm_lang_exec.specs.Reductions.{a_function, callees, found}
 use Rattle.wasm_laws_sound.specs.Trees.{IsTyped}
@@ -12,7 +12,7 @@ use Rattle.wasm_laws_sound.proofs.Functions.{functions_are_typed}
 use Rattle.asm_lang_valid.specs.Typing.{Scope}
 use Rattle.asm_lang_valid.specs.Typed.{scope_of}
 use Rattle.wasm2js_words.specs.Names.{numbered, function}
-use Rattle.wasm2js_code.specs.Bodies.{Aim, past, again, out, body_stmts}
+use Rattle.wasm2js_code.specs.Bodies.{past, again, out, body_stmts}
 use Rattle.wasm2js_code.specs.Modules.{context_of, own_function, translated}
 use Rattle.wasm2js_code.specs.Rooms.{here, room_of, body_room}
 use Rattle.wasm2js_code.specs.Tables.{cell_count}
@@ -25,7 +25,7 @@ use Rattle.wasm2js_laws_functions.proofs.Limited.{limited}
 use Rattle.wasm2js_laws_functions.proofs.Roomy.{two, wide_low, narrow}
 use Rattle.wasm2js_laws_functions.proofs.Formed.{body_is_formed}
 use Rattle.wasm2js_laws_functions.proofs.Found.{found_own}
-use Rattle.wasm2js_laws_control.specs.Control.{Function, MayStand, under_aims, AreNested}
+use Rattle.wasm2js_laws_control.specs.Control.{Function, under_aims, AreNested}
 use Rattle.wasm2js_laws_standing.specs.Laws.{Begins, IsTranslation, OwnCodeBegins}
 
 -- ---- the function's own label alone

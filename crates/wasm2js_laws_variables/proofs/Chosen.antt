@@ -20,8 +20,8 @@ use Rattle.wasm2js_laws_places.specs.Places.{value_at, operands, locals_of, stor
 use Rattle.wasm2js_laws_control.specs.Control.{Function}
 use Rattle.wasm2js_laws_instructions.specs.Plain.{IsAlike, IsPlain, code_of, Always}
 use Rattle.wasm2js_laws_wide.proofs.Kept.{is_self, low, high, Keeps, kept_all, kept_low, kept_high, value_alike}
-use Rattle.wasm2js_laws_wide.proofs.Summed.{of_fixed}
-use Rattle.wasm2js_laws_variables.proofs.Local.{drop_none}
+use Rattle.wasm2js_laws_typed.proofs.SoundPlain.{of_fixed}
+use Rattle.wasm2js_laws_wide.proofs.Extending.{drop_none}
 
 -- ---- a choice
 

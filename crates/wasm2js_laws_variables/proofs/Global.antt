@@ -18,10 +18,11 @@ use Rattle.wasm2js_laws_places.specs.Places.{value_at, operands, locals_of, glob
 use Rattle.wasm2js_laws_control.specs.Control.{Function}
 use Rattle.wasm2js_laws_instructions.specs.Plain.{IsAlike, IsPlain, Supports, Always}
 use Rattle.wasm2js_laws_wide.proofs.Kept.{value_alike}
-use Rattle.wasm2js_laws_wide.proofs.Summed.{of_fixed}
+use Rattle.wasm2js_laws_typed.proofs.SoundPlain.{of_fixed}
 use Rattle.wasm2js_laws_variables.proofs.Lists.{from_zero, got, is_set}
 use Rattle.wasm2js_laws_variables.proofs.Moved.{moved_words, operand_keeps, operand_moved, all_operands, all_stay, to_global, global_lows, global_highs, global_put, other_globals, locals_stay}
-use Rattle.wasm2js_laws_variables.proofs.Local.{drop_none, move_is}
+use Rattle.wasm2js_laws_wide.proofs.Extending.{drop_none}
+use Rattle.wasm2js_laws_variables.proofs.Local.{move_is}
 
 module _ (f : Function) (helping : Helping) (supports : Supports f helping) (b : ℕ) (below : List ValType) (x : ℕ) (g : GlobalType) (e : slice_get f.context.globals x ≡ Some g) where
   abbrev d : ℕ

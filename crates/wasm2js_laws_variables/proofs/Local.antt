@@ -16,13 +16,10 @@ use Rattle.wasm2js_laws_places.specs.Places.{value_at, operands, locals_from, lo
 use Rattle.wasm2js_laws_control.specs.Control.{Function}
 use Rattle.wasm2js_laws_instructions.specs.Plain.{IsAlike, IsPlain, code_of, Always}
 use Rattle.wasm2js_laws_wide.proofs.Kept.{value_alike}
-use Rattle.wasm2js_laws_wide.proofs.Summed.{of_fixed}
+use Rattle.wasm2js_laws_wide.proofs.Extending.{drop_none}
+use Rattle.wasm2js_laws_typed.proofs.SoundPlain.{of_fixed}
 use Rattle.wasm2js_laws_variables.proofs.Lists.{from_zero, got, is_set}
 use Rattle.wasm2js_laws_variables.proofs.Moved.{moved_words, run_moved, moves_free, moves_ask, operand_keeps, operand_moved, all_operands, all_stay, to_local, local_lows, local_highs, local_put, other_locals, globals_stay}
-
-pub drop_none : (ts : List ValType) → drop 0 ts ≡ ts
-drop_none [] = refl
-drop_none (t ∷ ts) = refl
 
 -- ---- code that moves one value
 

@@ -15,7 +15,8 @@ use Rattle.wasm2js_laws_places.specs.Straight.{Words, with_word, truth, Helping}
 use Rattle.wasm2js_laws_control.specs.Control.{Function}
 use Rattle.wasm2js_laws_instructions.specs.Plain.{IsPlain, AreWords, Always}
 use Rattle.wasm2js_laws_wide.proofs.Kept.{is_self, low, high, Keeps, kept_all, kept_low, kept_high, two_to_wide}
-use Rattle.wasm2js_laws_wide.proofs.Summed.{of_fixed, same_truth}
+use Rattle.wasm2js_laws_typed.proofs.SoundPlain.{of_fixed}
+use Rattle.wasm2js_laws_wide.proofs.Summed.{same_truth}
 
 module _ (d : ℕ) (words : Words) where
   -- ---- differences: the high word is put first

@@ -17,7 +17,7 @@ use Rattle.wasm2js_laws_places.specs.Straight.{Words, with_word, truth, value, H
 use Rattle.wasm2js_laws_control.specs.Control.{Function, under_aims}
 use Rattle.wasm2js_laws_instructions.specs.Plain.{IsPlain, AreWords, Always}
 use Rattle.wasm2js_laws_wide.proofs.Kept.{is_self, low, high, kept_all, kept_low, two_to_narrow, one_to_narrow}
-use Rattle.wasm2js_laws_wide.proofs.Summed.{of_fixed}
+use Rattle.wasm2js_laws_typed.proofs.SoundPlain.{of_fixed}
 
 -- an instruction of a fixed shape, by what is shown of it above other operands
 pub of_shape : (p : Plain) (ts us : List ValType) → ((c : Context) → plain_shape c p ≡ Ok (Fixed ts us))

@@ -22,7 +22,7 @@ use Rattle.wasm2js_laws_helpers.proofs.Bits.{few_units}
 use Rattle.wasm2js_laws_control.specs.Control.{Function}
 use Rattle.wasm2js_laws_instructions.specs.Plain.{IsAlike, IsPlain, code_of, AnswersAtOnce, Supports, Always}
 use Rattle.wasm2js_laws_wide.proofs.Kept.{is_self, low, high, Keeps, kept_all, kept_low, kept_high, one_to_wide}
-use Rattle.wasm2js_laws_wide.proofs.Summed.{of_fixed}
+use Rattle.wasm2js_laws_typed.proofs.SoundPlain.{of_fixed}
 use Rattle.wasm2js_laws_wide.proofs.Turned.{most_after}
 
 -- ---- zeros, which a helper counts in both words

@@ -18,7 +18,7 @@ use Rattle.wasm2js_laws_control.specs.Control.{Function}
 use Rattle.wasm2js_laws_instructions.specs.Plain.{IsAlike, IsPlain, code_of, Always}
 use Rattle.wasm_lang_exec.specs.Plain as machine
 use Rattle.wasm2js_laws_wide.proofs.Kept.{is_self, low, high, Keeps, kept_all, kept_low, kept_high, value_alike, one_to_wide, narrow_to_wide}
-use Rattle.wasm2js_laws_wide.proofs.Summed.{of_fixed}
+use Rattle.wasm2js_laws_typed.proofs.SoundPlain.{of_fixed}
 use Rattle.wasm2js_laws_wide.proofs.Compared.{of_shape}
 
 -- ---- a high word beside a low one that stays
@@ -128,7 +128,7 @@ half_is = of_shape (sign_extend true 16) (I64 ∷ []) (I64 ∷ []) (λ c. refl) 
 
 -- ---- constants
 
-drop_none : (ts : List ValType) → drop 0 ts ≡ ts
+pub drop_none : (ts : List ValType) → drop 0 ts ≡ ts
 drop_none [] = refl
 drop_none (t ∷ ts) = refl
 

@@ -1,29 +1,16 @@
 -- Sums.
-use Rattle.std.proofs.Common.{◌≡◌, ℕ, ◌+◌, Bool, true, false, List, [], ◌∷◌, ◌++◌, length, Result, Ok, refl, sym, ap, ◌∙◌, subst, arith}
+use Rattle.std.proofs.Common.{◌≡◌, ℕ, ◌+◌, Bool, true, false, [], ◌∷◌, ◌++◌, length, Ok, refl, sym, ap, ◌∙◌, arith}
 use Rattle.std.specs.Prelude.{◌*◌, ◌^◌, nat_lt}
 use Rattle.sem_words.specs.declared.word.Bin.TheVariants.{Add}
 use Rattle.sem_words.specs.Words.{add_of, bin_of}
-use Rattle.wasm_lang.specs.declared.types.ValType.{ValType}
 use Rattle.wasm_lang.specs.declared.types.ValType.TheVariants.{I64}
 use Rattle.wasm_lang.specs.Instructions.{bin64}
-use Rattle.wasm_lang_valid.specs.declared.rule.Rule.{Rule}
-use Rattle.wasm_lang_valid.specs.Typing.{Shape, Fixed, Acts, fixed}
 use Rattle.wasm2js_laws_numbers.specs.Laws as numbers
 use Rattle.wasm2js_laws_numbers.proofs.Carried.{sums_carry}
 use Rattle.wasm2js_laws_places.specs.Straight.{Words, with_word, truth}
+use Rattle.wasm2js_laws_typed.proofs.SoundPlain.{of_fixed}
 use Rattle.wasm2js_laws_instructions.specs.Plain.{IsPlain, AreWords, Always}
 use Rattle.wasm2js_laws_wide.proofs.Kept.{is_self, is_next, low, high, Keeps, kept_all, kept_low, kept_high, two_to_wide}
-
-same_takes : {ts us takes gives : List ValType} → Acts (Fixed ts us) takes gives → (takes ≡ ts) × (gives ≡ us)
-same_takes fixed = (refl, refl)
-
--- what a fixed shape takes and gives
-pub of_fixed : (P : List ValType → List ValType → Type 0) (ts us takes gives : List ValType) (form : Shape)
-    → ◌≡◌ {A = Result Shape Rule} (Ok (Fixed ts us)) (Ok form) → Acts form takes gives → P ts us → P takes gives
-of_fixed P ts us takes gives form is acts h =
-    let e : Fixed ts us ≡ form = cc is in
-    let same = same_takes (subst (λ f. Acts f takes gives) (sym e) acts) in
-    subst (λ gs. P takes gs) (sym same.1) (subst (λ ws. P ws us) (sym same.0) h)
 
 pub same_truth : (t : Bool) → numbers.truth t ≡ truth t
 same_truth true = refl

@@ -22,7 +22,7 @@ use Rattle.wasm2js_laws_helpers.specs.Answers.{turned}
 use Rattle.wasm2js_laws_control.specs.Control.{Function}
 use Rattle.wasm2js_laws_instructions.specs.Plain.{AreWords, IsAlike, IsPlain, code_of, AnswersAtOnce, Supports, Always}
 use Rattle.wasm2js_laws_wide.proofs.Kept.{is_self, low, high, Keeps, kept_all, kept_low, kept_high, kept_fixed, two_to_wide}
-use Rattle.wasm2js_laws_wide.proofs.Summed.{of_fixed}
+use Rattle.wasm2js_laws_typed.proofs.SoundPlain.{of_fixed}
 
 -- ---- units
 

@@ -33,6 +33,7 @@ pub fn push_stubs(
     ensures { IfOk result (λ _. map function_view (list_items functions.new) ≡ map function_view (list_items functions.old) ++ Tables.stubs valid.now) }
 {
     let types = valid.module().types.as_slice();
+    // Types in the profile have at most 1,000 parameters of two words.
     let needs = needs_of(alloc, 4002, types, masked)?;
     push_all(alloc, needs.as_slice(), functions)
 }

@@ -1,4 +1,4 @@
-use Rattle.std.proofs.Common.{◌≡◌, Some, sym, ap, ◌∙◌}
+use Rattle.std.proofs.Common.{Some, sym, ap, ◌∙◌}
 use Rattle.sem_words.specs.Lists.{text_bytes}
 use Rattle.asm_tree.specs.Views.{module_view, function_view}
 use Rattle.asm_lang_valid.specs.Scope.{nothing, a_foreign, a_builtin, a_function}

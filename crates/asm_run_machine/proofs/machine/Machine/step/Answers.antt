@@ -1,20 +1,20 @@
+use Rattle.std.proofs.Common.{sym, subst}
+use Rattle.std.specs.Prelude.{IfOk}
 use Rattle.asm_tree.specs.Views.{module_view}
-use Rattle.asm_run_machine.proofs.Led.{eval_leads, eval_small, exec_leads, work_leads, work_less, work_small}
+use Rattle.asm_run_machine.specs.Reached.{Leads, StepFalls}
+use Rattle.asm_run_machine.proofs.Led.{exec_leads, work_leads, work_less, work_small}
 use Rattle.asm_run_machine.proofs.machine.Machine.step.Goals as goal
 
-pub returns-in_ok-flow-in-Evaluates-clause-leads : goal.returns-in_ok-flow-in-Evaluates-clause-leads
-returns-in_ok-flow-in-Evaluates-clause-leads c =
-    eval_leads (module_view c.args.environment.now.home.now) c.args.self.now c.eval.new.self c.args.mode c.in_ok-flow-in-Evaluates.flow c.made_of.result c.made_of.ensures
-    c.in-Evaluates.expr c.in-Evaluates.is c.in_ok-flow-in-Evaluates.ensures
+pub returns-in-Evaluates-clause-leads : goal.returns-in-Evaluates-clause-leads
+returns-in-Evaluates-clause-leads c =
+    subst (λ mode. IfOk c.value_or_part.result (λ r. Leads (module_view c.args.environment.now.home.now) c.args.self.now mode c.value_or_part.new.self r)) (sym c.in-Evaluates.is) c.value_or_part.ensures.leads
 
-pub returns-in_ok-flow-in-Evaluates-clause-small : goal.returns-in_ok-flow-in-Evaluates-clause-small
-returns-in_ok-flow-in-Evaluates-clause-small c =
-    eval_small (module_view c.args.environment.now.home.now) c.args.self.now c.eval.new.self c.args.mode c.in_ok-flow-in-Evaluates.flow c.made_of.result c.made_of.ensures
-    c.in-Evaluates.expr c.in-Evaluates.is c.in_ok-flow-in-Evaluates.ensures c.requires.small c.requires.work c.requires.mode
+pub returns-in-Evaluates-clause-falls : goal.returns-in-Evaluates-clause-falls
+returns-in-Evaluates-clause-falls c = subst (λ mode. IfOk c.value_or_part.result (λ r. StepFalls c.args.self.now mode c.value_or_part.new.self r)) (sym c.in-Evaluates.is) c.value_or_part.ensures.falls
 
 pub returns-in_ok-flow-in-Executes-clause-leads : goal.returns-in_ok-flow-in-Executes-clause-leads
 returns-in_ok-flow-in-Executes-clause-leads c =
-    exec_leads (module_view c.args.environment.now.home.now) c.args.self.now c.exec.new.self c.args.mode c.in_ok-flow-in-Executes.flow c.made_of-in-Executes.result c.made_of-in-Executes.ensures
+    exec_leads (module_view c.args.environment.now.home.now) c.args.self.now c.exec.new.self c.args.mode c.in_ok-flow-in-Executes.flow c.made_of.result c.made_of.ensures
     c.in-Executes.labels c.in-Executes.stmt c.in-Executes.is c.in_ok-flow-in-Executes.ensures
 
 pub returns-in_ok-flow-in-Some-clause-leads : goal.returns-in_ok-flow-in-Some-clause-leads

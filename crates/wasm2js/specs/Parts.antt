@@ -1,0 +1,15 @@
+-- The functions of a translated module, in two parts.
+use Rattle.std.specs.Prelude.{List, [], ◌∷◌, ◌++◌}
+use Rattle.asm_lang.specs.Modules.{Function}
+use Rattle.wasm_lang.specs.Modules.{WasmModule}
+use Rattle.wasm_lang_exec.specs.Reductions.{callees}
+use Rattle.wasm2js_code.specs.Modules.{helpers, functions_from, init_function, high_function}
+use Rattle.wasm2js_code.specs.Tables.{stubs}
+
+-- the helpers, and what stands for the source's functions
+unfoldable pub first_functions : WasmModule → List Function
+first_functions m = helpers m ++ functions_from m 0 (callees m)
+
+-- what stands for missing entries, and the two that begin a session and give the last high word
+unfoldable pub last_functions : WasmModule → List Function
+last_functions m = stubs m ++ init_function m ∷ high_function ∷ []

@@ -1,0 +1,7 @@
+//! The translation of valid modules of WebAssembly to modules of asm.js.
+#![tactic(auto)]
+
+mod memory;
+mod translating;
+
+pub use translating::translate;

@@ -1,0 +1,143 @@
+//! The whole module.
+ghost use Rattle.std.specs.Prelude.{◌≡◌, ◌∷◌, ◌++◌, [], None, Some, codes, map, IfOk};
+ghost use Rattle.sem_words.specs.Lists.{list_items, text_bytes};
+ghost use Rattle.asm_lang.specs.Modules.{many};
+ghost use Rattle.asm_tree.specs.Views.{module_view, global_view, function_view, table_view, exports_view, texts_view};
+ghost use Rattle.wasm_lang_valid.specs.Profile.{outside_profile};
+ghost use Rattle.wasm2js_lang.specs.Tables as plain;
+ghost use Rattle.wasm2js_code.specs.Modules as code;
+ghost use Rattle.wasm2js_code.specs.Tables.{tables_for};
+ghost use Rattle.wasm2js_tables.specs.Views.{masked_view};
+ghost use Rattle.wasm2js.specs.Parts.{first_functions, last_functions};
+
+use crate::memory::memory;
+use asm_tree::{Function, Module};
+use sem_words::{List, Text};
+use std::alloc::{AllocError, Global};
+use wasm_validate::Valid;
+use wasm2js_functions::push_functions;
+use wasm2js_memory_helpers::push_helpers;
+use wasm2js_sections::{exports, high_function, init_function, variables};
+use wasm2js_stubs::{push_stubs, tables};
+use wasm2js_tables::{MaskedTable, masked};
+
+/// The module of asm.js for a valid module of WebAssembly that can be translated.
+pub fn translate(alloc: Global, valid: &Valid<'_>) -> Result<Module, AllocError>
+    requires { outside_profile valid.now ≡ None }
+    ensures exact { IfOk result (λ m. module_view m ≡ code.translated valid.now) }
+{
+    let masked = masked(alloc, valid)?;
+    translated(alloc, valid, masked.as_slice())
+}
+
+// .. with these tables.
+fn translated(
+    alloc: Global,
+    valid: &Valid<'_>,
+    masked: &[MaskedTable],
+) -> Result<Module, AllocError>
+    requires within { outside_profile valid.now ≡ None }
+    requires tables { map masked_view masked.now ≡ plain.masked valid.now }
+    ensures { IfOk result (λ m. module_view m ≡ code.translated valid.now) }
+{
+    let name = Text::from_bytes(alloc, b"wasm")?;
+    let params = params(alloc)?;
+    let functions = functions(alloc, valid, masked)?;
+    Ok(Module {
+        name: Some(name),
+        params,
+        globals: variables(alloc, valid)?,
+        functions,
+        tables: tables(alloc, valid, masked)?,
+        exports: exports(alloc, valid)?,
+    })
+}
+
+fn push_text(alloc: Global, texts: &mut List<Text>, word: &[u8]) -> Result<(), AllocError>
+    ensures { IfOk result (λ _. texts_view (list_items texts.new) ≡ texts_view (list_items texts.old) ++ word.now ∷ []) }
+{
+    match texts.push(Text::from_bytes(alloc, word)?) {
+        Ok(()) => Ok(()),
+        Err(_) => Err(AllocError),
+    }
+}
+
+// The standard library, the host's object and the heap.
+fn params(alloc: Global) -> Result<List<Text>, AllocError>
+    ensures { IfOk result (λ texts. texts_view (list_items texts) ≡ code.stdlib_name ∷ code.foreign_name ∷ code.heap_name ∷ []) }
+{
+    let mut texts = List::new(alloc);
+    push_text(alloc, &mut texts, b"stdlib")?;
+    push_text(alloc, &mut texts, b"foreign")?;
+    push_text(alloc, &mut texts, b"heap")?;
+    Ok(texts)
+}
+
+fn push(functions: &mut List<Function>, function: Function) -> Result<(), AllocError>
+    ensures { IfOk result (λ _. map function_view (list_items functions.new) ≡ map function_view (list_items functions.old) ++ function_view function ∷ []) }
+{
+    match functions.push(function) {
+        Ok(()) => Ok(()),
+        Err(_) => Err(AllocError),
+    }
+}
+
+// The helpers and what stands for the source's functions.
+fn push_first(
+    alloc: Global,
+    valid: &Valid<'_>,
+    functions: &mut List<Function>,
+) -> Result<(), AllocError>
+    requires { outside_profile valid.now ≡ None }
+    ensures { IfOk result (λ _. map function_view (list_items functions.new) ≡ map function_view (list_items functions.old) ++ first_functions valid.now) }
+{
+    push_helpers(alloc, memory(valid), functions)?;
+    push_functions(alloc, valid, functions)?;
+    Ok(())
+}
+
+// The functions that begin a session and give the last high word.
+#[tactic(auto, using(std::proofs::lemmas::List::append_assoc))]
+fn push_ends(
+    alloc: Global,
+    valid: &Valid<'_>,
+    functions: &mut List<Function>,
+) -> Result<(), AllocError>
+    ensures { IfOk result (λ _. map function_view (list_items functions.new) ≡ map function_view (list_items functions.old) ++ code.init_function valid.now ∷ code.high_function ∷ []) }
+{
+    push(functions, init_function(alloc, valid)?)?;
+    push(functions, high_function(alloc)?)
+}
+
+// What stands for missing entries of tables, and the last two functions.
+fn push_last(
+    alloc: Global,
+    valid: &Valid<'_>,
+    masked: &[MaskedTable],
+    functions: &mut List<Function>,
+) -> Result<(), AllocError>
+    requires within { outside_profile valid.now ≡ None }
+    requires tables { map masked_view masked.now ≡ plain.masked valid.now }
+    ensures { IfOk result (λ _. map function_view (list_items functions.new) ≡ map function_view (list_items functions.old) ++ last_functions valid.now) }
+{
+    push_stubs(alloc, valid, masked, functions)?;
+    match push_ends(alloc, valid, functions) {
+        Ok(()) => Ok(()),
+        Err(_) => Err(AllocError),
+    }
+}
+
+fn functions(
+    alloc: Global,
+    valid: &Valid<'_>,
+    masked: &[MaskedTable],
+) -> Result<List<Function>, AllocError>
+    requires within { outside_profile valid.now ≡ None }
+    requires tables { map masked_view masked.now ≡ plain.masked valid.now }
+    ensures { IfOk result (λ fs. map function_view (list_items fs) ≡ code.functions_of valid.now) }
+{
+    let mut functions = List::new(alloc);
+    push_first(alloc, valid, &mut functions)?;
+    push_last(alloc, valid, masked, &mut functions)?;
+    Ok(functions)
+}

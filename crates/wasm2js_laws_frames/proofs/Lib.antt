@@ -1,0 +1,5 @@
+pub mod Helped
+pub mod Entered
+pub mod Left
+pub mod Framed
+pub mod Depths

@@ -1,0 +1,4 @@
+pub mod Named
+pub mod Usual
+pub mod Called
+pub mod Standing

@@ -1,0 +1,14 @@
+use Rattle.wasm2js_laws_helping.proofs.Standing.{helpers_stand, helpers_support, functions_are_helped, accesses_are_kept}
+use Rattle.wasm2js_laws_helping.proofs.functions.Goals as goal
+
+pub returns-clause-helpers : goal.returns-clause-helpers
+returns-clause-helpers c = helpers_stand
+
+pub returns-clause-supported : goal.returns-clause-supported
+returns-clause-supported c = helpers_support
+
+pub returns-clause-helped : goal.returns-clause-helped
+returns-clause-helped c = functions_are_helped
+
+pub returns-clause-accesses : goal.returns-clause-accesses
+returns-clause-accesses c = accesses_are_kept

@@ -1,0 +1,32 @@
+-- The helpers of a translated module do what is said of them.
+use Rattle.std.specs.Prelude.{◌≡◌, ℕ, false}
+use Rattle.wasm_lang.specs.Modules.{WasmModule}
+use Rattle.wasm_lang_valid.specs.Profile.{memory_bytes}
+use Rattle.asm_lang_valid.specs.Scope.{module_meaning}
+use Rattle.asm_lang_valid.specs.Typing.{Scope, named}
+use Rattle.asm_lang_exec.specs.Meaning.{call_at}
+use Rattle.wasm2js_words.specs.Names.{Name, Fixed, spelled}
+use Rattle.wasm2js_words.specs.Words.{name_of}
+use Rattle.wasm2js_code.specs.Modules.{translated}
+use Rattle.wasm2js_laws_scopes.specs.Laws.{is_own}
+use Rattle.wasm2js_laws_places.specs.Helped.{AreHelpers}
+use Rattle.wasm2js_laws_instructions.specs.Plain.{AreUsual}
+use Rattle.wasm2js_laws_helping.specs.Helping.{helping, fixed_meaning}
+
+abbrev pub WordsAreUsual : Type 0
+WordsAreUsual = (bytes : ℕ) → AreUsual (helping bytes)
+
+abbrev pub FixedNamesMean : Type 0
+FixedNamesMean = (w : WasmModule) (f : Fixed) → module_meaning (translated w) (name_of f) ≡ fixed_meaning w f
+
+-- ---- calls
+
+-- the names of the module mean the same in this scope
+abbrev pub SeesNames : Scope → Type 0
+SeesNames c = (n : Name) → is_own n ≡ false → named c (spelled n) ≡ module_meaning c.home (spelled n)
+
+-- where names of helpers mean what they mean in the module, however deep calls may lie
+abbrev pub HelpersHelp : Type 0
+HelpersHelp =
+    (w : WasmModule) (c : Scope) (bound : ℕ) → c.home ≡ translated w → SeesNames c
+    → AreHelpers c (call_at false (translated w) bound) bound (memory_bytes w) (helping (memory_bytes w))

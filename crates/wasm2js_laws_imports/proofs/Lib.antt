@@ -1,0 +1,4 @@
+pub mod Answering
+pub mod Wrapped
+pub mod Narrow
+pub mod Following

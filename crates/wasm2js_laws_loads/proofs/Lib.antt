@@ -1,0 +1,4 @@
+pub mod Guarded
+pub mod Numbers
+pub mod Words
+pub mod Loaded

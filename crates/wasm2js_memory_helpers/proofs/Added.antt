@@ -1,0 +1,16 @@
+-- Lists to which one item after another is added.
+use Rattle.std.proofs.Common.{◌≡◌, List, [], ◌∷◌, ◌++◌, ap, ◌∙◌, append_assoc}
+
+pub two_after : {A : Type 0} (old fs one two : List A) (x y first second : A) → one ≡ old ++ fs → two ≡ one ++ x ∷ [] → x ≡ first → y ≡ second
+    → two ++ y ∷ [] ≡ old ++ (fs ++ first ∷ second ∷ [])
+two_after old fs one two x y first second p q e f =
+    ap (λ l. l ++ y ∷ []) (q ∙ ap (λ l. l ++ x ∷ []) p ∙ append_assoc old fs (x ∷ []))
+    ∙ append_assoc old (fs ++ x ∷ []) (y ∷ [])
+    ∙ ap (λ l. old ++ l) (append_assoc fs (x ∷ []) (y ∷ []))
+    ∙ ap (λ x. old ++ (fs ++ x ∷ y ∷ [])) e
+    ∙ ap (λ y. old ++ (fs ++ first ∷ y ∷ [])) f
+
+pub two_first : {A : Type 0} (old one two : List A) (x y first second : A) → one ≡ old ++ x ∷ [] → two ≡ one ++ y ∷ [] → x ≡ first → y ≡ second
+    → two ≡ old ++ (first ∷ second ∷ [])
+two_first old one two x y first second p q e f =
+    q ∙ ap (λ l. l ++ y ∷ []) p ∙ append_assoc old (x ∷ []) (y ∷ []) ∙ ap (λ x. old ++ (x ∷ y ∷ [])) e ∙ ap (λ y. old ++ (first ∷ y ∷ [])) f

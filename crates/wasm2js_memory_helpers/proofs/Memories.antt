@@ -1,0 +1,16 @@
+-- The helpers by a memory are those of a module with it.
+use Rattle.std.proofs.Common.{◌≡◌, ℕ, Bool, true, false, [], ◌++◌, Option, Some, None, refl, ap, ◌∙◌}
+use Rattle.std.specs.Prelude.{if◌then◌else◌}
+use Rattle.wasm_lang.specs.Modules.{WasmModule}
+use Rattle.wasm_lang_valid.specs.ModuleRules.{has_memory}
+use Rattle.wasm_lang_valid.specs.Profile.{memory_bytes}
+use Rattle.wasm2js_code.specs.Helpers.{wide_helpers, division_helpers, memory_helpers}
+use Rattle.wasm2js_code.specs.Modules.{helpers}
+use Rattle.wasm2js_memory_helpers.specs.Helpers.{memory_helpers_if, helpers_with, memory_of}
+
+by_memory : (b : Bool) (n : ℕ) → memory_helpers_if (if b then Some n else None) ≡ (if b then memory_helpers n else [])
+by_memory true n = refl
+by_memory false n = refl
+
+pub helpers_are : (m : WasmModule) (memory : Option ℕ) → memory ≡ memory_of m → helpers_with memory ≡ helpers m
+helpers_are m memory e = ap helpers_with e ∙ ap (λ more. wide_helpers ++ division_helpers ++ more) (by_memory (has_memory m) (memory_bytes m))

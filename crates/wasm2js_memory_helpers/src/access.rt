@@ -1,0 +1,202 @@
+//! Words at any place of the memory, byte by byte.
+ghost use Rattle.std.specs.Prelude.{◌≡◌, ◌≤◌, ◌++◌, ◌∷◌, [], List, map, IfOk, pos};
+ghost use Rattle.sem_words.specs.Lists.{list_items};
+ghost use Rattle.asm_tree.specs.Views.{function_view};
+ghost use Rattle.wasm2js_words.specs.Words.{sum, further, no_more, both, shift_left, shift_right};
+ghost use Rattle.wasm2js_words.specs.Words as words;
+ghost use Rattle.wasm2js_code.specs.Pairs.{literal};
+ghost use Rattle.wasm2js_code.specs.Helpers as helpers;
+ghost use Rattle.wasm2js_memory_helpers.specs.Pieces.{bytes_together, word_of, load_32_function, load_64_function, store_32_function, store_64_function};
+ghost use Rattle.wasm2js_build.specs.Views.{name_view, term_view};
+ghost use Rattle.wasm2js_build.specs.Blocks.{statements_of};
+
+use asm_tree::Function;
+use sem_words::List;
+use std::alloc::{AllocError, Global};
+use wasm2js_build::{BitOp, Block, Fixed, Name, Term};
+use wasm2js_helpers::short::{add, argument, first, of_one, of_three, of_two, second, spare};
+
+/// Adds the helpers that read and write words.
+pub fn access_helpers(alloc: Global, functions: &mut List<Function>) -> Result<(), AllocError>
+    ensures { IfOk result (λ _. map function_view (list_items functions.new) ≡ map function_view (list_items functions.old) ++ helpers.access_helpers) }
+{
+    add(functions, load_32(alloc)?)?;
+    add(functions, load_64(alloc)?)?;
+    add(functions, store_32(alloc)?)?;
+    add(functions, store_64(alloc)?)
+}
+
+// ---- reading
+
+// `to=` the word of four bytes.
+fn put_bytes<'a>(
+    block: &mut Block,
+    to: Name,
+    a: &'a Term<'a>,
+    b: &'a Term<'a>,
+    c: &'a Term<'a>,
+    d: &'a Term<'a>,
+) -> Result<(), AllocError>
+    ensures { IfOk result (λ _. statements_of block.new ≡ statements_of block.old ++ helpers.sets (name_view to) (bytes_together (term_view a.now) (term_view b.now) (term_view c.now) (term_view d.now)) ∷ []) }
+{
+    let one = Term::number(8);
+    let second = Term::both(BitOp::Shl, b, &one);
+    let two = Term::number(16);
+    let third = Term::both(BitOp::Shl, c, &two);
+    let three = Term::number(24);
+    let fourth = Term::both(BitOp::Shl, d, &three);
+    let value = Term::sum_of_four(a, &second, &third, &fourth);
+    block.put(to, &value)
+}
+
+// `return ..|0;`, of the word of four bytes.
+fn gives_bytes<'a>(
+    block: &mut Block,
+    a: &'a Term<'a>,
+    b: &'a Term<'a>,
+    c: &'a Term<'a>,
+    d: &'a Term<'a>,
+) -> Result<(), AllocError>
+    ensures { IfOk result (λ _. statements_of block.new ≡ statements_of block.old ++ helpers.gives (bytes_together (term_view a.now) (term_view b.now) (term_view c.now) (term_view d.now)) ∷ []) }
+{
+    let one = Term::number(8);
+    let second = Term::both(BitOp::Shl, b, &one);
+    let two = Term::number(16);
+    let third = Term::both(BitOp::Shl, c, &two);
+    let three = Term::number(24);
+    let fourth = Term::both(BitOp::Shl, d, &three);
+    let value = Term::sum_of_four(a, &second, &third, &fourth);
+    block.gives(&value)
+}
+
+// `to=` the word of the bytes at four places.
+fn put_word<'a>(
+    block: &mut Block,
+    to: Name,
+    a: &'a Term<'a>,
+    b: &'a Term<'a>,
+    c: &'a Term<'a>,
+    d: &'a Term<'a>,
+) -> Result<(), AllocError>
+    ensures { IfOk result (λ _. statements_of block.new ≡ statements_of block.old ++ helpers.sets (name_view to) (word_of (term_view a.now) (term_view b.now) (term_view c.now) (term_view d.now)) ∷ []) }
+{
+    let first = Term::byte(false, a);
+    let second = Term::byte(false, b);
+    let third = Term::byte(false, c);
+    let fourth = Term::byte(false, d);
+    put_bytes(block, to, &first, &second, &third, &fourth)
+}
+
+// `return ..|0;`, of the word of the bytes at four places.
+fn gives_word<'a>(
+    block: &mut Block,
+    a: &'a Term<'a>,
+    b: &'a Term<'a>,
+    c: &'a Term<'a>,
+    d: &'a Term<'a>,
+) -> Result<(), AllocError>
+    ensures { IfOk result (λ _. statements_of block.new ≡ statements_of block.old ++ helpers.gives (word_of (term_view a.now) (term_view b.now) (term_view c.now) (term_view d.now)) ∷ []) }
+{
+    let first = Term::byte(false, a);
+    let second = Term::byte(false, b);
+    let third = Term::byte(false, c);
+    let fourth = Term::byte(false, d);
+    gives_bytes(block, &first, &second, &third, &fourth)
+}
+
+// Of the address itself.
+fn gives_low_word(block: &mut Block) -> Result<(), AllocError>
+    ensures { IfOk result (λ _. statements_of block.new ≡ statements_of block.old ++ helpers.gives (helpers.word_at 0) ∷ []) }
+{
+    let at = first();
+    let (one, two, three) = (Term::number(1), Term::number(2), Term::number(3));
+    let b = Term::plus(&at, &one);
+    let c = Term::plus(&at, &two);
+    let d = Term::plus(&at, &three);
+    gives_word(block, &first(), &b, &c, &d)
+}
+
+// Of the place four bytes past the address.
+fn put_high_word(block: &mut Block) -> Result<(), AllocError>
+    ensures { IfOk result (λ _. statements_of block.new ≡ statements_of block.old ++ helpers.sets helpers.spare (helpers.word_at 4) ∷ []) }
+{
+    let at = first();
+    let (four, five) = (Term::number(4), Term::number(5));
+    let (six, seven) = (Term::number(6), Term::number(7));
+    let a = Term::plus(&at, &four);
+    let b = Term::plus(&at, &five);
+    let c = Term::plus(&at, &six);
+    let d = Term::plus(&at, &seven);
+    put_word(block, spare(), &a, &b, &c, &d)
+}
+
+fn load_32(alloc: Global) -> Result<Function, AllocError>
+    ensures { IfOk result (λ f. function_view f ≡ load_32_function) }
+{
+    let mut block = Block::new(alloc);
+    gives_low_word(&mut block)?;
+    of_one(alloc, Fixed::Load32, &[], block)
+}
+
+fn load_64(alloc: Global) -> Result<Function, AllocError>
+    ensures { IfOk result (λ f. function_view f ≡ load_64_function) }
+{
+    let mut block = Block::new(alloc);
+    put_high_word(&mut block)?;
+    gives_low_word(&mut block)?;
+    of_one(alloc, Fixed::Load64, &[], block)
+}
+
+// ---- writing
+
+// The lowest byte, so many places past the address.
+fn write_at(block: &mut Block, offset: u32, value: &Term<'_>) -> Result<(), AllocError>
+    ensures { IfOk result (λ _. statements_of block.new ≡ statements_of block.old ++ helpers.write_at offset (term_view value.now) ∷ []) }
+{
+    if offset == 0 {
+        return block.write_byte(&first(), value);
+    }
+    let at = first();
+    let further = Term::number(i64::from(offset));
+    let place = Term::plus(&at, &further);
+    block.write_byte(&place, value)
+}
+
+// The byte of a word that so many bits stand below.
+fn write_shifted(block: &mut Block, offset: u32, value: Name, bits: i64) -> Result<(), AllocError>
+    ensures { IfOk result (λ _. statements_of block.new ≡ statements_of block.old ++ helpers.write_at offset (both shift_right (words.read (name_view value)) (words.number bits)) ∷ []) }
+{
+    let word = Term::read(value);
+    let bits = Term::number(bits);
+    let byte = Term::both(BitOp::Shr, &word, &bits);
+    write_at(block, offset, &byte)
+}
+
+// The bytes of a word, the lowest first.
+#[tactic(auto, using(std::proofs::lemmas::List::append_assoc))]
+fn write_word(block: &mut Block, offset: u32, value: Name) -> Result<(), AllocError>
+    requires { offset ≤ 4 }
+    ensures { IfOk result (λ _. statements_of block.new ≡ statements_of block.old ++ helpers.write_word offset (words.read (name_view value))) }
+{
+    write_at(block, offset, &Term::read(value))?;
+    write_shifted(block, offset + 1, value, 8)?;
+    write_shifted(block, offset + 2, value, 16)?;
+    write_shifted(block, offset + 3, value, 24)
+}
+
+fn store_32(alloc: Global) -> Result<Function, AllocError>
+    ensures { IfOk result (λ f. function_view f ≡ store_32_function) }
+{
+    let mut block = Block::new(alloc);
+    write_word(&mut block, 0, argument(1))?;
+    of_two(alloc, Fixed::Store32, block)
+}
+
+fn store_64(alloc: Global) -> Result<Function, AllocError>
+    ensures { IfOk result (λ f. function_view f ≡ store_64_function) }
+{
+    let mut block = Block::new(alloc);
+    write_word(&mut block, 0, argument(1))?;
+    write_word(&mut block, 4, argument(2))?;
+    of_three(alloc, Fixed::Store64, &[], block)
+}
