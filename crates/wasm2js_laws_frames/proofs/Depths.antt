@@ -23,9 +23,9 @@ use Rattle.wasm2js_laws_pace.proofs.Paced.{stands_still}
 use Rattle.wasm2js_laws_places.specs.Places.{store_of, World}
 use Rattle.wasm2js_laws_control.specs.Control.{Function, Match, IsFollowed}
 use Rattle.wasm2js_laws_calls.specs.Called.{seen_with, call_then, IsCallFollowed, CallsFollow}
-use Rattle.wasm2js_laws_frames.specs.Frames.{at_depth, IsSettled, AreReady, ImportsFollow}
+use Rattle.wasm2js_laws_frames.specs.Frames.{at_depth, IsSettled, AreHelped, AccessesAreKept, ImportsFollow}
 use Rattle.wasm2js_laws_frames.specs.Laws.{FunctionsFollow}
-use Rattle.wasm2js_laws_frames.proofs.Bodies.{frame_follows}
+use Rattle.wasm2js_laws_frames.proofs.Framed.{frame_follows}
 
 same_function : (g h : text.Function) → scopes.a_function g ≡ scopes.a_function h → g ≡ h
 same_function g h e = cc e
@@ -40,7 +40,7 @@ module _ (f : Function) (settled : IsSettled f) where
     match = settled.match w p.events world.match;
   }
 
-  module _ (ready : AreReady f) (imports : ImportsFollow f) where
+  module _ (ready : AreHelped f) (accesses : AccessesAreKept f) (imports : ImportsFollow f) where
     -- where calls lie no deeper
     none_follow : CallsFollow (at_depth f 0)
     none_follow k t g is there most around after below locals next p w vs xs le few world passes returns =
@@ -55,15 +55,15 @@ module _ (f : Function) (settled : IsSettled f) where
     by_callee d follow k t g there (a_function u more code) e is =
         let it = own_function f.home k u more code in
         let same : it ≡ g = same_function it g (sym (function_found f.home it (numbered function k) (function_there f.home k (a_function u more code) e) refl) ∙ there) in
-        subst (λ t. IsCallFollowed (at_depth f (suc d)) k t g) is (subst (λ g. IsCallFollowed (at_depth f (suc d)) k u g) same (frame_follows f settled ready k u more code e d follow))
+        subst (λ t. IsCallFollowed (at_depth f (suc d)) k t g) is (subst (λ g. IsCallFollowed (at_depth f (suc d)) k u g) same (frame_follows f settled ready accesses k u more code e d follow))
 
     pub follow_at : (d : ℕ) → CallsFollow (at_depth f d)
     follow_at zero = none_follow
     follow_at (suc d) = λ k t g is there.
-        let it = (typed_functions f.home settled.profile.valid settled.shaped.bodies_match).are_there k t is in
+        let it = (typed_functions f.home settled.source.whole.is_valid settled.source.shaped.bodies_match).are_there k t is in
         by_callee d (follow_at d) k t g there it.0 it.1 it.2
 
 pub functions_follow : FunctionsFollow
-functions_follow f settled ready imports home calls k t g is there most around after below locals next p w vs xs le few world passes returns =
+functions_follow f settled ready accesses imports home calls k t g is there most around after below locals next p w vs xs le few world passes returns =
     subst (λ c. IsFollowed f p (seen_with f around (call_then f k after) (reverse xs ++ below) locals p w) (c g vs next p)) (sym (calls ∙ ap (λ m. call_at_to m f.bound) home))
-    (follow_at f settled ready imports f.bound k t g is (ap (λ m. module_meaning m (spelled (numbered function k))) (sym home) ∙ there) most around after below locals next p w vs xs le few world passes returns)
+    (follow_at f settled ready accesses imports f.bound k t g is (ap (λ m. module_meaning m (spelled (numbered function k))) (sym home) ∙ there) most around after below locals next p w vs xs le few world passes returns)

@@ -1,4 +1,5 @@
+pub mod Helped
 pub mod Entered
 pub mod Left
-pub mod Bodies
+pub mod Framed
 pub mod Depths

@@ -1,19 +1,24 @@
 -- The functions of a translated module while a call of the host runs, where calls lie at most so deep.
-use Rattle.std.specs.Prelude.{◌≡◌, ℕ, ◌≤◌, true, false, List, ◌++◌, length, Some, map}
-use Rattle.sem_laws.specs.Observation.{EventPlain}
+use Rattle.std.specs.Prelude.{◌≡◌, ℕ, ◌≤◌, true, false, List, [], ◌∷◌, ◌++◌, length, drop, Some, map}
+use Rattle.sem_words.specs.declared.word.Word.TheVariants.{W32}
+use Rattle.sem_words.specs.declared.word.TrapKind.{TrapKind}
+use Rattle.sem_words.specs.Words.{trap_code}
+use Rattle.sem_laws.specs.Observation.{EventPlain, EndPlain, trapped, stopped, trap_name, as_stop}
 use Rattle.sem_laws.specs.Laws.{KeepsOrder}
 use Rattle.wasm_lang.specs.declared.types.ValType.{ValType}
+use Rattle.wasm_lang.specs.declared.types.GlobalType.{GlobalType}
 use Rattle.wasm_lang.specs.Instructions.{Plain}
 use Rattle.wasm_lang.specs.Modules.{FunctionType}
-use Rattle.wasm_lang.specs.Shape.{IsShaped}
-use Rattle.wasm_lang_valid.specs.Profile.{memory_bytes, IsInProfile}
+use Rattle.wasm_lang_valid.specs.ModuleRules.{global_types}
+use Rattle.wasm_lang_valid.specs.Profile.{memory_bytes}
 use Rattle.wasm_lang_exec.specs.Code.{plain, Trees}
 use Rattle.wasm_lang_exec.specs.Store.{Store}
 use Rattle.wasm_lang_exec.specs.Reductions.{an_import, a_function, callee_at}
-use Rattle.wasm_lang_exec.specs.Session.{seen_running}
-use Rattle.wasm_laws_drive.specs.Drive.{Spent}
+use Rattle.wasm_lang_exec.specs.Session.{seen_end, seen_running}
+use Rattle.wasm_laws_drive.specs.Drive.{Ended, Spent}
 use Rattle.asm_lang_valid.specs.Scope.{is_in}
 use Rattle.asm_lang_valid.specs.Typed.{scope_of}
+use Rattle.asm_lang_exec.specs.Meaning.{call_at}
 use Rattle.asm_laws_continuation.specs.Following.{call_at_to}
 use Rattle.wasm2js_words.specs.Names.{Name, spelled}
 use Rattle.wasm2js_lang.specs.Tables.{entries_of}
@@ -21,11 +26,14 @@ use Rattle.wasm2js_code.specs.Modules.{param_names, context_of, own_function, wr
 use Rattle.wasm2js_code.specs.Rooms.{body_room, declared_names}
 use Rattle.wasm2js_code.specs.Tables.{cell_count}
 use Rattle.wasm2js_laws_provided.specs.Laws.{is_called}
+use Rattle.wasm2js_laws_functions.specs.Functions.{IsSource}
+use Rattle.wasm2js_laws_places.specs.Straight.{Helping}
 use Rattle.wasm2js_laws_places.specs.Places.{is_own}
-use Rattle.wasm2js_laws_control.specs.Standing.{IsTranslatedCode}
+use Rattle.wasm2js_laws_places.specs.Helped.{AreHelpers}
 use Rattle.wasm2js_laws_control.specs.Control.{Function, Match}
 use Rattle.wasm2js_laws_control.specs.Laws.{IsKeptFirst}
-use Rattle.wasm2js_laws_computed.specs.Laws.{accesses_memory, IsHelped}
+use Rattle.wasm2js_laws_instructions.specs.Plain.{AreUsual}
+use Rattle.wasm2js_laws_computed.specs.Laws.{accesses_memory}
 use Rattle.wasm2js_laws_calls.specs.Called.{IsCallFollowed}
 
 -- a caller, of which only the module and the depth count
@@ -50,24 +58,34 @@ in_body f k t more code d = record f {
 
 -- what holds of a session of the module's translation
 pub record IsSettled (f : Function) : Type 0 where
-  pub profile : IsInProfile f.home
-  pub shaped : IsShaped f.home
+  pub source : IsSource f.home
   pub keeps : KeepsOrder f.by
   pub match : (source target : List EventPlain) → Match f source target → f.by.source_events source ≡ f.by.target_events target
+  pub trap : (kind : TrapKind) → as_stop (f.by.source_end (trapped kind)) ≡ stopped trap_name (W32 (trap_code kind) ∷ [])
+  pub past : f.setting.past ≡ drop f.setting.bytes f.by.first_heap
+  pub ended : (e : EndPlain) (s : Store) → f.watch (Ended e s) ≡ seen_end e s
   pub spent : (s : Store) → f.watch (Spent s) ≡ seen_running s
   pub some : 1 ≤ f.pace
   pub bytes : f.setting.bytes ≡ memory_bytes f.home
+  pub kinds : f.setting.kinds ≡ map (λ (g : GlobalType). g.kind) (global_types f.home)
   pub table : f.setting.table ≡ entries_of f.home
   -- no variable of a function is among the module's
   pub names : (n : Name) → is_own n ≡ true → is_in (spelled n) f.setting.names ≡ false
 
--- what is asked of each body: it is translated code, its helpers do what they should, and accesses to the memory are kept
-pub record AreReady (f : Function) : Type 0 where
-  pub translated_code : (k : ℕ) (t : FunctionType) (more : List ValType) (code : Trees) → callee_at f.home k ≡ Some (a_function t more code) → IsTranslatedCode f.home.types (is_called f.home) code
-  pub helped : (k : ℕ) (t : FunctionType) (more : List ValType) (code : Trees) → callee_at f.home k ≡ Some (a_function t more code) → (d : ℕ) → IsHelped (in_body f k t more code d)
-  pub accesses : (k : ℕ) (t : FunctionType) (more : List ValType) (code : Trees) → callee_at f.home k ≡ Some (a_function t more code) → (d : ℕ)
-      → (p : Plain) → accesses_memory p ≡ true → IsKeptFirst (in_body f k t more code d) (plain p)
+-- what is asked of helpers: in each body they do what they should
+pub record AreHelped (f : Function) : Type 0 where
+  pub helping : Helping
+  pub usual : AreUsual helping
+  pub pace : 68 ≤ f.pace
+  pub helpers : (k : ℕ) (t : FunctionType) (more : List ValType) (code : Trees) → callee_at f.home k ≡ Some (a_function t more code) → (d : ℕ)
+      → AreHelpers (scope_of (translated f.home) (own_function f.home k t more code)) (call_at false (translated f.home) d) d f.setting.bytes helping
 
--- what is asked of imported functions: calls of their wrappers follow
+-- .. of accesses to the memory
+abbrev pub AccessesAreKept : Function → Type 0
+AccessesAreKept f =
+    (k : ℕ) (t : FunctionType) (more : List ValType) (code : Trees) → callee_at f.home k ≡ Some (a_function t more code) → (d : ℕ)
+    → (p : Plain) → accesses_memory p ≡ true → IsKeptFirst (in_body f k t more code d) (plain p)
+
+-- .. and of imported functions: calls of their wrappers follow
 abbrev pub ImportsFollow : Function → Type 0
 ImportsFollow f = (k : ℕ) (name : List ℕ) (t : FunctionType) → callee_at f.home k ≡ Some (an_import name t) → (d : ℕ) → IsCallFollowed (at_depth f d) k t (wrapper k t)

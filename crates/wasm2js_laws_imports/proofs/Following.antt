@@ -20,9 +20,9 @@ imported_follow f settled split k name t is zero most around code below locals n
     (call_stands f settled k around code (reverse xs ++ below) locals p w world)
 imported_follow f settled split k name t is (suc d) most around code below locals next p w vs xs le few world passes resumes =
     let it = is_named f.home k t (callee_typed f.home k (an_import name t) is) in
-    wrapper_follows f settled split k name t is (type_results f.home settled.profile.valid it.number t it.is_type)
-    (λ high wide. high_is_narrow f.home name t ((bytes_eq-Decides name high_name).0 high) wide (rows_are_within f.home settled.profile.within).wide k is) d most around code below locals next p w vs xs le few world
+    wrapper_follows f settled split k name t is (type_results f.home settled.source.whole.is_valid it.number t it.is_type)
+    (λ high wide. high_is_narrow f.home name t ((bytes_eq-Decides name high_name).0 high) wide (rows_are_within f.home settled.source.within).wide k is) d most around code below locals next p w vs xs le few world
     passes resumes
 
 pub all_follow : AllFollow
-all_follow f settled split ready home calls = functions_follow f settled ready (imported_follow f settled split) home calls
+all_follow f settled split ready accesses home calls = functions_follow f settled ready accesses (imported_follow f settled split) home calls

@@ -61,9 +61,10 @@ use Rattle.wasm2js_laws_instructions.proofs.Ending.{are_words}
 use Rattle.wasm2js_laws_calls.specs.Called.{Passes, given_back, seen_with, call_then, IsReturn, IsCallFollowed}
 use Rattle.wasm2js_laws_calls.proofs.Returned.{signed_word as word_signed, write_then}
 use Rattle.wasm2js_laws_frames.specs.Frames.{at_depth, IsSettled}
+use Rattle.wasm2js_laws_frames.proofs.Helped.{profile_of}
 use Rattle.wasm2js_laws_frames.proofs.Entered.{bound_from, parameters_are, as_many, names_bound, zero_bindings, zero_words, zero_names, words_in, locals_entered, same_locals}
 use Rattle.wasm2js_laws_frames.proofs.Left.{store_same}
-use Rattle.wasm2js_laws_frames.proofs.Bodies.{not_among}
+use Rattle.wasm2js_laws_frames.proofs.Framed.{not_among}
 use Rattle.wasm2js_laws_frames.proofs.Depths.{call_stands}
 use Rattle.wasm2js_laws_imports.specs.Laws.{IsSplit}
 use Rattle.wasm2js_laws_imports.proofs.Answering.{answers_alike, words_split, halves, low_low, IsWritten, writes_are_written}
@@ -151,7 +152,7 @@ module _ (f : Function) (settled : IsSettled f) (split : IsSplit f) (k : ℕ) (n
       by (Some I64) = refl
 
   foreign_named : named scope (spelled (numbered names.foreign k)) ≡ a_foreign name
-  foreign_named = foreign_are_provided f.home settled.profile (numbered names.function k) ps ls (wrapper_body r foreign_call) params_own locals_own k name t is_callee
+  foreign_named = foreign_are_provided f.home (profile_of f.home settled.source) (numbered names.function k) ps ls (wrapper_body r foreign_call) params_own locals_own k name t is_callee
 
   high_named : named scope (name_of names.high) ≡ a_foreign (name_of names.high)
   high_named = high_is_foreign f.home (numbered names.function k) ps ls (wrapper_body r foreign_call) params_own locals_own
@@ -241,7 +242,7 @@ module _ (f : Function) (settled : IsSettled f) (split : IsSplit f) (k : ℕ) (n
           let e : length (take f.setting.bytes p.heap) ≡ f.setting.bytes = omega (arith, l, h) in
           record {
             same = ap (λ n. take n p.heap) e;
-            kept = ap (λ n. drop n p.heap) e ∙ world.past ∙ split.past ∙ sym (ap (λ n. drop n f.by.first_heap) e);
+            kept = ap (λ n. drop n p.heap) e ∙ world.past ∙ settled.past ∙ sym (ap (λ n. drop n f.by.first_heap) e);
           }
 
       abbrev Answers : ImportAnswer → ImportAnswer → Type 0
@@ -250,7 +251,7 @@ module _ (f : Function) (settled : IsSettled f) (split : IsSplit f) (k : ℕ) (n
       stops_there : (e e' : EndPlain) → f.by.source_end e ≡ e' → Answers (ends e) (ends e')
       stops_there e e' is begins = record {
         cost = 1;
-        same = subst (λ o. IsSameAs f.by o (ended p.events e' p.heap)) (sym (begins 0 ∙ ap f.watch (ends_stay f.home around e (store_of f.setting p w)) ∙ split.ended e (store_of f.setting p w)))
+        same = subst (λ o. IsSameAs f.by o (ended p.events e' p.heap)) (sym (begins 0 ∙ ap f.watch (ends_stay f.home around e (store_of f.setting p w)) ∙ settled.ended e (store_of f.setting p w)))
             (record { events = settled.match w p.events world.match; end = ap (λ x. Some (as_stop x)) is; heap = memory_agrees });
       }
 

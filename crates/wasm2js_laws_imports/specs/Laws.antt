@@ -11,12 +11,10 @@ use Rattle.asm_laws_continuation.specs.Following.{call_at_to}
 use Rattle.wasm2js_code.specs.Modules.{translated}
 use Rattle.wasm2js_laws_control.specs.Control.{Function, Match}
 use Rattle.wasm2js_laws_calls.specs.Called.{CallsFollow}
-use Rattle.wasm2js_laws_frames.specs.Frames.{IsSettled, AreReady, ImportsFollow}
+use Rattle.wasm2js_laws_frames.specs.Frames.{IsSettled, AreHelped, AccessesAreKept, ImportsFollow}
 
 -- what is shown of imported functions is compared with 64-bit words as two words
 pub record IsSplit (f : Function) : Type 0 where
-  pub past : f.setting.past ≡ drop f.setting.bytes f.by.first_heap
-  pub ended : (e : EndPlain) (s : Store) → f.watch (Ended e s) ≡ seen_end e s
   pub stopped : (name : List ℕ) (args : List Word) → f.by.source_end (stopped name args) ≡ stopped name (flat_map split_word args)
   pub no_reply : (name : List ℕ) (args : List Word) → f.by.source_end (no_reply name args) ≡ no_reply name (flat_map split_word args)
   pub called : (name : List ℕ) (args : List Word) (source target : List EventPlain) → Match f source target
@@ -27,4 +25,4 @@ ImportedFollow = (f : Function) → IsSettled f → IsSplit f → ImportsFollow 
 
 -- calls of all functions of the module, from any caller
 abbrev pub AllFollow : Type 0
-AllFollow = (f : Function) → IsSettled f → IsSplit f → AreReady f → f.scope.home ≡ translated f.home → f.calls ≡ call_at_to f.scope.home f.bound → CallsFollow f
+AllFollow = (f : Function) → IsSettled f → IsSplit f → AreHelped f → AccessesAreKept f → f.scope.home ≡ translated f.home → f.calls ≡ call_at_to f.scope.home f.bound → CallsFollow f

@@ -1,11 +1,11 @@
 -- Tests of runs, traps, and calls of functions that work on the heap.
-use Rattle.std.proofs.Common.{◌≡◌, ℕ, zero, suc, ◌+◌, ◌<◌, ◌≤◌, Bool, true, false, List, [], ◌∷◌, Option, Some, None, pos, refl, sym, ap, ◌∙◌, subst, arith}
+use Rattle.std.proofs.Common.{◌≡◌, ℕ, zero, suc, ◌+◌, ◌≤◌, Bool, true, false, List, [], ◌∷◌, Option, Some, None, refl, sym, ap, subst, arith}
 use Rattle.std.specs.Prelude.{if◌then◌else◌, nat_lt}
 use Rattle.sem_words.specs.declared.word.Word.TheVariants.{W32}
 use Rattle.sem_words.specs.declared.js_value.JsValue.{JsValue}
 use Rattle.sem_words.specs.declared.js_value.JsValue.TheVariants.{Bool as Boolean}
 use Rattle.sem_words.specs.declared.js_value.JsOp.TheVariants.{Gt}
-use Rattle.sem_words.specs.JsValues.{to_uint32_of, truthy_of}
+use Rattle.sem_words.specs.JsValues.{truthy_of}
 use Rattle.sem_words.specs.JsOperators.{js_binary_of, unsigned_value}
 use Rattle.sem_words.specs.Words.{rel_of}
 use Rattle.sem_laws.specs.Observation.{stopped, trap_name}

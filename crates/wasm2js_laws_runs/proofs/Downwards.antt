@@ -1,5 +1,5 @@
 -- The loops that copy downwards, to places after those that are read, from the last ones on.
-use Rattle.std.proofs.Common.{◌≡◌, ℕ, zero, suc, ◌+◌, ◌-◌, ◌*◌, ◌/◌, ◌%◌, ◌^◌, ◌<◌, ◌≤◌, Bool, true, false, List, [], ◌∷◌, length, take, drop, pos, refl, sym, ap, ◌∙◌, subst, arith}
+use Rattle.std.proofs.Common.{◌≡◌, ℕ, suc, ◌+◌, ◌-◌, ◌*◌, ◌/◌, ◌%◌, ◌^◌, ◌<◌, ◌≤◌, Bool, true, false, List, [], ◌∷◌, length, take, drop, refl, sym, ap, ◌∙◌, subst, arith}
 use Rattle.std.specs.Prelude.{◌==◌, bit_and, bit_or}
 use Rattle.sem_words.specs.declared.js_value.JsValue.{JsValue}
 use Rattle.sem_words.specs.declared.js_value.JsValue.TheVariants.{Bool as Boolean}
@@ -10,9 +10,9 @@ use Rattle.heap_views.proofs.RunLemmas.{copied_none, length-copied}
 use Rattle.asm_lang.specs.Modules.{Stmt, Module}
 use Rattle.asm_lang_valid.specs.Typing.{Scope}
 use Rattle.asm_lang_valid.specs.Typed.{scope_of}
-use Rattle.asm_lang_exec.specs.Runs.{Binding, binding, Place, Run, after}
+use Rattle.asm_lang_exec.specs.Runs.{Binding, binding, Place, after}
 use Rattle.asm_lang_exec.specs.Values.{Calls}
-use Rattle.asm_lang_exec.specs.Meaning.{eval, exec, Completion, unless_left, call_at}
+use Rattle.asm_lang_exec.specs.Meaning.{eval, exec, unless_left, call_at}
 use Rattle.wasm2js_words.specs.Names.{spelled}
 use Rattle.wasm2js_words.specs.Words.{equal, greater, conjunction, disjunction, both, byte, whole, compare, expr, int_of}
 use Rattle.wasm2js_code.specs.Pairs.{literal, plus, minus}

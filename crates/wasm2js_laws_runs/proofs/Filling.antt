@@ -1,26 +1,22 @@
 -- A call of the helper that fills.
-use Rattle.std.proofs.Common.{◌≡◌, ℕ, zero, suc, ◌+◌, ◌-◌, ◌*◌, ◌/◌, ◌%◌, ◌^◌, ◌<◌, ◌≤◌, Bool, true, false, List, [], ◌∷◌, length, Option, Some, None, pos, refl, sym, ap, ◌∙◌, subst, arith}
-use Rattle.std.specs.Prelude.{if◌then◌else◌, nat_le, nat_lt, ◌==◌, bit_and}
-use Rattle.std.proofs.lemmas.Bool.Decides.{nat_tests}
+use Rattle.std.proofs.Common.{◌≡◌, ℕ, suc, ◌+◌, ◌*◌, ◌/◌, ◌%◌, ◌^◌, ◌<◌, ◌≤◌, Bool, true, false, List, [], ◌∷◌, length, None, pos, refl, sym, ap, ◌∙◌, subst, arith}
+use Rattle.std.specs.Prelude.{if◌then◌else◌, nat_le, ◌==◌, bit_and}
 use Rattle.sem_words.specs.declared.js_value.JsValue.{JsValue}
 use Rattle.sem_words.specs.declared.js_value.JsValue.TheVariants.{Whole, Bool as Boolean}
 use Rattle.sem_words.specs.JsValues.{to_uint32_of}
 use Rattle.sem_words.specs.JsOperators.{signed_value}
-use Rattle.sem_words.specs.Words.{add_of, sub_of, mul_of, rel_of}
-use Rattle.sem_words.specs.declared.word.Rel.TheVariants.{LtS, LeS}
-use Rattle.asm_types.proofs.Sound.{to_uint32_lt}
-use Rattle.heap_views.specs.declared.kind.ViewKind.TheVariants.{U8, I32}
+use Rattle.sem_words.specs.Words.{add_of, sub_of}
+use Rattle.heap_views.specs.declared.kind.ViewKind.TheVariants.{I32}
 use Rattle.heap_views.specs.Heap.{store, store_bytes, filled}
 use Rattle.heap_views.proofs.RunLemmas.{filled_none, length-filled, IsBytes-filled}
 use Rattle.asm_lang.specs.Modules.{Stmt, Module}
 use Rattle.asm_lang_valid.specs.Typing.{Scope}
 use Rattle.asm_lang_valid.specs.Typed.{scope_of}
-use Rattle.asm_lang_exec.specs.Runs as runs
-use Rattle.asm_lang_exec.specs.Runs.{Binding, binding, Place, Run, goes, stops, spent, wrong, Part, after}
+use Rattle.asm_lang_exec.specs.Runs.{Binding, binding, Place, Run, after}
 use Rattle.asm_lang_exec.specs.Values.{Calls}
-use Rattle.asm_lang_exec.specs.Meaning.{eval, exec, Completion, normal, unless_left, exec_all, call_at}
+use Rattle.asm_lang_exec.specs.Meaning.{eval, exec, Completion, unless_left, call_at}
 use Rattle.wasm2js_words.specs.Names.{spelled}
-use Rattle.wasm2js_words.specs.Words.{Term, equal, less, at_most, greater, conjunction, read, both, compare, write_byte, write_whole, expr, int_of, simple_statement, stmts_in}
+use Rattle.wasm2js_words.specs.Words.{equal, less, at_most, greater, conjunction, read, both, compare, write_byte, write_whole, expr, int_of, simple_statement}
 use Rattle.wasm2js_code.specs.Pairs.{literal, plus, minus}
 use Rattle.wasm2js_code.specs.Helpers.{argument, own, first, second, third, done, sets, block_of, when, is_whole, length_test, start_test, each_word, each_byte, four_times, fill_function}
 use Rattle.wasm2js_laws_places.specs.Places.{word_at, IsHeap}
@@ -29,7 +25,6 @@ use Rattle.wasm2js_laws_actions.specs.Reads.{Finds}
 use Rattle.wasm2js_laws_helpers.proofs.Called.{placed, called}
 use Rattle.wasm2js_laws_helpers.proofs.Bodies.{run}
 use Rattle.wasm2js_laws_helpers.proofs.Turned.{marked_word}
-use Rattle.wasm2js_laws_loads.proofs.Numbers.{is_aligned}
 use Rattle.wasm2js_laws_stores.specs.Answers.{with_byte}
 use Rattle.wasm2js_laws_stores.proofs.Found.{expr_read, compared_finds}
 use Rattle.wasm2js_laws_stores.proofs.Steps.{byte_then, whole_then, put_then}

@@ -1,11 +1,11 @@
 -- Fills and copies: their code calls a helper, whose loops a reduction may pay for.
-use Rattle.std.proofs.Common.{◌≡◌, ℕ, ◌+◌, ◌/◌, ◌%◌, ◌^◌, ◌<◌, ◌≤◌, Bool, true, false, ◌&&◌, List, [], ◌∷◌, ◌++◌, length, take, drop, take-append-drop, take_all, drop_of_length-le, replicate, Some, None, Ok, refl, sym, ap, ◌∙◌, subst, arith}
-use Rattle.std.specs.Prelude.{if◌then◌else◌, nat_le, bit_and, bit_or}
+use Rattle.std.proofs.Common.{◌≡◌, ℕ, ◌+◌, ◌%◌, ◌≤◌, Bool, true, false, ◌&&◌, List, [], ◌∷◌, ◌++◌, length, take, drop, take-append-drop, take_all, drop_of_length-le, replicate, Some, None, Ok, refl, sym, ap, ◌∙◌, subst, arith}
+use Rattle.std.specs.Prelude.{if◌then◌else◌, nat_le, bit_or}
 use Rattle.std.proofs.lemmas.List.{take-append-le, drop-append-le, length-append, length-take, length-drop, length-replicate}
 use Rattle.std.proofs.lemmas.Bool.Decides.{nat_tests}
 use Rattle.sem_laws.specs.Imports.{Replies}
 use Rattle.sem_laws.specs.Observation.{EventPlain}
-use Rattle.heap_views.specs.Heap.{is_inside, can_copy, with_run, copied, filled}
+use Rattle.heap_views.specs.Heap.{with_run, copied, filled}
 use Rattle.heap_views.proofs.RunLemmas.{run_at_within, run_at-append, length-copied, length-filled, with_run-append, copied_within}
 use Rattle.wasm_lang.specs.declared.types.ValType.{ValType}
 use Rattle.wasm_lang.specs.declared.types.ValType.TheVariants.{I32}
@@ -22,7 +22,7 @@ use Rattle.wasm2js_laws_places.specs.Straight as straight
 use Rattle.wasm2js_laws_places.specs.Straight.{Words, Answer, traps, Helping, Outcome, goes, stops, told, then_do, units_after, run_actions, actions_units}
 use Rattle.wasm2js_laws_places.specs.Places.{operands, locals_of, globals_of, store_with, IsHeap}
 use Rattle.wasm2js_laws_control.specs.Control.{Function}
-use Rattle.wasm2js_laws_instructions.specs.Plain.{IsAlike, IsPlain, code_of, Supports}
+use Rattle.wasm2js_laws_instructions.specs.Plain.{IsAlike, IsPlain}
 use Rattle.wasm2js_laws_wide.proofs.Kept.{low}
 use Rattle.wasm2js_laws_typed.proofs.SoundPlain.{of_fixed}
 use Rattle.wasm2js_laws_loads.proofs.Guarded.{nothing_after}

@@ -1,11 +1,10 @@
 -- The loops that copy upwards, to places before those that are read.
-use Rattle.std.proofs.Common.{◌≡◌, ℕ, zero, suc, ◌+◌, ◌-◌, ◌*◌, ◌/◌, ◌%◌, ◌^◌, ◌<◌, ◌≤◌, Bool, true, false, List, [], ◌∷◌, length, pos, refl, sym, ap, ◌∙◌, subst, arith}
-use Rattle.std.specs.Prelude.{if◌then◌else◌, ◌==◌, bit_and, bit_or}
+use Rattle.std.proofs.Common.{◌≡◌, ℕ, suc, ◌+◌, ◌*◌, ◌/◌, ◌%◌, ◌<◌, ◌≤◌, Bool, true, false, List, [], ◌∷◌, length, pos, refl, sym, ap, ◌∙◌, subst, arith}
+use Rattle.std.specs.Prelude.{◌==◌, bit_and, bit_or}
 use Rattle.sem_words.specs.declared.js_value.JsValue.{JsValue}
 use Rattle.sem_words.specs.declared.js_value.JsValue.TheVariants.{Whole, Bool as Boolean}
 use Rattle.sem_words.specs.JsValues.{to_uint32_of}
 use Rattle.sem_words.specs.Words.{add_of, sub_of}
-use Rattle.heap_views.specs.Numbers.{IsBytes}
 use Rattle.heap_views.specs.declared.kind.ViewKind.TheVariants.{U8, I32}
 use Rattle.heap_views.specs.Heap.{load, store, store_bytes, copied}
 use Rattle.heap_views.proofs.RunLemmas.{copied_none, length-copied, IsBytes-copied}
@@ -18,7 +17,7 @@ use Rattle.asm_lang_exec.specs.Meaning.{eval, exec, Completion, unless_left, cal
 use Rattle.wasm2js_words.specs.Names.{spelled}
 use Rattle.wasm2js_words.specs.Words.{equal, less, at_most, conjunction, disjunction, both, byte, whole, compare, expr, int_of}
 use Rattle.wasm2js_code.specs.Pairs.{literal, plus, minus}
-use Rattle.wasm2js_code.specs.Helpers.{argument, own, first, second, third, done, sets, block_of, when, is_whole, each_word, each_byte, copy_word, copy_byte, copy_up, copy_function}
+use Rattle.wasm2js_code.specs.Helpers.{argument, own, first, second, third, done, sets, block_of, each_word, each_byte, copy_word, copy_byte, copy_up, copy_function}
 use Rattle.wasm2js_laws_places.specs.Straight.{index_at, element_word}
 use Rattle.wasm2js_laws_places.specs.Places.{word_at, IsHeap}
 use Rattle.wasm2js_laws_actions.specs.Reads.{Finds}
@@ -28,7 +27,6 @@ use Rattle.wasm2js_laws_stores.specs.Answers.{with_byte}
 use Rattle.wasm2js_laws_stores.proofs.Found.{expr_read, compared_finds}
 use Rattle.wasm2js_laws_stores.proofs.Steps.{byte_then, whole_then, put_then}
 use Rattle.wasm2js_laws_stores.proofs.Written.{byte_stored, whole_stored}
-use Rattle.wasm2js_laws_runs.specs.Answers as answers
 use Rattle.wasm2js_laws_runs.specs.Answers.{units_upwards}
 use Rattle.wasm2js_laws_runs.specs.Laws.{HasViews}
 use Rattle.wasm2js_laws_runs.proofs.Loops.{Works, at_cost, state, StepIs, IsLoop, looped}

@@ -43,7 +43,7 @@ use Rattle.wasm2js_laws_pace.specs.Following.{Rest, Stands}
 use Rattle.wasm2js_laws_pace.proofs.Paced.{steps_are_paid, stands_still}
 use Rattle.wasm2js_laws_places.specs.Places.{is_own, word_at, names_in, AreApart, locals_of, store_of, World}
 use Rattle.wasm2js_laws_control.specs.Control.{Function, Match, Inside, MayStand, code_sight, IsFollowed, statements_to, IsKept}
-use Rattle.wasm2js_laws_control.proofs.Standing.{other_room}
+use Rattle.wasm2js_laws_typed.proofs.RoomParts.{right_room}
 use Rattle.wasm2js_laws_control.proofs.Stepping.{appended, stays_itself}
 use Rattle.wasm2js_laws_computed.specs.Laws.{IsHelped}
 use Rattle.wasm2js_laws_computed.proofs.Each.{all_is_kept}
@@ -51,7 +51,8 @@ use Rattle.wasm2js_laws_calls.specs.Called.{Passes, seen_with, call_then, IsRetu
 use Rattle.wasm2js_laws_calls.specs.Laws.{IsWithin}
 use Rattle.wasm2js_laws_calls.proofs.Calling.{calls_are_kept}
 use Rattle.wasm2js_laws_calls.proofs.Entries.{indirect_calls_are_kept}
-use Rattle.wasm2js_laws_frames.specs.Frames.{at_depth, in_body, IsSettled, AreReady}
+use Rattle.wasm2js_laws_frames.specs.Frames.{at_depth, in_body, IsSettled, AreHelped, AccessesAreKept}
+use Rattle.wasm2js_laws_frames.proofs.Helped.{profile_of, body_formed, bodies_are_helped}
 use Rattle.wasm2js_laws_frames.proofs.Entered.{bound_from, parameters_are, as_many, names_bound, zero_bindings, zero_words, zero_names, words_in, locals_entered, same_locals}
 use Rattle.wasm2js_laws_frames.proofs.Left.{store_same, nested_out, then_ends, then_closes, body_exits}
 
@@ -113,7 +114,7 @@ same_type w t u more j e = by (slice_get (function_types w) j) refl
         let here : type_of_function w j ≡ slice_get w.types n = rw is refl in
         here ∙ sym there ∙ e
 
-module _ (f : Function) (settled : IsSettled f) (ready : AreReady f) (k : ℕ) (t : FunctionType) (more : List ValType) (code : Trees) (is_callee : callee_at f.home k ≡ Some (a_function t more code))
+module _ (f : Function) (settled : IsSettled f) (ready : AreHelped f) (accesses : AccessesAreKept f) (k : ℕ) (t : FunctionType) (more : List ValType) (code : Trees) (is_callee : callee_at f.home k ≡ Some (a_function t more code))
     (d : ℕ) (follow : CallsFollow (at_depth f d)) where
   abbrev inner : Function
   inner = in_body f k t more code d
@@ -131,13 +132,13 @@ module _ (f : Function) (settled : IsSettled f) (ready : AreReady f) (k : ℕ) (
   r = result_of t
 
   helped : IsHelped inner
-  helped = ready.helped k t more code is_callee d
+  helped = bodies_are_helped f settled ready k t more code is_callee d
 
   are_own : (list_all scopes.is_own ps ≡ true) × (list_all scopes.is_own ls ≡ true)
   are_own = variables_are_own t.params more (body_room (context_of f.home t more) code)
 
   typed : IsTypedCallee f.home (a_function t more code)
-  typed = (typed_functions f.home settled.profile.valid settled.shaped.bodies_match).are_typed k (a_function t more code) is_callee
+  typed = (typed_functions f.home settled.source.whole.is_valid settled.source.shaped.bodies_match).are_typed k (a_function t more code) is_callee
 
   within : IsWithin inner
   within = record {
@@ -156,10 +157,10 @@ module _ (f : Function) (settled : IsSettled f) (ready : AreReady f) (k : ℕ) (
 
   standing : MayStand inner code 0 []
   standing = record {
-    room = other_room inner.scope inner.context (here 0 (listed r) []) (room_of inner.context code 0 [])
+    room = right_room inner.scope inner.context (here 0 (listed r) []) (room_of inner.context code 0 [])
         (room_is_declared (translated f.home) (numbered function k) (context_of f.home t more) t.params more (body_room (context_of f.home t more) code)
         (body_stmts (memory_bytes f.home) (cell_count f.home) (context_of f.home t more) code) refl room_low);
-    translated = ready.translated_code k t more code is_callee;
+    formed = body_formed f.home settled.source k t more code is_callee;
   }
 
   -- ---- one call
@@ -220,8 +221,8 @@ module _ (f : Function) (settled : IsSettled f) (ready : AreReady f) (k : ℕ) (
 
       kept : IsKept inner u code (out r ∷ []) 0 [] round (word_at q) closes
       kept =
-          all_is_kept inner helped (ready.accesses k t more code is_callee d) (calls_are_kept inner helped.fair within follow)
-          (indirect_calls_are_kept inner helped.fair settled.profile settled.shaped within follow) u code (out r ∷ []) 0 [] (listed r) round (word_at q) closes
+          all_is_kept inner helped (accesses k t more code is_callee d) (calls_are_kept inner helped.fair within follow)
+          (indirect_calls_are_kept inner helped.fair (profile_of f.home settled.source) settled.source.shaped within follow) u code (out r ∷ []) 0 [] (listed r) round (word_at q) closes
           (omega (arith, units, few, le)) typed.1 standing (nested_out r) (body_exits inner helped.fair u t.results typed.0 around after below locals p next most fewer returns (comes_to_end code) (word_at q))
 
       -- the reduction
