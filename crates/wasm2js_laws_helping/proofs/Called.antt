@@ -8,8 +8,7 @@ use Rattle.wasm_lang_valid.specs.Profile.{memory_bytes}
 use Rattle.asm_lang.specs.Modules.{Function}
 use Rattle.asm_lang_valid.specs.declared.meaning.Element.{Element}
 use Rattle.asm_lang_valid.specs.declared.meaning.Element.TheVariants.{Int8, Uint8, Int32}
-use Rattle.asm_lang_valid.specs.Scope.{Meaning, a_view, a_function, module_meaning}
-use Rattle.asm_lang_valid.specs.Typing.{Scope, named}
+use Rattle.asm_lang_valid.specs.Scope.{a_view, a_function, module_meaning}
 use Rattle.asm_lang_exec.specs.Runs.{Place}
 use Rattle.asm_lang_exec.specs.Meaning.{call_at}
 use Rattle.wasm2js_words.specs.Names as names
@@ -17,10 +16,9 @@ use Rattle.wasm2js_words.specs.Names.{Fixed, fixed, spelled}
 use Rattle.wasm2js_words.specs.Words.{name_of}
 use Rattle.wasm2js_code.specs.Helpers.{shift_left_function, shift_right_signed_function, shift_right_function, rotate_left_function, leading_zeros_function, trailing_zeros_function, set_bits_function, copy_function, fill_function}
 use Rattle.wasm2js_code.specs.Modules.{translated}
-use Rattle.wasm2js_laws_scopes.specs.Laws.{is_own}
-use Rattle.wasm2js_laws_places.specs.Straight.{Answer, is_helper}
+use Rattle.wasm2js_laws_places.specs.Straight.{is_helper}
 use Rattle.wasm2js_laws_places.specs.Places.{IsHeap}
-use Rattle.wasm2js_laws_places.specs.Helped.{Helps, AreHelpers}
+use Rattle.wasm2js_laws_places.specs.Helped.{Helps}
 use Rattle.wasm2js_laws_helpers.specs.Laws.{HasZeros, HasTrap, divide_signed_function, divide_function, remainder_signed_function, remainder_function}
 use Rattle.wasm2js_laws_helpers.proofs.Turned.{shift_left_helps, shift_right_signed_helps, shift_right_helps}
 use Rattle.wasm2js_laws_helpers.proofs.Rotated.{rotate_left_helps}
@@ -34,8 +32,8 @@ use Rattle.wasm2js_laws_stores.proofs.Stored.{store_word_helps, store_words_help
 use Rattle.wasm2js_laws_runs.specs.Laws.{HasViews}
 use Rattle.wasm2js_laws_runs.proofs.Filling.{fill_helps}
 use Rattle.wasm2js_laws_runs.proofs.Copying.{copy_helps}
-use Rattle.wasm2js_laws_helping.specs.Helping.{helper_answer, helper_cost, helping, on_memory, fixed_meaning}
-use Rattle.wasm2js_laws_helping.specs.Laws.{SeesNames, HelpersHelp}
+use Rattle.wasm2js_laws_helping.specs.Helping.{helper_answer, helper_cost, on_memory, fixed_meaning}
+use Rattle.wasm2js_laws_helping.specs.Laws.{HelpersHelp}
 use Rattle.wasm2js_laws_helping.proofs.Named.{fixed_names_mean}
 
 same_function : (g h : Function) → a_function g ≡ a_function h → g ≡ h

@@ -5,16 +5,14 @@ use Rattle.wasm_lang.specs.declared.types.GlobalType.{GlobalType}
 use Rattle.wasm_lang.specs.Instructions.{Plain, load, store, memory_copy, memory_fill}
 use Rattle.wasm_lang.specs.Modules.{FunctionType, WasmModule}
 use Rattle.wasm_lang.specs.Shape.{IsShaped}
-use Rattle.wasm_lang_valid.specs.ModuleRules.{global_types}
 use Rattle.wasm_lang_valid.specs.Profile.{memory_bytes, IsInProfile}
 use Rattle.wasm_lang_valid.specs.Typing.{Context}
 use Rattle.wasm_lang_exec.specs.Code.{Trees}
 use Rattle.asm_lang_valid.specs.Typed.{scope_of}
-use Rattle.asm_lang_valid.specs.Typing.{Scope}
 use Rattle.asm_lang_exec.specs.Meaning.{call_at}
 use Rattle.asm_laws_continuation.specs.Laws.{AllFollow}
 use Rattle.asm_laws_continuation.proofs.Following.{calls_follow}
-use Rattle.wasm2js_words.specs.Names.{Name, numbered, function}
+use Rattle.wasm2js_words.specs.Names.{numbered, function}
 use Rattle.wasm2js_code.specs.Bodies.{body_stmts}
 use Rattle.wasm2js_code.specs.Modules.{param_names, context_of, own_function, translated}
 use Rattle.wasm2js_code.specs.Rooms.{body_room, declared_names}
@@ -28,12 +26,12 @@ use Rattle.wasm2js_laws_typed.specs.Laws.{IsFormed}
 use Rattle.wasm2js_laws_control.specs.Control.{Function, IsFair}
 use Rattle.wasm2js_laws_instructions.specs.Plain.{PlainIs, Supports}
 use Rattle.wasm2js_laws_instructions.proofs.Computing.{plains_are_kept}
-use Rattle.wasm2js_laws_computed.specs.Laws.{accesses_memory, IsHelped}
+use Rattle.wasm2js_laws_computed.specs.Laws.{accesses_memory}
 use Rattle.wasm2js_laws_loads.proofs.Loaded.{loads_are_read}
 use Rattle.wasm2js_laws_stores.proofs.Storing.{stores_are_written}
 use Rattle.wasm2js_laws_runs.proofs.Moved.{fill_is_done, copy_is_done}
 use Rattle.wasm2js_laws_helping.specs.Helping.{helping}
-use Rattle.wasm2js_laws_helping.specs.Laws.{SeesNames}
+use Rattle.wasm2js_laws_helping.specs.Laws.{SeesNames, BodiesHelp}
 use Rattle.wasm2js_laws_helping.specs.Standing.{StandsFor, IsCompared, HelpersStand, HelpersSupport, FunctionsAreHelped, Pays, AccessesAreKept}
 use Rattle.wasm2js_laws_helping.proofs.Usual.{words_are_usual}
 use Rattle.wasm2js_laws_helping.proofs.Called.{helpers_help}
@@ -46,16 +44,15 @@ module _ (w : WasmModule) (k : ℕ) (t : FunctionType) (more : List ValType) (co
       let own = variables_are_own t.params more r in
       module_names_are_seen (translated w) (numbered function k) (param_names 0 t.params) (declared_names r _ more) (body_stmts (memory_bytes w) (cell_count w) (context_of w t more) code) n own.0 own.1 h
 
-  own_helpers : (bound : ℕ)
-      → AreHelpers (scope_of (translated w) (own_function w k t more code)) (call_at false (translated w) bound) bound (memory_bytes w) (helping (memory_bytes w))
-  own_helpers bound = helpers_help w (scope_of (translated w) (own_function w k t more code)) bound refl own_sees
+pub bodies_help : BodiesHelp
+bodies_help w k t more code bound = helpers_help w (scope_of (translated w) (own_function w k t more code)) bound refl (own_sees w k t more code)
 
 module _ (f : Function) (k : ℕ) (t : FunctionType) (more : List ValType) (code : Trees) (stands : StandsFor f k t more code) where
   helpers_here : AreHelpers f.scope (call_at false (translated f.home) f.bound) f.bound f.setting.bytes (helping f.setting.bytes)
   helpers_here =
       subst (λ c. AreHelpers c (call_at false (translated f.home) f.bound) f.bound f.setting.bytes (helping f.setting.bytes)) (sym stands.scope)
       (subst (λ n. AreHelpers (scope_of (translated f.home) (own_function f.home k t more code)) (call_at false (translated f.home) f.bound) f.bound n (helping n)) (sym stands.bytes)
-      (own_helpers f.home k t more code f.bound))
+      (bodies_help f.home k t more code f.bound))
 
   supports_here : 68 ≤ f.pace → Supports f (helping f.setting.bytes)
   supports_here pace = record {

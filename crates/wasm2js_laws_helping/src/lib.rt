@@ -1,10 +1,10 @@
 //! From WebAssembly to asm.js: the helper functions of a translated module, and that they do what is said of them.
 #![tactic(auto)]
 
-ghost use Rattle.wasm2js_laws_helping.specs.Laws.{WordsAreUsual, FixedNamesMean, HelpersHelp};
+ghost use Rattle.wasm2js_laws_helping.specs.Laws.{WordsAreUsual, FixedNamesMean, HelpersHelp, BodiesHelp};
 ghost use Rattle.wasm2js_laws_helping.specs.Standing.{HelpersStand, HelpersSupport, FunctionsAreHelped, AccessesAreKept};
 
-/// What helpers do on words, and what their names mean, as all names of a module that are always the same.
+/// What helpers do on words, and what each name means that is the same in all modules.
 pub fn helpers()
     ensures words { WordsAreUsual }
     ensures names { FixedNamesMean }
@@ -12,7 +12,8 @@ pub fn helpers()
 
 /// Calls of each, however deep calls may lie.
 pub fn calls()
-    ensures { HelpersHelp }
+    ensures any { HelpersHelp }
+    ensures bodies { BodiesHelp }
 {}
 
 /// Functions that stand for those of the source: these are their helpers, with which instructions are kept, also those that access the memory.
