@@ -1,0 +1,26 @@
+//! From WebAssembly to asm.js: what each module of the profile is translated to may be written for it.
+#![tactic(auto)]
+
+ghost use Rattle.wasm2js_laws_whole.specs.Laws.{CallsFollowAtPace, SourcesAreReady, SourcesAreAllowed, TrapsOfSourcesAreCalls, SpelledAreAllowed, TrapsOfSpelledAreCalls};
+
+/// Calls of functions, from any caller, where a reduction pays for a loop over the whole memory.
+pub fn calls()
+    ensures { CallsFollowAtPace }
+{}
+
+/// The translation of a source whose segments are stored: it is allowed, and its traps are calls of the trap import.
+pub fn translations()
+    ensures ready { SourcesAreReady }
+    ensures allowed { SourcesAreAllowed }
+    ensures traps { TrapsOfSourcesAreCalls }
+{
+    wasm2js_lang::traps_of_the_allowed();
+}
+
+/// .. and so is that of a module that some bytes spell, valid and in the profile.
+pub fn spelled()
+    ensures allowed { SpelledAreAllowed }
+    ensures traps { TrapsOfSpelledAreCalls }
+{
+    wasm2js_lang::traps_of_the_allowed();
+}
