@@ -1,3 +1,4 @@
+pub mod Exported
 pub mod Fitting
 pub mod Hosting
 pub mod Whole

@@ -10,10 +10,12 @@ ghost use Rattle.asm_run_state.specs.Variables.{bindings};
 ghost use Rattle.asm_lang_exec.specs.Runs.{Place, defined};
 ghost use Rattle.asm_lang_exec.specs.Meaning.{function_end};
 ghost use Rattle.asm_run_work.specs.Endings.{completion_view};
+ghost use Rattle.asm_run.specs.Exports.{IsTableOf};
 ghost use Rattle.asm_run.specs.Hosted.{Calls, Enters, Runs, Leaves, UnitsLeft};
 
+use crate::exports::ExportTable;
 use asm_run_machine::{Ended, Machine};
-use asm_run_state::{World, exported_function, first_locals, locals_layout, result_event};
+use asm_run_state::{World, first_locals, locals_layout, result_event};
 use asm_run_work::{Arguments, Completion, EndWork, Frame, Kept, Mode, Outcome, Stack, Work};
 use asm_tree::Function;
 use asm_validate_names::Environment;
@@ -34,16 +36,18 @@ pub enum Hosted<'a> {
 pub fn host_call<'a>(
     alloc: Global,
     environment: &Environment<'a>,
+    exports: &ExportTable<'a>,
     world: World<'a>,
     call: &CallLine,
 ) -> Result<Hosted<'a>, AllocError>
     requires complete { IsComplete environment.now }
+    requires exports { IsTableOf (module_view environment.now.home.now) exports.now }
     requires small { SmallModule (module_view environment.now.home.now) }
     requires args { All IsSmall (list_items call.now.args) }
     ensures calls { IfOk result (λ h. Calls (module_view environment.now.home.now) (call_of call.now) world.entry h) }
     ensures fewer { IfOk result (UnitsLeft world.entry.units) }
 {
-    let Some(function) = exported_function(environment.home(), call.name.as_bytes()) else {
+    let Some(function) = exports.function(call.name.as_bytes()) else {
         return Ok(Hosted::Wrong);
     };
     let arguments = whole_arguments(alloc, call.args.as_slice())?;

@@ -2,12 +2,14 @@
 #![tactic(auto)]
 
 mod calls;
+mod exports;
 mod fits;
 mod globals;
 mod ranges;
 mod session;
 mod writes;
 
+pub use exports::ExportTable;
 pub use fits::fits_asm;
 pub use session::Session;
 

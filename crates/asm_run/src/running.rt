@@ -4,8 +4,10 @@ ghost use Rattle.sem_laws.specs.Views.{call_of};
 ghost use Rattle.asm_tree.specs.Views.{module_view};
 ghost use Rattle.asm_validate_names.specs.Environments.{IsComplete};
 ghost use Rattle.asm_laws_machine.specs.Literals.{SmallModule};
+ghost use Rattle.asm_run.specs.Exports.{IsTableOf};
 ghost use Rattle.asm_run.specs.Session.{SmallCalls, IsSession};
 
+use crate::exports::ExportTable;
 use crate::host_calls::{Hosted, host_call};
 use asm_run_state::World;
 use asm_validate_names::Environment;
@@ -17,17 +19,19 @@ use std::alloc::{AllocError, Global};
 pub fn run<'a>(
     alloc: Global,
     environment: &Environment<'a>,
+    exports: &ExportTable<'a>,
     world: World<'a>,
     calls: &[CallLine],
 ) -> Result<Option<Observation>, AllocError>
     requires complete { IsComplete environment.now }
+    requires exports { IsTableOf (module_view environment.now.home.now) exports.now }
     requires literals { SmallModule (module_view environment.now.home.now) }
     requires arguments { SmallCalls calls.now }
     ensures { IfOk result (λ seen. IsSession (module_view environment.now.home.now) (map call_of calls.now) world.entry seen) }
 {
     let mut world = world;
     for call in calls {
-        match host_call(alloc, environment, world, call)? {
+        match host_call(alloc, environment, exports, world, call)? {
             Hosted::Goes(next) => world = next,
             Hosted::Ends(seen) => return Ok(Some(seen)),
             Hosted::Wrong => return Ok(None),

@@ -8,6 +8,7 @@ ghost use Rattle.asm_tree.specs.Views.{module_view};
 ghost use Rattle.asm_lang_exec.specs.Session.{asm, checked_asm};
 ghost use Rattle.asm_lang_exec.specs.Fits.{misfit};
 
+use crate::exports::ExportTable;
 use crate::run;
 use asm_run_state::World;
 use asm_validate::Checked;
@@ -23,6 +24,7 @@ pub struct Session<'a> {
     heap_len: u32,
     script: &'a Script,
     environment: Environment<'a>,
+    exports: ExportTable<'a>,
     world: World<'a>,
 }
 
@@ -31,6 +33,8 @@ impl<'a> Model for Session<'a> {
     ghost use Rattle.sem_laws.specs.Views.{script_of};
     ghost use Rattle.asm_tree.specs.contracts.tree.Expr as exprs;
     ghost use Rattle.asm_tree.specs.contracts.tree.Stmt as stmts;
+    ghost use Rattle.asm_tree.specs.Views.{module_view};
+    ghost use Rattle.asm_run.specs.Exports.{IsTableOf};
     ghost use Rattle.asm_run.specs.Linked.{SessionPlain, IsLinked};
 
     ghost Value = { SessionPlain };
@@ -39,12 +43,12 @@ impl<'a> Model for Session<'a> {
 
     ghost view = { λ s. record { code = s.checked.now; size = s.heap_len; script = script_of s.script.now } };
 
-    ghost invariant = { λ s. IsLinked s.checked.now s.heap_len (script_of s.script.now) s.environment s.world };
+    ghost invariant = { λ s. IsLinked s.checked.now s.heap_len (script_of s.script.now) s.environment s.world × IsTableOf (module_view s.checked.now) s.exports };
 }
 
 impl<'a> Session<'a> {
-    /// Links a module with a heap of this length and a script. It takes the memory of the heap and of the
-    /// module's variables.
+    /// Links a module with a heap of this length and a script. It takes the memory of the heap, of the
+    /// module's variables and of a map of its exports.
     pub fn link(
         alloc: Global,
         checked: &'a Checked,
@@ -60,12 +64,14 @@ impl<'a> Session<'a> {
         asm_run_state::laws::literals_are_small();
         let module = checked.module();
         let environment = Environment::new(alloc, module)?;
+        let exports = ExportTable::new(alloc, checked)?;
         let world = World::first(alloc, module, heap_len, script, 0)?;
         Ok(Session {
             checked,
             heap_len,
             script,
             environment,
+            exports,
             world,
         })
     }
@@ -80,10 +86,17 @@ impl<'a> Session<'a> {
         asm_laws_machine::accepted::accepted_laws();
         asm_laws_sound::laws::accepted_modules();
         let environment = self.environment;
+        let exports = self.exports;
         let script = self.script;
         let mut world = self.world;
         world.set_units(budget);
-        let seen = run(alloc, &environment, world, script.calls.as_slice())?;
+        let seen = run(
+            alloc,
+            &environment,
+            &exports,
+            world,
+            script.calls.as_slice(),
+        )?;
         match seen {
             Some(seen) => Ok(seen),
             None => unreachable!(),

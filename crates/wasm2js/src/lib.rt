@@ -2,6 +2,7 @@
 #![tactic(auto)]
 
 mod memory;
+mod properties;
 mod translating;
 
 pub use translating::translate;

@@ -1,9 +1,17 @@
 //! The whole module.
 ghost use Rattle.std.specs.Prelude.{◌≡◌, ◌∷◌, ◌++◌, [], None, Some, codes, map, IfOk};
 ghost use Rattle.sem_words.specs.Lists.{list_items, text_bytes};
+ghost use Rattle.sem_laws.specs.Script.{ScriptPlain};
+ghost use Rattle.asm_lang.specs.Heights.{IsWellFormed};
 ghost use Rattle.asm_lang.specs.Modules.{many};
+ghost use Rattle.asm_lang_valid.specs.Refusal.{IsAccepted};
+ghost use Rattle.asm_lang_exec.specs.Fits.{misfit};
 ghost use Rattle.asm_tree.specs.Views.{module_view, global_view, function_view, table_view, exports_view, texts_view};
 ghost use Rattle.wasm_lang_valid.specs.Profile.{outside_profile};
+ghost use Rattle.wasm_lang_exec.specs.Fits as machine;
+ghost use Rattle.wasm2js_lang.specs.Heaps.{heap_bytes};
+ghost use Rattle.wasm2js_lang.specs.Calling.{IsCalledAs};
+ghost use Rattle.wasm2js_lang.specs.Allowed.{script_for};
 ghost use Rattle.wasm2js_lang.specs.Tables as plain;
 ghost use Rattle.wasm2js_code.specs.Modules as code;
 ghost use Rattle.wasm2js_code.specs.Tables.{tables_for};
@@ -11,6 +19,7 @@ ghost use Rattle.wasm2js_tables.specs.Views.{masked_view};
 ghost use Rattle.wasm2js.specs.Parts.{first_functions, last_functions};
 
 use crate::memory::memory;
+use crate::properties::properties;
 use asm_tree::{Function, Module};
 use sem_words::{List, Text};
 use std::alloc::{AllocError, Global};
@@ -21,10 +30,23 @@ use wasm2js_sections::{exports, high_function, init_function, variables};
 use wasm2js_stubs::{push_stubs, tables};
 use wasm2js_tables::{MaskedTable, masked};
 
-/// The module of asm.js for a valid module of WebAssembly that can be translated.
+/// The module of asm.js for a valid module of WebAssembly that can be translated: it is accepted, some text says it, it is
+/// called as asked, and it takes each script that its source takes.
 pub fn translate(alloc: Global, valid: &Valid<'_>) -> Result<Module, AllocError>
     requires { outside_profile valid.now ≡ None }
     ensures exact { IfOk result (λ m. module_view m ≡ code.translated valid.now) }
+    ensures accepted { IfOk result (λ m. IsAccepted (module_view m)) }
+    ensures well_formed { IfOk result (λ m. IsWellFormed (module_view m)) }
+    ensures called { IfOk result (λ m. IsCalledAs valid.now (module_view m)) }
+    ensures fits { IfOk result (λ m. (s : ScriptPlain) → machine.misfit valid.now s ≡ None → misfit (module_view m) (heap_bytes valid.now) (script_for valid.now s) ≡ None) }
+{
+    properties(valid);
+    exactly(alloc, valid)
+}
+
+fn exactly(alloc: Global, valid: &Valid<'_>) -> Result<Module, AllocError>
+    requires { outside_profile valid.now ≡ None }
+    ensures { IfOk result (λ m. module_view m ≡ code.translated valid.now) }
 {
     let masked = masked(alloc, valid)?;
     translated(alloc, valid, masked.as_slice())

@@ -1,11 +1,10 @@
 -- Bodies of functions: their helpers, and that their code is formed.
-use Rattle.std.proofs.Common.{◌≡◌, ℕ, false, List, Some, None, Option, refl, sym, ap, subst}
+use Rattle.std.proofs.Common.{◌≡◌, ℕ, false, List, Some, None, Option, sym, ap, subst}
 use Rattle.wasm_lang.specs.declared.types.ValType.{ValType}
 use Rattle.wasm_lang.specs.Modules.{FunctionType, WasmModule}
 use Rattle.wasm_lang_valid.specs.Profile.{IsInProfile}
 use Rattle.wasm_lang_exec.specs.Code.{Trees}
 use Rattle.wasm_lang_exec.specs.Reductions.{Callee, a_function, callees, callee_at, found}
-use Rattle.wasm_lang_valid.specs.Measures.{measures_of}
 use Rattle.asm_lang_exec.specs.Meaning.{call_at}
 use Rattle.asm_laws_continuation.proofs.Following.{calls_follow}
 use Rattle.std.specs.Prelude.{slice_get}
@@ -20,8 +19,7 @@ use Rattle.wasm2js_laws_functions.proofs.Found.{found_own}
 use Rattle.wasm2js_laws_functions.proofs.Formed.{body_is_formed}
 use Rattle.wasm2js_laws_functions.proofs.Limited.{limited}
 use Rattle.wasm2js_laws_control.specs.Control.{Function, IsFair}
-use Rattle.wasm2js_laws_computed.specs.Laws.{IsHelped}
-use Rattle.wasm2js_laws_frames.specs.Frames.{in_body, IsSettled, AreHelped}
+use Rattle.wasm2js_laws_frames.specs.Frames.{in_body, IsSettled}
 use Rattle.wasm2js_laws_frames.specs.Laws.{BodiesAreHelped}
 use Rattle.asm_lang_valid.specs.Typed.{scope_of}
 

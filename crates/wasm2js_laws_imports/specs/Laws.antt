@@ -1,12 +1,9 @@
 -- Calls of imported functions follow.
-use Rattle.std.specs.Prelude.{◌≡◌, ℕ, List, [], ◌∷◌, ◌++◌, drop}
+use Rattle.std.specs.Prelude.{◌≡◌, ℕ, List, [], ◌∷◌, ◌++◌}
 use Rattle.std.specs.List.{flat_map}
 use Rattle.sem_words.specs.declared.word.Word.{Word}
-use Rattle.sem_laws.specs.Observation.{EventPlain, import_called, EndPlain, stopped, no_reply}
+use Rattle.sem_laws.specs.Observation.{EventPlain, import_called, stopped, no_reply}
 use Rattle.sem_laws.specs.CallingForms.{split_word}
-use Rattle.wasm_lang_exec.specs.Store.{Store}
-use Rattle.wasm_lang_exec.specs.Session.{seen_end}
-use Rattle.wasm_laws_drive.specs.Drive.{Ended}
 use Rattle.asm_laws_continuation.specs.Following.{call_at_to}
 use Rattle.wasm2js_code.specs.Modules.{translated}
 use Rattle.wasm2js_laws_control.specs.Control.{Function, Match}

@@ -5,9 +5,13 @@ use Rattle.asm_tree.specs.Views.{module_view}
 use Rattle.script_fits.specs.Fits.{lines_of, least}
 use Rattle.asm_lang_exec.specs.Fits.{fits_call}
 use Rattle.script_fits.specs.Earlier.{earlier}
+use Rattle.asm_run.specs.Found.{IsFound}
 use Rattle.asm_run.proofs.calls.first_call.Given as goal
 
 abbrev pub invariant-loop-call : goal.invariant-loop-call
-invariant-loop-call l =
-    least (lines_of (fits_call (module_view l.checked)) (λ (c : CallPlain). c.line) (map call_of l.calls))
-    ≡ earlier l.first (least (lines_of (fits_call (module_view l.checked)) (λ (c : CallPlain). c.line) (map call_of (drop l.call-index l.calls))))
+invariant-loop-call l = record {
+  found : IsFound (module_view l.checked) l.found;
+  first :
+      least (lines_of (fits_call (module_view l.checked)) (λ (c : CallPlain). c.line) (map call_of l.calls))
+      ≡ earlier l.first (least (lines_of (fits_call (module_view l.checked)) (λ (c : CallPlain). c.line) (map call_of (drop l.call-index l.calls))));
+}

@@ -1,53 +1,58 @@
-use Rattle.std.proofs.Common.{[], sym, ap, ◌∙◌}
+use Rattle.std.proofs.Common.{[], sym, ap, subst, ◌∙◌}
+use Rattle.asm_tree.specs.declared.tree.Module.{Module as Tree}
 use Rattle.asm_tree.specs.Views.{module_view}
 use Rattle.asm_lang_exec.specs.Session.{asm}
+use Rattle.asm_run.specs.Exports.{IsTableOf}
 use Rattle.asm_run.specs.Hosted.{observation_option}
 use Rattle.asm_run.proofs.Fitting.{accepted_here, fits_here, small_home, small_calls, means, not_none}
 use Rattle.asm_run.proofs.session.Session.run.Goals as goal
 
 pub run-requires-clause-literals : goal.run-requires-clause-literals
 run-requires-clause-literals c =
-    small_home c.args.self c.self.inside.checked.now c.self.inside.heap_len c.self.inside.script.now c.self.inside.environment c.self.inside.world c.self.view_is c.self.invariant c.accepted_laws.ensures
+    small_home c.args.self c.self.inside.checked.now c.self.inside.heap_len c.self.inside.script.now c.self.inside.environment c.self.inside.world c.self.view_is c.self.invariant.0 c.accepted_laws.ensures
+
+pub run-requires-clause-exports : goal.run-requires-clause-exports
+run-requires-clause-exports c = subst (λ (m : Tree). IsTableOf (module_view m) c.self.inside.exports) (sym c.self.invariant.0.home) c.self.invariant.1
 
 pub run-requires-clause-arguments : goal.run-requires-clause-arguments
 run-requires-clause-arguments c =
-    small_calls c.args.self c.self.inside.checked.now c.self.inside.heap_len c.self.inside.script.now c.self.inside.environment c.self.inside.world c.self.view_is c.self.invariant c.as_slice.result.now c.as_slice.ensures
+    small_calls c.args.self c.self.inside.checked.now c.self.inside.heap_len c.self.inside.script.now c.self.inside.environment c.self.inside.world c.self.view_is c.self.invariant.0 c.as_slice.result.now c.as_slice.ensures
 
 pub returns-in_err-seen-clause-never_wrong : goal.returns-in_err-seen-clause-never_wrong
 returns-in_err-seen-clause-never_wrong c =
     c.accepted_modules.ensures.never_wrong (module_view c.args.self.code) c.args.self.size c.args.self.script c.args.budget
-    (accepted_here c.args.self c.self.inside.checked.now c.self.inside.heap_len c.self.inside.script.now c.self.inside.environment c.self.inside.world c.self.view_is c.self.invariant)
-    (fits_here c.args.self c.self.inside.checked.now c.self.inside.heap_len c.self.inside.script.now c.self.inside.environment c.self.inside.world c.self.view_is c.self.invariant)
+    (accepted_here c.args.self c.self.inside.checked.now c.self.inside.heap_len c.self.inside.script.now c.self.inside.environment c.self.inside.world c.self.view_is c.self.invariant.0)
+    (fits_here c.args.self c.self.inside.checked.now c.self.inside.heap_len c.self.inside.script.now c.self.inside.environment c.self.inside.world c.self.view_is c.self.invariant.0)
 
 pub returns-in_err-seen-clause-types_hold : goal.returns-in_err-seen-clause-types_hold
 returns-in_err-seen-clause-types_hold c =
     c.accepted_modules.ensures.types_hold (module_view c.args.self.code) c.args.self.size c.args.self.script c.args.budget
-    (accepted_here c.args.self c.self.inside.checked.now c.self.inside.heap_len c.self.inside.script.now c.self.inside.environment c.self.inside.world c.self.view_is c.self.invariant)
-    (fits_here c.args.self c.self.inside.checked.now c.self.inside.heap_len c.self.inside.script.now c.self.inside.environment c.self.inside.world c.self.view_is c.self.invariant)
+    (accepted_here c.args.self c.self.inside.checked.now c.self.inside.heap_len c.self.inside.script.now c.self.inside.environment c.self.inside.world c.self.view_is c.self.invariant.0)
+    (fits_here c.args.self c.self.inside.checked.now c.self.inside.heap_len c.self.inside.script.now c.self.inside.environment c.self.inside.world c.self.view_is c.self.invariant.0)
 
 pub unreachable-requires : goal.unreachable-requires
 unreachable-requires c =
     not_none (asm (module_view c.args.self.code) c.args.self.size c.args.self.script c.args.budget)
     (c.accepted_modules.ensures.never_wrong (module_view c.args.self.code) c.args.self.size c.args.self.script c.args.budget
-    (accepted_here c.args.self c.self.inside.checked.now c.self.inside.heap_len c.self.inside.script.now c.self.inside.environment c.self.inside.world c.self.view_is c.self.invariant)
-    (fits_here c.args.self c.self.inside.checked.now c.self.inside.heap_len c.self.inside.script.now c.self.inside.environment c.self.inside.world c.self.view_is c.self.invariant))
-    (ap observation_option (sym c.in-None.is) ∙ means c.args.self c.self.inside.checked.now c.self.inside.heap_len c.self.inside.script.now c.self.inside.environment c.self.inside.world c.self.view_is c.self.invariant
+    (accepted_here c.args.self c.self.inside.checked.now c.self.inside.heap_len c.self.inside.script.now c.self.inside.environment c.self.inside.world c.self.view_is c.self.invariant.0)
+    (fits_here c.args.self c.self.inside.checked.now c.self.inside.heap_len c.self.inside.script.now c.self.inside.environment c.self.inside.world c.self.view_is c.self.invariant.0))
+    (ap observation_option (sym c.in-None.is) ∙ means c.args.self c.self.inside.checked.now c.self.inside.heap_len c.self.inside.script.now c.self.inside.environment c.self.inside.world c.self.view_is c.self.invariant.0
     c.set_units.new.self c.args.budget c.as_slice.result.now c.in_ok-seen.seen (c.set_units.ensures []) c.as_slice.ensures c.in_ok-seen.ensures)
 
 pub returns-clause-meaning : goal.returns-clause-meaning
 returns-clause-meaning c =
-    sym (means c.args.self c.self.inside.checked.now c.self.inside.heap_len c.self.inside.script.now c.self.inside.environment c.self.inside.world c.self.view_is c.self.invariant
+    sym (means c.args.self c.self.inside.checked.now c.self.inside.heap_len c.self.inside.script.now c.self.inside.environment c.self.inside.world c.self.view_is c.self.invariant.0
     c.set_units.new.self c.args.budget c.as_slice.result.now c.in_ok-seen.seen (c.set_units.ensures []) c.as_slice.ensures c.in_ok-seen.ensures)
     ∙ ap observation_option c.in-Some.is
 
 pub returns-clause-never_wrong : goal.returns-clause-never_wrong
 returns-clause-never_wrong c =
     c.accepted_modules.ensures.never_wrong (module_view c.args.self.code) c.args.self.size c.args.self.script c.args.budget
-    (accepted_here c.args.self c.self.inside.checked.now c.self.inside.heap_len c.self.inside.script.now c.self.inside.environment c.self.inside.world c.self.view_is c.self.invariant)
-    (fits_here c.args.self c.self.inside.checked.now c.self.inside.heap_len c.self.inside.script.now c.self.inside.environment c.self.inside.world c.self.view_is c.self.invariant)
+    (accepted_here c.args.self c.self.inside.checked.now c.self.inside.heap_len c.self.inside.script.now c.self.inside.environment c.self.inside.world c.self.view_is c.self.invariant.0)
+    (fits_here c.args.self c.self.inside.checked.now c.self.inside.heap_len c.self.inside.script.now c.self.inside.environment c.self.inside.world c.self.view_is c.self.invariant.0)
 
 pub returns-clause-types_hold : goal.returns-clause-types_hold
 returns-clause-types_hold c =
     c.accepted_modules.ensures.types_hold (module_view c.args.self.code) c.args.self.size c.args.self.script c.args.budget
-    (accepted_here c.args.self c.self.inside.checked.now c.self.inside.heap_len c.self.inside.script.now c.self.inside.environment c.self.inside.world c.self.view_is c.self.invariant)
-    (fits_here c.args.self c.self.inside.checked.now c.self.inside.heap_len c.self.inside.script.now c.self.inside.environment c.self.inside.world c.self.view_is c.self.invariant)
+    (accepted_here c.args.self c.self.inside.checked.now c.self.inside.heap_len c.self.inside.script.now c.self.inside.environment c.self.inside.world c.self.view_is c.self.invariant.0)
+    (fits_here c.args.self c.self.inside.checked.now c.self.inside.heap_len c.self.inside.script.now c.self.inside.environment c.self.inside.world c.self.view_is c.self.invariant.0)

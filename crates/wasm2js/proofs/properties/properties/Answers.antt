@@ -1,0 +1,14 @@
+use Rattle.wasm2js.proofs.Told.{in_profile}
+use Rattle.wasm2js.proofs.properties.properties.Goals as goal
+
+pub returns-clause-accepted : goal.returns-clause-accepted
+returns-clause-accepted c = c.acceptance.ensures.accepted c.args.valid.now c.source.ensures.source c.source.ensures.first
+
+pub returns-clause-well_formed : goal.returns-clause-well_formed
+returns-clause-well_formed c = c.acceptance.ensures.well_formed c.args.valid.now c.source.ensures.source c.source.ensures.first
+
+pub returns-clause-called : goal.returns-clause-called
+returns-clause-called c = c.calling.ensures.called c.args.valid.now (in_profile c.args.valid.now c.source.ensures.source) c.source.ensures.source.shaped
+
+pub returns-clause-fits : goal.returns-clause-fits
+returns-clause-fits c = c.calling.ensures.fits c.args.valid.now (in_profile c.args.valid.now c.source.ensures.source) c.source.ensures.source.shaped

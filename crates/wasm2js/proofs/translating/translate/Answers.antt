@@ -1,0 +1,30 @@
+use Rattle.std.proofs.Common.{◌≡◌, None}
+use Rattle.sem_laws.specs.Script.{ScriptPlain}
+use Rattle.asm_tree.specs.Views.{module_view}
+use Rattle.asm_lang.specs.Heights.{IsWellFormed}
+use Rattle.asm_lang_valid.specs.Refusal.{IsAccepted}
+use Rattle.asm_lang_exec.specs.Fits.{misfit}
+use Rattle.wasm_lang_exec.specs.Fits as machine
+use Rattle.wasm2js_lang.specs.Heaps.{heap_bytes}
+use Rattle.wasm2js_lang.specs.Calling.{IsCalledAs}
+use Rattle.wasm2js_lang.specs.Allowed.{script_for}
+use Rattle.wasm2js_code.specs.Modules.{translated}
+use Rattle.wasm2js.proofs.Told.{told}
+use Rattle.wasm2js.proofs.translating.translate.Goals as goal
+
+pub returns-clause-exact : goal.returns-clause-exact
+returns-clause-exact c = c.exactly.ensures
+
+pub returns-clause-accepted : goal.returns-clause-accepted
+returns-clause-accepted c = told module_view (translated c.args.valid.now) IsAccepted c.exactly.result c.properties.ensures.accepted c.exactly.ensures
+
+pub returns-clause-well_formed : goal.returns-clause-well_formed
+returns-clause-well_formed c = told module_view (translated c.args.valid.now) IsWellFormed c.exactly.result c.properties.ensures.well_formed c.exactly.ensures
+
+pub returns-clause-called : goal.returns-clause-called
+returns-clause-called c = told module_view (translated c.args.valid.now) (IsCalledAs c.args.valid.now) c.exactly.result c.properties.ensures.called c.exactly.ensures
+
+pub returns-clause-fits : goal.returns-clause-fits
+returns-clause-fits c =
+    told module_view (translated c.args.valid.now) (λ a. (s : ScriptPlain) → machine.misfit c.args.valid.now s ≡ None → misfit a (heap_bytes c.args.valid.now) (script_for c.args.valid.now s) ≡ None)
+    c.exactly.result c.properties.ensures.fits c.exactly.ensures

@@ -1,0 +1,30 @@
+//! What every translated module has.
+ghost use Rattle.std.specs.Prelude.{◌≡◌, None};
+ghost use Rattle.sem_laws.specs.Script.{ScriptPlain};
+ghost use Rattle.asm_lang.specs.Heights.{IsWellFormed};
+ghost use Rattle.asm_lang_valid.specs.Refusal.{IsAccepted};
+ghost use Rattle.asm_lang_exec.specs.Fits.{misfit};
+ghost use Rattle.wasm_lang_valid.specs.Profile.{outside_profile};
+ghost use Rattle.wasm_lang_exec.specs.Fits as machine;
+ghost use Rattle.wasm2js_lang.specs.Heaps.{heap_bytes};
+ghost use Rattle.wasm2js_lang.specs.Calling.{IsCalledAs};
+ghost use Rattle.wasm2js_lang.specs.Allowed.{script_for};
+ghost use Rattle.wasm2js_code.specs.Modules.{translated};
+
+use wasm_validate::Valid;
+use wasm2js_laws_accepted::acceptance;
+use wasm2js_laws_called::calling;
+use wasm2js_source::source;
+
+/// What a module is translated to is accepted and well formed, is called as asked, and takes each script of its source.
+pub(crate) fn properties(valid: &Valid<'_>)
+    requires { outside_profile valid.now ≡ None }
+    ensures accepted { IsAccepted (translated valid.now) }
+    ensures well_formed { IsWellFormed (translated valid.now) }
+    ensures called { IsCalledAs valid.now (translated valid.now) }
+    ensures fits { (s : ScriptPlain) → machine.misfit valid.now s ≡ None → misfit (translated valid.now) (heap_bytes valid.now) (script_for valid.now s) ≡ None }
+{
+    acceptance();
+    calling();
+    source(valid);
+}
