@@ -1,5 +1,5 @@
 -- What is asked of bodies: helpers, and accesses to the memory.
-use Rattle.std.proofs.Common.{◌≡◌, ℕ, ◌+◌, ◌≤◌, false, List, refl, sym, subst, arith}
+use Rattle.std.proofs.Common.{ℕ, ◌+◌, ◌≤◌, false, List, refl, sym, subst, arith}
 use Rattle.wasm_lang.specs.declared.types.ValType.{ValType}
 use Rattle.wasm_lang.specs.Modules.{FunctionType}
 use Rattle.wasm_lang_exec.specs.Code.{Trees}

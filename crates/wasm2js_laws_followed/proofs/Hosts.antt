@@ -1,13 +1,9 @@
 -- What holds of the host, as it is asked of a session that is settled.
-use Rattle.std.proofs.Common.{◌≡◌, ℕ, ◌+◌, ◌≤◌, List, refl, sym, ap, subst}
-use Rattle.std.specs.List.{flat_map}
-use Rattle.sem_words.specs.declared.word.Word.{Word}
-use Rattle.sem_words.specs.declared.word.TrapKind.{TrapKind}
+use Rattle.std.proofs.Common.{◌+◌, ◌≤◌, sym, ap, subst}
 use Rattle.sem_laws.specs.Observation.{trapped, stopped, no_reply, as_stop}
 use Rattle.sem_laws.specs.Simulation.{Comparison}
 use Rattle.sem_laws.specs.Laws.{KeepsOrder}
 use Rattle.sem_laws.proofs.Forms.{calling_forms_keep_order}
-use Rattle.wasm_lang.specs.Modules.{WasmModule}
 use Rattle.wasm_lang_valid.specs.Profile.{memory_bytes}
 use Rattle.wasm2js_laws_control.specs.Control.{Function}
 use Rattle.wasm2js_laws_frames.specs.Frames.{IsSettled}
