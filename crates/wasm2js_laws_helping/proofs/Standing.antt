@@ -1,8 +1,7 @@
 -- A function that stands for one of the source has all that its code uses.
-use Rattle.std.proofs.Common.{◌≡◌, ℕ, ◌≤◌, true, false, List, map, refl, sym, ap, ◌∙◌, subst, arith}
+use Rattle.std.proofs.Common.{ℕ, ◌≤◌, false, List, map, refl, sym, ap, ◌∙◌, subst, arith}
 use Rattle.wasm_lang.specs.declared.types.ValType.{ValType}
 use Rattle.wasm_lang.specs.declared.types.GlobalType.{GlobalType}
-use Rattle.wasm_lang.specs.Instructions.{Plain, load, store, memory_copy, memory_fill}
 use Rattle.wasm_lang.specs.Modules.{FunctionType, WasmModule}
 use Rattle.wasm_lang.specs.Shape.{IsShaped}
 use Rattle.wasm_lang_valid.specs.Profile.{memory_bytes, IsInProfile}
@@ -22,17 +21,14 @@ use Rattle.wasm2js_laws_scopes.proofs.Declared.{module_names_are_seen, variables
 use Rattle.wasm2js_laws_provided.specs.Laws.{is_called}
 use Rattle.wasm2js_laws_provided.proofs.Whole.{modules_provide}
 use Rattle.wasm2js_laws_places.specs.Helped.{AreHelpers}
-use Rattle.wasm2js_laws_typed.specs.Laws.{IsFormed}
 use Rattle.wasm2js_laws_control.specs.Control.{Function, IsFair}
-use Rattle.wasm2js_laws_instructions.specs.Plain.{PlainIs, Supports}
-use Rattle.wasm2js_laws_instructions.proofs.Computing.{plains_are_kept}
-use Rattle.wasm2js_laws_computed.specs.Laws.{accesses_memory}
-use Rattle.wasm2js_laws_loads.proofs.Loaded.{loads_are_read}
-use Rattle.wasm2js_laws_stores.proofs.Storing.{stores_are_written}
-use Rattle.wasm2js_laws_runs.proofs.Moved.{fill_is_done, copy_is_done}
+use Rattle.wasm2js_laws_instructions.specs.Plain.{Supports}
+use Rattle.wasm2js_laws_computed.specs.Laws.{IsHelped}
+use Rattle.wasm2js_laws_memory.specs.Laws.{AreOnMemory}
+use Rattle.wasm2js_laws_memory.proofs.Accessed.{accesses_are_kept}
 use Rattle.wasm2js_laws_helping.specs.Helping.{helping}
 use Rattle.wasm2js_laws_helping.specs.Laws.{SeesNames, BodiesHelp}
-use Rattle.wasm2js_laws_helping.specs.Standing.{StandsFor, IsCompared, HelpersStand, HelpersSupport, FunctionsAreHelped, Pays, AccessesAreKept}
+use Rattle.wasm2js_laws_helping.specs.Standing.{StandsFor, IsCompared, HelpersStand, HelpersSupport, FunctionsAreHelped, AccessesAreKept}
 use Rattle.wasm2js_laws_helping.proofs.Usual.{words_are_usual}
 use Rattle.wasm2js_laws_helping.proofs.Called.{helpers_help}
 
@@ -92,26 +88,29 @@ helpers_stand f k t more code stands = helpers_here f k t more code stands
 pub helpers_support : HelpersSupport
 helpers_support f k t more code stands pace = supports_here f k t more code stands pace
 
-pub functions_are_helped : FunctionsAreHelped
-functions_are_helped f k t more code profile shaped stands compared = record {
-  fair = fair_here f k t more code stands profile shaped compared;
-  calls = call_at false (translated f.home) f.bound;
-  follow = follows_here f k t more code stands;
-  helping = helping f.setting.bytes;
-  helpers = helpers_here f k t more code stands;
-  supports = supports_here f k t more code stands compared.pace;
+-- its helpers on the memory
+on_memory_here : (bytes : ℕ) → AreOnMemory bytes (helping bytes)
+on_memory_here bytes = record {
+  readers = record { load_32 = λ args heap. (refl, refl); load_64 = λ args heap. (refl, refl) };
+  writers = record { store_32 = λ args heap. (refl, refl); store_64 = λ args heap. (refl, refl) };
+  movers = record { fill = λ args heap. (refl, refl); copy = λ args heap. (refl, refl) };
 }
 
-access_is : (f : Function) (p : Plain) → accesses_memory p ≡ true → Pays f p → IsFormed p → Supports f (helping f.setting.bytes) → PlainIs f (helping f.setting.bytes) p
-access_is f (load op align offset) h pays formed supports =
-    loads_are_read op align offset formed f (helping f.setting.bytes) supports (record { load_32 = λ args heap. (refl, refl); load_64 = λ args heap. (refl, refl) })
-access_is f (store op align offset) h pays formed supports =
-    stores_are_written op align offset formed f (helping f.setting.bytes) supports (record { store_32 = λ args heap. (refl, refl); store_64 = λ args heap. (refl, refl) })
-access_is f memory_copy h pays formed supports = copy_is_done f (helping f.setting.bytes) supports (record { fill = λ args heap. (refl, refl); copy = λ args heap. (refl, refl) }) pays
-access_is f memory_fill h pays formed supports = fill_is_done f (helping f.setting.bytes) supports (record { fill = λ args heap. (refl, refl); copy = λ args heap. (refl, refl) }) pays
-access_is f p h pays formed supports = absurd (cc h)
+module _ (f : Function) (k : ℕ) (t : FunctionType) (more : List ValType) (code : Trees) (profile : IsInProfile f.home) (shaped : IsShaped f.home) (stands : StandsFor f k t more code)
+    (compared : IsCompared f) where
+  abbrev helped_here : IsHelped f
+  helped_here = record {
+    fair = fair_here f k t more code stands profile shaped compared;
+    calls = call_at false (translated f.home) f.bound;
+    follow = follows_here f k t more code stands;
+    helping = helping f.setting.bytes;
+    helpers = helpers_here f k t more code stands;
+    supports = supports_here f k t more code stands compared.pace;
+  }
 
-pub accesses_are_kept : AccessesAreKept
-accesses_are_kept f k t more code profile shaped stands compared p h pays =
-    plains_are_kept f (fair_here f k t more code stands profile shaped compared) (call_at false (translated f.home) f.bound) (follows_here f k t more code stands) (helping f.setting.bytes)
-    (helpers_here f k t more code stands) p (λ formed. access_is f p h pays formed (supports_here f k t more code stands compared.pace))
+pub functions_are_helped : FunctionsAreHelped
+functions_are_helped f k t more code profile shaped stands compared = helped_here f k t more code profile shaped stands compared
+
+pub standing_accesses_are_kept : AccessesAreKept
+standing_accesses_are_kept f k t more code profile shaped stands compared p h pays =
+    accesses_are_kept f (helped_here f k t more code profile shaped stands compared) (on_memory_here f.setting.bytes) p h pays

@@ -7,7 +7,7 @@ use Rattle.sem_laws.specs.Observation.{EventPlain, EndPlain, trapped, stopped, t
 use Rattle.sem_laws.specs.Laws.{KeepsOrder}
 use Rattle.wasm_lang.specs.declared.types.ValType.{ValType}
 use Rattle.wasm_lang.specs.declared.types.GlobalType.{GlobalType}
-use Rattle.wasm_lang.specs.Instructions.{Plain, memory_copy, memory_fill}
+use Rattle.wasm_lang.specs.Instructions.{Plain}
 use Rattle.wasm_lang.specs.Modules.{FunctionType}
 use Rattle.wasm_lang.specs.Shape.{IsShaped}
 use Rattle.wasm_lang_valid.specs.ModuleRules.{global_types}
@@ -27,6 +27,7 @@ use Rattle.wasm2js_laws_control.specs.Control.{Function, Match}
 use Rattle.wasm2js_laws_control.specs.Laws.{IsKeptFirst}
 use Rattle.wasm2js_laws_instructions.specs.Plain.{Supports}
 use Rattle.wasm2js_laws_computed.specs.Laws.{accesses_memory, IsHelped}
+use Rattle.wasm2js_laws_memory.specs.Laws.{moves_run}
 use Rattle.wasm2js_laws_helping.specs.Helping.{helping}
 
 -- It is what function k of the source is translated to, which has this type, these further locals and this code, and its calls are its module's.
@@ -66,13 +67,8 @@ FunctionsAreHelped =
 
 -- ---- accesses to the memory
 
--- a reduction may pay for a loop over the whole memory
-abbrev pub Pays : Function → Plain → Type 0
-Pays f memory_copy = f.setting.bytes + 80 ≤ f.pace
-Pays f memory_fill = f.setting.bytes + 80 ≤ f.pace
-Pays f p = Unit {0}
-
+-- copies and fills where a reduction may pay for a loop over the whole memory
 abbrev pub AccessesAreKept : Type 0
 AccessesAreKept =
     (f : Function) (k : ℕ) (t : FunctionType) (more : List ValType) (code : Trees) → IsInProfile f.home → IsShaped f.home → StandsFor f k t more code → IsCompared f
-    → (p : Plain) → accesses_memory p ≡ true → Pays f p → IsKeptFirst f (plain p)
+    → (p : Plain) → accesses_memory p ≡ true → (moves_run p ≡ true → f.setting.bytes + 80 ≤ f.pace) → IsKeptFirst f (plain p)

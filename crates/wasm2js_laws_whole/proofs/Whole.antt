@@ -8,11 +8,11 @@ use Rattle.wasm2js_code.specs.Modules.{translated}
 use Rattle.wasm2js_laws_provided.proofs.Within.{rows_are_within, few_bytes}
 use Rattle.wasm2js_laws_functions.specs.Functions.{IsSource}
 use Rattle.wasm2js_laws_frames.proofs.Helped.{profile_of}
+use Rattle.wasm2js_laws_followed.proofs.Hosts.{hosted_calls_are_followed}
 use Rattle.wasm2js_laws_called.proofs.Whole.{translations_are_called}
 use Rattle.wasm2js_laws_accepted.proofs.Spelled.{spelled_are_sources}
 use Rattle.wasm2js_laws_sessions.proofs.Whole.{translations_are_allowed}
 use Rattle.wasm2js_laws_whole.specs.Laws.{most_pace, SourcesAreReady, SourcesAreAllowed, TrapsOfSourcesAreCalls, SpelledAreAllowed, TrapsOfSpelledAreCalls}
-use Rattle.wasm2js_laws_whole.proofs.Following.{calls_follow_at_pace}
 
 pays_for_all : (w : WasmModule) → IsSource w → memory_bytes w + 80 ≤ most_pace
 pays_for_all w source = let few = few_bytes w (rows_are_within w source.within) in omega (arith, few)
@@ -23,7 +23,7 @@ sources_are_ready w source words stored = record {
   words = words;
   called = translations_are_called w (profile_of w source) source.shaped;
   some = omega arith;
-  follow = calls_follow_at_pace w most_pace (pays_for_all w source);
+  follow = hosted_calls_are_followed w most_pace (pays_for_all w source);
   stored = stored;
 }
 

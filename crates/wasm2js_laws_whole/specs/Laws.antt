@@ -1,24 +1,19 @@
 -- The translations of modules of the profile may be written for them.
-use Rattle.std.specs.Prelude.{◌≡◌, ℕ, ◌+◌, ◌^◌, ◌≤◌, None}
+use Rattle.std.specs.Prelude.{◌≡◌, ℕ, ◌+◌, ◌^◌, None}
 use Rattle.sem_laws.specs.Script.{ScriptPlain}
 use Rattle.wasm_lang.specs.Modules.{WasmModule}
 use Rattle.wasm_lang.specs.Shape.{IsWritable}
-use Rattle.wasm_lang_valid.specs.Profile.{memory_bytes, IsInProfile}
+use Rattle.wasm_lang_valid.specs.Profile.{IsInProfile}
 use Rattle.wasm_lang_exec.specs.Fits.{misfit}
 use Rattle.asm2wasm_lang.specs.Allowed.{WritesBytes}
 use Rattle.wasm2js_lang.specs.Allowed.{IsAllowed, TrapsAreCalls}
 use Rattle.wasm2js_code.specs.Modules.{translated}
 use Rattle.wasm2js_laws_functions.specs.Functions.{IsSource}
 use Rattle.wasm2js_laws_accepted.specs.Laws.{HaveFirstWords}
-use Rattle.wasm2js_laws_host.specs.Hosts.{HostedCallsFollow}
 use Rattle.wasm2js_laws_start.specs.Laws.{IsStored}
 use Rattle.wasm2js_laws_sessions.specs.Laws.{IsReady}
 
--- a reduction that copies or fills pays for a loop over the whole memory
-abbrev pub CallsFollowAtPace : Type 0
-CallsFollowAtPace = (w : WasmModule) (pace : ℕ) → memory_bytes w + 80 ≤ pace → HostedCallsFollow w pace
-
--- no memory of the profile needs more
+-- a reduction that copies or fills pays for a loop over the whole memory, and no memory of the profile is larger than 2^28 bytes
 abbrev pub most_pace : ℕ
 most_pace = 2 ^ 28 + 256
 

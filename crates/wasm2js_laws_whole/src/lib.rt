@@ -1,12 +1,7 @@
 //! From WebAssembly to asm.js: what each module of the profile is translated to may be written for it.
 #![tactic(auto)]
 
-ghost use Rattle.wasm2js_laws_whole.specs.Laws.{CallsFollowAtPace, SourcesAreReady, SourcesAreAllowed, TrapsOfSourcesAreCalls, SpelledAreAllowed, TrapsOfSpelledAreCalls};
-
-/// Calls of functions, from any caller, where a reduction pays for a loop over the whole memory.
-pub fn calls()
-    ensures { CallsFollowAtPace }
-{}
+ghost use Rattle.wasm2js_laws_whole.specs.Laws.{SourcesAreReady, SourcesAreAllowed, TrapsOfSourcesAreCalls, SpelledAreAllowed, TrapsOfSpelledAreCalls};
 
 /// The translation of a source whose segments are stored: it is allowed, and its traps are calls of the trap import.
 pub fn translations()

@@ -1,4 +1,4 @@
-use Rattle.wasm2js_laws_helping.proofs.Standing.{helpers_stand, helpers_support, functions_are_helped, accesses_are_kept}
+use Rattle.wasm2js_laws_helping.proofs.Standing.{helpers_stand, helpers_support, functions_are_helped, standing_accesses_are_kept}
 use Rattle.wasm2js_laws_helping.proofs.functions.Goals as goal
 
 pub returns-clause-helpers : goal.returns-clause-helpers
@@ -11,4 +11,4 @@ pub returns-clause-helped : goal.returns-clause-helped
 returns-clause-helped c = functions_are_helped
 
 pub returns-clause-accesses : goal.returns-clause-accesses
-returns-clause-accesses c = accesses_are_kept
+returns-clause-accesses c = standing_accesses_are_kept

@@ -1,0 +1,14 @@
+//! From WebAssembly to asm.js: calls of the functions of a translated module follow.
+#![tactic(auto)]
+
+ghost use Rattle.wasm2js_laws_followed.specs.Laws.{SettledCallsFollow, HostedCallsAreFollowed};
+
+/// In a session that is settled, from any caller.
+pub fn settled()
+    ensures { SettledCallsFollow }
+{}
+
+/// From the host, in both parts of a session.
+pub fn hosted()
+    ensures { HostedCallsAreFollowed }
+{}
