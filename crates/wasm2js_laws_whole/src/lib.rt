@@ -3,12 +3,13 @@
 
 ghost use Rattle.wasm2js_laws_whole.specs.Laws.{SourcesAreReady, SourcesAreAllowed, TrapsOfSourcesAreCalls, SpelledAreAllowed, TrapsOfSpelledAreCalls};
 
-/// The translation of a source whose segments are stored: it is allowed, and its traps are calls of the trap import.
+/// The translation of a source is allowed, and its traps are calls of the trap import.
 pub fn translations()
     ensures ready { SourcesAreReady }
     ensures allowed { SourcesAreAllowed }
     ensures traps { TrapsOfSourcesAreCalls }
 {
+    wasm2js_laws_sessions::translations();
     wasm2js_lang::traps_of_the_allowed();
 }
 
@@ -17,5 +18,6 @@ pub fn spelled()
     ensures allowed { SpelledAreAllowed }
     ensures traps { TrapsOfSpelledAreCalls }
 {
+    wasm2js_laws_sessions::translations();
     wasm2js_lang::traps_of_the_allowed();
 }
