@@ -1,6 +1,6 @@
 -- The variables that stand for globals begin with the words of the globals' first values.
-use Rattle.std.proofs.Common.{◌≡◌, ℕ, zero, suc, ◌+◌, ◌*◌, ◌^◌, ◌<◌, ◌≤◌, Bool, true, false, ◌&&◌, not, List, [], ◌∷◌, ◌++◌, append_assoc, length, map, Option, Some, None, pos, refl, sym, ap, ◌∙◌, subst, arith}
-use Rattle.std.specs.Prelude.{slice_get, option_map, bytes_eq, if◌then◌else◌, ◌==◌, ◌/◌, ◌%◌}
+use Rattle.std.proofs.Common.{◌≡◌, ℕ, zero, suc, ◌+◌, ◌*◌, ◌^◌, ◌<◌, ◌≤◌, Bool, true, false, not, List, [], ◌∷◌, ◌++◌, append_assoc, length, map, Option, Some, None, pos, refl, sym, ap, ◌∙◌, subst, arith}
+use Rattle.std.specs.Prelude.{slice_get, option_map, bytes_eq, if◌then◌else◌, ◌==◌}
 use Rattle.std.specs.List.{All, AllByRecursion}
 use Rattle.std.proofs.lemmas.Bool.{and_parts}
 use Rattle.std.proofs.lemmas.Bool.Decides.{nat_tests}
@@ -29,7 +29,7 @@ use Rattle.wasm_lang.specs.Modules.{Imported, GlobalEntry, WasmModule}
 use Rattle.wasm_lang_valid.specs.declared.rule.Rule.{Rule}
 use Rattle.wasm_lang_valid.specs.declared.rule.Rule.TheVariants.{Initializer, NoGlobal}
 use Rattle.wasm_lang_valid.specs.declared.section.Section.TheVariants as sections
-use Rattle.wasm_lang_valid.specs.ModuleRules.{meets, at, global_of, imported_globals, global_types, has_memory, is_global, is_constant, is_end, init_rule, value_rule}
+use Rattle.wasm_lang_valid.specs.ModuleRules.{meets, at, global_of, imported_globals, has_memory, is_global, is_constant, is_end, init_rule, value_rule}
 use Rattle.wasm_lang_valid.specs.Typing.{same, same_result}
 use Rattle.wasm_lang_valid.specs.Profile.{where_so, is_wide_kind, wide_import}
 use Rattle.wasm_lang_exec.specs.Reductions.{Callee, an_import, a_function, callees}
@@ -39,7 +39,7 @@ use Rattle.wasm_lang_exec.specs.Fits.{GlobalImport, with_import, global_imports}
 use Rattle.asm_lang.specs.Modules.{Variable}
 use Rattle.asm_lang_exec.specs.Runs.{Binding, binding, value_in}
 use Rattle.asm_lang_exec.specs.Session.{given_value, first_globals}
-use Rattle.wasm2js_words.specs.Names.{Name, Fixed, Numbered, numbered, fixed, spare_high, result_high, global_low, global_high, spelled}
+use Rattle.wasm2js_words.specs.Names.{Name, numbered, fixed, spare_high, result_high, global_low, global_high, spelled}
 use Rattle.wasm2js_lang.specs.Allowed.{script_for}
 use Rattle.wasm2js_code.specs.Modules.{view_variables, fixed_variables, foreign_variables, given_variable, imported_variables, first_values, own_variables, global_variables, variables_of}
 use Rattle.wasm2js_laws_provided.proofs.Within.{rows_are_within}

@@ -1,5 +1,5 @@
 -- The place after the segments stands for the store after instantiation.
-use Rattle.std.proofs.Common.{◌≡◌, ℕ, ◌+◌, ◌<◌, ◌≤◌, true, ◌&&◌, List, [], ◌∷◌, length, Some, None, refl, sym, ap, ◌∙◌, subst, arith}
+use Rattle.std.proofs.Common.{◌≡◌, ℕ, ◌+◌, ◌<◌, ◌≤◌, true, ◌&&◌, List, [], ◌∷◌, length, None, refl, sym, ap, ◌∙◌, subst}
 use Rattle.std.specs.List.{AllByRecursion}
 use Rattle.std.proofs.lemmas.Bool.{and_from}
 use Rattle.std.proofs.lemmas.List.Elements.{All-from_recursion}
@@ -7,9 +7,8 @@ use Rattle.sem_laws.specs.Script.{ScriptPlain}
 use Rattle.wasm_lang.specs.Modules.{DataSegment, WasmModule}
 use Rattle.wasm_lang_valid.specs.Profile.{or_zero, constant_offset, memory_bytes, IsInProfile}
 use Rattle.wasm_lang_exec.specs.Store.{Store}
-use Rattle.wasm_lang_exec.specs.Session.{first_globals, with_entries, with_bytes, entries_fit, bytes_fit, first_store, first_memory}
+use Rattle.wasm_lang_exec.specs.Session.{with_entries, with_bytes, entries_fit, bytes_fit, first_store, first_memory}
 use Rattle.wasm_lang_exec.specs.Fits.{misfit}
-use Rattle.asm_lang_exec.specs.Runs.{Place}
 use Rattle.asm2wasm_lang.specs.Allowed.{WritesBytes}
 use Rattle.wasm2js_lang.specs.Tables.{entries_of}
 use Rattle.wasm2js_lang.specs.Calling.{IsCalledAs}
@@ -26,7 +25,7 @@ use Rattle.wasm2js_laws_segments.proofs.Stored.{segments_are_stored}
 use Rattle.wasm2js_laws_start.specs.Laws.{begins_at, begins_with, IsStored}
 use Rattle.wasm2js_laws_instances.specs.Laws.{HasFirstGlobals, StoresAreHeld}
 use Rattle.wasm2js_laws_instances.proofs.Globals.{globals_begin}
-use Rattle.wasm2js_laws_instances.proofs.Memory.{FitsIn, heap, heap_holds, memory_long, heap_after, memory_after, past_after, is_heap_after, replies_are}
+use Rattle.wasm2js_laws_instances.proofs.Memory.{FitsIn, heap_holds, memory_long, heap_after, memory_after, past_after, is_heap_after, replies_are}
 use Rattle.wasm2js_laws_instances.proofs.Instance.{IsConstant, entries_only, bytes_only, bytes_fit_in, entries_fit_first}
 
 all_map : {A : Type 0} (P Q : A → Type 0) (xs : List A) → ((x : A) → P x → Q x) → AllByRecursion P xs → AllByRecursion Q xs

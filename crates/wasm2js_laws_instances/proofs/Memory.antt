@@ -1,21 +1,19 @@
 -- The memory of WebAssembly in the heap of asm.js, as a session begins and after the segments.
-use Rattle.std.proofs.Common.{◌≡◌, ℕ, zero, suc, ◌+◌, ◌*◌, ◌^◌, ◌<◌, ◌≤◌, Bool, true, false, List, [], ◌∷◌, ◌++◌, length, map, take, drop, take-append-drop, replicate, Option, Some, None, refl, sym, ap, ◌∙◌, subst, arith}
-use Rattle.std.specs.Prelude.{slice_get, if◌then◌else◌, nat_le, ◌&&◌}
-use Rattle.std.specs.List.{All, AllByRecursion, list_all}
+use Rattle.std.proofs.Common.{◌≡◌, ℕ, ◌+◌, ◌*◌, ◌^◌, ◌<◌, ◌≤◌, Bool, true, false, List, [], ◌∷◌, ◌++◌, length, map, take, drop, take-append-drop, replicate, Option, Some, None, refl, sym, ap, ◌∙◌, subst, arith}
+use Rattle.std.specs.Prelude.{if◌then◌else◌, nat_le}
+use Rattle.std.specs.List.{AllByRecursion, list_all}
 use Rattle.std.proofs.lemmas.Bool.{and_parts}
 use Rattle.std.proofs.lemmas.Bool.Decides.{nat_tests}
 use Rattle.std.proofs.lemmas.List.{length-replicate, length-take-le}
-use Rattle.std.proofs.lemmas.List.Elements.{All-from_recursion, recursion_from_All, All-replicate}
+use Rattle.std.proofs.lemmas.List.Elements.{recursion_from_All, All-replicate}
 use Rattle.std.proofs.Math.Seq.{take-append_seam, drop-append_seam}
 use Rattle.heap_views.specs.Numbers.{IsBytes}
 use Rattle.heap_views.specs.Heap.{with_run}
 use Rattle.heap_views.proofs.RunLemmas.{length-with_run, with_run-append, IsBytes-with_run}
 use Rattle.sem_laws.specs.Script.{WritePlain, ReplyPlain, give, throw, ReplyLinePlain, ScriptPlain}
-use Rattle.script_fits.specs.Fits.{writes_of}
 use Rattle.script_fits.specs.FitLaws.{a_reply, Fits}
 use Rattle.script_fits.proofs.Misfits.{no_misfit_fits}
 use Rattle.wasm_lang.specs.Modules.{DataSegment, WasmModule}
-use Rattle.wasm_lang_valid.specs.ModuleRules.{has_memory}
 use Rattle.wasm_lang_valid.specs.Runnable.{pages}
 use Rattle.wasm_lang_valid.specs.Profile.{or_zero, constant_offset, memory_bytes}
 use Rattle.wasm_lang_exec.specs.Store.{page, written}

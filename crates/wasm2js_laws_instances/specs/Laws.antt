@@ -1,5 +1,5 @@
 -- The place where a session begins in asm.js and the store where it begins in WebAssembly.
-use Rattle.std.specs.Prelude.{◌≡◌, ℕ, map, None}
+use Rattle.std.specs.Prelude.{◌≡◌, map, None}
 use Rattle.sem_laws.specs.Script.{ScriptPlain}
 use Rattle.wasm_lang.specs.declared.types.GlobalType.{GlobalType}
 use Rattle.wasm_lang.specs.Modules.{WasmModule}

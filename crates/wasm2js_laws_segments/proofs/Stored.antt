@@ -1,5 +1,5 @@
 -- The statements of a segment, by words and bytes.
-use Rattle.std.proofs.Common.{◌≡◌, ℕ, zero, suc, ◌+◌, ◌-◌, ◌*◌, ◌/◌, ◌%◌, ◌^◌, ◌<◌, ◌≤◌, List, [], ◌∷◌, ◌++◌, append_assoc, length, take, drop, take-append-drop, pos, inl, inr, ⊎_elim, refl, sym, ap, ◌∙◌, subst, arith}
+use Rattle.std.proofs.Common.{◌≡◌, ℕ, zero, suc, ◌+◌, ◌*◌, ◌/◌, ◌%◌, ◌^◌, ◌<◌, ◌≤◌, List, [], ◌∷◌, ◌++◌, append_assoc, length, take, drop, take-append-drop, pos, ⊎_elim, refl, sym, ap, ◌∙◌, arith}
 use Rattle.std.specs.List.{AllByRecursion, flat_map}
 use Rattle.std.proofs.lemmas.Bool.{cases_lt}
 use Rattle.std.proofs.lemmas.List.{length-take-le, take_all, drop_all, length-append}
@@ -14,11 +14,11 @@ use Rattle.heap_views.specs.Numbers.{little_endian, bytes_of}
 use Rattle.heap_views.proofs.NumberLemmas.{bytes_of-little_endian}
 use Rattle.heap_views.proofs.HeapLemmas.{store_is}
 use Rattle.heap_views.proofs.RunLemmas.{length-with_run, with_run-append_bytes, with_run_none}
-use Rattle.wasm_lang.specs.Modules.{DataSegment, WasmModule}
+use Rattle.wasm_lang.specs.Modules.{DataSegment}
 use Rattle.wasm_lang_valid.specs.Profile.{constant_offset, or_zero, memory_bytes}
 use Rattle.asm_lang.specs.Modules.{Stmt}
 use Rattle.asm_lang_valid.specs.Typing.{Scope}
-use Rattle.asm_lang_exec.specs.Runs.{Place, Run, Part, and_then}
+use Rattle.asm_lang_exec.specs.Runs.{Place, Part, and_then}
 use Rattle.asm_lang_exec.specs.Values.{write_element}
 use Rattle.asm_lang_exec.specs.Meaning.{Completion, normal}
 use Rattle.asm_laws_continuation.specs.Following.{CallsBefore, exec_all_to}

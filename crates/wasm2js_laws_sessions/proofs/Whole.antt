@@ -1,10 +1,8 @@
 -- Whole sessions.
-use Rattle.std.proofs.Common.{◌≡◌, ℕ, ◌+◌, ◌*◌, ◌≤◌, true, false, length, List, [], Option, Some, None, refl, sym, ap, ◌∙◌, subst, arith}
-use Rattle.std.specs.Prelude.{slice_get}
+use Rattle.std.proofs.Common.{◌≡◌, ℕ, ◌+◌, ◌*◌, true, false, length, [], Some, None, refl, sym, ap, ◌∙◌, arith}
 use Rattle.std.specs.List.{AllByRecursion}
-use Rattle.sem_laws.specs.Script.{CallPlain, ScriptPlain}
-use Rattle.sem_laws.specs.Observation.{ObservationPlain}
-use Rattle.sem_laws.specs.Simulation.{Session, Comparison, SourceIsBelow, Sim}
+use Rattle.sem_laws.specs.Script.{ScriptPlain}
+use Rattle.sem_laws.specs.Simulation.{Comparison, SourceIsBelow, Sim}
 use Rattle.sem_laws.specs.Laws.{IsFollowed}
 use Rattle.sem_laws.proofs.Forms.{calling_forms_keep_order}
 use Rattle.sem_laws.proofs.Runs.{followed_sessions_simulate}
@@ -13,17 +11,16 @@ use Rattle.script_fits.proofs.Misfits.{no_misfit_fits}
 use Rattle.wasm_lang.specs.Modules.{WasmModule}
 use Rattle.wasm_lang_exec.specs.Fits as machine
 use Rattle.wasm_laws_drive.proofs.Sessions.{sessions_are_monotone}
-use Rattle.asm_lang.specs.Modules.{Module}
-use Rattle.asm_lang_exec.specs.Runs.{Place, Run, goes, stops, spent, wrong, after, gives}
+use Rattle.asm_lang_exec.specs.Runs.{Run, goes, stops, spent, wrong, after, gives}
 use Rattle.asm_lang_exec.specs.Meaning.{call_at}
-use Rattle.asm_lang_exec.specs.Session.{host_calls, observed, first_heap, asm}
+use Rattle.asm_lang_exec.specs.Session.{host_calls, observed, first_heap}
 use Rattle.asm_lang_exec.specs.Fits.{misfit}
 use Rattle.asm_laws_continuation.specs.Following.{call_at_to, host_calls_to}
 use Rattle.asm_laws_continuation.proofs.Following.{sessions_follow}
 use Rattle.asm_laws_sound.proofs.Sessions.{accepted_never_go_wrong}
 use Rattle.asm2wasm_lang.specs.Allowed.{or_nothing, WritesBytes}
 use Rattle.wasm2js_lang.specs.Heaps.{heap_bytes}
-use Rattle.wasm2js_lang.specs.Allowed.{script_for, source_session, target_session, comparison, segment_bytes, enough_for, IsAllowed}
+use Rattle.wasm2js_lang.specs.Allowed.{script_for, source_session, target_session, comparison, segment_bytes}
 use Rattle.wasm2js_code.specs.Modules.{translated}
 use Rattle.wasm2js_laws_scripts.proofs.Fitting.{holds_or, all_from_places, scripts_fit}
 use Rattle.wasm2js_laws_scripts.proofs.Names.{shaped_exports_are_bytes}
