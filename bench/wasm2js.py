@@ -93,7 +93,7 @@ def loops(program):
             wat, wasm, text, other = (os.path.join(folder, it) for it in ("m.wat", "m.wasm", "m.js", "m.mjs"))
             with open(wat, "w", encoding="ascii") as out:
                 out.write(source)
-            subprocess.run(["wat2wasm", "--enable-bulk-memory", wat, "-o", wasm], check=True)
+            subprocess.run(["wat2wasm", wat, "-o", wasm], check=True)
             with open(text, "wb") as out:
                 out.write(subprocess.run([program, "wasm2js", wasm], stdout=subprocess.PIPE, check=True).stdout)
             words = ["node", "-e", NODE, str(turns), wasm, text]
@@ -109,7 +109,8 @@ def main():
     counts = [int(word) for word in sys.argv[2:]] or COUNTS
     tools = [
         ("wasm2js", lambda file: [program, "wasm2js", file]),
-        ("binaryen", lambda file: ["wasm2js", file]),
+        # (binaryen tells a module by the ending of its name)
+        ("binaryen", lambda file: ["sh", "-c", "cp $0 $0.wasm && wasm2js $0.wasm", file]),
     ]
     compare(counts, "functions", module, tools)
     if shutil.which("wasm2js"):

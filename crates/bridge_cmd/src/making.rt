@@ -63,8 +63,7 @@ fn translated_back(alloc: Global, bytes: &[u8]) -> Result<Vec<u8>, Refusal>
     ensures made { (file : List ℕ) → IfOk result (λ output. IsMade (spec.wasm_to_asm file) bytes.now output.items) }
     ensures barred { (file : List ℕ) → IfErr result (λ refusal. IsAnswered (spec.wasm_to_asm file) bytes.now (reason_of refusal)) }
 {
-    wasm2js_laws_accepted::acceptance();
-    wasm2js_laws_accepted::sources();
+    wasm2js_laws_whole::spelled();
     printed_texts_are_read();
     let valid = match check_bytes(alloc, bytes) {
         Ok(valid) => valid,

@@ -8,23 +8,28 @@ ghost use Rattle.wasm_lang_valid.specs.Profile.{outside_profile};
 ghost use Rattle.wasm_lang_exec.specs.Fits as machine;
 ghost use Rattle.wasm2js_lang.specs.Heaps.{heap_bytes};
 ghost use Rattle.wasm2js_lang.specs.Calling.{IsCalledAs};
-ghost use Rattle.wasm2js_lang.specs.Allowed.{script_for};
+ghost use Rattle.wasm2js_lang.specs.Allowed.{IsAllowed, TrapsAreCalls, script_for};
 ghost use Rattle.wasm2js_code.specs.Modules.{translated};
 
 use wasm_validate::Valid;
 use wasm2js_laws_accepted::acceptance;
 use wasm2js_laws_called::calling;
+use wasm2js_laws_whole::translations;
 use wasm2js_source::source;
 
-/// What a module is translated to is accepted and well formed, is called as asked, and takes each script of its source.
+/// What a module is translated to is accepted and well formed, is called as asked, and takes each script of its source; its
+/// sessions show what those of the source show, and where those trap it calls the trap import.
 pub(crate) fn properties(valid: &Valid<'_>)
     requires { outside_profile valid.now ≡ None }
     ensures accepted { IsAccepted (translated valid.now) }
     ensures well_formed { IsWellFormed (translated valid.now) }
     ensures called { IsCalledAs valid.now (translated valid.now) }
     ensures fits { (s : ScriptPlain) → machine.misfit valid.now s ≡ None → misfit (translated valid.now) (heap_bytes valid.now) (script_for valid.now s) ≡ None }
+    ensures allowed { IsAllowed valid.now (translated valid.now) }
+    ensures traps { TrapsAreCalls valid.now (translated valid.now) }
 {
     acceptance();
     calling();
+    translations();
     source(valid);
 }

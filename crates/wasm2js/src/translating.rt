@@ -11,7 +11,7 @@ ghost use Rattle.wasm_lang_valid.specs.Profile.{outside_profile};
 ghost use Rattle.wasm_lang_exec.specs.Fits as machine;
 ghost use Rattle.wasm2js_lang.specs.Heaps.{heap_bytes};
 ghost use Rattle.wasm2js_lang.specs.Calling.{IsCalledAs};
-ghost use Rattle.wasm2js_lang.specs.Allowed.{script_for};
+ghost use Rattle.wasm2js_lang.specs.Allowed.{IsAllowed, TrapsAreCalls, script_for};
 ghost use Rattle.wasm2js_lang.specs.Tables as plain;
 ghost use Rattle.wasm2js_code.specs.Modules as code;
 ghost use Rattle.wasm2js_code.specs.Tables.{tables_for};
@@ -31,7 +31,8 @@ use wasm2js_stubs::{push_stubs, tables};
 use wasm2js_tables::{MaskedTable, masked};
 
 /// The module of asm.js for a valid module of WebAssembly that can be translated: it is accepted, some text says it, it is
-/// called as asked, and it takes each script that its source takes.
+/// called as asked, and it takes each script that its source takes. With each of them the two show the same, and it calls the
+/// trap import exactly where its source traps.
 pub fn translate(alloc: Global, valid: &Valid<'_>) -> Result<Module, AllocError>
     requires { outside_profile valid.now ≡ None }
     ensures exact { IfOk result (λ m. module_view m ≡ code.translated valid.now) }
@@ -39,6 +40,8 @@ pub fn translate(alloc: Global, valid: &Valid<'_>) -> Result<Module, AllocError>
     ensures well_formed { IfOk result (λ m. IsWellFormed (module_view m)) }
     ensures called { IfOk result (λ m. IsCalledAs valid.now (module_view m)) }
     ensures fits { IfOk result (λ m. (s : ScriptPlain) → machine.misfit valid.now s ≡ None → misfit (module_view m) (heap_bytes valid.now) (script_for valid.now s) ≡ None) }
+    ensures allowed { IfOk result (λ m. IsAllowed valid.now (module_view m)) }
+    ensures traps { IfOk result (λ m. TrapsAreCalls valid.now (module_view m)) }
 {
     properties(valid);
     exactly(alloc, valid)

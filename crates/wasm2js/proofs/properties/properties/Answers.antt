@@ -12,3 +12,9 @@ returns-clause-called c = c.calling.ensures.called c.args.valid.now (in_profile 
 
 pub returns-clause-fits : goal.returns-clause-fits
 returns-clause-fits c = c.calling.ensures.fits c.args.valid.now (in_profile c.args.valid.now c.source.ensures.source) c.source.ensures.source.shaped
+
+pub returns-clause-allowed : goal.returns-clause-allowed
+returns-clause-allowed c = c.translations.ensures.allowed c.args.valid.now c.source.ensures.source c.source.ensures.first
+
+pub returns-clause-traps : goal.returns-clause-traps
+returns-clause-traps c = c.translations.ensures.traps c.args.valid.now c.source.ensures.source c.source.ensures.first

@@ -7,7 +7,7 @@ use Rattle.asm_lang_exec.specs.Fits.{misfit}
 use Rattle.wasm_lang_exec.specs.Fits as machine
 use Rattle.wasm2js_lang.specs.Heaps.{heap_bytes}
 use Rattle.wasm2js_lang.specs.Calling.{IsCalledAs}
-use Rattle.wasm2js_lang.specs.Allowed.{script_for}
+use Rattle.wasm2js_lang.specs.Allowed.{IsAllowed, TrapsAreCalls, script_for}
 use Rattle.wasm2js_code.specs.Modules.{translated}
 use Rattle.wasm2js.proofs.Told.{told}
 use Rattle.wasm2js.proofs.translating.translate.Goals as goal
@@ -28,3 +28,9 @@ pub returns-clause-fits : goal.returns-clause-fits
 returns-clause-fits c =
     told module_view (translated c.args.valid.now) (λ a. (s : ScriptPlain) → machine.misfit c.args.valid.now s ≡ None → misfit a (heap_bytes c.args.valid.now) (script_for c.args.valid.now s) ≡ None)
     c.exactly.result c.properties.ensures.fits c.exactly.ensures
+
+pub returns-clause-allowed : goal.returns-clause-allowed
+returns-clause-allowed c = told module_view (translated c.args.valid.now) (IsAllowed c.args.valid.now) c.exactly.result c.properties.ensures.allowed c.exactly.ensures
+
+pub returns-clause-traps : goal.returns-clause-traps
+returns-clause-traps c = told module_view (translated c.args.valid.now) (TrapsAreCalls c.args.valid.now) c.exactly.result c.properties.ensures.traps c.exactly.ensures
