@@ -8,8 +8,9 @@ use Rattle.cmd_check_asm.specs.Verdicts as texts
 use Rattle.wasm_lang.specs.Modules.{WasmModule}
 use Rattle.wasm_lang.proofs.ReadingLawsOne.{one_module}
 use Rattle.wasm_lang_valid.specs.declared.profile.Outside.{Outside}
+use Rattle.wasm_lang_valid.specs.Profile.{outside_profile}
 use Rattle.wasm_lang_valid.specs.Runnable.{not_runnable}
-use Rattle.wasm_lang_valid.specs.Bytes.{IsValidBytes}
+use Rattle.wasm_lang_valid.specs.Bytes.{IsValidBytes, IsTranslatable, IsBeyond}
 use Rattle.cmd_check_wasm.specs.declared.fault.CheckFault.{CheckFault}
 use Rattle.cmd_check_wasm.specs.declared.fault.CheckFault.TheVariants as checks
 use Rattle.cmd_check_wasm.specs.Verdicts.{IsRefused}
@@ -24,12 +25,12 @@ use Rattle.bridge_words.specs.declared.fault.WordsFault.{WordsFault}
 use Rattle.bridge_words.specs.declared.fault.WordsFault.TheVariants as words_faults
 use Rattle.bridge_cmd.specs.declared.status.Status.TheVariants.{Usage}
 use Rattle.bridge_cmd.specs.Asking.{done_by, asked_by}
-use Rattle.bridge_cmd.specs.declared.words.Making.TheVariants.{AsmToWasm, CheckAsm, CheckWasm, Show}
+use Rattle.bridge_cmd.specs.declared.words.Making.TheVariants.{AsmToWasm, WasmToAsm, CheckAsm, CheckWasm, Show}
 use Rattle.bridge_cmd.specs.declared.words.Action.{Action}
 use Rattle.bridge_cmd.specs.declared.words.Action.TheVariants.{Make, Run}
 use Rattle.bridge_cmd.specs.Command.{Asked, Running, as_binary, run, asked, asm_js, web_assembly, begins_with_zero, language_of, read_as, file_of}
 use Rattle.bridge_cmd.specs.Answers.{IsAnswered, a_bar, want_of_memory, IsScriptAnswer, an_unfit_line, no_room, MayAnswer, a_refusal, a_read_fault, no_memory}
-use Rattle.bridge_cmd.specs.Job.{Job, refused, file_limit, Holds, IsFileJob, absent, long, held, IsBarred, not_accepted, not_valid, outside, IsMade, translated, text_counted, bytes_counted, printed, listed, IsPlayed, unfit, ran, IsModuleJob, barred, made, scripted, IsJob, no_command, commanded}
+use Rattle.bridge_cmd.specs.Job.{Job, refused, file_limit, Holds, IsFileJob, absent, long, held, IsBarred, not_accepted, not_valid, not_translated, outside, IsMade, translated, translated_back, text_counted, bytes_counted, printed, listed, IsPlayed, unfit, ran, IsModuleJob, barred, made, scripted, IsJob, no_command, commanded}
 use Rattle.bridge_cmd.specs.Runs.{Runner, text_runner, binary_runner, IsRunner, a_text, a_binary, script_for, Prints}
 use Rattle.bridge_cmd.specs.Outcome.{EndsAs, IsCutShort, by_a_read, by_want, MayReport}
 use Rattle.bridge_cmd.specs.Reason.{Reason, read_fault, missing, too_large}
@@ -51,12 +52,28 @@ one_row bytes r q x y =
     let e : Some r ≡ Some q = sym x.meets ∙ sym (ap not_runnable same) ∙ y.meets in
     cc
 
+one_beyond : (bytes : List ℕ) (r q : Outside) → IsBeyond bytes r → IsBeyond bytes q → r ≡ q
+one_beyond bytes r q x y =
+    let same = same_module bytes x.«module» y.«module» x.taken y.taken in
+    let e : Some r ≡ Some q = sym x.meets ∙ sym (ap outside_profile same) ∙ y.meets in
+    cc
+
+-- what can be translated is valid
+is_valid : (bytes : List ℕ) (m : WasmModule) → IsTranslatable bytes m → IsValidBytes bytes m
+is_valid bytes m t = record { read = t.read; valid = t.within.valid }
+
 one_bar : (a : Asked) (bytes : List ℕ) (r q : Reason) → IsBarred a bytes r → IsBarred a bytes q → status_of r ≡ status_of q
 one_bar a bytes r q (not_accepted f x i) (not_accepted g y j) = ap (λ e. status_of (reason_of_text e)) (laws.one_fault bytes f g i j)
 one_bar a bytes r q (not_accepted f x i) (not_valid g y j n) = absurd cc
+one_bar a bytes r q (not_accepted f x i) (not_translated row o) = absurd cc
 one_bar a bytes r q (not_accepted f x i) (outside row o) = absurd cc
 one_bar a bytes r q (not_valid f x i n) (not_accepted g y j) = absurd cc
 one_bar a bytes r q (not_valid f x i n) (not_valid g y j n') = ap (λ e. status_of (reason_of_check e)) (one_fault bytes f g i j n n')
+one_bar a bytes r q (not_valid f x i n) (not_translated row o) = absurd (n (not_both bytes o.«module» f o.taken i))
+one_bar a bytes r q (not_translated row o) (not_accepted g y j) = absurd cc
+one_bar a bytes r q (not_translated row o) (not_valid g y j n) = absurd (n (not_both bytes o.«module» g o.taken j))
+one_bar a bytes r q (not_translated row o) (not_translated row' o') =
+    let e = one_beyond bytes row row' o o' in rw e refl
 one_bar a bytes r q (not_valid f x i n) (outside row o) = absurd (n (not_both bytes o.«module» f o.taken i))
 one_bar a bytes r q (outside row o) (not_accepted g y j) = absurd cc
 one_bar a bytes r q (outside row o) (not_valid g y j n) = absurd (n (not_both bytes o.«module» g o.taken j))
@@ -67,15 +84,21 @@ one_bar a bytes r q (outside row o) (outside row' o') =
 
 bar_makes_nothing : (a : Asked) (bytes output : List ℕ) (r : Reason) → IsBarred a bytes r → IsMade a bytes output → ⊥
 bar_makes_nothing a bytes output r (not_accepted f x i) (translated m w j k b l) = laws.not_faulty bytes m f j i
+bar_makes_nothing a bytes output r (not_accepted f x i) (translated_back w j o t) = cc
 bar_makes_nothing a bytes output r (not_accepted f x i) (text_counted c) = laws.not_faulty bytes c.«module» f c.accepted i
 bar_makes_nothing a bytes output r (not_accepted f x i) (bytes_counted c) = cc
 bar_makes_nothing a bytes output r (not_accepted f x i) (printed m y j o) = laws.not_faulty bytes m f j i
 bar_makes_nothing a bytes output r (not_accepted f x i) (listed m y j o) = cc
 bar_makes_nothing a bytes output r (not_valid f x i n) (translated m w j k b l) = cc
+bar_makes_nothing a bytes output r (not_valid f x i n) (translated_back w j o t) = n (not_both bytes w f (is_valid bytes w j) i)
 bar_makes_nothing a bytes output r (not_valid f x i n) (text_counted c) = cc
 bar_makes_nothing a bytes output r (not_valid f x i n) (bytes_counted c) = n (not_both bytes c.«module» f c.taken i)
 bar_makes_nothing a bytes output r (not_valid f x i n) (printed m y j o) = cc
 bar_makes_nothing a bytes output r (not_valid f x i n) (listed m y j o) = n (not_both bytes m f j i)
+bar_makes_nothing a bytes output r (not_translated row o) (translated_back w j e t) =
+    let same = same_module bytes w o.«module» (is_valid bytes w j) o.taken in
+    let f : Some row ≡ None = sym o.meets ∙ ap outside_profile same ∙ j.within.within in
+    cc
 bar_makes_nothing a bytes output r (outside row o) i = elim i [ ]
 
 bar_runs_nothing : (running : Running) (file script bytes : List ℕ) (steps : ℕ) (runner : Runner) (r : Reason)
@@ -164,6 +187,7 @@ check_quiet checks.Memory = refl
 pub answered_quietly : (a : Asked) (bytes : List ℕ) (r : Reason) → IsAnswered a bytes r → tells_files r ≡ false
 answered_quietly a bytes r (a_bar (not_accepted f x i)) = text_quiet f
 answered_quietly a bytes r (a_bar (not_valid f x i n)) = check_quiet f
+answered_quietly a bytes r (a_bar (not_translated row o)) = refl
 answered_quietly a bytes r (a_bar (outside row o)) = refl
 answered_quietly a bytes r want_of_memory = refl
 
@@ -255,6 +279,7 @@ of_command words told a r n no_memory = no_memory
 pub file_done : (action : Action) (file : List ℕ) → file_of (done_by action file) ≡ file
 file_done (Make (AsmToWasm heap)) file = refl
 file_done (Make CheckAsm) file = refl
+file_done (Make WasmToAsm) file = refl
 file_done (Make CheckWasm) file = refl
 file_done (Make Show) file = refl
 file_done (Run running script steps) file = refl
@@ -281,6 +306,7 @@ NoUsage Is = (r : Reason) → Is (refused r) → status_of r ≡ Usage → ⊥
 bar_usage : (a : Asked) (bytes : List ℕ) (r : Reason) → IsBarred a bytes r → status_of r ≡ Usage → ⊥
 bar_usage a bytes r (not_accepted f x i) is = text_usage f is
 bar_usage a bytes r (not_valid f x i n) is = check_usage f is
+bar_usage a bytes r (not_translated row o) is = cc
 bar_usage a bytes r (outside row o) is = cc
 
 file_usage : (told : Option Told) (b : Bool) (file : List ℕ) (OfBytes : List ℕ → Job → Type 0) → ((bytes : List ℕ) → NoUsage (OfBytes bytes)) → NoUsage (IsFileJob told b file OfBytes)

@@ -3,3 +3,4 @@ pub mod Gaining
 pub mod Jobs
 pub mod Pieces
 pub mod Translated
+mod Back

@@ -1,5 +1,5 @@
 -- What is written of an accepted text is the shortest spelling of a module that may be written for it.
-use Rattle.std.proofs.Common.{◌≡◌, ◌≤◌, ℕ, true, List, length, refl, sym, ◌∙◌, subst}
+use Rattle.std.proofs.Common.{◌≡◌, ◌≤◌, ℕ, true, List, length, sym, subst}
 use Rattle.wasm_lang.specs.Grammar.{IsModuleBytes}
 use Rattle.wasm_lang.specs.Modules.{WasmModule}
 use Rattle.wasm_lang.specs.Shape.{IsWritable}

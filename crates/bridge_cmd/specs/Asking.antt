@@ -3,7 +3,7 @@ use Rattle.std.specs.Prelude.{ℕ, List, string_bytes}
 use Rattle.bridge_cmd.specs.Command as spec
 use Rattle.bridge_cmd.specs.Command.{Asked}
 use Rattle.bridge_cmd.specs.declared.words.Making.{Making}
-use Rattle.bridge_cmd.specs.declared.words.Making.TheVariants.{AsmToWasm, CheckAsm, CheckWasm, Show}
+use Rattle.bridge_cmd.specs.declared.words.Making.TheVariants.{AsmToWasm, WasmToAsm, CheckAsm, CheckWasm, Show}
 use Rattle.bridge_cmd.specs.declared.words.Running.{Running}
 use Rattle.bridge_cmd.specs.declared.words.Running.TheVariants.{Text, Binary}
 use Rattle.bridge_cmd.specs.declared.words.Action.{Action}
@@ -12,6 +12,7 @@ use Rattle.bridge_cmd.specs.declared.words.Command.{Command}
 
 abbrev pub made_by : Making → List ℕ → Asked
 made_by (AsmToWasm heap) file = spec.asm_to_wasm file heap.bytes
+made_by WasmToAsm file = spec.wasm_to_asm file
 made_by CheckAsm file = spec.check_asm file
 made_by CheckWasm file = spec.check_wasm file
 made_by Show file = spec.show file

@@ -12,6 +12,7 @@ pub data Running : Type 0 where
 pub data Asked : Type 0 where
   -- with a heap of so many bytes
   asm_to_wasm : (file : List ℕ) (heap : ℕ) → Asked
+  wasm_to_asm : (file : List ℕ) → Asked
   check_asm : (file : List ℕ) → Asked
   check_wasm : (file : List ℕ) → Asked
   show : (file : List ℕ) → Asked
@@ -20,6 +21,7 @@ pub data Asked : Type 0 where
 -- the file of the module
 abbrev pub file_of : Asked → List ℕ
 file_of (asm_to_wasm file heap) = file
+file_of (wasm_to_asm file) = file
 file_of (check_asm file) = file
 file_of (check_wasm file) = file
 file_of (show file) = file
@@ -27,6 +29,7 @@ file_of (run running file script steps) = file
 
 abbrev pub command_of : JobRead → Asked
 command_of (words.asm_to_wasm file heap) = asm_to_wasm file heap
+command_of (words.wasm_to_asm file) = wasm_to_asm file
 command_of (words.check_asm file) = check_asm file
 command_of (words.check_wasm file) = check_wasm file
 command_of (words.show file) = show file
@@ -52,6 +55,7 @@ language_of bytes = if begins_with_zero bytes then web_assembly else asm_js
 -- .. in which a command reads it
 abbrev pub read_as : Asked → List ℕ → Language
 read_as (asm_to_wasm file heap) bytes = asm_js
+read_as (wasm_to_asm file) bytes = web_assembly
 read_as (check_asm file) bytes = asm_js
 read_as (check_wasm file) bytes = web_assembly
 read_as (show file) bytes = language_of bytes

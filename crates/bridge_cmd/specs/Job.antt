@@ -9,14 +9,15 @@ use Rattle.asm_lang_valid.specs.Texts.{IsAcceptedText}
 use Rattle.cmd_check_asm.specs.Verdicts as texts
 use Rattle.wasm_lang.specs.Modules.{WasmModule}
 use Rattle.wasm_lang_valid.specs.declared.profile.Outside.{Outside}
-use Rattle.wasm_lang_valid.specs.Bytes.{IsValidBytes}
+use Rattle.wasm_lang_valid.specs.Bytes.{IsValidBytes, IsTranslatable, IsBeyond}
 use Rattle.cmd_check_wasm.specs.declared.fault.CheckFault.{CheckFault}
 use Rattle.cmd_check_wasm.specs.declared.fault.CheckFault.TheVariants.{Memory}
 use Rattle.cmd_check_wasm.specs.Verdicts.{IsCounted, IsRefused}
 use Rattle.wasm_listing.specs.Listing.{listing}
 use Rattle.cmd_run_wasm.specs.Modules.{IsOutside}
 use Rattle.asm2wasm_lang.specs.Allowed.{IsAllowed, IsBounded, IsShortest}
-use Rattle.bridge_cmd.specs.Command.{Asked, asm_to_wasm, check_asm, check_wasm, show, Running, as_binary, run, file_of, asked, asm_js, web_assembly, language_of, read_as}
+use Rattle.wasm2js_code.specs.Modules.{translated as asm_js_for}
+use Rattle.bridge_cmd.specs.Command.{Asked, asm_to_wasm, wasm_to_asm, check_asm, check_wasm, show, Running, as_binary, run, file_of, asked, asm_js, web_assembly, language_of, read_as}
 use Rattle.bridge_cmd.specs.Reason.{Reason, faulty_words, not_run, bad_script, missing, too_large}
 use Rattle.bridge_cmd.specs.Runs.{Runner, IsRunner, script_for, Prints}
 use Rattle.bridge_cmd.specs.Refused.{reason_of_check, reason_of_text}
@@ -57,12 +58,15 @@ pub data IsBarred : Asked → List ℕ → Reason → Type 0 where
       → IsBarred a bytes (reason_of_text fault)
   not_valid : {a : Asked} {bytes : List ℕ} (fault : CheckFault) → read_as a bytes ≡ web_assembly → IsRefused bytes fault → fault ≢ Memory
       → IsBarred a bytes (reason_of_check fault)
+  not_translated : {file bytes : List ℕ} (row : Outside) → IsBeyond bytes row → IsBarred (wasm_to_asm file) bytes (not_run row.row row.value)
   outside : {file script bytes : List ℕ} {steps : ℕ} (row : Outside) → IsOutside bytes row → IsBarred (run as_binary file script steps) bytes (not_run row.row row.value)
 
 -- what a command without a script makes of its module's bytes
 pub data IsMade : Asked → List ℕ → List ℕ → Type 0 where
   translated : {file bytes output : List ℕ} {heap : ℕ} (m : Module) (w : WasmModule) → IsAcceptedText bytes m → IsAllowed m heap w → IsBounded m heap w → IsShortest output w
       → IsMade (asm_to_wasm file heap) bytes output
+  translated_back : {file bytes output : List ℕ} (w : WasmModule) → IsTranslatable bytes w → output ≡ canonical_text (asm_js_for w) → IsAcceptedText output (asm_js_for w)
+      → IsMade (wasm_to_asm file) bytes output
   text_counted : {file bytes output : List ℕ} → texts.IsCounted bytes output → IsMade (check_asm file) bytes output
   bytes_counted : {file bytes output : List ℕ} → IsCounted bytes output → IsMade (check_wasm file) bytes output
   printed : {file bytes output : List ℕ} (m : Module) → language_of bytes ≡ asm_js → IsAcceptedText bytes m → output ≡ canonical_text m

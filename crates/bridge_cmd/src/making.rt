@@ -1,18 +1,22 @@
 //! Commands that read one file.
-ghost use Rattle.std.specs.Prelude.{◌≡◌, ◌≤◌, ℕ, true, false, List, length, IfOk, IfErr};
+ghost use Rattle.std.specs.Prelude.{◌≡◌, ◌≤◌, ℕ, true, false, None, List, length, IfOk, IfErr};
 ghost use Rattle.bridge_cmd.specs.Asking.{made_by};
 ghost use Rattle.bridge_cmd.specs.Command as spec;
 ghost use Rattle.asm_tree.specs.Views.{module_view};
 ghost use Rattle.wasm_binary_write.specs.Spelling.{spelling};
 ghost use Rattle.asm2wasm_code.specs.Modules.{translation};
 ghost use Rattle.asm2wasm_laws_writable.specs.Parts.{IsOfShortText};
+ghost use Rattle.asm_lang.specs.Printing.{canonical_text};
+ghost use Rattle.wasm_lang_valid.specs.Profile.{outside_profile};
+ghost use Rattle.wasm2js_code.specs.Modules.{translated as asm_js_for};
 ghost use Rattle.bridge_cmd.specs.Job.{file_limit, IsMade};
 ghost use Rattle.bridge_cmd.specs.Answers.{IsAnswered};
 ghost use Rattle.bridge_cmd.specs.Refused.{reason_of};
 
-use crate::refusal::{Refusal, of_check, of_text};
+use crate::refusal::{Refusal, of_check, of_outside, of_text};
 use crate::words::Making;
 use asm_grammar_print::print;
+use asm_text::printed_texts_are_read;
 use asm_validate::Checked;
 use asm2wasm::translate;
 use bridge_words::HeapLength;
@@ -21,6 +25,8 @@ use cmd_check_wasm::check_bytes;
 use std::alloc::{AllocError, Global};
 use wasm_binary_write::{spelling_laws, write};
 use wasm_listing::listing;
+use wasm_profile::profile;
+use wasm_validate::Valid;
 
 /// The bytes of a module of WebAssembly for an accepted module of asm.js with a heap of this length.
 fn translated(alloc: Global, text: &[u8], heap: HeapLength) -> Result<Vec<u8>, Refusal>
@@ -50,6 +56,41 @@ fn written(alloc: Global, checked: &Checked, heap: HeapLength) -> Result<Vec<u8>
 {
     let translation = translate(alloc, checked, heap.bytes)?;
     write(alloc, &translation)
+}
+
+/// The canonical text of asm.js for a module of WebAssembly that can be translated.
+fn translated_back(alloc: Global, bytes: &[u8]) -> Result<Vec<u8>, Refusal>
+    ensures made { (file : List ℕ) → IfOk result (λ output. IsMade (spec.wasm_to_asm file) bytes.now output.items) }
+    ensures barred { (file : List ℕ) → IfErr result (λ refusal. IsAnswered (spec.wasm_to_asm file) bytes.now (reason_of refusal)) }
+{
+    wasm2js_laws_accepted::acceptance();
+    wasm2js_laws_accepted::sources();
+    printed_texts_are_read();
+    let valid = match check_bytes(alloc, bytes) {
+        Ok(valid) => valid,
+        Err(fault) => return Err(of_check(fault)),
+    };
+    match profile(&valid) {
+        Ok(()) => {}
+        Err(outside) => return Err(of_outside(outside)),
+    }
+    let _home = valid.module();
+    match text_of(alloc, &valid) {
+        Ok(output) => Ok(output),
+        Err(_) => Err(Refusal::OutOfMemory),
+    }
+}
+
+// The text of the translation.
+fn text_of(alloc: Global, valid: &Valid<'_>) -> Result<Vec<u8>, AllocError>
+    requires { outside_profile valid.now ≡ None }
+    ensures { IfOk result (λ output. output.items ≡ canonical_text (asm_js_for valid.now)) }
+{
+    let module = wasm2js::translate(alloc, valid)?;
+    match print(alloc, &module) {
+        Ok(output) => Ok(output),
+        Err(_) => Err(AllocError),
+    }
 }
 
 /// The counts line of an accepted module of asm.js.
@@ -131,6 +172,7 @@ pub(crate) fn made(alloc: Global, making: Making, bytes: &[u8]) -> Result<Vec<u8
 {
     match making {
         Making::AsmToWasm(heap) => translated(alloc, bytes, heap),
+        Making::WasmToAsm => translated_back(alloc, bytes),
         Making::CheckAsm => text_counts(alloc, bytes),
         Making::CheckWasm => bytes_counts(alloc, bytes),
         Making::Show => shown(alloc, bytes),

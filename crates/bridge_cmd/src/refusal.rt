@@ -1,5 +1,6 @@
 //! Why there is no output.
 ghost use Rattle.std.specs.Prelude.{◌≡◌, string_bytes};
+ghost use Rattle.bridge_cmd.specs.Reason.{not_run};
 ghost use Rattle.bridge_cmd.specs.Refused.{reason_of, reason_of_check, reason_of_text, reason_of_words, reason_of_run, reason_of_script, reason_at, status_of};
 
 use crate::status::{Status, WasmFault};
@@ -10,7 +11,7 @@ use cmd_check_wasm::CheckFault;
 use cmd_run_wasm::RunFault;
 use script_read::ScriptFault;
 use wasm_tree::Row;
-use wasm_validate::{Beyond, Rule, Section};
+use wasm_validate::{Beyond, Outside, Rule, Section};
 
 /// Why there is no output.
 #[derive(Drop)]
@@ -98,6 +99,16 @@ pub(crate) fn of_gathering(fault: GatherFault, is_script: bool, file: String) ->
         GatherFault::Missing => Refusal::Missing(is_script, file),
         GatherFault::TooLarge => Refusal::TooLarge(is_script, file),
         GatherFault::Memory => Refusal::OutOfMemory,
+    }
+}
+
+/// Why a module isn't taken though it is valid.
+pub(crate) fn of_outside(outside: Outside) -> Refusal
+    ensures { reason_of result ≡ not_run outside.row outside.value }
+{
+    Refusal::NotRun {
+        row: outside.row,
+        value: outside.value as u64,
     }
 }
 

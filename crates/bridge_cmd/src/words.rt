@@ -12,6 +12,7 @@ use std::alloc::Global;
 pub(crate) enum Making {
     /// With a heap of this length.
     AsmToWasm(HeapLength),
+    WasmToAsm,
     CheckAsm,
     CheckWasm,
     Show,
@@ -73,6 +74,7 @@ pub(crate) fn asked(alloc: Global, words: &[String]) -> Result<Command, WordsFau
 {
     match read_words(alloc, words)? {
         Job::AsmToWasm(file, heap) => Ok(to_make(Making::AsmToWasm(heap), file)),
+        Job::WasmToAsm(file) => Ok(to_make(Making::WasmToAsm, file)),
         Job::CheckAsm(file) => Ok(to_make(Making::CheckAsm, file)),
         Job::CheckWasm(file) => Ok(to_make(Making::CheckWasm, file)),
         Job::Show(file) => Ok(to_make(Making::Show, file)),

@@ -2,11 +2,11 @@
 use Rattle.std.specs.Prelude.{◌≡◌, ℕ, List, Option, Some, None, Result, Ok, Err, map, option_map}
 use Rattle.std.specs.Prelude.{string_bytes}
 use Rattle.std.specs.Borrow.{Bor}
-use Rattle.bridge_words.specs.Job.{GivenTexts, texts_or_none, JobRead, check_asm, check_wasm, asm_to_wasm}
+use Rattle.bridge_words.specs.Job.{GivenTexts, texts_or_none, JobRead, check_asm, check_wasm, asm_to_wasm, wasm_to_asm}
 use Rattle.bridge_words.specs.Job.{run_asm, run_wasm, show}
 use Rattle.bridge_words.specs.declared.command.Given.{Given}
 use Rattle.bridge_words.specs.declared.job.Job.{Job}
-use Rattle.bridge_words.specs.declared.job.Job.TheVariants.{CheckAsm, CheckWasm, AsmToWasm}
+use Rattle.bridge_words.specs.declared.job.Job.TheVariants.{CheckAsm, CheckWasm, AsmToWasm, WasmToAsm}
 use Rattle.bridge_words.specs.declared.job.Job.TheVariants.{RunAsm, RunWasm, Show}
 use Rattle.bridge_words.specs.declared.fault.WordsFault.{WordsFault}
 use Rattle.bridge_words.specs.declared.fault.WordsFault.TheVariants.{Usage, Memory}
@@ -28,6 +28,7 @@ abbrev pub job_read : Job → JobRead
 job_read (CheckAsm file) = check_asm (string_bytes file)
 job_read (CheckWasm file) = check_wasm (string_bytes file)
 job_read (AsmToWasm file heap) = asm_to_wasm (string_bytes file) heap.bytes
+job_read (WasmToAsm file) = wasm_to_asm (string_bytes file)
 job_read (RunAsm file script heap steps) =
     run_asm (string_bytes file) (string_bytes script) heap.bytes steps
 job_read (RunWasm file script steps) = run_wasm (string_bytes file) (string_bytes script) steps

@@ -12,6 +12,7 @@ pub data JobRead : Type 0 where
   check_asm : Text → JobRead
   check_wasm : Text → JobRead
   asm_to_wasm : Text → ℕ → JobRead
+  wasm_to_asm : Text → JobRead
   run_asm : Text → Text → ℕ → ℕ → JobRead
   run_wasm : Text → Text → ℕ → JobRead
   show : Text → JobRead
@@ -64,10 +65,11 @@ job_named name g =
     if bytes_eq name (codes "check-asm") then option_map check_asm (lone_operand g)
     else (if bytes_eq name (codes "check-wasm") then option_map check_wasm (lone_operand g)
     else (if bytes_eq name (codes "asm2wasm") then asm_to_wasm_of g
+    else (if bytes_eq name (codes "wasm2js") then option_map wasm_to_asm (lone_operand g)
     else (if bytes_eq name (codes "run-asm") then run_asm_of g
     else (if bytes_eq name (codes "run-wasm") then run_wasm_of g
     else (if bytes_eq name (codes "show") then option_map show (lone_operand g)
-    else None)))))
+    else None))))))
 
 -- what `clap` read, as the command's name and what follows it
 abbrev pub texts_or_none : Option (List Text) → List Text

@@ -6,7 +6,7 @@ use crate::modules::{
 use crate::program::{Row, ends, prints};
 use std::test::Fail;
 
-const EMPTY: &[u8] = b"\0asm\x01\0\0\0";
+pub(crate) const EMPTY: &[u8] = b"\0asm\x01\0\0\0";
 
 static ROWS: [Row; 27] = [
     Row {

@@ -23,4 +23,6 @@ mod rows;
 #[cfg(test)]
 mod translations;
 #[cfg(test)]
+mod translations_back;
+#[cfg(test)]
 mod writing;

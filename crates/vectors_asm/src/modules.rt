@@ -63,3 +63,7 @@ pub(crate) const MANY_PAGES: &[u8] = b"\0asm\x01\0\0\0\x05\x04\x01\0\x81 ";
 /// `ADDING`, with a custom section, two runs of no locals, and numbers that are longer than they need be.
 pub(crate) const PADDED: &[u8] =
     b"\0asm\x01\0\0\0\0\x02\x01c\x01\x07\x01`\x02~~\x01~\x03\x02\x01\0\x07\x85\0\x01\x01m\0\0\x0a\x0f\x01\x0d\x02\0\x7f\0~ \0 \x81\x80\0|\x0b";
+
+/// It exports `r`, a rotation of 64 bits to the left.
+pub(crate) const ROTATING: &[u8] =
+    b"\0asm\x01\0\0\0\x01\x07\x01`\x02~~\x01~\x03\x02\x01\0\x07\x05\x01\x01r\0\0\x0a\x09\x01\x07\0 \0 \x01\x89\x0b";

@@ -12,17 +12,15 @@ use Rattle.wasm2js_code.specs.Modules.{translated}
 use Rattle.wasm2js_laws_functions.specs.Functions.{IsSource}
 use Rattle.wasm2js_laws_accepted.specs.Laws.{HaveFirstWords}
 use Rattle.wasm2js_laws_host.specs.Hosts.{HostedCallsFollow}
-use Rattle.wasm2js_laws_start.specs.Laws.{IsStored}
 
--- what is asked of a module at a pace of so many units a reduction: the module can be translated, its translation is called as asked, calls
--- of its functions follow, and its segments are stored
+-- what is asked of a module at a pace of so many units a reduction: the module can be translated, its translation is called as asked, and
+-- calls of its functions follow
 pub record IsReady (w : WasmModule) (pace : ℕ) : Type 0 where
   pub source : IsSource w
   pub words : HaveFirstWords w
   pub called : IsCalledAs w (translated w)
   pub some : 1 ≤ pace
   pub follow : HostedCallsFollow w pace
-  pub stored : (s : ScriptPlain) → WritesBytes s → misfit w s ≡ None → IsStored w s
 
 -- what the target shows with a number of units lies between two sights of the source, and no more than so many units are worth a reduction
 abbrev pub SessionsAreFollowed : Type 0

@@ -8,10 +8,14 @@ pub fn sessions()
     ensures followed { SessionsAreFollowed }
     ensures simulate { SessionsSimulate }
     ensures bounded { SessionsAreBounded }
-{}
+{
+    wasm2js_laws_instances::stores();
+}
 
 /// The translation of such a module may be written for it, and at a pace of 256 its units are bounded.
 pub fn translations()
     ensures allowed { TranslationsAreAllowed }
     ensures bounded { TranslationsAreBounded }
-{}
+{
+    wasm2js_laws_instances::stores();
+}

@@ -1,13 +1,12 @@
 -- The call of `$init`.
-use Rattle.std.proofs.Common.{◌≡◌, ℕ, zero, suc, ◌+◌, ◌*◌, ◌<◌, ◌≤◌, Bool, true, false, ◌&&◌, List, [], ◌∷◌, ◌++◌, length, Option, Some, None, refl, sym, ap, ◌∙◌, subst, arith}
+use Rattle.std.proofs.Common.{◌≡◌, ℕ, zero, suc, ◌+◌, ◌<◌, ◌≤◌, true, false, List, [], ◌∷◌, ◌++◌, length, Option, Some, None, refl, sym, ap, ◌∙◌, subst, arith}
 use Rattle.std.specs.Prelude.{reverse, if◌then◌else◌, codes}
 use Rattle.std.specs.List.{flat_map}
 use Rattle.std.proofs.lemmas.Bool.{and_parts}
-use Rattle.sem_words.specs.declared.word.Word.{Word}
 use Rattle.sem_words.specs.declared.js_value.JsValue.{JsValue}
 use Rattle.sem_words.specs.declared.js_value.JsValue.TheVariants.{Undef}
 use Rattle.sem_laws.specs.Script.{CallPlain, ScriptPlain}
-use Rattle.sem_laws.specs.Observation.{EventPlain, call_gave, call_returned, ObservationPlain, running}
+use Rattle.sem_laws.specs.Observation.{EventPlain, call_gave, call_returned, ObservationPlain}
 use Rattle.sem_laws.proofs.BelowLaws.{prefix_same}
 use Rattle.sem_laws.specs.Simulation.{Comparison}
 use Rattle.sem_laws.specs.CallingForms.{split_call}
@@ -15,13 +14,11 @@ use Rattle.sem_laws.specs.Laws.{KeepsOrder}
 use Rattle.wasm_lang.specs.declared.types.ValType.{ValType}
 use Rattle.wasm_lang.specs.Modules.{FunctionType, WasmModule}
 use Rattle.wasm_lang_valid.specs.declared.section.Section.TheVariants as sections
-use Rattle.wasm_lang_valid.specs.ModuleRules.{meets, is_empty, is_function, is_start, start_rule, type_of_function, at as rule_at}
+use Rattle.wasm_lang_valid.specs.ModuleRules.{is_empty, is_function, is_start, start_rule, type_of_function, at as rule_at}
 use Rattle.wasm_lang_valid.specs.Typing.{result_of}
 use Rattle.wasm_lang_valid.specs.Validity.{start_count}
 use Rattle.wasm_lang_exec.specs.Code.{ε}
-use Rattle.wasm_lang_exec.specs.Store.{Store}
-use Rattle.wasm_lang_exec.specs.Reductions.{callee_at}
-use Rattle.wasm_lang_exec.specs.Session.{run_call, after_start, started, instantiated, first_store, with_entries, with_bytes, calls_seen, wasm}
+use Rattle.wasm_lang_exec.specs.Session.{after_start, started, instantiated, first_store, with_entries, with_bytes, calls_seen, wasm}
 use Rattle.wasm_laws_drive.specs.Drive.{Outcome, at, onward}
 use Rattle.wasm_laws_drive.specs.Laws.{run_of}
 use Rattle.wasm_laws_drive.proofs.Counting.{host_call}
@@ -29,14 +26,13 @@ use Rattle.wasm_laws_drive.proofs.Instructions.{no_code}
 use Rattle.wasm_laws_sound.proofs.Functions.{meets_none, meets_rest}
 use Rattle.asm_lang.specs.Modules as text
 use Rattle.asm_lang_valid.specs.Scope.{Signature, signature_of, a_function}
-use Rattle.asm_lang_valid.specs.Typing.{named}
 use Rattle.asm_lang_valid.specs.Typed.{scope_of}
-use Rattle.asm_lang_exec.specs.Runs.{Place, Part, spent, gives, and_then, defined, paid, back_to, add_event}
+use Rattle.asm_lang_exec.specs.Runs.{Place, Part, spent, gives, and_then, defined, back_to, add_event}
 use Rattle.asm_lang_exec.specs.Values.{word}
-use Rattle.asm_lang_exec.specs.Meaning.{Completion, normal, first_locals, function_end}
-use Rattle.asm_lang_exec.specs.Session.{exported_function, result_event}
-use Rattle.asm_laws_continuation.specs.Following.{CallsBefore, call_named_to, exec_all_to, unless_left_to, with_locals_to, call_at_to, host_calls_to}
-use Rattle.wasm2js_words.specs.Names.{numbered, function, fixed, init, spelled}
+use Rattle.asm_lang_exec.specs.Meaning.{Completion, normal, function_end}
+use Rattle.asm_lang_exec.specs.Session.{result_event}
+use Rattle.asm_laws_continuation.specs.Following.{call_named_to, exec_all_to, unless_left_to, call_at_to, host_calls_to}
+use Rattle.wasm2js_words.specs.Names.{numbered, function, fixed, init}
 use Rattle.wasm2js_words.specs.Words.{stmts_in}
 use Rattle.wasm2js_lang.specs.Calling.{shapes_of, IsCalledAs}
 use Rattle.wasm2js_lang.specs.Allowed.{script_for, source_session, comparison}
@@ -45,20 +41,20 @@ use Rattle.wasm2js_laws_scripts.proofs.Calls.{IsExported, exported_as_asked}
 use Rattle.wasm2js_laws_provided.proofs.Functions.{IsDeclared, function_declared}
 use Rattle.wasm2js_laws_provided.proofs.Found.{is_seen}
 use Rattle.wasm2js_laws_functions.specs.Functions.{IsSource}
-use Rattle.wasm2js_laws_pace.specs.Following.{Rest, Follows, Stands}
+use Rattle.wasm2js_laws_pace.specs.Following.{Rest, Follows}
 use Rattle.wasm2js_laws_pace.proofs.Paced.{same_is_followed, free_units, unpaid_stops, steps_are_paid}
 use Rattle.wasm2js_laws_places.specs.Places.{Setting, store_of, World}
 use Rattle.wasm2js_laws_control.specs.Control.{Function}
 use Rattle.wasm2js_laws_control.proofs.Stepping.{appended}
 use Rattle.wasm2js_laws_calls.specs.Called.{given_back, seen_with, call_then, Passes, IsReturn}
-use Rattle.wasm2js_laws_host.specs.Hosts.{starting, calling, Matches, setting_of, host, HostedCallsFollow}
+use Rattle.wasm2js_laws_host.specs.Hosts.{starting, Matches, setting_of, host, HostedCallsFollow}
 use Rattle.wasm2js_laws_host.specs.Laws.{CallsOfHostFollow}
 use Rattle.wasm2js_laws_host.proofs.Events.{match_returned}
 use Rattle.wasm2js_laws_host.proofs.Exports.{init_exported}
 use Rattle.wasm2js_laws_host.proofs.Pace.{weaker}
 use Rattle.wasm2js_laws_host.proofs.Kept.{store_same}
 use Rattle.wasm2js_laws_host.proofs.Calls.{keeps, profile, hosted}
-use Rattle.wasm2js_laws_start.specs.Laws.{begins_at, begins_with, IsStored, SessionFollows, InitFollows}
+use Rattle.wasm2js_laws_start.specs.Laws.{begins_at, begins_with, IsStored, InitFollows}
 
 -- ---- the start function takes and gives nothing
 
@@ -243,7 +239,7 @@ module _ (w : WasmModule) (s : ScriptPlain) (c : ℕ) (source : IsSource w) (ask
   unfolding next
   init_called =
       subst (λ o. Follows by c (z + 1) (begins_at w s units) (source_session w s)
-          (and_then (defined o) (λ g. call_at_to (translated w) units g [] (λ v. and_then (add_event (result_event g v)) (λ _. then_calls))) (begins_at w s units)))
+      (and_then (defined o) (λ g. call_at_to (translated w) units g [] (λ v. and_then (add_event (result_event g v)) (λ _. then_calls))) (begins_at w s units)))
       (sym (init_exported w)) (by_units units refl)
 
 pub init_follows : InitFollows

@@ -1,12 +1,11 @@
 -- A session of asm.js begins as that of WebAssembly does: `$init` stores the segments and calls the start function.
-use Rattle.std.specs.Prelude.{◌≡◌, ℕ, ◌+◌, ◌≤◌, true, ◌&&◌, List, [], length, None}
+use Rattle.std.specs.Prelude.{◌≡◌, ℕ, ◌+◌, ◌≤◌, true, ◌&&◌, List, [], length}
 use Rattle.std.specs.List.{flat_map}
 use Rattle.sem_laws.specs.Script.{ScriptPlain}
 use Rattle.wasm_lang.specs.Modules.{WasmModule}
 use Rattle.wasm_lang_exec.specs.Session.{first_store, entries_fit, bytes_fit, with_entries, with_bytes}
-use Rattle.wasm_lang_exec.specs.Fits.{misfit}
 use Rattle.asm_lang_valid.specs.Typed.{scope_of}
-use Rattle.asm_lang_exec.specs.Runs.{Place, Run, Part, gives, and_then}
+use Rattle.asm_lang_exec.specs.Runs.{Place, Part, gives}
 use Rattle.asm_lang_exec.specs.Meaning.{Completion, normal}
 use Rattle.asm_lang_exec.specs.Session.{first_place}
 use Rattle.asm_laws_continuation.specs.Following.{CallsBefore, exec_all_to, call_at_to, host_calls_to}

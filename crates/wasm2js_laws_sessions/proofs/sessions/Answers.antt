@@ -2,10 +2,10 @@ use Rattle.wasm2js_laws_sessions.proofs.Whole.{sessions_are_followed, sessions_s
 use Rattle.wasm2js_laws_sessions.proofs.sessions.Goals as goal
 
 pub returns-clause-followed : goal.returns-clause-followed
-returns-clause-followed c = sessions_are_followed
+returns-clause-followed c = sessions_are_followed c.stores.ensures.held
 
 pub returns-clause-simulate : goal.returns-clause-simulate
-returns-clause-simulate c = sessions_simulate
+returns-clause-simulate c = sessions_simulate c.stores.ensures.held
 
 pub returns-clause-bounded : goal.returns-clause-bounded
-returns-clause-bounded c = sessions_are_bounded
+returns-clause-bounded c = sessions_are_bounded c.stores.ensures.held

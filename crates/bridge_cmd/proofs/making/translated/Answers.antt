@@ -1,6 +1,5 @@
-use Rattle.std.proofs.Common.{refl, sym, subst}
+use Rattle.std.proofs.Common.{refl}
 use Rattle.asm_tree.specs.Views.{module_view}
-use Rattle.asm_lang.specs.Heights.{IsWellFormed}
 use Rattle.bridge_cmd.specs.Command.{asm_to_wasm}
 use Rattle.bridge_cmd.specs.Answers.{want_of_memory}
 use Rattle.bridge_cmd.proofs.Jobs.{text_answer}

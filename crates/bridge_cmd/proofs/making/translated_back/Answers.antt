@@ -1,0 +1,24 @@
+use Rattle.std.proofs.Common.{refl}
+use Rattle.bridge_cmd.specs.Answers.{a_bar, want_of_memory}
+use Rattle.bridge_cmd.specs.Command.{wasm_to_asm}
+use Rattle.bridge_cmd.specs.Job.{not_translated}
+use Rattle.bridge_cmd.proofs.Back.{made}
+use Rattle.bridge_cmd.proofs.Jobs.{check_answer}
+use Rattle.bridge_cmd.proofs.making.translated_back.Goals as goal
+
+pub returns-in-Err-clause-barred : goal.returns-in-Err-clause-barred
+returns-in-Err-clause-barred c = λ file. rw c.of_check.ensures (check_answer (wasm_to_asm file) c.args.bytes.now c.in-Err.fault refl c.in-Err.ensures.refused)
+
+pub returns-in-Err-profile-clause-barred : goal.returns-in-Err-profile-clause-barred
+returns-in-Err-profile-clause-barred c = λ file.
+    rw c.of_outside.ensures
+    (a_bar (not_translated c.in-Err-profile.outside (record { «module» = c.in-Ok.valid; taken = c.in-Ok.ensures.valid; meets = c.in-Err-profile.ensures })))
+
+pub returns-in-Ok-text_of-clause-made : goal.returns-in-Ok-text_of-clause-made
+returns-in-Ok-text_of-clause-made c = λ file.
+    made c.acceptance.ensures.accepted c.acceptance.ensures.well_formed c.sources.ensures c.printed_texts_are_read.ensures.again file c.args.bytes.now
+    c.in-Ok-text_of.output.items c.in-Ok.valid
+    (record { read = c.in-Ok.ensures.valid.read; within = record { valid = c.in-Ok.ensures.valid.valid; within = c.in-Ok-profile.ensures } }) c.in-Ok-text_of.ensures
+
+pub returns-clause-barred : goal.returns-clause-barred
+returns-clause-barred c = λ file. want_of_memory

@@ -1,0 +1,4 @@
+pub mod Memory
+pub mod Instance
+pub mod Globals
+pub mod Held

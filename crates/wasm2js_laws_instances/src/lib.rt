@@ -1,0 +1,12 @@
+//! From WebAssembly to asm.js: where a session begins, which store its place stands for.
+#![tactic(auto)]
+
+ghost use Rattle.wasm2js_laws_instances.specs.Laws.{GlobalsBegin, StoresAreHeld};
+
+/// The globals have their first values, and after the segments the place stands for the store after instantiation.
+pub fn stores()
+    ensures globals { GlobalsBegin }
+    ensures held { StoresAreHeld }
+{
+    wasm2js_lang::masked_tables();
+}

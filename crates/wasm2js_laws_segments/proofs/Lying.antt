@@ -1,0 +1,87 @@
+-- The segments of a module that can be translated lie at constant places in its memory.
+use Rattle.std.proofs.Common.{◌≡◌, ℕ, zero, suc, ◌+◌, ◌<◌, ◌≤◌, true, false, List, [], ◌∷◌, ◌++◌, length, Option, Some, None, refl, sym, ap, ◌∙◌, subst, arith}
+use Rattle.std.specs.Prelude.{slice_get, All, nat_lt, nat_eq}
+use Rattle.std.specs.List.{AllByRecursion, flat_map}
+use Rattle.std.proofs.lemmas.Bool.{and_parts}
+use Rattle.std.proofs.lemmas.Bool.Decides.{nat_tests}
+use Rattle.std.proofs.lemmas.List.Elements.{recursion_from_All}
+use Rattle.std.proofs.lemmas.Option.{slice_get_within}
+use Rattle.wasm_lang.specs.Modules.{ElementSegment, DataSegment, WasmModule}
+use Rattle.wasm_lang_valid.specs.declared.section.Section.TheVariants as sections
+use Rattle.wasm_lang_valid.specs.ModuleRules.{has_memory, is_memory_number, segment_rule, at}
+use Rattle.wasm_lang_valid.specs.Profile.{or_zero, is_global_offset, constant_offset, passes, global_segment, offset_from_import, outside_memory, segment_outside, table_length, memory_bytes}
+use Rattle.wasm_laws_sound.proofs.Functions.{meets_none, meets_rest}
+use Rattle.asm_lang_valid.specs.Typing.{Scope}
+use Rattle.asm_lang_valid.specs.Typed.{scope_of}
+use Rattle.wasm2js_words.specs.Names.{fixed, init}
+use Rattle.wasm2js_code.specs.Modules.{segment_stmts, start_stmts, init_function, translated}
+use Rattle.wasm2js_lang.proofs.Padded.{within_rows, where_none, is_constant}
+use Rattle.wasm2js_laws_scopes.specs.Provided.{HasMemory}
+use Rattle.wasm2js_laws_scopes.proofs.HeadNames.{memories_are_provided}
+use Rattle.wasm2js_laws_functions.specs.Functions.{IsSource}
+
+all_from_places : {A : Type 0} → (P : A → Type 0) (xs : List A) → ((i : ℕ) (x : A) → slice_get xs i ≡ Some x → P x) → AllByRecursion P xs
+all_from_places P [] h = tt
+all_from_places P (x ∷ xs) h = (h 0 x refl, all_from_places P xs (λ i y e. h (suc i) y e))
+
+at_place : {A : Type 0} → (P : A → Type 0) (xs : List A) (i : ℕ) (x : A) → AllByRecursion P xs → slice_get xs i ≡ Some x → P x
+at_place P [] i x h e = absurd (cc e)
+at_place P (y ∷ xs) zero x h e = let same : y ≡ x = cc e in subst P same h.0
+at_place P (y ∷ xs) (suc i) x h e = at_place P xs i x h.1 e
+
+past_elements : (entries bytes n : ℕ) (es : List ElementSegment) (ds : List DataSegment) → segment_outside entries bytes n es ds ≡ None → (k : ℕ) × (outside_memory bytes k ds ≡ None)
+past_elements entries bytes n [] ds h = (n, h)
+past_elements entries bytes n (e ∷ es) ds h = past_elements entries bytes (n + 1) es ds (where_none _ n (segment_outside entries bytes (n + 1) es ds) h).1
+
+past_element_offsets : (n : ℕ) (es : List ElementSegment) (ds : List DataSegment) → offset_from_import n es ds ≡ None → (k : ℕ) × (global_segment k ds ≡ None)
+past_element_offsets n [] ds h = (n, h)
+past_element_offsets n (e ∷ es) ds h = past_element_offsets (n + 1) es ds (where_none (is_global_offset e.offset) n (offset_from_import (n + 1) es ds) h).1
+
+none_passes : (bytes n : ℕ) (ds : List DataSegment) → outside_memory bytes n ds ≡ None → AllByRecursion (λ d. passes (constant_offset d.offset) (length d.bytes) bytes ≡ false) ds
+none_passes bytes n [] h = tt
+none_passes bytes n (d ∷ ds) h = let w = where_none (passes (constant_offset d.offset) (length d.bytes) bytes) n (outside_memory bytes (n + 1) ds) h in (w.0, none_passes bytes (n + 1) ds w.1)
+
+none_global : (n : ℕ) (ds : List DataSegment) → global_segment n ds ≡ None → AllByRecursion (λ d. is_global_offset d.offset ≡ false) ds
+none_global n [] h = tt
+none_global n (d ∷ ds) h = let w = where_none (is_global_offset d.offset) n (global_segment (n + 1) ds) h in (w.0, none_global (n + 1) ds w.1)
+
+inside_room : (o : Option ℕ) (n size room : ℕ) → o ≡ Some n → passes o size room ≡ false → or_zero o + size ≤ room
+inside_room None n size room e h = cc e
+inside_room (Some k) n size room e h = at_most room (k + size) h
+  where
+    at_most : (a b : ℕ) → nat_lt a b ≡ false → b ≤ a
+    at_most a b h = grind (arith, nat_tests)
+
+-- it lies at a constant place within so many bytes, and the scope has views
+pub record IsLying (s : Scope) (room : ℕ) (d : DataSegment) : Type 0 where
+  pub constant : (n : ℕ) × (constant_offset d.offset ≡ Some n)
+  pub memory : HasMemory s
+  pub inside : or_zero (constant_offset d.offset) + length d.bytes ≤ room
+  pub bytes : AllByRecursion (λ b. b < 256) d.bytes
+
+module _ (w : WasmModule) (source : IsSource w) where
+  abbrev pub init_scope : Scope
+  init_scope = scope_of (translated w) (init_function w)
+
+  memory_there : (d : DataSegment) → segment_rule w d ≡ None → has_memory w ≡ true
+  memory_there d h = (and_parts (nat_eq d.memory 0) (has_memory w) (meets_none (is_memory_number w d.memory) _ _ h)).1
+
+  one_lies : (i : ℕ) (d : DataSegment) → slice_get w.segments i ≡ Some d → IsLying init_scope (memory_bytes w) d
+  one_lies i d e =
+      let limits = within_rows w source.within in
+      let rule : segment_rule w d ≡ None = sym (ap (λ o. at o (segment_rule w)) e) ∙ source.whole.is_valid sections.Data i (slice_get_within w.segments i d e) in
+      let constant = past_element_offsets 0 w.elements w.segments limits.no_import in
+      let global = at_place (λ (d : DataSegment). is_global_offset d.offset ≡ false) w.segments i d (none_global constant.0 w.segments constant.1) e in
+      let n = is_constant w d.offset (meets_rest (is_memory_number w d.memory) _ _ rule) global in
+      let outside = past_elements (table_length w) (memory_bytes w) 0 w.elements w.segments limits.all_inside in
+      let fits = at_place (λ (d : DataSegment). passes (constant_offset d.offset) (length d.bytes) (memory_bytes w) ≡ false) w.segments i d (none_passes (memory_bytes w) outside.0 w.segments outside.1) e in
+      record {
+        constant = n;
+        memory = memories_are_provided w (fixed init) [] [] (flat_map segment_stmts w.segments ++ start_stmts w.start) refl refl (memory_there d rule);
+        inside = inside_room (constant_offset d.offset) n.0 (length d.bytes) (memory_bytes w) n.1 fits;
+        bytes = recursion_from_All (λ b. b < 256) d.bytes
+            (at_place (λ (d : DataSegment). All (λ b. b < 256) d.bytes) w.segments i d (recursion_from_All (λ (d : DataSegment). All (λ b. b < 256) d.bytes) w.segments source.bytes) e);
+      }
+
+  pub all_lie : AllByRecursion (IsLying init_scope (memory_bytes w)) w.segments
+  all_lie = all_from_places (IsLying init_scope (memory_bytes w)) w.segments one_lies
