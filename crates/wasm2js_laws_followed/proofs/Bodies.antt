@@ -1,5 +1,5 @@
 -- What is asked of bodies: helpers, and accesses to the memory.
-use Rattle.std.proofs.Common.{ℕ, ◌+◌, ◌≤◌, false, List, refl, sym, subst, arith}
+use Rattle.std.proofs.Common.{◌≡◌, ℕ, ◌+◌, ◌≤◌, true, false, List, refl, sym, subst}
 use Rattle.wasm_lang.specs.declared.types.ValType.{ValType}
 use Rattle.wasm_lang.specs.Modules.{FunctionType}
 use Rattle.wasm_lang_exec.specs.Code.{Trees}
@@ -8,6 +8,9 @@ use Rattle.asm_lang_exec.specs.Meaning.{call_at}
 use Rattle.wasm2js_code.specs.Modules.{own_function, translated}
 use Rattle.wasm2js_laws_places.specs.Helped.{AreHelpers}
 use Rattle.wasm2js_laws_control.specs.Control.{Function}
+use Rattle.wasm2js_laws_occurring.specs.Laws.{AccessIsKept}
+use Rattle.wasm2js_laws_occurring.proofs.Plain.{implied}
+use Rattle.wasm2js_laws_memory.specs.Laws.{moves_run}
 use Rattle.wasm2js_laws_helping.specs.Helping.{helping}
 use Rattle.wasm2js_laws_helping.specs.Standing.{StandsFor, IsCompared}
 use Rattle.wasm2js_laws_helping.proofs.Usual.{words_are_usual}
@@ -15,12 +18,9 @@ use Rattle.wasm2js_laws_helping.proofs.Standing.{bodies_help, standing_accesses_
 use Rattle.wasm2js_laws_frames.specs.Frames.{in_body, IsSettled, AreHelped, AccessesAreKept}
 use Rattle.wasm2js_laws_frames.proofs.Helped.{profile_of}
 use Rattle.wasm2js_laws_imports.proofs.Following.{all_follow}
-use Rattle.wasm2js_laws_followed.specs.Laws.{SettledCallsFollow}
+use Rattle.wasm2js_laws_followed.specs.Laws.{PaysForMoves, SettledCallsFollow}
 
-module _ (f : Function) (settled : IsSettled f) (pace : f.setting.bytes + 80 ≤ f.pace) where
-  enough : 68 ≤ f.pace
-  enough = omega (arith, pace)
-
+module _ (f : Function) (settled : IsSettled f) (enough : 68 ≤ f.pace) where
   bodies_are_helped : AreHelped f
   bodies_are_helped = record {
     helping = helping f.setting.bytes;
@@ -53,10 +53,12 @@ module _ (f : Function) (settled : IsSettled f) (pace : f.setting.bytes + 80 ≤
     pace = enough;
   }
 
-  accesses_in_bodies : AccessesAreKept f
-  accesses_in_bodies k t more code is d p h =
-      standing_accesses_are_kept (in_body f k t more code d) k t more code (profile_of f.home settled.source) settled.source.shaped (body_stands k t more code d) (body_compared k t more code d) p h
-      (λ moves. pace)
+  accesses_in_bodies : PaysForMoves f → AccessesAreKept f
+  accesses_in_bodies pays k t more code is d =
+      implied (λ p. moves_run p ≡ true → f.setting.bytes + 80 ≤ f.pace) (AccessIsKept (in_body f k t more code d))
+      (λ p pay h.
+      standing_accesses_are_kept (in_body f k t more code d) k t more code (profile_of f.home settled.source) settled.source.shaped (body_stands k t more code d) (body_compared k t more code d) p h pay)
+      code (pays k t more code is)
 
 pub settled_calls_follow : SettledCallsFollow
-settled_calls_follow f settled split pace home calls = all_follow f settled split (bodies_are_helped f settled pace) (accesses_in_bodies f settled pace) home calls
+settled_calls_follow f settled split enough pays home calls = all_follow f settled split (bodies_are_helped f settled enough) (accesses_in_bodies f settled enough pays) home calls

@@ -1,15 +1,21 @@
 -- What holds of the host, as it is asked of a session that is settled.
-use Rattle.std.proofs.Common.{◌+◌, ◌≤◌, sym, ap, subst}
+use Rattle.std.proofs.Common.{◌≡◌, ℕ, ◌+◌, ◌≤◌, true, false, sym, ap, subst, arith}
 use Rattle.sem_laws.specs.Observation.{trapped, stopped, no_reply, as_stop}
 use Rattle.sem_laws.specs.Simulation.{Comparison}
 use Rattle.sem_laws.specs.Laws.{KeepsOrder}
 use Rattle.sem_laws.proofs.Forms.{calling_forms_keep_order}
+use Rattle.wasm_lang.specs.Modules.{WasmModule}
 use Rattle.wasm_lang_valid.specs.Profile.{memory_bytes}
+use Rattle.wasm2js_lang.specs.Allowed.{has_block_operations}
 use Rattle.wasm2js_laws_control.specs.Control.{Function}
 use Rattle.wasm2js_laws_frames.specs.Frames.{IsSettled}
 use Rattle.wasm2js_laws_imports.specs.Laws.{IsSplit}
 use Rattle.wasm2js_laws_host.specs.Hosts.{IsHosted}
-use Rattle.wasm2js_laws_followed.specs.Laws.{HostedCallsAreFollowed}
+use Rattle.wasm2js_laws_calls.specs.Called.{CallsFollow}
+use Rattle.wasm2js_laws_occurring.proofs.Plain.{implied, every}
+use Rattle.wasm2js_laws_memory.specs.Laws.{moves_run}
+use Rattle.wasm2js_laws_followed.specs.Laws.{PaysForMoves, HostedCallsAreFollowed, UnmovedCallsAreFollowed}
+use Rattle.wasm2js_laws_followed.proofs.Moves.{body_moves_none}
 use Rattle.wasm2js_laws_followed.proofs.Bodies.{settled_calls_follow}
 
 module _ (f : Function) (hosted : IsHosted f) where
@@ -36,7 +42,24 @@ module _ (f : Function) (hosted : IsHosted f) where
     called = λ name args source target m. hosted.imports source target name args m;
   }
 
+module _ (w : WasmModule) (pace : ℕ) (f : Function) (home : f.home ≡ w) (is : f.pace ≡ pace) (hosted : IsHosted f) where
+  -- at a pace that pays for helpers
+  calls_follow : 68 ≤ pace → PaysForMoves f → CallsFollow f
+  calls_follow enough pays = settled_calls_follow f (host_settled f hosted) (host_split f hosted) (subst (λ n. 68 ≤ n) (sym is) enough) pays hosted.home hosted.calls
+
+  pays_for_all : memory_bytes w + 80 ≤ pace → PaysForMoves f
+  pays_for_all many k t more code there =
+      let pays : f.setting.bytes + 80 ≤ f.pace
+      = subst (λ n. n + 80 ≤ f.pace) (sym hosted.bytes) (subst (λ m. memory_bytes m + 80 ≤ f.pace) (sym home) (subst (λ c. memory_bytes w + 80 ≤ c) (sym is) many)) in
+      every (λ p. moves_run p ≡ true → f.setting.bytes + 80 ≤ f.pace) (λ p moves. pays) code
+
+  pays_for_none : has_block_operations w ≡ false → PaysForMoves f
+  pays_for_none none k t more code there =
+      implied (λ p. moves_run p ≡ false) (λ p. moves_run p ≡ true → f.setting.bytes + 80 ≤ f.pace) (λ p e moves. absurd (cc (e, moves))) code
+      (body_moves_none f.home (subst (λ m. has_block_operations m ≡ false) (sym home) none) k t more code there)
+
 pub hosted_calls_are_followed : HostedCallsAreFollowed
-hosted_calls_are_followed w pace many f home is hosted =
-    settled_calls_follow f (host_settled f hosted) (host_split f hosted)
-    (subst (λ n. n + 80 ≤ f.pace) (sym hosted.bytes) (subst (λ m. memory_bytes m + 80 ≤ f.pace) (sym home) (subst (λ c. memory_bytes w + 80 ≤ c) (sym is) many))) hosted.home hosted.calls
+hosted_calls_are_followed w pace many f home is hosted = calls_follow w pace f home is hosted (omega (arith, many)) (pays_for_all w pace f home is hosted many)
+
+pub unmoved_calls_are_followed : UnmovedCallsAreFollowed
+unmoved_calls_are_followed w pace none enough f home is hosted = calls_follow w pace f home is hosted enough (pays_for_none w pace f home is hosted none)

@@ -1,7 +1,7 @@
 //! From WebAssembly to asm.js: calls of the functions of a translated module follow.
 #![tactic(auto)]
 
-ghost use Rattle.wasm2js_laws_followed.specs.Laws.{SettledCallsFollow, HostedCallsAreFollowed};
+ghost use Rattle.wasm2js_laws_followed.specs.Laws.{SettledCallsFollow, HostedCallsAreFollowed, UnmovedCallsAreFollowed};
 
 /// In a session that is settled, from any caller.
 pub fn settled()
@@ -10,5 +10,6 @@ pub fn settled()
 
 /// From the host, in both parts of a session.
 pub fn hosted()
-    ensures { HostedCallsAreFollowed }
+    ensures moving { HostedCallsAreFollowed }
+    ensures unmoved { UnmovedCallsAreFollowed }
 {}

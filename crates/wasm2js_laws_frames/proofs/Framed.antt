@@ -46,7 +46,7 @@ use Rattle.wasm2js_laws_control.specs.Control.{Function, Match, Inside, MayStand
 use Rattle.wasm2js_laws_typed.proofs.RoomParts.{right_room}
 use Rattle.wasm2js_laws_control.proofs.Stepping.{appended, stays_itself}
 use Rattle.wasm2js_laws_computed.specs.Laws.{IsHelped}
-use Rattle.wasm2js_laws_computed.proofs.Each.{all_is_kept}
+use Rattle.wasm2js_laws_occurring.proofs.Kept.{occurring_are_kept}
 use Rattle.wasm2js_laws_calls.specs.Called.{Passes, seen_with, call_then, IsReturn, IsCallFollowed, CallsFollow}
 use Rattle.wasm2js_laws_calls.specs.Laws.{IsWithin}
 use Rattle.wasm2js_laws_calls.proofs.Calling.{calls_are_kept}
@@ -221,8 +221,9 @@ module _ (f : Function) (settled : IsSettled f) (ready : AreHelped f) (accesses 
 
       kept : IsKept inner u code (out r ∷ []) 0 [] round (word_at q) closes
       kept =
-          all_is_kept inner helped (accesses k t more code is_callee d) (calls_are_kept inner helped.fair within follow)
+          occurring_are_kept inner helped (calls_are_kept inner helped.fair within follow)
           (indirect_calls_are_kept inner helped.fair (profile_of f.home settled.source) settled.source.shaped within follow) u code (out r ∷ []) 0 [] (listed r) round (word_at q) closes
+          (accesses k t more code is_callee d)
           (omega (arith, units, few, le)) typed.1 standing (nested_out r) (body_exits inner helped.fair u t.results typed.0 around after below locals p next most fewer returns (comes_to_end code) (word_at q))
 
       -- the reduction

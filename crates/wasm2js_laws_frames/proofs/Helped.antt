@@ -26,7 +26,7 @@ use Rattle.asm_lang_valid.specs.Typed.{scope_of}
 pub profile_of : (w : WasmModule) → IsSource w → IsInProfile w
 profile_of w source = record { valid = source.whole.is_valid; within = source.within }
 
-found_some : (o : Option (Option Callee)) (c : Callee) → found o ≡ Some c → o ≡ Some (Some c)
+pub found_some : (o : Option (Option Callee)) (c : Callee) → found o ≡ Some c → o ≡ Some (Some c)
 found_some None c e = cc e
 found_some (Some x) c e = ap Some e
 

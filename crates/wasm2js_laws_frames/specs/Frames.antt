@@ -7,11 +7,10 @@ use Rattle.sem_laws.specs.Observation.{EventPlain, EndPlain, trapped, stopped, t
 use Rattle.sem_laws.specs.Laws.{KeepsOrder}
 use Rattle.wasm_lang.specs.declared.types.ValType.{ValType}
 use Rattle.wasm_lang.specs.declared.types.GlobalType.{GlobalType}
-use Rattle.wasm_lang.specs.Instructions.{Plain}
 use Rattle.wasm_lang.specs.Modules.{FunctionType}
 use Rattle.wasm_lang_valid.specs.ModuleRules.{global_types}
 use Rattle.wasm_lang_valid.specs.Profile.{memory_bytes}
-use Rattle.wasm_lang_exec.specs.Code.{plain, Trees}
+use Rattle.wasm_lang_exec.specs.Code.{Trees}
 use Rattle.wasm_lang_exec.specs.Store.{Store}
 use Rattle.wasm_lang_exec.specs.Reductions.{an_import, a_function, callee_at}
 use Rattle.wasm_lang_exec.specs.Session.{seen_end, seen_running}
@@ -31,9 +30,8 @@ use Rattle.wasm2js_laws_places.specs.Straight.{Helping}
 use Rattle.wasm2js_laws_places.specs.Places.{is_own}
 use Rattle.wasm2js_laws_places.specs.Helped.{AreHelpers}
 use Rattle.wasm2js_laws_control.specs.Control.{Function, Match}
-use Rattle.wasm2js_laws_control.specs.Laws.{IsKeptFirst}
 use Rattle.wasm2js_laws_instructions.specs.Plain.{AreUsual}
-use Rattle.wasm2js_laws_computed.specs.Laws.{accesses_memory}
+use Rattle.wasm2js_laws_occurring.specs.Laws.{AllPlain, AccessIsKept}
 use Rattle.wasm2js_laws_calls.specs.Called.{IsCallFollowed}
 
 -- a caller, of which only the module and the depth count
@@ -80,11 +78,11 @@ pub record AreHelped (f : Function) : Type 0 where
   pub helpers : (k : ℕ) (t : FunctionType) (more : List ValType) (code : Trees) → callee_at f.home k ≡ Some (a_function t more code) → (d : ℕ)
       → AreHelpers (scope_of (translated f.home) (own_function f.home k t more code)) (call_at false (translated f.home) d) d f.setting.bytes helping
 
--- .. of accesses to the memory
+-- .. of accesses to the memory: those in its body are kept
 abbrev pub AccessesAreKept : Function → Type 0
 AccessesAreKept f =
     (k : ℕ) (t : FunctionType) (more : List ValType) (code : Trees) → callee_at f.home k ≡ Some (a_function t more code) → (d : ℕ)
-    → (p : Plain) → accesses_memory p ≡ true → IsKeptFirst (in_body f k t more code d) (plain p)
+    → AllPlain (AccessIsKept (in_body f k t more code d)) code
 
 -- .. and of imported functions: calls of their wrappers follow
 abbrev pub ImportsFollow : Function → Type 0

@@ -1,0 +1,3 @@
+pub mod Plain
+pub mod Kept
+pub mod Nested
