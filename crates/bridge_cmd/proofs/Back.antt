@@ -10,13 +10,14 @@ use Rattle.wasm_lang_valid.specs.Bytes.{IsTranslatable}
 use Rattle.wasm2js_lang.specs.Allowed.{IsAllowed}
 use Rattle.wasm2js_code.specs.Modules.{translated}
 use Rattle.wasm2js_laws_whole.specs.Laws.{SpelledAreAllowed, TrapsOfSpelledAreCalls}
+use Rattle.wasm2js_laws_bounded.specs.Laws.{SpelledAreBounded}
 use Rattle.bridge_cmd.specs.Command.{wasm_to_asm}
 use Rattle.bridge_cmd.specs.Job.{IsMade, translated_back}
 
 abbrev SaysAgain : Type 0
 SaysAgain = (m : Module) → IsWellFormed m → (places : List ℕ) × SaysModule (canonical_text m) m places
 
-module _ (allowed : SpelledAreAllowed) (traps : TrapsOfSpelledAreCalls) (again : SaysAgain) where
+module _ (allowed : SpelledAreAllowed) (traps : TrapsOfSpelledAreCalls) (bounded : SpelledAreBounded) (again : SaysAgain) where
   -- it says the translated module, which is accepted
   stands : (m : Module) (w : WasmModule) → IsAllowed w m → IsAcceptedText (canonical_text m) m
   stands m w a =
@@ -27,3 +28,4 @@ module _ (allowed : SpelledAreAllowed) (traps : TrapsOfSpelledAreCalls) (again :
   made file bytes output w t e =
       let a = allowed w (bytes, t.read.spelled) t.within in
       translated_back w (translated w) t refl e (subst (λ text. IsAcceptedText text (translated w)) (sym e) (stands (translated w) w a)) a (traps w (bytes, t.read.spelled) t.within)
+      (bounded w (bytes, t.read.spelled) t.within)

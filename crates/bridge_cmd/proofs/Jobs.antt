@@ -84,18 +84,18 @@ one_bar a bytes r q (outside row o) (outside row' o') =
 
 bar_makes_nothing : (a : Asked) (bytes output : List ℕ) (r : Reason) → IsBarred a bytes r → IsMade a bytes output → ⊥
 bar_makes_nothing a bytes output r (not_accepted f x i) (translated m w j k b l) = laws.not_faulty bytes m f j i
-bar_makes_nothing a bytes output r (not_accepted f x i) (translated_back w m j e o t b k) = cc
+bar_makes_nothing a bytes output r (not_accepted f x i) (translated_back w m j e o t b k d) = cc
 bar_makes_nothing a bytes output r (not_accepted f x i) (text_counted c) = laws.not_faulty bytes c.«module» f c.accepted i
 bar_makes_nothing a bytes output r (not_accepted f x i) (bytes_counted c) = cc
 bar_makes_nothing a bytes output r (not_accepted f x i) (printed m y j o) = laws.not_faulty bytes m f j i
 bar_makes_nothing a bytes output r (not_accepted f x i) (listed m y j o) = cc
 bar_makes_nothing a bytes output r (not_valid f x i n) (translated m w j k b l) = cc
-bar_makes_nothing a bytes output r (not_valid f x i n) (translated_back w m j e o t b k) = n (not_both bytes w f (is_valid bytes w j) i)
+bar_makes_nothing a bytes output r (not_valid f x i n) (translated_back w m j e o t b k d) = n (not_both bytes w f (is_valid bytes w j) i)
 bar_makes_nothing a bytes output r (not_valid f x i n) (text_counted c) = cc
 bar_makes_nothing a bytes output r (not_valid f x i n) (bytes_counted c) = n (not_both bytes c.«module» f c.taken i)
 bar_makes_nothing a bytes output r (not_valid f x i n) (printed m y j o) = cc
 bar_makes_nothing a bytes output r (not_valid f x i n) (listed m y j o) = n (not_both bytes m f j i)
-bar_makes_nothing a bytes output r (not_translated row o) (translated_back w m j y e t b k) =
+bar_makes_nothing a bytes output r (not_translated row o) (translated_back w m j y e t b k d) =
     let same = same_module bytes w o.«module» (is_valid bytes w j) o.taken in
     let f : Some row ≡ None = sym o.meets ∙ ap outside_profile same ∙ j.within.within in
     cc

@@ -16,7 +16,7 @@ use Rattle.cmd_check_wasm.specs.Verdicts.{IsCounted, IsRefused}
 use Rattle.wasm_listing.specs.Listing.{listing}
 use Rattle.cmd_run_wasm.specs.Modules.{IsOutside}
 use Rattle.asm2wasm_lang.specs.Allowed.{IsAllowed, IsBounded, IsShortest}
-use Rattle.wasm2js_lang.specs.Allowed.{IsAllowed as IsAllowedAsm, TrapsAreCalls}
+use Rattle.wasm2js_lang.specs.Allowed.{IsAllowed as IsAllowedAsm, IsBounded as IsBoundedAsm, TrapsAreCalls}
 use Rattle.wasm2js_code.specs.Modules.{translated as asm_js_for}
 use Rattle.bridge_cmd.specs.Command.{Asked, asm_to_wasm, wasm_to_asm, check_asm, check_wasm, show, Running, as_binary, run, file_of, asked, asm_js, web_assembly, language_of, read_as}
 use Rattle.bridge_cmd.specs.Reason.{Reason, faulty_words, not_run, bad_script, missing, too_large}
@@ -67,7 +67,7 @@ pub data IsMade : Asked → List ℕ → List ℕ → Type 0 where
   translated : {file bytes output : List ℕ} {heap : ℕ} (m : Module) (w : WasmModule) → IsAcceptedText bytes m → IsAllowed m heap w → IsBounded m heap w → IsShortest output w
       → IsMade (asm_to_wasm file heap) bytes output
   translated_back : {file bytes output : List ℕ} (w : WasmModule) (a : Module) → IsTranslatable bytes w → a ≡ asm_js_for w → output ≡ canonical_text a → IsAcceptedText output a
-      → IsAllowedAsm w a → TrapsAreCalls w a → IsMade (wasm_to_asm file) bytes output
+      → IsAllowedAsm w a → TrapsAreCalls w a → IsBoundedAsm w a → IsMade (wasm_to_asm file) bytes output
   text_counted : {file bytes output : List ℕ} → texts.IsCounted bytes output → IsMade (check_asm file) bytes output
   bytes_counted : {file bytes output : List ℕ} → IsCounted bytes output → IsMade (check_wasm file) bytes output
   printed : {file bytes output : List ℕ} (m : Module) → language_of bytes ≡ asm_js → IsAcceptedText bytes m → output ≡ canonical_text m

@@ -64,6 +64,7 @@ fn translated_back(alloc: Global, bytes: &[u8]) -> Result<Vec<u8>, Refusal>
     ensures barred { (file : List ℕ) → IfErr result (λ refusal. IsAnswered (spec.wasm_to_asm file) bytes.now (reason_of refusal)) }
 {
     wasm2js_laws_whole::spelled();
+    wasm2js_laws_bounded::spelled();
     printed_texts_are_read();
     let valid = match check_bytes(alloc, bytes) {
         Ok(valid) => valid,

@@ -8,17 +8,17 @@ ghost use Rattle.wasm_lang_valid.specs.Profile.{outside_profile};
 ghost use Rattle.wasm_lang_exec.specs.Fits as machine;
 ghost use Rattle.wasm2js_lang.specs.Heaps.{heap_bytes};
 ghost use Rattle.wasm2js_lang.specs.Calling.{IsCalledAs};
-ghost use Rattle.wasm2js_lang.specs.Allowed.{IsAllowed, TrapsAreCalls, script_for};
+ghost use Rattle.wasm2js_lang.specs.Allowed.{IsAllowed, IsBounded, TrapsAreCalls, script_for};
 ghost use Rattle.wasm2js_code.specs.Modules.{translated};
 
 use wasm_validate::Valid;
 use wasm2js_laws_accepted::acceptance;
 use wasm2js_laws_called::calling;
-use wasm2js_laws_whole::translations;
 use wasm2js_source::source;
 
 /// What a module is translated to is accepted and well formed, is called as asked, and takes each script of its source; its
-/// sessions show what those of the source show, and where those trap it calls the trap import.
+/// sessions show what those of the source show, where those trap it calls the trap import,
+/// and a reduction is worth at most 256 units.
 pub(crate) fn properties(valid: &Valid<'_>)
     requires { outside_profile valid.now ≡ None }
     ensures accepted { IsAccepted (translated valid.now) }
@@ -27,9 +27,11 @@ pub(crate) fn properties(valid: &Valid<'_>)
     ensures fits { (s : ScriptPlain) → machine.misfit valid.now s ≡ None → misfit (translated valid.now) (heap_bytes valid.now) (script_for valid.now s) ≡ None }
     ensures allowed { IsAllowed valid.now (translated valid.now) }
     ensures traps { TrapsAreCalls valid.now (translated valid.now) }
+    ensures bounded { IsBounded valid.now (translated valid.now) }
 {
     acceptance();
     calling();
-    translations();
+    wasm2js_laws_whole::translations();
+    wasm2js_laws_bounded::translations();
     source(valid);
 }

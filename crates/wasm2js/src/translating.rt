@@ -11,7 +11,7 @@ ghost use Rattle.wasm_lang_valid.specs.Profile.{outside_profile};
 ghost use Rattle.wasm_lang_exec.specs.Fits as machine;
 ghost use Rattle.wasm2js_lang.specs.Heaps.{heap_bytes};
 ghost use Rattle.wasm2js_lang.specs.Calling.{IsCalledAs};
-ghost use Rattle.wasm2js_lang.specs.Allowed.{IsAllowed, TrapsAreCalls, script_for};
+ghost use Rattle.wasm2js_lang.specs.Allowed.{IsAllowed, IsBounded, TrapsAreCalls, script_for};
 ghost use Rattle.wasm2js_lang.specs.Tables as plain;
 ghost use Rattle.wasm2js_code.specs.Modules as code;
 ghost use Rattle.wasm2js_code.specs.Tables.{tables_for};
@@ -42,6 +42,7 @@ pub fn translate(alloc: Global, valid: &Valid<'_>) -> Result<Module, AllocError>
     ensures fits { IfOk result (λ m. (s : ScriptPlain) → machine.misfit valid.now s ≡ None → misfit (module_view m) (heap_bytes valid.now) (script_for valid.now s) ≡ None) }
     ensures allowed { IfOk result (λ m. IsAllowed valid.now (module_view m)) }
     ensures traps { IfOk result (λ m. TrapsAreCalls valid.now (module_view m)) }
+    ensures bounded { IfOk result (λ m. IsBounded valid.now (module_view m)) }
 {
     properties(valid);
     exactly(alloc, valid)

@@ -16,7 +16,7 @@ returns-in-Err-profile-clause-barred c = λ file.
 
 pub returns-in-Ok-text_of-clause-made : goal.returns-in-Ok-text_of-clause-made
 returns-in-Ok-text_of-clause-made c = λ file.
-    made c.spelled.ensures.allowed c.spelled.ensures.traps c.printed_texts_are_read.ensures.again file c.args.bytes.now
+    made c.spelled.ensures.allowed c.spelled.ensures.traps c.spelled-2.ensures c.printed_texts_are_read.ensures.again file c.args.bytes.now
     c.in-Ok-text_of.output.items c.in-Ok.valid
     (record { read = c.in-Ok.ensures.valid.read; within = record { valid = c.in-Ok.ensures.valid.valid; within = c.in-Ok-profile.ensures } }) c.in-Ok-text_of.ensures
 

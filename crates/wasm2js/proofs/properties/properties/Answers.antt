@@ -18,3 +18,6 @@ returns-clause-allowed c = c.translations.ensures.allowed c.args.valid.now c.sou
 
 pub returns-clause-traps : goal.returns-clause-traps
 returns-clause-traps c = c.translations.ensures.traps c.args.valid.now c.source.ensures.source c.source.ensures.first
+
+pub returns-clause-bounded : goal.returns-clause-bounded
+returns-clause-bounded c = c.translations-2.ensures.bounded c.args.valid.now c.source.ensures.source c.source.ensures.first

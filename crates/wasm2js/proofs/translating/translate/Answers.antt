@@ -7,7 +7,7 @@ use Rattle.asm_lang_exec.specs.Fits.{misfit}
 use Rattle.wasm_lang_exec.specs.Fits as machine
 use Rattle.wasm2js_lang.specs.Heaps.{heap_bytes}
 use Rattle.wasm2js_lang.specs.Calling.{IsCalledAs}
-use Rattle.wasm2js_lang.specs.Allowed.{IsAllowed, TrapsAreCalls, script_for}
+use Rattle.wasm2js_lang.specs.Allowed.{IsAllowed, IsBounded, TrapsAreCalls, script_for}
 use Rattle.wasm2js_code.specs.Modules.{translated}
 use Rattle.wasm2js.proofs.Told.{told}
 use Rattle.wasm2js.proofs.translating.translate.Goals as goal
@@ -34,3 +34,6 @@ returns-clause-allowed c = told module_view (translated c.args.valid.now) (IsAll
 
 pub returns-clause-traps : goal.returns-clause-traps
 returns-clause-traps c = told module_view (translated c.args.valid.now) (TrapsAreCalls c.args.valid.now) c.exactly.result c.properties.ensures.traps c.exactly.ensures
+
+pub returns-clause-bounded : goal.returns-clause-bounded
+returns-clause-bounded c = told module_view (translated c.args.valid.now) (IsBounded c.args.valid.now) c.exactly.result c.properties.ensures.bounded c.exactly.ensures
