@@ -9,8 +9,8 @@ use Rattle.wasm_lang.specs.Modules.{WasmModule}
 use Rattle.wasm_lang_valid.specs.Bytes.{IsTranslatable}
 use Rattle.wasm2js_lang.specs.Allowed.{IsAllowed}
 use Rattle.wasm2js_code.specs.Modules.{translated}
-use Rattle.wasm2js_laws_whole.specs.Laws.{SpelledAreAllowed, TrapsOfSpelledAreCalls}
-use Rattle.wasm2js_laws_bounded.specs.Laws.{SpelledAreBounded}
+use Rattle.wasm2js_laws_simulation.specs.WholeLaws.{SpelledAreAllowed, TrapsOfSpelledAreCalls}
+use Rattle.wasm2js_laws_simulation.specs.BoundedLaws.{SpelledAreBounded}
 use Rattle.bridge_cmd.specs.Command.{wasm_to_asm}
 use Rattle.bridge_cmd.specs.Job.{IsMade, translated_back}
 

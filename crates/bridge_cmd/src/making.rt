@@ -63,8 +63,8 @@ fn translated_back(alloc: Global, bytes: &[u8]) -> Result<Vec<u8>, Refusal>
     ensures made { (file : List ℕ) → IfOk result (λ output. IsMade (spec.wasm_to_asm file) bytes.now output.items) }
     ensures barred { (file : List ℕ) → IfErr result (λ refusal. IsAnswered (spec.wasm_to_asm file) bytes.now (reason_of refusal)) }
 {
-    wasm2js_laws_whole::spelled();
-    wasm2js_laws_bounded::spelled();
+    wasm2js_laws_simulation::whole_laws::spelled();
+    wasm2js_laws_simulation::bounded_laws::spelled();
     printed_texts_are_read();
     let valid = match check_bytes(alloc, bytes) {
         Ok(valid) => valid,

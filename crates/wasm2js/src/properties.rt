@@ -31,7 +31,7 @@ pub(crate) fn properties(valid: &Valid<'_>)
 {
     acceptance();
     calling();
-    wasm2js_laws_whole::translations();
-    wasm2js_laws_bounded::translations();
+    wasm2js_laws_simulation::whole_laws::translations();
+    wasm2js_laws_simulation::bounded_laws::translations();
     source(valid);
 }

@@ -25,7 +25,7 @@ use Rattle.wasm2js_laws_functions.proofs.Limited.{limited}
 use Rattle.wasm2js_laws_functions.proofs.Roomy.{two, wide_low, narrow}
 use Rattle.wasm2js_laws_functions.proofs.Formed.{body_is_formed}
 use Rattle.wasm2js_laws_functions.proofs.Found.{found_own}
-use Rattle.wasm2js_laws_control.specs.Control.{Function, under_aims, AreNested}
+use Rattle.wasm2js_laws_kept.specs.ControlControl.{Function, under_aims, AreNested}
 use Rattle.wasm2js_laws_standing.specs.Laws.{Begins, IsTranslation, OwnCodeBegins}
 
 -- ---- the function's own label alone

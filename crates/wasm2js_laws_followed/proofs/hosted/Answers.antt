@@ -1,8 +1,0 @@
-use Rattle.wasm2js_laws_followed.proofs.Hosts.{hosted_calls_are_followed, unmoved_calls_are_followed}
-use Rattle.wasm2js_laws_followed.proofs.hosted.Goals as goal
-
-pub returns-clause-moving : goal.returns-clause-moving
-returns-clause-moving c = hosted_calls_are_followed
-
-pub returns-clause-unmoved : goal.returns-clause-unmoved
-returns-clause-unmoved c = unmoved_calls_are_followed

@@ -1,4 +1,0 @@
-pub mod Named
-pub mod Usual
-pub mod Called
-pub mod Standing

@@ -1,9 +1,0 @@
-use Rattle.wasm2js_laws_helping.proofs.Called.{helpers_help}
-use Rattle.wasm2js_laws_helping.proofs.Standing.{bodies_help}
-use Rattle.wasm2js_laws_helping.proofs.calls.Goals as goal
-
-pub returns-clause-any : goal.returns-clause-any
-returns-clause-any c = helpers_help
-
-pub returns-clause-bodies : goal.returns-clause-bodies
-returns-clause-bodies c = bodies_help

@@ -1,3 +1,0 @@
-pub mod Helping
-pub mod Laws
-pub mod Standing

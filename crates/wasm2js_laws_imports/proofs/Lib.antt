@@ -1,4 +1,0 @@
-pub mod Answering
-pub mod Wrapped
-pub mod Narrow
-pub mod Following

@@ -1,4 +1,0 @@
-pub mod Memory
-pub mod Instance
-pub mod Globals
-pub mod Held

@@ -1,0 +1,14 @@
+pub mod ControlControl
+pub mod ControlLaws
+pub mod InstructionsPlain
+pub mod InstructionsLaws
+pub mod LoadsLaws
+pub mod StoresAnswers
+pub mod StoresLaws
+pub mod RunsAnswers
+pub mod RunsLaws
+pub mod BranchesLaws
+pub mod SwitchesLaws
+pub mod ComputedLaws
+pub mod MemoryLaws
+pub mod OccurringLaws

@@ -1,4 +1,0 @@
-pub mod Guarded
-pub mod Numbers
-pub mod Words
-pub mod Loaded

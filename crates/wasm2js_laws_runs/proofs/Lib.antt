@@ -1,9 +1,0 @@
-pub mod Loops
-pub mod Runs
-pub mod Tests
-pub mod Called
-pub mod Filling
-pub mod Upwards
-pub mod Downwards
-pub mod Copying
-pub mod Moved

@@ -1,0 +1,17 @@
+pub mod CallsCalled
+pub mod CallsLaws
+pub mod FramesFrames
+pub mod FramesLaws
+pub mod ImportsLaws
+pub mod HelpingHelping
+pub mod HelpingLaws
+pub mod HelpingStanding
+pub mod HostHosts
+pub mod HostLaws
+pub mod FollowedLaws
+pub mod StartLaws
+pub mod SegmentsLaws
+pub mod InstancesLaws
+pub mod SessionsLaws
+pub mod WholeLaws
+pub mod BoundedLaws

@@ -1,9 +1,0 @@
-//! From WebAssembly to asm.js: how a session begins, where what it comes to follows.
-#![tactic(auto)]
-
-ghost use Rattle.wasm2js_laws_start.specs.Laws.{InitFollows};
-
-/// `$init` does what instantiation and the start function do, and the calls of the script come after it.
-pub fn session_start()
-    ensures { InitFollows }
-{}
