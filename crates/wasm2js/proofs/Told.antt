@@ -4,7 +4,7 @@ use Rattle.std.specs.Prelude.{Result, Ok, Err, IfOk}
 use Rattle.asm_lang.specs.Modules.{Module}
 use Rattle.wasm_lang.specs.Modules.{WasmModule}
 use Rattle.wasm_lang_valid.specs.Profile.{IsInProfile}
-use Rattle.wasm2js_laws_functions.specs.Functions.{IsSource}
+use Rattle.wasm2js_laws_acceptance.specs.FunctionsFunctions.{IsSource}
 
 pub in_profile : (w : WasmModule) → IsSource w → IsInProfile w
 in_profile w source = record { valid = source.whole.is_valid; within = source.within }

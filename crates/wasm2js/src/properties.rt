@@ -12,8 +12,8 @@ ghost use Rattle.wasm2js_lang.specs.Allowed.{IsAllowed, IsBounded, TrapsAreCalls
 ghost use Rattle.wasm2js_code.specs.Modules.{translated};
 
 use wasm_validate::Valid;
-use wasm2js_laws_accepted::acceptance;
-use wasm2js_laws_called::calling;
+use wasm2js_laws_acceptance::accepted_laws::acceptance;
+use wasm2js_laws_acceptance::called_laws::calling;
 use wasm2js_source::source;
 
 /// What a module is translated to is accepted and well formed, is called as asked, and takes each script of its source; its

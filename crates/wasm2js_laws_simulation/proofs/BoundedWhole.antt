@@ -1,7 +1,7 @@
 -- The steps of the translations of sources are bounded.
 use Rattle.std.proofs.Common.{arith}
-use Rattle.wasm2js_laws_called.proofs.Whole.{translations_are_called}
-use Rattle.wasm2js_laws_accepted.proofs.Spelled.{spelled_are_sources}
+use Rattle.wasm2js_laws_acceptance.proofs.CalledWhole.{translations_are_called}
+use Rattle.wasm2js_laws_acceptance.proofs.AcceptedSpelled.{spelled_are_sources}
 use Rattle.wasm2js_laws_simulation.proofs.FramesHelped.{profile_of}
 use Rattle.wasm2js_laws_simulation.proofs.FollowedHosts.{unmoved_calls_are_followed}
 use Rattle.wasm2js_laws_simulation.specs.SessionsLaws.{TranslationsAreBounded}

@@ -50,10 +50,10 @@ use Rattle.wasm2js_code.specs.Bodies.{Aim, word_in, answered, arguments_from, fo
 use Rattle.wasm2js_code.specs.Modules.{translated}
 use Rattle.wasm2js_code.specs.Rooms.{here, room_of}
 use Rattle.wasm2js_code.specs.Tables.{cell_count, stub_number, stub_of, cell_name, table_for}
-use Rattle.wasm2js_laws_provided.proofs.Entries.{In, in_map}
-use Rattle.wasm2js_laws_provided.proofs.Found.{table_found}
-use Rattle.wasm2js_laws_provided.proofs.Sizes.{some_cells}
-use Rattle.wasm2js_laws_provided.proofs.Tables.{type_is, least_is, masked_as}
+use Rattle.wasm2js_laws_acceptance.proofs.ProvidedEntries.{In, in_map}
+use Rattle.wasm2js_laws_acceptance.proofs.ProvidedFound.{table_found}
+use Rattle.wasm2js_laws_acceptance.proofs.ProvidedSizes.{some_cells}
+use Rattle.wasm2js_laws_acceptance.proofs.ProvidedTables.{type_is, least_is, masked_as}
 use Rattle.wasm2js_laws_pace.specs.Following.{Rest}
 use Rattle.wasm2js_laws_places.specs.Straight.{Words}
 use Rattle.wasm2js_laws_places.specs.Places.{word_at, operands, locals_of, store_of, Stays}

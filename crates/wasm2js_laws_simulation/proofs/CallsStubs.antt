@@ -35,10 +35,10 @@ use Rattle.wasm2js_code.specs.Modules.{functions_from, init_function, high_funct
 use Rattle.wasm2js_code.specs.Tables.{words_of, result_mark, stub_number, stub_of, cell_name, stub_function, is_empty, is_other, is_needed, stubs_for, stubs}
 use Rattle.wasm2js_laws_scopes.specs.Laws.{is_own}
 use Rattle.wasm2js_laws_scopes.proofs.HeadNames.{heads_are_provided}
-use Rattle.wasm2js_laws_provided.proofs.Entries.{In, in_left, in_right}
-use Rattle.wasm2js_laws_provided.proofs.Found.{function_found}
-use Rattle.wasm2js_laws_provided.proofs.Tables.{masked_as}
-use Rattle.wasm2js_laws_provided.proofs.Within.{rows_are_within, few_params}
+use Rattle.wasm2js_laws_acceptance.proofs.ProvidedEntries.{In, in_left, in_right}
+use Rattle.wasm2js_laws_acceptance.proofs.ProvidedFound.{function_found}
+use Rattle.wasm2js_laws_acceptance.proofs.ProvidedTables.{masked_as}
+use Rattle.wasm2js_laws_acceptance.proofs.ProvidedWithin.{rows_are_within, few_params}
 use Rattle.wasm2js_laws_pace.specs.Following.{Rest}
 use Rattle.wasm2js_laws_pace.proofs.Paced.{stands_still}
 use Rattle.wasm2js_laws_places.specs.Places.{store_of}

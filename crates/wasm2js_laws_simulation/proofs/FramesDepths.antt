@@ -16,8 +16,8 @@ use Rattle.asm_lang_exec.specs.Runs.{Place}
 use Rattle.asm_laws_continuation.specs.Following.{call_at_to}
 use Rattle.wasm2js_words.specs.Names.{numbered, function, spelled}
 use Rattle.wasm2js_code.specs.Modules.{own_function, wrapper, translated}
-use Rattle.wasm2js_laws_provided.proofs.Found.{function_found}
-use Rattle.wasm2js_laws_provided.proofs.Functions.{function_there}
+use Rattle.wasm2js_laws_acceptance.proofs.ProvidedFound.{function_found}
+use Rattle.wasm2js_laws_acceptance.proofs.ProvidedFunctions.{function_there}
 use Rattle.wasm2js_laws_pace.specs.Following.{Stands}
 use Rattle.wasm2js_laws_pace.proofs.Paced.{stands_still}
 use Rattle.wasm2js_laws_places.specs.Places.{store_of, World}

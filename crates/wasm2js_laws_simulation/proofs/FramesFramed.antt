@@ -38,7 +38,7 @@ use Rattle.wasm2js_code.specs.Rooms.{here, room_of, body_room, declared_names}
 use Rattle.wasm2js_code.specs.Tables.{cell_count}
 use Rattle.wasm2js_laws_scopes.specs.Laws as scopes
 use Rattle.wasm2js_laws_scopes.proofs.Declared.{room_is_declared, module_names_are_seen, variables_are_own}
-use Rattle.wasm2js_laws_functions.proofs.Roomy.{two, wide_low, narrow}
+use Rattle.wasm2js_laws_acceptance.proofs.FunctionsRoomy.{two, wide_low, narrow}
 use Rattle.wasm2js_laws_pace.specs.Following.{Rest, Stands}
 use Rattle.wasm2js_laws_pace.proofs.Paced.{steps_are_paid, stands_still}
 use Rattle.wasm2js_laws_places.specs.Places.{is_own, word_at, names_in, AreApart, locals_of, store_of, World}

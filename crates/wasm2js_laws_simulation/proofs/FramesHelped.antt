@@ -11,13 +11,13 @@ use Rattle.std.specs.Prelude.{slice_get}
 use Rattle.wasm2js_code.specs.Modules.{context_of, own_function, translated}
 use Rattle.wasm2js_code.specs.Tables.{cell_count}
 use Rattle.wasm2js_laws_scopes.specs.Provided.{Provides}
-use Rattle.wasm2js_laws_provided.specs.Laws.{is_called}
-use Rattle.wasm2js_laws_provided.proofs.Whole.{modules_provide}
+use Rattle.wasm2js_laws_acceptance.specs.ProvidedLaws.{is_called}
+use Rattle.wasm2js_laws_acceptance.proofs.ProvidedWhole.{modules_provide}
 use Rattle.wasm2js_laws_typed.specs.Bodies.{IsFormedCode}
-use Rattle.wasm2js_laws_functions.specs.Functions.{IsSource}
-use Rattle.wasm2js_laws_functions.proofs.Found.{found_own}
-use Rattle.wasm2js_laws_functions.proofs.Formed.{body_is_formed}
-use Rattle.wasm2js_laws_functions.proofs.Limited.{limited}
+use Rattle.wasm2js_laws_acceptance.specs.FunctionsFunctions.{IsSource}
+use Rattle.wasm2js_laws_acceptance.proofs.FunctionsFound.{found_own}
+use Rattle.wasm2js_laws_acceptance.proofs.FunctionsFormed.{body_is_formed}
+use Rattle.wasm2js_laws_acceptance.proofs.FunctionsLimited.{limited}
 use Rattle.wasm2js_laws_kept.specs.ControlControl.{Function, IsFair}
 use Rattle.wasm2js_laws_simulation.specs.FramesFrames.{in_body, IsSettled}
 use Rattle.wasm2js_laws_simulation.specs.FramesLaws.{BodiesAreHelped}

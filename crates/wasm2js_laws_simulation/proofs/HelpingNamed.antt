@@ -20,9 +20,9 @@ use Rattle.wasm2js_code.specs.Modules.{functions_from, init_function, high_funct
 use Rattle.wasm2js_code.specs.Tables.{is_empty, is_other, is_needed, stub_numbers, stubs, tables_for}
 use Rattle.wasm2js_laws_helpers.specs.Laws.{divide_signed_function, divide_function, remainder_signed_function, remainder_function}
 use Rattle.wasm2js_laws_access.specs.Laws.{load_32_function, load_64_function}
-use Rattle.wasm2js_laws_provided.proofs.Entries.{In, in_left, in_right, are_apart}
-use Rattle.wasm2js_laws_provided.proofs.Declared.{texts_of, table_texts, spellings, helper_names, callee_names, callees_names, only, stub_names, last_names, table_names, function_names, functions_are_named, tables_are_named}
-use Rattle.wasm2js_laws_provided.proofs.Found.{no_parameter, variable_found, function_found}
+use Rattle.wasm2js_laws_acceptance.proofs.ProvidedEntries.{In, in_left, in_right, are_apart}
+use Rattle.wasm2js_laws_acceptance.proofs.ProvidedDeclared.{texts_of, table_texts, spellings, helper_names, callee_names, callees_names, only, stub_names, last_names, table_names, function_names, functions_are_named, tables_are_named}
+use Rattle.wasm2js_laws_acceptance.proofs.ProvidedFound.{no_parameter, variable_found, function_found}
 use Rattle.wasm2js_laws_scopes.proofs.HeadNames.{missed, numbered_others}
 use Rattle.wasm2js_laws_kept.specs.StoresLaws.{store_32_function, store_64_function}
 use Rattle.wasm2js_laws_simulation.specs.HelpingHelping.{on_memory, fixed_meaning}

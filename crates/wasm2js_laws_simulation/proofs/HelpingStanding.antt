@@ -18,8 +18,8 @@ use Rattle.wasm2js_code.specs.Rooms.{body_room, declared_names}
 use Rattle.wasm2js_code.specs.Tables.{cell_count}
 use Rattle.wasm2js_laws_scopes.specs.Provided.{Provides}
 use Rattle.wasm2js_laws_scopes.proofs.Declared.{module_names_are_seen, variables_are_own}
-use Rattle.wasm2js_laws_provided.specs.Laws.{is_called}
-use Rattle.wasm2js_laws_provided.proofs.Whole.{modules_provide}
+use Rattle.wasm2js_laws_acceptance.specs.ProvidedLaws.{is_called}
+use Rattle.wasm2js_laws_acceptance.proofs.ProvidedWhole.{modules_provide}
 use Rattle.wasm2js_laws_places.specs.Helped.{AreHelpers}
 use Rattle.wasm2js_laws_kept.specs.ControlControl.{Function, IsFair}
 use Rattle.wasm2js_laws_kept.specs.InstructionsPlain.{Supports}

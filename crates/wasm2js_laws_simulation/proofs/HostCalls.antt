@@ -48,8 +48,8 @@ use Rattle.wasm2js_lang.specs.Allowed.{script_for, comparison}
 use Rattle.wasm2js_code.specs.Modules.{high_function, translated}
 use Rattle.wasm2js_laws_scripts.proofs.Calls.{callable, shapes_are_found}
 use Rattle.wasm2js_laws_scripts.proofs.Names.{shaped_exports_are_bytes}
-use Rattle.wasm2js_laws_provided.proofs.Functions.{IsDeclared, function_declared}
-use Rattle.wasm2js_laws_functions.specs.Functions.{IsSource}
+use Rattle.wasm2js_laws_acceptance.proofs.ProvidedFunctions.{IsDeclared, function_declared}
+use Rattle.wasm2js_laws_acceptance.specs.FunctionsFunctions.{IsSource}
 use Rattle.wasm2js_laws_pace.specs.Following.{Rest, Follows}
 use Rattle.wasm2js_laws_pace.proofs.Paced.{same_is_followed}
 use Rattle.wasm2js_laws_places.specs.Places.{word_at, Setting, store_of, World}

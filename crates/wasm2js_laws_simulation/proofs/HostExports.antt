@@ -22,8 +22,8 @@ use Rattle.asm_lang_exec.specs.Session.{export_number, exported_function}
 use Rattle.wasm2js_words.specs.Names.{Name, numbered, fixed, function, init, last_high, spelled}
 use Rattle.wasm2js_code.specs.Modules.{init_function, high_function, functions_from, helpers, functions_of, export_for, exports_of, translated}
 use Rattle.wasm2js_code.specs.Tables.{stubs}
-use Rattle.wasm2js_laws_provided.proofs.Entries.{in_right}
-use Rattle.wasm2js_laws_provided.proofs.Found.{function_found}
+use Rattle.wasm2js_laws_acceptance.proofs.ProvidedEntries.{in_right}
+use Rattle.wasm2js_laws_acceptance.proofs.ProvidedFound.{function_found}
 use Rattle.wasm2js_laws_scripts.specs.Laws.{ExportsAreBytes}
 
 -- ---- names

@@ -16,7 +16,7 @@ use Rattle.asm_lang_exec.specs.Session.{global_value, with_binding, first_global
 use Rattle.wasm2js_words.specs.Names.{Name, spelled}
 use Rattle.wasm2js_words.proofs.Spelling.{spellings_differ}
 use Rattle.wasm2js_code.specs.Modules.{variables_of}
-use Rattle.wasm2js_laws_provided.proofs.Declared.{variable_texts, spellings, head_names, foreign_names, imported_names, first_names, own_names, global_names, globals_are_named}
+use Rattle.wasm2js_laws_acceptance.proofs.ProvidedDeclared.{variable_texts, spellings, head_names, foreign_names, imported_names, first_names, own_names, global_names, globals_are_named}
 use Rattle.wasm2js_laws_places.specs.Places.{is_own, names_in}
 
 abbrev NotOwn : List Name → Type 0

@@ -47,7 +47,7 @@ use Rattle.wasm2js_code.specs.Bodies.{signed_word, high_result}
 use Rattle.wasm2js_code.specs.Modules.{param_names, sent, wrapper_body, wrapper_locals, wrapper, translated}
 use Rattle.wasm2js_laws_scopes.specs.Laws as scopes
 use Rattle.wasm2js_laws_scopes.proofs.Declared.{variables_are_own}
-use Rattle.wasm2js_laws_provided.proofs.Foreign.{foreign_are_provided, high_is_foreign}
+use Rattle.wasm2js_laws_acceptance.proofs.ProvidedForeign.{foreign_are_provided, high_is_foreign}
 use Rattle.wasm2js_laws_pace.specs.Following.{Rest, Stands}
 use Rattle.wasm2js_laws_pace.proofs.Paced.{steps_are_paid, stands_still}
 use Rattle.wasm2js_laws_places.specs.Straight.{Words, with_word}

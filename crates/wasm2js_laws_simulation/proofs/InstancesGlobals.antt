@@ -42,9 +42,9 @@ use Rattle.asm_lang_exec.specs.Session.{given_value, first_globals}
 use Rattle.wasm2js_words.specs.Names.{Name, numbered, fixed, spare_high, result_high, global_low, global_high, spelled}
 use Rattle.wasm2js_lang.specs.Allowed.{script_for}
 use Rattle.wasm2js_code.specs.Modules.{view_variables, fixed_variables, foreign_variables, given_variable, imported_variables, first_values, own_variables, global_variables, variables_of}
-use Rattle.wasm2js_laws_provided.proofs.Within.{rows_are_within}
-use Rattle.wasm2js_laws_functions.specs.Functions.{HasWord, IsSource}
-use Rattle.wasm2js_laws_accepted.specs.Laws.{HaveFirstWords}
+use Rattle.wasm2js_laws_acceptance.proofs.ProvidedWithin.{rows_are_within}
+use Rattle.wasm2js_laws_acceptance.specs.FunctionsFunctions.{HasWord, IsSource}
+use Rattle.wasm2js_laws_acceptance.specs.AcceptedLaws.{HaveFirstWords}
 use Rattle.wasm2js_laws_places.specs.Straight.{Words, same_name}
 use Rattle.wasm2js_laws_places.specs.Places.{word_bound, word_at, globals_from, globals_of}
 use Rattle.wasm2js_laws_actions.proofs.Variables.{spelled_alike}

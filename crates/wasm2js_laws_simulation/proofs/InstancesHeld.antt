@@ -14,7 +14,7 @@ use Rattle.wasm2js_lang.specs.Tables.{entries_of}
 use Rattle.wasm2js_lang.specs.Calling.{IsCalledAs}
 use Rattle.wasm2js_lang.specs.Laws.{EntriesAreTheTable}
 use Rattle.wasm2js_code.specs.Modules.{translated}
-use Rattle.wasm2js_laws_functions.specs.Functions.{IsSource}
+use Rattle.wasm2js_laws_acceptance.specs.FunctionsFunctions.{IsSource}
 use Rattle.wasm2js_laws_places.specs.Places.{Setting, word_at, store_with, store_of}
 use Rattle.wasm2js_laws_simulation.specs.HostHosts.{setting_of}
 use Rattle.wasm2js_laws_simulation.proofs.HostEvents.{match_start}

@@ -32,8 +32,8 @@ use Rattle.wasm2js_lang.proofs.Lengths.{holds, no_shorter}
 use Rattle.wasm2js_code.specs.Modules.{translated}
 use Rattle.wasm2js_laws_scripts.proofs.Fitting.{holds_or, all_from_places, memory_is_there}
 use Rattle.wasm2js_laws_scripts.proofs.Heaps.{heaps_begin}
-use Rattle.wasm2js_laws_provided.proofs.Within.{rows_are_within, few_bytes}
-use Rattle.wasm2js_laws_functions.specs.Functions.{IsSource}
+use Rattle.wasm2js_laws_acceptance.proofs.ProvidedWithin.{rows_are_within, few_bytes}
+use Rattle.wasm2js_laws_acceptance.specs.FunctionsFunctions.{IsSource}
 use Rattle.wasm2js_laws_places.specs.Places.{IsHeap, IsWritable, IsReply}
 use Rattle.wasm2js_laws_simulation.specs.SegmentsLaws.{with_segments}
 

@@ -18,7 +18,7 @@ use Rattle.wasm2js_code.specs.Modules.{segment_stmts, start_stmts, init_function
 use Rattle.wasm2js_lang.proofs.Padded.{within_rows, where_none, is_constant}
 use Rattle.wasm2js_laws_scopes.specs.Provided.{HasMemory}
 use Rattle.wasm2js_laws_scopes.proofs.HeadNames.{memories_are_provided}
-use Rattle.wasm2js_laws_functions.specs.Functions.{IsSource}
+use Rattle.wasm2js_laws_acceptance.specs.FunctionsFunctions.{IsSource}
 
 all_from_places : {A : Type 0} → (P : A → Type 0) (xs : List A) → ((i : ℕ) (x : A) → slice_get xs i ≡ Some x → P x) → AllByRecursion P xs
 all_from_places P [] h = tt

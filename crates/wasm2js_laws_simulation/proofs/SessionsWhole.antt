@@ -24,7 +24,7 @@ use Rattle.wasm2js_lang.specs.Allowed.{script_for, source_session, target_sessio
 use Rattle.wasm2js_code.specs.Modules.{translated}
 use Rattle.wasm2js_laws_scripts.proofs.Fitting.{holds_or, all_from_places, scripts_fit}
 use Rattle.wasm2js_laws_scripts.proofs.Names.{shaped_exports_are_bytes}
-use Rattle.wasm2js_laws_accepted.proofs.Whole.{translations_are_accepted, translations_are_well_formed}
+use Rattle.wasm2js_laws_acceptance.proofs.AcceptedWhole.{translations_are_accepted, translations_are_well_formed}
 use Rattle.wasm2js_laws_pace.specs.Following.{Follows}
 use Rattle.wasm2js_laws_pace.proofs.Paced.{followed_from_the_start}
 use Rattle.wasm2js_laws_simulation.proofs.HostCalls.{host_calls_follow}

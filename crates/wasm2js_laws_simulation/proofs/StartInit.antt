@@ -38,9 +38,9 @@ use Rattle.wasm2js_lang.specs.Calling.{shapes_of, IsCalledAs}
 use Rattle.wasm2js_lang.specs.Allowed.{script_for, source_session, comparison}
 use Rattle.wasm2js_code.specs.Modules.{segment_stmts, start_stmts, init_function, translated}
 use Rattle.wasm2js_laws_scripts.proofs.Calls.{IsExported, exported_as_asked}
-use Rattle.wasm2js_laws_provided.proofs.Functions.{IsDeclared, function_declared}
-use Rattle.wasm2js_laws_provided.proofs.Found.{is_seen}
-use Rattle.wasm2js_laws_functions.specs.Functions.{IsSource}
+use Rattle.wasm2js_laws_acceptance.proofs.ProvidedFunctions.{IsDeclared, function_declared}
+use Rattle.wasm2js_laws_acceptance.proofs.ProvidedFound.{is_seen}
+use Rattle.wasm2js_laws_acceptance.specs.FunctionsFunctions.{IsSource}
 use Rattle.wasm2js_laws_pace.specs.Following.{Rest, Follows}
 use Rattle.wasm2js_laws_pace.proofs.Paced.{same_is_followed, free_units, unpaid_stops, steps_are_paid}
 use Rattle.wasm2js_laws_places.specs.Places.{Setting, store_of, World}

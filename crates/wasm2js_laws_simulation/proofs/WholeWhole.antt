@@ -5,12 +5,12 @@ use Rattle.wasm_lang_valid.specs.Profile.{memory_bytes}
 use Rattle.asm_lang.specs.Modules.{Module}
 use Rattle.wasm2js_lang.specs.Allowed.{IsAllowed, TrapsAreCalls}
 use Rattle.wasm2js_code.specs.Modules.{translated}
-use Rattle.wasm2js_laws_provided.proofs.Within.{rows_are_within, few_bytes}
-use Rattle.wasm2js_laws_functions.specs.Functions.{IsSource}
+use Rattle.wasm2js_laws_acceptance.proofs.ProvidedWithin.{rows_are_within, few_bytes}
+use Rattle.wasm2js_laws_acceptance.specs.FunctionsFunctions.{IsSource}
 use Rattle.wasm2js_laws_simulation.proofs.FramesHelped.{profile_of}
 use Rattle.wasm2js_laws_simulation.proofs.FollowedHosts.{hosted_calls_are_followed}
-use Rattle.wasm2js_laws_called.proofs.Whole.{translations_are_called}
-use Rattle.wasm2js_laws_accepted.proofs.Spelled.{spelled_are_sources}
+use Rattle.wasm2js_laws_acceptance.proofs.CalledWhole.{translations_are_called}
+use Rattle.wasm2js_laws_acceptance.proofs.AcceptedSpelled.{spelled_are_sources}
 use Rattle.wasm2js_laws_simulation.specs.SessionsLaws.{TranslationsAreAllowed}
 use Rattle.wasm2js_laws_simulation.specs.WholeLaws.{most_pace, SourcesAreReady, SourcesAreAllowed, TrapsOfSourcesAreCalls, SpelledAreAllowed, TrapsOfSpelledAreCalls}
 

@@ -14,7 +14,7 @@ use Rattle.wasm2js_lang.specs.Tables.{entries_of}
 use Rattle.wasm2js_code.specs.Modules.{translated}
 use Rattle.wasm2js_code.specs.Tables.{cell_count}
 use Rattle.wasm2js_laws_scopes.specs.Laws.{is_own}
-use Rattle.wasm2js_laws_provided.specs.Laws.{is_called}
+use Rattle.wasm2js_laws_acceptance.specs.ProvidedLaws.{is_called}
 use Rattle.wasm2js_laws_kept.specs.ControlControl.{Function, IsFair}
 use Rattle.wasm2js_laws_kept.specs.ControlLaws.{IsKeptFirst}
 use Rattle.wasm2js_laws_simulation.specs.CallsCalled.{CallsFollow}

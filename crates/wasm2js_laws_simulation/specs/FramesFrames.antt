@@ -24,8 +24,8 @@ use Rattle.wasm2js_lang.specs.Tables.{entries_of}
 use Rattle.wasm2js_code.specs.Modules.{param_names, context_of, own_function, wrapper, init_function, translated}
 use Rattle.wasm2js_code.specs.Rooms.{body_room, declared_names}
 use Rattle.wasm2js_code.specs.Tables.{cell_count}
-use Rattle.wasm2js_laws_provided.specs.Laws.{is_called}
-use Rattle.wasm2js_laws_functions.specs.Functions.{IsSource}
+use Rattle.wasm2js_laws_acceptance.specs.ProvidedLaws.{is_called}
+use Rattle.wasm2js_laws_acceptance.specs.FunctionsFunctions.{IsSource}
 use Rattle.wasm2js_laws_places.specs.Straight.{Helping}
 use Rattle.wasm2js_laws_places.specs.Places.{is_own}
 use Rattle.wasm2js_laws_places.specs.Helped.{AreHelpers}

@@ -21,7 +21,7 @@ use Rattle.asm_lang_exec.specs.Meaning.{call_at}
 use Rattle.asm_laws_continuation.specs.Following.{call_at_to}
 use Rattle.wasm2js_code.specs.Modules.{context_of, own_function, translated}
 use Rattle.wasm2js_code.specs.Tables.{cell_count}
-use Rattle.wasm2js_laws_provided.specs.Laws.{is_called}
+use Rattle.wasm2js_laws_acceptance.specs.ProvidedLaws.{is_called}
 use Rattle.wasm2js_laws_places.specs.Helped.{AreHelpers}
 use Rattle.wasm2js_laws_kept.specs.ControlControl.{Function, Match}
 use Rattle.wasm2js_laws_kept.specs.ControlLaws.{IsKeptFirst}

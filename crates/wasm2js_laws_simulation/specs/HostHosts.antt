@@ -23,8 +23,8 @@ use Rattle.wasm2js_lang.specs.Heaps.{heap_bytes}
 use Rattle.wasm2js_lang.specs.Allowed.{script_for, comparison}
 use Rattle.wasm2js_code.specs.Modules.{context_of, init_function, translated}
 use Rattle.wasm2js_code.specs.Tables.{cell_count}
-use Rattle.wasm2js_laws_provided.specs.Laws.{is_called}
-use Rattle.wasm2js_laws_functions.specs.Functions.{IsSource}
+use Rattle.wasm2js_laws_acceptance.specs.ProvidedLaws.{is_called}
+use Rattle.wasm2js_laws_acceptance.specs.FunctionsFunctions.{IsSource}
 use Rattle.wasm2js_laws_places.specs.Places.{is_own, names_in, Setting}
 use Rattle.wasm2js_laws_kept.specs.ControlControl.{Function, Match}
 use Rattle.wasm2js_laws_simulation.specs.CallsCalled.{CallsFollow}

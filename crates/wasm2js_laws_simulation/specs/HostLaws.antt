@@ -12,7 +12,7 @@ use Rattle.asm_laws_continuation.specs.Following.{call_at_to, host_calls_to}
 use Rattle.wasm2js_lang.specs.Calling.{shapes_of}
 use Rattle.wasm2js_lang.specs.Allowed.{comparison}
 use Rattle.wasm2js_code.specs.Modules.{translated}
-use Rattle.wasm2js_laws_functions.specs.Functions.{IsSource}
+use Rattle.wasm2js_laws_acceptance.specs.FunctionsFunctions.{IsSource}
 use Rattle.wasm2js_laws_pace.specs.Following.{Follows}
 use Rattle.wasm2js_laws_places.specs.Places.{store_of, World}
 use Rattle.wasm2js_laws_simulation.specs.HostHosts.{calling, Matches, setting_of, HostedCallsFollow}

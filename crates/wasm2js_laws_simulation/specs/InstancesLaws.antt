@@ -9,8 +9,8 @@ use Rattle.wasm_lang_exec.specs.Fits.{misfit}
 use Rattle.asm2wasm_lang.specs.Allowed.{WritesBytes}
 use Rattle.wasm2js_lang.specs.Calling.{IsCalledAs}
 use Rattle.wasm2js_code.specs.Modules.{translated}
-use Rattle.wasm2js_laws_functions.specs.Functions.{IsSource}
-use Rattle.wasm2js_laws_accepted.specs.Laws.{HaveFirstWords}
+use Rattle.wasm2js_laws_acceptance.specs.FunctionsFunctions.{IsSource}
+use Rattle.wasm2js_laws_acceptance.specs.AcceptedLaws.{HaveFirstWords}
 use Rattle.wasm2js_laws_places.specs.Places.{word_at, globals_of}
 use Rattle.wasm2js_laws_simulation.specs.StartLaws.{begins_at, IsStored}
 

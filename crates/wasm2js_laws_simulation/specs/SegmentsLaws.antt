@@ -10,7 +10,7 @@ use Rattle.asm_lang_exec.specs.Meaning.{Completion, normal}
 use Rattle.asm_laws_continuation.specs.Following.{CallsBefore, exec_all_to}
 use Rattle.wasm2js_words.specs.Words.{stmts_in}
 use Rattle.wasm2js_code.specs.Modules.{segment_stmts, init_function, translated}
-use Rattle.wasm2js_laws_functions.specs.Functions.{IsSource}
+use Rattle.wasm2js_laws_acceptance.specs.FunctionsFunctions.{IsSource}
 
 -- a heap with the bytes of segments that lie at constant places
 abbrev pub with_segments : List DataSegment → List ℕ → List ℕ

@@ -9,8 +9,8 @@ use Rattle.asm2wasm_lang.specs.Allowed.{WritesBytes}
 use Rattle.wasm2js_lang.specs.Calling.{IsCalledAs}
 use Rattle.wasm2js_lang.specs.Allowed.{source_session, target_session, comparison, segment_bytes, enough_for, has_block_operations, IsAllowed, IsBounded}
 use Rattle.wasm2js_code.specs.Modules.{translated}
-use Rattle.wasm2js_laws_functions.specs.Functions.{IsSource}
-use Rattle.wasm2js_laws_accepted.specs.Laws.{HaveFirstWords}
+use Rattle.wasm2js_laws_acceptance.specs.FunctionsFunctions.{IsSource}
+use Rattle.wasm2js_laws_acceptance.specs.AcceptedLaws.{HaveFirstWords}
 use Rattle.wasm2js_laws_simulation.specs.HostHosts.{HostedCallsFollow}
 
 -- what is asked of a module at a pace of so many units a reduction: the module can be translated, its translation is called as asked, and

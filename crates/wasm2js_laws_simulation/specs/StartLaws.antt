@@ -14,7 +14,7 @@ use Rattle.wasm2js_lang.specs.Heaps.{heap_bytes}
 use Rattle.wasm2js_lang.specs.Calling.{IsCalledAs}
 use Rattle.wasm2js_lang.specs.Allowed.{script_for, source_session, comparison}
 use Rattle.wasm2js_code.specs.Modules.{segment_stmts, init_function, translated}
-use Rattle.wasm2js_laws_functions.specs.Functions.{IsSource}
+use Rattle.wasm2js_laws_acceptance.specs.FunctionsFunctions.{IsSource}
 use Rattle.wasm2js_laws_pace.specs.Following.{Follows}
 use Rattle.wasm2js_laws_places.specs.Places.{store_of, World}
 use Rattle.wasm2js_laws_simulation.specs.HostHosts.{starting, Matches, setting_of, HostedCallsFollow}

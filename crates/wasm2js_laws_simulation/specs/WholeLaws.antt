@@ -5,8 +5,8 @@ use Rattle.wasm_lang.specs.Shape.{IsWritable}
 use Rattle.wasm_lang_valid.specs.Profile.{IsInProfile}
 use Rattle.wasm2js_lang.specs.Allowed.{IsAllowed, TrapsAreCalls}
 use Rattle.wasm2js_code.specs.Modules.{translated}
-use Rattle.wasm2js_laws_functions.specs.Functions.{IsSource}
-use Rattle.wasm2js_laws_accepted.specs.Laws.{HaveFirstWords}
+use Rattle.wasm2js_laws_acceptance.specs.FunctionsFunctions.{IsSource}
+use Rattle.wasm2js_laws_acceptance.specs.AcceptedLaws.{HaveFirstWords}
 use Rattle.wasm2js_laws_simulation.specs.SessionsLaws.{IsReady}
 
 -- a reduction that copies or fills pays for a loop over the whole memory, and no memory of the profile is larger than 2^28 bytes

@@ -20,11 +20,11 @@ use Rattle.wasm2js_laws_scopes.specs.Provided.{HasRoom}
 use Rattle.wasm2js_laws_scopes.proofs.Declared.{room_is_declared}
 use Rattle.wasm2js_laws_typed.specs.Bodies.{IsFormedCode}
 use Rattle.wasm2js_laws_typed.proofs.RoomParts.{right_room}
-use Rattle.wasm2js_laws_functions.specs.Functions.{is_called, IsSource}
-use Rattle.wasm2js_laws_functions.proofs.Limited.{limited}
-use Rattle.wasm2js_laws_functions.proofs.Roomy.{two, wide_low, narrow}
-use Rattle.wasm2js_laws_functions.proofs.Formed.{body_is_formed}
-use Rattle.wasm2js_laws_functions.proofs.Found.{found_own}
+use Rattle.wasm2js_laws_acceptance.specs.FunctionsFunctions.{is_called, IsSource}
+use Rattle.wasm2js_laws_acceptance.proofs.FunctionsLimited.{limited}
+use Rattle.wasm2js_laws_acceptance.proofs.FunctionsRoomy.{two, wide_low, narrow}
+use Rattle.wasm2js_laws_acceptance.proofs.FunctionsFormed.{body_is_formed}
+use Rattle.wasm2js_laws_acceptance.proofs.FunctionsFound.{found_own}
 use Rattle.wasm2js_laws_kept.specs.ControlControl.{Function, under_aims, AreNested}
 use Rattle.wasm2js_laws_standing.specs.Laws.{Begins, IsTranslation, OwnCodeBegins}
 

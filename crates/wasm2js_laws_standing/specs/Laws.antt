@@ -9,7 +9,7 @@ use Rattle.wasm_laws_sound.specs.Trees.{IsTyped}
 use Rattle.asm_lang_valid.specs.Typed.{scope_of}
 use Rattle.wasm2js_code.specs.Bodies.{out}
 use Rattle.wasm2js_code.specs.Modules.{context_of, own_function, translated}
-use Rattle.wasm2js_laws_functions.specs.Functions.{is_called, IsSource}
+use Rattle.wasm2js_laws_acceptance.specs.FunctionsFunctions.{is_called, IsSource}
 use Rattle.wasm2js_laws_kept.specs.ControlControl.{Function, MayStand, under_aims, AreNested}
 
 -- it is typed under the one label of the function, and may stand there

@@ -17,7 +17,7 @@ use Rattle.wasm_lang.proofs.ReadInstructions.{instruction_is}
 use Rattle.wasm_tree.proofs.Powers.{joined_below}
 use Rattle.wasm_lang_valid.specs.Validity.{IsValidModule}
 use Rattle.wasm_laws_sound.specs.Laws.{IsWhole}
-use Rattle.wasm2js_laws_functions.specs.Functions.{HasWord}
+use Rattle.wasm2js_laws_acceptance.specs.FunctionsFunctions.{HasWord}
 
 pub shaped_whole : (m : WasmModule) → IsValidModule m → IsShaped m → IsWhole m
 shaped_whole m valid shaped = record { is_valid = valid; bodies_match = shaped.bodies_match }

@@ -6,8 +6,8 @@ ghost use Rattle.wasm_lang.specs.Shape.{IsShaped};
 ghost use Rattle.wasm_lang_valid.specs.Profile.{outside_profile};
 ghost use Rattle.wasm_laws_sound.specs.Laws.{IsWhole};
 ghost use Rattle.wasm_tree.specs.Views.{body_of, code_of, global_of, instr_of, module_of, segment_of};
-ghost use Rattle.wasm2js_laws_functions.specs.Functions.{HasWord, IsSource};
-ghost use Rattle.wasm2js_laws_accepted.specs.Laws.{HaveFirstWords};
+ghost use Rattle.wasm2js_laws_acceptance.specs.FunctionsFunctions.{HasWord, IsSource};
+ghost use Rattle.wasm2js_laws_acceptance.specs.AcceptedLaws.{HaveFirstWords};
 
 use wasm_tree::{Body, Code, GlobalDef, Instr, Module, Segment};
 use wasm_validate::Valid;

@@ -1,7 +1,7 @@
 use Rattle.std.proofs.Common.{subst, arith}
 use Rattle.std.proofs.lemmas.List.Elements.{All-more}
 use Rattle.wasm_tree.specs.Views.{instr_of}
-use Rattle.wasm2js_laws_functions.specs.Functions.{HasWord}
+use Rattle.wasm2js_laws_acceptance.specs.FunctionsFunctions.{HasWord}
 use Rattle.wasm2js_source.proofs.Words.{all_passed}
 use Rattle.wasm2js_source.proofs.words_of_list.Goals as goal
 

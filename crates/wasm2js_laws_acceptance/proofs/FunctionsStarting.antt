@@ -1,0 +1,261 @@
+-- The function that a session begins with is fine.
+use Rattle.std.proofs.Common.{◌≡◌, ℕ, zero, suc, ◌+◌, ◌*◌, ◌/◌, ◌^◌, ◌≤◌, ◌<◌, Bool, true, false, ◌&&◌, List, [], ◌∷◌, ◌++◌, length, take, drop, Option, Some, None, refl, sym, ap, ◌∙◌, subst, arith}
+use Rattle.std.specs.Prelude.{ℤ, pos, is_some, slice_get, All, nat_lt, nat_eq, if◌then◌else◌}
+use Rattle.std.specs.List.{AllByRecursion, flat_map}
+use Rattle.std.proofs.lemmas.Bool.{and_parts}
+use Rattle.std.proofs.lemmas.Bool.Decides.{nat_tests}
+use Rattle.std.proofs.lemmas.List.Elements.{recursion_from_All}
+use Rattle.std.proofs.lemmas.Option.{slice_get_within}
+use Rattle.sem_words.specs.Words.{signed_of}
+use Rattle.heap_views.specs.Numbers.{little_endian}
+use Rattle.wasm_lang.specs.declared.types.ValType.TheVariants.{I32}
+use Rattle.wasm_lang.specs.Instructions as code
+use Rattle.wasm_lang.specs.Instructions.{Instruction, plain}
+use Rattle.wasm_lang.specs.Modules.{FunctionType, ElementSegment, DataSegment, WasmModule}
+use Rattle.wasm_lang_valid.specs.declared.rule.Rule.TheVariants.{Initializer}
+use Rattle.wasm_lang_valid.specs.declared.section.Section.TheVariants as sections
+use Rattle.wasm_lang_valid.specs.ModuleRules.{meets, is_end, is_empty, has_memory, is_function, is_start, is_memory_number, init_rule, segment_rule, start_rule, type_of_function, at}
+use Rattle.wasm_lang_valid.specs.Profile.{or_zero, is_global_offset, constant_offset, passes, global_segment, offset_from_import, outside_memory, segment_outside, table_length, memory_bytes}
+use Rattle.wasm_lang_valid.specs.Validity.{start_count}
+use Rattle.wasm_laws_sound.proofs.Functions.{meets_none, meets_rest}
+use Rattle.asm_types.specs.declared.value_type.ValueType.{ValueType}
+use Rattle.asm_types.specs.declared.value_type.ValueType.TheVariants.{Int, Intish}
+use Rattle.asm_lang.specs.Modules as text
+use Rattle.asm_lang.specs.Modules.{Expr, lit, call, store, no_exprs, Stmt}
+use Rattle.asm_lang_valid.specs.declared.meaning.Element.{Element}
+use Rattle.asm_lang_valid.specs.declared.meaning.Element.TheVariants.{Uint8, Int32}
+use Rattle.asm_lang_valid.specs.Scope.{a_view, shift_of, Signature, last_gives_value}
+use Rattle.asm_lang_valid.specs.Typing.{Scope, Around, at_top, named, literal_type, index_fits, type_of as expr_type}
+use Rattle.asm_lang_valid.specs.Typed.{scope_of}
+use Rattle.wasm2js_words.specs.Names.{Fixed, numbered, function, fixed, init, view_of_bytes, view_of_words}
+use Rattle.wasm2js_words.specs.Words.{name_of}
+use Rattle.wasm2js_laws_words.specs.Laws.{IsFineExpr, IsFine}
+use Rattle.wasm2js_laws_words.proofs.FineExprs.{is_identifier, is_typed_below, intish, literal_fine}
+use Rattle.wasm2js_laws_words.proofs.FineActions.{both_true, no_marks}
+use Rattle.wasm2js_code.specs.Modules.{set_byte, set_word, set_bytes, set_words, to_word, set_run, segment_stmts, start_stmts, init_function, translated}
+use Rattle.wasm2js_laws_scopes.specs.Provided.{HasMemory, IsFunction, signature_for}
+use Rattle.wasm2js_laws_scopes.proofs.HeadNames.{memories_are_provided}
+use Rattle.wasm2js_laws_typed.specs.Constructs.{AllFine}
+use Rattle.wasm2js_laws_typed.proofs.Facts.{plain_literal, signed_literal}
+use Rattle.wasm2js_laws_typed.proofs.FineBlocks.{all_join, together}
+use Rattle.wasm2js_laws_acceptance.specs.FunctionsFunctions.{IsFineFunction, of_trap, IsSource}
+use Rattle.wasm2js_laws_acceptance.specs.FunctionsLaws.{HasFunctions, InitIsFine}
+use Rattle.wasm2js_laws_acceptance.proofs.FunctionsLimited.{where_none, at_most, limited}
+use Rattle.wasm2js_laws_acceptance.proofs.FunctionsMade.{made_of_fine}
+use Rattle.wasm2js_laws_acceptance.proofs.FunctionsHelperBodies.{memory_small}
+
+-- ---- one write
+
+some_if : (b : Bool) (o : Option ValueType) (t : ValueType) → b ≡ true → o ≡ Some t → is_some (if b then o else None) ≡ true
+some_if b o t p q = rw (p, q) refl
+
+module _ (s : Scope) (a : Around) where
+  write_fine : (v : Element) (view : Fixed) (i : ℕ) (z : ℤ) → named s (name_of view) ≡ a_view v → index_fits (a_view v) (lit (pos i)) (expr_type s (lit (pos i))) ≡ true
+      → IsFineExpr s (lit (pos i)) Int 1 → IsFineExpr s (lit z) Intish 1 → IsFine s a (text.plain (store (name_of view) (lit (pos i)) (lit z))) 3
+  write_fine v view i z is fits f g = record {
+    is_typed = some_if _ (expr_type s (lit z)) g.type (both_true _ _ (ap (λ m. index_fits m (lit (pos i)) (expr_type s (lit (pos i)))) is ∙ fits) (is_typed_below s g)) g.has_type;
+    printed = (is_identifier (fixed view), f.printed, g.printed);
+    low = omega arith;
+    marks = λ at. tt;
+  }
+
+  index_number : (v : Element) (i : ℕ) → i < 2 ^ 31 → i * 2 ^ shift_of v < 2 ^ 31 → index_fits (a_view v) (lit (pos i)) (expr_type s (lit (pos i))) ≡ true
+  index_number v i h k =
+      let e : is_some (literal_type (pos i)) ≡ true = plain_literal i (omega (arith, h)) in
+      let f : nat_lt (i * 2 ^ shift_of v) (2 ^ 31) ≡ true = grind (arith, nat_tests, k) in
+      both_true _ _ e f
+
+  module _ (memory : HasMemory s) where
+    byte_fine : (at byte : ℕ) → at < 2 ^ 30 → byte < 256 → IsFine s a (set_byte at byte) 3
+    byte_fine at byte h k =
+        write_fine Uint8 view_of_bytes at (pos byte) memory.bytes (index_number Uint8 at (omega (arith, h)) (omega (arith, h)))
+        (literal_fine s (pos at) (plain_literal at (omega (arith, h)))) (intish s (literal_fine s (pos byte) (plain_literal byte (omega (arith, k)))))
+
+    word_fine : (at : ℕ) (xs : List ℕ) → at < 2 ^ 30 → little_endian xs < 2 ^ 32 → IsFine s a (set_word at xs) 3
+    word_fine at xs h k =
+        write_fine Int32 view_of_words (at / 4) (signed_of 32 (little_endian xs)) memory.words (index_number Int32 (at / 4) (omega (arith, h)) (omega (arith, h)))
+        (literal_fine s (pos (at / 4)) (plain_literal (at / 4) (omega (arith, h)))) (intish s (literal_fine s (signed_of 32 (little_endian xs)) (signed_literal (little_endian xs) k)))
+
+    -- ---- runs of bytes
+
+    abbrev AreBytes : List ℕ → Type 0
+    AreBytes xs = AllByRecursion (λ b. b < 256) xs
+
+    bytes_fine : (at : ℕ) (xs : List ℕ) → at + length xs ≤ 2 ^ 28 → AreBytes xs → AllFine s a 3 (set_bytes at xs)
+    bytes_fine at [] h b = tt
+    bytes_fine at (x ∷ xs) h b = (byte_fine at x (omega (arith, h)) b.0, bytes_fine (at + 1) xs (omega (arith, h)) b.1)
+
+    four : (w x y z : ℕ) → w < 256 → x < 256 → y < 256 → z < 256 → little_endian (w ∷ x ∷ y ∷ z ∷ []) < 2 ^ 32
+    four w x y z a b c d = omega (arith, a, b, c, d)
+
+    words_fine : (at : ℕ) (xs : List ℕ) → at + length xs ≤ 2 ^ 28 → AreBytes xs → AllFine s a 3 (set_words at xs)
+    words_fine at (w ∷ x ∷ y ∷ z ∷ xs) h b =
+        (word_fine at (w ∷ x ∷ y ∷ z ∷ []) (omega (arith, h)) (four w x y z b.0 b.1.0 b.1.1.0 b.1.1.1.0), words_fine (at + 4) xs (omega (arith, h)) b.1.1.1.1)
+    words_fine at [] h b = bytes_fine at [] h b
+    words_fine at (w ∷ []) h b = bytes_fine at (w ∷ []) h b
+    words_fine at (w ∷ x ∷ []) h b = bytes_fine at (w ∷ x ∷ []) h b
+    words_fine at (w ∷ x ∷ y ∷ []) h b = bytes_fine at (w ∷ x ∷ y ∷ []) h b
+
+    taken : (n : ℕ) (xs : List ℕ) → AreBytes xs → AreBytes (take n xs)
+    taken zero xs h = tt
+    taken (suc n) [] h = tt
+    taken (suc n) (x ∷ xs) h = (h.0, taken n xs h.1)
+
+    dropped : (n : ℕ) (xs : List ℕ) → AreBytes xs → AreBytes (drop n xs)
+    dropped zero xs h = h
+    dropped (suc n) [] h = tt
+    dropped (suc n) (x ∷ xs) h = dropped n xs h.1
+
+    take_long : (n : ℕ) (xs : List ℕ) → length (take n xs) ≤ length xs
+    take_long zero xs = omega arith
+    take_long (suc n) [] = omega arith
+    take_long (suc n) (x ∷ xs) = let h = take_long n xs in omega (arith, h)
+
+    -- what is left of a run from a place on; where nothing is left the place may lie past its end
+    after_run : (at n : ℕ) (xs : List ℕ) → at + length xs ≤ 2 ^ 28 → AreBytes xs → AllFine s a 3 (set_words (at + n) (drop n xs))
+    after_run at zero xs h b = words_fine (at + 0) xs (omega (arith, h)) b
+    after_run at (suc n) [] h b = tt
+    after_run at (suc n) (x ∷ xs) h b =
+        let e : at + 1 + n ≡ at + suc n = omega arith in
+        subst (λ k. AllFine s a 3 (set_words k (drop n xs))) e (after_run (at + 1) n xs (omega (arith, h)) b.1)
+
+    run_fine : (at : ℕ) (xs : List ℕ) → at + length xs ≤ 2 ^ 28 → AreBytes xs → AllFine s a 3 (set_run at xs)
+    run_fine at xs h b =
+        let n = take_long (to_word at) xs in
+        all_join s a 3 (set_bytes at (take (to_word at) xs)) _ (bytes_fine at (take (to_word at) xs) (within at (length (take (to_word at) xs)) (length xs) n h) (taken (to_word at) xs b)) (after_run at (to_word at) xs h b)
+      where
+        within : (at m n : ℕ) → m ≤ n → at + n ≤ 2 ^ 28 → at + m ≤ 2 ^ 28
+        within at m n p q = omega (arith, p, q)
+
+  -- ---- segments
+
+  record IsPut (d : DataSegment) : Type 0 where
+    memory : HasMemory s
+    inside : or_zero (constant_offset d.offset) + length d.bytes ≤ 2 ^ 28
+    bytes : AllByRecursion (λ b. b < 256) d.bytes
+
+  segments_fine : (ds : List DataSegment) → AllByRecursion IsPut ds → AllFine s a 3 (flat_map segment_stmts ds)
+  segments_fine [] h = tt
+  segments_fine (d ∷ ds) h = all_join s a 3 (segment_stmts d) _ (run_fine h.0.memory (or_zero (constant_offset d.offset)) d.bytes h.0.inside h.0.bytes) (segments_fine ds h.1)
+
+  -- ---- the start function
+
+  start_fine : (f : ℕ) → IsFunction s (numbered function f) (record { params = 0; result = false }) → AllFine s a 3 (start_stmts (Some f))
+  start_fine f h =
+      let e = h.is_this in
+      let p : length h.function.params ≡ 0 = ap (λ (s : Signature). s.params) h.signature in
+      let r : last_gives_value h.function.body ≡ false = ap (λ (s : Signature). s.result) h.signature in (
+        record { is_typed = rw (e, p, r) refl; printed = (is_identifier (numbered function f), tt); low = omega arith; marks = λ at. no_marks _ (rw e refl) },
+        tt,
+      )
+
+-- ---- what validity and the profile say of segments
+
+all_from_places : {A : Type 0} → (P : A → Type 0) (xs : List A) → ((i : ℕ) (x : A) → slice_get xs i ≡ Some x → P x) → AllByRecursion P xs
+all_from_places P [] h = tt
+all_from_places P (x ∷ xs) h = (h 0 x refl, all_from_places P xs (λ i y e. h (suc i) y e))
+
+at_place : {A : Type 0} → (P : A → Type 0) (xs : List A) (i : ℕ) (x : A) → AllByRecursion P xs → slice_get xs i ≡ Some x → P x
+at_place P [] i x h e = absurd (cc e)
+at_place P (y ∷ xs) zero x h e = let same : y ≡ x = cc e in subst P same h.0
+at_place P (y ∷ xs) (suc i) x h e = at_place P xs i x h.1 e
+
+past_elements : (entries bytes n : ℕ) (es : List ElementSegment) (ds : List DataSegment) → segment_outside entries bytes n es ds ≡ None → (k : ℕ) × (outside_memory bytes k ds ≡ None)
+past_elements entries bytes n [] ds h = (n, h)
+past_elements entries bytes n (e ∷ es) ds h = past_elements entries bytes (n + 1) es ds (where_none _ n (segment_outside entries bytes (n + 1) es ds) h).1
+
+past_element_offsets : (n : ℕ) (es : List ElementSegment) (ds : List DataSegment) → offset_from_import n es ds ≡ None → (k : ℕ) × (global_segment k ds ≡ None)
+past_element_offsets n [] ds h = (n, h)
+past_element_offsets n (e ∷ es) ds h = past_element_offsets (n + 1) es ds (where_none (is_global_offset e.offset) n (offset_from_import (n + 1) es ds) h).1
+
+none_passes : (bytes n : ℕ) (ds : List DataSegment) → outside_memory bytes n ds ≡ None → AllByRecursion (λ d. passes (constant_offset d.offset) (length d.bytes) bytes ≡ false) ds
+none_passes bytes n [] h = tt
+none_passes bytes n (d ∷ ds) h = let w = where_none (passes (constant_offset d.offset) (length d.bytes) bytes) n (outside_memory bytes (n + 1) ds) h in (w.0, none_passes bytes (n + 1) ds w.1)
+
+none_global : (n : ℕ) (ds : List DataSegment) → global_segment n ds ≡ None → AllByRecursion (λ d. is_global_offset d.offset ≡ false) ds
+none_global n [] h = tt
+none_global n (d ∷ ds) h = let w = where_none (is_global_offset d.offset) n (global_segment (n + 1) ds) h in (w.0, none_global (n + 1) ds w.1)
+
+never : (b : Bool) → meets b Initializer (Some Initializer) ≡ None → ⊥
+never true h = cc h
+never false h = cc h
+
+is_constant : (m : WasmModule) (is : List Instruction) → init_rule m I32 is ≡ None → is_global_offset is ≡ false → (n : ℕ) × (constant_offset is ≡ Some n)
+is_constant m [] h g = cc h
+is_constant m (i ∷ []) h g = cc h
+is_constant m (i ∷ j ∷ k ∷ is) h g = cc h
+is_constant m (plain (code.const32 n) ∷ j ∷ []) h g = (n, refl)
+is_constant m (plain (code.global_get x) ∷ j ∷ []) h g = cc g
+is_constant m (plain p ∷ j ∷ []) h g = absurd (never (is_end j) h)
+is_constant m (i ∷ j ∷ []) h g = absurd (never (is_end j) h)
+
+inside_room : (o : Option ℕ) (n size room : ℕ) → o ≡ Some n → passes o size room ≡ false → or_zero o + size ≤ room
+inside_room None n size room e h = cc e
+inside_room (Some k) n size room e h = at_most room (k + size) h
+
+in_turn : {a b c : ℕ} → a ≤ b → b ≤ c → a ≤ c
+in_turn p q = omega (arith, p, q)
+
+-- ---- the type of the start function
+
+no_items : {A : Type 0} → (xs : List A) → is_empty xs ≡ true → xs ≡ []
+no_items [] h = refl
+no_items (x ∷ xs) h = cc h
+
+module _ (w : WasmModule) where
+  no_signature : (t : FunctionType) → (is_empty t.params && is_empty t.results) ≡ true → signature_for t ≡ record { params = 0; result = false }
+  no_signature t h =
+      let p = and_parts (is_empty t.params) (is_empty t.results) h in
+      let e = no_items t.params p.0 in
+      let f = no_items t.results p.1 in
+      rw (e, f) refl
+
+  start_type : (f : ℕ) → is_start (type_of_function w f) ≡ true → (t : FunctionType) × (type_of_function w f ≡ Some t) × (signature_for t ≡ record { params = 0; result = false })
+  start_type f h = by (type_of_function w f) refl h
+    where
+      by : (o : Option FunctionType) → type_of_function w f ≡ o → is_start o ≡ true → (t : FunctionType) × (type_of_function w f ≡ Some t) × (signature_for t ≡ record { params = 0; result = false })
+      by None e h = absurd (cc h)
+      by (Some t) e h = (t, e, no_signature t h)
+
+  -- ---- the function
+
+  module _ (source : IsSource w) (given : HasFunctions w (init_function w)) where
+    abbrev s : Scope
+    s = scope_of (translated w) (init_function w)
+
+    memory_there : (d : DataSegment) → segment_rule w d ≡ None → has_memory w ≡ true
+    memory_there d h = (and_parts (nat_eq d.memory 0) (has_memory w) (meets_none (is_memory_number w d.memory) _ _ h)).1
+
+    put : (i : ℕ) (d : DataSegment) → slice_get w.segments i ≡ Some d → IsPut s at_top d
+    put i d e =
+        let limits = limited w source.within in
+        let rule : segment_rule w d ≡ None = sym (ap (λ o. at o (segment_rule w)) e) ∙ source.whole.is_valid sections.Data i (slice_get_within w.segments i d e) in
+        let constant = past_element_offsets 0 w.elements w.segments limits.constant in
+        let global = at_place (λ (d : DataSegment). is_global_offset d.offset ≡ false) w.segments i d (none_global constant.0 w.segments constant.1) e in
+        let n = is_constant w d.offset (meets_rest (is_memory_number w d.memory) _ _ rule) global in
+        let outside = past_elements (table_length w) (memory_bytes w) 0 w.elements w.segments limits.inside in
+        let fits = at_place (λ (d : DataSegment). passes (constant_offset d.offset) (length d.bytes) (memory_bytes w) ≡ false) w.segments i d (none_passes (memory_bytes w) outside.0 w.segments outside.1) e in
+        record {
+          memory = memories_are_provided w (fixed init) [] [] (flat_map segment_stmts w.segments ++ start_stmts w.start) refl refl (memory_there d rule);
+          inside = in_turn (inside_room (constant_offset d.offset) n.0 (length d.bytes) (memory_bytes w) n.1 fits) (memory_small w source);
+          bytes = recursion_from_All (λ b. b < 256) d.bytes
+              (at_place (λ (d : DataSegment). All (λ b. b < 256) d.bytes) w.segments i d (recursion_from_All (λ (d : DataSegment). All (λ b. b < 256) d.bytes) w.segments source.bytes) e);
+        }
+
+    starts : (o : Option ℕ) → w.start ≡ o → AllFine s at_top 3 (start_stmts o)
+    starts None e = tt
+    starts (Some f) e =
+        let one : 0 < start_count w.start = subst (λ o. 0 < start_count o) (sym e) (omega arith) in
+        let rule : start_rule w f ≡ None = sym (ap (λ o. at o (start_rule w)) e) ∙ source.whole.is_valid sections.Start 0 one in
+        let t = start_type f (meets_none (is_start (type_of_function w f)) _ _ (meets_rest (is_function w f) _ _ rule)) in
+        let is = given f t.0 t.1 in
+        start_fine s at_top f (record { function = is.function; is_this = is.is_this; signature = is.signature ∙ t.2 })
+
+    fine : IsFineFunction (translated w) of_trap (init_function w)
+    fine =
+        let ss = flat_map segment_stmts w.segments ++ start_stmts w.start in
+        made_of_fine (translated w) (fixed init) [] [] ss 3 (omega arith)
+        (together s at_top 3 ss (all_join s at_top 3 (flat_map segment_stmts w.segments) _ (segments_fine s at_top w.segments (all_from_places (IsPut s at_top) w.segments put)) (starts w.start refl))) (omega arith) (omega arith)
+
+pub init_is_fine : InitIsFine
+init_is_fine w source given = fine w source given

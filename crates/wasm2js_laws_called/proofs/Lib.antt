@@ -1,4 +1,0 @@
-pub mod Numbers
-pub mod Exporting
-pub mod Importing
-pub mod Whole

@@ -1,8 +1,0 @@
-use Rattle.wasm2js_laws_called.proofs.Whole.{translations_are_called, translations_fit}
-use Rattle.wasm2js_laws_called.proofs.calling.Goals as goal
-
-pub returns-clause-called : goal.returns-clause-called
-returns-clause-called c = translations_are_called
-
-pub returns-clause-fits : goal.returns-clause-fits
-returns-clause-fits c = translations_fit

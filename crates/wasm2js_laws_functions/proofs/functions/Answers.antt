@@ -1,9 +1,0 @@
-use Rattle.wasm2js_laws_functions.proofs.functions.Goals as goal
-use Rattle.wasm2js_laws_functions.proofs.OwnFunctions.{own_functions_are_fine}
-use Rattle.wasm2js_laws_functions.proofs.Wrapping.{wrappers_are_fine}
-
-pub returns-clause-own : goal.returns-clause-own
-returns-clause-own c = own_functions_are_fine
-
-pub returns-clause-wrappers : goal.returns-clause-wrappers
-returns-clause-wrappers c = wrappers_are_fine

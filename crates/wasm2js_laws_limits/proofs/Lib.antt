@@ -1,4 +1,0 @@
-pub mod Counting
-pub mod Entering
-pub mod Naming
-pub mod Marking

@@ -1,8 +1,0 @@
-use Rattle.wasm2js_laws_provided.proofs.Tables.{tables_are_provided, members_are_alike}
-use Rattle.wasm2js_laws_provided.proofs.called_entries.Goals as goal
-
-pub returns-clause-named : goal.returns-clause-named
-returns-clause-named c = tables_are_provided
-
-pub returns-clause-members : goal.returns-clause-members
-returns-clause-members c = members_are_alike
