@@ -3,7 +3,7 @@
 use Rattle.std.proofs.Common.{◌≡◌, ℕ, ◌+◌, List, [], ◌∷◌, length, map, Some, None, refl, ap}
 use Rattle.std.specs.Prelude.{pos}
 use Rattle.std.proofs.lemmas.List.Elements.{All-nil}
-use Rattle.heap_views.specs.Numbers.{IsBytes}
+use Rattle.heap_lang.specs.Numbers.{IsBytes}
 use Rattle.sem_words.specs.declared.word.Bin.TheVariants as bins
 use Rattle.sem_words.specs.declared.word.TrapKind.TheVariants as kinds
 use Rattle.sem_words.specs.declared.js_value.JsOp.TheVariants.{Div}

@@ -1,6 +1,6 @@
 -- Sessions that are compared by computing both.
 use Rattle.std.specs.Prelude.{[], ◌∷◌, refl}
-use Rattle.heap_views.specs.Heap as heaps
+use Rattle.heap_lang.specs.Heap as heaps
 use Rattle.sem_laws.specs.Observation.{call_returned, done}
 use Rattle.asm2wasm_code.specs.Pieces.{storing, storing_script, small_elements, small_script, long_switch, long_script}
 use Rattle.asm2wasm_code.specs.Worked.{IsAlike, ShowsSame}

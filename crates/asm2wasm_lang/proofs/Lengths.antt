@@ -2,7 +2,7 @@
 use Rattle.std.proofs.Common.{◌≡◌, ℕ, ◌%◌, ◌^◌, ◌≤◌, Bool, true, false, ◌&&◌, ◌||◌, refl, arith}
 use Rattle.std.specs.Prelude.{◌==◌, nat_le}
 use Rattle.std.proofs.lemmas.Bool.Decides.{nat_tests}
-use Rattle.heap_views.specs.Heap.{IsHeapLength}
+use Rattle.heap_lang.specs.Heap.{IsHeapLength}
 use Rattle.asm2wasm_lang.specs.Heaps.{is_short, is_heap_length, pages_for}
 
 short_is : (size : ℕ) → is_short size ≡ true → (size % 4 ≡ 0) × (size ≤ 2 ^ 28)

@@ -1,6 +1,6 @@
 -- Which modules of WebAssembly may stand for one of asm.js, how far apart their budgets lie, and which bytes are written of one.
 use Rattle.std.specs.Prelude.{◌≡◌, ℕ, ◌+◌, ◌*◌, ◌≤◌, List, [], ◌∷◌, length, max, Option, Some, None, All}
-use Rattle.heap_views.specs.Numbers.{IsBytes}
+use Rattle.heap_lang.specs.Numbers.{IsBytes}
 use Rattle.sem_laws.specs.Script.{WritePlain, ReplyPlain, give, throw, ReplyLinePlain, ScriptPlain}
 use Rattle.sem_laws.specs.Observation.{ObservationPlain, running}
 use Rattle.sem_laws.specs.Simulation.{Session, Comparison, SourceIsBelow, TargetIsBelow, Sim}

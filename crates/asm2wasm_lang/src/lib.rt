@@ -2,7 +2,7 @@
 #![tactic(auto)]
 
 ghost use Rattle.std.specs.Prelude.{◌≡◌, ◌≤◌, ◌*◌, ◌+◌, ◌<◌, ℕ, true, List, length, map, Some, slice_get};
-ghost use Rattle.heap_views.specs.Heap.{IsHeapLength};
+ghost use Rattle.heap_lang.specs.Heap.{IsHeapLength};
 ghost use Rattle.asm_lang.specs.Modules.{Table, Module};
 ghost use Rattle.asm_lang_valid.specs.Refusal.{function_number};
 ghost use Rattle.wasm_lang_exec.specs.Store.{page};

@@ -4,9 +4,9 @@ use Rattle.sem_words.specs.declared.js_value.JsValue.TheVariants.{Whole}
 use Rattle.sem_words.specs.Words.{word_of}
 use Rattle.sem_words.specs.JsValues.{to_uint32_of}
 use Rattle.sem_words.proofs.WordLaws.{word_of-signed_of_32}
-use Rattle.heap_views.specs.Heap.{IsHeapLength, element_size, element_of, load, store, load_bytes, store_bytes}
-use Rattle.heap_views.specs.Numbers.{IsBytes, little_endian}
-use Rattle.heap_views.proofs.HeapLemmas.{load_bytes_within, load_bytes_below, store_bytes_past, load_bytes-append, store_bytes-append, load_is, store_is, load_negative, store_negative, load_past}
+use Rattle.heap_lang.specs.Heap.{IsHeapLength, element_size, element_of, load, store, load_bytes, store_bytes}
+use Rattle.heap_lang.specs.Numbers.{IsBytes, little_endian}
+use Rattle.heap_lang.proofs.HeapLemmas.{load_bytes_within, load_bytes_below, store_bytes_past, load_bytes-append, store_bytes-append, load_is, store_is, load_negative, store_negative, load_past}
 use Rattle.wasm_lang.specs.declared.types.MemOp.{MemOp}
 use Rattle.wasm_lang_exec.specs.Plain.{loaded_number}
 use Rattle.asm_lang_valid.specs.declared.meaning.Element.{Element}

@@ -5,8 +5,8 @@ use Rattle.std.proofs.lemmas.Bool.Decides.{nat_tests}
 use Rattle.sem_words.specs.declared.word.Word.{Word}
 use Rattle.sem_words.specs.declared.word.Word.TheVariants.{W32}
 use Rattle.sem_words.specs.declared.word.Rel.TheVariants as rels
-use Rattle.heap_views.specs.Heap.{is_inside, store_bytes}
-use Rattle.heap_views.proofs.RunLemmas.{is_inside_within}
+use Rattle.heap_lang.specs.Heap.{is_inside, store_bytes}
+use Rattle.heap_lang.proofs.RunLemmas.{is_inside_within}
 use Rattle.wasm_lang.specs.Instructions as code
 use Rattle.wasm_lang.specs.Instructions.{Plain, bin32, rel32, local_get, local_set, local_tee}
 use Rattle.wasm_lang_exec.specs.Code.{Trees, ε, ◌▹◌, ◌⊕◌, if_block}

@@ -8,8 +8,8 @@ use Rattle.sem_words.specs.declared.js_value.JsValue.{JsValue}
 use Rattle.sem_words.specs.declared.js_value.JsValue.TheVariants.{Whole}
 use Rattle.sem_words.specs.JsValues.{to_uint32_of}
 use Rattle.sem_words.specs.Words.{word_of}
-use Rattle.heap_views.specs.Heap.{IsHeapLength, store}
-use Rattle.heap_views.proofs.HeapLemmas.{length-store, IsBytes-store}
+use Rattle.heap_lang.specs.Heap.{IsHeapLength, store}
+use Rattle.heap_lang.proofs.HeapLemmas.{length-store, IsBytes-store}
 use Rattle.wasm_lang.specs.Instructions.{local_get}
 use Rattle.wasm_lang.specs.Modules.{WasmModule}
 use Rattle.wasm_lang_exec.specs.Code.{Trees, ε, ◌⊕◌}

@@ -3,7 +3,7 @@ use Rattle.std.specs.Prelude.{◌≡◌, ℕ, suc, ◌+◌, ◌^◌, ◌<◌, �
 use Rattle.sem_words.specs.declared.word.Word.{Word}
 use Rattle.sem_words.specs.declared.word.Word.TheVariants.{W32}
 use Rattle.sem_words.specs.declared.js_value.JsValue.{JsValue}
-use Rattle.heap_views.specs.Heap.{IsHeapLength}
+use Rattle.heap_lang.specs.Heap.{IsHeapLength}
 use Rattle.wasm_lang.specs.declared.types.ValType.{ValType}
 use Rattle.wasm_lang.specs.Instructions.{Plain, local_get}
 use Rattle.wasm_lang.specs.Modules.{WasmModule}

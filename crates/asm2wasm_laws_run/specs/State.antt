@@ -6,7 +6,7 @@ use Rattle.sem_words.specs.declared.word.Word.TheVariants.{W32}
 use Rattle.sem_words.specs.declared.js_value.JsValue.{JsValue}
 use Rattle.sem_words.specs.declared.js_value.JsValue.TheVariants.{Whole}
 use Rattle.sem_words.specs.JsValues.{to_uint32_of}
-use Rattle.heap_views.specs.Numbers.{IsBytes}
+use Rattle.heap_lang.specs.Numbers.{IsBytes}
 use Rattle.sem_laws.specs.Script.{WritePlain, ReplyPlain}
 use Rattle.sem_laws.specs.Observation.{EndPlain, trapped}
 use Rattle.sem_laws.specs.CallingForms.{event_to_wasm, end_to_wasm}

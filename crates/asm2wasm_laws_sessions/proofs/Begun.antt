@@ -13,9 +13,9 @@ use Rattle.sem_words.specs.declared.word.Word.{Word}
 use Rattle.sem_words.specs.declared.word.Word.TheVariants.{W32}
 use Rattle.sem_words.specs.Words.{word_of, signed_of}
 use Rattle.sem_words.proofs.WordLaws.{word_of-IsWord, word_of-signed_of_32}
-use Rattle.heap_views.specs.Numbers.{IsBytes}
-use Rattle.heap_views.specs.Heap.{with_run}
-use Rattle.heap_views.proofs.RunLemmas.{length-with_run, IsBytes-with_run}
+use Rattle.heap_lang.specs.Numbers.{IsBytes}
+use Rattle.heap_lang.specs.Heap.{with_run}
+use Rattle.heap_lang.proofs.RunLemmas.{length-with_run, IsBytes-with_run}
 use Rattle.sem_laws.specs.Script.{GlobalPlain, WritePlain, ReplyPlain, give, throw, ReplyLinePlain, ScriptPlain}
 use Rattle.sem_laws.specs.CallingForms.{foreign_import, global_to_wasm, script_to_wasm}
 use Rattle.sem_laws.proofs.NameLaws.{different_imports_have_different_names}

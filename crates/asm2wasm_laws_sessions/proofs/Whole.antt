@@ -1,7 +1,7 @@
 -- Whole sessions.
 use Rattle.std.proofs.Common.{◌≡◌, ℕ, ◌+◌, ◌*◌, ◌≤◌, length, Some, None, true, refl, sym, ap, ◌∙◌, arith}
 use Rattle.std.proofs.lemmas.List.{length-map}
-use Rattle.heap_views.specs.Heap.{IsHeapLength}
+use Rattle.heap_lang.specs.Heap.{IsHeapLength}
 use Rattle.sem_laws.specs.Script.{ScriptPlain}
 use Rattle.sem_laws.specs.Observation.{EndPlain, ObservationPlain}
 use Rattle.sem_laws.specs.Simulation.{SourceIsBelow, TargetIsBelow, Sim}

@@ -9,9 +9,9 @@ use Rattle.sem_words.specs.declared.js_value.JsValue.{JsValue}
 use Rattle.sem_words.specs.declared.js_value.JsValue.TheVariants.{Whole}
 use Rattle.sem_words.specs.Words.{word_of}
 use Rattle.sem_words.specs.JsValues.{to_uint32_of}
-use Rattle.heap_views.specs.Heap.{IsHeapLength, load_bytes, load, store}
-use Rattle.heap_views.specs.Numbers.{little_endian}
-use Rattle.heap_views.proofs.HeapLemmas.{load_bytes_within, length-store, IsBytes-store}
+use Rattle.heap_lang.specs.Heap.{IsHeapLength, load_bytes, load, store}
+use Rattle.heap_lang.specs.Numbers.{little_endian}
+use Rattle.heap_lang.proofs.HeapLemmas.{load_bytes_within, length-store, IsBytes-store}
 use Rattle.wasm_lang.specs.declared.types.MemOp.{MemOp}
 use Rattle.wasm_lang.specs.declared.types.ValType.TheVariants.{I32}
 use Rattle.wasm_lang.specs.Instructions as instructions

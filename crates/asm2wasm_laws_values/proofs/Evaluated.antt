@@ -11,7 +11,7 @@ use Rattle.sem_words.specs.declared.js_value.JsOp.TheVariants.{Or}
 use Rattle.sem_words.specs.Words.{word_of}
 use Rattle.sem_words.specs.JsValues.{to_uint32_of, truthy_of}
 use Rattle.sem_words.specs.JsOperators.{js_binary_of, js_unary_of}
-use Rattle.heap_views.specs.Heap.{IsHeapLength}
+use Rattle.heap_lang.specs.Heap.{IsHeapLength}
 use Rattle.wasm_lang.specs.declared.types.ValType.TheVariants.{I32}
 use Rattle.wasm_lang.specs.Instructions.{local_get, local_set, bin32, drop_operand}
 use Rattle.wasm_lang_exec.specs.Code.{Trees, ε, ◌▹◌, ◌⊕◌, if_block}

@@ -12,9 +12,9 @@ use Rattle.sem_words.specs.declared.js_value.JsValue.{JsValue}
 use Rattle.sem_words.specs.JsValues.{to_uint32_of}
 use Rattle.sem_words.specs.JsOperators.{signed_value}
 use Rattle.sem_words.proofs.WordLaws.{word_of-signed_of_32}
-use Rattle.heap_views.specs.Numbers.{IsBytes}
-use Rattle.heap_views.proofs.RunLemmas.{length-with_run, IsBytes-with_run}
-use Rattle.heap_views.specs.Heap.{with_run}
+use Rattle.heap_lang.specs.Numbers.{IsBytes}
+use Rattle.heap_lang.proofs.RunLemmas.{length-with_run, IsBytes-with_run}
+use Rattle.heap_lang.specs.Heap.{with_run}
 use Rattle.sem_laws.specs.Script.{WritePlain, ReplyPlain, give, throw}
 use Rattle.sem_laws.specs.Observation.{stopped, trap_name}
 use Rattle.sem_laws.specs.Imports.{low_word, high_word, high_name, Replies, Given, ImportAnswer, goes_on, ends, take_reply, answer_import}

@@ -8,7 +8,7 @@ use Rattle.sem_words.specs.declared.js_value.JsValue.{JsValue}
 use Rattle.sem_words.specs.declared.js_value.JsOp.{JsOp}
 use Rattle.sem_words.specs.declared.js_value.JsOp.TheVariants.{Add, Sub, Mul, Div, Rem, Or, And, Xor, Shl, Sar, Shr, Lt, Le, Gt, Ge, Eq, Ne}
 use Rattle.sem_words.specs.JsOperators.{js_binary_of}
-use Rattle.heap_views.specs.Heap.{IsHeapLength}
+use Rattle.heap_lang.specs.Heap.{IsHeapLength}
 use Rattle.wasm_lang_exec.specs.Code.{Trees, ◌⊕◌}
 use Rattle.asm_types.specs.declared.value_type.ValueType.{ValueType}
 use Rattle.asm_types.specs.declared.value_type.ValueType.TheVariants.{Signed, Unsigned, Int}

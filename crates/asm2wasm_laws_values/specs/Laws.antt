@@ -1,6 +1,6 @@
 -- What holds of the code of expressions.
 use Rattle.std.specs.Prelude.{◌≡◌, ℕ, Bool, true, false, [], length, Some}
-use Rattle.heap_views.specs.Heap.{IsHeapLength}
+use Rattle.heap_lang.specs.Heap.{IsHeapLength}
 use Rattle.asm_types.specs.declared.value_type.ValueType.{ValueType}
 use Rattle.asm_lang.specs.Modules.{Expr}
 use Rattle.asm_lang_valid.specs.LimitRows.{expr_marks, call_marks, effect_marks, foreign_calls}

@@ -3,7 +3,7 @@ use Rattle.std.proofs.Common.{◌≡◌, ℕ, true, false, List, [], ◌∷◌, 
 use Rattle.std.specs.Prelude.{ℤ, pos, negsuc, codes, is_some}
 use Rattle.sem_words.specs.declared.word.Word.TheVariants.{W32}
 use Rattle.sem_words.specs.Words as words
-use Rattle.heap_views.specs.Heap as heaps
+use Rattle.heap_lang.specs.Heap as heaps
 use Rattle.sem_words.specs.declared.js_value.JsOp.TheVariants.{Mul, Div, Or, And, Lt, Sar}
 use Rattle.sem_words.specs.declared.js_value.JsUnary.TheVariants.{Neg, BitNot, Not}
 use Rattle.sem_laws.specs.Script.{CallPlain, ReplyPlain, ReplyLinePlain, ScriptPlain, give, throw}

@@ -6,9 +6,9 @@ use Rattle.sem_words.specs.declared.js_value.JsValue.{JsValue}
 use Rattle.sem_words.specs.declared.js_value.JsValue.TheVariants.{Whole, Undef}
 use Rattle.sem_words.specs.JsValues.{to_number_of, to_uint32_of}
 use Rattle.sem_words.specs.JsOperators.{signed_value, js_imul_of, js_clz32_of}
-use Rattle.heap_views.specs.declared.kind.ViewKind.{ViewKind}
-use Rattle.heap_views.specs.declared.kind.ViewKind.TheVariants.{I8, U8, I16, U16, I32, U32}
-use Rattle.heap_views.specs.Heap.{load, store, with_run}
+use Rattle.heap_lang.specs.declared.kind.ViewKind.{ViewKind}
+use Rattle.heap_lang.specs.declared.kind.ViewKind.TheVariants.{I8, U8, I16, U16, I32, U32}
+use Rattle.heap_lang.specs.Heap.{load, store, with_run}
 use Rattle.sem_laws.specs.Script.{WritePlain}
 use Rattle.sem_laws.specs.Imports.{low_word, ImportAnswer, goes_on, ends, answer_import}
 use Rattle.asm_lang.specs.Modules.{Function, Module}

@@ -1,7 +1,7 @@
 //! Sessions.
 
 ghost use Rattle.std.specs.Prelude.{◌≡◌, None, Some, IfOk};
-ghost use Rattle.heap_views.specs.Heap.{IsHeapLength};
+ghost use Rattle.heap_lang.specs.Heap.{IsHeapLength};
 ghost use Rattle.sem_laws.specs.Observation.{ObservationPlain};
 ghost use Rattle.sem_laws.specs.Views.{script_of, observation_of};
 ghost use Rattle.asm_tree.specs.Views.{module_view};

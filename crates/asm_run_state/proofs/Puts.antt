@@ -1,6 +1,6 @@
 -- Byte writes of replies, as the meaning makes them.
 use Rattle.std.proofs.Common.{◌≡◌, ℕ, List, [], ◌∷◌, refl}
-use Rattle.heap_views.specs.Heap.{with_run}
+use Rattle.heap_lang.specs.Heap.{with_run}
 use Rattle.sem_laws.specs.Script.{WritePlain}
 use Rattle.asm_lang_exec.specs.Values.{with_writes}
 use Rattle.script_replies.specs.Puts.{after_puts}

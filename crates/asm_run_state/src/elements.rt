@@ -8,7 +8,7 @@ ghost use Rattle.asm_run_state.specs.Worlds.{Bindings, place_of};
 
 use crate::world::World;
 use asm_lang_valid::Element;
-use heap_views::ViewKind;
+use heap_lang::ViewKind;
 use sem_words::{JsValue, to_uint32};
 
 impl World<'_> {

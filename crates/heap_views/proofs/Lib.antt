@@ -1,5 +1,1 @@
-pub mod NumberLemmas
-pub mod RunLemmas
-pub mod HeapLemmas
 pub mod WriteLemmas
-pub mod Examples

@@ -3,8 +3,8 @@ use Rattle.std.proofs.Common.{◌≡◌, refl, ◌∙◌, ℕ, List, [], ◌∷�
 use Rattle.heap_views.specs.declared.writes.Write.{Write}
 use Rattle.heap_views.specs.declared.writes.Write.TheVariants.{Set, StoreLe, Put, CopyRun, Fill}
 use Rattle.heap_views.specs.Writes.{word_bytes, after_write, after_writes}
-use Rattle.heap_views.proofs.RunLemmas.{length-with_run, length-copied, length-filled}
-use Rattle.heap_views.proofs.HeapLemmas.{length-store, length-store_bytes}
+use Rattle.heap_lang.proofs.RunLemmas.{length-with_run, length-copied, length-filled}
+use Rattle.heap_lang.proofs.HeapLemmas.{length-store, length-store_bytes}
 
 pub length-after_write : (write : Write) (heap : List ℕ) → length (after_write write heap) ≡ length heap
 length-after_write (Set kind index word) heap = length-store kind index word heap

@@ -4,7 +4,7 @@ use Rattle.heap_views.specs.declared.writes.WordSize.{WordSize}
 use Rattle.heap_views.specs.declared.writes.WordSize.TheVariants.{One, Two, Four, Eight}
 use Rattle.heap_views.specs.declared.writes.Write.{Write}
 use Rattle.heap_views.specs.declared.writes.Write.TheVariants.{Set, StoreLe, Put, CopyRun, Fill}
-use Rattle.heap_views.specs.Heap.{store, store_bytes, with_run, copied, filled}
+use Rattle.heap_lang.specs.Heap.{store, store_bytes, with_run, copied, filled}
 
 -- the bytes of a word of this size
 abbrev pub word_bytes : WordSize → ℕ

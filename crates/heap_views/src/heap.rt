@@ -1,10 +1,10 @@
 //! The heap, and its accesses by byte places.
 ghost use Rattle.std.specs.Prelude.{◌≡◌, ◌≤◌, ◌<◌, ◌^◌, length, replicate, IfOk, IfSome, is_some, option_copied};
 ghost use Rattle.std.specs.Bool.{OnFalse};
-ghost use Rattle.heap_views.specs.Numbers.{IsBytes};
-ghost use Rattle.heap_views.specs.Heap.{load, store, load_bytes, store_bytes, run_at, with_run, copied, can_copy, filled, is_inside, place_of, IsWordSize, IsElement, IsHeapLength};
+ghost use Rattle.heap_lang.specs.Numbers.{IsBytes};
+ghost use Rattle.heap_lang.specs.Heap.{load, store, load_bytes, store_bytes, run_at, with_run, copied, can_copy, filled, is_inside, place_of, IsWordSize, IsElement, IsHeapLength};
 
-use crate::kind::ViewKind;
+use heap_lang::ViewKind;
 use crate::numbers::{in_range, read_number, write_number};
 use crate::views::{View, ViewMut};
 use std::alloc::{AllocError, Global};
@@ -18,7 +18,7 @@ pub struct Heap {
 
 impl Model for Heap {
     ghost use Rattle.std.specs.Prelude.{ℕ, List, vec_len};
-    ghost use Rattle.heap_views.specs.Heap.{IsHeapLength};
+    ghost use Rattle.heap_lang.specs.Heap.{IsHeapLength};
 
     ghost Value = { List ℕ };
 
@@ -78,7 +78,7 @@ impl Heap {
         self.run(u64::from(at), u64::from(len))
     }
 
-    #[tactic(auto, unfolding(crate::specs::Heap::run_at))]
+    #[tactic(auto, unfolding(heap_lang::specs::Heap::run_at))]
     fn run(&self, at: u64, len: u64) -> Option<&[u8]>
         ensures { option_copied result ≡ run_at at len self.now }
     {
@@ -92,7 +92,7 @@ impl Heap {
     }
 
     /// The number of the `size` bytes from `at` on; `None` where they pass the end.
-    #[tactic(auto, unfolding(crate::specs::Heap::load_bytes, crate::specs::Heap::run_at))]
+    #[tactic(auto, unfolding(heap_lang::specs::Heap::load_bytes, heap_lang::specs::Heap::run_at))]
     pub fn load_le(&self, at: u64, size: u32) -> Option<u64>
         requires { IsWordSize size }
         ensures number { result ≡ load_bytes at size self.now }
@@ -104,7 +104,7 @@ impl Heap {
 
     /// Writes the low bits of the word into the `size` bytes from `at` on.
     /// False, and nothing is changed, where they pass the end.
-    #[tactic(auto, unfolding(crate::specs::Heap::store_bytes, crate::specs::Heap::with_run))]
+    #[tactic(auto, unfolding(heap_lang::specs::Heap::store_bytes, heap_lang::specs::Heap::with_run))]
     pub fn store_le(&mut self, at: u64, size: u32, word: u64) -> bool
         requires { IsWordSize size }
         ensures stored { self.new ≡ store_bytes at size word self.old }
@@ -121,7 +121,7 @@ impl Heap {
     }
 
     /// Writes the bytes from `at` on. False, and nothing is changed, where they pass the end.
-    #[tactic(auto, unfolding(crate::specs::Heap::with_run))]
+    #[tactic(auto, unfolding(heap_lang::specs::Heap::with_run))]
     pub fn put(&mut self, at: u32, bytes: &[u8]) -> bool
         ensures stored { self.new ≡ with_run at bytes.now self.old }
         ensures inside { result ≡ is_inside at (length bytes.now) self.old }
@@ -138,7 +138,7 @@ impl Heap {
 
     /// Copies `len` bytes from `from` on to the places from `to` on, as the bytes stood before.
     /// False, and nothing is changed, where either range passes the end.
-    #[tactic(auto, unfolding(crate::specs::Heap::copied, crate::specs::Heap::with_run))]
+    #[tactic(auto, unfolding(heap_lang::specs::Heap::copied, heap_lang::specs::Heap::with_run))]
     pub fn copy_run(&mut self, to: u32, from: u32, len: u32) -> bool
         ensures copied { self.new ≡ copied to from len self.old }
         ensures inside { result ≡ can_copy to from len self.old }
@@ -156,7 +156,7 @@ impl Heap {
 
     /// Writes the byte into the `len` places from `at` on.
     /// False, and nothing is changed, where they pass the end.
-    #[tactic(auto, unfolding(crate::specs::Heap::filled, crate::specs::Heap::with_run))]
+    #[tactic(auto, unfolding(heap_lang::specs::Heap::filled, heap_lang::specs::Heap::with_run))]
     pub fn fill(&mut self, at: u32, len: u32, byte: u8) -> bool
         ensures filled { self.new ≡ filled at len byte self.old }
         ensures inside { result ≡ is_inside at len self.old }
@@ -172,7 +172,7 @@ impl Heap {
     }
 
     /// The place of element `index` of the view of the kind; `None` where there is no such element.
-    #[tactic(auto, unfolding(crate::specs::Heap::place_of))]
+    #[tactic(auto, unfolding(heap_lang::specs::Heap::place_of))]
     fn place(&self, kind: ViewKind, index: i64) -> Option<u64>
         ensures { result ≡ place_of kind index self.now }
     {
@@ -185,7 +185,7 @@ impl Heap {
     }
 
     /// Element `index` of the view of the kind; `None` where it is negative or passes the end.
-    #[tactic(auto, using(crate::proofs::HeapLemmas::load_at_place, crate::proofs::HeapLemmas::load_without_place))]
+    #[tactic(auto, using(heap_lang::proofs::HeapLemmas::load_at_place, heap_lang::proofs::HeapLemmas::load_without_place))]
     pub(crate) fn element(&self, kind: ViewKind, index: i64) -> Option<i64>
         ensures element { result ≡ load kind index self.now }
         ensures in_range { IfSome result (IsElement kind) }
@@ -197,7 +197,7 @@ impl Heap {
 
     /// Writes the low bits of the word into element `index` of the view of the kind.
     /// False, and nothing is changed, where there is no such element.
-    #[tactic(auto, using(crate::proofs::HeapLemmas::set_steps))]
+    #[tactic(auto, using(heap_lang::proofs::HeapLemmas::set_steps))]
     pub(crate) fn set_element(&mut self, kind: ViewKind, index: i64, word: u32) -> bool
         ensures stored { self.new ≡ store kind index word self.old }
         ensures inside { result ≡ is_some (load kind index self.old) }

@@ -6,12 +6,11 @@
 #![tactic(auto)]
 
 mod heap;
-mod kind;
 mod numbers;
 mod views;
 mod writes;
 
 pub use heap::Heap;
-pub use kind::ViewKind;
+pub use heap_lang::ViewKind;
 pub use views::{View, ViewMut};
 pub use writes::{WordSize, Write, apply};

@@ -1,6 +1,6 @@
 //! Numbers as bytes, the lowest byte first.
 ghost use Rattle.std.specs.Prelude.{◌≡◌, ◌<◌, ◌≤◌, ◌^◌, length};
-ghost use Rattle.heap_views.specs.Numbers.{little_endian, bytes_of, IsBytes};
+ghost use Rattle.heap_lang.specs.Numbers.{little_endian, bytes_of, IsBytes};
 
 /// The number that the bytes stand for.
 pub fn read_number(bytes: &[u8]) -> u64

@@ -1,10 +1,10 @@
 //! Views of the heap as elements of one kind.
 ghost use Rattle.std.specs.Prelude.{◌≡◌, is_some, IfSome};
 ghost use Rattle.std.specs.Bool.{OnFalse};
-ghost use Rattle.heap_views.specs.Heap.{load, store, IsElement};
+ghost use Rattle.heap_lang.specs.Heap.{load, store, IsElement};
 
 use crate::heap::Heap;
-use crate::kind::ViewKind;
+use heap_lang::ViewKind;
 
 /// A view that reads: the heap is lent, and nothing is copied.
 #[derive(Clone, Copy)]

@@ -2,7 +2,7 @@
 ghost use Rattle.std.specs.Prelude.{◌≡◌};
 
 use crate::heap::Heap;
-use crate::kind::ViewKind;
+use heap_lang::ViewKind;
 
 /// The bytes of a word that is written by its place.
 #[derive(Clone, Copy, Debug, PartialEq, Eq)]

@@ -4,7 +4,7 @@ use Rattle.std.specs.Prelude.{All, option_map, option_and_then, codes, if◌then
 use Rattle.std.specs.Str.{bytes_eq}
 use Rattle.std.proofs.lemmas.List.Elements.{All-nil, All-cons}
 use Rattle.sem_words.specs.Words.{word_of}
-use Rattle.heap_views.specs.Numbers.{IsBytes}
+use Rattle.heap_lang.specs.Numbers.{IsBytes}
 use Rattle.sem_laws.specs.Script.{WritePlain, give, throw, ReplyLinePlain, ScriptPlain}
 use Rattle.script_read.specs.Lines.{lines_of, words_of, is_passed_over}
 use Rattle.script_read.specs.Numbers.{number_of, place_of}

@@ -1,6 +1,6 @@
 -- What byte writes leave of a heap.
 use Rattle.std.specs.Prelude.{ℕ, List, [], ◌∷◌}
-use Rattle.heap_views.specs.Heap.{with_run}
+use Rattle.heap_lang.specs.Heap.{with_run}
 use Rattle.sem_laws.specs.Script.{WritePlain}
 
 -- the heap after byte writes, in order; one that passes the end changes nothing

@@ -1,6 +1,6 @@
 //! Byte writes of a script, made in a heap.
 ghost use Rattle.std.specs.Prelude.{◌≡◌, map};
-ghost use Rattle.heap_views.specs.Heap.{with_run};
+ghost use Rattle.heap_lang.specs.Heap.{with_run};
 ghost use Rattle.sem_words.specs.Lists.{text_bytes};
 ghost use Rattle.sem_laws.specs.Views.{write_of};
 ghost use Rattle.script_replies.specs.Puts.{after_puts};

@@ -1,7 +1,7 @@
 -- Sessions that are compared by computing both.
 use Rattle.std.specs.Prelude.{◌≡◌, [], ◌∷◌, Some, refl, codes}
 use Rattle.hex.specs.Hex.{encode_with}
-use Rattle.heap_views.specs.Heap as heaps
+use Rattle.heap_lang.specs.Heap as heaps
 use Rattle.sem_words.specs.declared.word.Word.TheVariants.{W32}
 use Rattle.sem_laws.specs.Observation.{call_returned, call_gave, import_called}
 use Rattle.sem_words.specs.Words.{leading_zeros_of, trailing_zeros_of, set_bits_of}

@@ -2,7 +2,7 @@
 use Rattle.std.specs.Prelude.{ℕ, suc, ◌+◌, ◌-◌, ◌*◌, ◌/◌, ◌%◌, List, [], ◌∷◌, ◌++◌, length, take, drop, Option, Some, None, slice_get, codes, pos, if◌then◌else◌}
 use Rattle.std.specs.List.{flat_map}
 use Rattle.sem_words.specs.Words.{signed_of}
-use Rattle.heap_views.specs.Numbers.{little_endian}
+use Rattle.heap_lang.specs.Numbers.{little_endian}
 use Rattle.sem_laws.specs.Imports.{low_word, high_word}
 use Rattle.sem_laws.specs.Names.{export_name}
 use Rattle.wasm_lang.specs.declared.types.ValType.{ValType}

@@ -7,7 +7,7 @@ use Rattle.std.proofs.lemmas.Bool.Decides.{nat_tests}
 use Rattle.std.proofs.lemmas.List.Elements.{recursion_from_All}
 use Rattle.std.proofs.lemmas.Option.{slice_get_within}
 use Rattle.sem_words.specs.Words.{signed_of}
-use Rattle.heap_views.specs.Numbers.{little_endian}
+use Rattle.heap_lang.specs.Numbers.{little_endian}
 use Rattle.wasm_lang.specs.declared.types.ValType.TheVariants.{I32}
 use Rattle.wasm_lang.specs.Instructions as code
 use Rattle.wasm_lang.specs.Instructions.{Instruction, plain}

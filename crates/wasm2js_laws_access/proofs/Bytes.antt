@@ -2,10 +2,10 @@
 use Rattle.std.proofs.Common.{◌≡◌, ℕ, ◌+◌, ◌*◌, ◌^◌, ◌<◌, ◌≤◌, List, length, take, drop, pos, Some, sym, ap, ◌∙◌, arith}
 use Rattle.std.specs.Prelude.{option_map}
 use Rattle.sem_words.specs.Words.{add_of}
-use Rattle.heap_views.specs.declared.kind.ViewKind.TheVariants.{U8}
-use Rattle.heap_views.specs.Numbers.{IsBytes, little_endian}
-use Rattle.heap_views.specs.Heap.{element_of, load, load_bytes}
-use Rattle.heap_views.proofs.HeapLemmas.{load_bytes_within, load_bytes_below, load_bytes-add, load_is}
+use Rattle.heap_lang.specs.declared.kind.ViewKind.TheVariants.{U8}
+use Rattle.heap_lang.specs.Numbers.{IsBytes, little_endian}
+use Rattle.heap_lang.specs.Heap.{element_of, load, load_bytes}
+use Rattle.heap_lang.proofs.HeapLemmas.{load_bytes_within, load_bytes_below, load_bytes-add, load_is}
 use Rattle.wasm2js_laws_places.specs.Straight.{index_at, element_word}
 use Rattle.wasm2js_laws_access.specs.Answers.{byte_in, word_of_bytes, low_word_in, high_word_in}
 use Rattle.wasm2js_laws_access.specs.Laws.{ReadsWord, ReadsWords}

@@ -1,8 +1,8 @@
 -- What the helpers that read the memory do, on numbers.
 use Rattle.std.specs.Prelude.{ℕ, List, [], ◌∷◌, Some, None}
 use Rattle.sem_words.specs.Words.{add_of, shl_of}
-use Rattle.heap_views.specs.declared.kind.ViewKind.TheVariants.{U8}
-use Rattle.heap_views.specs.Heap.{load}
+use Rattle.heap_lang.specs.declared.kind.ViewKind.TheVariants.{U8}
+use Rattle.heap_lang.specs.Heap.{load}
 use Rattle.wasm2js_laws_places.specs.Straight.{Answer, gives, index_at, element_word}
 
 -- the byte at a place of 32 bits; 0 where it isn't in the heap

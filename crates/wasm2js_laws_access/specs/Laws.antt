@@ -1,7 +1,7 @@
 -- Calls of the helpers that read the memory, in any module where the name of the byte view means it, and what is read.
 use Rattle.std.specs.Prelude.{◌≡◌, ℕ, ◌+◌, ◌^◌, ◌≤◌, List, [], ◌∷◌, length, Some}
-use Rattle.heap_views.specs.Numbers.{IsBytes}
-use Rattle.heap_views.specs.Heap.{load_bytes}
+use Rattle.heap_lang.specs.Numbers.{IsBytes}
+use Rattle.heap_lang.specs.Heap.{load_bytes}
 use Rattle.asm_lang.specs.Modules.{Function, Module}
 use Rattle.asm_lang_valid.specs.declared.meaning.Element.TheVariants.{Uint8}
 use Rattle.asm_lang_valid.specs.Scope.{a_view, module_meaning}

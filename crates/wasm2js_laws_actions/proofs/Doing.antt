@@ -4,9 +4,9 @@ use Rattle.std.proofs.Math.Path.{fun_ext}
 use Rattle.std.specs.Prelude.{if◌then◌else◌, ℤ}
 use Rattle.sem_words.specs.declared.js_value.JsValue.{JsValue}
 use Rattle.sem_words.specs.JsValues.{to_uint32_of}
-use Rattle.heap_views.specs.declared.kind.ViewKind.{ViewKind}
-use Rattle.heap_views.specs.Heap.{store}
-use Rattle.heap_views.proofs.HeapLemmas.{length-store, IsBytes-store}
+use Rattle.heap_lang.specs.declared.kind.ViewKind.{ViewKind}
+use Rattle.heap_lang.specs.Heap.{store}
+use Rattle.heap_lang.proofs.HeapLemmas.{length-store, IsBytes-store}
 use Rattle.asm_lang_valid.specs.Scope.{is_in}
 use Rattle.asm_lang_exec.specs.Runs as runs
 use Rattle.asm_lang_exec.specs.Runs.{Place, Run, spent, wrong, Part, after, value_in, with_value, written, write}

@@ -14,7 +14,7 @@ use Rattle.sem_words.specs.JsOperators.{js_binary_of, js_unary_of, signed_value,
 use Rattle.sem_words.specs.Words.{signed_of, mul_of, leading_zeros_of, rel_of}
 use Rattle.sem_words.proofs.WordLaws.{word_of-signed_of_32}
 use Rattle.asm_types.proofs.Sound.{to_uint32_lt}
-use Rattle.heap_views.specs.Heap.{load}
+use Rattle.heap_lang.specs.Heap.{load}
 use Rattle.asm_lang.specs.Modules.{Expr, lit, index, unary, binary, cond, no_exprs, exprs}
 use Rattle.asm_lang_valid.specs.declared.meaning.Builtin.TheVariants.{Imul, Clz32}
 use Rattle.asm_lang_valid.specs.declared.meaning.Element.TheVariants.{Int8, Uint8, Int32}

@@ -11,9 +11,9 @@ use Rattle.sem_words.specs.declared.js_value.JsOp.TheVariants.{Or, Gt}
 use Rattle.sem_words.specs.JsValues.{to_uint32_of, truthy_of}
 use Rattle.sem_words.specs.JsOperators.{js_binary_of, signed_value, unsigned_value}
 use Rattle.sem_words.proofs.WordLaws.{word_of-signed_of_32}
-use Rattle.heap_views.specs.declared.kind.ViewKind.{ViewKind}
-use Rattle.heap_views.specs.declared.kind.ViewKind.TheVariants.{U8, I32}
-use Rattle.heap_views.specs.Heap.{store}
+use Rattle.heap_lang.specs.declared.kind.ViewKind.{ViewKind}
+use Rattle.heap_lang.specs.declared.kind.ViewKind.TheVariants.{U8, I32}
+use Rattle.heap_lang.specs.Heap.{store}
 use Rattle.sem_laws.specs.Observation.{stopped, trap_name}
 use Rattle.asm_lang.specs.Modules.{Expr, lit, Stmt, plain}
 use Rattle.asm_lang.specs.Modules as text

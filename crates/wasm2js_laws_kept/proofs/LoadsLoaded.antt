@@ -7,10 +7,10 @@ use Rattle.sem_words.proofs.WordLaws.{word_of-signed_of_32}
 use Rattle.sem_laws.specs.Imports.{Replies}
 use Rattle.sem_laws.specs.Observation.{EventPlain}
 use Rattle.sem_words.specs.declared.word.Word.TheVariants.{W64}
-use Rattle.heap_views.specs.declared.kind.ViewKind.TheVariants.{I32}
-use Rattle.heap_views.specs.Heap as heaps
-use Rattle.heap_views.specs.Heap.{load_bytes}
-use Rattle.heap_views.proofs.HeapLemmas.{load_bytes_within}
+use Rattle.heap_lang.specs.declared.kind.ViewKind.TheVariants.{I32}
+use Rattle.heap_lang.specs.Heap as heaps
+use Rattle.heap_lang.specs.Heap.{load_bytes}
+use Rattle.heap_lang.proofs.HeapLemmas.{load_bytes_within}
 use Rattle.wasm_lang.specs.declared.types.ValType.{ValType}
 use Rattle.wasm_lang.specs.declared.types.ValType.TheVariants.{I32}
 use Rattle.wasm_lang.specs.declared.types.MemOp.{MemOp}

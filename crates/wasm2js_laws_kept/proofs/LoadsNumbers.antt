@@ -7,11 +7,11 @@ use Rattle.std.proofs.lemmas.Int.{ints}
 use Rattle.std.proofs.lemmas.Nat.{and_mask}
 use Rattle.sem_words.specs.Words.{word_of, signed_of, add_of, shl_of}
 use Rattle.sem_words.proofs.WordLaws.{word_of-signed_of_32}
-use Rattle.heap_views.specs.declared.kind.ViewKind.{ViewKind}
-use Rattle.heap_views.specs.declared.kind.ViewKind.TheVariants.{I8, U8, I32}
-use Rattle.heap_views.specs.Numbers.{little_endian}
-use Rattle.heap_views.specs.Heap.{element_size, element_of, load, load_bytes}
-use Rattle.heap_views.proofs.HeapLemmas.{load_bytes_within, load_bytes_past, load_bytes_below, load_bytes-add, load_bytes-append, load_is}
+use Rattle.heap_lang.specs.declared.kind.ViewKind.{ViewKind}
+use Rattle.heap_lang.specs.declared.kind.ViewKind.TheVariants.{I8, U8, I32}
+use Rattle.heap_lang.specs.Numbers.{little_endian}
+use Rattle.heap_lang.specs.Heap.{element_size, element_of, load, load_bytes}
+use Rattle.heap_lang.proofs.HeapLemmas.{load_bytes_within, load_bytes_past, load_bytes_below, load_bytes-add, load_bytes-append, load_is}
 use Rattle.wasm2js_laws_numbers.specs.Laws.{joined, with_sign}
 use Rattle.wasm2js_laws_numbers.proofs.Extended.{narrow_extensions, wide_extensions}
 use Rattle.wasm2js_laws_places.specs.Straight.{index_at, element_word, byte_kind}

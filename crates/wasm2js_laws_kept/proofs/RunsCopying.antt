@@ -4,8 +4,8 @@ use Rattle.std.specs.Prelude.{if◌then◌else◌, nat_le, bit_or}
 use Rattle.sem_words.specs.declared.js_value.JsValue.{JsValue}
 use Rattle.sem_words.specs.JsValues.{to_uint32_of}
 use Rattle.sem_words.specs.JsOperators.{signed_value}
-use Rattle.heap_views.specs.Heap.{copied}
-use Rattle.heap_views.proofs.RunLemmas.{length-copied, IsBytes-copied}
+use Rattle.heap_lang.specs.Heap.{copied}
+use Rattle.heap_lang.proofs.RunLemmas.{length-copied, IsBytes-copied}
 use Rattle.asm_lang.specs.Modules.{Stmt, if_else, Module}
 use Rattle.asm_lang_valid.specs.Typing.{Scope}
 use Rattle.asm_lang_valid.specs.Typed.{scope_of}

@@ -5,8 +5,8 @@ use Rattle.sem_words.specs.declared.js_value.JsValue.{JsValue}
 use Rattle.sem_words.specs.declared.js_value.JsValue.TheVariants.{Bool as Boolean}
 use Rattle.sem_words.specs.JsValues.{to_uint32_of}
 use Rattle.sem_words.specs.Words.{add_of, sub_of}
-use Rattle.heap_views.specs.Heap.{with_run, store_bytes, copied}
-use Rattle.heap_views.proofs.RunLemmas.{copied_none, length-copied}
+use Rattle.heap_lang.specs.Heap.{with_run, store_bytes, copied}
+use Rattle.heap_lang.proofs.RunLemmas.{copied_none, length-copied}
 use Rattle.asm_lang.specs.Modules.{Stmt, Module}
 use Rattle.asm_lang_valid.specs.Typing.{Scope}
 use Rattle.asm_lang_valid.specs.Typed.{scope_of}

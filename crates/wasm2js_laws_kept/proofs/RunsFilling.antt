@@ -6,9 +6,9 @@ use Rattle.sem_words.specs.declared.js_value.JsValue.TheVariants.{Whole, Bool as
 use Rattle.sem_words.specs.JsValues.{to_uint32_of}
 use Rattle.sem_words.specs.JsOperators.{signed_value}
 use Rattle.sem_words.specs.Words.{add_of, sub_of}
-use Rattle.heap_views.specs.declared.kind.ViewKind.TheVariants.{I32}
-use Rattle.heap_views.specs.Heap.{store, store_bytes, filled}
-use Rattle.heap_views.proofs.RunLemmas.{filled_none, length-filled, IsBytes-filled}
+use Rattle.heap_lang.specs.declared.kind.ViewKind.TheVariants.{I32}
+use Rattle.heap_lang.specs.Heap.{store, store_bytes, filled}
+use Rattle.heap_lang.proofs.RunLemmas.{filled_none, length-filled, IsBytes-filled}
 use Rattle.asm_lang.specs.Modules.{Stmt, Module}
 use Rattle.asm_lang_valid.specs.Typing.{Scope}
 use Rattle.asm_lang_valid.specs.Typed.{scope_of}

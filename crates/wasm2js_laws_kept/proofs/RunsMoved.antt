@@ -5,8 +5,8 @@ use Rattle.std.proofs.lemmas.List.{take-append-le, drop-append-le, length-append
 use Rattle.std.proofs.lemmas.Bool.Decides.{nat_tests}
 use Rattle.sem_laws.specs.Imports.{Replies}
 use Rattle.sem_laws.specs.Observation.{EventPlain}
-use Rattle.heap_views.specs.Heap.{with_run, copied, filled}
-use Rattle.heap_views.proofs.RunLemmas.{run_at_within, run_at-append, length-copied, length-filled, with_run-append, copied_within}
+use Rattle.heap_lang.specs.Heap.{with_run, copied, filled}
+use Rattle.heap_lang.proofs.RunLemmas.{run_at_within, run_at-append, length-copied, length-filled, with_run-append, copied_within}
 use Rattle.wasm_lang.specs.declared.types.ValType.{ValType}
 use Rattle.wasm_lang.specs.declared.types.ValType.TheVariants.{I32}
 use Rattle.sem_words.specs.declared.word.Word.{Word}

@@ -5,10 +5,10 @@ use Rattle.std.proofs.lemmas.Nat.{and_mask}
 use Rattle.std.proofs.lemmas.List.{length-take, length-drop, length-replicate, replicate-append-replicate, drop-drop}
 use Rattle.std.proofs.lemmas.List.Elements.{All-take, All-drop}
 use Rattle.sem_words.specs.Words.{mul_of}
-use Rattle.heap_views.specs.Numbers.{IsBytes, little_endian, bytes_of}
-use Rattle.heap_views.specs.Heap.{with_run, store_bytes, copied, filled}
-use Rattle.heap_views.proofs.NumberLemmas.{bytes_of-little_endian}
-use Rattle.heap_views.proofs.RunLemmas.{run_at_within, run_at-with_run_apart, with_run-append_bytes, with_run-with_run_apart, length-with_run, copied_within}
+use Rattle.heap_lang.specs.Numbers.{IsBytes, little_endian, bytes_of}
+use Rattle.heap_lang.specs.Heap.{with_run, store_bytes, copied, filled}
+use Rattle.heap_lang.proofs.NumberLemmas.{bytes_of-little_endian}
+use Rattle.heap_lang.proofs.RunLemmas.{run_at_within, run_at-with_run_apart, with_run-append_bytes, with_run-with_run_apart, length-with_run, copied_within}
 use Rattle.wasm2js_laws_kept.proofs.LoadsNumbers.{number_of}
 
 taken_is : (a b : List ℕ) → Some a ≡ Some b → a ≡ b

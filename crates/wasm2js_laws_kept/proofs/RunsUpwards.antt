@@ -5,9 +5,9 @@ use Rattle.sem_words.specs.declared.js_value.JsValue.{JsValue}
 use Rattle.sem_words.specs.declared.js_value.JsValue.TheVariants.{Whole, Bool as Boolean}
 use Rattle.sem_words.specs.JsValues.{to_uint32_of}
 use Rattle.sem_words.specs.Words.{add_of, sub_of}
-use Rattle.heap_views.specs.declared.kind.ViewKind.TheVariants.{U8, I32}
-use Rattle.heap_views.specs.Heap.{load, store, store_bytes, copied}
-use Rattle.heap_views.proofs.RunLemmas.{copied_none, length-copied, IsBytes-copied}
+use Rattle.heap_lang.specs.declared.kind.ViewKind.TheVariants.{U8, I32}
+use Rattle.heap_lang.specs.Heap.{load, store, store_bytes, copied}
+use Rattle.heap_lang.proofs.RunLemmas.{copied_none, length-copied, IsBytes-copied}
 use Rattle.asm_lang.specs.Modules.{Stmt, Module}
 use Rattle.asm_lang_valid.specs.Typing.{Scope}
 use Rattle.asm_lang_valid.specs.Typed.{scope_of}

@@ -8,7 +8,7 @@ use Rattle.sem_words.specs.declared.js_value.JsValue.TheVariants.{Whole, Bool as
 use Rattle.sem_words.specs.JsValues.{to_uint32_of}
 use Rattle.sem_words.specs.JsOperators.{js_binary_of, is_zero, are_alike}
 use Rattle.sem_words.specs.Words.{signed_of, mul_of, rel_of}
-use Rattle.heap_views.specs.Heap.{load}
+use Rattle.heap_lang.specs.Heap.{load}
 use Rattle.asm_lang.specs.Modules.{Expr, index, binary, no_exprs, exprs}
 use Rattle.asm_lang_valid.specs.declared.meaning.Builtin.TheVariants.{Imul}
 use Rattle.asm_lang_valid.specs.declared.meaning.Element.TheVariants.{Int32}

@@ -3,8 +3,8 @@ use Rattle.std.proofs.Common.{◌≡◌, ℕ, false, List, ◌∷◌, ℤ, refl,
 use Rattle.sem_words.specs.declared.js_value.JsValue.{JsValue}
 use Rattle.sem_words.specs.declared.js_value.JsValue.TheVariants.{Whole}
 use Rattle.sem_words.specs.JsValues.{to_uint32_of}
-use Rattle.heap_views.specs.declared.kind.ViewKind.TheVariants.{U8, I32}
-use Rattle.heap_views.specs.Heap.{store}
+use Rattle.heap_lang.specs.declared.kind.ViewKind.TheVariants.{U8, I32}
+use Rattle.heap_lang.specs.Heap.{store}
 use Rattle.asm_lang.specs.Modules.{Stmt}
 use Rattle.asm_lang_valid.specs.declared.meaning.Element.TheVariants.{Uint8, Int32}
 use Rattle.asm_lang_valid.specs.Scope.{a_view}

@@ -4,7 +4,7 @@ use Rattle.sem_words.specs.declared.js_value.JsValue.{JsValue}
 use Rattle.sem_words.specs.JsValues.{to_uint32_of}
 use Rattle.sem_words.specs.JsOperators.{signed_value}
 use Rattle.sem_words.specs.Words.{add_of, shr_u_of}
-use Rattle.heap_views.specs.declared.kind.ViewKind.TheVariants.{U8}
+use Rattle.heap_lang.specs.declared.kind.ViewKind.TheVariants.{U8}
 use Rattle.asm_lang.specs.Modules.{Function, Module}
 use Rattle.asm_lang_valid.specs.Typing.{Scope}
 use Rattle.asm_lang_valid.specs.Typed.{scope_of}

@@ -4,10 +4,10 @@ use Rattle.std.specs.Prelude.{◌==◌, if◌then◌else◌, bit_and}
 use Rattle.sem_words.specs.Words.{shr_u_of}
 use Rattle.sem_laws.specs.Imports.{Replies}
 use Rattle.sem_laws.specs.Observation.{EventPlain}
-use Rattle.heap_views.specs.declared.kind.ViewKind.TheVariants as views
-use Rattle.heap_views.specs.Heap as heaps
-use Rattle.heap_views.specs.Heap.{is_inside, store_bytes}
-use Rattle.heap_views.proofs.RunLemmas.{is_inside_within, is_inside_past}
+use Rattle.heap_lang.specs.declared.kind.ViewKind.TheVariants as views
+use Rattle.heap_lang.specs.Heap as heaps
+use Rattle.heap_lang.specs.Heap.{is_inside, store_bytes}
+use Rattle.heap_lang.proofs.RunLemmas.{is_inside_within, is_inside_past}
 use Rattle.wasm_lang.specs.declared.types.ValType.{ValType}
 use Rattle.wasm_lang.specs.declared.types.ValType.TheVariants.{I32}
 use Rattle.wasm_lang.specs.declared.types.MemOp.{MemOp}

@@ -2,9 +2,9 @@
 use Rattle.std.proofs.Common.{◌≡◌, ℕ, ◌+◌, ◌*◌, ◌/◌, ◌%◌, ◌^◌, ◌<◌, ◌≤◌, List, ◌++◌, length, take, drop, take-append-drop, drop_of_length-le, take_all, refl, sym, ap, ◌∙◌, subst, arith}
 use Rattle.std.proofs.lemmas.List.{take-append-le, drop-append-le}
 use Rattle.sem_words.specs.Words.{add_of, shr_u_of}
-use Rattle.heap_views.specs.declared.kind.ViewKind.TheVariants.{U8, I32}
-use Rattle.heap_views.specs.Heap.{store, store_bytes}
-use Rattle.heap_views.proofs.HeapLemmas.{store_is, store_bytes-add, store_bytes-append, store_bytes-mod, length-store_bytes}
+use Rattle.heap_lang.specs.declared.kind.ViewKind.TheVariants.{U8, I32}
+use Rattle.heap_lang.specs.Heap.{store, store_bytes}
+use Rattle.heap_lang.proofs.HeapLemmas.{store_is, store_bytes-add, store_bytes-append, store_bytes-mod, length-store_bytes}
 use Rattle.wasm2js_laws_numbers.specs.Laws.{joined}
 use Rattle.wasm2js_laws_places.specs.Straight.{index_at}
 use Rattle.wasm2js_laws_places.specs.Places.{IsHeap}

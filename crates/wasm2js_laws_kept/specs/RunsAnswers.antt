@@ -1,7 +1,7 @@
 -- What the helpers that fill and copy do, on numbers, and how many units they take: one for the call, and for each loop one for each turn and
 -- one for the test that ends it.
 use Rattle.std.specs.Prelude.{ℕ, ◌+◌, ◌/◌, ◌%◌, Bool, ◌&&◌, nat_le, ◌==◌, bit_and, bit_or, if◌then◌else◌, List, [], ◌∷◌, None}
-use Rattle.heap_views.specs.Heap.{copied, filled}
+use Rattle.heap_lang.specs.Heap.{copied, filled}
 use Rattle.wasm2js_laws_places.specs.Straight.{Answer, gives, traps}
 
 abbrev pub is_aligned : ℕ → Bool

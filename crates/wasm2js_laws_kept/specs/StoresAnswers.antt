@@ -1,8 +1,8 @@
 -- What the helpers that write the memory do, on numbers.
 use Rattle.std.specs.Prelude.{ℕ, List, [], ◌∷◌, None}
 use Rattle.sem_words.specs.Words.{add_of, shr_u_of}
-use Rattle.heap_views.specs.declared.kind.ViewKind.TheVariants.{U8}
-use Rattle.heap_views.specs.Heap.{store}
+use Rattle.heap_lang.specs.declared.kind.ViewKind.TheVariants.{U8}
+use Rattle.heap_lang.specs.Heap.{store}
 use Rattle.wasm2js_laws_places.specs.Straight.{Answer, gives, index_at}
 
 -- the heap with a word's lowest byte at a place of 32 bits; the same heap where that isn't in it

@@ -1,6 +1,6 @@
 -- Calls of the helpers that write the memory, in any module where the name of the byte view means it, and instructions that store.
 use Rattle.std.specs.Prelude.{◌≡◌, ℕ, ◌+◌, ◌^◌, ◌<◌, ◌≤◌, List, [], ◌++◌, length}
-use Rattle.heap_views.specs.Heap.{store_bytes}
+use Rattle.heap_lang.specs.Heap.{store_bytes}
 use Rattle.asm_lang.specs.Modules.{Function, Module}
 use Rattle.wasm_lang.specs.declared.types.MemOp.{MemOp}
 use Rattle.wasm_lang.specs.Instructions.{store}

@@ -5,7 +5,7 @@ use Rattle.sem_words.specs.declared.word.Word.{Word}
 use Rattle.sem_words.specs.declared.word.Word.TheVariants.{W32, W64}
 use Rattle.sem_words.specs.declared.js_value.JsValue.{JsValue}
 use Rattle.sem_words.specs.JsValues.{to_uint32_of}
-use Rattle.heap_views.specs.Numbers.{IsBytes}
+use Rattle.heap_lang.specs.Numbers.{IsBytes}
 use Rattle.sem_laws.specs.Script.{WritePlain, ReplyPlain, give, throw}
 use Rattle.sem_laws.specs.Imports.{Replies}
 use Rattle.sem_laws.specs.Observation.{EventPlain}

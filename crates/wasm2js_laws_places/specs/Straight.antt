@@ -4,9 +4,9 @@ use Rattle.std.specs.Int.{int_shr}
 use Rattle.sem_words.specs.declared.word.Rel.{Rel}
 use Rattle.sem_words.specs.declared.word.Rel.TheVariants.{Eq, Ne, LtS, LtU, LeS, LeU, GtS, GtU, GeS, GeU}
 use Rattle.sem_words.specs.Words.{word_of, signed_of, add_of, sub_of, mul_of, shl_of, shr_s_of, shr_u_of, leading_zeros_of, rel_of}
-use Rattle.heap_views.specs.declared.kind.ViewKind.{ViewKind}
-use Rattle.heap_views.specs.declared.kind.ViewKind.TheVariants.{I8, U8, I32}
-use Rattle.heap_views.specs.Heap.{load, store}
+use Rattle.heap_lang.specs.declared.kind.ViewKind.{ViewKind}
+use Rattle.heap_lang.specs.declared.kind.ViewKind.TheVariants.{I8, U8, I32}
+use Rattle.heap_lang.specs.Heap.{load, store}
 use Rattle.wasm2js_words.specs.Names.{Fixed, Name, numbered, fixed, letter, fixed_rank, spare_high, init, last_high}
 use Rattle.wasm2js_words.specs.Words.{BitOp, conjunction, disjunction, exclusion, shift_left, shift_right_signed, shift_right, Relation, equal, unequal, less, at_most, greater, at_least, Term, read, number, both, flip, sum, product, zeros, compare, choose, byte, whole, Summands, no_more, further, Simple, put, ask, tell, guard, stop, write_byte, write_whole, Action, simply, either}
 

@@ -6,8 +6,8 @@ use Rattle.std.proofs.lemmas.Bool.Decides.{nat_tests}
 use Rattle.std.proofs.lemmas.List.{length-replicate, replicate-append-replicate}
 use Rattle.std.proofs.Math.Seq.{take-append_seam}
 use Rattle.sem_laws.specs.Script.{WritePlain, ScriptPlain}
-use Rattle.heap_views.specs.Heap.{with_run}
-use Rattle.heap_views.proofs.RunLemmas.{length-with_run, with_run-append}
+use Rattle.heap_lang.specs.Heap.{with_run}
+use Rattle.heap_lang.proofs.RunLemmas.{length-with_run, with_run-append}
 use Rattle.script_fits.specs.FitLaws.{a_write, Fits}
 use Rattle.script_fits.proofs.Misfits.{no_misfit_fits}
 use Rattle.wasm_lang.specs.Modules.{WasmModule}

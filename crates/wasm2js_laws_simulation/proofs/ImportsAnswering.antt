@@ -3,8 +3,8 @@ use Rattle.std.proofs.Common.{◌≡◌, ℕ, suc, ◌+◌, ◌*◌, ◌^◌, �
 use Rattle.std.specs.Prelude.{◌/◌, ◌%◌, bytes_eq, if◌then◌else◌}
 use Rattle.std.specs.List.{AllByRecursion, flat_map}
 use Rattle.std.proofs.lemmas.List.{length-take, take-append-drop}
-use Rattle.heap_views.specs.Heap.{with_run}
-use Rattle.heap_views.proofs.RunLemmas.{length-with_run, IsBytes-with_run, with_run-append}
+use Rattle.heap_lang.specs.Heap.{with_run}
+use Rattle.heap_lang.proofs.RunLemmas.{length-with_run, IsBytes-with_run, with_run-append}
 use Rattle.sem_words.specs.declared.word.Word.{Word}
 use Rattle.sem_words.specs.declared.word.Word.TheVariants.{W32}
 use Rattle.sem_laws.specs.Observation.{import_called, stopped, no_reply, trap_name}

@@ -7,9 +7,9 @@ use Rattle.std.proofs.lemmas.Bool.Decides.{nat_tests}
 use Rattle.std.proofs.lemmas.List.{length-replicate, length-take-le}
 use Rattle.std.proofs.lemmas.List.Elements.{recursion_from_All, All-replicate}
 use Rattle.std.proofs.Math.Seq.{take-append_seam, drop-append_seam}
-use Rattle.heap_views.specs.Numbers.{IsBytes}
-use Rattle.heap_views.specs.Heap.{with_run}
-use Rattle.heap_views.proofs.RunLemmas.{length-with_run, with_run-append, IsBytes-with_run}
+use Rattle.heap_lang.specs.Numbers.{IsBytes}
+use Rattle.heap_lang.specs.Heap.{with_run}
+use Rattle.heap_lang.proofs.RunLemmas.{length-with_run, with_run-append, IsBytes-with_run}
 use Rattle.sem_laws.specs.Script.{WritePlain, ReplyPlain, give, throw, ReplyLinePlain, ScriptPlain}
 use Rattle.script_fits.specs.FitLaws.{a_reply, Fits}
 use Rattle.script_fits.proofs.Misfits.{no_misfit_fits}

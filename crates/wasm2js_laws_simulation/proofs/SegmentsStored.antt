@@ -7,13 +7,13 @@ use Rattle.std.proofs.lemmas.List.Elements.{All-from_recursion}
 use Rattle.sem_words.specs.declared.js_value.JsValue.TheVariants.{Whole}
 use Rattle.sem_words.specs.Words.{word_of, signed_of}
 use Rattle.sem_words.proofs.WordLaws.{word_of-signed_of_32}
-use Rattle.heap_views.specs.declared.kind.ViewKind.TheVariants.{U8, I32}
-use Rattle.heap_views.specs.Heap.{with_run, store_bytes}
-use Rattle.heap_views.specs.Heap as heaps
-use Rattle.heap_views.specs.Numbers.{little_endian, bytes_of}
-use Rattle.heap_views.proofs.NumberLemmas.{bytes_of-little_endian}
-use Rattle.heap_views.proofs.HeapLemmas.{store_is}
-use Rattle.heap_views.proofs.RunLemmas.{length-with_run, with_run-append_bytes, with_run_none}
+use Rattle.heap_lang.specs.declared.kind.ViewKind.TheVariants.{U8, I32}
+use Rattle.heap_lang.specs.Heap.{with_run, store_bytes}
+use Rattle.heap_lang.specs.Heap as heaps
+use Rattle.heap_lang.specs.Numbers.{little_endian, bytes_of}
+use Rattle.heap_lang.proofs.NumberLemmas.{bytes_of-little_endian}
+use Rattle.heap_lang.proofs.HeapLemmas.{store_is}
+use Rattle.heap_lang.proofs.RunLemmas.{length-with_run, with_run-append_bytes, with_run_none}
 use Rattle.wasm_lang.specs.Modules.{DataSegment}
 use Rattle.wasm_lang_valid.specs.Profile.{constant_offset, or_zero, memory_bytes}
 use Rattle.asm_lang.specs.Modules.{Stmt}

@@ -1,7 +1,7 @@
 -- What the statements of segments do to the heap.
 use Rattle.std.specs.Prelude.{◌≡◌, ℕ, ◌≤◌, List, [], ◌∷◌, length}
 use Rattle.std.specs.List.{flat_map}
-use Rattle.heap_views.specs.Heap.{with_run}
+use Rattle.heap_lang.specs.Heap.{with_run}
 use Rattle.wasm_lang.specs.Modules.{DataSegment, WasmModule}
 use Rattle.wasm_lang_valid.specs.Profile.{constant_offset, or_zero, memory_bytes}
 use Rattle.asm_lang_valid.specs.Typed.{scope_of}

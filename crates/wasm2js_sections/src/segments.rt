@@ -1,6 +1,6 @@
 //! Bytes that are put into the memory: whole words where the place is a multiple of four and four bytes are left, else bytes.
 ghost use Rattle.std.specs.Prelude.{◌≡◌, ◌+◌, ◌<◌, ◌^◌, ◌++◌, [], ◌∷◌, length, pos, IfOk};
-ghost use Rattle.heap_views.specs.Numbers.{little_endian};
+ghost use Rattle.heap_lang.specs.Numbers.{little_endian};
 ghost use Rattle.asm_lang.specs.Modules as plain;
 ghost use Rattle.asm_tree.specs.Views.{expr_view, stmt_view};
 ghost use Rattle.wasm2js_words.specs.Words as words;

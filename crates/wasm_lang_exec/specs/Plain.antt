@@ -8,7 +8,7 @@ use Rattle.sem_words.specs.declared.word.TrapKind.TheVariants as kinds
 use Rattle.sem_words.specs.Words.{signed_of, word_of, bin_of, un_of, rel_of, extend_of}
 use Rattle.wasm_lang.specs.declared.types.MemOp.{MemOp}
 use Rattle.wasm_lang.specs.Instructions.{Plain, nop, drop_operand, select, local_get, local_set, local_tee, global_get, global_set, load, store, memory_size, memory_copy, memory_fill, const32, const64, eqz32, eqz64, rel32, rel64, un32, un64, bin32, bin64, wrap, extend_s, extend_u, sign_extend}
-use Rattle.heap_views.specs.Heap.{is_inside, load_bytes, store_bytes, can_copy, copied, filled}
+use Rattle.heap_lang.specs.Heap.{is_inside, load_bytes, store_bytes, can_copy, copied, filled}
 use Rattle.wasm_lang_exec.specs.Store.{Store, page}
 
 -- what an instruction does: values, locals and store after it, a trap, or nothing for want of an operand

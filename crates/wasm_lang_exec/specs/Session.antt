@@ -9,7 +9,7 @@ use Rattle.sem_laws.specs.Script.{GlobalPlain, CallPlain, ScriptPlain}
 use Rattle.sem_laws.specs.Imports.{first_replies}
 use Rattle.sem_laws.specs.Names.{import_name}
 use Rattle.sem_laws.specs.Observation.{EventPlain, call_gave, call_returned, EndPlain, done, trapped, ObservationPlain, running, ended}
-use Rattle.heap_views.specs.Heap.{is_inside, with_run}
+use Rattle.heap_lang.specs.Heap.{is_inside, with_run}
 use Rattle.wasm_lang.specs.declared.types.ValType.{ValType}
 use Rattle.wasm_lang.specs.declared.types.ValType.TheVariants.{I32, I64}
 use Rattle.wasm_lang.specs.declared.types.Limits.{Limits}

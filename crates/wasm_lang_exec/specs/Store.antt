@@ -4,7 +4,7 @@ use Rattle.sem_words.specs.declared.word.Word.{Word}
 use Rattle.sem_words.specs.declared.word.Word.TheVariants.{W32, W64}
 use Rattle.wasm_lang.specs.declared.types.ValType.{ValType}
 use Rattle.wasm_lang.specs.declared.types.ValType.TheVariants.{I32, I64}
-use Rattle.heap_views.specs.Heap.{with_run}
+use Rattle.heap_lang.specs.Heap.{with_run}
 use Rattle.sem_laws.specs.Script.{WritePlain}
 use Rattle.sem_laws.specs.Observation.{EventPlain}
 use Rattle.sem_laws.specs.Imports.{Replies}

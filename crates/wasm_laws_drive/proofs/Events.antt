@@ -13,7 +13,7 @@ use Rattle.wasm_lang.specs.declared.types.ValType.{ValType}
 use Rattle.wasm_lang.specs.declared.types.MemOp.{MemOp}
 use Rattle.wasm_lang.specs.Instructions.{Plain, nop, drop_operand, select, local_get, local_set, local_tee, global_get, global_set, load, store, memory_size, memory_copy, memory_fill, const32, const64, eqz32, eqz64, rel32, rel64, un32, un64, bin32, bin64, wrap, extend_s, extend_u, sign_extend}
 use Rattle.wasm_lang.specs.Modules.{WasmModule}
-use Rattle.heap_views.specs.Heap.{is_inside, load_bytes, can_copy}
+use Rattle.heap_lang.specs.Heap.{is_inside, load_bytes, can_copy}
 use Rattle.wasm_lang_exec.specs.Code.{unreachable, block, loop, if_block, br, br_if, br_table, return, call, call_indirect, plain, Trees, ε, ◌▹◌, ◌⊕◌}
 use Rattle.wasm_lang_exec.specs.Store.{Store}
 use Rattle.wasm_lang_exec.specs.Plain.{Effect, goes, traps, sticks, flag, answer32, answer64, with32, with64, both32, both64, pushed, with_local, with_global, loaded, stored, copied_run, filled_run, store_wide, store_narrow, do_plain}

@@ -6,9 +6,9 @@ use Rattle.sem_words.specs.declared.word.Word.{Word}
 use Rattle.sem_words.specs.declared.word.Word.TheVariants.{W32, W64}
 use Rattle.sem_words.specs.declared.word.TrapKind.{TrapKind}
 use Rattle.sem_words.specs.Words.{bin_of, un_of, rel_of, extend_of}
-use Rattle.heap_views.proofs.RunLemmas.{length-copied, length-filled}
-use Rattle.heap_views.proofs.HeapLemmas.{length-store_bytes}
-use Rattle.heap_views.specs.Heap.{is_inside, load_bytes, can_copy}
+use Rattle.heap_lang.proofs.RunLemmas.{length-copied, length-filled}
+use Rattle.heap_lang.proofs.HeapLemmas.{length-store_bytes}
+use Rattle.heap_lang.specs.Heap.{is_inside, load_bytes, can_copy}
 use Rattle.wasm_lang.specs.declared.types.ValType.{ValType}
 use Rattle.wasm_lang.specs.declared.types.ValType.TheVariants.{I32, I64}
 use Rattle.wasm_lang.specs.declared.types.MemOp.{MemOp}

@@ -20,8 +20,8 @@ use Rattle.wasm_lang_valid.specs.ModuleRules as rules
 use Rattle.wasm_lang_valid.specs.ModuleRules.{function_types, global_types, are_functions, element_rule, is_table_number, is_empty, is_function, is_global, is_constant, is_end, is_start, value_rule, init_rule, start_rule, type_of_function, item_rule, at}
 use Rattle.wasm_lang_valid.specs.Validity.{start_count, IsValidModule}
 use Rattle.wasm_lang_valid.specs.Runnable.{pages}
-use Rattle.heap_views.specs.Heap.{with_run}
-use Rattle.heap_views.proofs.RunLemmas.{length-with_run}
+use Rattle.heap_lang.specs.Heap.{with_run}
+use Rattle.heap_lang.proofs.RunLemmas.{length-with_run}
 use Rattle.wasm_lang_exec.specs.Store.{Store}
 use Rattle.wasm_lang_exec.specs.Reductions.{callee_at}
 use Rattle.wasm_lang_exec.specs.Session.{bytes_in, word_for, given_value, if_global, imported_globals, some_or_zero, value_of, table_length, first_globals, first_store, replaced, offset_of, entries_fit, bytes_fit, with_entries, with_bytes, result_event, with_event, function_named, words_for, arguments_for}

@@ -6,8 +6,8 @@ use Rattle.sem_words.specs.declared.word.Word.{Word}
 use Rattle.wasm_lang.specs.declared.types.ValType.{ValType}
 use Rattle.wasm_lang.specs.declared.types.ValType.TheVariants.{I32, I64}
 use Rattle.sem_laws.specs.Script.{WritePlain}
-use Rattle.heap_views.specs.Heap.{with_run}
-use Rattle.heap_views.proofs.RunLemmas.{length-with_run}
+use Rattle.heap_lang.specs.Heap.{with_run}
+use Rattle.heap_lang.proofs.RunLemmas.{length-with_run}
 use Rattle.wasm_lang_exec.specs.Store.{word_of_type, zeros_of, written}
 use Rattle.wasm_lang_exec.specs.Reductions.{and_value, top_of, below_top}
 use Rattle.wasm_laws_sound.specs.Configurations.{HasType, HaveTypes}

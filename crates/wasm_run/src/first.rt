@@ -1,7 +1,7 @@
 // What a session begins with.
 
 ghost use Rattle.std.specs.Prelude.{◌≡◌, ◌≤◌, ◌*◌, ◌++◌, [], None, map, replicate, IfOk, OnOk};
-ghost use Rattle.heap_views.specs.Heap.{IsHeapLength};
+ghost use Rattle.heap_lang.specs.Heap.{IsHeapLength};
 ghost use Rattle.sem_laws.specs.Imports.{first_replies};
 ghost use Rattle.sem_laws.specs.Names.{import_name};
 ghost use Rattle.sem_laws.specs.Views.{global_of, script_of};

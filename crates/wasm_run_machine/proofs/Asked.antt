@@ -7,7 +7,7 @@ use Rattle.sem_laws.specs.Observation.{EndPlain}
 use Rattle.sem_laws.specs.Script.{WritePlain}
 use Rattle.sem_laws.specs.Imports.{Given, ImportAnswer, goes_on, ends, answer_import}
 use Rattle.script_replies.specs.Puts.{after_puts}
-use Rattle.heap_views.specs.Heap.{with_run}
+use Rattle.heap_lang.specs.Heap.{with_run}
 use Rattle.wasm_lang.specs.declared.types.ValType.{ValType}
 use Rattle.wasm_lang.specs.Instructions.{Instruction}
 use Rattle.wasm_lang.specs.Modules.{FunctionType, WasmModule}

@@ -3,7 +3,7 @@ use Rattle.std.specs.Prelude.{◌≡◌, ℕ, ◌*◌, ◌<◌, ◌≤◌, Bool,
 use Rattle.sem_words.specs.declared.word.Word.{Word}
 use Rattle.sem_laws.specs.Observation.{EventPlain}
 use Rattle.sem_laws.specs.Imports.{Replies}
-use Rattle.heap_views.specs.Heap.{IsWordSize}
+use Rattle.heap_lang.specs.Heap.{IsWordSize}
 use Rattle.wasm_lang.specs.declared.types.MemOp.{MemOp}
 use Rattle.wasm_lang_exec.specs.Store.{Store}
 use Rattle.wasm_lang_exec.specs.Plain as meaning

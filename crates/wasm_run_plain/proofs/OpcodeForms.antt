@@ -4,7 +4,7 @@ use Rattle.std.specs.Map.{lookup}
 use Rattle.std.specs.Prelude.{◌==◌}
 use Rattle.std.proofs.lemmas.Bool.{false≢true, eqb-true}
 use Rattle.std.proofs.lemmas.Bool.Decides.{nat_tests}
-use Rattle.heap_views.specs.Heap.{IsWordSize}
+use Rattle.heap_lang.specs.Heap.{IsWordSize}
 use Rattle.wasm_lang.specs.declared.types.MemOp.{MemOp}
 use Rattle.wasm_lang.specs.Instructions.{load, store, sign_extend, Instruction, plain}
 use Rattle.wasm_lang.specs.Opcodes.{opcodes, form_at, form_of}

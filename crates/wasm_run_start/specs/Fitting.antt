@@ -1,7 +1,7 @@
 -- Whether one segment is in the table or in the memory, by the values of globals.
 use Rattle.std.specs.Prelude.{ℕ, ◌+◌, Bool, List, length, nat_le}
 use Rattle.sem_words.specs.declared.word.Word.{Word}
-use Rattle.heap_views.specs.Heap.{is_inside}
+use Rattle.heap_lang.specs.Heap.{is_inside}
 use Rattle.wasm_lang.specs.Modules.{ElementSegment, DataSegment}
 use Rattle.wasm_lang_exec.specs.Session.{value_of, place_of}
 

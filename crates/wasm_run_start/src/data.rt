@@ -1,6 +1,6 @@
 //! Bytes that are put into the memory.
 ghost use Rattle.std.specs.Prelude.{◌≡◌, ◌∷◌, [], List, map};
-ghost use Rattle.heap_views.specs.Heap.{with_run};
+ghost use Rattle.heap_lang.specs.Heap.{with_run};
 ghost use Rattle.sem_laws.specs.Observation.{EventPlain};
 ghost use Rattle.sem_laws.specs.Imports.{Replies};
 ghost use Rattle.wasm_tree.specs.Views.{segment_of};

@@ -1,7 +1,7 @@
 use Rattle.std.proofs.Common.{◌≡◌, ◌<◌, ◌-◌, drop, ap, arith}
 use Rattle.std.proofs.lemmas.List.Elements.{All-from_get_or}
-use Rattle.heap_views.specs.Numbers.{IsBytes}
-use Rattle.heap_views.proofs.NumberLemmas.{room_for_byte, little_endian-below}
+use Rattle.heap_lang.specs.Numbers.{IsBytes}
+use Rattle.heap_lang.proofs.NumberLemmas.{room_for_byte, little_endian-below}
 use Rattle.heap_views.proofs.numbers.read_number.Goals as goal
 
 pub overflow_mul-number : goal.overflow_mul-number

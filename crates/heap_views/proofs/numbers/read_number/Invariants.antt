@@ -1,5 +1,5 @@
 use Rattle.std.proofs.Common.{◌≡◌, ◌≤◌, length, drop}
-use Rattle.heap_views.specs.Numbers.{little_endian}
+use Rattle.heap_lang.specs.Numbers.{little_endian}
 use Rattle.heap_views.proofs.numbers.read_number.Given as goal
 
 abbrev pub invariant-loop-left : goal.invariant-loop-left

@@ -1,5 +1,5 @@
 use Rattle.std.proofs.Common.{arith}
-use Rattle.heap_views.proofs.NumberLemmas.{bytes_written_more}
+use Rattle.heap_lang.proofs.NumberLemmas.{bytes_written_more}
 use Rattle.heap_views.proofs.numbers.write_number.Goals as goal
 
 pub loop-byte-preserved : goal.loop-byte-preserved

@@ -1,5 +1,5 @@
 use Rattle.std.proofs.Common.{◌≡◌, ◌++◌, ◌-◌, length, take}
-use Rattle.heap_views.specs.Numbers.{bytes_of}
+use Rattle.heap_lang.specs.Numbers.{bytes_of}
 use Rattle.heap_views.proofs.numbers.write_number.Given as goal
 
 -- the bytes written so far, with those of what is left, are the bytes of the number

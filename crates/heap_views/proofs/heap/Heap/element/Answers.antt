@@ -1,7 +1,7 @@
 use Rattle.std.proofs.Common.{◌≡◌, Some, ap, sym, ◌∙◌, rules, FitsSigned, w64}
 use Rattle.std.proofs.lemmas.Int.{to_z-of_z}
-use Rattle.heap_views.specs.Heap.{place_of}
-use Rattle.heap_views.proofs.HeapLemmas.{load_found}
+use Rattle.heap_lang.specs.Heap.{place_of}
+use Rattle.heap_lang.proofs.HeapLemmas.{load_found}
 use Rattle.heap_views.proofs.heap.Heap.element.Goals as goal
 
 pub returns-clause-element : goal.returns-clause-element

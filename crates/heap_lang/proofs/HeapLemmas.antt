@@ -5,12 +5,12 @@ use Rattle.std.proofs.lemmas.Int.{ints}
 use Rattle.std.proofs.lemmas.Bool.{cases_lt}
 use Rattle.std.proofs.lemmas.List.{length-take, length-drop, drop-drop}
 use Rattle.std.proofs.lemmas.List.Elements.{All-take, All-drop}
-use Rattle.heap_views.specs.declared.kind.ViewKind.{ViewKind}
-use Rattle.heap_views.specs.declared.kind.ViewKind.TheVariants.{I8, U8, I16, U16, I32, U32}
-use Rattle.heap_views.specs.Numbers.{IsBytes, little_endian, bytes_of}
-use Rattle.heap_views.specs.Heap.{element_size, element_of, IsElement, is_inside, run_at, with_run, load_bytes, store_bytes, place_of, load, store}
-use Rattle.heap_views.proofs.NumberLemmas.{length-bytes_of, little_endian-bytes_of, little_endian-append, little_endian-below, IsBytes-bytes_of, bytes_of-mod, bytes_of-add}
-use Rattle.heap_views.proofs.RunLemmas.{run_at_within, run_at_past, is_some-run_at, with_run_past, length-with_run, IsBytes-with_run, run_at-with_run_same, run_at-with_run_apart, run_at-append, with_run-append, with_run-append_bytes}
+use Rattle.heap_lang.specs.declared.kind.ViewKind.{ViewKind}
+use Rattle.heap_lang.specs.declared.kind.ViewKind.TheVariants.{I8, U8, I16, U16, I32, U32}
+use Rattle.heap_lang.specs.Numbers.{IsBytes, little_endian, bytes_of}
+use Rattle.heap_lang.specs.Heap.{element_size, element_of, IsElement, is_inside, run_at, with_run, load_bytes, store_bytes, place_of, load, store}
+use Rattle.heap_lang.proofs.NumberLemmas.{length-bytes_of, little_endian-bytes_of, little_endian-append, little_endian-below, IsBytes-bytes_of, bytes_of-mod, bytes_of-add}
+use Rattle.heap_lang.proofs.RunLemmas.{run_at_within, run_at_past, is_some-run_at, with_run_past, length-with_run, IsBytes-with_run, run_at-with_run_same, run_at-with_run_apart, run_at-append, with_run-append, with_run-append_bytes}
 
 -- ---- accesses by byte places
 

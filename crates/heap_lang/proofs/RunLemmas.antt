@@ -4,8 +4,8 @@ use Rattle.std.proofs.lemmas.Bool.{cases_lt}
 use Rattle.std.proofs.lemmas.List.{length-take, length-drop, length-append, length-replicate, places, same_lists, take-append-le, drop-append-le, append_assoc, drop-drop, append-nil, take-append-drop, take_more, drop_more, get_or-drop}
 use Rattle.std.proofs.lemmas.List.Elements.{All-append, All-take, All-drop, All-replicate}
 use Rattle.std.proofs.lemmas.Grind.{replicate_next}
-use Rattle.heap_views.specs.Numbers.{IsBytes}
-use Rattle.heap_views.specs.Heap.{is_inside, run_at, with_run, can_copy, copied, filled}
+use Rattle.heap_lang.specs.Numbers.{IsBytes}
+use Rattle.heap_lang.specs.Heap.{is_inside, run_at, with_run, can_copy, copied, filled}
 
 -- ---- where a run lies in the heap
 

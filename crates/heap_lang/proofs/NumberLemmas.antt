@@ -5,7 +5,7 @@ use Rattle.std.proofs.Math.Arith.{mod-mul}
 use Rattle.std.proofs.lemmas.Nat.{mod_below}
 use Rattle.std.proofs.lemmas.List.Elements.{All-head, All-tail, All-cons, All-nil, All-drop}
 use Rattle.std.proofs.lemmas.List.{length-drop, length-set, take_more_set, append_assoc}
-use Rattle.heap_views.specs.Numbers.{IsBytes, little_endian, bytes_of}
+use Rattle.heap_lang.specs.Numbers.{IsBytes, little_endian, bytes_of}
 
 pub length-bytes_of : (size word : ℕ) → length (bytes_of size word) ≡ size
 length-bytes_of zero word = refl

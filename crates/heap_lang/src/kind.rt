@@ -1,6 +1,6 @@
 //! The kinds of view.
 ghost use Rattle.std.specs.Prelude.{◌≡◌, ◌<◌, ◌^◌, pos};
-ghost use Rattle.heap_views.specs.Numbers.{signed_reading};
+ghost use Rattle.heap_lang.specs.Numbers.{signed_reading};
 
 /// How a view reads its elements: of 8, 16 or 32 bits, with a sign or without.
 #[derive(Clone, Copy, Debug, PartialEq, Eq)]
@@ -14,7 +14,7 @@ pub enum ViewKind {
 }
 
 impl ViewKind {
-    ghost use Rattle.heap_views.specs.Heap.{element_size, element_of, IsElement};
+    ghost use Rattle.heap_lang.specs.Heap.{element_size, element_of, IsElement};
 
     /// The bytes of one element.
     pub fn size(self) -> u32

@@ -1,8 +1,8 @@
 -- Worked examples of the definitions, computed by the checker.
 use Rattle.std.proofs.Common.{◌≡◌, refl, ℕ, List, [], ◌∷◌, pos, negsuc, Some, None}
-use Rattle.heap_views.specs.declared.kind.ViewKind.TheVariants.{I8, U8, U16, I32, U32}
-use Rattle.heap_views.specs.Numbers.{little_endian, bytes_of, signed_reading}
-use Rattle.heap_views.specs.Heap.{run_at, with_run, load_bytes, store_bytes, load, store, copied, filled}
+use Rattle.heap_lang.specs.declared.kind.ViewKind.TheVariants.{I8, U8, U16, I32, U32}
+use Rattle.heap_lang.specs.Numbers.{little_endian, bytes_of, signed_reading}
+use Rattle.heap_lang.specs.Heap.{run_at, with_run, load_bytes, store_bytes, load, store, copied, filled}
 
 -- eight bytes
 abbrev some_bytes : List ℕ

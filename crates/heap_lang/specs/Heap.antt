@@ -1,9 +1,9 @@
 -- A heap is the list of its bytes.
 -- Elements of views: ECMA-262 6th edition, 9.4.5 and 22.2. Accesses by byte places: WebAssembly Core 1.0, 4.4.4. Copies and fills: WebAssembly Core 2.0, 4.4.7.
 use Rattle.std.specs.Prelude.{◌≡◌, ◌⊎◌, ℕ, ◌+◌, ◌*◌, ◌%◌, ◌^◌, ◌≤◌, Bool, ◌&&◌, List, ◌++◌, length, take, drop, replicate, ℤ, pos, negsuc, neg_ℤ, ◌≤ℤ◌, ◌<ℤ◌, Option, Some, None, option_map, nat_le, if◌then◌else◌}
-use Rattle.heap_views.specs.declared.kind.ViewKind.{ViewKind}
-use Rattle.heap_views.specs.declared.kind.ViewKind.TheVariants.{I8, U8, I16, U16, I32, U32}
-use Rattle.heap_views.specs.Numbers.{little_endian, bytes_of, signed_reading}
+use Rattle.heap_lang.specs.declared.kind.ViewKind.{ViewKind}
+use Rattle.heap_lang.specs.declared.kind.ViewKind.TheVariants.{I8, U8, I16, U16, I32, U32}
+use Rattle.heap_lang.specs.Numbers.{little_endian, bytes_of, signed_reading}
 
 -- the lengths of a heap: whole 32-bit words, at most 256 MiB
 abbrev pub IsHeapLength : ℕ → Type 0

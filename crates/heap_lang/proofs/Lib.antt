@@ -1,0 +1,4 @@
+pub mod NumberLemmas
+pub mod RunLemmas
+pub mod HeapLemmas
+pub mod Examples
