@@ -1,9 +1,10 @@
 #!/usr/bin/env python3
-"""python3 tools/compare PROGRAM [--seed S] [--count N] [--keep FOLDER]
+"""python3 tools/compare PROGRAM [--seed S] [--count N] [--keep FOLDER] [--only KIND NUMBER]
 
 Random modules, N of asm.js and N of WebAssembly, each with a script: what PROGRAM prints of the session, and of the session of what it translates
 the module to, is what node's engine shows of the same; and SpiderMonkey's validator takes each text of asm.js that PROGRAM writes.
-Where node isn't installed nothing is compared, and where js102 isn't, no validator is asked; a line says so. Files of a difference are kept in FOLDER."""
+Where node isn't installed nothing is compared, and where js102 isn't, no validator is asked; a line says so. Files of a difference are kept in FOLDER.
+A difference names its module, as `asm 1000007`, which --only tries alone."""
 import argparse
 import base64
 import json
@@ -198,14 +199,18 @@ def main():
     parser.add_argument("--seed", type=int, default=1)
     parser.add_argument("--count", type=int, default=1000)
     parser.add_argument("--keep", type=pathlib.Path)
+    parser.add_argument("--only", nargs=2)
     options = parser.parse_args()
     if not shutil.which("node"):
         print("compare: skipped: node is not installed")
         return 0
     if not shutil.which("js102"):
         print("compare: skipped: js102 is not installed, so no validator of asm.js is asked")
-    print(f"compare: seed {options.seed}", flush=True)
-    seeds = [(kind, options.seed * 1000000 + k) for k in range(options.count) for kind in ("asm", "wasm")]
+    if options.only:
+        seeds = [(options.only[0], int(options.only[1]))]
+    else:
+        print(f"compare: seed {options.seed}", flush=True)
+        seeds = [(kind, options.seed * 1000000 + k) for k in range(options.count) for kind in ("asm", "wasm")]
     tasks = [(options.program, seeds[k:k + 50], options.keep) for k in range(0, len(seeds), 50)]
     with multiprocessing.Pool() as pool:
         answers = pool.map(compare, tasks, chunksize=1)
