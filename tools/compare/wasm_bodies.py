@@ -42,9 +42,12 @@ class Body:
     def fill(self):
         if self.of.fuel is not None:
             self.spend_fuel()
-        for _ in range(self.pick([1, 5, 12, 20, 30, 40])):
+        in_a_row = self.chance(0.4)
+        if in_a_row:
+            self.operations()
+        for _ in range(self.pick([0, 2, 5] if in_a_row else [1, 5, 12, 20, 30, 40])):
             self.instruction(3)
-        if self.chance(0.85):
+        if in_a_row or self.chance(0.85):
             self.show()
         self.finish(self.labels[0].type)
         self.me.cost = 3001 - self.left
@@ -204,8 +207,12 @@ class Body:
         offset = self.pick([0, 0, 0, 1, 2, 3, 4, 5, 8, 100]) if self.chance(0.99) else self.pick([65530, 65535, 2**31, 2**32 - 1, 2**32 - 8])
         return access(op, self.random.randint(0, power), offset)
 
+    def may_access(self):
+        """Where the memory has no page, each access is a trap, so there are few."""
+        return bool(self.of.pages) or self.of.pages is not None and self.chance(0.05)
+
     def load(self):
-        if self.of.pages is None:
+        if not self.may_access():
             return
         op = self.pick(list(LOADS))
         if self.dead and self.serves(I32) and self.chance(0.5):
@@ -216,7 +223,7 @@ class Body:
         self.operands.append(LOADS[op][0])
 
     def store(self):
-        if self.of.pages is None:
+        if not self.may_access():
             return
         op = self.pick(list(STORES))
         kind, power = STORES[op]
@@ -227,7 +234,7 @@ class Body:
         self.emit(self.accessing(op, power))
 
     def block_operation(self):
-        if self.of.pages is None:
+        if not self.may_access():
             return
         size = self.of.pages * 65536
         places = [const32(p) for p in ([0, 1, 5, 8, 100, 1000, size - 9, size - 4, size] if size else [0, 1])]
@@ -459,6 +466,62 @@ class Body:
             self.emit(branch(self.random.randrange(further)))
             self.end_of_code()
 
+    # ---- single operations on words and places where they are likely to go wrong
+
+    def operations(self):
+        """Each leaves its result in a local of its own, which is seen in the end."""
+        forms = [self.unary_of_edge, self.binary_of_edges, self.binary_of_edges]
+        if self.of.pages:
+            forms += [self.load_at_edge, self.store_at_edge, self.moved]
+        for _ in range(self.random.randint(4, 10)):
+            kind, code = self.pick(forms)()
+            self.locals.append(kind)
+            self.emit(code, local_set(len(self.locals) - 1))
+
+    def edge(self, kind):
+        variables = [x for x, t in enumerate(self.locals) if t == kind]
+        return local_get(self.pick(variables)) if variables and self.chance(0.5) else self.of.constant(kind)
+
+    def unary_of_edge(self):
+        op, (kind, result) = self.pick(list((UNARY | EXTENSIONS).items()))
+        return result, self.edge(kind) + bytes([op])
+
+    def binary_of_edges(self):
+        op, (kind, result) = self.pick(list(BINARY.items()))
+        second = self.edge(kind)
+        if op in DIVISIONS and self.chance(0.95):
+            second = self.pick([const32(self.pick([1, 2, 3, -1, -2, 7, 2**31])), second + const32(1) + OR])
+            first = self.of.constant(kind) if self.chance(0.98) else const32(2**31)
+            return result, first + second + bytes([op])
+        return result, self.edge(kind) + second + bytes([op])
+
+    def last_place(self, power):
+        """The place and the offset of an access that just ends with the memory or before; seldom after."""
+        size, offset = self.of.pages * 65536, self.pick([0, 1, 2, 3, 4, 8, 100, 65000])
+        before = self.pick([0, 0, 1, 2, 3, 4, 8]) if self.chance(0.98) else -self.pick([1, 2, 3])
+        return const32(size - 2**power - offset - before), offset
+
+    def load_at_edge(self):
+        op, (kind, power) = self.pick(list(LOADS.items()))
+        place, offset = self.last_place(power)
+        return kind, place + access(op, self.random.randint(0, power), offset)
+
+    def store_at_edge(self):
+        """What is stored is seen by a load of eight bytes."""
+        op, (kind, power) = self.pick(list(STORES.items()))
+        place, offset = self.last_place(power)
+        code = place + self.edge(kind) + access(op, self.random.randint(0, power), offset)
+        return I64, code + const32(self.of.pages * 65536 - 8 - self.pick([0, 0, 1, 4])) + access(0x29, 0, 0)
+
+    def moved(self):
+        """A copy between places that overlap, or a fill, and a load of eight bytes there."""
+        to, length = self.random.randint(0, 200), self.pick([0, 1, 3, 4, 7, 8, 12, 13, 32])
+        if self.chance(0.5):
+            to, length = 4 * (to // 4), 4 * (length // 4)
+        source = max(0, to + self.pick([-8, -4, -3, -1, 0, 1, 2, 4, 8]))
+        code = const32(to) + (const32(source) + const32(length) + COPY if self.chance(0.6) else self.edge(I32) + const32(length) + FILL)
+        return I64, code + const32(max(0, to + self.pick([0, 0, length - 8, length - 4]))) + access(0x29, 0, 0)
+
     # ---- what was computed is seen in the memory, or in the result
 
     def show(self):
@@ -470,7 +533,7 @@ class Body:
             self.show_in_result(values[-12:], self.me.results[0])
 
     def show_in_memory(self, values):
-        place = 512 + 64 * self.me.rank
+        place = 512 + 128 * self.me.rank
         for code, kind in values:
             self.emit(const32(place), code, access(0x36 if kind == I32 else 0x37, 0, 0))
             place += 4 if kind == I32 else 8
