@@ -58,7 +58,7 @@ start_silent : (s : Option ℕ) → AreSilent (start_stmts s)
 start_silent None = tt
 start_silent (Some f) = (refl, tt)
 
-init_signed : (w : WasmModule) → signature_of (init_function w) ≡ signature 0 false
+pub init_signed : (w : WasmModule) → signature_of (init_function w) ≡ signature 0 false
 init_signed w =
     ap (λ b. signature 0 b)
     (last_silent (flat_map segment_stmts w.segments ++ start_stmts w.start)
@@ -78,7 +78,7 @@ same_result t = by t.results
     by [] = refl
     by (r ∷ rs) = refl
 
-same_signature : (t : FunctionType) → signature_for t ≡ signature (words t.params) (has_result t.results)
+pub same_signature : (t : FunctionType) → signature_for t ≡ signature (words t.params) (has_result t.results)
 same_signature t = ap (λ n. signature n (is_some (result_of t))) (same_words t.params) ∙ ap (λ b. signature (words t.params) b) (same_result t)
 
 -- ---- an exported function is one
@@ -88,7 +88,7 @@ met true r o h = refl
 met false r o h = cc h
 
 module _ (w : WasmModule) where
-  abbrev IsGood : ExportKind → Type 0
+  abbrev pub IsGood : ExportKind → Type 0
   IsGood (exports.Func f) = is_function w f ≡ true
   IsGood kind = Unit {0}
 
@@ -98,7 +98,7 @@ module _ (w : WasmModule) where
   good (exports.Memory t) more h = tt
   good (exports.Global g) more h = tt
 
-  export_kept : IsValidModule w → (i : ℕ) (e : Exported) → slice_get w.exports i ≡ Some e → IsGood e.kind
+  pub export_kept : IsValidModule w → (i : ℕ) (e : Exported) → slice_get w.exports i ≡ Some e → IsGood e.kind
   export_kept valid i e k =
       good e.kind (meets (not (is_named e.name (take i w.exports))) RepeatedName None)
       (sym (ap (λ o. at o (export_rule w (take i w.exports))) k) ∙ valid sections.Exports i (slice_get_within w.exports i e k))

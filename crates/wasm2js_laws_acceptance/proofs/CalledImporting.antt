@@ -231,7 +231,7 @@ module _ (m : Module) (is : is_foreign m foreign_name ≡ true) where
         by (imports.Memory l) typed more = more k
         by (imports.Global g) typed more = more k
 
-    functions_are : IsValidModule w → functions_in (variables_of w) ≡ trap_name ∷ high_name ∷ functions_asked w
+    pub functions_are : IsValidModule w → functions_in (variables_of w) ≡ trap_name ∷ high_name ∷ functions_asked w
     functions_are valid =
         let foreign = foreign_variables 0 (callees w) in
         flat_join (λ (v : Variable). function_member m v.init) (head (has_memory w) ++ foreign) (global_variables w)

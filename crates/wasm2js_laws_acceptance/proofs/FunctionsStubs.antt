@@ -24,7 +24,7 @@ use Rattle.wasm2js_laws_acceptance.specs.FunctionsLaws.{StubsAreFine, HighIsFine
 use Rattle.wasm2js_laws_acceptance.proofs.FunctionsMade.{made_of_fine}
 use Rattle.wasm2js_laws_acceptance.proofs.FunctionsReturning.{returned_fine, zero_signed}
 
-arguments_own : (a n : ℕ) → list_all is_own (map argument (range_with_len a n)) ≡ true
+pub arguments_own : (a n : ℕ) → list_all is_own (map argument (range_with_len a n)) ≡ true
 arguments_own a zero = refl
 arguments_own a (suc n) = arguments_own (a + 1) n
 

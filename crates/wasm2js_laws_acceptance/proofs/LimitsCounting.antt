@@ -22,7 +22,7 @@ use Rattle.wasm2js_laws_acceptance.proofs.FunctionsLimited.{IsLimited}
 -- ---- functions of the source
 
 module _ (w : WasmModule) where
-  imports_long : (is : List Imported) → length (imported_callees w is) ≡ length (imported_functions is)
+  pub imports_long : (is : List Imported) → length (imported_callees w is) ≡ length (imported_functions is)
   imports_long [] = refl
   imports_long (x ∷ is) = by x.kind (imports_long is)
     where

@@ -145,7 +145,7 @@ module _ (w : WasmModule) where
   function_signed k (an_import name t) = both_parts _ _ _ _ (words_counted 0 t.params) (wrapper_gives (result_of t) _)
   function_signed k (a_function t more code) = both_parts _ _ _ _ (words_counted 0 t.params) (body_gives (memory_bytes w) (cell_count w) (context_of w t more) code (result_of t) refl)
 
-  function_named : (k : ℕ) (c : Callee) → (function_at k c).name ≡ spelled (numbered names.function k)
+  pub function_named : (k : ℕ) (c : Callee) → (function_at k c).name ≡ spelled (numbered names.function k)
   function_named k (an_import name t) = refl
   function_named k (a_function t more code) = refl
 
@@ -164,7 +164,7 @@ module _ (w : WasmModule) where
       let next : suc k + i ≡ k + suc i = omega arith in
       in_right (function_at (k + suc i) c) (function_for w k d) (functions_from w (suc k) cs) (subst (λ n. In (function_at n c) (functions_from w (suc k) cs)) next (from_there (suc k) i cs c e))
 
-  found_some : (o : Option (Option Callee)) (c : Callee) → found o ≡ Some c → o ≡ Some (Some c)
+  pub found_some : (o : Option (Option Callee)) (c : Callee) → found o ≡ Some c → o ≡ Some (Some c)
   found_some None c e = cc e
   found_some (Some d) c e = ap Some e
 

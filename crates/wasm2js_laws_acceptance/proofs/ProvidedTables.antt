@@ -184,7 +184,7 @@ any_in test x (y ∷ xs) (inr h) e = let k = any_in test x xs h e in rw k (eithe
     either true = refl
     either false = refl
 
-in_place : {A : Type 0} → (xs : List A) (i : ℕ) (x : A) → slice_get xs i ≡ Some x → In x xs
+pub in_place : {A : Type 0} → (xs : List A) (i : ℕ) (x : A) → slice_get xs i ≡ Some x → In x xs
 in_place [] i x h = cc h
 in_place (y ∷ xs) zero x h = inl (cc h)
 in_place (y ∷ xs) (suc i) x h = inr (in_place xs i x h)
@@ -228,7 +228,7 @@ module _ (w : WasmModule) (t : FunctionType) where
       by true e h = let same : g ≡ f = cc h in subst (λ k. type_of_function w k ≡ Some t) same (has (type_of_function w g) e)
       by false e h = cc h
 
-  function_cell : (f : ℕ) → In (a_function f) (cells_of w t) → type_of_function w f ≡ Some t
+  pub function_cell : (f : ℕ) → In (a_function f) (cells_of w t) → type_of_function w f ≡ Some t
   function_cell f h = by (from_either (a_function f) (map (cell w t) (entries_of w)) (replicate (padded (table_length w) - length (entries_of w)) empty) h)
     where
       by : In (a_function f) (map (cell w t) (entries_of w)) ⊎ In (a_function f) (replicate (padded (table_length w) - length (entries_of w)) empty) → type_of_function w f ≡ Some t
@@ -252,7 +252,7 @@ module _ (w : WasmModule) (h : IsInProfile w) (shaped : IsShaped w) (number : �
       let c = few_marks t.results in
       omega (arith, a, b, c)
 
-  stub_is : stub_of w (masked_as w number t) ≡ stub_number (Some t)
+  pub stub_is : stub_of w (masked_as w number t) ≡ stub_number (Some t)
   stub_is = ap stub_number is_number
 
   needed : (test : Cell → Bool) (x : Cell) → In x (cells_of w t) → test x ≡ true → is_needed w (masked w) test (stub_number (Some t)) ≡ true
@@ -272,6 +272,16 @@ module _ (w : WasmModule) (h : IsInProfile w) (shaped : IsShaped w) (number : �
   only_one true f e = inl refl
   only_one false f e = cc e
 
+  pub empty_there : In empty (cells_of w t) → In (stub_function names.no_entry 5 (stub_number (Some t))) (functions_of w)
+  empty_there k =
+      let f = stub_function names.no_entry 5 (stub_number (Some t)) in
+      stub_there f (in_left f (if is_needed w (masked w) is_empty (stub_number (Some t)) then f ∷ [] else []) _ (only_one (is_needed w (masked w) is_empty (stub_number (Some t))) f (needed is_empty empty k refl)))
+
+  pub other_there : In other (cells_of w t) → In (stub_function names.other_entry 6 (stub_number (Some t))) (functions_of w)
+  other_there k =
+      let f = stub_function names.other_entry 6 (stub_number (Some t)) in
+      stub_there f (in_right f _ (if is_needed w (masked w) is_other (stub_number (Some t)) then f ∷ [] else []) (only_one (is_needed w (masked w) is_other (stub_number (Some t))) f (needed is_other other k refl)))
+
   signed : (f : Function) (n : Name) → In f (functions_of w) → f.name ≡ spelled n → signature_of f ≡ signature_for t → IsMember w t (spelled n)
   signed f n k e s = ap function_signature (function_found w f n k e) ∙ ap Some s
 
@@ -280,15 +290,9 @@ module _ (w : WasmModule) (h : IsInProfile w) (shaped : IsShaped w) (number : �
       let it = function_declared w h shaped f t (function_cell w t f k) in
       ap function_signature it.meaning ∙ ap Some it.signed
   cell_signed empty k =
-      let f = stub_function names.no_entry 5 (stub_number (Some t)) in
-      signed f (numbered names.no_entry (stub_number (Some t)))
-      (stub_there f (in_left f (if is_needed w (masked w) is_empty (stub_number (Some t)) then f ∷ [] else []) _ (only_one (is_needed w (masked w) is_empty (stub_number (Some t))) f (needed is_empty empty k refl))))
-      refl (stub_signed names.no_entry 5 t)
+      signed (stub_function names.no_entry 5 (stub_number (Some t))) (numbered names.no_entry (stub_number (Some t))) (empty_there k) refl (stub_signed names.no_entry 5 t)
   cell_signed other k =
-      let f = stub_function names.other_entry 6 (stub_number (Some t)) in
-      signed f (numbered names.other_entry (stub_number (Some t)))
-      (stub_there f (in_right f _ (if is_needed w (masked w) is_other (stub_number (Some t)) then f ∷ [] else []) (only_one (is_needed w (masked w) is_other (stub_number (Some t))) f (needed is_other other k refl))))
-      refl (stub_signed names.other_entry 6 t)
+      signed (stub_function names.other_entry 6 (stub_number (Some t))) (numbered names.other_entry (stub_number (Some t))) (other_there k) refl (stub_signed names.other_entry 6 t)
 
   abbrev member_of : Cell → List ℕ
   member_of x = spelled (cell_name (stub_of w (masked_as w number t)) x)
