@@ -469,14 +469,17 @@ class Body:
     # ---- single operations on words and places where they are likely to go wrong
 
     def operations(self):
-        """Each leaves its result in a local of its own, which is seen in the end."""
+        """The results are mixed into one word, which is seen in the end; an access or a quotient that traps may come last."""
         forms = [self.unary_of_edge, self.binary_of_edges, self.binary_of_edges]
         if self.of.pages:
             forms += [self.load_at_edge, self.store_at_edge, self.moved]
-        for _ in range(self.random.randint(4, 10)):
-            kind, code = self.pick(forms)()
-            self.locals.append(kind)
-            self.emit(code, local_set(len(self.locals) - 1))
+        mixed = len(self.locals)
+        self.locals.append(I64)
+        traps = [self.trapping_quotient] if self.chance(0.06) else [self.access_outside] if self.of.pages and self.chance(0.12) else []
+        for form in [self.pick(forms) for _ in range(self.random.randint(5, 30))] + traps:
+            kind, code = form()
+            widened = code if kind == I64 else code + self.pick([b"\xac", b"\xad"])
+            self.emit(local_get(mixed), const64(5), b"\x89", widened, b"\x85", local_set(mixed))
 
     def edge(self, kind):
         variables = [x for x, t in enumerate(self.locals) if t == kind]
@@ -488,28 +491,36 @@ class Body:
 
     def binary_of_edges(self):
         op, (kind, result) = self.pick(list(BINARY.items()))
-        second = self.edge(kind)
-        if op in DIVISIONS and self.chance(0.95):
-            second = self.pick([const32(self.pick([1, 2, 3, -1, -2, 7, 2**31])), second + const32(1) + OR])
-            first = self.of.constant(kind) if self.chance(0.98) else const32(2**31)
-            return result, first + second + bytes([op])
-        return result, self.edge(kind) + second + bytes([op])
+        if op not in DIVISIONS:
+            return result, self.edge(kind) + self.edge(kind) + bytes([op])
+        # No zero divides, and the least word isn't divided by -1.
+        first = self.edge(kind) + const32(2**31 - 1) + AND if op in (0x6D, 0x6F) and self.chance(0.5) else const32(self.pick([2**31 + 1, -7, 7, 100]))
+        return result, first + self.pick([const32(self.pick([1, 2, 3, -1, -2, 7, 2**31])), self.edge(kind) + const32(1) + OR]) + bytes([op])
 
-    def last_place(self, power):
-        """The place and the offset of an access that just ends with the memory or before; seldom after."""
-        size, offset = self.of.pages * 65536, self.pick([0, 1, 2, 3, 4, 8, 100, 65000])
-        before = self.pick([0, 0, 1, 2, 3, 4, 8]) if self.chance(0.98) else -self.pick([1, 2, 3])
-        return const32(size - 2**power - offset - before), offset
+    def trapping_quotient(self):
+        op = self.pick(DIVISIONS)
+        operands = self.pick([const32(2**31) + const32(-1), self.edge(I32) + const32(0)])
+        return I32, operands + bytes([op])
+
+    def last_place(self, power, before):
+        """The place and the offset of an access that ends so many bytes before the memory's end."""
+        offset = self.pick([0, 1, 2, 3, 4, 8, 100, 65000])
+        return const32(self.of.pages * 65536 - 2**power - offset - before), offset
+
+    def access_outside(self):
+        op, (kind, power) = self.pick(list(LOADS.items()))
+        place, offset = self.last_place(power, -self.pick([1, 1, 2, 3]))
+        return kind, place + access(op, self.random.randint(0, power), offset)
 
     def load_at_edge(self):
         op, (kind, power) = self.pick(list(LOADS.items()))
-        place, offset = self.last_place(power)
+        place, offset = self.last_place(power, self.pick([0, 0, 1, 2, 3, 4, 8]))
         return kind, place + access(op, self.random.randint(0, power), offset)
 
     def store_at_edge(self):
-        """What is stored is seen by a load of eight bytes."""
+        """What is stored is seen by a load of eight bytes near the end."""
         op, (kind, power) = self.pick(list(STORES.items()))
-        place, offset = self.last_place(power)
+        place, offset = self.last_place(power, self.pick([0, 0, 1, 2, 3, 4, 8]))
         code = place + self.edge(kind) + access(op, self.random.randint(0, power), offset)
         return I64, code + const32(self.of.pages * 65536 - 8 - self.pick([0, 0, 1, 4])) + access(0x29, 0, 0)
 
