@@ -48,8 +48,8 @@ def changing_exports(n):
     return hostile_wasm.exports(1000), b"call e999\ncall e998\n" * n
 
 
-LITTLE_TEXT = hostile_asm.text("")
-LITTLE_MODULE = hostile_wasm.one(b"", before=[hostile_wasm.section(5, hostile_wasm.vector([b"\x00\x01"]))])
+LITTLE_TEXT = hostile_asm.text("", before="var H=new s.Int32Array(h);")
+LITTLE_MODULE = hostile_wasm.importing_memory()
 
 # (a script's family gives the module too, which is the same for both counts or a part of what grows)
 ASM_SCRIPTS = {
@@ -58,9 +58,9 @@ ASM_SCRIPTS = {
     "empty lines": (1_600_000, script(lambda n: b"\n" * n, LITTLE_TEXT)),
     "a long word": (1_600_000, script(lambda n: b"call " + b"f" * n, LITTLE_TEXT)),
     "lines of the heap": (100_000, script(lambda n: b"heap 16 01\n" * n, LITTLE_TEXT)),
-    "a long line of the heap": (30_000, script(lambda n: b"heap 0 " + b"01" * n, LITTLE_TEXT)),
+    "a long line of the heap": (6_500, script(lambda n: b"heap 0 " + b"01" * n, LITTLE_TEXT)),
     "replies": (160_000, script(lambda n: b"reply 1\n" * n, LITTLE_TEXT)),
-    "a reply of many writes": (300_000, script(lambda n: b"reply 1" + b" 1=0" * n, LITTLE_TEXT)),
+    "a reply of many writes": (250_000, script(lambda n: b"reply 1" + b" 1=00" * n, LITTLE_TEXT)),
 }
 WASM_SCRIPTS = {
     "calls": (160_000, script(lambda n: b"call f\n" * n, LITTLE_MODULE)),

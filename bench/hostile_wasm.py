@@ -24,6 +24,17 @@ def one(code, locals_of=(), kind=NO_TYPE, before=()):
     )
 
 
+def importing_memory():
+    """A module of one function, exported as `f`, over an imported memory of one page."""
+    return module(
+        section(1, vector([NO_TYPE])),
+        section(2, vector([sized(b"env") + sized(b"m") + b"\x02\x00\x01"])),
+        section(3, vector([b"\x00"])),
+        section(7, vector([sized(b"f") + b"\x00\x00"])),
+        section(10, vector([body(b"")])),
+    )
+
+
 def alike(count, code, kind=NO_TYPE, locals_of=()):
     """A module of so many functions alike."""
     return module(
