@@ -6,22 +6,39 @@ use bridge_io::{Files, ReadAnswer};
 use std::fs::File;
 use std::io::{self, ErrorKind, Read, Seek, SeekFrom};
 
-/// An open file, and the place of its next byte.
+/// The first of the words that is this name.
+fn place_of(words: &[String], name: &str) -> Option<usize> {
+    for (place, word) in words.iter().enumerate() {
+        if word.as_str() == name {
+            return Some(place);
+        }
+    }
+    None
+}
+
+/// An open file, the place of its name among the words, and that of its next byte.
 #[derive(Drop)]
 struct OpenFile {
-    name: String,
+    word: Option<usize>,
     file: File,
     at: u64,
 }
 
 impl OpenFile {
-    fn open(rt: &HostRuntime, name: &str, at: u64) -> io::Result<OpenFile> {
-        let name = String::from_str(rt.alloc(), name)?;
-        let mut file = File::open(rt, name.as_str())?;
+    fn open(rt: &HostRuntime, word: Option<usize>, name: &str, at: u64) -> io::Result<OpenFile> {
+        let mut file = File::open(rt, name)?;
         if at > 0 {
             file.seek(SeekFrom::Start(at))?;
         }
-        Ok(OpenFile { name, file, at })
+        Ok(OpenFile { word, file, at })
+    }
+
+    /// Whether the file of this word goes on here.
+    fn goes_on(&self, word: Option<usize>, at: u64) -> bool {
+        match (self.word, word) {
+            (Some(open), Some(named)) => open == named && self.at == at,
+            _ => false,
+        }
     }
 
     /// One read that isn't interrupted.
@@ -44,10 +61,12 @@ impl OpenFile {
 
 /// The files of the system, under their paths. It tells nothing of their bytes.
 ///
-/// A file that is read from its front on is opened once, so that a pipe can be read too.
+/// A file that is read from its front on is opened once, so that a pipe can be read too. Its name is one of the words, so that nothing has
+/// to be kept of it but where it stands, and no memory is asked for.
 #[derive(Drop)]
 pub struct SystemFiles<'a> {
     rt: &'a HostRuntime,
+    words: &'a [String],
     current: Option<OpenFile>,
     faults: u64,
     absences: u64,
@@ -58,9 +77,11 @@ pub struct SystemFiles<'a> {
 }
 
 impl<'a> SystemFiles<'a> {
-    pub fn new(rt: &'a HostRuntime) -> Self {
+    /// The files that these words name.
+    pub fn new(rt: &'a HostRuntime, words: &'a [String]) -> Self {
         SystemFiles {
             rt,
+            words,
             current: None,
             faults: 0,
             absences: 0,
@@ -74,9 +95,10 @@ impl<'a> SystemFiles<'a> {
         ensures absences { self.new.absences ≡ self.old.absences }
         ensures given { self.new.given ≡ self.old.given }
     {
+        let word = place_of(self.words, name);
         let mut open = match self.current.take() {
-            Some(open) if open.name.as_str() == name && open.at == at => open,
-            _ => OpenFile::open(self.rt, name, at)?,
+            Some(open) if open.goes_on(word, at) => open,
+            _ => OpenFile::open(self.rt, word, name, at)?,
         };
         let n = open.read(buf)?;
         self.current = Some(open);

@@ -23,7 +23,7 @@ fn main(rt: HostRuntime) -> ExitCode {
     let Ok(words) = words(&rt) else {
         return ExitCode::from(Status::Memory.code());
     };
-    let mut files = SystemFiles::new(&rt);
+    let mut files = SystemFiles::new(&rt, &words);
     let mut out = Stream::new(rt.stdout());
     let mut report = Stream::new(rt.stderr());
     let status = bridge(rt.alloc(), &words, &mut files, &mut out, &mut report);
