@@ -1,7 +1,9 @@
 #!/usr/bin/env python3
-"""Runs each command of examples/commands.txt and compares what it prints, and its exit status, with what stands there.
+"""Runs the commands of examples/commands.txt and of the recipes in docs/USAGE.md, and compares what each prints, and its exit status, with what stands below it.
 
     tools/examples.py PROGRAM
+
+Commands that begin with `node` are passed over where it isn't installed.
 """
 import pathlib
 import shutil
@@ -9,40 +11,62 @@ import subprocess
 import sys
 import tempfile
 
-EXAMPLES = pathlib.Path(__file__).resolve().parent.parent / "examples"
+TOP = pathlib.Path(__file__).resolve().parent.parent
 
 
 def commands(text):
-    """Returns each command with the lines that are to be printed."""
-    blocks = [block.splitlines() for block in text.split("\n\n")]
-    return [(lines[0][2:], lines[1:]) for lines in blocks if lines and lines[0].startswith("$ ")]
+    """Each command, which begins with `$`, with the lines that are to be printed, which end at an empty one."""
+    rows = []
+    for block in text.split("\n\n"):
+        started = False
+        for line in map(str.strip, block.splitlines()):
+            if line.startswith("$ "):
+                rows.append((line[2:], []))
+                started = True
+            elif started:
+                rows[-1][1].append(line)
+    return rows
 
 
 def printed(command, program, folder):
-    """Returns the lines that the command prints in the folder."""
+    """The lines that the command prints in the folder."""
     shell = f'bridge() {{ "{program}" "$@"; }}; {command}'
     done = subprocess.run(["bash", "-c", shell], cwd=folder, stdout=subprocess.PIPE, stderr=subprocess.STDOUT)
     lines = done.stdout.decode("utf-8", "backslashreplace").splitlines()
     return lines + ([f"status {done.returncode}"] if done.returncode else [])
 
 
+def tried(source, folder, program):
+    """How many commands of a file were run in the folder, how many were passed over, and how many print something else."""
+    rows = commands((TOP / source).read_text())
+    if not rows:
+        sys.exit(f"{source} has no command")
+    skipped = [row for row in rows if row[0].startswith("node ") and not shutil.which("node")]
+    wrong = 0
+    for command, wanted in rows:
+        if (command, wanted) in skipped:
+            continue
+        lines = printed(command, program, folder)
+        if lines != wanted:
+            wrong += 1
+            print(f"{source}: $ {command}", *lines, "in place of:", *wanted, "", sep="\n")
+    return len(rows) - len(skipped), len(skipped), wrong
+
+
 def main():
     if len(sys.argv) != 2:
         sys.exit(__doc__)
     program = pathlib.Path(sys.argv[1]).resolve()
-    rows = commands((EXAMPLES / "commands.txt").read_text())
-    if not rows:
-        sys.exit("examples/commands.txt has no command")
-    wrong = 0
-    with tempfile.TemporaryDirectory() as room:
-        folder = pathlib.Path(room) / "examples"
-        shutil.copytree(EXAMPLES, folder)
-        for command, wanted in rows:
-            lines = printed(command, program, folder)
-            if lines != wanted:
-                wrong += 1
-                print(f"$ {command}", *lines, "in place of:", *wanted, "", sep="\n")
-    print(f"{len(rows)} examples run, {wrong} differ")
+    with tempfile.TemporaryDirectory() as name:
+        room = pathlib.Path(name)
+        shutil.copytree(TOP / "examples", room / "examples")
+        (room / "bin").mkdir()
+        (room / "bin" / "bridge").symlink_to(program)
+        counts = [tried("examples/commands.txt", room / "examples", program), tried("docs/USAGE.md", room, program)]
+    run, skipped, wrong = map(sum, zip(*counts))
+    if skipped:
+        print(f"{skipped} examples skipped: node is not installed")
+    print(f"{run} examples run, {wrong} differ")
     return 1 if wrong else 0
 
 

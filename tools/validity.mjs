@@ -52,5 +52,5 @@ for (let k = 0; k < Number(countText); k++) {
   }
 }
 rmSync(folder, { recursive: true });
-console.log(`validity: ${tally.taken} taken, ${tally.refused} refused, ${failed} differ`);
+console.log(`validity: seed ${seedText}: ${tally.taken} taken, ${tally.refused} refused, ${failed} differ`);
 process.exit(failed ? 1 : 0);

@@ -1,1 +1,4 @@
 pub mod WriteLemmas
+pub mod RegionSharing
+pub mod RegionMemory
+pub mod BlockLemmas

@@ -4,27 +4,35 @@ ghost use Rattle.std.specs.Bool.{OnFalse};
 ghost use Rattle.heap_lang.specs.Numbers.{IsBytes};
 ghost use Rattle.heap_lang.specs.Heap.{load, store, load_bytes, store_bytes, run_at, with_run, copied, can_copy, filled, is_inside, place_of, IsWordSize, IsElement, IsHeapLength};
 
-use heap_lang::ViewKind;
-use crate::numbers::{in_range, read_number, write_number};
+use crate::block::Block;
+use crate::numbers::in_range;
 use crate::views::{View, ViewMut};
+use heap_lang::ViewKind;
 use std::alloc::{AllocError, Global};
 use std::marker::Model;
 
 /// A list of bytes of a fixed length.
-#[derive(Drop)]
 pub struct Heap {
-    bytes: Vec<u8>,
+    block: Block,
 }
 
 impl Model for Heap {
-    ghost use Rattle.std.specs.Prelude.{ℕ, List, vec_len};
+    ghost use Rattle.std.specs.Prelude.{ℕ, List, length};
     ghost use Rattle.heap_lang.specs.Heap.{IsHeapLength};
+    ghost use Rattle.heap_views.specs.Block.{IsBlock};
 
     ghost Value = { List ℕ };
 
-    ghost view = { λ heap. heap.bytes.items };
+    ghost view = { λ heap. heap.block.cells.bytes };
 
-    ghost invariant = { λ heap. IsHeapLength (vec_len heap.bytes) };
+    ghost invariant = { λ heap. IsBlock heap.block × IsHeapLength (length heap.block.cells.bytes) };
+}
+
+impl Drop for Heap {
+    fn drop(self) {
+        let Heap { block } = self;
+        block.destroy();
+    }
 }
 
 impl Heap {
@@ -33,8 +41,8 @@ impl Heap {
         requires { IsHeapLength len }
         ensures zeros { IfOk result (λ heap. heap ≡ replicate len 0) }
     {
-        let bytes = vec![in alloc; 0; len as usize]?;
-        Ok(Heap { bytes })
+        let block = Block::new(alloc, len as usize / 4)?;
+        Ok(Heap { block })
     }
 
     /// Reads through a view of the kind.
@@ -60,14 +68,14 @@ impl Heap {
         ensures are_bytes { IsBytes self.now }
         ensures heap_length { IsHeapLength (length self.now) }
     {
-        in_range(&self.bytes)
+        in_range(self.block.bytes())
     }
 
     /// Whether `len` bytes from `at` on lie in the heap.
     fn holds(&self, at: u64, len: u64) -> bool
         ensures { result ≡ is_inside at len self.now }
     {
-        let total = self.bytes.len() as u64;
+        let total = self.block.len() as u64;
         at <= total && len <= total - at
     }
 
@@ -85,7 +93,7 @@ impl Heap {
         if self.holds(at, len) {
             let from = at as usize;
             let to = from + len as usize;
-            Some(&self.bytes[from..to])
+            Some(&self.block.bytes()[from..to])
         } else {
             None
         }
@@ -98,8 +106,10 @@ impl Heap {
         ensures number { result ≡ load_bytes at size self.now }
         ensures bounded { IfSome result (λ n. n < 256 ^ size) }
     {
-        let bytes = self.run(at, u64::from(size))?;
-        Some(read_number(bytes))
+        if !self.holds(at, u64::from(size)) {
+            return None;
+        }
+        Some(self.block.load(at as usize, size))
     }
 
     /// Writes the low bits of the word into the `size` bytes from `at` on.
@@ -114,9 +124,7 @@ impl Heap {
         if !self.holds(at, u64::from(size)) {
             return false;
         }
-        let from = at as usize;
-        let to = from + size as usize;
-        write_number(&mut self.bytes[from..to], word);
+        self.block.store(at as usize, size, word);
         true
     }
 
@@ -130,9 +138,7 @@ impl Heap {
         if !self.holds(u64::from(at), bytes.len() as u64) {
             return false;
         }
-        let from = at as usize;
-        let to = from + bytes.len();
-        self.bytes[from..to].copy_from_slice(bytes);
+        self.block.put(at as usize, bytes);
         true
     }
 
@@ -148,9 +154,12 @@ impl Heap {
         if !self.holds(u64::from(to), size) || !self.holds(u64::from(from), size) {
             return false;
         }
-        let start = from as usize;
-        let end = start + len as usize;
-        self.bytes.copy_within(start..end, to as usize);
+        if to <= from {
+            self.block.copy_up(to as usize, from as usize, len as usize);
+        } else {
+            self.block
+                .copy_down(to as usize, from as usize, len as usize);
+        }
         true
     }
 
@@ -165,9 +174,7 @@ impl Heap {
         if !self.holds(u64::from(at), u64::from(len)) {
             return false;
         }
-        let from = at as usize;
-        let to = from + len as usize;
-        self.bytes[from..to].fill(byte);
+        self.block.fill(at as usize, len as usize, byte);
         true
     }
 
@@ -177,7 +184,7 @@ impl Heap {
         ensures { result ≡ place_of kind index self.now }
     {
         let size = u64::from(kind.size());
-        if index < 0 || index as u64 >= self.bytes.len() as u64 {
+        if index < 0 || index as u64 >= self.block.len() as u64 {
             return None;
         }
         let at = index as u64 * size;

@@ -5,12 +5,19 @@
 //! Only [`Heap::new`] takes memory, and no access copies the heap.
 #![tactic(auto)]
 
+mod block;
 mod heap;
 mod numbers;
+mod region;
+mod runs;
 mod views;
 mod writes;
 
+#[doc(hidden)]
+pub use block::Block;
 pub use heap::Heap;
 pub use heap_lang::ViewKind;
+#[doc(hidden)]
+pub use region::{Base, Cells, Deed};
 pub use views::{View, ViewMut};
 pub use writes::{WordSize, Write, apply};

@@ -1,0 +1,171 @@
+#!/usr/bin/env python3
+"""python3 bench/hostile.py PROGRAM [--part=N] [--commands=NAME,..] [WORD ..]: what hostile inputs cost.
+
+Each family (`hostile_asm.py`, `hostile_wasm.py`, and scripts below) gives an input for a count and for ten times that; both are at most
+16,777,216 bytes long. Each command that takes it runs once on each, with a stack of 8 MiB (or of `STACK` MiB by the environment). A row has the status, the length, the processor
+seconds and the peak memory on the long input, and how many times as much each is as on the short one. Marks at the end of a row:
+
+    SIGNAL      the process was ended by a signal; 24 is more than 300 processor seconds
+    TIME        more than 1.1 times as many times the seconds as the length, where that is above 0.1 seconds
+    MEMORY      the same of the memory, above 100 MiB
+    GIB         above 1 GiB
+
+With `--part=N` the counts are divided by N; `--commands` gives the commands that are run. With words, only the families whose names hold one of them. The exit status is 1 where a process was ended by a signal."""
+import os
+import resource
+import subprocess
+import sys
+import tempfile
+
+import hostile_asm
+import hostile_wasm
+
+LIMIT = 16_777_216
+SECONDS = 300
+# In MiB, as a process usually has it. A build without proofs has larger frames, and needs twice that.
+STACK = int(os.environ.get("STACK", "8"))
+MEMORY = 12 << 30
+
+ASM = ["check-asm", "show", "asm2wasm", "run-asm"]
+WASM = ["check-wasm", "show", "wasm2js", "run-wasm"]
+
+
+def script(line, module):
+    """A family of scripts: so many lines on this module."""
+    return lambda n: (module, line(n))
+
+
+def imported_globals(n):
+    module = hostile_wasm.imports(n, kind=b"\x03\x7f\x00")
+    return module, b"".join(b"global i%d 1\n" % i for i in range(n))
+
+
+def last_export(n):
+    return hostile_wasm.exports(1000), b"call e999\n" * n
+
+
+def changing_exports(n):
+    return hostile_wasm.exports(1000), b"call e999\ncall e998\n" * n
+
+
+LITTLE_TEXT = hostile_asm.text("", before="var H=new s.Int32Array(h);")
+LITTLE_MODULE = hostile_wasm.importing_memory()
+
+# (a script's family gives the module too, which is the same for both counts or a part of what grows)
+ASM_SCRIPTS = {
+    "calls": (160_000, script(lambda n: b"call f 1\n" * n, LITTLE_TEXT)),
+    "remarks": (800_000, script(lambda n: b"#\n" * n, LITTLE_TEXT)),
+    "empty lines": (1_600_000, script(lambda n: b"\n" * n, LITTLE_TEXT)),
+    "a long word": (1_600_000, script(lambda n: b"call " + b"f" * n, LITTLE_TEXT)),
+    "lines of the heap": (100_000, script(lambda n: b"heap 16 01\n" * n, LITTLE_TEXT)),
+    "a long line of the heap": (6_500, script(lambda n: b"heap 0 " + b"01" * n, LITTLE_TEXT)),
+    "replies": (160_000, script(lambda n: b"reply 1\n" * n, LITTLE_TEXT)),
+    "a reply of many writes": (250_000, script(lambda n: b"reply 1" + b" 1=00" * n, LITTLE_TEXT)),
+}
+WASM_SCRIPTS = {
+    "calls": (160_000, script(lambda n: b"call f\n" * n, LITTLE_MODULE)),
+    "lines of the heap": (100_000, script(lambda n: b"heap 16 01\n" * n, LITTLE_MODULE)),
+    "replies": (160_000, script(lambda n: b"reply 1\n" * n, LITTLE_MODULE)),
+    "imported globals with a line each": (2_000, imported_globals),
+    "calls of the last of 1,000 exports": (16_000, last_export),
+    "calls of two of 1,000 exports": (8_000, changing_exports),
+}
+
+
+def bounds():
+    resource.setrlimit(resource.RLIMIT_STACK, (STACK << 20, STACK << 20))
+    resource.setrlimit(resource.RLIMIT_CPU, (SECONDS, SECONDS + 5))
+    resource.setrlimit(resource.RLIMIT_AS, (MEMORY, MEMORY))
+    resource.setrlimit(resource.RLIMIT_CORE, (0, 0))
+
+
+def measured(words):
+    """Runs the words once: the exit status, or the signal below 0; processor seconds; peak memory in MiB; the first line of its report."""
+    with tempfile.TemporaryFile() as report:
+        child = subprocess.Popen(words, stdout=subprocess.DEVNULL, stderr=report, preexec_fn=bounds)
+        _, status, usage = os.wait4(child.pid, 0)
+        child.returncode = os.waitstatus_to_exitcode(status)
+        report.seek(0)
+        line = report.read(200).decode("ascii", "replace").partition("\n")[0]
+    return child.returncode, usage.ru_utime + usage.ru_stime, usage.ru_maxrss / 1024, line
+
+
+def both(words, lengths, run):
+    """The row of one command. Answers whether a process was ended by a signal."""
+    short, long = run(0), run(1)
+    status, seconds, memory, line = long
+    times, more = seconds / max(short[1], 0.01), memory / short[2]
+    growth = lengths[1] / lengths[0]
+    marks = [f"SIGNAL {-it[0]}" for it in (short, long) if it[0] < 0]
+    marks += ["TIME"] * (times > 1.1 * growth and seconds > 0.1)
+    marks += ["MEMORY"] * (more > 1.1 * growth and memory > 100)
+    marks += ["GIB"] * (memory > 1024)
+    said = line if status and status > 0 else ""
+    print(
+        f"  {words:11} {status:3} {lengths[1]:9} bytes {growth:5.1f} times"
+        f"  {seconds:8.2f} s {times:6.1f} times  {memory:7.0f} MiB {more:5.1f} times  {' '.join([*marks, said])}",
+        flush=True,
+    )
+    return min(short[0], long[0]) < 0
+
+
+def written(names, make, n):
+    """Writes a module and a script. A process of its own does, since what is measured begins as a copy of this one."""
+    child = os.fork()
+    if not child:
+        for name, whole in zip(names, make(n)):
+            with open(name, "wb") as out:
+                out.write(whole)
+        os._exit(0)
+    if os.waitpid(child, 0)[1]:
+        sys.exit("an input isn't made")
+    sizes = [os.path.getsize(name) for name in names]
+    if max(sizes) > LIMIT:
+        sys.exit(f"an input has {max(sizes)} bytes")
+    return sum(sizes)
+
+
+def family(program, folder, make, n, commands):
+    """The rows of one family, for this count and ten times that."""
+    paths = [[os.path.join(folder, f"{kind}{at}") for kind in "ms"] for at in range(2)]
+    lengths = [written(names, make, count) for names, count in zip(paths, (n, 10 * n))]
+    ended = False
+    for command in commands:
+        files = 2 if command.startswith("run-") else 1
+        ended |= both(command, lengths, lambda at: measured([program, command, *paths[at][:files]]))
+    return ended
+
+
+def alone(make):
+    """A family of modules, each with an empty script."""
+    return lambda n: (make(n), b"")
+
+
+def groups():
+    yield "asm.js", ASM, {name: (n, alone(make)) for name, (n, make) in hostile_asm.FAMILIES.items()}
+    yield "WebAssembly", WASM, {name: (n, alone(make)) for name, (n, make) in hostile_wasm.FAMILIES.items()}
+    yield "scripts of asm.js", ["run-asm"], ASM_SCRIPTS
+    yield "scripts of WebAssembly", ["run-wasm"], WASM_SCRIPTS
+
+
+def main():
+    program, words = os.path.abspath(sys.argv[1]), sys.argv[2:]
+    options = dict(word.removeprefix("--").split("=", 1) for word in words if word.startswith("--"))
+    words = [word for word in words if not word.startswith("--")]
+    part, only = int(options.get("part", "1")), options.get("commands", "").split(",")
+    ended = False
+    with tempfile.TemporaryDirectory() as folder:
+        for kind, commands, families in groups():
+            for name, (n, make) in families.items():
+                if words and not any(word in f"{kind}: {name}" for word in words):
+                    continue
+                n = max(1, n // part)
+                print(f"{kind}: {name}, {n} and {10 * n}", flush=True)
+                ended |= family(program, folder, make, n, [it for it in commands if only == [""] or it in only])
+    return 1 if ended else 0
+
+
+if __name__ == "__main__":
+    if len(sys.argv) < 2:
+        sys.exit(__doc__)
+    sys.exit(main())
