@@ -9,16 +9,20 @@ ghost use Rattle.wasm_lang_exec.specs.Fits as machine;
 ghost use Rattle.wasm2js_lang.specs.Heaps.{heap_bytes};
 ghost use Rattle.wasm2js_lang.specs.Calling.{IsCalledAs};
 ghost use Rattle.wasm2js_lang.specs.Allowed.{IsAllowed, IsBounded, TrapsAreCalls, script_for};
+ghost use Rattle.wasm2js_lang_parts.specs.Functions.{HasFunctions};
+ghost use Rattle.wasm2js_lang_parts.specs.Imports.{HasImports};
+ghost use Rattle.wasm2js_lang_parts.specs.Tables.{HasTables};
 ghost use Rattle.wasm2js_code.specs.Modules.{translated};
 
 use wasm_validate::Valid;
 use wasm2js_laws_acceptance::accepted_laws::acceptance;
 use wasm2js_laws_acceptance::called_laws::calling;
+use wasm2js_laws_parts::parts;
 use wasm2js_source::source;
 
 /// What a module is translated to is accepted and well formed, is called as asked, and takes each script of its source; its
 /// sessions show what those of the source show, where those trap it calls the trap import,
-/// and a reduction is worth at most 256 units.
+/// and a reduction is worth at most 256 units. Its functions, tables and imports are those that are asked for.
 pub(crate) fn properties(valid: &Valid<'_>)
     requires { outside_profile valid.now ≡ None }
     ensures accepted { IsAccepted (translated valid.now) }
@@ -28,9 +32,13 @@ pub(crate) fn properties(valid: &Valid<'_>)
     ensures allowed { IsAllowed valid.now (translated valid.now) }
     ensures traps { TrapsAreCalls valid.now (translated valid.now) }
     ensures bounded { IsBounded valid.now (translated valid.now) }
+    ensures functions { HasFunctions valid.now (translated valid.now) }
+    ensures tables { HasTables valid.now (translated valid.now) }
+    ensures imports { HasImports valid.now (translated valid.now) }
 {
     acceptance();
     calling();
+    parts();
     wasm2js_laws_simulation::whole_laws::translations();
     wasm2js_laws_simulation::bounded_laws::translations();
     source(valid);

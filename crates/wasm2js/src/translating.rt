@@ -13,6 +13,9 @@ ghost use Rattle.wasm2js_lang.specs.Heaps.{heap_bytes};
 ghost use Rattle.wasm2js_lang.specs.Calling.{IsCalledAs};
 ghost use Rattle.wasm2js_lang.specs.Allowed.{IsAllowed, IsBounded, TrapsAreCalls, script_for};
 ghost use Rattle.wasm2js_lang.specs.Tables as plain;
+ghost use Rattle.wasm2js_lang_parts.specs.Functions.{HasFunctions};
+ghost use Rattle.wasm2js_lang_parts.specs.Imports.{HasImports};
+ghost use Rattle.wasm2js_lang_parts.specs.Tables.{HasTables};
 ghost use Rattle.wasm2js_code.specs.Modules as code;
 ghost use Rattle.wasm2js_code.specs.Tables.{tables_for};
 ghost use Rattle.wasm2js_tables.specs.Views.{masked_view};
@@ -32,7 +35,7 @@ use wasm2js_tables::{MaskedTable, masked};
 
 /// The module of asm.js for a valid module of WebAssembly that can be translated: it is accepted, some text says it, it is
 /// called as asked, and it takes each script that its source takes. With each of them the two show the same, and it calls the
-/// trap import exactly where its source traps.
+/// trap import exactly where its source traps. It has the functions, tables and imports that its source asks for, and no others.
 pub fn translate(alloc: Global, valid: &Valid<'_>) -> Result<Module, AllocError>
     requires { outside_profile valid.now ≡ None }
     ensures exact { IfOk result (λ m. module_view m ≡ code.translated valid.now) }
@@ -43,6 +46,9 @@ pub fn translate(alloc: Global, valid: &Valid<'_>) -> Result<Module, AllocError>
     ensures allowed { IfOk result (λ m. IsAllowed valid.now (module_view m)) }
     ensures traps { IfOk result (λ m. TrapsAreCalls valid.now (module_view m)) }
     ensures bounded { IfOk result (λ m. IsBounded valid.now (module_view m)) }
+    ensures functions { IfOk result (λ m. HasFunctions valid.now (module_view m)) }
+    ensures tables { IfOk result (λ m. HasTables valid.now (module_view m)) }
+    ensures imports { IfOk result (λ m. HasImports valid.now (module_view m)) }
 {
     properties(valid);
     exactly(alloc, valid)

@@ -21,3 +21,12 @@ returns-clause-traps c = c.translations.ensures.traps c.args.valid.now c.source.
 
 pub returns-clause-bounded : goal.returns-clause-bounded
 returns-clause-bounded c = c.translations-2.ensures.bounded c.args.valid.now c.source.ensures.source c.source.ensures.first
+
+pub returns-clause-functions : goal.returns-clause-functions
+returns-clause-functions c = c.parts.ensures.functions c.args.valid.now (in_profile c.args.valid.now c.source.ensures.source) c.source.ensures.source.shaped
+
+pub returns-clause-tables : goal.returns-clause-tables
+returns-clause-tables c = c.parts.ensures.tables c.args.valid.now (in_profile c.args.valid.now c.source.ensures.source) c.source.ensures.source.shaped
+
+pub returns-clause-imports : goal.returns-clause-imports
+returns-clause-imports c = c.parts.ensures.imports c.args.valid.now (in_profile c.args.valid.now c.source.ensures.source)

@@ -8,6 +8,9 @@ use Rattle.wasm_lang_exec.specs.Fits as machine
 use Rattle.wasm2js_lang.specs.Heaps.{heap_bytes}
 use Rattle.wasm2js_lang.specs.Calling.{IsCalledAs}
 use Rattle.wasm2js_lang.specs.Allowed.{IsAllowed, IsBounded, TrapsAreCalls, script_for}
+use Rattle.wasm2js_lang_parts.specs.Functions.{HasFunctions}
+use Rattle.wasm2js_lang_parts.specs.Imports.{HasImports}
+use Rattle.wasm2js_lang_parts.specs.Tables.{HasTables}
 use Rattle.wasm2js_code.specs.Modules.{translated}
 use Rattle.wasm2js.proofs.Told.{told}
 use Rattle.wasm2js.proofs.translating.translate.Goals as goal
@@ -37,3 +40,12 @@ returns-clause-traps c = told module_view (translated c.args.valid.now) (TrapsAr
 
 pub returns-clause-bounded : goal.returns-clause-bounded
 returns-clause-bounded c = told module_view (translated c.args.valid.now) (IsBounded c.args.valid.now) c.exactly.result c.properties.ensures.bounded c.exactly.ensures
+
+pub returns-clause-functions : goal.returns-clause-functions
+returns-clause-functions c = told module_view (translated c.args.valid.now) (HasFunctions c.args.valid.now) c.exactly.result c.properties.ensures.functions c.exactly.ensures
+
+pub returns-clause-tables : goal.returns-clause-tables
+returns-clause-tables c = told module_view (translated c.args.valid.now) (HasTables c.args.valid.now) c.exactly.result c.properties.ensures.tables c.exactly.ensures
+
+pub returns-clause-imports : goal.returns-clause-imports
+returns-clause-imports c = told module_view (translated c.args.valid.now) (HasImports c.args.valid.now) c.exactly.result c.properties.ensures.imports c.exactly.ensures
