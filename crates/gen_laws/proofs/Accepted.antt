@@ -1,9 +1,8 @@
 -- The text says the module, which is accepted.
-use Rattle.std.proofs.Common.{◌≡◌, ℕ, zero, suc, ◌+◌, ◌≤◌, max, false, List, [], refl, subst, arith}
+use Rattle.std.proofs.Common.{ℕ, zero, suc, ◌≤◌, false, [], refl, subst, arith}
 use Rattle.asm_lang.specs.Heights.{function_height, functions_height, module_height, height_limit}
 use Rattle.asm_lang.specs.Modules.{module_places}
 use Rattle.asm_lang.specs.Texts.{IsTextOf}
-use Rattle.asm_lang_valid.specs.Texts.{IsAcceptedText}
 use Rattle.asm_laws_print.proofs.Joined.{joined_read}
 use Rattle.gen_lang.specs.Recipe.{recipe}
 use Rattle.gen_laws.specs.Modules.{function_at, functions_from, recipe_module}

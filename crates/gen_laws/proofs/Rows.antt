@@ -1,6 +1,6 @@
 -- The module of so many functions is accepted.
-use Rattle.std.proofs.Common.{◌≡◌, ◌≢◌, ℕ, zero, suc, ◌+◌, ◌-◌, ◌*◌, ◌^◌, ◌≤◌, ◌<◌, Bool, true, false, ◌||◌, List, [], ◌∷◌, ◌++◌, length, inl, inr, refl, sym, ap, ap₂, subst, ◌∙◌, arith, codes}
-use Rattle.std.specs.Prelude.{◌==◌, ◌⊎◌, decimal, bytes_eq, nat_lt, Option, Some, None}
+use Rattle.std.proofs.Common.{◌≡◌, ◌≢◌, ℕ, zero, suc, ◌+◌, ◌-◌, ◌*◌, ◌^◌, ◌≤◌, ◌<◌, true, false, List, [], ◌∷◌, ◌++◌, inl, inr, refl, sym, subst, arith, codes}
+use Rattle.std.specs.Prelude.{decimal, bytes_eq, nat_lt, Some, None}
 use Rattle.std.specs.List.{list_all}
 use Rattle.std.proofs.lemmas.Bool.{and_parts, or_parts, false_from_ne_true, lt-ltb, cases_lt}
 use Rattle.std.proofs.lemmas.Fmt.{decimal_injective}
@@ -12,13 +12,13 @@ use Rattle.asm_lang_valid.specs.declared.rule.Met.{Met}
 use Rattle.asm_lang_valid.specs.Scope.{Meaning, an_int, a_view, a_function, among_functions, is_in, module_meaning, signature_of}
 use Rattle.asm_lang_valid.specs.Typing.{Scope, named, matches, at_top, result_of}
 use Rattle.asm_lang_valid.specs.Typed.{scope_of}
-use Rattle.asm_lang_valid.specs.Rows.{first, body_at as body_place, functions_at, tables_at, exports_at, function_count}
-use Rattle.asm_lang_valid.specs.NameRows.{stmts_names, function_names, functions_names, name_rows, exports_names}
-use Rattle.asm_lang_valid.specs.TypeRows.{stmts_rows, function_rows, functions_rows, type_rows}
-use Rattle.asm_lang_valid.specs.LimitRows.{Mark, stmts_marks, function_marks, functions_marks, rows_after, limit_rows}
-use Rattle.asm_lang_valid.specs.Refusal.{refusal, IsAccepted}
+use Rattle.asm_lang_valid.specs.Rows.{first, body_at as body_place, functions_at, exports_at, function_count}
+use Rattle.asm_lang_valid.specs.NameRows.{stmts_names, functions_names, name_rows, exports_names}
+use Rattle.asm_lang_valid.specs.TypeRows.{stmts_rows, functions_rows, type_rows}
+use Rattle.asm_lang_valid.specs.LimitRows.{Mark, stmts_marks, functions_marks, rows_after, limit_rows}
+use Rattle.asm_lang_valid.specs.Refusal.{IsAccepted}
 use Rattle.gen_lang.specs.Recipe.{name_of}
-use Rattle.gen_laws.specs.Modules.{x_name, heap_name, ending, calling, body_at, function_at, functions_from, recipe_module}
+use Rattle.gen_laws.specs.Modules.{x_name, heap_name, calling, body_at, function_at, functions_from, recipe_module}
 use Rattle.gen_laws.proofs.Words.{digits_of, other_byte}
 
 -- ---- names that differ

@@ -1,12 +1,12 @@
 -- The tokens of the text's pieces are a spelling of the module.
 use Rattle.std.proofs.Common.{◌≡◌, ℕ, zero, suc, ◌+◌, ◌-◌, ◌^◌, ◌≤◌, ◌<◌, Bool, true, false, List, [], ◌∷◌, ◌++◌, map, codes, Some, refl, sym, ap, subst, arith}
-use Rattle.std.specs.Prelude.{bytes_eq, ◌==◌}
+use Rattle.std.specs.Prelude.{◌==◌}
 use Rattle.sem_words.specs.declared.js_value.JsOp.TheVariants.{Or}
 use Rattle.asm_lang_tokens.specs.Forms.{is_punctuator}
 use Rattle.asm_lang.specs.Lexemes.{identifier, directive, function_word, var_word, new_word, return_word, open_brace, close_brace, open_paren, close_paren, dot, comma, equals, operator, Lexeme, is_word, a_property, named, a_zero}
 use Rattle.asm_lang.specs.Trees as trees
 use Rattle.asm_lang.specs.Trees.{FunctionTree}
-use Rattle.asm_lang.specs.Grammar.{of_view, no_names, IsGlobal, a_global, no_var, a_var, an_end, no_marks, an_int_mark, some_params, IsFunction, a_function, IsFunctions, no_functions, more_functions, export_one, an_exported, a_name, params_3, a_heading, IsLast, nothing_more, a_module}
+use Rattle.asm_lang.specs.Grammar.{of_view, no_names, a_global, no_var, a_var, an_end, no_marks, an_int_mark, some_params, IsFunction, a_function, IsFunctions, no_functions, more_functions, export_one, an_exported, a_name, params_3, a_heading, IsLast, nothing_more, a_module}
 use Rattle.asm_lang.specs.Modules.{Stmts, Function, function_of, stmts_of}
 use Rattle.asm_lang.specs.Printing.{Piece, word, line_feed, a_semicolon, stmts_text, function_text, functions_text}
 use Rattle.asm_laws_print.specs.Spelled.{Spells, no_piece, a_line_feed, HasClass}
@@ -14,7 +14,7 @@ use Rattle.asm_laws_print.specs.Fitting.{FitsStmts, IsModuleRead}
 use Rattle.asm_laws_print.proofs.Starts.{lead, same_line}
 use Rattle.asm_laws_print.proofs.Stmts.{end_read, stmts_read}
 use Rattle.asm_laws_print.proofs.Tokens.{parts, first, last}
-use Rattle.asm_laws_print.proofs.Neat.{First, Operand, Line, Neat, Calm, calm_start, empty_line, line_append, feed_line, one_word}
+use Rattle.asm_laws_print.proofs.Neat.{Operand, Line, Neat, calm_start, empty_line, line_append, feed_line, one_word}
 use Rattle.asm_laws_print.proofs.NeatStmts.{a_word_line, ended_line, semicolon_end, open_paren_end, close_paren_end, open_brace_end, close_brace_end, Keyword, keyword_line, return_key, name_line, stmts_neat}
 use Rattle.gen_lang.specs.Recipe.{name_of}
 use Rattle.gen_laws.specs.Modules.{x_name, body_at, function_at, functions_from, recipe_module}

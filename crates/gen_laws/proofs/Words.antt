@@ -1,17 +1,17 @@
 -- The names and numbers of the text: which tokens they are, and that they stand apart from what follows them.
-use Rattle.std.proofs.Common.{◌≡◌, ◌≢◌, ℕ, zero, suc, ◌+◌, ◌-◌, ◌%◌, ◌^◌, ◌≤◌, ◌<◌, Bool, true, false, ◌&&◌, not, List, [], ◌∷◌, ◌++◌, length, take, inl, inr, refl, sym, ap, ◌∙◌, arith, codes, length-append}
+use Rattle.std.proofs.Common.{◌≡◌, ℕ, suc, ◌+◌, ◌-◌, ◌%◌, ◌^◌, ◌≤◌, ◌<◌, Bool, true, false, ◌&&◌, not, List, [], ◌∷◌, ◌++◌, length, take, inl, inr, refl, ap, ◌∙◌, arith, codes, length-append}
 use Rattle.std.specs.Prelude.{◌==◌, decimal}
 use Rattle.std.specs.List.{list_all}
-use Rattle.std.proofs.lemmas.Bool.{and_parts, and_from, and_right, both_ways, false_from_ne_true, eq-eqb, ne_eqb, leb-true, not-true}
+use Rattle.std.proofs.lemmas.Bool.{and_parts, and_from, and_right, both_ways, false_from_ne_true, eq-eqb, ne_eqb, not-true}
 use Rattle.std.proofs.lemmas.Bool.Decides.{nat_tests}
 use Rattle.std.proofs.lemmas.Fmt.{decimal_by_steps}
 use Rattle.std.proofs.lemmas.List.{take_at}
 use Rattle.asm_lang_tokens.specs.Bytes.{is_digit, is_name_byte, is_quote}
-use Rattle.asm_lang_tokens.specs.Forms.{is_name, is_token, is_punctuator, kind_of}
+use Rattle.asm_lang_tokens.specs.Forms.{is_name, is_token, is_punctuator}
 use Rattle.asm_lang_tokens.specs.Text.{token_len}
 use Rattle.asm_lang_tokens.proofs.Longest.{longest_is}
 use Rattle.asm_lang_tokens.proofs.Table.{of_punctuators}
-use Rattle.asm_lang.specs.Lexemes.{identifier, class_in, reserved_words, class_of}
+use Rattle.asm_lang.specs.Lexemes.{identifier, class_in, reserved_words}
 use Rattle.asm_lang.specs.Printing.{last_byte, runs_together}
 use Rattle.asm_laws_print.specs.Spelled.{HasClass}
 use Rattle.asm_laws_print.proofs.Longer.{is_decimal_byte, digit_in_name, name_bytes, number_bytes, decimal_bytes, Form, as_name, as_number, as_decimal, as_quoted, as_punctuator, form_of, one_more_byte}

@@ -2,7 +2,7 @@
 use Rattle.std.specs.Prelude.{ℕ, zero, suc, ◌-◌, false, List, [], ◌∷◌, Some, pos, codes}
 use Rattle.sem_words.specs.declared.js_value.JsOp.TheVariants.{Or}
 use Rattle.asm_lang.specs.Trees.{view}
-use Rattle.asm_lang.specs.Modules.{Expr, lit, var, call, assign, store, binary, chain, exprs, no_exprs, links, no_links, plain, returns, Stmts, stmts, no_stmts, Variable, Param, Function, one, Module}
+use Rattle.asm_lang.specs.Modules.{Expr, lit, var, call, assign, store, binary, chain, exprs, no_exprs, links, no_links, plain, returns, Stmts, stmts, no_stmts, Variable, Function, one, Module}
 use Rattle.gen_lang.specs.Recipe.{name_of}
 
 abbrev pub x_name : List ℕ
