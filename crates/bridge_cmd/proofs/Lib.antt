@@ -2,5 +2,6 @@ pub mod Files
 pub mod Gaining
 pub mod Jobs
 pub mod Pieces
+pub mod RoundTrips
 pub mod Translated
 mod Back

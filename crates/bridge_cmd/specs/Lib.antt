@@ -6,6 +6,7 @@ pub mod Job
 pub mod Outcome
 pub mod Reason
 pub mod Refused
+pub mod RoundTrips
 pub mod Runners
 pub mod Runs
 pub mod Sinks

@@ -1,6 +1,7 @@
 //! The commands of Bridge, over files and sinks.
 #![tactic(auto)]
 
+mod composed;
 mod job;
 mod making;
 mod playing;
@@ -13,6 +14,7 @@ mod words;
 
 pub use asm_validate::Rule as AsmRule;
 pub use cmd_check_asm::{AsmRow, row_number as asm_row_number};
+pub use composed::round_trips;
 pub use status::{Status, WasmFault};
 pub use top::bridge;
 pub use wasm_lang::{Row, row_number};
