@@ -60,8 +60,8 @@ pub(crate) fn binary_tree(
     ensures { IfOk result (λ r. expr_view r ≡ binary at (expr_view left) operator (expr_view right)) }
 {
     match operator {
-        JsOp::Add => sum(alloc, at, left, false, right),
-        JsOp::Sub => sum(alloc, at, left, true, right),
+        JsOp::Add => left.plus(alloc, at, false, right),
+        JsOp::Sub => left.plus(alloc, at, true, right),
         _ => no_sum(alloc, at, left, operator, right),
     }
 }
@@ -81,30 +81,8 @@ fn no_sum(
     Ok(ExprTree::Binary(at, left, operator, right))
 }
 
-/// The sum of the two: a further operand of a sum is put at its end.
-#[tactic(auto, using(crate::proofs::Views::views))]
-fn sum(
-    alloc: Global,
-    at: u64,
-    left: ExprTree,
-    minus: bool,
-    right: ExprTree,
-) -> Result<ExprTree, AllocError>
-    ensures { IfOk result (λ r. expr_view r ≡ binary at (expr_view left) (sign_of minus) (expr_view right)) }
-{
-    match left {
-        ExprTree::Sum(first, others) => {
-            let others = with_addend(others, at, minus, right)?;
-            Ok(ExprTree::Sum(first, others))
-        }
-        first => {
-            let others = with_addend(List::new(alloc), at, minus, right)?;
-            Ok(ExprTree::Sum(Box::new(alloc, first)?, others))
-        }
-    }
-}
-
-fn with_addend(
+/// The list with one more at its end.
+pub(crate) fn with_addend(
     others: List<Addend>,
     at: u64,
     minus: bool,

@@ -1,10 +1,15 @@
 //! Trees of asm.js in which each node has the offset of the token that stands for it.
 
+ghost use Rattle.std.specs.Prelude.{◌≡◌, IfOk};
+ghost use Rattle.asm_lang.specs.Trees.{binary};
+ghost use Rattle.asm_grammar_nodes.specs.Views.{expr_view, sign_of};
+
 use crate::lexeme::Word;
+use crate::sums::with_addend;
 use sem_words::{JsOp, JsUnary, List, Text};
+use std::alloc::{AllocError, Global};
 
 /// An expression. The first part of a node is its place.
-#[derive(Drop)]
 #[cycle(exprs)]
 pub enum ExprTree {
     Literal(u64, i128),
@@ -24,6 +29,53 @@ pub enum ExprTree {
     Listed(u64, List<ExprTree>),
 }
 
+/// By hand, so that the end of an expression is one call wherever it is let go.
+impl Drop for ExprTree {
+    #[cycle(exprs)]
+    fn drop(self) {
+        match self {
+            ExprTree::Literal(_, _) => {}
+            ExprTree::Decimals(_, _) => {}
+            ExprTree::Variable(_, _) => {}
+            ExprTree::Element(_, _, _) => {}
+            ExprTree::Call(_, _, _) => {}
+            ExprTree::TableCall(_, _, _, _) => {}
+            ExprTree::Assignment(_, _, _) => {}
+            ExprTree::Store(_, _, _, _) => {}
+            ExprTree::Unary(_, _, _) => {}
+            ExprTree::Binary(_, _, _, _) => {}
+            ExprTree::Sum(_, _) => {}
+            ExprTree::Conditional(_, _, _, _) => {}
+            ExprTree::Listed(_, _) => {}
+        }
+    }
+}
+
+impl ExprTree {
+    /// The sum of the two: a further operand of a sum is put at its end.
+    #[tactic(auto, using(crate::proofs::Views::views))]
+    pub(crate) fn plus(
+        self,
+        alloc: Global,
+        at: u64,
+        minus: bool,
+        right: ExprTree,
+    ) -> Result<ExprTree, AllocError>
+        ensures { IfOk result (λ r. expr_view r ≡ binary at (expr_view self) (sign_of minus) (expr_view right)) }
+    {
+        match self {
+            ExprTree::Sum(first, others) => {
+                let others = with_addend(others, at, minus, right)?;
+                Ok(ExprTree::Sum(first, others))
+            }
+            first => {
+                let others = with_addend(List::new(alloc), at, minus, right)?;
+                Ok(ExprTree::Sum(Box::new(alloc, first)?, others))
+            }
+        }
+    }
+}
+
 /// A further operand of a sum, with the place of the sign before it.
 #[derive(Drop)]
 #[cycle(exprs)]
@@ -34,7 +86,6 @@ pub struct Addend {
 }
 
 /// A statement. The first part of a node is its place.
-#[derive(Drop)]
 #[cycle(stmts)]
 pub enum StmtTree {
     Block(u64, List<StmtTree>),
@@ -50,6 +101,27 @@ pub enum StmtTree {
     /// A statement under labels, in text order.
     Labelled(List<Word>, Box<StmtTree>),
     Switch(u64, ExprTree, List<ClauseTree>),
+}
+
+/// By hand, so that the end of a statement is one call wherever it is let go.
+impl Drop for StmtTree {
+    #[cycle(stmts)]
+    fn drop(self) {
+        match self {
+            StmtTree::Block(_, _) => {}
+            StmtTree::Plain(_, _) => {}
+            StmtTree::Empty(_) => {}
+            StmtTree::If(_, _, _, _) => {}
+            StmtTree::Return(_, _) => {}
+            StmtTree::While(_, _, _) => {}
+            StmtTree::DoWhile(_, _, _) => {}
+            StmtTree::For(_, _, _, _, _) => {}
+            StmtTree::Break(_, _) => {}
+            StmtTree::Continue(_, _) => {}
+            StmtTree::Labelled(_, _) => {}
+            StmtTree::Switch(_, _, _) => {}
+        }
+    }
 }
 
 /// A clause of a switch: a case with its value, or the default.

@@ -77,7 +77,7 @@ pub struct Export {
     pub function: Text,
 }
 
-#[derive(Debug, Drop)]
+#[derive(Debug)]
 #[cycle(stmts)]
 pub enum Stmt {
     Block(List<Stmt>),
@@ -94,6 +94,27 @@ pub enum Stmt {
     Switch(Expr, List<Clause>),
 }
 
+/// By hand, so that the end of a statement is one call wherever it is let go.
+impl Drop for Stmt {
+    #[cycle(stmts)]
+    fn drop(self) {
+        match self {
+            Stmt::Block(_) => {}
+            Stmt::Plain(_) => {}
+            Stmt::Empty => {}
+            Stmt::If(_, _, _) => {}
+            Stmt::Return(_) => {}
+            Stmt::While(_, _) => {}
+            Stmt::DoWhile(_, _) => {}
+            Stmt::For(_, _, _, _) => {}
+            Stmt::Break(_) => {}
+            Stmt::Continue(_) => {}
+            Stmt::Labelled(_, _) => {}
+            Stmt::Switch(_, _) => {}
+        }
+    }
+}
+
 /// A clause of a switch: a case with its value, or the default.
 #[derive(Debug, Drop)]
 #[cycle(stmts)]
@@ -102,7 +123,7 @@ pub struct Clause {
     pub body: List<Stmt>,
 }
 
-#[derive(Debug, Drop)]
+#[derive(Debug)]
 #[cycle(exprs)]
 pub enum Expr {
     Lit(i128),
@@ -119,6 +140,28 @@ pub enum Expr {
     Chain(Box<Expr>, List<Link>),
     Cond(Box<Expr>, Box<Expr>, Box<Expr>),
     Comma(List<Expr>),
+}
+
+/// By hand, so that the end of an expression is one call wherever it is let go.
+impl Drop for Expr {
+    #[cycle(exprs)]
+    fn drop(self) {
+        match self {
+            Expr::Lit(_) => {}
+            Expr::Decimal(_) => {}
+            Expr::Var(_) => {}
+            Expr::Index(_, _) => {}
+            Expr::Call(_, _) => {}
+            Expr::TableCall(_, _, _) => {}
+            Expr::Assign(_, _) => {}
+            Expr::Store(_, _, _) => {}
+            Expr::Unary(_, _) => {}
+            Expr::Binary(_, _, _) => {}
+            Expr::Chain(_, _) => {}
+            Expr::Cond(_, _, _) => {}
+            Expr::Comma(_) => {}
+        }
+    }
 }
 
 #[derive(Debug, Drop)]
