@@ -41,14 +41,12 @@ fn joined(first: List<Text>, second: List<Text>) -> Result<List<Text>, AllocErro
 pub(crate) fn merged(alloc: Global, labels: List<Text>, body: Stmt) -> Result<Stmt, AllocError>
     ensures { IfOk result (λ r. stmt_view r ≡ merged (texts_view (list_items labels)) (stmt_view body)) }
 {
-    let mut body = body;
-    match &mut body {
-        Stmt::Labelled(inner, _) => {
-            let further = replace(inner, List::new(alloc));
-            *inner = joined(labels, further)?;
-            Ok(body)
+    match body.into_labelled() {
+        Ok((inner, body)) => {
+            let labels = joined(labels, inner)?;
+            Ok(Stmt::Labelled(labels, body))
         }
-        _ => {
+        Err(body) => {
             let body = Box::new(alloc, body)?;
             Ok(Stmt::Labelled(labels, body))
         }

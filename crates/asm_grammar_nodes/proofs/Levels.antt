@@ -1,5 +1,5 @@
 -- The equations of the heights of trees.
-use Rattle.std.proofs.Common.{◌≡◌, ℕ, ◌+◌, min, max, Bool, true, false, ◌&&◌, if◌then◌else◌, List, [], ◌∷◌, ◌++◌, map, refl, sym, ap, ◌∙◌, arith}
+use Rattle.std.proofs.Common.{◌≡◌, ℕ, ◌+◌, min, max, Bool, true, false, ◌&&◌, if◌then◌else◌, List, [], ◌∷◌, ◌++◌, map, refl, ap, ◌∙◌, arith}
 use Rattle.std.specs.Prelude.{ℤ}
 use Rattle.sem_words.specs.declared.text.Text.{Text}
 use Rattle.std.specs.Global.{Global}
@@ -10,7 +10,6 @@ use Rattle.sem_words.specs.declared.js_value.JsOp.{JsOp}
 use Rattle.sem_words.specs.declared.js_value.JsOp.TheVariants.{Add, Sub}
 use Rattle.sem_words.specs.declared.js_value.JsUnary.{JsUnary}
 use Rattle.asm_lang.specs.Trees.{ExprTree, binary}
-use Rattle.asm_lang.specs.Machine.{more_exprs}
 use Rattle.asm_lang.specs.Modules.{Expr, chain, chained, binary_of, is_sum, expr_of}
 use Rattle.asm_lang.specs.Heights.{expr_height}
 use Rattle.asm_lang.specs.TreeHeights.{height, all_height}

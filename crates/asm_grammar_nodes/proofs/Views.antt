@@ -8,9 +8,8 @@ use Rattle.sem_words.specs.Lists.{list_items, text_bytes}
 use Rattle.sem_words.specs.declared.list.List.{List as Listed}
 use Rattle.sem_words.specs.declared.js_value.JsOp.{JsOp}
 use Rattle.sem_words.specs.declared.js_value.JsUnary.{JsUnary}
-use Rattle.asm_lang.specs.Grammar.{under}
 use Rattle.asm_lang.specs.Machine.{more_exprs, more_stmts_of}
-use Rattle.asm_lang.specs.Trees.{ExprTree, literal, decimals, variable, element, call, table_call, assignment, store, unary, binary, conditional, listed, ExprTrees, no_expr, one_expr, StmtTree, block, plain, empty, if_only, if_else, returns, while_loop, do_loop, for_loop, breaks, continues, switches, one_stmt, one_clause}
+use Rattle.asm_lang.specs.Trees.{ExprTree, literal, decimals, variable, element, call, table_call, assignment, store, unary, binary, conditional, listed, one_expr, StmtTree, block, plain, empty, if_only, if_else, returns, while_loop, do_loop, for_loop, breaks, continues, switches, one_stmt, one_clause}
 use Rattle.asm_grammar_nodes.specs.declared.lexeme.Word.{Word}
 use Rattle.asm_grammar_nodes.specs.declared.tree.ExprTree.{ExprTree as CodeExpr, fold-roll-ExprTree}
 use Rattle.asm_grammar_nodes.specs.declared.tree.ExprTree.TheOpen as expr_layers

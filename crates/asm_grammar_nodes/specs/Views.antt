@@ -1,5 +1,5 @@
 -- What the code holds, as lexemes and trees of the definitions.
-use Rattle.std.specs.Prelude.{ℕ, Bool, true, false, List, [], ◌∷◌, Option, Some, None, ℤ, map, if◌then◌else◌}
+use Rattle.std.specs.Prelude.{ℕ, Bool, List, [], ◌∷◌, Option, Some, None, ℤ, map, if◌then◌else◌}
 use Rattle.sem_words.specs.declared.text.Text.{Text}
 use Rattle.sem_words.specs.Lists.{list_items, text_bytes}
 use Rattle.sem_words.specs.declared.js_value.JsOp.{JsOp}

@@ -1,5 +1,5 @@
 -- The equations of the views of trees.
-use Rattle.std.proofs.Common.{◌≡◌, ℕ, Bool, List, [], ◌∷◌, ◌++◌, Option, Some, None, map, refl, sym, ap, ◌∙◌}
+use Rattle.std.proofs.Common.{◌≡◌, List, [], ◌∷◌, ◌++◌, Option, Some, None, map, refl, sym, ap, ◌∙◌}
 use Rattle.std.specs.Prelude.{ℤ}
 use Rattle.sem_words.specs.declared.text.Text.{Text}
 use Rattle.std.specs.Global.{Global}
@@ -8,7 +8,7 @@ use Rattle.sem_words.specs.Lists.{list_items, text_bytes}
 use Rattle.sem_words.specs.declared.list.List.{List as Listed}
 use Rattle.sem_words.specs.declared.js_value.JsOp.{JsOp}
 use Rattle.sem_words.specs.declared.js_value.JsUnary.{JsUnary}
-use Rattle.asm_lang.specs.Modules.{Expr, lit, decimal, var, index, call, table_call, assign, store, unary, binary, chain, cond, comma, Exprs, no_exprs, exprs, Links, no_links, links, more_links, Stmt, block, plain, empty, if_only, if_else, returns, while_loop, do_while, for_loop, breaks, continues, labelled, switches, Stmts, no_stmts, stmts, Clauses, no_clauses, clauses}
+use Rattle.asm_lang.specs.Modules.{Expr, lit, decimal, var, index, call, table_call, assign, store, unary, binary, chain, cond, comma, links, more_links, Stmt, block, plain, empty, if_only, if_else, returns, while_loop, do_while, for_loop, breaks, continues, labelled, switches}
 use Rattle.asm_tree.specs.declared.tree.Expr.{Expr as CodeExpr, fold-roll-Expr}
 use Rattle.asm_tree.specs.declared.tree.Expr.TheOpen as expr_layers
 use Rattle.asm_tree.specs.declared.tree.Expr.TheVariants as code_exprs
@@ -17,7 +17,7 @@ use Rattle.asm_tree.specs.declared.tree.Stmt.{Stmt as CodeStmt, fold-roll-Stmt}
 use Rattle.asm_tree.specs.declared.tree.Stmt.TheOpen as stmt_layers
 use Rattle.asm_tree.specs.declared.tree.Stmt.TheVariants as code_stmts
 use Rattle.asm_tree.specs.declared.tree.Clause.{Clause as CodeClause, fold-roll-Clause}
-use Rattle.asm_tree.specs.Views.{texts_view, text_option, exprs_in, LinkView, links_in, expr_layer, link_layer, expr_view, link_view, exprs_view, links_view, expr_option, stmts_in, ClauseView, clauses_in, stmt_layer, clause_layer, stmt_view, clause_view, stmts_view, clauses_view}
+use Rattle.asm_tree.specs.Views.{texts_view, text_option, LinkView, links_in, expr_layer, link_layer, expr_view, link_view, exprs_view, links_view, expr_option, ClauseView, stmt_layer, clause_layer, stmt_view, clause_view, stmts_view, clauses_view}
 
 pub expr_view-Lit : (v : ℤ) → expr_view (code_exprs.Lit v) ≡ lit v
 unfolding expr_view link_view

@@ -1,5 +1,9 @@
 //! Modules of asm.js as values.
 
+ghost use Rattle.std.specs.Prelude.{◌≡◌, IfOk, IfErr};
+ghost use Rattle.asm_tree.specs.declared.tree.Stmt.TheVariants.{Labelled};
+ghost use Rattle.asm_tree.specs.Labels.{IsUnlabelled};
+
 use sem_words::{JsOp, JsUnary, List, Text};
 
 #[derive(Debug, Drop)]
@@ -92,6 +96,19 @@ pub enum Stmt {
     Continue(Option<Text>),
     Labelled(List<Text>, Box<Stmt>),
     Switch(Expr, List<Clause>),
+}
+
+impl Stmt {
+    /// The labels and the statement under them, or a statement without labels as it is.
+    pub fn into_labelled(self) -> Result<(List<Text>, Box<Stmt>), Stmt>
+        ensures labelled { IfOk result (λ r. self ≡ Labelled r.0 r.1) }
+        ensures unlabelled { IfErr result (λ s. (s ≡ self) × IsUnlabelled self) }
+    {
+        match self {
+            Stmt::Labelled(labels, stmt) => Ok((labels, stmt)),
+            stmt => Err(stmt),
+        }
+    }
 }
 
 /// By hand, so that the end of a statement is one call wherever it is let go.

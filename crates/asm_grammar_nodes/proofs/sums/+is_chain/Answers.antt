@@ -1,4 +1,4 @@
-use Rattle.std.proofs.Common.{rules, ◌≡◌, [], refl, sym, ap, ◌∙◌}
+use Rattle.std.proofs.Common.{rules, ◌≡◌, [], sym, ap, ◌∙◌}
 use Rattle.sem_words.specs.Lists.{list_items}
 use Rattle.asm_lang.specs.Modules.{expr_of}
 use Rattle.asm_grammar_nodes.specs.Heights.{is_chain}

@@ -1,0 +1,11 @@
+-- Statements without labels.
+use Rattle.std.specs.Prelude.{◌≡◌}
+use Rattle.std.specs.Global.{Global}
+use Rattle.std.specs.declared.boxed.Box.{Box}
+use Rattle.sem_words.specs.declared.list.List.{List}
+use Rattle.sem_words.specs.declared.text.Text.{Text}
+use Rattle.asm_tree.specs.declared.tree.Stmt.{Stmt}
+use Rattle.asm_tree.specs.declared.tree.Stmt.TheVariants.{Labelled}
+
+abbrev pub IsUnlabelled : Stmt → Type 0
+IsUnlabelled s = (labels : List Text) (body : Box Stmt Global) → s ≡ Labelled labels body → ⊥
