@@ -30,12 +30,12 @@ pub(crate) fn chained(
 ) -> Result<Expr, AllocError>
     ensures { IfOk result (λ r. expr_view r ≡ chained (expr_view left) minus (expr_view right)) }
 {
-    match left {
-        Expr::Chain(first, links) => {
+    match left.into_chain() {
+        Ok((first, links)) => {
             let links = with_link(links, minus, right)?;
             Ok(Expr::Chain(first, links))
         }
-        left => {
+        Err(left) => {
             let links = with_link(List::new(alloc), minus, right)?;
             let left = Box::new(alloc, left)?;
             Ok(Expr::Chain(left, links))

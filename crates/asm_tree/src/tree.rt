@@ -2,7 +2,8 @@
 
 ghost use Rattle.std.specs.Prelude.{◌≡◌, IfOk, IfErr};
 ghost use Rattle.asm_tree.specs.declared.tree.Stmt.TheVariants.{Labelled};
-ghost use Rattle.asm_tree.specs.Labels.{IsUnlabelled};
+ghost use Rattle.asm_tree.specs.declared.tree.Expr.TheVariants.{Chain};
+ghost use Rattle.asm_tree.specs.Forms.{IsUnlabelled, IsNoChain};
 
 use sem_words::{JsOp, JsUnary, List, Text};
 
@@ -157,6 +158,19 @@ pub enum Expr {
     Chain(Box<Expr>, List<Link>),
     Cond(Box<Expr>, Box<Expr>, Box<Expr>),
     Comma(List<Expr>),
+}
+
+impl Expr {
+    /// The first operand of a chain and the further ones, or an expression that is no chain as it is.
+    pub fn into_chain(self) -> Result<(Box<Expr>, List<Link>), Expr>
+        ensures chain { IfOk result (λ r. self ≡ Chain r.0 r.1) }
+        ensures other { IfErr result (λ e. (e ≡ self) × IsNoChain self) }
+    {
+        match self {
+            Expr::Chain(first, links) => Ok((first, links)),
+            expr => Err(expr),
+        }
+    }
 }
 
 /// By hand, so that the end of an expression is one call wherever it is let go.

@@ -3,16 +3,16 @@ use Rattle.sem_words.specs.Lists.{list_items}
 use Rattle.asm_grammar_erase.proofs.ChainLemmas.{goes_on, begins}
 use Rattle.asm_grammar_erase.proofs.chains.chained.Goals as goal
 
-pub returns-in_ok-links-in-Chain : goal.returns-in_ok-links-in-Chain
-returns-in_ok-links-in-Chain c =
+pub returns-in_ok-links-in-Ok : goal.returns-in_ok-links-in-Ok
+returns-in_ok-links-in-Ok c =
     let a = c.args in
-    let more : list_items c.in_ok-links-in-Chain.links ≡ list_items c.in-Chain.links ++ (record { minus = a.minus; operand = a.right }) ∷ [] = search rules in
-    goes_on a.left c.in-Chain.first c.in-Chain.links c.in_ok-links-in-Chain.links a.minus a.right c.in-Chain.is more
+    let more : list_items c.in_ok-links-in-Ok.links ≡ list_items c.in-Ok.links ++ (record { minus = a.minus; operand = a.right }) ∷ [] = search rules in
+    goes_on a.left c.in-Ok.first c.in-Ok.links c.in_ok-links-in-Ok.links a.minus a.right c.in-Ok.ensures.chain more
 
-pub returns-in_ok-left-in_default : goal.returns-in_ok-left-in_default
-returns-in_ok-left-in_default c =
+pub returns-in_ok-left-in-Err : goal.returns-in_ok-left-in-Err
+returns-in_ok-left-in-Err c =
     let a = c.args in
-    let left = c.in_ok-left-in_default.left in
-    let more : list_items c.in_ok-links-in_default.links ≡ (record { minus = a.minus; operand = a.right }) ∷ [] = search rules in
+    let left = c.in_ok-left-in-Err.left in
+    let more : list_items c.in_ok-links-in-Err.links ≡ (record { minus = a.minus; operand = a.right }) ∷ [] = search rules in
     let is : left.value ≡ a.left = search rules in
-    begins a.left a.right left c.in_ok-links-in_default.links a.minus (λ x ls h. c.in_default.not-Chain x ls h) is more
+    begins a.left a.right left c.in_ok-links-in-Err.links a.minus c.in-Err.ensures.other.1 is more
