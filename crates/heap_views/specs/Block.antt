@@ -12,4 +12,4 @@ Becomes old new bytes = IsBlock new × (new.cells.bytes ≡ bytes) × (length by
 
 -- the sizes of the parts in which a run is moved
 abbrev pub IsPart : ℕ → Type 0
-IsPart part = (part ≡ 1) ⊎ (part ≡ 4)
+IsPart part = (part ≡ 1) ⊎ (part ≡ 8) ⊎ (part ≡ 64)

@@ -1,30 +1,31 @@
-//! Runs of bytes, moved by whole words where they can.
+//! Runs of bytes, moved by whole lines and words where they can.
 ghost use Rattle.std.specs.Prelude.{◌≡◌, ◌+◌, ◌<◌, ◌≤◌, length, take, drop, replicate};
 ghost use Rattle.heap_lang.specs.Heap.{with_run, copied, filled};
 ghost use Rattle.heap_views.specs.Block.{IsBlock, Becomes, IsPart};
 
 use crate::block::Block;
+use std::simd::Simd;
 
 /// How many bytes are moved at once where so many are left.
 fn part_of(left: usize) -> usize
     requires { 0 < left }
     ensures { (result ≤ left) × IsPart result }
 {
-    if left >= 4 { 4 } else { 1 }
+    if left >= 64 {
+        64
+    } else if left >= 8 {
+        8
+    } else {
+        1
+    }
 }
 
-fn word_of(bytes: &[u8], at: usize) -> [u8; 4]
-    requires { at + 4 ≤ length bytes.now }
-    ensures { result ≡ take 4 (drop at bytes.now) }
+/// The N bytes of the slice from `at` on.
+fn bytes_of<const N: usize>(bytes: &[u8], at: usize) -> [u8; N]
+    requires { at + N ≤ length bytes.now }
+    ensures { result ≡ take N (drop at bytes.now) }
 {
-    [bytes[at], bytes[at + 1], bytes[at + 2], bytes[at + 3]]
-}
-
-fn byte_of(bytes: &[u8], at: usize) -> [u8; 1]
-    requires { at + 1 ≤ length bytes.now }
-    ensures { result ≡ take 1 (drop at bytes.now) }
-{
-    [bytes[at]]
+    Simd::<u8, N>::from_slice(&bytes[at..]).to_array()
 }
 
 impl Block {
@@ -32,10 +33,12 @@ impl Block {
         requires { IsBlock self.old × IsPart part × (from + part ≤ length bytes.now) × (at + part ≤ length self.old.cells.bytes) }
         ensures { Becomes self.old self.new (with_run at (take part (drop from bytes.now)) self.old.cells.bytes) }
     {
-        if part == 4 {
-            self.put_word(at, word_of(bytes, from));
+        if part == 64 {
+            self.put_bytes(at, bytes_of::<64>(bytes, from));
+        } else if part == 8 {
+            self.put_bytes(at, bytes_of::<8>(bytes, from));
         } else {
-            self.put_byte(at, byte_of(bytes, from));
+            self.put_bytes(at, [bytes[from]]);
         }
     }
 
@@ -43,23 +46,33 @@ impl Block {
         requires { IsBlock self.old × IsPart part × (at + part ≤ length self.old.cells.bytes) }
         ensures { Becomes self.old self.new (with_run at (replicate part byte) self.old.cells.bytes) }
     {
-        if part == 4 {
-            self.put_word(at, [byte; 4]);
+        if part == 64 {
+            self.put_bytes(at, [byte; 64]);
+        } else if part == 8 {
+            self.put_bytes(at, [byte; 8]);
         } else {
-            self.put_byte(at, [byte; 1]);
+            self.put_bytes(at, [byte; 1]);
         }
+    }
+
+    fn copy_bytes<const N: usize>(&mut self, to: usize, from: usize)
+        requires { IsBlock self.old × (to + N ≤ length self.old.cells.bytes) × (from + N ≤ length self.old.cells.bytes) }
+        ensures { Becomes self.old self.new (with_run to (take N (drop from self.old.cells.bytes)) self.old.cells.bytes) }
+    {
+        let bytes: [u8; N] = self.bytes_at(from);
+        self.put_bytes(to, bytes);
     }
 
     fn copy_part(&mut self, to: usize, from: usize, part: usize)
         requires { IsBlock self.old × IsPart part × (to + part ≤ length self.old.cells.bytes) × (from + part ≤ length self.old.cells.bytes) }
         ensures { Becomes self.old self.new (with_run to (take part (drop from self.old.cells.bytes)) self.old.cells.bytes) }
     {
-        if part == 4 {
-            let word = self.word_at(from);
-            self.put_word(to, word);
+        if part == 64 {
+            self.copy_bytes::<64>(to, from);
+        } else if part == 8 {
+            self.copy_bytes::<8>(to, from);
         } else {
-            let byte = self.byte_at(from);
-            self.put_byte(to, byte);
+            self.copy_bytes::<1>(to, from);
         }
     }
 
