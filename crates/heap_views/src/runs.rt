@@ -1,24 +1,10 @@
 //! Runs of bytes, moved by whole lines and words where they can.
-ghost use Rattle.std.specs.Prelude.{◌≡◌, ◌+◌, ◌<◌, ◌≤◌, length, take, drop, replicate};
+ghost use Rattle.std.specs.Prelude.{◌≡◌, ◌+◌, ◌-◌, ◌<◌, ◌≤◌, length, take, drop};
 ghost use Rattle.heap_lang.specs.Heap.{with_run, copied, filled};
-ghost use Rattle.heap_views.specs.Block.{IsBlock, Becomes, IsPart};
+ghost use Rattle.heap_views.specs.Block.{IsBlock, Becomes};
 
 use crate::block::Block;
 use std::simd::Simd;
-
-/// How many bytes are moved at once where so many are left.
-fn part_of(left: usize) -> usize
-    requires { 0 < left }
-    ensures { (result ≤ left) × IsPart result }
-{
-    if left >= 64 {
-        64
-    } else if left >= 8 {
-        8
-    } else {
-        1
-    }
-}
 
 /// The N bytes of the slice from `at` on.
 fn bytes_of<const N: usize>(bytes: &[u8], at: usize) -> [u8; N]
@@ -29,30 +15,33 @@ fn bytes_of<const N: usize>(bytes: &[u8], at: usize) -> [u8; N]
 }
 
 impl Block {
-    fn put_part(&mut self, at: usize, part: usize, bytes: &[u8], from: usize)
-        requires { IsBlock self.old × IsPart part × (from + part ≤ length bytes.now) × (at + part ≤ length self.old.cells.bytes) }
-        ensures { Becomes self.old self.new (with_run at (take part (drop from bytes.now)) self.old.cells.bytes) }
+    /// Writes the bytes by N from `at` on, until fewer are left. Gives how many it wrote.
+    fn put_by<const N: usize>(&mut self, at: usize, bytes: &[u8]) -> usize
+        requires { IsBlock self.old × (0 < N) × (at + length bytes.now ≤ length self.old.cells.bytes) }
+        ensures written { (result ≤ length bytes.now) × Becomes self.old self.new (with_run at (take result bytes.now) self.old.cells.bytes) }
+        ensures left { length bytes.now < result + N }
     {
-        if part == 64 {
-            self.put_bytes(at, bytes_of::<64>(bytes, from));
-        } else if part == 8 {
-            self.put_bytes(at, bytes_of::<8>(bytes, from));
-        } else {
-            self.put_bytes(at, [bytes[from]]);
+        let mut done = 0;
+        while bytes.len() - done >= N {
+            self.put_bytes(at + done, bytes_of::<N>(bytes, done));
+            done += N;
         }
+        done
     }
 
-    fn fill_part(&mut self, at: usize, part: usize, byte: u8)
-        requires { IsBlock self.old × IsPart part × (at + part ≤ length self.old.cells.bytes) }
-        ensures { Becomes self.old self.new (with_run at (replicate part byte) self.old.cells.bytes) }
+    /// Writes the byte by N into the `len` places from `at` on, until fewer are left. Gives how many it wrote.
+    fn fill_by<const N: usize>(&mut self, at: usize, len: usize, byte: u8) -> usize
+        requires { IsBlock self.old × (0 < N) × (at + len ≤ length self.old.cells.bytes) }
+        ensures written { (result ≤ len) × Becomes self.old self.new (filled at result byte self.old.cells.bytes) }
+        ensures left { len < result + N }
     {
-        if part == 64 {
-            self.put_bytes(at, [byte; 64]);
-        } else if part == 8 {
-            self.put_bytes(at, [byte; 8]);
-        } else {
-            self.put_bytes(at, [byte; 1]);
+        let run = [byte; N];
+        let mut done = 0;
+        while len - done >= N {
+            self.put_bytes(at + done, run);
+            done += N;
         }
+        done
     }
 
     fn copy_bytes<const N: usize>(&mut self, to: usize, from: usize)
@@ -63,17 +52,32 @@ impl Block {
         self.put_bytes(to, bytes);
     }
 
-    fn copy_part(&mut self, to: usize, from: usize, part: usize)
-        requires { IsBlock self.old × IsPart part × (to + part ≤ length self.old.cells.bytes) × (from + part ≤ length self.old.cells.bytes) }
-        ensures { Becomes self.old self.new (with_run to (take part (drop from self.old.cells.bytes)) self.old.cells.bytes) }
+    /// Copies the first of `len` bytes by N to places before them, until fewer are left. Gives how many it copied.
+    fn copy_up_by<const N: usize>(&mut self, to: usize, from: usize, len: usize) -> usize
+        requires { IsBlock self.old × (0 < N) × (to ≤ from) × (from + len ≤ length self.old.cells.bytes) }
+        ensures copied { (result ≤ len) × Becomes self.old self.new (copied to from result self.old.cells.bytes) }
+        ensures left { len < result + N }
     {
-        if part == 64 {
-            self.copy_bytes::<64>(to, from);
-        } else if part == 8 {
-            self.copy_bytes::<8>(to, from);
-        } else {
-            self.copy_bytes::<1>(to, from);
+        let mut done = 0;
+        while len - done >= N {
+            self.copy_bytes::<N>(to + done, from + done);
+            done += N;
         }
+        done
+    }
+
+    /// Copies the last of `len` bytes by N to places after them, until fewer are left. Gives how many are left.
+    fn copy_down_by<const N: usize>(&mut self, to: usize, from: usize, len: usize) -> usize
+        requires { IsBlock self.old × (0 < N) × (from ≤ to) × (to + len ≤ length self.old.cells.bytes) }
+        ensures copied { (result ≤ len) × Becomes self.old self.new (copied (to + result) (from + result) (len - result) self.old.cells.bytes) }
+        ensures left { result < N }
+    {
+        let mut left = len;
+        while left >= N {
+            left -= N;
+            self.copy_bytes::<N>(to + left, from + left);
+        }
+        left
     }
 
     /// Writes the bytes from `at` on.
@@ -81,12 +85,10 @@ impl Block {
         requires { IsBlock self.old × (at + length bytes.now ≤ length self.old.cells.bytes) }
         ensures { Becomes self.old self.new (with_run at bytes.now self.old.cells.bytes) }
     {
-        let mut done = 0;
-        while done < bytes.len() {
-            let part = part_of(bytes.len() - done);
-            self.put_part(at + done, part, bytes, done);
-            done += part;
-        }
+        let lines = self.put_by::<64>(at, bytes);
+        let words = self.put_by::<8>(at + lines, &bytes[lines..]);
+        let done = lines + words;
+        let _ = self.put_by::<1>(at + done, &bytes[done..]);
     }
 
     /// Writes the byte into the `len` places from `at` on.
@@ -94,12 +96,10 @@ impl Block {
         requires { IsBlock self.old × (at + len ≤ length self.old.cells.bytes) }
         ensures { Becomes self.old self.new (filled at len byte self.old.cells.bytes) }
     {
-        let mut done = 0;
-        while done < len {
-            let part = part_of(len - done);
-            self.fill_part(at + done, part, byte);
-            done += part;
-        }
+        let lines = self.fill_by::<64>(at, len, byte);
+        let words = self.fill_by::<8>(at + lines, len - lines, byte);
+        let done = lines + words;
+        let _ = self.fill_by::<1>(at + done, len - done, byte);
     }
 
     /// Copies `len` bytes to places before them, the first byte first.
@@ -107,12 +107,10 @@ impl Block {
         requires { IsBlock self.old × (to ≤ from) × (from + len ≤ length self.old.cells.bytes) }
         ensures { Becomes self.old self.new (copied to from len self.old.cells.bytes) }
     {
-        let mut done = 0;
-        while done < len {
-            let part = part_of(len - done);
-            self.copy_part(to + done, from + done, part);
-            done += part;
-        }
+        let lines = self.copy_up_by::<64>(to, from, len);
+        let words = self.copy_up_by::<8>(to + lines, from + lines, len - lines);
+        let done = lines + words;
+        let _ = self.copy_up_by::<1>(to + done, from + done, len - done);
     }
 
     /// Copies `len` bytes to places after them, the last byte first.
@@ -120,11 +118,8 @@ impl Block {
         requires { IsBlock self.old × (from ≤ to) × (to + len ≤ length self.old.cells.bytes) }
         ensures { Becomes self.old self.new (copied to from len self.old.cells.bytes) }
     {
-        let mut left = len;
-        while left > 0 {
-            let part = part_of(left);
-            left -= part;
-            self.copy_part(to + left, from + left, part);
-        }
+        let words = self.copy_down_by::<64>(to, from, len);
+        let bytes = self.copy_down_by::<8>(to, from, words);
+        let _ = self.copy_down_by::<1>(to, from, bytes);
     }
 }
