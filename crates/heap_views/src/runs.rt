@@ -1,4 +1,4 @@
-//! Runs of bytes, moved by whole lines and words where they can.
+//! Runs of bytes, moved by many bytes at once where they can: lines, then words, then single bytes.
 ghost use Rattle.std.specs.Prelude.{◌≡◌, ◌+◌, ◌-◌, ◌<◌, ◌≤◌, length, take, drop};
 ghost use Rattle.heap_lang.specs.Heap.{with_run, copied, filled};
 ghost use Rattle.heap_views.specs.Block.{IsBlock, Becomes};
@@ -102,12 +102,14 @@ impl Block {
         let _ = self.fill_by::<1>(at + done, len - done, byte);
     }
 
+    // A line of a copy is 256 bytes, which LLVM makes one call of memmove. A shorter one is moves of 16 bytes.
+
     /// Copies `len` bytes to places before them, the first byte first.
     pub(crate) fn copy_up(&mut self, to: usize, from: usize, len: usize)
         requires { IsBlock self.old × (to ≤ from) × (from + len ≤ length self.old.cells.bytes) }
         ensures { Becomes self.old self.new (copied to from len self.old.cells.bytes) }
     {
-        let lines = self.copy_up_by::<64>(to, from, len);
+        let lines = self.copy_up_by::<256>(to, from, len);
         let words = self.copy_up_by::<8>(to + lines, from + lines, len - lines);
         let done = lines + words;
         let _ = self.copy_up_by::<1>(to + done, from + done, len - done);
@@ -118,7 +120,7 @@ impl Block {
         requires { IsBlock self.old × (from ≤ to) × (to + len ≤ length self.old.cells.bytes) }
         ensures { Becomes self.old self.new (copied to from len self.old.cells.bytes) }
     {
-        let words = self.copy_down_by::<64>(to, from, len);
+        let words = self.copy_down_by::<256>(to, from, len);
         let bytes = self.copy_down_by::<8>(to, from, words);
         let _ = self.copy_down_by::<1>(to, from, bytes);
     }

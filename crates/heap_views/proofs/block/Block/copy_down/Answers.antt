@@ -12,9 +12,9 @@ returns c =
     let one = first.ensures.copied in let two = second.ensures.copied in let three = third.ensures.copied in
     let both : Becomes block second.new.self (copied (to + bytes) (from + bytes) (len - bytes) heap) =
     chained block first.new.self second.new.self _ _ _ one.1 two.1
-        (ap (λ m. copied (to + bytes) (from + bytes) (words - bytes) m) one.1.1 ∙ copied_down_on to from bytes words len heap down two.0 one.0 fits) in
+    (ap (λ m. copied (to + bytes) (from + bytes) (words - bytes) m) one.1.1 ∙ copied_down_on to from bytes words len heap down two.0 one.0 fits) in
     let none : last ≡ 0 = omega (arith, third.ensures.left) in
     let there : to + last ≡ to = omega (arith, none) in let here : from + last ≡ from = omega (arith, none) in let whole : len - last ≡ len = omega (arith, none) in
     chained block second.new.self third.new.self _ _ _ both three.1
-        (ap (λ m. copied (to + last) (from + last) (bytes - last) m) both.1 ∙ copied_down_on to from last bytes len heap down three.0 (omega (arith, one.0, two.0)) fits
-        ∙ (λ i. copied (there i) (here i) (whole i) heap))
+    (ap (λ m. copied (to + last) (from + last) (bytes - last) m) both.1 ∙ copied_down_on to from last bytes len heap down three.0 (omega (arith, one.0, two.0)) fits
+    ∙ (λ i. copied (there i) (here i) (whole i) heap))

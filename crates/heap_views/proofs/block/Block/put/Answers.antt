@@ -14,10 +14,10 @@ returns c =
     let fits : done ≤ length bytes = omega (arith, first.0, second.0, ap length (tail lines.result), length-drop lines.result bytes) in
     let both : Becomes block words.new.self (with_run at (take done bytes) heap) =
     chained block lines.new.self words.new.self _ _ _ first.1 second.1
-        (ap (λ l. with_run (at + lines.result) (take words.result l) lines.new.self.cells.bytes) (tail lines.result)
-        ∙ ap (λ m. with_run (at + lines.result) (take words.result (drop lines.result bytes)) m) first.1.1 ∙ put_by at lines.result words.result bytes heap fits c.requires.1) in
+    (ap (λ l. with_run (at + lines.result) (take words.result l) lines.new.self.cells.bytes) (tail lines.result)
+    ∙ ap (λ m. with_run (at + lines.result) (take words.result (drop lines.result bytes)) m) first.1.1 ∙ put_by at lines.result words.result bytes heap fits c.requires.1) in
     let exact : done + rest.result ≡ length bytes = omega (arith, fits, third.0, rest.ensures.left, ap length (tail done), length-drop done bytes) in
     chained block words.new.self rest.new.self _ _ _ both third.1
-        (ap (λ l. with_run (at + done) (take rest.result l) words.new.self.cells.bytes) (tail done)
-        ∙ ap (λ m. with_run (at + done) (take rest.result (drop done bytes)) m) both.1 ∙ put_by at done rest.result bytes heap (omega (arith, exact)) c.requires.1
-        ∙ ap (λ k. with_run at (take k bytes) heap) exact ∙ ap (λ l. with_run at l heap) (take_all (length bytes) bytes (omega arith)))
+    (ap (λ l. with_run (at + done) (take rest.result l) words.new.self.cells.bytes) (tail done)
+    ∙ ap (λ m. with_run (at + done) (take rest.result (drop done bytes)) m) both.1 ∙ put_by at done rest.result bytes heap (omega (arith, exact)) c.requires.1
+    ∙ ap (λ k. with_run at (take k bytes) heap) exact ∙ ap (λ l. with_run at l heap) (take_all (length bytes) bytes (omega arith)))
