@@ -1,12 +1,12 @@
 -- Numbers and runs of bytes that are read and written a word at a time.
-use Rattle.std.proofs.Common.{◌≡◌, sym, ap, subst, ◌∙◌, ◌⊎◌, inl, inr, ℕ, zero, suc, ◌+◌, ◌*◌, ◌/◌, ◌%◌, ◌^◌, ◌<◌, ◌≤◌, List, [], ◌∷◌, ◌++◌, length, take, drop, replicate, take-add, arith, w8, w16, w32}
+use Rattle.std.proofs.Common.{◌≡◌, sym, ap, subst, ◌∙◌, ◌⊎◌, inl, inr, ℕ, zero, suc, ◌+◌, ◌-◌, ◌*◌, ◌/◌, ◌%◌, ◌^◌, ◌<◌, ◌≤◌, List, [], ◌∷◌, ◌++◌, length, take, drop, replicate, take-add, arith, w8, w16, w32}
 use Rattle.std.specs.Prelude.{Some}
 use Rattle.std.specs.Int.{from_le_bytes, to_le_bytes}
 use Rattle.std.proofs.lemmas.List.{length-take, length-drop, drop-drop, length-replicate}
 use Rattle.heap_lang.specs.Numbers.{little_endian, bytes_of}
 use Rattle.heap_lang.specs.Heap.{run_at, with_run, store_bytes, copied, filled}
 use Rattle.heap_lang.proofs.NumberLemmas.{bytes_of-mod, little_endian-append}
-use Rattle.heap_lang.proofs.RunLemmas.{run_at_within, run_at-with_run_apart, length-with_run, with_run-append_bytes, with_run-with_run_apart, copied_within}
+use Rattle.heap_lang.proofs.RunLemmas.{run_at_within, run_at-with_run_apart, length-with_run, length-copied, with_run-append_bytes, with_run-with_run_apart, copied_within}
 use Rattle.heap_lang.proofs.HeapLemmas.{store_bytes-add}
 use Rattle.heap_views.specs.declared.block.Block.{Block}
 use Rattle.heap_views.specs.Block.{IsBlock, Becomes}
@@ -78,7 +78,7 @@ pub stored_8 : (at word : ℕ) (low high heap : List ℕ) → at + 8 ≤ length 
 stored_8 at word low high heap within is_low is_high =
     ap (λ h. with_run (at + 4) high h) (stored_4 at word low heap is_low) ∙ stored_4 (at + 4) (word / 4294967296) high (store_bytes at 4 word heap) is_high ∙ sym (store_bytes-add at 4 4 word heap within)
 
--- ---- runs, by parts
+-- ---- runs, a part after another
 
 pub put_by : (at done n : ℕ) (bytes heap : List ℕ) → done + n ≤ length bytes → at + length bytes ≤ length heap
     → with_run (at + done) (take n (drop done bytes)) (with_run at (take done bytes) heap) ≡ with_run at (take (done + n) bytes) heap
@@ -138,6 +138,29 @@ copied_down_by to from left n rest heap down within =
     let swapped : with_run t low (with_run (t + n) high heap) ≡ with_run (t + n) high (with_run t low heap) = with_run-with_run_apart t (t + n) low high heap (inl (omega (arith, long))) (omega (arith, long, within)) (omega (arith, more, within)) in
     ap (λ h. with_run t (take n (drop f h)) h) so_far ∙ ap (λ l. with_run t l (with_run (t + n) high heap)) stays ∙ swapped
     ∙ sym (copied_within t f (n + rest) heap (omega (arith, within)) (omega (arith, within, down)) ∙ ap (λ l. with_run t l heap) both ∙ all ∙ ap (λ k. with_run (t + k) high (with_run t low heap)) long)
+
+-- after the first `done` bytes, the next n
+pub copied_up_on : (to from done n : ℕ) (heap : List ℕ) → to ≤ from → from + (done + n) ≤ length heap → copied (to + done) (from + done) n (copied to from done heap) ≡ copied to from (done + n) heap
+copied_up_on to from done n heap up within =
+    let long : length (copied to from done heap) ≡ length heap = length-copied to from done heap in
+    copied_within (to + done) (from + done) n (copied to from done heap) (omega (arith, long, within, up)) (omega (arith, long, within)) ∙ copied_up_by to from done n heap up within
+
+-- of `len` bytes `more` are left, and then `left`
+pub copied_down_on : (to from left more len : ℕ) (heap : List ℕ) → from ≤ to → left ≤ more → more ≤ len → to + len ≤ length heap
+    → copied (to + left) (from + left) (more - left) (copied (to + more) (from + more) (len - more) heap) ≡ copied (to + left) (from + left) (len - left) heap
+copied_down_on to from left more len heap down few within fits =
+    let n = more - left in let rest = len - more in let t = to + left in let f = from + left in
+    let back : more ≡ left + n = omega (arith, few) in let sum : n + rest ≡ len - left = omega (arith, few, within) in
+    let there = to + (left + n) in let here = from + (left + n) in
+    let long : length (copied there here rest heap) ≡ length heap = length-copied there here rest heap in
+    let all : to + (left + n + rest) ≤ length heap = omega (arith, few, within, fits) in
+    ap (λ k. copied t f n (copied (to + k) (from + k) rest heap)) back
+    ∙ copied_within t f n (copied there here rest heap) (omega (arith, long, all)) (omega (arith, long, all, down))
+    ∙ copied_down_by to from left n rest heap down all ∙ ap (λ k. copied t f k heap) sum
+
+pub filled_on : (at done n byte : ℕ) (heap : List ℕ) → at + (done + n) ≤ length heap → filled (at + done) n byte (filled at done byte heap) ≡ filled at (done + n) byte heap
+unfolding filled
+filled_on at done n byte heap within = filled_by at done n byte heap within
 
 pub length_with_run : (at : ℕ) (bytes heap : List ℕ) → length (with_run at bytes heap) ≡ length heap
 length_with_run at bytes heap = length-with_run at bytes heap

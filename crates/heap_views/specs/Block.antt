@@ -1,5 +1,5 @@
 -- What holds of the fields of a block.
-use Rattle.std.specs.Prelude.{◌≡◌, ℕ, ◌*◌, ◌^◌, ◌<◌, ◌⊎◌, List, length}
+use Rattle.std.specs.Prelude.{◌≡◌, ℕ, ◌*◌, ◌^◌, ◌<◌, List, length}
 use Rattle.heap_views.specs.declared.block.Block.{Block}
 
 -- the bytes and the right to free them are those of the block, and all bytes are written
@@ -9,7 +9,3 @@ IsBlock b = (b.cells.at ≡ b.base.ptr) × (length b.cells.bytes ≡ b.words * 4
 -- the later block has these bytes, as many as before
 abbrev pub Becomes : Block → Block → List ℕ → Type 0
 Becomes old new bytes = IsBlock new × (new.cells.bytes ≡ bytes) × (length bytes ≡ length old.cells.bytes)
-
--- the sizes of the parts in which a run is moved
-abbrev pub IsPart : ℕ → Type 0
-IsPart part = (part ≡ 1) ⊎ (part ≡ 4)

@@ -72,49 +72,21 @@ impl Block {
         self.cells.lend(self.base, self.words * 4)
     }
 
-    pub(crate) fn byte_at(&self, at: usize) -> [u8; 1]
-        requires { IsBlock self.now × (at + 1 ≤ length self.now.cells.bytes) }
-        ensures { result ≡ take 1 (drop at self.now.cells.bytes) }
+    /// The N bytes from `at` on.
+    pub(crate) fn bytes_at<const N: usize>(&self, at: usize) -> [u8; N]
+        requires { IsBlock self.now × (at + N ≤ length self.now.cells.bytes) }
+        ensures { result ≡ take N (drop at self.now.cells.bytes) }
     {
-        self.cells.get_8(self.base, at)
+        self.cells.get(self.base, at)
     }
 
-    fn half_at(&self, at: usize) -> [u8; 2]
-        requires { IsBlock self.now × (at + 2 ≤ length self.now.cells.bytes) }
-        ensures { result ≡ take 2 (drop at self.now.cells.bytes) }
-    {
-        self.cells.get_16(self.base, at)
-    }
-
-    pub(crate) fn word_at(&self, at: usize) -> [u8; 4]
-        requires { IsBlock self.now × (at + 4 ≤ length self.now.cells.bytes) }
-        ensures { result ≡ take 4 (drop at self.now.cells.bytes) }
-    {
-        self.cells.get_32(self.base, at)
-    }
-
+    /// Writes the N bytes from `at` on.
     #[tactic(auto, using(crate::proofs::BlockLemmas::length_with_run))]
-    pub(crate) fn put_byte(&mut self, at: usize, byte: [u8; 1])
-        requires { IsBlock self.old × (at + 1 ≤ length self.old.cells.bytes) }
-        ensures { Becomes self.old self.new (with_run at byte self.old.cells.bytes) }
+    pub(crate) fn put_bytes<const N: usize>(&mut self, at: usize, bytes: [u8; N])
+        requires { IsBlock self.old × (at + N ≤ length self.old.cells.bytes) }
+        ensures { Becomes self.old self.new (with_run at bytes.entry self.old.cells.bytes) }
     {
-        self.cells.put_8(self.base, at, byte);
-    }
-
-    #[tactic(auto, using(crate::proofs::BlockLemmas::length_with_run))]
-    fn put_half(&mut self, at: usize, half: [u8; 2])
-        requires { IsBlock self.old × (at + 2 ≤ length self.old.cells.bytes) }
-        ensures { Becomes self.old self.new (with_run at half self.old.cells.bytes) }
-    {
-        self.cells.put_16(self.base, at, half);
-    }
-
-    #[tactic(auto, using(crate::proofs::BlockLemmas::length_with_run))]
-    pub(crate) fn put_word(&mut self, at: usize, word: [u8; 4])
-        requires { IsBlock self.old × (at + 4 ≤ length self.old.cells.bytes) }
-        ensures { Becomes self.old self.new (with_run at word self.old.cells.bytes) }
-    {
-        self.cells.put_32(self.base, at, word);
+        self.cells.put(self.base, at, bytes);
     }
 
     /// The number of the `size` bytes from `at` on.
@@ -125,9 +97,9 @@ impl Block {
         ensures bounded { result < 256 ^ size }
     {
         match size {
-            1 => u64::from(u8::from_le_bytes(self.byte_at(at))),
-            2 => u64::from(u16::from_le_bytes(self.half_at(at))),
-            4 => u64::from(u32::from_le_bytes(self.word_at(at))),
+            1 => u64::from(u8::from_le_bytes(self.bytes_at(at))),
+            2 => u64::from(u16::from_le_bytes(self.bytes_at(at))),
+            4 => u64::from(u32::from_le_bytes(self.bytes_at(at))),
             _ => self.load_long(at),
         }
     }
@@ -137,8 +109,8 @@ impl Block {
         requires { IsBlock self.now × (at + 8 ≤ length self.now.cells.bytes) }
         ensures { result ≡ little_endian (take 8 (drop at self.now.cells.bytes)) }
     {
-        let low = u64::from(u32::from_le_bytes(self.word_at(at)));
-        let high = u64::from(u32::from_le_bytes(self.word_at(at + 4)));
+        let low = u64::from(u32::from_le_bytes(self.bytes_at(at)));
+        let high = u64::from(u32::from_le_bytes(self.bytes_at(at + 4)));
         low + high * 0x1_0000_0000
     }
 
@@ -149,9 +121,9 @@ impl Block {
         ensures { Becomes self.old self.new (store_bytes at size word self.old.cells.bytes) }
     {
         match size {
-            1 => self.put_byte(at, ((word % 0x100) as u8).to_le_bytes()),
-            2 => self.put_half(at, ((word % 0x1_0000) as u16).to_le_bytes()),
-            4 => self.put_word(at, ((word % 0x1_0000_0000) as u32).to_le_bytes()),
+            1 => self.put_bytes(at, ((word % 0x100) as u8).to_le_bytes()),
+            2 => self.put_bytes(at, ((word % 0x1_0000) as u16).to_le_bytes()),
+            4 => self.put_bytes(at, ((word % 0x1_0000_0000) as u32).to_le_bytes()),
             _ => self.store_long(at, word),
         }
     }
@@ -163,7 +135,7 @@ impl Block {
     {
         let low = (word % 0x1_0000_0000) as u32;
         let high = (word / 0x1_0000_0000) as u32;
-        self.put_word(at, low.to_le_bytes());
-        self.put_word(at + 4, high.to_le_bytes());
+        self.put_bytes(at, low.to_le_bytes());
+        self.put_bytes(at + 4, high.to_le_bytes());
     }
 }

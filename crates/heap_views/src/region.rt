@@ -92,51 +92,19 @@ impl Cells {
         unsafe { slice::from_raw_parts(base.ptr, len) }
     }
 
-    /// Reads 8 bits at once.
-    pub(crate) fn get_8(&self, base: Base, at: usize) -> [u8; 1]
-        requires { (base.ptr ≡ self.now.at) × (at + 1 ≤ length self.now.bytes) }
-        ensures { result ≡ take 1 (drop at self.now.bytes) }
+    /// Reads N bytes at once.
+    pub(crate) fn get<const N: usize>(&self, base: Base, at: usize) -> [u8; N]
+        requires { (base.ptr ≡ self.now.at) × (at + N ≤ length self.now.bytes) }
+        ensures { result ≡ take N (drop at self.now.bytes) }
     {
-        unsafe { *(base.ptr.add(at) as *const [u8; 1]) }
+        unsafe { *(base.ptr.add(at) as *const [u8; N]) }
     }
 
-    /// Reads 16 bits at once.
-    pub(crate) fn get_16(&self, base: Base, at: usize) -> [u8; 2]
-        requires { (base.ptr ≡ self.now.at) × (at + 2 ≤ length self.now.bytes) }
-        ensures { result ≡ take 2 (drop at self.now.bytes) }
+    /// Writes N bytes at once.
+    pub(crate) fn put<const N: usize>(&mut self, base: Base, at: usize, bytes: [u8; N])
+        requires { (base.ptr ≡ self.old.at) × (at + N ≤ length self.old.bytes) }
+        ensures { (self.new.at ≡ self.old.at) × (self.new.spare ≡ self.old.spare) × (self.new.bytes ≡ with_run at bytes.entry self.old.bytes) }
     {
-        unsafe { *(base.ptr.add(at) as *const [u8; 2]) }
-    }
-
-    /// Reads 32 bits at once.
-    pub(crate) fn get_32(&self, base: Base, at: usize) -> [u8; 4]
-        requires { (base.ptr ≡ self.now.at) × (at + 4 ≤ length self.now.bytes) }
-        ensures { result ≡ take 4 (drop at self.now.bytes) }
-    {
-        unsafe { *(base.ptr.add(at) as *const [u8; 4]) }
-    }
-
-    /// Writes 8 bits at once.
-    pub(crate) fn put_8(&mut self, base: Base, at: usize, byte: [u8; 1])
-        requires { (base.ptr ≡ self.old.at) × (at + 1 ≤ length self.old.bytes) }
-        ensures { (self.new.at ≡ self.old.at) × (self.new.spare ≡ self.old.spare) × (self.new.bytes ≡ with_run at byte self.old.bytes) }
-    {
-        unsafe { *(base.ptr.add(at) as *mut [u8; 1]) = byte }
-    }
-
-    /// Writes 16 bits at once.
-    pub(crate) fn put_16(&mut self, base: Base, at: usize, half: [u8; 2])
-        requires { (base.ptr ≡ self.old.at) × (at + 2 ≤ length self.old.bytes) }
-        ensures { (self.new.at ≡ self.old.at) × (self.new.spare ≡ self.old.spare) × (self.new.bytes ≡ with_run at half self.old.bytes) }
-    {
-        unsafe { *(base.ptr.add(at) as *mut [u8; 2]) = half }
-    }
-
-    /// Writes 32 bits at once.
-    pub(crate) fn put_32(&mut self, base: Base, at: usize, word: [u8; 4])
-        requires { (base.ptr ≡ self.old.at) × (at + 4 ≤ length self.old.bytes) }
-        ensures { (self.new.at ≡ self.old.at) × (self.new.spare ≡ self.old.spare) × (self.new.bytes ≡ with_run at word self.old.bytes) }
-    {
-        unsafe { *(base.ptr.add(at) as *mut [u8; 4]) = word }
+        unsafe { *(base.ptr.add(at) as *mut [u8; N]) = bytes }
     }
 }

@@ -1,66 +1,83 @@
-//! Runs of bytes, moved by whole words where they can.
-ghost use Rattle.std.specs.Prelude.{◌≡◌, ◌+◌, ◌<◌, ◌≤◌, length, take, drop, replicate};
+//! Runs of bytes, moved by many bytes at once where they can: lines, then words, then single bytes.
+ghost use Rattle.std.specs.Prelude.{◌≡◌, ◌+◌, ◌-◌, ◌<◌, ◌≤◌, length, take, drop};
 ghost use Rattle.heap_lang.specs.Heap.{with_run, copied, filled};
-ghost use Rattle.heap_views.specs.Block.{IsBlock, Becomes, IsPart};
+ghost use Rattle.heap_views.specs.Block.{IsBlock, Becomes};
 
 use crate::block::Block;
+use std::simd::Simd;
 
-/// How many bytes are moved at once where so many are left.
-fn part_of(left: usize) -> usize
-    requires { 0 < left }
-    ensures { (result ≤ left) × IsPart result }
+/// The N bytes of the slice from `at` on.
+fn bytes_of<const N: usize>(bytes: &[u8], at: usize) -> [u8; N]
+    requires { at + N ≤ length bytes.now }
+    ensures { result ≡ take N (drop at bytes.now) }
 {
-    if left >= 4 { 4 } else { 1 }
-}
-
-fn word_of(bytes: &[u8], at: usize) -> [u8; 4]
-    requires { at + 4 ≤ length bytes.now }
-    ensures { result ≡ take 4 (drop at bytes.now) }
-{
-    [bytes[at], bytes[at + 1], bytes[at + 2], bytes[at + 3]]
-}
-
-fn byte_of(bytes: &[u8], at: usize) -> [u8; 1]
-    requires { at + 1 ≤ length bytes.now }
-    ensures { result ≡ take 1 (drop at bytes.now) }
-{
-    [bytes[at]]
+    Simd::<u8, N>::from_slice(&bytes[at..]).to_array()
 }
 
 impl Block {
-    fn put_part(&mut self, at: usize, part: usize, bytes: &[u8], from: usize)
-        requires { IsBlock self.old × IsPart part × (from + part ≤ length bytes.now) × (at + part ≤ length self.old.cells.bytes) }
-        ensures { Becomes self.old self.new (with_run at (take part (drop from bytes.now)) self.old.cells.bytes) }
+    /// Writes the bytes by N from `at` on, until fewer are left. Gives how many it wrote.
+    fn put_by<const N: usize>(&mut self, at: usize, bytes: &[u8]) -> usize
+        requires { IsBlock self.old × (0 < N) × (at + length bytes.now ≤ length self.old.cells.bytes) }
+        ensures written { (result ≤ length bytes.now) × Becomes self.old self.new (with_run at (take result bytes.now) self.old.cells.bytes) }
+        ensures left { length bytes.now < result + N }
     {
-        if part == 4 {
-            self.put_word(at, word_of(bytes, from));
-        } else {
-            self.put_byte(at, byte_of(bytes, from));
+        let mut done = 0;
+        while bytes.len() - done >= N {
+            self.put_bytes(at + done, bytes_of::<N>(bytes, done));
+            done += N;
         }
+        done
     }
 
-    fn fill_part(&mut self, at: usize, part: usize, byte: u8)
-        requires { IsBlock self.old × IsPart part × (at + part ≤ length self.old.cells.bytes) }
-        ensures { Becomes self.old self.new (with_run at (replicate part byte) self.old.cells.bytes) }
+    /// Writes the byte by N into the `len` places from `at` on, until fewer are left. Gives how many it wrote.
+    fn fill_by<const N: usize>(&mut self, at: usize, len: usize, byte: u8) -> usize
+        requires { IsBlock self.old × (0 < N) × (at + len ≤ length self.old.cells.bytes) }
+        ensures written { (result ≤ len) × Becomes self.old self.new (filled at result byte self.old.cells.bytes) }
+        ensures left { len < result + N }
     {
-        if part == 4 {
-            self.put_word(at, [byte; 4]);
-        } else {
-            self.put_byte(at, [byte; 1]);
+        let run = [byte; N];
+        let mut done = 0;
+        while len - done >= N {
+            self.put_bytes(at + done, run);
+            done += N;
         }
+        done
     }
 
-    fn copy_part(&mut self, to: usize, from: usize, part: usize)
-        requires { IsBlock self.old × IsPart part × (to + part ≤ length self.old.cells.bytes) × (from + part ≤ length self.old.cells.bytes) }
-        ensures { Becomes self.old self.new (with_run to (take part (drop from self.old.cells.bytes)) self.old.cells.bytes) }
+    fn copy_bytes<const N: usize>(&mut self, to: usize, from: usize)
+        requires { IsBlock self.old × (to + N ≤ length self.old.cells.bytes) × (from + N ≤ length self.old.cells.bytes) }
+        ensures { Becomes self.old self.new (with_run to (take N (drop from self.old.cells.bytes)) self.old.cells.bytes) }
     {
-        if part == 4 {
-            let word = self.word_at(from);
-            self.put_word(to, word);
-        } else {
-            let byte = self.byte_at(from);
-            self.put_byte(to, byte);
+        let bytes: [u8; N] = self.bytes_at(from);
+        self.put_bytes(to, bytes);
+    }
+
+    /// Copies the first of `len` bytes by N to places before them, until fewer are left. Gives how many it copied.
+    fn copy_up_by<const N: usize>(&mut self, to: usize, from: usize, len: usize) -> usize
+        requires { IsBlock self.old × (0 < N) × (to ≤ from) × (from + len ≤ length self.old.cells.bytes) }
+        ensures copied { (result ≤ len) × Becomes self.old self.new (copied to from result self.old.cells.bytes) }
+        ensures left { len < result + N }
+    {
+        let mut done = 0;
+        while len - done >= N {
+            self.copy_bytes::<N>(to + done, from + done);
+            done += N;
         }
+        done
+    }
+
+    /// Copies the last of `len` bytes by N to places after them, until fewer are left. Gives how many are left.
+    fn copy_down_by<const N: usize>(&mut self, to: usize, from: usize, len: usize) -> usize
+        requires { IsBlock self.old × (0 < N) × (from ≤ to) × (to + len ≤ length self.old.cells.bytes) }
+        ensures copied { (result ≤ len) × Becomes self.old self.new (copied (to + result) (from + result) (len - result) self.old.cells.bytes) }
+        ensures left { result < N }
+    {
+        let mut left = len;
+        while left >= N {
+            left -= N;
+            self.copy_bytes::<N>(to + left, from + left);
+        }
+        left
     }
 
     /// Writes the bytes from `at` on.
@@ -68,12 +85,10 @@ impl Block {
         requires { IsBlock self.old × (at + length bytes.now ≤ length self.old.cells.bytes) }
         ensures { Becomes self.old self.new (with_run at bytes.now self.old.cells.bytes) }
     {
-        let mut done = 0;
-        while done < bytes.len() {
-            let part = part_of(bytes.len() - done);
-            self.put_part(at + done, part, bytes, done);
-            done += part;
-        }
+        let lines = self.put_by::<64>(at, bytes);
+        let words = self.put_by::<8>(at + lines, &bytes[lines..]);
+        let done = lines + words;
+        let _ = self.put_by::<1>(at + done, &bytes[done..]);
     }
 
     /// Writes the byte into the `len` places from `at` on.
@@ -81,25 +96,23 @@ impl Block {
         requires { IsBlock self.old × (at + len ≤ length self.old.cells.bytes) }
         ensures { Becomes self.old self.new (filled at len byte self.old.cells.bytes) }
     {
-        let mut done = 0;
-        while done < len {
-            let part = part_of(len - done);
-            self.fill_part(at + done, part, byte);
-            done += part;
-        }
+        let lines = self.fill_by::<64>(at, len, byte);
+        let words = self.fill_by::<8>(at + lines, len - lines, byte);
+        let done = lines + words;
+        let _ = self.fill_by::<1>(at + done, len - done, byte);
     }
+
+    // A line of a copy is 256 bytes, which LLVM makes one call of memmove. A shorter one is moves of 16 bytes.
 
     /// Copies `len` bytes to places before them, the first byte first.
     pub(crate) fn copy_up(&mut self, to: usize, from: usize, len: usize)
         requires { IsBlock self.old × (to ≤ from) × (from + len ≤ length self.old.cells.bytes) }
         ensures { Becomes self.old self.new (copied to from len self.old.cells.bytes) }
     {
-        let mut done = 0;
-        while done < len {
-            let part = part_of(len - done);
-            self.copy_part(to + done, from + done, part);
-            done += part;
-        }
+        let lines = self.copy_up_by::<256>(to, from, len);
+        let words = self.copy_up_by::<8>(to + lines, from + lines, len - lines);
+        let done = lines + words;
+        let _ = self.copy_up_by::<1>(to + done, from + done, len - done);
     }
 
     /// Copies `len` bytes to places after them, the last byte first.
@@ -107,11 +120,8 @@ impl Block {
         requires { IsBlock self.old × (from ≤ to) × (to + len ≤ length self.old.cells.bytes) }
         ensures { Becomes self.old self.new (copied to from len self.old.cells.bytes) }
     {
-        let mut left = len;
-        while left > 0 {
-            let part = part_of(left);
-            left -= part;
-            self.copy_part(to + left, from + left, part);
-        }
+        let words = self.copy_down_by::<256>(to, from, len);
+        let bytes = self.copy_down_by::<8>(to, from, words);
+        let _ = self.copy_down_by::<1>(to, from, bytes);
     }
 }

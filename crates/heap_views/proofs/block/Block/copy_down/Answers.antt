@@ -1,25 +1,20 @@
-use Rattle.std.proofs.Common.{◌≡◌, ◌+◌, ◌-◌, ◌≤◌, length, take, drop, ap, ◌∙◌, arith}
-use Rattle.heap_lang.specs.Heap.{with_run, copied}
-use Rattle.heap_lang.proofs.RunLemmas.{copied_none}
-use Rattle.heap_views.proofs.BlockLemmas.{unchanged, chained, copied_down_by}
+use Rattle.std.proofs.Common.{◌≡◌, ◌+◌, ◌-◌, ap, ◌∙◌, arith}
+use Rattle.heap_lang.specs.Heap.{copied}
+use Rattle.heap_views.specs.Block.{Becomes}
+use Rattle.heap_views.proofs.BlockLemmas.{chained, copied_down_on}
 use Rattle.heap_views.proofs.block.Block.copy_down.Goals as goal
 
-pub loop-left-init : goal.loop-left-init
-loop-left-init c =
-    let to = c.args.to in let from = c.args.from in let len = c.args.len in let heap = c.args.self.now.cells.bytes in
-    let none : len - len ≡ 0 = omega arith in
-    (omega arith, unchanged c.args.self.now _ c.requires.0 (ap (λ k. copied (to + len) (from + len) k heap) none ∙ copied_none (to + len) (from + len) heap))
-
-pub loop-left-preserved : goal.loop-left-preserved
-loop-left-preserved c =
-    let to = c.args.to in let from = c.args.from in let len = c.args.len in let part = c.part_of-part.result in let heap = c.args.self.now.cells.bytes in
-    let before = c.loop-left.invariant.1 in let was = c.loop-left.left in let left = was - part in
-    let few : part ≤ was = c.part_of-part.ensures.0 in let within : was ≤ len = c.loop-left.invariant.0 in
-    let back : was ≡ left + part = omega (arith, few) in
-    let more : part + (len - was) ≡ len - left = omega (arith, few, within) in
-    let fits : to + (left + part + (len - was)) ≤ length heap = omega (arith, few, within, c.requires.2) in (
-      omega (arith, within),
-      chained c.args.self.now c.loop-left.self c.copy_part.new.self _ _ _ before c.copy_part.ensures
-          (ap (λ m. with_run (to + left) (take part (drop (from + left) m)) m) (before.1 ∙ ap (λ k. copied (to + k) (from + k) (len - was) heap) back)
-          ∙ copied_down_by to from left part (len - was) heap c.requires.1 fits ∙ ap (λ k. copied (to + left) (from + left) k heap) more),
-    )
+pub returns : goal.returns
+returns c =
+    let to = c.args.to in let from = c.args.from in let len = c.args.len in let block = c.args.self.now in let heap = block.cells.bytes in
+    let first = c.copy_down_by-words in let second = c.copy_down_by-bytes in let third = c.copy_down_by in
+    let down = c.requires.1 in let fits = c.requires.2 in let words = first.result in let bytes = second.result in let last = third.result in
+    let one = first.ensures.copied in let two = second.ensures.copied in let three = third.ensures.copied in
+    let both : Becomes block second.new.self (copied (to + bytes) (from + bytes) (len - bytes) heap) =
+    chained block first.new.self second.new.self _ _ _ one.1 two.1
+    (ap (λ m. copied (to + bytes) (from + bytes) (words - bytes) m) one.1.1 ∙ copied_down_on to from bytes words len heap down two.0 one.0 fits) in
+    let none : last ≡ 0 = omega (arith, third.ensures.left) in
+    let there : to + last ≡ to = omega (arith, none) in let here : from + last ≡ from = omega (arith, none) in let whole : len - last ≡ len = omega (arith, none) in
+    chained block second.new.self third.new.self _ _ _ both three.1
+    (ap (λ m. copied (to + last) (from + last) (bytes - last) m) both.1 ∙ copied_down_on to from last bytes len heap down three.0 (omega (arith, one.0, two.0)) fits
+    ∙ (λ i. copied (there i) (here i) (whole i) heap))
