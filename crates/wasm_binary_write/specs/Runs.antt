@@ -4,7 +4,7 @@ use Rattle.wasm_lang.specs.declared.types.ValType.{ValType}
 use Rattle.wasm_binary_write.specs.declared.code.Joined.{Joined}
 use Rattle.wasm_binary_write.specs.Spelling.{runs, runs_from}
 
--- the longest runs of the locals that follow and of those that stand open before them
+-- the longest runs of these locals, before which the last runs stand
 abbrev pub runs_after : Option Joined → List ValType → List (ℕ × ValType)
 runs_after None types = runs types
 runs_after (Some r) types = runs_from r.count r.kind types

@@ -67,34 +67,34 @@ fn runs_of(alloc: Global, locals: &[Run]) -> Result<Vec<Joined>, AllocError>
     ensures { IfOk result (λ v. map joined_of v.items ≡ runs (locals_in locals.now)) }
 {
     let mut done = Vec::new(alloc);
-    let mut open = None;
+    let mut last = None;
     for run in locals {
-        open = next_run(&mut done, open, *run)?;
+        last = next_run(&mut done, last, *run)?;
     }
-    if let Some(last) = open {
-        done.push(last)?;
+    if let Some(run) = last {
+        done.push(run)?;
     }
     Ok(done)
 }
 
-// The runs that stand open, joined, after one more; those that this ends are done.
+// The last runs, joined, after one more; those that it is not joined with are done.
 fn next_run(
     done: &mut Vec<Joined>,
-    open: Option<Joined>,
+    before: Option<Joined>,
     run: Run,
 ) -> Result<Option<Joined>, AllocError>
-    requires { IsBelow (2 ^ 127) open }
-    ensures count { IfOk result (λ next. (limit : ℕ) → IsBelow limit open → IsBelow (limit + 2 ^ 32) next) }
-    ensures value { IfOk result (λ next. (rest : List PlainType) → map joined_of done.new.items ++ runs_after next rest ≡ map joined_of done.old.items ++ runs_after open (replicate run.count run.kind ++ rest)) }
+    requires { IsBelow (2 ^ 127) before }
+    ensures count { IfOk result (λ next. (limit : ℕ) → IsBelow limit before → IsBelow (limit + 2 ^ 32) next) }
+    ensures value { IfOk result (λ next. (rest : List PlainType) → map joined_of done.new.items ++ runs_after next rest ≡ map joined_of done.old.items ++ runs_after before (replicate run.count run.kind ++ rest)) }
 {
     if run.count == 0 {
-        return Ok(open);
+        return Ok(before);
     }
     let next = Joined {
         count: u128::from(run.count),
         kind: run.kind,
     };
-    let Some(last) = open else {
+    let Some(last) = before else {
         return Ok(Some(next));
     };
     if is_same(last.kind, next.kind) {

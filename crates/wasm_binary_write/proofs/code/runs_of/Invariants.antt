@@ -7,6 +7,6 @@ use Rattle.wasm_binary_write.proofs.code.runs_of.Given as goal
 
 abbrev pub invariant-loop-run : goal.invariant-loop-run
 invariant-loop-run l = record {
-  counted : IsBelow (l.run-index * 2 ^ 32) l.open;
-  so_far : map joined_of l.done.items ++ runs_after l.open (locals_in (drop l.run-index l.locals)) ≡ runs (locals_in l.locals);
+  counted : IsBelow (l.run-index * 2 ^ 32) l.last;
+  so_far : map joined_of l.done.items ++ runs_after l.last (locals_in (drop l.run-index l.locals)) ≡ runs (locals_in l.locals);
 }
