@@ -1,3 +1,4 @@
 pub mod Whole
 pub mod Stands
+pub mod Ints
 mod Examples

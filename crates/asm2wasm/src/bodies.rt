@@ -3,7 +3,7 @@ ghost use Rattle.std.specs.Prelude.{◌≡◌, ◌-◌, [], ◌∷◌, ◌++◌,
 ghost use Rattle.sem_words.specs.Lists.{list_items};
 ghost use Rattle.wasm_lang.specs.declared.types.ValType.TheVariants.{I32};
 ghost use Rattle.wasm_lang.specs.Instructions.{end_mark};
-ghost use Rattle.wasm_tree.specs.Views.{instr_of, body_of};
+ghost use Rattle.wasm_tree.specs.Views.{instr_of, locals_in, body_of};
 ghost use Rattle.wasm_laws_bytes.specs.Each.{EachIn};
 ghost use Rattle.wasm_laws_write.specs.Lengths.{IsNarrow};
 ghost use Rattle.asm_tree.specs.Views.{module_view, function_view};
@@ -20,7 +20,7 @@ use asm2wasm_emit_switches::{reach_of, reaches};
 use asm2wasm_numbers::{FunctionNumbers, ModuleNumbers};
 use sem_words::List;
 use std::alloc::{AllocError, Global};
-use wasm_tree::{Body, Code, Instr, ValType};
+use wasm_tree::{Body, Code, Instr, Run, ValType};
 
 /// The bodies of functions, for a heap of so many bytes.
 pub fn bodies(
@@ -68,11 +68,20 @@ fn body_with(
     Ok(Body { locals, code })
 }
 
-// So many locals.
-fn ints(alloc: Global, count: usize) -> Result<List<ValType>, AllocError>
-    ensures { IfOk result (λ ints. list_items ints ≡ replicate count I32) }
+// So many locals, in one run or, where they are too many for one, in several.
+fn ints(alloc: Global, count: usize) -> Result<List<Run>, AllocError>
+    ensures { IfOk result (λ ints. locals_in (list_items ints) ≡ replicate count I32) }
 {
-    let ints = Vec::from_elem(alloc, ValType::I32, count)?;
+    let mut ints = Vec::new(alloc);
+    let mut rest = count;
+    while rest > 0 {
+        let part = rest.min(u32::MAX as usize);
+        ints.push(Run {
+            count: part as u32,
+            kind: ValType::I32,
+        })?;
+        rest -= part;
+    }
     Ok(List::from_vec(ints))
 }
 

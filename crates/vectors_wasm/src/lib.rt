@@ -8,6 +8,8 @@ mod jumps;
 #[cfg(test)]
 mod listings;
 #[cfg(test)]
+mod locals;
+#[cfg(test)]
 mod plain;
 #[cfg(test)]
 mod reading;

@@ -14,7 +14,7 @@ fn list<T>(items: Vec<T>) -> List<T> {
 }
 
 // A module of one exported function, without memory.
-fn one_function<'a>(
+pub(crate) fn one_function<'a>(
     alloc: Global,
     params: Vec<ValType>,
     answer: ValType,

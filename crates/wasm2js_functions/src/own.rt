@@ -50,19 +50,6 @@ fn function_in(
     Ok(made)
 }
 
-// The types of parameters and further locals.
-fn local_types(
-    alloc: Global,
-    params: &[ValType],
-    more: &[ValType],
-) -> Result<Vec<ValType>, AllocError>
-    ensures { IfOk result (λ types. types.items ≡ params.now ++ more.now) }
-{
-    let mut types = Vec::from_slice(alloc, params)?;
-    types.extend_from_slice(more)?;
-    Ok(types)
-}
-
 /// The function of this number, of this type and with this body, which is an expression.
 pub fn own_function(
     alloc: Global,
@@ -77,7 +64,7 @@ pub fn own_function(
     ensures { IfOk result (λ f. (tree : Trees) → tree_of (body_of body.now).code ≡ Some tree → function_view f ≡ modules.own_function (module_of «module».now) number (type_of function_type.now) (body_of body.now).locals tree) }
 {
     let params = function_type.params.as_slice();
-    let locals = local_types(alloc, params, body.locals.as_slice())?;
+    let locals = body.local_types(alloc, params)?;
     let flat = Body::of(alloc, &body.code)?;
     let scope = BodyScope {
         types: module.types.as_slice(),

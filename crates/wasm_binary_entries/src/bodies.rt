@@ -5,7 +5,7 @@ ghost use Rattle.wasm_lang.specs.Limits.{params_of, most_locals};
 ghost use Rattle.wasm_lang.specs.Reading as reading;
 ghost use Rattle.wasm_lang.specs.ReadingModule as modules;
 ghost use Rattle.wasm_tree.specs.Inputs.{input_of, IsField, IsRead, Continues};
-ghost use Rattle.wasm_tree.specs.Views.{type_of, body_of};
+ghost use Rattle.wasm_tree.specs.Views.{type_of, locals_in, body_of};
 ghost use Rattle.wasm_binary_entries.specs.Lent.{source_of, IsLentBody, EachAt, Located};
 ghost use Rattle.wasm_binary_entries.specs.Places.{code_place, body_place};
 ghost use Rattle.wasm_binary_entries.specs.Sized.{body_head};
@@ -15,21 +15,22 @@ use crate::code::code;
 use crate::fields::{count, nothing_left, number, split};
 use sem_words::List;
 use std::alloc::{AllocError, Global};
-use wasm_tree::{Body, Fault, FuncType, Input, ReadError, Row, ValType};
+use wasm_tree::{Body, Fault, FuncType, Input, ReadError, Row, Run};
 
 // The most locals of a function that this reader takes, with its parameters.
 const MOST_LOCALS: usize = 60_000;
 
-// So many more of a type.
-fn push_all(list: &mut List<ValType>, n: u32, kind: ValType) -> Result<(), AllocError>
-    ensures { OnOk result (list_items list.new ≡ list_items list.old ++ replicate n kind) }
+// A run more, unless it is of no locals.
+fn push_run(list: &mut List<Run>, run: Run) -> Result<(), AllocError>
+    ensures { OnOk result (locals_in (list_items list.new) ≡ locals_in (list_items list.old) ++ replicate run.count run.kind) }
 {
-    for _k in 0..n {
-        if list.push(kind).is_err() {
-            return Err(AllocError);
-        }
+    if run.count == 0 {
+        return Ok(());
     }
-    Ok(())
+    match list.push(run) {
+        Ok(()) => Ok(()),
+        Err(_) => Err(AllocError),
+    }
 }
 
 // So many runs of locals, where the function has so many parameters.
@@ -38,20 +39,20 @@ fn runs<'a>(
     input: Input<'a>,
     params: usize,
     n: u32,
-) -> Result<(List<ValType>, Input<'a>), ReadError>
-    ensures value { IsRead list_items result (modules.runs_field params n (input_of input.entry)) }
+) -> Result<(List<Run>, Input<'a>), ReadError>
+    ensures value { IsRead (λ l. locals_in (list_items l)) result (modules.runs_field params n (input_of input.entry)) }
     ensures follows { IfOk result (λ x. Continues x.1 input.entry) }
 {
     let mut list = List::new(alloc);
     let mut used = params;
     let mut rest = input;
     for _i in 0..n {
-        let (k, after) = count(rest, used, MOST_LOCALS)?;
+        let (count, after) = count(rest, used, MOST_LOCALS)?;
         let (kind, after) = after.val_type()?;
-        if push_all(&mut list, k, kind).is_err() {
+        if push_run(&mut list, Run { count, kind }).is_err() {
             return Err(ReadError::Memory);
         }
-        used += k as usize;
+        used += count as usize;
         rest = after;
     }
     Ok((list, rest))

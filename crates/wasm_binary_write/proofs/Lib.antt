@@ -1,5 +1,6 @@
 pub mod Examples
 pub mod BestModule
+pub mod Joining
 pub mod Locals
 pub mod BestEntries
 pub mod BestCode

@@ -96,6 +96,18 @@ on_run : (k n : ℕ) (t : ValType) (us : List ValType) → runs_from n t (replic
 on_run zero n t us = ap (λ n. runs_from n t us) (let e : n ≡ n + 0 = omega arith in e)
 on_run (suc k) n t us = on_same n t (replicate k t ++ us) ∙ on_run k (n + 1) t us ∙ ap (λ n. runs_from n t us) (let e : n + 1 + k ≡ n + suc k = omega arith in e)
 
+-- the first run, the run of the type before, and a run of another type
+pub first_run : (k : ℕ) (t : ValType) (us : List ValType) → 0 < k → runs (replicate k t ++ us) ≡ runs_from k t us
+first_run zero t us h = absurd (omega arith)
+first_run (suc k) t us h = on_run k 1 t us ∙ ap (λ n. runs_from n t us) (let e : 1 + k ≡ suc k = omega arith in e)
+
+pub same_run : (n : ℕ) (t u : ValType) (k : ℕ) (us : List ValType) → same_type t u ≡ true → runs_from n t (replicate k u ++ us) ≡ runs_from (n + k) t us
+same_run n t u k us e = subst (λ u. runs_from n t (replicate k u ++ us) ≡ runs_from (n + k) t us) (same_is t u e) (on_run k n t us)
+
+pub other_run : (n : ℕ) (t u : ValType) (k : ℕ) (us : List ValType) → 0 < k → same_type t u ≡ false → runs_from n t (replicate k u ++ us) ≡ (n, t) ∷ runs_from k u us
+other_run n t u zero us h e = absurd (omega arith)
+other_run n t u (suc k) us h e = on_other n t u (replicate k u ++ us) e ∙ ap (λ l. (n, t) ∷ l) (first_run (suc k) u us h)
+
 run_more : (n : ℕ) (t : ValType) (us : List ValType) → replicate (n + 1) t ++ us ≡ replicate n t ++ t ∷ us
 run_more n t us = ap (λ k. replicate k t ++ us) (let e : n + 1 ≡ suc n = omega arith in e) ∙ by n
   where

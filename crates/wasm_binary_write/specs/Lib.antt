@@ -1,3 +1,4 @@
 pub mod Opcodes
+pub mod Runs
 pub mod Spelling
 pub mod Views

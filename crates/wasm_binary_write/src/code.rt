@@ -1,28 +1,29 @@
 //! Function bodies (WebAssembly Core 1.0, section 5.5.13).
-ghost use Rattle.std.specs.Prelude.{◌≡◌, ℕ, List, ◌+◌, ◌<◌, ◌^◌, ◌≤◌, ◌∷◌, ◌++◌, length, map, IfOk, OnOk, MatchResult};
+ghost use Rattle.std.specs.Prelude.{◌≡◌, ℕ, List, ◌+◌, ◌^◌, ◌++◌, map, replicate, IfOk, OnOk};
 ghost use Rattle.wasm_lang.specs.declared.types.ValType.{ValType as PlainType};
-ghost use Rattle.wasm_tree.specs.Views.{code_of};
-ghost use Rattle.wasm_binary_write.specs.Spelling.{items, instruction, vector, run, runs, runs_from, same_type};
-ghost use Rattle.wasm_binary_write.specs.Views.{run_of};
+ghost use Rattle.wasm_tree.specs.Views.{code_of, locals_in};
+ghost use Rattle.wasm_binary_write.specs.Spelling.{items, instruction, vector, run, runs, same_type};
+ghost use Rattle.wasm_binary_write.specs.Views.{joined_of};
+ghost use Rattle.wasm_binary_write.specs.Runs.{runs_after, IsBelow};
 
 use crate::instrs::push_instrs;
-use crate::leb::push_unsigned;
+use crate::leb::push_wide;
 use crate::spell::{Spell, push_sized, push_vector};
 use std::alloc::{AllocError, Global};
-use wasm_tree::{Body, Code, ValType};
+use wasm_tree::{Body, Code, Run, ValType};
 
-/// Locals of one type, one after another.
+/// Runs of one type, joined: they may have more locals than one run can have.
 #[derive(Clone, Copy)]
-pub struct Run {
-    pub count: usize,
+pub struct Joined {
+    pub count: u128,
     pub kind: ValType,
 }
 
-impl Spell for Run {
-    ghost spelling = { λ r. run (run_of r) };
+impl Spell for Joined {
+    ghost spelling = { λ r. run (joined_of r) };
 
     fn push_to(&self, alloc: Global, out: &mut Vec<u8>) -> Result<(), AllocError> {
-        push_unsigned(out, self.count)?;
+        push_wide(out, self.count)?;
         self.kind.push_to(alloc, out)
     }
 }
@@ -54,47 +55,56 @@ fn push_code(alloc: Global, out: &mut Vec<u8>, code: &Code<'_>) -> Result<(), Al
     }
 }
 
-fn push_locals(alloc: Global, out: &mut Vec<u8>, locals: &[ValType]) -> Result<(), AllocError>
-    ensures { OnOk result (out.new.items ≡ out.old.items ++ vector run (runs locals.now)) }
+fn push_locals(alloc: Global, out: &mut Vec<u8>, locals: &[Run]) -> Result<(), AllocError>
+    ensures { OnOk result (out.new.items ≡ out.old.items ++ vector run (runs (locals_in locals.now))) }
 {
     let list = runs_of(alloc, locals)?;
     push_vector(alloc, out, &list)
 }
 
 // The longest runs of one type.
-fn runs_of(alloc: Global, locals: &[ValType]) -> Result<Vec<Run>, AllocError>
-    ensures { IfOk result (λ v. map run_of v.items ≡ runs locals.now) }
+fn runs_of(alloc: Global, locals: &[Run]) -> Result<Vec<Joined>, AllocError>
+    ensures { IfOk result (λ v. map joined_of v.items ≡ runs (locals_in locals.now)) }
 {
     let mut done = Vec::new(alloc);
-    let Some((first, others)) = locals.split_first() else {
-        return Ok(done);
-    };
-    let mut last = Run {
-        count: 1,
-        kind: *first,
-    };
-    for kind in others {
-        last = next_run(&mut done, last, *kind)?;
+    let mut last = None;
+    for run in locals {
+        last = next_run(&mut done, last, *run)?;
     }
-    done.push(last)?;
+    if let Some(run) = last {
+        done.push(run)?;
+    }
     Ok(done)
 }
 
-// The run that stands open after one more local; a run that this ends is done.
-fn next_run(done: &mut Vec<Run>, last: Run, kind: ValType) -> Result<Run, AllocError>
-    requires { last.count + 1 < 2 ^ 64 }
-    ensures count { IfOk result (λ next. next.count ≤ last.count + 1) }
-    ensures value { MatchResult result (λ next. (rest : List PlainType) → map run_of done.new.items ++ runs_from next.count next.kind rest ≡ map run_of done.old.items ++ runs_from last.count last.kind (kind ∷ rest)) (λ e. Unit {0}) }
+// The last runs, joined, after one more; those that it is not joined with are done.
+fn next_run(
+    done: &mut Vec<Joined>,
+    before: Option<Joined>,
+    run: Run,
+) -> Result<Option<Joined>, AllocError>
+    requires { IsBelow (2 ^ 127) before }
+    ensures count { IfOk result (λ next. (limit : ℕ) → IsBelow limit before → IsBelow (limit + 2 ^ 32) next) }
+    ensures value { IfOk result (λ next. (rest : List PlainType) → map joined_of done.new.items ++ runs_after next rest ≡ map joined_of done.old.items ++ runs_after before (replicate run.count run.kind ++ rest)) }
 {
-    if is_same(last.kind, kind) {
-        Ok(Run {
-            count: last.count + 1,
-            kind: last.kind,
-        })
-    } else {
-        done.push(last)?;
-        Ok(Run { count: 1, kind })
+    if run.count == 0 {
+        return Ok(before);
     }
+    let next = Joined {
+        count: u128::from(run.count),
+        kind: run.kind,
+    };
+    let Some(last) = before else {
+        return Ok(Some(next));
+    };
+    if is_same(last.kind, next.kind) {
+        return Ok(Some(Joined {
+            count: last.count + next.count,
+            kind: last.kind,
+        }));
+    }
+    done.push(last)?;
+    Ok(Some(next))
 }
 
 fn is_same(a: ValType, b: ValType) -> bool

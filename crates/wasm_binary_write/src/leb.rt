@@ -8,7 +8,14 @@ use std::alloc::AllocError;
 pub fn push_unsigned(out: &mut Vec<u8>, number: usize) -> Result<(), AllocError>
     ensures { OnOk result (out.new.items ≡ out.old.items ++ unsigned number) }
 {
-    push_groups(out, number as u64, 128, false)
+    push_groups(out, number as u128, 128, false)
+}
+
+/// Appends an unsigned number, which may be too large for a size.
+pub fn push_wide(out: &mut Vec<u8>, number: u128) -> Result<(), AllocError>
+    ensures { OnOk result (out.new.items ≡ out.old.items ++ unsigned number) }
+{
+    push_groups(out, number, 128, false)
 }
 
 /// Appends a word of 32 bits as the signed number that it stands for.
@@ -16,9 +23,9 @@ pub fn push_s32(out: &mut Vec<u8>, word: u32) -> Result<(), AllocError>
     ensures { OnOk result (out.new.items ≡ out.old.items ++ integer 32 word) }
 {
     if word < 0x8000_0000 {
-        push_groups(out, u64::from(word), 64, false)
+        push_groups(out, u128::from(word), 64, false)
     } else {
-        push_groups(out, u64::from(u32::MAX - word), 64, true)
+        push_groups(out, u128::from(u32::MAX - word), 64, true)
     }
 }
 
@@ -27,14 +34,14 @@ pub fn push_s64(out: &mut Vec<u8>, word: u64) -> Result<(), AllocError>
     ensures { OnOk result (out.new.items ≡ out.old.items ++ integer 64 word) }
 {
     if word < 0x8000_0000_0000_0000 {
-        push_groups(out, word, 64, false)
+        push_groups(out, u128::from(word), 64, false)
     } else {
-        push_groups(out, u64::MAX - word, 64, true)
+        push_groups(out, u128::from(u64::MAX - word), 64, true)
     }
 }
 
 // Seven bits of a number in a byte, as they are or turned round, the last below the limit.
-fn push_groups(out: &mut Vec<u8>, number: u64, limit: u64, turned: bool) -> Result<(), AllocError>
+fn push_groups(out: &mut Vec<u8>, number: u128, limit: u128, turned: bool) -> Result<(), AllocError>
     requires { (0 < limit) × (limit ≤ 128) }
     ensures { OnOk result (out.new.items ≡ out.old.items ++ groups limit turned number) }
 {

@@ -1,8 +1,11 @@
 -- Lists of zeros and of what encloses code, from their ends.
-use Rattle.std.proofs.Common.{◌≡◌, ℕ, ◌+◌, ◌<◌, List, [], ◌∷◌, ◌++◌, length, get_or, map, reverse, take, refl, sym, ap, ◌∙◌}
-use Rattle.std.proofs.lemmas.List.{reverse-append, take_more}
+use Rattle.std.proofs.Common.{◌≡◌, ℕ, zero, suc, ◌+◌, ◌<◌, List, [], ◌∷◌, ◌++◌, length, get_or, replicate, map, reverse, take, refl, sym, ap, ◌∙◌}
+use Rattle.std.proofs.lemmas.List.{reverse-append}
 use Rattle.sem_words.specs.declared.word.Word.{Word}
 use Rattle.wasm_lang.specs.declared.types.ValType.{ValType}
+use Rattle.wasm_tree.specs.declared.module.Run.{Run}
+use Rattle.wasm_tree.specs.Views.{locals_in}
+use Rattle.wasm_tree.proofs.Runs.{locals_more}
 use Rattle.wasm_lang_exec.specs.Store.{word_of_type, zeros_of}
 use Rattle.wasm_laws_machine.specs.Machine.{EnclosingPlain}
 use Rattle.wasm_run_frames.specs.declared.machine.Enclosing.{Enclosing}
@@ -12,10 +15,15 @@ pub zeros_append : (ts us : List ValType) → zeros_of (ts ++ us) ≡ zeros_of t
 zeros_append [] us = refl
 zeros_append (t ∷ ts) us = ap (λ l. word_of_type t 0 ∷ l) (zeros_append ts us)
 
--- one type more
-pub zeros_more : (ts : List ValType) (i : ℕ) (t : ValType) → i < length ts → t ≡ get_or ts i t → zeros_of (take (i + 1) ts) ≡ zeros_of (take i ts) ++ word_of_type t 0 ∷ []
-zeros_more ts i t lt h =
-    ap zeros_of (take_more ts i t lt) ∙ zeros_append (take i ts) (get_or ts i t ∷ []) ∙ ap (λ x. zeros_of (take i ts) ++ word_of_type x 0 ∷ []) (sym h)
+zeros_of_one : (n : ℕ) (t : ValType) → zeros_of (replicate n t) ≡ replicate n (word_of_type t 0)
+zeros_of_one zero t = refl
+zeros_of_one (suc n) t = ap (λ l. word_of_type t 0 ∷ l) (zeros_of_one n t)
+
+-- one run more
+pub zeros_more : (runs : List Run) (i : ℕ) (run : Run) → i < length runs → run ≡ get_or runs i run
+    → zeros_of (locals_in (take (i + 1) runs)) ≡ zeros_of (locals_in (take i runs)) ++ replicate run.count (word_of_type run.kind 0)
+zeros_more runs i run lt h =
+    ap zeros_of (locals_more runs i run lt h) ∙ zeros_append (locals_in (take i runs)) (replicate run.count run.kind) ∙ ap (λ l. zeros_of (locals_in (take i runs)) ++ l) (zeros_of_one run.count run.kind)
 
 map_append : (es fs : List Enclosing) → map enclosing_of (es ++ fs) ≡ map enclosing_of es ++ map enclosing_of fs
 map_append [] fs = refl

@@ -1,5 +1,6 @@
 //! Blocks and functions that are entered.
-ghost use Rattle.std.specs.Prelude.{◌≡◌, [], ◌∷◌, ◌++◌, length, OnOk};
+ghost use Rattle.std.specs.Prelude.{◌≡◌, [], ◌∷◌, ◌++◌, length, replicate, OnOk};
+ghost use Rattle.wasm_tree.specs.Views.{locals_in};
 ghost use Rattle.wasm_lang_exec.specs.Store.{word_of_type, zeros_of};
 ghost use Rattle.wasm_laws_machine.specs.Machine.{of_frame, of_label};
 ghost use Rattle.wasm_run_frames.specs.Views.{machine_of};
@@ -10,6 +11,7 @@ use std::alloc::AllocError;
 use std::mem;
 use wasm_lang::ValType;
 use wasm_run_flat::Target;
+use wasm_tree::Run;
 
 /// A block is entered, whose label has this target and arity; its code begins at `at`.
 pub fn enter_block(
@@ -49,12 +51,23 @@ fn zero_of(kind: ValType) -> Word
     }
 }
 
-// The word of each type that stands for 0, after other words.
-fn add_zeros(locals: &mut Vec<Word>, more: &[ValType]) -> Result<(), AllocError>
-    ensures { OnOk result (locals.new.items ≡ locals.old.items ++ zeros_of more.now) }
+// The word that stands for 0 for each local of a run, after other words.
+fn add_run(locals: &mut Vec<Word>, run: Run) -> Result<(), AllocError>
+    ensures { OnOk result (locals.new.items ≡ locals.old.items ++ replicate run.count (word_of_type run.kind 0)) }
 {
-    for kind in more {
-        locals.push(zero_of(*kind))?;
+    let zero = zero_of(run.kind);
+    for _k in 0..run.count {
+        locals.push(zero)?;
+    }
+    Ok(())
+}
+
+// The word that stands for 0 for each local, after other words.
+fn add_zeros(locals: &mut Vec<Word>, more: &[Run]) -> Result<(), AllocError>
+    ensures { OnOk result (locals.new.items ≡ locals.old.items ++ zeros_of (locals_in more.now)) }
+{
+    for run in more {
+        add_run(locals, *run)?;
     }
     Ok(())
 }
@@ -64,13 +77,13 @@ pub fn enter_function(
     machine: &mut Machine<'_>,
     function: usize,
     arguments: Vec<Word>,
-    more: &[ValType],
+    more: &[Run],
     arity: usize,
 ) -> Result<(), AllocError>
     ensures { OnOk result (let old = machine_of machine.old in machine_of machine.new ≡ record old {
       values = [];
       below = old.values ++ old.below;
-      locals = arguments.items ++ zeros_of more.now;
+      locals = arguments.items ++ zeros_of (locals_in more.now);
       function = function;
       at = 0;
       enclosing = of_frame (record { function = old.function; at = old.at; locals = old.locals; arity = arity; floor = length old.below }) ∷ old.enclosing;

@@ -6,3 +6,4 @@ pub mod Forms
 pub mod Spelled
 pub mod Slices
 pub mod Following
+pub mod Runs

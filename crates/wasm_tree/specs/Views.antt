@@ -4,7 +4,8 @@ use Rattle.sem_words.specs.Lists.{text_bytes, list_items}
 use Rattle.wasm_lang.specs.Instructions as plain
 use Rattle.wasm_lang.specs.Instructions.{Instruction}
 use Rattle.wasm_lang.specs.Modules.{FunctionType, Imported, GlobalEntry, Exported, ElementSegment, DataSegment, FunctionBody, WasmModule}
-use Rattle.wasm_lang.specs.Grammar.{IsCode}
+use Rattle.wasm_lang.specs.declared.types.ValType.{ValType}
+use Rattle.wasm_lang.specs.Grammar.{IsCode, locals_of}
 use Rattle.wasm_lang.specs.ReadingCode.{spelled}
 use Rattle.wasm_tree.specs.declared.instr.Instr.{Instr}
 use Rattle.wasm_tree.specs.declared.instr.Instr.TheVariants as code
@@ -18,6 +19,7 @@ use Rattle.wasm_tree.specs.declared.module.GlobalDef.{GlobalDef}
 use Rattle.wasm_tree.specs.declared.module.WasmExport.{WasmExport}
 use Rattle.wasm_tree.specs.declared.module.Element.{Element}
 use Rattle.wasm_tree.specs.declared.module.Segment.{Segment}
+use Rattle.wasm_tree.specs.declared.module.Run.{Run}
 use Rattle.wasm_tree.specs.declared.module.Body.{Body}
 use Rattle.wasm_tree.specs.declared.module.Module.{Module}
 
@@ -98,8 +100,15 @@ element_of e = record { table = e.table; offset = map instr_of (list_items e.off
 abbrev pub segment_of : Segment → DataSegment
 segment_of s = record { memory = s.memory; offset = map instr_of (list_items s.offset); bytes = bytes_of s.bytes }
 
+abbrev pub run_of : Run → ℕ × ValType
+run_of r = (r.count, r.kind)
+
+-- the locals of runs, one after another
+abbrev pub locals_in : List Run → List ValType
+locals_in runs = locals_of (map run_of runs)
+
 abbrev pub body_of : Body → FunctionBody
-body_of b = record { locals = list_items b.locals; code = code_of b.code }
+body_of b = record { locals = locals_in (list_items b.locals); code = code_of b.code }
 
 abbrev pub module_of : Module → WasmModule
 module_of m = record {

@@ -17,7 +17,7 @@ pub use error::ReadError;
 pub use input::Input;
 pub use instr::Instr;
 pub use leb::{leb_s32, leb_s64, leb_u32};
-pub use module::{Body, Element, FuncType, GlobalDef, Import, Module, Segment, WasmExport};
+pub use module::{Body, Element, FuncType, GlobalDef, Import, Module, Run, Segment, WasmExport};
 pub use opcodes::{opcode, plain_instr};
 pub use read::{read_instr, read_numbers};
 pub use wasm_lang::{ExportKind, Fault, GlobalType, ImportKind, Limits, MemOp, Row, ValType};

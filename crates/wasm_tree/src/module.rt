@@ -1,9 +1,12 @@
 //! Modules (WebAssembly Core 1.0, section 2.5). Numbers of functions, tables, memories and globals count
 //! the imported ones first.
+ghost use Rattle.std.specs.Prelude.{◌≡◌, ◌++◌, replicate, IfOk, OnOk};
+ghost use Rattle.wasm_tree.specs.Views.{body_of};
 
 use crate::code::{Bytes, Code};
 use crate::instr::Instr;
 use sem_words::List;
+use std::alloc::{AllocError, Global};
 use wasm_lang::{ExportKind, GlobalType, ImportKind, Limits, ValType};
 
 /// The type of a function.
@@ -51,11 +54,41 @@ pub struct Segment<'a> {
     pub bytes: Bytes<'a>,
 }
 
-/// The locals after a function's parameters, and its code.
+/// So many locals of one type, one after another.
+#[derive(Clone, Copy)]
+pub struct Run {
+    pub count: u32,
+    pub kind: ValType,
+}
+
+/// The locals after a function's parameters, in runs, and its code.
 #[derive(Drop)]
 pub struct Body<'a> {
-    pub locals: List<ValType>,
+    pub locals: List<Run>,
     pub code: Code<'a>,
+}
+
+impl Body<'_> {
+    /// The types `before`, and then the type of each local.
+    pub fn local_types(&self, alloc: Global, before: &[ValType]) -> Result<Vec<ValType>, AllocError>
+        ensures { IfOk result (λ types. types.items ≡ before.now ++ (body_of self.now).locals) }
+    {
+        let mut types = Vec::from_slice(alloc, before)?;
+        for run in self.locals.as_slice() {
+            push_run(&mut types, *run)?;
+        }
+        Ok(types)
+    }
+}
+
+// The type of each local of a run.
+fn push_run(types: &mut Vec<ValType>, run: Run) -> Result<(), AllocError>
+    ensures { OnOk result (types.new.items ≡ types.old.items ++ replicate run.count run.kind) }
+{
+    for _k in 0..run.count {
+        types.push(run.kind)?;
+    }
+    Ok(())
 }
 
 /// A module. A function is the number of its type in `functions` and what stands at that place in `bodies`.

@@ -107,7 +107,7 @@ fn check_slots(
     ensures slots { IfOk result (λ n. n ≡ body_slots (module_of «module».now) i (body_of body.now)) }
     ensures exactly { MatchResult result (λ _. IsValid (body_context (module_of «module».now) i (body_of body.now)) (body_of body.now).code) (λ e. IsRefusal (body_context (module_of «module».now) i (body_of body.now)) (body_of body.now).code e) }
 {
-    let locals = match locals_of(alloc, own_type(module, i), body.locals.as_slice()) {
+    let locals = match locals_of(alloc, own_type(module, i), body) {
         Ok(locals) => locals,
         Err(_) => return Err(BodyFault::Memory),
     };
@@ -139,16 +139,14 @@ fn own_type<'t>(module: &'t Module<'_>, i: usize) -> Option<&'t FuncType>
 fn locals_of(
     alloc: Global,
     own: Option<&FuncType>,
-    locals: &[ValType],
+    body: &Body<'_>,
 ) -> Result<Vec<ValType>, AllocError>
-    ensures { IfOk result (λ all. MatchOption own.entry (all.items ≡ locals.now) (λ t. all.items ≡ (type_of t.now).params ++ locals.now)) }
+    ensures { IfOk result (λ all. MatchOption own.entry (all.items ≡ (body_of body.now).locals) (λ t. all.items ≡ (type_of t.now).params ++ (body_of body.now).locals)) }
 {
-    let mut all = Vec::new(alloc);
-    if let Some(t) = own {
-        all.extend_from_slice(t.params.as_slice())?;
+    match own {
+        Some(t) => body.local_types(alloc, t.params.as_slice()),
+        None => body.local_types(alloc, &[]),
     }
-    all.extend_from_slice(locals)?;
-    Ok(all)
 }
 
 // What a body may refer to, whose function has this type and whose parameters and locals are these.

@@ -3,5 +3,5 @@ use Rattle.std.proofs.lemmas.Grind.{common_steps}
 use Rattle.wasm_run_frames.proofs.Zeros.{zeros_more}
 use Rattle.wasm_run_frames.proofs.entering.add_zeros.Goals as goal
 
-pub loop-kind-preserved : goal.loop-kind-preserved
-loop-kind-preserved c = let h = c.zero_of.ensures in grind (arith, common_steps, zeros_more)
+pub loop-run-preserved : goal.loop-run-preserved
+loop-run-preserved c = grind (arith, common_steps, zeros_more)

@@ -1,0 +1,103 @@
+//! Locals in runs, read and written.
+use crate::writing::one_function;
+use sem_words::List;
+use std::alloc::{AllocError, Global};
+use std::test::Fail;
+use wasm_binary::read;
+use wasm_binary_write::write;
+use wasm_tree::{Body, Code, Run, ValType};
+
+// What stands before the code section in a module of one function, which takes nothing and gives a number of
+// 32 bits.
+const BEFORE: &[u8] =
+    b"\0asm\x01\0\0\0\x01\x05\x01\x60\0\x01\x7f\x03\x02\x01\0\x07\x05\x01\x01\x66\0\0";
+
+// i32.const 0, end
+const ZERO: &[u8] = &[0x41, 0, 0x0b];
+
+// The code sections of such a module without locals, and with five of 32 bits.
+const NO_LOCALS: &[u8] = b"\x0a\x06\x01\x04\0\x41\0\x0b";
+const FIVE_LOCALS: &[u8] = b"\x0a\x08\x01\x06\x01\x05\x7f\x41\0\x0b";
+
+const fn run(count: u32, kind: ValType) -> Run {
+    Run { count, kind }
+}
+
+fn with_code(alloc: Global, code: &[u8]) -> Result<Vec<u8>, AllocError> {
+    let mut bytes = Vec::from_slice(alloc, BEFORE)?;
+    bytes.extend_from_slice(code)?;
+    Ok(bytes)
+}
+
+// What is written of the module that the bytes spell; nothing where they spell none.
+fn rewritten(alloc: Global, bytes: &[u8]) -> Result<Vec<u8>, AllocError> {
+    match read(alloc, bytes) {
+        Ok(module) => write(alloc, &module),
+        Err(_) => Ok(Vec::new(alloc)),
+    }
+}
+
+// What is written of a function with these runs of locals.
+fn written(alloc: Global, runs: &[Run]) -> Result<Vec<u8>, AllocError> {
+    let body = Body {
+        locals: List::from_vec(Vec::from_slice(alloc, runs)?),
+        code: Code::Lent(ZERO),
+    };
+    let module = one_function(alloc, Vec::new(alloc), ValType::I32, b"f", body)?;
+    write(alloc, &module)
+}
+
+#[test]
+fn runs_are_read_and_the_longest_are_written(rt: HostRuntime) -> Result<(), Fail> {
+    let alloc = rt.alloc();
+    // the sizes, then the runs, then the code
+    let both = b"\x0a\x0a\x01\x08\x02\x01\x7f\x01\x7e\x41\0\x0b";
+    let no_locals_twice = b"\x0a\x0a\x01\x08\x02\0\x7e\0\x7f\x41\0\x0b";
+    let none_between = b"\x0a\x0c\x01\x0a\x03\x02\x7f\0\x7e\x03\x7f\x41\0\x0b";
+    let rows: [(&[u8], &[u8]); 3] = [
+        (both, both),
+        (no_locals_twice, NO_LOCALS),
+        (none_between, FIVE_LOCALS),
+    ];
+    for (code, longest) in rows {
+        let bytes = with_code(alloc, code)?;
+        let wanted = with_code(alloc, longest)?;
+        let again = rewritten(alloc, bytes.as_slice())?;
+        assert_eq!(rt; again.as_slice(), wanted.as_slice());
+    }
+    Ok(())
+}
+
+#[test]
+fn runs_of_one_type_are_written_as_one(rt: HostRuntime) -> Result<(), Fail> {
+    let alloc = rt.alloc();
+    let three = [
+        run(2, ValType::I32),
+        run(0, ValType::I64),
+        run(3, ValType::I32),
+    ];
+    let two = [run(u32::MAX, ValType::I32), run(u32::MAX, ValType::I32)];
+    // 2 ^ 33 - 2 locals, which no module may have
+    let many = b"\x0a\x0c\x01\x0a\x01\xfe\xff\xff\xff\x1f\x7f\x41\0\x0b";
+    let rows: [(&[Run], &[u8]); 3] = [(&[], NO_LOCALS), (&three, FIVE_LOCALS), (&two, many)];
+    for (runs, code) in rows {
+        let bytes = written(alloc, runs)?;
+        let wanted = with_code(alloc, code)?;
+        assert_eq!(rt; bytes.as_slice(), wanted.as_slice());
+    }
+    Ok(())
+}
+
+#[test]
+fn the_types_of_locals(rt: HostRuntime) -> Result<(), Fail> {
+    let alloc = rt.alloc();
+    let runs = vec![in alloc; run(2, ValType::I32), run(0, ValType::I32), run(1, ValType::I64)]?;
+    let body = Body {
+        locals: List::from_vec(runs),
+        code: Code::Lent(ZERO),
+    };
+    let types = body.local_types(alloc, &[ValType::I64])?;
+    let wanted = [ValType::I64, ValType::I32, ValType::I32, ValType::I64];
+    assert!(rt; types.as_slice() == wanted.as_slice());
+    Ok(())
+}
