@@ -14,7 +14,7 @@ use Rattle.wasm2js_laws_simulation.specs.BoundedLaws.{SpelledAreBounded}
 use Rattle.bridge_cmd.specs.Command.{wasm_to_asm}
 use Rattle.bridge_cmd.specs.Job.{IsMade, translated_back}
 
-abbrev SaysAgain : Type 0
+abbrev pub SaysAgain : Type 0
 SaysAgain = (m : Module) → IsWellFormed m → (places : List ℕ) × SaysModule (canonical_text m) m places
 
 module _ (allowed : SpelledAreAllowed) (traps : TrapsOfSpelledAreCalls) (bounded : SpelledAreBounded) (again : SaysAgain) where

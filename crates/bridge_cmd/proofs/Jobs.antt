@@ -24,13 +24,13 @@ use Rattle.bridge_words.specs.Answer.{Answers}
 use Rattle.bridge_words.specs.declared.fault.WordsFault.{WordsFault}
 use Rattle.bridge_words.specs.declared.fault.WordsFault.TheVariants as words_faults
 use Rattle.bridge_cmd.specs.declared.status.Status.TheVariants.{Usage}
-use Rattle.bridge_cmd.specs.Asking.{done_by, asked_by}
+use Rattle.bridge_cmd.specs.Asking.{done_by, named_by}
 use Rattle.bridge_cmd.specs.declared.words.Making.TheVariants.{AsmToWasm, WasmToAsm, CheckAsm, CheckWasm, Show}
 use Rattle.bridge_cmd.specs.declared.words.Action.{Action}
 use Rattle.bridge_cmd.specs.declared.words.Action.TheVariants.{Make, Run}
-use Rattle.bridge_cmd.specs.Command.{Asked, Running, as_binary, run, asked, asm_js, web_assembly, begins_with_zero, language_of, read_as, file_of}
+use Rattle.bridge_cmd.specs.Command.{Asked, Running, as_binary, run, on_files, gen, asked, asm_js, web_assembly, begins_with_zero, language_of, read_as, file_of}
 use Rattle.bridge_cmd.specs.Answers.{IsAnswered, a_bar, want_of_memory, IsScriptAnswer, an_unfit_line, no_room, MayAnswer, a_refusal, a_read_fault, no_memory}
-use Rattle.bridge_cmd.specs.Job.{Job, refused, file_limit, Holds, IsFileJob, absent, long, held, IsBarred, not_accepted, not_valid, not_translated, outside, IsMade, translated, translated_back, text_counted, bytes_counted, printed, listed, IsPlayed, unfit, ran, IsModuleJob, barred, made, scripted, IsJob, no_command, commanded}
+use Rattle.bridge_cmd.specs.Job.{Job, refused, file_limit, Holds, IsFileJob, absent, long, held, IsBarred, not_accepted, not_valid, not_translated, outside, IsMade, translated, translated_back, text_counted, bytes_counted, printed, listed, IsPlayed, unfit, ran, IsModuleJob, barred, made, scripted, IsJob, no_command, commanded, generated}
 use Rattle.bridge_cmd.specs.Runs.{Runner, text_runner, binary_runner, IsRunner, a_text, a_binary, script_for, Prints}
 use Rattle.bridge_cmd.specs.Outcome.{EndsAs, IsCutShort, by_a_read, by_want, MayReport}
 use Rattle.bridge_cmd.specs.Reason.{Reason, read_fault, missing, too_large}
@@ -154,6 +154,11 @@ one_end words None some j k x y = absurd cc
 one_end words (Some map) some j k (no_command e) (no_command e') = refl
 one_end words (Some map) some j k (no_command e) (commanded a n x) = absurd cc
 one_end words (Some map) some j k (commanded a n x) (no_command e) = absurd cc
+one_end words (Some map) some j k (no_command e) (generated n named y) = absurd cc
+one_end words (Some map) some j k (commanded a n x) (generated m named y) = absurd cc
+one_end words (Some map) some j k (generated n named x) (no_command e) = absurd cc
+one_end words (Some map) some j k (generated n named x) (commanded a m y) = absurd cc
+one_end words (Some map) some j k (generated n named x) (generated m named' y) = refl
 one_end words (Some map) some j k (commanded a n x) (commanded b n' y) =
     let same : b ≡ a = cc in
     one_file_end map false (file_of a) (IsModuleJob (Some map) a) (one_module_end map a) j k x
@@ -269,7 +274,7 @@ of_script_file told running file script bytes steps runner r i (a_refusal x) = a
 of_script_file told running file script bytes steps runner r i a_read_fault = a_read_fault
 of_script_file told running file script bytes steps runner r i no_memory = no_memory
 
-pub of_command : (words : List (List ℕ)) (told : Option Told) (a : Asked) (r : Reason) → asked words ≡ Some a
+pub of_command : (words : List (List ℕ)) (told : Option Told) (a : Asked) (r : Reason) → asked words ≡ Some (on_files a)
     → MayAnswer (IsFileJob told false (file_of a) (IsModuleJob told a)) r → MayReport words told r
 of_command words told a r n (a_refusal x) = a_refusal (commanded a n x)
 of_command words told a r n a_read_fault = a_read_fault
@@ -285,7 +290,7 @@ file_done (Make Show) file = refl
 file_done (Run running script steps) file = refl
 
 -- words that name no command may be told, and want of memory
-pub words_report : (words : List (List ℕ)) (told : Option Told) (fault : WordsFault) → Answers asked_by (asked words) (Err fault) → MayReport words told (reason_of_words fault)
+pub words_report : (words : List (List ℕ)) (told : Option Told) (fault : WordsFault) → Answers named_by (asked words) (Err fault) → MayReport words told (reason_of_words fault)
 words_report words told words_faults.Usage is = a_refusal (no_command is)
 words_report words told words_faults.Memory is = no_memory
 

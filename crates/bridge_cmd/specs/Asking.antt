@@ -1,7 +1,7 @@
 -- What the code's commands ask for.
 use Rattle.std.specs.Prelude.{ℕ, List, string_bytes}
 use Rattle.bridge_cmd.specs.Command as spec
-use Rattle.bridge_cmd.specs.Command.{Asked}
+use Rattle.bridge_cmd.specs.Command.{Asked, Named}
 use Rattle.bridge_cmd.specs.declared.words.Making.{Making}
 use Rattle.bridge_cmd.specs.declared.words.Making.TheVariants.{AsmToWasm, WasmToAsm, CheckAsm, CheckWasm, Show}
 use Rattle.bridge_cmd.specs.declared.words.Running.{Running}
@@ -9,6 +9,8 @@ use Rattle.bridge_cmd.specs.declared.words.Running.TheVariants.{Text, Binary}
 use Rattle.bridge_cmd.specs.declared.words.Action.{Action}
 use Rattle.bridge_cmd.specs.declared.words.Action.TheVariants.{Make, Run}
 use Rattle.bridge_cmd.specs.declared.words.Command.{Command}
+use Rattle.bridge_cmd.specs.declared.words.Wanted.{Wanted}
+use Rattle.bridge_cmd.specs.declared.words.Wanted.TheVariants.{OnFiles, Gen}
 
 abbrev pub made_by : Making → List ℕ → Asked
 made_by (AsmToWasm heap) file = spec.asm_to_wasm file heap.bytes
@@ -27,3 +29,7 @@ done_by (Run running script steps) file = spec.run (run_as running) file (string
 
 abbrev pub asked_by : Command → Asked
 asked_by command = done_by command.action (string_bytes command.file)
+
+abbrev pub named_by : Wanted → Named
+named_by (OnFiles command) = spec.on_files (asked_by command)
+named_by (Gen count) = spec.gen count.functions

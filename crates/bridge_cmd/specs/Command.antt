@@ -27,16 +27,22 @@ file_of (check_wasm file) = file
 file_of (show file) = file
 file_of (run running file script steps) = file
 
-abbrev pub command_of : JobRead → Asked
-command_of (words.asm_to_wasm file heap) = asm_to_wasm file heap
-command_of (words.wasm_to_asm file) = wasm_to_asm file
-command_of (words.check_asm file) = check_asm file
-command_of (words.check_wasm file) = check_wasm file
-command_of (words.show file) = show file
-command_of (words.run_asm file script heap steps) = run (as_text heap) file script steps
-command_of (words.run_wasm file script steps) = run as_binary file script steps
+-- what the words name: a command with its files, or a text of so many functions
+pub data Named : Type 0 where
+  on_files : Asked → Named
+  gen : (functions : ℕ) → Named
 
-abbrev pub asked : List (List ℕ) → Option Asked
+abbrev pub command_of : JobRead → Named
+command_of (words.asm_to_wasm file heap) = on_files (asm_to_wasm file heap)
+command_of (words.wasm_to_asm file) = on_files (wasm_to_asm file)
+command_of (words.check_asm file) = on_files (check_asm file)
+command_of (words.check_wasm file) = on_files (check_wasm file)
+command_of (words.show file) = on_files (show file)
+command_of (words.run_asm file script heap steps) = on_files (run (as_text heap) file script steps)
+command_of (words.run_wasm file script steps) = on_files (run as_binary file script steps)
+command_of (words.gen functions) = gen functions
+
+abbrev pub asked : List (List ℕ) → Option Named
 asked words = option_map command_of (job_of words)
 
 -- the language of a module's bytes

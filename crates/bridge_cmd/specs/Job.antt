@@ -1,6 +1,6 @@
 -- What the words and the files ask for: the first refusal in the order words, module read, module checked, script read, script
 -- checked; or the output.
-use Rattle.std.specs.Prelude.{◌≡◌, ◌≢◌, ◌<◌, ◌≤◌, ℕ, Bool, true, false, List, Option, Some, None, Err, IfSome, IsSomeAnd, length}
+use Rattle.std.specs.Prelude.{◌≡◌, ◌≢◌, ◌<◌, ◌≤◌, ℕ, Bool, true, false, List, [], Option, Some, None, Err, IfSome, IsSomeAnd, length}
 use Rattle.bridge_io.specs.Outside.{Told, content_of}
 use Rattle.asm_lang.specs.Modules.{Module}
 use Rattle.asm_lang.specs.Printing.{canonical_text}
@@ -18,7 +18,8 @@ use Rattle.cmd_run_wasm.specs.Modules.{IsOutside}
 use Rattle.asm2wasm_lang.specs.Allowed.{IsAllowed, IsBounded, IsShortest}
 use Rattle.wasm2js_lang.specs.Allowed.{IsAllowed as IsAllowedAsm, IsBounded as IsBoundedAsm, TrapsAreCalls}
 use Rattle.wasm2js_code.specs.Modules.{translated as asm_js_for}
-use Rattle.bridge_cmd.specs.Command.{Asked, asm_to_wasm, wasm_to_asm, check_asm, check_wasm, show, Running, as_binary, run, file_of, asked, asm_js, web_assembly, language_of, read_as}
+use Rattle.gen_lang.specs.Recipe.{recipe, recipe_heap, summary}
+use Rattle.bridge_cmd.specs.Command.{Asked, asm_to_wasm, wasm_to_asm, check_asm, check_wasm, show, Running, as_binary, run, on_files, gen, file_of, asked, asm_js, web_assembly, language_of, read_as}
 use Rattle.bridge_cmd.specs.Reason.{Reason, faulty_words, not_run, bad_script, missing, too_large}
 use Rattle.bridge_cmd.specs.Runs.{Runner, IsRunner, script_for, Prints}
 use Rattle.bridge_cmd.specs.Refused.{reason_of_check, reason_of_text}
@@ -80,6 +81,16 @@ pub data IsPlayed (runner : Runner) (steps : ℕ) (script : List ℕ) : Job → 
   unfit : (line : ℕ) → script_for runner script ≡ Err line → IsPlayed runner steps script (refused (bad_script line))
   ran : {output : List ℕ} → Prints runner script steps output → IsPlayed runner steps script (written output)
 
+-- ---- a text of so many functions
+
+-- the bytes that `asm2wasm` makes of the text and the text that `wasm2js` makes of those, and their lengths
+pub record IsSummarized (n : ℕ) (output : List ℕ) : Type 0 where
+  pub bytes : List ℕ
+  pub back : List ℕ
+  pub there : IsMade (asm_to_wasm [] recipe_heap) (recipe n) bytes
+  pub again : IsMade (wasm_to_asm []) bytes back
+  pub summed : output ≡ summary n (length (recipe n)) (length bytes) (length back)
+
 -- ---- the whole
 
 pub data IsModuleJob (told : Option Told) : Asked → List ℕ → Job → Type 0 where
@@ -90,4 +101,5 @@ pub data IsModuleJob (told : Option Told) : Asked → List ℕ → Job → Type 
 
 pub data IsJob (words : List (List ℕ)) (told : Option Told) : Job → Type 0 where
   no_command : asked words ≡ None → IsJob words told (refused faulty_words)
-  commanded : {job : Job} (a : Asked) → asked words ≡ Some a → IsFileJob told false (file_of a) (IsModuleJob told a) job → IsJob words told job
+  commanded : {job : Job} (a : Asked) → asked words ≡ Some (on_files a) → IsFileJob told false (file_of a) (IsModuleJob told a) job → IsJob words told job
+  generated : {output : List ℕ} (n : ℕ) → asked words ≡ Some (gen n) → IsSummarized n output → IsJob words told (written output)

@@ -1,17 +1,18 @@
 //! From the words to the output.
-ghost use Rattle.std.specs.Prelude.{◌≡◌, ◌≤◌, ◌⊎◌, IfOk, IfErr, None, Bool, map, string_bytes, length, ℕ, List};
+ghost use Rattle.std.specs.Prelude.{◌≡◌, ◌≤◌, ◌⊎◌, IfOk, IfErr, None, Bool, false, map, string_bytes, length, ℕ, List};
 ghost use Rattle.bridge_io.specs.Outside.{Rose, RoseBy};
-ghost use Rattle.bridge_cmd.specs.Asking.{done_by};
+ghost use Rattle.bridge_cmd.specs.Asking.{asked_by, done_by};
 ghost use Rattle.bridge_cmd.specs.Command as spec;
-ghost use Rattle.bridge_cmd.specs.Job.{file_limit, IsJob, IsModuleJob, written};
+ghost use Rattle.bridge_cmd.specs.Job.{file_limit, IsFileJob, IsJob, IsModuleJob, written};
 ghost use Rattle.bridge_cmd.specs.Answers.{MayAnswer};
 ghost use Rattle.bridge_cmd.specs.Reason.{faulty_words, read_fault, missing, too_large, out_of_memory};
 ghost use Rattle.bridge_cmd.specs.Refused.{reason_of};
 
+use crate::generating::generated;
 use crate::making::made;
 use crate::playing::{FILE_LIMIT, script_run};
 use crate::refusal::{Refusal, of_gathering, of_words};
-use crate::words::{Action, Command, asked};
+use crate::words::{Action, Command, Wanted, asked};
 use bridge_io::{Files, gather};
 use std::alloc::Global;
 
@@ -43,6 +44,29 @@ fn module_output<F: Files>(
     }
 }
 
+/// What a command makes of its files.
+fn command_output<F: Files>(
+    alloc: Global,
+    command: Command,
+    files: &mut F,
+) -> Result<Vec<u8>, Refusal>
+    ensures told { F.told files.new ≡ F.told files.old }
+    ensures faults { F.faults files.old ≤ F.faults files.new }
+    ensures absences { F.absences files.old ≤ F.absences files.new }
+    ensures given { F.given files.old ≤ F.given files.new }
+    ensures written { IfOk result (λ output. IsFileJob (F.told files.old) false (spec.file_of (asked_by command)) (IsModuleJob (F.told files.old) (asked_by command)) (written output.items)) }
+    ensures refused { IfErr result (λ refusal. MayAnswer (IsFileJob (F.told files.old) false (spec.file_of (asked_by command)) (IsModuleJob (F.told files.old) (asked_by command))) (reason_of refusal)) }
+    ensures read_fault { IfErr result (λ refusal. reason_of refusal ≡ read_fault → Rose (F.faults files.old) (F.faults files.new)) }
+    ensures missing { IfErr result (λ refusal. (is_script : Bool) (file : List ℕ) → reason_of refusal ≡ missing is_script file → Rose (F.absences files.old) (F.absences files.new)) }
+    ensures too_large { IfErr result (λ refusal. (is_script : Bool) (file : List ℕ) → reason_of refusal ≡ too_large is_script file → RoseBy 16777217 (F.given files.old) (F.given files.new)) }
+{
+    let Command { file, action } = command;
+    match gather(alloc, files, file.as_str(), FILE_LIMIT) {
+        Ok(bytes) => module_output(alloc, action, bytes.as_slice(), files),
+        Err(fault) => Err(of_gathering(fault, false, file)),
+    }
+}
+
 /// The output that the words and the files ask for, or why there is none.
 pub(crate) fn output_of<F: Files>(
     alloc: Global,
@@ -60,12 +84,12 @@ pub(crate) fn output_of<F: Files>(
     ensures missing { IfErr result (λ refusal. (is_script : Bool) (file : List ℕ) → reason_of refusal ≡ missing is_script file → Rose (F.absences files.old) (F.absences files.new)) }
     ensures too_large { IfErr result (λ refusal. (is_script : Bool) (file : List ℕ) → reason_of refusal ≡ too_large is_script file → RoseBy 16777217 (F.given files.old) (F.given files.new)) }
 {
-    let Command { file, action } = match asked(alloc, words) {
-        Ok(command) => command,
-        Err(fault) => return Err(of_words(fault)),
-    };
-    match gather(alloc, files, file.as_str(), FILE_LIMIT) {
-        Ok(bytes) => module_output(alloc, action, bytes.as_slice(), files),
-        Err(fault) => Err(of_gathering(fault, false, file)),
+    match asked(alloc, words) {
+        Ok(Wanted::OnFiles(command)) => command_output(alloc, command, files),
+        Ok(Wanted::Gen(count)) => match generated(alloc, count) {
+            Ok(output) => Ok(output),
+            Err(_) => Err(Refusal::OutOfMemory),
+        },
+        Err(fault) => Err(of_words(fault)),
     }
 }

@@ -2,6 +2,7 @@
 #![tactic(auto)]
 
 mod composed;
+mod generating;
 mod job;
 mod making;
 mod playing;

@@ -81,8 +81,8 @@ fn translated_back(alloc: Global, bytes: &[u8]) -> Result<Vec<u8>, Refusal>
     }
 }
 
-// The text of the translation.
-fn text_of(alloc: Global, valid: &Valid<'_>) -> Result<Vec<u8>, AllocError>
+/// The text of the translation.
+pub(crate) fn text_of(alloc: Global, valid: &Valid<'_>) -> Result<Vec<u8>, AllocError>
     requires { outside_profile valid.now ≡ None }
     ensures { IfOk result (λ output. output.items ≡ canonical_text (asm_js_for valid.now)) }
 {

@@ -2,9 +2,9 @@
 ghost use Rattle.std.specs.Prelude.{◌≡◌, map, string_bytes};
 ghost use Rattle.bridge_words.specs.Answer.{Answers};
 ghost use Rattle.bridge_cmd.specs.Command as spec;
-ghost use Rattle.bridge_cmd.specs.Asking.{asked_by, made_by, run_as};
+ghost use Rattle.bridge_cmd.specs.Asking.{named_by, made_by, run_as};
 
-use bridge_words::{HeapLength, Job, WordsFault, read_words};
+use bridge_words::{FunctionCount, HeapLength, Job, WordsFault, read_words};
 use std::alloc::Global;
 
 /// What is made of a module's bytes alone.
@@ -46,31 +46,39 @@ pub(crate) struct Command {
     pub(crate) action: Action,
 }
 
-fn to_make(making: Making, file: String) -> Command
-    ensures { asked_by result ≡ made_by making (string_bytes file) }
-{
-    Command {
-        file,
-        action: Action::Make(making),
-    }
+/// What the words name.
+#[derive(Drop)]
+pub(crate) enum Wanted {
+    OnFiles(Command),
+    /// The summary of a text of so many functions.
+    Gen(FunctionCount),
 }
 
-fn to_run(running: Running, file: String, script: String, steps: u32) -> Command
-    ensures { asked_by result ≡ spec.run (run_as running) (string_bytes file) (string_bytes script) steps }
+fn to_make(making: Making, file: String) -> Wanted
+    ensures { named_by result ≡ spec.on_files (made_by making (string_bytes file)) }
 {
-    Command {
+    Wanted::OnFiles(Command {
+        file,
+        action: Action::Make(making),
+    })
+}
+
+fn to_run(running: Running, file: String, script: String, steps: u32) -> Wanted
+    ensures { named_by result ≡ spec.on_files (spec.run (run_as running) (string_bytes file) (string_bytes script) steps) }
+{
+    Wanted::OnFiles(Command {
         file,
         action: Action::Run {
             running,
             script,
             steps,
         },
-    }
+    })
 }
 
-/// The command that the words name.
-pub(crate) fn asked(alloc: Global, words: &[String]) -> Result<Command, WordsFault>
-    ensures { Answers asked_by (spec.asked (map string_bytes words.now)) result }
+/// What the words name.
+pub(crate) fn asked(alloc: Global, words: &[String]) -> Result<Wanted, WordsFault>
+    ensures { Answers named_by (spec.asked (map string_bytes words.now)) result }
 {
     match read_words(alloc, words)? {
         Job::AsmToWasm(file, heap) => Ok(to_make(Making::AsmToWasm(heap), file)),
@@ -82,5 +90,6 @@ pub(crate) fn asked(alloc: Global, words: &[String]) -> Result<Command, WordsFau
             Ok(to_run(Running::Text(heap), file, script, steps))
         }
         Job::RunWasm(file, script, steps) => Ok(to_run(Running::Binary, file, script, steps)),
+        Job::Gen(count) => Ok(Wanted::Gen(count)),
     }
 }

@@ -7,7 +7,7 @@ use Rattle.std.proofs.lemmas.Grind.{common_steps}
 use Rattle.std.proofs.lemmas.Str.Parse.{IsNumeralModel, numerals_by_value, parse_plain, tells_all_ascii_digits}
 use Rattle.std.proofs.lemmas.Bool.{false_from_ne_true}
 use Rattle.clap.specs.Walk.{Text, is_empty}
-use Rattle.bridge_words.specs.Number.{is_heap, is_steps, kept, number_of}
+use Rattle.bridge_words.specs.Number.{is_gen_count, is_heap, is_steps, kept, number_of}
 
 abbrev fits : ℕ → Bool
 fits n = nat_lt n (2 ^ 32)
@@ -53,6 +53,17 @@ steps_fits n h = grind arith
 
 pub no_steps : (found : Option ℕ) → None ≡ kept (λ n. nat_lt n (2 ^ 32)) found → None ≡ kept is_steps found
 no_steps found e = kept_none is_steps (λ n. nat_lt n (2 ^ 32)) steps_fits found e
+
+pub gen_count_fits : (n : ℕ) → is_gen_count n ≡ true → nat_lt n (2 ^ 32) ≡ true
+unfolding is_gen_count
+gen_count_fits n h = grind arith
+
+pub gen_count_few : (n : ℕ) → is_gen_count n ≡ true → (1 ≤ n) × (n ≤ 10000)
+unfolding is_gen_count
+gen_count_few n h = (grind arith, grind arith)
+
+pub no_gen_count : (found : Option ℕ) → None ≡ kept (λ n. nat_lt n (2 ^ 32)) found → None ≡ kept is_gen_count found
+no_gen_count found e = kept_none is_gen_count (λ n. nat_lt n (2 ^ 32)) gen_count_fits found e
 
 own : IsNumeralModel (λ ds. all_ascii_digits ds ≡ true) (digits_value 10)
 own = numerals_by_value _ tells_all_ascii_digits

@@ -3,11 +3,11 @@ use Rattle.std.specs.Prelude.{◌≡◌, ℕ, List, Option, Some, None, Result, 
 use Rattle.std.specs.Prelude.{string_bytes}
 use Rattle.std.specs.Borrow.{Bor}
 use Rattle.bridge_words.specs.Job.{GivenTexts, texts_or_none, JobRead, check_asm, check_wasm, asm_to_wasm, wasm_to_asm}
-use Rattle.bridge_words.specs.Job.{run_asm, run_wasm, show}
+use Rattle.bridge_words.specs.Job.{run_asm, run_wasm, show, gen}
 use Rattle.bridge_words.specs.declared.command.Given.{Given}
 use Rattle.bridge_words.specs.declared.job.Job.{Job}
 use Rattle.bridge_words.specs.declared.job.Job.TheVariants.{CheckAsm, CheckWasm, AsmToWasm, WasmToAsm}
-use Rattle.bridge_words.specs.declared.job.Job.TheVariants.{RunAsm, RunWasm, Show}
+use Rattle.bridge_words.specs.declared.job.Job.TheVariants.{RunAsm, RunWasm, Show, Gen}
 use Rattle.bridge_words.specs.declared.fault.WordsFault.{WordsFault}
 use Rattle.bridge_words.specs.declared.fault.WordsFault.TheVariants.{Usage, Memory}
 
@@ -33,6 +33,7 @@ job_read (RunAsm file script heap steps) =
     run_asm (string_bytes file) (string_bytes script) heap.bytes steps
 job_read (RunWasm file script steps) = run_wasm (string_bytes file) (string_bytes script) steps
 job_read (Show file) = show (string_bytes file)
+job_read (Gen count) = gen count.functions
 
 -- `Ok` comes only of what is read, `Usage` only where nothing is, and `Memory` at any words
 abbrev pub Answers : {T X : Type 0} → (T → X) → Option X → Result T WordsFault → Type 0

@@ -5,7 +5,7 @@ use Rattle.std.specs.Str.{bytes_eq}
 use Rattle.clap.specs.Kinds.{Kinds}
 use Rattle.clap.specs.Walk.{Row, Text, all_of, first_of}
 use Rattle.bridge_words.specs.App.{faults_of, rows_read}
-use Rattle.bridge_words.specs.Number.{is_heap, is_steps, number_or}
+use Rattle.bridge_words.specs.Number.{is_gen_count, is_heap, is_steps, kept, number_of, number_or}
 
 -- a job, as texts and numbers
 pub data JobRead : Type 0 where
@@ -16,6 +16,7 @@ pub data JobRead : Type 0 where
   run_asm : Text → Text → ℕ → ℕ → JobRead
   run_wasm : Text → Text → ℕ → JobRead
   show : Text → JobRead
+  gen : ℕ → JobRead
 
 -- what follows the command's name
 pub record GivenTexts : Type 0 where
@@ -59,6 +60,10 @@ abbrev pub run_wasm_of : GivenTexts → Option JobRead
 run_wasm_of g = without_option g.heap (option_and_then (λ files.
     option_map (λ steps. run_wasm files.0 files.1 steps) (steps_of g)) (only_two g.operands))
 
+-- a number, and no option
+abbrev pub gen_of : GivenTexts → Option JobRead
+gen_of g = option_and_then (λ text. option_map gen (kept is_gen_count (number_of text))) (lone_operand g)
+
 -- the table
 unfoldable pub job_named : Text → GivenTexts → Option JobRead
 job_named name g =
@@ -69,7 +74,8 @@ job_named name g =
     else (if bytes_eq name (codes "run-asm") then run_asm_of g
     else (if bytes_eq name (codes "run-wasm") then run_wasm_of g
     else (if bytes_eq name (codes "show") then option_map show (lone_operand g)
-    else None))))))
+    else (if bytes_eq name (codes "gen") then gen_of g
+    else None)))))))
 
 -- what `clap` read, as the command's name and what follows it
 abbrev pub texts_or_none : Option (List Text) → List Text

@@ -30,6 +30,10 @@ is_heap n = is_small_heap n || (n % 2 ^ 24 == 0 && (nat_le (2 ^ 24) n && nat_le 
 unfoldable pub is_steps : ℕ → Bool
 is_steps n = nat_le n 1000000000
 
+-- how many functions a text is made of
+unfoldable pub is_gen_count : ℕ → Bool
+is_gen_count n = nat_le 1 n && nat_le n 10000
+
 -- the option's number, and `absent` where it is not given
 abbrev pub number_or : ℕ → (ℕ → Bool) → Option Text → Option ℕ
 number_or absent test None = Some absent

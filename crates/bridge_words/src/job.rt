@@ -2,16 +2,18 @@
 
 ghost use Rattle.std.specs.Prelude.{◌≡◌, Some, map, string_bytes};
 ghost use Rattle.bridge_words.specs.Job as spec;
-ghost use Rattle.bridge_words.specs.Job.{job_named, job_of, only, only_two, asm_to_wasm_of, run_asm_of, run_wasm_of};
+ghost use Rattle.bridge_words.specs.Job.{job_named, job_of, only, only_two, asm_to_wasm_of, run_asm_of, run_wasm_of, gen_of};
 ghost use Rattle.bridge_words.specs.Answer.{Answers, text_of, given_texts, job_read};
 
 use crate::command::{Given, given_of, matches_for};
 use crate::fault::WordsFault;
+use crate::functions::FunctionCount;
 use crate::heap::HeapLength;
-use crate::numbers::{heap_size, step_count};
+use crate::numbers::{function_count, heap_size, step_count};
 use std::alloc::Global;
 
-/// What the words ask for: files by their names, the heap's length, and how many units or reductions a run may take.
+/// What the words ask for: files by their names, the heap's length, how many units or reductions a run may take, and how
+/// many functions a text is made of.
 #[derive(Debug, Drop)]
 pub enum Job {
     CheckAsm(String),
@@ -21,6 +23,7 @@ pub enum Job {
     RunAsm(String, String, HeapLength, u32),
     RunWasm(String, String, u32),
     Show(String),
+    Gen(FunctionCount),
 }
 
 fn owned(alloc: Global, text: &str) -> Result<String, WordsFault>
@@ -105,6 +108,14 @@ fn run_wasm(alloc: Global, given: &Given<'_, '_>) -> Result<Job, WordsFault>
     Ok(Job::RunWasm(file, script, steps))
 }
 
+fn generation(given: &Given<'_, '_>) -> Result<Job, WordsFault>
+    ensures { Answers job_read (gen_of (given_texts given.now)) result }
+{
+    let text = lone_text(given).ok_or(WordsFault::Usage)?;
+    let count = function_count(text).ok_or(WordsFault::Usage)?;
+    Ok(Job::Gen(count))
+}
+
 #[tactic(auto, unfolding(crate::specs::Job::job_named))]
 fn job_for(alloc: Global, name: &str, given: &Given<'_, '_>) -> Result<Job, WordsFault>
     ensures { Answers job_read (job_named name.now (given_texts given.now)) result }
@@ -117,6 +128,7 @@ fn job_for(alloc: Global, name: &str, given: &Given<'_, '_>) -> Result<Job, Word
         "run-asm" => run_asm(alloc, given),
         "run-wasm" => run_wasm(alloc, given),
         "show" => Ok(Job::Show(lone_operand(alloc, given)?)),
+        "gen" => generation(given),
         _ => Err(WordsFault::Usage),
     }
 }

@@ -3,10 +3,12 @@
 
 mod command;
 mod fault;
+mod functions;
 mod heap;
 mod job;
 mod numbers;
 
 pub use fault::WordsFault;
+pub use functions::FunctionCount;
 pub use heap::HeapLength;
 pub use job::{Job, read_words};

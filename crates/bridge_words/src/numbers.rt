@@ -1,4 +1,4 @@
-//! The numbers of options.
+//! The numbers that words write.
 
 ghost use Rattle.std.specs.Prelude.{◌≡◌, ◌^◌, nat_lt, option_map};
 ghost use Rattle.bridge_words.specs.Number as spec;
@@ -7,6 +7,7 @@ ghost use Rattle.bridge_words.specs.Job.{heap_of, steps_of};
 ghost use Rattle.bridge_words.specs.Answer.{given_texts};
 
 use crate::command::Given;
+use crate::functions::FunctionCount;
 use crate::heap::HeapLength;
 
 // bytes
@@ -87,5 +88,23 @@ pub fn step_count(given: &Given<'_, '_>) -> Option<u32>
     match given.steps {
         None => Some(ABSENT_STEPS),
         Some(text) => step_number(text),
+    }
+}
+
+#[tactic(auto, unfolding(crate::specs::Number::is_gen_count))]
+fn is_gen_count(n: u32) -> bool
+    ensures { result ≡ spec.is_gen_count n }
+{
+    1 <= n && n <= 10_000
+}
+
+#[tactic(auto, using(crate::proofs::NumberLemmas::no_gen_count))]
+/// How many functions a text is made of.
+pub fn function_count(text: &str) -> Option<FunctionCount>
+    ensures { option_map (λ count. count.functions) result ≡ kept spec.is_gen_count (number_of text.now) }
+{
+    match number(text) {
+        Some(functions) if is_gen_count(functions) => Some(FunctionCount { functions }),
+        _ => None,
     }
 }

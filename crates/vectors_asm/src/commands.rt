@@ -47,7 +47,7 @@ type Row = (&'static [&'static str], u8, &'static [u8], &'static [u8]);
 
 const USAGE: &[u8] = b"usage: bridge COMMAND [--heap N] [--steps N] [FILE] [SCRIPT]\n";
 
-static ROWS: [Row; 35] = [
+static ROWS: [Row; 40] = [
     (&[], 1, b"", USAGE),
     (&["fly", "add.js"], 1, b"", USAGE),
     (&["asm2wasm"], 1, b"", USAGE),
@@ -68,6 +68,16 @@ static ROWS: [Row; 35] = [
         1,
         b"",
         USAGE,
+    ),
+    (&["gen"], 1, b"", USAGE),
+    (&["gen", "010"], 1, b"", USAGE),
+    (&["gen", "10001"], 1, b"", USAGE),
+    (&["gen", "2", "--heap", "65536"], 1, b"", USAGE),
+    (
+        &["gen", "2"],
+        0,
+        b"functions 2\nasm 182\nwasm 97\njs 3353\n",
+        b"",
     ),
     (&["asm2wasm", "add.js"], 0, ADD_MODULE, b""),
     (

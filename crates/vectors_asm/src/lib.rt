@@ -11,9 +11,13 @@ mod checks;
 #[cfg(test)]
 mod commands;
 #[cfg(test)]
+mod faults;
+#[cfg(test)]
 mod hostile;
 #[cfg(test)]
 mod large;
+#[cfg(test)]
+mod limits;
 #[cfg(test)]
 mod modules;
 #[cfg(test)]

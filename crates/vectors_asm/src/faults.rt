@@ -1,0 +1,155 @@
+//! Reads and writes that fail, one after the other, by the whole program.
+use crate::checks::USUAL;
+use crate::modules::ADDING;
+use bridge_cmd::{Status, bridge};
+use bridge_io::{MemFiles, MemSink};
+use std::alloc::{AllocError, Global};
+use std::process::Abort;
+use std::test::Fail;
+
+const SUM: &[u8] = b"function m(){\"use asm\";function f(a,b){a=a|0;b=b|0;return a+b|0;}return f;}";
+
+/// A call over the files `m` and `s`, and all that it writes to its output.
+struct Whole {
+    words: &'static [&'static str],
+    module: &'static [u8],
+    script: &'static [u8],
+    written: &'static [u8],
+}
+
+static SUM_RUNS: Whole = Whole {
+    words: &["run-asm", "m", "s"],
+    module: SUM,
+    script: b"call f 2147483647 1",
+    written: b"result -2147483648\nend done\n",
+};
+
+static USUAL_RUNS: Whole = Whole {
+    words: &["run-asm", "m", "s"],
+    module: USUAL,
+    script: b"global STACKTOP 1000\ncall stackAlloc 5\ncall stackAlloc 0\ncall _put 16 -2\nreply 0",
+    written: b"result 1000\nresult 1008\nimport abort -2\nresult -6\nend done\nheap 16 fafffffffe0000000000000000000000\n",
+};
+
+static SUM_TRANSLATED: Whole = Whole {
+    words: &["asm2wasm", "m"],
+    module: SUM,
+    script: b"",
+    written: b"\0asm\x01\0\0\0\x01\x07\x01`\x02\x7f\x7f\x01\x7f\x03\x02\x01\0\x07\x05\x01\x01f\0\0\x0a\x09\x01\x07\0 \0 \x01j\x0b",
+};
+
+static ADDING_RUNS: Whole = Whole {
+    words: &["run-wasm", "m", "s"],
+    module: ADDING,
+    script: b"call m 4294967295 4294967295",
+    written: b"result 8589934590\nend done\n",
+};
+
+/// No words but the program's name.
+static WORDLESS: Whole = Whole {
+    words: &[],
+    module: b"",
+    script: b"",
+    written: b"",
+};
+
+/// Which read, or which write of one of the sinks, fails; they are counted from 1 on.
+#[derive(Clone, Copy)]
+enum Fault {
+    Read(u64),
+    Output(u64),
+    Report(u64),
+}
+
+/// How a call ended, and what it wrote.
+#[derive(Drop)]
+struct Ending {
+    status: Status,
+    out: MemSink,
+    report: MemSink,
+}
+
+fn words_of(alloc: Global, words: &[&str]) -> Result<Vec<String>, AllocError> {
+    let mut all = vec![in alloc; String::from_str(alloc, "bridge")?]?;
+    for word in words {
+        all.push(String::from_str(alloc, word)?)?;
+    }
+    Ok(all)
+}
+
+/// The call with this fault. Its output takes one byte at a time.
+fn call(alloc: Global, whole: &Whole, fault: Fault) -> Result<Ending, AllocError> {
+    let words = words_of(alloc, whole.words)?;
+    let mut files = MemFiles::new(alloc);
+    files.add("m", whole.module)?;
+    files.add("s", whole.script)?;
+    let mut out = MemSink::new(alloc, 1000, 1)?;
+    let mut report = MemSink::new(alloc, 1000, 1000)?;
+    match fault {
+        Fault::Read(k) => files.fail_at(k)?,
+        Fault::Output(k) => out.fail_at(k)?,
+        Fault::Report(k) => report.fail_at(k)?,
+    }
+    let status = bridge(alloc, &words, &mut files, &mut out, &mut report);
+    Ok(Ending {
+        status,
+        out,
+        report,
+    })
+}
+
+/// With a read failing, the first and so on, the call ends with a failed read and an empty output, until it makes fewer reads than that.
+fn reads_fail(rt: &impl Abort, alloc: Global, whole: &Whole) -> Result<(), Fail> {
+    for before in 0..10u64 {
+        let ending = call(alloc, whole, Fault::Read(before + 1))?;
+        if ending.status == Status::Done {
+            assert_eq!(rt; ending.out.bytes(), whole.written);
+            // Each of its two files was read.
+            assert!(rt; 2 <= before);
+            return Ok(());
+        }
+        assert_eq!(rt; ending.status, Status::ReadFault);
+        assert_eq!(rt; ending.out.bytes(), b"".as_slice());
+        assert_eq!(rt; ending.report.bytes(), b"read fault\n".as_slice());
+    }
+    Err(Fail::new("no call ended"))
+}
+
+#[test]
+fn each_read_in_turn_fails(rt: HostRuntime) -> Result<(), Fail> {
+    reads_fail(&rt, rt.alloc(), &SUM_RUNS)?;
+    reads_fail(&rt, rt.alloc(), &USUAL_RUNS)
+}
+
+/// With a write failing, the first and so on, the bytes before it stand in the output, until the call makes fewer writes than that.
+fn writes_fail(rt: &impl Abort, alloc: Global, whole: &Whole) -> Result<(), Fail> {
+    for before in 0..1000usize {
+        let ending = call(alloc, whole, Fault::Output(before as u64 + 1))?;
+        let out = ending.out.bytes();
+        assert_eq!(rt; out.len(), before);
+        assert!(rt; whole.written.starts_with(out));
+        assert_eq!(rt; ending.report.bytes(), b"".as_slice());
+        if ending.status == Status::Done {
+            assert_eq!(rt; out, whole.written);
+            return Ok(());
+        }
+        assert_eq!(rt; ending.status, Status::WriteFault);
+    }
+    Err(Fail::new("no call ended"))
+}
+
+#[test]
+fn each_write_in_turn_fails(rt: HostRuntime) -> Result<(), Fail> {
+    writes_fail(&rt, rt.alloc(), &SUM_TRANSLATED)?;
+    writes_fail(&rt, rt.alloc(), &ADDING_RUNS)
+}
+
+#[test]
+fn the_report_fails(rt: HostRuntime) -> Result<(), Fail> {
+    let ending = call(rt.alloc(), &WORDLESS, Fault::Report(1))?;
+    assert_eq!(rt; ending.status, Status::WriteFault);
+    assert_eq!(rt; ending.status.code(), 6);
+    assert_eq!(rt; ending.out.bytes(), b"".as_slice());
+    assert_eq!(rt; ending.report.bytes(), b"".as_slice());
+    Ok(())
+}
