@@ -102,17 +102,34 @@ impl Block {
         let _ = self.fill_by::<1>(at + done, len - done, byte);
     }
 
-    // A line of a copy is 256 bytes, which LLVM makes one call of memmove. A shorter one is moves of 16 bytes.
+    fn copy_up_short(&mut self, to: usize, from: usize, len: usize)
+        requires { IsBlock self.old × (to ≤ from) × (from + len ≤ length self.old.cells.bytes) }
+        ensures { Becomes self.old self.new (copied to from len self.old.cells.bytes) }
+    {
+        let lines = self.copy_up_by::<64>(to, from, len);
+        let words = self.copy_up_by::<8>(to + lines, from + lines, len - lines);
+        let done = lines + words;
+        let _ = self.copy_up_by::<1>(to + done, from + done, len - done);
+    }
+
+    fn copy_down_short(&mut self, to: usize, from: usize, len: usize)
+        requires { IsBlock self.old × (from ≤ to) × (to + len ≤ length self.old.cells.bytes) }
+        ensures { Becomes self.old self.new (copied to from len self.old.cells.bytes) }
+    {
+        let words = self.copy_down_by::<64>(to, from, len);
+        let bytes = self.copy_down_by::<8>(to, from, words);
+        let _ = self.copy_down_by::<1>(to, from, bytes);
+    }
+
+    // LLVM makes one call of memmove of 16384 bytes, and four moves of 16 bytes of 64.
 
     /// Copies `len` bytes to places before them, the first byte first.
     pub(crate) fn copy_up(&mut self, to: usize, from: usize, len: usize)
         requires { IsBlock self.old × (to ≤ from) × (from + len ≤ length self.old.cells.bytes) }
         ensures { Becomes self.old self.new (copied to from len self.old.cells.bytes) }
     {
-        let lines = self.copy_up_by::<256>(to, from, len);
-        let words = self.copy_up_by::<8>(to + lines, from + lines, len - lines);
-        let done = lines + words;
-        let _ = self.copy_up_by::<1>(to + done, from + done, len - done);
+        let pages = self.copy_up_by::<16384>(to, from, len);
+        self.copy_up_short(to + pages, from + pages, len - pages);
     }
 
     /// Copies `len` bytes to places after them, the last byte first.
@@ -120,8 +137,7 @@ impl Block {
         requires { IsBlock self.old × (from ≤ to) × (to + len ≤ length self.old.cells.bytes) }
         ensures { Becomes self.old self.new (copied to from len self.old.cells.bytes) }
     {
-        let words = self.copy_down_by::<256>(to, from, len);
-        let bytes = self.copy_down_by::<8>(to, from, words);
-        let _ = self.copy_down_by::<1>(to, from, bytes);
+        let left = self.copy_down_by::<16384>(to, from, len);
+        self.copy_down_short(to, from, left);
     }
 }
