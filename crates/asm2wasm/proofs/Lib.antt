@@ -1,4 +1,4 @@
 pub mod Whole
 pub mod Stands
-pub mod Ints
+pub mod LocalRuns
 mod Examples
