@@ -1,5 +1,4 @@
 pub mod Classes
-pub mod Fed
 pub mod Frames
 pub mod Items
 pub mod Purposes
