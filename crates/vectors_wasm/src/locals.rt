@@ -17,6 +17,7 @@ const ZERO: &[u8] = &[0x41, 0, 0x0b];
 
 // The code sections of such a module without locals, and with five of 32 bits.
 const NO_LOCALS: &[u8] = b"\x0a\x06\x01\x04\0\x41\0\x0b";
+
 const FIVE_LOCALS: &[u8] = b"\x0a\x08\x01\x06\x01\x05\x7f\x41\0\x0b";
 
 const fn run(count: u32, kind: ValType) -> Run {
@@ -91,7 +92,11 @@ fn runs_of_one_type_are_written_as_one(rt: HostRuntime) -> Result<(), Fail> {
 #[test]
 fn the_types_of_locals(rt: HostRuntime) -> Result<(), Fail> {
     let alloc = rt.alloc();
-    let runs = vec![in alloc; run(2, ValType::I32), run(0, ValType::I32), run(1, ValType::I64)]?;
+    let runs = vec![in alloc;
+        run(2, ValType::I32),
+        run(0, ValType::I32),
+        run(1, ValType::I64),
+    ]?;
     let body = Body {
         locals: List::from_vec(runs),
         code: Code::Lent(ZERO),
