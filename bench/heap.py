@@ -1,6 +1,13 @@
 #!/usr/bin/env python3
 """python3 bench/heap.py PROGRAM: time and peak memory of `PROGRAM run-wasm` on the memory alone, beside wabt's
-wasm-interp, where it is installed: a million 32-bit loads and stores, and copies of 64 MiB."""
+wasm-interp, where it is installed: a million 32-bit loads and stores, and copies of 64 MiB, also without the start and
+the end of their sessions."""
+import os
+import shutil
+import subprocess
+import sys
+import tempfile
+
 from measure import compare_sessions
 from wasm_module import section, signed, unsigned
 
@@ -49,7 +56,34 @@ def tools(program, script):
     ]
 
 
+def processor_seconds(words):
+    """The least processor time of seven runs."""
+    times = []
+    for _ in range(7):
+        child = subprocess.Popen(words, stdout=subprocess.DEVNULL, stderr=subprocess.DEVNULL)
+        _, status, usage = os.wait4(child.pid, 0)
+        if status:
+            raise SystemExit(f"{words[0]} failed with status {os.waitstatus_to_exitcode(status)}")
+        times.append(usage.ru_utime + usage.ru_stime)
+    return min(times)
+
+
+def each_copy(program):
+    """What a session of 33 turns takes longer than one of a turn, by copy."""
+    with tempfile.TemporaryDirectory() as folder:
+        script = os.path.join(folder, "go.txt")
+        files = {turns: os.path.join(folder, f"{turns}.wasm") for turns in (1, 33)}
+        for file, content in [(script, b"call go\n"), *((files[it], copies(it)) for it in files)]:
+            with open(file, "wb") as out:
+                out.write(content)
+        for name, words in tools(program, script):
+            if shutil.which(words(script)[0]):
+                more = processor_seconds(words(files[33])) - processor_seconds(words(files[1]))
+                print(f"  {name:14} {more / 64 * 1000:8.2f} ms of processor time a copy of 64 MiB")
+
+
 if __name__ == "__main__":
     for turns, content in [(ACCESSES, accesses), (COPIES, copies)]:
         print(content.__doc__)
         compare_sessions(turns, ("go.txt", b"call go\n"), content, tools)
+    each_copy(os.path.abspath(sys.argv[1]))
