@@ -12,7 +12,7 @@ from measure import compare_sessions
 from wasm_module import section, signed, unsigned
 
 ACCESSES = [1_000_000, 4_000_000]
-COPIES = [1, 4, 16]
+COPIES = [1, 16, 128]
 PAGES = 1025  # a copy of 64 MiB by one page
 COPIED = 64 * 1024 * 1024
 
