@@ -47,7 +47,7 @@ type Row = (&'static [&'static str], u8, &'static [u8], &'static [u8]);
 
 const USAGE: &[u8] = b"usage: bridge COMMAND [--heap N] [--steps N] [FILE] [SCRIPT]\n";
 
-static ROWS: [Row; 40] = [
+static ROWS: [Row; 41] = [
     (&[], 1, b"", USAGE),
     (&["fly", "add.js"], 1, b"", USAGE),
     (&["asm2wasm"], 1, b"", USAGE),
@@ -77,6 +77,12 @@ static ROWS: [Row; 40] = [
         &["gen", "2"],
         0,
         b"functions 2\nasm 182\nwasm 97\njs 3353\n",
+        b"",
+    ),
+    (
+        &["gen", "200"],
+        0,
+        b"functions 200\nasm 12628\nwasm 8961\njs 61341\n",
         b"",
     ),
     (&["asm2wasm", "add.js"], 0, ADD_MODULE, b""),
