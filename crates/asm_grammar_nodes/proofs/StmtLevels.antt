@@ -15,6 +15,7 @@ use Rattle.asm_grammar_nodes.specs.declared.tree.ExprTree.{ExprTree as CodeExpr}
 use Rattle.asm_grammar_nodes.specs.declared.tree.StmtTree.{StmtTree as CodeStmt}
 use Rattle.asm_grammar_nodes.specs.declared.tree.StmtTree.TheVariants as stmts
 use Rattle.asm_grammar_nodes.specs.declared.tree.ClauseTree.{ClauseTree as CodeClause}
+use Rattle.asm_grammar_nodes.specs.declared.tree.ForHeadTree.{ForHeadTree}
 use Rattle.asm_grammar_nodes.specs.Views.{word_view, words_view, expr_view, expr_option, stmt_view, stmts_view, clauses_view, under_all, more_clauses}
 use Rattle.asm_grammar_nodes.proofs.Views.{stmt_view-Block, stmt_view-Plain, stmt_view-Empty, stmt_view-If_only, stmt_view-If_else, stmt_view-Return, stmt_view-While, stmt_view-DoWhile, stmt_view-For, stmt_view-Break, stmt_view-Continue, stmt_view-Labelled, stmt_view-Switch, stmts_view-last, clauses_view-last, views}
 
@@ -66,11 +67,11 @@ height-DoWhile at s c = ap stmt_height (stmt_view-DoWhile at s c)
 pub body-DoWhile : (at : ℕ) (s : Box CodeStmt Global) (c : CodeExpr) → body_height (stmt_view (stmts.DoWhile at s c)) ≡ 1 + max (body_height (stmt_view s.value)) (height (expr_view c))
 body-DoWhile at s c = ap body_height (stmt_view-DoWhile at s c)
 
-pub height-For : (at : ℕ) (a : Option CodeExpr) (b : Option CodeExpr) (c : Option CodeExpr) (s : Box CodeStmt Global) → stmt_height (stmt_view (stmts.For at a b c s)) ≡ 1 + max (part_height (expr_option a)) (max (part_height (expr_option b)) (max (part_height (expr_option c)) (body_height (stmt_view s.value))))
-height-For at a b c s = ap stmt_height (stmt_view-For at a b c s)
+pub height-For : (at : ℕ) (h : Box ForHeadTree Global) (s : Box CodeStmt Global) → stmt_height (stmt_view (stmts.For at h s)) ≡ 1 + max (part_height (expr_option h.value.start)) (max (part_height (expr_option h.value.condition)) (max (part_height (expr_option h.value.step)) (body_height (stmt_view s.value))))
+height-For at h s = ap stmt_height (stmt_view-For at h s)
 
-pub body-For : (at : ℕ) (a : Option CodeExpr) (b : Option CodeExpr) (c : Option CodeExpr) (s : Box CodeStmt Global) → body_height (stmt_view (stmts.For at a b c s)) ≡ 1 + max (part_height (expr_option a)) (max (part_height (expr_option b)) (max (part_height (expr_option c)) (body_height (stmt_view s.value))))
-body-For at a b c s = ap body_height (stmt_view-For at a b c s)
+pub body-For : (at : ℕ) (h : Box ForHeadTree Global) (s : Box CodeStmt Global) → body_height (stmt_view (stmts.For at h s)) ≡ 1 + max (part_height (expr_option h.value.start)) (max (part_height (expr_option h.value.condition)) (max (part_height (expr_option h.value.step)) (body_height (stmt_view s.value))))
+body-For at h s = ap body_height (stmt_view-For at h s)
 
 pub height-Break : (at : ℕ) (l : Option Text) → stmt_height (stmt_view (stmts.Break at l)) ≡ 1
 height-Break at l = ap stmt_height (stmt_view-Break at l)

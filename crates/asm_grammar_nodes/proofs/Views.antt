@@ -19,6 +19,7 @@ use Rattle.asm_grammar_nodes.specs.declared.tree.StmtTree.{StmtTree as CodeStmt,
 use Rattle.asm_grammar_nodes.specs.declared.tree.StmtTree.TheOpen as stmt_layers
 use Rattle.asm_grammar_nodes.specs.declared.tree.StmtTree.TheVariants as stmts
 use Rattle.asm_grammar_nodes.specs.declared.tree.ClauseTree.{ClauseTree as CodeClause, fold-roll-ClauseTree}
+use Rattle.asm_grammar_nodes.specs.declared.tree.ForHeadTree.{ForHeadTree}
 use Rattle.asm_grammar_nodes.specs.Views.{words_view, expr_layer, addend_layer, AddendView, expr_view, addend_view, exprs_view, expr_option, sum_in, sign_of, stmt_layer, clause_layer, ClauseView, stmt_view, stmts_view, clause_view, clauses_view, clauses_in, name_option, under_all, more_clauses}
 
 pub expr_view-Literal : (at : ℕ) (v : ℤ) → expr_view (exprs.Literal at v) ≡ literal at v
@@ -105,9 +106,9 @@ pub stmt_view-DoWhile : (at : ℕ) (s : Box CodeStmt Global) (c : CodeExpr) → 
 unfolding stmt_view clause_view
 stmt_view-DoWhile at s c = ap stmt_view (sym (stmts.rolls-DoWhile at s c)) ∙ fold-roll-StmtTree StmtTree ClauseView stmt_layer clause_layer (stmt_layers.DoWhile at s c)
 
-pub stmt_view-For : (at : ℕ) (a : Option CodeExpr) (b : Option CodeExpr) (c : Option CodeExpr) (s : Box CodeStmt Global) → stmt_view (stmts.For at a b c s) ≡ for_loop at (expr_option a) (expr_option b) (expr_option c) (stmt_view s.value)
+pub stmt_view-For : (at : ℕ) (h : Box ForHeadTree Global) (s : Box CodeStmt Global) → stmt_view (stmts.For at h s) ≡ for_loop at (expr_option h.value.start) (expr_option h.value.condition) (expr_option h.value.step) (stmt_view s.value)
 unfolding stmt_view clause_view
-stmt_view-For at a b c s = ap stmt_view (sym (stmts.rolls-For at a b c s)) ∙ fold-roll-StmtTree StmtTree ClauseView stmt_layer clause_layer (stmt_layers.For at a b c s)
+stmt_view-For at h s = ap stmt_view (sym (stmts.rolls-For at h s)) ∙ fold-roll-StmtTree StmtTree ClauseView stmt_layer clause_layer (stmt_layers.For at h s)
 
 pub stmt_view-Break : (at : ℕ) (l : Option (Text)) → stmt_view (stmts.Break at l) ≡ breaks at (name_option l)
 unfolding stmt_view clause_view

@@ -20,4 +20,4 @@ pub use rise::Rise;
 pub use sums::{is_chain, is_sum};
 pub use tall::{TallExpr, TallExprs};
 pub use tall_stmt::{TallClauses, TallStmt, TallStmts};
-pub use tree::{Addend, ClauseTree, ExprTree, StmtTree};
+pub use tree::{Addend, ClauseTree, ExprTree, ForHeadTree, StmtTree};

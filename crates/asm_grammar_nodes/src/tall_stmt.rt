@@ -9,7 +9,7 @@ ghost use Rattle.asm_grammar_nodes.specs.Views.{stmt_view, stmts_view, clauses_v
 use crate::height::Height;
 use crate::lexeme::Word;
 use crate::tall::TallExpr;
-use crate::tree::{ClauseTree, StmtTree};
+use crate::tree::{ClauseTree, ForHeadTree, StmtTree};
 use sem_words::{List, Text};
 use std::alloc::{AllocError, Global};
 
@@ -270,9 +270,12 @@ impl TallStmt {
             .or(body.as_body)
             .above();
         let body = Box::new(alloc, body.tree)?;
-        let first = TallExpr::option_tree(first);
-        let condition = TallExpr::option_tree(condition);
-        let tree = StmtTree::For(at, first, condition, TallExpr::option_tree(step), body);
+        let head = ForHeadTree {
+            start: TallExpr::option_tree(first),
+            condition: TallExpr::option_tree(condition),
+            step: TallExpr::option_tree(step),
+        };
+        let tree = StmtTree::For(at, Box::new(alloc, head)?, body);
         Ok(TallStmt::alone(tree, height))
     }
 

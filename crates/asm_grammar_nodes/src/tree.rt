@@ -95,7 +95,7 @@ pub enum StmtTree {
     Return(u64, Option<ExprTree>),
     While(u64, ExprTree, Box<StmtTree>),
     DoWhile(u64, Box<StmtTree>, ExprTree),
-    For(u64, Option<ExprTree>, Option<ExprTree>, Option<ExprTree>, Box<StmtTree>),
+    For(u64, Box<ForHeadTree>, Box<StmtTree>),
     Break(u64, Option<Text>),
     Continue(u64, Option<Text>),
     /// A statement under labels, in text order.
@@ -115,13 +115,21 @@ impl Drop for StmtTree {
             StmtTree::Return(_, _) => {}
             StmtTree::While(_, _, _) => {}
             StmtTree::DoWhile(_, _, _) => {}
-            StmtTree::For(_, _, _, _, _) => {}
+            StmtTree::For(_, _, _) => {}
             StmtTree::Break(_, _) => {}
             StmtTree::Continue(_, _) => {}
             StmtTree::Labelled(_, _) => {}
             StmtTree::Switch(_, _, _) => {}
         }
     }
+}
+
+/// What stands in the parentheses of a `for`. In a box of its own, so that no other statement is as large.
+#[derive(Drop)]
+pub struct ForHeadTree {
+    pub start: Option<ExprTree>,
+    pub condition: Option<ExprTree>,
+    pub step: Option<ExprTree>,
 }
 
 /// A clause of a switch: a case with its value, or the default.

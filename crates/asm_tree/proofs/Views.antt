@@ -17,6 +17,7 @@ use Rattle.asm_tree.specs.declared.tree.Stmt.{Stmt as CodeStmt, fold-roll-Stmt}
 use Rattle.asm_tree.specs.declared.tree.Stmt.TheOpen as stmt_layers
 use Rattle.asm_tree.specs.declared.tree.Stmt.TheVariants as code_stmts
 use Rattle.asm_tree.specs.declared.tree.Clause.{Clause as CodeClause, fold-roll-Clause}
+use Rattle.asm_tree.specs.declared.tree.ForHead.{ForHead}
 use Rattle.asm_tree.specs.Views.{texts_view, text_option, LinkView, links_in, expr_layer, link_layer, expr_view, link_view, exprs_view, links_view, expr_option, ClauseView, stmt_layer, clause_layer, stmt_view, clause_view, stmts_view, clauses_view}
 
 pub expr_view-Lit : (v : ℤ) → expr_view (code_exprs.Lit v) ≡ lit v
@@ -103,9 +104,9 @@ pub stmt_view-DoWhile : (s : Box CodeStmt Global) (c : CodeExpr) → stmt_view (
 unfolding stmt_view clause_view
 stmt_view-DoWhile s c = ap stmt_view (sym (code_stmts.rolls-DoWhile s c)) ∙ fold-roll-Stmt Stmt ClauseView stmt_layer clause_layer (stmt_layers.DoWhile s c)
 
-pub stmt_view-For : (a : Option CodeExpr) (b : Option CodeExpr) (c : Option CodeExpr) (s : Box CodeStmt Global) → stmt_view (code_stmts.For a b c s) ≡ for_loop (expr_option a) (expr_option b) (expr_option c) (stmt_view s.value)
+pub stmt_view-For : (h : Box ForHead Global) (s : Box CodeStmt Global) → stmt_view (code_stmts.For h s) ≡ for_loop (expr_option h.value.start) (expr_option h.value.condition) (expr_option h.value.step) (stmt_view s.value)
 unfolding stmt_view clause_view
-stmt_view-For a b c s = ap stmt_view (sym (code_stmts.rolls-For a b c s)) ∙ fold-roll-Stmt Stmt ClauseView stmt_layer clause_layer (stmt_layers.For a b c s)
+stmt_view-For h s = ap stmt_view (sym (code_stmts.rolls-For h s)) ∙ fold-roll-Stmt Stmt ClauseView stmt_layer clause_layer (stmt_layers.For h s)
 
 pub stmt_view-Break : (l : Option Text) → stmt_view (code_stmts.Break l) ≡ breaks (text_option l)
 unfolding stmt_view clause_view

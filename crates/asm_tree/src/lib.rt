@@ -4,6 +4,6 @@
 mod tree;
 
 pub use tree::{
-    Clause, Export, Exports, Expr, Function, Global_, Init, Link, Local, Module, Param, Parsed,
-    Stmt, Table,
+    Clause, Export, Exports, Expr, ForHead, Function, Global_, Init, Link, Local, Module, Param,
+    Parsed, Stmt, Table,
 };

@@ -92,7 +92,7 @@ pub enum Stmt {
     Return(Option<Expr>),
     While(Expr, Box<Stmt>),
     DoWhile(Box<Stmt>, Expr),
-    For(Option<Expr>, Option<Expr>, Option<Expr>, Box<Stmt>),
+    For(Box<ForHead>, Box<Stmt>),
     Break(Option<Text>),
     Continue(Option<Text>),
     Labelled(List<Text>, Box<Stmt>),
@@ -124,13 +124,21 @@ impl Drop for Stmt {
             Stmt::Return(_) => {}
             Stmt::While(_, _) => {}
             Stmt::DoWhile(_, _) => {}
-            Stmt::For(_, _, _, _) => {}
+            Stmt::For(_, _) => {}
             Stmt::Break(_) => {}
             Stmt::Continue(_) => {}
             Stmt::Labelled(_, _) => {}
             Stmt::Switch(_, _) => {}
         }
     }
+}
+
+/// What stands in the parentheses of a `for`. In a box of its own, so that no other statement is as large.
+#[derive(Debug, Drop)]
+pub struct ForHead {
+    pub start: Option<Expr>,
+    pub condition: Option<Expr>,
+    pub step: Option<Expr>,
 }
 
 /// A clause of a switch: a case with its value, or the default.

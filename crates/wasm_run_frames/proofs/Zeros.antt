@@ -1,13 +1,11 @@
 -- Lists of zeros and of what encloses code, from their ends.
-use Rattle.std.proofs.Common.{◌≡◌, ℕ, zero, suc, ◌+◌, ◌<◌, List, [], ◌∷◌, ◌++◌, length, get_or, replicate, map, reverse, take, refl, sym, ap, ◌∙◌}
+use Rattle.std.proofs.Common.{◌≡◌, ℕ, zero, suc, ◌+◌, ◌<◌, List, [], ◌∷◌, ◌++◌, length, get_or, replicate, map, reverse, take, refl, ap, ◌∙◌}
 use Rattle.std.proofs.lemmas.List.{reverse-append}
-use Rattle.sem_words.specs.declared.word.Word.{Word}
 use Rattle.wasm_lang.specs.declared.types.ValType.{ValType}
 use Rattle.wasm_tree.specs.declared.module.Run.{Run}
 use Rattle.wasm_tree.specs.Views.{locals_in}
 use Rattle.wasm_tree.proofs.Runs.{locals_more}
 use Rattle.wasm_lang_exec.specs.Store.{word_of_type, zeros_of}
-use Rattle.wasm_laws_machine.specs.Machine.{EnclosingPlain}
 use Rattle.wasm_run_frames.specs.declared.machine.Enclosing.{Enclosing}
 use Rattle.wasm_run_frames.specs.Views.{enclosing_of, all_enclosing}
 
