@@ -128,7 +128,7 @@ fn last_value(last: &Stmt) -> Option<&Expr>
         | Stmt::If(_, _, Some(_))
         | Stmt::While(_, _)
         | Stmt::DoWhile(_, _)
-        | Stmt::For(_, _, _, _)
+        | Stmt::For(_, _)
         | Stmt::Break(_)
         | Stmt::Continue(_)
         | Stmt::Labelled(_, _)

@@ -50,8 +50,9 @@ pub fn emit_stmt<'l>(
         Stmt::DoWhile(body, condition) => {
             emit_do(context, output, alloc, labels, own, body, condition)
         }
-        Stmt::For(start, condition, step, body) => {
-            emit_part(context, output, start)?;
+        Stmt::For(head, body) => {
+            emit_part(context, output, &head.start)?;
+            let (condition, step) = (&head.condition, &head.step);
             emit_loop(context, output, alloc, labels, own, condition, step, body)
         }
         Stmt::Break(name) => branch(output, labels.break_label(name)),

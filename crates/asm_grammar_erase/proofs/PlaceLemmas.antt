@@ -20,6 +20,7 @@ use Rattle.asm_grammar_nodes.specs.declared.tree.Addend.{Addend as CodeAddend}
 use Rattle.asm_grammar_nodes.specs.declared.tree.StmtTree.{StmtTree as CodeStmt}
 use Rattle.asm_grammar_nodes.specs.declared.tree.StmtTree.TheVariants as stmts
 use Rattle.asm_grammar_nodes.specs.declared.tree.ClauseTree.{ClauseTree as CodeClause}
+use Rattle.asm_grammar_nodes.specs.declared.tree.ForHeadTree.{ForHeadTree}
 use Rattle.asm_grammar_nodes.specs.Heights.{is_chain}
 use Rattle.asm_grammar_nodes.specs.Views.{AddendView, ClauseView, addend_view, sign_of, sum_in, word_view, words_view, under_all, expr_view, exprs_view, expr_option, stmt_view, stmts_view, clauses_view}
 use Rattle.asm_grammar_nodes.proofs.Levels.{binary_is, sign_is}
@@ -188,11 +189,11 @@ places-DoWhile at s c = ap stmt_places (stmt_view-DoWhile at s c)
 pub below-DoWhile : (at : ℕ) (s : Box CodeStmt Global) (c : CodeExpr) → below_labels (stmt_view (stmts.DoWhile at s c)) ≡ stmt_places (stmt_view (stmts.DoWhile at s c))
 below-DoWhile at s c = ap below_labels (stmt_view-DoWhile at s c) ∙ sym (ap stmt_places (stmt_view-DoWhile at s c))
 
-pub places-For : (at : ℕ) (a : Option CodeExpr) (b : Option CodeExpr) (c : Option CodeExpr) (s : Box CodeStmt Global) → stmt_places (stmt_view (stmts.For at a b c s)) ≡ at ∷ (option_places (expr_option a) ++ (option_places (expr_option b) ++ (option_places (expr_option c) ++ stmt_places (stmt_view s.value))))
-places-For at a b c s = ap stmt_places (stmt_view-For at a b c s)
+pub places-For : (at : ℕ) (h : Box ForHeadTree Global) (s : Box CodeStmt Global) → stmt_places (stmt_view (stmts.For at h s)) ≡ at ∷ (option_places (expr_option h.value.start) ++ (option_places (expr_option h.value.condition) ++ (option_places (expr_option h.value.step) ++ stmt_places (stmt_view s.value))))
+places-For at h s = ap stmt_places (stmt_view-For at h s)
 
-pub below-For : (at : ℕ) (a : Option CodeExpr) (b : Option CodeExpr) (c : Option CodeExpr) (s : Box CodeStmt Global) → below_labels (stmt_view (stmts.For at a b c s)) ≡ stmt_places (stmt_view (stmts.For at a b c s))
-below-For at a b c s = ap below_labels (stmt_view-For at a b c s) ∙ sym (ap stmt_places (stmt_view-For at a b c s))
+pub below-For : (at : ℕ) (h : Box ForHeadTree Global) (s : Box CodeStmt Global) → below_labels (stmt_view (stmts.For at h s)) ≡ stmt_places (stmt_view (stmts.For at h s))
+below-For at h s = ap below_labels (stmt_view-For at h s) ∙ sym (ap stmt_places (stmt_view-For at h s))
 
 pub places-Break : (at : ℕ) (l : Option Text) → stmt_places (stmt_view (stmts.Break at l)) ≡ at ∷ []
 places-Break at l = ap stmt_places (stmt_view-Break at l)

@@ -17,6 +17,7 @@ use Rattle.asm_grammar_nodes.specs.declared.tree.ExprTree.{ExprTree as CodeExpr}
 use Rattle.asm_grammar_nodes.specs.declared.tree.StmtTree.{StmtTree as CodeStmt}
 use Rattle.asm_grammar_nodes.specs.declared.tree.StmtTree.TheVariants as placed_stmts
 use Rattle.asm_grammar_nodes.specs.declared.tree.ClauseTree.{ClauseTree as CodeClause}
+use Rattle.asm_grammar_nodes.specs.declared.tree.ForHeadTree.{ForHeadTree}
 use Rattle.asm_grammar_nodes.specs.Views.{words_view, under_all, expr_view, expr_option, name_option, ClauseView, stmt_view, stmts_view, clauses_view}
 use Rattle.asm_grammar_nodes.proofs.Views.{clause_view-is, stmt_view-Block, stmt_view-Plain, stmt_view-Empty, stmt_view-If_only, stmt_view-If_else, stmt_view-Return, stmt_view-While, stmt_view-DoWhile, stmt_view-For, stmt_view-Break, stmt_view-Continue, stmt_view-Switch, stmt_view-Labelled}
 use Rattle.asm_tree.specs.declared.tree.Stmt.{Stmt as PlainStmt, Stmt-F, fold-roll-Stmt}
@@ -54,8 +55,8 @@ erased-While at c s = ap stmt_of (stmt_view-While at c s)
 pub erased-DoWhile : (at : ℕ) (s : Box CodeStmt Global) (c : CodeExpr) → stmt_of (stmt_view (placed_stmts.DoWhile at s c)) ≡ do_while (stmt_of (stmt_view s.value)) (expr_of (expr_view c))
 erased-DoWhile at s c = ap stmt_of (stmt_view-DoWhile at s c)
 
-pub erased-For : (at : ℕ) (a : Option CodeExpr) (b : Option CodeExpr) (c : Option CodeExpr) (s : Box CodeStmt Global) → stmt_of (stmt_view (placed_stmts.For at a b c s)) ≡ for_loop (option_of (expr_option a)) (option_of (expr_option b)) (option_of (expr_option c)) (stmt_of (stmt_view s.value))
-erased-For at a b c s = ap stmt_of (stmt_view-For at a b c s)
+pub erased-For : (at : ℕ) (h : Box ForHeadTree Global) (s : Box CodeStmt Global) → stmt_of (stmt_view (placed_stmts.For at h s)) ≡ for_loop (option_of (expr_option h.value.start)) (option_of (expr_option h.value.condition)) (option_of (expr_option h.value.step)) (stmt_of (stmt_view s.value))
+erased-For at h s = ap stmt_of (stmt_view-For at h s)
 
 pub erased-Break : (at : ℕ) (l : Option Text) → stmt_of (stmt_view (placed_stmts.Break at l)) ≡ breaks (name_option l)
 erased-Break at l = ap stmt_of (stmt_view-Break at l)

@@ -187,11 +187,11 @@ pub(crate) fn stmt_places(places: &mut List<u64>, tree: &StmtTree) -> Result<(),
             stmt_places(places, body)?;
             expr_places(places, condition)
         }
-        StmtTree::For(at, first, condition, step, body) => {
+        StmtTree::For(at, head, body) => {
             put_place(places, *at)?;
-            option_places(places, first)?;
-            option_places(places, condition)?;
-            option_places(places, step)?;
+            option_places(places, &head.start)?;
+            option_places(places, &head.condition)?;
+            option_places(places, &head.step)?;
             stmt_places(places, body)
         }
         StmtTree::Break(at, _) => put_place(places, *at),

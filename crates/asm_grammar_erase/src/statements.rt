@@ -8,6 +8,7 @@ ghost use Rattle.asm_tree.specs.Views as plain;
 
 use crate::labels::with_labels;
 use crate::lists::pushed;
+use crate::nodes::room_for;
 use crate::number::value_of;
 use crate::wholes::{
     boxed, breaks, continues, do_while, expression, for_loop, if_else, if_only, returns, switches,
@@ -54,9 +55,9 @@ pub(crate) fn erased_stmt(alloc: Global, tree: &StmtTree) -> Result<Stmt, AllocE
             let body = erased_body(alloc, body)?;
             do_while(alloc, body, condition)
         }
-        StmtTree::For(_, first, condition, step, body) => {
+        StmtTree::For(_, head, body) => {
             let body = erased_body(alloc, body)?;
-            for_loop(alloc, first, condition, step, body)
+            for_loop(alloc, head, body)
         }
         StmtTree::Break(_, label) => breaks(alloc, label),
         StmtTree::Continue(_, label) => continues(alloc, label),
@@ -85,7 +86,7 @@ fn erased_body(alloc: Global, tree: &StmtTree) -> Result<Box<Stmt>, AllocError>
 pub(crate) fn erased_stmts(alloc: Global, trees: &[StmtTree]) -> Result<List<Stmt>, AllocError>
     ensures { IfOk result (λ r. plain.stmts_view (list_items r) ≡ stmts_of (placed.stmts_view trees.now)) }
 {
-    let mut stmts = List::new(alloc);
+    let mut stmts = room_for(alloc, trees.len())?;
     for tree in trees {
         let stmt = erased_stmt(alloc, tree)?;
         stmts = pushed(stmts, stmt)?;
@@ -98,7 +99,7 @@ pub(crate) fn erased_stmts(alloc: Global, trees: &[StmtTree]) -> Result<List<Stm
 fn erased_clauses(alloc: Global, trees: &[ClauseTree]) -> Result<List<Clause>, AllocError>
     ensures { IfOk result (λ r. plain.clauses_view (list_items r) ≡ clauses_of (placed.clauses_view trees.now)) }
 {
-    let mut clauses = List::new(alloc);
+    let mut clauses = room_for(alloc, trees.len())?;
     for tree in trees {
         let body = erased_stmts(alloc, tree.body.as_slice())?;
         let value = value_of(tree.value);

@@ -8,8 +8,8 @@ ghost use Rattle.asm_tree.specs.Views as views;
 
 use crate::expressions::{erased_expr, erased_option};
 use crate::nodes::copied;
-use asm_grammar_nodes::ExprTree;
-use asm_tree::{Clause, Stmt};
+use asm_grammar_nodes::{ExprTree, ForHeadTree};
+use asm_tree::{Clause, ForHead, Stmt};
 use sem_words::{List, Text};
 use std::alloc::{AllocError, Global};
 
@@ -107,20 +107,32 @@ pub(crate) fn do_while(
 }
 
 #[inline(never)]
+fn erased_head(alloc: Global, head: &ForHeadTree) -> Result<ForHead, AllocError>
+    ensures start { IfOk result (λ r. views.expr_option r.start ≡ option_of (placed.expr_option head.now.start)) }
+    ensures condition { IfOk result (λ r. views.expr_option r.condition ≡ option_of (placed.expr_option head.now.condition)) }
+    ensures step { IfOk result (λ r. views.expr_option r.step ≡ option_of (placed.expr_option head.now.step)) }
+{
+    let start = erased_option(alloc, &head.start)?;
+    let condition = erased_option(alloc, &head.condition)?;
+    let step = erased_option(alloc, &head.step)?;
+    Ok(ForHead {
+        start,
+        condition,
+        step,
+    })
+}
+
+#[inline(never)]
 #[tactic(auto, using(crate::proofs::StmtErasing::statements))]
 pub(crate) fn for_loop(
     alloc: Global,
-    first: &Option<ExprTree>,
-    condition: &Option<ExprTree>,
-    step: &Option<ExprTree>,
+    head: &ForHeadTree,
     body: Box<Stmt>,
 ) -> Result<Stmt, AllocError>
-    ensures { IfOk result (λ r. views.stmt_view r ≡ for_loop (option_of (placed.expr_option first.now)) (option_of (placed.expr_option condition.now)) (option_of (placed.expr_option step.now)) (views.stmt_view body.value)) }
+    ensures { IfOk result (λ r. views.stmt_view r ≡ for_loop (option_of (placed.expr_option head.now.start)) (option_of (placed.expr_option head.now.condition)) (option_of (placed.expr_option head.now.step)) (views.stmt_view body.value)) }
 {
-    let first = erased_option(alloc, first)?;
-    let condition = erased_option(alloc, condition)?;
-    let step = erased_option(alloc, step)?;
-    Ok(Stmt::For(first, condition, step, body))
+    let head = erased_head(alloc, head)?;
+    Ok(Stmt::For(Box::new(alloc, head)?, body))
 }
 
 #[inline(never)]

@@ -54,8 +54,8 @@ fn put_stmt(out: &mut Output, stmt: &Stmt) -> Result<(), AllocError>
             put_condition(out, b"while", condition)?;
             out.word(b";")
         }
-        Stmt::For(first, test, step, body) => {
-            put_heading(out, first, test, step)?;
+        Stmt::For(head, body) => {
+            put_heading(out, &head.start, &head.condition, &head.step)?;
             put_stmt(out, body)
         }
         Stmt::Break(label) => put_target(out, b"break", label),

@@ -51,8 +51,8 @@ impl<'a> Machine<'a> {
                 let flow = self.do_turn(turns)?;
                 Ok(flow)
             }
-            Stmt::For(start, _, _, _) => {
-                let flow = self.before_turn(Loop { labels, stmt }, part_of(start))?;
+            Stmt::For(head, _) => {
+                let flow = self.before_turn(Loop { labels, stmt }, part_of(&head.start))?;
                 Ok(flow)
             }
             Stmt::Break(label) => Ok(after(Completion::Broken(label))),

@@ -52,7 +52,7 @@ fn gives_value(stmt: &Stmt) -> bool
         | Stmt::If(_, _, _)
         | Stmt::While(_, _)
         | Stmt::DoWhile(_, _)
-        | Stmt::For(_, _, _, _)
+        | Stmt::For(_, _)
         | Stmt::Break(_)
         | Stmt::Continue(_)
         | Stmt::Labelled(_, _)

@@ -36,7 +36,7 @@ fn test_of(stmt: &Stmt) -> Option<&Expr>
 {
     match stmt {
         Stmt::While(test, _) => Some(test),
-        Stmt::For(_, test, _, _) => part_of(test),
+        Stmt::For(head, _) => part_of(&head.condition),
         Stmt::Block(_)
         | Stmt::Plain(_)
         | Stmt::Empty
@@ -55,7 +55,7 @@ fn step_of(stmt: &Stmt) -> Option<&Expr>
     ensures { part_view result ≡ plain.step_of (stmt_view stmt.now) }
 {
     match stmt {
-        Stmt::For(_, _, step, _) => part_of(step),
+        Stmt::For(head, _) => part_of(&head.step),
         Stmt::Block(_)
         | Stmt::Plain(_)
         | Stmt::Empty
@@ -76,7 +76,7 @@ fn body_of(stmt: &Stmt) -> &Stmt
 {
     match stmt {
         Stmt::While(_, body) => body,
-        Stmt::For(_, _, _, body) => body,
+        Stmt::For(_, body) => body,
         Stmt::Block(_)
         | Stmt::Plain(_)
         | Stmt::Empty

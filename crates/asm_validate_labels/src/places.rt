@@ -72,7 +72,7 @@ pub fn is_loop(stmt: &Stmt) -> bool
     ensures { result ≡ typing.is_loop (stmt_view stmt.now) }
 {
     match stmt {
-        Stmt::While(_, _) | Stmt::DoWhile(_, _) | Stmt::For(_, _, _, _) => true,
+        Stmt::While(_, _) | Stmt::DoWhile(_, _) | Stmt::For(_, _) => true,
         Stmt::Return(_)
         | Stmt::Block(_)
         | Stmt::Plain(_)

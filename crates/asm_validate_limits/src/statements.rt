@@ -41,7 +41,8 @@ pub fn stmt_limits<'a>(
         Stmt::Return(value) => option_limits(scope, tally, Place::Operand, value),
         Stmt::While(condition, body) => guarded_limits(scope, tally, condition, body),
         Stmt::DoWhile(body, condition) => until_limits(scope, tally, body, condition),
-        Stmt::For(start, condition, step, body) => {
+        Stmt::For(head, body) => {
+            let (start, condition, step) = (&head.start, &head.condition, &head.step);
             for_limits(scope, tally, start, condition, step, body)
         }
         Stmt::Labelled(_, body) => stmt_limits(scope, tally, body),

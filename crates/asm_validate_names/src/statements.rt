@@ -43,10 +43,10 @@ pub fn stmt_names(scope: &Scope<'_, '_>, stmt: &Stmt, at: &mut u64) -> Result<()
             stmt_names(scope, body, at)?;
             expr_names(scope, condition, at)
         }
-        Stmt::For(start, condition, step, body) => {
-            option_names(scope, start, at)?;
-            option_names(scope, condition, at)?;
-            option_names(scope, step, at)?;
+        Stmt::For(head, body) => {
+            option_names(scope, &head.start, at)?;
+            option_names(scope, &head.condition, at)?;
+            option_names(scope, &head.step, at)?;
             stmt_names(scope, body, at)
         }
         Stmt::Labelled(_, body) => stmt_names(scope, body, at),

@@ -72,10 +72,10 @@ fn count_stmt(stmt: &Stmt, before: u64) -> Option<u64>
             let at = count_stmt(body, at)?;
             count_expr(condition, at)
         }
-        Stmt::For(start, condition, step, body) => {
-            let at = count_option(start, at)?;
-            let at = count_option(condition, at)?;
-            let at = count_option(step, at)?;
+        Stmt::For(head, body) => {
+            let at = count_option(&head.start, at)?;
+            let at = count_option(&head.condition, at)?;
+            let at = count_option(&head.step, at)?;
             count_stmt(body, at)
         }
         Stmt::Labelled(_, body) => count_stmt(body, at),

@@ -61,10 +61,10 @@ pub fn judge_stmt<'a>(
             judge_stmt(context, labels, in_a_loop(), body, at)?;
             Ok(condition(context, test, at)?)
         }
-        Stmt::For(start, test, step, body) => {
-            optional_part(context, start, at)?;
-            optional_condition(context, test, at)?;
-            optional_part(context, step, at)?;
+        Stmt::For(head, body) => {
+            optional_part(context, &head.start, at)?;
+            optional_condition(context, &head.condition, at)?;
+            optional_part(context, &head.step, at)?;
             judge_stmt(context, labels, in_a_loop(), body, at)
         }
         Stmt::Break(label) => {

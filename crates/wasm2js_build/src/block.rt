@@ -40,18 +40,20 @@ impl Block {
         }
     }
 
-    /// The statements.
+    /// The statements, in a list without room for more.
     pub fn into_list(self) -> List<Stmt>
         ensures { map stmt_view (list_items result) ≡ statements_of self }
     {
-        self.statements
+        let mut statements = self.statements.into_vec();
+        statements.shrink_to_fit();
+        List::from_vec(statements)
     }
 
     /// The statements as one, `{..}`.
     pub fn into_statement(self) -> Stmt
         ensures { stmt_view result ≡ helpers.block_of (statements_of self) }
     {
-        block_statement(self.statements)
+        block_statement(self.into_list())
     }
 
     /// One more statement.

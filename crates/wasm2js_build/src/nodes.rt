@@ -136,6 +136,14 @@ pub fn call(alloc: Global, name: Name, arguments: List<Expr>) -> Result<Expr, Al
     Ok(Expr::Call(name, arguments))
 }
 
+/// An empty list with room for so many items and no more, since a list that grows takes room for four at once.
+pub(crate) fn room_for<T>(alloc: Global, count: usize) -> Result<List<T>, AllocError>
+    ensures { IfOk result (λ r. list_items r ≡ []) }
+{
+    let items = Vec::with_capacity(alloc, count)?;
+    Ok(List::from_vec(items))
+}
+
 /// The list with one more item at its end.
 #[inline(never)]
 pub fn with_expr(list: List<Expr>, e: Expr) -> Result<List<Expr>, AllocError>
@@ -153,7 +161,7 @@ pub fn with_expr(list: List<Expr>, e: Expr) -> Result<List<Expr>, AllocError>
 pub(crate) fn call_of_one(alloc: Global, name: Name, argument: Expr) -> Result<Expr, AllocError>
     ensures { IfOk result (λ e. expr_view e ≡ plain.call (spelled (name_view name)) (plain.exprs (expr_view argument) plain.no_exprs)) }
 {
-    let arguments = with_expr(List::new(alloc), argument)?;
+    let arguments = with_expr(room_for(alloc, 1)?, argument)?;
     call(alloc, name, arguments)
 }
 
@@ -167,7 +175,7 @@ pub(crate) fn call_of_two(
 ) -> Result<Expr, AllocError>
     ensures { IfOk result (λ e. expr_view e ≡ plain.call (spelled (name_view name)) (plain.exprs (expr_view first) (plain.exprs (expr_view second) plain.no_exprs))) }
 {
-    let arguments = with_expr(List::new(alloc), first)?;
+    let arguments = with_expr(room_for(alloc, 2)?, first)?;
     let arguments = with_expr(arguments, second)?;
     call(alloc, name, arguments)
 }
