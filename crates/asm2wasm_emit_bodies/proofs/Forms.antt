@@ -7,6 +7,7 @@ use Rattle.sem_words.specs.declared.list.List.{List as Listed}
 use Rattle.sem_words.specs.declared.text.Text.{Text}
 use Rattle.asm_lang.specs.Modules.{block, plain, empty, if_only, if_else, returns, while_loop, do_while, for_loop, breaks, continues, labelled, switches}
 use Rattle.asm_tree.specs.declared.tree.Expr.{Expr as CodeExpr}
+use Rattle.asm_tree.specs.declared.tree.ForHead.{ForHead}
 use Rattle.asm_tree.specs.declared.tree.Stmt.{Stmt as CodeStmt}
 use Rattle.asm_tree.specs.declared.tree.Stmt.TheVariants as variants
 use Rattle.asm_tree.specs.declared.tree.Clause.{Clause as CodeClause}
@@ -37,8 +38,8 @@ module _ (s : CodeStmt) where
   pub do_is : (b : Box CodeStmt Global) (c : CodeExpr) (y : CodeStmt) → s ≡ variants.DoWhile b c → y ≡ b.value → stmt_view s ≡ do_while (stmt_view y) (expr_view c)
   do_is b c y h k = ap stmt_view h ∙ stmt_view-DoWhile b c ∙ ap (λ x. do_while (stmt_view x) (expr_view c)) (sym k)
 
-  pub for_is : (x y z : Option CodeExpr) (b : Box CodeStmt Global) (t : CodeStmt) → s ≡ variants.For x y z b → t ≡ b.value → stmt_view s ≡ for_loop (expr_option x) (expr_option y) (expr_option z) (stmt_view t)
-  for_is x y z b t h k = ap stmt_view h ∙ stmt_view-For x y z b ∙ ap (λ u. for_loop (expr_option x) (expr_option y) (expr_option z) (stmt_view u)) (sym k)
+  pub for_is : (hd : Box ForHead Global) (b : Box CodeStmt Global) (t : CodeStmt) → s ≡ variants.For hd b → t ≡ b.value → stmt_view s ≡ for_loop (expr_option hd.value.start) (expr_option hd.value.condition) (expr_option hd.value.step) (stmt_view t)
+  for_is hd b t h k = ap stmt_view h ∙ stmt_view-For hd b ∙ ap (λ u. for_loop (expr_option hd.value.start) (expr_option hd.value.condition) (expr_option hd.value.step) (stmt_view u)) (sym k)
 
   pub labelled_is : (ls : Listed Text) (b : Box CodeStmt Global) (t : CodeStmt) → s ≡ variants.Labelled ls b → t ≡ b.value → stmt_view s ≡ labelled (texts_view (list_items ls)) (stmt_view t)
   labelled_is ls b t h k = ap stmt_view h ∙ stmt_view-Labelled ls b ∙ ap (λ u. labelled (texts_view (list_items ls)) (stmt_view u)) (sym k)
