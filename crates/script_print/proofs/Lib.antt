@@ -1,2 +1,4 @@
 mod Examples
+pub mod Parts
 pub mod Steps
+pub mod Zeros

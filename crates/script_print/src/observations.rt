@@ -1,27 +1,22 @@
 //! What is seen of a whole run.
 
-ghost use Rattle.std.specs.Prelude.{◌≡◌, ◌++◌, option_map, IfOk, OnOk};
-ghost use Rattle.sem_laws.specs.Views.{end_of, observation_of};
+ghost use Rattle.std.specs.Prelude.{◌≡◌, ◌++◌, IfOk, OnOk};
+ghost use Rattle.script_seen.specs.Views.{seen_of};
 ghost use Rattle.script_print.specs.Texts as spec;
 
 use crate::heap::push_heap;
 use crate::lines::{push_end, push_events};
-use sem_laws::{End, Observation};
+use script_seen::Seen;
 use std::alloc::{AllocError, Global};
 
 /// The end with the heap's bytes, if there is one.
-fn push_ending(
-    alloc: Global,
-    out: &mut Vec<u8>,
-    end: &Option<End>,
-    heap: &[u8],
-) -> Result<(), AllocError>
-    ensures { OnOk result (out.new.items ≡ out.old.items ++ spec.ending_lines (option_map end_of end.now) heap.now) }
+fn push_ending(alloc: Global, out: &mut Vec<u8>, seen: &Seen) -> Result<(), AllocError>
+    ensures { OnOk result (out.new.items ≡ out.old.items ++ spec.ending_lines (seen_of seen.now).end (seen_of seen.now).heap) }
 {
-    match end {
+    match &seen.end {
         Some(end) => {
             push_end(out, end)?;
-            push_heap(alloc, out, heap)
+            push_heap(alloc, out, seen.heap.bytes())
         }
         None => out.extend_from_slice(b"still running\n"),
     }
@@ -29,16 +24,11 @@ fn push_ending(
 
 /// The text of a run: a line for each event, then its end and a line for each sixteen bytes of the heap that aren't
 /// all 0, or that it is still running.
-pub fn observation_text(alloc: Global, observation: &Observation) -> Result<Vec<u8>, AllocError>
-    ensures { IfOk result (λ text. text.items ≡ spec.observation_text (observation_of observation.now)) }
+pub fn observation_text(alloc: Global, seen: &Seen) -> Result<Vec<u8>, AllocError>
+    ensures { IfOk result (λ text. text.items ≡ spec.observation_text (seen_of seen.now)) }
 {
     let mut out = Vec::new(alloc);
-    push_events(&mut out, observation.events.as_slice())?;
-    push_ending(
-        alloc,
-        &mut out,
-        &observation.end,
-        observation.heap.as_bytes(),
-    )?;
+    push_events(&mut out, seen.events.as_slice())?;
+    push_ending(alloc, &mut out, seen)?;
     Ok(out)
 }
