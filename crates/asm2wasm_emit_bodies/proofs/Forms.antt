@@ -38,8 +38,10 @@ module _ (s : CodeStmt) where
   pub do_is : (b : Box CodeStmt Global) (c : CodeExpr) (y : CodeStmt) → s ≡ variants.DoWhile b c → y ≡ b.value → stmt_view s ≡ do_while (stmt_view y) (expr_view c)
   do_is b c y h k = ap stmt_view h ∙ stmt_view-DoWhile b c ∙ ap (λ x. do_while (stmt_view x) (expr_view c)) (sym k)
 
-  pub for_is : (hd : Box ForHead Global) (b : Box CodeStmt Global) (t : CodeStmt) → s ≡ variants.For hd b → t ≡ b.value → stmt_view s ≡ for_loop (expr_option hd.value.start) (expr_option hd.value.condition) (expr_option hd.value.step) (stmt_view t)
-  for_is hd b t h k = ap stmt_view h ∙ stmt_view-For hd b ∙ ap (λ u. for_loop (expr_option hd.value.start) (expr_option hd.value.condition) (expr_option hd.value.step) (stmt_view u)) (sym k)
+  pub for_is : (hd : Box ForHead Global) (b : Box CodeStmt Global) (x : ForHead) (t : CodeStmt) → s ≡ variants.For hd b → x ≡ hd.value → t ≡ b.value → stmt_view s ≡ for_loop (expr_option x.start) (expr_option x.condition) (expr_option x.step) (stmt_view t)
+  for_is hd b x t h e k =
+      ap stmt_view h ∙ stmt_view-For hd b
+      ∙ ap (λ (y : ForHead). for_loop (expr_option y.start) (expr_option y.condition) (expr_option y.step) (stmt_view b.value)) (sym e) ∙ ap (λ u. for_loop (expr_option x.start) (expr_option x.condition) (expr_option x.step) (stmt_view u)) (sym k)
 
   pub labelled_is : (ls : Listed Text) (b : Box CodeStmt Global) (t : CodeStmt) → s ≡ variants.Labelled ls b → t ≡ b.value → stmt_view s ≡ labelled (texts_view (list_items ls)) (stmt_view t)
   labelled_is ls b t h k = ap stmt_view h ∙ stmt_view-Labelled ls b ∙ ap (λ u. labelled (texts_view (list_items ls)) (stmt_view u)) (sym k)

@@ -14,7 +14,7 @@ use crate::blocks::{
     branch, close_loop, emit_condition, emit_part, emit_return, emit_subject, emit_test,
     open_blocks, open_loop,
 };
-use asm_tree::{Clause, Expr, Stmt};
+use asm_tree::{Clause, Expr, ForHead, Stmt};
 use asm2wasm_emit_pieces::Output;
 use asm2wasm_emit_switches::{Labels, Open, all_further, dispatch, first_clause, reached};
 use asm2wasm_emit_values::{Context, emit};
@@ -51,8 +51,9 @@ pub fn emit_stmt<'l>(
             emit_do(context, output, alloc, labels, own, body, condition)
         }
         Stmt::For(head, body) => {
-            emit_part(context, output, &head.start)?;
+            let head: &ForHead = head;
             let (condition, step) = (&head.condition, &head.step);
+            emit_part(context, output, &head.start)?;
             emit_loop(context, output, alloc, labels, own, condition, step, body)
         }
         Stmt::Break(name) => branch(output, labels.break_label(name)),

@@ -14,7 +14,7 @@ use crate::callee::Place;
 use crate::clauses::{check_cases, option_limits};
 use crate::expressions::{expr_limits, placed_limits};
 use crate::tally::Tally;
-use asm_tree::{Clause, Expr, Stmt};
+use asm_tree::{Clause, Expr, ForHead, Stmt};
 use asm_validate_names::{AsmRefusal, Scope};
 
 /// The first limit that is passed in a statement.
@@ -42,8 +42,8 @@ pub fn stmt_limits<'a>(
         Stmt::While(condition, body) => guarded_limits(scope, tally, condition, body),
         Stmt::DoWhile(body, condition) => until_limits(scope, tally, body, condition),
         Stmt::For(head, body) => {
-            let (start, condition, step) = (&head.start, &head.condition, &head.step);
-            for_limits(scope, tally, start, condition, step, body)
+            let head: &ForHead = head;
+            for_limits(scope, tally, &head.start, &head.condition, &head.step, body)
         }
         Stmt::Labelled(_, body) => stmt_limits(scope, tally, body),
         Stmt::Switch(subject, clauses) => {

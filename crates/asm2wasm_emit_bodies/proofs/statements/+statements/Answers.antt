@@ -380,18 +380,18 @@ emit_stmt-returns-in-DoWhile t c =
 
 pub emit_stmt-emit_part-requires : goal.emit_stmt-emit_part-requires
 emit_stmt-emit_part-requires t c =
-    record { narrow = first_part IsNarrow (part_code c.args.context.now.size (scope_in c.args.context.now) (expr_option c.in-For.head.value.start)) (while_code c.args.context.now.size (scope_in c.args.context.now) (labels_view c.args.labels.now) (texts_view c.args.own.now) (expr_option c.in-For.head.value.condition) (expr_option c.in-For.head.value.step) (stmt_view c.in-For.body.value)) (narrow_form c.args.context.now.size (scope_in c.args.context.now) (labels_view c.args.labels.now) (texts_view c.args.own.now) (stmt_view c.args.stmt.now) _ (for_is c.args.stmt.now c.in-For.head c.in-For.body c.in-For.body.value c.in-For.is refl) c.requires.narrow) }
+    record { narrow = first_part IsNarrow (part_code c.args.context.now.size (scope_in c.args.context.now) (expr_option c.deref-head.result.now.start)) (while_code c.args.context.now.size (scope_in c.args.context.now) (labels_view c.args.labels.now) (texts_view c.args.own.now) (expr_option c.deref-head.result.now.condition) (expr_option c.deref-head.result.now.step) (stmt_view c.in-For.body.value)) (narrow_form c.args.context.now.size (scope_in c.args.context.now) (labels_view c.args.labels.now) (texts_view c.args.own.now) (stmt_view c.args.stmt.now) _ (for_is c.args.stmt.now c.in-For.head c.in-For.body c.deref-head.result.now c.in-For.body.value c.in-For.is c.deref-head.ensures refl) c.requires.narrow) }
 
 pub emit_stmt-emit_loop-requires : goal.emit_stmt-emit_loop-requires
 emit_stmt-emit_loop-requires t c =
     let d0 = c.decreases in
-    let k = ap stmt_count (for_is c.args.stmt.now c.in-For.head _ c.deref-in-For.result.now c.in-For.is c.deref-in-For.ensures) in
-    (omega arith, second_part IsNarrow (part_code c.args.context.now.size (scope_in c.args.context.now) (expr_option c.in-For.head.value.start)) (while_code c.args.context.now.size (scope_in c.args.context.now) (labels_view c.args.labels.now) (texts_view c.args.own.now) (expr_option c.in-For.head.value.condition) (expr_option c.in-For.head.value.step) (stmt_view c.deref-in-For.result.now)) (narrow_form c.args.context.now.size (scope_in c.args.context.now) (labels_view c.args.labels.now) (texts_view c.args.own.now) (stmt_view c.args.stmt.now) _ (for_is c.args.stmt.now c.in-For.head _ c.deref-in-For.result.now c.in-For.is c.deref-in-For.ensures) c.requires.narrow))
+    let k = ap stmt_count (for_is c.args.stmt.now c.in-For.head _ c.deref-head.result.now c.deref-in-For.result.now c.in-For.is c.deref-head.ensures c.deref-in-For.ensures) in
+    (omega arith, second_part IsNarrow (part_code c.args.context.now.size (scope_in c.args.context.now) (expr_option c.deref-head.result.now.start)) (while_code c.args.context.now.size (scope_in c.args.context.now) (labels_view c.args.labels.now) (texts_view c.args.own.now) (expr_option c.deref-head.result.now.condition) (expr_option c.deref-head.result.now.step) (stmt_view c.deref-in-For.result.now)) (narrow_form c.args.context.now.size (scope_in c.args.context.now) (labels_view c.args.labels.now) (texts_view c.args.own.now) (stmt_view c.args.stmt.now) _ (for_is c.args.stmt.now c.in-For.head _ c.deref-head.result.now c.deref-in-For.result.now c.in-For.is c.deref-head.ensures c.deref-in-For.ensures) c.requires.narrow))
 
 pub emit_stmt-returns-in_ok-emit_part-in-For : goal.emit_stmt-returns-in_ok-emit_part-in-For
 emit_stmt-returns-in_ok-emit_part-in-For t c =
-    of_form c.args.context.now.size (scope_in c.args.context.now) (labels_view c.args.labels.now) (texts_view c.args.own.now) (stmt_view c.args.stmt.now) _ (for_is c.args.stmt.now c.in-For.head _ c.deref-in-For.result.now c.in-For.is c.deref-in-For.ensures) c.args.output.now c.emit_loop.new.output c.emit_loop.result ((part_code c.args.context.now.size (scope_in c.args.context.now) (expr_option c.in-For.head.value.start)) ⊕ (while_code c.args.context.now.size (scope_in c.args.context.now) (labels_view c.args.labels.now) (texts_view c.args.own.now) (expr_option c.in-For.head.value.condition) (expr_option c.in-For.head.value.step) (stmt_view c.deref-in-For.result.now))) refl
-    (on_ok_weaker c.emit_loop.result (joined c.args.output.now c.emit_part.new.output c.emit_loop.new.output (part_code c.args.context.now.size (scope_in c.args.context.now) (expr_option c.in-For.head.value.start)) (while_code c.args.context.now.size (scope_in c.args.context.now) (labels_view c.args.labels.now) (texts_view c.args.own.now) (expr_option c.in-For.head.value.condition) (expr_option c.in-For.head.value.step) (stmt_view c.deref-in-For.result.now)) c.in_ok-emit_part-in-For.ensures) c.emit_loop.ensures)
+    of_form c.args.context.now.size (scope_in c.args.context.now) (labels_view c.args.labels.now) (texts_view c.args.own.now) (stmt_view c.args.stmt.now) _ (for_is c.args.stmt.now c.in-For.head _ c.deref-head.result.now c.deref-in-For.result.now c.in-For.is c.deref-head.ensures c.deref-in-For.ensures) c.args.output.now c.emit_loop.new.output c.emit_loop.result ((part_code c.args.context.now.size (scope_in c.args.context.now) (expr_option c.deref-head.result.now.start)) ⊕ (while_code c.args.context.now.size (scope_in c.args.context.now) (labels_view c.args.labels.now) (texts_view c.args.own.now) (expr_option c.deref-head.result.now.condition) (expr_option c.deref-head.result.now.step) (stmt_view c.deref-in-For.result.now))) refl
+    (on_ok_weaker c.emit_loop.result (joined c.args.output.now c.emit_part.new.output c.emit_loop.new.output (part_code c.args.context.now.size (scope_in c.args.context.now) (expr_option c.deref-head.result.now.start)) (while_code c.args.context.now.size (scope_in c.args.context.now) (labels_view c.args.labels.now) (texts_view c.args.own.now) (expr_option c.deref-head.result.now.condition) (expr_option c.deref-head.result.now.step) (stmt_view c.deref-in-For.result.now)) c.in_ok-emit_part-in-For.ensures) c.emit_loop.ensures)
 
 pub emit_stmt-break_label-requires : goal.emit_stmt-break_label-requires
 emit_stmt-break_label-requires t c =

@@ -192,12 +192,12 @@ pub stmt_limits-for_limits-requires : goal.stmt_limits-for_limits-requires
 stmt_limits-for_limits-requires t c =
     let r = c.requires.room in
     let d0 = c.decreases in
-    let k = ap stmt_count (for_is c.args.stmt.now _ _ _ c.in-For.is c.deref-in-For.ensures) in
+    let k = ap stmt_count (for_is c.args.stmt.now _ _ _ _ c.in-For.is c.deref-head.ensures c.deref-in-For.ensures) in
     (omega arith, (c.requires.known, omega arith))
 
 pub stmt_limits-returns-in-For : goal.stmt_limits-returns-in-For
 stmt_limits-returns-in-For t c =
-    of_form (scope_view c.args.scope.now) c.args.stmt.now c.args.tally.now c.for_limits.new.tally c.for_limits.result _ (option_placed (scope_view c.args.scope.now) Effect (c.args.tally.now.at + 1) (expr_option c.in-For.head.value.start) ++ (option_placed (scope_view c.args.scope.now) Operand ((c.args.tally.now.at + 1) + option_count (expr_option c.in-For.head.value.start)) (expr_option c.in-For.head.value.condition) ++ (option_placed (scope_view c.args.scope.now) Effect ((c.args.tally.now.at + 1) + option_count (expr_option c.in-For.head.value.start) + option_count (expr_option c.in-For.head.value.condition)) (expr_option c.in-For.head.value.step) ++ stmt_marks (scope_view c.args.scope.now) ((c.args.tally.now.at + 1) + option_count (expr_option c.in-For.head.value.start) + option_count (expr_option c.in-For.head.value.condition) + option_count (expr_option c.in-For.head.value.step)) (stmt_view c.deref-in-For.result.now)))) (option_count (expr_option c.in-For.head.value.start) + (option_count (expr_option c.in-For.head.value.condition) + (option_count (expr_option c.in-For.head.value.step) + stmt_count (stmt_view c.deref-in-For.result.now)))) (for_is c.args.stmt.now _ _ _ c.in-For.is c.deref-in-For.ensures) (for_marks (scope_view c.args.scope.now) c.args.tally.now.at (expr_option c.in-For.head.value.start) (expr_option c.in-For.head.value.condition) (expr_option c.in-For.head.value.step) (stmt_view c.deref-in-For.result.now)) refl c.for_limits.ensures
+    of_form (scope_view c.args.scope.now) c.args.stmt.now c.args.tally.now c.for_limits.new.tally c.for_limits.result _ (option_placed (scope_view c.args.scope.now) Effect (c.args.tally.now.at + 1) (expr_option c.deref-head.result.now.start) ++ (option_placed (scope_view c.args.scope.now) Operand ((c.args.tally.now.at + 1) + option_count (expr_option c.deref-head.result.now.start)) (expr_option c.deref-head.result.now.condition) ++ (option_placed (scope_view c.args.scope.now) Effect ((c.args.tally.now.at + 1) + option_count (expr_option c.deref-head.result.now.start) + option_count (expr_option c.deref-head.result.now.condition)) (expr_option c.deref-head.result.now.step) ++ stmt_marks (scope_view c.args.scope.now) ((c.args.tally.now.at + 1) + option_count (expr_option c.deref-head.result.now.start) + option_count (expr_option c.deref-head.result.now.condition) + option_count (expr_option c.deref-head.result.now.step)) (stmt_view c.deref-in-For.result.now)))) (option_count (expr_option c.deref-head.result.now.start) + (option_count (expr_option c.deref-head.result.now.condition) + (option_count (expr_option c.deref-head.result.now.step) + stmt_count (stmt_view c.deref-in-For.result.now)))) (for_is c.args.stmt.now _ _ _ _ c.in-For.is c.deref-head.ensures c.deref-in-For.ensures) (for_marks (scope_view c.args.scope.now) c.args.tally.now.at (expr_option c.deref-head.result.now.start) (expr_option c.deref-head.result.now.condition) (expr_option c.deref-head.result.now.step) (stmt_view c.deref-in-For.result.now)) refl c.for_limits.ensures
 
 pub stmt_limits-returns-in-Return : goal.stmt_limits-returns-in-Return
 stmt_limits-returns-in-Return t c =
