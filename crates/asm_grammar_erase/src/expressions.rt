@@ -93,7 +93,8 @@ fn erased_box(alloc: Global, tree: &ExprTree) -> Result<Box<Expr>, AllocError>
 fn erased_exprs(alloc: Global, trees: &[ExprTree]) -> Result<List<Expr>, AllocError>
     ensures { IfOk result (λ r. plain.exprs_view (list_items r) ≡ exprs_of (placed.exprs_view trees.now)) }
 {
-    let mut exprs = room_for(alloc, trees.len())?;
+    let empty = room_for(alloc, trees.len())?;
+    let mut exprs = empty;
     for tree in trees {
         let expr = erased_expr(alloc, tree)?;
         exprs = pushed(exprs, expr)?;

@@ -86,7 +86,8 @@ fn erased_body(alloc: Global, tree: &StmtTree) -> Result<Box<Stmt>, AllocError>
 pub(crate) fn erased_stmts(alloc: Global, trees: &[StmtTree]) -> Result<List<Stmt>, AllocError>
     ensures { IfOk result (λ r. plain.stmts_view (list_items r) ≡ stmts_of (placed.stmts_view trees.now)) }
 {
-    let mut stmts = room_for(alloc, trees.len())?;
+    let empty = room_for(alloc, trees.len())?;
+    let mut stmts = empty;
     for tree in trees {
         let stmt = erased_stmt(alloc, tree)?;
         stmts = pushed(stmts, stmt)?;
@@ -99,7 +100,8 @@ pub(crate) fn erased_stmts(alloc: Global, trees: &[StmtTree]) -> Result<List<Stm
 fn erased_clauses(alloc: Global, trees: &[ClauseTree]) -> Result<List<Clause>, AllocError>
     ensures { IfOk result (λ r. plain.clauses_view (list_items r) ≡ clauses_of (placed.clauses_view trees.now)) }
 {
-    let mut clauses = room_for(alloc, trees.len())?;
+    let empty = room_for(alloc, trees.len())?;
+    let mut clauses = empty;
     for tree in trees {
         let body = erased_stmts(alloc, tree.body.as_slice())?;
         let value = value_of(tree.value);
