@@ -1,18 +1,20 @@
 //! Where a session stands.
-ghost use Rattle.std.specs.Prelude.{◌≡◌, ◌++◌, map, IfOk, OnOk, OnErr};
+ghost use Rattle.std.specs.Prelude.{◌≡◌, ◌++◌, map, OnOk, OnErr};
 ghost use Rattle.sem_words.specs.Lists.{list_items};
 ghost use Rattle.sem_laws.specs.Observation.{running, ended};
-ghost use Rattle.sem_laws.specs.Views.{event_of, end_of, observation_of};
+ghost use Rattle.sem_laws.specs.Views.{event_of, end_of};
 ghost use Rattle.asm_lang_exec.specs.Runs.{goes, pay, add_event};
 ghost use Rattle.script_replies.specs.Answers.{events_of};
+ghost use Rattle.script_seen.specs.Views.{seen_of};
 ghost use Rattle.asm_run_state.specs.Worlds.{Bindings, place_of, paid_of};
 
 use crate::{Layout, Values};
 use heap_views::Heap;
 use script_replies::Replies;
-use sem_laws::{End, Event, Observation};
-use sem_words::{List, Text};
-use std::alloc::{AllocError, Global};
+use script_seen::Seen;
+use sem_laws::{End, Event};
+use sem_words::List;
+use std::alloc::AllocError;
 
 /// Everything that a session changes, but for the variables of the function that runs: the module's
 /// variables, the heap, the replies that are left, the events so far and the units that are left.
@@ -61,27 +63,25 @@ impl World<'_> {
     }
 
     /// What is seen where a unit is due and none is left.
-    pub fn running(self, alloc: Global) -> Result<Observation, AllocError>
-        ensures { IfOk result (λ o. (locals : Bindings) → observation_of o ≡ running (place_of self.entry locals).events) }
+    pub fn running(self) -> Seen
+        ensures { (locals : Bindings) → seen_of result ≡ running (place_of self.entry locals).events }
     {
-        let heap = Text::from_bytes(alloc, &[])?;
-        Ok(Observation {
+        Seen {
             events: self.events,
             end: None,
-            heap,
-        })
+            heap: self.heap,
+        }
     }
 
     /// What is seen at the end.
-    pub fn ended(self, alloc: Global, end: End) -> Result<Observation, AllocError>
-        ensures { IfOk result (λ o. (locals : Bindings) → observation_of o ≡ ended (place_of self.entry locals).events (end_of end) (place_of self.entry locals).heap) }
+    pub fn ended(self, end: End) -> Seen
+        ensures { (locals : Bindings) → seen_of result ≡ ended (place_of self.entry locals).events (end_of end) (place_of self.entry locals).heap }
     {
-        let heap = Text::from_bytes(alloc, self.heap.bytes())?;
-        Ok(Observation {
+        Seen {
             events: self.events,
             end: Some(end),
-            heap,
-        })
+            heap: self.heap,
+        }
     }
 }
 
