@@ -1,7 +1,8 @@
 // Instances of modules.
 
 ghost use Rattle.std.specs.Prelude.{◌≡◌, None, IfOk};
-ghost use Rattle.sem_laws.specs.Views.{observation_of, script_of};
+ghost use Rattle.sem_laws.specs.Views.{script_of};
+ghost use Rattle.script_seen.specs.Views.{seen_of};
 ghost use Rattle.wasm_lang.specs.Shape.{IsShaped};
 ghost use Rattle.wasm_tree.specs.Views.{module_of};
 ghost use Rattle.wasm_lang_valid.specs.Runnable.{not_runnable};
@@ -16,8 +17,9 @@ ghost use Rattle.wasm_run.specs.Runs.{seen_as};
 use crate::first::first_state;
 use crate::session::run_session;
 use script_replies::Replies;
-use sem_laws::{End, Observation, Script};
-use sem_words::{List, Text};
+use script_seen::Seen;
+use sem_laws::{End, Script};
+use sem_words::List;
 use std::alloc::{AllocError, Global};
 use std::marker::Model;
 use wasm_lang_exec::fitting_laws;
@@ -52,22 +54,15 @@ impl<'a> Model for Instance<'a> {
 }
 
 // What is seen of a session that has this end, or none.
-fn observed(
-    alloc: Global,
-    machine: Machine<'_>,
-    end: Option<End>,
-) -> Result<Observation, AllocError>
-    ensures { IfOk result (λ o. observation_of o ≡ seen_as end (machine_of machine.entry).store) }
+fn observed(machine: Machine<'_>, end: Option<End>) -> Seen
+    ensures { seen_of result ≡ seen_as end (machine_of machine.entry).store }
 {
-    let heap = match &end {
-        None => Text::from_bytes(alloc, &[])?,
-        Some(_) => Text::from_bytes(alloc, machine.state.memory.bytes())?,
-    };
-    Ok(Observation {
-        events: machine.events,
+    let Machine { state, events, .. } = machine;
+    Seen {
+        events,
         end,
-        heap,
-    })
+        heap: state.memory,
+    }
 }
 
 // The module, of which each function has a body.
@@ -108,8 +103,8 @@ impl<'a> Instance<'a> {
 
     /// What is seen of the session after so many reductions: instantiation, the start function and the script's calls are run.
     /// After any number of reductions the session has ended or has a next one, in which no operand is missing or of another type.
-    pub fn run(self, steps: u64) -> Result<Observation, AllocError>
-        ensures meaning { IfOk result (λ o. observation_of o ≡ wasm self.entry.code self.entry.script steps) }
+    pub fn run(self, steps: u64) -> Result<Seen, AllocError>
+        ensures meaning { IfOk result (λ s. seen_of s ≡ wasm self.entry.code self.entry.script steps) }
         ensures seen { wasm self.entry.code self.entry.script steps ≡ seen (place self.entry.code self.entry.script steps) }
         ensures goes_on { GoesOn self.entry.code (place self.entry.code self.entry.script steps) }
         ensures typed { IsTypedPlace self.entry.code (place self.entry.code self.entry.script steps) }
@@ -137,7 +132,6 @@ impl<'a> Instance<'a> {
             &mut machine,
             steps,
         )?;
-        let observation = observed(alloc, machine, end)?;
-        Ok(observation)
+        Ok(observed(machine, end))
     }
 }
