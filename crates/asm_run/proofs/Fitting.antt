@@ -11,7 +11,7 @@ use Rattle.sem_laws.specs.Observation.{ObservationPlain}
 use Rattle.sem_laws.specs.Views.{call_of, script_of}
 use Rattle.sem_laws.specs.declared.script.CallLine.{CallLine}
 use Rattle.sem_laws.specs.declared.script.Script.{Script}
-use Rattle.sem_laws.specs.declared.observation.Observation.{Observation}
+use Rattle.script_seen.specs.declared.seen.Seen.{Seen}
 use Rattle.asm_lang.specs.Modules.{Function, Module}
 use Rattle.asm_tree.specs.declared.tree.Module.{Module as Tree}
 use Rattle.asm_tree.specs.Views.{module_view}
@@ -26,7 +26,7 @@ use Rattle.asm_laws_machine.specs.Literals.{IsSmall, SmallModule}
 use Rattle.asm_laws_machine.specs.AcceptedLaws.{AcceptedAreSmall}
 use Rattle.asm_run_state.specs.declared.world.World.{World}
 use Rattle.asm_run_state.specs.Worlds.{place_of}
-use Rattle.asm_run.specs.Hosted.{observation_option}
+use Rattle.asm_run.specs.Hosted.{seen_option}
 use Rattle.asm_run.specs.Session.{SmallCalls, IsSession}
 use Rattle.asm_run.specs.Linked.{SessionPlain, IsLinked}
 
@@ -69,9 +69,9 @@ same_units : (m : Module) (size : ℕ) (script : ScriptPlain) (w v : World) (uni
 same_units m size script w v units begins given = given ∙ ap (λ (p : Place). record p { units = units }) begins
 
 -- what the calls of a session that was linked come to is the meaning
-pub is_meaning : (code : Tree) (size : ℕ) (script : Script) (names : Environment) (w v : World) (units : ℕ) (calls : List CallLine) (seen : Option Observation)
+pub is_meaning : (code : Tree) (size : ℕ) (script : Script) (names : Environment) (w v : World) (units : ℕ) (calls : List CallLine) (seen : Option Seen)
     → IsLinked code size (script_of script) names w → place_of v [] ≡ record (place_of w []) { units = units } → calls ≡ list_items script.calls
-    → IsSession (module_view names.home.now) (map call_of calls) v seen → observation_option seen ≡ asm (module_view code) size (script_of script) units
+    → IsSession (module_view names.home.now) (map call_of calls) v seen → seen_option seen ≡ asm (module_view code) size (script_of script) units
 is_meaning code size script names w v units calls seen l given same run =
     run size (script_of script) units (ap (map call_of) (sym same)) (same_units (module_view names.home.now) size (script_of script) w v units (l.begins ∙ ap (λ (m : Tree). first_place (module_view m) size (script_of script) 0) (sym l.home)) given)
     ∙ ap (λ (m : Tree). asm (module_view m) size (script_of script) units) l.home
@@ -93,7 +93,7 @@ module _ (p : SessionPlain) (code : Tree) (size : ℕ) (script : Script) (names 
   pub small_calls : (calls : List CallLine) → calls ≡ list_items script.calls → SmallCalls calls
   small_calls calls same = subst SmallCalls (sym same) (fitting_small (module_view code) size script l.fits)
 
-  pub means : (v : World) (units : ℕ) (calls : List CallLine) (seen : Option Observation) → place_of v [] ≡ record (place_of w []) { units = units } → calls ≡ list_items script.calls
-      → IsSession (module_view names.home.now) (map call_of calls) v seen → observation_option seen ≡ asm (module_view p.code) p.size p.script units
+  pub means : (v : World) (units : ℕ) (calls : List CallLine) (seen : Option Seen) → place_of v [] ≡ record (place_of w []) { units = units } → calls ≡ list_items script.calls
+      → IsSession (module_view names.home.now) (map call_of calls) v seen → seen_option seen ≡ asm (module_view p.code) p.size p.script units
   means v units calls seen given same run =
       is_meaning code size script names w v units calls seen l given same run ∙ ap (λ (p : SessionPlain). asm (module_view p.code) p.size p.script units) is

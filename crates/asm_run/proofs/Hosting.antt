@@ -6,9 +6,10 @@ use Rattle.sem_words.specs.declared.js_value.JsValue.{JsValue}
 use Rattle.sem_words.specs.declared.js_value.JsValue.TheVariants.{Whole}
 use Rattle.sem_laws.specs.Script.{CallPlain}
 use Rattle.sem_laws.specs.Observation.{EventPlain, running, ended}
-use Rattle.sem_laws.specs.Views.{end_of, observation_of}
+use Rattle.sem_laws.specs.Views.{end_of}
+use Rattle.script_seen.specs.Views.{seen_of}
 use Rattle.sem_laws.specs.declared.observation.End.{End}
-use Rattle.sem_laws.specs.declared.observation.Observation.{Observation}
+use Rattle.script_seen.specs.declared.seen.Seen.{Seen}
 use Rattle.asm_lang.specs.Trees.{Init, number, decimal, foreign_int, foreign_double, member, math, view}
 use Rattle.asm_lang.specs.Modules.{Variable, Function, Module}
 use Rattle.asm_lang_valid.specs.Refusal.{exported_from}
@@ -127,10 +128,10 @@ module _ (f : Function) (w : World) (x : Ended) where
       ∙ ap (λ r. observed (after r (λ v. and_then (back_to [] v) (after_call f next)))) (value (place_of w locals))
       ∙ ap (λ x. observed (ended_to (left_to [] (after_call f next)) x (place_of w locals))) (sym is)
 
-  pub stopped : (e : End) (o : Observation) → x ≡ endings.Stops e → ((locals : List Binding) → observation_of o ≡ ended (place_of w locals).events (end_of e) (place_of w locals).heap) → Leaves f w x (Ends o)
+  pub stopped : (e : End) (o : Seen) → x ≡ endings.Stops e → ((locals : List Binding) → seen_of o ≡ ended (place_of w locals).events (end_of e) (place_of w locals).heap) → Leaves f w x (Ends o)
   stopped e o is seen locals next = ap Some (seen locals) ∙ ap (λ x. observed (ended_to (left_to [] (after_call f next)) x (place_of w locals))) (sym is)
 
-  pub unpaid : (o : Observation) → x ≡ endings.Spent → ((locals : List Binding) → observation_of o ≡ running (place_of w locals).events) → Leaves f w x (Ends o)
+  pub unpaid : (o : Seen) → x ≡ endings.Spent → ((locals : List Binding) → seen_of o ≡ running (place_of w locals).events) → Leaves f w x (Ends o)
   unpaid o is seen locals next = ap Some (seen locals) ∙ ap (λ x. observed (ended_to (left_to [] (after_call f next)) x (place_of w locals))) (sym is)
 
 pub added_units : (t w : World) (e : EventPlain) → goes tt (place_of t []) ≡ add_event e (place_of w []) → t.units ≤ w.units

@@ -3,9 +3,10 @@ use Rattle.std.proofs.Common.{◌≡◌, ℕ, ◌≤◌, ◌<◌, ◌+◌, List,
 use Rattle.std.proofs.lemmas.List.{at_drop_more, at_drop_all}
 use Rattle.sem_laws.specs.Script.{CallPlain}
 use Rattle.sem_laws.specs.Observation.{ObservationPlain, done, ended}
-use Rattle.sem_laws.specs.Views.{call_of, observation_of}
+use Rattle.sem_laws.specs.Views.{call_of}
+use Rattle.script_seen.specs.Views.{seen_of}
 use Rattle.sem_laws.specs.declared.script.CallLine.{CallLine}
-use Rattle.sem_laws.specs.declared.observation.Observation.{Observation}
+use Rattle.script_seen.specs.declared.seen.Seen.{Seen}
 use Rattle.asm_lang.specs.Modules.{Module}
 use Rattle.asm_lang_exec.specs.Runs.{Place, gives}
 use Rattle.asm_lang_exec.specs.Session.{first_place, observed}
@@ -15,7 +16,7 @@ use Rattle.asm_run_state.specs.declared.world.World.{World}
 use Rattle.asm_run_state.specs.Worlds.{place_of}
 use Rattle.asm_run.specs.declared.host_calls.Hosted.{Hosted}
 use Rattle.asm_run.specs.declared.host_calls.Hosted.TheVariants.{Goes, Ends, Wrong}
-use Rattle.asm_run.specs.Hosted.{hosted, observation_option, Calls, UnitsLeft}
+use Rattle.asm_run.specs.Hosted.{hosted, seen_option, Calls, UnitsLeft}
 use Rattle.asm_run.specs.Session.{IsSession}
 
 -- what the calls come to in a world
@@ -28,7 +29,7 @@ same_session m cs ds n u p q e f g =
     ∙ ap (λ u. observed (host_calls_to (call_at_to m u) m ds gives p)) f
     ∙ ap (λ q. observed (host_calls_to (call_at_to m u) m ds gives q)) g
 
-pub is_session : (m : Module) (cs : List CallPlain) (w : World) (seen : Option Observation) → observation_option seen ≡ calls_from m w.units cs w → IsSession m cs w seen
+pub is_session : (m : Module) (cs : List CallPlain) (w : World) (seen : Option Seen) → seen_option seen ≡ calls_from m w.units cs w → IsSession m cs w seen
 is_session m cs w seen h length script units e f =
     h
     ∙ same_session m cs script.calls w.units units (place_of w []) (first_place m length script units) (sym e) (ap (λ (p : Place). p.units) f) f
@@ -43,8 +44,8 @@ next_call m bound cs i c w h below is le calls =
     ∙ sym (at_drop_more (λ cs. calls_from m bound (map call_of cs) w) cs i c below)
 
 -- no call is left
-pub all_made : (m : Module) (bound : ℕ) (cs : List CallLine) (i : ℕ) (w : World) (o : Observation) → length cs ≤ i → observation_of o ≡ ended (place_of w []).events done (place_of w []).heap
-    → Some (observation_of o) ≡ calls_from m bound (map call_of (drop i cs)) w
+pub all_made : (m : Module) (bound : ℕ) (cs : List CallLine) (i : ℕ) (w : World) (o : Seen) → length cs ≤ i → seen_of o ≡ ended (place_of w []).events done (place_of w []).heap
+    → Some (seen_of o) ≡ calls_from m bound (map call_of (drop i cs)) w
 all_made m bound cs i w o past seen = ap Some seen ∙ sym (at_drop_all (λ cs. calls_from m bound (map call_of cs) w) cs i past)
 
 -- one call of those of a session
@@ -53,7 +54,7 @@ module _ (m : Module) (cs : List CallLine) (v w : World) (i : ℕ) (c : CallLine
   step : hosted (λ _. host_calls_to (call_at_to m v.units) m (map call_of (drop (i + 1) cs)) gives) h ≡ calls_from m v.units (map call_of cs) v
   step = next_call m v.units cs i c w h below is units calls ∙ same
 
-  pub ends_here : (o : Observation) → h ≡ Ends o → IsSession m (map call_of cs) v (Some o)
+  pub ends_here : (o : Seen) → h ≡ Ends o → IsSession m (map call_of cs) v (Some o)
   ends_here o e = is_session m (map call_of cs) v (Some o) (sym (ap (hosted (λ _. host_calls_to (call_at_to m v.units) m (map call_of (drop (i + 1) cs)) gives)) e) ∙ step)
 
   pub wrong_here : h ≡ Wrong → IsSession m (map call_of cs) v None

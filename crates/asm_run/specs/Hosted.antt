@@ -3,8 +3,8 @@ use Rattle.std.specs.Prelude.{◌≡◌, ℕ, ◌≤◌, List, [], Option, Some,
 use Rattle.sem_words.specs.declared.js_value.JsValue.{JsValue}
 use Rattle.sem_laws.specs.Script.{CallPlain}
 use Rattle.sem_laws.specs.Observation.{ObservationPlain}
-use Rattle.sem_laws.specs.declared.observation.Observation.{Observation}
-use Rattle.sem_laws.specs.Views.{observation_of}
+use Rattle.script_seen.specs.declared.seen.Seen.{Seen}
+use Rattle.script_seen.specs.Views.{seen_of}
 use Rattle.asm_lang.specs.Modules.{Function, Module}
 use Rattle.asm_lang_exec.specs.Runs.{Binding, Part, and_then, add_event}
 use Rattle.asm_lang_exec.specs.Session.{result_event, observed}
@@ -24,7 +24,7 @@ Later = Unit {0} → Part Over
 
 abbrev pub hosted : Later → Hosted → Option ObservationPlain
 hosted next (Goes w) = observed (next tt (place_of w []))
-hosted next (Ends o) = Some (observation_of o)
+hosted next (Ends o) = Some (seen_of o)
 hosted next Wrong = None
 
 -- what comes after a call of the function: its event, and then the later calls
@@ -52,6 +52,6 @@ UnitsLeft u (Goes w) = w.units ≤ u
 UnitsLeft u (Ends o) = Unit {0}
 UnitsLeft u Wrong = Unit {0}
 
-abbrev pub observation_option : Option Observation → Option ObservationPlain
-observation_option None = None
-observation_option (Some o) = Some (observation_of o)
+abbrev pub seen_option : Option Seen → Option ObservationPlain
+seen_option None = None
+seen_option (Some o) = Some (seen_of o)

@@ -19,7 +19,8 @@ use asm_run_state::{World, first_locals, locals_layout, result_event};
 use asm_run_work::{Arguments, Completion, EndWork, Frame, Kept, Mode, Outcome, Stack, Work};
 use asm_tree::Function;
 use asm_validate_names::Environment;
-use sem_laws::{CallLine, Observation};
+use script_seen::Seen;
+use sem_laws::CallLine;
 use sem_words::JsValue;
 use std::alloc::{AllocError, Global};
 
@@ -28,7 +29,7 @@ use std::alloc::{AllocError, Global};
 #[derive(Drop)]
 pub enum Hosted<'a> {
     Goes(World<'a>),
-    Ends(Observation),
+    Ends(Seen),
     Wrong,
 }
 
@@ -83,7 +84,7 @@ fn call_function<'a>(
 {
     let mut world = world;
     if !world.pay() {
-        let seen = world.running(alloc)?;
+        let seen = world.running();
         return Ok(Hosted::Ends(seen));
     }
     let Some(values) = first_locals(alloc, function, arguments.as_slice())? else {
@@ -123,13 +124,12 @@ fn run_body<'a>(
         frame: _,
         world,
     } = machine;
-    let hosted = after_body(alloc, function, world, ended)?;
+    let hosted = after_body(function, world, ended)?;
     Ok(hosted)
 }
 
 // The call has come back, or the session ends.
 fn after_body<'a>(
-    alloc: Global,
     function: &'a Function,
     world: World<'a>,
     ended: Ended<'a>,
@@ -147,11 +147,11 @@ fn after_body<'a>(
             Ok(Hosted::Goes(world))
         }
         Ended::Stops(end) => {
-            let seen = world.ended(alloc, end)?;
+            let seen = world.ended(end);
             Ok(Hosted::Ends(seen))
         }
         Ended::Spent => {
-            let seen = world.running(alloc)?;
+            let seen = world.running();
             Ok(Hosted::Ends(seen))
         }
         Ended::Wrong => Ok(Hosted::Wrong),

@@ -11,7 +11,8 @@ use crate::exports::ExportTable;
 use crate::host_calls::{Hosted, host_call};
 use asm_run_state::World;
 use asm_validate_names::Environment;
-use sem_laws::{CallLine, End, Observation};
+use script_seen::Seen;
+use sem_laws::{CallLine, End};
 use std::alloc::{AllocError, Global};
 
 /// What is seen of the module where the script makes these calls in a world; None where the session goes
@@ -22,7 +23,7 @@ pub fn run<'a>(
     exports: &ExportTable<'a>,
     world: World<'a>,
     calls: &[CallLine],
-) -> Result<Option<Observation>, AllocError>
+) -> Result<Option<Seen>, AllocError>
     requires complete { IsComplete environment.now }
     requires exports { IsTableOf (module_view environment.now.home.now) exports.now }
     requires literals { SmallModule (module_view environment.now.home.now) }
@@ -37,6 +38,6 @@ pub fn run<'a>(
             Hosted::Wrong => return Ok(None),
         }
     }
-    let seen = world.ended(alloc, End::Done)?;
+    let seen = world.ended(End::Done);
     Ok(Some(seen))
 }

@@ -3,7 +3,8 @@
 ghost use Rattle.std.specs.Prelude.{◌≡◌, None, Some, IfOk};
 ghost use Rattle.heap_lang.specs.Heap.{IsHeapLength};
 ghost use Rattle.sem_laws.specs.Observation.{ObservationPlain};
-ghost use Rattle.sem_laws.specs.Views.{script_of, observation_of};
+ghost use Rattle.sem_laws.specs.Views.{script_of};
+ghost use Rattle.script_seen.specs.Views.{seen_of};
 ghost use Rattle.asm_tree.specs.Views.{module_view};
 ghost use Rattle.asm_lang_exec.specs.Session.{asm, checked_asm};
 ghost use Rattle.asm_lang_exec.specs.Fits.{misfit};
@@ -13,7 +14,8 @@ use crate::run;
 use asm_run_state::World;
 use asm_validate::Checked;
 use asm_validate_names::Environment;
-use sem_laws::{Observation, Script};
+use script_seen::Seen;
+use sem_laws::Script;
 use std::alloc::{AllocError, Global};
 use std::marker::Model;
 
@@ -78,8 +80,8 @@ impl<'a> Session<'a> {
 
     /// What is seen of the session with this budget of units. It is never wrong, and each value of an
     /// expression is one of its type.
-    pub fn run(self, alloc: Global, budget: u64) -> Result<Observation, AllocError>
-        ensures meaning { IfOk result (λ o. asm (module_view self.entry.code) self.entry.size self.entry.script budget ≡ Some (observation_of o)) }
+    pub fn run(self, alloc: Global, budget: u64) -> Result<Seen, AllocError>
+        ensures meaning { IfOk result (λ s. asm (module_view self.entry.code) self.entry.size self.entry.script budget ≡ Some (seen_of s)) }
         ensures never_wrong { (seen : ObservationPlain) × (asm (module_view self.entry.code) self.entry.size self.entry.script budget ≡ Some seen) }
         ensures types_hold { checked_asm (module_view self.entry.code) self.entry.size self.entry.script budget ≡ asm (module_view self.entry.code) self.entry.size self.entry.script budget }
     {

@@ -78,7 +78,7 @@ fn observed(
         Ok(()) => {
             let session = Session::link(alloc, &checked, 4096, script)?;
             let seen = session.run(alloc, budget)?;
-            Ok(Some(seen))
+            Ok(Some(seen.observation(alloc)?))
         }
         Err(_) => Ok(None),
     }

@@ -14,7 +14,7 @@ pub returns-in-Body-clause-fewer : goal.returns-in-Body-clause-fewer
 returns-in-Body-clause-fewer c = added_units c.add_event.new.self c.args.world (event_of c.result_event.result) (c.in_ok-add_event-in-Body.ensures.added [])
 
 pub returns-in-Stops-clause-leaves : goal.returns-in-Stops-clause-leaves
-returns-in-Stops-clause-leaves c = stopped (function_view c.args.function.now) c.args.world c.args.ended c.in-Stops.end c.in_ok-seen-in-Stops.seen c.in-Stops.is c.in_ok-seen-in-Stops.ensures
+returns-in-Stops-clause-leaves c = stopped (function_view c.args.function.now) c.args.world c.args.ended c.in-Stops.end c.ended-seen.result c.in-Stops.is c.ended-seen.ensures
 
 pub returns-in-Spent-clause-leaves : goal.returns-in-Spent-clause-leaves
-returns-in-Spent-clause-leaves c = unpaid (function_view c.args.function.now) c.args.world c.args.ended c.in_ok-seen-in-Spent.seen c.in-Spent.is c.in_ok-seen-in-Spent.ensures
+returns-in-Spent-clause-leaves c = unpaid (function_view c.args.function.now) c.args.world c.args.ended c.running-seen.result c.in-Spent.is c.running-seen.ensures

@@ -9,7 +9,7 @@ use Rattle.asm_run.proofs.host_calls.call_function.Goals as goal
 
 pub returns-then-not-pay-clause-enters : goal.returns-then-not-pay-clause-enters
 returns-then-not-pay-clause-enters c =
-    no_unit (module_view c.args.environment.now.home.now) (function_view c.args.function.now) c.args.arguments c.args.world c.pay.new.self (Ends c.in_ok-seen.seen) (c.if-not-pay.ensures []) (λ next. ap Some (c.in_ok-seen.ensures []))
+    no_unit (module_view c.args.environment.now.home.now) (function_view c.args.function.now) c.args.arguments c.args.world c.pay.new.self (Ends c.running-seen.result) (c.if-not-pay.ensures []) (λ next. ap Some (c.running-seen.ensures []))
 
 pub returns-in_default-clause-enters : goal.returns-in_default-clause-enters
 returns-in_default-clause-enters c =

@@ -24,5 +24,5 @@ loop-call-preserved c = record {
 
 pub returns : goal.returns
 returns c =
-    is_session (module_view c.args.environment.now.home.now) (map call_of c.args.calls.now) c.args.world (Some c.in_ok-seen.seen)
-    (all_made (module_view c.args.environment.now.home.now) c.args.world.units c.args.calls.now c.loop-call.call-index c.loop-call.world c.in_ok-seen.seen c.loop-call-test.false (c.in_ok-seen.ensures []) ∙ c.loop-call.invariant.same)
+    is_session (module_view c.args.environment.now.home.now) (map call_of c.args.calls.now) c.args.world (Some c.ended-seen.result)
+    (all_made (module_view c.args.environment.now.home.now) c.args.world.units c.args.calls.now c.loop-call.call-index c.loop-call.world c.ended-seen.result c.loop-call-test.false (c.ended-seen.ensures []) ∙ c.loop-call.invariant.same)

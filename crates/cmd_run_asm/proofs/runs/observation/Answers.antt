@@ -1,6 +1,6 @@
 use Rattle.std.proofs.Common.{ap}
 use Rattle.std.proofs.lemmas.Result.{IfOk-weaker}
-use Rattle.sem_laws.specs.Views.{observation_of}
+use Rattle.script_seen.specs.Views.{seen_of}
 use Rattle.asm_tree.specs.Views.{module_view}
 use Rattle.cmd_run_asm.proofs.Showing.{shows}
 use Rattle.cmd_run_asm.proofs.runs.observation.Goals as goal
@@ -9,5 +9,5 @@ pub returns : goal.returns
 returns c =
     let link = c.in_ok-session.ensures in
     IfOk-weaker c.observation_text.result _ _
-    (λ output is. shows output.items (observation_of c.in_ok-seen.seen) (ap module_view link.code) link.size link.script c.from.ensures c.in_ok-seen.ensures.meaning is)
+    (λ output is. shows output.items (seen_of c.in_ok-seen.seen) (ap module_view link.code) link.size link.script c.from.ensures c.in_ok-seen.ensures.meaning is)
     c.observation_text.ensures

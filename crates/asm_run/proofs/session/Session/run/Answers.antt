@@ -3,7 +3,7 @@ use Rattle.asm_tree.specs.declared.tree.Module.{Module as Tree}
 use Rattle.asm_tree.specs.Views.{module_view}
 use Rattle.asm_lang_exec.specs.Session.{asm}
 use Rattle.asm_run.specs.Exports.{IsTableOf}
-use Rattle.asm_run.specs.Hosted.{observation_option}
+use Rattle.asm_run.specs.Hosted.{seen_option}
 use Rattle.asm_run.proofs.Fitting.{accepted_here, fits_here, small_home, small_calls, means, not_none}
 use Rattle.asm_run.proofs.session.Session.run.Goals as goal
 
@@ -36,14 +36,14 @@ unreachable-requires c =
     (c.accepted_modules.ensures.never_wrong (module_view c.args.self.code) c.args.self.size c.args.self.script c.args.budget
     (accepted_here c.args.self c.self.inside.checked.now c.self.inside.heap_len c.self.inside.script.now c.self.inside.environment c.self.inside.world c.self.view_is c.self.invariant.0)
     (fits_here c.args.self c.self.inside.checked.now c.self.inside.heap_len c.self.inside.script.now c.self.inside.environment c.self.inside.world c.self.view_is c.self.invariant.0))
-    (ap observation_option (sym c.in-None.is) ∙ means c.args.self c.self.inside.checked.now c.self.inside.heap_len c.self.inside.script.now c.self.inside.environment c.self.inside.world c.self.view_is c.self.invariant.0
+    (ap seen_option (sym c.in-None.is) ∙ means c.args.self c.self.inside.checked.now c.self.inside.heap_len c.self.inside.script.now c.self.inside.environment c.self.inside.world c.self.view_is c.self.invariant.0
     c.set_units.new.self c.args.budget c.as_slice.result.now c.in_ok-seen.seen (c.set_units.ensures []) c.as_slice.ensures c.in_ok-seen.ensures)
 
 pub returns-clause-meaning : goal.returns-clause-meaning
 returns-clause-meaning c =
     sym (means c.args.self c.self.inside.checked.now c.self.inside.heap_len c.self.inside.script.now c.self.inside.environment c.self.inside.world c.self.view_is c.self.invariant.0
     c.set_units.new.self c.args.budget c.as_slice.result.now c.in_ok-seen.seen (c.set_units.ensures []) c.as_slice.ensures c.in_ok-seen.ensures)
-    ∙ ap observation_option c.in-Some.is
+    ∙ ap seen_option c.in-Some.is
 
 pub returns-clause-never_wrong : goal.returns-clause-never_wrong
 returns-clause-never_wrong c =
