@@ -9,10 +9,10 @@ ghost use Rattle.asm_grammar_stmts.specs.Views.{around_view, body_step_view, do_
 
 use crate::begin::statement_step;
 use crate::classes::{Sign, is, may_miss_before};
-use crate::finish::{Settled, finish, settle};
+use crate::finish::{Settled, enter, finish, settle};
 use crate::frame::Frame;
 use crate::frames::Around;
-use crate::state::{BodyStep, Condition, State, let_go, on};
+use crate::state::{BodyStep, Condition, State, on};
 use asm_grammar_nodes::{Class, Lexeme, TallExpr, TallStmt};
 use std::alloc::{AllocError, Global};
 
@@ -28,7 +28,6 @@ pub(crate) fn after_body_step(
     if is(token.class, Sign::While) {
         Ok(on(State::Condition(Condition::Do(at, body)), around))
     } else {
-        let_go(body);
         Ok(BodyStep::Stuck)
     }
 }
@@ -42,10 +41,13 @@ pub(crate) fn next_step(
 ) -> Result<BodyStep, AllocError>
     ensures { IfOk result (λ r. (k : StmtTrees → Step) → body_step_view r k (lexeme_view token.now) ≡ feed (around_view around k (stmt_tall_view stmt)) (lexeme_view token.now)) }
 {
-    match settle(alloc, stmt, around, token)? {
-        Settled::Statement(around) => statement_step(alloc, around, token),
-        Settled::AfterBody(at, body, around) => after_body_step(at, body, around, token),
-        Settled::OtherArm(around) => Ok(on(State::Statement, around)),
+    match settle(alloc, stmt, around, token) {
+        Ok(settled) => match settled {
+            Settled::Statement(around) => statement_step(alloc, around, token),
+            Settled::AfterBody(at, body, around) => after_body_step(at, body, around, token),
+            Settled::OtherArm(around) => Ok(on(State::Statement, around)),
+        },
+        Err(error) => Err(error),
     }
 }
 
@@ -60,12 +62,11 @@ pub(crate) fn end_step(
     ensures { IfOk result (λ r. (k : StmtTrees → Step) → body_step_view r k (lexeme_view token.now) ≡ feed (ends (around_view around k (stmt_tall_view stmt))) (lexeme_view token.now)) }
 {
     match token.class {
-        Class::Semicolon => Ok(BodyStep::On(finish(alloc, stmt, around)?)),
+        Class::Semicolon => finish(alloc, stmt, around),
         class => {
             if may_miss_before(class, token.line) {
                 next_step(alloc, stmt, around, token)
             } else {
-                let_go(stmt);
                 Ok(BodyStep::Stuck)
             }
         }
@@ -82,7 +83,7 @@ pub(crate) fn do_end_step(
     ensures { IfOk result (λ r. (k : StmtTrees → Step) → body_step_view r k (lexeme_view token.now) ≡ feed (ends_do (around_view around k (stmt_tall_view stmt))) (lexeme_view token.now)) }
 {
     match token.class {
-        Class::Semicolon => Ok(BodyStep::On(finish(alloc, stmt, around)?)),
+        Class::Semicolon => finish(alloc, stmt, around),
         _ => next_step(alloc, stmt, around, token),
     }
 }
@@ -100,13 +101,10 @@ pub(crate) fn arm_step(
     ensures { IfOk result (λ r. (k : StmtTrees → Step) → body_step_view r k (lexeme_view token.now) ≡ feed (after_arm at (tall_view condition) (stmt_tall_view first) (around_view around k)) (lexeme_view token.now)) }
 {
     match token.class {
-        Class::Else => {
-            let around = around.with(Frame::OtherArm(at, condition, first))?;
-            Ok(on(State::Statement, around))
-        }
-        _ => {
-            let whole = TallStmt::if_only(alloc, at, condition, first)?;
-            next_step(alloc, whole, around, token)
-        }
+        Class::Else => enter(Frame::OtherArm(at, condition, first), around),
+        _ => match TallStmt::if_only(alloc, at, condition, first) {
+            Ok(whole) => next_step(alloc, whole, around, token),
+            Err(error) => Err(error),
+        },
     }
 }

@@ -12,15 +12,8 @@ ghost use Rattle.asm_grammar_exprs.specs.Views.{reading_view};
 ghost use Rattle.asm_grammar_stmts.specs.Views.{around_view, body_view, body_step_view};
 ghost use Rattle.asm_grammar_stmts.specs.Fed.{body_fed_view, ended_view, expr_fed_view};
 
-use crate::begin::statement_step;
-use crate::clauses::{
-    case_step, clause_step, default_step, negative_step, subject_step, value_step,
-};
-use crate::ending::{after_body_step, arm_step, do_end_step, end_step};
-use crate::expression::{after_expression, expression_step, name_step};
 use crate::frames::{Around, Frames};
 use crate::items::Items;
-use crate::parts::{condition_step, for_step, part_step, return_step, target_step};
 use crate::state::{BodyFed, BodyReading, BodyStep, State, let_go};
 use asm_grammar_exprs::{ExprReading, ExprStep};
 use asm_grammar_nodes::{Height, Lexeme, TallExpr};
@@ -43,13 +36,16 @@ fn feed_expression(
 ) -> Result<ExprFed, AllocError>
     ensures { IfOk result (λ r. (k : ExprTree → Machine) → expr_fed_view r expr.new k (lexeme_view token.now) ≡ feed (reading_view expr.old k) (lexeme_view token.now)) }
 {
-    match mem::replace(expr, ExprReading::start(alloc, 0)).feed(alloc, token)? {
-        ExprStep::On(next) => {
-            let_go(mem::replace(expr, next));
-            Ok(ExprFed::On)
-        }
-        ExprStep::Done(whole) => Ok(ExprFed::Done(whole)),
-        ExprStep::Stuck => Ok(ExprFed::Stuck),
+    match mem::replace(expr, ExprReading::start(alloc, 0)).feed(alloc, token) {
+        Ok(step) => match step {
+            ExprStep::On(next) => {
+                let_go(mem::replace(expr, next));
+                Ok(ExprFed::On)
+            }
+            ExprStep::Done(whole) => Ok(ExprFed::Done(whole)),
+            ExprStep::Stuck => Ok(ExprFed::Stuck),
+        },
+        Err(error) => Err(error),
     }
 }
 
@@ -72,10 +68,13 @@ impl BodyReading {
         ensures { IfOk result (λ r. (k : StmtTrees → Step) → body_fed_view r self.new k (lexeme_view token.now) ≡ advance (body_view self.old k) (lexeme_view token.now)) }
     {
         match &mut self.state {
-            State::Expression(expr, _) => match feed_expression(alloc, expr, token)? {
-                ExprFed::On => Ok(BodyFed::On),
-                ExprFed::Done(whole) => self.after_expression(alloc, whole, token),
-                ExprFed::Stuck => Ok(BodyFed::Stuck),
+            State::Expression(expr, _) => match feed_expression(alloc, expr, token) {
+                Ok(fed) => match fed {
+                    ExprFed::On => Ok(BodyFed::On),
+                    ExprFed::Done(whole) => self.after_expression(alloc, whole, token),
+                    ExprFed::Stuck => Ok(BodyFed::Stuck),
+                },
+                Err(error) => Err(error),
             },
             _ => self.move_on(alloc, token),
         }
@@ -90,13 +89,10 @@ impl BodyReading {
     ) -> Result<BodyFed, AllocError>
         ensures { IfOk result (λ r. (k : StmtTrees → Step) → body_fed_view r self.new k (lexeme_view token.now) ≡ ended_view self.old.state (tall_view expr) (around_view self.old.around k) (lexeme_view token.now)) }
     {
-        let BodyReading { state, around } = mem::replace(self, BodyReading::start(alloc));
-        match state {
-            State::Expression(_, purpose) => {
-                let step = after_expression(alloc, expr, purpose, around, token)?;
-                Ok(self.put(step))
-            }
-            _ => Ok(BodyFed::Stuck),
+        let BodyReading { state, around } = self.taken(alloc);
+        match state.expression_ended(alloc, expr, around, token) {
+            Ok(step) => Ok(self.put(step)),
+            Err(error) => Err(error),
         }
     }
 
@@ -104,9 +100,18 @@ impl BodyReading {
     fn move_on(&mut self, alloc: Global, token: &Lexeme<'_>) -> Result<BodyFed, AllocError>
         ensures { IfOk result (λ r. (k : StmtTrees → Step) → body_fed_view r self.new k (lexeme_view token.now) ≡ advance (body_view self.old k) (lexeme_view token.now)) }
     {
-        let old = mem::replace(self, BodyReading::start(alloc));
-        let step = old.step(alloc, token)?;
-        Ok(self.put(step))
+        let BodyReading { state, around } = self.taken(alloc);
+        match state.step(alloc, around, token) {
+            Ok(step) => Ok(self.put(step)),
+            Err(error) => Err(error),
+        }
+    }
+
+    /// What was read so far, taken out.
+    fn taken(&mut self, alloc: Global) -> BodyReading
+        ensures { result ≡ self.old }
+    {
+        mem::replace(self, BodyReading::start(alloc))
     }
 
     /// Goes on where a step leads.
@@ -120,37 +125,6 @@ impl BodyReading {
             }
             BodyStep::Done(stmts) => BodyFed::Done(stmts),
             BodyStep::Stuck => BodyFed::Stuck,
-        }
-    }
-
-    /// What one token makes of it.
-    fn step(self, alloc: Global, token: &Lexeme<'_>) -> Result<BodyStep, AllocError>
-        ensures { IfOk result (λ r. (k : StmtTrees → Step) → body_step_view r k (lexeme_view token.now) ≡ advance (body_view self k) (lexeme_view token.now)) }
-    {
-        let BodyReading { state, around } = self;
-        match state {
-            State::Statement => statement_step(alloc, around, token),
-            State::Name(name) => name_step(alloc, name, around, token),
-            State::Expression(reading, purpose) => {
-                expression_step(alloc, reading, purpose, around, token)
-            }
-            State::Condition(condition) => condition_step(alloc, condition, around, token),
-            State::ForParen(at) => for_step(at, around, token),
-            State::Part(at, part) => part_step(alloc, at, part, around, token),
-            State::Return(at) => return_step(alloc, at, around, token),
-            State::Target(jump, at) => target_step(alloc, jump, at, around, token),
-            State::End(stmt) => end_step(alloc, stmt, around, token),
-            State::DoEnd(stmt) => do_end_step(alloc, stmt, around, token),
-            State::AfterArm(at, condition, first) => {
-                arm_step(alloc, at, condition, first, around, token)
-            }
-            State::AfterBody(at, body) => after_body_step(at, body, around, token),
-            State::SwitchBrace(at, subject) => subject_step(alloc, at, subject, around, token),
-            State::Clause(switch) => clause_step(alloc, switch, around, token),
-            State::Value(switch) => value_step(alloc, switch, around, token),
-            State::Negative(_, switch) => negative_step(switch, around, token),
-            State::CaseColon(value, switch) => case_step(alloc, value, switch, around, token),
-            State::DefaultColon(switch) => default_step(alloc, switch, around, token),
         }
     }
 

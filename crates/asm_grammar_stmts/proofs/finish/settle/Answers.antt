@@ -16,14 +16,14 @@ returns-in-Else c = λ k.
     let t = lexeme_view c.args.token.now in
     let condition = tall_view c.in-Arm.condition in
     let first = stmt_tall_view c.in-Arm.first in
-    let bottom = in_body (items_view c.args.around.body) k in
+    let bottom = in_body (items_view c.into_parts-body.result.0) k in
     let below = frames_view (frames_list c.pop.new.self) bottom in
     let last = feed (below (if_only c.in-Arm.at condition first)) t in
-    ap goes (pushed_next (frames_list c.in_ok-frames-in-Else.frames) (frames_list c.pop.new.self) (OtherArm c.in-Arm.at c.in-Arm.condition c.in-Arm.first) (items_view c.args.around.body) k c.in_ok-frames-in-Else.ensures)
+    ap goes (pushed_next (frames_list c.in_ok-frames-in-Else.frames) (frames_list c.pop.new.self) (OtherArm c.in-Arm.at c.in-Arm.condition c.in-Arm.first) (items_view c.into_parts-body.result.0) k c.in_ok-frames-in-Else.ensures)
     ∙ ap (λ d. arm_by (class_view d) c.in-Arm.at condition first below last) (sym c.in-Else.is)
     ∙ ap (λ x. feed (enclosed_view x below) t) (sym c.in-Arm.is)
     ∙ ap (λ s. feed s t)
-    (c.in_ok-whole.ensures below
+    (c.in-Ok.ensures below
     ∙ popped_view (frames_list c.loop-frame.frames) (frames_list c.pop.new.self) c.in-Some.frame bottom (stmt_tall_view c.loop-frame.stmt) c.in-Some.ensures)
     ∙ c.loop-frame.invariant k
 
@@ -32,13 +32,13 @@ loop-frame-preserved c = λ k.
     let t = lexeme_view c.args.token.now in
     let condition = tall_view c.in-Arm.condition in
     let first = stmt_tall_view c.in-Arm.first in
-    let bottom = in_body (items_view c.args.around.body) k in
+    let bottom = in_body (items_view c.into_parts-body.result.0) k in
     let below = frames_view (frames_list c.pop.new.self) bottom in
     let last = feed (below (if_only c.in-Arm.at condition first)) t in
     ap (λ s. feed (below s) t) c.in_ok-stmt-in_default-class.ensures
     ∙ sym (arm_ended c.args.token.now.class c.in-Arm.at condition first below last c.in_default-class.not-Else)
     ∙ ap (λ x. feed (enclosed_view x below) t) (sym c.in-Arm.is)
     ∙ ap (λ s. feed s t)
-    (c.in_ok-whole.ensures below
+    (c.in-Ok.ensures below
     ∙ popped_view (frames_list c.loop-frame.frames) (frames_list c.pop.new.self) c.in-Some.frame bottom (stmt_tall_view c.loop-frame.stmt) c.in-Some.ensures)
     ∙ c.loop-frame.invariant k
