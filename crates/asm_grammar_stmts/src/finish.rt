@@ -77,6 +77,16 @@ pub(crate) enum Settled {
     OtherArm(Around),
 }
 
+/// The token was the `else` before what is in this frame.
+fn other_arm(frame: Frame, around: Around) -> Result<Settled, AllocError>
+    ensures { IfOk result (λ r. (k : StmtTrees → Step) (t : Token) → settled_view r k t ≡ goes (frame_next frame (around_view around k))) }
+{
+    match around.with(frame) {
+        Ok(around) => Ok(Settled::OtherArm(around)),
+        Err(error) => Err(error),
+    }
+}
+
 /// A statement has ended before the token, which isn't taken unless it is the `else` of an `if` that ends with it.
 pub(crate) fn settle(
     alloc: Global,
@@ -95,23 +105,30 @@ pub(crate) fn settle(
         };
         match enclosed {
             Enclosed::Stmt(whole) => stmt = whole,
-            Enclosed::Item(item) => {
-                let frames = frames.with(item)?;
-                return Ok(Settled::Statement(Around { body, frames }));
-            }
-            Enclosed::Arm(at, condition, first) => match token.class {
-                Class::Else => {
-                    let frames = frames.with(Frame::OtherArm(at, condition, first))?;
-                    return Ok(Settled::OtherArm(Around { body, frames }));
-                }
-                _ => stmt = TallStmt::if_only(alloc, at, condition, first)?,
+            Enclosed::Item(item) => match frames.with(item) {
+                Ok(frames) => return Ok(Settled::Statement(Around { body, frames })),
+                Err(error) => return Err(error),
             },
+            Enclosed::Arm(at, condition, first) => {
+                if let Class::Else = token.class {
+                    let frame = Frame::OtherArm(at, condition, first);
+                    return other_arm(frame, Around { body, frames });
+                }
+                match TallStmt::if_only(alloc, at, condition, first) {
+                    Ok(whole) => stmt = whole,
+                    Err(error) => return Err(error),
+                }
+            }
             Enclosed::Body(at, stmt) => {
                 return Ok(Settled::AfterBody(at, stmt, Around { body, frames }));
             }
         }
     }
-    let body = body.with(stmt)?;
-    let frames = Frames::new(alloc);
-    Ok(Settled::Statement(Around { body, frames }))
+    match body.with(stmt) {
+        Ok(body) => {
+            let frames = Frames::new(alloc);
+            Ok(Settled::Statement(Around { body, frames }))
+        }
+        Err(error) => Err(error),
+    }
 }

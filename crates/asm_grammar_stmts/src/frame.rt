@@ -226,12 +226,7 @@ impl Frame {
             Frame::CaseItem(value, stmts, switch) => {
                 case_ended(alloc, value, stmts, switch, around, end)
             }
-            Frame::Arm(_, _) => Ok(BodyStep::Stuck),
-            Frame::OtherArm(_, _, _) => Ok(BodyStep::Stuck),
-            Frame::WhileBody(_, _) => Ok(BodyStep::Stuck),
-            Frame::DoBody(_) => Ok(BodyStep::Stuck),
-            Frame::ForBody(_, _, _, _) => Ok(BodyStep::Stuck),
-            Frame::Labels(_) => Ok(BodyStep::Stuck),
+            _ => Ok(BodyStep::Stuck),
         }
     }
 }

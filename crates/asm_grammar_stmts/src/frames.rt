@@ -59,8 +59,10 @@ impl Frames {
         let Frames { mut entries, reach } = self;
         let below = reach;
         let reach = frame.reach(below);
-        entries.push(Entry { frame, below })?;
-        Ok(Frames { entries, reach })
+        match entries.push(Entry { frame, below }) {
+            Ok(()) => Ok(Frames { entries, reach }),
+            Err(_) => Err(AllocError),
+        }
     }
 
     /// The innermost frame, taken off.

@@ -34,10 +34,10 @@ fn innermost_labels(alloc: Global, frames: Frames) -> Result<(List<Word>, Frames
         None => Ok((List::new(alloc), Frames::new(alloc))),
         Some(frame) => match frame.into_labels() {
             Ok(labels) => Ok((labels, frames)),
-            Err(frame) => {
-                let frames = frames.with(frame)?;
-                Ok((List::new(alloc), frames))
-            }
+            Err(frame) => match frames.with(frame) {
+                Ok(frames) => Ok((List::new(alloc), frames)),
+                Err(error) => Err(error),
+            },
         },
     }
 }

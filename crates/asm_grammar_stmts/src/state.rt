@@ -216,7 +216,7 @@ impl Drop for State {
         match self {
             State::Statement => {}
             State::Name(_) => {}
-            State::Expression(_, _) => {}
+            State::Expression(expr, _) => let_go(expr),
             State::Condition(_) => {}
             State::ForParen(_) => {}
             State::Part(_, _) => {}
