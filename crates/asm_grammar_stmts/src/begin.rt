@@ -8,7 +8,7 @@ ghost use Rattle.asm_grammar_stmts.specs.Views.{around_view, next_view, body_ste
 
 use crate::classes::list_end;
 use crate::clauses::list_end_step;
-use crate::finish::finish;
+use crate::finish::{enter, finish};
 use crate::frame::{Frame, Listing};
 use crate::frames::Around;
 use crate::items::Items;
@@ -36,11 +36,14 @@ pub(crate) fn statement_step(
 fn begun(alloc: Global, token: &Lexeme<'_>) -> Result<Option<ExprReading>, AllocError>
     ensures { IfOk result (λ r. (k : ExprTree → Machine) → begun_view r k (lexeme_view token.now) ≡ feed (at_expr 0 k) (lexeme_view token.now)) }
 {
-    match ExprReading::start(alloc, 0).feed(alloc, token)? {
-        ExprStep::On(expr) => Ok(Some(expr)),
-        // Nothing is complete before its first token.
-        ExprStep::Done(_) => Ok(None),
-        ExprStep::Stuck => Ok(None),
+    match ExprReading::start(alloc, 0).feed(alloc, token) {
+        Ok(step) => match step {
+            ExprStep::On(expr) => Ok(Some(expr)),
+            // Nothing is complete before its first token.
+            ExprStep::Done(_) => Ok(None),
+            ExprStep::Stuck => Ok(None),
+        },
+        Err(error) => Err(error),
     }
 }
 
@@ -53,9 +56,12 @@ pub(crate) fn expression_begins(
 ) -> Result<BodyStep, AllocError>
     ensures { IfOk result (λ r. (k : StmtTrees → Step) → body_step_view r k (lexeme_view token.now) ≡ feed (at_expr 0 (purpose_view purpose (around_view around k))) (lexeme_view token.now)) }
 {
-    match begun(alloc, token)? {
-        Some(expr) => Ok(on(State::Expression(expr, purpose), around)),
-        None => Ok(BodyStep::Stuck),
+    match begun(alloc, token) {
+        Ok(begun) => match begun {
+            Some(expr) => Ok(on(State::Expression(expr, purpose), around)),
+            None => Ok(BodyStep::Stuck),
+        },
+        Err(error) => Err(error),
     }
 }
 
@@ -65,20 +71,20 @@ fn begin_step(alloc: Global, around: Around, token: &Lexeme<'_>) -> Result<BodyS
 {
     let at = token.at;
     match token.class {
-        Class::Semicolon => Ok(BodyStep::On(finish(alloc, TallStmt::empty(at), around)?)),
-        Class::OpenBrace => {
-            let item = Frame::Item(Items::new(alloc), Listing::Block(at));
-            Ok(on(State::Statement, around.with(item)?))
-        }
+        Class::Semicolon => finish(alloc, TallStmt::empty(at), around),
+        Class::OpenBrace => { enter(Frame::Item(Items::new(alloc), Listing::Block(at)), around) }
         Class::If => Ok(on(State::Condition(Condition::If(at)), around)),
         Class::While => Ok(on(State::Condition(Condition::While(at)), around)),
-        Class::Do => Ok(on(State::Statement, around.with(Frame::DoBody(at))?)),
+        Class::Do => enter(Frame::DoBody(at), around),
         Class::For => Ok(on(State::ForParen(at), around)),
         Class::Return => Ok(on(State::Return(at), around)),
         Class::Break => Ok(on(State::Target(Jump::Break, at), around)),
         Class::Continue => Ok(on(State::Target(Jump::Continue, at), around)),
         Class::Switch => Ok(on(State::Condition(Condition::Switch(at)), around)),
-        Class::Identifier => Ok(on(State::Name(Word::of(alloc, token)?), around)),
+        Class::Identifier => match Word::of(alloc, token) {
+            Ok(name) => Ok(on(State::Name(name), around)),
+            Err(error) => Err(error),
+        },
         _ => expression_begins(alloc, Purpose::Plain(at), around, token),
     }
 }

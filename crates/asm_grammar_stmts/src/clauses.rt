@@ -2,51 +2,23 @@
 
 ghost use Rattle.std.specs.Prelude.{◌≡◌, refl, false, ℤ, IfOk};
 ghost use Rattle.asm_lang.specs.Lexemes.{Lexeme as Token};
-ghost use Rattle.asm_lang.specs.Trees.{StmtTrees, Init, no_stmt, StmtTree, switches};
-ghost use Rattle.asm_lang.specs.Machine.{State as Machine, closes, at_literal, after_sign, Step, goes, feed, advance, clauses_by, in_case_by};
-ghost use Rattle.asm_grammar_nodes.specs.Views.{lexeme_view, more_clauses};
-ghost use Rattle.asm_grammar_nodes.specs.Tall.{tall_view, stmt_tall_view, clauses_tall_view, stmts_tall_view};
+ghost use Rattle.asm_lang.specs.Trees.{StmtTrees, Init, no_stmt, StmtTree};
+ghost use Rattle.asm_lang.specs.Machine.{State as Machine, closes, at_literal, after_sign, Step, goes, feed, advance, clauses_by, stmts_by, in_case_by};
+ghost use Rattle.asm_grammar_nodes.specs.Views.{lexeme_view};
+ghost use Rattle.asm_grammar_nodes.specs.Tall.{tall_view, stmt_tall_view, stmts_tall_view};
 ghost use Rattle.asm_grammar_stmts.specs.Classes.{end_class};
 ghost use Rattle.asm_grammar_stmts.specs.Items.{items_view};
-ghost use Rattle.asm_grammar_stmts.specs.Views.{around_view, body_step_view, switch_view, subject_view, value_view, case_view, default_view, body_view, listing_view, list_ended, frame_ended};
+ghost use Rattle.asm_grammar_stmts.specs.Views.{around_view, body_step_view, switch_view, subject_view, value_view, case_view, default_view, listing_view, list_ended as list_ended_view};
 
 use crate::classes::{ListEnd, Sign, is, list_end};
-use crate::finish::finish;
+use crate::finish::{enter, finish};
 use crate::frame::{Frame, Listing, Switch};
 use crate::frames::Around;
 use crate::items::Items;
-use crate::state::{BodyReading, BodyStep, State, on, reading};
+use crate::state::{BodyStep, State, on};
 use asm_grammar_nodes::{Class, Lexeme, TallClauses, TallExpr, TallStmt, TallStmts, Word};
 use sem_words::JsOp;
 use std::alloc::{AllocError, Global};
-
-impl Switch {
-    /// The switch with a further clause at its end.
-    pub(crate) fn with(self, value: Option<i128>, body: TallStmts) -> Result<Switch, AllocError>
-        ensures clauses { IfOk result (λ r. clauses_tall_view r.clauses ≡ more_clauses (clauses_tall_view self.clauses) value (stmts_tall_view body)) }
-        ensures at { IfOk result (λ r. r.at ≡ self.at) }
-        ensures subject { IfOk result (λ r. r.subject ≡ self.subject) }
-    {
-        let Switch {
-            at,
-            subject,
-            clauses,
-        } = self;
-        let clauses = clauses.with(value, body)?;
-        Ok(Switch {
-            at,
-            subject,
-            clauses,
-        })
-    }
-
-    /// The statement.
-    pub(crate) fn stmt(self) -> TallStmt
-        ensures { stmt_tall_view result ≡ switches self.at (tall_view self.subject) (clauses_tall_view self.clauses) }
-    {
-        TallStmt::switch(self.at, self.subject, self.clauses)
-    }
-}
 
 /// The `{` of a switch.
 #[tactic(auto, using(crate::proofs::Following::following))]
@@ -78,12 +50,12 @@ pub(crate) fn next_clause(
     switch: Switch,
     around: Around,
     end: ListEnd,
-) -> Result<BodyReading, AllocError>
-    ensures { IfOk result (λ r. (k : StmtTrees → Step) (t : Token) → body_view r k ≡ clauses_by (end_class end) t (switch_view switch (around_view around k))) }
+) -> Result<BodyStep, AllocError>
+    ensures { IfOk result (λ r. (k : StmtTrees → Step) (t : Token) → body_step_view r k t ≡ clauses_by (end_class end) t (switch_view switch (around_view around k))) }
 {
     match end {
-        ListEnd::Case => Ok(reading(State::Value(switch), around)),
-        ListEnd::Default => Ok(reading(State::DefaultColon(switch), around)),
+        ListEnd::Case => Ok(on(State::Value(switch), around)),
+        ListEnd::Default => Ok(on(State::DefaultColon(switch), around)),
         ListEnd::Brace => finish(alloc, switch.stmt(), around),
     }
 }
@@ -99,7 +71,7 @@ pub(crate) fn clause_step(
     ensures { IfOk result (λ r. (k : StmtTrees → Step) → body_step_view r k (lexeme_view token.now) ≡ clauses_by (lexeme_view token.now).class (lexeme_view token.now) (switch_view switch (around_view around k))) }
 {
     match list_end(token.class) {
-        Some(end) => Ok(BodyStep::On(next_clause(alloc, switch, around, end)?)),
+        Some(end) => next_clause(alloc, switch, around, end),
         None => Ok(BodyStep::Stuck),
     }
 }
@@ -115,10 +87,10 @@ pub(crate) fn value_step(
 {
     match token.class {
         Class::Number => Ok(on(State::CaseColon(i128::from(token.value), switch), around)),
-        Class::Operator(JsOp::Sub) => {
-            let minus = Word::of(alloc, token)?;
-            Ok(on(State::Negative(minus, switch), around))
-        }
+        Class::Operator(JsOp::Sub) => match Word::of(alloc, token) {
+            Ok(minus) => Ok(on(State::Negative(minus, switch), around)),
+            Err(error) => Err(error),
+        },
         _ => Ok(BodyStep::Stuck),
     }
 }
@@ -156,8 +128,7 @@ pub(crate) fn case_step(
     if !is(token.class, Sign::Colon) {
         return Ok(BodyStep::Stuck);
     }
-    let item = Frame::CaseItem(value, Items::new(alloc), switch);
-    Ok(on(State::Statement, around.with(item)?))
+    enter(Frame::CaseItem(value, Items::new(alloc), switch), around)
 }
 
 /// The `:` after `default`.
@@ -173,8 +144,10 @@ pub(crate) fn default_step(
     if !is(token.class, Sign::Colon) {
         return Ok(BodyStep::Stuck);
     }
-    let item = Frame::Item(Items::new(alloc), Listing::Default(switch));
-    Ok(on(State::Statement, around.with(item)?))
+    enter(
+        Frame::Item(Items::new(alloc), Listing::Default(switch)),
+        around,
+    )
 }
 
 /// What the `}` after the statements of a list ends.
@@ -184,26 +157,47 @@ fn listed(stmts: TallStmts, listing: Listing) -> Result<TallStmt, AllocError>
 {
     match listing {
         Listing::Block(at) => Ok(TallStmt::block(at, stmts)),
-        Listing::Default(switch) => {
-            let switch = switch.with(None, stmts)?;
-            Ok(switch.stmt())
-        }
+        Listing::Default(switch) => match switch.with(None, stmts) {
+            Ok(switch) => Ok(switch.stmt()),
+            Err(error) => Err(error),
+        },
+    }
+}
+
+/// The statements of a list have ended before the token.
+pub(crate) fn list_ended(
+    alloc: Global,
+    stmts: Items,
+    listing: Listing,
+    around: Around,
+    end: ListEnd,
+) -> Result<BodyStep, AllocError>
+    ensures { IfOk result (λ r. (k : StmtTrees → Step) (t : Token) → body_step_view r k t ≡ stmts_by (end_class end) t (items_view stmts) (listing_view listing (around_view around k))) }
+{
+    match end {
+        ListEnd::Brace => match listed(stmts.into_stmts(), listing) {
+            Ok(whole) => finish(alloc, whole, around),
+            Err(error) => Err(error),
+        },
+        ListEnd::Case | ListEnd::Default => Ok(BodyStep::Stuck),
     }
 }
 
 /// The statements of a case have ended before the token.
-fn case_ended(
+pub(crate) fn case_ended(
     alloc: Global,
     value: i128,
     stmts: Items,
     switch: Switch,
     around: Around,
     end: ListEnd,
-) -> Result<BodyReading, AllocError>
-    ensures { IfOk result (λ r. (k : StmtTrees → Step) (t : Token) → body_view r k ≡ in_case_by (end_class end) t value (items_view stmts) (switch_view switch (around_view around k))) }
+) -> Result<BodyStep, AllocError>
+    ensures { IfOk result (λ r. (k : StmtTrees → Step) (t : Token) → body_step_view r k t ≡ in_case_by (end_class end) t value (items_view stmts) (switch_view switch (around_view around k))) }
 {
-    let switch = switch.with(Some(value), stmts.into_stmts())?;
-    next_clause(alloc, switch, around, end)
+    match switch.with(Some(value), stmts.into_stmts()) {
+        Ok(switch) => next_clause(alloc, switch, around, end),
+        Err(error) => Err(error),
+    }
 }
 
 /// A token that ends the statements of a list or of a clause.
@@ -213,45 +207,14 @@ pub(crate) fn list_end_step(
     around: Around,
     end: ListEnd,
 ) -> Result<BodyStep, AllocError>
-    ensures { IfOk result (λ r. (k : StmtTrees → Step) (t : Token) → body_step_view r k t ≡ list_ended (end_class end) t around k) }
+    ensures { IfOk result (λ r. (k : StmtTrees → Step) (t : Token) → body_step_view r k t ≡ list_ended_view (end_class end) t around k) }
 {
-    let Around { body, mut frames } = around;
+    let (body, mut frames) = around.into_parts();
     match frames.pop() {
         None => match end {
             ListEnd::Brace => Ok(BodyStep::Done(body.into_stmts())),
             ListEnd::Case | ListEnd::Default => Ok(BodyStep::Stuck),
         },
-        Some(frame) => frame_end_step(alloc, frame, Around { body, frames }, end),
-    }
-}
-
-/// A token that ends the statements in this frame.
-#[tactic(auto, using(crate::proofs::Following::following, crate::proofs::StackLemmas::no_stmt_begins))]
-fn frame_end_step(
-    alloc: Global,
-    frame: Frame,
-    around: Around,
-    end: ListEnd,
-) -> Result<BodyStep, AllocError>
-    ensures { IfOk result (λ r. (k : StmtTrees → Step) (t : Token) → body_step_view r k t ≡ frame_ended (end_class end) t frame (around_view around k)) }
-{
-    match frame {
-        Frame::Item(stmts, listing) => match end {
-            ListEnd::Brace => {
-                let whole = listed(stmts.into_stmts(), listing)?;
-                Ok(BodyStep::On(finish(alloc, whole, around)?))
-            }
-            ListEnd::Case | ListEnd::Default => Ok(BodyStep::Stuck),
-        },
-        Frame::CaseItem(value, stmts, switch) => {
-            let next = case_ended(alloc, value, stmts, switch, around, end)?;
-            Ok(BodyStep::On(next))
-        }
-        Frame::Arm(_, _) => Ok(BodyStep::Stuck),
-        Frame::OtherArm(_, _, _) => Ok(BodyStep::Stuck),
-        Frame::WhileBody(_, _) => Ok(BodyStep::Stuck),
-        Frame::DoBody(_) => Ok(BodyStep::Stuck),
-        Frame::ForBody(_, _, _, _) => Ok(BodyStep::Stuck),
-        Frame::Labels(_) => Ok(BodyStep::Stuck),
+        Some(frame) => frame.end_step(alloc, Around { body, frames }, end),
     }
 }

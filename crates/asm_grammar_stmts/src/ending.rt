@@ -9,7 +9,7 @@ ghost use Rattle.asm_grammar_stmts.specs.Views.{around_view, body_step_view, do_
 
 use crate::begin::statement_step;
 use crate::classes::{Sign, is, may_miss_before};
-use crate::finish::{Settled, finish, settle};
+use crate::finish::{Settled, enter, finish, settle};
 use crate::frame::Frame;
 use crate::frames::Around;
 use crate::state::{BodyStep, Condition, State, on};
@@ -41,10 +41,13 @@ pub(crate) fn next_step(
 ) -> Result<BodyStep, AllocError>
     ensures { IfOk result (λ r. (k : StmtTrees → Step) → body_step_view r k (lexeme_view token.now) ≡ feed (around_view around k (stmt_tall_view stmt)) (lexeme_view token.now)) }
 {
-    match settle(alloc, stmt, around, token)? {
-        Settled::Statement(around) => statement_step(alloc, around, token),
-        Settled::AfterBody(at, body, around) => after_body_step(at, body, around, token),
-        Settled::OtherArm(around) => Ok(on(State::Statement, around)),
+    match settle(alloc, stmt, around, token) {
+        Ok(settled) => match settled {
+            Settled::Statement(around) => statement_step(alloc, around, token),
+            Settled::AfterBody(at, body, around) => after_body_step(at, body, around, token),
+            Settled::OtherArm(around) => Ok(on(State::Statement, around)),
+        },
+        Err(error) => Err(error),
     }
 }
 
@@ -59,7 +62,7 @@ pub(crate) fn end_step(
     ensures { IfOk result (λ r. (k : StmtTrees → Step) → body_step_view r k (lexeme_view token.now) ≡ feed (ends (around_view around k (stmt_tall_view stmt))) (lexeme_view token.now)) }
 {
     match token.class {
-        Class::Semicolon => Ok(BodyStep::On(finish(alloc, stmt, around)?)),
+        Class::Semicolon => finish(alloc, stmt, around),
         class => {
             if may_miss_before(class, token.line) {
                 next_step(alloc, stmt, around, token)
@@ -80,7 +83,7 @@ pub(crate) fn do_end_step(
     ensures { IfOk result (λ r. (k : StmtTrees → Step) → body_step_view r k (lexeme_view token.now) ≡ feed (ends_do (around_view around k (stmt_tall_view stmt))) (lexeme_view token.now)) }
 {
     match token.class {
-        Class::Semicolon => Ok(BodyStep::On(finish(alloc, stmt, around)?)),
+        Class::Semicolon => finish(alloc, stmt, around),
         _ => next_step(alloc, stmt, around, token),
     }
 }
@@ -98,13 +101,10 @@ pub(crate) fn arm_step(
     ensures { IfOk result (λ r. (k : StmtTrees → Step) → body_step_view r k (lexeme_view token.now) ≡ feed (after_arm at (tall_view condition) (stmt_tall_view first) (around_view around k)) (lexeme_view token.now)) }
 {
     match token.class {
-        Class::Else => {
-            let around = around.with(Frame::OtherArm(at, condition, first))?;
-            Ok(on(State::Statement, around))
-        }
-        _ => {
-            let whole = TallStmt::if_only(alloc, at, condition, first)?;
-            next_step(alloc, whole, around, token)
-        }
+        Class::Else => enter(Frame::OtherArm(at, condition, first), around),
+        _ => match TallStmt::if_only(alloc, at, condition, first) {
+            Ok(whole) => next_step(alloc, whole, around, token),
+            Err(error) => Err(error),
+        },
     }
 }

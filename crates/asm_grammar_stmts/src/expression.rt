@@ -4,19 +4,14 @@ ghost use Rattle.std.specs.Prelude.{◌≡◌, IfOk};
 ghost use Rattle.asm_lang.specs.Trees.{StmtTrees};
 ghost use Rattle.asm_lang.specs.Machine.{Step, after_stmt_name, feed};
 ghost use Rattle.asm_grammar_nodes.specs.Views.{lexeme_view, word_view};
-ghost use Rattle.asm_grammar_nodes.specs.Tall.{tall_view};
 ghost use Rattle.asm_grammar_exprs.specs.Views.{reading_view};
-ghost use Rattle.asm_grammar_stmts.specs.Views.{around_view, body_step_view, purpose_view, body_view, condition_view};
+ghost use Rattle.asm_grammar_stmts.specs.Views.{around_view, body_step_view, purpose_view};
 
-use crate::classes::{Sign, is};
-use crate::ending::end_step;
-use crate::frame::Frame;
 use crate::frames::Around;
 use crate::labels::labelled;
-use crate::parts::{after_part, ends_part};
-use crate::state::{BodyReading, BodyStep, Condition, Purpose, State, on, reading};
+use crate::state::{BodyStep, Purpose, State, on};
 use asm_grammar_exprs::{ExprReading, ExprStep};
-use asm_grammar_nodes::{Class, Lexeme, TallExpr, TallStmt, Word};
+use asm_grammar_nodes::{Class, Lexeme, Word};
 use std::alloc::{AllocError, Global};
 
 /// A token after a name that begins a statement: a `:` makes it a label.
@@ -29,7 +24,10 @@ pub(crate) fn name_step(
     ensures { IfOk result (λ r. (k : StmtTrees → Step) → body_step_view r k (lexeme_view token.now) ≡ feed (after_stmt_name (word_view name) (around_view around k)) (lexeme_view token.now)) }
 {
     match token.class {
-        Class::Colon => Ok(on(State::Statement, labelled(alloc, name, around)?)),
+        Class::Colon => match labelled(alloc, name, around) {
+            Ok(around) => Ok(on(State::Statement, around)),
+            Err(error) => Err(error),
+        },
         _ => {
             let purpose = Purpose::Plain(name.at);
             let expr = ExprReading::after_name(alloc, 0, name);
@@ -48,65 +46,12 @@ pub(crate) fn expression_step(
 ) -> Result<BodyStep, AllocError>
     ensures { IfOk result (λ r. (k : StmtTrees → Step) → body_step_view r k (lexeme_view token.now) ≡ feed (reading_view expr (purpose_view purpose (around_view around k))) (lexeme_view token.now)) }
 {
-    match expr.feed(alloc, token)? {
-        ExprStep::On(expr) => Ok(on(State::Expression(expr, purpose), around)),
-        ExprStep::Done(expr) => after_expression(alloc, expr, purpose, around, token),
-        ExprStep::Stuck => Ok(BodyStep::Stuck),
-    }
-}
-
-/// A token after an expression that has ended.
-#[tactic(auto, using(crate::proofs::StepLemmas::part_steps))]
-fn after_expression(
-    alloc: Global,
-    expr: TallExpr,
-    purpose: Purpose,
-    around: Around,
-    token: &Lexeme<'_>,
-) -> Result<BodyStep, AllocError>
-    ensures { IfOk result (λ r. (k : StmtTrees → Step) → body_step_view r k (lexeme_view token.now) ≡ feed (purpose_view purpose (around_view around k) (tall_view expr)) (lexeme_view token.now)) }
-{
-    match purpose {
-        Purpose::Plain(at) => end_step(alloc, TallStmt::plain(at, expr), around, token),
-        Purpose::Returned(at) => {
-            end_step(alloc, TallStmt::returns(at, Some(expr)), around, token)
-        }
-        Purpose::For(at, part) => {
-            if ends_part(&part, token) {
-                Ok(BodyStep::On(after_part(at, part, Some(expr), around)?))
-            } else {
-                Ok(BodyStep::Stuck)
-            }
-        }
-        Purpose::Condition(condition) => match token.class {
-            Class::CloseParen => Ok(BodyStep::On(after_condition(alloc, expr, condition, around)?)),
-            _ => Ok(BodyStep::Stuck),
+    match expr.feed(alloc, token) {
+        Ok(step) => match step {
+            ExprStep::On(expr) => Ok(on(State::Expression(expr, purpose), around)),
+            ExprStep::Done(expr) => purpose.ended(alloc, expr, around, token),
+            ExprStep::Stuck => Ok(BodyStep::Stuck),
         },
-    }
-}
-
-/// The `)` after a condition was taken.
-fn after_condition(
-    alloc: Global,
-    expr: TallExpr,
-    condition: Condition,
-    around: Around,
-) -> Result<BodyReading, AllocError>
-    ensures { IfOk result (λ r. (k : StmtTrees → Step) → body_view r k ≡ condition_view condition (around_view around k) (tall_view expr)) }
-{
-    match condition {
-        Condition::If(at) => {
-            let around = around.with(Frame::Arm(at, expr))?;
-            Ok(reading(State::Statement, around))
-        }
-        Condition::While(at) => {
-            let around = around.with(Frame::WhileBody(at, expr))?;
-            Ok(reading(State::Statement, around))
-        }
-        Condition::Do(at, body) => {
-            let whole = TallStmt::do_loop(alloc, at, body, expr)?;
-            Ok(reading(State::DoEnd(whole), around))
-        }
-        Condition::Switch(at) => Ok(reading(State::SwitchBrace(at, expr), around)),
+        Err(error) => Err(error),
     }
 }

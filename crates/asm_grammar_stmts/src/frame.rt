@@ -1,26 +1,79 @@
 //! What is open round a statement.
 
-ghost use Rattle.std.specs.Prelude.{◌≡◌, IfOk};
-ghost use Rattle.asm_lang.specs.Trees.{StmtTree};
-ghost use Rattle.asm_lang.specs.Machine.{State};
+ghost use Rattle.std.specs.Prelude.{◌≡◌, IfOk, IfErr};
+ghost use Rattle.asm_lang.specs.Lexemes.{Lexeme as Token};
+ghost use Rattle.asm_lang.specs.Trees.{StmtTree, StmtTrees, switches};
+ghost use Rattle.asm_lang.specs.Machine.{State, Step};
 ghost use Rattle.asm_lang.specs.TreeHeights.{part_height};
 ghost use Rattle.asm_grammar_nodes.specs.Heights.{counted};
-ghost use Rattle.asm_grammar_nodes.specs.Tall.{tall_option, stmt_tall_view};
+ghost use Rattle.asm_grammar_nodes.specs.Views.{more_clauses};
+ghost use Rattle.asm_grammar_nodes.specs.Tall.{tall_view, tall_option, stmt_tall_view, stmts_tall_view, clauses_tall_view};
+ghost use Rattle.asm_grammar_stmts.specs.Classes.{end_class};
+ghost use Rattle.asm_grammar_stmts.specs.declared.frame.Frame.TheVariants.{Labels};
 ghost use Rattle.asm_grammar_stmts.specs.Reach.{reach_view, counted_reach};
-ghost use Rattle.asm_grammar_stmts.specs.Views.{frame_view, enclosed_view};
+ghost use Rattle.asm_grammar_stmts.specs.Views.{around_view, body_step_view, frame_ended, frame_view, enclosed_view};
 
+use crate::classes::ListEnd;
+use crate::clauses::{case_ended, list_ended};
+use crate::frames::Around;
 use crate::items::Items;
 use crate::reach::Reach;
-use asm_grammar_nodes::{Height, TallClauses, TallExpr, TallStmt, Word};
+use crate::state::BodyStep;
+use asm_grammar_nodes::{Height, TallClauses, TallExpr, TallStmt, TallStmts, Word};
 use sem_words::List;
 use std::alloc::{AllocError, Global};
 
 /// A switch: its place, its subject, and its clauses so far.
-#[derive(Drop)]
 pub(crate) struct Switch {
     pub(crate) at: u64,
     pub(crate) subject: TallExpr,
     pub(crate) clauses: TallClauses,
+}
+
+/// By hand, as that of a frame, so that the end is one call wherever it is let go.
+impl Drop for Switch {
+    fn drop(self) {
+        let Switch {
+            at: _,
+            subject: _,
+            clauses: _,
+        } = self;
+    }
+}
+
+impl Switch {
+    /// The switch with a further clause at its end.
+    pub(crate) fn with(self, value: Option<i128>, body: TallStmts) -> Result<Switch, AllocError>
+        ensures clauses { IfOk result (λ r. clauses_tall_view r.clauses ≡ more_clauses (clauses_tall_view self.clauses) value (stmts_tall_view body)) }
+        ensures at { IfOk result (λ r. r.at ≡ self.at) }
+        ensures subject { IfOk result (λ r. r.subject ≡ self.subject) }
+    {
+        let Switch {
+            at,
+            subject,
+            clauses,
+        } = self;
+        match clauses.with(value, body) {
+            Ok(clauses) => Ok(Switch {
+                at,
+                subject,
+                clauses,
+            }),
+            Err(error) => Err(error),
+        }
+    }
+
+    /// The statement.
+    pub(crate) fn stmt(self) -> TallStmt
+        ensures { stmt_tall_view result ≡ switches self.at (tall_view self.subject) (clauses_tall_view self.clauses) }
+    {
+        let Switch {
+            at,
+            subject,
+            clauses,
+        } = self;
+        TallStmt::switch(at, subject, clauses)
+    }
 }
 
 /// What statements up to a `}` are.
@@ -33,7 +86,6 @@ pub(crate) enum Listing {
 }
 
 /// What is open round a statement.
-#[derive(Drop)]
 pub(crate) enum Frame {
     /// The statements of a list so far.
     Item(Items, Listing),
@@ -48,6 +100,21 @@ pub(crate) enum Frame {
     ForBody(u64, Option<TallExpr>, Option<TallExpr>, Option<TallExpr>),
     /// All labels in a row before the statement.
     Labels(List<Word>),
+}
+
+impl Drop for Frame {
+    fn drop(self) {
+        match self {
+            Frame::Item(_, _) => {}
+            Frame::CaseItem(_, _, _) => {}
+            Frame::Arm(_, _) => {}
+            Frame::OtherArm(_, _, _) => {}
+            Frame::WhileBody(_, _) => {}
+            Frame::DoBody(_) => {}
+            Frame::ForBody(_, _, _, _) => {}
+            Frame::Labels(_) => {}
+        }
+    }
 }
 
 /// What a complete statement makes of the frame round it.
@@ -70,32 +137,49 @@ impl Frame {
         ensures { IfOk result (λ r. (k : StmtTree → State) → enclosed_view r k ≡ frame_view self k (stmt_tall_view stmt)) }
     {
         match self {
-            Frame::Item(stmts, listing) => {
-                let stmts = stmts.with(stmt)?;
-                Ok(Enclosed::Item(Frame::Item(stmts, listing)))
-            }
-            Frame::CaseItem(value, stmts, switch) => {
-                let stmts = stmts.with(stmt)?;
-                Ok(Enclosed::Item(Frame::CaseItem(value, stmts, switch)))
-            }
+            Frame::Item(stmts, listing) => match stmts.with(stmt) {
+                Ok(stmts) => Ok(Enclosed::Item(Frame::Item(stmts, listing))),
+                Err(error) => Err(error),
+            },
+            Frame::CaseItem(value, stmts, switch) => match stmts.with(stmt) {
+                Ok(stmts) => Ok(Enclosed::Item(Frame::CaseItem(value, stmts, switch))),
+                Err(error) => Err(error),
+            },
             Frame::Arm(at, condition) => Ok(Enclosed::Arm(at, condition, stmt)),
             Frame::OtherArm(at, condition, first) => {
-                let whole = TallStmt::if_else(alloc, at, condition, first, stmt)?;
-                Ok(Enclosed::Stmt(whole))
+                match TallStmt::if_else(alloc, at, condition, first, stmt) {
+                    Ok(whole) => Ok(Enclosed::Stmt(whole)),
+                    Err(error) => Err(error),
+                }
             }
             Frame::WhileBody(at, condition) => {
-                let whole = TallStmt::while_loop(alloc, at, condition, stmt)?;
-                Ok(Enclosed::Stmt(whole))
+                match TallStmt::while_loop(alloc, at, condition, stmt) {
+                    Ok(whole) => Ok(Enclosed::Stmt(whole)),
+                    Err(error) => Err(error),
+                }
             }
             Frame::DoBody(at) => Ok(Enclosed::Body(at, stmt)),
             Frame::ForBody(at, first, condition, step) => {
-                let whole = TallStmt::for_loop(alloc, at, first, condition, step, stmt)?;
-                Ok(Enclosed::Stmt(whole))
+                match TallStmt::for_loop(alloc, at, first, condition, step, stmt) {
+                    Ok(whole) => Ok(Enclosed::Stmt(whole)),
+                    Err(error) => Err(error),
+                }
             }
-            Frame::Labels(labels) => {
-                let whole = TallStmt::labelled(alloc, labels, stmt)?;
-                Ok(Enclosed::Stmt(whole))
-            }
+            Frame::Labels(labels) => match TallStmt::labelled(alloc, labels, stmt) {
+                Ok(whole) => Ok(Enclosed::Stmt(whole)),
+                Err(error) => Err(error),
+            },
+        }
+    }
+
+    /// All labels in a row, or another frame as it is.
+    pub(crate) fn into_labels(self) -> Result<List<Word>, Frame>
+        ensures labels { IfOk result (λ r. self ≡ Labels r) }
+        ensures other { IfErr result (λ f. f ≡ self) }
+    {
+        match self {
+            Frame::Labels(labels) => Ok(labels),
+            frame => Err(frame),
         }
     }
 
@@ -124,6 +208,25 @@ impl Frame {
                     below.under_label()
                 }
             }
+        }
+    }
+
+    /// A token that ends the statements in the frame.
+    #[tactic(auto, using(crate::proofs::Following::following, crate::proofs::StackLemmas::no_stmt_begins))]
+    pub(crate) fn end_step(
+        self,
+        alloc: Global,
+        around: Around,
+        end: ListEnd,
+    ) -> Result<BodyStep, AllocError>
+        ensures { IfOk result (λ r. (k : StmtTrees → Step) (t : Token) → body_step_view r k t ≡ frame_ended (end_class end) t self (around_view around k)) }
+    {
+        match self {
+            Frame::Item(stmts, listing) => list_ended(alloc, stmts, listing, around, end),
+            Frame::CaseItem(value, stmts, switch) => {
+                case_ended(alloc, value, stmts, switch, around, end)
+            }
+            _ => Ok(BodyStep::Stuck),
         }
     }
 }

@@ -17,11 +17,20 @@ pub(crate) struct Entry {
 }
 
 /// What is open round a statement within the list of a body, the innermost last, with its reach.
-#[derive(Drop)]
 pub(crate) struct Frames {
     entries: Vec<Entry>,
     reach: Reach,
     ghost risen: { Risen (reverse entries.items) (reach_view reach) } by { Risen-prop (reverse entries.items) (reach_view reach) },
+}
+
+/// By hand, so that the end of a stack is one call wherever it is let go.
+impl Drop for Frames {
+    fn drop(self) {
+        let Frames {
+            entries: _,
+            reach: _,
+        } = self;
+    }
 }
 
 impl Frames {
@@ -50,8 +59,10 @@ impl Frames {
         let Frames { mut entries, reach } = self;
         let below = reach;
         let reach = frame.reach(below);
-        entries.push(Entry { frame, below })?;
-        Ok(Frames { entries, reach })
+        match entries.push(Entry { frame, below }) {
+            Ok(()) => Ok(Frames { entries, reach }),
+            Err(_) => Err(AllocError),
+        }
     }
 
     /// The innermost frame, taken off.
@@ -98,10 +109,16 @@ impl Frames {
 }
 
 /// All that is open round a statement: the statements of the body so far, and what is open within the next.
-#[derive(Drop)]
 pub(crate) struct Around {
     pub(crate) body: Items,
     pub(crate) frames: Frames,
+}
+
+/// By hand, so that the end is one call wherever it is let go.
+impl Drop for Around {
+    fn drop(self) {
+        let Around { body: _, frames: _ } = self;
+    }
 }
 
 impl Around {
@@ -114,7 +131,18 @@ impl Around {
         ensures frames { IfOk result (λ r. frames_list r.frames ≡ frame ∷ frames_list self.frames) }
     {
         let Around { body, frames } = self;
-        let frames = frames.with(frame)?;
-        Ok(Around { body, frames })
+        match frames.with(frame) {
+            Ok(frames) => Ok(Around { body, frames }),
+            Err(error) => Err(error),
+        }
+    }
+
+    /// The statements of the body, and what is open within the next.
+    pub(crate) fn into_parts(self) -> (Items, Frames)
+        ensures body { result.0 ≡ self.body }
+        ensures frames { result.1 ≡ self.frames }
+    {
+        let Around { body, frames } = self;
+        (body, frames)
     }
 }

@@ -9,11 +9,17 @@ use asm_grammar_nodes::{Height, TallStmt, TallStmts};
 use std::alloc::{AllocError, Global};
 
 /// The statements of a list so far, and how high the last of them is.
-#[derive(Drop)]
 pub(crate) struct Items {
     stmts: TallStmts,
     last: Height,
     ghost ends: { last.count ≡ counted (last_height (stmts_tall_view stmts)) },
+}
+
+/// By hand, so that the end of a list is one call wherever it is let go.
+impl Drop for Items {
+    fn drop(self) {
+        let Items { stmts: _, last: _ } = self;
+    }
 }
 
 impl Items {
@@ -37,9 +43,12 @@ impl Items {
     pub(crate) fn with(self, stmt: TallStmt) -> Result<Items, AllocError>
         ensures { IfOk result (λ r. items_view r ≡ more_stmts_of (items_view self) (stmt_tall_view stmt)) }
     {
+        let Items { stmts, last: _ } = self;
         let last = stmt.height();
-        let stmts = self.stmts.with(stmt)?;
-        Ok(Items { stmts, last })
+        match stmts.with(stmt) {
+            Ok(stmts) => Ok(Items { stmts, last }),
+            Err(error) => Err(error),
+        }
     }
 
     /// Of the last one, or 0.
@@ -52,6 +61,7 @@ impl Items {
     pub(crate) fn into_stmts(self) -> TallStmts
         ensures { stmts_tall_view result ≡ items_view self }
     {
-        self.stmts
+        let Items { stmts, last: _ } = self;
+        stmts
     }
 }

@@ -32,11 +32,13 @@ fn innermost_labels(alloc: Global, frames: Frames) -> Result<(List<Word>, Frames
     let mut frames = frames;
     match frames.pop() {
         None => Ok((List::new(alloc), Frames::new(alloc))),
-        Some(Frame::Labels(labels)) => Ok((labels, frames)),
-        Some(frame) => {
-            let frames = frames.with(frame)?;
-            Ok((List::new(alloc), frames))
-        }
+        Some(frame) => match frame.into_labels() {
+            Ok(labels) => Ok((labels, frames)),
+            Err(frame) => match frames.with(frame) {
+                Ok(frames) => Ok((List::new(alloc), frames)),
+                Err(error) => Err(error),
+            },
+        },
     }
 }
 
@@ -45,7 +47,7 @@ fn innermost_labels(alloc: Global, frames: Frames) -> Result<(List<Word>, Frames
 pub(crate) fn labelled(alloc: Global, label: Word, around: Around) -> Result<Around, AllocError>
     ensures { IfOk result (λ r. (k : StmtTrees → Step) → next_view r k ≡ at_stmt (λ s. around_view around k (under (word_view label) s))) }
 {
-    let Around { body, frames } = around;
+    let (body, frames) = around.into_parts();
     let (labels, frames) = innermost_labels(alloc, frames)?;
     let labels = with_word(labels, label)?;
     let frames = frames.with(Frame::Labels(labels))?;

@@ -4,17 +4,16 @@ ghost use Rattle.std.specs.Prelude.{◌≡◌, ◌&&◌, not, Some, None, refl, 
 ghost use Rattle.asm_lang.specs.Trees.{StmtTrees, returns};
 ghost use Rattle.asm_lang.specs.Machine.{at_return, at_target, Step, goes, feed, advance, condition, same_class, begins_expr};
 ghost use Rattle.asm_grammar_nodes.specs.Views.{lexeme_view, name_option};
-ghost use Rattle.asm_grammar_nodes.specs.Tall.{tall_view, tall_option, stmt_tall_view};
-ghost use Rattle.asm_grammar_stmts.specs.Views.{around_view, body_view, body_step_view, condition_view, for_view, part_view, part_after, part_end, jump_view, purpose_view};
+ghost use Rattle.asm_grammar_nodes.specs.Tall.{stmt_tall_view};
+ghost use Rattle.asm_grammar_stmts.specs.Views.{around_view, body_step_view, condition_view, for_view, part_view, part_end, jump_view, purpose_view};
 
 use crate::begin::expression_begins;
 use crate::classes::{Sign, begins_expr, is};
 use crate::ending::end_step;
-use crate::frame::Frame;
 use crate::frames::Around;
-use crate::state::{BodyReading, BodyStep, Condition, ForPart, Jump, Purpose, State, on, reading};
+use crate::state::{BodyStep, Condition, ForPart, Jump, Purpose, State, on};
 use asm_grammar_exprs::ExprReading;
-use asm_grammar_nodes::{Class, Lexeme, TallExpr, TallStmt};
+use asm_grammar_nodes::{Class, Lexeme, TallStmt};
 use sem_words::Text;
 use std::alloc::{AllocError, Global};
 
@@ -45,27 +44,6 @@ pub(crate) fn for_step(at: u64, around: Around, token: &Lexeme<'_>) -> Result<Bo
     }
 }
 
-/// A part of the head of a for statement has ended.
-pub(crate) fn after_part(
-    at: u64,
-    part: ForPart,
-    value: Option<TallExpr>,
-    around: Around,
-) -> Result<BodyReading, AllocError>
-    ensures { IfOk result (λ r. (k : StmtTrees → Step) → body_view r k ≡ part_after at part (around_view around k) (tall_option value)) }
-{
-    match part {
-        ForPart::First => Ok(reading(State::Part(at, ForPart::Condition(value)), around)),
-        ForPart::Condition(first) => {
-            Ok(reading(State::Part(at, ForPart::Step(first, value)), around))
-        }
-        ForPart::Step(first, condition) => {
-            let around = around.with(Frame::ForBody(at, first, condition, value))?;
-            Ok(reading(State::Statement, around))
-        }
-    }
-}
-
 /// Whether the token ends a part of the head of a for statement.
 pub(crate) fn ends_part(part: &ForPart, token: &Lexeme<'_>) -> bool
     ensures { result ≡ same_class (part_end part.now) (lexeme_view token.now).class }
@@ -92,7 +70,7 @@ pub(crate) fn part_step(
         return expression_begins(alloc, Purpose::For(at, part), around, token);
     }
     if ends_part(&part, token) {
-        Ok(BodyStep::On(after_part(at, part, None, around)?))
+        part.ended(at, None, around)
     } else {
         Ok(BodyStep::Stuck)
     }
@@ -145,10 +123,11 @@ pub(crate) fn target_step(
     match token.class {
         Class::Identifier => {
             if token.line {
-                end_step(alloc, jump(kind, at, None), around, token)
-            } else {
-                let label = Text::from_bytes(alloc, token.text)?;
-                Ok(on(State::End(jump(kind, at, Some(label))), around))
+                return end_step(alloc, jump(kind, at, None), around, token);
+            }
+            match Text::from_bytes(alloc, token.text) {
+                Ok(label) => Ok(on(State::End(jump(kind, at, Some(label))), around)),
+                Err(error) => Err(error),
             }
         }
         _ => end_step(alloc, jump(kind, at, None), around, token),

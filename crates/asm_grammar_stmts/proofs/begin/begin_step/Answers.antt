@@ -1,11 +1,7 @@
 use Rattle.std.proofs.Common.{◌∙◌, ap, sym}
-use Rattle.asm_lang.specs.Machine.{goes, stmt_by}
+use Rattle.asm_lang.specs.Machine.{stmt_by}
 use Rattle.asm_grammar_nodes.specs.Views.{class_view, lexeme_view}
-use Rattle.asm_grammar_stmts.specs.declared.frame.Frame.TheVariants.{DoBody}
-use Rattle.asm_grammar_stmts.specs.Frames.{frames_list}
-use Rattle.asm_grammar_stmts.specs.Items.{items_view}
-use Rattle.asm_grammar_stmts.specs.Views.{around_view, body_step_view, frame_next, frames_view, in_body}
-use Rattle.asm_grammar_stmts.proofs.StackLemmas.{pushed_next}
+use Rattle.asm_grammar_stmts.specs.Views.{around_view, body_step_view}
 use Rattle.asm_grammar_stmts.proofs.StepLemmas.{ok_map, begin_goes}
 use Rattle.asm_grammar_stmts.proofs.begin.begin_step.Goals as goal
 
@@ -20,7 +16,7 @@ returns-in_default c =
 pub returns-in-If : goal.returns-in-If
 returns-in-If c = λ k.
     let t = lexeme_view c.args.token.now in
-    ap (λ r. body_step_view r k t) c.on-in-If.ensures ∙ ap (λ d. stmt_by (class_view d) t (around_view c.args.around k)) (sym c.in-If.is)
+    ap (λ r. body_step_view r k t) c.on.ensures ∙ ap (λ d. stmt_by (class_view d) t (around_view c.args.around k)) (sym c.in-If.is)
 
 pub returns-in-While : goal.returns-in-While
 returns-in-While c = λ k.
@@ -37,13 +33,9 @@ returns-in-Switch c = λ k.
     let t = lexeme_view c.args.token.now in
     ap (λ r. body_step_view r k t) c.on-in-Switch.ensures ∙ ap (λ d. stmt_by (class_view d) t (around_view c.args.around k)) (sym c.in-Switch.is)
 
-pub returns-in_ok-with-in-Do : goal.returns-in_ok-with-in-Do
-returns-in_ok-with-in-Do c = λ k.
+pub returns-in-Do : goal.returns-in-Do
+returns-in-Do c =
     let t = lexeme_view c.args.token.now in
-    let next = c.in_ok-with-in-Do.field-0 in
-    let body = DoBody c.args.token.now.at in
-    ap (λ r. body_step_view r k t) c.on-in-Do.ensures
-    ∙ ap goes
-    (pushed_next (frames_list next.frames) (frames_list c.args.around.frames) body (items_view next.body) k c.in_ok-with-in-Do.ensures.frames
-    ∙ ap (λ ss. frame_next body (frames_view (frames_list c.args.around.frames) (in_body (items_view ss) k))) c.in_ok-with-in-Do.ensures.body)
-    ∙ ap (λ d. stmt_by (class_view d) t (around_view c.args.around k)) (sym c.in-Do.is)
+    ok_map c.enter-in-Do.result
+    (λ r is k. is k t ∙ ap (λ d. stmt_by (class_view d) t (around_view c.args.around k)) (sym c.in-Do.is))
+    c.enter-in-Do.ensures

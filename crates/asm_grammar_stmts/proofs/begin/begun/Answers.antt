@@ -9,9 +9,9 @@ use Rattle.asm_grammar_stmts.proofs.begin.begun.Goals as goal
 pub returns-in-Done : goal.returns-in-Done
 returns-in-Done c =
     let t = lexeme_view c.args.token.now in
-    λ k. nothing_done t (tall_view c.in-Done.field-0) (λ j. ap (λ x. expr_step_view x j t) (sym c.in-Done.is) ∙ c.in_ok-expr.ensures j ∙ ap (λ s. feed s t) (c.start.ensures j)) k
+    λ k. nothing_done t (tall_view c.in-Done.field-0) (λ j. ap (λ x. expr_step_view x j t) (sym c.in-Done.is) ∙ c.in-Ok.ensures j ∙ ap (λ s. feed s t) (c.start.ensures j)) k
 
-pub returns : goal.returns
-returns c =
+pub returns-in-Ok : goal.returns-in-Ok
+returns-in-Ok c =
     let t = lexeme_view c.args.token.now in
-    λ k. ap (λ x. expr_step_view x k t) (sym c.in-Stuck.is) ∙ c.in_ok-expr.ensures k ∙ ap (λ s. feed s t) (c.start.ensures k)
+    λ k. ap (λ x. expr_step_view x k t) (sym c.in-Stuck.is) ∙ c.in-Ok.ensures k ∙ ap (λ s. feed s t) (c.start.ensures k)
