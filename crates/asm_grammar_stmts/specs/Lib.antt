@@ -1,4 +1,5 @@
 pub mod Classes
+pub mod Fed
 pub mod Frames
 pub mod Items
 pub mod Purposes

@@ -15,7 +15,7 @@ use crate::finish::finish;
 use crate::frame::{Frame, Listing, Switch};
 use crate::frames::Around;
 use crate::items::Items;
-use crate::state::{BodyReading, BodyStep, State, on, reading};
+use crate::state::{BodyReading, BodyStep, State, let_go, on, reading};
 use asm_grammar_nodes::{Class, Lexeme, TallClauses, TallExpr, TallStmt, TallStmts, Word};
 use sem_words::JsOp;
 use std::alloc::{AllocError, Global};
@@ -60,6 +60,7 @@ pub(crate) fn subject_step(
     ensures { IfOk result (λ r. (k : StmtTrees → Step) → body_step_view r k (lexeme_view token.now) ≡ advance (subject_view at (tall_view subject) (around_view around k)) (lexeme_view token.now)) }
 {
     if !is(token.class, Sign::OpenBrace) {
+        let_go(subject);
         return Ok(BodyStep::Stuck);
     }
     let clauses = TallClauses::new(alloc);
@@ -100,7 +101,10 @@ pub(crate) fn clause_step(
 {
     match list_end(token.class) {
         Some(end) => Ok(BodyStep::On(next_clause(alloc, switch, around, end)?)),
-        None => Ok(BodyStep::Stuck),
+        None => {
+            let_go(switch);
+            Ok(BodyStep::Stuck)
+        }
     }
 }
 
@@ -119,7 +123,10 @@ pub(crate) fn value_step(
             let minus = Word::of(alloc, token)?;
             Ok(on(State::Negative(minus, switch), around))
         }
-        _ => Ok(BodyStep::Stuck),
+        _ => {
+            let_go(switch);
+            Ok(BodyStep::Stuck)
+        }
     }
 }
 
@@ -134,12 +141,16 @@ pub(crate) fn negative_step(
     match token.class {
         Class::Number => {
             if token.value == 0 {
+                let_go(switch);
                 return Ok(BodyStep::Stuck);
             }
             let value = -i128::from(token.value);
             Ok(on(State::CaseColon(value, switch), around))
         }
-        _ => Ok(BodyStep::Stuck),
+        _ => {
+            let_go(switch);
+            Ok(BodyStep::Stuck)
+        }
     }
 }
 
@@ -154,6 +165,7 @@ pub(crate) fn case_step(
     ensures { IfOk result (λ r. (k : StmtTrees → Step) → body_step_view r k (lexeme_view token.now) ≡ feed (case_view value (switch_view switch (around_view around k))) (lexeme_view token.now)) }
 {
     if !is(token.class, Sign::Colon) {
+        let_go(switch);
         return Ok(BodyStep::Stuck);
     }
     let item = Frame::CaseItem(value, Items::new(alloc), switch);
@@ -171,6 +183,7 @@ pub(crate) fn default_step(
     ensures { IfOk result (λ r. (k : StmtTrees → Step) → body_step_view r k (lexeme_view token.now) ≡ advance (default_view (switch_view switch (around_view around k))) (lexeme_view token.now)) }
 {
     if !is(token.class, Sign::Colon) {
+        let_go(switch);
         return Ok(BodyStep::Stuck);
     }
     let item = Frame::Item(Items::new(alloc), Listing::Default(switch));
@@ -241,17 +254,38 @@ fn frame_end_step(
                 let whole = listed(stmts.into_stmts(), listing)?;
                 Ok(BodyStep::On(finish(alloc, whole, around)?))
             }
-            ListEnd::Case | ListEnd::Default => Ok(BodyStep::Stuck),
+            ListEnd::Case | ListEnd::Default => {
+                let_go(listing);
+                Ok(BodyStep::Stuck)
+            }
         },
         Frame::CaseItem(value, stmts, switch) => {
             let next = case_ended(alloc, value, stmts, switch, around, end)?;
             Ok(BodyStep::On(next))
         }
-        Frame::Arm(_, _) => Ok(BodyStep::Stuck),
-        Frame::OtherArm(_, _, _) => Ok(BodyStep::Stuck),
-        Frame::WhileBody(_, _) => Ok(BodyStep::Stuck),
+        Frame::Arm(_, condition) => {
+            let_go(condition);
+            Ok(BodyStep::Stuck)
+        }
+        Frame::OtherArm(_, condition, first) => {
+            let_go(condition);
+            let_go(first);
+            Ok(BodyStep::Stuck)
+        }
+        Frame::WhileBody(_, condition) => {
+            let_go(condition);
+            Ok(BodyStep::Stuck)
+        }
         Frame::DoBody(_) => Ok(BodyStep::Stuck),
-        Frame::ForBody(_, _, _, _) => Ok(BodyStep::Stuck),
-        Frame::Labels(_) => Ok(BodyStep::Stuck),
+        Frame::ForBody(_, first, condition, step) => {
+            let_go(first);
+            let_go(condition);
+            let_go(step);
+            Ok(BodyStep::Stuck)
+        }
+        Frame::Labels(labels) => {
+            let_go(labels);
+            Ok(BodyStep::Stuck)
+        }
     }
 }

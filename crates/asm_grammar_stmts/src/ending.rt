@@ -12,7 +12,7 @@ use crate::classes::{Sign, is, may_miss_before};
 use crate::finish::{Settled, finish, settle};
 use crate::frame::Frame;
 use crate::frames::Around;
-use crate::state::{BodyStep, Condition, State, on};
+use crate::state::{BodyStep, Condition, State, let_go, on};
 use asm_grammar_nodes::{Class, Lexeme, TallExpr, TallStmt};
 use std::alloc::{AllocError, Global};
 
@@ -28,6 +28,7 @@ pub(crate) fn after_body_step(
     if is(token.class, Sign::While) {
         Ok(on(State::Condition(Condition::Do(at, body)), around))
     } else {
+        let_go(body);
         Ok(BodyStep::Stuck)
     }
 }
@@ -64,6 +65,7 @@ pub(crate) fn end_step(
             if may_miss_before(class, token.line) {
                 next_step(alloc, stmt, around, token)
             } else {
+                let_go(stmt);
                 Ok(BodyStep::Stuck)
             }
         }

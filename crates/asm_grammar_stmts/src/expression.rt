@@ -14,7 +14,7 @@ use crate::frame::Frame;
 use crate::frames::Around;
 use crate::labels::labelled;
 use crate::parts::{after_part, ends_part};
-use crate::state::{BodyReading, BodyStep, Condition, Purpose, State, on, reading};
+use crate::state::{BodyReading, BodyStep, Condition, Purpose, State, let_go, on, reading};
 use asm_grammar_exprs::{ExprReading, ExprStep};
 use asm_grammar_nodes::{Class, Lexeme, TallExpr, TallStmt, Word};
 use std::alloc::{AllocError, Global};
@@ -57,7 +57,7 @@ pub(crate) fn expression_step(
 
 /// A token after an expression that has ended.
 #[tactic(auto, using(crate::proofs::StepLemmas::part_steps))]
-fn after_expression(
+pub(crate) fn after_expression(
     alloc: Global,
     expr: TallExpr,
     purpose: Purpose,
@@ -75,12 +75,18 @@ fn after_expression(
             if ends_part(&part, token) {
                 Ok(BodyStep::On(after_part(at, part, Some(expr), around)?))
             } else {
+                let_go(part);
+                let_go(expr);
                 Ok(BodyStep::Stuck)
             }
         }
         Purpose::Condition(condition) => match token.class {
             Class::CloseParen => Ok(BodyStep::On(after_condition(alloc, expr, condition, around)?)),
-            _ => Ok(BodyStep::Stuck),
+            _ => {
+                let_go(condition);
+                let_go(expr);
+                Ok(BodyStep::Stuck)
+            }
         },
     }
 }

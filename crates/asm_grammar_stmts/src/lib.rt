@@ -18,4 +18,4 @@ mod reading;
 mod state;
 
 pub use law::bodies_end_no_module;
-pub use state::{BodyReading, BodyStep};
+pub use state::{BodyFed, BodyReading};

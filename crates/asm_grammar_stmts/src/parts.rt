@@ -12,7 +12,9 @@ use crate::classes::{Sign, begins_expr, is};
 use crate::ending::end_step;
 use crate::frame::Frame;
 use crate::frames::Around;
-use crate::state::{BodyReading, BodyStep, Condition, ForPart, Jump, Purpose, State, on, reading};
+use crate::state::{
+    BodyReading, BodyStep, Condition, ForPart, Jump, Purpose, State, let_go, on, reading,
+};
 use asm_grammar_exprs::ExprReading;
 use asm_grammar_nodes::{Class, Lexeme, TallExpr, TallStmt};
 use sem_words::Text;
@@ -28,6 +30,7 @@ pub(crate) fn condition_step(
     ensures { IfOk result (λ r. (k : StmtTrees → Step) → body_step_view r k (lexeme_view token.now) ≡ advance (condition (condition_view kind (around_view around k))) (lexeme_view token.now)) }
 {
     if !is(token.class, Sign::OpenParen) {
+        let_go(kind);
         return Ok(BodyStep::Stuck);
     }
     let expr = ExprReading::start(alloc, 0);
@@ -94,6 +97,7 @@ pub(crate) fn part_step(
     if ends_part(&part, token) {
         Ok(BodyStep::On(after_part(at, part, None, around)?))
     } else {
+        let_go(part);
         Ok(BodyStep::Stuck)
     }
 }

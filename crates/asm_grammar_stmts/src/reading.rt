@@ -1,25 +1,57 @@
 //! The reading of a body.
 
 ghost use Rattle.std.specs.Prelude.{◌≡◌, IfOk};
-ghost use Rattle.asm_lang.specs.Trees.{StmtTrees, no_stmt};
-ghost use Rattle.asm_lang.specs.Machine.{Step, goes, at_stmts, advance};
+ghost use Rattle.asm_lang.specs.Lexemes.{Lexeme as Token};
+ghost use Rattle.asm_lang.specs.Trees.{ExprTree, StmtTrees, no_stmt};
+ghost use Rattle.asm_lang.specs.Machine.{State as Machine, Step, goes, at_stmts, advance, feed};
 ghost use Rattle.asm_laws_height.specs.Peaks.{step_peak};
 ghost use Rattle.asm_grammar_nodes.specs.Heights.{counted};
 ghost use Rattle.asm_grammar_nodes.specs.Views.{lexeme_view};
-ghost use Rattle.asm_grammar_stmts.specs.Views.{body_view, body_step_view};
+ghost use Rattle.asm_grammar_nodes.specs.Tall.{tall_view};
+ghost use Rattle.asm_grammar_exprs.specs.Views.{reading_view};
+ghost use Rattle.asm_grammar_stmts.specs.Views.{around_view, body_view, body_step_view};
+ghost use Rattle.asm_grammar_stmts.specs.Fed.{body_fed_view, ended_view, expr_fed_view};
 
 use crate::begin::statement_step;
 use crate::clauses::{
     case_step, clause_step, default_step, negative_step, subject_step, value_step,
 };
 use crate::ending::{after_body_step, arm_step, do_end_step, end_step};
-use crate::expression::{expression_step, name_step};
+use crate::expression::{after_expression, expression_step, name_step};
 use crate::frames::{Around, Frames};
 use crate::items::Items;
 use crate::parts::{condition_step, for_step, part_step, return_step, target_step};
-use crate::state::{BodyReading, BodyStep, State};
-use asm_grammar_nodes::{Height, Lexeme};
+use crate::state::{BodyFed, BodyReading, BodyStep, State, let_go};
+use asm_grammar_exprs::{ExprReading, ExprStep};
+use asm_grammar_nodes::{Height, Lexeme, TallExpr};
 use std::alloc::{AllocError, Global};
+use std::mem;
+
+/// What one token did to an expression, in place.
+#[derive(Drop)]
+enum ExprFed {
+    On,
+    /// It had ended before the token, which isn't taken.
+    Done(TallExpr),
+    Stuck,
+}
+
+fn feed_expression(
+    alloc: Global,
+    expr: &mut ExprReading,
+    token: &Lexeme<'_>,
+) -> Result<ExprFed, AllocError>
+    ensures { IfOk result (λ r. (k : ExprTree → Machine) → expr_fed_view r expr.new k (lexeme_view token.now) ≡ feed (reading_view expr.old k) (lexeme_view token.now)) }
+{
+    match mem::replace(expr, ExprReading::start(alloc, 0)).feed(alloc, token)? {
+        ExprStep::On(next) => {
+            let_go(mem::replace(expr, next));
+            Ok(ExprFed::On)
+        }
+        ExprStep::Done(whole) => Ok(ExprFed::Done(whole)),
+        ExprStep::Stuck => Ok(ExprFed::Stuck),
+    }
+}
 
 impl BodyReading {
     /// The first statement is to come, or the `}` of the body.
@@ -35,8 +67,64 @@ impl BodyReading {
         }
     }
 
-    /// Reads one token.
-    pub fn feed(self, alloc: Global, token: &Lexeme<'_>) -> Result<BodyStep, AllocError>
+    /// Reads one token, in place. An expression that goes on is all that is moved.
+    pub fn feed(&mut self, alloc: Global, token: &Lexeme<'_>) -> Result<BodyFed, AllocError>
+        ensures { IfOk result (λ r. (k : StmtTrees → Step) → body_fed_view r self.new k (lexeme_view token.now) ≡ advance (body_view self.old k) (lexeme_view token.now)) }
+    {
+        match &mut self.state {
+            State::Expression(expr, _) => match feed_expression(alloc, expr, token)? {
+                ExprFed::On => Ok(BodyFed::On),
+                ExprFed::Done(whole) => self.after_expression(alloc, whole, token),
+                ExprFed::Stuck => Ok(BodyFed::Stuck),
+            },
+            _ => self.move_on(alloc, token),
+        }
+    }
+
+    /// A token after the expression, which has ended.
+    fn after_expression(
+        &mut self,
+        alloc: Global,
+        expr: TallExpr,
+        token: &Lexeme<'_>,
+    ) -> Result<BodyFed, AllocError>
+        ensures { IfOk result (λ r. (k : StmtTrees → Step) → body_fed_view r self.new k (lexeme_view token.now) ≡ ended_view self.old.state (tall_view expr) (around_view self.old.around k) (lexeme_view token.now)) }
+    {
+        let BodyReading { state, around } = mem::replace(self, BodyReading::start(alloc));
+        match state {
+            State::Expression(_, purpose) => {
+                let step = after_expression(alloc, expr, purpose, around, token)?;
+                Ok(self.put(step))
+            }
+            _ => Ok(BodyFed::Stuck),
+        }
+    }
+
+    /// Reads one token, by a step of the whole.
+    fn move_on(&mut self, alloc: Global, token: &Lexeme<'_>) -> Result<BodyFed, AllocError>
+        ensures { IfOk result (λ r. (k : StmtTrees → Step) → body_fed_view r self.new k (lexeme_view token.now) ≡ advance (body_view self.old k) (lexeme_view token.now)) }
+    {
+        let old = mem::replace(self, BodyReading::start(alloc));
+        let step = old.step(alloc, token)?;
+        Ok(self.put(step))
+    }
+
+    /// Goes on where a step leads.
+    fn put(&mut self, step: BodyStep) -> BodyFed
+        ensures { (k : StmtTrees → Step) (t : Token) → body_fed_view result self.new k t ≡ body_step_view step k t }
+    {
+        match step {
+            BodyStep::On(next) => {
+                *self = next;
+                BodyFed::On
+            }
+            BodyStep::Done(stmts) => BodyFed::Done(stmts),
+            BodyStep::Stuck => BodyFed::Stuck,
+        }
+    }
+
+    /// What one token makes of it.
+    fn step(self, alloc: Global, token: &Lexeme<'_>) -> Result<BodyStep, AllocError>
         ensures { IfOk result (λ r. (k : StmtTrees → Step) → body_step_view r k (lexeme_view token.now) ≡ advance (body_view self k) (lexeme_view token.now)) }
     {
         let BodyReading { state, around } = self;

@@ -115,6 +115,20 @@ pub enum BodyStep {
     Stuck,
 }
 
+/// What one token did to the reading of a body, in place.
+#[derive(Drop)]
+pub enum BodyFed {
+    /// The token is taken.
+    On,
+    /// The `}` that ends the body was taken, and its statements are taken out.
+    Done(TallStmts),
+    /// The token can't come here.
+    Stuck,
+}
+
+/// Lets a value go by a call. Dropped in place, a tree is a case for each of its forms, in the proof too.
+pub(crate) fn let_go<T: Drop>(_value: T) {}
+
 pub(crate) fn reading(state: State, around: Around) -> BodyReading
     ensures { result ≡ record { state = state; around = around } }
 {
