@@ -13,12 +13,10 @@ use Rattle.js_tokens.specs.Views.{placed_token, placed_tokens}
 use Rattle.asm_grammar.specs.declared.fault.ParseFault.{ParseFault}
 use Rattle.asm_grammar.specs.declared.fault.ParseFault.TheVariants.{LiteralForm, Grammar, NoUseAsm, Height, Memory}
 use Rattle.asm_grammar.specs.declared.tall.TallModule.{TallModule}
-use Rattle.asm_grammar.specs.declared.reading.Reading.{Reading}
 use Rattle.asm_grammar.specs.declared.parsing.Fed.{Fed}
 use Rattle.asm_grammar.specs.declared.parsing.Fed.TheVariants as feds
 use Rattle.asm_grammar.specs.Ends.{stopped, finished_view}
 use Rattle.asm_grammar.specs.Gives.{fed_view, Gives, IsRefusal}
-use Rattle.asm_grammar.specs.Readings.{reading_view}
 use Rattle.asm_grammar.proofs.Low.{stops_high}
 use Rattle.asm_grammar.proofs.Pairs.{dropped}
 

@@ -59,12 +59,23 @@ impl Drop for FunctionReading<'_> {
 }
 
 /// A function whose body is being read: its name, parameters and local variables, and that body.
-#[derive(Drop)]
 pub struct FunctionBody<'a> {
     pub name: Lexeme<'a>,
     pub params: List<ParamTree>,
     pub locals: List<VariableTree>,
     pub body: Box<BodyReading>,
+}
+
+/// By hand too: a body that is being read has many forms.
+impl Drop for FunctionBody<'_> {
+    fn drop(self) {
+        let FunctionBody {
+            name: _,
+            params: _,
+            locals: _,
+            body: _,
+        } = self;
+    }
 }
 
 /// What one token does to a function.

@@ -144,7 +144,7 @@ pub fn parse(alloc: Global, tokens: &[Token<'_>]) -> Result<Parsed, ParseFault>
     ensures fault { IfErr result (λ e. IsFault (lexemes_of (placed_tokens tokens.now)) e) }
 {
     match module_tree(alloc, tokens) {
-        Ok(whole) => match erased(alloc, whole.tree) {
+        Ok(whole) => match erased(alloc, whole.into_tree()) {
             Ok(parsed) => Ok(parsed),
             Err(_) => Err(ParseFault::Memory),
         },

@@ -10,31 +10,68 @@ ghost use Rattle.asm_grammar_decls.specs.Variables.{variables_of};
 ghost use Rattle.asm_grammar.specs.Ends.{finished_view};
 ghost use Rattle.asm_grammar.specs.Readings.{functions_of, left_view, module_fed_view, module_step_view, reading_view};
 
-use crate::exports::{end_peak, end_step, export_step, exports_step, finished_at};
+use crate::exports::{end_peak, end_step, export_step, exports_height, exports_step, finished_at};
 use crate::function::FunctionReading;
 use crate::globals::{after_directive, global_step};
 use crate::module::{directive_step, function_moves, heading_step};
 use crate::tables::{functions_step, table_step};
-use crate::tall::{TallFunctions, TallModule};
+use crate::tall::{TallFunctions, TallModule, leaves};
 use asm_grammar_decls::{HeadingReading, InitReading, NamesReading};
-use asm_grammar_nodes::{ExportTree, Heading, Height, Lexeme, TableTree, VariableTree};
+use asm_grammar_nodes::{
+    ExportTree, ExportsTree, Heading, Height, Lexeme, ModuleTree, TableTree, VariableTree,
+};
 use asm_grammar_stmts::bodies_end_no_module;
 use sem_words::List;
 use std::alloc::{AllocError, Global};
 use std::mem;
 
 /// The heading and the global variables.
-#[derive(Drop)]
 pub struct Globals {
     pub heading: Heading,
     pub variables: List<VariableTree>,
 }
 
+/// By hand, as all that the readings hold, so that its end is one call wherever it is let go.
+impl Drop for Globals {
+    fn drop(self) {
+        let Globals {
+            heading: _,
+            variables: _,
+        } = self;
+    }
+}
+
+impl Globals {
+    fn into_parts(self) -> (Heading, List<VariableTree>)
+        ensures { result ≡ (self.heading, self.variables) }
+    {
+        let Globals { heading, variables } = self;
+        (heading, variables)
+    }
+}
+
 /// The global variables and the functions.
-#[derive(Drop)]
 pub struct Functions {
     pub globals: Globals,
     pub functions: TallFunctions,
+}
+
+impl Drop for Functions {
+    fn drop(self) {
+        let Functions {
+            globals: _,
+            functions: _,
+        } = self;
+    }
+}
+
+impl Functions {
+    fn into_parts(self) -> (Globals, TallFunctions)
+        ensures { result ≡ (self.globals, self.functions) }
+    {
+        let Functions { globals, functions } = self;
+        (globals, functions)
+    }
 }
 
 /// The functions so far, and the one that is being read.
@@ -45,10 +82,48 @@ pub struct FunctionInModule<'a> {
 }
 
 /// The global variables, the functions and the tables.
-#[derive(Drop)]
 pub struct Tables {
     pub functions: Functions,
     pub tables: List<TableTree>,
+}
+
+impl Drop for Tables {
+    fn drop(self) {
+        let Tables {
+            functions: _,
+            tables: _,
+        } = self;
+    }
+}
+
+impl Tables {
+    ghost use Rattle.asm_lang.specs.Machine.{module_of};
+    ghost use Rattle.asm_grammar_nodes.specs.Views.{exports_view, module_view};
+    ghost use Rattle.asm_grammar.specs.Readings.{tables_of};
+
+    /// The whole module.
+    pub fn whole(self, exports: ExportsTree) -> TallModule
+        ensures { module_view result.tree ≡ module_of (heading_view self.functions.globals.heading) (variables_of self.functions.globals.variables) (functions_of self.functions.functions) (tables_of self.tables) (exports_view exports) }
+    {
+        let Tables { functions, tables } = self;
+        let (globals, functions) = functions.into_parts();
+        let (heading, variables) = globals.into_parts();
+        let TallFunctions {
+            trees,
+            greatest,
+            ..
+        } = functions;
+        let ends = leaves(tables.len()).or(exports_height(&exports));
+        let height = leaves(variables.len()).or(greatest).or(ends).above();
+        let tree = ModuleTree {
+            heading,
+            globals: variables,
+            functions: trees,
+            tables,
+            exports,
+        };
+        TallModule { tree, height }
+    }
 }
 
 /// What must come or may come next among the global variables.

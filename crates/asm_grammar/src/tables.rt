@@ -17,6 +17,7 @@ use asm_grammar_decls::{Ending, NamesReading, NamesStep, end_before, is};
 use asm_grammar_nodes::{Class, Lexeme, TableTree};
 use sem_words::{List, Text};
 use std::alloc::{AllocError, Global};
+use std::mem;
 
 /// Another function, the tables or the exports.
 pub fn functions_step<'a>(alloc: Global, functions: Functions, token: &Lexeme<'a>) -> ModuleStep<'a>
@@ -192,9 +193,9 @@ fn in_members<'a>(
             Ok(ModuleStep::On(Reading::Table(tables, place)))
         }
         NamesStep::Done(others) => {
-            let Tables { functions, tables } = tables;
-            let tables = with_table(alloc, tables, &name, &first, &others)?;
-            let tables = Tables { functions, tables };
+            let mut tables = tables;
+            let before = mem::replace(&mut tables.tables, List::new(alloc));
+            tables.tables = with_table(alloc, before, &name, &first, &others)?;
             Ok(ModuleStep::On(Reading::Table(tables, TablePlace::After)))
         }
         NamesStep::Stuck => Ok(ModuleStep::Stuck),

@@ -31,11 +31,26 @@ pub struct TallFunctions {
 }
 
 /// A module, and how high it is.
-#[derive(Drop)]
 pub struct TallModule {
     pub tree: ModuleTree,
     pub height: Height,
     ghost high: { height.count ≡ counted (whole_height (module_view tree)) },
+}
+
+/// By hand, so that the end of a module is one call wherever it is let go.
+impl Drop for TallModule {
+    fn drop(self) {
+        let TallModule { tree: _, height: _ } = self;
+    }
+}
+
+impl TallModule {
+    pub fn into_tree(self) -> ModuleTree
+        ensures { result ≡ self.tree }
+    {
+        let TallModule { tree, height: _ } = self;
+        tree
+    }
 }
 
 impl TallFunctions {
