@@ -13,12 +13,10 @@ use Rattle.js_tokens.specs.Views.{placed_token, placed_tokens}
 use Rattle.asm_grammar.specs.declared.fault.ParseFault.{ParseFault}
 use Rattle.asm_grammar.specs.declared.fault.ParseFault.TheVariants.{LiteralForm, Grammar, NoUseAsm, Height, Memory}
 use Rattle.asm_grammar.specs.declared.tall.TallModule.{TallModule}
-use Rattle.asm_grammar.specs.declared.reading.Reading.{Reading}
 use Rattle.asm_grammar.specs.declared.parsing.Fed.{Fed}
 use Rattle.asm_grammar.specs.declared.parsing.Fed.TheVariants as feds
 use Rattle.asm_grammar.specs.Ends.{stopped, finished_view}
 use Rattle.asm_grammar.specs.Gives.{fed_view, Gives, IsRefusal}
-use Rattle.asm_grammar.specs.Readings.{reading_view}
 use Rattle.asm_grammar.proofs.Low.{stops_high}
 use Rattle.asm_grammar.proofs.Pairs.{dropped}
 
@@ -38,18 +36,18 @@ lexemes-length (t ∷ ts) = ap suc (lexemes-length ts)
 lexemes-drop : (ts : List Token) (i : ℕ) (d : Token) → i < length ts → lexemes (drop i ts) ≡ lexeme (get_or ts i d) ∷ lexemes (drop (i + 1) ts)
 lexemes-drop ts i d lt = ap lexemes (drop_more ts i d lt)
 
--- what was read of a token is this
-fed_as : (f g : Fed) (t : Lexeme) (us : List Lexeme) (r : Result ModuleTree Stop) → f ≡ g → fed_view f t us ≡ r → fed_view g t us ≡ r
-fed_as f g t us r is h = ap (λ (x : Fed). fed_view x t us) (sym is) ∙ h
+-- what was read of a token is this; n: the step after it
+fed_as : (f g : Fed) (n : Step) (t : Lexeme) (us : List Lexeme) (r : Result ModuleTree Stop) → f ≡ g → fed_view f n t us ≡ r → fed_view g n t us ≡ r
+fed_as f g n t us r is h = ap (λ (x : Fed). fed_view x n t us) (sym is) ∙ h
 
 -- ---- a token is read, and reading goes on
 
-pub goes_on : (ts : List Token) (i : ℕ) (d : Token) (s : Step) (f : Fed) (next : Reading) (q : Result ModuleTree Stop) → i < length ts → f ≡ feds.On next
-    → ((us : List Lexeme) → fed_view f (lexeme (get_or ts i d)) us ≡ low s (lexeme (get_or ts i d) ∷ us)) → low s (lexemes (drop i ts)) ≡ q
-    → low (reading_view next) (lexemes (drop (i + 1) ts)) ≡ q
-goes_on ts i d s f next q lt is fed e =
+pub goes_on : (ts : List Token) (i : ℕ) (d : Token) (s n : Step) (f : Fed) (q : Result ModuleTree Stop) → i < length ts → f ≡ feds.On
+    → ((us : List Lexeme) → fed_view f n (lexeme (get_or ts i d)) us ≡ low s (lexeme (get_or ts i d) ∷ us)) → low s (lexemes (drop i ts)) ≡ q
+    → low n (lexemes (drop (i + 1) ts)) ≡ q
+goes_on ts i d s n f q lt is fed e =
     let us = lexemes (drop (i + 1) ts) in
-    fed_as f (feds.On next) (lexeme (get_or ts i d)) us (low s (lexeme (get_or ts i d) ∷ us)) is (fed us) ∙ ap (low s) (sym (lexemes-drop ts i d lt)) ∙ e
+    fed_as f feds.On n (lexeme (get_or ts i d)) us (low s (lexeme (get_or ts i d) ∷ us)) is (fed us) ∙ ap (low s) (sym (lexemes-drop ts i d lt)) ∙ e
 
 -- ---- a token stops reading
 
@@ -64,28 +62,28 @@ refusal_gives xs k (NoUseAsm j) r is lt given = absurd is
 refusal_gives xs k (Height j) r is lt given = absurd is
 refusal_gives xs k Memory r is lt given = absurd is
 
-pub refused : (ts : List Token) (i : ℕ) (d : Token) (s : Step) (f : Fed) (q : Result ModuleTree Stop) (x : ParseFault) → i < length ts → f ≡ feds.Stuck
-    → ((us : List Lexeme) → fed_view f (lexeme (get_or ts i d)) us ≡ low s (lexeme (get_or ts i d) ∷ us)) → low s (lexemes (drop i ts)) ≡ q → IsRefusal (lexemes ts) i x
+pub refused : (ts : List Token) (i : ℕ) (d : Token) (s n : Step) (f : Fed) (q : Result ModuleTree Stop) (x : ParseFault) → i < length ts → f ≡ feds.Stuck
+    → ((us : List Lexeme) → fed_view f n (lexeme (get_or ts i d)) us ≡ low s (lexeme (get_or ts i d) ∷ us)) → low s (lexemes (drop i ts)) ≡ q → IsRefusal (lexemes ts) i x
     → Gives (lexemes ts) (Err x) q
-refused ts i d s f q x lt is fed e refusal =
+refused ts i d s n f q x lt is fed e refusal =
     let us = lexemes (drop (i + 1) ts) in
-    let at = stops_at (stopped grammar) ts i d s q lt (fed_as f feds.Stuck (lexeme (get_or ts i d)) us (low s (lexeme (get_or ts i d) ∷ us)) is (fed us)) e in
+    let at = stops_at (stopped grammar) ts i d s q lt (fed_as f feds.Stuck n (lexeme (get_or ts i d)) us (low s (lexeme (get_or ts i d) ∷ us)) is (fed us)) e in
     refusal_gives (lexemes ts) i x q refusal (omega (arith, lexemes-length ts)) at
 
-pub lacks_use : (ts : List Token) (i : ℕ) (d : Token) (s : Step) (f : Fed) (q : Result ModuleTree Stop) → i < length ts → f ≡ feds.NoUseAsm
-    → ((us : List Lexeme) → fed_view f (lexeme (get_or ts i d)) us ≡ low s (lexeme (get_or ts i d) ∷ us)) → low s (lexemes (drop i ts)) ≡ q
+pub lacks_use : (ts : List Token) (i : ℕ) (d : Token) (s n : Step) (f : Fed) (q : Result ModuleTree Stop) → i < length ts → f ≡ feds.NoUseAsm
+    → ((us : List Lexeme) → fed_view f n (lexeme (get_or ts i d)) us ≡ low s (lexeme (get_or ts i d) ∷ us)) → low s (lexemes (drop i ts)) ≡ q
     → Gives (lexemes ts) (Err (NoUseAsm i)) q
-lacks_use ts i d s f q lt is fed e =
+lacks_use ts i d s n f q lt is fed e =
     let us = lexemes (drop (i + 1) ts) in
-    let at = stops_at (stopped no_use_asm) ts i d s q lt (fed_as f feds.NoUseAsm (lexeme (get_or ts i d)) us (low s (lexeme (get_or ts i d) ∷ us)) is (fed us)) e in
+    let at = stops_at (stopped no_use_asm) ts i d s q lt (fed_as f feds.NoUseAsm n (lexeme (get_or ts i d)) us (low s (lexeme (get_or ts i d) ∷ us)) is (fed us)) e in
     (omega (arith, lexemes-length ts), at)
 
-pub too_high : (ts : List Token) (i : ℕ) (d : Token) (s : Step) (f : Fed) (q : Result ModuleTree Stop) → i < length ts → f ≡ feds.High
-    → ((us : List Lexeme) → fed_view f (lexeme (get_or ts i d)) us ≡ low s (lexeme (get_or ts i d) ∷ us)) → low s (lexemes (drop i ts)) ≡ q
+pub too_high : (ts : List Token) (i : ℕ) (d : Token) (s n : Step) (f : Fed) (q : Result ModuleTree Stop) → i < length ts → f ≡ feds.High
+    → ((us : List Lexeme) → fed_view f n (lexeme (get_or ts i d)) us ≡ low s (lexeme (get_or ts i d) ∷ us)) → low s (lexemes (drop i ts)) ≡ q
     → Gives (lexemes ts) (Err (Height i)) q
-too_high ts i d s f q lt is fed e =
+too_high ts i d s n f q lt is fed e =
     let us = lexemes (drop (i + 1) ts) in
-    let at = stops_at stops_high ts i d s q lt (fed_as f feds.High (lexeme (get_or ts i d)) us (low s (lexeme (get_or ts i d) ∷ us)) is (fed us)) e in
+    let at = stops_at stops_high ts i d s q lt (fed_as f feds.High n (lexeme (get_or ts i d)) us (low s (lexeme (get_or ts i d) ∷ us)) is (fed us)) e in
     (omega (arith, lexemes-length ts), at)
 
 -- ---- the end of input

@@ -1,14 +1,16 @@
 -- What one token does within the limit on the height.
-use Rattle.std.proofs.Common.{◌≡◌, ℕ, ◌<◌, ◌≤◌, Bool, true, false, List, [], ◌∷◌, inl, inr, sym, ap, subst, ◌∙◌, arith}
+use Rattle.std.proofs.Common.{◌≡◌, ℕ, ◌<◌, ◌≤◌, Bool, true, false, List, [], ◌∷◌, inl, inr, refl, sym, ap, subst, ◌∙◌, arith}
 use Rattle.std.proofs.lemmas.Bool.{cases_lt}
 use Rattle.asm_lang.specs.Lexemes.{Lexeme}
 use Rattle.asm_lang.specs.Machine.{grammar, no_use_asm, refuses, Step, stuck, advance}
 use Rattle.asm_lang.specs.Heights.{height_limit}
 use Rattle.asm_laws_height.specs.Peaks.{run_low, step_peak}
 use Rattle.asm_grammar_nodes.specs.Heights.{counted}
+use Rattle.asm_grammar.specs.declared.reading.FunctionInModule.{FunctionInModule}
 use Rattle.asm_grammar.specs.declared.reading.Reading.{Reading}
-use Rattle.asm_grammar.specs.declared.reading.ModuleStep.{ModuleStep}
-use Rattle.asm_grammar.specs.Readings.{reading_view, module_step_view}
+use Rattle.asm_grammar.specs.declared.reading.Reading.TheVariants as readings
+use Rattle.asm_grammar.specs.declared.reading.ModuleFed.{ModuleFed}
+use Rattle.asm_grammar.specs.Readings.{reading_view, module_fed_view, left_view}
 use Rattle.asm_grammar.specs.Ends.{stopped}
 use Rattle.asm_grammar.proofs.Low.{stops_high, on_low, high_low, refused_low}
 
@@ -25,8 +27,13 @@ pub fed_no_use : (s : Step) (t : Lexeme) (ts : List Lexeme) → refuses no_use_a
 fed_no_use s t ts e = sym (refused_low height_limit s no_use_asm t ts (sym e))
 
 -- what the token does, as the grammar sees it
-pub fed_step : (f g : ModuleStep) (s : Step) (u t : Lexeme) → f ≡ g → u ≡ t → module_step_view f u ≡ advance s u → module_step_view g t ≡ advance s t
-fed_step f g s u t fg ut h = ap (λ (m : ModuleStep). module_step_view m t) (sym fg) ∙ subst (λ (x : Lexeme). module_step_view f x ≡ advance s x) ut h
+pub fed_step : (f g : ModuleFed) (r : Reading) (s : Step) (u t : Lexeme) → f ≡ g → u ≡ t → module_fed_view f r u ≡ advance s u → module_fed_view g r t ≡ advance s t
+fed_step f g r s u t fg ut h = ap (λ (m : ModuleFed). module_fed_view m r t) (sym fg) ∙ subst (λ (x : Lexeme). module_fed_view f r x ≡ advance s x) ut h
 
 pub not_over : (b : Bool) (n limit : ℕ) → (limit < n → b ≡ true) → b ≡ false → n ≤ limit
 not_over b n limit h e = elim (cases_lt limit n) [ inl lt ↦ (let is : b ≡ true = h lt in absurd cc) | inr le ↦ le ]
+
+-- where no function is being read, none is left
+pub stays : (r : Reading) → ((f : FunctionInModule) → r ≡ readings.Function f → ⊥) → reading_view r ≡ left_view r
+stays (readings.Function f) other = absurd (other f refl)
+stays _ other = refl

@@ -1,15 +1,9 @@
 -- Where no node ends and no module: most of what is being read.
 use Rattle.std.proofs.Common.{◌≡◌, List, [], ◌∷◌, ◌++◌, refl}
-use Rattle.std.specs.Global.{Global}
-use Rattle.std.specs.declared.boxed.Box.{Box}
 use Rattle.asm_lang.specs.Lexemes.{Lexeme}
 use Rattle.asm_lang.specs.Trees.{Init, StmtTrees, VariableTree, ParamTree, FunctionTree, TableTree, ExportTree, Heading}
 use Rattle.asm_lang.specs.Machine.{State, at_marks, at_functions, Step, failed, grammar, ended, stops}
 use Rattle.asm_laws_height.specs.Peaks.{peak, step_peak}
-use Rattle.sem_words.specs.declared.list.List.{List as Listed}
-use Rattle.asm_grammar_nodes.specs.declared.lexeme.Lexeme.{Lexeme as CodeLexeme}
-use Rattle.asm_grammar_nodes.specs.declared.declarations.ParamTree.{ParamTree as CodeParam}
-use Rattle.asm_grammar_nodes.specs.declared.declarations.VariableTree.{VariableTree as CodeVariable}
 use Rattle.asm_grammar_nodes.specs.Views.{lexeme_view}
 use Rattle.asm_grammar_decls.specs.declared.heading.HeadingReading.{HeadingReading}
 use Rattle.asm_grammar_decls.specs.declared.heading.HeadingReading.TheVariants as headings
@@ -25,6 +19,7 @@ use Rattle.asm_grammar_decls.specs.declared.locals.LocalsReading.{LocalsReading}
 use Rattle.asm_grammar_decls.specs.declared.locals.LocalsReading.TheVariants as locals
 use Rattle.asm_grammar_decls.specs.declared.names.NamesReading.{NamesReading}
 use Rattle.asm_grammar_decls.specs.declared.names.NamesReading.TheVariants as names
+use Rattle.asm_grammar.specs.declared.function.FunctionBody.{FunctionBody}
 use Rattle.asm_grammar.specs.declared.function.FunctionReading.{FunctionReading}
 use Rattle.asm_grammar.specs.declared.function.FunctionReading.TheVariants as functions
 use Rattle.asm_grammar.specs.declared.reading.GlobalPlace.{GlobalPlace}
@@ -35,6 +30,7 @@ use Rattle.asm_grammar.specs.declared.reading.ExportPlace.{ExportPlace}
 use Rattle.asm_grammar.specs.declared.reading.ExportPlace.TheVariants as exports
 use Rattle.asm_grammar.specs.declared.reading.EndPlace.{EndPlace}
 use Rattle.asm_grammar.specs.declared.reading.Functions.{Functions}
+use Rattle.asm_grammar.specs.declared.reading.FunctionInModule.{FunctionInModule}
 use Rattle.asm_grammar.specs.declared.tall.TallModule.{TallModule}
 use Rattle.asm_grammar.specs.declared.reading.Reading.{Reading}
 use Rattle.asm_grammar.specs.declared.reading.Reading.TheVariants as readings
@@ -97,7 +93,7 @@ function_stops h (functions.Params n p (names.After ns)) k = refl
 function_stops h (functions.Params n p (names.Next ns)) k = refl
 function_stops h (functions.Marks n r) k = let idle = idle_marks r (marks_of (lexeme_view n) k) (λ ds. (refl, refl)) in idle.1
 function_stops h (functions.Locals n ds r) k = let idle = idle_locals r (locals_of (lexeme_view n) (params_of ds) k) (λ ls. (refl, refl)) in idle.1
-function_stops h (functions.Body n ds ls r) k = h r.value (body_of (lexeme_view n) (params_of ds) (variables_of ls) k)
+function_stops h (functions.Body b) k = h b.body.value (body_of (lexeme_view b.name) (params_of b.params) (variables_of b.locals) k)
 function_stops h _ k = refl
 
 -- before its body no node ends
@@ -132,12 +128,12 @@ idle_export _ es k = (refl, refl)
 -- ---- functions, as a whole
 
 pub function_quiet : (r : FunctionReading) (k : FunctionTree → State)
-    → ((n : CodeLexeme) (ds : Listed CodeParam) (ls : Listed CodeVariable) (b : Box BodyReading Global) → r ≡ functions.Body n ds ls b → ⊥)
+    → ((b : FunctionBody) → r ≡ functions.Body b → ⊥)
     → step_peak (function_reading_view r k) ≡ 0
 function_quiet (functions.Params n p r) k other = names_quiet (lexeme_view n) (lexeme_view p) r k
 function_quiet (functions.Marks n r) k other = marks_quiet (lexeme_view n) r k
 function_quiet (functions.Locals n ds r) k other = locals_quiet (lexeme_view n) (params_of ds) r k
-function_quiet (functions.Body n ds ls b) k other = absurd (other n ds ls b refl)
+function_quiet (functions.Body b) k other = absurd (other b refl)
 function_quiet _ k other = refl
 
 -- ---- whole modules
@@ -148,17 +144,17 @@ IsNoEnd r = (m : TallModule) (place : EndPlace) → r ≡ readings.End m place �
 pub unfinished : BodiesEnd → (r : Reading) → IsNoEnd r → stops (reading_view r) ≡ failed grammar []
 unfinished h (readings.Heading r) other = let idle = idle_heading r in idle.1
 unfinished h (readings.Global g place) other = let idle = idle_global place (heading_view g.heading) (variables_of g.variables) in idle.1
-unfinished h (readings.Function f r) other = function_stops h r (λ x. at_functions (heading_view f.globals.heading) (variables_of f.globals.variables) (functions_of f.functions ++ x ∷ []))
+unfinished h (readings.Function f) other = function_stops h f.reading (λ x. at_functions (heading_view f.functions.globals.heading) (variables_of f.functions.globals.variables) (functions_of f.functions.functions ++ x ∷ []))
 unfinished h (readings.Table t place) other = let idle = idle_table place (heading_view t.functions.globals.heading) (variables_of t.functions.globals.variables) (functions_of t.functions.functions) (tables_of t.tables) in idle.1
 unfinished h (readings.Exports t es place) other = let idle = idle_export place (exports_of es) (exported (heading_view t.functions.globals.heading) (variables_of t.functions.globals.variables) (functions_of t.functions.functions) (tables_of t.tables)) in idle.1
 unfinished h (readings.End m place) other = absurd (other m place refl)
 unfinished h _ other = refl
 
-pub quiet : (r : Reading) → ((f : Functions) → r ≡ readings.Functions f → ⊥) → ((f : Functions) (g : FunctionReading) → r ≡ readings.Function f g → ⊥) → IsNoEnd r → step_peak (reading_view r) ≡ 0
+pub quiet : (r : Reading) → ((f : Functions) → r ≡ readings.Functions f → ⊥) → ((f : FunctionInModule) → r ≡ readings.Function f → ⊥) → IsNoEnd r → step_peak (reading_view r) ≡ 0
 quiet (readings.Heading r) a b other = let idle = idle_heading r in idle.0
 quiet (readings.Global g place) a b other = let idle = idle_global place (heading_view g.heading) (variables_of g.variables) in idle.0
 quiet (readings.Functions f) a b other = absurd (a f refl)
-quiet (readings.Function f g) a b other = absurd (b f g refl)
+quiet (readings.Function f) a b other = absurd (b f refl)
 quiet (readings.Table t place) a b other = let idle = idle_table place (heading_view t.functions.globals.heading) (variables_of t.functions.globals.variables) (functions_of t.functions.functions) (tables_of t.tables) in idle.0
 quiet (readings.Exports t es place) a b other = let idle = idle_export place (exports_of es) (exported (heading_view t.functions.globals.heading) (variables_of t.functions.globals.variables) (functions_of t.functions.functions) (tables_of t.tables)) in idle.0
 quiet (readings.End m place) a b other = absurd (other m place refl)

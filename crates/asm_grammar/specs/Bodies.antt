@@ -8,10 +8,13 @@ use Rattle.asm_grammar_decls.specs.declared.names.NamesReading.{NamesReading}
 use Rattle.asm_grammar_decls.specs.declared.marks.MarksReading.{MarksReading}
 use Rattle.asm_grammar.specs.declared.function.Names.{Names}
 use Rattle.asm_grammar.specs.declared.tall.TallFunction.{TallFunction}
+use Rattle.asm_grammar.specs.declared.function.FunctionBody.{FunctionBody}
 use Rattle.asm_grammar.specs.declared.function.FunctionReading.{FunctionReading}
 use Rattle.asm_grammar.specs.declared.function.FunctionReading.TheVariants as functions
 use Rattle.asm_grammar.specs.declared.function.FunctionStep.{FunctionStep}
 use Rattle.asm_grammar.specs.declared.function.FunctionStep.TheVariants as function_steps
+use Rattle.asm_grammar.specs.declared.function.FunctionFed.{FunctionFed}
+use Rattle.asm_grammar.specs.declared.function.FunctionFed.TheVariants as function_feds
 use Rattle.asm_grammar_decls.specs.Parts.{names_reading_view}
 use Rattle.asm_grammar_decls.specs.Variables.{params_of, marks_reading_view, variables_of, locals_reading_view}
 use Rattle.asm_grammar_stmts.specs.Views.{body_view}
@@ -48,6 +51,9 @@ first_param_step n k = either (sign identifier) close_paren refl
 abbrev pub tall_function_view : TallFunction → FunctionTree
 tall_function_view f = function_view f.tree
 
+abbrev pub function_body_view : FunctionBody → (FunctionTree → State) → Step
+function_body_view b k = body_view b.body.value (body_of (lexeme_view b.name) (params_of b.params) (variables_of b.locals) k)
+
 abbrev pub function_reading_view : FunctionReading → (FunctionTree → State) → Step
 function_reading_view functions.Name k = expects (sign identifier) (λ n. expects (sign open_paren) (λ t. first_param_step n k))
 function_reading_view (functions.OpenParen n) k = expects (sign open_paren) (λ t. first_param_step (lexeme_view n) k)
@@ -56,9 +62,15 @@ function_reading_view (functions.Params n p r) k = params_step (lexeme_view n) (
 function_reading_view (functions.OpenBrace n ps) k = open_brace_step (lexeme_view n) (named_view ps) k
 function_reading_view (functions.Marks n r) k = marks_step (lexeme_view n) r k
 function_reading_view (functions.Locals n ds r) k = locals_reading_view r (locals_of (lexeme_view n) (params_of ds) k)
-function_reading_view (functions.Body n ds ls r) k = body_view r.value (body_of (lexeme_view n) (params_of ds) (variables_of ls) k)
+function_reading_view (functions.Body b) k = function_body_view b k
 
 abbrev pub function_step_view : FunctionStep → (FunctionTree → State) → Lexeme → Step
 function_step_view (function_steps.On r) k t = function_reading_view r k
 function_step_view (function_steps.Done f) k t = goes (k (tall_function_view f))
 function_step_view function_steps.Stuck k t = stuck t
+
+-- in place: with what is left of the function
+abbrev pub function_fed_view : FunctionFed → FunctionReading → (FunctionTree → State) → Lexeme → Step
+function_fed_view function_feds.On r k t = function_reading_view r k
+function_fed_view (function_feds.Done f) r k t = goes (k (tall_function_view f))
+function_fed_view function_feds.Stuck r k t = stuck t

@@ -3,7 +3,7 @@ use Rattle.std.specs.Prelude.{◌≡◌, ℕ, Bool, false, ◌&&◌, ◌+◌, �
 use Rattle.asm_lang.specs.Lexemes.{Lexeme, operator, a_zero}
 use Rattle.sem_words.specs.declared.js_value.JsOp.TheVariants.{Sub}
 use Rattle.asm_lang.specs.Trees.{ModuleTree}
-use Rattle.asm_lang.specs.Machine.{grammar, no_use_asm, same_class, meets}
+use Rattle.asm_lang.specs.Machine.{grammar, no_use_asm, same_class, meets, Step}
 use Rattle.asm_lang.specs.Faults.{IsPair}
 use Rattle.asm_lang.specs.Heights.{height_limit}
 use Rattle.asm_lang.specs.Kinds as kinds
@@ -15,14 +15,13 @@ use Rattle.asm_grammar.specs.declared.tall.TallModule.{TallModule}
 use Rattle.asm_grammar.specs.declared.parsing.Fed.{Fed}
 use Rattle.asm_grammar.specs.declared.parsing.Fed.TheVariants as feds
 use Rattle.asm_grammar.specs.Ends.{stopped}
-use Rattle.asm_grammar.specs.Readings.{reading_view}
 
--- what reading within the limit goes on with, of the token that was read and those after it
-abbrev pub fed_view : Fed → Lexeme → List Lexeme → Result ModuleTree Stop
-fed_view (feds.On r) t ts = run_low height_limit (reading_view r) ts
-fed_view feds.Stuck t ts = stopped grammar (t ∷ ts)
-fed_view feds.NoUseAsm t ts = stopped no_use_asm (t ∷ ts)
-fed_view feds.High t ts = Err (high (t ∷ ts))
+-- what reading within the limit goes on with: after the step s where the token was taken, of the token and those after it
+abbrev pub fed_view : Fed → Step → Lexeme → List Lexeme → Result ModuleTree Stop
+fed_view feds.On s t ts = run_low height_limit s ts
+fed_view feds.Stuck s t ts = stopped grammar (t ∷ ts)
+fed_view feds.NoUseAsm s t ts = stopped no_use_asm (t ∷ ts)
+fed_view feds.High s t ts = Err (high (t ∷ ts))
 
 -- the result says where reading within the limit ended
 abbrev pub Gives : List Lexeme → Result TallModule ParseFault → Result ModuleTree Stop → Type 0

@@ -26,6 +26,12 @@ use Rattle.asm_grammar.specs.declared.reading.Reading.{Reading}
 use Rattle.asm_grammar.specs.declared.reading.Reading.TheVariants as readings
 use Rattle.asm_grammar.specs.declared.reading.ModuleStep.{ModuleStep}
 use Rattle.asm_grammar.specs.declared.reading.ModuleStep.TheVariants as module_steps
+use Rattle.asm_grammar.specs.declared.reading.ModuleFed.{ModuleFed}
+use Rattle.asm_grammar.specs.declared.reading.ModuleFed.TheVariants as module_feds
+use Rattle.asm_grammar.specs.declared.reading.InFunction.{InFunction}
+use Rattle.asm_grammar.specs.declared.reading.InFunction.TheVariants as in_functions
+use Rattle.asm_grammar.specs.declared.reading.Functions.{Functions}
+use Rattle.asm_grammar.specs.declared.reading.FunctionInModule.{FunctionInModule}
 use Rattle.asm_grammar.specs.declared.exports.ExportsStep.{ExportsStep}
 use Rattle.asm_grammar.specs.declared.exports.ExportsStep.TheVariants as exports_steps
 use Rattle.asm_grammar_decls.specs.Parts.{heading_reading_view, names_reading_view, init_reading_view}
@@ -69,6 +75,19 @@ global_view globals.After h gs = goes (in_globals h gs)
 
 abbrev pub function_place : FunctionReading → Heading → List VariableTree → List FunctionTree → Step
 function_place r h gs fs = function_reading_view r (λ x. at_functions h gs (fs ++ x ∷ []))
+
+-- after a function that has ended
+abbrev pub functions_place : Functions → Step
+functions_place f = goes (at_functions (heading_view f.globals.heading) (variables_of f.globals.variables) (functions_of f.functions))
+
+abbrev pub function_in_module_view : FunctionInModule → Step
+function_in_module_view f = function_place f.reading (heading_view f.functions.globals.heading) (variables_of f.functions.globals.variables) (functions_of f.functions.functions)
+
+-- in place: with the functions, and with what is left of the one that was read
+abbrev pub in_function_view : InFunction → FunctionInModule → Lexeme → Step
+in_function_view in_functions.On f t = function_in_module_view f
+in_function_view in_functions.Done f t = functions_place f.functions
+in_function_view in_functions.Stuck f t = stuck t
 
 -- ---- tables
 
@@ -124,8 +143,8 @@ reading_view (readings.Heading r) = heading_reading_view r
 reading_view (readings.Directive h) = goes (at_use (heading_view h))
 reading_view (readings.AfterDirective g) = goes (ends (at_globals (heading_view g.heading) (variables_of g.variables)))
 reading_view (readings.Global g place) = global_view place (heading_view g.heading) (variables_of g.variables)
-reading_view (readings.Functions f) = goes (at_functions (heading_view f.globals.heading) (variables_of f.globals.variables) (functions_of f.functions))
-reading_view (readings.Function f r) = function_place r (heading_view f.globals.heading) (variables_of f.globals.variables) (functions_of f.functions)
+reading_view (readings.Functions f) = functions_place f
+reading_view (readings.Function f) = function_in_module_view f
 reading_view (readings.Table t place) = table_place_view place (heading_view t.functions.globals.heading) (variables_of t.functions.globals.variables) (functions_of t.functions.functions) (tables_of t.tables)
 reading_view (readings.Export t) = goes (at_export (heading_view t.functions.globals.heading) (variables_of t.functions.globals.variables) (functions_of t.functions.functions) (tables_of t.tables))
 reading_view (readings.Exports t es place) = export_place_view place (exports_of es) (exported (heading_view t.functions.globals.heading) (variables_of t.functions.globals.variables) (functions_of t.functions.functions) (tables_of t.tables))
@@ -135,3 +154,14 @@ abbrev pub module_step_view : ModuleStep → Lexeme → Step
 module_step_view (module_steps.On r) t = reading_view r
 module_step_view module_steps.Stuck t = stuck t
 module_step_view module_steps.NoUseAsm t = refuses no_use_asm (t ∷ [])
+
+-- in place: with what the token made of the module
+abbrev pub module_fed_view : ModuleFed → Reading → Lexeme → Step
+module_fed_view module_feds.On r t = reading_view r
+module_fed_view module_feds.Stuck r t = stuck t
+module_fed_view module_feds.NoUseAsm r t = refuses no_use_asm (t ∷ [])
+
+-- after the function that is being read
+abbrev pub left_view : Reading → Step
+left_view (readings.Function f) = functions_place f.functions
+left_view r = reading_view r

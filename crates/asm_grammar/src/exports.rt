@@ -5,7 +5,7 @@ ghost use Rattle.sem_words.specs.Lists.{list_items};
 ghost use Rattle.asm_lang.specs.Heights.{exports_height};
 ghost use Rattle.asm_lang.specs.Modules as plain;
 ghost use Rattle.asm_lang.specs.Trees.{ExportTree as PlainExport};
-ghost use Rattle.asm_lang.specs.Machine.{advance, at_export, at_exports, export_of, feed, in_exports, module_of, Step, stops};
+ghost use Rattle.asm_lang.specs.Machine.{advance, at_export, at_exports, export_of, feed, in_exports, Step, stops};
 ghost use Rattle.asm_laws_height.specs.Peaks.{step_peak};
 ghost use Rattle.asm_grammar_nodes.specs.Heights.{counted};
 ghost use Rattle.asm_grammar_nodes.specs.Views.{exports_view, heading_view, lexeme_view, module_view};
@@ -13,44 +13,20 @@ ghost use Rattle.asm_grammar_decls.specs.Variables.{variables_of};
 ghost use Rattle.asm_grammar.specs.Ends.{finished_view};
 ghost use Rattle.asm_grammar.specs.Readings.{close_brace_step, end_view, export_place_view, exported, exports_of, exports_step_view, functions_of, module_step_view, tables_of};
 
-use crate::reading::{EndPlace, ExportPlace, Functions, Globals, ModuleStep, Reading, Tables};
-use crate::tall::{TallFunctions, TallModule, leaves};
+use crate::reading::{EndPlace, ExportPlace, ModuleStep, Reading, Tables};
+use crate::tall::{TallModule, leaves};
 use asm_grammar_decls::{Ending, end_before, is, is_word};
-use asm_grammar_nodes::{Class, ExportTree, ExportsTree, Height, Lexeme, ModuleTree};
+use asm_grammar_nodes::{Class, ExportTree, ExportsTree, Height, Lexeme};
 use sem_words::{List, Text};
 use std::alloc::{AllocError, Global};
 
-fn exports_height(exports: &ExportsTree) -> Height
+pub fn exports_height(exports: &ExportsTree) -> Height
     ensures { result.count ≡ exports_height (plain.exports_of (exports_view exports.now)) }
 {
     match exports {
         ExportsTree::One(_, _) => Height::leaf(),
         ExportsTree::Many(exports) => leaves(exports.len()),
     }
-}
-
-/// The whole module.
-fn module(tables: Tables, exports: ExportsTree) -> TallModule
-    ensures { module_view result.tree ≡ module_of (heading_view tables.functions.globals.heading) (variables_of tables.functions.globals.variables) (functions_of tables.functions.functions) (tables_of tables.tables) (exports_view exports) }
-{
-    let Tables { functions, tables } = tables;
-    let Functions { globals, functions } = functions;
-    let Globals { heading, variables } = globals;
-    let TallFunctions {
-        trees,
-        greatest,
-        ..
-    } = functions;
-    let ends = leaves(tables.len()).or(exports_height(&exports));
-    let height = leaves(variables.len()).or(greatest).or(ends).above();
-    let tree = ModuleTree {
-        heading,
-        globals: variables,
-        functions: trees,
-        tables,
-        exports,
-    };
-    TallModule { tree, height }
 }
 
 /// What is exported, right after the `return`.
@@ -67,7 +43,7 @@ pub fn export_step<'a>(
     match token.class {
         Class::Identifier => {
             let name = Text::from_bytes(alloc, token.text)?;
-            let module = module(tables, ExportsTree::One(token.at, name));
+            let module = tables.whole(ExportsTree::One(token.at, name));
             Ok(ModuleStep::On(Reading::End(module, EndPlace::Ends)))
         }
         Class::OpenBrace => {
@@ -178,7 +154,7 @@ pub fn exports_step<'a>(
             Ok(ModuleStep::On(reading))
         }
         ExportsStep::Done(exports) => {
-            let module = module(tables, ExportsTree::Many(exports));
+            let module = tables.whole(ExportsTree::Many(exports));
             Ok(ModuleStep::On(Reading::End(module, EndPlace::Ends)))
         }
         ExportsStep::Stuck => Ok(ModuleStep::Stuck),

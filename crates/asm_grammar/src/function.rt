@@ -9,17 +9,18 @@ ghost use Rattle.asm_grammar_nodes.specs.Heights.{counted};
 ghost use Rattle.asm_grammar_nodes.specs.Tall.{stmts_tall_view};
 ghost use Rattle.asm_grammar_nodes.specs.Views.{function_view, lexeme_view, lexemes_view};
 ghost use Rattle.asm_grammar_decls.specs.Variables.{left_view, locals_reading_view, params_of, variables_of};
-ghost use Rattle.asm_grammar.specs.Bodies.{body_of, first_param_step, function_reading_view, function_step_view, locals_of, marks_step, named_view, open_brace_step, params_step, tall_function_view};
-ghost use Rattle.asm_grammar_stmts.specs.Views.{body_view};
+ghost use Rattle.asm_grammar.specs.Bodies.{first_param_step, function_body_view, function_fed_view, function_reading_view, function_step_view, locals_of, marks_step, named_view, open_brace_step, params_step, tall_function_view};
+ghost use Rattle.asm_grammar.specs.declared.function.FunctionReading.TheVariants.{Body};
 
 use crate::tall::{TallFunction, leaves};
 use asm_grammar_decls::{
     LocalsReading, LocalsStep, Marks, MarksReading, MarksStep, NamesReading, NamesStep, is,
 };
 use asm_grammar_nodes::{Class, FunctionTree, Height, Lexeme, ParamTree, TallStmts, VariableTree};
-use asm_grammar_stmts::{BodyReading, BodyStep};
+use asm_grammar_stmts::{BodyFed, BodyReading};
 use sem_words::{List, Text};
 use std::alloc::{AllocError, Global};
+use std::mem;
 
 /// One or more names.
 #[derive(Drop)]
@@ -29,7 +30,6 @@ pub struct Names<'a> {
 }
 
 /// A function that is being read: its name, and what else has been read.
-#[derive(Drop)]
 pub enum FunctionReading<'a> {
     Name,
     OpenParen(Lexeme<'a>),
@@ -39,7 +39,43 @@ pub enum FunctionReading<'a> {
     OpenBrace(Lexeme<'a>, Option<Names<'a>>),
     Marks(Lexeme<'a>, MarksReading<'a>),
     Locals(Lexeme<'a>, List<ParamTree>, LocalsReading<'a>),
-    Body(Lexeme<'a>, List<ParamTree>, List<VariableTree>, Box<BodyReading>),
+    Body(FunctionBody<'a>),
+}
+
+/// By hand, so that the end of a function that is being read is one call wherever it is let go.
+impl Drop for FunctionReading<'_> {
+    fn drop(self) {
+        match self {
+            FunctionReading::Name => {}
+            FunctionReading::OpenParen(_) => {}
+            FunctionReading::FirstParam(_) => {}
+            FunctionReading::Params(_, _, _) => {}
+            FunctionReading::OpenBrace(_, _) => {}
+            FunctionReading::Marks(_, _) => {}
+            FunctionReading::Locals(_, _, _) => {}
+            FunctionReading::Body(_) => {}
+        }
+    }
+}
+
+/// A function whose body is being read: its name, parameters and local variables, and that body.
+pub struct FunctionBody<'a> {
+    pub name: Lexeme<'a>,
+    pub params: List<ParamTree>,
+    pub locals: List<VariableTree>,
+    pub body: Box<BodyReading>,
+}
+
+/// By hand too: a body that is being read has many forms.
+impl Drop for FunctionBody<'_> {
+    fn drop(self) {
+        let FunctionBody {
+            name: _,
+            params: _,
+            locals: _,
+            body: _,
+        } = self;
+    }
 }
 
 /// What one token does to a function.
@@ -51,19 +87,52 @@ pub enum FunctionStep<'a> {
     Stuck,
 }
 
+/// What one token did to a function that is read in place.
+#[derive(Drop)]
+pub enum FunctionFed {
+    On,
+    /// The `}` that ends it was taken, and its parts were taken out.
+    Done(TallFunction),
+    Stuck,
+}
+
 impl<'a> FunctionReading<'a> {
     /// The height of the highest node that may end at the last token.
     pub fn peak(&self) -> Height
         ensures { (k : PlainFunction → State) → result.count ≡ counted (step_peak (function_reading_view self.now k)) }
     {
         match self {
-            FunctionReading::Body(_, _, _, body) => body.peak(),
+            FunctionReading::Body(body) => body.body.peak(),
             _ => Height::none(),
         }
     }
 
-    /// Reads one token.
-    pub fn feed(self, alloc: Global, token: &Lexeme<'a>) -> Result<FunctionStep<'a>, AllocError>
+    /// Reads one token. Within a body nothing but the body is moved.
+    pub fn feed(&mut self, alloc: Global, token: &Lexeme<'a>) -> Result<FunctionFed, AllocError>
+        ensures { IfOk result (λ r. (k : PlainFunction → State) → function_fed_view r self.new k (lexeme_view token.now) ≡ advance (function_reading_view self.old k) (lexeme_view token.now)) }
+    {
+        match self {
+            FunctionReading::Body(body) => body.feed(alloc, token),
+            _ => self.move_on(alloc, token),
+        }
+    }
+
+    /// Reads one token, by a step of the whole.
+    fn move_on(&mut self, alloc: Global, token: &Lexeme<'a>) -> Result<FunctionFed, AllocError>
+        ensures { IfOk result (λ r. (k : PlainFunction → State) → function_fed_view r self.new k (lexeme_view token.now) ≡ advance (function_reading_view self.old k) (lexeme_view token.now)) }
+    {
+        match mem::replace(self, FunctionReading::Name).step(alloc, token)? {
+            FunctionStep::On(next) => {
+                *self = next;
+                Ok(FunctionFed::On)
+            }
+            FunctionStep::Done(function) => Ok(FunctionFed::Done(function)),
+            FunctionStep::Stuck => Ok(FunctionFed::Stuck),
+        }
+    }
+
+    /// What one token makes of it.
+    fn step(self, alloc: Global, token: &Lexeme<'a>) -> Result<FunctionStep<'a>, AllocError>
         ensures { IfOk result (λ r. (k : PlainFunction → State) → function_step_view r k (lexeme_view token.now) ≡ advance (function_reading_view self.entry k) (lexeme_view token.now)) }
     {
         match self {
@@ -88,9 +157,25 @@ impl<'a> FunctionReading<'a> {
             FunctionReading::Locals(name, params, locals) => {
                 after_marks(alloc, name, params, locals, token)
             }
-            FunctionReading::Body(name, params, locals, body) => {
-                in_body(alloc, name, params, locals, Box::into_inner(body), token)
+            FunctionReading::Body(body) => in_body(alloc, body, token),
+        }
+    }
+}
+
+impl<'a> FunctionBody<'a> {
+    /// Reads one token, in place. At the end of the body its parts are taken out.
+    fn feed(&mut self, alloc: Global, token: &Lexeme<'a>) -> Result<FunctionFed, AllocError>
+        ensures { IfOk result (λ r. (k : PlainFunction → State) → function_fed_view r (Body self.new) k (lexeme_view token.now) ≡ advance (function_body_view self.old k) (lexeme_view token.now)) }
+    {
+        match self.body.feed(alloc, token)? {
+            BodyFed::On => Ok(FunctionFed::On),
+            BodyFed::Done(stmts) => {
+                let params = mem::replace(&mut self.params, List::new(alloc));
+                let locals = mem::replace(&mut self.locals, List::new(alloc));
+                let function = function(alloc, &self.name, params, locals, stmts)?;
+                Ok(FunctionFed::Done(function))
             }
+            BodyFed::Stuck => Ok(FunctionFed::Stuck),
         }
     }
 }
@@ -197,8 +282,14 @@ fn after_marks<'a>(
             Ok(FunctionStep::On(reading))
         }
         LocalsStep::Before(locals) => {
-            let body = BodyReading::start(alloc);
-            in_body(alloc, name, params, locals, body, token)
+            let body = Box::new(alloc, BodyReading::start(alloc))?;
+            let body = FunctionBody {
+                name,
+                params,
+                locals,
+                body,
+            };
+            in_body(alloc, body, token)
         }
         LocalsStep::Stuck => Ok(FunctionStep::Stuck),
     }
@@ -206,24 +297,16 @@ fn after_marks<'a>(
 
 fn in_body<'a>(
     alloc: Global,
-    name: Lexeme<'a>,
-    params: List<ParamTree>,
-    locals: List<VariableTree>,
-    body: BodyReading,
+    body: FunctionBody<'a>,
     token: &Lexeme<'a>,
 ) -> Result<FunctionStep<'a>, AllocError>
-    ensures { IfOk result (λ r. (k : PlainFunction → State) → function_step_view r k (lexeme_view token.now) ≡ advance (body_view body (body_of (lexeme_view name.entry) (params_of params) (variables_of locals) k)) (lexeme_view token.now)) }
+    ensures { IfOk result (λ r. (k : PlainFunction → State) → function_step_view r k (lexeme_view token.now) ≡ advance (function_body_view body.entry k) (lexeme_view token.now)) }
 {
+    let mut body = body;
     match body.feed(alloc, token)? {
-        BodyStep::On(body) => {
-            let reading = FunctionReading::Body(name, params, locals, Box::new(alloc, body)?);
-            Ok(FunctionStep::On(reading))
-        }
-        BodyStep::Done(body) => {
-            let function = function(alloc, &name, params, locals, body)?;
-            Ok(FunctionStep::Done(function))
-        }
-        BodyStep::Stuck => Ok(FunctionStep::Stuck),
+        FunctionFed::On => Ok(FunctionStep::On(FunctionReading::Body(body))),
+        FunctionFed::Done(function) => Ok(FunctionStep::Done(function)),
+        FunctionFed::Stuck => Ok(FunctionStep::Stuck),
     }
 }
 

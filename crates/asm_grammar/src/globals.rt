@@ -16,6 +16,7 @@ use asm_grammar_decls::{Ending, InitReading, InitStep, end_before, is, with_vari
 use asm_grammar_nodes::{Class, InitTree, Lexeme};
 use sem_words::List;
 use std::alloc::{AllocError, Global};
+use std::mem;
 
 /// A declaration, a function or the exports.
 fn at_globals<'a>(alloc: Global, globals: Globals, token: &Lexeme<'a>) -> ModuleStep<'a>
@@ -63,9 +64,10 @@ fn with_global(
     ensures heading { IfOk result (λ r. heading_view r.heading ≡ heading_view globals.heading) }
     ensures variables { IfOk result (λ r. variables_of r.variables ≡ variables_of globals.variables ++ variable_of (lexeme_view name.now) (init_view init) ∷ []) }
 {
-    let Globals { heading, variables } = globals;
-    let variables = with_variable(alloc, variables, name, init)?;
-    Ok(Globals { heading, variables })
+    let mut globals = globals;
+    let before = mem::replace(&mut globals.variables, List::new(alloc));
+    globals.variables = with_variable(alloc, before, name, init)?;
+    Ok(globals)
 }
 
 fn initial_value<'a>(

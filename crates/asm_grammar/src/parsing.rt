@@ -17,7 +17,7 @@ ghost use Rattle.asm_tree.specs.Views as plain;
 ghost use Rattle.sem_words.specs.Lists.{list_items};
 
 use crate::fault::ParseFault;
-use crate::reading::{ModuleStep, Reading};
+use crate::reading::{ModuleFed, Reading};
 use crate::tall::TallModule;
 use asm_grammar_decls::{HeadingReading, is, is_zero, lexeme_of};
 use asm_grammar_erase::erased;
@@ -66,34 +66,34 @@ fn refusal(tokens: &[Token<'_>], token: usize) -> ParseFault
     }
 }
 
-/// What one token does to a module within the limit on the height.
-#[derive(Drop)]
-pub enum Fed<'a> {
-    On(Reading<'a>),
+/// What one token did to a module that is read in place, within the limit on the height.
+#[derive(Clone, Copy)]
+pub enum Fed {
+    On,
     Stuck,
     NoUseAsm,
     /// A node above the limit ends at the token.
     High,
 }
 
-/// What reading goes on with, after a token.
-fn within_limit<'a>(next: Reading<'a>) -> Fed<'a>
-    ensures { (s : Step) (t : PlainLexeme) (ts : Items PlainLexeme) → reading_view next.entry ≡ advance s t → fed_view result t ts ≡ run_low height_limit s (t ∷ ts) }
+/// Whether reading goes on, after a token.
+fn within_limit(next: &Reading<'_>) -> Fed
+    ensures { (s : Step) (t : PlainLexeme) (ts : Items PlainLexeme) → reading_view next.now ≡ advance s t → fed_view result (reading_view next.now) t ts ≡ run_low height_limit s (t ∷ ts) }
 {
     if next.peak().is_over() {
         Fed::High
     } else {
-        Fed::On(next)
+        Fed::On
     }
 }
 
-fn feed<'a>(alloc: Global, reading: Reading<'a>, token: &Token<'a>) -> Result<Fed<'a>, AllocError>
-    ensures { IfOk result (λ r. (ts : Items PlainLexeme) → fed_view r (lexeme_of (placed_token token.now)) ts ≡ run_low height_limit (reading_view reading.entry) (lexeme_of (placed_token token.now) ∷ ts)) }
+fn feed<'a>(alloc: Global, reading: &mut Reading<'a>, token: &Token<'a>) -> Result<Fed, AllocError>
+    ensures { IfOk result (λ r. (ts : Items PlainLexeme) → fed_view r (reading_view reading.new) (lexeme_of (placed_token token.now)) ts ≡ run_low height_limit (reading_view reading.old) (lexeme_of (placed_token token.now) ∷ ts)) }
 {
     match reading.feed(alloc, &lexeme_of(token))? {
-        ModuleStep::On(next) => Ok(within_limit(next)),
-        ModuleStep::Stuck => Ok(Fed::Stuck),
-        ModuleStep::NoUseAsm => Ok(Fed::NoUseAsm),
+        ModuleFed::On => Ok(within_limit(reading)),
+        ModuleFed::Stuck => Ok(Fed::Stuck),
+        ModuleFed::NoUseAsm => Ok(Fed::NoUseAsm),
     }
 }
 
@@ -102,8 +102,8 @@ fn all(alloc: Global, tokens: &[Token<'_>]) -> Result<TallModule, ParseFault>
 {
     let mut reading = Reading::Heading(HeadingReading::Start);
     for (token, item) in tokens.iter().enumerate() {
-        match feed(alloc, reading, item)? {
-            Fed::On(next) => reading = next,
+        match feed(alloc, &mut reading, item)? {
+            Fed::On => {}
             Fed::Stuck => return Err(refusal(tokens, token)),
             Fed::NoUseAsm => {
                 return Err(ParseFault::NoUseAsm {
@@ -144,7 +144,7 @@ pub fn parse(alloc: Global, tokens: &[Token<'_>]) -> Result<Parsed, ParseFault>
     ensures fault { IfErr result (λ e. IsFault (lexemes_of (placed_tokens tokens.now)) e) }
 {
     match module_tree(alloc, tokens) {
-        Ok(whole) => match erased(alloc, whole.tree) {
+        Ok(whole) => match erased(alloc, whole.into_tree()) {
             Ok(parsed) => Ok(parsed),
             Err(_) => Err(ParseFault::Memory),
         },

@@ -7,15 +7,17 @@ ghost use Rattle.asm_lang.specs.Lexemes.{Lexeme as PlainLexeme};
 ghost use Rattle.asm_lang.specs.Machine.{advance, at_functions, feed, functions_by, in_tables, stuck, table_of, tables_by};
 ghost use Rattle.asm_grammar_nodes.specs.Views.{heading_view, lexeme_view, lexemes_view, names_view, table_view};
 ghost use Rattle.asm_grammar_decls.specs.Variables.{variables_of};
-ghost use Rattle.asm_grammar.specs.Bodies.{function_reading_view};
-ghost use Rattle.asm_grammar.specs.Readings.{function_place, functions_of, in_members, module_step_view, table_place_view, tables_of};
+ghost use Rattle.asm_grammar.specs.Readings.{function_in_module_view, functions_of, in_function_view, in_members, module_step_view, table_place_view, tables_of};
 
-use crate::function::{FunctionReading, FunctionStep};
-use crate::reading::{Functions, ModuleStep, Reading, TablePlace, Tables, first_table};
+use crate::function::{FunctionFed, FunctionReading};
+use crate::reading::{
+    FunctionInModule, Functions, InFunction, ModuleStep, Reading, TablePlace, Tables, first_table,
+};
 use asm_grammar_decls::{Ending, NamesReading, NamesStep, end_before, is};
 use asm_grammar_nodes::{Class, Lexeme, TableTree};
 use sem_words::{List, Text};
 use std::alloc::{AllocError, Global};
+use std::mem;
 
 /// Another function, the tables or the exports.
 pub fn functions_step<'a>(alloc: Global, functions: Functions, token: &Lexeme<'a>) -> ModuleStep<'a>
@@ -23,7 +25,10 @@ pub fn functions_step<'a>(alloc: Global, functions: Functions, token: &Lexeme<'a
 {
     match token.class {
         Class::Var => ModuleStep::On(first_table(alloc, functions)),
-        Class::Function => { ModuleStep::On(Reading::Function(functions, FunctionReading::Name)) }
+        Class::Function => {
+            let reading = FunctionReading::Name;
+            ModuleStep::On(Reading::Function(FunctionInModule { functions, reading }))
+        }
         Class::Return => {
             let tables = List::new(alloc);
             ModuleStep::On(Reading::Export(Tables { functions, tables }))
@@ -32,24 +37,19 @@ pub fn functions_step<'a>(alloc: Global, functions: Functions, token: &Lexeme<'a
     }
 }
 
-/// Reads one token of a function.
-pub fn function_step<'a>(
-    alloc: Global,
-    functions: Functions,
-    reading: FunctionReading<'a>,
-    token: &Lexeme<'a>,
-) -> Result<ModuleStep<'a>, AllocError>
-    ensures { IfOk result (λ r. module_step_view r (lexeme_view token.now) ≡ advance (function_place reading.entry (heading_view functions.globals.heading) (variables_of functions.globals.variables) (functions_of functions.functions)) (lexeme_view token.now)) }
-{
-    match reading.feed(alloc, token)? {
-        FunctionStep::On(reading) => { Ok(ModuleStep::On(Reading::Function(functions, reading))) }
-        FunctionStep::Done(function) => {
-            let Functions { globals, functions } = functions;
-            let functions = functions.with(function)?;
-            let functions = Functions { globals, functions };
-            Ok(ModuleStep::On(Reading::Functions(functions)))
+impl<'a> FunctionInModule<'a> {
+    /// Reads one token of the function, in place.
+    pub fn feed(&mut self, alloc: Global, token: &Lexeme<'a>) -> Result<InFunction, AllocError>
+        ensures { IfOk result (λ r. in_function_view r self.new (lexeme_view token.now) ≡ advance (function_in_module_view self.old) (lexeme_view token.now)) }
+    {
+        match self.reading.feed(alloc, token)? {
+            FunctionFed::On => Ok(InFunction::On),
+            FunctionFed::Done(function) => {
+                self.functions.functions.push(function)?;
+                Ok(InFunction::Done)
+            }
+            FunctionFed::Stuck => Ok(InFunction::Stuck),
         }
-        FunctionStep::Stuck => Ok(ModuleStep::Stuck),
     }
 }
 
@@ -193,9 +193,9 @@ fn in_members<'a>(
             Ok(ModuleStep::On(Reading::Table(tables, place)))
         }
         NamesStep::Done(others) => {
-            let Tables { functions, tables } = tables;
-            let tables = with_table(alloc, tables, &name, &first, &others)?;
-            let tables = Tables { functions, tables };
+            let mut tables = tables;
+            let before = mem::replace(&mut tables.tables, List::new(alloc));
+            tables.tables = with_table(alloc, before, &name, &first, &others)?;
             Ok(ModuleStep::On(Reading::Table(tables, TablePlace::After)))
         }
         NamesStep::Stuck => Ok(ModuleStep::Stuck),

@@ -31,15 +31,30 @@ pub struct TallFunctions {
 }
 
 /// A module, and how high it is.
-#[derive(Drop)]
 pub struct TallModule {
     pub tree: ModuleTree,
     pub height: Height,
     ghost high: { height.count ≡ counted (whole_height (module_view tree)) },
 }
 
+/// By hand, so that the end of a module is one call wherever it is let go.
+impl Drop for TallModule {
+    fn drop(self) {
+        let TallModule { tree: _, height: _ } = self;
+    }
+}
+
+impl TallModule {
+    pub fn into_tree(self) -> ModuleTree
+        ensures { result ≡ self.tree }
+    {
+        let TallModule { tree, height: _ } = self;
+        tree
+    }
+}
+
 impl TallFunctions {
-    ghost use Rattle.std.specs.Prelude.{◌≡◌, [], ◌∷◌, ◌++◌, IfOk};
+    ghost use Rattle.std.specs.Prelude.{◌≡◌, [], ◌∷◌, ◌++◌, OnOk};
     ghost use Rattle.asm_grammar.specs.Bodies.{tall_function_view};
     ghost use Rattle.asm_grammar.specs.Readings.{functions_of};
 
@@ -53,24 +68,18 @@ impl TallFunctions {
         }
     }
 
-    /// The functions with one more at their end.
+    /// Puts one more at the end.
     #[tactic(auto, using(crate::proofs::Totals::totals))]
-    pub fn with(self, function: TallFunction) -> Result<TallFunctions, AllocError>
-        ensures { IfOk result (λ r. functions_of r ≡ functions_of self ++ tall_function_view function ∷ []) }
+    pub fn push(&mut self, function: TallFunction) -> Result<(), AllocError>
+        ensures { OnOk result (functions_of self.new ≡ functions_of self.old ++ tall_function_view function ∷ []) }
     {
-        let TallFunctions {
-            mut trees,
-            greatest,
-            ..
-        } = self;
         let last = function.height;
-        let greatest = greatest.or(last);
-        match trees.push(function.tree) {
-            Ok(()) => Ok(TallFunctions {
-                trees,
-                last,
-                greatest,
-            }),
+        match self.trees.push(function.tree) {
+            Ok(()) => {
+                self.last = last;
+                self.greatest = self.greatest.or(last);
+                Ok(())
+            }
             Err(_) => Err(AllocError),
         }
     }

@@ -11,7 +11,8 @@ use Rattle.asm_grammar.proofs.function.FunctionReading.peak.Goals as goal
 
 pub returns-in-Body : goal.returns-in-Body
 returns-in-Body c = λ k. rw c.in-Body.is (
-    let after = body_of (lexeme_view c.in-Body.field-0) (params_of c.in-Body.field-1) (variables_of c.in-Body.field-2) k in
+    let b = c.in-Body.body in
+    let after = body_of (lexeme_view b.name) (params_of b.params) (variables_of b.locals) k in
     c.peak.ensures after ∙ ap (λ (b : BodyReading). counted (step_peak (body_view b after))) c.deref.ensures)
 
 pub returns-in_default : goal.returns-in_default

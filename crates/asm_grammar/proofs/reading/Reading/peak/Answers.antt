@@ -14,7 +14,7 @@ returns-in-Functions c = c.in-Functions.functions.functions.high_last ∙ ap (λ
 
 pub returns-in-Function : goal.returns-in-Function
 returns-in-Function c =
-    let f = c.in-Function.field-0 in
+    let f = c.in-Function.function.functions in
     c.peak.ensures (λ x. at_functions (heading_view f.globals.heading) (variables_of f.globals.variables) (functions_of f.functions ++ x ∷ []))
     ∙ ap (λ (r : Reading). counted (step_peak (reading_view r))) (sym c.in-Function.is)
 
