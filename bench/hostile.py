@@ -1,5 +1,5 @@
 #!/usr/bin/env python3
-"""python3 bench/hostile.py PROGRAM [--part=N] [--commands=NAME,..] [WORD ..]: what hostile inputs cost.
+"""python3 bench/hostile.py PROGRAM [--part=N] [--commands=NAME,..] [--share=K/N] [WORD ..]: what hostile inputs cost.
 
 Each family (`hostile_asm.py`, `hostile_wasm.py`, and scripts below) gives an input for a count and for ten times that; both are at most
 16,777,216 bytes long. Each command that takes it runs once on each, with a stack of 8 MiB (or of `STACK` MiB by the environment). A row has the status, the length, the processor
@@ -10,7 +10,8 @@ seconds and the peak memory on the long input, and how many times as much each i
     MEMORY      the same of the memory, above 100 MiB
     GIB         above 1 GiB
 
-With `--part=N` the counts are divided by N; `--commands` gives the commands that are run. With words, only the families whose names hold one of them. The exit status is 1 where a process was ended by a signal."""
+With `--part=N` the counts are divided by N; `--commands` gives the commands that are run; `--share=1/3` takes every third family from the first on, for
+three runs side by side. With words, only the families whose names hold one of them. The exit status is 1 where a process was ended by a signal."""
 import os
 import resource
 import subprocess
@@ -153,15 +154,16 @@ def main():
     options = dict(word.removeprefix("--").split("=", 1) for word in words if word.startswith("--"))
     words = [word for word in words if not word.startswith("--")]
     part, only = int(options.get("part", "1")), options.get("commands", "").split(",")
+    share, shares = (int(it) for it in options.get("share", "1/1").split("/"))
     ended = False
+    every = [(kind, commands, *it) for kind, commands, families in groups() for it in families.items()]
     with tempfile.TemporaryDirectory() as folder:
-        for kind, commands, families in groups():
-            for name, (n, make) in families.items():
-                if words and not any(word in f"{kind}: {name}" for word in words):
-                    continue
-                n = max(1, n // part)
-                print(f"{kind}: {name}, {n} and {10 * n}", flush=True)
-                ended |= family(program, folder, make, n, [it for it in commands if only == [""] or it in only])
+        for kind, commands, name, (n, make) in every[share - 1 :: shares]:
+            if words and not any(word in f"{kind}: {name}" for word in words):
+                continue
+            n = max(1, n // part)
+            print(f"{kind}: {name}, {n} and {10 * n}", flush=True)
+            ended |= family(program, folder, make, n, [it for it in commands if only == [""] or it in only])
     return 1 if ended else 0
 
 
