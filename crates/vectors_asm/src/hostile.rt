@@ -151,3 +151,28 @@ fn the_highest_block_is_accepted(rt: HostRuntime) -> Result<(), Fail> {
         line.as_bytes(),
     )
 }
+
+/// A function of loops without blocks, so many, one inside another, which one semicolon ends.
+fn loops(alloc: Global, n: usize) -> Result<Vec<u8>, AllocError> {
+    let mut text = Vec::from_slice(alloc, b"function m(){\"use asm\";function f(){".as_slice())?;
+    for _k in 0..n {
+        text.extend_from_slice(b"while(1)")?;
+    }
+    text.extend_from_slice(b";}return f;}")?;
+    Ok(text)
+}
+
+#[test]
+fn loops_that_end_at_once(rt: HostRuntime) -> Result<(), Fail> {
+    let alloc = rt.alloc();
+    let text = loops(alloc, 997)?;
+    ends(&rt, alloc, &["check-asm", "m"], &text, b"", 0, COUNTED)?;
+    for (n, line) in [
+        (998, b"asm.js refused: A7 Height at 8031\n".as_slice()),
+        (100_000, b"asm.js refused: A7 Height at 800036\n"),
+    ] {
+        let text = loops(alloc, n)?;
+        ends(&rt, alloc, &["check-asm", "m"], &text, b"", 2, line)?;
+    }
+    Ok(())
+}
