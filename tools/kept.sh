@@ -1,6 +1,6 @@
-# Where a proved program is kept on this machine, by the sum of all that its proof reads. For bin/bridge and .ci/run, which set top.
+# Where a proved program is kept on this machine, by the sum of all that its proof reads. For bin/bridge and .ci/run.
 
-# The crates that the program needs.
+# The crates that the program needs, of the checkout at $1.
 needed() {
   awk -F: '!/^#/ && NF > 1 { uses[$1] = $2 }
     END { todo[n = 1] = "bridge"
@@ -8,29 +8,26 @@ needed() {
         print todo[i]
         split(uses[todo[i]], names, " ")
         for (k in names) if (names[k] in uses && !(names[k] in met)) { met[names[k]]; todo[++n] = names[k] }
-      } }' "$top/crates.txt"
+      } }' "$1/crates.txt" | LC_ALL=C sort
 }
 
-# Copies them to a folder, without what they were built to and without their edits that must fail.
-copy_needed() {
-  mkdir -p "$1/crates" && cp "$top/HANDLES" "$1" || return
-  needed | LC_ALL=C sort >"$1/names"
-  while read -r crate; do
-    grep "^$crate:" "$top/crates.txt" >>"$1/crates.txt"
-    mkdir "$1/crates/$crate"
-    (cd "$top/crates/$crate" && find . -mindepth 1 -maxdepth 1 ! -name out ! -name must-fail -exec cp -r {} "$1/crates/$crate" \;)
-  done <"$1/names"
-  rm "$1/names"
+# All that the proof of the program reads of the checkout at $1: the kit's name, what is allowed, the crates' lines and their files.
+read_by_proof() {
+  rt version && cat "$1/HANDLES" || return
+  needed "$1" | while read -r crate; do
+    grep "^$crate:" "$1/crates.txt"
+    (cd "$1/crates" && find "$crate" -type f ! -path "$crate/out/*" ! -path "$crate/must-fail/*" -print0 | LC_ALL=C sort -z | xargs -0 sha256sum)
+  done
 }
 
-# Where the program of such a copy is kept, whether it is there or not.
+# Where the program of the checkout at $1 is kept, whether it is there or not.
 kept_place() {
   local sum
-  sum=$( (rt version && cd "$1" && find . -type f -print0 | LC_ALL=C sort -z | xargs -0 sha256sum) | sha256sum) || return
-  echo "${XDG_CACHE_HOME:-${HOME:-$top}/.cache}/bridge/${sum%% *}"
+  sum=$(read_by_proof "$1" | sha256sum) || return
+  echo "${XDG_CACHE_HOME:-${HOME:-$1}/.cache}/bridge/${sum%% *}"
 }
 
-# Keeps the program there. It is written apart and then renamed, so that nobody meets half of it.
+# Keeps the program $1 at $2. It is written apart and then renamed, so that nobody meets half of it.
 keep() {
   mkdir -p "$(dirname "$2")" && cp "$1" "$2.$$" && mv "$2.$$" "$2"
 }
