@@ -72,5 +72,5 @@ function_step_view function_steps.Stuck k t = stuck t
 -- in place: with what is left of the function
 abbrev pub function_fed_view : FunctionFed → FunctionReading → (FunctionTree → State) → Lexeme → Step
 function_fed_view function_feds.On r k t = function_reading_view r k
-function_fed_view (function_feds.Done f) r k t = goes (k (tall_function_view f))
+function_fed_view (function_feds.Done f) r k t = goes (k (tall_function_view f.value))
 function_fed_view function_feds.Stuck r k t = stuck t

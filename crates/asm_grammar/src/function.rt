@@ -91,8 +91,8 @@ pub enum FunctionStep<'a> {
 #[derive(Drop)]
 pub enum FunctionFed {
     On,
-    /// The `}` that ends it was taken, and its parts were taken out.
-    Done(TallFunction),
+    /// The `}` that ends it was taken, and its parts were taken out. In a box, so that the answer to each token is small.
+    Done(Box<TallFunction>),
     Stuck,
 }
 
@@ -126,7 +126,7 @@ impl<'a> FunctionReading<'a> {
                 *self = next;
                 Ok(FunctionFed::On)
             }
-            FunctionStep::Done(function) => Ok(FunctionFed::Done(function)),
+            FunctionStep::Done(function) => Ok(FunctionFed::Done(Box::new(alloc, function)?)),
             FunctionStep::Stuck => Ok(FunctionFed::Stuck),
         }
     }
@@ -173,7 +173,7 @@ impl<'a> FunctionBody<'a> {
                 let params = mem::replace(&mut self.params, List::new(alloc));
                 let locals = mem::replace(&mut self.locals, List::new(alloc));
                 let function = function(alloc, &self.name, params, locals, stmts)?;
-                Ok(FunctionFed::Done(function))
+                Ok(FunctionFed::Done(Box::new(alloc, function)?))
             }
             BodyFed::Stuck => Ok(FunctionFed::Stuck),
         }
@@ -305,7 +305,7 @@ fn in_body<'a>(
     let mut body = body;
     match body.feed(alloc, token)? {
         FunctionFed::On => Ok(FunctionStep::On(FunctionReading::Body(body))),
-        FunctionFed::Done(function) => Ok(FunctionStep::Done(function)),
+        FunctionFed::Done(function) => Ok(FunctionStep::Done(Box::into_inner(function))),
         FunctionFed::Stuck => Ok(FunctionStep::Stuck),
     }
 }

@@ -26,7 +26,6 @@ use asm_tree::Parsed;
 use js_tokens::Token;
 use sem_words::JsOp;
 use std::alloc::{AllocError, Global};
-use std::mem;
 
 /// Whether a number of value 0 stands after a `-`.
 fn is_negative_zero(minus: &Token<'_>, zero: &Token<'_>) -> bool
@@ -112,8 +111,6 @@ fn all(alloc: Global, tokens: &[Token<'_>]) -> Result<TallModule, ParseFault>
                 });
             }
             Fed::High => {
-                // One token can complete a tree of any height, and to let it go takes a call for each level.
-                mem::forget(reading);
                 return Err(ParseFault::Height {
                     token: token as u64,
                 });

@@ -45,7 +45,7 @@ impl<'a> FunctionInModule<'a> {
         match self.reading.feed(alloc, token)? {
             FunctionFed::On => Ok(InFunction::On),
             FunctionFed::Done(function) => {
-                self.functions.functions.push(function)?;
+                self.functions.functions.push(Box::into_inner(function))?;
                 Ok(InFunction::Done)
             }
             FunctionFed::Stuck => Ok(InFunction::Stuck),

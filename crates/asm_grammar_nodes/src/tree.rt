@@ -1,6 +1,7 @@
 //! Trees of asm.js in which each node has the offset of the token that stands for it.
 
-ghost use Rattle.std.specs.Prelude.{◌≡◌, IfOk};
+ghost use Rattle.std.specs.Prelude.{◌≡◌, ◌<◌, IfOk, IfSome};
+ghost use Rattle.asm_grammar_nodes.specs.declared.tree.StmtTree.{size-StmtTree};
 ghost use Rattle.asm_lang.specs.Trees.{binary};
 ghost use Rattle.asm_grammar_nodes.specs.Views.{expr_view, sign_of};
 
@@ -103,23 +104,40 @@ pub enum StmtTree {
     Switch(u64, ExprTree, List<ClauseTree>),
 }
 
-/// By hand, so that the end of a statement is one call wherever it is let go.
+impl StmtTree {
+    /// The last statement inside it. All else of it is let go.
+    #[cycle(stmts)]
+    fn last_inside(self) -> Option<Box<StmtTree>>
+        ensures { IfSome result (λ inner. size-StmtTree inner.value < size-StmtTree self) }
+    {
+        match self {
+            StmtTree::If(_, _, first, second) => match second {
+                None => Some(first),
+                Some(second) => Some(second),
+            },
+            StmtTree::While(_, _, body) => Some(body),
+            StmtTree::DoWhile(_, body, _) => Some(body),
+            StmtTree::For(_, _, body) => Some(body),
+            StmtTree::Labelled(_, body) => Some(body),
+            StmtTree::Block(_, _)
+            | StmtTree::Plain(_, _)
+            | StmtTree::Empty(_)
+            | StmtTree::Return(_, _)
+            | StmtTree::Break(_, _)
+            | StmtTree::Continue(_, _)
+            | StmtTree::Switch(_, _, _) => None,
+        }
+    }
+}
+
+/// By hand: the last statement inside another is let go in a loop, and not by a call for each level, since a `;` can complete
+/// a tree of any height.
 impl Drop for StmtTree {
     #[cycle(stmts)]
     fn drop(self) {
-        match self {
-            StmtTree::Block(_, _) => {}
-            StmtTree::Plain(_, _) => {}
-            StmtTree::Empty(_) => {}
-            StmtTree::If(_, _, _, _) => {}
-            StmtTree::Return(_, _) => {}
-            StmtTree::While(_, _, _) => {}
-            StmtTree::DoWhile(_, _, _) => {}
-            StmtTree::For(_, _, _) => {}
-            StmtTree::Break(_, _) => {}
-            StmtTree::Continue(_, _) => {}
-            StmtTree::Labelled(_, _) => {}
-            StmtTree::Switch(_, _, _) => {}
+        let mut rest = self.last_inside();
+        while let Some(inner) = rest {
+            rest = Box::into_inner(inner).last_inside();
         }
     }
 }
