@@ -1,3 +1,4 @@
 pub mod Pushes
 pub mod Classes
 pub mod BegunMarks
+pub mod Entries
