@@ -1,7 +1,7 @@
 pub mod Flags
 pub mod Joining
+pub mod Known
 pub mod Rooms
 pub mod Stacks
 pub mod Steps
 pub mod Walking
-pub mod Wide

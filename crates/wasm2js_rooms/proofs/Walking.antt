@@ -1,5 +1,5 @@
 -- One step of the walk after another.
-use Rattle.std.proofs.Common.{◌≡◌, ℕ, suc, ◌+◌, ◌≤◌, ◌<◌, List, [], ◌∷◌, ◌++◌, length, take, map, Option, Some, None, true, refl, sym, ap, subst, ◌∙◌, arith}
+use Rattle.std.proofs.Common.{◌≡◌, ℕ, suc, ◌+◌, ◌≤◌, ◌<◌, max, List, [], ◌∷◌, ◌++◌, length, take, map, Option, Some, None, true, refl, sym, ap, subst, ◌∙◌, arith}
 use Rattle.std.specs.Prelude.{vec_len, slice_get, is_some, option_to_list, MatchOption}
 use Rattle.wasm_lang.specs.declared.types.ValType.{ValType}
 use Rattle.wasm_lang.specs.Instructions.{Instruction}
@@ -7,14 +7,15 @@ use Rattle.wasm_lang_valid.specs.Typing.{Context, listed}
 use Rattle.wasm_lang_exec.specs.Code.{Trees, tree_of}
 use Rattle.wasm_run_flat.specs.Places.{code_at}
 use Rattle.wasm_run_flat.proofs.Standing.{tree_stands}
-use Rattle.wasm2js_code.specs.Rooms.{here, room_of, body_room}
+use Rattle.wasm2js_code.specs.Rooms.{here, room_of, body_room, wide_from}
 use Rattle.wasm2js_operands.specs.Operands.{over, IsKept}
 use Rattle.wasm2js_rooms.specs.Sights.{Sight, joined, sight, seen, IsWithin}
 use Rattle.wasm2js_rooms.specs.declared.room.Room.{Room as Seen}
 use Rattle.wasm2js_rooms.specs.declared.walk.Place.{Place}
 use Rattle.wasm2js_rooms.specs.declared.walk.Walk.{Walk}
-use Rattle.wasm2js_rooms.specs.Places.{spot_at, there, next_spots, locals_in, room_at, rooms_at, size, work, IsPlace, ArePlaces, ats, AreStacked, IsAdded, IsStart, IsStep, IsUnderWay, whole}
+use Rattle.wasm2js_rooms.specs.Places.{spot_at, there, next_spots, locals_in, room_at, rooms_at, size, work, IsKnown, AreKnown, IsPlace, ArePlaces, ats, AreStacked, IsAdded, IsStart, IsStep, IsUnderWay, whole}
 use Rattle.wasm2js_rooms.proofs.Joining.{assoc, none, with_both, one_room, instead}
+use Rattle.wasm2js_rooms.proofs.Known.{next_known, raised, known_append, both_known, BothKnown}
 use Rattle.wasm2js_rooms.proofs.Stacks.{IsSplit, split, together, higher, same_spots, spot_ats}
 use Rattle.wasm2js_rooms.proofs.Steps.{spot_places, follows}
 
@@ -61,12 +62,15 @@ module _ (c : Context) (body : List Instruction) where
       let f = follows c body s i at is in
       let spots : map (spot_at after.types.items) a.added ≡ next_spots c body s i = a.spots in
       let same_ats : spot_places (next_spots c body s i) ≡ ats a.added = ap spot_places (sym spots) ∙ spot_ats after.types.items a.added in
+      let now_wide : after.room.wide_height ≡ max before.room.wide_height (wide_from p.base (over p.base types)) = ap (λ (g : Sight). g.wide_height) (seen_on None tt) in
       record {
         added = a.added;
         places = a.places;
         stacked = a.stacked;
         below = kept_on.below ∙ kept.below;
         stand = subst (ArePlaces body) same_ats f.stand;
+        wider = omega (arith, now_wide);
+        known = subst (AreKnown after.room.wide_height) (sym spots) (next_known c body after.room.wide_height s (omega (arith, now_wide)) i);
         fewer = subst (λ ns. work body ns < suc (size (code_at body p.at))) same_ats f.fewer;
         count = count;
         sights = λ x low.
@@ -88,6 +92,14 @@ module _ (c : Context) (body : List Instruction) where
     both : InBoth body (ats others) (p.at ∷ [])
     both = in_both body (ats others) (p.at ∷ []) (subst (ArePlaces body) (ap ats is ∙ ats_append others (p ∷ [])) u.stand)
 
+    known_both : BothKnown w.room.wide_height (map (spot_at w.types.items) others) (spot_at w.types.items p ∷ [])
+    known_both =
+        both_known w.room.wide_height (map (spot_at w.types.items) others) (spot_at w.types.items p ∷ [])
+        (subst (AreKnown w.room.wide_height) (ap (map (spot_at w.types.items)) is ∙ spots_append w.types.items others (p ∷ [])) u.known)
+
+    pub known_there : IsKnown w.room.wide_height (spot_at w.types.items p)
+    known_there = known_both.second.0
+
     pub stands_there : IsPlace body p.at
     stands_there = both.second.0
 
@@ -104,11 +116,17 @@ module _ (c : Context) (body : List Instruction) where
         let still : map (spot_at after.types.items) others ≡ map (spot_at w.types.items) others =
         same_spots 0 p.base others after.types.items w.types.items (higher 0 parts.middle p.base others parts.below parts.above.0) (s.below ∙ ap (take p.base) types) in
         let count : vec_len popped.room.named ≡ vec_len w.room.named = ap (λ (r : Seen). vec_len r.named) room in
+        let wider : w.room.wide_height ≤ after.room.wide_height = subst (λ (r : Seen). r.wide_height ≤ after.room.wide_height) room s.wider in
         record {
           stand = subst (ArePlaces body) (sym (ap ats all ∙ ats_append others s.added)) (places_append body (ats others) (ats s.added) both.first s.stand);
           stacked =
               subst (AreStacked 0 (length after.types.items)) (sym all)
               (together 0 p.base (length after.types.items) others s.added (higher 0 parts.middle p.base others parts.below parts.above.0) s.stacked);
+          known =
+              subst (AreKnown after.room.wide_height)
+              (sym (ap (map (spot_at after.types.items)) all ∙ spots_append after.types.items others s.added ∙ ap (λ ss. ss ++ map (spot_at after.types.items) s.added) still))
+              (known_append after.room.wide_height (map (spot_at w.types.items) others) (map (spot_at after.types.items) s.added)
+              (raised w.room.wide_height after.room.wide_height (map (spot_at w.types.items) others) wider known_both.first) s.known);
           count = s.count ∙ count ∙ u.count;
           sights = λ x low.
               let low_before : IsWithin (vec_len popped.room.named) x = subst (λ n. IsWithin n x) s.count low in
@@ -138,6 +156,7 @@ module _ (c : Context) (body : List Instruction) where
   begun w at s = record {
     stand = subst (λ ps. ArePlaces body (ats ps)) (sym s.places) (at, tt);
     stacked = subst (λ ts. AreStacked 0 (length ts) w.places.items) (sym s.types) (subst (AreStacked 0 0) (sym s.places) (low, low, low));
+    known = subst (λ ps. AreKnown w.room.wide_height (map (spot_at w.types.items) ps)) (sym s.places) (first_known, tt);
     count = s.count;
     sights = λ x h.
         ap (λ ps. joined (seen x w.room) (sight x (rooms_at c body (map (spot_at w.types.items) ps)))) s.places
@@ -148,6 +167,9 @@ module _ (c : Context) (body : List Instruction) where
     where
       low : 0 ≤ 0
       low = omega arith
+
+      first_known : IsKnown w.room.wide_height (spot_at w.types.items (record { at = 0; base = 0; height = 0; result = None }))
+      first_known = omega arith
 
   pub ended : (w : Walk) (tree : Trees) → tree_of body ≡ Some tree → w.places.items ≡ [] → IsUnderWay c body (whole c body) w
       → (x : Option ℕ) → IsWithin (length c.locals) x → seen x w.room ≡ sight x (body_room c tree)

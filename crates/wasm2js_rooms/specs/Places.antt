@@ -9,7 +9,7 @@ use Rattle.wasm_run_flat.specs.declared.target.Target.{Target}
 use Rattle.wasm_run_flat.specs.Jumps.{past_end, other_arm}
 use Rattle.wasm_run_flat.specs.Places.{code_at, Stands}
 use Rattle.wasm2js_code.specs.Bodies.{after_plain, types_after_call}
-use Rattle.wasm2js_code.specs.Rooms.{Room, with_room, local_named, here, room_of}
+use Rattle.wasm2js_code.specs.Rooms.{Room, with_room, local_named, here, room_of, wide_from}
 use Rattle.wasm2js_operands.specs.Operands.{over}
 use Rattle.wasm2js_rooms.specs.Sights.{Sight, joined, sight, seen, IsWithin}
 use Rattle.wasm2js_rooms.specs.declared.walk.Place.{Place}
@@ -106,6 +106,14 @@ abbrev pub AreStacked : (floor top : ℕ) → List Place → Type 0
 AreStacked floor top [] = floor ≤ top
 AreStacked floor top (p ∷ ps) = (floor ≤ p.base) × (p.base ≤ p.height) × AreStacked p.height top ps
 
+-- the highest wide operand of a place below the topmost one lies no higher than this
+abbrev pub IsKnown : (wide_height : ℕ) → Spot → Type 0
+IsKnown w s = wide_from s.base (drop 1 s.types) ≤ w
+
+abbrev pub AreKnown : (wide_height : ℕ) → List Spot → Type 0
+AreKnown w [] = Unit {0}
+AreKnown w (s ∷ ss) = IsKnown w s × AreKnown w ss
+
 -- a walk with these places more, over the operands above a floor
 pub record IsAdded (floor : ℕ) (types : List ValType) (before after : List Place) (next : List Spot) : Type 0 where
   pub added : List Place
@@ -128,6 +136,8 @@ pub record IsStep (c : Context) (body : List Instruction) (p : Place) (before af
   pub below : take p.base after.types.items ≡ take p.base before.types.items
   pub stand : ArePlaces body (ats added)
   pub fewer : work body (ats added) < suc (size (code_at body p.at))
+  pub wider : before.room.wide_height ≤ after.room.wide_height
+  pub known : AreKnown after.room.wide_height (map (spot_at after.types.items) added)
   pub count : vec_len after.room.named ≡ vec_len before.room.named
   pub sights : (x : Option ℕ) → IsWithin (vec_len before.room.named) x
       → joined (seen x after.room) (sight x (rooms_at c body (map (spot_at after.types.items) added)))
@@ -137,6 +147,7 @@ pub record IsStep (c : Context) (body : List Instruction) (p : Place) (before af
 pub record IsUnderWay (c : Context) (body : List Instruction) (total : Option ℕ → Sight) (w : Walk) : Type 0 where
   pub stand : ArePlaces body (ats w.places.items)
   pub stacked : AreStacked 0 (length w.types.items) w.places.items
+  pub known : AreKnown w.room.wide_height (map (spot_at w.types.items) w.places.items)
   pub count : vec_len w.room.named ≡ length c.locals
   pub sights : (x : Option ℕ) → IsWithin (vec_len w.room.named) x
       → joined (seen x w.room) (sight x (rooms_at c body (map (spot_at w.types.items) w.places.items))) ≡ total x

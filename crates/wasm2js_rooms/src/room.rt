@@ -1,5 +1,5 @@
 //! Which variables the statements of a body name.
-ghost use Rattle.std.specs.Prelude.{◌≡◌, ◌≤◌, ◌<◌, ◌==◌, ◌||◌, ℕ, [], false, Option, max, vec_len, option_to_list, slice_index_or, IfOk};
+ghost use Rattle.std.specs.Prelude.{◌≡◌, ◌≤◌, ◌<◌, ◌==◌, ◌||◌, ℕ, [], false, Option, drop, max, vec_len, option_to_list, slice_index_or, IfOk};
 ghost use Rattle.std.specs.List.{list_any};
 ghost use Rattle.wasm_lang_valid.specs.Typing.{listed};
 ghost use Rattle.wasm2js_code.specs.Rooms as rooms;
@@ -17,18 +17,21 @@ pub struct Room {
     pub named: Vec<bool>,
 }
 
-// How many operands lie below the highest wide one of the innermost block, with it; at least so many as before.
+// How many operands lie below the highest wide one of the innermost block, with it; at least so many as before, where
+// those below the topmost one have been noted.
 fn widened(wide_height: usize, types: &Vec<ValType>, base: usize) -> usize
-    requires { base ≤ vec_len types.now }
+    requires base { base ≤ vec_len types.now }
+    requires known { rooms.wide_from base (drop 1 (over base types.now.items)) ≤ wide_height }
     ensures { result ≡ max wide_height (rooms.wide_from base (over base types.now.items)) }
 {
-    for place in (base.max(wide_height)..types.len()).rev() {
-        match types[place] {
-            ValType::I32 => {}
-            ValType::I64 => return place + 1,
-        }
+    let count = types.len();
+    if count == base {
+        return wide_height;
     }
-    wide_height
+    match types[count - 1] {
+        ValType::I32 => wide_height,
+        ValType::I64 => wide_height.max(count),
+    }
 }
 
 impl Room {
@@ -51,8 +54,10 @@ impl Room {
     }
 
     /// A place with these operands, of which those of the innermost block lie on so many; its instruction may name a local.
+    /// The operands below the topmost one have been noted.
     pub fn note(&mut self, types: &Vec<ValType>, base: usize, local: Option<u32>)
-        requires { base ≤ vec_len types.now }
+        requires base { base ≤ vec_len types.now }
+        requires known { rooms.wide_from base (drop 1 (over base types.now.items)) ≤ self.old.wide_height }
         ensures count { vec_len self.new.named ≡ vec_len self.old.named }
         ensures sights { (x : Option ℕ) → IsWithin (vec_len self.old.named) x → seen x self.new ≡ joined (seen x self.old) (sight x (rooms.here base (over base types.now.items) (option_to_list local))) }
     {

@@ -9,7 +9,7 @@ ghost use Rattle.wasm2js_code.specs.Rooms as rooms;
 ghost use Rattle.wasm2js_operands.specs.Operands.{over, IsKept};
 ghost use Rattle.wasm2js_operands.specs.Scopes.{context_in};
 ghost use Rattle.wasm2js_rooms.specs.Sights.{joined, sight, seen, IsWithin};
-ghost use Rattle.wasm2js_rooms.specs.Places.{there, goes_on, block_spots, arm_spots, next_spots, locals_in, IsPlace, IsAdded, IsStart, IsStep};
+ghost use Rattle.wasm2js_rooms.specs.Places.{there, spot_at, IsKnown, goes_on, block_spots, arm_spots, next_spots, locals_in, IsPlace, IsAdded, IsStart, IsStep};
 
 use crate::room::Room;
 use std::alloc::{AllocError, Global};
@@ -235,6 +235,7 @@ impl Walk {
     ) -> Result<(), AllocError>
         requires inside { place.at < usize.MAX }
         requires base { place.base ≤ vec_len self.old.types }
+        requires known { IsKnown self.old.room.wide_height (there place self.old.types.items) }
         ensures kept { IsKept place.base self.old.types.items self.new.types.items }
         ensures count { vec_len self.new.room.named ≡ vec_len self.old.room.named }
         ensures sights { IfOk result (λ _. (x : Option ℕ) → IsWithin (vec_len self.old.room.named) x → seen x self.new.room ≡ joined (seen x self.old.room) (sight x (rooms.here place.base (over place.base self.old.types.items) (locals_in (instr_of instr.now))))) }
@@ -248,6 +249,7 @@ impl Walk {
         requires stands { IsPlace body.now place.at }
         requires base { place.base ≤ place.height }
         requires height { place.height ≤ vec_len self.old.types }
+        requires known { IsKnown self.old.room.wide_height (spot_at self.old.types.items place) }
         ensures { IfOk result (λ _. IsStep (context_in scope.now) body.now place self.old self.new) }
     {
         let _length = body.len();

@@ -3,7 +3,7 @@ use Rattle.wasm_lang_exec.specs.Code.{tree_of}
 use Rattle.wasm2js_operands.specs.Scopes.{context_in}
 use Rattle.wasm2js_rooms.specs.Sights.{seen}
 use Rattle.wasm2js_rooms.specs.Places.{whole}
-use Rattle.wasm2js_rooms.proofs.Walking.{stands_there, base_there, height_there, next_under_way, less_is_left, begun, ended, starts, none_popped}
+use Rattle.wasm2js_rooms.proofs.Walking.{stands_there, known_there, base_there, height_there, next_under_way, less_is_left, begun, ended, starts, none_popped}
 use Rattle.wasm2js_rooms.proofs.walk.room_of.Goals as goal
 
 pub loop-place-init : goal.loop-place-init
@@ -26,6 +26,11 @@ step-requires-clause-height c =
     let k = context_in c.args.scope.now in
     let low = height_there k c.args.body.now (whole k c.args.body.now) c.loop-place.walk c.pop.new.self.items c.in-Some.place c.loop-place.invariant c.in-Some.ensures.items in
     omega (arith, c.loop-place.walk.types.ok.0)
+
+pub step-requires-clause-known : goal.step-requires-clause-known
+step-requires-clause-known c =
+    let k = context_in c.args.scope.now in
+    known_there k c.args.body.now (whole k c.args.body.now) c.loop-place.walk c.pop.new.self.items c.in-Some.place c.loop-place.invariant c.in-Some.ensures.items
 
 pub loop-place-smaller : goal.loop-place-smaller
 loop-place-smaller c =

@@ -1,4 +1,5 @@
-use Rattle.std.proofs.Common.{◌≤◌, ◌<◌, length, arith}
+use Rattle.std.proofs.Common.{◌≤◌, ◌<◌, length, drop, sym, subst, arith}
+use Rattle.wasm2js_code.specs.Rooms.{wide_from}
 use Rattle.wasm_tree.specs.Views.{instr_of}
 use Rattle.wasm_run_flat.proofs.Standing.{stands_inside}
 use Rattle.wasm2js_operands.specs.Scopes.{context_in}
@@ -15,6 +16,10 @@ pub visit-requires-clause-inside : goal.visit-requires-clause-inside
 visit-requires-clause-inside c =
     let inside : c.args.place.at < length c.args.body.now = stands_inside c.args.body.now c.args.place.at c.requires.stands.0 c.requires.stands.1 in
     omega (arith, c.len-length.ensures, c.len-length.type_inv)
+
+pub visit-requires-clause-known : goal.visit-requires-clause-known
+visit-requires-clause-known c =
+    subst (λ ts. wide_from c.args.place.base (drop 1 ts) ≤ c.args.self.now.room.wide_height) (sym c.in_ok-restore.ensures.value) c.requires.known
 
 pub returns : goal.returns
 returns c =
