@@ -9,10 +9,12 @@ mod numbers;
 mod punctuators;
 mod quoted;
 mod reading;
+mod scanner;
 mod token;
 
 pub use bytes::is_name_byte;
 pub use fault::TokenFault;
 pub use front::token_len;
 pub use reading::tokens;
+pub use scanner::{Next, Scanner};
 pub use token::{Token, TokenKind};

@@ -3,58 +3,26 @@
 ghost use Rattle.std.specs.Prelude.{◌≡◌, IfOk, IfErr, Ok};
 ghost use Rattle.std.specs.List.{AllByRecursion};
 ghost use Rattle.asm_lang_tokens.specs.Text.{Reading, IsReading, IsAt, HasForm, IsJoined};
-ghost use Rattle.js_tokens.specs.Scan.{IsFlaw};
 ghost use Rattle.js_tokens.specs.Views.{placed_tokens, IsFault, Tells};
 
-use crate::comments::has_line_end;
 use crate::fault::TokenFault;
-use crate::front::{Flaw, Front, front_of};
+use crate::scanner::{Next, Scanner};
 use crate::token::Token;
 use std::alloc::Global;
-
-fn fault_at(flaw: Flaw, at: u64) -> TokenFault
-    ensures { IsFlaw result flaw at }
-{
-    match flaw {
-        Flaw::NonAscii => TokenFault::NonAscii { at },
-        Flaw::BadToken => TokenFault::BadToken { at },
-        Flaw::OpenComment => TokenFault::OpenComment { at },
-        Flaw::LiteralForm => TokenFault::LiteralForm { at },
-    }
-}
 
 fn all_tokens<'a>(alloc: Global, source: &'a [u8]) -> Result<Vec<Token<'a>>, TokenFault>
     ensures found { IfOk result (λ v. IsReading source.now (Ok (placed_tokens v.items))) }
     ensures fault { IfErr result (λ e. IsFault source.now e) }
 {
     let mut found = Vec::new(alloc);
-    let mut at: u64 = 0;
-    let mut line_before = false;
-    let mut rest = source;
-    while !rest.is_empty() {
-        match front_of(rest) {
-            Front::Gap(n) => {
-                let (gap, after) = rest.split_at(n);
-                line_before |= has_line_end(gap);
-                at += n as u64;
-                rest = after;
-            }
-            Front::Token(kind, n) => {
-                let (text, after) = rest.split_at(n);
-                found.push(Token {
-                    kind,
-                    text,
-                    at,
-                    line_before,
-                })?;
-                line_before = false;
-                at += n as u64;
-                rest = after;
-            }
-            Front::Flaw(flaw, n) => return Err(fault_at(flaw, at + n as u64)),
+    let mut scanner = Scanner::new(source);
+    loop {
+        match scanner.next() {
+            Next::Token(token) => found.push(token)?,
+            Next::End => return Ok(found),
+            Next::Fault(fault) => return Err(fault),
         }
     }
-    Ok(found)
 }
 
 /// The tokens of a text, each the longest that begins at its place, in order, with gaps round them.
