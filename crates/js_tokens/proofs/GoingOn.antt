@@ -98,6 +98,23 @@ one_more Then so_far t s n g next r left = subst Then (front_more so_far (placed
 pub all_found : (Then : Reading → Type 0) (so_far : List PlacedToken) (s : Scanner) → GoesOn Then so_far s → IsLeft s (Ok []) → Then (Ok so_far)
 all_found Then so_far s g left = subst (λ (ts : List PlacedToken). Then (Ok ts)) (append-nil so_far) (g (Ok []) left)
 
+pub fault_left : (s0 : Scanner) (so_far : List PlacedToken) (s : Scanner) (e : TokenFault) → GoesOn (IsLeft s0) so_far s → IsFirstFault s e → IsFirstFault s0 e
+fault_left s0 so_far s (faults.NonAscii at) g h = g _ h
+fault_left s0 so_far s (faults.BadToken at) g h = g _ h
+fault_left s0 so_far s (faults.OpenComment at) g h = g _ h
+fault_left s0 so_far s (faults.LiteralForm at) g h = g _ h
+fault_left s0 so_far s faults.Memory g h = absurd h
+
+pub fault_in : (source : List ℕ) (so_far : List PlacedToken) (s : Scanner) (e : TokenFault) → GoesOn (IsReading source) so_far s → IsFirstFault s e → IsFault source e
+fault_in source so_far s (faults.NonAscii at) g h = g _ h
+fault_in source so_far s (faults.BadToken at) g h = g _ h
+fault_in source so_far s (faults.OpenComment at) g h = g _ h
+fault_in source so_far s (faults.LiteralForm at) g h = g _ h
+fault_in source so_far s faults.Memory g h = absurd h
+
+pub begins_whole : (source : List ℕ) (s : Scanner) → s.at ≡ 0 → s.rest.now ≡ source → GoesOn (IsReading source) [] s
+begins_whole source s at is = begins (IsReading source) s (λ r left. subst (λ (bs : List ℕ). Reads 0 false bs r) is (subst (λ (n : ℕ). Reads n false s.rest.now r) at left))
+
 -- ---- what the answer says
 
 pub tells : (source : List ℕ) (result : Result (Vec Token) TokenFault) (r : Reading) → IfOk result (λ v. IsReading source (Ok (placed_tokens v.items))) → IfErr result (λ e. IsFault source e) → IsReading source r → Tells r result

@@ -1,11 +1,11 @@
-use Rattle.std.proofs.Common.{◌≡◌, ◌+◌, ◌<◌, ◌^◌, length, Ok, MatchOption, List, ℕ, ◌-◌, ◌*◌, ◌≤◌}
+use Rattle.std.proofs.Common.{List, length}
 use Rattle.asm_lang_tokens.specs.Text.{PlacedToken}
-use Rattle.js_tokens.specs.Scan.{IsFlaw}
-use Rattle.js_tokens.specs.Left.{IsLeft, IsNext, IsFirstFault}
+use Rattle.js_tokens.specs.Left.{IsLeft}
+use Rattle.js_tokens.proofs.GoingOn.{GoesOn}
 use Rattle.js_tokens.proofs.scanner.Scanner.fault.Given as goal
 
 abbrev pub invariant-loop-fault : goal.invariant-loop-fault
-invariant-loop-fault l = ?
+invariant-loop-fault l = (so_far : List PlacedToken) × GoesOn (IsLeft l.self) so_far l.scanner
 
 abbrev pub decreases-loop-fault : goal.decreases-loop-fault
-decreases-loop-fault l = ?
+decreases-loop-fault l = length l.scanner.rest.now
