@@ -1,6 +1,7 @@
 -- What reading all tokens gives.
-use Rattle.std.specs.Prelude.{◌≡◌, ℕ, Bool, false, ◌&&◌, ◌+◌, ◌<◌, ◌≤◌, List, ◌∷◌, Result, Ok, Err, length, drop}
-use Rattle.asm_lang.specs.Lexemes.{Lexeme, operator, a_zero}
+use Rattle.std.specs.Prelude.{◌≡◌, ℕ, Bool, true, false, ◌&&◌, ◌+◌, ◌<◌, ◌≤◌, List, ◌∷◌, Option, Some, Result, Ok, Err, length, drop}
+use Rattle.asm_lang_tokens.specs.Text.{PlacedToken}
+use Rattle.asm_lang.specs.Lexemes.{Lexeme, operator, a_zero, lexeme_of, lexemes_of}
 use Rattle.sem_words.specs.declared.js_value.JsOp.TheVariants.{Sub}
 use Rattle.asm_lang.specs.Trees.{ModuleTree}
 use Rattle.asm_lang.specs.Machine.{grammar, no_use_asm, same_class, meets, Step}
@@ -9,12 +10,15 @@ use Rattle.asm_lang.specs.Heights.{height_limit}
 use Rattle.asm_lang.specs.Kinds as kinds
 use Rattle.asm_laws_height.specs.Peaks.{Stop, high, run_low}
 use Rattle.asm_grammar_nodes.specs.Views.{module_view}
+use Rattle.js_tokens.specs.declared.token.Token.{Token}
+use Rattle.js_tokens.specs.Views.{placed_token}
 use Rattle.asm_grammar.specs.declared.fault.ParseFault.{ParseFault}
 use Rattle.asm_grammar.specs.declared.fault.ParseFault.TheVariants as faults
 use Rattle.asm_grammar.specs.declared.tall.TallModule.{TallModule}
 use Rattle.asm_grammar.specs.declared.parsing.Fed.{Fed}
 use Rattle.asm_grammar.specs.declared.parsing.Fed.TheVariants as feds
 use Rattle.asm_grammar.specs.Ends.{stopped}
+use Rattle.asm_grammar.specs.Parsed.{place_in}
 
 -- what reading within the limit goes on with: after the step s where the token was taken, of the token and those after it
 abbrev pub fed_view : Fed → Step → Lexeme → List Lexeme → Result ModuleTree Stop
@@ -23,28 +27,23 @@ fed_view feds.Stuck s t ts = stopped grammar (t ∷ ts)
 fed_view feds.NoUseAsm s t ts = stopped no_use_asm (t ∷ ts)
 fed_view feds.High s t ts = Err (high (t ∷ ts))
 
--- the result says where reading within the limit ended
-abbrev pub Gives : List Lexeme → Result TallModule ParseFault → Result ModuleTree Stop → Type 0
-Gives xs (Ok m) r = r ≡ Ok (module_view m.tree)
-Gives xs (Err (faults.LiteralForm k)) r = (k + 1 ≤ length xs) × (r ≡ stopped grammar (drop (k + 1) xs)) × IsPair xs k
-Gives xs (Err (faults.Grammar k)) r = (k ≤ length xs) × (r ≡ stopped grammar (drop k xs)) × ((j : ℕ) → j + 1 ≡ k → ¬ IsPair xs j)
-Gives xs (Err (faults.NoUseAsm k)) r = (k ≤ length xs) × (r ≡ stopped no_use_asm (drop k xs))
-Gives xs (Err (faults.Height k)) r = (k < length xs) × (r ≡ Err (high (drop k xs)))
-Gives xs (Err faults.Memory) r = Unit {0}
+-- the result says where reading within the limit ended; `end`: the end of the text
+abbrev pub Gives : ℕ → List PlacedToken → Result TallModule ParseFault → Result ModuleTree Stop → Type 0
+Gives end ts (Ok m) r = r ≡ Ok (module_view m.tree)
+Gives end ts (Err (faults.LiteralForm at)) r = (k : ℕ) × (at ≡ place_in end ts k) × (k + 1 ≤ length (lexemes_of ts)) × (r ≡ stopped grammar (drop (k + 1) (lexemes_of ts))) × IsPair (lexemes_of ts) k
+Gives end ts (Err (faults.Grammar at)) r = (k : ℕ) × (at ≡ place_in end ts k) × (k ≤ length (lexemes_of ts)) × (r ≡ stopped grammar (drop k (lexemes_of ts))) × ((j : ℕ) → j + 1 ≡ k → ¬ IsPair (lexemes_of ts) j)
+Gives end ts (Err (faults.NoUseAsm at)) r = (k : ℕ) × (at ≡ place_in end ts k) × (k ≤ length (lexemes_of ts)) × (r ≡ stopped no_use_asm (drop k (lexemes_of ts)))
+Gives end ts (Err (faults.Height at)) r = (k : ℕ) × (at ≡ place_in end ts k) × (k < length (lexemes_of ts)) × (r ≡ Err (high (drop k (lexemes_of ts))))
+Gives end ts (Err faults.Memory) r = Unit {0}
 
 abbrev pub is_negative_zero : Lexeme → Lexeme → Bool
 is_negative_zero m z = same_class (operator Sub) m.class && meets a_zero z
 
--- whether a number of value 0 stands right after a `-`, at the front
-abbrev pub begins_pair : List Lexeme → Bool
-begins_pair (m ∷ z ∷ rest) = is_negative_zero m z
-begins_pair _ = false
-
--- the fault where the grammar refuses the token at k
-abbrev pub IsRefusal : List Lexeme → ℕ → ParseFault → Type 0
-IsRefusal xs k (faults.LiteralForm j) = (j + 1 ≡ k) × IsPair xs j
-IsRefusal xs k (faults.Grammar j) = (j ≡ k) × ((i : ℕ) → i + 1 ≡ k → ¬ IsPair xs i)
-IsRefusal xs k _ = ⊥
+-- the fault where the grammar refuses a token after the last one
+abbrev pub IsRefusal : Option Token → Token → ParseFault → Type 0
+IsRefusal last t (faults.LiteralForm at) = (m : Token) × (last ≡ Some m) × (at ≡ m.at) × (is_negative_zero (lexeme_of (placed_token m)) (lexeme_of (placed_token t)) ≡ true)
+IsRefusal last t (faults.Grammar at) = (at ≡ t.at) × ((m : Token) → last ≡ Some m → is_negative_zero (lexeme_of (placed_token m)) (lexeme_of (placed_token t)) ≡ false)
+IsRefusal last t _ = ⊥
 
 -- it is this tree, or memory ran out
 abbrev pub HasTree : ModuleTree → Result TallModule ParseFault → Type 0
@@ -55,11 +54,3 @@ HasTree t (Err _) = ⊥
 -- no token completes a node above the limit
 abbrev pub IsLow : List Lexeme → Type 0
 IsLow xs = kinds.IsLow height_limit xs
-
--- the fault of the tokens that counts; want of memory says nothing of them
-abbrev pub IsFault : List Lexeme → ParseFault → Type 0
-IsFault xs (faults.LiteralForm k) = kinds.IsFault height_limit xs kinds.negative_zero k
-IsFault xs (faults.NoUseAsm k) = kinds.IsFault height_limit xs kinds.missing_use k
-IsFault xs (faults.Grammar k) = kinds.IsFault height_limit xs kinds.grammar k
-IsFault xs (faults.Height k) = kinds.IsFault height_limit xs kinds.height k
-IsFault xs faults.Memory = Unit {0}

@@ -12,4 +12,4 @@ mod tables;
 mod tall;
 
 pub use fault::ParseFault;
-pub use parsing::parse;
+pub use parsing::Parser;

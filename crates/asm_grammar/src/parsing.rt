@@ -1,24 +1,16 @@
-//! Reading a module: all of its tokens, within the limit on the height.
+//! Reading a module token by token, within the limit on the height.
 
-ghost use Rattle.std.specs.Prelude.{◌≡◌, ◌∷◌, ◌<◌, ◌≤◌, List as Items, length, IfOk, IfErr};
+ghost use Rattle.std.specs.Prelude.{◌≡◌, ◌∷◌, List as Items, IfOk};
 ghost use Rattle.asm_laws_height.specs.Peaks.{run_low};
-ghost use Rattle.asm_lang.specs.Grammar.{IsModule};
-ghost use Rattle.asm_lang.specs.Lexemes.{lexeme_of, lexemes_of, Lexeme as PlainLexeme};
-ghost use Rattle.asm_lang.specs.Machine.{advance, at_start, Step};
-ghost use Rattle.asm_lang.specs.Trees.{ModuleTree};
+ghost use Rattle.asm_lang.specs.Lexemes.{lexeme_of, Lexeme as PlainLexeme};
+ghost use Rattle.asm_lang.specs.Machine.{advance, Step};
 ghost use Rattle.asm_lang.specs.Heights.{height_limit};
-ghost use Rattle.asm_lang.specs.TreeHeights.{whole_height};
-ghost use Rattle.asm_grammar_nodes.specs.Views.{module_view};
-ghost use Rattle.js_tokens.specs.Views.{placed_token, placed_tokens};
-ghost use Rattle.asm_grammar.specs.Gives.{Gives, HasTree, IsFault, IsRefusal, begins_pair, fed_view, is_negative_zero};
-ghost use Rattle.asm_grammar.specs.Parsed.{IsParsed, HasModule};
+ghost use Rattle.js_tokens.specs.Views.{placed_token};
+ghost use Rattle.asm_grammar.specs.Gives.{IsRefusal, fed_view, is_negative_zero};
 ghost use Rattle.asm_grammar.specs.Readings.{reading_view};
-ghost use Rattle.asm_tree.specs.Views as plain;
-ghost use Rattle.sem_words.specs.Lists.{list_items};
 
 use crate::fault::ParseFault;
 use crate::reading::{ModuleFed, Reading};
-use crate::tall::TallModule;
 use asm_grammar_decls::{HeadingReading, is, is_zero, lexeme_of};
 use asm_grammar_erase::erased;
 use asm_grammar_nodes::Class;
@@ -36,33 +28,13 @@ fn is_negative_zero(minus: &Token<'_>, zero: &Token<'_>) -> bool
     is(&minus, Class::Operator(JsOp::Sub)) && is_zero(&zero)
 }
 
-/// Whether a number of value 0 stands right after a `-`, at the front.
-fn begins_negative_zero(tokens: &[Token<'_>]) -> bool
-    ensures { result ≡ begins_pair (lexemes_of (placed_tokens tokens.now)) }
-{
-    match tokens {
-        [minus, zero, ..] => is_negative_zero(minus, zero),
-        _ => false,
-    }
-}
-
 /// The fault where the grammar refuses a token: a `-` directly before a number of value 0 has the fault.
-fn refusal(tokens: &[Token<'_>], token: usize) -> ParseFault
-    requires { token < length tokens.now }
-    ensures { IsRefusal (lexemes_of (placed_tokens tokens.now)) token result }
+fn refusal(last: Option<Token<'_>>, token: &Token<'_>) -> ParseFault
+    ensures { IsRefusal last.entry token.now result }
 {
-    if token == 0 {
-        return ParseFault::Grammar { token: 0 };
-    }
-    let (_, rest) = tokens.split_at(token - 1);
-    if begins_negative_zero(rest) {
-        ParseFault::LiteralForm {
-            token: (token - 1) as u64,
-        }
-    } else {
-        ParseFault::Grammar {
-            token: token as u64,
-        }
+    match last {
+        Some(minus) if is_negative_zero(&minus, token) => ParseFault::LiteralForm { at: minus.at },
+        _ => ParseFault::Grammar { at: token.at },
     }
 }
 
@@ -97,57 +69,58 @@ fn feed<'a>(alloc: Global, reading: &mut Reading<'a>, token: &Token<'a>) -> Resu
     }
 }
 
-fn all(alloc: Global, tokens: &[Token<'_>]) -> Result<TallModule, ParseFault>
-    ensures { Gives (lexemes_of (placed_tokens tokens.now)) result (run_low height_limit at_start (lexemes_of (placed_tokens tokens.now))) }
-{
-    let mut reading = Reading::Heading(HeadingReading::Start);
-    for (token, item) in tokens.iter().enumerate() {
-        match feed(alloc, &mut reading, item)? {
-            Fed::On => {}
-            Fed::Stuck => return Err(refusal(tokens, token)),
-            Fed::NoUseAsm => {
-                return Err(ParseFault::NoUseAsm {
-                    token: token as u64,
-                });
-            }
-            Fed::High => {
-                return Err(ParseFault::Height {
-                    token: token as u64,
-                });
-            }
+/// A module whose tokens are read one by one.
+#[derive(Drop)]
+pub struct Parser<'a> {
+    reading: Reading<'a>,
+    last: Option<Token<'a>>,
+}
+
+impl<'a> Parser<'a> {
+    ghost use Rattle.std.specs.Prelude.{[], ◌∷◌, ◌++◌, ℕ, List, Err, OnOk, IfErr};
+    ghost use Rattle.asm_lang_tokens.specs.Text.{PlacedToken};
+    ghost use Rattle.js_tokens.specs.Views.{placed_token};
+    ghost use Rattle.asm_grammar.specs.Parsed.{HasRead, IsVerdict};
+
+    /// Before the first token.
+    pub fn new() -> Parser<'a>
+        ensures { HasRead result [] }
+    {
+        Parser {
+            reading: Reading::Heading(HeadingReading::Start),
+            last: None,
         }
     }
-    match reading.finished() {
-        Some(whole) => Ok(whole),
-        None => Err(ParseFault::Grammar {
-            token: tokens.len() as u64,
-        }),
+
+    /// Reads one token. A fault is that of the tokens up to this one, whichever come after it. Of a fault of the grammar and one
+    /// of the height the earlier one counts.
+    pub fn feed(&mut self, alloc: Global, token: &Token<'a>) -> Result<(), ParseFault>
+        ensures on { OnOk result ((ts : List PlacedToken) → HasRead self.old ts → HasRead self.new (ts ++ placed_token token.now ∷ [])) }
+        ensures fault { IfErr result (λ e. (ts us : List PlacedToken) (end : ℕ) → HasRead self.old ts → IsVerdict end (ts ++ placed_token token.now ∷ us) (Err e)) }
+    {
+        match feed(alloc, &mut self.reading, token)? {
+            Fed::On => {
+                self.last = Some(*token);
+                Ok(())
+            }
+            Fed::Stuck => Err(refusal(self.last, token)),
+            Fed::NoUseAsm => Err(ParseFault::NoUseAsm { at: token.at }),
+            Fed::High => Err(ParseFault::Height { at: token.at }),
+        }
     }
-}
 
-/// The tree of the module that the tokens spell, all of the tokens.
-pub(crate) fn module_tree(alloc: Global, tokens: &[Token<'_>]) -> Result<TallModule, ParseFault>
-    ensures found { IfOk result (λ m. IsModule (module_view m.tree) (lexemes_of (placed_tokens tokens.now))) }
-    ensures within { IfOk result (λ m. whole_height (module_view m.tree) ≤ height_limit) }
-    ensures only { (t : ModuleTree) → IsModule t (lexemes_of (placed_tokens tokens.now)) → whole_height t ≤ height_limit → HasTree t result }
-    ensures fault { IfErr result (λ e. IsFault (lexemes_of (placed_tokens tokens.now)) e) }
-{
-    all(alloc, tokens)
-}
-
-/// The module that the tokens spell, all of the tokens, and the places of its nodes: a whole before its parts, in text order.
-///
-/// A fault names the number of tokens before it. Of a fault of the grammar and one of the height the earlier one counts.
-pub fn parse(alloc: Global, tokens: &[Token<'_>]) -> Result<Parsed, ParseFault>
-    ensures found { IfOk result (λ p. IsParsed (lexemes_of (placed_tokens tokens.now)) (plain.module_view p.module) (list_items p.places)) }
-    ensures only { (t : ModuleTree) → IsModule t (lexemes_of (placed_tokens tokens.now)) → whole_height t ≤ height_limit → HasModule t result }
-    ensures fault { IfErr result (λ e. IsFault (lexemes_of (placed_tokens tokens.now)) e) }
-{
-    match module_tree(alloc, tokens) {
-        Ok(whole) => match erased(alloc, whole.into_tree()) {
-            Ok(parsed) => Ok(parsed),
-            Err(_) => Err(ParseFault::Memory),
-        },
-        Err(fault) => Err(fault),
+    /// The module that the tokens spell, all of the tokens, and the places of its nodes: a whole before its parts, in text order.
+    /// The text ends at the offset.
+    pub fn finish(self, alloc: Global, end: u64) -> Result<Parsed, ParseFault>
+        ensures { (ts : List PlacedToken) → HasRead self.entry ts → IsVerdict end ts result }
+    {
+        let Parser { reading, last: _ } = self;
+        match reading.finished() {
+            Some(whole) => match erased(alloc, whole.into_tree()) {
+                Ok(parsed) => Ok(parsed),
+                Err(_) => Err(ParseFault::Memory),
+            },
+            None => Err(ParseFault::Grammar { at: end }),
+        }
     }
 }

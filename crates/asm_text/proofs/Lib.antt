@@ -1,2 +1,2 @@
-mod Tokens
 mod Answered
+mod UpTo

@@ -1,3 +1,3 @@
-pub mod Said
 pub mod Faults
+pub mod Said
 pub mod Places

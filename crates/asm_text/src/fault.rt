@@ -1,12 +1,10 @@
 //! Why a text says no module.
 
 ghost use Rattle.std.specs.Prelude.{◌≡◌};
-ghost use Rattle.asm_lang.specs.Texts.{place_of};
 ghost use Rattle.asm_text.specs.Places.{of_parsing, of_reading};
-ghost use Rattle.js_tokens.specs.Views.{placed_tokens};
 
 use asm_grammar::ParseFault;
-use js_tokens::{Token, TokenFault};
+use js_tokens::TokenFault;
 
 /// The first fault of a text, and its offset in bytes.
 #[derive(Clone, Copy, Debug, PartialEq, Eq, Drop, thiserror::Error)]
@@ -46,33 +44,15 @@ pub fn of_reading(fault: TokenFault) -> TextFault
     }
 }
 
-/// The offset of the token with so many tokens before it, or the text's length behind the last one.
-fn place_of(source: &[u8], tokens: &[Token<'_>], token: u64) -> u64
-    ensures { result ≡ place_of source.now (placed_tokens tokens.now) token }
-{
-    match tokens.get(token as usize) {
-        Some(token) => token.at,
-        None => source.len() as u64,
-    }
-}
-
-/// A fault of the parser, at the offset of its token.
-pub fn of_parsing(source: &[u8], tokens: &[Token<'_>], fault: ParseFault) -> TextFault
-    ensures { result ≡ of_parsing source.now (placed_tokens tokens.now) fault }
+/// A fault of the parser.
+pub fn of_parsing(fault: ParseFault) -> TextFault
+    ensures { result ≡ of_parsing fault }
 {
     match fault {
-        ParseFault::LiteralForm { token } => TextFault::LiteralForm {
-            at: place_of(source, tokens, token),
-        },
-        ParseFault::Grammar { token } => TextFault::Grammar {
-            at: place_of(source, tokens, token),
-        },
-        ParseFault::NoUseAsm { token } => TextFault::NoUseAsm {
-            at: place_of(source, tokens, token),
-        },
-        ParseFault::Height { token } => TextFault::Height {
-            at: place_of(source, tokens, token),
-        },
+        ParseFault::LiteralForm { at } => TextFault::LiteralForm { at },
+        ParseFault::Grammar { at } => TextFault::Grammar { at },
+        ParseFault::NoUseAsm { at } => TextFault::NoUseAsm { at },
+        ParseFault::Height { at } => TextFault::Height { at },
         ParseFault::Memory => TextFault::Memory,
     }
 }
