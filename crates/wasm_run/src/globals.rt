@@ -11,12 +11,7 @@ use script_fits::lesser;
 use sem_laws::GlobalLine;
 
 // Whether a line names an imported global, with a value in its range, and no line before this place does.
-fn fits_global(
-    imported: &Imported<'_>,
-    lines: &Lines<'_>,
-    place: usize,
-    line: &GlobalLine,
-) -> bool
+fn fits_global(imported: &Imported<'_>, lines: &Lines<'_>, place: usize, line: &GlobalLine) -> bool
     ensures { result ≡ fits_line imported.now (take place lines.now) (global_of line.now) }
 {
     let name = line.name.as_bytes();

@@ -45,11 +45,7 @@ fn add_import(
     }
 }
 
-fn push(
-    globals: &mut Vec<ImportedGlobal>,
-    name: Text,
-    kind: ValType,
-) -> Result<(), AllocError>
+fn push(globals: &mut Vec<ImportedGlobal>, name: Text, kind: ValType) -> Result<(), AllocError>
     ensures { OnOk result (map imported_of globals.new.items ≡ map imported_of globals.old.items ++ record { name = text_bytes name; type = kind } ∷ []) }
 {
     match globals.push(ImportedGlobal { name, kind }) {
