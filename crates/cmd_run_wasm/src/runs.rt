@@ -26,7 +26,7 @@ pub fn run_script(
     ensures { MatchResult result (λ output. Prints valid.now text.now steps output.items) (IsScriptRefusal valid.now text.now) }
 {
     let script = read_script(alloc, text)?;
-    match fits_wasm(valid, &script) {
+    match fits_wasm(alloc, valid, &script)? {
         Ok(()) => Ok(observation(alloc, valid, &script, steps)?),
         Err(misfit) => Err(ScriptFault::Refused { line: misfit.line }),
     }

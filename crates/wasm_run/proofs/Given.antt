@@ -1,10 +1,7 @@
 -- Numbers of the script, and the names that they are given to.
-use Rattle.std.proofs.Common.{◌≡◌, ℕ, ◌+◌, ◌<◌, ◌≤◌, zero, suc, Bool, true, false, cond, List, [], ◌∷◌, Option, Some, None, length, map, drop, get_or, bytes_eq, refl, sym, ap, ◌∙◌, arith}
+use Rattle.std.proofs.Common.{◌≡◌, ℕ, ◌+◌, ◌<◌, ◌≤◌, zero, suc, Bool, true, false, cond, List, [], ◌∷◌, Option, Some, None, length, drop, get_or, bytes_eq, refl, sym, ap, ◌∙◌, arith}
 use Rattle.std.proofs.lemmas.Bool.Decides.{nat_tests}
-use Rattle.std.specs.Prelude.{ℤ, ◌&&◌, nat_eq, nat_lt, slice_get, if◌then◌else◌}
-use Rattle.sem_words.specs.Lists.{text_bytes}
-use Rattle.sem_laws.specs.declared.script.GlobalLine.{GlobalLine}
-use Rattle.sem_laws.specs.Views.{global_of}
+use Rattle.std.specs.Prelude.{ℤ, ◌&&◌, nat_eq, nat_lt, slice_get}
 use Rattle.wasm_lang.specs.declared.types.ValType.{ValType}
 use Rattle.wasm_lang.specs.Modules.{WasmModule}
 use Rattle.wasm_lang_valid.specs.declared.profile.Beyond.{Beyond}
@@ -12,8 +9,7 @@ use Rattle.wasm_lang_valid.specs.declared.profile.Beyond.TheVariants.{ImportedTa
 use Rattle.wasm_lang_valid.specs.declared.profile.Outside.{Outside}
 use Rattle.wasm_lang_valid.specs.ModuleRules.{is_table}
 use Rattle.wasm_lang_valid.specs.Runnable.{is_mutable, first_import, pages, above, row_or, not_runnable}
-use Rattle.wasm_lang_exec.specs.Session.{word_for, words_for, given_value}
-use Rattle.wasm_run_start.proofs.Segments.{next_of}
+use Rattle.wasm_lang_exec.specs.Session.{word_for, words_for}
 
 equal_either_way : (x y : ℕ) → nat_eq x y ≡ nat_eq y x
 equal_either_way x y = grind (arith, nat_tests)
@@ -52,20 +48,6 @@ pub one_word : (ts : List ValType) (zs : List ℤ) (k : ℕ) (d : ValType) (z : 
 one_word ts zs k d z inside got =
     let e : suc k ≡ k + 1 = omega arith in
     next_word ts zs k d z inside got ∙ ap (λ n. word_for (get_or ts k d) z ∷ words_for (drop n ts) (drop n zs)) e
-
--- ---- values of imported globals
-
-pub given_here : (gs : List GlobalLine) (i : ℕ) (x : GlobalLine) (name : List ℕ) (t : ValType) → i < length gs → x ≡ get_or gs i x → bytes_eq name (text_bytes x.name) ≡ true
-    → given_value (map global_of (drop i gs)) name t ≡ word_for t x.value
-given_here gs i x name t inside is named =
-    ap (λ (l : List GlobalLine). given_value (map global_of l) name t) (next_of gs i x inside is)
-    ∙ ap (λ b. if b then word_for t x.value else given_value (map global_of (drop (i + 1) gs)) name t) (same_either_way (text_bytes x.name) name ∙ named)
-
-pub given_later : (gs : List GlobalLine) (i : ℕ) (x : GlobalLine) (name : List ℕ) (t : ValType) → i < length gs → x ≡ get_or gs i x → bytes_eq name (text_bytes x.name) ≡ false
-    → given_value (map global_of (drop i gs)) name t ≡ given_value (map global_of (drop (i + 1) gs)) name t
-given_later gs i x name t inside is other =
-    ap (λ (l : List GlobalLine). given_value (map global_of l) name t) (next_of gs i x inside is)
-    ∙ ap (λ b. if b then word_for t x.value else given_value (map global_of (drop (i + 1) gs)) name t) (same_either_way (text_bytes x.name) name ∙ other)
 
 -- ---- the pages of a module that can be run
 

@@ -1,6 +1,7 @@
-pub mod Hex
 pub mod Arguments
 pub mod Given
+pub mod GlobalLines
+pub mod GlobalKinds
 pub mod Hosts
 pub mod Observed
 pub mod Whole

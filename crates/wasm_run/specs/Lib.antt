@@ -1,3 +1,5 @@
 pub mod Forms
 pub mod Runs
 pub mod Instances
+pub mod Globals
+pub mod GlobalViews

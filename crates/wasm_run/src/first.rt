@@ -3,20 +3,18 @@
 ghost use Rattle.std.specs.Prelude.{◌≡◌, ◌≤◌, ◌*◌, ◌++◌, [], None, map, replicate, IfOk, OnOk};
 ghost use Rattle.heap_lang.specs.Heap.{IsHeapLength};
 ghost use Rattle.sem_laws.specs.Imports.{first_replies};
-ghost use Rattle.sem_laws.specs.Names.{import_name};
-ghost use Rattle.sem_laws.specs.Views.{global_of, script_of};
+ghost use Rattle.sem_laws.specs.Names as names;
+ghost use Rattle.sem_laws.specs.Views.{script_of};
 ghost use Rattle.wasm_tree.specs.Views.{bytes_of, import_of, module_of};
 ghost use Rattle.wasm_lang_valid.specs.Runnable.{not_runnable, pages};
 ghost use Rattle.wasm_lang_exec.specs.Session as session;
-ghost use Rattle.wasm_lang_exec.specs.Store.{word_of_type};
 ghost use Rattle.wasm_run_operands.specs.Effects.{store_of};
 
-use crate::globals::is_named;
-use crate::words::word_for;
+use crate::lines::Lines;
 use crate::writes::memory_pages;
 use heap_views::Heap;
 use script_replies::put_writes;
-use sem_laws::{GlobalLine, Script};
+use sem_laws::{Script, import_name};
 use sem_words::Word;
 use std::alloc::{AllocError, Global};
 use wasm_lang::{ImportKind, ValType};
@@ -47,46 +45,32 @@ fn first_memory(alloc: Global, module: &Module<'_>, script: &Script) -> Result<H
     Ok(memory)
 }
 
-// The word of a type that stands for 0.
-fn zero_of(kind: ValType) -> Word
-    ensures { result ≡ word_of_type kind 0 }
+// The value that the lines give to an import.
+fn value_for(
+    alloc: Global,
+    lines: &Lines<'_>,
+    import: &Import<'_>,
+    kind: ValType,
+) -> Result<Word, AllocError>
+    ensures { IfOk result (λ value. value ≡ session.given_value lines.now (names.import_name (bytes_of import.now.«module») (bytes_of import.now.field)) kind) }
 {
-    match kind {
-        ValType::I32 => Word::W32(0),
-        ValType::I64 => Word::W64(0),
-    }
-}
-
-// The word of a type that a line gives.
-fn line_word(line: &GlobalLine, kind: ValType) -> Word
-    ensures { result ≡ session.word_for kind (global_of line.now).value }
-{
-    word_for(kind, line.value)
-}
-
-// The value that the script gives to an import.
-fn given_value(globals: &[GlobalLine], import: &Import<'_>, kind: ValType) -> Word
-    ensures { result ≡ session.given_value (map global_of globals.now) (import_name (bytes_of import.now.«module») (bytes_of import.now.field)) kind }
-{
-    for global in globals {
-        if is_named(import, global.name.as_bytes()) {
-            return line_word(global, kind);
-        }
-    }
-    zero_of(kind)
+    let name = import_name(alloc, import.module.as_bytes(), import.field.as_bytes())?;
+    Ok(lines.value(name.as_bytes(), kind))
 }
 
 // The values of imported globals.
 fn add_imported(
+    alloc: Global,
     values: &mut Vec<Word>,
     script: &Script,
     imports: &[Import<'_>],
 ) -> Result<(), AllocError>
     ensures { OnOk result (values.new.items ≡ values.old.items ++ session.imported_globals (script_of script.now) (map import_of imports.now)) }
 {
+    let lines = Lines::new(alloc, script.globals.as_slice())?;
     for import in imports {
         if let ImportKind::Global(global) = import.kind {
-            values.push(given_value(script.globals.as_slice(), import, global.kind))?;
+            values.push(value_for(alloc, &lines, import, global.kind)?)?;
         }
     }
     Ok(())
@@ -101,7 +85,7 @@ fn first_globals(
     ensures { IfOk result (λ values. values.items ≡ session.first_globals (module_of «module».now) (script_of script.now)) }
 {
     let mut given = Vec::new(alloc);
-    add_imported(&mut given, script, module.imports.as_slice())?;
+    add_imported(alloc, &mut given, script, module.imports.as_slice())?;
     let mut values = given.clone()?;
     add_first_values(&mut values, &given, module.globals.as_slice())?;
     Ok(values)

@@ -1,24 +1,21 @@
 // Which scripts fit.
 
-ghost use Rattle.std.specs.Prelude.{◌≡◌, [], None, Some, MatchResult};
+ghost use Rattle.std.specs.Prelude.{◌≡◌, None, Some, IfOk, MatchResult};
 ghost use Rattle.sem_laws.specs.Script.{WritePlain, CallPlain, ReplyLinePlain};
 ghost use Rattle.sem_laws.specs.Views.{script_of};
-ghost use Rattle.script_fits.specs.Fits.{least, lines_of, global_lines, unfit_lines, are_given};
+ghost use Rattle.script_fits.specs.Fits.{least, lines_of, unfit_lines};
 ghost use Rattle.wasm_lang_exec.specs.Fits;
-ghost use Rattle.wasm_lang_exec.specs.Fits.{tests, misfit};
+ghost use Rattle.wasm_lang_exec.specs.Fits.{global_imports, tests, misfit};
 
 use crate::calls::first_call;
-use crate::globals::{are_given, first_global};
+use crate::globals::first_global;
+use crate::imported::{Imported, imported_globals};
+use crate::lines::Lines;
 use crate::writes::{first_reply, first_write, imported_pages, memory_pages};
 use script_fits::earlier;
 use sem_laws::{Misfit, Script};
+use std::alloc::{AllocError, Global};
 use wasm_validate::Valid;
-
-fn first_in_globals(valid: &Valid<'_>, script: &Script) -> Option<u64>
-    ensures { result ≡ least (global_lines (Fits.fits_global valid.now) [] (script_of script.now).globals) }
-{
-    first_global(valid.module(), script.globals.as_slice())
-}
 
 fn first_in_writes(valid: &Valid<'_>, script: &Script) -> Option<u64>
     ensures { result ≡ least (lines_of (Fits.fits_write valid.now) (λ (w : WritePlain). w.line) (script_of script.now).writes) }
@@ -41,21 +38,44 @@ fn first_in_replies(valid: &Valid<'_>, script: &Script) -> Option<u64>
 }
 
 // The first line that doesn't fit.
-fn first_unfit(valid: &Valid<'_>, script: &Script) -> Option<u64>
+fn first_unfit(
+    valid: &Valid<'_>,
+    script: &Script,
+    imported: &Imported<'_>,
+    lines: &Lines<'_>,
+) -> Option<u64>
+    requires imported { imported.now ≡ global_imports valid.now.imports }
+    requires lines { lines.now ≡ (script_of script.now).globals }
     ensures { result ≡ least (unfit_lines (tests valid.now) (script_of script.now)) }
 {
-    let globals = first_in_globals(valid, script);
+    let globals = first_global(imported, lines);
     let writes = first_in_writes(valid, script);
     let calls = first_in_calls(valid, script);
     let replies = first_in_replies(valid, script);
     earlier(earlier(earlier(globals, writes), calls), replies)
 }
 
-// Whether each imported global has a line.
-fn all_given(valid: &Valid<'_>, script: &Script) -> bool
-    ensures { result ≡ are_given (tests valid.now).imports (script_of script.now).globals }
+// Whether the script fits, by the module's imported globals and the script's lines of globals.
+fn fits_by(
+    valid: &Valid<'_>,
+    script: &Script,
+    imported: &Imported<'_>,
+    lines: &Lines<'_>,
+) -> Result<(), Misfit>
+    requires imported { imported.now ≡ global_imports valid.now.imports }
+    requires lines { lines.now ≡ (script_of script.now).globals }
+    ensures { MatchResult result (λ _. misfit valid.now (script_of script.now) ≡ None) (λ refused. misfit valid.now (script_of script.now) ≡ Some refused.line) }
 {
-    are_given(valid.module().imports.as_slice(), script.globals.as_slice())
+    match first_unfit(valid, script, imported, lines) {
+        Some(line) => Err(Misfit { line }),
+        None => {
+            if imported.are_given(lines) {
+                Ok(())
+            } else {
+                Err(Misfit { line: 0 })
+            }
+        }
+    }
 }
 
 /// Whether a script fits a module: each of its globals is imported, is given once, and has a value in
@@ -63,19 +83,17 @@ fn all_given(valid: &Valid<'_>, script: &Script) -> bool
 /// each call names an exported function and has an argument for each parameter, in the range of its
 /// type; and each imported global is given.
 ///
-/// The refusal has the first line that doesn't fit, or 0 where only a global is missing. It takes no
-/// memory.
-pub fn fits_wasm(valid: &Valid<'_>, script: &Script) -> Result<(), Misfit>
-    ensures { MatchResult result (λ _. misfit valid.now (script_of script.now) ≡ None) (λ refused. misfit valid.now (script_of script.now) ≡ Some refused.line) }
+/// The refusal has the first line that doesn't fit, or 0 where only a global is missing. An error of memory says nothing
+/// of the script.
+pub fn fits_wasm(
+    alloc: Global,
+    valid: &Valid<'_>,
+    script: &Script,
+) -> Result<Result<(), Misfit>, AllocError>
+    ensures { IfOk result (λ answer. MatchResult answer (λ _. misfit valid.now (script_of script.now) ≡ None) (λ refused. misfit valid.now (script_of script.now) ≡ Some refused.line)) }
 {
-    match first_unfit(valid, script) {
-        Some(line) => Err(Misfit { line }),
-        None => {
-            if all_given(valid, script) {
-                Ok(())
-            } else {
-                Err(Misfit { line: 0 })
-            }
-        }
-    }
+    let lines = Lines::new(alloc, script.globals.as_slice())?;
+    let globals = imported_globals(alloc, valid.module().imports.as_slice())?;
+    let imported = Imported::new(alloc, globals.as_slice())?;
+    Ok(fits_by(valid, script, &imported, &lines))
 }
