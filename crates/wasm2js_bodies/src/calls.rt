@@ -1,7 +1,6 @@
 //! Calls.
-ghost use Rattle.std.specs.Prelude.{◌≡◌, ◌≤◌, ◌+◌, ◌++◌, suc, length, drop, map, slice_get, vec_len, IfOk};
+ghost use Rattle.std.specs.Prelude.{◌≡◌, ◌≤◌, ◌+◌, ◌++◌, suc, length, drop, slice_get, vec_len, IfOk};
 ghost use Rattle.asm_lang.specs.Modules as plain;
-ghost use Rattle.wasm_lang_valid.specs.Measures as measures;
 ghost use Rattle.wasm_lang_valid.specs.Typing as typing;
 ghost use Rattle.wasm_tree.specs.Views.{type_of};
 ghost use Rattle.wasm2js_code.specs.Actions as actions;
@@ -59,24 +58,6 @@ pub fn put_call(
     }
 }
 
-fn is_same(t: &FuncType, u: &FuncType) -> bool
-    ensures { result ≡ measures.same_type (type_of t.now) (type_of u.now) }
-{
-    t.params.as_slice() == u.params.as_slice() && t.results.as_slice() == u.results.as_slice()
-}
-
-// The least number of a type of this form.
-fn form_number(types: &[FuncType], function_type: &FuncType) -> u64
-    ensures { result ≡ bodies.form_number (map type_of types.now) (type_of function_type.now) }
-{
-    for (number, own) in types.iter().enumerate() {
-        if is_same(own, function_type) {
-            return number as u64;
-        }
-    }
-    types.len() as u64
-}
-
 fn call_entry_with(
     alloc: Global,
     table: CalledTable,
@@ -120,7 +101,7 @@ pub fn put_call_indirect(
         }
         Some(function_type) => {
             let table = CalledTable {
-                number: form_number(scope.types, function_type),
+                number: scope.form_at(number),
                 cells,
             };
             call_entry_with(alloc, table, types, base, function_type, block)?;

@@ -1,4 +1,5 @@
 pub mod Bodies
+pub mod Firsts
 pub mod Lists
 pub mod OwnFunctions
 pub mod Sent

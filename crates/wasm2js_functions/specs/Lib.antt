@@ -1,3 +1,4 @@
 pub mod Facts
+pub mod Forms
 pub mod Listing
 pub mod Sending

@@ -6,6 +6,7 @@ ghost use Rattle.wasm_lang_valid.specs.Profile as profile;
 ghost use Rattle.wasm2js_code.specs.Tables.{cell_count};
 ghost use Rattle.wasm2js_functions.specs.Facts.{FactsOf};
 
+use crate::forms::forms_of;
 use std::alloc::{AllocError, Global};
 use wasm_lang::{GlobalType, ImportKind};
 use wasm_profile::{memory_bytes, padded, table_length};
@@ -16,6 +17,8 @@ use wasm2js_bodies::Sizes;
 /// first, and whether there is a table and a memory.
 #[derive(Drop)]
 pub struct Facts {
+    /// For each type the least number of a type of its form.
+    pub forms: Vec<u64>,
     pub functions: Vec<u32>,
     pub imported: usize,
     pub globals: Vec<GlobalType>,
@@ -29,6 +32,7 @@ pub struct Facts {
 pub fn facts_of(alloc: Global, module: &Module<'_>) -> Result<Facts, AllocError>
     ensures { IfOk result (λ facts. FactsOf facts (module_of «module».now)) }
 {
+    let forms = forms_of(alloc, module.types.as_slice())?;
     let imports = module.imports.as_slice();
     let mut functions = imported_functions(alloc, imports)?;
     let imported = functions.len();
@@ -36,6 +40,7 @@ pub fn facts_of(alloc: Global, module: &Module<'_>) -> Result<Facts, AllocError>
     let mut globals = imported_globals(alloc, imports)?;
     add_globals(&mut globals, module.globals.as_slice())?;
     Ok(Facts {
+        forms,
         functions,
         imported,
         globals,

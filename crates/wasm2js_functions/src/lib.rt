@@ -2,6 +2,7 @@
 #![tactic(auto)]
 
 mod facts;
+mod forms;
 mod listing;
 mod own;
 mod wrappers;

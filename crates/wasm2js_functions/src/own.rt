@@ -68,6 +68,7 @@ pub fn own_function(
     let flat = Body::of(alloc, &body.code)?;
     let scope = BodyScope {
         types: module.types.as_slice(),
+        forms: facts.forms.as_slice(),
         functions: facts.functions.as_slice(),
         table: facts.table,
         memory: facts.memory,

@@ -1,3 +1,4 @@
 pub mod Effects
+pub mod Forms
 pub mod Operands
 pub mod Scopes

@@ -1,9 +1,7 @@
 //! What a body is in.
-ghost use Rattle.std.specs.Prelude.{◌≡◌, option_map, option_copied, slice_get};
-ghost use Rattle.std.specs.Borrow.{Bor};
+ghost use Rattle.std.specs.Prelude.{◌≡◌, map};
 ghost use Rattle.wasm_tree.specs.Views.{type_of};
-ghost use Rattle.wasm_lang_valid.specs.Typing as typing;
-ghost use Rattle.wasm2js_operands.specs.Scopes.{context_in};
+ghost use Rattle.wasm2js_operands.specs.Forms.{form_numbers};
 
 use wasm_lang::{GlobalType, ValType};
 use wasm_tree::FuncType;
@@ -13,6 +11,8 @@ use wasm_tree::FuncType;
 pub struct BodyScope<'a> {
     /// The module's types.
     pub types: &'a [FuncType],
+    /// For each of them the least number of a type of its form.
+    pub forms: &'a [u64],
     /// The number of each function's type, imported ones first.
     pub functions: &'a [u32],
     /// Whether the module has a table, and a memory.
@@ -23,14 +23,29 @@ pub struct BodyScope<'a> {
     /// Parameters first.
     pub locals: &'a [ValType],
     pub returns: Option<ValType>,
+    ghost least: { forms.now ≡ form_numbers (map type_of types.now) },
 }
 
 impl<'a> BodyScope<'a> {
+    ghost use Rattle.std.specs.Prelude.{◌<◌, length, option_map, option_copied, slice_get, Some};
+    ghost use Rattle.std.specs.Borrow.{Bor};
+    ghost use Rattle.wasm_lang_valid.specs.Typing as typing;
+    ghost use Rattle.wasm2js_code.specs.Bodies.{form_number};
+    ghost use Rattle.wasm2js_operands.specs.Scopes.{context_in};
+
     /// A type of the module.
     pub fn type_at(&self, number: u32) -> Option<&'a FuncType>
         ensures { option_map type_of (option_copied result) ≡ slice_get (context_in self.now).types number }
     {
         self.types.get(number as usize)
+    }
+
+    /// The least number of a type of the form that the type of this number has.
+    pub fn form_at(&self, number: u32) -> u64
+        requires { number < length (context_in self.now).types }
+        ensures { Some result ≡ option_map (form_number (context_in self.now).types) (slice_get (context_in self.now).types number) }
+    {
+        self.forms[number as usize]
     }
 
     /// The type of a function.
