@@ -77,7 +77,10 @@ pub module_read_is : (end : ℕ) (ts : List PlacedToken) (m : TallModule) (p : P
     → plain.module_view p.module ≡ module_of (placed.module_view m.tree) → list_items p.places ≡ module_places (placed.module_view m.tree) → IsVerdict end ts (Ok p)
 module_read_is end ts m p given this places = record {
   found = record {
-    tree = placed.module_view m.tree; is_module = is_found end ts m given; is_this = this; have_places = places;
+    tree = placed.module_view m.tree;
+    is_module = is_found end ts m given;
+    is_this = this;
+    have_places = places;
     within = subst (λ (x : Module). module_height x ≤ height_limit) (sym this) (is_within end ts m given);
   };
   only = λ t is low. let same : placed.module_view m.tree ≡ t = is_only end ts (Ok m) t given is low in (this ∙ ap module_of same, places ∙ ap module_places same);

@@ -49,7 +49,10 @@ begins_pair _ = false
 
 pub pair_at : (ts us : List PlacedToken) (m z : PlacedToken) → is_negative_zero (lexeme_of m) (lexeme_of z) ≡ true → IsPair (lexemes_of (ts ++ m ∷ z ∷ us)) (length ts)
 pair_at ts us m z h = record {
-  minus = lexeme_of m; zero = lexeme_of z; rest = lexemes_of us; there = dropped ts (m ∷ z ∷ us);
+  minus = lexeme_of m;
+  zero = lexeme_of z;
+  rest = lexemes_of us;
+  there = dropped ts (m ∷ z ∷ us);
   is_minus = same_is (operator Sub) (lexeme_of m).class (and_left _ _ h);
   is_zero = meets_is a_zero (lexeme_of z) (and_right (same_class (operator Sub) (lexeme_of m).class) _ h);
 }

@@ -62,6 +62,32 @@ fn faults(rt: HostRuntime) {
     }
 }
 
+fn text_of<'a>(next: Next<'a>) -> Option<&'a [u8]> {
+    match next {
+        Next::Token(token) => Some(token.text),
+        Next::End | Next::Fault(_) => None,
+    }
+}
+
+#[test]
+fn one_by_one(rt: HostRuntime) {
+    let mut scanner = Scanner::new(b"a /* b */ -- 08");
+    assert_eq!(rt; scanner.fault(), Some(TokenFault::LiteralForm { at: 13 }));
+    assert_eq!(rt; text_of(scanner.next()), Some(b"a".as_slice()));
+    assert_eq!(rt; scanner.at, 1);
+    assert_eq!(rt; text_of(scanner.next()), Some(b"--".as_slice()));
+    assert!(rt;
+        matches!(
+            scanner.next(),
+            Next::Fault(TokenFault::LiteralForm { at: 13 })
+        )
+    );
+    let mut scanner = Scanner::new(b"\n0 // c");
+    assert_eq!(rt; scanner.fault(), None);
+    assert_eq!(rt; text_of(scanner.next()), Some(b"0".as_slice()));
+    assert!(rt; matches!(scanner.next(), Next::End));
+}
+
 #[test]
 fn longest_at_the_front(rt: HostRuntime) {
     let want: [(&[u8], usize); 8] = [

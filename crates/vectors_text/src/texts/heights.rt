@@ -204,3 +204,20 @@ fn before_the_end(rt: HostRuntime) -> Result<(), Fail> {
     }
     Ok(())
 }
+
+/// A fault of a token behind that node counts first.
+#[test]
+fn before_a_bad_token(rt: HostRuntime) -> Result<(), Fail> {
+    let (row, _) = &EARLY[0];
+    let front = nested(rt.alloc(), row, row.3)?;
+    let at = front.len() as u64;
+    let text = joined(rt.alloc(), &[&front, b" a", b"@"])?;
+    let fault = read(rt.alloc(), &text).err();
+    assert_eq!(rt;
+        fault,
+        Some(TextFault::BadToken {
+            at: at.saturating_add(2)
+        })
+    );
+    Ok(())
+}

@@ -230,12 +230,13 @@ fn literal_forms(rt: HostRuntime) -> Result<(), Fail> {
 /// Faults of tokens, wherever the grammar has one.
 #[test]
 fn tokens(rt: HostRuntime) -> Result<(), Fail> {
-    let bad_tokens: [Row; 5] = [
+    let bad_tokens: [Row; 6] = [
         ("a byte that begins none", b"a=", b"@"),
         ("an open quote", b"a=", b"'b"),
         ("a quote over a line end", b"a=", b"'b\n'"),
         ("a backslash in quotes", b"a=", b"'\\n'"),
         ("behind a fault of the grammar", b")( ", b"#"),
+        ("behind a prefix minus before 0", b"a=-0;a=", b"@"),
     ];
     for row in bad_tokens.iter() {
         let (front, back) = in_function(rt.alloc(), row)?;
