@@ -1,5 +1,4 @@
 use Rattle.std.proofs.Common.{[], map, refl, ap, ◌++◌, ◌∙◌}
-use Rattle.sem_words.specs.Lists.{list_items}
 use Rattle.asm_tree.specs.Views.{function_view}
 use Rattle.wasm_tree.specs.Views.{body_of, module_of, type_of}
 use Rattle.wasm_lang_valid.specs.Typing.{Context}
