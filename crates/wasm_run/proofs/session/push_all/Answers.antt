@@ -1,4 +1,4 @@
-use Rattle.std.proofs.Common.{◌≡◌, ◌∙◌}
+use Rattle.std.proofs.Common.{◌∙◌}
 use Rattle.wasm_run.proofs.Hosts.{push_more}
 use Rattle.wasm_run.proofs.session.push_all.Goals as goal
 
