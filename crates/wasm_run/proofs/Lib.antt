@@ -1,4 +1,5 @@
 pub mod Arguments
+pub mod ExportNames
 pub mod Given
 pub mod GlobalLines
 pub mod GlobalKinds

@@ -3,3 +3,4 @@ pub mod Runs
 pub mod Instances
 pub mod Globals
 pub mod GlobalViews
+pub mod Exports

@@ -8,6 +8,7 @@ ghost use Rattle.wasm_lang_exec.specs.Fits;
 ghost use Rattle.wasm_lang_exec.specs.Fits.{global_imports, tests, misfit};
 
 use crate::calls::first_call;
+use crate::exports::Exports;
 use crate::globals::first_global;
 use crate::imported::{Imported, imported_globals};
 use crate::lines::Lines;
@@ -24,10 +25,11 @@ fn first_in_writes(valid: &Valid<'_>, script: &Script) -> Option<u64>
     first_write(pages, script.writes.as_slice())
 }
 
-fn first_in_calls(valid: &Valid<'_>, script: &Script) -> Option<u64>
+fn first_in_calls(valid: &Valid<'_>, script: &Script, exports: &Exports<'_>) -> Option<u64>
+    requires { exports.now ≡ valid.now.exports }
     ensures { result ≡ least (lines_of (Fits.fits_call valid.now) (λ (c : CallPlain). c.line) (script_of script.now).calls) }
 {
-    first_call(valid, script.calls.as_slice())
+    first_call(valid, exports, script.calls.as_slice())
 }
 
 fn first_in_replies(valid: &Valid<'_>, script: &Script) -> Option<u64>
@@ -43,30 +45,34 @@ fn first_unfit(
     script: &Script,
     imported: &Imported<'_>,
     lines: &Lines<'_>,
+    exports: &Exports<'_>,
 ) -> Option<u64>
     requires imported { imported.now ≡ global_imports valid.now.imports }
     requires lines { lines.now ≡ (script_of script.now).globals }
+    requires exports { exports.now ≡ valid.now.exports }
     ensures { result ≡ least (unfit_lines (tests valid.now) (script_of script.now)) }
 {
     let globals = first_global(imported, lines);
     let writes = first_in_writes(valid, script);
-    let calls = first_in_calls(valid, script);
+    let calls = first_in_calls(valid, script, exports);
     let replies = first_in_replies(valid, script);
     earlier(earlier(earlier(globals, writes), calls), replies)
 }
 
-// Whether the script fits, by the module's imported globals and the script's lines of globals.
+// Whether the script fits, by the module's imported globals and exports and the script's lines of globals.
 fn fits_by(
     valid: &Valid<'_>,
     script: &Script,
     imported: &Imported<'_>,
     lines: &Lines<'_>,
+    exports: &Exports<'_>,
 ) -> Result<(), Misfit>
     requires imported { imported.now ≡ global_imports valid.now.imports }
     requires lines { lines.now ≡ (script_of script.now).globals }
+    requires exports { exports.now ≡ valid.now.exports }
     ensures { MatchResult result (λ _. misfit valid.now (script_of script.now) ≡ None) (λ refused. misfit valid.now (script_of script.now) ≡ Some refused.line) }
 {
-    match first_unfit(valid, script, imported, lines) {
+    match first_unfit(valid, script, imported, lines, exports) {
         Some(line) => Err(Misfit { line }),
         None => {
             if imported.are_given(lines) {
@@ -95,5 +101,6 @@ pub fn fits_wasm(
     let lines = Lines::new(alloc, script.globals.as_slice())?;
     let globals = imported_globals(alloc, valid.module().imports.as_slice())?;
     let imported = Imported::new(alloc, globals.as_slice())?;
-    Ok(fits_by(valid, script, &imported, &lines))
+    let exports = Exports::new(alloc, valid.module().exports.as_slice())?;
+    Ok(fits_by(valid, script, &imported, &lines, &exports))
 }

@@ -2,6 +2,7 @@
 #![tactic(auto)]
 
 mod calls;
+mod exports;
 mod first;
 mod fits;
 mod globals;

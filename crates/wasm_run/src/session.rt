@@ -11,7 +11,7 @@ ghost use Rattle.wasm_run_frames.specs.Views.{machine_of};
 ghost use Rattle.wasm_run_machine.specs.Functions.{AllHaveForms, AreFunctions};
 ghost use Rattle.wasm_run.specs.Runs.{after_ran, begun, seen_as};
 
-use crate::calls::function_named;
+use crate::exports::Exports;
 use crate::words::arguments_for;
 use sem_laws::{CallLine, End, Event, Script};
 use sem_words::{TrapKind, Word};
@@ -67,16 +67,18 @@ fn run_one(
     alloc: Global,
     module: &Module<'_>,
     functions: &[Function],
+    exports: &Exports<'_>,
     call: &CallLine,
     machine: &mut Machine<'_>,
     steps: u64,
 ) -> Result<Ran, AllocError>
-    requires { AllHaveForms functions.now }
+    requires forms { AllHaveForms functions.now }
+    requires exports { exports.now ≡ (module_of «module».now).exports }
     ensures { IfOk result (λ ran. (next : ℕ → Store → ObservationPlain) → AreFunctions (module_of «module».now) functions.now
         → session.one_call (module_of «module».now) (session.function_named (module_of «module».now).exports (call_of call.now).name) (call_of call.now).args steps (machine_of machine.old).store next
         ≡ after_ran ran (machine_of machine.new).store next) }
 {
-    let Some(function) = function_named(module.exports.as_slice(), call.name.as_bytes()) else {
+    let Some(function) = exports.function_named(call.name.as_bytes()) else {
         return Ok(Ran::Spent);
     };
     let arguments = arguments_for(alloc, module, functions, function, call.args.as_slice())?;
@@ -96,17 +98,19 @@ fn run_calls(
     alloc: Global,
     module: &Module<'_>,
     functions: &[Function],
+    exports: &Exports<'_>,
     calls: &[CallLine],
     machine: &mut Machine<'_>,
     steps: u64,
 ) -> Result<Option<End>, AllocError>
-    requires { AllHaveForms functions.now }
+    requires forms { AllHaveForms functions.now }
+    requires exports { exports.now ≡ (module_of «module».now).exports }
     ensures { IfOk result (λ end. AreFunctions (module_of «module».now) functions.now
         → session.calls_seen (module_of «module».now) (map call_of calls.now) steps (machine_of machine.old).store ≡ seen_as end (machine_of machine.new).store) }
 {
     let mut left = steps;
     for call in calls {
-        match run_one(alloc, module, functions, call, machine, left)? {
+        match run_one(alloc, module, functions, exports, call, machine, left)? {
             Ran::Back(more) => left = more,
             Ran::Over(end) => return Ok(Some(end)),
             Ran::Spent => return Ok(None),
@@ -151,7 +155,8 @@ fn run_started(
 {
     match run_start(alloc, module, functions, machine, steps)? {
         Ran::Back(left) => {
-            let end = run_calls(alloc, module, functions, calls, machine, left)?;
+            let exports = Exports::new(alloc, module.exports.as_slice())?;
+            let end = run_calls(alloc, module, functions, &exports, calls, machine, left)?;
             Ok(end)
         }
         Ran::Over(end) => Ok(Some(end)),
