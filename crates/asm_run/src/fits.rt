@@ -84,7 +84,5 @@ pub fn fits_asm(
     let lines = Lines::new(alloc, script.globals.as_slice())?;
     let imported = imported_globals(alloc, checked)?;
     let exports = ExportTable::new(alloc, checked)?;
-    Ok(fits_by(
-        checked, heap_len, script, &imported, &lines, &exports,
-    ))
+    Ok(fits_by(checked, heap_len, script, &imported, &lines, &exports))
 }

@@ -19,10 +19,7 @@ use sem_words::Text;
 use std::alloc::{AllocError, Global};
 
 /// The names of the imported globals, each found by a map.
-pub fn imported_globals<'a>(
-    alloc: Global,
-    checked: &'a Checked,
-) -> Result<Layout<'a>, AllocError>
+pub fn imported_globals<'a>(alloc: Global, checked: &'a Checked) -> Result<Layout<'a>, AllocError>
     ensures { IfOk result (λ imported. imported ≡ foreign_globals (module_view checked.now)) }
 {
     let names = names_of(alloc, checked.foreign_globals())?;
