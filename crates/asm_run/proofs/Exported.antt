@@ -5,11 +5,9 @@ use Rattle.asm_lang.specs.Modules.{Function, Module}
 use Rattle.asm_lang_valid.specs.Refusal.{Exported, exported_from}
 use Rattle.asm_lang_exec.specs.Session.{export_number, exported_function}
 use Rattle.std.proofs.lemmas.Option.{slice_get-map}
-use Rattle.sem_laws.specs.Script.{CallPlain}
 use Rattle.asm_tree.specs.Views.{function_view}
 use Rattle.asm_validate_facts.specs.declared.exports.ExportOf.{ExportOf}
 use Rattle.asm_validate_facts.specs.Numbers.{export_said}
-use Rattle.asm_lang_exec.specs.Fits.{takes, fits_call}
 use Rattle.asm_run_state.specs.Variables.{slot_of}
 use Rattle.asm_run.specs.declared.exports.ExportTable.{ExportTable}
 use Rattle.asm_run.specs.Exports.{IsTableOf}
@@ -50,8 +48,3 @@ module _ (m : Module) (t : ExportTable) (key : List ℕ) (is : IsTableOf m t) wh
 
   pub one_export : (i : ℕ) (e : ExportOf) → Some i ≡ slot_of t.keys key → slice_get t.exports.now i ≡ Some e → slice_get (map function_view t.functions.now) e.function ≡ exported_function m key
   one_export i e h k = ap (λ (fs : List Function). slice_get fs e.function) is.functions ∙ sym (at_number i (Some e) h k)
-
--- ---- a call's function, as it was found last
-
-pub fits_found : (m : Module) (o : Option Function) (key : List ℕ) (c : CallPlain) → o ≡ exported_function m key → key ≡ c.name → takes o c.args ≡ fits_call m c
-fits_found m o key c found same = ap (λ o. takes o c.args) (found ∙ ap (exported_function m) same)

@@ -1,5 +1,5 @@
 pub mod Exports
-pub mod Found
+pub mod Globals
 pub mod Linked
 pub mod Hosted
 pub mod Session

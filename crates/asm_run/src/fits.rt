@@ -1,27 +1,69 @@
 //! Which scripts fit.
 
-ghost use Rattle.std.specs.Prelude.{◌≡◌, None, Some, MatchResult};
+ghost use Rattle.std.specs.Prelude.{◌≡◌, None, Some, IfOk, MatchResult};
 ghost use Rattle.sem_laws.specs.Views.{script_of};
 ghost use Rattle.asm_tree.specs.Views.{module_view};
+ghost use Rattle.asm_lang_valid.specs.Refusal.{foreign_globals};
 ghost use Rattle.script_fits.specs.Fits.{least, unfit_lines};
 ghost use Rattle.asm_lang_exec.specs.Fits.{tests, misfit};
+ghost use Rattle.asm_run.specs.Exports.{IsTableOf};
 
 use crate::calls::first_call;
-use crate::globals::{are_given, first_global};
+use crate::exports::ExportTable;
+use crate::globals::{are_given, first_global, imported_globals};
+use crate::lines::Lines;
 use crate::writes::{first_reply, first_write};
+use asm_run_state::Layout;
 use asm_validate::Checked;
 use script_fits::earlier;
 use sem_laws::{Misfit, Script};
+use std::alloc::{AllocError, Global};
 
 // The first line that doesn't fit.
-fn first_unfit(checked: &Checked, heap_len: u32, script: &Script) -> Option<u64>
+fn first_unfit(
+    checked: &Checked,
+    heap_len: u32,
+    script: &Script,
+    imported: &Layout<'_>,
+    lines: &Lines<'_>,
+    exports: &ExportTable<'_>,
+) -> Option<u64>
+    requires imported { imported.now ≡ foreign_globals (module_view checked.now) }
+    requires lines { lines.now ≡ (script_of script.now).globals }
+    requires exports { IsTableOf (module_view checked.now) exports.now }
     ensures { result ≡ least (unfit_lines (tests (module_view checked.now) heap_len) (script_of script.now)) }
 {
-    let globals = first_global(checked, script.globals.as_slice());
+    let globals = first_global(imported, lines);
     let writes = first_write(checked, heap_len, script.writes.as_slice());
-    let calls = first_call(checked, script.calls.as_slice());
+    let calls = first_call(exports, script.calls.as_slice());
     let replies = first_reply(checked, heap_len, script.replies.as_slice());
     earlier(earlier(earlier(globals, writes), calls), replies)
+}
+
+// Whether the script fits, by the module's imported globals and exports and the script's lines of globals.
+fn fits_by(
+    checked: &Checked,
+    heap_len: u32,
+    script: &Script,
+    imported: &Layout<'_>,
+    lines: &Lines<'_>,
+    exports: &ExportTable<'_>,
+) -> Result<(), Misfit>
+    requires imported { imported.now ≡ foreign_globals (module_view checked.now) }
+    requires lines { lines.now ≡ (script_of script.now).globals }
+    requires exports { IsTableOf (module_view checked.now) exports.now }
+    ensures { MatchResult result (λ _. misfit (module_view checked.now) heap_len (script_of script.now) ≡ None) (λ refused. misfit (module_view checked.now) heap_len (script_of script.now) ≡ Some refused.line) }
+{
+    match first_unfit(checked, heap_len, script, imported, lines, exports) {
+        Some(line) => Err(Misfit { line }),
+        None => {
+            if are_given(checked, lines) {
+                Ok(())
+            } else {
+                Err(Misfit { line: 0 })
+            }
+        }
+    }
 }
 
 /// Whether a script fits an accepted module with a heap of this length: each of its globals is imported
@@ -29,19 +71,18 @@ fn first_unfit(checked: &Checked, heap_len: u32, script: &Script) -> Option<u64>
 /// and has an argument for each parameter, values of globals and arguments lie in [-2^31, 2^32), and
 /// each imported global is given.
 ///
-/// The refusal has the first line that doesn't fit, or 0 where only a global is missing. It takes no
-/// memory.
-pub fn fits_asm(checked: &Checked, heap_len: u32, script: &Script) -> Result<(), Misfit>
-    ensures { MatchResult result (λ _. misfit (module_view checked.now) heap_len (script_of script.now) ≡ None) (λ refused. misfit (module_view checked.now) heap_len (script_of script.now) ≡ Some refused.line) }
+/// The refusal has the first line that doesn't fit, or 0 where only a global is missing. An error of memory
+/// says nothing of the script.
+pub fn fits_asm(
+    alloc: Global,
+    checked: &Checked,
+    heap_len: u32,
+    script: &Script,
+) -> Result<Result<(), Misfit>, AllocError>
+    ensures { IfOk result (λ answer. MatchResult answer (λ _. misfit (module_view checked.now) heap_len (script_of script.now) ≡ None) (λ refused. misfit (module_view checked.now) heap_len (script_of script.now) ≡ Some refused.line)) }
 {
-    match first_unfit(checked, heap_len, script) {
-        Some(line) => Err(Misfit { line }),
-        None => {
-            if are_given(checked, script.globals.as_slice()) {
-                Ok(())
-            } else {
-                Err(Misfit { line: 0 })
-            }
-        }
-    }
+    let lines = Lines::new(alloc, script.globals.as_slice())?;
+    let imported = imported_globals(alloc, checked)?;
+    let exports = ExportTable::new(alloc, checked)?;
+    Ok(fits_by(checked, heap_len, script, &imported, &lines, &exports))
 }

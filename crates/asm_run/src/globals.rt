@@ -1,60 +1,82 @@
 // The values of imported globals.
 
-ghost use Rattle.std.specs.Prelude.{◌≡◌, [], map};
+ghost use Rattle.std.specs.Prelude.{◌≡◌, ◌++◌, [], IfOk, take};
 ghost use Rattle.sem_laws.specs.Views.{global_of};
 ghost use Rattle.asm_tree.specs.Views.{module_view, texts_view};
 ghost use Rattle.asm_lang_valid.specs.Refusal.{foreign_globals};
 ghost use Rattle.asm_lang_valid.specs.Scope.{is_in};
 ghost use Rattle.script_fits.specs.Fits as parts;
-ghost use Rattle.asm_lang_exec.specs.Fits;
+ghost use Rattle.asm_run_state.specs.Variables.{names_in};
+ghost use Rattle.asm_run.specs.Globals.{fits_line};
 
+use crate::lines::Lines;
 use crate::ranges::in_range;
+use asm_run_state::Layout;
 use asm_validate::Checked;
-use script_fits::{is_given, lesser};
+use script_fits::lesser;
 use sem_laws::GlobalLine;
 use sem_words::Text;
+use std::alloc::{AllocError, Global};
 
-// Whether a global of this name is imported.
-fn is_imported(names: &[Text], name: &[u8]) -> bool
-    ensures { result ≡ is_in name.now (texts_view names.now) }
+/// The names of the imported globals, each found by a map.
+pub fn imported_globals<'a>(alloc: Global, checked: &'a Checked) -> Result<Layout<'a>, AllocError>
+    ensures { IfOk result (λ imported. imported ≡ foreign_globals (module_view checked.now)) }
 {
-    for imported in names {
-        if imported.as_bytes() == name {
-            return true;
-        }
-    }
-    false
+    let names = names_of(alloc, checked.foreign_globals())?;
+    let imported = Layout::new(alloc, names)?;
+    Ok(imported)
 }
 
-fn fits_global(checked: &Checked, before: &[GlobalLine], global: &GlobalLine) -> bool
-    ensures { result ≡ Fits.fits_global (module_view checked.now) (map global_of before.now) (global_of global.now) }
+fn names_of<'a>(alloc: Global, texts: &'a [Text]) -> Result<Vec<&'a [u8]>, AllocError>
+    ensures { IfOk result (λ names. names_in names.items ≡ texts_view texts.now) }
 {
-    let name = global.name.as_bytes();
-    is_imported(checked.foreign_globals(), name)
-        && in_range(global.value)
-        && !is_given(before, name)
+    let mut names = Vec::new(alloc);
+    for text in texts {
+        names.push(text.as_bytes())?;
+    }
+    Ok(names)
+}
+
+// Whether a global of this name is imported.
+#[tactic(auto, using(crate::proofs::GlobalLines::named_here, crate::proofs::GlobalLines::named_nowhere))]
+fn is_imported(imported: &Layout<'_>, name: &[u8]) -> bool
+    ensures { result ≡ is_in name.now imported.now }
+{
+    match imported.slot(name) {
+        Some(_) => true,
+        None => false,
+    }
+}
+
+// Whether a line names an imported global, with a value in range, and no line before this place does.
+fn fits_global(imported: &Layout<'_>, lines: &Lines<'_>, place: usize, line: &GlobalLine) -> bool
+    ensures { result ≡ fits_line imported.now (take place lines.now) (global_of line.now) }
+{
+    let name = line.name.as_bytes();
+    is_imported(imported, name) && in_range(line.value) && !lines.is_given_before(place, name)
 }
 
 /// The first line of a global that doesn't fit.
-#[tactic(auto, using(script_fits::proofs::FirstLines::earlier_lesser, script_fits::proofs::FirstLines::earlier_none, script_fits::proofs::Parts::one_more))]
-pub fn first_global(checked: &Checked, globals: &[GlobalLine]) -> Option<u64>
-    ensures { result ≡ parts.least (parts.global_lines (Fits.fits_global (module_view checked.now)) [] (map global_of globals.now)) }
+#[tactic(auto, using(script_fits::proofs::FirstLines::earlier_none))]
+pub fn first_global(imported: &Layout<'_>, lines: &Lines<'_>) -> Option<u64>
+    ensures { result ≡ parts.least (parts.global_lines (fits_line imported.now) [] lines.now) }
 {
+    let globals = lines.as_slice();
     let mut first = None;
-    for (i, global) in globals.iter().enumerate() {
-        if !fits_global(checked, &globals[..i], global) {
-            first = lesser(global.line, first);
+    for (i, line) in globals.iter().enumerate() {
+        if !fits_global(imported, lines, i, line) {
+            first = lesser(line.line, first);
         }
     }
     first
 }
 
 // Whether each of these names has a line.
-fn have_lines(names: &[Text], globals: &[GlobalLine]) -> bool
-    ensures { result ≡ parts.are_given (texts_view names.now) (map global_of globals.now) }
+fn have_lines(names: &[Text], lines: &Lines<'_>) -> bool
+    ensures { result ≡ parts.are_given (texts_view names.now) lines.now }
 {
     for name in names {
-        if !is_given(globals, name.as_bytes()) {
+        if !lines.is_given(name.as_bytes()) {
             return false;
         }
     }
@@ -62,8 +84,8 @@ fn have_lines(names: &[Text], globals: &[GlobalLine]) -> bool
 }
 
 /// Whether each imported global has a line.
-pub fn are_given(checked: &Checked, globals: &[GlobalLine]) -> bool
-    ensures { result ≡ parts.are_given (foreign_globals (module_view checked.now)) (map global_of globals.now) }
+pub fn are_given(checked: &Checked, lines: &Lines<'_>) -> bool
+    ensures { result ≡ parts.are_given (foreign_globals (module_view checked.now)) lines.now }
 {
-    have_lines(checked.foreign_globals(), globals)
+    have_lines(checked.foreign_globals(), lines)
 }

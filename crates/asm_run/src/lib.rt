@@ -5,6 +5,7 @@ mod calls;
 mod exports;
 mod fits;
 mod globals;
+mod lines;
 mod ranges;
 mod session;
 mod writes;

@@ -26,7 +26,7 @@ pub fn run_script(
     ensures { MatchResult result (λ output. Prints (module_view checked.now) heap_len text.now budget output.items) (IsScriptRefusal (module_view checked.now) heap_len text.now) }
 {
     let script = read_script(alloc, text)?;
-    match fits_asm(checked, heap_len, &script) {
+    match fits_asm(alloc, checked, heap_len, &script)? {
         Ok(()) => Ok(observation(alloc, checked, heap_len, &script, budget)?),
         Err(misfit) => Err(ScriptFault::Refused { line: misfit.line }),
     }

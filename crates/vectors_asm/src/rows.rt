@@ -74,7 +74,7 @@ fn observed(
     let Ok(checked) = check_text(alloc, text) else {
         return Ok(None);
     };
-    match fits_asm(&checked, 4096, script) {
+    match fits_asm(alloc, &checked, 4096, script)? {
         Ok(()) => {
             let session = Session::link(alloc, &checked, 4096, script)?;
             let seen = session.run(alloc, budget)?;
@@ -286,10 +286,10 @@ fn misfits(rt: HostRuntime) -> Result<(), Fail> {
         return Err(Fail::new("refused"));
     };
     let few = script(rt.alloc(), &[Call(b"f", &[1])], &[])?;
-    assert!(rt; matches!(fits_asm(&checked, 4096, &few), Err(misfit) if misfit.line == 1));
+    assert!(rt; matches!(fits_asm(rt.alloc(), &checked, 4096, &few), Ok(Err(misfit)) if misfit.line == 1));
     let large = script(rt.alloc(), &[Call(b"f", &[1, 4294967296])], &[])?;
-    assert!(rt; matches!(fits_asm(&checked, 4096, &large), Err(misfit) if misfit.line == 1));
+    assert!(rt; matches!(fits_asm(rt.alloc(), &checked, 4096, &large), Ok(Err(misfit)) if misfit.line == 1));
     let none = script(rt.alloc(), &[], &[])?;
-    assert!(rt; fits_asm(&checked, 4096, &none).is_ok());
+    assert!(rt; matches!(fits_asm(rt.alloc(), &checked, 4096, &none), Ok(Ok(()))));
     Ok(())
 }
