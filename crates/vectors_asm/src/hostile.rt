@@ -15,16 +15,15 @@ fn front_of_a_module(rt: &impl Abort, alloc: Global, front: &[u8]) -> Result<(),
     let (code, line) = match n {
         8 | 17 => (
             0,
-            format!(in alloc; "wasm functions 0 imports 0 exports 0\n"),
+            format!(in alloc; "wasm functions 0 imports 0 exports 0\n")?,
         ),
         39 => (
             0,
-            format!(in alloc; "wasm functions 1 imports 0 exports 1\n"),
+            format!(in alloc; "wasm functions 1 imports 0 exports 1\n")?,
         ),
-        21 | 28 => (3, format!(in alloc; "wasm refused: B9 Counts at {n}\n")),
-        _ => (3, format!(in alloc; "wasm refused: B3 Truncated at {n}\n")),
+        21 | 28 => (3, format!(in alloc; "wasm refused: B9 Counts at {n}\n")?),
+        _ => (3, format!(in alloc; "wasm refused: B3 Truncated at {n}\n")?),
     };
-    let line = line?;
     ends(
         rt,
         alloc,

@@ -141,6 +141,7 @@ fn shows(observation: &Observation, seen: &[Seen<'_>], last: &Last<'_>) -> bool 
 }
 
 // What the host does: its calls, its replies, and how many units it gives.
+#[derive(Clone, Copy)]
 struct Host<'a> {
     calls: &'a [Call<'a>],
     replies: &'a [Option<u64>],
