@@ -27,7 +27,7 @@ fn ask<'a>(alloc: Global, replies: &mut Replies<'a>, name: &[u8], args: &[Word])
     replies.answer(alloc, name, List::from_vec(Vec::from_slice(alloc, args)?))
 }
 
-fn goes_silently(answer: Asked<'_>, word: u64) -> bool {
+fn goes_silently(answer: &Asked<'_>, word: u64) -> bool {
     match answer {
         Ok(Answer::Goes(given)) => {
             given.word == word && given.writes.is_empty() && given.event.is_none()
@@ -36,7 +36,7 @@ fn goes_silently(answer: Asked<'_>, word: u64) -> bool {
     }
 }
 
-fn goes_with_call(answer: Asked<'_>, word: u64, name: &[u8], args: &[Word]) -> bool {
+fn goes_with_call(answer: &Asked<'_>, word: u64, name: &[u8], args: &[Word]) -> bool {
     match answer {
         Ok(Answer::Goes(given)) => given.word == word && is_call(&given.event, name, args),
         _ => false,
@@ -50,7 +50,7 @@ fn is_call(event: &Option<Event>, name: &[u8], args: &[Word]) -> bool {
     }
 }
 
-fn stops(answer: Asked<'_>, name: &[u8], args: &[Word]) -> bool {
+fn stops(answer: &Asked<'_>, name: &[u8], args: &[Word]) -> bool {
     match answer {
         Ok(Answer::Ends(End::Stopped(text, words))) => {
             text.as_bytes() == name && words.as_slice() == args
@@ -59,7 +59,7 @@ fn stops(answer: Asked<'_>, name: &[u8], args: &[Word]) -> bool {
     }
 }
 
-fn lacks_reply(answer: Asked<'_>, name: &[u8], args: &[Word]) -> bool {
+fn lacks_reply(answer: &Asked<'_>, name: &[u8], args: &[Word]) -> bool {
     match answer {
         Ok(Answer::Ends(End::NoReply(text, words))) => {
             text.as_bytes() == name && words.as_slice() == args
@@ -73,15 +73,19 @@ fn replies_in_order(rt: HostRuntime) -> Result<(), Fail> {
     let alloc = rt.alloc();
     let script = two_replies(alloc)?;
     let mut replies = Replies::of(&script);
-    assert!(rt; goes_silently(ask(alloc, &mut replies, b"$high", &[]), 0));
+    let high = ask(alloc, &mut replies, b"$high", &[]);
+    assert!(rt; goes_silently(&high, 0));
     let one = [Word::W32(1)];
     let called = ask(alloc, &mut replies, b"f", &one);
-    assert!(rt; goes_with_call(called, 0x5_0000_0007, b"f", &one));
-    assert!(rt; goes_silently(ask(alloc, &mut replies, b"$high", &[]), 5));
+    assert!(rt; goes_with_call(&called, 0x5_0000_0007, b"f", &one));
+    let high = ask(alloc, &mut replies, b"$high", &[]);
+    assert!(rt; goes_silently(&high, 5));
     let three = [Word::W32(3)];
-    assert!(rt; stops(ask(alloc, &mut replies, b"$trap", &three), b"$trap", &three));
+    let trap = ask(alloc, &mut replies, b"$trap", &three);
+    assert!(rt; stops(&trap, b"$trap", &three));
     let two = [Word::W64(2)];
-    assert!(rt; stops(ask(alloc, &mut replies, b"g", &two), b"g", &two));
+    let thrown = ask(alloc, &mut replies, b"g", &two);
+    assert!(rt; stops(&thrown, b"g", &two));
     Ok(())
 }
 
@@ -90,7 +94,8 @@ fn no_reply_is_left(rt: HostRuntime) -> Result<(), Fail> {
     let script = read_script(rt.alloc(), b"")?;
     let mut replies = Replies::of(&script);
     let one = [Word::W32(1)];
-    assert!(rt; lacks_reply(ask(rt.alloc(), &mut replies, b"f", &one), b"f", &one));
+    let lost = ask(rt.alloc(), &mut replies, b"f", &one);
+    assert!(rt; lacks_reply(&lost, b"f", &one));
     Ok(())
 }
 
