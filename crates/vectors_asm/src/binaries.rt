@@ -208,97 +208,106 @@ fn sessions_are_printed(rt: HostRuntime) -> Result<(), Fail> {
     Ok(())
 }
 
+/// A command, a module, and what is written.
+static LISTED: [(&str, &[u8], &[u8]); 4] = [
+    (
+        "check-wasm",
+        EMPTY,
+        b"wasm functions 0 imports 0 exports 0\n",
+    ),
+    (
+        "check-wasm",
+        b"\0asm\x01\0\0\0\x01\x05\x80\x80\x80\x80\0",
+        b"wasm functions 0 imports 0 exports 0\n",
+    ),
+    (
+        "show",
+        ADDING,
+        b"wasm functions 1 imports 0 exports 1\nfunc 0 (i64 i64) i64 4\n",
+    ),
+    (
+        "show",
+        IMPORTING,
+        b"wasm functions 0 imports 1 exports 1\nimport 0 p (i32) -\n",
+    ),
+];
+
 #[test]
 fn modules_are_counted_and_listed(rt: HostRuntime) -> Result<(), Fail> {
-    let no_types = b"\0asm\x01\0\0\0\x01\x05\x80\x80\x80\x80\0";
-    let rows: [(&str, &[u8], &[u8]); 4] = [
-        (
-            "check-wasm",
-            EMPTY,
-            b"wasm functions 0 imports 0 exports 0\n",
-        ),
-        (
-            "check-wasm",
-            no_types,
-            b"wasm functions 0 imports 0 exports 0\n",
-        ),
-        (
-            "show",
-            ADDING,
-            b"wasm functions 1 imports 0 exports 1\nfunc 0 (i64 i64) i64 4\n",
-        ),
-        (
-            "show",
-            IMPORTING,
-            b"wasm functions 0 imports 1 exports 1\nimport 0 p (i32) -\n",
-        ),
-    ];
-    for (command, bytes, text) in rows {
-        ends(&rt, rt.alloc(), &[command, "m"], bytes, b"", 0, text)?;
+    for (command, bytes, text) in LISTED.iter() {
+        ends(&rt, rt.alloc(), &[*command, "m"], bytes, b"", 0, text)?;
     }
     Ok(())
 }
 
+/// The header cut short, and the line that is told of it.
+static FRONTS: [(&[u8], &[u8]); 8] = [
+    (b"", b"wasm refused: B3 Truncated at 0\n"),
+    (b"\0", b"wasm refused: B3 Truncated at 1\n"),
+    (b"\0a", b"wasm refused: B3 Truncated at 2\n"),
+    (b"\0as", b"wasm refused: B3 Truncated at 3\n"),
+    (b"\0asm", b"wasm refused: B3 Truncated at 4\n"),
+    (b"\0asm\x01", b"wasm refused: B3 Truncated at 5\n"),
+    (b"\0asm\x01\0", b"wasm refused: B3 Truncated at 6\n"),
+    (b"\0asm\x01\0\0", b"wasm refused: B3 Truncated at 7\n"),
+];
+
 #[test]
 fn each_prefix_is_truncated(rt: HostRuntime) -> Result<(), Fail> {
-    let rows: [(&[u8], &[u8]); 8] = [
-        (b"", b"wasm refused: B3 Truncated at 0\n"),
-        (b"\0", b"wasm refused: B3 Truncated at 1\n"),
-        (b"\0a", b"wasm refused: B3 Truncated at 2\n"),
-        (b"\0as", b"wasm refused: B3 Truncated at 3\n"),
-        (b"\0asm", b"wasm refused: B3 Truncated at 4\n"),
-        (b"\0asm\x01", b"wasm refused: B3 Truncated at 5\n"),
-        (b"\0asm\x01\0", b"wasm refused: B3 Truncated at 6\n"),
-        (b"\0asm\x01\0\0", b"wasm refused: B3 Truncated at 7\n"),
-    ];
-    for (bytes, line) in rows {
+    for (bytes, line) in FRONTS.iter() {
         ends(&rt, rt.alloc(), &["check-wasm", "m"], bytes, b"", 3, line)?;
     }
     Ok(())
 }
 
+/// A module, a script, the status, and the line that is told of them.
+static REFUSED: [(&[u8], &[u8], u8, &[u8]); 9] = [
+    (EMPTY, b"call f", 4, b"script refused: line 1\n"),
+    (
+        b"\0asm\x01\0\0\0\x01\x05\x80\x80\x80\x80\x10",
+        b"",
+        3,
+        b"wasm refused: B4 Leb at 10\n",
+    ),
+    (TABLE_IMPORT, b"", 3, b"wasm refused: B14 ImportedTable 0\n"),
+    (
+        MUTABLE_IMPORT,
+        b"",
+        3,
+        b"wasm refused: B15 MutableImport 0\n",
+    ),
+    (MANY_PAGES, b"", 3, b"wasm refused: B19 MemoryLarge 4097\n"),
+    (
+        ADDING,
+        b"call m 1 2\ncall m 1",
+        4,
+        b"script refused: line 2\n",
+    ),
+    (
+        LOADING,
+        b"call l 4294967296",
+        4,
+        b"script refused: line 1\n",
+    ),
+    (
+        ADDING,
+        b"call m 1\n\nthrow now",
+        4,
+        b"script refused: line 3\n",
+    ),
+    (GLOBAL, b"", 4, b"script refused: line 0\n"),
+];
+
 #[test]
 fn modules_and_scripts_are_refused(rt: HostRuntime) -> Result<(), Fail> {
-    let sixth = b"\0asm\x01\0\0\0\x01\x05\x80\x80\x80\x80\x10";
-    let rows: [(&[u8], &[u8], u8, &[u8]); 9] = [
-        (EMPTY, b"call f", 4, b"script refused: line 1\n"),
-        (sixth, b"", 3, b"wasm refused: B4 Leb at 10\n"),
-        (TABLE_IMPORT, b"", 3, b"wasm refused: B14 ImportedTable 0\n"),
-        (
-            MUTABLE_IMPORT,
-            b"",
-            3,
-            b"wasm refused: B15 MutableImport 0\n",
-        ),
-        (MANY_PAGES, b"", 3, b"wasm refused: B19 MemoryLarge 4097\n"),
-        (
-            ADDING,
-            b"call m 1 2\ncall m 1",
-            4,
-            b"script refused: line 2\n",
-        ),
-        (
-            LOADING,
-            b"call l 4294967296",
-            4,
-            b"script refused: line 1\n",
-        ),
-        (
-            ADDING,
-            b"call m 1\n\nthrow now",
-            4,
-            b"script refused: line 3\n",
-        ),
-        (GLOBAL, b"", 4, b"script refused: line 0\n"),
-    ];
-    for (bytes, script, code, line) in rows {
+    for (bytes, script, code, line) in REFUSED.iter() {
         ends(
             &rt,
             rt.alloc(),
             &["run-wasm", "m", "s"],
             bytes,
             script,
-            code,
+            *code,
             line,
         )?;
     }

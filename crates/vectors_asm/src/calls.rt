@@ -194,16 +194,18 @@ fn units_run_out(rt: HostRuntime) -> Result<(), Fail> {
     prints(&rt, rt.alloc(), "run-asm", &OUT_OF_UNITS)
 }
 
+/// A module, a script, and the line that is told of them.
+static REFUSED: [(&[u8], &[u8], &[u8]); 5] = [
+    (ADD, b"call f 1", b"script refused: line 1\n"),
+    (ADD, b"call f 1 4294967296", b"script refused: line 1\n"),
+    (ADD, b"call f 1 2\n\nthrow now", b"script refused: line 3\n"),
+    (ADD, b"call f 1\nthrow now", b"script refused: line 2\n"),
+    (USUAL, b"call stackAlloc 5", b"script refused: line 0\n"),
+];
+
 #[test]
 fn scripts_are_refused(rt: HostRuntime) -> Result<(), Fail> {
-    let rows: [(&[u8], &[u8], &[u8]); 5] = [
-        (ADD, b"call f 1", b"script refused: line 1\n"),
-        (ADD, b"call f 1 4294967296", b"script refused: line 1\n"),
-        (ADD, b"call f 1 2\n\nthrow now", b"script refused: line 3\n"),
-        (ADD, b"call f 1\nthrow now", b"script refused: line 2\n"),
-        (USUAL, b"call stackAlloc 5", b"script refused: line 0\n"),
-    ];
-    for (text, script, line) in rows {
+    for (text, script, line) in REFUSED.iter() {
         ends(
             &rt,
             rt.alloc(),

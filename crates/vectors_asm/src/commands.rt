@@ -1,5 +1,6 @@
 //! Whole calls over files and sinks in memory.
-use bridge_cmd::{Status, bridge};
+use crate::program::{called, is_ending, same_bytes};
+use bridge_cmd::Status;
 use bridge_io::{MemFiles, MemSink};
 use std::alloc::{AllocError, Global};
 use std::process::Abort;
@@ -224,25 +225,16 @@ fn all_files(alloc: Global) -> Result<MemFiles, AllocError> {
     Ok(files)
 }
 
-fn all_words(alloc: Global, words: &[&str]) -> Result<Vec<String>, AllocError> {
-    let mut all = vec![in alloc; String::from_str(alloc, "bridge")?]?;
-    for word in words {
-        all.push(String::from_str(alloc, word)?)?;
-    }
-    Ok(all)
-}
-
 /// The call ends as the row says.
 fn ends(rt: &impl Abort, alloc: Global, row: &Row) -> Result<(), Fail> {
     let (words, code, output, line) = *row;
-    let all = all_words(alloc, words)?;
-    let mut files = all_files(alloc)?;
-    let mut out = MemSink::new(alloc, 1000, 1000)?;
-    let mut report = MemSink::new(alloc, 1000, 1000)?;
-    let status = bridge(alloc, &all, &mut files, &mut out, &mut report);
-    assert_eq!(rt; status.code(), code, "{words:?}");
-    assert_eq!(rt; out.bytes(), output, "{words:?}");
-    assert_eq!(rt; report.bytes(), line, "{words:?}");
+    let files = all_files(alloc)?;
+    let out = MemSink::new(alloc, 1000, 1000)?;
+    let report = MemSink::new(alloc, 1000, 1000)?;
+    let Ok(ending) = called(alloc, words, files, out, report) else {
+        return Err(Fail::new("out of memory"));
+    };
+    is_ending(rt, words, &ending, code, output, line);
     Ok(())
 }
 
@@ -254,24 +246,36 @@ fn calls_end_as_the_table_says(rt: HostRuntime) -> Result<(), Fail> {
     Ok(())
 }
 
+const ADDING: [&str; 2] = ["asm2wasm", "add.js"];
+
 #[test]
-fn a_failed_read_or_write_is_told(rt: HostRuntime) -> Result<(), Fail> {
+fn a_failed_read_is_told(rt: HostRuntime) -> Result<(), Fail> {
     let alloc = rt.alloc();
-    let words = all_words(alloc, &["asm2wasm", "add.js"])?;
     let mut files = all_files(alloc)?;
     files.fail_at(1)?;
+    let out = MemSink::new(alloc, 1000, 1)?;
+    let report = MemSink::new(alloc, 1000, 1000)?;
+    let Ok(ending) = called(alloc, &ADDING, files, out, report) else {
+        return Err(Fail::new("out of memory"));
+    };
+    assert!(rt; ending.status == Status::ReadFault);
+    same_bytes(&rt, &ADDING, ending.output(), b"");
+    same_bytes(&rt, &ADDING, ending.reported(), b"read fault\n");
+    Ok(())
+}
+
+#[test]
+fn a_failed_write_is_told(rt: HostRuntime) -> Result<(), Fail> {
+    let alloc = rt.alloc();
+    let files = all_files(alloc)?;
     let mut out = MemSink::new(alloc, 1000, 1)?;
-    let mut report = MemSink::new(alloc, 1000, 1000)?;
-    let status = bridge(alloc, &words, &mut files, &mut out, &mut report);
-    assert_eq!(rt; status, Status::ReadFault);
-    assert_eq!(rt; out.bytes(), b"".as_slice());
-    assert_eq!(rt; report.bytes(), b"read fault\n".as_slice());
-    let mut files = all_files(alloc)?;
     out.fail_at(2)?;
-    let mut report = MemSink::new(alloc, 1000, 1000)?;
-    let status = bridge(alloc, &words, &mut files, &mut out, &mut report);
-    assert_eq!(rt; status, Status::WriteFault);
-    assert_eq!(rt; out.bytes(), [0x00].as_slice());
-    assert_eq!(rt; report.bytes(), b"".as_slice());
+    let report = MemSink::new(alloc, 1000, 1000)?;
+    let Ok(ending) = called(alloc, &ADDING, files, out, report) else {
+        return Err(Fail::new("out of memory"));
+    };
+    assert!(rt; ending.status == Status::WriteFault);
+    same_bytes(&rt, &ADDING, ending.output(), &[0x00]);
+    same_bytes(&rt, &ADDING, ending.reported(), b"");
     Ok(())
 }

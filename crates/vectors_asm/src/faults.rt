@@ -1,7 +1,8 @@
 //! Reads and writes that fail, one after the other, by the whole program.
 use crate::checks::USUAL;
 use crate::modules::ADDING;
-use bridge_cmd::{Status, bridge};
+use crate::program::{Ending, called, is_ending, same_bytes, two_files};
+use bridge_cmd::Status;
 use bridge_io::{MemFiles, MemSink};
 use std::alloc::{AllocError, Global};
 use std::process::Abort;
@@ -61,41 +62,30 @@ enum Fault {
     Report(u64),
 }
 
-/// How a call ended, and what it wrote.
-#[derive(Drop)]
-struct Ending {
-    status: Status,
-    out: MemSink,
-    report: MemSink,
-}
-
-fn words_of(alloc: Global, words: &[&str]) -> Result<Vec<String>, AllocError> {
-    let mut all = vec![in alloc; String::from_str(alloc, "bridge")?]?;
-    for word in words {
-        all.push(String::from_str(alloc, word)?)?;
+/// The fault happens.
+fn happens(
+    fault: Fault,
+    files: &mut MemFiles,
+    out: &mut MemSink,
+    report: &mut MemSink,
+) -> Result<(), AllocError> {
+    match fault {
+        Fault::Read(k) => files.fail_at(k),
+        Fault::Output(k) => out.fail_at(k),
+        Fault::Report(k) => report.fail_at(k),
     }
-    Ok(all)
 }
 
 /// The call with this fault. Its output takes one byte at a time.
-fn call(alloc: Global, whole: &Whole, fault: Fault) -> Result<Ending, AllocError> {
-    let words = words_of(alloc, whole.words)?;
-    let mut files = MemFiles::new(alloc);
-    files.add("m", whole.module)?;
-    files.add("s", whole.script)?;
+fn call(alloc: Global, whole: &Whole, fault: Fault) -> Result<Ending, Fail> {
+    let mut files = two_files(alloc, whole.module, whole.script)?;
     let mut out = MemSink::new(alloc, 1000, 1)?;
     let mut report = MemSink::new(alloc, 1000, 1000)?;
-    match fault {
-        Fault::Read(k) => files.fail_at(k)?,
-        Fault::Output(k) => out.fail_at(k)?,
-        Fault::Report(k) => report.fail_at(k)?,
+    happens(fault, &mut files, &mut out, &mut report)?;
+    match called(alloc, whole.words, files, out, report) {
+        Ok(ending) => Ok(ending),
+        Err(_) => Err(Fail::new("out of memory")),
     }
-    let status = bridge(alloc, &words, &mut files, &mut out, &mut report);
-    Ok(Ending {
-        status,
-        out,
-        report,
-    })
 }
 
 /// With a read failing, the first and so on, the call ends with a failed read and an empty output, until it makes fewer reads than that.
@@ -103,14 +93,14 @@ fn reads_fail(rt: &impl Abort, alloc: Global, whole: &Whole) -> Result<(), Fail>
     for before in 0..10u64 {
         let ending = call(alloc, whole, Fault::Read(before + 1))?;
         if ending.status == Status::Done {
-            assert_eq!(rt; ending.out.bytes(), whole.written);
+            same_bytes(rt, whole.words, ending.output(), whole.written);
             // Each of its two files was read.
             assert!(rt; 2 <= before);
             return Ok(());
         }
-        assert_eq!(rt; ending.status, Status::ReadFault);
-        assert_eq!(rt; ending.out.bytes(), b"".as_slice());
-        assert_eq!(rt; ending.report.bytes(), b"read fault\n".as_slice());
+        assert!(rt; ending.status == Status::ReadFault);
+        same_bytes(rt, whole.words, ending.output(), b"");
+        same_bytes(rt, whole.words, ending.reported(), b"read fault\n");
     }
     Err(Fail::new("no call ended"))
 }
@@ -125,15 +115,14 @@ fn each_read_in_turn_fails(rt: HostRuntime) -> Result<(), Fail> {
 fn writes_fail(rt: &impl Abort, alloc: Global, whole: &Whole) -> Result<(), Fail> {
     for before in 0..1000usize {
         let ending = call(alloc, whole, Fault::Output(before as u64 + 1))?;
-        let out = ending.out.bytes();
-        assert_eq!(rt; out.len(), before);
-        assert!(rt; whole.written.starts_with(out));
-        assert_eq!(rt; ending.report.bytes(), b"".as_slice());
+        let out = ending.output();
+        assert!(rt; out.len() == before && whole.written.starts_with(out));
+        same_bytes(rt, whole.words, ending.reported(), b"");
         if ending.status == Status::Done {
-            assert_eq!(rt; out, whole.written);
+            same_bytes(rt, whole.words, out, whole.written);
             return Ok(());
         }
-        assert_eq!(rt; ending.status, Status::WriteFault);
+        assert!(rt; ending.status == Status::WriteFault);
     }
     Err(Fail::new("no call ended"))
 }
@@ -147,9 +136,7 @@ fn each_write_in_turn_fails(rt: HostRuntime) -> Result<(), Fail> {
 #[test]
 fn the_report_fails(rt: HostRuntime) -> Result<(), Fail> {
     let ending = call(rt.alloc(), &WORDLESS, Fault::Report(1))?;
-    assert_eq!(rt; ending.status, Status::WriteFault);
-    assert_eq!(rt; ending.status.code(), 6);
-    assert_eq!(rt; ending.out.bytes(), b"".as_slice());
-    assert_eq!(rt; ending.report.bytes(), b"".as_slice());
+    assert!(rt; ending.status == Status::WriteFault);
+    is_ending(&rt, &[], &ending, 6, b"", b"");
     Ok(())
 }

@@ -1,6 +1,6 @@
 //! Texts and modules that are cut short, and texts as high as the limit allows, by the whole program.
 use crate::modules::ADDING;
-use crate::program::{call, ends};
+use crate::program::{code_of, ends};
 use std::alloc::{AllocError, Global};
 use std::process::Abort;
 use std::test::Fail;
@@ -53,7 +53,8 @@ fn front_of_a_text(rt: &impl Abort, alloc: Global, front: &[u8]) -> Result<(), F
         14..=21 => b"asm.js refused: A2 BadToken at 13\n".as_slice(),
         74 => b"asm.js refused: A5 Grammar at 74\n".as_slice(),
         _ => {
-            assert_eq!(rt; call(alloc, &["check-asm", "m"], front, b"")?.code, 2);
+            let code = code_of(alloc, &["check-asm", "m"], front);
+            assert_eq!(rt; code, Some(2), "{}", front.len());
             return Ok(());
         }
     };
@@ -71,19 +72,21 @@ fn fronts_of_a_text(rt: HostRuntime) -> Result<(), Fail> {
     ends(&rt, alloc, &["check-asm", "m"], &front, b"", 0, COUNTED)
 }
 
+/// Modules, and the line that is told of them.
+static LARGE_COUNTS: [(&[u8], &[u8]); 2] = [
+    (
+        b"\0asm\x01\0\0\0\x01\x05\xff\xff\xff\xff\x0f",
+        b"wasm refused: B12 Limit at 10\n",
+    ),
+    (
+        b"\0asm\x01\0\0\0\x07\x05\xff\xff\xff\xff\x0f",
+        b"wasm refused: B6 SectionSize at 15\n",
+    ),
+];
+
 #[test]
 fn counts_that_are_too_large(rt: HostRuntime) -> Result<(), Fail> {
-    let rows: [(&[u8], &[u8]); 2] = [
-        (
-            b"\0asm\x01\0\0\0\x01\x05\xff\xff\xff\xff\x0f",
-            b"wasm refused: B12 Limit at 10\n",
-        ),
-        (
-            b"\0asm\x01\0\0\0\x07\x05\xff\xff\xff\xff\x0f",
-            b"wasm refused: B6 SectionSize at 15\n",
-        ),
-    ];
-    for (bytes, line) in rows {
+    for (bytes, line) in LARGE_COUNTS.iter() {
         ends(&rt, rt.alloc(), &["check-wasm", "m"], bytes, b"", 3, line)?;
     }
     Ok(())

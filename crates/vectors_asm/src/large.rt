@@ -30,30 +30,47 @@ fn bodies(alloc: Global, n: u32) -> Result<List<Body<'static>>, AllocError> {
     Ok(List::from_vec(bodies))
 }
 
+/// A number of 32 bits, alone.
+fn one_number(alloc: Global) -> Result<List<ValType>, AllocError> {
+    Ok(List::from_vec(Vec::from_slice(alloc, &[ValType::I32])?))
+}
+
+/// The type of each function.
+fn types(alloc: Global) -> Result<List<FuncType>, AllocError> {
+    let mut types = Vec::new(alloc);
+    types.push(FuncType {
+        params: one_number(alloc)?,
+        results: one_number(alloc)?,
+    })?;
+    Ok(List::from_vec(types))
+}
+
 /// A module of so many functions.
 fn chain(alloc: Global, n: u32) -> Result<Module<'static>, AllocError> {
-    let function_type = FuncType {
-        params: List::from_vec(vec![in alloc; ValType::I32]?),
-        results: List::from_vec(vec![in alloc; ValType::I32]?),
-    };
-    Ok(Module {
-        types: List::from_vec(vec![in alloc; function_type]?),
-        imports: List::new(alloc),
-        functions: List::from_vec(vec![in alloc; 0u32; n as usize]?),
-        tables: List::new(alloc),
-        memories: List::new(alloc),
-        globals: List::new(alloc),
-        exports: List::new(alloc),
-        start: None,
-        elements: List::new(alloc),
-        bodies: bodies(alloc, n)?,
-        segments: List::new(alloc),
-    })
+    let functions = vec![in alloc; 0u32; n as usize];
+    match (types(alloc), functions, bodies(alloc, n)) {
+        (Ok(types), Ok(functions), Ok(bodies)) => Ok(Module {
+            types,
+            imports: List::new(alloc),
+            functions: List::from_vec(functions),
+            tables: List::new(alloc),
+            memories: List::new(alloc),
+            globals: List::new(alloc),
+            exports: List::new(alloc),
+            start: None,
+            elements: List::new(alloc),
+            bodies,
+            segments: List::new(alloc),
+        }),
+        _ => Err(AllocError),
+    }
 }
 
 /// The module of so many functions is written, read, and written again as the same bytes: at least nine for each function.
 fn is_written_and_read(rt: &impl Abort, alloc: Global, n: u32) -> Result<(), Fail> {
-    let module = chain(alloc, n)?;
+    let Ok(module) = chain(alloc, n) else {
+        return Err(Fail::new("out of memory"));
+    };
     let written = write(alloc, &module)?;
     assert!(rt; written.len() / 9 >= n as usize);
     let again = rewritten(alloc, written.as_slice())?;

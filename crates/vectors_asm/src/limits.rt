@@ -2,7 +2,7 @@
 //! `wasm2js` takes them, by the whole program.
 use crate::checks::USUAL;
 use crate::modules::{LOADING, TABLE};
-use crate::program::{call, ends};
+use crate::program::{code_of, done, ends};
 use std::alloc::{AllocError, Global};
 use std::process::Abort;
 use std::test::Fail;
@@ -34,7 +34,7 @@ fn front(rt: &impl Abort, alloc: Global, cut: &Cut, bytes: &[u8]) -> Result<(), 
     let n = bytes.len();
     let words = ["check-wasm", "m"];
     if cut.whole.contains(&n) {
-        assert_eq!(rt; call(alloc, &words, bytes, b"")?.code, 0, "{n}");
+        assert_eq!(rt; code_of(alloc, &words, bytes), Some(0), "{n}");
         return Ok(());
     }
     let line = if cut.bodiless.contains(&n) {
@@ -69,10 +69,10 @@ fn fronts_of_a_usual_text(rt: HostRuntime) -> Result<(), Fail> {
     let mut bytes = Vec::new(alloc);
     for byte in USUAL {
         let n = bytes.len();
-        assert_eq!(rt; call(alloc, &words, &bytes, b"")?.code, 2, "{n}");
+        assert_eq!(rt; code_of(alloc, &words, &bytes), Some(2), "{n}");
         bytes.push(*byte)?;
     }
-    assert_eq!(rt; call(alloc, &words, &bytes, b"")?.code, 0);
+    assert!(rt; code_of(alloc, &words, &bytes) == Some(0));
     Ok(())
 }
 
@@ -110,8 +110,9 @@ fn the_deepest_blocks_are_translated(rt: HostRuntime) -> Result<(), Fail> {
     let alloc = rt.alloc();
     let words = ["wasm2js", "m"];
     let most = nested(alloc, 900, [0x91, 0x15], [0x8e, 0x15])?;
-    let text = call(alloc, &words, &most, b"")?;
-    assert_eq!(rt; text.code, 0);
+    let Some(text) = done(alloc, &words, &most) else {
+        return Err(Fail::new("900 levels"));
+    };
     let script = b"call $init";
     let printed = b"returned\nend done\n";
     ends(

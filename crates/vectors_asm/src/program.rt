@@ -1,5 +1,5 @@
 //! The whole program, over files in memory.
-use bridge_cmd::bridge;
+use bridge_cmd::{Status, bridge};
 use bridge_io::{MemFiles, MemSink};
 use std::alloc::{AllocError, Global};
 use std::process::Abort;
@@ -14,6 +14,17 @@ pub(crate) struct Row {
     pub(crate) printed: &'static [u8],
 }
 
+/// The words of a command and these options.
+pub(crate) fn with_options(
+    alloc: Global,
+    words: &[&'static str],
+    options: &[&'static str],
+) -> Result<Vec<&'static str>, AllocError> {
+    let mut all = Vec::from_slice(alloc, words)?;
+    all.extend_from_slice(options)?;
+    Ok(all)
+}
+
 /// What the command prints of the session is the row's.
 pub(crate) fn prints(
     rt: &impl Abort,
@@ -21,55 +32,126 @@ pub(crate) fn prints(
     command: &'static str,
     row: &Row,
 ) -> Result<(), Fail> {
-    let mut words = vec![in alloc; command, "m", "s"]?;
-    for option in row.options {
-        words.push(*option)?;
-    }
+    let words = with_options(alloc, &[command, "m", "s"], row.options)?;
     ends(rt, alloc, &words, row.module, row.script, 0, row.printed)
 }
 
+/// The program's name and these words.
 fn all_words(alloc: Global, words: &[&str]) -> Result<Vec<String>, AllocError> {
-    let mut all = vec![in alloc; String::from_str(alloc, "bridge")?]?;
+    let mut all = Vec::new(alloc);
+    all.push(String::from_str(alloc, "bridge")?)?;
     for word in words {
         all.push(String::from_str(alloc, word)?)?;
     }
     Ok(all)
 }
 
+/// The files `m` and `s`.
+pub(crate) fn two_files(
+    alloc: Global,
+    module: &[u8],
+    script: &[u8],
+) -> Result<MemFiles, AllocError> {
+    let mut files = MemFiles::new(alloc);
+    files.add("m", module)?;
+    files.add("s", script)?;
+    Ok(files)
+}
+
 /// How a call of the program ended, and what it wrote.
 #[derive(Drop)]
 pub(crate) struct Ending {
-    pub(crate) code: u8,
+    pub(crate) status: Status,
     out: MemSink,
     report: MemSink,
 }
 
 impl Ending {
+    /// The exit status.
+    pub(crate) fn code(&self) -> u8 {
+        self.status.code()
+    }
+
     /// What was written to the output.
     pub(crate) fn output(&self) -> &[u8] {
         self.out.bytes()
     }
+
+    /// What was written to the report.
+    pub(crate) fn reported(&self) -> &[u8] {
+        self.report.bytes()
+    }
 }
 
-/// A call of the program with these words after its name, and the files `m` and `s`.
-pub(crate) fn call(
+/// A call of the program with these words after its name, over these files and sinks.
+pub(crate) fn called(
     alloc: Global,
     words: &[&str],
-    module: &[u8],
-    script: &[u8],
+    mut files: MemFiles,
+    mut out: MemSink,
+    mut report: MemSink,
 ) -> Result<Ending, AllocError> {
-    let all = all_words(alloc, words)?;
-    let mut files = MemFiles::new(alloc);
-    files.add("m", module)?;
-    files.add("s", script)?;
-    let mut out = MemSink::new(alloc, 100_000, 1000)?;
-    let mut report = MemSink::new(alloc, 1000, 1000)?;
-    let status = bridge(alloc, &all, &mut files, &mut out, &mut report);
+    let Ok(words) = all_words(alloc, words) else {
+        return Err(AllocError);
+    };
+    let status = bridge(alloc, &words, &mut files, &mut out, &mut report);
     Ok(Ending {
-        code: status.code(),
+        status,
         out,
         report,
     })
+}
+
+/// A call of the program with these words after its name, and the files `m` and `s`.
+fn call(alloc: Global, words: &[&str], module: &[u8], script: &[u8]) -> Result<Ending, AllocError> {
+    let files = two_files(alloc, module, script);
+    let out = MemSink::new(alloc, 100_000, 1000);
+    let report = MemSink::new(alloc, 1000, 1000);
+    match (files, out, report) {
+        (Ok(files), Ok(out), Ok(report)) => called(alloc, words, files, out, report),
+        _ => Err(AllocError),
+    }
+}
+
+/// The status of a call with the file `m`.
+pub(crate) fn code_of(alloc: Global, words: &[&str], module: &[u8]) -> Option<u8> {
+    match call(alloc, words, module, b"") {
+        Ok(ending) => Some(ending.code()),
+        Err(_) => None,
+    }
+}
+
+/// What a call with the file `m` ended as, where that is with the status 0.
+pub(crate) fn done(alloc: Global, words: &[&str], module: &[u8]) -> Option<Ending> {
+    match call(alloc, words, module, b"") {
+        Ok(ending) => {
+            if ending.status == Status::Done {
+                Some(ending)
+            } else {
+                None
+            }
+        }
+        Err(_) => None,
+    }
+}
+
+/// These bytes were written of a call with these words.
+pub(crate) fn same_bytes(rt: &impl Abort, words: &[&str], seen: &[u8], wanted: &[u8]) {
+    assert_eq!(rt; seen, wanted, "{words:?}");
+}
+
+/// The call has this status, and has written this to its output and to its report.
+pub(crate) fn is_ending(
+    rt: &impl Abort,
+    words: &[&str],
+    ending: &Ending,
+    code: u8,
+    output: &[u8],
+    line: &[u8],
+) {
+    assert_eq!(rt; ending.code(), code, "{words:?}");
+    same_bytes(rt, words, ending.output(), output);
+    same_bytes(rt, words, ending.reported(), line);
 }
 
 /// The call ends with this status, and writes this: to its output where the status is 0, and else to its report.
@@ -82,15 +164,13 @@ pub(crate) fn ends(
     code: u8,
     written: &[u8],
 ) -> Result<(), Fail> {
-    let ending = call(alloc, words, module, script)?;
-    let nothing: &[u8] = b"";
-    let (output, line) = if code == 0 {
-        (written, nothing)
-    } else {
-        (nothing, written)
+    let Ok(ending) = call(alloc, words, module, script) else {
+        return Err(Fail::new("out of memory"));
     };
-    assert_eq!(rt; ending.code, code, "{words:?}");
-    assert_eq!(rt; ending.out.bytes(), output, "{words:?}");
-    assert_eq!(rt; ending.report.bytes(), line, "{words:?}");
+    if code == 0 {
+        is_ending(rt, words, &ending, code, written, b"");
+    } else {
+        is_ending(rt, words, &ending, code, b"", written);
+    }
     Ok(())
 }

@@ -1,5 +1,6 @@
 //! Sessions of modules that are given as texts.
 use asm_run::{Session, fits_asm};
+use asm_validate::Checked;
 use cmd_check_asm::check_text;
 use sem_laws::{CallLine, End, Event, Observation, Reply, ReplyLine, Script};
 use sem_words::{List, Text, Word};
@@ -65,22 +66,24 @@ fn script(
 
 // What is seen of the module with a heap of 4,096 bytes; None where the text isn't accepted or the script
 // doesn't fit.
-fn observed(
-    alloc: Global,
-    text: &[u8],
-    script: &Script,
-    budget: u64,
-) -> Result<Option<Observation>, AllocError> {
+fn observed(alloc: Global, text: &[u8], script: &Script, budget: u64) -> Option<Observation> {
     let Ok(checked) = check_text(alloc, text) else {
-        return Ok(None);
+        return None;
     };
-    match fits_asm(alloc, &checked, 4096, script)? {
-        Ok(()) => {
-            let session = Session::link(alloc, &checked, 4096, script)?;
-            let seen = session.run(alloc, budget)?;
-            Ok(Some(seen.observation(alloc)?))
+    match fits_asm(alloc, &checked, 4096, script) {
+        Ok(Ok(())) => {
+            let Ok(session) = Session::link(alloc, &checked, 4096, script) else {
+                return None;
+            };
+            let Ok(seen) = session.run(alloc, budget) else {
+                return None;
+            };
+            let Ok(observation) = seen.observation(alloc) else {
+                return None;
+            };
+            Some(observation)
         }
-        Err(_) => Ok(None),
+        Ok(Err(_)) | Err(_) => None,
     }
 }
 
@@ -127,10 +130,7 @@ fn is_last(end: &Option<End>, last: &Last<'_>) -> bool {
     }
 }
 
-fn shows(observation: &Option<Observation>, seen: &[Seen<'_>], last: &Last<'_>) -> bool {
-    let Some(observation) = observation else {
-        return false;
-    };
+fn shows(observation: &Observation, seen: &[Seen<'_>], last: &Last<'_>) -> bool {
     let events = observation.events.as_slice();
     events.len() == seen.len()
         && events
@@ -140,27 +140,42 @@ fn shows(observation: &Option<Observation>, seen: &[Seen<'_>], last: &Last<'_>) 
         && is_last(&observation.end, last)
 }
 
-fn runs(
-    alloc: Global,
-    text: &[u8],
-    calls: &[Call<'_>],
-    seen: &[Seen<'_>],
-) -> Result<bool, AllocError> {
-    let script = script(alloc, calls, &[])?;
-    let observation = observed(alloc, text, &script, 1000000)?;
-    Ok(shows(&observation, seen, &Last::Done))
+// What the host does: its calls, its replies, and how many units it gives.
+#[derive(Clone, Copy)]
+struct Host<'a> {
+    calls: &'a [Call<'a>],
+    replies: &'a [Option<u64>],
+    budget: u64,
+}
+
+fn plays(alloc: Global, text: &[u8], host: &Host<'_>, seen: &[Seen<'_>], last: &Last<'_>) -> bool {
+    let Ok(script) = script(alloc, host.calls, host.replies) else {
+        return false;
+    };
+    match observed(alloc, text, &script, host.budget) {
+        Some(observation) => shows(&observation, seen, last),
+        None => false,
+    }
+}
+
+fn runs(alloc: Global, text: &[u8], calls: &[Call<'_>], seen: &[Seen<'_>]) -> bool {
+    let host = Host {
+        calls,
+        replies: &[],
+        budget: 1000000,
+    };
+    plays(alloc, text, &host, seen, &Last::Done)
 }
 
 #[test]
-fn sums_wrap(rt: HostRuntime) -> Result<(), Fail> {
+fn sums_wrap(rt: HostRuntime) {
     let text = b"function m(){\"use asm\";function f(a,b){a=a|0;b=b|0;return a+b|0;}return f;}";
     let calls = [Call(b"f", &[2147483647, 1])];
-    assert!(rt; runs(rt.alloc(), text, &calls, &[Seen::Result(2147483648)])?);
-    Ok(())
+    assert!(rt; runs(rt.alloc(), text, &calls, &[Seen::Result(2147483648)]));
 }
 
 #[test]
-fn quotients(rt: HostRuntime) -> Result<(), Fail> {
+fn quotients(rt: HostRuntime) {
     let text =
         b"function m(){\"use asm\";function d(a,b){a=a|0;b=b|0;return (a|0)/(b|0)|0;}return d;}";
     let calls = [
@@ -173,110 +188,119 @@ fn quotients(rt: HostRuntime) -> Result<(), Fail> {
         Seen::Result(0),
         Seen::Result(4294967293),
     ];
-    assert!(rt; runs(rt.alloc(), text, &calls, &seen)?);
-    Ok(())
+    assert!(rt; runs(rt.alloc(), text, &calls, &seen));
 }
 
 #[test]
-fn booleans(rt: HostRuntime) -> Result<(), Fail> {
+fn booleans(rt: HostRuntime) {
     let text =
         b"function m(){\"use asm\";function f(a,b){a=a|0;b=b|0;var x=0;x=(a|0)<(b|0);return x+x|0;}return f;}";
-    assert!(rt; runs(rt.alloc(), text, &[Call(b"f", &[1, 2])], &[Seen::Result(2)])?);
-    Ok(())
+    assert!(rt; runs(rt.alloc(), text, &[Call(b"f", &[1, 2])], &[Seen::Result(2)]));
 }
 
 #[test]
-fn stores_past_the_heap(rt: HostRuntime) -> Result<(), Fail> {
+fn stores_past_the_heap(rt: HostRuntime) {
     let text =
         b"function m(s,f,h){\"use asm\";var H=new s.Int32Array(h);function g(){H[4096>>2]=9;return H[4096>>2]|0;}return g;}";
-    assert!(rt; runs(rt.alloc(), text, &[Call(b"g", &[])], &[Seen::Result(0)])?);
-    Ok(())
+    assert!(rt; runs(rt.alloc(), text, &[Call(b"g", &[])], &[Seen::Result(0)]));
 }
 
 #[test]
-fn views_of_one_heap(rt: HostRuntime) -> Result<(), Fail> {
+fn views_of_one_heap(rt: HostRuntime) {
     let text =
         b"function m(s,f,h){\"use asm\";var A=new s.Int32Array(h),B=new s.Uint8Array(h),C=new s.Int16Array(h);function a(){A[0]=-2;return B[0]|0;}function c(){return C[1]|0;}return {a:a,c:c};}";
     let calls = [Call(b"a", &[]), Call(b"c", &[])];
     let seen = [Seen::Result(254), Seen::Result(4294967295)];
-    assert!(rt; runs(rt.alloc(), text, &calls, &seen)?);
-    Ok(())
+    assert!(rt; runs(rt.alloc(), text, &calls, &seen));
 }
 
 #[test]
-fn two_shapes_of_a_call(rt: HostRuntime) -> Result<(), Fail> {
+fn two_shapes_of_a_call(rt: HostRuntime) {
     let text = b"function m(s,e){\"use asm\";var f=e.f;function r(){f(1)|0;f(1,2);}return r;}";
-    let script = script(rt.alloc(), &[Call(b"r", &[])], &[Some(5), Some(0)])?;
-    let observation = observed(rt.alloc(), text, &script, 1000000)?;
+    let host = Host {
+        calls: &[Call(b"r", &[])],
+        replies: &[Some(5), Some(0)],
+        budget: 1000000,
+    };
     let seen = [
         Seen::Import(b"f", &[1]),
         Seen::Import(b"f", &[1, 2]),
         Seen::Returned,
     ];
-    assert!(rt; shows(&observation, &seen, &Last::Done));
-    Ok(())
+    assert!(rt; plays(rt.alloc(), text, &host, &seen, &Last::Done));
 }
 
 #[test]
-fn tables(rt: HostRuntime) -> Result<(), Fail> {
+fn tables(rt: HostRuntime) {
     let text =
         b"function m(){\"use asm\";function a(x){x=x|0;return x+10|0;}function b(x){x=x|0;return x+20|0;}function c(x){x=x|0;return x+30|0;}function d(x){x=x|0;return x+40|0;}function f(e){e=e|0;return t[e&3](1)|0;}var t=[a,b,c,d];return f;}";
-    assert!(rt; runs(rt.alloc(), text, &[Call(b"f", &[-1])], &[Seen::Result(41)])?);
-    Ok(())
+    assert!(rt; runs(rt.alloc(), text, &[Call(b"f", &[-1])], &[Seen::Result(41)]));
 }
 
 #[test]
-fn switches(rt: HostRuntime) -> Result<(), Fail> {
+fn switches(rt: HostRuntime) {
     let text =
         b"function m(){\"use asm\";function f(x){x=x|0;var y=0;switch(x|0){case 1:y=y+1|0;case 5:y=y+10|0;default:y=y+100|0;}return y|0;}return f;}";
     let calls = [Call(b"f", &[1]), Call(b"f", &[5]), Call(b"f", &[9])];
     let seen = [Seen::Result(111), Seen::Result(110), Seen::Result(100)];
-    assert!(rt; runs(rt.alloc(), text, &calls, &seen)?);
-    Ok(())
+    assert!(rt; runs(rt.alloc(), text, &calls, &seen));
 }
 
 #[test]
-fn labels(rt: HostRuntime) -> Result<(), Fail> {
+fn labels(rt: HostRuntime) {
     let text =
         b"function m(){\"use asm\";function f(n){n=n|0;var i=0,j=0,s=0;L:for(i=1;(i|0)<100;i=i+1|0){M:for(j=0;(j|0)<3;j=j+1|0){if((i|0)>=(n|0))break L;if((j|0)==1)continue L;if((i&1)==0)break M;}s=s+1|0;}return s+1|0;}return f;}";
     // each even i below n leaves M and is counted; an odd one goes on with L before it is
     let calls = [Call(b"f", &[0]), Call(b"f", &[10]), Call(b"f", &[1000])];
     let seen = [Seen::Result(1), Seen::Result(5), Seen::Result(50)];
-    assert!(rt; runs(rt.alloc(), text, &calls, &seen)?);
-    Ok(())
+    assert!(rt; runs(rt.alloc(), text, &calls, &seen));
 }
 
 const LOOP: &[u8] = b"function m(s,e){\"use asm\";var g=e.g;function f(){while(1)g();}return f;}";
 
 #[test]
-fn too_few_replies(rt: HostRuntime) -> Result<(), Fail> {
-    let calls = [Call(b"f", &[])];
-    let script = script(rt.alloc(), &calls, &[Some(0), Some(0), Some(0)])?;
-    let observation = observed(rt.alloc(), LOOP, &script, 1000000)?;
+fn too_few_replies(rt: HostRuntime) {
+    let host = Host {
+        calls: &[Call(b"f", &[])],
+        replies: &[Some(0), Some(0), Some(0)],
+        budget: 1000000,
+    };
     let seen = [
         Seen::Import(b"g", &[]),
         Seen::Import(b"g", &[]),
         Seen::Import(b"g", &[]),
     ];
-    assert!(rt; shows(&observation, &seen, &Last::NoReply(b"g")));
-    let early = observed(rt.alloc(), LOOP, &script, 2)?;
-    assert!(rt; shows(&early, &[Seen::Import(b"g", &[])], &Last::Running));
-    Ok(())
+    assert!(rt; plays(rt.alloc(), LOOP, &host, &seen, &Last::NoReply(b"g")));
+    let early = Host { budget: 2, ..host };
+    assert!(rt;
+        plays(
+            rt.alloc(),
+            LOOP,
+            &early,
+            &[Seen::Import(b"g", &[])],
+            &Last::Running
+        )
+    );
 }
 
 #[test]
-fn an_import_throws(rt: HostRuntime) -> Result<(), Fail> {
-    let calls = [Call(b"f", &[])];
-    let script = script(rt.alloc(), &calls, &[Some(0), None])?;
-    let observation = observed(rt.alloc(), LOOP, &script, 1000000)?;
-    assert!(rt;
-        shows(
-            &observation,
-            &[Seen::Import(b"g", &[])],
-            &Last::Stopped(b"g")
-        )
-    );
-    Ok(())
+fn an_import_throws(rt: HostRuntime) {
+    let host = Host {
+        calls: &[Call(b"f", &[])],
+        replies: &[Some(0), None],
+        budget: 1000000,
+    };
+    let seen = [Seen::Import(b"g", &[])];
+    assert!(rt; plays(rt.alloc(), LOOP, &host, &seen, &Last::Stopped(b"g")));
+}
+
+// The line of the script of these calls that doesn't fit; None where all fit.
+fn misfit(alloc: Global, checked: &Checked, calls: &[Call<'_>]) -> Result<Option<u64>, AllocError> {
+    let script = script(alloc, calls, &[])?;
+    match fits_asm(alloc, checked, 4096, &script)? {
+        Ok(()) => Ok(None),
+        Err(misfit) => Ok(Some(misfit.line)),
+    }
 }
 
 #[test]
@@ -285,11 +309,11 @@ fn misfits(rt: HostRuntime) -> Result<(), Fail> {
     let Ok(checked) = check_text(rt.alloc(), text) else {
         return Err(Fail::new("refused"));
     };
-    let few = script(rt.alloc(), &[Call(b"f", &[1])], &[])?;
-    assert!(rt; matches!(fits_asm(rt.alloc(), &checked, 4096, &few), Ok(Err(misfit)) if misfit.line == 1));
-    let large = script(rt.alloc(), &[Call(b"f", &[1, 4294967296])], &[])?;
-    assert!(rt; matches!(fits_asm(rt.alloc(), &checked, 4096, &large), Ok(Err(misfit)) if misfit.line == 1));
-    let none = script(rt.alloc(), &[], &[])?;
-    assert!(rt; matches!(fits_asm(rt.alloc(), &checked, 4096, &none), Ok(Ok(()))));
+    let lines = [
+        misfit(rt.alloc(), &checked, &[Call(b"f", &[1])])?,
+        misfit(rt.alloc(), &checked, &[Call(b"f", &[1, 4294967296])])?,
+        misfit(rt.alloc(), &checked, &[])?,
+    ];
+    assert_eq!(rt; lines, [Some(1), Some(1), None]);
     Ok(())
 }

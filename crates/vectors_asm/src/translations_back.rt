@@ -5,7 +5,7 @@ use crate::modules::{
     MULTIPLYING, MUTABLE_IMPORT, PADDED, PAGES, POLYMORPHIC, ROTATING, STORING, TABLE,
     TABLE_IMPORT,
 };
-use crate::program::{Row, call, ends};
+use crate::program::{Row, code_of, done, ends, with_options};
 use std::alloc::Global;
 use std::process::Abort;
 use std::test::Fail;
@@ -194,14 +194,12 @@ static REFUSED: [Refused; 4] = [
 
 /// The text of the translated module is accepted, and prints what the row says.
 fn prints_the_same(rt: &impl Abort, alloc: Global, row: &Row) -> Result<(), Fail> {
-    let ending = call(alloc, &["wasm2js", "m"], row.module, b"")?;
-    assert_eq!(rt; ending.code, 0, "{}", row.name);
-    let checked = call(alloc, &["check-asm", "m"], ending.output(), b"")?;
-    assert_eq!(rt; checked.code, 0, "{}", row.name);
-    let mut words = vec![in alloc; "run-asm", "m", "s"]?;
-    for option in row.options {
-        words.push(*option)?;
-    }
+    let Some(ending) = done(alloc, &["wasm2js", "m"], row.module) else {
+        return Err(Fail::new(row.name));
+    };
+    let checked = code_of(alloc, &["check-asm", "m"], ending.output());
+    assert_eq!(rt; checked, Some(0), "{}", row.name);
+    let words = with_options(alloc, &["run-asm", "m", "s"], row.options)?;
     ends(
         rt,
         alloc,

@@ -1,45 +1,13 @@
 //! Worked rows.
 use asm_run_tables::table_entry;
-use asm_tree::{Exports, Function, Module, Table};
+use asm_text::read;
+use asm_tree::Function;
 use asm_validate_names::Environment;
-use sem_words::{JsValue, List, Text};
-use std::alloc::{AllocError, Global};
+use sem_words::JsValue;
 use std::test::Fail;
 
-fn text(alloc: Global, bytes: &[u8]) -> Result<Text, AllocError> {
-    Text::from_bytes(alloc, bytes)
-}
-
-// A module with a function f and a table of f and g.
-fn example(alloc: Global) -> Result<Module, AllocError> {
-    let mut functions = Vec::new(alloc);
-    let first = Function {
-        name: text(alloc, b"f")?,
-        params: List::new(alloc),
-        locals: List::new(alloc),
-        body: List::new(alloc),
-    };
-    match functions.push(first) {
-        Ok(()) => {}
-        Err(_) => return Err(AllocError),
-    }
-    let mut members = Vec::new(alloc);
-    members.push(text(alloc, b"f")?)?;
-    members.push(text(alloc, b"g")?)?;
-    let mut tables = Vec::new(alloc);
-    tables.push(Table {
-        name: text(alloc, b"t")?,
-        members: List::from_vec(members),
-    })?;
-    Ok(Module {
-        name: None,
-        params: List::new(alloc),
-        globals: List::new(alloc),
-        functions: List::from_vec(functions),
-        tables: List::from_vec(tables),
-        exports: Exports::One(text(alloc, b"f")?),
-    })
-}
+// A table of a function f, and of g, which is none.
+const TEXT: &[u8] = b"function(){'use asm';function f(){}var t=[f,g];return f}";
 
 fn is_named(function: Option<&Function>, name: &[u8]) -> bool {
     match function {
@@ -48,18 +16,31 @@ fn is_named(function: Option<&Function>, name: &[u8]) -> bool {
     }
 }
 
+// Where no function stands.
+static OTHERS: [JsValue; 4] = [
+    JsValue::Whole(1),
+    JsValue::Whole(2),
+    JsValue::Whole(-1),
+    JsValue::NaN,
+];
+
 #[test]
 fn entries(rt: HostRuntime) -> Result<(), Fail> {
-    let module = example(rt.alloc())?;
-    let environment = Environment::new(rt.alloc(), &module)?;
-    assert_eq!(rt; module.tables.len(), 1);
-    for table in module.tables.as_slice() {
-        let first = table_entry(&environment, table, JsValue::Whole(0));
-        assert!(rt; is_named(first, b"f"));
-        assert!(rt; table_entry(&environment, table, JsValue::Whole(1)).is_none());
-        assert!(rt; table_entry(&environment, table, JsValue::Whole(2)).is_none());
-        assert!(rt; table_entry(&environment, table, JsValue::Whole(-1)).is_none());
-        assert!(rt; table_entry(&environment, table, JsValue::NaN).is_none());
+    let Ok(parsed) = read(rt.alloc(), TEXT) else {
+        return Err(Fail::new("the text says a module"));
+    };
+    let environment = Environment::new(rt.alloc(), &parsed.module)?;
+    let Some(table) = parsed.module.tables.get(0) else {
+        return Err(Fail::new("the module has a table"));
+    };
+    assert!(rt; parsed.module.tables.len() == 1);
+    let first = table_entry(&environment, table, JsValue::Whole(0));
+    assert!(rt; is_named(first, b"f"));
+    for index in OTHERS.iter() {
+        assert!(rt;
+            table_entry(&environment, table, *index).is_none(),
+            "{index:?}"
+        );
     }
     Ok(())
 }

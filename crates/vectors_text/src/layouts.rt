@@ -5,20 +5,20 @@ use std::test::Fail;
 
 #[test]
 fn equal_names(rt: HostRuntime) -> Result<(), Fail> {
-    let mut names = Vec::new(rt.alloc());
-    names.push(b"a".as_slice())?;
-    names.push(b"b".as_slice())?;
-    names.push(b"a".as_slice())?;
-    let layout = Layout::new(rt.alloc(), names)?;
-    assert_eq!(rt; layout.slot(b"a"), Some(0));
-    assert_eq!(rt; layout.slot(b"b"), Some(1));
-    assert_eq!(rt; layout.slot(b"c"), None);
+    let names = [b"a".as_slice(), b"b".as_slice(), b"a".as_slice()];
+    let layout = Layout::new(rt.alloc(), Vec::from_slice(rt.alloc(), &names)?)?;
+    let slots = [layout.slot(b"a"), layout.slot(b"b"), layout.slot(b"c")];
+    assert_eq!(rt; slots, [Some(0), Some(1), None]);
     let three = [JsValue::Whole(1), JsValue::Whole(2), JsValue::Whole(3)];
     let mut values = Values::new(Vec::from_slice(rt.alloc(), three.as_slice())?);
     assert!(rt; layout.set(&mut values, b"a", JsValue::NaN));
     assert!(rt; !layout.set(&mut values, b"c", JsValue::NaN));
-    assert_eq!(rt; values.get(0), Some(JsValue::NaN));
-    assert_eq!(rt; values.get(2), Some(JsValue::Whole(3)));
-    assert_eq!(rt; layout.get(&values, b"b"), Some(JsValue::Whole(2)));
+    let found = [values.get(0), values.get(2), layout.get(&values, b"b")];
+    let wanted = [
+        Some(JsValue::NaN),
+        Some(JsValue::Whole(3)),
+        Some(JsValue::Whole(2)),
+    ];
+    assert_eq!(rt; found, wanted);
     Ok(())
 }

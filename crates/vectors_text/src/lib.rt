@@ -6,6 +6,8 @@ mod entries;
 #[cfg(test)]
 mod layouts;
 #[cfg(test)]
+mod pieces;
+#[cfg(test)]
 mod texts;
 #[cfg(test)]
 mod tokens;

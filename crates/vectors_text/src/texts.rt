@@ -3,29 +3,24 @@ mod heights;
 mod refusals;
 mod round_trip;
 
+use asm_text::{TextFault, read};
 use std::alloc::Global;
-use std::test::*;
+use std::process::Abort;
 
 /// A module up to the statements of its one function.
-pub const OPEN: &[u8] = b"function m(){\"use asm\";function f(){";
+pub(crate) const OPEN: &[u8] = b"function m(){\"use asm\";function f(){";
 
 /// What stands behind those statements.
-pub const CLOSE: &[u8] = b"}return f;}";
+pub(crate) const CLOSE: &[u8] = b"}return f;}";
 
-/// The parts, one after the other.
-pub fn joined(alloc: Global, parts: &[&[u8]]) -> Result<Vec<u8>, Fail> {
-    let mut text = Vec::new(alloc);
-    for part in parts {
-        text.extend_from_slice(part)?;
+fn fault_of(alloc: Global, text: &[u8]) -> Option<TextFault> {
+    match read(alloc, text) {
+        Ok(_) => None,
+        Err(fault) => Some(fault),
     }
-    Ok(text)
 }
 
-/// The piece so many times.
-pub fn repeated(alloc: Global, piece: &[u8], count: usize) -> Result<Vec<u8>, Fail> {
-    let mut text = Vec::new(alloc);
-    for _ in 0..count {
-        text.extend_from_slice(piece)?;
-    }
-    Ok(text)
+/// The text of this name has this fault, or none.
+fn has_fault(rt: &impl Abort, name: &str, alloc: Global, text: &[u8], fault: Option<TextFault>) {
+    assert_eq!(rt; fault_of(alloc, text), fault, "{name}");
 }

@@ -1,6 +1,7 @@
 //! Texts that are accepted, with what is told of their modules, and texts that are refused.
+use crate::pieces::joined;
 use asm_lang_valid::Rule;
-use asm_validate::{Checked, Signature};
+use asm_validate::{Checked, ExportOf, ForeignCall, Signature};
 use cmd_check_asm::{AsmRow, CheckFault, check_text, counts, row_name};
 use std::alloc::{AllocError, Global};
 use std::process::Abort;
@@ -15,16 +16,35 @@ function h(){c=1;}\
 var t=[g,g];\
 return{run:h,g:g};}";
 
-fn checked(alloc: Global, text: &[u8]) -> Result<Checked, Fail> {
+fn checked(alloc: Global, text: &[u8]) -> Option<Checked> {
     match check_text(alloc, text) {
-        Ok(checked) => Ok(checked),
-        Err(_) => Err(Fail::new("refused")),
+        Ok(checked) => Some(checked),
+        Err(_) => None,
     }
+}
+
+fn fault_of(alloc: Global, text: &[u8]) -> Option<CheckFault> {
+    match check_text(alloc, text) {
+        Ok(_) => None,
+        Err(fault) => Some(fault),
+    }
+}
+
+/// The text of this name has this fault, or none.
+fn has_fault(rt: &impl Abort, name: &str, alloc: Global, text: &[u8], fault: Option<CheckFault>) {
+    assert_eq!(rt; fault_of(alloc, text), fault, "{name}");
 }
 
 #[test]
 fn an_accepted_module_tells_its_facts(rt: HostRuntime) -> Result<(), Fail> {
-    let module = checked(rt.alloc(), WHOLE)?;
+    let Some(module) = checked(rt.alloc(), WHOLE) else {
+        return Err(Fail::new("refused"));
+    };
+    let signatures = [
+        module.signature(0),
+        module.signature(1),
+        module.signature(2),
+    ];
     let with_result = Signature {
         params: 1,
         result: true,
@@ -33,46 +53,52 @@ fn an_accepted_module_tells_its_facts(rt: HostRuntime) -> Result<(), Fail> {
         params: 0,
         result: false,
     };
-    assert_eq!(rt; module.signature(0), Some(with_result));
-    assert_eq!(rt; module.signature(1), Some(without));
-    assert_eq!(rt; module.signature(2), None);
-    assert_eq!(rt; module.has_heap(), true);
-    assert_eq!(rt; module.module().functions.len(), 2);
+    assert_eq!(rt; signatures, [Some(with_result), Some(without), None]);
+    assert!(rt; module.has_heap());
+    assert!(rt; module.module().functions.len() == 2);
     Ok(())
+}
+
+fn is_export(export: &ExportOf, key: &[u8], function: u32) -> bool {
+    export.key.as_bytes() == key && export.function == function
 }
 
 #[test]
 fn exports_have_the_numbers_of_their_functions(rt: HostRuntime) -> Result<(), Fail> {
-    let module = checked(rt.alloc(), WHOLE)?;
+    let Some(module) = checked(rt.alloc(), WHOLE) else {
+        return Err(Fail::new("refused"));
+    };
     match module.exports() {
         [first, second] => {
-            assert_eq!(rt; first.key.as_bytes(), b"run".as_slice());
-            assert_eq!(rt; first.function, 1);
-            assert_eq!(rt; second.key.as_bytes(), b"g".as_slice());
-            assert_eq!(rt; second.function, 0);
+            assert!(rt; is_export(first, b"run", 1));
+            assert!(rt; is_export(second, b"g", 0));
             Ok(())
         }
         _ => Err(Fail::new("exports")),
     }
 }
 
+fn is_call(call: &ForeignCall, name: &[u8], params: u32, has_result: bool) -> bool {
+    call.name.as_bytes() == name && call.params == params && call.result == has_result
+}
+
 #[test]
 fn foreign_calls_count_once(rt: HostRuntime) -> Result<(), Fail> {
-    let module = checked(rt.alloc(), WHOLE)?;
+    let Some(module) = checked(rt.alloc(), WHOLE) else {
+        return Err(Fail::new("refused"));
+    };
     match module.foreign_calls() {
         [first, second] => {
-            assert_eq!(rt; first.name.as_bytes(), b"f".as_slice());
-            assert_eq!(rt; (first.params, first.result), (1, false));
-            assert_eq!(rt; second.name.as_bytes(), b"f".as_slice());
-            assert_eq!(rt; (second.params, second.result), (2, true));
+            assert!(rt; is_call(first, b"f", 1, false));
+            assert!(rt; is_call(second, b"f", 2, true));
         }
         _ => return Err(Fail::new("calls")),
     }
     match module.foreign_globals() {
         // `c` is the member `a` once more
         [first, second] => {
-            assert_eq!(rt; first.as_bytes(), b"a".as_slice());
-            assert_eq!(rt; second.as_bytes(), b"b".as_slice());
+            assert!(rt; first.as_bytes() == b"a".as_slice());
+            assert!(rt; second.as_bytes() == b"b".as_slice());
             Ok(())
         }
         _ => Err(Fail::new("globals")),
@@ -82,10 +108,12 @@ fn foreign_calls_count_once(rt: HostRuntime) -> Result<(), Fail> {
 #[test]
 fn a_text_of_ints_alone_has_no_heap(rt: HostRuntime) -> Result<(), Fail> {
     let text = b"function(){'use asm';function f(){}return f}";
-    let module = checked(rt.alloc(), text)?;
-    assert_eq!(rt; module.has_heap(), false);
-    assert_eq!(rt; module.foreign_calls().len(), 0);
-    assert_eq!(rt; module.foreign_globals().len(), 0);
+    let Some(module) = checked(rt.alloc(), text) else {
+        return Err(Fail::new("refused"));
+    };
+    assert!(rt; !module.has_heap());
+    assert!(rt; module.foreign_calls().is_empty());
+    assert!(rt; module.foreign_globals().is_empty());
     Ok(())
 }
 
@@ -94,7 +122,7 @@ fn counts_are_told(rt: HostRuntime) -> Result<(), Fail> {
     match counts(rt.alloc(), WHOLE) {
         Ok(line) => {
             let told = b"asm.js functions 2 tables 1 exports 2 foreign 2\n";
-            assert_eq!(rt; line.as_slice(), told.as_slice());
+            assert!(rt; line.as_slice() == told.as_slice());
             Ok(())
         }
         Err(_) => Err(Fail::new("refused")),
@@ -152,31 +180,20 @@ static ROWS: [Row; 9] = [
     (b"function f(){", b"default:;}return f}", AsmRow::Grammar),
 ];
 
-/// The parts, one after the other.
-pub(crate) fn joined(alloc: Global, parts: &[&[u8]]) -> Result<Vec<u8>, AllocError> {
-    let mut all = Vec::new(alloc);
-    for part in parts {
-        all.extend_from_slice(part)?;
-    }
-    Ok(all)
-}
-
 /// The row's text is refused for what it breaks, where its second part begins.
-fn is_told(rt: &impl Abort, alloc: Global, row: &Row) -> Result<(), Fail> {
+fn is_told(rt: &impl Abort, alloc: Global, row: &Row) -> Result<(), AllocError> {
     let (front, back, broken) = *row;
-    let before = joined(alloc, &[FRONT, front])?;
     let text = joined(alloc, &[FRONT, front, back])?;
-    let fault = check_text(alloc, &text).err();
-    let told = CheckFault::Refused {
+    let fault = CheckFault::Refused {
         row: broken,
-        at: before.len() as u64,
+        at: (FRONT.len() as u64).saturating_add(front.len() as u64),
     };
-    assert_eq!(rt; fault, Some(told), "{}", row_name(broken));
+    has_fault(rt, row_name(broken), alloc, &text, Some(fault));
     Ok(())
 }
 
 #[test]
-fn the_first_fault_is_told_with_its_place(rt: HostRuntime) -> Result<(), Fail> {
+fn the_first_fault_is_told_with_its_place(rt: HostRuntime) -> Result<(), AllocError> {
     for row in ROWS.iter() {
         is_told(&rt, rt.alloc(), row)?;
     }
@@ -205,28 +222,21 @@ static MEMBERS: [Refusal; 3] = [
     ),
 ];
 
-/// The text is refused for what it breaks, at the offset.
-fn is_refused(rt: &impl Abort, alloc: Global, refusal: &Refusal) -> Result<(), Fail> {
-    let (text, broken, at) = *refusal;
-    let fault = check_text(alloc, text).err();
-    let told = CheckFault::Refused { row: broken, at };
-    assert_eq!(rt; fault, Some(told), "{}", row_name(broken));
-    Ok(())
-}
-
 #[test]
-fn other_objects_have_no_foreign_members(rt: HostRuntime) -> Result<(), Fail> {
-    for refusal in MEMBERS.iter() {
-        is_refused(&rt, rt.alloc(), refusal)?;
+fn other_objects_have_no_foreign_members(rt: HostRuntime) {
+    for (text, broken, at) in MEMBERS.iter() {
+        let fault = CheckFault::Refused {
+            row: *broken,
+            at: *at,
+        };
+        has_fault(&rt, row_name(*broken), rt.alloc(), text, Some(fault));
     }
-    Ok(())
 }
 
 #[test]
-fn rules_have_the_numbers_that_are_printed(rt: HostRuntime) -> Result<(), Fail> {
-    assert_eq!(rt; Rule::NameTaken.number(), 8);
-    assert_eq!(rt; Rule::NameTaken.name(), "A8 NameTaken");
-    assert_eq!(rt; Rule::PastLimit.number(), 24);
-    assert_eq!(rt; Rule::PastLimit.name(), "A24 Limit");
-    Ok(())
+fn rules_have_the_numbers_that_are_printed(rt: HostRuntime) {
+    let numbers = [Rule::NameTaken.number(), Rule::PastLimit.number()];
+    assert_eq!(rt; numbers, [8, 24]);
+    assert!(rt; Rule::NameTaken.name() == "A8 NameTaken");
+    assert!(rt; Rule::PastLimit.name() == "A24 Limit");
 }

@@ -8,7 +8,7 @@ fn lent_and_owned_code(rt: HostRuntime) -> Result<(), Fail> {
     let bytes = [0x20, 0x00, 0x0e, 0x01, 0x00, 0x00, 0x0b];
     let lent = Code::Lent(&bytes);
     let list = lent.instrs(rt.alloc())?;
-    assert_eq!(rt; list.len(), 3);
+    assert!(rt; list.len() == 3);
     let owned = Code::Own(list);
     let copy = owned.instrs(rt.alloc())?;
     assert!(rt; matches!(copy.get(1), Some(Instr::BrTable(_, 0))));

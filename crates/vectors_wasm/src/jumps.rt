@@ -15,7 +15,7 @@ fn body_of(alloc: Global, instrs: Vec<Instr>) -> Result<Body, AllocError> {
 #[test]
 fn nothing_but_its_end(rt: HostRuntime) -> Result<(), Fail> {
     let body = body_of(rt.alloc(), vec![in rt.alloc(); Instr::End]?)?;
-    assert_eq!(rt; body.len(), 1);
+    assert!(rt; body.len() == 1);
     assert!(rt; matches!(body.get(0), Some(Instr::End)));
     assert!(rt; body.get(1).is_none());
     Ok(())
@@ -34,9 +34,7 @@ fn a_block_in_a_loop(rt: HostRuntime) -> Result<(), Fail> {
         Instr::End,
     ]?;
     let body = body_of(rt.alloc(), instrs)?;
-    assert_eq!(rt; body.len(), 8);
-    assert_eq!(rt; body.past_end(0), 7);
-    assert_eq!(rt; body.past_end(1), 5);
+    assert_eq!(rt; [body.len(), body.past_end(0), body.past_end(1)], [8, 7, 5]);
     assert!(rt; matches!(body.get(5), Some(Instr::Br(0))));
     Ok(())
 }
@@ -56,13 +54,11 @@ fn an_if_in_the_second_arm_of_another(rt: HostRuntime) -> Result<(), Fail> {
         Instr::End,
     ]?;
     let body = body_of(rt.alloc(), instrs)?;
-    assert_eq!(rt; body.len(), 10);
-    assert_eq!(rt; body.past_end(1), 9);
-    assert_eq!(rt; body.other_arm(1), 4);
-    assert_eq!(rt; body.past_end(3), 9);
+    assert!(rt; body.len() == 10);
+    let past = [body.past_end(1), body.past_end(3), body.past_end(5)];
+    assert_eq!(rt; past, [9, 9, 8]);
     // without else its second arm is at its end
-    assert_eq!(rt; body.past_end(5), 8);
-    assert_eq!(rt; body.other_arm(5), 7);
+    assert_eq!(rt; [body.other_arm(1), body.other_arm(5)], [4, 7]);
     Ok(())
 }
 
@@ -80,8 +76,7 @@ fn blocks_in_blocks(rt: HostRuntime) -> Result<(), Fail> {
     }
     instrs.push(Instr::End)?;
     let body = body_of(rt.alloc(), instrs)?;
-    assert_eq!(rt; body.len(), 600_001);
-    assert_eq!(rt; body.past_end(0), 600_000);
-    assert_eq!(rt; body.past_end(299_999), 300_001);
+    let places = [body.len(), body.past_end(0), body.past_end(299_999)];
+    assert_eq!(rt; places, [600_001, 600_000, 300_001]);
     Ok(())
 }

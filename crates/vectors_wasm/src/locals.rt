@@ -2,7 +2,6 @@
 use crate::writing::one_function;
 use sem_words::List;
 use std::alloc::{AllocError, Global};
-use std::test::Fail;
 use wasm_binary::read;
 use wasm_binary_write::write;
 use wasm_tree::{Body, Code, Run, ValType};
@@ -44,61 +43,99 @@ fn written(alloc: Global, runs: &[Run]) -> Result<Vec<u8>, AllocError> {
         locals: List::from_vec(Vec::from_slice(alloc, runs)?),
         code: Code::Lent(ZERO),
     };
-    let module = one_function(alloc, Vec::new(alloc), ValType::I32, b"f", body)?;
+    let module = one_function(alloc, &[], ValType::I32, b"f", body)?;
     write(alloc, &module)
 }
 
-#[test]
-fn runs_are_read_and_the_longest_are_written(rt: HostRuntime) -> Result<(), Fail> {
-    let alloc = rt.alloc();
+// The bytes are those of a module with this code section.
+fn have_code(bytes: &[u8], code: &[u8]) -> bool {
+    match bytes.split_at_checked(BEFORE.len()) {
+        Some((before, after)) => before == BEFORE && after == code,
+        None => false,
+    }
+}
+
+// A code section, and the one that is written of its module.
+static REWRITTEN: [(&[u8], &[u8]); 3] = [
     // the sizes, then the runs, then the code
-    let both = b"\x0a\x0a\x01\x08\x02\x01\x7f\x01\x7e\x41\0\x0b";
-    let no_locals_twice = b"\x0a\x0a\x01\x08\x02\0\x7e\0\x7f\x41\0\x0b";
-    let none_between = b"\x0a\x0c\x01\x0a\x03\x02\x7f\0\x7e\x03\x7f\x41\0\x0b";
-    let rows: [(&[u8], &[u8]); 3] = [
-        (both, both),
-        (no_locals_twice, NO_LOCALS),
-        (none_between, FIVE_LOCALS),
-    ];
-    for (code, longest) in rows {
-        let bytes = with_code(alloc, code)?;
-        let wanted = with_code(alloc, longest)?;
-        let again = rewritten(alloc, bytes.as_slice())?;
-        assert_eq!(rt; again.as_slice(), wanted.as_slice());
+    (
+        b"\x0a\x0a\x01\x08\x02\x01\x7f\x01\x7e\x41\0\x0b",
+        b"\x0a\x0a\x01\x08\x02\x01\x7f\x01\x7e\x41\0\x0b",
+    ),
+    // no locals, twice
+    (b"\x0a\x0a\x01\x08\x02\0\x7e\0\x7f\x41\0\x0b", NO_LOCALS),
+    // none between others
+    (
+        b"\x0a\x0c\x01\x0a\x03\x02\x7f\0\x7e\x03\x7f\x41\0\x0b",
+        FIVE_LOCALS,
+    ),
+];
+
+#[test]
+fn runs_are_read_and_the_longest_are_written(rt: HostRuntime) -> Result<(), AllocError> {
+    for (code, longest) in REWRITTEN.iter() {
+        let bytes = with_code(rt.alloc(), code)?;
+        let again = rewritten(rt.alloc(), bytes.as_slice())?;
+        assert!(rt; have_code(again.as_slice(), longest), "{code:?}: {again:?}");
     }
     Ok(())
 }
 
-#[test]
-fn runs_of_one_type_are_written_as_one(rt: HostRuntime) -> Result<(), Fail> {
-    let alloc = rt.alloc();
-    let three = [
-        run(2, ValType::I32),
-        run(0, ValType::I64),
-        run(3, ValType::I32),
-    ];
-    let two = [run(u32::MAX, ValType::I32), run(u32::MAX, ValType::I32)];
+// Runs, and the code section that is written of a function with these.
+static WRITTEN: [(&[Run], &[u8]); 3] = [
+    (&[], NO_LOCALS),
+    (
+        &[
+            Run {
+                count: 2,
+                kind: ValType::I32,
+            },
+            Run {
+                count: 0,
+                kind: ValType::I64,
+            },
+            Run {
+                count: 3,
+                kind: ValType::I32,
+            },
+        ],
+        FIVE_LOCALS,
+    ),
     // 2 ^ 33 - 2 locals, which no module may have
-    let many = b"\x0a\x0c\x01\x0a\x01\xfe\xff\xff\xff\x1f\x7f\x41\0\x0b";
-    let rows: [(&[Run], &[u8]); 3] = [(&[], NO_LOCALS), (&three, FIVE_LOCALS), (&two, many)];
-    for (runs, code) in rows {
-        let bytes = written(alloc, runs)?;
-        let wanted = with_code(alloc, code)?;
-        assert_eq!(rt; bytes.as_slice(), wanted.as_slice());
+    (
+        &[
+            Run {
+                count: u32::MAX,
+                kind: ValType::I32,
+            },
+            Run {
+                count: u32::MAX,
+                kind: ValType::I32,
+            },
+        ],
+        b"\x0a\x0c\x01\x0a\x01\xfe\xff\xff\xff\x1f\x7f\x41\0\x0b",
+    ),
+];
+
+#[test]
+fn runs_of_one_type_are_written_as_one(rt: HostRuntime) -> Result<(), AllocError> {
+    for (runs, code) in WRITTEN.iter() {
+        let bytes = written(rt.alloc(), runs)?;
+        assert!(rt; have_code(bytes.as_slice(), code), "{code:?}: {bytes:?}");
     }
     Ok(())
 }
 
 #[test]
-fn the_types_of_locals(rt: HostRuntime) -> Result<(), Fail> {
+fn the_types_of_locals(rt: HostRuntime) -> Result<(), AllocError> {
     let alloc = rt.alloc();
-    let runs = vec![in alloc;
+    let runs = [
         run(2, ValType::I32),
         run(0, ValType::I32),
         run(1, ValType::I64),
-    ]?;
+    ];
     let body = Body {
-        locals: List::from_vec(runs),
+        locals: List::from_vec(Vec::from_slice(alloc, &runs)?),
         code: Code::Lent(ZERO),
     };
     let types = body.local_types(alloc, &[ValType::I64])?;

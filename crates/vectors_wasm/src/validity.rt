@@ -8,7 +8,7 @@ use sem_words::List;
 use std::alloc::Global;
 use std::test::Fail;
 use wasm_tree::{Bytes, GlobalType, Import, ImportKind, Limits, Module, ValType};
-use wasm_validate::{Beyond, Invalid, Measures, Outside, Rule, Section, runnable, validate};
+use wasm_validate::{Beyond, Invalid, Measures, Outside, Rule, Section, Valid, runnable, validate};
 
 // Imports of these kinds, whose names are empty.
 fn nameless(alloc: Global, kinds: &[ImportKind]) -> Result<List<Import<'static>>, Fail>
@@ -59,11 +59,20 @@ fn with_memory(
     })
 }
 
+// The verdict on a module with these imports and a memory of so many pages, and nothing else.
+fn judged(
+    alloc: Global,
+    kinds: &[ImportKind],
+    pages: u32,
+) -> Result<Result<Valid<'static>, Invalid>, Fail> {
+    let imports = nameless(alloc, kinds)?;
+    let module = with_memory(alloc, imports, pages)?;
+    Ok(validate(alloc, module))
+}
+
 #[test]
 fn takes_a_module(rt: HostRuntime) -> Result<(), Fail> {
-    let imports = nameless(rt.alloc(), &[])?;
-    let module = with_memory(rt.alloc(), imports, 4097)?;
-    match validate(rt.alloc(), module) {
+    match judged(rt.alloc(), &[], 4097)? {
         Ok(valid) => {
             let nothing = Measures {
                 levels: 0,
@@ -72,7 +81,7 @@ fn takes_a_module(rt: HostRuntime) -> Result<(), Fail> {
                 mixed: None,
                 mul_div: None,
             };
-            assert_eq!(rt; valid.func_type(0).is_none(), true);
+            assert!(rt; valid.func_type(0).is_none());
             assert_eq!(rt; valid.measures(), nothing);
             Ok(())
         }
@@ -80,49 +89,52 @@ fn takes_a_module(rt: HostRuntime) -> Result<(), Fail> {
     }
 }
 
+const TABLE: ImportKind = ImportKind::Table(Limits { min: 0, max: None });
+
+const CONSTANT: ImportKind = ImportKind::Global(GlobalType {
+    kind: ValType::I32,
+    mutable: false,
+});
+
+const MUTABLE: ImportKind = ImportKind::Global(GlobalType {
+    kind: ValType::I32,
+    mutable: true,
+});
+
+// Imports, the pages of the memory, and why the module isn't run.
+static ROWS: [(&[ImportKind], u32, Option<Outside>); 4] = [
+    (
+        &[CONSTANT, MUTABLE, TABLE],
+        4097,
+        Some(Outside {
+            row: Beyond::ImportedTable,
+            value: 2,
+        }),
+    ),
+    (
+        &[CONSTANT, MUTABLE],
+        4097,
+        Some(Outside {
+            row: Beyond::MutableImport,
+            value: 1,
+        }),
+    ),
+    (
+        &[CONSTANT],
+        4097,
+        Some(Outside {
+            row: Beyond::MemoryLarge,
+            value: 4097,
+        }),
+    ),
+    (&[CONSTANT], 4096, None),
+];
+
 #[test]
 fn the_first_row_that_holds_is_told(rt: HostRuntime) -> Result<(), Fail> {
-    let alloc = rt.alloc();
-    let table = ImportKind::Table(Limits { min: 0, max: None });
-    let constant = ImportKind::Global(GlobalType {
-        kind: ValType::I32,
-        mutable: false,
-    });
-    let mutable = ImportKind::Global(GlobalType {
-        kind: ValType::I32,
-        mutable: true,
-    });
-    let rows: [(&[ImportKind], u32, Option<Outside>); 4] = [
-        (
-            &[constant, mutable, table],
-            4097,
-            Some(Outside {
-                row: Beyond::ImportedTable,
-                value: 2,
-            }),
-        ),
-        (
-            &[constant, mutable],
-            4097,
-            Some(Outside {
-                row: Beyond::MutableImport,
-                value: 1,
-            }),
-        ),
-        (
-            &[constant],
-            4097,
-            Some(Outside {
-                row: Beyond::MemoryLarge,
-                value: 4097,
-            }),
-        ),
-        (&[constant], 4096, None),
-    ];
-    for (kinds, pages, outside) in rows {
-        let module = with_memory(alloc, nameless(alloc, kinds)?, pages)?;
-        match validate(alloc, module) {
-            Ok(valid) => assert_eq!(rt; runnable(&valid).err(), outside, "{pages} pages"),
+    for (kinds, pages, outside) in ROWS.iter() {
+        match judged(rt.alloc(), kinds, *pages)? {
+            Ok(valid) => assert_eq!(rt; runnable(&valid).err(), *outside, "{kinds:?} {pages}"),
             Err(_) => return Err(Fail::new("refused")),
         }
     }
@@ -131,9 +143,7 @@ fn the_first_row_that_holds_is_told(rt: HostRuntime) -> Result<(), Fail> {
 
 #[test]
 fn refuses_a_memory(rt: HostRuntime) -> Result<(), Fail> {
-    let imports = nameless(rt.alloc(), &[])?;
-    let module = with_memory(rt.alloc(), imports, 65537)?;
-    match validate(rt.alloc(), module) {
+    match judged(rt.alloc(), &[], 65537)? {
         Ok(_) => Err(Fail::new("taken")),
         Err(invalid) => {
             let refused = Invalid::Rule {

@@ -9,39 +9,57 @@ use wasm_tree::{
     WasmExport,
 };
 
-fn list<T>(items: Vec<T>) -> List<T> {
-    List::from_vec(items)
+/// A list of this item.
+pub(crate) fn one<T: Drop>(alloc: Global, item: T) -> Result<List<T>, AllocError> {
+    let mut items = Vec::new(alloc);
+    match items.push(item) {
+        Ok(()) => Ok(List::from_vec(items)),
+        Err(_) => Err(AllocError),
+    }
+}
+
+// The type of a function that gives one number.
+fn function_type(
+    alloc: Global,
+    params: &[ValType],
+    answer: ValType,
+) -> Result<FuncType, AllocError> {
+    Ok(FuncType {
+        params: List::from_vec(Vec::from_slice(alloc, params)?),
+        results: one(alloc, answer)?,
+    })
 }
 
 // A module of one exported function, without memory.
 pub(crate) fn one_function<'a>(
     alloc: Global,
-    params: Vec<ValType>,
+    params: &[ValType],
     answer: ValType,
     name: &'a [u8],
     body: Body<'a>,
 ) -> Result<Module<'a>, AllocError> {
-    let function_type = FuncType {
-        params: list(params),
-        results: list(vec![in alloc; answer]?),
-    };
+    let function = function_type(alloc, params, answer)?;
     let export = WasmExport {
         name: Bytes::Lent(name),
         kind: ExportKind::Func(0),
     };
-    Ok(Module {
-        types: list(vec![in alloc; function_type]?),
-        imports: List::new(alloc),
-        functions: list(vec![in alloc; 0]?),
-        tables: List::new(alloc),
-        memories: List::new(alloc),
-        globals: List::new(alloc),
-        exports: list(vec![in alloc; export]?),
-        start: None,
-        elements: List::new(alloc),
-        bodies: list(vec![in alloc; body]?),
-        segments: List::new(alloc),
-    })
+    let types = one(alloc, function);
+    match (types, one(alloc, 0), one(alloc, export), one(alloc, body)) {
+        (Ok(types), Ok(functions), Ok(exports), Ok(bodies)) => Ok(Module {
+            types,
+            imports: List::new(alloc),
+            functions,
+            tables: List::new(alloc),
+            memories: List::new(alloc),
+            globals: List::new(alloc),
+            exports,
+            start: None,
+            elements: List::new(alloc),
+            bodies,
+            segments: List::new(alloc),
+        }),
+        _ => Err(AllocError),
+    }
 }
 
 #[test]
@@ -53,8 +71,8 @@ fn adding(rt: HostRuntime) -> Result<(), Fail> {
         locals: List::new(alloc),
         code: Code::Lent(&code),
     };
-    let params = vec![in alloc; ValType::I64, ValType::I64]?;
-    let adding = one_function(alloc, params, ValType::I64, b"m", body)?;
+    let params = [ValType::I64, ValType::I64];
+    let adding = one_function(alloc, &params, ValType::I64, b"m", body)?;
     let bytes = write(alloc, &adding)?;
     let wanted = [
         0x00, 0x61, 0x73, 0x6d, 0x01, 0x00, 0x00, 0x00, 0x01, 0x07, 0x01, 0x60, 0x02, 0x7e, 0x7e,
@@ -76,18 +94,17 @@ fn loading(rt: HostRuntime) -> Result<(), Fail> {
     let instrs = vec![in alloc; Instr::LocalGet(0), Instr::Load(word, 2, 0), Instr::End]?;
     let body = Body {
         locals: List::new(alloc),
-        code: Code::Own(list(instrs)),
+        code: Code::Own(List::from_vec(instrs)),
     };
-    let params = vec![in alloc; ValType::I32]?;
     let segment = Segment {
         memory: 0,
-        offset: list(vec![in alloc; Instr::Const32(0), Instr::End]?),
+        offset: List::from_vec(vec![in alloc; Instr::Const32(0), Instr::End]?),
         bytes: Bytes::Own(Text::from_bytes(alloc, &[1, 2, 3, 4, 5])?),
     };
     let loading = Module {
-        memories: list(vec![in alloc; Limits { min: 1, max: None }]?),
-        segments: list(vec![in alloc; segment]?),
-        ..one_function(alloc, params, ValType::I32, b"l", body)?
+        memories: one(alloc, Limits { min: 1, max: None })?,
+        segments: one(alloc, segment)?,
+        ..one_function(alloc, &[ValType::I32], ValType::I32, b"l", body)?
     };
     let bytes = write(alloc, &loading)?;
     let wanted = [

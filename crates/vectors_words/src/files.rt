@@ -1,5 +1,22 @@
+use crate::rows::same_bytes;
 use bridge_io::*;
+use std::alloc::Global;
 use std::test::Fail;
+
+/// A gather of at most so many bytes of a file ends so.
+fn gathers<F: Files>(
+    alloc: Global,
+    files: &mut F,
+    name: &str,
+    most: u8,
+    wanted: Result<&[u8], GatherFault>,
+) -> bool {
+    match (gather(alloc, files, name, u64::from(most)), wanted) {
+        (Ok(bytes), Ok(wanted)) => bytes.as_slice() == wanted,
+        (Err(fault), Err(wanted)) => fault == wanted,
+        _ => false,
+    }
+}
 
 #[test]
 fn a_listed_read_ends_a_gather(rt: HostRuntime) -> Result<(), Fail> {
@@ -7,12 +24,8 @@ fn a_listed_read_ends_a_gather(rt: HostRuntime) -> Result<(), Fail> {
     files.add("a", b"old")?;
     files.add("a", b"new!")?;
     files.fail_at(2)?;
-    assert_eq!(rt;
-        gather(rt.alloc(), &mut files, "a", 9).err(),
-        Some(GatherFault::Read)
-    );
-    let whole = gather(rt.alloc(), &mut files, "a", 9)?;
-    assert_eq!(rt; whole.as_slice(), b"new!".as_slice());
+    assert!(rt; gathers(rt.alloc(), &mut files, "a", 9, Err(GatherFault::Read)));
+    assert!(rt; gathers(rt.alloc(), &mut files, "a", 9, Ok(b"new!")));
     Ok(())
 }
 
@@ -20,27 +33,31 @@ fn a_listed_read_ends_a_gather(rt: HostRuntime) -> Result<(), Fail> {
 fn a_file_fits_the_limit_or_is_too_large(rt: HostRuntime) -> Result<(), Fail> {
     let mut files = SteadyFiles::new(rt.alloc());
     files.add("long", b"12345")?;
-    assert_eq!(rt;
-        gather(rt.alloc(), &mut files, "none", 4).err(),
-        Some(GatherFault::Missing)
+    assert!(rt; gathers(rt.alloc(), &mut files, "none", 4, Err(GatherFault::Missing)));
+    assert!(rt;
+        gathers(
+            rt.alloc(),
+            &mut files,
+            "long",
+            4,
+            Err(GatherFault::TooLarge)
+        )
     );
-    assert_eq!(rt;
-        gather(rt.alloc(), &mut files, "long", 4).err(),
-        Some(GatherFault::TooLarge)
-    );
-    let whole = gather(rt.alloc(), &mut files, "long", 5)?;
-    assert_eq!(rt; whole.as_slice(), b"12345".as_slice());
+    assert!(rt; gathers(rt.alloc(), &mut files, "long", 5, Ok(b"12345")));
     Ok(())
+}
+
+/// The write of these bytes fails, and then the sink holds so many.
+fn fails(sink: &mut MemSink, bytes: &[u8], held: &[u8]) -> bool {
+    put_all(sink, bytes).is_err() && sink.bytes() == held
 }
 
 #[test]
 fn a_listed_write_leaves_a_front(rt: HostRuntime) -> Result<(), Fail> {
     let mut sink = MemSink::new(rt.alloc(), 8, 1)?;
     sink.fail_at(2)?;
-    assert_eq!(rt; put_all(&mut sink, b"xyz"), Err(Failed));
-    assert_eq!(rt; sink.bytes(), b"x".as_slice());
-    assert_eq!(rt; put_all(&mut sink, b"12345678"), Err(Failed));
-    assert_eq!(rt; sink.bytes(), b"x1234567".as_slice());
+    assert!(rt; fails(&mut sink, b"xyz", b"x"));
+    assert!(rt; fails(&mut sink, b"12345678", b"x1234567"));
     Ok(())
 }
 
@@ -48,7 +65,7 @@ fn a_listed_write_leaves_a_front(rt: HostRuntime) -> Result<(), Fail> {
 fn a_steady_sink_takes_all(rt: HostRuntime) -> Result<(), Fail> {
     let mut sink = SteadySink::new(rt.alloc(), 1, 2)?;
     sink.ready(3)?;
-    assert_eq!(rt; put_all(&mut sink, b"xyz"), Ok(()));
-    assert_eq!(rt; sink.bytes(), b"xyz".as_slice());
+    assert!(rt; put_all(&mut sink, b"xyz").is_ok());
+    same_bytes(&rt, "a steady sink", sink.bytes(), b"xyz");
     Ok(())
 }

@@ -1,4 +1,5 @@
 //! Worked rows.
+use crate::rows::same_bytes;
 use heap_views::{Heap, ViewKind, WordSize, Write, apply};
 use std::test::Fail;
 
@@ -25,8 +26,8 @@ fn the_end_of_a_heap(rt: HostRuntime) -> Result<(), Fail> {
     assert!(rt; heap.byte_run(4095, 2).is_none());
     assert!(rt; run_is(&heap, 4096, 0, &[]));
     assert!(rt; heap.view_mut(ViewKind::U16).set(2047, 65535));
-    assert_eq!(rt; heap.view(ViewKind::I8).get(4095), Some(-1));
-    assert_eq!(rt; heap.view(ViewKind::I32).get(1024), None);
+    assert!(rt; heap.view(ViewKind::I8).get(4095) == Some(-1));
+    assert!(rt; heap.view(ViewKind::I32).get(1024).is_none());
     assert!(rt; !heap.view_mut(ViewKind::I32).set(1024, 1));
     assert!(rt; !heap.view_mut(ViewKind::U8).set(-1, 1));
     Ok(())
@@ -35,12 +36,12 @@ fn the_end_of_a_heap(rt: HostRuntime) -> Result<(), Fail> {
 #[test]
 fn four_bytes(rt: HostRuntime) -> Result<(), Fail> {
     let mut heap = Heap::new(rt.alloc(), 4)?;
-    assert_eq!(rt; heap.view(ViewKind::I32).get(0), Some(0));
-    assert_eq!(rt; heap.view(ViewKind::I32).get(1), None);
-    assert_eq!(rt; heap.load_le(1, 4), None);
+    assert!(rt; heap.view(ViewKind::I32).get(0) == Some(0));
+    assert!(rt; heap.view(ViewKind::I32).get(1).is_none());
+    assert!(rt; heap.load_le(1, 4).is_none());
     assert!(rt; heap.store_le(1, 2, 65534));
-    assert_eq!(rt; heap.bytes(), [0x00, 0xfe, 0xff, 0x00].as_slice());
-    assert_eq!(rt; heap.view(ViewKind::I32).get(0), Some(16776704));
+    same_bytes(&rt, "a half", heap.bytes(), &[0x00, 0xfe, 0xff, 0x00]);
+    assert!(rt; heap.view(ViewKind::I32).get(0) == Some(16776704));
     Ok(())
 }
 
@@ -102,8 +103,8 @@ fn writes_through_views_of_all_kinds(rt: HostRuntime) -> Result<(), Fail> {
     ];
     apply(&mut heap, &writes);
     let wanted = [254, 255, 255, 1, 254, 255, 255, 1, 6, 7, 8, 0, 7, 7, 7, 7];
-    assert_eq!(rt; heap.bytes(), wanted.as_slice());
-    assert_eq!(rt; heap.view(ViewKind::I16).get(2), Some(-2));
-    assert_eq!(rt; heap.load_le(8, 8), Some(0x0707070700080706));
+    same_bytes(&rt, "all writes", heap.bytes(), &wanted);
+    assert!(rt; heap.view(ViewKind::I16).get(2) == Some(-2));
+    assert!(rt; heap.load_le(8, 8) == Some(0x0707070700080706));
     Ok(())
 }

@@ -1,84 +1,65 @@
 //! Worked rows: names, and the split of a script.
-use sem_laws::{
-    CallLine, CallShape, GlobalLine, Reply, ReplyLine, Script, WriteLine, export_name, import_name,
-    split_script,
-};
+use crate::rows::same_bytes;
+use script_read::read_script;
+use sem_laws::{CallLine, CallShape, export_name, import_name, split_script};
 use sem_words::{List, Text};
-use std::alloc::{AllocError, Global};
+use std::alloc::AllocError;
 use std::test::Fail;
 
+/// A module, a field, and the name that their import has.
+static IMPORTS: [(&[u8], &[u8], &[u8]); 3] = [
+    (b"env", b"f", b"f"),
+    (b"a", b"b", b"$x61$62"),
+    (b"env", b"$trap", b"$trap"),
+];
+
 #[test]
-fn names(rt: HostRuntime) -> Result<(), Fail> {
-    let alloc = rt.alloc();
-    let plain = import_name(alloc, b"env", b"f")?;
-    assert_eq!(rt; plain.as_bytes(), b"f".as_slice());
-    let other = import_name(alloc, b"a", b"b")?;
-    assert_eq!(rt; other.as_bytes(), b"$x61$62".as_slice());
-    let trap = import_name(alloc, b"env", b"$trap")?;
-    assert_eq!(rt; trap.as_bytes(), b"$trap".as_slice());
-    let empty = export_name(alloc, b"")?;
-    assert_eq!(rt; empty.as_bytes(), b"$x".as_slice());
-    let hi = export_name(alloc, b"$hi")?;
-    assert_eq!(rt; hi.as_bytes(), b"$x246869".as_slice());
+fn names_of_imports(rt: HostRuntime) -> Result<(), AllocError> {
+    for (module, field, want) in IMPORTS.iter() {
+        let name = import_name(rt.alloc(), module, field)?;
+        same_bytes(&rt, "an import", name.as_bytes(), want);
+    }
     Ok(())
 }
 
-// A script with a line of each kind and the call `m 4294967295 4294967295`.
-fn one_call(alloc: Global) -> Result<Script, AllocError> {
-    let mut globals = Vec::new(alloc);
-    globals.push(GlobalLine {
-        name: Text::from_bytes(alloc, b"g")?,
-        value: -1,
-        line: 1,
-    })?;
-    let mut writes = Vec::new(alloc);
-    writes.push(WriteLine {
-        at: 4,
-        bytes: Text::from_bytes(alloc, b"xy")?,
-        line: 2,
-    })?;
-    let mut calls = Vec::new(alloc);
-    calls.push(CallLine {
-        name: Text::from_bytes(alloc, b"m")?,
-        args: List::from_vec(vec![in alloc; 4294967295i128, 4294967295]?),
-        line: 3,
-    })?;
-    let mut replies = Vec::new(alloc);
-    replies.push(ReplyLine {
-        reply: Reply::Give(7, List::new(alloc)),
-        line: 4,
-    })?;
-    Ok(Script {
-        globals: List::from_vec(globals),
-        writes: List::from_vec(writes),
-        calls: List::from_vec(calls),
-        replies: List::from_vec(replies),
-    })
+/// An export, and its name.
+static EXPORTS: [(&[u8], &[u8]); 2] = [(b"", b"$x"), (b"$hi", b"$x246869")];
+
+#[test]
+fn names_of_exports(rt: HostRuntime) -> Result<(), AllocError> {
+    for (export, want) in EXPORTS.iter() {
+        let name = export_name(rt.alloc(), export)?;
+        same_bytes(&rt, "an export", name.as_bytes(), want);
+    }
+    Ok(())
+}
+
+fn is_call(call: &CallLine, name: &[u8], line: u64) -> bool {
+    call.name.as_bytes() == name && call.line == line
 }
 
 #[test]
 fn wide_sum_is_split(rt: HostRuntime) -> Result<(), Fail> {
     let alloc = rt.alloc();
-    let script = one_call(alloc)?;
+    // a line of each kind
+    let text = b"global g -1\nheap 4 7879\ncall m 4294967295 4294967295\nreply 7";
+    let script = read_script(alloc, text)?;
     let shape = CallShape {
         key: Text::from_bytes(alloc, b"m")?,
-        wide: List::from_vec(vec![in alloc; true, true]?),
+        wide: List::from_vec(Vec::from_slice(alloc, &[true, true])?),
         wide_result: true,
     };
     let split = split_script(alloc, &script, &[shape])?;
-    assert_eq!(rt; split.calls.len(), 3);
-    let init = split.calls.get(0).ok_or("no call of $init")?;
-    assert_eq!(rt; init.name.as_bytes(), b"$init".as_slice());
-    assert_eq!(rt; init.line, 0);
-    let sum = split.calls.get(1).ok_or("no call of m")?;
-    assert_eq!(rt; sum.name.as_bytes(), b"m".as_slice());
-    assert_eq!(rt;
-        sum.args.as_slice(),
-        [4294967295i128, 0, 4294967295, 0].as_slice()
-    );
-    let hi = split.calls.get(2).ok_or("no call of $hi")?;
-    assert_eq!(rt; hi.name.as_bytes(), b"$hi".as_slice());
-    assert_eq!(rt; hi.line, 3);
-    assert_eq!(rt; split.replies.len(), 1);
+    match split.calls.as_slice() {
+        [init, sum, high] => {
+            assert!(rt; is_call(init, b"$init", 0));
+            assert!(rt; is_call(sum, b"m", 3));
+            let args = [4294967295, 0, 4294967295, 0];
+            assert!(rt; sum.args.as_slice() == args.as_slice());
+            assert!(rt; is_call(high, b"$hi", 3));
+        }
+        _ => return Err(Fail::new("three calls")),
+    }
+    assert!(rt; split.replies.len() == 1);
     Ok(())
 }

@@ -1,7 +1,9 @@
 //! Worked rows.
+use crate::rows::same_bytes;
 use heap_views::Heap;
+use script_read::{ScriptFault, read_script};
 use script_replies::{Answer, Replies, put_writes};
-use sem_laws::{End, Event, Reply, ReplyLine, Script, WriteLine};
+use sem_laws::{End, Event, Script, WriteLine};
 use sem_words::{List, Text, Word};
 use std::alloc::{AllocError, Global};
 use std::test::Fail;
@@ -14,49 +16,30 @@ fn write(alloc: Global, at: u64, bytes: &[u8]) -> Result<WriteLine, AllocError> 
     })
 }
 
-// A reply with a word and one byte write, and then one that throws.
-fn two_replies(alloc: Global) -> Result<Script, AllocError> {
-    let mut writes = Vec::new(alloc);
-    writes.push(write(alloc, 1, &[9, 8])?)?;
-    let mut replies = Vec::new(alloc);
-    replies.push(ReplyLine {
-        reply: Reply::Give(0x5_0000_0007, List::from_vec(writes)),
-        line: 2,
-    })?;
-    replies.push(ReplyLine {
-        reply: Reply::Throw,
-        line: 3,
-    })?;
-    Ok(Script {
-        globals: List::new(alloc),
-        writes: List::new(alloc),
-        calls: List::new(alloc),
-        replies: List::from_vec(replies),
-    })
+// A reply with a word, 0x5_0000_0007, and one byte write, and then one that throws.
+fn two_replies(alloc: Global) -> Result<Script, ScriptFault> {
+    read_script(alloc, b"reply 21474836487 1=0908\nthrow")
 }
 
-fn ask<'a>(
-    alloc: Global,
-    replies: &mut Replies<'a>,
-    name: &[u8],
-    args: &[Word],
-) -> Result<Answer<'a>, AllocError> {
+type Asked<'a> = Result<Answer<'a>, AllocError>;
+
+fn ask<'a>(alloc: Global, replies: &mut Replies<'a>, name: &[u8], args: &[Word]) -> Asked<'a> {
     replies.answer(alloc, name, List::from_vec(Vec::from_slice(alloc, args)?))
 }
 
-fn goes_silently(answer: &Answer<'_>, word: u64) -> bool {
+fn goes_silently(answer: &Asked<'_>, word: u64) -> bool {
     match answer {
-        Answer::Goes(given) => {
+        Ok(Answer::Goes(given)) => {
             given.word == word && given.writes.is_empty() && given.event.is_none()
         }
-        Answer::Ends(_) => false,
+        _ => false,
     }
 }
 
-fn goes_with_call(answer: &Answer<'_>, word: u64, name: &[u8], args: &[Word]) -> bool {
+fn goes_with_call(answer: &Asked<'_>, word: u64, name: &[u8], args: &[Word]) -> bool {
     match answer {
-        Answer::Goes(given) => given.word == word && is_call(&given.event, name, args),
-        Answer::Ends(_) => false,
+        Ok(Answer::Goes(given)) => given.word == word && is_call(&given.event, name, args),
+        _ => false,
     }
 }
 
@@ -67,18 +50,18 @@ fn is_call(event: &Option<Event>, name: &[u8], args: &[Word]) -> bool {
     }
 }
 
-fn stops(answer: &Answer<'_>, name: &[u8], args: &[Word]) -> bool {
+fn stops(answer: &Asked<'_>, name: &[u8], args: &[Word]) -> bool {
     match answer {
-        Answer::Ends(End::Stopped(text, words)) => {
+        Ok(Answer::Ends(End::Stopped(text, words))) => {
             text.as_bytes() == name && words.as_slice() == args
         }
         _ => false,
     }
 }
 
-fn lacks_reply(answer: &Answer<'_>, name: &[u8], args: &[Word]) -> bool {
+fn lacks_reply(answer: &Asked<'_>, name: &[u8], args: &[Word]) -> bool {
     match answer {
-        Answer::Ends(End::NoReply(text, words)) => {
+        Ok(Answer::Ends(End::NoReply(text, words))) => {
             text.as_bytes() == name && words.as_slice() == args
         }
         _ => false,
@@ -87,40 +70,50 @@ fn lacks_reply(answer: &Answer<'_>, name: &[u8], args: &[Word]) -> bool {
 
 #[test]
 fn replies_in_order(rt: HostRuntime) -> Result<(), Fail> {
-    let script = two_replies(rt.alloc())?;
+    let alloc = rt.alloc();
+    let script = two_replies(alloc)?;
     let mut replies = Replies::of(&script);
-    let high = ask(rt.alloc(), &mut replies, b"$high", &[])?;
+    let high = ask(alloc, &mut replies, b"$high", &[]);
     assert!(rt; goes_silently(&high, 0));
-    let called = ask(rt.alloc(), &mut replies, b"f", &[Word::W32(1)])?;
-    assert!(rt; goes_with_call(&called, 0x5_0000_0007, b"f", &[Word::W32(1)]));
-    let high = ask(rt.alloc(), &mut replies, b"$high", &[])?;
+    let one = [Word::W32(1)];
+    let called = ask(alloc, &mut replies, b"f", &one);
+    assert!(rt; goes_with_call(&called, 0x5_0000_0007, b"f", &one));
+    let high = ask(alloc, &mut replies, b"$high", &[]);
     assert!(rt; goes_silently(&high, 5));
-    let trap = ask(rt.alloc(), &mut replies, b"$trap", &[Word::W32(3)])?;
-    assert!(rt; stops(&trap, b"$trap", &[Word::W32(3)]));
-    let thrown = ask(rt.alloc(), &mut replies, b"g", &[Word::W64(2)])?;
-    assert!(rt; stops(&thrown, b"g", &[Word::W64(2)]));
+    let three = [Word::W32(3)];
+    let trap = ask(alloc, &mut replies, b"$trap", &three);
+    assert!(rt; stops(&trap, b"$trap", &three));
+    let two = [Word::W64(2)];
+    let thrown = ask(alloc, &mut replies, b"g", &two);
+    assert!(rt; stops(&thrown, b"g", &two));
     Ok(())
 }
 
 #[test]
 fn no_reply_is_left(rt: HostRuntime) -> Result<(), Fail> {
-    let mut script = two_replies(rt.alloc())?;
-    script.replies = List::new(rt.alloc());
+    let script = read_script(rt.alloc(), b"")?;
     let mut replies = Replies::of(&script);
-    let lost = ask(rt.alloc(), &mut replies, b"f", &[Word::W32(1)])?;
-    assert!(rt; lacks_reply(&lost, b"f", &[Word::W32(1)]));
+    let one = [Word::W32(1)];
+    let lost = ask(rt.alloc(), &mut replies, b"f", &one);
+    assert!(rt; lacks_reply(&lost, b"f", &one));
     Ok(())
 }
 
+static WRITES: [(u64, &[u8]); 4] = [
+    (0, &[1, 2, 3]),
+    (1, &[9, 8]),
+    (3, &[7, 7]),
+    (0x1_0000_0000, &[6]),
+];
+
 #[test]
-fn writes_in_order(rt: HostRuntime) -> Result<(), Fail> {
+fn writes_in_order(rt: HostRuntime) -> Result<(), AllocError> {
     let mut heap = Heap::new(rt.alloc(), 4)?;
     let mut writes = Vec::new(rt.alloc());
-    writes.push(write(rt.alloc(), 0, &[1, 2, 3])?)?;
-    writes.push(write(rt.alloc(), 1, &[9, 8])?)?;
-    writes.push(write(rt.alloc(), 3, &[7, 7])?)?;
-    writes.push(write(rt.alloc(), 1 << 32, &[6])?)?;
+    for (at, bytes) in WRITES.iter() {
+        writes.push(write(rt.alloc(), *at, bytes)?)?;
+    }
     put_writes(&mut heap, writes.as_slice());
-    assert_eq!(rt; heap.bytes(), [1, 9, 8, 0].as_slice());
+    same_bytes(&rt, "a heap", heap.bytes(), &[1, 9, 8, 0]);
     Ok(())
 }

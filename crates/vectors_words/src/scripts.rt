@@ -1,11 +1,7 @@
 //! Scripts that are written out.
 use script_read::{ScriptFault, read_script};
-use sem_laws::{CallLine, GlobalLine, Reply, ReplyLine, Script, WriteLine};
+use sem_laws::{CallLine, Reply, ReplyLine, Script, WriteLine};
 use std::test::Fail;
-
-fn is_global(global: &GlobalLine, name: &[u8], value: i128, line: u64) -> bool {
-    global.name.as_bytes() == name && global.value == value && global.line == line
-}
 
 fn is_write(write: &WriteLine, at: u64, bytes: &[u8], line: u64) -> bool {
     write.at == at && write.bytes.as_bytes() == bytes && write.line == line
@@ -13,10 +9,6 @@ fn is_write(write: &WriteLine, at: u64, bytes: &[u8], line: u64) -> bool {
 
 fn is_call(call: &CallLine, name: &[u8], args: &[i128], line: u64) -> bool {
     call.name.as_bytes() == name && call.args.as_slice() == args && call.line == line
-}
-
-fn is_throw(reply: &ReplyLine, line: u64) -> bool {
-    matches!(reply.reply, Reply::Throw) && reply.line == line
 }
 
 // The word of -1, with two byte writes.
@@ -38,7 +30,9 @@ fn are_writes(writes: &[WriteLine], line: u64) -> bool {
 
 fn has_global(script: &Script) -> bool {
     match script.globals.as_slice() {
-        [global] => is_global(global, b"g", -1, 2),
+        [global] => {
+            global.name.as_bytes() == b"g".as_slice() && global.value == -1 && global.line == 2
+        }
         _ => false,
     }
 }
@@ -59,7 +53,9 @@ fn has_calls(script: &Script) -> bool {
 
 fn has_replies(script: &Script) -> bool {
     match script.replies.as_slice() {
-        [first, second] => gives(first, 8) && is_throw(second, 9),
+        [first, second] => {
+            gives(first, 8) && matches!(second.reply, Reply::Throw) && second.line == 9
+        }
         _ => false,
     }
 }
@@ -86,21 +82,22 @@ fn no_text(rt: HostRuntime) -> Result<(), Fail> {
     Ok(())
 }
 
+static REFUSED: [(&[u8], u64); 9] = [
+    (b"global a\x01 1", 1),
+    (b"throw\ncall f 18446744073709551616", 2),
+    (b"call f -0", 1),
+    (b"\n# x\ncall f 01", 3),
+    (b"heap 268435456 00", 1),
+    (b"heap 0 0", 1),
+    (b"global g 1 2", 1),
+    (b"reply 0 4", 1),
+    (b"throw\r\nthrow now", 2),
+];
+
 #[test]
 fn refused_lines(rt: HostRuntime) {
-    let want: [(&[u8], u64); 9] = [
-        (b"global a\x01 1", 1),
-        (b"throw\ncall f 18446744073709551616", 2),
-        (b"call f -0", 1),
-        (b"\n# x\ncall f 01", 3),
-        (b"heap 268435456 00", 1),
-        (b"heap 0 0", 1),
-        (b"global g 1 2", 1),
-        (b"reply 0 4", 1),
-        (b"throw\r\nthrow now", 2),
-    ];
-    for (text, line) in want {
+    for (text, line) in REFUSED.iter() {
         let fault = read_script(rt.alloc(), text).err();
-        assert_eq!(rt; fault, Some(ScriptFault::Refused { line }));
+        assert_eq!(rt; fault, Some(ScriptFault::Refused { line: *line }));
     }
 }

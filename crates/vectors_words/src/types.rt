@@ -6,15 +6,15 @@ use sem_words::{JsOp, JsUnary, JsValue};
 fn rows_of_the_draft(rt: HostRuntime) {
     let fixnum = ValueType::Fixnum;
     let unsigned = ValueType::Unsigned;
-    assert!(rt; below(fixnum, unsigned));
-    assert_eq!(rt;
+    let types = [
         binary_row(JsOp::Div, fixnum, unsigned),
-        Some(ValueType::Intish)
-    );
-    assert_eq!(rt; binary_row(JsOp::Div, ValueType::Signed, unsigned), None);
-    assert_eq!(rt;
+        binary_row(JsOp::Div, ValueType::Signed, unsigned),
         unary_row(JsUnary::BitNot, ValueType::Intish),
-        Some(ValueType::Signed)
+    ];
+    assert_eq!(rt;
+        types,
+        [Some(ValueType::Intish), None, Some(ValueType::Signed)]
     );
+    assert!(rt; below(fixnum, unsigned));
     assert!(rt; fits(ValueType::Int, JsValue::Bool(true)));
 }

@@ -1,19 +1,20 @@
+use crate::rows::same_bytes;
 use sem_words::*;
 use std::test::Fail;
 
 #[test]
 fn texts_and_lists_hold_what_they_are_given(rt: HostRuntime) -> Result<(), Fail> {
     let text = Text::from_bytes(rt.alloc(), b"asm")?;
-    assert_eq!(rt; text.as_bytes(), b"asm".as_slice());
+    same_bytes(&rt, "a text", text.as_bytes(), b"asm");
 
     let mut list = List::new(rt.alloc());
     assert!(rt; list.is_empty());
-    assert_eq!(rt; list.push(7u32), Ok(()));
-    assert_eq!(rt; list.push(9u32), Ok(()));
-    assert_eq!(rt; list.len(), 2);
-    assert_eq!(rt; list.get(1), Some(&9));
-    assert_eq!(rt; list.get(2), None);
-    assert_eq!(rt; list.into_vec().as_slice(), [7, 9].as_slice());
+    assert!(rt; list.push(7u32).is_ok());
+    assert!(rt; list.push(9u32).is_ok());
+    assert!(rt; list.len() == 2);
+    assert!(rt; matches!(list.get(1), Some(9)));
+    assert!(rt; list.get(2).is_none());
+    assert!(rt; list.into_vec().as_slice() == [7, 9].as_slice());
     Ok(())
 }
 
@@ -60,25 +61,20 @@ fn words_agree_with_the_specification_tests(rt: HostRuntime) {
 fn operators_agree_with_an_engine(rt: HostRuntime) {
     let least = JsValue::Whole(-2147483648);
     let minus_one = JsValue::Whole(-1);
-    assert_eq!(rt;
+    let values = [
         js_binary(JsOp::Rem, least, minus_one),
-        Some(JsValue::NegZero)
-    );
-    assert_eq!(rt;
         js_binary(JsOp::Div, least, minus_one),
-        Some(JsValue::Whole(2147483648))
-    );
-    assert_eq!(rt;
         js_binary(JsOp::Shr, minus_one, JsValue::Undef),
-        Some(JsValue::Whole(4294967295))
-    );
-    assert_eq!(rt;
         js_unary(JsUnary::Neg, JsValue::Bool(false)),
-        Some(JsValue::NegZero)
-    );
-    assert_eq!(rt;
         js_imul(JsValue::Whole(123456789), JsValue::Whole(987654321)),
-        Some(JsValue::Whole(-67153019))
-    );
-    assert_eq!(rt; to_int32(JsValue::Frac(-7, 2)), -3);
+    ];
+    let wanted = [
+        Some(JsValue::NegZero),
+        Some(JsValue::Whole(2147483648)),
+        Some(JsValue::Whole(4294967295)),
+        Some(JsValue::NegZero),
+        Some(JsValue::Whole(-67153019)),
+    ];
+    assert_eq!(rt; values, wanted);
+    assert!(rt; to_int32(JsValue::Frac(-7, 2)) == -3);
 }

@@ -1,9 +1,9 @@
 //! Texts of great height or length. The function adds a level to the highest of its statements, and the module another one.
-use super::{CLOSE, OPEN, joined, repeated};
-use asm_text::{TextFault, read};
-use std::alloc::Global;
+use super::{CLOSE, OPEN, has_fault};
+use crate::pieces::{joined, repeated};
+use asm_text::TextFault;
+use std::alloc::{AllocError, Global};
 use std::process::Abort;
-use std::test::*;
 
 /// A name of what the row shows, what stands in front, what opens a level, how often, what stands inside, and what closes a level.
 type Row = (
@@ -15,7 +15,7 @@ type Row = (
     &'static [u8],
 );
 
-fn nested(g: Global, row: &Row, count: usize) -> Result<Vec<u8>, Fail> {
+fn nested(g: Global, row: &Row, count: usize) -> Result<Vec<u8>, AllocError> {
     let (_, front, open, _, inside, close) = *row;
     let opened = repeated(g, open, count)?;
     let closed = repeated(g, close, count)?;
@@ -59,18 +59,17 @@ static EXPRESSIONS: [Row; 13] = [
     ("sums to the right", b"", b"a+(", 996, b"b", b")"),
 ];
 
-fn meets_the_limit(rt: &impl Abort, g: Global, row: &Row) -> Result<(), Fail> {
+fn meets_the_limit(rt: &impl Abort, g: Global, row: &Row) -> Result<(), AllocError> {
     let text = nested(g, row, row.3)?;
-    assert!(rt; read(g, &text).is_ok(), "{}", row.0);
+    has_fault(rt, row.0, g, &text, None);
     let text = nested(g, row, row.3.saturating_add(1))?;
     let at = (text.len() as u64).saturating_sub(1);
-    let fault = read(g, &text).err();
-    assert_eq!(rt; fault, Some(TextFault::Height { at }), "{}", row.0);
+    has_fault(rt, row.0, g, &text, Some(TextFault::Height { at }));
     Ok(())
 }
 
 #[test]
-fn statements(rt: HostRuntime) -> Result<(), Fail> {
+fn statements(rt: HostRuntime) -> Result<(), AllocError> {
     for row in STATEMENTS.iter() {
         meets_the_limit(&rt, rt.alloc(), row)?;
     }
@@ -78,7 +77,7 @@ fn statements(rt: HostRuntime) -> Result<(), Fail> {
 }
 
 #[test]
-fn expressions(rt: HostRuntime) -> Result<(), Fail> {
+fn expressions(rt: HostRuntime) -> Result<(), AllocError> {
     for row in EXPRESSIONS.iter() {
         meets_the_limit(&rt, rt.alloc(), row)?;
     }
@@ -86,51 +85,57 @@ fn expressions(rt: HostRuntime) -> Result<(), Fail> {
 }
 
 /// What adds no height, at great length.
+static FLAT: [Row; 8] = [
+    ("parentheses", b"", b"(", 20000, b"a", b")"),
+    (
+        "parentheses round a sum's front",
+        b"",
+        b"(",
+        20000,
+        b"a",
+        b"+b)",
+    ),
+    ("a list", b"", b"a,", 20000, b"b", b""),
+    ("a sum", b"", b"a-", 20000, b"b", b""),
+    ("labels", b"", b"a:", 20000, b";", b""),
+    ("statements", b"", b"a;", 20000, b"", b""),
+    ("clauses", b"switch(a){", b"case 1:", 20000, b"}", b""),
+    ("arguments", b"f(", b"a,", 20000, b"b)", b""),
+];
+
 #[test]
-fn no_height(rt: HostRuntime) -> Result<(), Fail> {
-    let rows: [Row; 8] = [
-        ("parentheses", b"", b"(", 20000, b"a", b")"),
-        (
-            "parentheses round a sum's front",
-            b"",
-            b"(",
-            20000,
-            b"a",
-            b"+b)",
-        ),
-        ("a list", b"", b"a,", 20000, b"b", b""),
-        ("a sum", b"", b"a-", 20000, b"b", b""),
-        ("labels", b"", b"a:", 20000, b";", b""),
-        ("statements", b"", b"a;", 20000, b"", b""),
-        ("clauses", b"switch(a){", b"case 1:", 20000, b"}", b""),
-        ("arguments", b"f(", b"a,", 20000, b"b)", b""),
-    ];
-    for row in rows.iter() {
+fn no_height(rt: HostRuntime) -> Result<(), AllocError> {
+    for row in FLAT.iter() {
         let text = nested(rt.alloc(), row, row.3)?;
-        assert!(rt; read(rt.alloc(), &text).is_ok(), "{}", row.0);
+        has_fault(&rt, row.0, rt.alloc(), &text, None);
     }
     Ok(())
 }
 
 /// A text of a function with one parameter, which returns the parameter behind so many `!`.
-fn negations(g: Global, count: usize) -> Result<Vec<u8>, Fail> {
+fn negations(g: Global, count: usize) -> Result<Vec<u8>, AllocError> {
     let bangs = repeated(g, b"!", count)?;
     let front = b"function m(){\"use asm\";function f(x){x=x|0;return ";
     joined(g, &[front, &bangs, b"x|0;}return f;}"])
 }
 
 #[test]
-fn negations_of_a_parameter(rt: HostRuntime) -> Result<(), Fail> {
+fn negations_of_a_parameter(rt: HostRuntime) -> Result<(), AllocError> {
     let text = negations(rt.alloc(), 995)?;
-    assert!(rt; read(rt.alloc(), &text).is_ok());
+    has_fault(&rt, "995", rt.alloc(), &text, None);
     let text = negations(rt.alloc(), 996)?;
-    let fault = read(rt.alloc(), &text).err();
-    assert_eq!(rt; fault, Some(TextFault::Height { at: 1060 }));
+    has_fault(
+        &rt,
+        "996",
+        rt.alloc(),
+        &text,
+        Some(TextFault::Height { at: 1060 }),
+    );
     Ok(())
 }
 
 /// So many blocks one inside another, with the labels a0, a1 and so on.
-fn labelled(g: Global, count: usize) -> Result<Vec<u8>, Fail> {
+fn labelled(g: Global, count: usize) -> Result<Vec<u8>, AllocError> {
     let mut opened = Vec::new(g);
     for label in 0..count {
         let block = format!(in g; "a{label}:{{")?;
@@ -141,13 +146,18 @@ fn labelled(g: Global, count: usize) -> Result<Vec<u8>, Fail> {
 }
 
 #[test]
-fn blocks_with_labels_of_their_own(rt: HostRuntime) -> Result<(), Fail> {
+fn blocks_with_labels_of_their_own(rt: HostRuntime) -> Result<(), AllocError> {
     let text = labelled(rt.alloc(), 998)?;
-    assert!(rt; read(rt.alloc(), &text).is_ok());
+    has_fault(&rt, "998", rt.alloc(), &text, None);
     let text = labelled(rt.alloc(), 999)?;
     let at = (text.len() as u64).saturating_sub(1);
-    let fault = read(rt.alloc(), &text).err();
-    assert_eq!(rt; fault, Some(TextFault::Height { at }));
+    has_fault(
+        &rt,
+        "999",
+        rt.alloc(),
+        &text,
+        Some(TextFault::Height { at }),
+    );
     Ok(())
 }
 
@@ -168,13 +178,18 @@ static OPENED: [(&'static str, &'static [u8]); 11] = [
 
 /// What stays open completes no node, at whatever depth: the fault is the end of the text.
 #[test]
-fn left_open(rt: HostRuntime) -> Result<(), Fail> {
+fn left_open(rt: HostRuntime) -> Result<(), AllocError> {
     for row in OPENED.iter() {
         let opened = repeated(rt.alloc(), row.1, 2000)?;
         let text = joined(rt.alloc(), &[OPEN, &opened])?;
         let at = text.len() as u64;
-        let fault = read(rt.alloc(), &text).err();
-        assert_eq!(rt; fault, Some(TextFault::Grammar { at }), "{}", row.0);
+        has_fault(
+            &rt,
+            row.0,
+            rt.alloc(),
+            &text,
+            Some(TextFault::Grammar { at }),
+        );
     }
     Ok(())
 }
@@ -195,29 +210,29 @@ static EARLY: [(Row, usize); 9] = [
 
 /// The fault stands where the node is complete, long before the module's end.
 #[test]
-fn before_the_end(rt: HostRuntime) -> Result<(), Fail> {
+fn before_the_end(rt: HostRuntime) -> Result<(), AllocError> {
     for (row, before) in EARLY.iter() {
         let text = nested(rt.alloc(), row, row.3)?;
         let at = (OPEN.len() as u64).saturating_add(*before as u64);
-        let fault = read(rt.alloc(), &text).err();
-        assert_eq!(rt; fault, Some(TextFault::Height { at }), "{}", row.0);
+        has_fault(
+            &rt,
+            row.0,
+            rt.alloc(),
+            &text,
+            Some(TextFault::Height { at }),
+        );
     }
     Ok(())
 }
 
 /// A fault of a token behind that node counts first.
 #[test]
-fn before_a_bad_token(rt: HostRuntime) -> Result<(), Fail> {
+fn before_a_bad_token(rt: HostRuntime) -> Result<(), AllocError> {
     let (row, _) = &EARLY[0];
     let front = nested(rt.alloc(), row, row.3)?;
-    let at = front.len() as u64;
     let text = joined(rt.alloc(), &[&front, b" a", b"@"])?;
-    let fault = read(rt.alloc(), &text).err();
-    assert_eq!(rt;
-        fault,
-        Some(TextFault::BadToken {
-            at: at.saturating_add(2)
-        })
-    );
+    let at = (front.len() as u64).saturating_add(2);
+    let fault = TextFault::BadToken { at };
+    has_fault(&rt, row.0, rt.alloc(), &text, Some(fault));
     Ok(())
 }

@@ -1,37 +1,74 @@
 //! Texts that are refused, each in two parts: the fault is where the second one begins.
-use super::{CLOSE, OPEN, joined};
-use asm_text::{TextFault, read};
-use std::alloc::Global;
+use super::{CLOSE, OPEN, fault_of, has_fault};
+use crate::pieces::joined;
+use asm_text::TextFault;
+use std::alloc::{AllocError, Global};
 use std::process::Abort;
-use std::test::*;
 
 /// A name of what the row shows, and the text before the fault and from it on.
 type Row = (&'static str, &'static [u8], &'static [u8]);
 
-fn fault_of(g: Global, front: &[u8], back: &[u8]) -> Result<Option<TextFault>, Fail> {
-    let text = joined(g, &[front, back])?;
-    Ok(read(g, &text).err())
+/// Which fault a text has where the second part of its row begins.
+#[derive(Clone, Copy)]
+enum Refusal {
+    NonAscii,
+    BadToken,
+    LiteralForm,
+    Grammar,
+    NoUseAsm,
 }
 
-/// The row's parts as statements of a function.
-fn in_function(g: Global, row: &Row) -> Result<(Vec<u8>, Vec<u8>), Fail> {
-    let (_, front, back) = *row;
-    Ok((joined(g, &[OPEN, front])?, joined(g, &[back, CLOSE])?))
+impl Refusal {
+    fn at(self, at: u64) -> TextFault {
+        match self {
+            Refusal::NonAscii => TextFault::NonAscii { at },
+            Refusal::BadToken => TextFault::BadToken { at },
+            Refusal::LiteralForm => TextFault::LiteralForm { at },
+            Refusal::Grammar => TextFault::Grammar { at },
+            Refusal::NoUseAsm => TextFault::NoUseAsm { at },
+        }
+    }
 }
 
-fn is_grammar(
+/// The text of the row is refused where its second part begins; it stands behind `open`, and `close` behind it.
+fn is_refused(
     rt: &impl Abort,
-    g: Global,
-    name: &str,
-    front: &[u8],
-    back: &[u8],
-) -> Result<(), Fail> {
-    let at = front.len() as u64;
-    assert_eq!(rt;
-        fault_of(g, front, back)?,
-        Some(TextFault::Grammar { at }),
-        "{name}"
-    );
+    alloc: Global,
+    row: &Row,
+    open: &[u8],
+    close: &[u8],
+    refusal: Refusal,
+) -> Result<(), AllocError> {
+    let (name, front, back) = *row;
+    let text = joined(alloc, &[open, front, back, close])?;
+    let at = (open.len() as u64).saturating_add(front.len() as u64);
+    has_fault(rt, name, alloc, &text, Some(refusal.at(at)));
+    Ok(())
+}
+
+/// The rows as modules.
+fn modules_are_refused(
+    rt: &impl Abort,
+    alloc: Global,
+    rows: &[Row],
+    refusal: Refusal,
+) -> Result<(), AllocError> {
+    for row in rows {
+        is_refused(rt, alloc, row, b"", b"", refusal)?;
+    }
+    Ok(())
+}
+
+/// The rows as statements of a function.
+fn statements_are_refused(
+    rt: &impl Abort,
+    alloc: Global,
+    rows: &[Row],
+    refusal: Refusal,
+) -> Result<(), AllocError> {
+    for row in rows {
+        is_refused(rt, alloc, row, OPEN, CLOSE, refusal)?;
+    }
     Ok(())
 }
 
@@ -169,120 +206,109 @@ static STATEMENTS: [Row; 43] = [
 ];
 
 #[test]
-fn grammar(rt: HostRuntime) -> Result<(), Fail> {
-    for (name, front, back) in MODULES.iter() {
-        is_grammar(&rt, rt.alloc(), name, front, back)?;
-    }
-    for row in STATEMENTS.iter() {
-        let (front, back) = in_function(rt.alloc(), row)?;
-        is_grammar(&rt, rt.alloc(), row.0, &front, &back)?;
-    }
-    Ok(())
+fn grammar_of_modules(rt: HostRuntime) -> Result<(), AllocError> {
+    modules_are_refused(&rt, rt.alloc(), &MODULES, Refusal::Grammar)
 }
 
 #[test]
-fn no_use_asm(rt: HostRuntime) -> Result<(), Fail> {
-    let rows: [Row; 5] = [
-        (
-            "another directive",
-            b"function m(){",
-            b"'use strict';return f}",
-        ),
-        ("another gap", b"function m(){", b"\"use  asm\";return f}"),
-        ("none", b"function(a,b,c){", b"return f}"),
-        ("a brace", b"function m(){ ", b"}"),
-        ("a function", b"function m(){\n", b"function f(){'use asm'}"),
-    ];
-    for (name, front, back) in rows.iter() {
-        let at = front.len() as u64;
-        let fault = fault_of(rt.alloc(), front, back)?;
-        assert_eq!(rt; fault, Some(TextFault::NoUseAsm { at }), "{name}");
-    }
-    Ok(())
+fn grammar_of_statements(rt: HostRuntime) -> Result<(), AllocError> {
+    statements_are_refused(&rt, rt.alloc(), &STATEMENTS, Refusal::Grammar)
 }
 
+static OTHER_DIRECTIVES: [Row; 5] = [
+    (
+        "another directive",
+        b"function m(){",
+        b"'use strict';return f}",
+    ),
+    ("another gap", b"function m(){", b"\"use  asm\";return f}"),
+    ("none", b"function(a,b,c){", b"return f}"),
+    ("a brace", b"function m(){ ", b"}"),
+    ("a function", b"function m(){\n", b"function f(){'use asm'}"),
+];
+
 #[test]
-fn literal_forms(rt: HostRuntime) -> Result<(), Fail> {
-    let rows: [Row; 10] = [
-        ("a needless 0", b"a=", b"01"),
-        ("no hexadecimal digit", b"a=", b"0x"),
-        ("2^64", b"a=", b"18446744073709551616"),
-        ("an exponent", b"a=", b"1e5"),
-        ("a second dot", b"a=", b"1.5.2"),
-        ("a prefix minus before 0", b"a=", b"-0"),
-        ("before a hexadecimal 0", b"a=", b"- 0x0"),
-        ("behind another prefix", b"a=~", b"-0"),
-        ("behind a minus", b"a- ", b"-0"),
-        ("in a clause", b"switch(a){case ", b"-0:}"),
-    ];
-    for row in rows.iter() {
-        let (front, back) = in_function(rt.alloc(), row)?;
-        let at = front.len() as u64;
-        let fault = fault_of(rt.alloc(), &front, &back)?;
-        assert_eq!(rt; fault, Some(TextFault::LiteralForm { at }), "{}", row.0);
-    }
+fn no_use_asm(rt: HostRuntime) -> Result<(), AllocError> {
+    modules_are_refused(&rt, rt.alloc(), &OTHER_DIRECTIVES, Refusal::NoUseAsm)
+}
+
+static LITERALS: [Row; 10] = [
+    ("a needless 0", b"a=", b"01"),
+    ("no hexadecimal digit", b"a=", b"0x"),
+    ("2^64", b"a=", b"18446744073709551616"),
+    ("an exponent", b"a=", b"1e5"),
+    ("a second dot", b"a=", b"1.5.2"),
+    ("a prefix minus before 0", b"a=", b"-0"),
+    ("before a hexadecimal 0", b"a=", b"- 0x0"),
+    ("behind another prefix", b"a=~", b"-0"),
+    ("behind a minus", b"a- ", b"-0"),
+    ("in a clause", b"switch(a){case ", b"-0:}"),
+];
+
+#[test]
+fn literal_forms(rt: HostRuntime) -> Result<(), AllocError> {
+    statements_are_refused(&rt, rt.alloc(), &LITERALS, Refusal::LiteralForm)?;
     let text = b"function m(){\"use asm\";function f(){return -0;}return f;}";
-    let fault = read(rt.alloc(), text).err();
-    assert_eq!(rt; fault, Some(TextFault::LiteralForm { at: 43 }));
+    let fault = TextFault::LiteralForm { at: 43 };
+    has_fault(&rt, "at 43", rt.alloc(), text, Some(fault));
     Ok(())
 }
 
 /// Faults of tokens, wherever the grammar has one.
+static BAD_TOKENS: [Row; 6] = [
+    ("a byte that begins none", b"a=", b"@"),
+    ("an open quote", b"a=", b"'b"),
+    ("a quote over a line end", b"a=", b"'b\n'"),
+    ("a backslash in quotes", b"a=", b"'\\n'"),
+    ("behind a fault of the grammar", b")( ", b"#"),
+    ("behind a prefix minus before 0", b"a=-0;a=", b"@"),
+];
+
 #[test]
-fn tokens(rt: HostRuntime) -> Result<(), Fail> {
-    let bad_tokens: [Row; 6] = [
-        ("a byte that begins none", b"a=", b"@"),
-        ("an open quote", b"a=", b"'b"),
-        ("a quote over a line end", b"a=", b"'b\n'"),
-        ("a backslash in quotes", b"a=", b"'\\n'"),
-        ("behind a fault of the grammar", b")( ", b"#"),
-        ("behind a prefix minus before 0", b"a=-0;a=", b"@"),
-    ];
-    for row in bad_tokens.iter() {
-        let (front, back) = in_function(rt.alloc(), row)?;
-        let at = front.len() as u64;
-        let fault = fault_of(rt.alloc(), &front, &back)?;
-        assert_eq!(rt; fault, Some(TextFault::BadToken { at }), "{}", row.0);
-    }
-    let non_ascii: [Row; 4] = [
-        ("a letter", b"a=", b"\xc3\xa9"),
-        ("a line separator in a comment", b"a//", b"\xe2\x80\xa8"),
-        (
-            "a paragraph separator in a comment",
-            b"a/* ",
-            b"\xe2\x80\xa9*/",
-        ),
-        ("behind a fault of the grammar", b"== ", b"\xff"),
-    ];
-    for row in non_ascii.iter() {
-        let (front, back) = in_function(rt.alloc(), row)?;
-        let at = front.len() as u64;
-        let fault = fault_of(rt.alloc(), &front, &back)?;
-        assert_eq!(rt; fault, Some(TextFault::NonAscii { at }), "{}", row.0);
-    }
-    let fault = fault_of(rt.alloc(), b"function m(){}", b"/*/ * /")?;
-    assert_eq!(rt; fault, Some(TextFault::OpenComment { at: 14 }));
-    Ok(())
+fn bad_tokens(rt: HostRuntime) -> Result<(), AllocError> {
+    statements_are_refused(&rt, rt.alloc(), &BAD_TOKENS, Refusal::BadToken)
 }
+
+static NON_ASCII: [Row; 4] = [
+    ("a letter", b"a=", b"\xc3\xa9"),
+    ("a line separator in a comment", b"a//", b"\xe2\x80\xa8"),
+    (
+        "a paragraph separator in a comment",
+        b"a/* ",
+        b"\xe2\x80\xa9*/",
+    ),
+    ("behind a fault of the grammar", b"== ", b"\xff"),
+];
+
+#[test]
+fn other_bytes(rt: HostRuntime) -> Result<(), AllocError> {
+    statements_are_refused(&rt, rt.alloc(), &NON_ASCII, Refusal::NonAscii)
+}
+
+#[test]
+fn an_open_comment(rt: HostRuntime) {
+    let text = b"function m(){}/*/ * /";
+    let fault = TextFault::OpenComment { at: 14 };
+    has_fault(&rt, "an open comment", rt.alloc(), text, Some(fault));
+}
+
+const WHOLE: &[u8] =
+    b"function m(){\"use asm\";function f(a,b){a=a|0;b=b|0;return a+b|0;}return f;}";
 
 /// Each front of a module is refused, at its end, or at a last token that is cut off within.
 #[test]
-fn fronts(rt: HostRuntime) -> Result<(), Fail> {
-    let text =
-        b"function m(){\"use asm\";function f(a,b){a=a|0;b=b|0;return a+b|0;}return f;}".as_slice();
-    assert_eq!(rt; text.len(), 75);
-    assert!(rt; read(rt.alloc(), text).is_ok());
+fn fronts(rt: HostRuntime) {
+    assert_eq!(rt; WHOLE.len(), 75);
+    has_fault(&rt, "the whole", rt.alloc(), WHOLE, None);
     for n in 0..75 {
-        let (front, _) = text.split_at(n);
-        let want = match n {
+        let (front, _) = WHOLE.split_at(n);
+        let fault = match n {
             0..=7 => TextFault::Grammar { at: 0 },
             14..=21 => TextFault::BadToken { at: 13 },
             24..=30 => TextFault::Grammar { at: 23 },
             66..=70 => TextFault::Grammar { at: 65 },
             _ => TextFault::Grammar { at: n as u64 },
         };
-        let fault = read(rt.alloc(), front).err();
-        assert_eq!(rt; fault, Some(want), "{n} bytes");
+        assert_eq!(rt; fault_of(rt.alloc(), front), Some(fault), "{n} bytes");
     }
-    Ok(())
 }

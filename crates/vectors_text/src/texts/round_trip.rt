@@ -1,46 +1,73 @@
 //! Texts with the canonical text of their module, which is read as the module again.
-use super::{CLOSE, OPEN, joined};
+use super::{CLOSE, OPEN};
+use crate::pieces::joined;
 use asm_grammar_print::print;
 use asm_text::{read, reprinted};
-use std::alloc::Global;
+use asm_tree::{Module, Parsed};
+use std::alloc::{AllocError, Global};
 use std::process::Abort;
-use std::test::*;
+use std::test::Fail;
 
 /// A name of what the row shows, a text, and its canonical text.
 type Row = (&'static str, &'static [u8], &'static [u8]);
 
-fn printed(g: Global, text: &[u8]) -> Result<Vec<u8>, Fail> {
-    let parsed = read(g, text).ok().ok_or("the text says a module")?;
-    Ok(print(g, &parsed.module)?)
+/// What the text says, if it says a module.
+fn parsed(alloc: Global, text: &[u8]) -> Option<Parsed> {
+    match read(alloc, text) {
+        Ok(parsed) => Some(parsed),
+        Err(_) => None,
+    }
+}
+
+/// The module is printed as `want`.
+fn prints(rt: &impl Abort, name: &str, alloc: Global, module: &Module, want: &[u8]) {
+    match print(alloc, module) {
+        Ok(text) => assert_eq!(rt; text.as_slice(), want, "{name}"),
+        Err(_) => panic!(rt; "{name}: out of memory"),
+    }
+}
+
+/// What is printed of the module is read as the same module, which is printed as `want`, at the places of what `want` says.
+fn is_read_again(
+    rt: &impl Abort,
+    name: &str,
+    alloc: Global,
+    module: &Module,
+    want: &[u8],
+    there: &Parsed,
+) {
+    match reprinted(alloc, module) {
+        Ok(again) => {
+            prints(rt, name, alloc, &again.module, want);
+            assert!(rt;
+                again.places.as_slice() == there.places.as_slice(),
+                "{name}: places"
+            );
+        }
+        Err(_) => panic!(rt; "{name}: what is printed says a module"),
+    }
 }
 
 /// The text's module prints as `want`, and what is printed is read as the same module, at the same places.
-fn comes_back(
-    rt: &impl Abort,
-    g: Global,
-    name: &str,
-    text: &[u8],
-    want: &[u8],
-) -> Result<(), Fail> {
-    let parsed = read(g, text).ok().ok_or("the text says a module")?;
-    assert_eq!(rt; print(g, &parsed.module)?.as_slice(), want, "{name}");
-    assert_eq!(rt; printed(g, want)?.as_slice(), want, "{name}");
-    let again = reprinted(g, &parsed.module)
-        .ok()
-        .ok_or("what is printed says a module")?;
-    assert_eq!(rt; print(g, &again.module)?.as_slice(), want, "{name}");
-    let there = read(g, want).ok().ok_or("the text says a module")?;
-    assert_eq!(rt; again.places.as_slice(), there.places.as_slice(), "{name}");
-    Ok(())
+fn comes_back(rt: &impl Abort, name: &str, alloc: Global, text: &[u8], want: &[u8]) {
+    match (parsed(alloc, text), parsed(alloc, want)) {
+        (Some(said), Some(there)) => {
+            prints(rt, name, alloc, &said.module, want);
+            prints(rt, name, alloc, &there.module, want);
+            is_read_again(rt, name, alloc, &said.module, want, &there);
+        }
+        _ => panic!(rt; "{name}: the text says a module"),
+    }
 }
 
 /// The same for statements, alone in a function.
-fn body_comes_back(rt: &impl Abort, g: Global, row: &Row) -> Result<(), Fail> {
+fn body_comes_back(rt: &impl Abort, alloc: Global, row: &Row) -> Result<(), AllocError> {
     let (name, body, want) = *row;
-    let text = joined(g, &[OPEN, body, CLOSE])?;
+    let text = joined(alloc, &[OPEN, body, CLOSE])?;
     let front = b"function m(){\"use asm\";\nfunction f(){";
-    let want = joined(g, &[front, want, b"}\nreturn f;}\n"])?;
-    comes_back(rt, g, name, &text, &want)
+    let want = joined(alloc, &[front, want, b"}\nreturn f;}\n"])?;
+    comes_back(rt, name, alloc, &text, &want);
+    Ok(())
 }
 
 static STATEMENTS: [Row; 31] = [
@@ -150,7 +177,7 @@ static STATEMENTS: [Row; 31] = [
 ];
 
 #[test]
-fn statements(rt: HostRuntime) -> Result<(), Fail> {
+fn statements(rt: HostRuntime) -> Result<(), AllocError> {
     for row in STATEMENTS.iter() {
         body_comes_back(&rt, rt.alloc(), row)?;
     }
@@ -236,7 +263,7 @@ static EXPRESSIONS: [Row; 47] = [
 ];
 
 #[test]
-fn expressions(rt: HostRuntime) -> Result<(), Fail> {
+fn expressions(rt: HostRuntime) -> Result<(), AllocError> {
     for row in EXPRESSIONS.iter() {
         body_comes_back(&rt, rt.alloc(), row)?;
     }
@@ -322,11 +349,10 @@ static MODULES: [Row; 15] = [
 ];
 
 #[test]
-fn modules(rt: HostRuntime) -> Result<(), Fail> {
+fn modules(rt: HostRuntime) {
     for (name, text, want) in MODULES.iter() {
-        comes_back(&rt, rt.alloc(), name, text, want)?;
+        comes_back(&rt, name, rt.alloc(), text, want);
     }
-    Ok(())
 }
 
 /// Module, function, parameter, statement, `|`, `+`, its operands, `0`, export.
@@ -334,9 +360,13 @@ fn modules(rt: HostRuntime) -> Result<(), Fail> {
 fn places(rt: HostRuntime) -> Result<(), Fail> {
     let text = b"function m(){\"use asm\";function f(x){x=x|0;return x+1|0;}return f;}";
     let want = [0, 32, 34, 43, 53, 51, 50, 52, 54, 64];
-    let parsed = read(rt.alloc(), text).ok().ok_or("the text says a module")?;
-    assert_eq!(rt; parsed.places.as_slice(), want.as_slice());
-    Ok(())
+    match parsed(rt.alloc(), text) {
+        Some(parsed) => {
+            assert_eq!(rt; parsed.places.as_slice(), want.as_slice());
+            Ok(())
+        }
+        None => Err(Fail::new("the text says a module")),
+    }
 }
 
 /// Statements, and where their nodes stand in them: a whole before its parts.
@@ -364,19 +394,24 @@ static PLACES: [(&'static [u8], &'static [u64]); 18] = [
     (b"a(b=c,b?c:a);", &[0, 0, 3, 4, 7, 6, 8, 10]),
 ];
 
+/// The places are these, counted from where the statements begin: the module and the function stand before, the export behind.
+fn are_places(found: &[u64], want: &[u64]) -> bool {
+    let begin = OPEN.len() as u64;
+    found.len() == want.len().saturating_add(3)
+        && found
+            .iter()
+            .skip(2)
+            .zip(want.iter())
+            .all(|(place, want)| *place == want.saturating_add(begin))
+}
+
 #[test]
 fn places_in_statements(rt: HostRuntime) -> Result<(), Fail> {
-    let begin = OPEN.len() as u64;
     for (body, want) in PLACES.iter() {
         let text = joined(rt.alloc(), &[OPEN, body, CLOSE])?;
-        let parsed = read(rt.alloc(), &text)
-            .ok()
-            .ok_or("the text says a module")?;
-        let found = parsed.places.as_slice();
-        // the module and the function stand before, the export behind
-        assert_eq!(rt; found.len(), want.len().saturating_add(3));
-        for (place, want) in found.iter().skip(2).zip(want.iter()) {
-            assert_eq!(rt; *place, want.saturating_add(begin));
+        match parsed(rt.alloc(), &text) {
+            Some(parsed) => assert!(rt; are_places(parsed.places.as_slice(), want), "{want:?}"),
+            None => return Err(Fail::new("the text says a module")),
         }
     }
     Ok(())

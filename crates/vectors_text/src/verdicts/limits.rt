@@ -1,11 +1,11 @@
 //! Each limit is met by its own number, and refused at one more.
-use super::{FRONT, joined};
+use super::{FRONT, has_fault};
+use crate::pieces::joined;
 use asm_lang_valid::Rule;
-use cmd_check_asm::{AsmRow, CheckFault, check_text};
+use cmd_check_asm::{AsmRow, CheckFault};
 use itoa::Buffer;
 use std::alloc::{AllocError, Global};
 use std::process::Abort;
-use std::test::Fail;
 
 /// An item that is repeated: what stands before its place, and its pieces, between which its number stands.
 struct Item {
@@ -249,84 +249,84 @@ fn before(alloc: Global, limit: &Limit) -> Result<Vec<u8>, AllocError> {
 }
 
 /// So many items are accepted.
-fn is_accepted(rt: &impl Abort, limit: &Limit, alloc: Global) -> Result<(), Fail> {
+fn is_accepted(rt: &impl Abort, limit: &Limit, alloc: Global) -> Result<(), AllocError> {
     let (most, _) = limit.counts;
     let text = whole(alloc, limit, most)?;
-    assert_eq!(rt; check_text(alloc, &text).err(), None);
+    has_fault(rt, "at the limit", alloc, &text, None);
     Ok(())
 }
 
 /// So many items are refused, at the node's place.
-fn is_refused(rt: &impl Abort, limit: &Limit, alloc: Global) -> Result<(), Fail> {
+fn is_refused(rt: &impl Abort, limit: &Limit, alloc: Global) -> Result<(), AllocError> {
     let (_, more) = limit.counts;
     let text = whole(alloc, limit, more)?;
     let fault = CheckFault::Refused {
         row: AsmRow::Rule(limit.rule),
         at: before(alloc, limit)?.len() as u64,
     };
-    assert_eq!(rt; check_text(alloc, &text).err(), Some(fault));
+    has_fault(rt, "past the limit", alloc, &text, Some(fault));
     Ok(())
 }
 
-fn is_met(rt: &impl Abort, limit: &Limit, alloc: Global) -> Result<(), Fail> {
+fn is_met(rt: &impl Abort, limit: &Limit, alloc: Global) -> Result<(), AllocError> {
     is_accepted(rt, limit, alloc)?;
     is_refused(rt, limit, alloc)
 }
 
 #[test]
-fn functions_have_a_limit(rt: HostRuntime) -> Result<(), Fail> {
+fn functions_have_a_limit(rt: HostRuntime) -> Result<(), AllocError> {
     is_met(&rt, &FUNCTIONS, rt.alloc())
 }
 
 #[test]
-fn parameters_have_a_limit(rt: HostRuntime) -> Result<(), Fail> {
+fn parameters_have_a_limit(rt: HostRuntime) -> Result<(), AllocError> {
     is_met(&rt, &PARAMETERS, rt.alloc())
 }
 
 #[test]
-fn locals_have_a_limit(rt: HostRuntime) -> Result<(), Fail> {
+fn locals_have_a_limit(rt: HostRuntime) -> Result<(), AllocError> {
     is_met(&rt, &LOCALS, rt.alloc())
 }
 
 #[test]
-fn globals_have_a_limit(rt: HostRuntime) -> Result<(), Fail> {
+fn globals_have_a_limit(rt: HostRuntime) -> Result<(), AllocError> {
     is_met(&rt, &GLOBALS, rt.alloc())
 }
 
 #[test]
-fn foreign_calls_have_a_limit(rt: HostRuntime) -> Result<(), Fail> {
+fn foreign_calls_have_a_limit(rt: HostRuntime) -> Result<(), AllocError> {
     is_met(&rt, &FOREIGN_CALLS, rt.alloc())
 }
 
 #[test]
-fn arguments_of_a_foreign_call_have_a_limit(rt: HostRuntime) -> Result<(), Fail> {
+fn arguments_of_a_foreign_call_have_a_limit(rt: HostRuntime) -> Result<(), AllocError> {
     is_met(&rt, &ARGUMENTS, rt.alloc())
 }
 
 #[test]
-fn members_of_a_table_have_a_limit(rt: HostRuntime) -> Result<(), Fail> {
+fn members_of_a_table_have_a_limit(rt: HostRuntime) -> Result<(), AllocError> {
     is_met(&rt, &MEMBERS, rt.alloc())
 }
 
 #[test]
-fn cases_have_a_limit(rt: HostRuntime) -> Result<(), Fail> {
+fn cases_have_a_limit(rt: HostRuntime) -> Result<(), AllocError> {
     is_met(&rt, &CASES, rt.alloc())
 }
 
 #[test]
-fn a_foreign_name_has_a_limit(rt: HostRuntime) -> Result<(), Fail> {
+fn a_foreign_name_has_a_limit(rt: HostRuntime) -> Result<(), AllocError> {
     is_met(&rt, &FOREIGN_NAME, rt.alloc())
 }
 
 // The longest texts have a test for each answer, so that none takes long.
 
 #[test]
-fn the_longest_chain_is_accepted(rt: HostRuntime) -> Result<(), Fail> {
+fn the_longest_chain_is_accepted(rt: HostRuntime) -> Result<(), AllocError> {
     is_accepted(&rt, &CHAIN, rt.alloc())
 }
 
 #[test]
-fn a_longer_chain_is_refused(rt: HostRuntime) -> Result<(), Fail> {
+fn a_longer_chain_is_refused(rt: HostRuntime) -> Result<(), AllocError> {
     is_refused(&rt, &CHAIN, rt.alloc())
 }
 
@@ -352,16 +352,16 @@ fn tables_at_the_limit(alloc: Global) -> Result<Vec<u8>, AllocError> {
 }
 
 #[test]
-fn all_tables_at_the_limit_are_accepted(rt: HostRuntime) -> Result<(), Fail> {
+fn all_tables_at_the_limit_are_accepted(rt: HostRuntime) -> Result<(), AllocError> {
     let alloc = rt.alloc();
     let front = tables_at_the_limit(alloc)?;
     let text = joined(alloc, &[&front, b"return f}"])?;
-    assert_eq!(rt; check_text(alloc, &text).err(), None);
+    has_fault(&rt, "all tables", alloc, &text, None);
     Ok(())
 }
 
 #[test]
-fn a_member_more_of_all_tables_is_refused(rt: HostRuntime) -> Result<(), Fail> {
+fn a_member_more_of_all_tables_is_refused(rt: HostRuntime) -> Result<(), AllocError> {
     let alloc = rt.alloc();
     let front = tables_at_the_limit(alloc)?;
     let before = joined(alloc, &[&front, b"var "])?;
@@ -370,6 +370,6 @@ fn a_member_more_of_all_tables_is_refused(rt: HostRuntime) -> Result<(), Fail> {
         row: AsmRow::Rule(Rule::PastLimit),
         at: before.len() as u64,
     };
-    assert_eq!(rt; check_text(alloc, &text).err(), Some(fault));
+    has_fault(&rt, "a member more", alloc, &text, Some(fault));
     Ok(())
 }

@@ -1,8 +1,8 @@
 use Rattle.vectors_wasm.proofs.Empty.{bare_shaped}
-use Rattle.vectors_wasm.proofs.validity.the_first_row_that_holds_is_told.Goals as goal
+use Rattle.vectors_wasm.proofs.validity.judged.Goals as goal
 
 pub validate-requires : goal.validate-requires
-validate-requires g c =
+validate-requires c =
     let e = c.in_ok-module.ensures in
-    let n = c.in_ok-nameless.ensures in
+    let n = c.in_ok-imports.ensures in
     bare_shaped _ _ e.imports n.module_names n.names e.exports e.functions e.bodies e.globals e.elements e.segments
