@@ -1,6 +1,11 @@
 use js_tokens::*;
 use std::test::Fail;
 
+/// No line ends before the token, which has this text and place.
+fn is_token(token: &Token<'_>, text: &[u8], at: u64) -> bool {
+    token.text == text && token.at == at && !token.line_before
+}
+
 /// The tokens of `a>>>=b--c`, and their places.
 static LONGEST: [(&[u8], u64); 5] = [(b"a", 0), (b">>>=", 1), (b"b", 5), (b"--", 6), (b"c", 8)];
 
@@ -11,10 +16,7 @@ fn longest_tokens(rt: HostRuntime) -> Result<(), Fail> {
     };
     assert!(rt; found.len() == 5);
     for (token, (text, at)) in found.iter().zip(LONGEST.iter()) {
-        assert!(rt;
-            token.text == *text && token.at == *at && !token.line_before,
-            "{at}"
-        );
+        assert!(rt; is_token(token, text, *at), "{at}");
     }
     Ok(())
 }

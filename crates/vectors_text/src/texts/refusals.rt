@@ -30,44 +30,32 @@ impl Refusal {
     }
 }
 
-/// The text of the row is refused where its second part begins; it stands behind `open`, and `close` behind it.
-fn is_refused(
-    rt: &impl Abort,
-    alloc: Global,
-    row: &Row,
-    open: &[u8],
-    close: &[u8],
-    refusal: Refusal,
-) -> Result<(), AllocError> {
-    let (name, front, back) = *row;
-    let text = joined(alloc, &[open, front, back, close])?;
-    let at = (open.len() as u64).saturating_add(front.len() as u64);
-    has_fault(rt, name, alloc, &text, Some(refusal.at(at)));
-    Ok(())
-}
-
-/// The rows as modules.
+/// The rows as modules, each refused where its second part begins.
 fn modules_are_refused(
     rt: &impl Abort,
     alloc: Global,
     rows: &[Row],
     refusal: Refusal,
 ) -> Result<(), AllocError> {
-    for row in rows {
-        is_refused(rt, alloc, row, b"", b"", refusal)?;
+    for (name, front, back) in rows {
+        let text = joined(alloc, &[*front, *back])?;
+        let fault = refusal.at(front.len() as u64);
+        has_fault(rt, name, alloc, &text, Some(fault));
     }
     Ok(())
 }
 
-/// The rows as statements of a function.
+/// The rows as statements of a function, each refused where its second part begins.
 fn statements_are_refused(
     rt: &impl Abort,
     alloc: Global,
     rows: &[Row],
     refusal: Refusal,
 ) -> Result<(), AllocError> {
-    for row in rows {
-        is_refused(rt, alloc, row, OPEN, CLOSE, refusal)?;
+    for (name, front, back) in rows {
+        let text = joined(alloc, &[OPEN, *front, *back, CLOSE])?;
+        let before = (OPEN.len() as u64).saturating_add(front.len() as u64);
+        has_fault(rt, name, alloc, &text, Some(refusal.at(before)));
     }
     Ok(())
 }
