@@ -76,14 +76,14 @@ ASM_SCRIPTS = {
     "a long line of the heap": (6_500, script(lambda n: b"heap 0 " + b"01" * n, LITTLE_TEXT)),
     "replies": (160_000, script(lambda n: b"reply 1\n" * n, LITTLE_TEXT)),
     "a reply of many writes": (250_000, script(lambda n: b"reply 1" + b" 1=00" * n, LITTLE_TEXT)),
-    "foreign globals with a line each": (40_000, foreign_globals),
+    "foreign globals with a line each": (9_000, foreign_globals),
     "a call of each of many exports": (60_000, called_keys),
 }
 WASM_SCRIPTS = {
     "calls": (160_000, script(lambda n: b"call f\n" * n, LITTLE_MODULE)),
     "lines of the heap": (100_000, script(lambda n: b"heap 16 01\n" * n, LITTLE_MODULE)),
     "replies": (160_000, script(lambda n: b"reply 1\n" * n, LITTLE_MODULE)),
-    "imported globals with a line each": (40_000, imported_globals),
+    "imported globals with a line each": (9_000, imported_globals),
     "a call of each of many exports": (60_000, called_exports),
     "calls of the last of 1,000 exports": (16_000, last_export),
     "calls of two of 1,000 exports": (8_000, changing_exports),
