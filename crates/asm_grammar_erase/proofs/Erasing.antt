@@ -1,7 +1,7 @@
 -- The expressions that trees say, variant by variant.
 use Rattle.std.proofs.Common.{◌≡◌, ℕ, ◌+◌, ◌<◌, Bool, true, false, List, [], ◌∷◌, ◌++◌, map, length, get_or, drop, refl, sym, ap, ◌∙◌}
 use Rattle.std.proofs.lemmas.List.{drop_more}
-use Rattle.std.specs.Prelude.{ℤ}
+use Rattle.std.specs.Prelude.{pos, neg_ℤ}
 use Rattle.sem_words.specs.declared.text.Text.{Text}
 use Rattle.std.specs.Global.{Global}
 use Rattle.std.specs.declared.boxed.Box.{Box}
@@ -16,14 +16,17 @@ use Rattle.asm_grammar_nodes.specs.declared.tree.ExprTree.{ExprTree as CodeExpr}
 use Rattle.asm_grammar_nodes.specs.declared.tree.ExprTree.TheVariants as placed_exprs
 use Rattle.asm_grammar_nodes.specs.declared.tree.Addend.{Addend as CodeAddend}
 use Rattle.asm_grammar_nodes.specs.Views.{AddendView, addend_view, sign_of, sum_in, expr_view, exprs_view}
-use Rattle.asm_grammar_nodes.proofs.Views.{addend_view-is, expr_view-Literal, expr_view-Decimals, expr_view-Variable, expr_view-Element, expr_view-Call, expr_view-TableCall, expr_view-Assignment, expr_view-Store, expr_view-Unary, expr_view-Binary, expr_view-Conditional, expr_view-Listed, expr_view-Sum}
+use Rattle.asm_grammar_nodes.proofs.Views.{addend_view-is, expr_view-Literal, expr_view-Negative, expr_view-Decimals, expr_view-Variable, expr_view-Element, expr_view-Call, expr_view-TableCall, expr_view-Assignment, expr_view-Store, expr_view-Unary, expr_view-Binary, expr_view-Conditional, expr_view-Listed, expr_view-Sum}
 use Rattle.asm_tree.specs.declared.tree.Expr.{Expr as PlainExpr}
 use Rattle.asm_tree.specs.Views as plain
 use Rattle.asm_tree.proofs.Views.{views}
 use Rattle.asm_grammar_erase.specs.Parts.{links_on}
 
-pub erased-Literal : (at : ℕ) (v : ℤ) → expr_of (expr_view (placed_exprs.Literal at v)) ≡ lit v
+pub erased-Literal : (at : ℕ) (v : ℕ) → expr_of (expr_view (placed_exprs.Literal at v)) ≡ lit (pos v)
 erased-Literal at v = ap expr_of (expr_view-Literal at v)
+
+pub erased-Negative : (at : ℕ) (v : ℕ) → expr_of (expr_view (placed_exprs.Negative at v)) ≡ lit (neg_ℤ (pos v))
+erased-Negative at v = ap expr_of (expr_view-Negative at v)
 
 pub erased-Decimals : (at : ℕ) (t : Text) → expr_of (expr_view (placed_exprs.Decimals at t)) ≡ decimal (text_bytes t)
 erased-Decimals at t = ap expr_of (expr_view-Decimals at t)
@@ -99,4 +102,4 @@ expr_done done more items i x y low is h view had =
     ap (λ ds. before (map plain.expr_view ds) rest) h ∙ before_more done y rest ∙ ap (λ v. before (map plain.expr_view done) (exprs v rest)) view
     ∙ sym (ap (λ xs. before (map plain.expr_view done) (exprs_of (exprs_view xs))) here) ∙ had
 
-pub ruleset expressions = (erased-Literal, erased-Decimals, erased-Variable, erased-Element, erased-Call, erased-TableCall, erased-Assignment, erased-Store, erased-Unary, erased-Binary, erased-Conditional, erased-Listed, erased-Sum, views)
+pub ruleset expressions = (erased-Literal, erased-Negative, erased-Decimals, erased-Variable, erased-Element, erased-Call, erased-TableCall, erased-Assignment, erased-Store, erased-Unary, erased-Binary, erased-Conditional, erased-Listed, erased-Sum, views)

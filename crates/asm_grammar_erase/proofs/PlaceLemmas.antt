@@ -1,7 +1,6 @@
 -- The places of trees, variant by variant.
 use Rattle.std.proofs.Common.{◌≡◌, ℕ, ◌+◌, ◌<◌, length, get_or, drop, Bool, true, false, ◌&&◌, if◌then◌else◌, List, [], ◌∷◌, ◌++◌, Option, Some, None, map, refl, sym, ap, ◌∙◌, arith}
 use Rattle.std.proofs.lemmas.List.{append_assoc, append-nil, drop_more}
-use Rattle.std.specs.Prelude.{ℤ}
 use Rattle.sem_words.specs.declared.text.Text.{Text}
 use Rattle.std.specs.Global.{Global}
 use Rattle.std.specs.declared.boxed.Box.{Box}
@@ -24,13 +23,16 @@ use Rattle.asm_grammar_nodes.specs.declared.tree.ForHeadTree.{ForHeadTree}
 use Rattle.asm_grammar_nodes.specs.Heights.{is_chain}
 use Rattle.asm_grammar_nodes.specs.Views.{AddendView, ClauseView, addend_view, sign_of, sum_in, word_view, words_view, under_all, expr_view, exprs_view, expr_option, stmt_view, stmts_view, clauses_view}
 use Rattle.asm_grammar_nodes.proofs.Levels.{binary_is, sign_is}
-use Rattle.asm_grammar_nodes.proofs.Views.{addend_view-is, clause_view-is, expr_view-Literal, expr_view-Decimals, expr_view-Variable, expr_view-Element, expr_view-Call, expr_view-TableCall, expr_view-Assignment, expr_view-Store, expr_view-Unary, expr_view-Conditional, expr_view-Listed, expr_view-Binary, expr_view-Sum, stmt_view-Block, stmt_view-Plain, stmt_view-Empty, stmt_view-If_only, stmt_view-If_else, stmt_view-Return, stmt_view-While, stmt_view-DoWhile, stmt_view-For, stmt_view-Break, stmt_view-Continue, stmt_view-Switch, stmt_view-Labelled}
+use Rattle.asm_grammar_nodes.proofs.Views.{addend_view-is, clause_view-is, expr_view-Literal, expr_view-Negative, expr_view-Decimals, expr_view-Variable, expr_view-Element, expr_view-Call, expr_view-TableCall, expr_view-Assignment, expr_view-Store, expr_view-Unary, expr_view-Conditional, expr_view-Listed, expr_view-Binary, expr_view-Sum, stmt_view-Block, stmt_view-Plain, stmt_view-Empty, stmt_view-If_only, stmt_view-If_else, stmt_view-Return, stmt_view-While, stmt_view-DoWhile, stmt_view-For, stmt_view-Break, stmt_view-Continue, stmt_view-Switch, stmt_view-Labelled}
 use Rattle.asm_grammar_erase.specs.Parts.{own_place, sum_place, addends_places, below_labels}
 
 -- ---- expressions
 
-pub places-Literal : (at : ℕ) (v : ℤ) → expr_places (expr_view (exprs.Literal at v)) ≡ at ∷ []
+pub places-Literal : (at : ℕ) (v : ℕ) → expr_places (expr_view (exprs.Literal at v)) ≡ at ∷ []
 places-Literal at v = ap expr_places (expr_view-Literal at v)
+
+pub places-Negative : (at : ℕ) (v : ℕ) → expr_places (expr_view (exprs.Negative at v)) ≡ at ∷ []
+places-Negative at v = ap expr_places (expr_view-Negative at v)
 
 pub places-Decimals : (at : ℕ) (t : Text) → expr_places (expr_view (exprs.Decimals at t)) ≡ at ∷ []
 places-Decimals at t = ap expr_places (expr_view-Decimals at t)
@@ -147,10 +149,10 @@ places-Block at ss = ap stmt_places (stmt_view-Block at ss)
 pub below-Block : (at : ℕ) (ss : Listed CodeStmt) → below_labels (stmt_view (stmts.Block at ss)) ≡ stmt_places (stmt_view (stmts.Block at ss))
 below-Block at ss = ap below_labels (stmt_view-Block at ss) ∙ sym (ap stmt_places (stmt_view-Block at ss))
 
-pub places-Plain : (at : ℕ) (e : CodeExpr) → stmt_places (stmt_view (stmts.Plain at e)) ≡ at ∷ expr_places (expr_view e)
+pub places-Plain : (at : ℕ) (e : Box CodeExpr Global) → stmt_places (stmt_view (stmts.Plain at e)) ≡ at ∷ expr_places (expr_view e.value)
 places-Plain at e = ap stmt_places (stmt_view-Plain at e)
 
-pub below-Plain : (at : ℕ) (e : CodeExpr) → below_labels (stmt_view (stmts.Plain at e)) ≡ stmt_places (stmt_view (stmts.Plain at e))
+pub below-Plain : (at : ℕ) (e : Box CodeExpr Global) → below_labels (stmt_view (stmts.Plain at e)) ≡ stmt_places (stmt_view (stmts.Plain at e))
 below-Plain at e = ap below_labels (stmt_view-Plain at e) ∙ sym (ap stmt_places (stmt_view-Plain at e))
 
 pub places-Empty : (at : ℕ) → stmt_places (stmt_view (stmts.Empty at)) ≡ at ∷ []
@@ -159,34 +161,34 @@ places-Empty at = ap stmt_places (stmt_view-Empty at)
 pub below-Empty : (at : ℕ) → below_labels (stmt_view (stmts.Empty at)) ≡ stmt_places (stmt_view (stmts.Empty at))
 below-Empty at = ap below_labels (stmt_view-Empty at) ∙ sym (ap stmt_places (stmt_view-Empty at))
 
-pub places-If_only : (at : ℕ) (c : CodeExpr) (s : Box CodeStmt Global) → stmt_places (stmt_view (stmts.If at c s None)) ≡ at ∷ (expr_places (expr_view c) ++ stmt_places (stmt_view s.value))
+pub places-If_only : (at : ℕ) (c : Box CodeExpr Global) (s : Box CodeStmt Global) → stmt_places (stmt_view (stmts.If at c s None)) ≡ at ∷ (expr_places (expr_view c.value) ++ stmt_places (stmt_view s.value))
 places-If_only at c s = ap stmt_places (stmt_view-If_only at c s)
 
-pub below-If_only : (at : ℕ) (c : CodeExpr) (s : Box CodeStmt Global) → below_labels (stmt_view (stmts.If at c s None)) ≡ stmt_places (stmt_view (stmts.If at c s None))
+pub below-If_only : (at : ℕ) (c : Box CodeExpr Global) (s : Box CodeStmt Global) → below_labels (stmt_view (stmts.If at c s None)) ≡ stmt_places (stmt_view (stmts.If at c s None))
 below-If_only at c s = ap below_labels (stmt_view-If_only at c s) ∙ sym (ap stmt_places (stmt_view-If_only at c s))
 
-pub places-If_else : (at : ℕ) (c : CodeExpr) (s : Box CodeStmt Global) (r : Box CodeStmt Global) → stmt_places (stmt_view (stmts.If at c s (Some r))) ≡ at ∷ (expr_places (expr_view c) ++ (stmt_places (stmt_view s.value) ++ stmt_places (stmt_view r.value)))
+pub places-If_else : (at : ℕ) (c : Box CodeExpr Global) (s : Box CodeStmt Global) (r : Box CodeStmt Global) → stmt_places (stmt_view (stmts.If at c s (Some r))) ≡ at ∷ (expr_places (expr_view c.value) ++ (stmt_places (stmt_view s.value) ++ stmt_places (stmt_view r.value)))
 places-If_else at c s r = ap stmt_places (stmt_view-If_else at c s r)
 
-pub below-If_else : (at : ℕ) (c : CodeExpr) (s : Box CodeStmt Global) (r : Box CodeStmt Global) → below_labels (stmt_view (stmts.If at c s (Some r))) ≡ stmt_places (stmt_view (stmts.If at c s (Some r)))
+pub below-If_else : (at : ℕ) (c : Box CodeExpr Global) (s : Box CodeStmt Global) (r : Box CodeStmt Global) → below_labels (stmt_view (stmts.If at c s (Some r))) ≡ stmt_places (stmt_view (stmts.If at c s (Some r)))
 below-If_else at c s r = ap below_labels (stmt_view-If_else at c s r) ∙ sym (ap stmt_places (stmt_view-If_else at c s r))
 
-pub places-Return : (at : ℕ) (o : Option CodeExpr) → stmt_places (stmt_view (stmts.Return at o)) ≡ at ∷ option_places (expr_option o)
+pub places-Return : (at : ℕ) (o : Option (Box CodeExpr Global)) → stmt_places (stmt_view (stmts.Return at o)) ≡ at ∷ option_places (expr_option o)
 places-Return at o = ap stmt_places (stmt_view-Return at o)
 
-pub below-Return : (at : ℕ) (o : Option CodeExpr) → below_labels (stmt_view (stmts.Return at o)) ≡ stmt_places (stmt_view (stmts.Return at o))
+pub below-Return : (at : ℕ) (o : Option (Box CodeExpr Global)) → below_labels (stmt_view (stmts.Return at o)) ≡ stmt_places (stmt_view (stmts.Return at o))
 below-Return at o = ap below_labels (stmt_view-Return at o) ∙ sym (ap stmt_places (stmt_view-Return at o))
 
-pub places-While : (at : ℕ) (c : CodeExpr) (s : Box CodeStmt Global) → stmt_places (stmt_view (stmts.While at c s)) ≡ at ∷ (expr_places (expr_view c) ++ stmt_places (stmt_view s.value))
+pub places-While : (at : ℕ) (c : Box CodeExpr Global) (s : Box CodeStmt Global) → stmt_places (stmt_view (stmts.While at c s)) ≡ at ∷ (expr_places (expr_view c.value) ++ stmt_places (stmt_view s.value))
 places-While at c s = ap stmt_places (stmt_view-While at c s)
 
-pub below-While : (at : ℕ) (c : CodeExpr) (s : Box CodeStmt Global) → below_labels (stmt_view (stmts.While at c s)) ≡ stmt_places (stmt_view (stmts.While at c s))
+pub below-While : (at : ℕ) (c : Box CodeExpr Global) (s : Box CodeStmt Global) → below_labels (stmt_view (stmts.While at c s)) ≡ stmt_places (stmt_view (stmts.While at c s))
 below-While at c s = ap below_labels (stmt_view-While at c s) ∙ sym (ap stmt_places (stmt_view-While at c s))
 
-pub places-DoWhile : (at : ℕ) (s : Box CodeStmt Global) (c : CodeExpr) → stmt_places (stmt_view (stmts.DoWhile at s c)) ≡ at ∷ (stmt_places (stmt_view s.value) ++ expr_places (expr_view c))
+pub places-DoWhile : (at : ℕ) (s : Box CodeStmt Global) (c : Box CodeExpr Global) → stmt_places (stmt_view (stmts.DoWhile at s c)) ≡ at ∷ (stmt_places (stmt_view s.value) ++ expr_places (expr_view c.value))
 places-DoWhile at s c = ap stmt_places (stmt_view-DoWhile at s c)
 
-pub below-DoWhile : (at : ℕ) (s : Box CodeStmt Global) (c : CodeExpr) → below_labels (stmt_view (stmts.DoWhile at s c)) ≡ stmt_places (stmt_view (stmts.DoWhile at s c))
+pub below-DoWhile : (at : ℕ) (s : Box CodeStmt Global) (c : Box CodeExpr Global) → below_labels (stmt_view (stmts.DoWhile at s c)) ≡ stmt_places (stmt_view (stmts.DoWhile at s c))
 below-DoWhile at s c = ap below_labels (stmt_view-DoWhile at s c) ∙ sym (ap stmt_places (stmt_view-DoWhile at s c))
 
 pub places-For : (at : ℕ) (h : Box ForHeadTree Global) (s : Box CodeStmt Global) → stmt_places (stmt_view (stmts.For at h s)) ≡ at ∷ (option_places (expr_option h.value.start) ++ (option_places (expr_option h.value.condition) ++ (option_places (expr_option h.value.step) ++ stmt_places (stmt_view s.value))))
@@ -207,10 +209,10 @@ places-Continue at l = ap stmt_places (stmt_view-Continue at l)
 pub below-Continue : (at : ℕ) (l : Option Text) → below_labels (stmt_view (stmts.Continue at l)) ≡ stmt_places (stmt_view (stmts.Continue at l))
 below-Continue at l = ap below_labels (stmt_view-Continue at l) ∙ sym (ap stmt_places (stmt_view-Continue at l))
 
-pub places-Switch : (at : ℕ) (e : CodeExpr) (cs : Listed CodeClause) → stmt_places (stmt_view (stmts.Switch at e cs)) ≡ at ∷ (expr_places (expr_view e) ++ clauses_places (clauses_view (list_items cs)))
+pub places-Switch : (at : ℕ) (e : Box CodeExpr Global) (cs : Listed CodeClause) → stmt_places (stmt_view (stmts.Switch at e cs)) ≡ at ∷ (expr_places (expr_view e.value) ++ clauses_places (clauses_view (list_items cs)))
 places-Switch at e cs = ap stmt_places (stmt_view-Switch at e cs)
 
-pub below-Switch : (at : ℕ) (e : CodeExpr) (cs : Listed CodeClause) → below_labels (stmt_view (stmts.Switch at e cs)) ≡ stmt_places (stmt_view (stmts.Switch at e cs))
+pub below-Switch : (at : ℕ) (e : Box CodeExpr Global) (cs : Listed CodeClause) → below_labels (stmt_view (stmts.Switch at e cs)) ≡ stmt_places (stmt_view (stmts.Switch at e cs))
 below-Switch at e cs = ap below_labels (stmt_view-Switch at e cs) ∙ sym (ap stmt_places (stmt_view-Switch at e cs))
 
 below_under : (n : Lexeme) (s : StmtTree) → below_labels (under n s) ≡ below_labels s
@@ -245,6 +247,6 @@ nothing (x ∷ xs) h = absurd (omega arith)
 
 pub ruleset own_places = (append-nil, append_assoc)
 
-pub ruleset expressions = (places-Literal, places-Decimals, places-Variable, places-Element, places-Call, places-TableCall, places-Assignment, places-Store, places-Unary, places-Conditional, places-Listed, places-Binary, places-Sum, append_assoc, append-nil)
+pub ruleset expressions = (places-Literal, places-Negative, places-Decimals, places-Variable, places-Element, places-Call, places-TableCall, places-Assignment, places-Store, places-Unary, places-Conditional, places-Listed, places-Binary, places-Sum, append_assoc, append-nil)
 
 pub ruleset statements = (places-Block, below-Block, places-Plain, below-Plain, places-Empty, below-Empty, places-If_only, below-If_only, places-If_else, below-If_else, places-Return, below-Return, places-While, below-While, places-DoWhile, below-DoWhile, places-For, below-For, places-Break, below-Break, places-Continue, below-Continue, places-Switch, below-Switch, below-Labelled, places-Unlabelled, places-Labelled, append_assoc, append-nil)

@@ -1,6 +1,6 @@
 -- The statements that trees say, variant by variant.
-use Rattle.std.proofs.Common.{◌≡◌, ℕ, ◌+◌, ◌<◌, Bool, true, false, List, [], ◌∷◌, ◌++◌, Option, Some, None, map, length, get_or, drop, refl, sym, ap, ◌∙◌}
-use Rattle.std.proofs.lemmas.List.{drop_more}
+use Rattle.std.proofs.Common.{◌≡◌, ℕ, ◌+◌, ◌<◌, Bool, true, false, List, [], ◌∷◌, ◌++◌, Option, Some, None, map, length, get_or, drop, reverse, refl, sym, ap, ◌∙◌}
+use Rattle.std.proofs.lemmas.List.{drop_more, reverse-append}
 use Rattle.std.proofs.lemmas.Bool.{true≢false}
 use Rattle.sem_words.specs.declared.text.Text.{Text}
 use Rattle.std.specs.Global.{Global}
@@ -34,25 +34,25 @@ use Rattle.asm_grammar_erase.specs.Parts.{merged, with_labels, label_texts}
 pub erased-Block : (at : ℕ) (ss : Listed CodeStmt) → stmt_of (stmt_view (placed_stmts.Block at ss)) ≡ block (stmts_of (stmts_view (list_items ss)))
 erased-Block at ss = ap stmt_of (stmt_view-Block at ss)
 
-pub erased-Plain : (at : ℕ) (e : CodeExpr) → stmt_of (stmt_view (placed_stmts.Plain at e)) ≡ plain_stmt (expr_of (expr_view e))
+pub erased-Plain : (at : ℕ) (e : Box CodeExpr Global) → stmt_of (stmt_view (placed_stmts.Plain at e)) ≡ plain_stmt (expr_of (expr_view e.value))
 erased-Plain at e = ap stmt_of (stmt_view-Plain at e)
 
 pub erased-Empty : (at : ℕ) → stmt_of (stmt_view (placed_stmts.Empty at)) ≡ empty
 erased-Empty at = ap stmt_of (stmt_view-Empty at)
 
-pub erased-If_only : (at : ℕ) (c : CodeExpr) (s : Box CodeStmt Global) → stmt_of (stmt_view (placed_stmts.If at c s None)) ≡ if_only (expr_of (expr_view c)) (stmt_of (stmt_view s.value))
+pub erased-If_only : (at : ℕ) (c : Box CodeExpr Global) (s : Box CodeStmt Global) → stmt_of (stmt_view (placed_stmts.If at c s None)) ≡ if_only (expr_of (expr_view c.value)) (stmt_of (stmt_view s.value))
 erased-If_only at c s = ap stmt_of (stmt_view-If_only at c s)
 
-pub erased-If_else : (at : ℕ) (c : CodeExpr) (s : Box CodeStmt Global) (r : Box CodeStmt Global) → stmt_of (stmt_view (placed_stmts.If at c s (Some r))) ≡ if_else (expr_of (expr_view c)) (stmt_of (stmt_view s.value)) (stmt_of (stmt_view r.value))
+pub erased-If_else : (at : ℕ) (c : Box CodeExpr Global) (s : Box CodeStmt Global) (r : Box CodeStmt Global) → stmt_of (stmt_view (placed_stmts.If at c s (Some r))) ≡ if_else (expr_of (expr_view c.value)) (stmt_of (stmt_view s.value)) (stmt_of (stmt_view r.value))
 erased-If_else at c s r = ap stmt_of (stmt_view-If_else at c s r)
 
-pub erased-Return : (at : ℕ) (o : Option CodeExpr) → stmt_of (stmt_view (placed_stmts.Return at o)) ≡ returns (option_of (expr_option o))
+pub erased-Return : (at : ℕ) (o : Option (Box CodeExpr Global)) → stmt_of (stmt_view (placed_stmts.Return at o)) ≡ returns (option_of (expr_option o))
 erased-Return at o = ap stmt_of (stmt_view-Return at o)
 
-pub erased-While : (at : ℕ) (c : CodeExpr) (s : Box CodeStmt Global) → stmt_of (stmt_view (placed_stmts.While at c s)) ≡ while_loop (expr_of (expr_view c)) (stmt_of (stmt_view s.value))
+pub erased-While : (at : ℕ) (c : Box CodeExpr Global) (s : Box CodeStmt Global) → stmt_of (stmt_view (placed_stmts.While at c s)) ≡ while_loop (expr_of (expr_view c.value)) (stmt_of (stmt_view s.value))
 erased-While at c s = ap stmt_of (stmt_view-While at c s)
 
-pub erased-DoWhile : (at : ℕ) (s : Box CodeStmt Global) (c : CodeExpr) → stmt_of (stmt_view (placed_stmts.DoWhile at s c)) ≡ do_while (stmt_of (stmt_view s.value)) (expr_of (expr_view c))
+pub erased-DoWhile : (at : ℕ) (s : Box CodeStmt Global) (c : Box CodeExpr Global) → stmt_of (stmt_view (placed_stmts.DoWhile at s c)) ≡ do_while (stmt_of (stmt_view s.value)) (expr_of (expr_view c.value))
 erased-DoWhile at s c = ap stmt_of (stmt_view-DoWhile at s c)
 
 pub erased-For : (at : ℕ) (h : Box ForHeadTree Global) (s : Box CodeStmt Global) → stmt_of (stmt_view (placed_stmts.For at h s)) ≡ for_loop (option_of (expr_option h.value.start)) (option_of (expr_option h.value.condition)) (option_of (expr_option h.value.step)) (stmt_of (stmt_view s.value))
@@ -64,7 +64,7 @@ erased-Break at l = ap stmt_of (stmt_view-Break at l)
 pub erased-Continue : (at : ℕ) (l : Option Text) → stmt_of (stmt_view (placed_stmts.Continue at l)) ≡ continues (name_option l)
 erased-Continue at l = ap stmt_of (stmt_view-Continue at l)
 
-pub erased-Switch : (at : ℕ) (e : CodeExpr) (cs : Listed CodeClause) → stmt_of (stmt_view (placed_stmts.Switch at e cs)) ≡ switches (expr_of (expr_view e)) (clauses_of (clauses_view (list_items cs)))
+pub erased-Switch : (at : ℕ) (e : Box CodeExpr Global) (cs : Listed CodeClause) → stmt_of (stmt_view (placed_stmts.Switch at e cs)) ≡ switches (expr_of (expr_view e.value)) (clauses_of (clauses_view (list_items cs)))
 erased-Switch at e cs = ap stmt_of (stmt_view-Switch at e cs)
 
 -- ---- labels
@@ -131,6 +131,15 @@ stmts_before (x ∷ xs) ss = stmts x (stmts_before xs ss)
 stmts_more : (done : List PlainStmt) (x : PlainStmt) (ss : Stmts) → stmts_before (map plain.stmt_view (done ++ x ∷ [])) ss ≡ stmts_before (map plain.stmt_view done) (stmts (plain.stmt_view x) ss)
 stmts_more [] x ss = refl
 stmts_more (y ∷ done) x ss = ap (stmts (plain.stmt_view y)) (stmts_more done x ss)
+
+pub stmt_popped : (done more : List PlainStmt) (left fewer : List CodeStmt) (x : CodeStmt) (y : PlainStmt) (all : Stmts) → left ≡ fewer ++ x ∷ [] → more ≡ done ++ y ∷ [] → plain.stmt_view y ≡ stmt_of (stmt_view x)
+    → stmts_before (map plain.stmt_view done) (stmts_of (stmts_view (reverse left))) ≡ all → stmts_before (map plain.stmt_view more) (stmts_of (stmts_view (reverse fewer))) ≡ all
+stmt_popped done more left fewer x y all popped pushed is had =
+    ap (λ ys. stmts_before (map plain.stmt_view ys) (stmts_of (stmts_view (reverse fewer)))) pushed
+    ∙ stmts_more done y (stmts_of (stmts_view (reverse fewer)))
+    ∙ ap (λ s. stmts_before (map plain.stmt_view done) (stmts s (stmts_of (stmts_view (reverse fewer))))) is
+    ∙ sym (ap (λ xs. stmts_before (map plain.stmt_view done) (stmts_of (stmts_view xs))) (ap reverse popped ∙ reverse-append fewer (x ∷ [])))
+    ∙ had
 
 pub stmts_none : (done : List PlainStmt) → stmts_before (map plain.stmt_view done) no_stmts ≡ plain.stmts_view done
 stmts_none [] = refl

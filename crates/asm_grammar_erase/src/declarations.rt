@@ -7,9 +7,9 @@ ghost use Rattle.asm_grammar_nodes.specs.Views as placed;
 ghost use Rattle.asm_tree.specs.Views as plain;
 
 use crate::lists::pushed;
-use crate::nodes::copied;
+use crate::nodes::{copied, room_for};
 use crate::number::nearest;
-use crate::statements::erased_stmts;
+use crate::statements::used_stmts;
 use asm_grammar_nodes::{
     ExportTree, ExportsTree, FunctionTree, InitTree, ParamTree, TableTree, VariableTree,
 };
@@ -133,13 +133,19 @@ fn erased_params(alloc: Global, trees: &[ParamTree]) -> Result<List<Param>, Allo
     Ok(params)
 }
 
-fn erased_function(alloc: Global, tree: &FunctionTree) -> Result<Function, AllocError>
-    ensures { IfOk result (λ r. plain.function_view r ≡ function_of (placed.function_view tree.now)) }
+fn used_function(alloc: Global, tree: FunctionTree) -> Result<Function, AllocError>
+    ensures { IfOk result (λ r. plain.function_view r ≡ function_of (placed.function_view tree)) }
 {
-    let name = copied(alloc, &tree.name)?;
-    let params = erased_params(alloc, tree.params.as_slice())?;
-    let locals = erased_locals(alloc, tree.locals.as_slice())?;
-    let body = erased_stmts(alloc, tree.body.as_slice())?;
+    let FunctionTree {
+        at: _,
+        name,
+        params,
+        locals,
+        body,
+    } = tree;
+    let params = erased_params(alloc, params.as_slice())?;
+    let locals = erased_locals(alloc, locals.as_slice())?;
+    let body = used_stmts(alloc, body)?;
     Ok(Function {
         name,
         params,
@@ -148,15 +154,19 @@ fn erased_function(alloc: Global, tree: &FunctionTree) -> Result<Function, Alloc
     })
 }
 
-pub(crate) fn erased_functions(
+/// The functions. Each is let go as soon as it is erased.
+pub(crate) fn used_functions(
     alloc: Global,
-    trees: &[FunctionTree],
+    trees: List<FunctionTree>,
 ) -> Result<List<Function>, AllocError>
-    ensures { IfOk result (λ r. map plain.function_view (list_items r) ≡ map function_of (map placed.function_view trees.now)) }
+    ensures { IfOk result (λ r. map plain.function_view (list_items r) ≡ map function_of (map placed.function_view (list_items trees))) }
 {
-    let mut functions = List::new(alloc);
-    for tree in trees {
-        let function = erased_function(alloc, tree)?;
+    let empty = room_for(alloc, trees.len())?;
+    let mut functions = empty;
+    let mut left = trees.into_vec();
+    left.reverse();
+    while let Some(tree) = left.pop() {
+        let function = used_function(alloc, tree)?;
         functions = pushed(functions, function)?;
     }
     Ok(functions)

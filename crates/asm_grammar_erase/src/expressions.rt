@@ -28,7 +28,8 @@ pub(crate) fn erased_expr(alloc: Global, tree: &ExprTree) -> Result<Expr, AllocE
     ensures { IfOk result (λ r. plain.expr_view r ≡ expr_of (placed.expr_view tree.now)) }
 {
     match tree {
-        ExprTree::Literal(_, value) => Ok(Expr::Lit(*value)),
+        ExprTree::Literal(_, value) => Ok(Expr::Lit(*value as i128)),
+        ExprTree::Negative(_, value) => Ok(Expr::Lit(-(*value as i128))),
         ExprTree::Decimals(_, text) => decimal(alloc, text),
         ExprTree::Variable(_, name) => variable(alloc, name),
         ExprTree::Element(_, name, index) => {
@@ -119,7 +120,7 @@ fn erased_sum(alloc: Global, others: &[Addend], first: Box<Expr>) -> Result<Expr
 #[tactic(auto, using(crate::proofs::Erasing::expressions))]
 pub(crate) fn erased_option(
     alloc: Global,
-    tree: &Option<ExprTree>,
+    tree: &Option<Box<ExprTree>>,
 ) -> Result<Option<Expr>, AllocError>
     ensures { IfOk result (λ r. plain.expr_option r ≡ option_of (placed.expr_option tree.now)) }
 {

@@ -40,6 +40,7 @@ pub(crate) fn expr_places(places: &mut List<u64>, tree: &ExprTree) -> Result<(),
 {
     match tree {
         ExprTree::Literal(at, _) => put_place(places, *at),
+        ExprTree::Negative(at, _) => put_place(places, *at),
         ExprTree::Decimals(at, _) => put_place(places, *at),
         ExprTree::Variable(at, _) => put_place(places, *at),
         ExprTree::Element(at, _, index) => {
@@ -138,7 +139,7 @@ fn addends_places(places: &mut List<u64>, addends: &[Addend]) -> Result<(), Allo
 }
 
 #[tactic(auto, using(crate::proofs::PlaceLemmas::own_places))]
-fn option_places(places: &mut List<u64>, tree: &Option<ExprTree>) -> Result<(), AllocError>
+fn option_places(places: &mut List<u64>, tree: &Option<Box<ExprTree>>) -> Result<(), AllocError>
     ensures { OnOk result (list_items places.new ≡ list_items places.old ++ option_places (expr_option tree.now)) }
 {
     match tree {

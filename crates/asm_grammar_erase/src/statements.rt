@@ -83,13 +83,28 @@ fn erased_body(alloc: Global, tree: &StmtTree) -> Result<Box<Stmt>, AllocError>
 
 #[cycle(erasing)]
 #[inline(never)]
-pub(crate) fn erased_stmts(alloc: Global, trees: &[StmtTree]) -> Result<List<Stmt>, AllocError>
+fn erased_stmts(alloc: Global, trees: &[StmtTree]) -> Result<List<Stmt>, AllocError>
     ensures { IfOk result (λ r. plain.stmts_view (list_items r) ≡ stmts_of (placed.stmts_view trees.now)) }
 {
     let empty = room_for(alloc, trees.len())?;
     let mut stmts = empty;
     for tree in trees {
         let stmt = erased_stmt(alloc, tree)?;
+        stmts = pushed(stmts, stmt)?;
+    }
+    Ok(stmts)
+}
+
+/// The statements of a body. Each is let go as soon as it is erased, so that few are held twice.
+pub(crate) fn used_stmts(alloc: Global, trees: List<StmtTree>) -> Result<List<Stmt>, AllocError>
+    ensures { IfOk result (λ r. plain.stmts_view (list_items r) ≡ stmts_of (placed.stmts_view (list_items trees))) }
+{
+    let empty = room_for(alloc, trees.len())?;
+    let mut stmts = empty;
+    let mut left = trees.into_vec();
+    left.reverse();
+    while let Some(tree) = left.pop() {
+        let stmt = erased_stmt(alloc, &tree)?;
         stmts = pushed(stmts, stmt)?;
     }
     Ok(stmts)

@@ -7,7 +7,7 @@ ghost use Rattle.asm_grammar_nodes.specs.Views as placed;
 ghost use Rattle.asm_tree.specs.Views as plain;
 
 use crate::declarations::{
-    erased_exports, erased_functions, erased_globals, erased_tables, erased_texts,
+    erased_exports, erased_globals, erased_tables, erased_texts, used_functions,
 };
 use crate::module_places::module_places;
 use crate::wholes::copied_option;
@@ -15,15 +15,22 @@ use asm_grammar_nodes::ModuleTree;
 use asm_tree::{Module, Parsed};
 use std::alloc::{AllocError, Global};
 
-fn erased_module(alloc: Global, tree: &ModuleTree) -> Result<Module, AllocError>
-    ensures { IfOk result (λ r. plain.module_view r ≡ module_of (placed.module_view tree.now)) }
+fn used_module(alloc: Global, tree: ModuleTree) -> Result<Module, AllocError>
+    ensures { IfOk result (λ r. plain.module_view r ≡ module_of (placed.module_view tree)) }
 {
-    let name = copied_option(alloc, &tree.heading.name)?;
-    let params = erased_texts(alloc, tree.heading.params.as_slice())?;
-    let globals = erased_globals(alloc, tree.globals.as_slice())?;
-    let functions = erased_functions(alloc, tree.functions.as_slice())?;
-    let tables = erased_tables(alloc, tree.tables.as_slice())?;
-    let exports = erased_exports(alloc, &tree.exports)?;
+    let ModuleTree {
+        heading,
+        globals,
+        functions,
+        tables,
+        exports,
+    } = tree;
+    let name = copied_option(alloc, &heading.name)?;
+    let params = erased_texts(alloc, heading.params.as_slice())?;
+    let globals = erased_globals(alloc, globals.as_slice())?;
+    let functions = used_functions(alloc, functions)?;
+    let tables = erased_tables(alloc, tables.as_slice())?;
+    let exports = erased_exports(alloc, &exports)?;
     Ok(Module {
         name,
         params,
@@ -40,6 +47,6 @@ pub fn erased(alloc: Global, tree: ModuleTree) -> Result<Parsed, AllocError>
     ensures places { IfOk result (λ p. list_items p.places ≡ module_places (placed.module_view tree)) }
 {
     let places = module_places(alloc, &tree)?;
-    let module = erased_module(alloc, &tree)?;
+    let module = used_module(alloc, tree)?;
     Ok(Parsed { module, places })
 }

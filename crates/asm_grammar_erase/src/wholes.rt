@@ -73,7 +73,7 @@ pub(crate) fn if_else(
 
 #[inline(never)]
 #[tactic(auto, using(crate::proofs::StmtErasing::statements))]
-pub(crate) fn returns(alloc: Global, value: &Option<ExprTree>) -> Result<Stmt, AllocError>
+pub(crate) fn returns(alloc: Global, value: &Option<Box<ExprTree>>) -> Result<Stmt, AllocError>
     ensures { IfOk result (λ r. views.stmt_view r ≡ returns (option_of (placed.expr_option value.now))) }
 {
     let value = erased_option(alloc, value)?;

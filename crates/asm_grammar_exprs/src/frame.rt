@@ -102,7 +102,7 @@ impl Callee {
         ensures { IfOk result (λ r. tall_view r ≡ callee_view self (talls_view arguments)) }
     {
         match self {
-            Callee::Function(name) => Ok(TallExpr::call(name, arguments)),
+            Callee::Function(name) => TallExpr::call(alloc, name, arguments),
             Callee::Element(name, index) => TallExpr::table_call(alloc, name, index, arguments),
         }
     }

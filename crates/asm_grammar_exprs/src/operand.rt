@@ -32,11 +32,11 @@ pub(crate) fn operand_step(
     let at = token.at;
     match token.class {
         Class::Number => {
-            let literal = TallExpr::literal(at, token.value as i128);
+            let literal = TallExpr::literal(alloc, at, token.value)?;
             Ok(on(level, Innermost::Complete(literal), frames))
         }
         Class::Decimal => {
-            let decimals = TallExpr::decimals(Word::of(alloc, token)?);
+            let decimals = TallExpr::decimals(alloc, Word::of(alloc, token)?)?;
             Ok(on(level, Innermost::Complete(decimals), frames))
         }
         Class::Identifier => { Ok(on(level, Innermost::Name(Word::of(alloc, token)?), frames)) }
@@ -93,7 +93,7 @@ pub(crate) fn minus_step(
             if token.value == 0 {
                 return Ok(ExprStep::Stuck);
             }
-            let literal = TallExpr::literal(minus.at, -(token.value as i128));
+            let literal = TallExpr::negative(alloc, minus.at, token.value)?;
             Ok(on(level, Innermost::Complete(literal), frames))
         }
         _ => negated_step(alloc, level, minus.at, frames, token),

@@ -43,7 +43,10 @@ pub(crate) fn name_step(
             let at = token.at;
             assigned(level, Node::Assignment { name, at }, frames)
         }
-        _ => resumed(alloc, level, TallExpr::variable(name), frames, token),
+        _ => {
+            let variable = TallExpr::variable(alloc, name)?;
+            resumed(alloc, level, variable, frames, token)
+        }
     }
 }
 
@@ -240,7 +243,7 @@ pub(crate) fn resumed(
                     return next_item(level, so_far, listing, frames);
                 }
                 match listing {
-                    Listing::Commas(at) => expr = TallExpr::listed(at, so_far),
+                    Listing::Commas(at) => expr = TallExpr::listed(alloc, at, so_far)?,
                     Listing::Arguments(callee) => {
                         return called(alloc, level, callee, so_far, frames, token);
                     }

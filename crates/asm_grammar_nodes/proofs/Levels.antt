@@ -1,6 +1,5 @@
 -- The equations of the heights of trees.
 use Rattle.std.proofs.Common.{◌≡◌, ℕ, ◌+◌, min, max, Bool, true, false, ◌&&◌, if◌then◌else◌, List, [], ◌∷◌, ◌++◌, map, refl, ap, ◌∙◌, arith}
-use Rattle.std.specs.Prelude.{ℤ}
 use Rattle.sem_words.specs.declared.text.Text.{Text}
 use Rattle.std.specs.Global.{Global}
 use Rattle.std.specs.declared.boxed.Box.{Box}
@@ -20,10 +19,13 @@ use Rattle.asm_grammar_nodes.specs.declared.tree.ExprTree.TheVariants as exprs
 use Rattle.asm_grammar_nodes.specs.declared.tree.Addend.{Addend as CodeAddend}
 use Rattle.asm_grammar_nodes.specs.Heights.{is_chain}
 use Rattle.asm_grammar_nodes.specs.Views.{AddendView, addend_view, sign_of, sum_in, expr_view, exprs_view}
-use Rattle.asm_grammar_nodes.proofs.Views.{expr_view-Literal, expr_view-Decimals, expr_view-Variable, expr_view-Element, expr_view-Call, expr_view-TableCall, expr_view-Assignment, expr_view-Store, expr_view-Unary, expr_view-Binary, expr_view-Sum, expr_view-Conditional, expr_view-Listed, exprs_view-last, views}
+use Rattle.asm_grammar_nodes.proofs.Views.{expr_view-Literal, expr_view-Negative, expr_view-Decimals, expr_view-Variable, expr_view-Element, expr_view-Call, expr_view-TableCall, expr_view-Assignment, expr_view-Store, expr_view-Unary, expr_view-Binary, expr_view-Sum, expr_view-Conditional, expr_view-Listed, exprs_view-last, views}
 
-pub height-Literal : (at : ℕ) (v : ℤ) → height (expr_view (exprs.Literal at v)) ≡ 1
+pub height-Literal : (at : ℕ) (v : ℕ) → height (expr_view (exprs.Literal at v)) ≡ 1
 height-Literal at v = ap height (expr_view-Literal at v)
+
+pub height-Negative : (at : ℕ) (v : ℕ) → height (expr_view (exprs.Negative at v)) ≡ 1
+height-Negative at v = ap height (expr_view-Negative at v)
 
 pub height-Decimals : (at : ℕ) (t : Text) → height (expr_view (exprs.Decimals at t)) ≡ 1
 height-Decimals at t = ap height (expr_view-Decimals at t)
@@ -99,8 +101,11 @@ sum_of_none e others h = ap (λ (os : List CodeAddend). is_chain (expr_of (sum_i
 pub chain-Sum_of_none : (e : Box CodeExpr Global) (others : Listed CodeAddend) → list_items others ≡ [] → is_chain (expr_of (expr_view (exprs.Sum e others))) ≡ is_chain (expr_of (expr_view e.value))
 chain-Sum_of_none e others h = ap (λ x. is_chain (expr_of x)) (expr_view-Sum e others) ∙ sum_of_none (expr_view e.value) (list_items others) h
 
-pub chain-Literal : (at : ℕ) (v : ℤ) → is_chain (expr_of (expr_view (exprs.Literal at v))) ≡ false
+pub chain-Literal : (at : ℕ) (v : ℕ) → is_chain (expr_of (expr_view (exprs.Literal at v))) ≡ false
 chain-Literal at v = ap (λ x. is_chain (expr_of x)) (expr_view-Literal at v)
+
+pub chain-Negative : (at : ℕ) (v : ℕ) → is_chain (expr_of (expr_view (exprs.Negative at v))) ≡ false
+chain-Negative at v = ap (λ x. is_chain (expr_of x)) (expr_view-Negative at v)
 
 pub chain-Decimals : (at : ℕ) (t : Text) → is_chain (expr_of (expr_view (exprs.Decimals at t))) ≡ false
 chain-Decimals at t = ap (λ x. is_chain (expr_of x)) (expr_view-Decimals at t)
@@ -132,7 +137,7 @@ chain-Conditional at c a b = ap (λ x. is_chain (expr_of x)) (expr_view-Conditio
 pub chain-Listed : (at : ℕ) (es : Listed CodeExpr) → is_chain (expr_of (expr_view (exprs.Listed at es))) ≡ false
 chain-Listed at es = ap (λ x. is_chain (expr_of x)) (expr_view-Listed at es)
 
-pub ruleset chains = (chain-Literal, chain-Decimals, chain-Variable, chain-Element, chain-Call, chain-TableCall, chain-Assignment, chain-Store, chain-Unary, chain-Binary, chain-Sum, chain-Sum_of_none, chain-Conditional, chain-Listed)
+pub ruleset chains = (chain-Literal, chain-Negative, chain-Decimals, chain-Variable, chain-Element, chain-Call, chain-TableCall, chain-Assignment, chain-Store, chain-Unary, chain-Binary, chain-Sum, chain-Sum_of_none, chain-Conditional, chain-Listed)
 
 chain_floor_by : (e : Expr) → chain_floor e ≡ (if is_chain e then expr_height e else 1 + expr_height e)
 chain_floor_by (chain e ls) = refl
@@ -172,4 +177,4 @@ binary_count at l op r e rise h is rises c =
 
 pub ruleset second_operands = (chains, second-on, second-no_sum, second-no_chain, binary_count)
 
-pub ruleset expression_levels = (height-Literal, height-Decimals, height-Variable, height-Element, height-Call, height-TableCall, height-Assignment, height-Store, height-Unary, height-Conditional, height-Listed, height-last, views)
+pub ruleset expression_levels = (height-Literal, height-Negative, height-Decimals, height-Variable, height-Element, height-Call, height-TableCall, height-Assignment, height-Store, height-Unary, height-Conditional, height-Listed, height-last, views)

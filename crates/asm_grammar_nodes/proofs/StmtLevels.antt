@@ -25,10 +25,10 @@ height-Block at ss = ap stmt_height (stmt_view-Block at ss)
 pub body-Block : (at : ℕ) (ss : Listed CodeStmt) → body_height (stmt_view (stmts.Block at ss)) ≡ max 1 (block_height (stmts_view (list_items ss)))
 body-Block at ss = ap body_height (stmt_view-Block at ss)
 
-pub height-Plain : (at : ℕ) (e : CodeExpr) → stmt_height (stmt_view (stmts.Plain at e)) ≡ 1 + height (expr_view e)
+pub height-Plain : (at : ℕ) (e : Box CodeExpr Global) → stmt_height (stmt_view (stmts.Plain at e)) ≡ 1 + height (expr_view e.value)
 height-Plain at e = ap stmt_height (stmt_view-Plain at e)
 
-pub body-Plain : (at : ℕ) (e : CodeExpr) → body_height (stmt_view (stmts.Plain at e)) ≡ 1 + height (expr_view e)
+pub body-Plain : (at : ℕ) (e : Box CodeExpr Global) → body_height (stmt_view (stmts.Plain at e)) ≡ 1 + height (expr_view e.value)
 body-Plain at e = ap body_height (stmt_view-Plain at e)
 
 pub height-Empty : (at : ℕ) → stmt_height (stmt_view (stmts.Empty at)) ≡ 1
@@ -37,34 +37,34 @@ height-Empty at = ap stmt_height (stmt_view-Empty at)
 pub body-Empty : (at : ℕ) → body_height (stmt_view (stmts.Empty at)) ≡ 1
 body-Empty at = ap body_height (stmt_view-Empty at)
 
-pub height-If_only : (at : ℕ) (c : CodeExpr) (s : Box CodeStmt Global) → stmt_height (stmt_view (stmts.If at c s None)) ≡ 1 + max (height (expr_view c)) (body_height (stmt_view s.value))
+pub height-If_only : (at : ℕ) (c : Box CodeExpr Global) (s : Box CodeStmt Global) → stmt_height (stmt_view (stmts.If at c s None)) ≡ 1 + max (height (expr_view c.value)) (body_height (stmt_view s.value))
 height-If_only at c s = ap stmt_height (stmt_view-If_only at c s)
 
-pub body-If_only : (at : ℕ) (c : CodeExpr) (s : Box CodeStmt Global) → body_height (stmt_view (stmts.If at c s None)) ≡ 1 + max (height (expr_view c)) (body_height (stmt_view s.value))
+pub body-If_only : (at : ℕ) (c : Box CodeExpr Global) (s : Box CodeStmt Global) → body_height (stmt_view (stmts.If at c s None)) ≡ 1 + max (height (expr_view c.value)) (body_height (stmt_view s.value))
 body-If_only at c s = ap body_height (stmt_view-If_only at c s)
 
-pub height-If_else : (at : ℕ) (c : CodeExpr) (s : Box CodeStmt Global) (r : Box CodeStmt Global) → stmt_height (stmt_view (stmts.If at c s (Some r))) ≡ 1 + max (height (expr_view c)) (max (body_height (stmt_view s.value)) (body_height (stmt_view r.value)))
+pub height-If_else : (at : ℕ) (c : Box CodeExpr Global) (s : Box CodeStmt Global) (r : Box CodeStmt Global) → stmt_height (stmt_view (stmts.If at c s (Some r))) ≡ 1 + max (height (expr_view c.value)) (max (body_height (stmt_view s.value)) (body_height (stmt_view r.value)))
 height-If_else at c s r = ap stmt_height (stmt_view-If_else at c s r)
 
-pub body-If_else : (at : ℕ) (c : CodeExpr) (s : Box CodeStmt Global) (r : Box CodeStmt Global) → body_height (stmt_view (stmts.If at c s (Some r))) ≡ 1 + max (height (expr_view c)) (max (body_height (stmt_view s.value)) (body_height (stmt_view r.value)))
+pub body-If_else : (at : ℕ) (c : Box CodeExpr Global) (s : Box CodeStmt Global) (r : Box CodeStmt Global) → body_height (stmt_view (stmts.If at c s (Some r))) ≡ 1 + max (height (expr_view c.value)) (max (body_height (stmt_view s.value)) (body_height (stmt_view r.value)))
 body-If_else at c s r = ap body_height (stmt_view-If_else at c s r)
 
-pub height-Return : (at : ℕ) (o : Option CodeExpr) → stmt_height (stmt_view (stmts.Return at o)) ≡ 1 + part_height (expr_option o)
+pub height-Return : (at : ℕ) (o : Option (Box CodeExpr Global)) → stmt_height (stmt_view (stmts.Return at o)) ≡ 1 + part_height (expr_option o)
 height-Return at o = ap stmt_height (stmt_view-Return at o)
 
-pub body-Return : (at : ℕ) (o : Option CodeExpr) → body_height (stmt_view (stmts.Return at o)) ≡ 1 + part_height (expr_option o)
+pub body-Return : (at : ℕ) (o : Option (Box CodeExpr Global)) → body_height (stmt_view (stmts.Return at o)) ≡ 1 + part_height (expr_option o)
 body-Return at o = ap body_height (stmt_view-Return at o)
 
-pub height-While : (at : ℕ) (c : CodeExpr) (s : Box CodeStmt Global) → stmt_height (stmt_view (stmts.While at c s)) ≡ 1 + max (height (expr_view c)) (body_height (stmt_view s.value))
+pub height-While : (at : ℕ) (c : Box CodeExpr Global) (s : Box CodeStmt Global) → stmt_height (stmt_view (stmts.While at c s)) ≡ 1 + max (height (expr_view c.value)) (body_height (stmt_view s.value))
 height-While at c s = ap stmt_height (stmt_view-While at c s)
 
-pub body-While : (at : ℕ) (c : CodeExpr) (s : Box CodeStmt Global) → body_height (stmt_view (stmts.While at c s)) ≡ 1 + max (height (expr_view c)) (body_height (stmt_view s.value))
+pub body-While : (at : ℕ) (c : Box CodeExpr Global) (s : Box CodeStmt Global) → body_height (stmt_view (stmts.While at c s)) ≡ 1 + max (height (expr_view c.value)) (body_height (stmt_view s.value))
 body-While at c s = ap body_height (stmt_view-While at c s)
 
-pub height-DoWhile : (at : ℕ) (s : Box CodeStmt Global) (c : CodeExpr) → stmt_height (stmt_view (stmts.DoWhile at s c)) ≡ 1 + max (body_height (stmt_view s.value)) (height (expr_view c))
+pub height-DoWhile : (at : ℕ) (s : Box CodeStmt Global) (c : Box CodeExpr Global) → stmt_height (stmt_view (stmts.DoWhile at s c)) ≡ 1 + max (body_height (stmt_view s.value)) (height (expr_view c.value))
 height-DoWhile at s c = ap stmt_height (stmt_view-DoWhile at s c)
 
-pub body-DoWhile : (at : ℕ) (s : Box CodeStmt Global) (c : CodeExpr) → body_height (stmt_view (stmts.DoWhile at s c)) ≡ 1 + max (body_height (stmt_view s.value)) (height (expr_view c))
+pub body-DoWhile : (at : ℕ) (s : Box CodeStmt Global) (c : Box CodeExpr Global) → body_height (stmt_view (stmts.DoWhile at s c)) ≡ 1 + max (body_height (stmt_view s.value)) (height (expr_view c.value))
 body-DoWhile at s c = ap body_height (stmt_view-DoWhile at s c)
 
 pub height-For : (at : ℕ) (h : Box ForHeadTree Global) (s : Box CodeStmt Global) → stmt_height (stmt_view (stmts.For at h s)) ≡ 1 + max (part_height (expr_option h.value.start)) (max (part_height (expr_option h.value.condition)) (max (part_height (expr_option h.value.step)) (body_height (stmt_view s.value))))
@@ -85,10 +85,10 @@ height-Continue at l = ap stmt_height (stmt_view-Continue at l)
 pub body-Continue : (at : ℕ) (l : Option Text) → body_height (stmt_view (stmts.Continue at l)) ≡ 1
 body-Continue at l = ap body_height (stmt_view-Continue at l)
 
-pub height-Switch : (at : ℕ) (e : CodeExpr) (cs : Listed CodeClause) → stmt_height (stmt_view (stmts.Switch at e cs)) ≡ 1 + max (height (expr_view e)) (cases_height (clauses_view (list_items cs)))
+pub height-Switch : (at : ℕ) (e : Box CodeExpr Global) (cs : Listed CodeClause) → stmt_height (stmt_view (stmts.Switch at e cs)) ≡ 1 + max (height (expr_view e.value)) (cases_height (clauses_view (list_items cs)))
 height-Switch at e cs = ap stmt_height (stmt_view-Switch at e cs)
 
-pub body-Switch : (at : ℕ) (e : CodeExpr) (cs : Listed CodeClause) → body_height (stmt_view (stmts.Switch at e cs)) ≡ 1 + max (height (expr_view e)) (cases_height (clauses_view (list_items cs)))
+pub body-Switch : (at : ℕ) (e : Box CodeExpr Global) (cs : Listed CodeClause) → body_height (stmt_view (stmts.Switch at e cs)) ≡ 1 + max (height (expr_view e.value)) (cases_height (clauses_view (list_items cs)))
 body-Switch at e cs = ap body_height (stmt_view-Switch at e cs)
 
 -- ---- labels

@@ -1,6 +1,6 @@
 -- The equations of the views of trees.
 use Rattle.std.proofs.Common.{◌≡◌, ℕ, List, [], ◌∷◌, ◌++◌, Option, Some, None, map, refl, sym, ap, ◌∙◌}
-use Rattle.std.specs.Prelude.{ℤ}
+use Rattle.std.specs.Prelude.{pos, neg_ℤ}
 use Rattle.sem_words.specs.declared.text.Text.{Text}
 use Rattle.std.specs.Global.{Global}
 use Rattle.std.specs.declared.boxed.Box.{Box}
@@ -22,9 +22,13 @@ use Rattle.asm_grammar_nodes.specs.declared.tree.ClauseTree.{ClauseTree as CodeC
 use Rattle.asm_grammar_nodes.specs.declared.tree.ForHeadTree.{ForHeadTree}
 use Rattle.asm_grammar_nodes.specs.Views.{words_view, expr_layer, addend_layer, AddendView, expr_view, addend_view, exprs_view, expr_option, sum_in, sign_of, stmt_layer, clause_layer, ClauseView, stmt_view, stmts_view, clause_view, clauses_view, clauses_in, name_option, under_all, more_clauses}
 
-pub expr_view-Literal : (at : ℕ) (v : ℤ) → expr_view (exprs.Literal at v) ≡ literal at v
+pub expr_view-Literal : (at : ℕ) (v : ℕ) → expr_view (exprs.Literal at v) ≡ literal at (pos v)
 unfolding expr_view addend_view
 expr_view-Literal at v = ap expr_view (sym (exprs.rolls-Literal at v)) ∙ fold-roll-ExprTree ExprTree AddendView expr_layer addend_layer (expr_layers.Literal at v)
+
+pub expr_view-Negative : (at : ℕ) (v : ℕ) → expr_view (exprs.Negative at v) ≡ literal at (neg_ℤ (pos v))
+unfolding expr_view addend_view
+expr_view-Negative at v = ap expr_view (sym (exprs.rolls-Negative at v)) ∙ fold-roll-ExprTree ExprTree AddendView expr_layer addend_layer (expr_layers.Negative at v)
 
 pub expr_view-Decimals : (at : ℕ) (t : Text) → expr_view (exprs.Decimals at t) ≡ decimals at (text_bytes t)
 unfolding expr_view addend_view
@@ -78,7 +82,7 @@ pub stmt_view-Block : (at : ℕ) (ss : Listed CodeStmt) → stmt_view (stmts.Blo
 unfolding stmt_view clause_view
 stmt_view-Block at ss = ap stmt_view (sym (stmts.rolls-Block at ss)) ∙ fold-roll-StmtTree StmtTree ClauseView stmt_layer clause_layer (stmt_layers.Block at ss)
 
-pub stmt_view-Plain : (at : ℕ) (e : CodeExpr) → stmt_view (stmts.Plain at e) ≡ plain at (expr_view e)
+pub stmt_view-Plain : (at : ℕ) (e : Box CodeExpr Global) → stmt_view (stmts.Plain at e) ≡ plain at (expr_view e.value)
 unfolding stmt_view clause_view
 stmt_view-Plain at e = ap stmt_view (sym (stmts.rolls-Plain at e)) ∙ fold-roll-StmtTree StmtTree ClauseView stmt_layer clause_layer (stmt_layers.Plain at e)
 
@@ -86,23 +90,23 @@ pub stmt_view-Empty : (at : ℕ) → stmt_view (stmts.Empty at) ≡ empty at
 unfolding stmt_view clause_view
 stmt_view-Empty at = ap stmt_view (sym (stmts.rolls-Empty at)) ∙ fold-roll-StmtTree StmtTree ClauseView stmt_layer clause_layer (stmt_layers.Empty at)
 
-pub stmt_view-If_only : (at : ℕ) (c : CodeExpr) (s : Box CodeStmt Global) → stmt_view (stmts.If at c s None) ≡ if_only at (expr_view c) (stmt_view s.value)
+pub stmt_view-If_only : (at : ℕ) (c : Box CodeExpr Global) (s : Box CodeStmt Global) → stmt_view (stmts.If at c s None) ≡ if_only at (expr_view c.value) (stmt_view s.value)
 unfolding stmt_view clause_view
 stmt_view-If_only at c s = ap stmt_view (sym (stmts.rolls-If at c s None)) ∙ fold-roll-StmtTree StmtTree ClauseView stmt_layer clause_layer (stmt_layers.If at c s None)
 
-pub stmt_view-If_else : (at : ℕ) (c : CodeExpr) (s : Box CodeStmt Global) (r : Box CodeStmt Global) → stmt_view (stmts.If at c s (Some r)) ≡ if_else at (expr_view c) (stmt_view s.value) (stmt_view r.value)
+pub stmt_view-If_else : (at : ℕ) (c : Box CodeExpr Global) (s : Box CodeStmt Global) (r : Box CodeStmt Global) → stmt_view (stmts.If at c s (Some r)) ≡ if_else at (expr_view c.value) (stmt_view s.value) (stmt_view r.value)
 unfolding stmt_view clause_view
 stmt_view-If_else at c s r = ap stmt_view (sym (stmts.rolls-If at c s (Some r))) ∙ fold-roll-StmtTree StmtTree ClauseView stmt_layer clause_layer (stmt_layers.If at c s (Some r))
 
-pub stmt_view-Return : (at : ℕ) (o : Option CodeExpr) → stmt_view (stmts.Return at o) ≡ returns at (expr_option o)
+pub stmt_view-Return : (at : ℕ) (o : Option (Box CodeExpr Global)) → stmt_view (stmts.Return at o) ≡ returns at (expr_option o)
 unfolding stmt_view clause_view
 stmt_view-Return at o = ap stmt_view (sym (stmts.rolls-Return at o)) ∙ fold-roll-StmtTree StmtTree ClauseView stmt_layer clause_layer (stmt_layers.Return at o)
 
-pub stmt_view-While : (at : ℕ) (c : CodeExpr) (s : Box CodeStmt Global) → stmt_view (stmts.While at c s) ≡ while_loop at (expr_view c) (stmt_view s.value)
+pub stmt_view-While : (at : ℕ) (c : Box CodeExpr Global) (s : Box CodeStmt Global) → stmt_view (stmts.While at c s) ≡ while_loop at (expr_view c.value) (stmt_view s.value)
 unfolding stmt_view clause_view
 stmt_view-While at c s = ap stmt_view (sym (stmts.rolls-While at c s)) ∙ fold-roll-StmtTree StmtTree ClauseView stmt_layer clause_layer (stmt_layers.While at c s)
 
-pub stmt_view-DoWhile : (at : ℕ) (s : Box CodeStmt Global) (c : CodeExpr) → stmt_view (stmts.DoWhile at s c) ≡ do_loop at (stmt_view s.value) (expr_view c)
+pub stmt_view-DoWhile : (at : ℕ) (s : Box CodeStmt Global) (c : Box CodeExpr Global) → stmt_view (stmts.DoWhile at s c) ≡ do_loop at (stmt_view s.value) (expr_view c.value)
 unfolding stmt_view clause_view
 stmt_view-DoWhile at s c = ap stmt_view (sym (stmts.rolls-DoWhile at s c)) ∙ fold-roll-StmtTree StmtTree ClauseView stmt_layer clause_layer (stmt_layers.DoWhile at s c)
 
@@ -122,7 +126,7 @@ pub stmt_view-Labelled : (ls : Listed Word) (s : Box CodeStmt Global) → stmt_v
 unfolding stmt_view clause_view
 stmt_view-Labelled ls s = ap stmt_view (sym (stmts.rolls-Labelled ls s)) ∙ fold-roll-StmtTree StmtTree ClauseView stmt_layer clause_layer (stmt_layers.Labelled ls s)
 
-pub stmt_view-Switch : (at : ℕ) (e : CodeExpr) (cs : Listed CodeClause) → stmt_view (stmts.Switch at e cs) ≡ switches at (expr_view e) (clauses_view (list_items cs))
+pub stmt_view-Switch : (at : ℕ) (e : Box CodeExpr Global) (cs : Listed CodeClause) → stmt_view (stmts.Switch at e cs) ≡ switches at (expr_view e.value) (clauses_view (list_items cs))
 unfolding stmt_view clause_view
 stmt_view-Switch at e cs = ap stmt_view (sym (stmts.rolls-Switch at e cs)) ∙ fold-roll-StmtTree StmtTree ClauseView stmt_layer clause_layer (stmt_layers.Switch at e cs)
 
@@ -168,4 +172,4 @@ clauses_view-last cs c =
     ap clauses_in (clause_views-last cs c) ∙ clauses_in-last (map clause_view cs) (clause_view c)
     ∙ ap (λ (v : ClauseView). more_clauses (clauses_view cs) v.value v.body) (clause_view-is c)
 
-pub ruleset views = (expr_view-Literal, expr_view-Decimals, expr_view-Variable, expr_view-Element, expr_view-Call, expr_view-TableCall, expr_view-Assignment, expr_view-Store, expr_view-Unary, expr_view-Binary, expr_view-Sum, expr_view-Conditional, expr_view-Listed, stmt_view-Block, stmt_view-Plain, stmt_view-Empty, stmt_view-If_only, stmt_view-If_else, stmt_view-Return, stmt_view-While, stmt_view-DoWhile, stmt_view-For, stmt_view-Break, stmt_view-Continue, stmt_view-Labelled, stmt_view-Switch, clauses_view-last, addend_view-is, clause_view-is, exprs_view-last, sum_view-last, stmts_view-last)
+pub ruleset views = (expr_view-Literal, expr_view-Negative, expr_view-Decimals, expr_view-Variable, expr_view-Element, expr_view-Call, expr_view-TableCall, expr_view-Assignment, expr_view-Store, expr_view-Unary, expr_view-Binary, expr_view-Sum, expr_view-Conditional, expr_view-Listed, stmt_view-Block, stmt_view-Plain, stmt_view-Empty, stmt_view-If_only, stmt_view-If_else, stmt_view-Return, stmt_view-While, stmt_view-DoWhile, stmt_view-For, stmt_view-Break, stmt_view-Continue, stmt_view-Labelled, stmt_view-Switch, clauses_view-last, addend_view-is, clause_view-is, exprs_view-last, sum_view-last, stmts_view-last)

@@ -10,7 +10,7 @@ use Rattle.asm_grammar_nodes.specs.declared.tall_stmt.TallClauses.{TallClauses}
 use Rattle.asm_grammar_nodes.specs.Views.{expr_view, exprs_view, stmt_view, stmts_view, clauses_view}
 
 abbrev pub tall_view : TallExpr → ExprTree
-tall_view e = expr_view e.tree
+tall_view e = expr_view e.tree.value
 
 abbrev pub talls_view : TallExprs → ExprTrees
 talls_view es = exprs_view (list_items es.trees)

@@ -1,5 +1,7 @@
 -- What the code holds, as lexemes and trees of the definitions.
-use Rattle.std.specs.Prelude.{ℕ, Bool, List, [], ◌∷◌, Option, Some, None, ℤ, map, if◌then◌else◌}
+use Rattle.std.specs.Prelude.{ℕ, Bool, List, [], ◌∷◌, Option, Some, None, ℤ, pos, neg_ℤ, map, if◌then◌else◌}
+use Rattle.std.specs.Global.{Global}
+use Rattle.std.specs.declared.boxed.Box.{Box}
 use Rattle.sem_words.specs.declared.text.Text.{Text}
 use Rattle.sem_words.specs.Lists.{list_items, text_bytes}
 use Rattle.sem_words.specs.declared.js_value.JsOp.{JsOp}
@@ -103,7 +105,8 @@ sum_in e [] = e
 sum_in e (a ∷ others) = sum_in (binary a.at e (sign_of a.minus) a.operand) others
 
 abbrev pub expr_layer : ExprTree-F ExprTree AddendView → ExprTree
-expr_layer (exprs_open.Literal at v) = literal at v
+expr_layer (exprs_open.Literal at v) = literal at (pos v)
+expr_layer (exprs_open.Negative at v) = literal at (neg_ℤ (pos v))
 expr_layer (exprs_open.Decimals at t) = decimals at (text_bytes t)
 expr_layer (exprs_open.Variable at n) = variable at (text_bytes n)
 expr_layer (exprs_open.Element at n i) = element at (text_bytes n) i.value
@@ -129,9 +132,9 @@ addend_view = fold-Addend ExprTree AddendView expr_layer addend_layer
 abbrev pub exprs_view : List CodeExpr → ExprTrees
 exprs_view es = exprs_in (map expr_view es)
 
-abbrev pub expr_option : Option CodeExpr → Option ExprTree
+abbrev pub expr_option : Option (Box CodeExpr Global) → Option ExprTree
 expr_option None = None
-expr_option (Some e) = Some (expr_view e)
+expr_option (Some e) = Some (expr_view e.value)
 
 -- ---- statements
 
@@ -163,18 +166,18 @@ name_option (Some n) = Some (text_bytes n)
 
 abbrev pub stmt_layer : StmtTree-F StmtTree ClauseView → StmtTree
 stmt_layer (stmts_open.Block at ss) = block at (stmts_in ss.items.items)
-stmt_layer (stmts_open.Plain at e) = plain at (expr_view e)
+stmt_layer (stmts_open.Plain at e) = plain at (expr_view e.value)
 stmt_layer (stmts_open.Empty at) = empty at
-stmt_layer (stmts_open.If at c s None) = if_only at (expr_view c) s.value
-stmt_layer (stmts_open.If at c s (Some r)) = if_else at (expr_view c) s.value r.value
+stmt_layer (stmts_open.If at c s None) = if_only at (expr_view c.value) s.value
+stmt_layer (stmts_open.If at c s (Some r)) = if_else at (expr_view c.value) s.value r.value
 stmt_layer (stmts_open.Return at o) = returns at (expr_option o)
-stmt_layer (stmts_open.While at c s) = while_loop at (expr_view c) s.value
-stmt_layer (stmts_open.DoWhile at s c) = do_loop at s.value (expr_view c)
+stmt_layer (stmts_open.While at c s) = while_loop at (expr_view c.value) s.value
+stmt_layer (stmts_open.DoWhile at s c) = do_loop at s.value (expr_view c.value)
 stmt_layer (stmts_open.For at h s) = for_loop at (expr_option h.value.start) (expr_option h.value.condition) (expr_option h.value.step) s.value
 stmt_layer (stmts_open.Break at l) = breaks at (name_option l)
 stmt_layer (stmts_open.Continue at l) = continues at (name_option l)
 stmt_layer (stmts_open.Labelled ls s) = under_all (words_view (list_items ls)) s.value
-stmt_layer (stmts_open.Switch at e cs) = switches at (expr_view e) (clauses_in cs.items.items)
+stmt_layer (stmts_open.Switch at e cs) = switches at (expr_view e.value) (clauses_in cs.items.items)
 
 abbrev pub clause_layer : ClauseTree-F StmtTree ClauseView → ClauseView
 clause_layer c = record { value = c.value; body = stmts_in c.body.items.items }

@@ -36,6 +36,7 @@ pub fn is_chain(tree: &ExprTree) -> bool
             }
         }
         ExprTree::Literal(..)
+        | ExprTree::Negative(..)
         | ExprTree::Decimals(..)
         | ExprTree::Variable(..)
         | ExprTree::Element(..)
@@ -53,32 +54,37 @@ pub fn is_chain(tree: &ExprTree) -> bool
 pub(crate) fn binary_tree(
     alloc: Global,
     at: u64,
-    left: ExprTree,
+    left: Box<ExprTree>,
     operator: JsOp,
-    right: ExprTree,
+    right: Box<ExprTree>,
 ) -> Result<ExprTree, AllocError>
-    ensures { IfOk result (λ r. expr_view r ≡ binary at (expr_view left) operator (expr_view right)) }
+    ensures { IfOk result (λ r. expr_view r ≡ binary at (expr_view left.value) operator (expr_view right.value)) }
 {
     match operator {
-        JsOp::Add => left.plus(alloc, at, false, right),
-        JsOp::Sub => left.plus(alloc, at, true, right),
-        _ => no_sum(alloc, at, left, operator, right),
+        JsOp::Add => sum(alloc, at, left, false, right),
+        JsOp::Sub => sum(alloc, at, left, true, right),
+        _ => Ok(no_sum(at, left, operator, right)),
     }
 }
 
-#[tactic(auto, using(crate::proofs::Views::views))]
-fn no_sum(
+fn sum(
     alloc: Global,
     at: u64,
-    left: ExprTree,
-    operator: JsOp,
-    right: ExprTree,
+    left: Box<ExprTree>,
+    minus: bool,
+    right: Box<ExprTree>,
 ) -> Result<ExprTree, AllocError>
-    ensures { IfOk result (λ r. expr_view r ≡ binary at (expr_view left) operator (expr_view right)) }
+    ensures { IfOk result (λ r. expr_view r ≡ binary at (expr_view left.value) (sign_of minus) (expr_view right.value)) }
 {
-    let left = Box::new(alloc, left)?;
-    let right = Box::new(alloc, right)?;
-    Ok(ExprTree::Binary(at, left, operator, right))
+    let left = Box::into_inner(left);
+    left.plus(alloc, at, minus, Box::into_inner(right))
+}
+
+#[tactic(auto, using(crate::proofs::Views::views))]
+fn no_sum(at: u64, left: Box<ExprTree>, operator: JsOp, right: Box<ExprTree>) -> ExprTree
+    ensures { expr_view result ≡ binary at (expr_view left.value) operator (expr_view right.value) }
+{
+    ExprTree::Binary(at, left, operator, right)
 }
 
 /// The list with one more at its end.

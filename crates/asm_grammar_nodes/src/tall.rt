@@ -14,12 +14,12 @@ use crate::tree::ExprTree;
 use sem_words::{JsOp, JsUnary, List};
 use std::alloc::{AllocError, Global};
 
-/// An expression, and how high it is.
+/// An expression, and how high it is. It stands in a box from its first node on, so that what holds it is small.
 #[derive(Drop)]
 pub struct TallExpr {
-    tree: ExprTree,
+    tree: Box<ExprTree>,
     height: Height,
-    ghost high: { height.count ≡ counted (heights.height (expr_view tree)) },
+    ghost high: { height.count ≡ counted (heights.height (expr_view tree.value)) },
 }
 
 /// Expressions of a list so far, and how high the highest is.
@@ -52,7 +52,7 @@ impl TallExprs {
     {
         let TallExprs { mut trees, height } = self;
         let height = height.or(expr.height);
-        match trees.push(expr.tree) {
+        match trees.push(Box::into_inner(expr.tree)) {
             Ok(()) => Ok(TallExprs { trees, height }),
             Err(_) => Err(AllocError),
         }
@@ -67,7 +67,7 @@ impl TallExprs {
 }
 
 impl TallExpr {
-    ghost use Rattle.std.specs.Prelude.{◌≡◌, IfOk};
+    ghost use Rattle.std.specs.Prelude.{◌≡◌, IfOk, pos, neg_ℤ};
     ghost use Rattle.asm_lang.specs.Trees.{literal, decimals, variable, element, call, table_call, assignment, store, unary, binary, conditional, listed};
     ghost use Rattle.asm_lang.specs.Modules.{expr_of};
     ghost use Rattle.asm_laws_height.specs.Rises.{second_operand, capped_rise};
@@ -82,40 +82,50 @@ impl TallExpr {
         self.height
     }
 
-    pub fn into_tree(self) -> ExprTree
-        ensures { expr_view result ≡ tall_view self }
+    pub(crate) fn into_tree(self) -> Box<ExprTree>
+        ensures { expr_view result.value ≡ tall_view self }
     {
         self.tree
     }
 
-    #[tactic(auto, using(crate::proofs::Levels::expression_levels))]
-    pub fn literal(at: u64, value: i128) -> TallExpr
-        ensures { tall_view result ≡ literal at value }
+    // A node of this height.
+    fn boxed(alloc: Global, tree: ExprTree, height: Height) -> Result<TallExpr, AllocError>
+        requires high { height.count ≡ counted (heights.height (expr_view tree)) }
+        ensures { IfOk result (λ r. tall_view r ≡ expr_view tree) }
     {
-        TallExpr {
-            tree: ExprTree::Literal(at, value),
-            height: Height::leaf(),
-        }
+        let tree = Box::new(alloc, tree)?;
+        Ok(TallExpr { tree, height })
     }
 
     #[tactic(auto, using(crate::proofs::Levels::expression_levels))]
-    pub fn decimals(token: Word) -> TallExpr
-        ensures { tall_view result ≡ decimals token.at (text_bytes token.text) }
+    pub fn literal(alloc: Global, at: u64, value: u64) -> Result<TallExpr, AllocError>
+        ensures { IfOk result (λ r. tall_view r ≡ literal at (pos value)) }
     {
-        TallExpr {
-            tree: ExprTree::Decimals(token.at, token.text),
-            height: Height::leaf(),
-        }
+        TallExpr::boxed(alloc, ExprTree::Literal(at, value), Height::leaf())
+    }
+
+    /// A literal with a minus sign.
+    #[tactic(auto, using(crate::proofs::Levels::expression_levels))]
+    pub fn negative(alloc: Global, at: u64, value: u64) -> Result<TallExpr, AllocError>
+        ensures { IfOk result (λ r. tall_view r ≡ literal at (neg_ℤ (pos value))) }
+    {
+        TallExpr::boxed(alloc, ExprTree::Negative(at, value), Height::leaf())
     }
 
     #[tactic(auto, using(crate::proofs::Levels::expression_levels))]
-    pub fn variable(name: Word) -> TallExpr
-        ensures { tall_view result ≡ variable name.at (text_bytes name.text) }
+    pub fn decimals(alloc: Global, token: Word) -> Result<TallExpr, AllocError>
+        ensures { IfOk result (λ r. tall_view r ≡ decimals token.at (text_bytes token.text)) }
     {
-        TallExpr {
-            tree: ExprTree::Variable(name.at, name.text),
-            height: Height::leaf(),
-        }
+        let tree = ExprTree::Decimals(token.at, token.text);
+        TallExpr::boxed(alloc, tree, Height::leaf())
+    }
+
+    #[tactic(auto, using(crate::proofs::Levels::expression_levels))]
+    pub fn variable(alloc: Global, name: Word) -> Result<TallExpr, AllocError>
+        ensures { IfOk result (λ r. tall_view r ≡ variable name.at (text_bytes name.text)) }
+    {
+        let tree = ExprTree::Variable(name.at, name.text);
+        TallExpr::boxed(alloc, tree, Height::leaf())
     }
 
     #[tactic(auto, using(crate::proofs::Levels::expression_levels))]
@@ -123,18 +133,17 @@ impl TallExpr {
         ensures { IfOk result (λ r. tall_view r ≡ element name.at (text_bytes name.text) (tall_view index)) }
     {
         let height = index.height.above();
-        let tree = ExprTree::Element(name.at, name.text, Box::new(alloc, index.tree)?);
-        Ok(TallExpr { tree, height })
+        let tree = ExprTree::Element(name.at, name.text, index.tree);
+        TallExpr::boxed(alloc, tree, height)
     }
 
     #[tactic(auto, using(crate::proofs::Levels::expression_levels))]
-    pub fn call(name: Word, arguments: TallExprs) -> TallExpr
-        ensures { tall_view result ≡ call name.at (text_bytes name.text) (talls_view arguments) }
+    pub fn call(alloc: Global, name: Word, arguments: TallExprs) -> Result<TallExpr, AllocError>
+        ensures { IfOk result (λ r. tall_view r ≡ call name.at (text_bytes name.text) (talls_view arguments)) }
     {
-        TallExpr {
-            height: arguments.height.above(),
-            tree: ExprTree::Call(name.at, name.text, arguments.trees),
-        }
+        let height = arguments.height.above();
+        let tree = ExprTree::Call(name.at, name.text, arguments.trees);
+        TallExpr::boxed(alloc, tree, height)
     }
 
     #[tactic(auto, using(crate::proofs::Levels::expression_levels))]
@@ -147,9 +156,8 @@ impl TallExpr {
         ensures { IfOk result (λ r. tall_view r ≡ table_call name.at (text_bytes name.text) (tall_view index) (talls_view arguments)) }
     {
         let height = index.height.or(arguments.height).above();
-        let index = Box::new(alloc, index.tree)?;
-        let tree = ExprTree::TableCall(name.at, name.text, index, arguments.trees);
-        Ok(TallExpr { tree, height })
+        let tree = ExprTree::TableCall(name.at, name.text, index.tree, arguments.trees);
+        TallExpr::boxed(alloc, tree, height)
     }
 
     #[tactic(auto, using(crate::proofs::Levels::expression_levels))]
@@ -162,8 +170,8 @@ impl TallExpr {
         ensures { IfOk result (λ r. tall_view r ≡ assignment at (text_bytes name.text) (tall_view value)) }
     {
         let height = value.height.above();
-        let tree = ExprTree::Assignment(at, name.text, Box::new(alloc, value.tree)?);
-        Ok(TallExpr { tree, height })
+        let tree = ExprTree::Assignment(at, name.text, value.tree);
+        TallExpr::boxed(alloc, tree, height)
     }
 
     #[tactic(auto, using(crate::proofs::Levels::expression_levels))]
@@ -177,10 +185,8 @@ impl TallExpr {
         ensures { IfOk result (λ r. tall_view r ≡ store at (text_bytes name.text) (tall_view index) (tall_view value)) }
     {
         let height = index.height.or(value.height).above();
-        let index = Box::new(alloc, index.tree)?;
-        let value = Box::new(alloc, value.tree)?;
-        let tree = ExprTree::Store(at, name.text, index, value);
-        Ok(TallExpr { tree, height })
+        let tree = ExprTree::Store(at, name.text, index.tree, value.tree);
+        TallExpr::boxed(alloc, tree, height)
     }
 
     #[tactic(auto, using(crate::proofs::Levels::expression_levels))]
@@ -193,8 +199,8 @@ impl TallExpr {
         ensures { IfOk result (λ r. tall_view r ≡ unary at operator (tall_view operand)) }
     {
         let height = operand.height.above();
-        let tree = ExprTree::Unary(at, operator, Box::new(alloc, operand.tree)?);
-        Ok(TallExpr { tree, height })
+        let tree = ExprTree::Unary(at, operator, operand.tree);
+        TallExpr::boxed(alloc, tree, height)
     }
 
     #[tactic(auto, using(crate::proofs::Levels::expression_levels))]
@@ -209,21 +215,17 @@ impl TallExpr {
     {
         let parts = first.height.or(second.height);
         let height = condition.height.or(parts).above();
-        let condition = Box::new(alloc, condition.tree)?;
-        let first = Box::new(alloc, first.tree)?;
-        let second = Box::new(alloc, second.tree)?;
-        let tree = ExprTree::Conditional(at, condition, first, second);
-        Ok(TallExpr { tree, height })
+        let tree = ExprTree::Conditional(at, condition.tree, first.tree, second.tree);
+        TallExpr::boxed(alloc, tree, height)
     }
 
     #[tactic(auto, using(crate::proofs::Levels::expression_levels))]
-    pub fn listed(at: u64, parts: TallExprs) -> TallExpr
-        ensures { tall_view result ≡ listed at (talls_view parts) }
+    pub fn listed(alloc: Global, at: u64, parts: TallExprs) -> Result<TallExpr, AllocError>
+        ensures { IfOk result (λ r. tall_view r ≡ listed at (talls_view parts)) }
     {
-        TallExpr {
-            height: parts.height.above(),
-            tree: ExprTree::Listed(at, parts.trees),
-        }
+        let height = parts.height.above();
+        let tree = ExprTree::Listed(at, parts.trees);
+        TallExpr::boxed(alloc, tree, height)
     }
 
     /// What a binary node round its second operand makes, where this is the first one.
@@ -251,11 +253,11 @@ impl TallExpr {
     {
         let height = left.second_operand(operator).risen(right.height);
         let tree = binary_tree(alloc, at, left.tree, operator, right.tree)?;
-        Ok(TallExpr { tree, height })
+        TallExpr::boxed(alloc, tree, height)
     }
 
     #[tactic(auto, using(crate::proofs::Views::views))]
-    pub(crate) fn option_tree(expr: Option<TallExpr>) -> Option<ExprTree>
+    pub(crate) fn option_tree(expr: Option<TallExpr>) -> Option<Box<ExprTree>>
         ensures { expr_option result ≡ tall_option expr }
     {
         match expr {

@@ -13,7 +13,9 @@ use std::alloc::{AllocError, Global};
 /// An expression. The first part of a node is its place.
 #[cycle(exprs)]
 pub enum ExprTree {
-    Literal(u64, i128),
+    Literal(u64, u64),
+    /// A literal with a minus sign, and its number without it.
+    Negative(u64, u64),
     Decimals(u64, Text),
     Variable(u64, Text),
     Element(u64, Text, Box<ExprTree>),
@@ -36,6 +38,7 @@ impl Drop for ExprTree {
     fn drop(self) {
         match self {
             ExprTree::Literal(_, _) => {}
+            ExprTree::Negative(_, _) => {}
             ExprTree::Decimals(_, _) => {}
             ExprTree::Variable(_, _) => {}
             ExprTree::Element(_, _, _) => {}
@@ -86,22 +89,22 @@ pub struct Addend {
     pub operand: ExprTree,
 }
 
-/// A statement. The first part of a node is its place.
+/// A statement. The first part of a node is its place. Expressions stand in boxes, so that a list of statements is small.
 #[cycle(stmts)]
 pub enum StmtTree {
     Block(u64, List<StmtTree>),
-    Plain(u64, ExprTree),
+    Plain(u64, Box<ExprTree>),
     Empty(u64),
-    If(u64, ExprTree, Box<StmtTree>, Option<Box<StmtTree>>),
-    Return(u64, Option<ExprTree>),
-    While(u64, ExprTree, Box<StmtTree>),
-    DoWhile(u64, Box<StmtTree>, ExprTree),
+    If(u64, Box<ExprTree>, Box<StmtTree>, Option<Box<StmtTree>>),
+    Return(u64, Option<Box<ExprTree>>),
+    While(u64, Box<ExprTree>, Box<StmtTree>),
+    DoWhile(u64, Box<StmtTree>, Box<ExprTree>),
     For(u64, Box<ForHeadTree>, Box<StmtTree>),
     Break(u64, Option<Text>),
     Continue(u64, Option<Text>),
     /// A statement under labels, in text order.
     Labelled(List<Word>, Box<StmtTree>),
-    Switch(u64, ExprTree, List<ClauseTree>),
+    Switch(u64, Box<ExprTree>, List<ClauseTree>),
 }
 
 impl StmtTree {
@@ -145,9 +148,9 @@ impl Drop for StmtTree {
 /// What stands in the parentheses of a `for`. In a box of its own, so that no other statement is as large.
 #[derive(Drop)]
 pub struct ForHeadTree {
-    pub start: Option<ExprTree>,
-    pub condition: Option<ExprTree>,
-    pub step: Option<ExprTree>,
+    pub start: Option<Box<ExprTree>>,
+    pub condition: Option<Box<ExprTree>>,
+    pub step: Option<Box<ExprTree>>,
 }
 
 /// A clause of a switch: a case with its value, or the default.
