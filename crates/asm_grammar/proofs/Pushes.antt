@@ -6,7 +6,7 @@ use Rattle.asm_grammar_nodes.specs.declared.declarations.ExportTree.{ExportTree}
 use Rattle.sem_words.specs.declared.text.Text.{Text}
 use Rattle.sem_words.specs.Lists.{text_bytes}
 use Rattle.asm_grammar_nodes.specs.Views.{table_view, export_view, names_view}
-use Rattle.asm_grammar_decls.proofs.Pushes.{map-last, lexemes_view-last, params-last, variables-last, left_view-last, left_view-reversed}
+use Rattle.asm_grammar_decls.proofs.Pushes.{map-last}
 
 pub tables-last : (ts : List TableTree) (t : TableTree) → map table_view (ts ++ t ∷ []) ≡ map table_view ts ++ table_view t ∷ []
 tables-last ts t = map-last table_view ts t
@@ -22,5 +22,3 @@ pub ruleset tables = (tables-last)
 pub ruleset exports = (exports-last)
 
 pub ruleset members = (names-last, append-nil)
-
-pub ruleset pushes = (lexemes_view-last, params-last, variables-last, left_view-last, left_view-reversed)

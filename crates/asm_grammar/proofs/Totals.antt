@@ -1,52 +1,18 @@
--- The heights of functions, with one more at their end.
-use Rattle.std.proofs.Common.{◌≡◌, ℕ, List, [], ◌∷◌, ◌++◌, map, length, max, min, suc, refl, ap, ◌∙◌, arith}
-use Rattle.asm_lang.specs.Trees.{FunctionTree}
-use Rattle.asm_lang.specs.Modules.{param_of, variable_of, table_of, export_of, exports_of}
+-- The height of a module, by those of its parts.
+use Rattle.std.proofs.Common.{◌≡◌, ℕ, List, map, length, max, min, suc, arith}
+use Rattle.sem_words.specs.Lists.{list_items}
+use Rattle.asm_lang.specs.Modules.{variable_of, table_of, export_of, exports_of}
 use Rattle.asm_lang.specs.Heights.{leaves_height, exports_height}
-use Rattle.asm_lang.specs.TreeHeights.{block_height, whole_height}
-use Rattle.asm_laws_height.specs.Peaks.{last_function}
-use Rattle.asm_laws_height.proofs.SeenModules.{last_function_more}
-use Rattle.asm_grammar_nodes.specs.declared.declarations.FunctionTree.{FunctionTree as CodeFunction}
+use Rattle.asm_lang.specs.TreeHeights.{whole_height}
 use Rattle.asm_grammar_nodes.specs.declared.declarations.ExportTree.{ExportTree}
 use Rattle.asm_grammar_nodes.specs.declared.declarations.ModuleTree.{ModuleTree as CodeModule}
 use Rattle.asm_grammar_nodes.specs.Heights.{counted}
-use Rattle.asm_grammar_nodes.specs.Views.{function_view, param_view, variable_view, table_view, export_view, exports_view, stmts_view, module_view}
-use Rattle.sem_words.specs.Lists.{list_items}
-use Rattle.asm_grammar.specs.Totals.{one_height, highest, functions_view}
-
-pub functions_view-last : (fs : List CodeFunction) (f : CodeFunction) → functions_view (fs ++ f ∷ []) ≡ functions_view fs ++ function_view f ∷ []
-functions_view-last [] f = refl
-functions_view-last (g ∷ fs) f = ap (λ r. function_view g ∷ r) (functions_view-last fs f)
-
-pub last_is : (fs : List CodeFunction) (f : CodeFunction) → last_function (functions_view (fs ++ f ∷ [])) ≡ one_height (function_view f)
-last_is fs f = ap last_function (functions_view-last fs f) ∙ last_function_more (functions_view fs) (function_view f)
-
-more_high : (fs : List FunctionTree) (f : FunctionTree) → highest (fs ++ f ∷ []) ≡ max (highest fs) (one_height f)
-more_high [] f = omega arith
-more_high (g ∷ fs) f = omega (arith, more_high fs f)
-
-pub highest_is : (fs : List CodeFunction) (f : CodeFunction) → highest (functions_view (fs ++ f ∷ [])) ≡ max (highest (functions_view fs)) (one_height (function_view f))
-highest_is fs f = ap highest (functions_view-last fs f) ∙ more_high (functions_view fs) (function_view f)
-
--- leaves are counted alike, whatever stands for them
-pub leaves_same : {A B C : Type 0} (f : B → C) (g : A → B) (xs : List A) → leaves_height (map f (map g xs)) ≡ leaves_height xs
-leaves_same f g [] = refl
-leaves_same f g (x ∷ xs) = refl
-
-leaves_len : {A : Type 0} (xs : List A) → leaves_height xs ≡ min 1 (length xs)
-leaves_len [] = refl
-leaves_len (x ∷ xs) = omega arith
-
-leaves_of : {A B C : Type 0} (f : B → C) (g : A → B) (xs : List A) → leaves_height (map f (map g xs)) ≡ min 1 (length xs)
-leaves_of f g xs = leaves_same f g xs ∙ leaves_len xs
-
-pub function_high : (f : CodeFunction) (p l b : ℕ) → p ≡ min 1 (length (list_items f.params)) → l ≡ min 1 (length (list_items f.locals)) → b ≡ counted (block_height (stmts_view (list_items f.body))) → counted (suc (max (max p l) b)) ≡ counted (one_height (function_view f))
-function_high f p l b ps ls bs = omega (arith, leaves_of param_of param_view (list_items f.params), leaves_of variable_of variable_view (list_items f.locals))
+use Rattle.asm_grammar_nodes.specs.Views.{variable_view, table_view, export_view, exports_view, module_view}
+use Rattle.asm_grammar_functions.specs.Totals.{highest, functions_view}
+use Rattle.asm_grammar_functions.proofs.Totals.{leaves_of}
 
 pub exports_high : (es : List ExportTree) → leaves_height (map export_of (map export_view es)) ≡ min 1 (length es)
 exports_high es = leaves_of export_of export_view es
 
 pub module_high : (m : CodeModule) (g f t e : ℕ) → g ≡ min 1 (length (list_items m.globals)) → f ≡ counted (highest (functions_view (list_items m.functions))) → t ≡ min 1 (length (list_items m.tables)) → e ≡ exports_height (exports_of (exports_view m.exports)) → counted (suc (max (max g f) (max t e))) ≡ counted (whole_height (module_view m))
 module_high m g f t e gs fs ts es = omega (arith, leaves_of variable_of variable_view (list_items m.globals), leaves_of table_of table_view (list_items m.tables))
-
-pub ruleset totals = (functions_view-last, last_is, highest_is)

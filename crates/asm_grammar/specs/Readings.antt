@@ -9,11 +9,10 @@ use Rattle.asm_lang.specs.Machine.{closes, ends, at_init, at_use, at_globals, at
 use Rattle.asm_grammar_nodes.specs.declared.lexeme.Lexeme.{Lexeme as CodeLexeme}
 use Rattle.asm_grammar_nodes.specs.declared.declarations.TableTree.{TableTree as CodeTable}
 use Rattle.asm_grammar_nodes.specs.declared.declarations.ExportTree.{ExportTree as CodeExport}
-use Rattle.asm_grammar_nodes.specs.Views.{lexeme_view, function_view, table_view, export_view, heading_view, module_view}
+use Rattle.asm_grammar_nodes.specs.Views.{lexeme_view, table_view, export_view, heading_view, module_view}
 use Rattle.asm_grammar_decls.specs.declared.init.InitReading.{InitReading}
 use Rattle.asm_grammar_decls.specs.declared.names.NamesReading.{NamesReading}
-use Rattle.asm_grammar.specs.declared.function.FunctionReading.{FunctionReading}
-use Rattle.asm_grammar.specs.declared.tall.TallFunctions.{TallFunctions}
+use Rattle.asm_grammar_functions.specs.declared.function.FunctionReading.{FunctionReading}
 use Rattle.asm_grammar.specs.declared.reading.GlobalPlace.{GlobalPlace}
 use Rattle.asm_grammar.specs.declared.reading.GlobalPlace.TheVariants as globals
 use Rattle.asm_grammar.specs.declared.reading.TablePlace.{TablePlace}
@@ -36,12 +35,9 @@ use Rattle.asm_grammar.specs.declared.exports.ExportsStep.{ExportsStep}
 use Rattle.asm_grammar.specs.declared.exports.ExportsStep.TheVariants as exports_steps
 use Rattle.asm_grammar_decls.specs.Parts.{heading_reading_view, names_reading_view, init_reading_view}
 use Rattle.asm_grammar_decls.specs.Variables.{variables_of}
-use Rattle.asm_grammar.specs.Bodies.{function_reading_view}
+use Rattle.asm_grammar_functions.specs.Bodies.{function_reading_view, functions_of}
 
 -- ---- what has been read
-
-abbrev pub functions_of : TallFunctions → List FunctionTree
-functions_of fs = map function_view (list_items fs.trees)
 
 abbrev pub tables_of : Listed CodeTable → List TableTree
 tables_of ts = map table_view (list_items ts)

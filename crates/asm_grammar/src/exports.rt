@@ -11,11 +11,13 @@ ghost use Rattle.asm_grammar_nodes.specs.Heights.{counted};
 ghost use Rattle.asm_grammar_nodes.specs.Views.{exports_view, heading_view, lexeme_view, module_view};
 ghost use Rattle.asm_grammar_decls.specs.Variables.{variables_of};
 ghost use Rattle.asm_grammar.specs.Ends.{finished_view};
-ghost use Rattle.asm_grammar.specs.Readings.{close_brace_step, end_view, export_place_view, exported, exports_of, exports_step_view, functions_of, module_step_view, tables_of};
+ghost use Rattle.asm_grammar_functions.specs.Bodies.{functions_of};
+ghost use Rattle.asm_grammar.specs.Readings.{close_brace_step, end_view, export_place_view, exported, exports_of, exports_step_view, module_step_view, tables_of};
 
 use crate::reading::{EndPlace, ExportPlace, ModuleStep, Reading, Tables};
-use crate::tall::{TallModule, leaves};
+use crate::tall::TallModule;
 use asm_grammar_decls::{Ending, end_before, is, is_word};
+use asm_grammar_functions::leaves;
 use asm_grammar_nodes::{Class, ExportTree, ExportsTree, Height, Lexeme};
 use sem_words::{List, Text};
 use std::alloc::{AllocError, Global};
@@ -41,11 +43,13 @@ pub fn export_step<'a>(
         return Ok(ModuleStep::Stuck);
     }
     match token.class {
-        Class::Identifier => {
-            let name = Text::from_bytes(alloc, token.text)?;
-            let module = tables.whole(ExportsTree::One(token.at, name));
-            Ok(ModuleStep::On(Reading::End(module, EndPlace::Ends)))
-        }
+        Class::Identifier => match Text::from_bytes(alloc, token.text) {
+            Ok(name) => {
+                let module = tables.whole(ExportsTree::One(token.at, name));
+                Ok(ModuleStep::On(Reading::End(module, EndPlace::Ends)))
+            }
+            Err(error) => Err(error),
+        },
         Class::OpenBrace => {
             let exports = List::new(alloc);
             let reading = Reading::Exports(tables, exports, ExportPlace::At);
@@ -148,16 +152,19 @@ pub fn exports_step<'a>(
 ) -> Result<ModuleStep<'a>, AllocError>
     ensures { IfOk result (λ r. module_step_view r (lexeme_view token.now) ≡ advance (export_place_view place.entry (exports_of exports) (exported (heading_view tables.functions.globals.heading) (variables_of tables.functions.globals.variables) (functions_of tables.functions.functions) (tables_of tables.tables))) (lexeme_view token.now)) }
 {
-    match in_exports(alloc, exports, place, token)? {
-        ExportsStep::On(exports, place) => {
-            let reading = Reading::Exports(tables, exports, place);
-            Ok(ModuleStep::On(reading))
-        }
-        ExportsStep::Done(exports) => {
-            let module = tables.whole(ExportsTree::Many(exports));
-            Ok(ModuleStep::On(Reading::End(module, EndPlace::Ends)))
-        }
-        ExportsStep::Stuck => Ok(ModuleStep::Stuck),
+    match in_exports(alloc, exports, place, token) {
+        Ok(step) => match step {
+            ExportsStep::On(exports, place) => {
+                let reading = Reading::Exports(tables, exports, place);
+                Ok(ModuleStep::On(reading))
+            }
+            ExportsStep::Done(exports) => {
+                let module = tables.whole(ExportsTree::Many(exports));
+                Ok(ModuleStep::On(Reading::End(module, EndPlace::Ends)))
+            }
+            ExportsStep::Stuck => Ok(ModuleStep::Stuck),
+        },
+        Err(error) => Err(error),
     }
 }
 

@@ -11,8 +11,8 @@ ghost use Rattle.asm_grammar.specs.Readings.{global_view, initial_global, module
 use crate::reading::{
     Functions, GlobalPlace, Globals, ModuleStep, Reading, Tables, early_table, first_function,
 };
-use crate::tall::TallFunctions;
 use asm_grammar_decls::{Ending, InitReading, InitStep, end_before, is, with_variable};
+use asm_grammar_functions::TallFunctions;
 use asm_grammar_nodes::{Class, InitTree, Lexeme};
 use sem_words::List;
 use std::alloc::{AllocError, Global};
@@ -79,20 +79,23 @@ fn initial_value<'a>(
 ) -> Result<ModuleStep<'a>, AllocError>
     ensures { IfOk result (λ r. module_step_view r (lexeme_view token.now) ≡ advance (initial_global (heading_view globals.heading) (variables_of globals.variables) name.entry init.entry) (lexeme_view token.now)) }
 {
-    match init.feed(alloc, token)? {
-        InitStep::On(init) => {
-            let place = GlobalPlace::Init(name, init);
-            Ok(ModuleStep::On(Reading::Global(globals, place)))
-        }
-        InitStep::Taken(value) => {
-            let globals = with_global(alloc, globals, &name, value)?;
-            Ok(ModuleStep::On(Reading::Global(globals, GlobalPlace::After)))
-        }
-        InitStep::Before(value) => {
-            let globals = with_global(alloc, globals, &name, value)?;
-            Ok(after_global(alloc, globals, token))
-        }
-        InitStep::Stuck => Ok(ModuleStep::Stuck),
+    match init.feed(alloc, token) {
+        Ok(step) => match step {
+            InitStep::On(init) => {
+                let place = GlobalPlace::Init(name, init);
+                Ok(ModuleStep::On(Reading::Global(globals, place)))
+            }
+            InitStep::Taken(value) => match with_global(alloc, globals, &name, value) {
+                Ok(globals) => Ok(ModuleStep::On(Reading::Global(globals, GlobalPlace::After))),
+                Err(error) => Err(error),
+            },
+            InitStep::Before(value) => match with_global(alloc, globals, &name, value) {
+                Ok(globals) => Ok(after_global(alloc, globals, token)),
+                Err(error) => Err(error),
+            },
+            InitStep::Stuck => Ok(ModuleStep::Stuck),
+        },
+        Err(error) => Err(error),
     }
 }
 

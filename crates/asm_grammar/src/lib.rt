@@ -3,7 +3,6 @@
 
 mod exports;
 mod fault;
-mod function;
 mod globals;
 mod module;
 mod parsing;

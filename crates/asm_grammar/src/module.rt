@@ -63,10 +63,10 @@ pub fn heading_step<'a>(
 {
     match reading.feed(token) {
         HeadingStep::On(reading) => Ok(ModuleStep::On(Reading::Heading(reading))),
-        HeadingStep::Done(name, params) => {
-            let heading = heading(alloc, name, params)?;
-            Ok(ModuleStep::On(Reading::Directive(heading)))
-        }
+        HeadingStep::Done(name, params) => match heading(alloc, name, params) {
+            Ok(heading) => Ok(ModuleStep::On(Reading::Directive(heading))),
+            Err(error) => Err(error),
+        },
         HeadingStep::Stuck => Ok(ModuleStep::Stuck),
     }
 }
@@ -92,12 +92,15 @@ pub fn function_moves<'a>(
     ensures { IfOk result (λ r. module_step_view r (lexeme_view token.now) ≡ advance (function_in_module_view function.entry) (lexeme_view token.now)) }
 {
     let mut function = function;
-    match function.feed(alloc, token)? {
-        InFunction::On => Ok(ModuleStep::On(Reading::Function(function))),
-        InFunction::Done => {
-            let FunctionInModule { functions, .. } = function;
-            Ok(ModuleStep::On(Reading::Functions(functions)))
-        }
-        InFunction::Stuck => Ok(ModuleStep::Stuck),
+    match function.feed(alloc, token) {
+        Ok(fed) => match fed {
+            InFunction::On => Ok(ModuleStep::On(Reading::Function(function))),
+            InFunction::Done => {
+                let FunctionInModule { functions, .. } = function;
+                Ok(ModuleStep::On(Reading::Functions(functions)))
+            }
+            InFunction::Stuck => Ok(ModuleStep::Stuck),
+        },
+        Err(error) => Err(error),
     }
 }

@@ -2,25 +2,26 @@
 
 ghost use Rattle.std.specs.Prelude.{◌≡◌, [], IfOk};
 ghost use Rattle.sem_words.specs.Lists.{list_items};
+ghost use Rattle.asm_lang.specs.Lexemes.{Lexeme as PlainLexeme};
 ghost use Rattle.asm_lang.specs.Machine.{advance, function_step, members_step, stops, table_step};
 ghost use Rattle.asm_laws_height.specs.Peaks.{step_peak};
 ghost use Rattle.asm_grammar_nodes.specs.Heights.{counted};
 ghost use Rattle.asm_grammar_nodes.specs.Views.{heading_view, lexeme_view};
 ghost use Rattle.asm_grammar_decls.specs.Variables.{variables_of};
 ghost use Rattle.asm_grammar.specs.Ends.{finished_view};
-ghost use Rattle.asm_grammar.specs.Readings.{functions_of, left_view, module_fed_view, module_step_view, reading_view};
+ghost use Rattle.asm_grammar_functions.specs.Bodies.{functions_of};
+ghost use Rattle.asm_grammar.specs.Readings.{left_view, module_fed_view, module_step_view, reading_view};
 
 use crate::exports::{end_peak, end_step, export_step, exports_height, exports_step, finished_at};
-use crate::function::FunctionReading;
 use crate::globals::{after_directive, global_step};
 use crate::module::{directive_step, function_moves, heading_step};
 use crate::tables::{functions_step, table_step};
-use crate::tall::{TallFunctions, TallModule, leaves};
+use crate::tall::TallModule;
 use asm_grammar_decls::{HeadingReading, InitReading, NamesReading};
+use asm_grammar_functions::{FunctionReading, TallFunctions, functions_end_no_module, leaves};
 use asm_grammar_nodes::{
     ExportTree, ExportsTree, Heading, Height, Lexeme, ModuleTree, TableTree, VariableTree,
 };
-use asm_grammar_stmts::bodies_end_no_module;
 use sem_words::List;
 use std::alloc::{AllocError, Global};
 use std::mem;
@@ -231,7 +232,7 @@ impl<'a> Reading<'a> {
     pub fn finished(self) -> Option<TallModule>
         ensures { finished_view result ≡ stops (reading_view self.entry) }
     {
-        bodies_end_no_module();
+        functions_end_no_module();
         match self {
             Reading::End(whole, place) => finished_at(whole, place),
             _ => None,
@@ -281,13 +282,23 @@ impl<'a> Reading<'a> {
         ensures { IfOk result (λ r. module_fed_view r self.new (lexeme_view token.now) ≡ advance (reading_view self.old) (lexeme_view token.now)) }
     {
         let old = mem::replace(self, Reading::Heading(HeadingReading::Start));
-        match old.step(alloc, token)? {
+        match old.step(alloc, token) {
+            Ok(step) => Ok(self.put(step)),
+            Err(error) => Err(error),
+        }
+    }
+
+    /// Goes on where a step leads.
+    fn put(&mut self, step: ModuleStep<'a>) -> ModuleFed
+        ensures { (t : PlainLexeme) → module_fed_view result self.new t ≡ module_step_view step.entry t }
+    {
+        match step {
             ModuleStep::On(next) => {
                 *self = next;
-                Ok(ModuleFed::On)
+                ModuleFed::On
             }
-            ModuleStep::Stuck => Ok(ModuleFed::Stuck),
-            ModuleStep::NoUseAsm => Ok(ModuleFed::NoUseAsm),
+            ModuleStep::Stuck => ModuleFed::Stuck,
+            ModuleStep::NoUseAsm => ModuleFed::NoUseAsm,
         }
     }
 

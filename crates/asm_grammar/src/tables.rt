@@ -7,13 +7,14 @@ ghost use Rattle.asm_lang.specs.Lexemes.{Lexeme as PlainLexeme};
 ghost use Rattle.asm_lang.specs.Machine.{advance, at_functions, feed, functions_by, in_tables, stuck, table_of, tables_by};
 ghost use Rattle.asm_grammar_nodes.specs.Views.{heading_view, lexeme_view, lexemes_view, names_view, table_view};
 ghost use Rattle.asm_grammar_decls.specs.Variables.{variables_of};
-ghost use Rattle.asm_grammar.specs.Readings.{function_in_module_view, functions_of, in_function_view, in_members, module_step_view, table_place_view, tables_of};
+ghost use Rattle.asm_grammar_functions.specs.Bodies.{functions_of};
+ghost use Rattle.asm_grammar.specs.Readings.{function_in_module_view, in_function_view, in_members, module_step_view, table_place_view, tables_of};
 
-use crate::function::{FunctionFed, FunctionReading};
 use crate::reading::{
     FunctionInModule, Functions, InFunction, ModuleStep, Reading, TablePlace, Tables, first_table,
 };
 use asm_grammar_decls::{Ending, NamesReading, NamesStep, end_before, is};
+use asm_grammar_functions::{FunctionFed, FunctionReading};
 use asm_grammar_nodes::{Class, Lexeme, TableTree};
 use sem_words::{List, Text};
 use std::alloc::{AllocError, Global};
@@ -42,13 +43,16 @@ impl<'a> FunctionInModule<'a> {
     pub fn feed(&mut self, alloc: Global, token: &Lexeme<'a>) -> Result<InFunction, AllocError>
         ensures { IfOk result (λ r. in_function_view r self.new (lexeme_view token.now) ≡ advance (function_in_module_view self.old) (lexeme_view token.now)) }
     {
-        match self.reading.feed(alloc, token)? {
-            FunctionFed::On => Ok(InFunction::On),
-            FunctionFed::Done(function) => {
-                self.functions.functions.push(Box::into_inner(function))?;
-                Ok(InFunction::Done)
-            }
-            FunctionFed::Stuck => Ok(InFunction::Stuck),
+        match self.reading.feed(alloc, token) {
+            Ok(fed) => match fed {
+                FunctionFed::On => Ok(InFunction::On),
+                FunctionFed::Done(function) => {
+                    self.functions.functions.push(Box::into_inner(function))?;
+                    Ok(InFunction::Done)
+                }
+                FunctionFed::Stuck => Ok(InFunction::Stuck),
+            },
+            Err(error) => Err(error),
         }
     }
 }
@@ -187,17 +191,25 @@ fn in_members<'a>(
 ) -> Result<ModuleStep<'a>, AllocError>
     ensures { IfOk result (λ r. module_step_view r (lexeme_view token.now) ≡ advance (in_members (lexeme_view name.entry) (lexeme_view first.entry) members.entry (heading_view tables.functions.globals.heading) (variables_of tables.functions.globals.variables) (functions_of tables.functions.functions) (tables_of tables.tables)) (lexeme_view token.now)) }
 {
-    match members.feed(token, Class::CloseBracket)? {
-        NamesStep::On(members) => {
-            let place = TablePlace::Members(name, first, members);
-            Ok(ModuleStep::On(Reading::Table(tables, place)))
-        }
-        NamesStep::Done(others) => {
-            let mut tables = tables;
-            let before = mem::replace(&mut tables.tables, List::new(alloc));
-            tables.tables = with_table(alloc, before, &name, &first, &others)?;
-            Ok(ModuleStep::On(Reading::Table(tables, TablePlace::After)))
-        }
-        NamesStep::Stuck => Ok(ModuleStep::Stuck),
+    match members.feed(token, Class::CloseBracket) {
+        Ok(step) => match step {
+            NamesStep::On(members) => {
+                let place = TablePlace::Members(name, first, members);
+                Ok(ModuleStep::On(Reading::Table(tables, place)))
+            }
+            NamesStep::Done(others) => {
+                let mut tables = tables;
+                let before = mem::replace(&mut tables.tables, List::new(alloc));
+                match with_table(alloc, before, &name, &first, &others) {
+                    Ok(more) => {
+                        tables.tables = more;
+                        Ok(ModuleStep::On(Reading::Table(tables, TablePlace::After)))
+                    }
+                    Err(error) => Err(error),
+                }
+            }
+            NamesStep::Stuck => Ok(ModuleStep::Stuck),
+        },
+        Err(error) => Err(error),
     }
 }

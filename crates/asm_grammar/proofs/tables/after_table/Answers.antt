@@ -2,7 +2,8 @@ use Rattle.std.proofs.Common.{◌∙◌}
 use Rattle.asm_grammar_nodes.specs.Views.{heading_view}
 use Rattle.asm_grammar_decls.specs.declared.want.Ending.TheVariants.{Written, Missing, Wrong}
 use Rattle.asm_grammar_decls.specs.Variables.{variables_of}
-use Rattle.asm_grammar.specs.Readings.{functions_of, tables_of}
+use Rattle.asm_grammar_functions.specs.Bodies.{functions_of}
+use Rattle.asm_grammar.specs.Readings.{tables_of}
 use Rattle.asm_grammar.proofs.Classes.{table_ends}
 use Rattle.asm_grammar.proofs.tables.after_table.Goals as goal
 

@@ -3,7 +3,7 @@ use Rattle.asm_lang.specs.Machine.{functions_by}
 use Rattle.asm_grammar_nodes.specs.declared.lexeme.Class.{Class}
 use Rattle.asm_grammar_nodes.specs.Views.{class_view, heading_view, lexeme_view}
 use Rattle.asm_grammar_decls.specs.Variables.{variables_of}
-use Rattle.asm_grammar.specs.Readings.{functions_of}
+use Rattle.asm_grammar_functions.specs.Bodies.{functions_of}
 use Rattle.asm_grammar.proofs.tables.functions_step.Goals as goal
 
 pub returns-in-Function : goal.returns-in-Function

@@ -9,4 +9,4 @@ pub returns-in-End : goal.returns-in-End
 returns-in-End c = c.finished_at.ensures ∙ ap (λ (r : Reading). stops (reading_view r)) (sym c.in-End.is)
 
 pub returns-in_default : goal.returns-in_default
-returns-in_default c = sym (unfinished c.bodies_end_no_module.ensures c.args.self c.in_default.not-End)
+returns-in_default c = sym (unfinished c.functions_end_no_module.ensures c.args.self c.in_default.not-End)

@@ -5,7 +5,8 @@ use Rattle.asm_grammar_nodes.specs.Heights.{counted}
 use Rattle.asm_grammar_nodes.specs.Views.{heading_view}
 use Rattle.asm_grammar.specs.declared.reading.Reading.{Reading}
 use Rattle.asm_grammar_decls.specs.Variables.{variables_of}
-use Rattle.asm_grammar.specs.Readings.{functions_of, reading_view}
+use Rattle.asm_grammar_functions.specs.Bodies.{functions_of}
+use Rattle.asm_grammar.specs.Readings.{reading_view}
 use Rattle.asm_grammar.proofs.Idle.{quiet}
 use Rattle.asm_grammar.proofs.reading.Reading.peak.Goals as goal
 

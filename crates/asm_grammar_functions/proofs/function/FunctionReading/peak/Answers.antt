@@ -5,9 +5,9 @@ use Rattle.asm_grammar_nodes.specs.Views.{lexeme_view}
 use Rattle.asm_grammar_decls.specs.Variables.{params_of, variables_of}
 use Rattle.asm_grammar_stmts.specs.declared.state.BodyReading.{BodyReading}
 use Rattle.asm_grammar_stmts.specs.Views.{body_view}
-use Rattle.asm_grammar.specs.Bodies.{body_of}
-use Rattle.asm_grammar.proofs.Idle.{function_quiet}
-use Rattle.asm_grammar.proofs.function.FunctionReading.peak.Goals as goal
+use Rattle.asm_grammar_functions.specs.Bodies.{body_of}
+use Rattle.asm_grammar_functions.proofs.Idle.{function_quiet}
+use Rattle.asm_grammar_functions.proofs.function.FunctionReading.peak.Goals as goal
 
 pub returns-in-Body : goal.returns-in-Body
 returns-in-Body c = λ k. rw c.in-Body.is (

@@ -1,25 +1,25 @@
 -- Functions that are being read, as steps of reading. Each is told what comes after it.
-use Rattle.std.specs.Prelude.{List, [], ◌∷◌, Option, Some, None, refl}
+use Rattle.std.specs.Prelude.{List, [], ◌∷◌, Option, Some, None, map, refl}
+use Rattle.sem_words.specs.Lists.{list_items}
 use Rattle.asm_lang.specs.Lexemes.{identifier, open_paren, close_paren, open_brace, Lexeme, sign}
 use Rattle.asm_lang.specs.Trees.{StmtTrees, no_stmt, VariableTree, ParamTree, FunctionTree}
 use Rattle.asm_lang.specs.Machine.{State, in_names, at_marks, at_locals, at_stmts, Step, goes, expects, either, stuck, function_of}
 use Rattle.asm_grammar_nodes.specs.Views.{lexeme_view, lexemes_view, function_view}
 use Rattle.asm_grammar_decls.specs.declared.names.NamesReading.{NamesReading}
 use Rattle.asm_grammar_decls.specs.declared.marks.MarksReading.{MarksReading}
-use Rattle.asm_grammar.specs.declared.function.Names.{Names}
-use Rattle.asm_grammar.specs.declared.tall.TallFunction.{TallFunction}
-use Rattle.asm_grammar.specs.declared.function.FunctionBody.{FunctionBody}
-use Rattle.asm_grammar.specs.declared.function.FunctionReading.{FunctionReading}
-use Rattle.asm_grammar.specs.declared.function.FunctionReading.TheVariants as functions
-use Rattle.asm_grammar.specs.declared.function.FunctionStep.{FunctionStep}
-use Rattle.asm_grammar.specs.declared.function.FunctionStep.TheVariants as function_steps
-use Rattle.asm_grammar.specs.declared.function.FunctionFed.{FunctionFed}
-use Rattle.asm_grammar.specs.declared.function.FunctionFed.TheVariants as function_feds
+use Rattle.asm_grammar_functions.specs.declared.function.Names.{Names}
+use Rattle.asm_grammar_functions.specs.declared.tall.TallFunction.{TallFunction}
+use Rattle.asm_grammar_functions.specs.declared.tall.TallFunctions.{TallFunctions}
+use Rattle.asm_grammar_functions.specs.declared.function.FunctionBody.{FunctionBody}
+use Rattle.asm_grammar_functions.specs.declared.function.FunctionReading.{FunctionReading}
+use Rattle.asm_grammar_functions.specs.declared.function.FunctionReading.TheVariants as functions
+use Rattle.asm_grammar_functions.specs.declared.function.FunctionStep.{FunctionStep}
+use Rattle.asm_grammar_functions.specs.declared.function.FunctionStep.TheVariants as function_steps
+use Rattle.asm_grammar_functions.specs.declared.function.FunctionFed.{FunctionFed}
+use Rattle.asm_grammar_functions.specs.declared.function.FunctionFed.TheVariants as function_feds
 use Rattle.asm_grammar_decls.specs.Parts.{names_reading_view}
 use Rattle.asm_grammar_decls.specs.Variables.{params_of, marks_reading_view, variables_of, locals_reading_view}
 use Rattle.asm_grammar_stmts.specs.Views.{body_view}
-
--- ---- functions
 
 abbrev pub named_view : Option Names → List Lexeme
 named_view None = []
@@ -50,6 +50,9 @@ first_param_step n k = either (sign identifier) close_paren refl
 
 abbrev pub tall_function_view : TallFunction → FunctionTree
 tall_function_view f = function_view f.tree
+
+abbrev pub functions_of : TallFunctions → List FunctionTree
+functions_of fs = map function_view (list_items fs.trees)
 
 abbrev pub function_body_view : FunctionBody → (FunctionTree → State) → Step
 function_body_view b k = body_view b.body.value (body_of (lexeme_view b.name) (params_of b.params) (variables_of b.locals) k)

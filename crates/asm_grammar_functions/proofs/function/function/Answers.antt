@@ -3,8 +3,8 @@ use Rattle.asm_lang.specs.Trees.{StmtTrees}
 use Rattle.asm_lang.specs.TreeHeights.{block_height}
 use Rattle.asm_grammar_nodes.specs.declared.declarations.FunctionTree.{FunctionTree}
 use Rattle.asm_grammar_nodes.specs.Heights.{counted}
-use Rattle.asm_grammar.proofs.Totals.{function_high}
-use Rattle.asm_grammar.proofs.function.function.Goals as goal
+use Rattle.asm_grammar_functions.proofs.Totals.{function_high}
+use Rattle.asm_grammar_functions.proofs.function.function.Goals as goal
 
 pub invariant_of-result : goal.invariant_of-result
 invariant_of-result c =

@@ -1,4 +1,4 @@
--- Heights of functions and modules, as the code counts them.
+-- Heights of functions, as the code counts them.
 use Rattle.std.specs.Prelude.{ℕ, List, map}
 use Rattle.asm_lang.specs.Trees.{FunctionTree}
 use Rattle.asm_lang.specs.Modules.{function_of}

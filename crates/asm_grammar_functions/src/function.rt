@@ -2,6 +2,7 @@
 
 ghost use Rattle.std.specs.Prelude.{◌≡◌, Some, None, [], map, IfOk};
 ghost use Rattle.sem_words.specs.Lists.{list_items};
+ghost use Rattle.asm_lang.specs.Lexemes.{Lexeme as PlainLexeme};
 ghost use Rattle.asm_lang.specs.Trees.{FunctionTree as PlainFunction, StmtTrees};
 ghost use Rattle.asm_lang.specs.Machine.{advance, function_of, State};
 ghost use Rattle.asm_laws_height.specs.Peaks.{step_peak};
@@ -9,8 +10,8 @@ ghost use Rattle.asm_grammar_nodes.specs.Heights.{counted};
 ghost use Rattle.asm_grammar_nodes.specs.Tall.{stmts_tall_view};
 ghost use Rattle.asm_grammar_nodes.specs.Views.{function_view, lexeme_view, lexemes_view};
 ghost use Rattle.asm_grammar_decls.specs.Variables.{left_view, locals_reading_view, params_of, variables_of};
-ghost use Rattle.asm_grammar.specs.Bodies.{first_param_step, function_body_view, function_fed_view, function_reading_view, function_step_view, locals_of, marks_step, named_view, open_brace_step, params_step, tall_function_view};
-ghost use Rattle.asm_grammar.specs.declared.function.FunctionReading.TheVariants.{Body};
+ghost use Rattle.asm_grammar_functions.specs.Bodies.{first_param_step, function_body_view, function_fed_view, function_reading_view, function_step_view, locals_of, marks_step, named_view, open_brace_step, params_step, tall_function_view};
+ghost use Rattle.asm_grammar_functions.specs.declared.function.FunctionReading.TheVariants.{Body};
 
 use crate::tall::{TallFunction, leaves};
 use asm_grammar_decls::{
@@ -121,12 +122,25 @@ impl<'a> FunctionReading<'a> {
     fn move_on(&mut self, alloc: Global, token: &Lexeme<'a>) -> Result<FunctionFed, AllocError>
         ensures { IfOk result (λ r. (k : PlainFunction → State) → function_fed_view r self.new k (lexeme_view token.now) ≡ advance (function_reading_view self.old k) (lexeme_view token.now)) }
     {
-        match mem::replace(self, FunctionReading::Name).step(alloc, token)? {
+        match mem::replace(self, FunctionReading::Name).step(alloc, token) {
+            Ok(step) => self.put(alloc, step),
+            Err(error) => Err(error),
+        }
+    }
+
+    /// Goes on where a step leads.
+    fn put(&mut self, alloc: Global, step: FunctionStep<'a>) -> Result<FunctionFed, AllocError>
+        ensures { IfOk result (λ r. (k : PlainFunction → State) (t : PlainLexeme) → function_fed_view r self.new k t ≡ function_step_view step.entry k t) }
+    {
+        match step {
             FunctionStep::On(next) => {
                 *self = next;
                 Ok(FunctionFed::On)
             }
-            FunctionStep::Done(function) => Ok(FunctionFed::Done(Box::new(alloc, function)?)),
+            FunctionStep::Done(function) => match Box::new(alloc, function) {
+                Ok(function) => Ok(FunctionFed::Done(function)),
+                Err(_) => Err(AllocError),
+            },
             FunctionStep::Stuck => Ok(FunctionFed::Stuck),
         }
     }
@@ -201,22 +215,25 @@ fn params<'a>(
 ) -> Result<FunctionStep<'a>, AllocError>
     ensures { IfOk result (λ r. (k : PlainFunction → State) → function_step_view r k (lexeme_view token.now) ≡ advance (params_step (lexeme_view name.entry) (lexeme_view first.entry) names.entry k) (lexeme_view token.now)) }
 {
-    match names.feed(token, Class::CloseParen)? {
-        NamesStep::On(names) => {
-            let reading = FunctionReading::Params(name, first, names);
-            Ok(FunctionStep::On(reading))
-        }
-        NamesStep::Done(others) => {
-            let names = Names { first, others };
-            let reading = FunctionReading::OpenBrace(name, Some(names));
-            Ok(FunctionStep::On(reading))
-        }
-        NamesStep::Stuck => Ok(FunctionStep::Stuck),
+    match names.feed(token, Class::CloseParen) {
+        Ok(step) => match step {
+            NamesStep::On(names) => {
+                let reading = FunctionReading::Params(name, first, names);
+                Ok(FunctionStep::On(reading))
+            }
+            NamesStep::Done(others) => {
+                let names = Names { first, others };
+                let reading = FunctionReading::OpenBrace(name, Some(names));
+                Ok(FunctionStep::On(reading))
+            }
+            NamesStep::Stuck => Ok(FunctionStep::Stuck),
+        },
+        Err(error) => Err(error),
     }
 }
 
 /// The names, the first one last.
-#[tactic(auto, using(crate::proofs::Pushes::pushes))]
+#[tactic(auto, using(asm_grammar_decls::proofs::Pushes::pushes))]
 fn reversed<'a>(alloc: Global, names: Option<Names<'a>>) -> Result<Vec<Lexeme<'a>>, AllocError>
     ensures { IfOk result (λ r. left_view r.items ≡ named_view names.entry) }
 {
@@ -240,10 +257,14 @@ fn open_brace<'a>(
     ensures { IfOk result (λ r. (k : PlainFunction → State) → function_step_view r k (lexeme_view token.now) ≡ advance (open_brace_step (lexeme_view name.entry) (named_view params.entry) k) (lexeme_view token.now)) }
 {
     if is(token, Class::OpenBrace) {
-        let left = reversed(alloc, params)?;
-        let done = List::new(alloc);
-        let marks = MarksReading::At(Marks { left, done });
-        Ok(FunctionStep::On(FunctionReading::Marks(name, marks)))
+        match reversed(alloc, params) {
+            Ok(left) => {
+                let done = List::new(alloc);
+                let marks = MarksReading::At(Marks { left, done });
+                Ok(FunctionStep::On(FunctionReading::Marks(name, marks)))
+            }
+            Err(error) => Err(error),
+        }
     } else {
         Ok(FunctionStep::Stuck)
     }
@@ -257,13 +278,16 @@ fn after_brace<'a>(
 ) -> Result<FunctionStep<'a>, AllocError>
     ensures { IfOk result (λ r. (k : PlainFunction → State) → function_step_view r k (lexeme_view token.now) ≡ advance (marks_step (lexeme_view name.entry) marks.entry k) (lexeme_view token.now)) }
 {
-    match marks.feed(alloc, token)? {
-        MarksStep::On(marks) => Ok(FunctionStep::On(FunctionReading::Marks(name, marks))),
-        MarksStep::Before(params) => {
-            let locals = LocalsReading::At(List::new(alloc));
-            after_marks(alloc, name, params, locals, token)
-        }
-        MarksStep::Stuck => Ok(FunctionStep::Stuck),
+    match marks.feed(alloc, token) {
+        Ok(step) => match step {
+            MarksStep::On(marks) => Ok(FunctionStep::On(FunctionReading::Marks(name, marks))),
+            MarksStep::Before(params) => {
+                let locals = LocalsReading::At(List::new(alloc));
+                after_marks(alloc, name, params, locals, token)
+            }
+            MarksStep::Stuck => Ok(FunctionStep::Stuck),
+        },
+        Err(error) => Err(error),
     }
 }
 
@@ -276,22 +300,27 @@ fn after_marks<'a>(
 ) -> Result<FunctionStep<'a>, AllocError>
     ensures { IfOk result (λ r. (k : PlainFunction → State) → function_step_view r k (lexeme_view token.now) ≡ advance (locals_reading_view locals.entry (locals_of (lexeme_view name.entry) (params_of params) k)) (lexeme_view token.now)) }
 {
-    match locals.feed(alloc, token)? {
-        LocalsStep::On(locals) => {
-            let reading = FunctionReading::Locals(name, params, locals);
-            Ok(FunctionStep::On(reading))
-        }
-        LocalsStep::Before(locals) => {
-            let body = Box::new(alloc, BodyReading::start(alloc))?;
-            let body = FunctionBody {
-                name,
-                params,
-                locals,
-                body,
-            };
-            in_body(alloc, body, token)
-        }
-        LocalsStep::Stuck => Ok(FunctionStep::Stuck),
+    match locals.feed(alloc, token) {
+        Ok(step) => match step {
+            LocalsStep::On(locals) => {
+                let reading = FunctionReading::Locals(name, params, locals);
+                Ok(FunctionStep::On(reading))
+            }
+            LocalsStep::Before(locals) => match Box::new(alloc, BodyReading::start(alloc)) {
+                Ok(body) => {
+                    let body = FunctionBody {
+                        name,
+                        params,
+                        locals,
+                        body,
+                    };
+                    in_body(alloc, body, token)
+                }
+                Err(_) => Err(AllocError),
+            },
+            LocalsStep::Stuck => Ok(FunctionStep::Stuck),
+        },
+        Err(error) => Err(error),
     }
 }
 
@@ -303,10 +332,13 @@ fn in_body<'a>(
     ensures { IfOk result (λ r. (k : PlainFunction → State) → function_step_view r k (lexeme_view token.now) ≡ advance (function_body_view body.entry k) (lexeme_view token.now)) }
 {
     let mut body = body;
-    match body.feed(alloc, token)? {
-        FunctionFed::On => Ok(FunctionStep::On(FunctionReading::Body(body))),
-        FunctionFed::Done(function) => Ok(FunctionStep::Done(Box::into_inner(function))),
-        FunctionFed::Stuck => Ok(FunctionStep::Stuck),
+    match body.feed(alloc, token) {
+        Ok(fed) => match fed {
+            FunctionFed::On => Ok(FunctionStep::On(FunctionReading::Body(body))),
+            FunctionFed::Done(function) => Ok(FunctionStep::Done(Box::into_inner(function))),
+            FunctionFed::Stuck => Ok(FunctionStep::Stuck),
+        },
+        Err(error) => Err(error),
     }
 }
 
