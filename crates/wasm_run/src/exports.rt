@@ -1,6 +1,6 @@
 // The exports of a module, by their names.
 
-ghost use Rattle.std.specs.Prelude.{◌≡◌, ℕ, List, IfOk, map, if◌then◌else◌};
+ghost use Rattle.std.specs.Prelude.{◌≡◌, ℕ, List, IfOk, IfSome, map, if◌then◌else◌};
 ghost use Rattle.std.specs.Str.{bytes_eq};
 ghost use Rattle.wasm_tree.specs.Views.{bytes_of, export_of};
 ghost use Rattle.wasm_lang_exec.specs.Session as session;
@@ -12,16 +12,20 @@ use std::marker::Model;
 use wasm_lang::ExportKind;
 use wasm_tree::WasmExport;
 
+// For up to so many calls the exports are looked through: to compare a name costs a tenth of what it costs to put it
+// into a map, or less, and takes no memory.
+const FEW: usize = 8;
+
 /// Exports, whose functions are found by their names. Of several exports of one name the first counts.
 #[derive(Drop)]
 pub struct Exports<'a> {
     exports: &'a [WasmExport<'a>],
-    // what the first export of each name has, where that is a function
-    functions: IndexMap<&'a [u8], Option<u32>>,
+    // what the first export of each name has, where that is a function; no map where there are few calls
+    functions: Option<IndexMap<&'a [u8], Option<u32>>>,
 }
 
 impl<'a> Model for Exports<'a> {
-    ghost use Rattle.std.specs.Prelude.{◌≡◌, ℕ, List, map};
+    ghost use Rattle.std.specs.Prelude.{◌≡◌, ℕ, List, IfSome, map};
     ghost use Rattle.wasm_lang.specs.Modules.{Exported};
     ghost use Rattle.wasm_tree.specs.Views.{export_of};
     ghost use Rattle.wasm_lang_exec.specs.Session.{function_named};
@@ -31,15 +35,19 @@ impl<'a> Model for Exports<'a> {
 
     ghost view = { λ s. map export_of s.exports.now };
 
-    ghost invariant = { λ s. (n : List ℕ) → function_in s.functions n ≡ function_named (map export_of s.exports.now) n };
+    ghost invariant = { λ s. IfSome s.functions (λ functions. (n : List ℕ) → function_in functions n ≡ function_named (map export_of s.exports.now) n) };
 }
 
 impl<'a> Exports<'a> {
-    /// These exports.
-    pub fn new(alloc: Global, exports: &'a [WasmExport<'a>]) -> Result<Exports<'a>, AllocError>
+    /// These exports, in which at most so many calls look up a name.
+    pub fn new(
+        alloc: Global,
+        exports: &'a [WasmExport<'a>],
+        calls: usize,
+    ) -> Result<Exports<'a>, AllocError>
         ensures { IfOk result (λ made. made ≡ map export_of exports.now) }
     {
-        let functions = functions_by_name(alloc, exports)?;
+        let functions = functions_for(alloc, exports, calls)?;
         Ok(Exports { exports, functions })
     }
 
@@ -47,11 +55,48 @@ impl<'a> Exports<'a> {
     pub fn function_named(&self, name: &[u8]) -> Option<u32>
         ensures { result ≡ session.function_named self.now name.now }
     {
-        match self.functions.get(name) {
-            Some(function) => *function,
-            None => None,
+        match &self.functions {
+            Some(functions) => function_in(functions, name),
+            None => function_among(self.exports, name),
         }
     }
+}
+
+// The function of the first export of this name.
+fn function_among(exports: &[WasmExport<'_>], name: &[u8]) -> Option<u32>
+    ensures { result ≡ session.function_named (map export_of exports.now) name.now }
+{
+    for export in exports {
+        if export.name.as_bytes() == name {
+            return exported_function(export.kind);
+        }
+    }
+    None
+}
+
+// The function that a map has under this name.
+fn function_in(functions: &IndexMap<&[u8], Option<u32>>, name: &[u8]) -> Option<u32>
+    ensures { result ≡ function_in functions.now name.now }
+{
+    match functions.get(name) {
+        Some(function) => *function,
+        None => None,
+    }
+}
+
+// A map of the exports, where there are more than a few calls.
+fn functions_for<'a>(
+    alloc: Global,
+    exports: &'a [WasmExport<'a>],
+    calls: usize,
+) -> Result<Option<IndexMap<&'a [u8], Option<u32>>>, AllocError>
+    ensures { IfOk result (λ made. IfSome made (λ functions. (n : List ℕ) → function_in functions n ≡ session.function_named (map export_of exports.now) n)) }
+{
+    if calls <= FEW {
+        return Ok(None);
+    }
+    let functions = functions_by_name(alloc, exports)?;
+    Ok(Some(functions))
 }
 
 // Later exports are put in first, so that an earlier one takes their place.
@@ -61,7 +106,7 @@ fn functions_by_name<'a>(
 ) -> Result<IndexMap<&'a [u8], Option<u32>>, AllocError>
     ensures { IfOk result (λ functions. (n : List ℕ) → function_in functions n ≡ session.function_named (map export_of exports.now) n) }
 {
-    let mut functions = IndexMap::new(alloc);
+    let mut functions = IndexMap::with_capacity(alloc, exports.len())?;
     let mut i = exports.len();
     while i > 0 {
         i -= 1;

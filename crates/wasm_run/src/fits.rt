@@ -101,6 +101,7 @@ pub fn fits_wasm(
     let lines = Lines::new(alloc, script.globals.as_slice())?;
     let globals = imported_globals(alloc, valid.module().imports.as_slice())?;
     let imported = Imported::new(alloc, globals.as_slice())?;
-    let exports = Exports::new(alloc, valid.module().exports.as_slice())?;
+    let calls = script.calls.len();
+    let exports = Exports::new(alloc, valid.module().exports.as_slice(), calls)?;
     Ok(fits_by(valid, script, &imported, &lines, &exports))
 }

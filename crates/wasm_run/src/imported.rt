@@ -146,7 +146,7 @@ fn kinds_of<'a>(
 ) -> Result<IndexMap<&'a [u8], ValType>, AllocError>
     ensures { IfOk result (λ kinds. (n : List ℕ) → found kinds n ≡ kind_named (map imported_of globals.now) n) }
 {
-    let mut kinds = IndexMap::new(alloc);
+    let mut kinds = IndexMap::with_capacity(alloc, globals.len())?;
     let mut i = globals.len();
     while i > 0 {
         i -= 1;

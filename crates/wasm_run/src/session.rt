@@ -155,7 +155,7 @@ fn run_started(
 {
     match run_start(alloc, module, functions, machine, steps)? {
         Ran::Back(left) => {
-            let exports = Exports::new(alloc, module.exports.as_slice())?;
+            let exports = Exports::new(alloc, module.exports.as_slice(), calls.len())?;
             let end = run_calls(alloc, module, functions, &exports, calls, machine, left)?;
             Ok(end)
         }
