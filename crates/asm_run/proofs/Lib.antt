@@ -1,5 +1,5 @@
 pub mod Exported
 pub mod Fitting
-pub mod GlobalLines
 pub mod Hosting
+pub mod Named
 pub mod Whole

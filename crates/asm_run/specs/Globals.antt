@@ -1,13 +1,9 @@
--- Lines of globals, and the names that they are found by.
-use Rattle.std.specs.Prelude.{ℕ, Bool, not, ◌&&◌, List, map}
+-- Lines of globals that fit.
+use Rattle.std.specs.Prelude.{ℕ, Bool, not, ◌&&◌, List}
 use Rattle.sem_laws.specs.Script.{GlobalPlain}
 use Rattle.asm_lang_valid.specs.Scope.{is_in}
 use Rattle.script_fits.specs.Fits.{is_given}
 use Rattle.asm_lang_exec.specs.Fits.{in_range}
-
--- the names of lines, in order
-abbrev pub line_names : List GlobalPlain → List (List ℕ)
-line_names gs = map (λ (g : GlobalPlain). g.name) gs
 
 -- a line fits imported globals of these names, after the lines before it
 abbrev pub fits_line : (imported : List (List ℕ)) → (before : List GlobalPlain) → GlobalPlain → Bool

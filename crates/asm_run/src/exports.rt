@@ -5,9 +5,8 @@ ghost use Rattle.asm_lang_valid.specs.Refusal.{Exported};
 ghost use Rattle.asm_lang.specs.Modules.{Module};
 ghost use Rattle.asm_lang_exec.specs.Session as session;
 ghost use Rattle.asm_validate_facts.specs.Numbers.{export_said};
-ghost use Rattle.asm_run_state.specs.Exports.{function_seen};
 ghost use Rattle.asm_run_state.specs.Variables.{names_in};
-ghost use Rattle.asm_run.specs.Exports.{IsTableOf};
+ghost use Rattle.asm_run.specs.Exports.{function_seen, IsTableOf};
 
 use asm_run_state::Layout;
 use asm_tree::Function;

@@ -11,11 +11,10 @@ ghost use Rattle.asm_run.specs.Exports.{IsTableOf};
 use crate::calls::first_call;
 use crate::exports::ExportTable;
 use crate::globals::{are_given, first_global, imported_globals};
-use crate::lines::Lines;
 use crate::writes::{first_reply, first_write};
 use asm_run_state::Layout;
 use asm_validate::Checked;
-use script_fits::earlier;
+use script_fits::{Lines, earlier};
 use sem_laws::{Misfit, Script};
 use std::alloc::{AllocError, Global};
 

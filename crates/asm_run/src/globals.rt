@@ -9,11 +9,10 @@ ghost use Rattle.script_fits.specs.Fits as parts;
 ghost use Rattle.asm_run_state.specs.Variables.{names_in};
 ghost use Rattle.asm_run.specs.Globals.{fits_line};
 
-use crate::lines::Lines;
 use crate::ranges::in_range;
 use asm_run_state::Layout;
 use asm_validate::Checked;
-use script_fits::lesser;
+use script_fits::{Lines, lesser};
 use sem_laws::GlobalLine;
 use sem_words::Text;
 use std::alloc::{AllocError, Global};
@@ -38,7 +37,7 @@ fn names_of<'a>(alloc: Global, texts: &'a [Text]) -> Result<Vec<&'a [u8]>, Alloc
 }
 
 // Whether a global of this name is imported.
-#[tactic(auto, using(crate::proofs::GlobalLines::named_here, crate::proofs::GlobalLines::named_nowhere))]
+#[tactic(auto, using(crate::proofs::Named::named_here, crate::proofs::Named::named_nowhere))]
 fn is_imported(imported: &Layout<'_>, name: &[u8]) -> bool
     ensures { result ≡ is_in name.now imported.now }
 {

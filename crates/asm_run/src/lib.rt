@@ -5,7 +5,6 @@ mod calls;
 mod exports;
 mod fits;
 mod globals;
-mod lines;
 mod ranges;
 mod session;
 mod writes;

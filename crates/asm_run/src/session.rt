@@ -50,7 +50,8 @@ impl<'a> Model for Session<'a> {
 
 impl<'a> Session<'a> {
     /// Links a module with a heap of this length and a script. It takes the memory of the heap, of the
-    /// module's variables and of a map of its exports.
+    /// module's variables and of a map of its exports, and while it links that of a map of the script's
+    /// lines of globals.
     pub fn link(
         alloc: Global,
         checked: &'a Checked,

@@ -1,7 +1,7 @@
 pub mod Begun
 pub mod Declared
 pub mod Each
-pub mod Exported
+pub mod GivenValues
 pub mod Bounds
 pub mod Lasts
 pub mod Puts

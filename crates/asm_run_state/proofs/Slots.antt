@@ -1,5 +1,5 @@
 -- Where variables are found, and what a write leaves of them.
-use Rattle.std.proofs.Common.{◌≡◌, ℕ, suc, ◌+◌, ◌<◌, ◌≤◌, Bool, true, false, List, [], ◌∷◌, length, drop, get_or, set, Option, Some, None, refl, sym, ap, ◌∙◌, arith, zero-add}
+use Rattle.std.proofs.Common.{◌≡◌, ℕ, zero, suc, ◌+◌, ◌<◌, ◌≤◌, Bool, true, false, List, [], ◌∷◌, length, drop, get_or, set, Option, Some, None, refl, sym, ap, ◌∙◌, arith, zero-add}
 use Rattle.std.proofs.lemmas.List.{at_drop_more, at_drop_all}
 use Rattle.std.specs.Prelude.{if◌then◌else◌, option_map, slice_get}
 use Rattle.std.specs.Borrow.{Bor}
@@ -9,6 +9,12 @@ use Rattle.asm_lang_exec.specs.Runs.{value_in, with_value, Binding, binding}
 use Rattle.asm_run_state.specs.Variables.{names_in, slot_of, bindings}
 
 -- ---- the map
+
+-- within a list nothing stands for what is past it
+pub same_within : {A : Type 0} (xs : List A) (i : ℕ) (d e : A) → i < length xs → get_or xs i d ≡ get_or xs i e
+same_within [] i d e h = absurd (omega (arith, h))
+same_within (x ∷ xs) zero d e h = refl
+same_within (x ∷ xs) (suc i) d e h = same_within xs i d e (omega (arith, h))
 
 shifted : (c : Bool) (i : ℕ) (o : Option ℕ) → (if c then Some i else option_map (λ k. (i + 1) + k) o) ≡ option_map (λ k. i + k) (if c then Some 0 else option_map (λ k. suc k) o)
 shifted true i o = ap (λ (k : ℕ). Some k) (omega arith)

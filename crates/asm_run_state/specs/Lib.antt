@@ -1,5 +1,4 @@
 pub mod Called
-pub mod Exports
 pub mod Globals
 pub mod Literals
 pub mod Locals

@@ -23,7 +23,8 @@ use std::alloc::{AllocError, Global};
 
 impl<'a> World<'a> {
     /// The world of a module with a heap of this length, the script and the budget, before the first
-    /// call. It takes the memory of the heap and of the module's variables.
+    /// call. It takes the memory of the heap and of the module's variables, and while it is made that of a
+    /// map of the script's lines of globals.
     pub fn first(
         alloc: Global,
         module: &'a Module,

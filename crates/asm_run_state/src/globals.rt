@@ -2,18 +2,19 @@
 ghost use Rattle.std.specs.Prelude.{◌≡◌, ◌++◌, ◌∷◌, [], All, map, IfOk, IfSome};
 ghost use Rattle.sem_words.specs.JsValues.{IsValue};
 ghost use Rattle.sem_words.specs.Words.{word_of};
-ghost use Rattle.sem_laws.specs.Views.{global_of, script_of};
+ghost use Rattle.sem_laws.specs.Views.{script_of};
 ghost use Rattle.asm_lang.specs.Modules.{Variable};
 ghost use Rattle.asm_tree.specs.Views.{init_view, global_view};
 ghost use Rattle.asm_lang_exec.specs.Session as session;
 ghost use Rattle.asm_lang_exec.specs.Session.{global_value};
 ghost use Rattle.asm_lang_exec.specs.Runs.{binding};
-ghost use Rattle.asm_run_state.specs.Globals.{variables_of, IsGlobals};
+ghost use Rattle.asm_run_state.specs.Globals.{variables_of, only_globals, IsGlobals};
 ghost use Rattle.asm_run_state.specs.Literals.{IsSmall};
 
 use crate::callees::signed_value;
 use asm_tree::{Global_, Init};
-use sem_laws::{GlobalLine, Script};
+use script_fits::Lines;
+use sem_laws::Script;
 use sem_words::JsValue;
 use std::alloc::{AllocError, Global};
 
@@ -24,7 +25,9 @@ pub struct Globals<'a> {
     pub values: Vec<JsValue>,
 }
 
-/// The variables of these declarations.
+/// The variables of these declarations. While they are made it takes the memory of a map of the script's
+/// lines of globals too.
+#[tactic(auto, using(crate::proofs::GivenValues::by_lines))]
 pub fn first_globals<'a>(
     alloc: Global,
     script: &Script,
@@ -34,12 +37,27 @@ pub fn first_globals<'a>(
     ensures variables { IfOk result (λ g. variables_of g ≡ session.first_globals (script_of script.now) (map global_view globals.now)) }
     ensures kept { IfOk result IsGlobals }
 {
+    let lines = Lines::new(alloc, script.globals.as_slice())?;
+    let all = given_globals(alloc, &lines, globals)?;
+    Ok(all)
+}
+
+// The variables of these declarations, where these lines give the values of foreign members.
+fn given_globals<'a>(
+    alloc: Global,
+    lines: &Lines<'_>,
+    globals: &'a [Global_],
+) -> Result<Globals<'a>, AllocError>
+    requires { All (λ (v : Variable). IsSmall v.init) (map global_view globals.now) }
+    ensures variables { IfOk result (λ g. variables_of g ≡ session.first_globals (only_globals lines.now) (map global_view globals.now)) }
+    ensures kept { IfOk result IsGlobals }
+{
     let mut all = Globals {
         names: Vec::new(alloc),
         values: Vec::new(alloc),
     };
     for global in globals {
-        if let Some(value) = first_value(script, &global.init) {
+        if let Some(value) = first_value(lines, &global.init) {
             add(&mut all, global.name.as_bytes(), value)?;
         }
     }
@@ -59,15 +77,15 @@ fn add<'a>(globals: &mut Globals<'a>, name: &'a [u8], value: JsValue) -> Result<
 }
 
 // The first value of a variable, if the declaration is of one.
-fn first_value(script: &Script, init: &Init) -> Option<JsValue>
+fn first_value(lines: &Lines<'_>, init: &Init) -> Option<JsValue>
     requires { IsSmall (init_view init.now) }
-    ensures value { result ≡ global_value (script_of script.now) (init_view init.now) }
+    ensures value { result ≡ global_value (only_globals lines.now) (init_view init.now) }
     ensures keeps { IfSome result IsValue }
 {
     match init {
         Init::Number(z) => Some(JsValue::Whole(*z)),
         Init::ForeignInt(_, name) => {
-            let given = given_value(script.globals.as_slice(), name.as_bytes());
+            let given = given_value(lines, name.as_bytes());
             Some(signed_value(low_word(given)))
         }
         Init::Decimal(_)
@@ -78,16 +96,15 @@ fn first_value(script: &Script, init: &Init) -> Option<JsValue>
     }
 }
 
-// The value that the script gives to a foreign member, or 0.
-fn given_value(globals: &[GlobalLine], name: &[u8]) -> i128
-    ensures { result ≡ session.given_value (map global_of globals.now) name.now }
+// The value that the lines give to a foreign member, or 0.
+#[tactic(auto, using(crate::proofs::GivenValues::value_given, crate::proofs::GivenValues::no_value_given))]
+fn given_value(lines: &Lines<'_>, name: &[u8]) -> i128
+    ensures { result ≡ session.given_value lines.now name.now }
 {
-    for global in globals {
-        if global.name.as_bytes() == name {
-            return global.value;
-        }
+    match lines.given(name) {
+        Some(value) => value,
+        None => 0,
     }
-    0
 }
 
 // A whole number modulo 2^32.

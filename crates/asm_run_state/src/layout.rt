@@ -110,7 +110,7 @@ fn slots_for<'a>(alloc: Global, names: &[&'a [u8]]) -> Result<IndexMap<&'a [u8],
 fn slots_of<'a>(alloc: Global, names: &[&'a [u8]]) -> Result<IndexMap<&'a [u8], usize>, AllocError>
     ensures { IfOk result (λ slots. (n : List ℕ) → found slots n ≡ slot_of (names_in names.now) n) }
 {
-    let mut slots = IndexMap::new(alloc);
+    let mut slots = IndexMap::with_capacity(alloc, names.len())?;
     let mut i = names.len();
     while i > 0 {
         i -= 1;

@@ -4,7 +4,6 @@
 
 mod callees;
 mod elements;
-mod exports;
 mod first;
 mod globals;
 mod imports;
@@ -15,7 +14,6 @@ mod variables;
 mod world;
 
 pub use callees::{call_builtin, marked};
-pub use exports::exported_function;
 pub use first::has_heap;
 pub use imports::Called;
 pub use locals::{first_locals, locals_layout};

@@ -1,4 +1,5 @@
 pub mod UnfitLines
 pub mod Misfits
 pub mod FirstLines
+pub mod GlobalLines
 pub mod Parts

@@ -9,7 +9,7 @@ const LOOPING: &[u8] =
     b"function m(s,e){\"use asm\";var g=e.g;function f(){while(1)g();}return f;}";
 
 /// Sessions that end.
-pub(crate) static ROWS: [Row; 23] = [
+pub(crate) static ROWS: [Row; 24] = [
     Row {
         name: "a function without parameters",
         module: b"function m(){\"use asm\";function f(){return 0;}return f;}",
@@ -158,6 +158,13 @@ pub(crate) static ROWS: [Row; 23] = [
         printed: b"result 36\nresult 141\nresult 51\nend done\n",
     },
     Row {
+        name: "foreign members in another order than their lines",
+        module: b"function m(s,e){\"use asm\";var a=e.a|0,b=e.b|0,c=e.c|0,d=e.a|0;function f(){return (a*1000|0)+(b*100|0)+(c*10|0)+d|0;}return f;}",
+        options: &[],
+        script: b"global c 3\nglobal a 1\nglobal b -2\ncall f",
+        printed: b"result 831\nend done\n",
+    },
+    Row {
         name: "an empty script",
         module: ADD,
         options: &[],
@@ -195,12 +202,17 @@ fn units_run_out(rt: HostRuntime) -> Result<(), Fail> {
 }
 
 /// A module, a script, and the line that is told of them.
-static REFUSED: [(&[u8], &[u8], &[u8]); 5] = [
+static REFUSED: [(&[u8], &[u8], &[u8]); 6] = [
     (ADD, b"call f 1", b"script refused: line 1\n"),
     (ADD, b"call f 1 4294967296", b"script refused: line 1\n"),
     (ADD, b"call f 1 2\n\nthrow now", b"script refused: line 3\n"),
     (ADD, b"call f 1\nthrow now", b"script refused: line 2\n"),
     (USUAL, b"call stackAlloc 5", b"script refused: line 0\n"),
+    (
+        USUAL,
+        b"global STACKTOP 1000\nglobal STACKTOP 1",
+        b"script refused: line 2\n",
+    ),
 ];
 
 #[test]

@@ -1,4 +1,4 @@
-use Rattle.std.proofs.Common.{◌≡◌, Bool, ap, sym, ◌∙◌}
+use Rattle.std.proofs.Common.{ap, sym, ◌∙◌}
 use Rattle.sem_laws.specs.Views.{script_of}
 use Rattle.asm_tree.specs.Views.{module_view}
 use Rattle.script_fits.specs.Fits.{are_given, missing_line}
