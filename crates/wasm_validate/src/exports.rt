@@ -20,7 +20,9 @@ pub fn check_exports(alloc: Global, module: &Module<'_>, facts: &Facts) -> Resul
     requires { FactsOf facts.now (module_of «module».now) }
     ensures { MatchResult result (λ _. FineItems (module_of «module».now) sections.Exports (length (module_of «module».now).exports)) (IsItemFault (module_of «module».now) sections.Exports (length (module_of «module».now).exports)) }
 {
-    let mut names: IndexSet<&[u8]> = IndexSet::new(alloc);
+    let Ok(mut names) = IndexSet::<&[u8]>::with_capacity(alloc, module.exports.len()) else {
+        return Err(ItemFault::Memory);
+    };
     for (i, export) in module.exports.as_slice().iter().enumerate() {
         let is_new = match names.insert(export.name.as_bytes()) {
             Ok(is_new) => is_new,
