@@ -14,7 +14,8 @@ use crate::globals::{are_given, first_global, imported_globals};
 use crate::writes::{first_reply, first_write};
 use asm_run_state::Layout;
 use asm_validate::Checked;
-use script_fits::{Lines, earlier};
+use script_fits::earlier;
+use script_lines::Lines;
 use sem_laws::{Misfit, Script};
 use std::alloc::{AllocError, Global};
 

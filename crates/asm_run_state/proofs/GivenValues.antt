@@ -4,7 +4,7 @@ use Rattle.std.specs.Prelude.{ℤ, pos, if◌then◌else◌}
 use Rattle.sem_laws.specs.Script.{GlobalPlain, ScriptPlain}
 use Rattle.asm_lang.specs.Trees.{Init, number, decimal, foreign_int, foreign_double, member, math, view}
 use Rattle.asm_lang.specs.Modules.{Variable}
-use Rattle.script_fits.specs.GlobalLines.{given}
+use Rattle.script_lines.specs.GlobalLines.{given}
 use Rattle.asm_lang_exec.specs.Session.{given_value, global_value, with_binding, first_globals}
 use Rattle.asm_run_state.specs.Globals.{only_globals}
 

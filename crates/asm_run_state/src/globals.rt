@@ -13,7 +13,7 @@ ghost use Rattle.asm_run_state.specs.Literals.{IsSmall};
 
 use crate::callees::signed_value;
 use asm_tree::{Global_, Init};
-use script_fits::Lines;
+use script_lines::Lines;
 use sem_laws::Script;
 use sem_words::JsValue;
 use std::alloc::{AllocError, Global};

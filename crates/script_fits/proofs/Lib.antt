@@ -1,5 +1,4 @@
 pub mod UnfitLines
 pub mod Misfits
 pub mod FirstLines
-pub mod GlobalLines
 pub mod Parts

@@ -1,6 +1,8 @@
 -- What the parts of a script come to.
-use Rattle.std.proofs.Common.{◌≡◌, ℕ, Bool, List, [], ◌++◌, Option, Some, None, sym, ap, ◌∙◌}
+use Rattle.std.proofs.Common.{◌≡◌, ℕ, zero, suc, ◌+◌, ◌<◌, Bool, List, [], ◌∷◌, ◌++◌, length, map, take, get_or, Option, Some, None, sym, ap, ◌∙◌, arith}
 use Rattle.sem_laws.specs.Script.{WritePlain, CallPlain, ReplyLinePlain, ScriptPlain}
+use Rattle.sem_laws.specs.declared.script.GlobalLine.{GlobalLine}
+use Rattle.sem_laws.specs.Views.{global_of}
 use Rattle.script_fits.specs.Fits.{Tests, global_lines, lines_of, unfit_lines, least, are_given, missing_line, or_else, misfit}
 use Rattle.script_fits.specs.Earlier.{earlier}
 use Rattle.script_fits.proofs.FirstLines.{least_append}
@@ -41,3 +43,11 @@ module _ (tests : Tests) (s : ScriptPlain) where
 
   pub misfit_none : (given : Bool) → least (unfit_lines tests s) ≡ None → given ≡ are_given tests.imports s.globals → misfit tests s ≡ missing_line given
   misfit_none given e is = ap (λ o. or_else o (missing_line (are_given tests.imports s.globals))) e ∙ ap missing_line (sym is)
+
+-- the lines before one more
+pub one_more : (gs : List GlobalLine) (i : ℕ) (x : GlobalLine) → x ≡ get_or gs i x → i < length gs → map global_of (take (i + 1) gs) ≡ map global_of (take i gs) ++ global_of x ∷ []
+one_more [] i x is h = absurd (omega arith)
+one_more (g ∷ gs) zero x is h = ap (λ g. global_of g ∷ []) (sym is)
+one_more (g ∷ gs) (suc i) x is h =
+    let e : suc i + 1 ≡ suc (i + 1) = omega arith in
+    ap (λ n. map global_of (take n (g ∷ gs))) e ∙ ap (λ l. global_of g ∷ l) (one_more gs i x is (omega arith))

@@ -1,10 +1,10 @@
 //! Which scripts fit a module, by its tests of each part of a script; and the first line that doesn't.
 #![tactic(auto)]
 
-mod global_lines;
+mod given;
 mod laws;
 mod lines;
 
-pub use global_lines::Lines;
+pub use given::is_given;
 pub use laws::fitting_laws;
 pub use lines::{earlier, lesser};

@@ -1,5 +1,5 @@
 use Rattle.std.proofs.Common.{sym, ◌∙◌}
-use Rattle.script_fits.proofs.GlobalLines.{line_fits, line_unfit}
+use Rattle.script_lines.proofs.GlobalLines.{line_fits, line_unfit}
 use Rattle.asm_run.specs.Globals.{fits_line}
 use Rattle.asm_run.proofs.globals.first_global.Goals.{then-not-fits_global, else-not-fits_global}
 use Rattle.asm_run.proofs.globals.first_global.Goals as goal

@@ -1,8 +1,8 @@
 use Rattle.std.proofs.Common.{ap, ◌∙◌}
 use Rattle.std.specs.Prelude.{Some, if◌then◌else◌}
 use Rattle.std.specs.Str.{bytes_eq}
-use Rattle.script_fits.specs.GlobalLines.{found}
-use Rattle.script_fits.proofs.global_lines.put.Goals as goal
+use Rattle.script_lines.specs.GlobalLines.{found}
+use Rattle.script_lines.proofs.global_lines.put.Goals as goal
 
 pub returns : goal.returns
 returns c = λ n.

@@ -5,8 +5,8 @@ ghost use Rattle.std.specs.Str.{bytes_eq};
 ghost use Rattle.sem_words.specs.Lists.{text_bytes};
 ghost use Rattle.sem_laws.specs.Views.{global_of};
 ghost use Rattle.script_fits.specs.Fits as parts;
-ghost use Rattle.script_fits.specs.GlobalLines as by_name;
-ghost use Rattle.script_fits.specs.GlobalLines.{found, line_named};
+ghost use Rattle.script_lines.specs.GlobalLines as by_name;
+ghost use Rattle.script_lines.specs.GlobalLines.{found, line_named};
 
 use indexmap::IndexMap;
 use sem_laws::GlobalLine;
@@ -26,7 +26,7 @@ impl<'a> Model for Lines<'a> {
     ghost use Rattle.std.specs.Prelude.{◌≡◌, ℕ, List, map};
     ghost use Rattle.sem_laws.specs.Script.{GlobalPlain};
     ghost use Rattle.sem_laws.specs.Views.{global_of};
-    ghost use Rattle.script_fits.specs.GlobalLines.{found, line_named};
+    ghost use Rattle.script_lines.specs.GlobalLines.{found, line_named};
 
     ghost Value = { List GlobalPlain };
 

@@ -3,9 +3,9 @@ use Rattle.std.specs.Prelude.{Some, if◌then◌else◌}
 use Rattle.std.specs.Str.{bytes_eq}
 use Rattle.sem_words.specs.Lists.{text_bytes}
 use Rattle.sem_laws.specs.declared.script.GlobalLine.{GlobalLine}
-use Rattle.script_fits.specs.GlobalLines.{found}
-use Rattle.script_fits.proofs.GlobalLines.{line_put}
-use Rattle.script_fits.proofs.global_lines.places_of.Goals as goal
+use Rattle.script_lines.specs.GlobalLines.{found}
+use Rattle.script_lines.proofs.GlobalLines.{line_put}
+use Rattle.script_lines.proofs.global_lines.places_of.Goals as goal
 
 pub loop-i-preserved : goal.loop-i-preserved
 loop-i-preserved c =

@@ -9,7 +9,7 @@ use Rattle.sem_laws.specs.Script.{GlobalPlain}
 use Rattle.sem_laws.specs.Views.{global_of}
 use Rattle.script_fits.specs.Fits.{is_given, unless, global_lines, lesser, least}
 use Rattle.script_fits.specs.Earlier.{earlier}
-use Rattle.script_fits.specs.GlobalLines.{given, line_named}
+use Rattle.script_lines.specs.GlobalLines.{given, line_named}
 use Rattle.script_fits.proofs.FirstLines.{earlier_lesser}
 
 equal_either_way : (x y : ℕ) → nat_eq x y ≡ nat_eq y x

@@ -1,8 +1,8 @@
 use Rattle.std.proofs.Common.{◌≡◌, ◌≤◌, ◌+◌, ℕ, List, length, drop, map}
 use Rattle.std.specs.Prelude.{option_map}
 use Rattle.sem_laws.specs.Views.{global_of}
-use Rattle.script_fits.specs.GlobalLines.{found, line_named}
-use Rattle.script_fits.proofs.global_lines.places_of.Given as goal
+use Rattle.script_lines.specs.GlobalLines.{found, line_named}
+use Rattle.script_lines.proofs.global_lines.places_of.Given as goal
 
 abbrev pub invariant-loop-i : goal.invariant-loop-i
 invariant-loop-i l = record {

@@ -1,0 +1,2 @@
+pub mod GlobalLines
+pub mod Examples
