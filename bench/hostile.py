@@ -1,5 +1,5 @@
 #!/usr/bin/env python3
-"""python3 bench/hostile.py PROGRAM [--part=N] [--commands=NAME,..] [--share=K/N] [WORD ..]: what hostile inputs cost.
+"""python3 bench/hostile.py PROGRAM [--part=N] [--commands=NAME,..] [--share=K/N] [--runs=N] [WORD ..]: what hostile inputs cost.
 
 Each family (`hostile_asm.py`, `hostile_wasm.py`, and scripts below) gives an input for a count and for ten times that; both are at most
 16,777,216 bytes long. Each command that takes it runs once on each, with a stack of 8 MiB (or of `STACK` MiB by the environment). A row has the status, the length, the processor
@@ -11,7 +11,7 @@ seconds and the peak memory on the long input, and how many times as much each i
     GIB         above 1 GiB
 
 With `--part=N` the counts are divided by N; `--commands` gives the commands that are run; `--share=1/3` takes every third family from the first on, for
-three runs side by side. With words, only the families whose names hold one of them. The exit status is 1 where a process was ended by a signal."""
+three runs side by side; `--runs=3` runs each command three times on each input, and shows the run that took the fewest seconds. With words, only the families whose names hold one of them. The exit status is 1 where a process was ended by a signal."""
 import os
 import resource
 import subprocess
@@ -108,6 +108,11 @@ def measured(words):
     return child.returncode, usage.ru_utime + usage.ru_stime, usage.ru_maxrss / 1024, line
 
 
+def least(words, runs):
+    """The run that took the fewest seconds, or one that was ended by a signal."""
+    return min((measured(words) for _ in range(runs)), key=lambda row: (row[0] >= 0, row[1]))
+
+
 def both(words, lengths, run):
     """The row of one command. Answers whether a process was ended by a signal."""
     short, long = run(0), run(1)
@@ -143,14 +148,14 @@ def written(names, make, n):
     return sum(sizes)
 
 
-def family(program, folder, make, n, commands):
+def family(program, folder, make, n, commands, runs):
     """The rows of one family, for this count and ten times that."""
     paths = [[os.path.join(folder, f"{kind}{at}") for kind in "ms"] for at in range(2)]
     lengths = [written(names, make, count) for names, count in zip(paths, (n, 10 * n))]
     ended = False
     for command in commands:
         files = 2 if command.startswith("run-") else 1
-        ended |= both(command, lengths, lambda at: measured([program, command, *paths[at][:files]]))
+        ended |= both(command, lengths, lambda at: least([program, command, *paths[at][:files]], runs))
     return ended
 
 
@@ -171,6 +176,7 @@ def main():
     options = dict(word.removeprefix("--").split("=", 1) for word in words if word.startswith("--"))
     words = [word for word in words if not word.startswith("--")]
     part, only = int(options.get("part", "1")), options.get("commands", "").split(",")
+    runs = int(options.get("runs", "1"))
     share, shares = (int(it) for it in options.get("share", "1/1").split("/"))
     ended = False
     every = [(kind, commands, *it) for kind, commands, families in groups() for it in families.items()]
@@ -180,7 +186,7 @@ def main():
                 continue
             n = max(1, n // part)
             print(f"{kind}: {name}, {n} and {10 * n}", flush=True)
-            ended |= family(program, folder, make, n, [it for it in commands if only == [""] or it in only])
+            ended |= family(program, folder, make, n, [it for it in commands if only == [""] or it in only], runs)
     return 1 if ended else 0
 
 
