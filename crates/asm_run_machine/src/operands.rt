@@ -43,14 +43,12 @@ impl<'a> Machine<'a> {
             }
             ExprWork::Argument(pending) => {
                 let pending = Box::into_inner(pending);
-                let flow = self.argument(environment, alloc, pending, value)?;
-                Ok(flow)
+                self.argument(environment, alloc, pending, value)
             }
             ExprWork::Table(name, arguments) => {
                 let callee = Callee::Entry(name, value.value());
                 let none = Arguments::new(alloc);
-                let flow = self.arguments(environment, alloc, callee, none, arguments)?;
-                Ok(flow)
+                self.arguments(environment, alloc, callee, none, arguments)
             }
             ExprWork::Assign(name) => {
                 let frame = &mut self.frame;
@@ -64,8 +62,7 @@ impl<'a> Machine<'a> {
             }
             ExprWork::StoreIndex(name, stored) => {
                 let piece = ExprWork::StoreValue(name, value.value());
-                let flow = self.evaluate(Work::Expr(piece), stored)?;
-                Ok(flow)
+                self.evaluate(Work::Expr(piece), stored)
             }
             ExprWork::StoreValue(name, index) => {
                 let frame = &self.frame;
@@ -85,27 +82,20 @@ impl<'a> Machine<'a> {
             }
             ExprWork::Left(operator, right) => {
                 let piece = ExprWork::Right(operator, value);
-                let flow = self.evaluate(Work::Expr(piece), right)?;
-                Ok(flow)
+                self.evaluate(Work::Expr(piece), right)
             }
             ExprWork::Right(operator, left) => {
                 let answer = js_binary(operator, left.value(), value.value());
                 Ok(self.given(answer))
             }
-            ExprWork::Links(links) => {
-                let flow = self.links(links, value)?;
-                Ok(flow)
-            }
+            ExprWork::Links(links) => self.links(links, value),
             ExprWork::Cond(yes, no) => {
                 if truthy(value.value()) {
                     return Ok(Flow::Go(Mode::Evaluates(yes)));
                 }
                 Ok(Flow::Go(Mode::Evaluates(no)))
             }
-            ExprWork::Comma(rest) => {
-                let flow = self.comma(rest)?;
-                Ok(flow)
-            }
+            ExprWork::Comma(rest) => self.comma(rest),
         }
     }
 

@@ -45,21 +45,19 @@ impl<'a> Machine<'a> {
         requires small { SmallModule (module_view environment.now.home.now) }
         ensures { IfOk result (λ flow. moved self.new flow ≡ work_step (module_view environment.now.home.now) (work_view piece.entry) (outcome_view outcome.entry) (waiting self.old) (function self.old) (place self.old)) }
     {
-        match (piece, outcome) {
-            (Work::Expr(piece), Outcome::Gave(value)) => {
-                let flow = self.expr_work(environment, alloc, piece, value)?;
-                Ok(flow)
-            }
-            (Work::Stmt(piece), Outcome::Gave(value)) => {
-                let flow = self.stmt_work(piece, value)?;
-                Ok(flow)
-            }
-            (Work::End(piece), Outcome::Did(completion)) => {
-                let flow = self.end_work(piece, completion)?;
-                Ok(flow)
-            }
-            (Work::Expr(_) | Work::Stmt(_), Outcome::Did(_)) | (Work::End(_), Outcome::Gave(_)) =>
-                Ok(Flow::Wrong),
+        match piece {
+            Work::Expr(piece) => match outcome {
+                Outcome::Gave(value) => self.expr_work(environment, alloc, piece, value),
+                Outcome::Did(_) => Ok(Flow::Wrong),
+            },
+            Work::Stmt(piece) => match outcome {
+                Outcome::Gave(value) => self.stmt_work(piece, value),
+                Outcome::Did(_) => Ok(Flow::Wrong),
+            },
+            Work::End(piece) => match outcome {
+                Outcome::Gave(_) => Ok(Flow::Wrong),
+                Outcome::Did(completion) => self.end_work(piece, completion),
+            },
         }
     }
 

@@ -28,26 +28,18 @@ impl<'a> Machine<'a> {
             }
             StmtWork::Test(turns) => {
                 if truthy(value.value()) {
-                    let flow = self.execute(Work::End(EndWork::Body(turns)), &[], turns.body())?;
-                    return Ok(flow);
+                    return self.execute(Work::End(EndWork::Body(turns)), &[], turns.body());
                 }
                 Ok(after(Completion::Normal))
             }
-            StmtWork::Step(turns) => {
-                let flow = self.turn(turns)?;
-                Ok(flow)
-            }
+            StmtWork::Step(turns) => self.turn(turns),
             StmtWork::DoTest(turns) => {
                 if truthy(value.value()) {
-                    let flow = self.do_turn(turns)?;
-                    return Ok(flow);
+                    return self.do_turn(turns);
                 }
                 Ok(after(Completion::Normal))
             }
-            StmtWork::Switch(clauses) => {
-                let flow = self.select(clauses, value.value())?;
-                Ok(flow)
-            }
+            StmtWork::Switch(clauses) => self.select(clauses, value.value()),
         }
     }
 
@@ -69,7 +61,6 @@ impl<'a> Machine<'a> {
             return Ok(Flow::Wrong);
         };
         let rest = from_clause(number, clauses);
-        let flow = self.clauses(rest)?;
-        Ok(flow)
+        self.clauses(rest)
     }
 }

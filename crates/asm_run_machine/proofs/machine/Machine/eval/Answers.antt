@@ -6,20 +6,23 @@ use Rattle.asm_tree.proofs.Views.{expr_view-TableCall, expr_view-Comma}
 use Rattle.asm_laws_machine.specs.Work.{at_table, of_expr}
 use Rattle.asm_laws_machine.specs.Steps.{to_expr, comma_step, eval_step}
 use Rattle.asm_run_machine.specs.Machines.{waiting, function, place}
+use Rattle.asm_run_machine.proofs.Led.{ok_more}
 use Rattle.asm_run_machine.proofs.machine.Machine.eval.Goals as goal
 
-pub returns-in_ok-flow-in-TableCall : goal.returns-in_ok-flow-in-TableCall
-returns-in_ok-flow-in-TableCall c =
+pub returns-in-TableCall : goal.returns-in-TableCall
+returns-in-TableCall c =
     let s = c.args.self.now in
-    c.in_ok-flow-in-TableCall.ensures
+    ok_more c.evaluate-in-TableCall.result _ _ c.evaluate-in-TableCall.ensures (λ flow h.
+    h
     ∙ ap (λ (e : Expr). to_expr (expr_view e) (of_expr (at_table (text_bytes c.in-TableCall.name) (exprs_view c.as_slice-in-TableCall.result.now)) ∷ waiting s) (function s) (place s)) c.deref-in-TableCall.ensures
     ∙ ap (λ (es : List Expr). to_expr (expr_view c.in-TableCall.index.value) (of_expr (at_table (text_bytes c.in-TableCall.name) (exprs_view es)) ∷ waiting s) (function s) (place s)) c.as_slice-in-TableCall.ensures
-    ∙ sym (ap (λ e. eval_step (module_view c.args.environment.now.home.now) (waiting s) (function s) e (place s)) (ap expr_view c.in-TableCall.is ∙ expr_view-TableCall c.in-TableCall.name c.in-TableCall.index c.in-TableCall.arguments))
+    ∙ sym (ap (λ e. eval_step (module_view c.args.environment.now.home.now) (waiting s) (function s) e (place s)) (ap expr_view c.in-TableCall.is ∙ expr_view-TableCall c.in-TableCall.name c.in-TableCall.index c.in-TableCall.arguments)))
 
-pub returns-in_ok-flow-in-Comma : goal.returns-in_ok-flow-in-Comma
-returns-in_ok-flow-in-Comma c =
+pub returns-in-Comma : goal.returns-in-Comma
+returns-in-Comma c =
     let s = c.args.self.now in
     let m = module_view c.args.environment.now.home.now in
-    c.in_ok-flow-in-Comma.ensures m
+    ok_more c.comma.result _ _ c.comma.ensures (λ flow h.
+    h m
     ∙ ap (λ (es : List Expr). comma_step m (waiting s) (function s) (exprs_view es) (place s)) c.as_slice-in-Comma.ensures
-    ∙ sym (ap (λ e. eval_step m (waiting s) (function s) e (place s)) (ap expr_view c.in-Comma.is ∙ expr_view-Comma c.in-Comma.parts))
+    ∙ sym (ap (λ e. eval_step m (waiting s) (function s) e (place s)) (ap expr_view c.in-Comma.is ∙ expr_view-Comma c.in-Comma.parts)))
