@@ -2,12 +2,20 @@ use Rattle.std.proofs.Common.{List, ◌∷◌, sym, ap, ◌∙◌}
 use Rattle.sem_words.specs.Lists.{text_bytes}
 use Rattle.asm_tree.specs.declared.tree.Expr.{Expr}
 use Rattle.asm_tree.specs.Views.{module_view, expr_view, exprs_view}
-use Rattle.asm_tree.proofs.Views.{expr_view-TableCall, expr_view-Comma}
-use Rattle.asm_laws_machine.specs.Work.{at_table, of_expr}
+use Rattle.asm_tree.proofs.Views.{expr_view-Index, expr_view-TableCall, expr_view-Assign, expr_view-Unary, expr_view-Comma}
+use Rattle.asm_laws_machine.specs.Work.{at_element, at_table, at_assign, at_unary, of_expr}
 use Rattle.asm_laws_machine.specs.Steps.{to_expr, comma_step, eval_step}
 use Rattle.asm_run_machine.specs.Machines.{waiting, function, place}
 use Rattle.asm_run_machine.proofs.Led.{ok_more}
 use Rattle.asm_run_machine.proofs.machine.Machine.eval.Goals as goal
+
+pub returns-in-Index : goal.returns-in-Index
+returns-in-Index c =
+    let s = c.args.self.now in
+    ok_more c.evaluate.result _ _ c.evaluate.ensures (λ flow h.
+    h
+    ∙ ap (λ (e : Expr). to_expr (expr_view e) (of_expr (at_element (text_bytes c.in-Index.name)) ∷ waiting s) (function s) (place s)) c.deref.ensures
+    ∙ sym (ap (λ e. eval_step (module_view c.args.environment.now.home.now) (waiting s) (function s) e (place s)) (ap expr_view c.in-Index.is ∙ expr_view-Index c.in-Index.name c.in-Index.index)))
 
 pub returns-in-TableCall : goal.returns-in-TableCall
 returns-in-TableCall c =
@@ -17,6 +25,22 @@ returns-in-TableCall c =
     ∙ ap (λ (e : Expr). to_expr (expr_view e) (of_expr (at_table (text_bytes c.in-TableCall.name) (exprs_view c.as_slice-in-TableCall.result.now)) ∷ waiting s) (function s) (place s)) c.deref-in-TableCall.ensures
     ∙ ap (λ (es : List Expr). to_expr (expr_view c.in-TableCall.index.value) (of_expr (at_table (text_bytes c.in-TableCall.name) (exprs_view es)) ∷ waiting s) (function s) (place s)) c.as_slice-in-TableCall.ensures
     ∙ sym (ap (λ e. eval_step (module_view c.args.environment.now.home.now) (waiting s) (function s) e (place s)) (ap expr_view c.in-TableCall.is ∙ expr_view-TableCall c.in-TableCall.name c.in-TableCall.index c.in-TableCall.arguments)))
+
+pub returns-in-Assign : goal.returns-in-Assign
+returns-in-Assign c =
+    let s = c.args.self.now in
+    ok_more c.evaluate-in-Assign.result _ _ c.evaluate-in-Assign.ensures (λ flow h.
+    h
+    ∙ ap (λ (e : Expr). to_expr (expr_view e) (of_expr (at_assign (text_bytes c.in-Assign.name)) ∷ waiting s) (function s) (place s)) c.deref-in-Assign.ensures
+    ∙ sym (ap (λ e. eval_step (module_view c.args.environment.now.home.now) (waiting s) (function s) e (place s)) (ap expr_view c.in-Assign.is ∙ expr_view-Assign c.in-Assign.name c.in-Assign.value)))
+
+pub returns-in-Unary : goal.returns-in-Unary
+returns-in-Unary c =
+    let s = c.args.self.now in
+    ok_more c.evaluate-in-Unary.result _ _ c.evaluate-in-Unary.ensures (λ flow h.
+    h
+    ∙ ap (λ (e : Expr). to_expr (expr_view e) (of_expr (at_unary c.in-Unary.operator) ∷ waiting s) (function s) (place s)) c.deref-in-Unary.ensures
+    ∙ sym (ap (λ e. eval_step (module_view c.args.environment.now.home.now) (waiting s) (function s) e (place s)) (ap expr_view c.in-Unary.is ∙ expr_view-Unary c.in-Unary.operator c.in-Unary.operand)))
 
 pub returns-in-Comma : goal.returns-in-Comma
 returns-in-Comma c =
