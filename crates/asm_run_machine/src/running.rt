@@ -61,26 +61,7 @@ impl<'a> Machine<'a> {
         }
     }
 
-    // The step of an expression to its first part.
-    fn part(
-        &mut self,
-        environment: &Environment<'a>,
-        alloc: Global,
-        expr: &'a Expr,
-    ) -> Result<Reached<'a>, AllocError>
-        requires complete { IsComplete environment.now }
-        requires small { SmallModule (module_view environment.now.home.now) }
-        requires literals { SmallExpr (expr_view expr.now) }
-        requires work { SmallWorks (waiting self.old) }
-        ensures leads { IfOk result (λ r. Leads (module_view environment.now.home.now) self.old (Mode.Evaluates expr.entry) self.new r) }
-        ensures falls { IfOk result (λ r. StepFalls self.old (Mode.Evaluates expr.entry) self.new r) }
-        ensures small { IfOk result (λ r. SmallLeft self.new r) }
-    {
-        let flow = self.eval(environment, alloc, expr)?;
-        Ok(made_of(flow))
-    }
-
-    // The value of an expression, where it is taken at once, and else that step.
+    // The value of an expression, where it is taken at once, and else the step to its first part.
     fn value_or_part(
         &mut self,
         environment: &Environment<'a>,
@@ -97,7 +78,10 @@ impl<'a> Machine<'a> {
     {
         match self.at_once(environment, expr) {
             Some(value) => Ok(Reached::Goes(Mode::Comes(Outcome::Gave(value)))),
-            None => self.part(environment, alloc, expr),
+            None => {
+                let flow = self.eval(environment, alloc, expr)?;
+                Ok(made_of(flow))
+            }
         }
     }
 

@@ -2,7 +2,7 @@ use Rattle.std.proofs.Common.{sym, subst}
 use Rattle.std.specs.Prelude.{IfOk}
 use Rattle.asm_tree.specs.Views.{module_view}
 use Rattle.asm_run_machine.specs.Reached.{Leads, StepFalls}
-use Rattle.asm_run_machine.proofs.Led.{exec_leads, exec_less, exec_small, work_leads, work_less, work_small, bottom_leads, bottom_less, bottom_small}
+use Rattle.asm_run_machine.proofs.Led.{exec_leads, exec_less, exec_small, work_leads, work_less, work_small}
 use Rattle.asm_run_machine.proofs.machine.Machine.step.Goals as goal
 
 pub returns-in-Evaluates-clause-leads : goal.returns-in-Evaluates-clause-leads
