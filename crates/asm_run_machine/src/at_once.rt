@@ -18,9 +18,9 @@ use asm_tree::{Expr, Link};
 use asm_validate_names::Environment;
 use sem_words::{JsOp, JsUnary, Text};
 
-// How deep parts may lie in an expression whose value is taken at once. An expression that has a call is tried again for
-// each part that the call lies in, so the depth is also how often a part may be tried.
-const DEPTH: u32 = 16;
+// How many levels an expression may have whose value is taken at once. An expression that has a call is tried again for
+// each part that the call lies in, so this is also how often a part may be tried.
+const DEPTH: u32 = 17;
 
 impl<'a> Machine<'a> {
     /// The value of an expression, taken at once. None, and nothing is changed, where it has a call or a comma, where a
@@ -118,27 +118,31 @@ impl<'a> Machine<'a> {
         }
     }
 
-    // The value of a part that lies at most so deep.
+    // The value of an expression of at most so many levels.
     #[cycle(parts)]
     fn value_at(&self, environment: &Environment<'a>, expr: &Expr, depth: u32) -> Option<Simple>
         requires { IsComplete environment.now }
         ensures value { IfSome result (λ s. HasValue (module_view environment.now.home.now) self.now (expr_view expr.now) (simple_value s)) }
         ensures keeps { IfSome result (λ s. IsValue (simple_value s)) }
     {
+        if depth == 0 {
+            return None;
+        }
+        let below = depth - 1;
         match expr {
             Expr::Lit(value) => literal(value),
             Expr::Var(name) => self.variable_at(name),
-            Expr::Index(name, index) => self.index_at(environment, name, index, depth),
-            Expr::Unary(operator, operand) => self.unary_at(environment, *operator, operand, depth),
+            Expr::Index(name, index) => self.index_at(environment, name, index, below),
+            Expr::Unary(operator, operand) => self.unary_at(environment, *operator, operand, below),
             Expr::Binary(operator, left, right) => self.binary_at(
                 environment,
                 *operator,
                 left,
                 right,
-                depth,
+                below,
             ),
-            Expr::Chain(first, links) => self.chain_at(environment, first, links.as_slice(), depth),
-            Expr::Cond(condition, yes, no) => self.cond_at(environment, condition, yes, no, depth),
+            Expr::Chain(first, links) => self.chain_at(environment, first, links.as_slice(), below),
+            Expr::Cond(condition, yes, no) => self.cond_at(environment, condition, yes, no, below),
             Expr::Decimal(_)
             | Expr::Call(_, _)
             | Expr::TableCall(_, _, _)
@@ -174,10 +178,7 @@ impl<'a> Machine<'a> {
         ensures value { IfSome result (λ s. HasValue (module_view environment.now.home.now) self.now (index_of (text_bytes name.now) (expr_view index.now)) (simple_value s)) }
         ensures keeps { IfSome result (λ s. IsValue (simple_value s)) }
     {
-        if depth == 0 {
-            return None;
-        }
-        let Some(index) = self.value_at(environment, index, depth - 1) else {
+        let Some(index) = self.value_at(environment, index, depth) else {
             return None;
         };
         match read_element(environment, &self.world, &self.frame, name, index.value()) {
@@ -198,10 +199,7 @@ impl<'a> Machine<'a> {
         ensures value { IfSome result (λ s. HasValue (module_view environment.now.home.now) self.now (unary operator (expr_view operand.now)) (simple_value s)) }
         ensures keeps { IfSome result (λ s. IsValue (simple_value s)) }
     {
-        if depth == 0 {
-            return None;
-        }
-        match self.value_at(environment, operand, depth - 1) {
+        match self.value_at(environment, operand, depth) {
             None => None,
             Some(value) => value.unary(operator),
         }
@@ -220,13 +218,10 @@ impl<'a> Machine<'a> {
         ensures value { IfSome result (λ s. HasValue (module_view environment.now.home.now) self.now (binary operator (expr_view left.now) (expr_view right.now)) (simple_value s)) }
         ensures keeps { IfSome result (λ s. IsValue (simple_value s)) }
     {
-        if depth == 0 {
-            return None;
-        }
-        let Some(first) = self.value_at(environment, left, depth - 1) else {
+        let Some(first) = self.value_at(environment, left, depth) else {
             return None;
         };
-        match self.value_at(environment, right, depth - 1) {
+        match self.value_at(environment, right, depth) {
             None => None,
             Some(second) => first.binary(operator, second),
         }
@@ -244,12 +239,9 @@ impl<'a> Machine<'a> {
         ensures value { IfSome result (λ s. HasValue (module_view environment.now.home.now) self.now (chain (expr_view first.now) (links_view links.now)) (simple_value s)) }
         ensures keeps { IfSome result (λ s. IsValue (simple_value s)) }
     {
-        if depth == 0 {
-            return None;
-        }
-        match self.value_at(environment, first, depth - 1) {
+        match self.value_at(environment, first, depth) {
             None => None,
-            Some(value) => self.links_at(environment, links, value, depth - 1),
+            Some(value) => self.links_at(environment, links, value, depth),
         }
     }
 
@@ -292,16 +284,13 @@ impl<'a> Machine<'a> {
         ensures value { IfSome result (λ s. HasValue (module_view environment.now.home.now) self.now (cond (expr_view condition.now) (expr_view yes.now) (expr_view no.now)) (simple_value s)) }
         ensures keeps { IfSome result (λ s. IsValue (simple_value s)) }
     {
-        if depth == 0 {
-            return None;
-        }
-        let Some(value) = self.value_at(environment, condition, depth - 1) else {
+        let Some(value) = self.value_at(environment, condition, depth) else {
             return None;
         };
         if value.holds() {
-            self.value_at(environment, yes, depth - 1)
+            self.value_at(environment, yes, depth)
         } else {
-            self.value_at(environment, no, depth - 1)
+            self.value_at(environment, no, depth)
         }
     }
 }

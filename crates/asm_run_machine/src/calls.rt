@@ -47,13 +47,9 @@ impl<'a> Machine<'a> {
                     rest,
                 };
                 let piece = ExprWork::Argument(Box::new(alloc, pending)?);
-                let flow = self.evaluate(Work::Expr(piece), expr)?;
-                Ok(flow)
+                self.evaluate(Work::Expr(piece), expr)
             }
-            None => {
-                let flow = self.call(environment, alloc, callee, arguments)?;
-                Ok(flow)
-            }
+            None => self.call(environment, alloc, callee, arguments),
         }
     }
 
@@ -76,8 +72,7 @@ impl<'a> Machine<'a> {
         } = pending;
         let mut arguments = arguments;
         arguments.push(value)?;
-        let flow = self.arguments(environment, alloc, callee, arguments, rest)?;
-        Ok(flow)
+        self.arguments(environment, alloc, callee, arguments, rest)
     }
 
     // The call, with all arguments.
@@ -93,14 +88,14 @@ impl<'a> Machine<'a> {
         ensures { IfOk result (λ flow. moved self.new flow ≡ callee_step (module_view environment.now.home.now) (waiting self.old) (function self.old) (callee_view callee.entry) arguments (place self.old)) }
     {
         match callee {
-            Callee::Name(name) => {
-                let flow = self.call_named(environment, alloc, name, arguments)?;
-                Ok(flow)
-            }
-            Callee::Entry(name, index) => {
-                let flow = self.call_entry(environment, alloc, name, index, arguments)?;
-                Ok(flow)
-            }
+            Callee::Name(name) => self.call_named(environment, alloc, name, arguments),
+            Callee::Entry(name, index) => self.call_entry(
+                environment,
+                alloc,
+                name,
+                index,
+                arguments,
+            ),
         }
     }
 
@@ -120,8 +115,7 @@ impl<'a> Machine<'a> {
         let Some(entry) = entry_meant(environment, &self.frame, name, index) else {
             return Ok(Flow::Wrong);
         };
-        let flow = self.enter(alloc, entry, arguments)?;
-        Ok(flow)
+        self.enter(alloc, entry, arguments)
     }
 
     // A call of what a name means.
@@ -140,14 +134,8 @@ impl<'a> Machine<'a> {
             return Ok(Flow::Wrong);
         };
         match target {
-            Target::Function(function) => {
-                let flow = self.enter(alloc, function, arguments)?;
-                Ok(flow)
-            }
-            Target::Foreign(import) => {
-                let flow = self.import(alloc, import, arguments)?;
-                Ok(flow)
-            }
+            Target::Function(function) => self.enter(alloc, function, arguments),
+            Target::Foreign(import) => self.import(alloc, import, arguments),
             Target::Builtin(builtin) => {
                 let value = call_builtin(builtin, arguments.as_slice());
                 Ok(self.given(value))

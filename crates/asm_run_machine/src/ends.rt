@@ -28,23 +28,11 @@ impl<'a> Machine<'a> {
         ensures { IfOk result (λ flow. moved self.new flow ≡ end_work_step (waiting self.old) (function self.old) (end_work_view piece.entry) (completion_view completion.entry) (place self.old)) }
     {
         match piece {
-            EndWork::List(rest) => {
-                let flow = self.after_statement(rest, completion)?;
-                Ok(flow)
-            }
-            EndWork::Body(turns) => {
-                let flow = self.after_body(turns, completion)?;
-                Ok(flow)
-            }
-            EndWork::DoBody(turns) => {
-                let flow = self.after_do_body(turns, completion)?;
-                Ok(flow)
-            }
+            EndWork::List(rest) => self.after_statement(rest, completion),
+            EndWork::Body(turns) => self.after_body(turns, completion),
+            EndWork::DoBody(turns) => self.after_do_body(turns, completion),
             EndWork::Label(names) => Ok(after(after_labels(names, completion))),
-            EndWork::Clauses(rest) => {
-                let flow = self.after_clause(rest, completion)?;
-                Ok(flow)
-            }
+            EndWork::Clauses(rest) => self.after_clause(rest, completion),
             EndWork::Call(frame) => Ok(self.leave(frame, completion)),
         }
     }
@@ -58,10 +46,7 @@ impl<'a> Machine<'a> {
         ensures { IfOk result (λ flow. moved self.new flow ≡ end_work_step (waiting self.old) (function self.old) (at_list (stmts_view rest.now)) (completion_view completion.entry) (place self.old)) }
     {
         match completion {
-            Completion::Normal => {
-                let flow = self.list(rest)?;
-                Ok(flow)
-            }
+            Completion::Normal => self.list(rest),
             _ => Ok(after(completion)),
         }
     }
@@ -75,10 +60,7 @@ impl<'a> Machine<'a> {
         ensures { IfOk result (λ flow. moved self.new flow ≡ end_work_step (waiting self.old) (function self.old) (at_body (loop_view turns.entry)) (completion_view completion.entry) (place self.old)) }
     {
         match after_loop(turns.labels, completion) {
-            None => {
-                let flow = self.before_turn(turns, turns.step())?;
-                Ok(flow)
-            }
+            None => self.before_turn(turns, turns.step()),
             Some(completion) => Ok(after(completion)),
         }
     }
@@ -92,10 +74,7 @@ impl<'a> Machine<'a> {
         ensures { IfOk result (λ flow. moved self.new flow ≡ end_work_step (waiting self.old) (function self.old) (at_do_body (do_loop_view turns.entry)) (completion_view completion.entry) (place self.old)) }
     {
         match after_loop(turns.labels, completion) {
-            None => {
-                let flow = self.evaluate(Work::Stmt(StmtWork::DoTest(turns)), turns.test)?;
-                Ok(flow)
-            }
+            None => self.evaluate(Work::Stmt(StmtWork::DoTest(turns)), turns.test),
             Some(completion) => Ok(after(completion)),
         }
     }
@@ -109,10 +88,7 @@ impl<'a> Machine<'a> {
         ensures { IfOk result (λ flow. moved self.new flow ≡ end_work_step (waiting self.old) (function self.old) (at_clauses (clauses_view rest.now)) (completion_view completion.entry) (place self.old)) }
     {
         match completion {
-            Completion::Normal => {
-                let flow = self.clauses(rest)?;
-                Ok(flow)
-            }
+            Completion::Normal => self.clauses(rest),
             _ => Ok(after(after_switch(completion))),
         }
     }

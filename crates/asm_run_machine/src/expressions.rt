@@ -41,52 +41,38 @@ impl<'a> Machine<'a> {
                     .read(&frame.layout, &frame.values, name.as_bytes());
                 Ok(self.given(value))
             }
-            Expr::Index(name, index) => {
-                let flow = self.evaluate(Work::Expr(ExprWork::Element(name)), index)?;
-                Ok(flow)
-            }
+            Expr::Index(name, index) => self.evaluate(Work::Expr(ExprWork::Element(name)), index),
             Expr::Call(name, arguments) => {
                 let callee = Callee::Name(name);
                 let none = Arguments::new(alloc);
-                let flow = self.arguments(environment, alloc, callee, none, arguments.as_slice())?;
-                Ok(flow)
+                self.arguments(environment, alloc, callee, none, arguments.as_slice())
             }
             Expr::TableCall(name, index, arguments) => {
                 let piece = ExprWork::Table(name, arguments.as_slice());
-                let flow = self.evaluate(Work::Expr(piece), index)?;
-                Ok(flow)
+                self.evaluate(Work::Expr(piece), index)
             }
-            Expr::Assign(name, value) => {
-                let flow = self.evaluate(Work::Expr(ExprWork::Assign(name)), value)?;
-                Ok(flow)
-            }
+            Expr::Assign(name, value) => self.evaluate(Work::Expr(ExprWork::Assign(name)), value),
             Expr::Store(name, index, value) => {
                 let piece = ExprWork::StoreIndex(name, value);
-                let flow = self.evaluate(Work::Expr(piece), index)?;
-                Ok(flow)
+                self.evaluate(Work::Expr(piece), index)
             }
-            Expr::Unary(operator, operand) => {
-                let flow = self.evaluate(Work::Expr(ExprWork::Unary(*operator)), operand)?;
-                Ok(flow)
-            }
+            Expr::Unary(operator, operand) => self.evaluate(
+                Work::Expr(ExprWork::Unary(*operator)),
+                operand,
+            ),
             Expr::Binary(operator, left, right) => {
                 let piece = ExprWork::Left(*operator, right);
-                let flow = self.evaluate(Work::Expr(piece), left)?;
-                Ok(flow)
+                self.evaluate(Work::Expr(piece), left)
             }
             Expr::Chain(first, links) => {
                 let piece = ExprWork::Links(links.as_slice());
-                let flow = self.evaluate(Work::Expr(piece), first)?;
-                Ok(flow)
+                self.evaluate(Work::Expr(piece), first)
             }
-            Expr::Cond(condition, yes, no) => {
-                let flow = self.evaluate(Work::Expr(ExprWork::Cond(yes, no)), condition)?;
-                Ok(flow)
-            }
-            Expr::Comma(parts) => {
-                let flow = self.comma(parts.as_slice())?;
-                Ok(flow)
-            }
+            Expr::Cond(condition, yes, no) => self.evaluate(
+                Work::Expr(ExprWork::Cond(yes, no)),
+                condition,
+            ),
+            Expr::Comma(parts) => self.comma(parts.as_slice()),
         }
     }
 
@@ -100,7 +86,6 @@ impl<'a> Machine<'a> {
         if rest.is_empty() {
             return Ok(Flow::Go(Mode::Evaluates(expr)));
         }
-        let flow = self.evaluate(Work::Expr(ExprWork::Comma(rest)), expr)?;
-        Ok(flow)
+        self.evaluate(Work::Expr(ExprWork::Comma(rest)), expr)
     }
 }

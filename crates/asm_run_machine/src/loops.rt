@@ -26,14 +26,8 @@ impl<'a> Machine<'a> {
         ensures { IfOk result (λ flow. moved self.new flow ≡ test_step (waiting self.old) (function self.old) (loop_view turns.entry) (loop_view turns.entry).test (place self.old)) }
     {
         match turns.test() {
-            None => {
-                let flow = self.execute(Work::End(EndWork::Body(turns)), &[], turns.body())?;
-                Ok(flow)
-            }
-            Some(test) => {
-                let flow = self.evaluate(Work::Stmt(StmtWork::Test(turns)), test)?;
-                Ok(flow)
-            }
+            None => self.execute(Work::End(EndWork::Body(turns)), &[], turns.body()),
+            Some(test) => self.evaluate(Work::Stmt(StmtWork::Test(turns)), test),
         }
     }
 
@@ -46,14 +40,8 @@ impl<'a> Machine<'a> {
         ensures { IfOk result (λ flow. moved self.new flow ≡ part_step (waiting self.old) (function self.old) (loop_view turns.entry) (part_view part.entry) (place self.old)) }
     {
         match part {
-            None => {
-                let flow = self.turn(turns)?;
-                Ok(flow)
-            }
-            Some(expr) => {
-                let flow = self.evaluate(Work::Stmt(StmtWork::Step(turns)), expr)?;
-                Ok(flow)
-            }
+            None => self.turn(turns),
+            Some(expr) => self.evaluate(Work::Stmt(StmtWork::Step(turns)), expr),
         }
     }
 

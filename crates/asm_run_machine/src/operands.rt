@@ -30,42 +30,31 @@ impl<'a> Machine<'a> {
         requires small { SmallModule (module_view environment.now.home.now) }
         ensures { IfOk result (λ flow. moved self.new flow ≡ expr_work_step (module_view environment.now.home.now) (waiting self.old) (function self.old) (expr_work_view piece.entry) value (place self.old)) }
     {
+        let operand = value.value();
         match piece {
             ExprWork::Element(name) => {
-                let element = read_element(
-                    environment,
-                    &self.world,
-                    &self.frame,
-                    name,
-                    value.value(),
-                );
+                let element = read_element(environment, &self.world, &self.frame, name, operand);
                 Ok(self.given(element))
             }
             ExprWork::Argument(pending) => {
                 let pending = Box::into_inner(pending);
-                let flow = self.argument(environment, alloc, pending, value)?;
-                Ok(flow)
+                self.argument(environment, alloc, pending, value)
             }
             ExprWork::Table(name, arguments) => {
-                let callee = Callee::Entry(name, value.value());
+                let callee = Callee::Entry(name, operand);
                 let none = Arguments::new(alloc);
-                let flow = self.arguments(environment, alloc, callee, none, arguments)?;
-                Ok(flow)
+                self.arguments(environment, alloc, callee, none, arguments)
             }
             ExprWork::Assign(name) => {
                 let frame = &mut self.frame;
-                let written = self.world.write(
-                    &frame.layout,
-                    &mut frame.values,
-                    name.as_bytes(),
-                    value.value(),
-                );
+                let written = self
+                    .world
+                    .write(&frame.layout, &mut frame.values, name.as_bytes(), operand);
                 Ok(self.given(written))
             }
             ExprWork::StoreIndex(name, stored) => {
-                let piece = ExprWork::StoreValue(name, value.value());
-                let flow = self.evaluate(Work::Expr(piece), stored)?;
-                Ok(flow)
+                let piece = ExprWork::StoreValue(name, operand);
+                self.evaluate(Work::Expr(piece), stored)
             }
             ExprWork::StoreValue(name, index) => {
                 let frame = &self.frame;
@@ -75,52 +64,44 @@ impl<'a> Machine<'a> {
                     frame,
                     name,
                     index,
-                    value.value(),
+                    operand,
                 );
                 Ok(self.given(stored))
             }
             ExprWork::Unary(operator) => {
-                let answer = js_unary(operator, value.value());
+                let answer = js_unary(operator, operand);
                 Ok(self.given(answer))
             }
             ExprWork::Left(operator, right) => {
                 let piece = ExprWork::Right(operator, value);
-                let flow = self.evaluate(Work::Expr(piece), right)?;
-                Ok(flow)
+                self.evaluate(Work::Expr(piece), right)
             }
             ExprWork::Right(operator, left) => {
-                let answer = js_binary(operator, left.value(), value.value());
+                let answer = js_binary(operator, left.value(), operand);
                 Ok(self.given(answer))
             }
-            ExprWork::Links(links) => {
-                let flow = self.links(links, value)?;
-                Ok(flow)
-            }
+            ExprWork::Links(links) => self.links(links, value),
             ExprWork::Cond(yes, no) => {
-                if truthy(value.value()) {
+                if truthy(operand) {
                     return Ok(Flow::Go(Mode::Evaluates(yes)));
                 }
                 Ok(Flow::Go(Mode::Evaluates(no)))
             }
-            ExprWork::Comma(rest) => {
-                let flow = self.comma(rest)?;
-                Ok(flow)
-            }
+            ExprWork::Comma(rest) => self.comma(rest),
         }
     }
 
     // The next operand of a chain.
     #[tactic(auto, using(crate::proofs::Trees::links))]
     fn links(&mut self, links: &'a [Link], value: Kept) -> Result<Flow<'a>, AllocError>
-        ensures { IfOk result (λ flow. (m : Module) → moved self.new flow ≡ links_step m (waiting self.old) (function self.old) (links_view links.now) value (place self.old)) }
+        ensures { (m : Module) → IfOk result (λ flow. moved self.new flow ≡ links_step m (waiting self.old) (function self.old) (links_view links.now) value (place self.old)) }
     {
         let Some((link, rest)) = links.split_first() else {
             return Ok(Flow::Go(Mode::Comes(Outcome::Gave(value))));
         };
         self.work.push(Work::Expr(ExprWork::Links(rest)))?;
         let piece = ExprWork::Right(operator_of(link), value);
-        let flow = self.evaluate(Work::Expr(piece), &link.operand)?;
-        Ok(flow)
+        self.evaluate(Work::Expr(piece), &link.operand)
     }
 }
 

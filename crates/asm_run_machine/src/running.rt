@@ -45,44 +45,23 @@ impl<'a> Machine<'a> {
         requires small { SmallModule (module_view environment.now.home.now) }
         ensures { IfOk result (λ flow. moved self.new flow ≡ work_step (module_view environment.now.home.now) (work_view piece.entry) (outcome_view outcome.entry) (waiting self.old) (function self.old) (place self.old)) }
     {
-        match (piece, outcome) {
-            (Work::Expr(piece), Outcome::Gave(value)) => {
-                let flow = self.expr_work(environment, alloc, piece, value)?;
-                Ok(flow)
-            }
-            (Work::Stmt(piece), Outcome::Gave(value)) => {
-                let flow = self.stmt_work(piece, value)?;
-                Ok(flow)
-            }
-            (Work::End(piece), Outcome::Did(completion)) => {
-                let flow = self.end_work(piece, completion)?;
-                Ok(flow)
-            }
-            (Work::Expr(_) | Work::Stmt(_), Outcome::Did(_)) | (Work::End(_), Outcome::Gave(_)) =>
-                Ok(Flow::Wrong),
+        match piece {
+            Work::Expr(piece) => match outcome {
+                Outcome::Gave(value) => self.expr_work(environment, alloc, piece, value),
+                Outcome::Did(_) => Ok(Flow::Wrong),
+            },
+            Work::Stmt(piece) => match outcome {
+                Outcome::Gave(value) => self.stmt_work(piece, value),
+                Outcome::Did(_) => Ok(Flow::Wrong),
+            },
+            Work::End(piece) => match outcome {
+                Outcome::Gave(_) => Ok(Flow::Wrong),
+                Outcome::Did(completion) => self.end_work(piece, completion),
+            },
         }
     }
 
-    // The step of an expression to its first part.
-    fn part(
-        &mut self,
-        environment: &Environment<'a>,
-        alloc: Global,
-        expr: &'a Expr,
-    ) -> Result<Reached<'a>, AllocError>
-        requires complete { IsComplete environment.now }
-        requires small { SmallModule (module_view environment.now.home.now) }
-        requires literals { SmallExpr (expr_view expr.now) }
-        requires work { SmallWorks (waiting self.old) }
-        ensures leads { IfOk result (λ r. Leads (module_view environment.now.home.now) self.old (Mode.Evaluates expr.entry) self.new r) }
-        ensures falls { IfOk result (λ r. StepFalls self.old (Mode.Evaluates expr.entry) self.new r) }
-        ensures small { IfOk result (λ r. SmallLeft self.new r) }
-    {
-        let flow = self.eval(environment, alloc, expr)?;
-        Ok(made_of(flow))
-    }
-
-    // The value of an expression, where it is taken at once, and else that step.
+    // The value of an expression, where it is taken at once, and else the step to its first part.
     fn value_or_part(
         &mut self,
         environment: &Environment<'a>,
@@ -99,7 +78,10 @@ impl<'a> Machine<'a> {
     {
         match self.at_once(environment, expr) {
             Some(value) => Ok(Reached::Goes(Mode::Comes(Outcome::Gave(value)))),
-            None => self.part(environment, alloc, expr),
+            None => {
+                let flow = self.eval(environment, alloc, expr)?;
+                Ok(made_of(flow))
+            }
         }
     }
 

@@ -21,51 +21,34 @@ impl<'a> Machine<'a> {
                 self.work.push(Work::End(EndWork::List(body.as_slice())))?;
                 Ok(after(Completion::Normal))
             }
-            Stmt::Plain(expr) => {
-                let flow = self.evaluate(Work::Stmt(StmtWork::Plain), expr)?;
-                Ok(flow)
-            }
+            Stmt::Plain(expr) => self.evaluate(Work::Stmt(StmtWork::Plain), expr),
             Stmt::Empty => Ok(after(Completion::Normal)),
             Stmt::If(condition, yes, no) => match no {
                 None => {
                     let piece = StmtWork::If(yes, None);
-                    let flow = self.evaluate(Work::Stmt(piece), condition)?;
-                    Ok(flow)
+                    self.evaluate(Work::Stmt(piece), condition)
                 }
                 Some(no) => {
                     let piece = StmtWork::If(yes, Some(no));
-                    let flow = self.evaluate(Work::Stmt(piece), condition)?;
-                    Ok(flow)
+                    self.evaluate(Work::Stmt(piece), condition)
                 }
             },
-            Stmt::Return(value) => {
-                let flow = self.give_back(value)?;
-                Ok(flow)
-            }
-            Stmt::While(_, _) => {
-                let flow = self.turn(Loop { labels, stmt })?;
-                Ok(flow)
-            }
+            Stmt::Return(value) => self.give_back(value),
+            Stmt::While(_, _) => self.turn(Loop { labels, stmt }),
             Stmt::DoWhile(body, test) => {
                 let turns = DoLoop { labels, body, test };
-                let flow = self.do_turn(turns)?;
-                Ok(flow)
+                self.do_turn(turns)
             }
-            Stmt::For(head, _) => {
-                let flow = self.before_turn(Loop { labels, stmt }, part_of(&head.start))?;
-                Ok(flow)
-            }
+            Stmt::For(head, _) => self.before_turn(Loop { labels, stmt }, part_of(&head.start)),
             Stmt::Break(label) => Ok(after(Completion::Broken(label))),
             Stmt::Continue(label) => Ok(after(Completion::Continued(label))),
             Stmt::Labelled(names, body) => {
                 let piece = EndWork::Label(names.as_slice());
-                let flow = self.execute(Work::End(piece), names.as_slice(), body)?;
-                Ok(flow)
+                self.execute(Work::End(piece), names.as_slice(), body)
             }
             Stmt::Switch(subject, clauses) => {
                 let piece = StmtWork::Switch(clauses.as_slice());
-                let flow = self.evaluate(Work::Stmt(piece), subject)?;
-                Ok(flow)
+                self.evaluate(Work::Stmt(piece), subject)
             }
         }
     }
@@ -79,10 +62,7 @@ impl<'a> Machine<'a> {
                 let value = Kept::new(JsValue::Undef);
                 Ok(after(Completion::Returned(value)))
             }
-            Some(expr) => {
-                let flow = self.evaluate(Work::Stmt(StmtWork::Return), expr)?;
-                Ok(flow)
-            }
+            Some(expr) => self.evaluate(Work::Stmt(StmtWork::Return), expr),
         }
     }
 
@@ -93,8 +73,7 @@ impl<'a> Machine<'a> {
         let Some((stmt, rest)) = stmts.split_first() else {
             return Ok(after(Completion::Normal));
         };
-        let flow = self.execute(Work::End(EndWork::List(rest)), &[], stmt)?;
-        Ok(flow)
+        self.execute(Work::End(EndWork::List(rest)), &[], stmt)
     }
 
     /// The next clause of a switch.

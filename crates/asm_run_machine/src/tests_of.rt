@@ -17,37 +17,30 @@ impl<'a> Machine<'a> {
     pub fn stmt_work(&mut self, piece: StmtWork<'a>, value: Kept) -> Result<Flow<'a>, AllocError>
         ensures { IfOk result (λ flow. moved self.new flow ≡ stmt_work_step (waiting self.old) (function self.old) (stmt_work_view piece.entry) value (place self.old)) }
     {
+        let operand = value.value();
         match piece {
             StmtWork::Plain => Ok(after(Completion::Normal)),
             StmtWork::Return => Ok(after(Completion::Returned(value))),
             StmtWork::If(yes, no) => {
-                if truthy(value.value()) {
+                if truthy(operand) {
                     return Ok(Flow::Go(Mode::Executes(&[], yes)));
                 }
                 Ok(self.otherwise(no))
             }
             StmtWork::Test(turns) => {
-                if truthy(value.value()) {
-                    let flow = self.execute(Work::End(EndWork::Body(turns)), &[], turns.body())?;
-                    return Ok(flow);
+                if truthy(operand) {
+                    return self.execute(Work::End(EndWork::Body(turns)), &[], turns.body());
                 }
                 Ok(after(Completion::Normal))
             }
-            StmtWork::Step(turns) => {
-                let flow = self.turn(turns)?;
-                Ok(flow)
-            }
+            StmtWork::Step(turns) => self.turn(turns),
             StmtWork::DoTest(turns) => {
-                if truthy(value.value()) {
-                    let flow = self.do_turn(turns)?;
-                    return Ok(flow);
+                if truthy(operand) {
+                    return self.do_turn(turns);
                 }
                 Ok(after(Completion::Normal))
             }
-            StmtWork::Switch(clauses) => {
-                let flow = self.select(clauses, value.value())?;
-                Ok(flow)
-            }
+            StmtWork::Switch(clauses) => self.select(clauses, operand),
         }
     }
 
@@ -69,7 +62,6 @@ impl<'a> Machine<'a> {
             return Ok(Flow::Wrong);
         };
         let rest = from_clause(number, clauses);
-        let flow = self.clauses(rest)?;
-        Ok(flow)
+        self.clauses(rest)
     }
 }

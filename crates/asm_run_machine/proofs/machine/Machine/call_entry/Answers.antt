@@ -3,6 +3,7 @@ use Rattle.sem_words.specs.Lists.{text_bytes}
 use Rattle.asm_tree.specs.Views.{module_view, function_view}
 use Rattle.asm_run_machine.specs.Machines.{waiting, function, place}
 use Rattle.asm_run_machine.proofs.Hiding.{entry_locals, entry_called}
+use Rattle.asm_run_machine.proofs.Led.{ok_more}
 use Rattle.asm_run_machine.proofs.machine.Machine.call_entry.Goals as goal
 
 pub returns-in_default : goal.returns-in_default
@@ -16,5 +17,5 @@ enter-requires c = entry_locals c.args.self.now.frame.layout (module_view c.args
 pub returns : goal.returns
 returns c =
     let s = c.args.self.now in
-    c.in_ok-flow.ensures
-    ∙ entry_called s.frame.layout (module_view c.args.environment.now.home.now) (function s) (text_bytes c.args.name.now) s.frame.has_names (Some (function_view c.in-Some.entry.now)) c.args.index c.in-Some.ensures (waiting s) (function s) c.args.arguments (place s)
+    ok_more c.enter.result _ _ c.enter.ensures (λ flow h.
+    h ∙ entry_called s.frame.layout (module_view c.args.environment.now.home.now) (function s) (text_bytes c.args.name.now) s.frame.has_names (Some (function_view c.in-Some.entry.now)) c.args.index c.in-Some.ensures (waiting s) (function s) c.args.arguments (place s))

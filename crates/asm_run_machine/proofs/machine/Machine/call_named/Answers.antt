@@ -8,6 +8,7 @@ use Rattle.asm_laws_machine.specs.Steps.{to_value}
 use Rattle.asm_run_machine.specs.Machines.{waiting, function, place}
 use Rattle.asm_run_machine.specs.Targets.{target_view}
 use Rattle.asm_run_machine.proofs.Hiding.{target_small, calls}
+use Rattle.asm_run_machine.proofs.Led.{ok_more}
 use Rattle.asm_run_machine.proofs.machine.Machine.call_named.Goals as goal
 
 pub returns-in_default : goal.returns-in_default
@@ -23,16 +24,16 @@ enter-requires c =
 pub returns-in-Function : goal.returns-in-Function
 returns-in-Function c =
     let s = c.args.self.now in
-    c.in_ok-flow-in-Function.ensures
-    ∙ calls s.frame.layout (module_view c.args.environment.now.home.now) (function s) (text_bytes c.args.name.now) s.frame.has_names (a_function (function_view c.in-Function.function.now))
-    (sym (ap (λ t. target_view (Some t)) c.in-Function.is) ∙ c.in-Some.ensures) (waiting s) (function s) c.args.arguments (place s)
+    ok_more c.enter.result _ _ c.enter.ensures (λ flow h.
+    h ∙ calls s.frame.layout (module_view c.args.environment.now.home.now) (function s) (text_bytes c.args.name.now) s.frame.has_names (a_function (function_view c.in-Function.function.now))
+    (sym (ap (λ t. target_view (Some t)) c.in-Function.is) ∙ c.in-Some.ensures) (waiting s) (function s) c.args.arguments (place s))
 
 pub returns-in-Foreign : goal.returns-in-Foreign
 returns-in-Foreign c =
     let s = c.args.self.now in
-    c.in_ok-flow-in-Foreign.ensures
-    ∙ calls s.frame.layout (module_view c.args.environment.now.home.now) (function s) (text_bytes c.args.name.now) s.frame.has_names (a_foreign (text_bytes c.in-Foreign.import.now))
-    (sym (ap (λ t. target_view (Some t)) c.in-Foreign.is) ∙ c.in-Some.ensures) (waiting s) (function s) c.args.arguments (place s)
+    ok_more c.import.result _ _ c.import.ensures (λ flow h.
+    h ∙ calls s.frame.layout (module_view c.args.environment.now.home.now) (function s) (text_bytes c.args.name.now) s.frame.has_names (a_foreign (text_bytes c.in-Foreign.import.now))
+    (sym (ap (λ t. target_view (Some t)) c.in-Foreign.is) ∙ c.in-Some.ensures) (waiting s) (function s) c.args.arguments (place s))
 
 pub returns : goal.returns
 returns c =

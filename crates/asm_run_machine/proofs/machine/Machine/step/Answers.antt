@@ -2,7 +2,7 @@ use Rattle.std.proofs.Common.{sym, subst}
 use Rattle.std.specs.Prelude.{IfOk}
 use Rattle.asm_tree.specs.Views.{module_view}
 use Rattle.asm_run_machine.specs.Reached.{Leads, StepFalls}
-use Rattle.asm_run_machine.proofs.Led.{exec_leads, work_leads, work_less, work_small}
+use Rattle.asm_run_machine.proofs.Led.{exec_leads, exec_less, exec_small, work_leads, work_less, work_small}
 use Rattle.asm_run_machine.proofs.machine.Machine.step.Goals as goal
 
 pub returns-in-Evaluates-clause-leads : goal.returns-in-Evaluates-clause-leads
@@ -16,6 +16,16 @@ pub returns-in_ok-flow-in-Executes-clause-leads : goal.returns-in_ok-flow-in-Exe
 returns-in_ok-flow-in-Executes-clause-leads c =
     exec_leads (module_view c.args.environment.now.home.now) c.args.self.now c.exec.new.self c.args.mode c.in_ok-flow-in-Executes.flow c.made_of.result c.made_of.ensures
     c.in-Executes.labels c.in-Executes.stmt c.in-Executes.is c.in_ok-flow-in-Executes.ensures
+
+pub returns-in_ok-flow-in-Executes-clause-falls : goal.returns-in_ok-flow-in-Executes-clause-falls
+returns-in_ok-flow-in-Executes-clause-falls c =
+    exec_less (module_view c.args.environment.now.home.now) c.args.self.now c.exec.new.self c.args.mode c.in_ok-flow-in-Executes.flow c.made_of.result c.made_of.ensures
+    c.in-Executes.labels c.in-Executes.stmt c.in-Executes.is c.in_ok-flow-in-Executes.ensures
+
+pub returns-in_ok-flow-in-Executes-clause-small : goal.returns-in_ok-flow-in-Executes-clause-small
+returns-in_ok-flow-in-Executes-clause-small c =
+    exec_small (module_view c.args.environment.now.home.now) c.args.self.now c.exec.new.self c.args.mode c.in_ok-flow-in-Executes.flow c.made_of.result c.made_of.ensures
+    c.in-Executes.labels c.in-Executes.stmt c.in-Executes.is c.in_ok-flow-in-Executes.ensures c.requires.work c.requires.mode
 
 pub returns-in_ok-flow-in-Some-clause-leads : goal.returns-in_ok-flow-in-Some-clause-leads
 returns-in_ok-flow-in-Some-clause-leads c =
