@@ -19,6 +19,15 @@ use Rattle.asm_lang_valid.specs.Typing.{Scope}
 use Rattle.asm_lang_valid.specs.NameRows.{expr_names, option_names, stmt_names, clauses_names}
 use Rattle.asm_validate_names.proofs.Shapes.{switch_is}
 
+-- what stands after else, if anything does
+abbrev pub else_rows : Scope → ℕ → Option (Box CodeStmt Global) → List Met
+else_rows c at None = []
+else_rows c at (Some b) = stmt_names c at (stmt_view b.value)
+
+abbrev pub else_count : Option (Box CodeStmt Global) → ℕ
+else_count None = 0
+else_count (Some b) = stmt_count (stmt_view b.value)
+
 module _ (s : CodeStmt) where
   pub block_is : (l : Listed CodeStmt) (ss : List CodeStmt) → s ≡ stmts.Block l → ss ≡ list_items l → stmt_view s ≡ block (stmts_view ss)
   block_is l ss h k = ap stmt_view h ∙ stmt_view-Block l ∙ ap (λ x. block (stmts_view x)) (sym k)
@@ -45,15 +54,6 @@ module _ (s : CodeStmt) where
       ∙ ap (λ (w : ForHead). for_loop (expr_option x.start) (expr_option w.condition) (expr_option h.value.step) (stmt_view b.value)) (sym j)
       ∙ ap (λ (w : ForHead). for_loop (expr_option x.start) (expr_option y.condition) (expr_option w.step) (stmt_view b.value)) (sym k)
       ∙ ap (λ t. for_loop (expr_option x.start) (expr_option y.condition) (expr_option z.step) (stmt_view t)) (sym l)
-
-  -- what stands after else, if anything does
-  abbrev pub else_rows : Scope → ℕ → Option (Box CodeStmt Global) → List Met
-  else_rows c at None = []
-  else_rows c at (Some b) = stmt_names c at (stmt_view b.value)
-
-  abbrev pub else_count : Option (Box CodeStmt Global) → ℕ
-  else_count None = 0
-  else_count (Some b) = stmt_count (stmt_view b.value)
 
   pub if_count : (e : CodeExpr) (b : Box CodeStmt Global) (o : Option (Box CodeStmt Global)) (d : CodeStmt) → s ≡ stmts.If e b o → d ≡ b.value → stmt_count (stmt_view s) ≡ 1 + (expr_count (expr_view e) + (stmt_count (stmt_view d) + else_count o))
   if_count e b None d h k =

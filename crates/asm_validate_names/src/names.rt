@@ -42,8 +42,22 @@ fn module_names(alloc: Global, environment: &Environment<'_>) -> Result<(), AsmR
     ensures { MatchResult result (λ _. first (rows.name_rows (module_view environment.now.home.now)) ≡ None) (IsRow (rows.name_rows (module_view environment.now.home.now))) }
 {
     let mut seen = IndexSet::new(alloc);
-    heading_names(&mut seen, environment.home())?;
-    declared_names(alloc, environment, &mut seen)
+    all_names(alloc, environment, &mut seen)
+}
+
+// .. where none was seen before.
+fn all_names<'a>(
+    alloc: Global,
+    environment: &Environment<'a>,
+    seen: &mut IndexSet<&'a [u8]>,
+) -> Result<(), AsmRefusal>
+    requires complete { IsComplete environment.now }
+    requires none { names seen.old ≡ [] }
+    requires room { module_count (module_view environment.now.home.now) < 2 ^ 64 }
+    ensures { MatchResult result (λ _. first (rows.name_rows (module_view environment.now.home.now)) ≡ None) (IsRow (rows.name_rows (module_view environment.now.home.now))) }
+{
+    heading_names(seen, environment.home())?;
+    declared_names(alloc, environment, seen)
 }
 
 // The names of declarations, after those of the module's parameters.

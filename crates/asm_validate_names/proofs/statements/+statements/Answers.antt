@@ -113,7 +113,7 @@ stmt_names-stmt_names-requires-in-Some t c =
     let k = if_count c.args.stmt.now c.in-If.condition c.in-If.yes c.in-If.no c.deref.result.now c.in-If.is c.deref.ensures in
     let n = c.in_ok-expr_names-in-If.ensures.counted in
     let m = c.in_ok-stmt_names-in-If.ensures.counted in
-    let o = ap (else_count c.args.stmt.now) c.in-Some.is in
+    let o = ap else_count c.in-Some.is in
     let d = ap (λ (x : Stmt). stmt_count (stmt_view x)) c.deref-in-Some.ensures in
     let r = c.requires.room in
     let d0 = c.decreases in
@@ -121,26 +121,26 @@ stmt_names-stmt_names-requires-in-Some t c =
 
 pub stmt_names-returns-in-None-clause-is : goal.stmt_names-returns-in-None-clause-is
 stmt_names-returns-in-None-clause-is t c =
-    passes _ _ _ (passes _ _ _ (if_rows c.args.stmt.now (scope_view c.args.scope.now) c.args.at.now c.in-If.condition c.in-If.yes c.in-If.no c.deref.result.now c.expr_names-in-If.new.at c.stmt_names.new.at c.in-If.is c.deref.ensures c.in_ok-expr_names-in-If.ensures.counted c.in_ok-stmt_names-in-If.ensures.counted) c.in_ok-expr_names-in-If.ensures.is) c.in_ok-stmt_names-in-If.ensures.is ∙ ap (λ o. first (else_rows c.args.stmt.now (scope_view c.args.scope.now) c.stmt_names.new.at o)) c.in-None.is
+    passes _ _ _ (passes _ _ _ (if_rows c.args.stmt.now (scope_view c.args.scope.now) c.args.at.now c.in-If.condition c.in-If.yes c.in-If.no c.deref.result.now c.expr_names-in-If.new.at c.stmt_names.new.at c.in-If.is c.deref.ensures c.in_ok-expr_names-in-If.ensures.counted c.in_ok-stmt_names-in-If.ensures.counted) c.in_ok-expr_names-in-If.ensures.is) c.in_ok-stmt_names-in-If.ensures.is ∙ ap (λ o. first (else_rows (scope_view c.args.scope.now) c.stmt_names.new.at o)) c.in-None.is
 
 pub stmt_names-returns-in-None-clause-counted : goal.stmt_names-returns-in-None-clause-counted
 stmt_names-returns-in-None-clause-counted t c =
     let k = if_count c.args.stmt.now c.in-If.condition c.in-If.yes c.in-If.no c.deref.result.now c.in-If.is c.deref.ensures in
     let n = c.in_ok-expr_names-in-If.ensures.counted in
     let m = c.in_ok-stmt_names-in-If.ensures.counted in
-    let o = ap (else_count c.args.stmt.now) c.in-None.is in
+    let o = ap else_count c.in-None.is in
     omega arith
 
 pub stmt_names-returns-in-Some-clause-is : goal.stmt_names-returns-in-Some-clause-is
 stmt_names-returns-in-Some-clause-is t c =
-    passes _ _ _ (passes _ _ _ (if_rows c.args.stmt.now (scope_view c.args.scope.now) c.args.at.now c.in-If.condition c.in-If.yes c.in-If.no c.deref.result.now c.expr_names-in-If.new.at c.stmt_names.new.at c.in-If.is c.deref.ensures c.in_ok-expr_names-in-If.ensures.counted c.in_ok-stmt_names-in-If.ensures.counted) c.in_ok-expr_names-in-If.ensures.is) c.in_ok-stmt_names-in-If.ensures.is ∙ ap (λ o. first (else_rows c.args.stmt.now (scope_view c.args.scope.now) c.stmt_names.new.at o)) c.in-Some.is ∙ ap (λ (x : Stmt). first (rows.stmt_names (scope_view c.args.scope.now) c.stmt_names.new.at (stmt_view x))) (sym c.deref-in-Some.ensures) ∙ c.stmt_names-in-Some.ensures.is
+    passes _ _ _ (passes _ _ _ (if_rows c.args.stmt.now (scope_view c.args.scope.now) c.args.at.now c.in-If.condition c.in-If.yes c.in-If.no c.deref.result.now c.expr_names-in-If.new.at c.stmt_names.new.at c.in-If.is c.deref.ensures c.in_ok-expr_names-in-If.ensures.counted c.in_ok-stmt_names-in-If.ensures.counted) c.in_ok-expr_names-in-If.ensures.is) c.in_ok-stmt_names-in-If.ensures.is ∙ ap (λ o. first (else_rows (scope_view c.args.scope.now) c.stmt_names.new.at o)) c.in-Some.is ∙ ap (λ (x : Stmt). first (rows.stmt_names (scope_view c.args.scope.now) c.stmt_names.new.at (stmt_view x))) (sym c.deref-in-Some.ensures) ∙ c.stmt_names-in-Some.ensures.is
 
 pub stmt_names-returns-in-Some-clause-counted : goal.stmt_names-returns-in-Some-clause-counted
 stmt_names-returns-in-Some-clause-counted t c =
     let k = if_count c.args.stmt.now c.in-If.condition c.in-If.yes c.in-If.no c.deref.result.now c.in-If.is c.deref.ensures in
     let n = c.in_ok-expr_names-in-If.ensures.counted in
     let m = c.in_ok-stmt_names-in-If.ensures.counted in
-    let o = ap (else_count c.args.stmt.now) c.in-Some.is in
+    let o = ap else_count c.in-Some.is in
     let d = ap (λ (x : Stmt). stmt_count (stmt_view x)) c.deref-in-Some.ensures in
     IfOk-weaker c.stmt_names-in-Some.result _ _ (λ u h. omega arith) c.stmt_names-in-Some.ensures.counted
 
