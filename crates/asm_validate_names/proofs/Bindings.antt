@@ -1,14 +1,14 @@
 -- The rows of global variables, one after another, and of a module's parts.
-use Rattle.std.proofs.Common.{◌≡◌, ℕ, ◌+◌, ◌<◌, Bool, true, false, not, ◌&&◌, ◌||◌, List, [], ◌∷◌, ◌++◌, length, map, drop, get_or, Some, None, refl, sym, ap, ◌∙◌, append_assoc, subst, arith}
+use Rattle.std.proofs.Common.{◌≡◌, ℕ, ◌+◌, ◌<◌, Bool, true, false, not, ◌&&◌, ◌||◌, List, [], ◌∷◌, ◌++◌, length, map, drop, get_or, None, refl, sym, ap, ◌∙◌, append_assoc, subst, arith}
 use Rattle.std.proofs.lemmas.List.{at_drop_more}
-use Rattle.std.specs.Prelude.{Result, Ok, Err, MatchResult}
+use Rattle.std.specs.Prelude.{Result, MatchResult}
 use Rattle.sem_words.specs.declared.text.Text.{Text}
 use Rattle.sem_words.specs.Lists.{text_bytes, list_items}
-use Rattle.asm_lang.specs.Trees.{Init}
 use Rattle.asm_lang.specs.Modules.{Module, Variable}
 use Rattle.asm_tree.specs.declared.tree.Global_.{Global_}
 use Rattle.asm_tree.specs.declared.tree.Function.{Function}
 use Rattle.asm_tree.specs.declared.tree.Table.{Table}
+use Rattle.asm_tree.specs.declared.tree.Exports.{Exports as CodeExports}
 use Rattle.asm_tree.specs.declared.tree.Module.{Module as CodeModule}
 use Rattle.asm_tree.specs.Views.{module_view, texts_view, global_view, function_view, table_view, init_view, exports_view}
 use Rattle.asm_lang_valid.specs.declared.rule.Met.{Met}
@@ -18,11 +18,11 @@ use Rattle.asm_lang_valid.specs.Scope.{is_in}
 use Rattle.asm_lang_valid.specs.NameRows.{Imports, with_import, clashes, has_forbidden_member, is_forbidden, init_rows, global_names, globals_names, functions_names, tables_names, exports_names, all_new, any_forbidden, global_texts, function_texts, name_rows, own_name}
 use Rattle.asm_validate_names.specs.declared.refusal.AsmRefusal.{AsmRefusal}
 use Rattle.asm_validate_names.specs.Imported.{no_imports, globals_texts}
-use Rattle.asm_validate_names.specs.Heading.{heading_rows, rest_rows}
+use Rattle.asm_validate_names.specs.Heading.{heading_rows, variables_rows, later_rows, rest_rows}
 use Rattle.asm_validate_names.specs.Refusals.{IsRow}
 use Rattle.asm_validate_names.specs.Seen.{declared_rows, texts_of}
-use Rattle.asm_validate_names.proofs.Found.{first_before, first_after}
-use Rattle.asm_validate_names.proofs.Order.{row_before, row_same, row_rest, same_rows}
+use Rattle.asm_validate_names.proofs.Found.{first_after}
+use Rattle.asm_validate_names.proofs.Order.{row_before, row_rest, same_rows}
 
 pub globals_rest : (m : Module) (b : List (List ℕ)) (is : Imports) (vs : List Global_) (i : ℕ) (v : Global_) (at : ℕ) → i < length vs → v ≡ get_or vs i v → first (globals_names m b is (map global_view (drop i vs)) at) ≡ first (global_names m b is (global_view v) at ++ globals_names m (b ++ text_bytes v.name ∷ []) (with_import m (init_view v.init) is) (map global_view (drop (i + 1) vs)) (at + 1))
 globals_rest m b is vs i v at h e =
@@ -78,68 +78,78 @@ pub tables_length : (ts : List Table) → length (map table_view ts) ≡ length 
 tables_length [] = refl
 tables_length (t ∷ ts) = omega (arith, tables_length ts)
 
-module _ (code : CodeModule) (b : List (List ℕ)) (is : Imports) (gs : List Global_) (params : b ≡ (module_view code).params) (none_yet : is ≡ no_imports) (globals : gs ≡ list_items code.globals) where
+-- what a pass over the global variables of a module found; is are the imports before them, which are none
+module _ (code : CodeModule) (is : Imports) (gs : List Global_) (none_yet : is ≡ no_imports) (globals : gs ≡ list_items code.globals) where
+  pub variables_same : (b : List (List ℕ)) (at : ℕ) → variables_rows (module_view code) b at ≡ globals_names (module_view code) b is (map global_view gs) at
+  variables_same b at =
+      ap (λ j. globals_names (module_view code) b j (module_view code).globals at) (sym none_yet)
+      ∙ ap (λ l. globals_names (module_view code) b is (map global_view l) at) (sym globals)
+
+  pub variables_texts : (b : List (List ℕ)) → b ++ globals_texts (map global_view gs) ≡ b ++ global_texts (module_view code)
+  variables_texts b = ap (λ l. b ++ globals_texts (map global_view l)) globals
+
+  pub variables_length : length (module_view code).globals ≡ length gs
+  variables_length = ap (λ l. length (map global_view l)) (sym globals) ∙ globals_length gs
+
+-- .. over its functions, its tables and its exports, after those
+module _ (code : CodeModule) (c : List (List ℕ)) (at : ℕ) (fs : List Function) (names_are : c ≡ (module_view code).params ++ global_texts (module_view code)) (at_is : at ≡ functions_at (module_view code)) (functions : fs ≡ list_items code.functions) where
   abbrev m : Module
   m = module_view code
 
-  abbrev after_globals : List Met
-  after_globals = functions_names m (m.params ++ global_texts m) m.functions (functions_at m) ++ (tables_names m (m.params ++ (global_texts m ++ function_texts m)) m.tables (tables_at m) ++ exports_names m m.exports (exports_at m))
+  pub functions_length : functions_count m.functions ≡ functions_count (map function_view fs)
+  functions_length = ap (λ l. functions_count (map function_view l)) (sym functions)
 
-  globals_same : globals_names m m.params no_imports m.globals 1 ≡ globals_names m b is (map global_view gs) 1
-  globals_same =
-      ap (λ c. globals_names m c no_imports m.globals 1) (sym params)
-      ∙ ap (λ j. globals_names m b j m.globals 1) (sym none_yet)
-      ∙ ap (λ l. globals_names m b is (map global_view l) 1) (sym globals)
+  abbrev after_functions : List Met
+  after_functions = tables_names m (m.params ++ (global_texts m ++ function_texts m)) m.tables (tables_at m) ++ exports_names m m.exports (exports_at m)
 
-  pub in_globals : (x : AsmRefusal) → IsRow (globals_names m b is (map global_view gs) 1) x → IsRow (rest_rows m) x
-  in_globals x h = row_before (globals_names m m.params no_imports m.globals 1) after_globals x (subst (λ l. IsRow l x) (sym globals_same) h)
+  functions_same : functions_names m (m.params ++ global_texts m) m.functions (functions_at m) ≡ functions_names m c (map function_view fs) at
+  functions_same =
+      ap (λ d. functions_names m d m.functions (functions_at m)) (sym names_are)
+      ∙ ap (λ k. functions_names m c m.functions k) (sym at_is)
+      ∙ ap (λ l. functions_names m c (map function_view l) at) (sym functions)
 
-  module _ (none : first (globals_names m b is (map global_view gs) 1) ≡ None) (c : List (List ℕ)) (at : ℕ) (fs : List Function) (texts : c ≡ b ++ globals_texts (map global_view gs)) (next : at ≡ 1 + length gs) (functions : fs ≡ list_items code.functions) where
-    names_are : m.params ++ global_texts m ≡ c
-    names_are = ap (λ p. p ++ global_texts m) (sym params) ∙ ap (λ l. b ++ globals_texts (map global_view l)) (sym globals) ∙ sym texts
+  to_functions : first (later_rows m) ≡ first (functions_names m c (map function_view fs) at ++ after_functions)
+  to_functions = ap (λ l. first (l ++ after_functions)) functions_same
 
-    at_is : functions_at m ≡ at
-    at_is = ap (λ l. 1 + length (map global_view l)) (sym globals) ∙ ap (λ k. 1 + k) (globals_length gs) ∙ sym next
+  pub in_functions : (x : AsmRefusal) → IsRow (functions_names m c (map function_view fs) at) x → IsRow (later_rows m) x
+  in_functions x h = row_rest (later_rows m) _ after_functions x to_functions h
 
-    functions_same : functions_names m (m.params ++ global_texts m) m.functions (functions_at m) ≡ functions_names m c (map function_view fs) at
-    functions_same =
-        ap (λ d. functions_names m d m.functions (functions_at m)) names_are
-        ∙ ap (λ k. functions_names m c m.functions k) at_is
-        ∙ ap (λ l. functions_names m c (map function_view l) at) (sym functions)
+  module _ (done : first (functions_names m c (map function_view fs) at) ≡ None) (d : List (List ℕ)) (mid : ℕ) (ts : List Table) (more : d ≡ c ++ texts_of (map function_view fs)) (then : mid ≡ at + functions_count (map function_view fs)) (tables : ts ≡ list_items code.tables) where
+    all_names_are : m.params ++ (global_texts m ++ function_texts m) ≡ d
+    all_names_are = sym (append_assoc m.params (global_texts m) (function_texts m)) ∙ ap (λ p. p ++ function_texts m) (sym names_are) ∙ ap (λ l. c ++ texts_of (map function_view l)) (sym functions) ∙ sym more
 
-    abbrev after_functions : List Met
-    after_functions = tables_names m (m.params ++ (global_texts m ++ function_texts m)) m.tables (tables_at m) ++ exports_names m m.exports (exports_at m)
+    pub tables_at_is : tables_at m ≡ mid
+    tables_at_is = ap (λ k. k + functions_count m.functions) (sym at_is) ∙ ap (λ k. at + k) functions_length ∙ sym then
 
-    passed_globals : first (rest_rows m) ≡ first (functions_names m c (map function_view fs) at ++ after_functions)
-    passed_globals = first_after (globals_names m m.params no_imports m.globals 1) after_globals (ap first globals_same ∙ none) ∙ ap (λ l. first (l ++ after_functions)) functions_same
+    pub exports_at_is : exports_at m ≡ mid + length ts
+    exports_at_is = ap (λ k. k + length m.tables) tables_at_is ∙ ap (λ l. mid + length (map table_view l)) (sym tables) ∙ ap (λ k. mid + k) (tables_length ts)
 
-    pub in_functions : (x : AsmRefusal) → IsRow (functions_names m c (map function_view fs) at) x → IsRow (rest_rows m) x
-    in_functions x h = row_rest (rest_rows m) _ after_functions x passed_globals h
+    tables_same : tables_names m (m.params ++ (global_texts m ++ function_texts m)) m.tables (tables_at m) ≡ tables_names m d (map table_view ts) mid
+    tables_same =
+        ap (λ e. tables_names m e m.tables (tables_at m)) all_names_are
+        ∙ ap (λ k. tables_names m d m.tables k) tables_at_is
+        ∙ ap (λ l. tables_names m d (map table_view l) mid) (sym tables)
 
-    module _ (done : first (functions_names m c (map function_view fs) at) ≡ None) (d : List (List ℕ)) (mid : ℕ) (ts : List Table) (more : d ≡ c ++ texts_of (map function_view fs)) (then : mid ≡ at + functions_count (map function_view fs)) (tables : ts ≡ list_items code.tables) where
-      all_names_are : m.params ++ (global_texts m ++ function_texts m) ≡ d
-      all_names_are = sym (append_assoc m.params (global_texts m) (function_texts m)) ∙ ap (λ p. p ++ function_texts m) names_are ∙ ap (λ l. c ++ texts_of (map function_view l)) (sym functions) ∙ sym more
+    to_tables : first (later_rows m) ≡ first (tables_names m d (map table_view ts) mid ++ exports_names m m.exports (exports_at m))
+    to_tables = to_functions ∙ first_after _ after_functions done ∙ ap (λ l. first (l ++ exports_names m m.exports (exports_at m))) tables_same
 
-      tables_at_is : tables_at m ≡ mid
-      tables_at_is = ap (λ k. k + functions_count m.functions) at_is ∙ ap (λ l. at + functions_count (map function_view l)) (sym functions) ∙ sym then
+    pub in_tables : (x : AsmRefusal) → IsRow (tables_names m d (map table_view ts) mid) x → IsRow (later_rows m) x
+    in_tables x h = row_rest (later_rows m) _ _ x to_tables h
 
-      tables_same : tables_names m (m.params ++ (global_texts m ++ function_texts m)) m.tables (tables_at m) ≡ tables_names m d (map table_view ts) mid
-      tables_same =
-          ap (λ e. tables_names m e m.tables (tables_at m)) all_names_are
-          ∙ ap (λ k. tables_names m d m.tables k) tables_at_is
-          ∙ ap (λ l. tables_names m d (map table_view l) mid) (sym tables)
+    pub in_exports : (es : CodeExports) (last : ℕ) (r : Result (Unit {0}) AsmRefusal) → es ≡ code.exports → first (tables_names m d (map table_view ts) mid) ≡ None → last ≡ mid + length ts → MatchResult r (λ u. first (exports_names m (exports_view es) last) ≡ None) (IsRow (exports_names m (exports_view es) last)) → MatchResult r (λ u. first (later_rows m) ≡ None) (IsRow (later_rows m))
+    in_exports es last r exports nothing end h =
+        same_rows r (later_rows m) (exports_names m (exports_view es) last)
+        (to_tables ∙ first_after (tables_names m d (map table_view ts) mid) _ nothing
+        ∙ ap (λ k. first (exports_names m m.exports k)) (exports_at_is ∙ sym end)
+        ∙ ap (λ e. first (exports_names m (exports_view e) last)) (sym exports)) h
 
-      passed_functions : first (rest_rows m) ≡ first (tables_names m d (map table_view ts) mid ++ exports_names m m.exports (exports_at m))
-      passed_functions = passed_globals ∙ first_after _ after_functions done ∙ ap (λ l. first (l ++ exports_names m m.exports (exports_at m))) tables_same
+-- a module's global variables, and what stands after them
+pub in_variables : (m : Module) (b : List (List ℕ)) (x : AsmRefusal) → b ≡ m.params → IsRow (variables_rows m b 1) x → IsRow (rest_rows m) x
+in_variables m b x params h = row_before (variables_rows m m.params 1) (later_rows m) x (subst (λ c. IsRow (variables_rows m c 1) x) params h)
 
-      pub in_tables : (x : AsmRefusal) → IsRow (tables_names m d (map table_view ts) mid) x → IsRow (rest_rows m) x
-      in_tables x h = row_rest (rest_rows m) _ _ x passed_functions h
-
-      pub in_exports : (last : ℕ) (r : Result (Unit {0}) AsmRefusal) → first (tables_names m d (map table_view ts) mid) ≡ None → last ≡ mid + length ts → MatchResult r (λ u. first (exports_names m (exports_view code.exports) last) ≡ None) (IsRow (exports_names m (exports_view code.exports) last)) → MatchResult r (λ u. first (rest_rows m) ≡ None) (IsRow (rest_rows m))
-      in_exports last r nothing end h =
-          let place : exports_at m ≡ last = (ap (λ k. k + length m.tables) tables_at_is ∙ ap (λ l. mid + length (map table_view l)) (sym tables) ∙ ap (λ k. mid + k) (tables_length ts) ∙ sym end) in
-          same_rows r (rest_rows m) (exports_names m (exports_view code.exports) last)
-          (passed_functions ∙ first_after (tables_names m d (map table_view ts) mid) _ nothing ∙ ap (λ k. first (exports_names m m.exports k)) place) h
+pub after_variables : (m : Module) (b : List (List ℕ)) (r : Result (Unit {0}) AsmRefusal) → b ≡ m.params → first (variables_rows m b 1) ≡ None → MatchResult r (λ u. first (later_rows m) ≡ None) (IsRow (later_rows m)) → MatchResult r (λ u. first (rest_rows m) ≡ None) (IsRow (rest_rows m))
+after_variables m b r params none h =
+    same_rows r (rest_rows m) (later_rows m) (first_after (variables_rows m m.params 1) (later_rows m) (ap (λ c. first (variables_rows m c 1)) (sym params) ∙ none)) h
 
 pub name_rows_are : (m : Module) → first (name_rows m) ≡ first (heading_rows m ++ rest_rows m)
 name_rows_are m = ap first (sym (append_assoc (need (all_new [] m.params) NameTaken 0) (need (not (any_forbidden (own_name m.name ++ m.params))) ForbiddenName 0) (rest_rows m)))

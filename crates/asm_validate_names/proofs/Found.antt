@@ -1,5 +1,5 @@
 -- The first row of rows after one another.
-use Rattle.std.proofs.Common.{◌≡◌, ℕ, ◌+◌, ◌<◌, List, [], ◌∷◌, ◌++◌, length, drop, get_or, Option, Some, None, Result, Ok, Err, refl, sym, ap, ◌∙◌}
+use Rattle.std.proofs.Common.{◌≡◌, ℕ, ◌+◌, ◌<◌, List, [], ◌∷◌, ◌++◌, length, drop, get_or, Some, None, Result, Ok, Err, refl, sym, ap, ◌∙◌}
 use Rattle.std.specs.Prelude.{IfOk}
 use Rattle.std.proofs.lemmas.List.{at_drop_more}
 use Rattle.asm_tree.specs.declared.tree.Expr.{Expr}
@@ -12,6 +12,7 @@ use Rattle.asm_tree.proofs.Views.{views, link_view-is, clause_view-is}
 use Rattle.asm_lang_valid.specs.declared.rule.Met.{Met}
 use Rattle.asm_lang_valid.specs.Rows.{first, expr_count, exprs_count, links_count, stmts_count, clauses_count}
 use Rattle.asm_lang_valid.specs.Typing.{Scope}
+use Rattle.asm_validate_names.specs.Found.{row_of}
 use Rattle.asm_lang_valid.specs.NameRows.{expr_names, links_names, stmts_names, clauses_names}
 
 pub first_before : (xs ys : List Met) (x : Met) → first xs ≡ Some x → first (xs ++ ys) ≡ Some x
@@ -28,6 +29,17 @@ link_operand l = ap (λ (v : LinkView). v.operand) (link_view-is l)
 pub if_ok : {P : Type 0} (r : Result (Unit {0}) Met) → P → IfOk r (λ u. P)
 if_ok (Ok u) p = p
 if_ok (Err x) p = tt
+
+-- a pass that stops at a part's row, and one that goes on
+pub stops : (all xs ys : List Met) (r : Result (Unit {0}) Met) (x : Met) → first all ≡ first (xs ++ ys) → first xs ≡ Some x → r ≡ Err x → first all ≡ row_of r
+stops all xs ys r x split h e = split ∙ first_before xs ys x h ∙ ap row_of (sym e)
+
+pub passes : (all xs ys : List Met) → first all ≡ first (xs ++ ys) → first xs ≡ None → first all ≡ first ys
+passes all xs ys split none = split ∙ first_after xs ys none
+
+pub not_ok : (P : Unit {0} → Type 0) (r : Result (Unit {0}) Met) (x : Met) → r ≡ Err x → IfOk r P
+not_ok P (Ok u) x e = cc
+not_ok P (Err y) x e = tt
 
 -- an element of a list counts among those that are left
 pub exprs_step : (es : List Expr) (i : ℕ) (e : Expr) → i < length es → e ≡ get_or es i e → exprs_count (exprs_view (drop i es)) ≡ expr_count (expr_view e) + exprs_count (exprs_view (drop (i + 1) es))

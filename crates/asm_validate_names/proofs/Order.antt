@@ -1,6 +1,6 @@
 -- The first row of rows after one another, where memory may be wanting.
-use Rattle.std.proofs.Common.{◌≡◌, List, [], ◌∷◌, ◌++◌, None, Result, Ok, Err, sym, ◌∙◌, subst}
-use Rattle.std.specs.Prelude.{MatchResult}
+use Rattle.std.proofs.Common.{◌≡◌, List, ◌++◌, None, Result, Ok, Err, sym, ◌∙◌, subst}
+use Rattle.std.specs.Prelude.{IfOk, MatchResult}
 use Rattle.asm_lang_valid.specs.declared.rule.Met.{Met}
 use Rattle.asm_lang_valid.specs.Rows.{first}
 use Rattle.asm_validate_names.specs.declared.refusal.AsmRefusal.{AsmRefusal}
@@ -28,3 +28,8 @@ err_row r rows f h k = subst (λ r. MatchResult r (λ u. first rows ≡ None) (I
 pub same_rows : (r : Result (Unit {0}) AsmRefusal) (xs ys : List Met) → first xs ≡ first ys → MatchResult r (λ u. first ys ≡ None) (IsRow ys) → MatchResult r (λ u. first xs ≡ None) (IsRow xs)
 same_rows (Ok u) xs ys e h = e ∙ h
 same_rows (Err f) xs ys e h = row_same xs ys f e h
+
+-- what holds in any case, holds of success
+pub ok_row : {P : Type 0} (r : Result (Unit {0}) AsmRefusal) → P → IfOk r (λ u. P)
+ok_row (Ok u) p = p
+ok_row (Err f) p = tt

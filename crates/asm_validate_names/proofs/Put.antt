@@ -14,7 +14,7 @@ use Rattle.sem_words.specs.Lists.{text_bytes}
 use Rattle.asm_tree.specs.Views.{texts_view, function_view, global_view, table_view, init_view}
 use Rattle.asm_lang_valid.specs.Scope.{Meaning, a_function, a_table, a_parameter, nothing, is_in, init_meaning, among_functions, among_globals, among_tables, module_meaning}
 use Rattle.asm_validate_names.specs.declared.meaning.Meaning.{Meaning as CodeMeaning}
-use Rattle.asm_validate_names.specs.Meanings.{meaning_view, tables_over}
+use Rattle.asm_validate_names.specs.Meanings.{meaning_view, tables_over, declared_over}
 
 -- x has the value of the i-th declaration, before y, which the later ones have, before z
 pub function_put : (fs : List Function) (i j : ℕ) (f : Function) (n : List ℕ) (x y z : Meaning) → j ≡ i + 1 → i < length fs → f ≡ get_or fs i f → x ≡ (if bytes_eq (text_bytes f.name) n then a_function (function_view f) else y) → y ≡ among_functions (map function_view (drop j fs)) n z → x ≡ among_functions (map function_view (drop i fs)) n z
@@ -55,11 +55,14 @@ over_nothing : (ts : List PlainTable) (n : List ℕ) → tables_over ts n nothin
 over_nothing [] n = refl
 over_nothing (t ∷ ts) n = ap (λ x. if bytes_eq t.name n then a_table t else x) (over_nothing ts n)
 
--- after all declarations
-pub all_put : (m : Module) (n : List ℕ) (a b c d e : Meaning) → a ≡ nothing → b ≡ tables_over m.tables n a → c ≡ among_functions m.functions n b → d ≡ among_globals m m.globals n c → e ≡ (if is_in n m.params then a_parameter else d) → e ≡ module_meaning m n
-all_put m n a b c d e h i j k l =
-    let tables = i ∙ ap (tables_over m.tables n) h ∙ over_nothing m.tables n in
-    l ∙ ap (λ x. if is_in n m.params then a_parameter else x) (k ∙ ap (among_globals m m.globals n) (j ∙ ap (among_functions m.functions n) tables))
+-- after all declarations, over what was there before
+pub all_put : (m : Module) (n : List ℕ) (a b c d e : Meaning) → b ≡ tables_over m.tables n a → c ≡ among_functions m.functions n b → d ≡ among_globals m m.globals n c → e ≡ (if is_in n m.params then a_parameter else d) → e ≡ declared_over m n a
+all_put m n a b c d e i j k l = l ∙ ap (λ x. if is_in n m.params then a_parameter else x) (k ∙ ap (among_globals m m.globals n) (j ∙ ap (among_functions m.functions n) i))
+
+pub all_known : (m : Module) (n : List ℕ) (a e : Meaning) → a ≡ nothing → e ≡ declared_over m n a → e ≡ module_meaning m n
+all_known m n a e h k =
+    k ∙ ap (declared_over m n) h
+    ∙ ap (λ t. if is_in n m.params then a_parameter else among_globals m m.globals n (among_functions m.functions n t)) (over_nothing m.tables n)
 
 -- nothing is found in an empty map
 pub none_found : (es : List (Bor (List ℕ) × CodeMeaning)) (n : List ℕ) → es ≡ [] → meaning_view (lookup (λ k. bytes_eq n k.now) es) ≡ nothing

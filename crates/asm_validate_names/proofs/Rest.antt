@@ -4,7 +4,6 @@ use Rattle.std.proofs.lemmas.List.{at_drop_more}
 use Rattle.std.specs.Prelude.{if◌then◌else◌, Result, MatchResult}
 use Rattle.std.specs.Borrow.{Bor}
 use Rattle.std.specs.List.{list_any}
-use Rattle.std.specs.Str.{bytes_eq}
 use Rattle.std.specs.Cmp.Lexicographic.{pointwise, nat_list_eq_equiv}
 use Rattle.sem_words.specs.Lists.{text_bytes}
 use Rattle.asm_lang.specs.Modules as modules
@@ -13,7 +12,6 @@ use Rattle.asm_tree.specs.declared.tree.Local.{Local}
 use Rattle.asm_tree.specs.declared.tree.Function.{Function}
 use Rattle.asm_tree.specs.declared.tree.Stmt.{Stmt}
 use Rattle.asm_tree.specs.Views.{param_view, local_view, function_view, stmts_view}
-use Rattle.asm_lang_valid.specs.declared.rule.Met.{Met}
 use Rattle.asm_lang_valid.specs.declared.rule.Rule.TheVariants.{NameTaken, ForbiddenName}
 use Rattle.asm_lang_valid.specs.Rows.{need, first, function_count, functions_count}
 use Rattle.sem_words.specs.Lists.{list_items}
@@ -23,7 +21,7 @@ use Rattle.asm_lang_valid.specs.Scope.{is_in}
 use Rattle.asm_lang_valid.specs.NameRows.{is_forbidden, declares, added, params_names, locals_names, function_names, functions_names, stmts_names, param_texts}
 use Rattle.asm_validate_names.specs.declared.refusal.AsmRefusal.{AsmRefusal}
 use Rattle.asm_validate_names.specs.Refusals.{IsRow}
-use Rattle.asm_validate_names.specs.Seen.{inner_rows, texts_of}
+use Rattle.asm_validate_names.specs.Seen.{own_rows, own_count, body_rows, inner_rows, texts_of}
 use Rattle.asm_validate_names.proofs.Found.{first_after}
 use Rattle.asm_validate_names.proofs.Order.{row_before, row_rest, same_rows}
 
@@ -97,16 +95,13 @@ params_length (p ∷ ps) = omega (arith, params_length ps)
 pub no_names : (keys : List (Bor (List ℕ))) → keys ≡ [] → map (λ (k : Bor (List ℕ)). k.now) keys ≡ []
 no_names keys h = ap (map (λ (k : Bor (List ℕ)). k.now)) h
 
--- ---- a function's parameters, locals and statements; b are the names before its parameters, which are none
-module _ (m : modules.Module) (f : Function) (b : List (List ℕ)) (ps : List Param) (at : ℕ) (empty : b ≡ []) (params : ps ≡ list_items f.params) where
-  abbrev inner : List Met
-  inner = inner_rows m (function_view f) at
-
+-- ---- a function's parameters and locals; b are the names before its parameters, which are none
+module _ (f : Function) (b : List (List ℕ)) (ps : List Param) (at : ℕ) (empty : b ≡ []) (params : ps ≡ list_items f.params) where
   first_rows : params_names [] (function_view f).params at ≡ params_names b (map param_view ps) at
   first_rows = ap (λ c. params_names c (function_view f).params at) (sym empty) ∙ ap (λ l. params_names b (map param_view l) at) (sym params)
 
-  pub inner_params : (x : AsmRefusal) → IsRow (params_names b (map param_view ps) at) x → IsRow inner x
-  inner_params x h = row_before _ _ x (subst (λ l. IsRow l x) (sym first_rows) h)
+  pub own_params : (x : AsmRefusal) → IsRow (params_names b (map param_view ps) at) x → IsRow (own_rows (function_view f) at) x
+  own_params x h = row_before _ _ x (subst (λ l. IsRow l x) (sym first_rows) h)
 
   module _ (c : List (List ℕ)) (ls : List Local) (mid : ℕ) (none : first (params_names b (map param_view ps) at) ≡ None) (texts : c ≡ b ++ param_texts (map param_view ps)) (next : mid ≡ at + length ps) (locals : ls ≡ list_items f.locals) where
     second_rows : locals_names (param_texts (function_view f).params) (function_view f).locals (at + length (function_view f).params) ≡ locals_names c (map local_view ls) mid
@@ -118,25 +113,29 @@ module _ (m : modules.Module) (f : Function) (b : List (List ℕ)) (ps : List Pa
         ∙ ap (λ k. locals_names c (function_view f).locals k) (sym next)
         ∙ ap (λ l. locals_names c (map local_view l) mid) (sym locals)
 
-    inner_rest : (tail : List Met) → first (params_names [] (function_view f).params at ++ (locals_names (param_texts (function_view f).params) (function_view f).locals (at + length (function_view f).params) ++ tail)) ≡ first (locals_names c (map local_view ls) mid ++ tail)
-    inner_rest tail = first_after _ _ (ap first first_rows ∙ none) ∙ ap (λ l. first (l ++ tail)) second_rows
+    pub own_locals : (r : Result (Unit {0}) AsmRefusal) → MatchResult r (λ u. first (locals_names c (map local_view ls) mid) ≡ None) (IsRow (locals_names c (map local_view ls) mid)) → MatchResult r (λ u. first (own_rows (function_view f) at) ≡ None) (IsRow (own_rows (function_view f) at))
+    own_locals r h =
+        same_rows r (own_rows (function_view f) at) (locals_names c (map local_view ls) mid)
+        (first_after _ (locals_names (param_texts (function_view f).params) (function_view f).locals (at + length (function_view f).params)) (ap first first_rows ∙ none) ∙ ap first second_rows) h
 
-    pub inner_locals : (x : AsmRefusal) → IsRow (locals_names c (map local_view ls) mid) x → IsRow inner x
-    inner_locals x h = row_rest inner _ _ x (inner_rest _) h
+-- ---- .. and its statements
 
-    pub inner_body : (s : Scope) (body : List Stmt) (last : ℕ) (r : Result (Unit {0}) AsmRefusal) → first (locals_names c (map local_view ls) mid) ≡ None → last ≡ mid + length ls → s ≡ scope_of m (function_view f) → body ≡ list_items f.body → MatchResult r (λ u. first (stmts_names s last (stmts_view body)) ≡ None) (IsRow (stmts_names s last (stmts_view body))) → MatchResult r (λ u. first inner ≡ None) (IsRow inner)
-    inner_body s body last r nothing end scope stmts h =
-        let place : at + length (function_view f).params + length (function_view f).locals ≡ last =
-        (ap (λ l. at + length (map param_view l) + length (function_view f).locals) (sym params)
-        ∙ ap (λ k. at + k + length (function_view f).locals) (params_length ps)
-        ∙ ap (λ k. k + length (function_view f).locals) (sym next)
-        ∙ ap (λ l. mid + length (map local_view l)) (sym locals)
-        ∙ ap (λ k. mid + k) (locals_length ls) ∙ sym end) in
-        same_rows r inner (stmts_names s last (stmts_view body))
-        (inner_rest _ ∙ first_after _ _ nothing
-        ∙ ap (λ k. first (stmts_names (scope_of m (function_view f)) k (function_view f).body)) place
-        ∙ ap (λ t. first (stmts_names t last (function_view f).body)) (sym scope)
-        ∙ ap (λ l. first (stmts_names s last (stmts_view l))) (sym stmts)) h
+pub body_is : (m : modules.Module) (f : Function) (s : Scope) (body : List Stmt) (at : ℕ) → s ≡ scope_of m (function_view f) → body ≡ list_items f.body → first (body_rows m (function_view f) at) ≡ first (stmts_names s at (stmts_view body))
+body_is m f s body at scope stmts =
+    ap (λ t. first (stmts_names t at (function_view f).body)) (sym scope)
+    ∙ ap (λ l. first (stmts_names s at (stmts_view l))) (sym stmts)
+
+inner_is : (m : modules.Module) (f : modules.Function) (at mid : ℕ) → mid ≡ at + own_count f → inner_rows m f at ≡ own_rows f at ++ body_rows m f mid
+inner_is m f at mid next =
+    let place : at + length f.params + length f.locals ≡ mid = omega arith in
+    sym (append_assoc (params_names [] f.params at) (locals_names (param_texts f.params) f.locals (at + length f.params)) (stmts_names (scope_of m f) (at + length f.params + length f.locals) f.body))
+    ∙ ap (λ k. own_rows f at ++ body_rows m f k) place
+
+pub inner_own : (m : modules.Module) (f : modules.Function) (at : ℕ) (x : AsmRefusal) → IsRow (own_rows f at) x → IsRow (inner_rows m f at) x
+inner_own m f at x h = row_rest (inner_rows m f at) (own_rows f at) (body_rows m f (at + own_count f)) x (ap first (inner_is m f at (at + own_count f) refl)) h
+
+pub inner_body : (m : modules.Module) (f : modules.Function) (at mid : ℕ) (r : Result (Unit {0}) AsmRefusal) → first (own_rows f at) ≡ None → mid ≡ at + own_count f → MatchResult r (λ u. first (body_rows m f mid) ≡ None) (IsRow (body_rows m f mid)) → MatchResult r (λ u. first (inner_rows m f at) ≡ None) (IsRow (inner_rows m f at))
+inner_body m f at mid r none next h = same_rows r (inner_rows m f at) (body_rows m f mid) (ap first (inner_is m f at mid next) ∙ first_after (own_rows f at) (body_rows m f mid) none) h
 
 -- ---- a function, and those that are left
 
@@ -144,6 +143,12 @@ pub function_is : (m : modules.Module) (b : List (List ℕ)) (f : modules.Functi
 function_is m b f at =
     let same : at + (1 + (length f.params + length f.locals)) ≡ at + 1 + length f.params + length f.locals = omega arith in
     ap (λ k. declares b f.name at ++ (params_names [] f.params (at + 1) ++ (locals_names (param_texts f.params) f.locals (at + 1 + length f.params) ++ stmts_names (scope_of m f) k f.body))) same
+
+pub function_own : (m : modules.Module) (b : List (List ℕ)) (f : modules.Function) (at : ℕ) (x : AsmRefusal) → IsRow (declares b f.name at) x → IsRow (function_names m b f at) x
+function_own m b f at x h = row_rest (function_names m b f at) (declares b f.name at) (inner_rows m f (at + 1)) x (ap first (function_is m b f at)) h
+
+pub function_inner : (m : modules.Module) (b : List (List ℕ)) (f : modules.Function) (at : ℕ) (r : Result (Unit {0}) AsmRefusal) → first (declares b f.name at) ≡ None → MatchResult r (λ u. first (inner_rows m f (at + 1)) ≡ None) (IsRow (inner_rows m f (at + 1))) → MatchResult r (λ u. first (function_names m b f at) ≡ None) (IsRow (function_names m b f at))
+function_inner m b f at r none h = same_rows r (function_names m b f at) (inner_rows m f (at + 1)) (ap first (function_is m b f at) ∙ first_after (declares b f.name at) (inner_rows m f (at + 1)) none) h
 
 pub functions_rest : (m : modules.Module) (b : List (List ℕ)) (fs : List Function) (i : ℕ) (f : Function) (at : ℕ) → i < length fs → f ≡ get_or fs i f → first (functions_names m b (map function_view (drop i fs)) at) ≡ first (function_names m b (function_view f) at ++ functions_names m (b ++ text_bytes f.name ∷ []) (map function_view (drop (i + 1) fs)) (at + function_count (function_view f)))
 functions_rest m b fs i f at h is =

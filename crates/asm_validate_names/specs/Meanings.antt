@@ -30,3 +30,9 @@ seen m n = meaning_view (get_by (λ k. bytes_eq n k.now) m)
 abbrev pub tables_over : List tables.Table → List ℕ → scopes.Meaning → scopes.Meaning
 tables_over [] n otherwise = otherwise
 tables_over (t ∷ ts) n otherwise = if bytes_eq t.name n then scopes.a_table t else tables_over ts n otherwise
+
+-- a module's names before others
+abbrev pub declared_over : tables.Module → List ℕ → scopes.Meaning → scopes.Meaning
+declared_over m n otherwise =
+    if scopes.is_in n m.params then scopes.a_parameter
+    else scopes.among_globals m m.globals n (scopes.among_functions m.functions n (tables_over m.tables n otherwise))

@@ -21,6 +21,17 @@ inner_rows m f at =
 abbrev pub inner_count : Function → ℕ
 inner_count f = length f.params + (length f.locals + stmts_count f.body)
 
+-- .. of its parameters and locals, and of its statements
+abbrev pub own_rows : Function → ℕ → List Met
+own_rows f at = params_names [] f.params at ++ locals_names (param_texts f.params) f.locals (at + length f.params)
+
+abbrev pub own_count : Function → ℕ
+own_count f = length f.params + length f.locals
+
+-- the first statement is node `at`
+abbrev pub body_rows : Module → Function → ℕ → List Met
+body_rows m f at = stmts_names (scope_of m f) at f.body
+
 abbrev pub texts_of : List Function → List (List ℕ)
 texts_of fs = map (λ (f : Function). f.name) fs
 

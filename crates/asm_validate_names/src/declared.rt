@@ -5,7 +5,7 @@ ghost use Rattle.std.specs.Str.{bytes_eq};
 ghost use Rattle.sem_words.specs.Lists.{text_bytes};
 ghost use Rattle.asm_tree.specs.Views.{texts_view, module_view, global_view, function_view, table_view};
 ghost use Rattle.asm_lang_valid.specs.Scope.{is_in, a_parameter, among_globals, among_functions};
-ghost use Rattle.asm_validate_names.specs.Meanings.{meaning_view, seen, tables_over};
+ghost use Rattle.asm_validate_names.specs.Meanings.{meaning_view, seen, tables_over, declared_over};
 
 use crate::init::init_meaning;
 use crate::meaning::Meaning;
@@ -14,7 +14,21 @@ use indexmap::IndexMap;
 use sem_words::Text;
 use std::alloc::AllocError;
 
-pub fn put_tables<'a>(
+/// The names of a module.
+pub fn put_all<'a>(
+    names: &mut IndexMap<&'a [u8], Meaning<'a>>,
+    home: &'a Module,
+) -> Result<(), AllocError>
+    ensures { IfOk result (λ _. (n : List ℕ) → seen names.new n ≡ declared_over (module_view home.now) n (seen names.old n)) }
+{
+    put_tables(names, home.tables.as_slice())?;
+    put_functions(names, home.functions.as_slice())?;
+    put_globals(names, home, home.globals.as_slice())?;
+    put_params(names, home.params.as_slice())?;
+    Ok(())
+}
+
+fn put_tables<'a>(
     names: &mut IndexMap<&'a [u8], Meaning<'a>>,
     tables: &'a [Table],
 ) -> Result<(), AllocError>
@@ -29,7 +43,7 @@ pub fn put_tables<'a>(
     Ok(())
 }
 
-pub fn put_functions<'a>(
+fn put_functions<'a>(
     names: &mut IndexMap<&'a [u8], Meaning<'a>>,
     functions: &'a [Function],
 ) -> Result<(), AllocError>
@@ -44,7 +58,7 @@ pub fn put_functions<'a>(
     Ok(())
 }
 
-pub fn put_globals<'a>(
+fn put_globals<'a>(
     names: &mut IndexMap<&'a [u8], Meaning<'a>>,
     home: &'a Module,
     globals: &'a [Global_],
@@ -61,7 +75,7 @@ pub fn put_globals<'a>(
     Ok(())
 }
 
-pub fn put_params<'a>(
+fn put_params<'a>(
     names: &mut IndexMap<&'a [u8], Meaning<'a>>,
     params: &'a [Text],
 ) -> Result<(), AllocError>

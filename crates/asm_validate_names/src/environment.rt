@@ -6,7 +6,7 @@ ghost use Rattle.asm_lang_valid.specs.Scope.{module_meaning};
 ghost use Rattle.asm_validate_names.specs.Meanings.{meaning_view};
 ghost use Rattle.asm_validate_names.specs.Environments.{IsComplete};
 
-use crate::declared::{put_functions, put_globals, put_params, put_tables};
+use crate::declared::put_all;
 use crate::meaning::Meaning;
 use asm_tree::Module;
 use indexmap::IndexMap;
@@ -26,10 +26,7 @@ impl<'a> Environment<'a> {
         ensures complete { IfOk result IsComplete }
     {
         let mut names = IndexMap::new(alloc);
-        put_tables(&mut names, home.tables.as_slice())?;
-        put_functions(&mut names, home.functions.as_slice())?;
-        put_globals(&mut names, home, home.globals.as_slice())?;
-        put_params(&mut names, home.params.as_slice())?;
+        put_all(&mut names, home)?;
         Ok(Environment { home, names })
     }
 

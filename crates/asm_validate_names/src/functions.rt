@@ -3,12 +3,12 @@
 ghost use Rattle.std.specs.Prelude.{◌≡◌, ◌+◌, ◌++◌, ◌<◌, ◌^◌, ◌∷◌, [], None, length, map, IfOk, MatchResult};
 ghost use Rattle.sem_words.specs.Lists.{text_bytes};
 ghost use Rattle.asm_tree.specs.Views.{module_view, function_view, param_view, local_view};
-ghost use Rattle.asm_lang_valid.specs.Rows.{first, function_count, functions_count};
+ghost use Rattle.asm_lang_valid.specs.Rows.{first, stmts_count, function_count, functions_count};
 ghost use Rattle.asm_lang_valid.specs.NameRows as rows;
 ghost use Rattle.asm_lang_valid.specs.NameRows.{param_texts};
 ghost use Rattle.asm_validate_names.specs.Environments.{IsComplete};
 ghost use Rattle.asm_validate_names.specs.Refusals.{IsRow};
-ghost use Rattle.asm_validate_names.specs.Seen.{names, inner_rows, inner_count, texts_of};
+ghost use Rattle.asm_validate_names.specs.Seen.{names, own_rows, own_count, body_rows, inner_rows, inner_count, texts_of};
 
 use crate::environment::Environment;
 use crate::refusal::AsmRefusal;
@@ -54,8 +54,35 @@ fn locals_names<'a>(
     Ok(())
 }
 
+// The names of parameters and locals.
+fn own_names(alloc: Global, function: &Function, at: &mut u64) -> Result<(), AsmRefusal>
+    requires { at.old + own_count (function_view function.now) < 2 ^ 64 }
+    ensures row { MatchResult result (λ _. first (own_rows (function_view function.now) at.old) ≡ None) (IsRow (own_rows (function_view function.now) at.old)) }
+    ensures counted { IfOk result (λ _. at.new ≡ at.old + own_count (function_view function.now)) }
+{
+    let mut own = IndexSet::new(alloc);
+    params_names(&mut own, function.params.as_slice(), at)?;
+    locals_names(&mut own, function.locals.as_slice(), at)
+}
+
+// The names that the statements of a function use.
+fn body_names<'a>(
+    alloc: Global,
+    environment: &Environment<'a>,
+    function: &'a Function,
+    at: &mut u64,
+) -> Result<(), AsmRefusal>
+    requires complete { IsComplete environment.now }
+    requires room { at.old + stmts_count (function_view function.now).body < 2 ^ 64 }
+    ensures row { MatchResult result (λ _. first (body_rows (module_view environment.now.home.now) (function_view function.now) at.old) ≡ None) (IsRow (body_rows (module_view environment.now.home.now) (function_view function.now) at.old)) }
+    ensures counted { IfOk result (λ _. at.new ≡ at.old + stmts_count (function_view function.now).body) }
+{
+    let scope = Scope::new(alloc, environment, function)?;
+    stmts_names(&scope, function.body.as_slice(), at)?;
+    Ok(())
+}
+
 // The names of parameters, locals and statements.
-#[tactic(auto, using(crate::proofs::Rest::lists))]
 fn inner_names<'a>(
     alloc: Global,
     environment: &Environment<'a>,
@@ -67,16 +94,11 @@ fn inner_names<'a>(
     ensures row { MatchResult result (λ _. first (inner_rows (module_view environment.now.home.now) (function_view function.now) at.old) ≡ None) (IsRow (inner_rows (module_view environment.now.home.now) (function_view function.now) at.old)) }
     ensures counted { IfOk result (λ _. at.new ≡ at.old + inner_count (function_view function.now)) }
 {
-    let mut own = IndexSet::new(alloc);
-    params_names(&mut own, function.params.as_slice(), at)?;
-    locals_names(&mut own, function.locals.as_slice(), at)?;
-    let scope = Scope::new(alloc, environment, function)?;
-    stmts_names(&scope, function.body.as_slice(), at)?;
-    Ok(())
+    own_names(alloc, function, at)?;
+    body_names(alloc, environment, function, at)
 }
 
 /// The names of a function, after those that were seen. `at` is the number of its node.
-#[tactic(auto, using(crate::proofs::Rest::lists))]
 fn function_names<'a>(
     alloc: Global,
     environment: &Environment<'a>,

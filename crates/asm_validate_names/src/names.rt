@@ -1,11 +1,11 @@
 //! The first phase of validation: names.
 
-ghost use Rattle.std.specs.Prelude.{◌≡◌, ◌++◌, ◌<◌, ◌^◌, [], None, true, IfOk, MatchResult};
+ghost use Rattle.std.specs.Prelude.{◌≡◌, ◌+◌, ◌++◌, ◌<◌, ◌^◌, [], None, true, length, IfOk, MatchResult};
 ghost use Rattle.asm_tree.specs.Views.{module_view, texts_view};
-ghost use Rattle.asm_lang_valid.specs.Rows.{first, module_count};
+ghost use Rattle.asm_lang_valid.specs.Rows.{first, functions_at, module_count};
 ghost use Rattle.asm_lang_valid.specs.NameRows as rows;
 ghost use Rattle.asm_validate_names.specs.Environments.{IsComplete};
-ghost use Rattle.asm_validate_names.specs.Heading.{heading_rows, rest_rows};
+ghost use Rattle.asm_validate_names.specs.Heading.{heading_rows, variables_rows, later_rows, rest_rows};
 ghost use Rattle.asm_validate_names.specs.Refusals.{IsRow};
 ghost use Rattle.asm_validate_names.specs.Seen.{names};
 
@@ -42,8 +42,22 @@ fn module_names(alloc: Global, environment: &Environment<'_>) -> Result<(), AsmR
     ensures { MatchResult result (λ _. first (rows.name_rows (module_view environment.now.home.now)) ≡ None) (IsRow (rows.name_rows (module_view environment.now.home.now))) }
 {
     let mut seen = IndexSet::new(alloc);
-    heading_names(&mut seen, environment.home())?;
-    declared_names(alloc, environment, &mut seen)
+    all_names(alloc, environment, &mut seen)
+}
+
+// .. where none was seen before.
+fn all_names<'a>(
+    alloc: Global,
+    environment: &Environment<'a>,
+    seen: &mut IndexSet<&'a [u8]>,
+) -> Result<(), AsmRefusal>
+    requires complete { IsComplete environment.now }
+    requires none { names seen.old ≡ [] }
+    requires room { module_count (module_view environment.now.home.now) < 2 ^ 64 }
+    ensures { MatchResult result (λ _. first (rows.name_rows (module_view environment.now.home.now)) ≡ None) (IsRow (rows.name_rows (module_view environment.now.home.now))) }
+{
+    heading_names(seen, environment.home())?;
+    declared_names(alloc, environment, seen)
 }
 
 // The names of declarations, after those of the module's parameters.
@@ -57,19 +71,46 @@ fn declared_names<'a>(
     requires room { module_count (module_view environment.now.home.now) < 2 ^ 64 }
     ensures { MatchResult result (λ _. first (rest_rows (module_view environment.now.home.now)) ≡ None) (IsRow (rest_rows (module_view environment.now.home.now))) }
 {
-    let home = environment.home();
-    let mut imports = Imports::new(alloc);
     let mut at = 1;
-    globals_names(
-        environment,
-        seen,
-        &mut imports,
-        home.globals.as_slice(),
-        &mut at,
-    )?;
-    functions_names(alloc, environment, seen, home.functions.as_slice(), &mut at)?;
-    tables_names(environment, seen, home.tables.as_slice(), &mut at)?;
-    exports_names(alloc, environment, &home.exports, at)
+    variables_names(alloc, environment, seen, &mut at)?;
+    later_names(alloc, environment, seen, &mut at)
+}
+
+// The names of global variables, after those that were seen. `at` is the number of the first one's node.
+fn variables_names<'a>(
+    alloc: Global,
+    environment: &Environment<'a>,
+    seen: &mut IndexSet<&'a [u8]>,
+    at: &mut u64,
+) -> Result<(), AsmRefusal>
+    requires complete { IsComplete environment.now }
+    requires room { at.old + length (module_view environment.now.home.now).globals < 2 ^ 64 }
+    ensures row { MatchResult result (λ _. first (variables_rows (module_view environment.now.home.now) (names seen.old) at.old) ≡ None) (IsRow (variables_rows (module_view environment.now.home.now) (names seen.old) at.old)) }
+    ensures seen { IfOk result (λ _. names seen.new ≡ names seen.old ++ rows.global_texts (module_view environment.now.home.now)) }
+    ensures counted { IfOk result (λ _. at.new ≡ at.old + length (module_view environment.now.home.now).globals) }
+{
+    let mut imports = Imports::new(alloc);
+    let globals = environment.home().globals.as_slice();
+    globals_names(environment, seen, &mut imports, globals, at)
+}
+
+// The names of functions, tables and exports, after those of global variables.
+fn later_names<'a>(
+    alloc: Global,
+    environment: &Environment<'a>,
+    seen: &mut IndexSet<&'a [u8]>,
+    at: &mut u64,
+) -> Result<(), AsmRefusal>
+    requires complete { IsComplete environment.now }
+    requires before { names seen.old ≡ (module_view environment.now.home.now).params ++ rows.global_texts (module_view environment.now.home.now) }
+    requires place { at.old ≡ functions_at (module_view environment.now.home.now) }
+    requires room { module_count (module_view environment.now.home.now) < 2 ^ 64 }
+    ensures { MatchResult result (λ _. first (later_rows (module_view environment.now.home.now)) ≡ None) (IsRow (later_rows (module_view environment.now.home.now))) }
+{
+    let home = environment.home();
+    functions_names(alloc, environment, seen, home.functions.as_slice(), at)?;
+    tables_names(environment, seen, home.tables.as_slice(), at)?;
+    exports_names(alloc, environment, &home.exports, *at)
 }
 
 // The names of the module and of its parameters.
