@@ -56,7 +56,6 @@ pub(crate) fn ends_part(part: &ForPart, token: &Lexeme<'_>) -> bool
 }
 
 /// A token where an expression may be left out.
-#[tactic(auto, using(crate::proofs::StepLemmas::part_steps))]
 pub(crate) fn part_step(
     alloc: Global,
     at: u64,
@@ -110,7 +109,6 @@ fn jump(kind: Jump, at: u64, label: Option<Text>) -> TallStmt
 }
 
 /// A token after `break` or `continue`: a label stands in the same line, if there is one.
-#[tactic(auto, using(crate::proofs::StepLemmas::missing))]
 pub(crate) fn target_step(
     alloc: Global,
     kind: Jump,
