@@ -2,7 +2,7 @@
 use Rattle.std.proofs.Common.{◌≡◌, ℕ, List, Option, Some, None, Result, Ok, Err, IfOk, refl, sym, ap, ◌∙◌}
 use Rattle.std.specs.Prelude.{Bool, true, false, if◌then◌else◌}
 use Rattle.sem_words.specs.declared.js_value.JsOp.TheVariants.{Add}
-use Rattle.asm_lang.specs.Lexemes.{Lexeme, close_paren}
+use Rattle.asm_lang.specs.Lexemes.{Class, Lexeme, close_paren}
 use Rattle.asm_lang.specs.Grammar.{may_miss_before}
 use Rattle.asm_lang.specs.Trees.{ExprTree, StmtTree, plain}
 use Rattle.asm_lang.specs.Machine.{State, ends, Step, goes, stuck, feed, same_class, begins_expr, end_by, do_end_by, arm_by, expr_by, name_by, stmt_by, stmt_name_by, target_by}
@@ -26,6 +26,13 @@ if_true false x y is = absurd cc
 if_false : {A : Type 0} (b : Bool) (x y : A) → b ≡ false → (if b then x else y) ≡ y
 if_false true x y is = absurd cc
 if_false false x y is = refl
+
+-- the token that is wanted, and another
+pub wanted : (c : Class) (t : Lexeme) (s : Step) (b : Bool) → b ≡ same_class c t.class → b ≡ true → s ≡ (if same_class c t.class then s else stuck t)
+wanted c t s b is taken = sym (if_true (same_class c t.class) s (stuck t) (sym is ∙ taken))
+
+pub unwanted : (c : Class) (t : Lexeme) (s : Step) (b : Bool) → b ≡ same_class c t.class → b ≡ false → stuck t ≡ (if same_class c t.class then s else stuck t)
+unwanted c t s b is left = sym (if_false (same_class c t.class) s (stuck t) (sym is ∙ left))
 
 end_goes : (c : CodeClass) (t : Lexeme) (s : State) (last : Step) → (c ≡ classes.Semicolon → ⊥) → (if may_miss_before (class_view c) t.line then last else stuck t) ≡ end_by (class_view c) t s last
 end_goes classes.Semicolon t s last no_end = absurd (no_end refl)

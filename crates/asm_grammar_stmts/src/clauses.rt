@@ -21,7 +21,6 @@ use sem_words::JsOp;
 use std::alloc::{AllocError, Global};
 
 /// The `{` of a switch.
-#[tactic(auto, using(crate::proofs::Following::following))]
 pub(crate) fn subject_step(
     alloc: Global,
     at: u64,
@@ -31,16 +30,17 @@ pub(crate) fn subject_step(
 ) -> Result<BodyStep, AllocError>
     ensures { IfOk result (λ r. (k : StmtTrees → Step) → body_step_view r k (lexeme_view token.now) ≡ advance (subject_view at (tall_view subject) (around_view around k)) (lexeme_view token.now)) }
 {
-    if !is(token.class, Sign::OpenBrace) {
-        return Ok(BodyStep::Stuck);
+    if is(token.class, Sign::OpenBrace) {
+        let clauses = TallClauses::new(alloc);
+        let switch = Switch {
+            at,
+            subject,
+            clauses,
+        };
+        Ok(on(State::InSwitch(SwitchPart::Clause, switch), around))
+    } else {
+        Ok(BodyStep::Stuck)
     }
-    let clauses = TallClauses::new(alloc);
-    let switch = Switch {
-        at,
-        subject,
-        clauses,
-    };
-    Ok(on(State::InSwitch(SwitchPart::Clause, switch), around))
 }
 
 /// A token where a clause of a switch may begin, or its end.
@@ -132,14 +132,14 @@ pub(crate) fn case_step(
 ) -> Result<BodyStep, AllocError>
     ensures { IfOk result (λ r. (k : StmtTrees → Step) → body_step_view r k (lexeme_view token.now) ≡ feed (case_view value (switch_view switch (around_view around k))) (lexeme_view token.now)) }
 {
-    if !is(token.class, Sign::Colon) {
-        return Ok(BodyStep::Stuck);
+    if is(token.class, Sign::Colon) {
+        enter(Frame::CaseItem(value, Items::new(alloc), switch), around)
+    } else {
+        Ok(BodyStep::Stuck)
     }
-    enter(Frame::CaseItem(value, Items::new(alloc), switch), around)
 }
 
 /// The `:` after `default`.
-#[tactic(auto, using(crate::proofs::Following::following))]
 pub(crate) fn default_step(
     alloc: Global,
     switch: Switch,
@@ -148,13 +148,12 @@ pub(crate) fn default_step(
 ) -> Result<BodyStep, AllocError>
     ensures { IfOk result (λ r. (k : StmtTrees → Step) → body_step_view r k (lexeme_view token.now) ≡ advance (default_view (switch_view switch (around_view around k))) (lexeme_view token.now)) }
 {
-    if !is(token.class, Sign::Colon) {
-        return Ok(BodyStep::Stuck);
+    if is(token.class, Sign::Colon) {
+        let listing = Listing::Default(switch);
+        enter(Frame::Item(Items::new(alloc), listing), around)
+    } else {
+        Ok(BodyStep::Stuck)
     }
-    enter(
-        Frame::Item(Items::new(alloc), Listing::Default(switch)),
-        around,
-    )
 }
 
 /// What the `}` after the statements of a list ends.

@@ -26,11 +26,12 @@ pub(crate) fn condition_step(
 ) -> Result<BodyStep, AllocError>
     ensures { IfOk result (λ r. (k : StmtTrees → Step) → body_step_view r k (lexeme_view token.now) ≡ advance (condition (condition_view kind (around_view around k))) (lexeme_view token.now)) }
 {
-    if !is(token.class, Sign::OpenParen) {
-        return Ok(BodyStep::Stuck);
+    if is(token.class, Sign::OpenParen) {
+        let expr = ExprReading::start(alloc, 0);
+        Ok(on(State::Expression(expr, Purpose::Condition(kind)), around))
+    } else {
+        Ok(BodyStep::Stuck)
     }
-    let expr = ExprReading::start(alloc, 0);
-    Ok(on(State::Expression(expr, Purpose::Condition(kind)), around))
 }
 
 /// The `(` of a for statement.
