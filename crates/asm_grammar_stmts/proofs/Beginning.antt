@@ -66,5 +66,3 @@ no_done _ t k h = refl
 -- an expression isn't complete before its first token
 pub nothing_done : (t : Lexeme) (e : ExprTree) → ((k : ExprTree → State) → feed (k e) t ≡ expr_by t.class t 0 k) → (k : ExprTree → State) → stuck t ≡ expr_by t.class t 0 k
 nothing_done t e h k = no_done t.class t k (h (λ x. at_clauses (λ cs. stuck t)))
-
-pub ruleset beginning = (begin_feed, ended_feed, clause_ended, no_clause_begins)

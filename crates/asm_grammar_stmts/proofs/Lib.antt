@@ -5,4 +5,5 @@ pub mod StackLemmas
 pub mod StepLemmas
 pub mod RisingStacks
 pub mod RisingStates
+pub mod Steps
 pub mod Stops

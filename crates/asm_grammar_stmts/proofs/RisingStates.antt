@@ -1,6 +1,6 @@
 -- The peak of each state of a body.
 use Rattle.std.proofs.Common.{◌≡◌, ℕ, suc, List, [], ◌∷◌, None, refl, sym, ap, ◌∙◌}
-use Rattle.asm_lang.specs.Trees.{ExprTree, StmtTree, returns, StmtTrees}
+use Rattle.asm_lang.specs.Trees.{ExprTree, StmtTree, returns, StmtTrees, ClauseTrees}
 use Rattle.asm_lang.specs.Machine.{State, Step, after_stmt_name, at_return, at_target, after_arm}
 use Rattle.asm_lang.specs.TreeHeights.{height, counted as stmt_count}
 use Rattle.asm_laws_height.specs.Peaks.{peak, step_peak}
@@ -17,13 +17,15 @@ use Rattle.asm_grammar_stmts.specs.declared.state.ForPart.{ForPart}
 use Rattle.asm_grammar_stmts.specs.declared.state.ForPart.TheVariants as parts
 use Rattle.asm_grammar_stmts.specs.declared.state.Jump.{Jump}
 use Rattle.asm_grammar_stmts.specs.declared.state.Purpose.{Purpose}
+use Rattle.asm_grammar_stmts.specs.declared.state.SwitchPart.{SwitchPart}
+use Rattle.asm_grammar_stmts.specs.declared.state.SwitchPart.TheVariants as switch_parts
 use Rattle.asm_grammar_stmts.specs.declared.state.State.{State as CodeState}
 use Rattle.asm_grammar_stmts.specs.declared.state.BodyReading.{BodyReading}
 use Rattle.asm_grammar_stmts.specs.Frames.{frames_list}
 use Rattle.asm_grammar_stmts.specs.Items.{items_view}
 use Rattle.asm_grammar_stmts.specs.Purposes.{purpose_rise, counted_purpose}
 use Rattle.asm_grammar_stmts.specs.Reach.{Reach, frames_reach, capped_reach, capped_body}
-use Rattle.asm_grammar_stmts.specs.Views.{around_view, frames_next, next_view, frames_last, part_view, purpose_view, jump_view, inner_view, body_view}
+use Rattle.asm_grammar_stmts.specs.Views.{around_view, frames_next, next_view, frames_last, part_view, purpose_view, jump_view, in_switch_view, inner_view, body_view}
 use Rattle.asm_grammar_stmts.proofs.Rising.{frames_end, stmt_peak, known_peak, return_high, jump_high, name_peak, arm_peak, purpose_ends, purpose_is}
 
 abbrev pub reach_of : Around → Reach
@@ -76,6 +78,16 @@ part_none : (at : ℕ) (p : ForPart) (k : StmtTree → State) → peak (part_vie
 part_none at parts.First k = refl
 part_none at (parts.Condition a) k = refl
 part_none at (parts.Step a b) k = refl
+
+in_switch_none : (p : SwitchPart) (k : ClauseTrees → Step) → step_peak (in_switch_view p k) ≡ 0
+in_switch_none switch_parts.Clause k = refl
+in_switch_none switch_parts.Value k = refl
+in_switch_none (switch_parts.Negative m) k = refl
+in_switch_none (switch_parts.CaseColon v) k = refl
+in_switch_none switch_parts.DefaultColon k = refl
+
+pub in_switch_state : (p : SwitchPart) (k : ClauseTrees → Step) (m : ℕ) → m ≡ 0 → m ≡ counted (step_peak (in_switch_view p k))
+in_switch_state p k m is = is ∙ ap counted (sym (in_switch_none p k))
 
 pub part_state : (at : ℕ) (p : ForPart) (k : StmtTree → State) (m : ℕ) → m ≡ 0 → m ≡ counted (peak (part_view at p k))
 part_state at p k m is = is ∙ ap counted (sym (part_none at p k))

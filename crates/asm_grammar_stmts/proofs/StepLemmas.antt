@@ -1,10 +1,11 @@
 -- What a token does at a step that asks for others.
-use Rattle.std.proofs.Common.{◌≡◌, ℕ, List, Option, Some, None, Result, Ok, Err, IfOk, refl, sym, ◌∙◌}
+use Rattle.std.proofs.Common.{◌≡◌, ℕ, List, Option, Some, None, Result, Ok, Err, IfOk, refl, sym, ap, ◌∙◌}
 use Rattle.std.specs.Prelude.{Bool, true, false, if◌then◌else◌}
-use Rattle.asm_lang.specs.Lexemes.{Lexeme}
+use Rattle.sem_words.specs.declared.js_value.JsOp.TheVariants.{Add}
+use Rattle.asm_lang.specs.Lexemes.{Class, Lexeme, close_paren}
 use Rattle.asm_lang.specs.Grammar.{may_miss_before}
 use Rattle.asm_lang.specs.Trees.{ExprTree, StmtTree, plain}
-use Rattle.asm_lang.specs.Machine.{State, ends, Step, stuck, feed, same_class, begins_expr, end_by, do_end_by, arm_by, expr_by, name_by, stmt_by, stmt_name_by, target_by}
+use Rattle.asm_lang.specs.Machine.{State, ends, Step, goes, stuck, feed, same_class, begins_expr, end_by, do_end_by, arm_by, expr_by, name_by, stmt_by, stmt_name_by, target_by}
 use Rattle.asm_grammar_nodes.specs.declared.lexeme.Class.{Class as CodeClass}
 use Rattle.asm_grammar_nodes.specs.declared.lexeme.Class.TheVariants as classes
 use Rattle.asm_grammar_nodes.specs.Views.{class_view}
@@ -25,6 +26,13 @@ if_true false x y is = absurd cc
 if_false : {A : Type 0} (b : Bool) (x y : A) → b ≡ false → (if b then x else y) ≡ y
 if_false true x y is = absurd cc
 if_false false x y is = refl
+
+-- the token that is wanted, and another
+pub wanted : (c : Class) (t : Lexeme) (s : Step) (b : Bool) → b ≡ same_class c t.class → b ≡ true → s ≡ (if same_class c t.class then s else stuck t)
+wanted c t s b is taken = sym (if_true (same_class c t.class) s (stuck t) (sym is ∙ taken))
+
+pub unwanted : (c : Class) (t : Lexeme) (s : Step) (b : Bool) → b ≡ same_class c t.class → b ≡ false → stuck t ≡ (if same_class c t.class then s else stuck t)
+unwanted c t s b is left = sym (if_false (same_class c t.class) s (stuck t) (sym is ∙ left))
 
 end_goes : (c : CodeClass) (t : Lexeme) (s : State) (last : Step) → (c ≡ classes.Semicolon → ⊥) → (if may_miss_before (class_view c) t.line then last else stuck t) ≡ end_by (class_view c) t s last
 end_goes classes.Semicolon t s last no_end = absurd (no_end refl)
@@ -57,6 +65,17 @@ no_label _ t n k last no_colon = refl
 pub no_target : (c : CodeClass) (t : Lexeme) (k : Option (List ℕ) → State) (last : Step) → (c ≡ classes.Identifier → ⊥) → target_by (class_view c) t k last ≡ last
 no_target classes.Identifier t k last no_name = absurd (no_name refl)
 no_target _ t k last no_name = refl
+
+pub target_last : (c : CodeClass) (t : Lexeme) (k : Option (List ℕ) → State) (last : Step) → c ≡ classes.Identifier → t.line ≡ true → target_by (class_view c) t k last ≡ last
+target_last c t k last is line = ap (λ (d : CodeClass). target_by (class_view d) t k last) is ∙ if_true t.line last (goes (ends (k (Some t.text)))) line
+
+pub target_named : (c : CodeClass) (t : Lexeme) (k : Option (List ℕ) → State) (last : Step) → c ≡ classes.Identifier → t.line ≡ false → target_by (class_view c) t k last ≡ goes (ends (k (Some t.text)))
+target_named c t k last is line = ap (λ (d : CodeClass). target_by (class_view d) t k last) is ∙ if_false t.line last (goes (ends (k (Some t.text)))) line
+
+pub closed_wanted : (c : CodeClass) (t : Lexeme) (s : Step) → (c ≡ classes.CloseParen → ⊥) → stuck t ≡ (if same_class close_paren (class_view c) then s else stuck t)
+closed_wanted classes.CloseParen t s no_close = absurd (no_close refl)
+closed_wanted (classes.Operator Add) t s no_close = refl
+closed_wanted _ t s no_close = refl
 
 pub ruleset missing = (end_missing, end_wanted, do_ended, arm_ended, no_label, no_target)
 
@@ -99,8 +118,6 @@ unfolding left_out
 part_stays p at k t no_expr is =
     part_feed p at k t ∙ if_false (begins_expr t.class) (expr_by t.class t 0 (part_closes at p k)) (left_out p at k t) no_expr
     ∙ if_false (same_class (part_end p) t.class) (part_after at p k None) (stuck t) is
-
-pub ruleset part_steps = (closed_ends, closed_stays, part_begun, part_ends, part_stays)
 
 -- ---- a token that begins a statement
 

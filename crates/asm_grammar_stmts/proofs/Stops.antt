@@ -1,7 +1,7 @@
 -- Reading that stops within a body has not come to the end of a module.
 use Rattle.std.proofs.Common.{◌≡◌, ℕ, List, [], ◌∷◌, refl, ap, ◌∙◌}
 use Rattle.sem_words.specs.Lists.{list_items}
-use Rattle.asm_lang.specs.Trees.{ExprTree, StmtTree, plain, variable, if_only, if_else, returns, while_loop, for_loop, StmtTrees}
+use Rattle.asm_lang.specs.Trees.{ExprTree, StmtTree, plain, variable, if_only, if_else, returns, while_loop, for_loop, StmtTrees, ClauseTrees}
 use Rattle.asm_lang.specs.Machine.{State, Step, ended, stops, failed, grammar}
 use Rattle.std.specs.Prelude.{Some, None}
 use Rattle.asm_grammar_nodes.specs.Views.{words_view, word_view, under_all}
@@ -15,12 +15,14 @@ use Rattle.asm_grammar_stmts.specs.declared.state.ForPart.{ForPart}
 use Rattle.asm_grammar_stmts.specs.declared.state.ForPart.TheVariants as parts
 use Rattle.asm_grammar_stmts.specs.declared.state.Purpose.{Purpose}
 use Rattle.asm_grammar_stmts.specs.declared.state.Purpose.TheVariants as purposes
+use Rattle.asm_grammar_stmts.specs.declared.state.SwitchPart.{SwitchPart}
+use Rattle.asm_grammar_stmts.specs.declared.state.SwitchPart.TheVariants as switch_parts
 use Rattle.asm_grammar_stmts.specs.declared.state.State.{State as CodeState}
 use Rattle.asm_grammar_stmts.specs.declared.state.State.TheVariants as states
 use Rattle.asm_grammar_stmts.specs.declared.state.BodyReading.{BodyReading}
 use Rattle.asm_grammar_stmts.specs.Frames.{frames_list}
 use Rattle.asm_grammar_stmts.specs.Items.{items_view}
-use Rattle.asm_grammar_stmts.specs.Views.{in_body, frames_view, frames_next, around_view, next_view, part_view, part_closes, purpose_view, jump_view, inner_view, body_view}
+use Rattle.asm_grammar_stmts.specs.Views.{in_body, frames_view, frames_next, around_view, next_view, part_view, part_closes, purpose_view, switch_view, jump_view, in_switch_view, inner_view, body_view}
 use Rattle.asm_grammar_stmts.proofs.Following.{under_labels-all}
 
 abbrev pub ExpressionsGoOn : Type 0
@@ -62,6 +64,13 @@ purpose_goes_on (purposes.Returned at) a k e = around_goes_on a k (returns at (S
 purpose_goes_on (purposes.Condition c) a k e = refl
 purpose_goes_on (purposes.For at p) a k e = part_closed_goes_on p at a k e
 
+in_switch_goes_on : (p : SwitchPart) (k : ClauseTrees → Step) → stops (in_switch_view p k) ≡ failed grammar []
+in_switch_goes_on switch_parts.Clause k = refl
+in_switch_goes_on switch_parts.Value k = refl
+in_switch_goes_on (switch_parts.Negative m) k = refl
+in_switch_goes_on (switch_parts.CaseColon v) k = refl
+in_switch_goes_on switch_parts.DefaultColon k = refl
+
 inner_goes_on : ExpressionsGoOn → (s : CodeState) (a : Around) (k : StmtTrees → Step) → stops (inner_view s (next_view a k) (around_view a k)) ≡ failed grammar []
 inner_goes_on law states.Statement a k = next_goes_on (frames_list a.frames) (items_view a.body) k
 inner_goes_on law (states.Name n) a k = around_goes_on a k (plain (word_view n).at (variable (word_view n).at (word_view n).text))
@@ -76,11 +85,7 @@ inner_goes_on law (states.DoEnd s) a k = around_goes_on a k (stmt_tall_view s)
 inner_goes_on law (states.AfterArm at c s) a k = around_goes_on a k (if_only at (tall_view c) (stmt_tall_view s))
 inner_goes_on law (states.AfterBody at s) a k = refl
 inner_goes_on law (states.SwitchBrace at e) a k = refl
-inner_goes_on law (states.Clause w) a k = refl
-inner_goes_on law (states.Value w) a k = refl
-inner_goes_on law (states.Negative m w) a k = refl
-inner_goes_on law (states.CaseColon v w) a k = refl
-inner_goes_on law (states.DefaultColon w) a k = refl
+inner_goes_on law (states.InSwitch p w) a k = in_switch_goes_on p (switch_view w (around_view a k))
 
 pub bodies_go_on : ExpressionsGoOn → (r : BodyReading) (k : StmtTrees → Step) → stops (body_view r k) ≡ failed grammar []
 bodies_go_on law r k = inner_goes_on law r.state r.around k

@@ -26,6 +26,8 @@ use Rattle.asm_grammar_stmts.specs.declared.state.Purpose.{Purpose}
 use Rattle.asm_grammar_stmts.specs.declared.state.Purpose.TheVariants as purposes
 use Rattle.asm_grammar_stmts.specs.declared.state.Jump.{Jump}
 use Rattle.asm_grammar_stmts.specs.declared.state.Jump.TheVariants as jumps
+use Rattle.asm_grammar_stmts.specs.declared.state.SwitchPart.{SwitchPart}
+use Rattle.asm_grammar_stmts.specs.declared.state.SwitchPart.TheVariants as switch_parts
 use Rattle.asm_grammar_stmts.specs.declared.state.State.{State as CodeState}
 use Rattle.asm_grammar_stmts.specs.declared.state.State.TheVariants as states
 use Rattle.asm_grammar_stmts.specs.declared.state.BodyReading.{BodyReading}
@@ -170,6 +172,14 @@ case_view v k = closes colon refl (goes (in_case v no_stmt k))
 abbrev pub default_view : (ClauseTrees → Step) → Step
 default_view k = expects (sign colon) (λ u. goes (at_stmts no_stmt (λ ss. k (one_clause None ss no_clause))))
 
+-- within the braces of a switch
+abbrev pub in_switch_view : SwitchPart → (ClauseTrees → Step) → Step
+in_switch_view switch_parts.Clause k = goes (at_clauses k)
+in_switch_view switch_parts.Value k = goes (at_literal false (value_view k))
+in_switch_view (switch_parts.Negative m) k = goes (after_sign false (word_view m) (value_view k))
+in_switch_view (switch_parts.CaseColon v) k = goes (case_view v k)
+in_switch_view switch_parts.DefaultColon k = default_view k
+
 -- the states in which the innermost statement is, where k follows it
 abbrev pub inner_view : CodeState → State → (StmtTree → State) → Step
 inner_view states.Statement next k = goes next
@@ -185,11 +195,7 @@ inner_view (states.DoEnd s) next k = goes (ends_do (k (stmt_tall_view s)))
 inner_view (states.AfterArm at c s) next k = goes (after_arm at (tall_view c) (stmt_tall_view s) k)
 inner_view (states.AfterBody at s) next k = goes (after_body (stmt_tall_view s) (do_condition at (stmt_tall_view s) k))
 inner_view (states.SwitchBrace at e) next k = subject_view at (tall_view e) k
-inner_view (states.Clause w) next k = goes (at_clauses (switch_view w k))
-inner_view (states.Value w) next k = goes (at_literal false (value_view (switch_view w k)))
-inner_view (states.Negative m w) next k = goes (after_sign false (word_view m) (value_view (switch_view w k)))
-inner_view (states.CaseColon v w) next k = goes (case_view v (switch_view w k))
-inner_view (states.DefaultColon w) next k = default_view (switch_view w k)
+inner_view (states.InSwitch p w) next k = in_switch_view p (switch_view w k)
 
 -- the state of reading, where k follows the whole body
 abbrev pub body_view : BodyReading → (StmtTrees → Step) → Step

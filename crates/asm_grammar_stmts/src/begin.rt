@@ -18,7 +18,6 @@ use asm_grammar_nodes::{Class, Lexeme, TallStmt, Word};
 use std::alloc::{AllocError, Global};
 
 /// A token where a statement is to come, or where a list may end.
-#[tactic(auto, using(crate::proofs::Beginning::beginning))]
 pub(crate) fn statement_step(
     alloc: Global,
     around: Around,

@@ -15,13 +15,12 @@ use crate::finish::{enter, finish};
 use crate::frame::{Frame, Listing, Switch};
 use crate::frames::Around;
 use crate::items::Items;
-use crate::state::{BodyStep, State, on};
+use crate::state::{BodyStep, State, SwitchPart, on};
 use asm_grammar_nodes::{Class, Lexeme, TallClauses, TallExpr, TallStmt, TallStmts, Word};
 use sem_words::JsOp;
 use std::alloc::{AllocError, Global};
 
 /// The `{` of a switch.
-#[tactic(auto, using(crate::proofs::Following::following))]
 pub(crate) fn subject_step(
     alloc: Global,
     at: u64,
@@ -31,20 +30,20 @@ pub(crate) fn subject_step(
 ) -> Result<BodyStep, AllocError>
     ensures { IfOk result (λ r. (k : StmtTrees → Step) → body_step_view r k (lexeme_view token.now) ≡ advance (subject_view at (tall_view subject) (around_view around k)) (lexeme_view token.now)) }
 {
-    if !is(token.class, Sign::OpenBrace) {
-        return Ok(BodyStep::Stuck);
+    if is(token.class, Sign::OpenBrace) {
+        let clauses = TallClauses::new(alloc);
+        let switch = Switch {
+            at,
+            subject,
+            clauses,
+        };
+        Ok(on(State::InSwitch(SwitchPart::Clause, switch), around))
+    } else {
+        Ok(BodyStep::Stuck)
     }
-    let clauses = TallClauses::new(alloc);
-    let switch = Switch {
-        at,
-        subject,
-        clauses,
-    };
-    Ok(on(State::Clause(switch), around))
 }
 
 /// A token where a clause of a switch may begin, or its end.
-#[tactic(auto, using(crate::proofs::Following::following))]
 pub(crate) fn next_clause(
     alloc: Global,
     switch: Switch,
@@ -54,14 +53,16 @@ pub(crate) fn next_clause(
     ensures { IfOk result (λ r. (k : StmtTrees → Step) (t : Token) → body_step_view r k t ≡ clauses_by (end_class end) t (switch_view switch (around_view around k))) }
 {
     match end {
-        ListEnd::Case => Ok(on(State::Value(switch), around)),
-        ListEnd::Default => Ok(on(State::DefaultColon(switch), around)),
+        ListEnd::Case => Ok(on(State::InSwitch(SwitchPart::Value, switch), around)),
+        ListEnd::Default => {
+            let part = SwitchPart::DefaultColon;
+            Ok(on(State::InSwitch(part, switch), around))
+        }
         ListEnd::Brace => finish(alloc, switch.stmt(), around),
     }
 }
 
 /// A token where a clause of a switch may begin.
-#[tactic(auto, using(crate::proofs::Beginning::beginning))]
 pub(crate) fn clause_step(
     alloc: Global,
     switch: Switch,
@@ -86,9 +87,15 @@ pub(crate) fn value_step(
     ensures { IfOk result (λ r. (k : StmtTrees → Step) → body_step_view r k (lexeme_view token.now) ≡ feed (at_literal false (value_view (switch_view switch (around_view around k)))) (lexeme_view token.now)) }
 {
     match token.class {
-        Class::Number => Ok(on(State::CaseColon(i128::from(token.value), switch), around)),
+        Class::Number => {
+            let part = SwitchPart::CaseColon(i128::from(token.value));
+            Ok(on(State::InSwitch(part, switch), around))
+        }
         Class::Operator(JsOp::Sub) => match Word::of(alloc, token) {
-            Ok(minus) => Ok(on(State::Negative(minus, switch), around)),
+            Ok(minus) => {
+                let part = SwitchPart::Negative(minus);
+                Ok(on(State::InSwitch(part, switch), around))
+            }
             Err(error) => Err(error),
         },
         _ => Ok(BodyStep::Stuck),
@@ -108,8 +115,8 @@ pub(crate) fn negative_step(
             if token.value == 0 {
                 return Ok(BodyStep::Stuck);
             }
-            let value = -i128::from(token.value);
-            Ok(on(State::CaseColon(value, switch), around))
+            let part = SwitchPart::CaseColon(-i128::from(token.value));
+            Ok(on(State::InSwitch(part, switch), around))
         }
         _ => Ok(BodyStep::Stuck),
     }
@@ -125,14 +132,14 @@ pub(crate) fn case_step(
 ) -> Result<BodyStep, AllocError>
     ensures { IfOk result (λ r. (k : StmtTrees → Step) → body_step_view r k (lexeme_view token.now) ≡ feed (case_view value (switch_view switch (around_view around k))) (lexeme_view token.now)) }
 {
-    if !is(token.class, Sign::Colon) {
-        return Ok(BodyStep::Stuck);
+    if is(token.class, Sign::Colon) {
+        enter(Frame::CaseItem(value, Items::new(alloc), switch), around)
+    } else {
+        Ok(BodyStep::Stuck)
     }
-    enter(Frame::CaseItem(value, Items::new(alloc), switch), around)
 }
 
 /// The `:` after `default`.
-#[tactic(auto, using(crate::proofs::Following::following))]
 pub(crate) fn default_step(
     alloc: Global,
     switch: Switch,
@@ -141,13 +148,12 @@ pub(crate) fn default_step(
 ) -> Result<BodyStep, AllocError>
     ensures { IfOk result (λ r. (k : StmtTrees → Step) → body_step_view r k (lexeme_view token.now) ≡ advance (default_view (switch_view switch (around_view around k))) (lexeme_view token.now)) }
 {
-    if !is(token.class, Sign::Colon) {
-        return Ok(BodyStep::Stuck);
+    if is(token.class, Sign::Colon) {
+        let listing = Listing::Default(switch);
+        enter(Frame::Item(Items::new(alloc), listing), around)
+    } else {
+        Ok(BodyStep::Stuck)
     }
-    enter(
-        Frame::Item(Items::new(alloc), Listing::Default(switch)),
-        around,
-    )
 }
 
 /// What the `}` after the statements of a list ends.

@@ -89,7 +89,6 @@ pub(crate) fn do_end_step(
 }
 
 /// A token after the first arm of an `if`.
-#[tactic(auto, using(crate::proofs::StepLemmas::missing))]
 pub(crate) fn arm_step(
     alloc: Global,
     at: u64,

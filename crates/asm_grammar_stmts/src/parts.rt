@@ -26,11 +26,12 @@ pub(crate) fn condition_step(
 ) -> Result<BodyStep, AllocError>
     ensures { IfOk result (λ r. (k : StmtTrees → Step) → body_step_view r k (lexeme_view token.now) ≡ advance (condition (condition_view kind (around_view around k))) (lexeme_view token.now)) }
 {
-    if !is(token.class, Sign::OpenParen) {
-        return Ok(BodyStep::Stuck);
+    if is(token.class, Sign::OpenParen) {
+        let expr = ExprReading::start(alloc, 0);
+        Ok(on(State::Expression(expr, Purpose::Condition(kind)), around))
+    } else {
+        Ok(BodyStep::Stuck)
     }
-    let expr = ExprReading::start(alloc, 0);
-    Ok(on(State::Expression(expr, Purpose::Condition(kind)), around))
 }
 
 /// The `(` of a for statement.
@@ -56,7 +57,6 @@ pub(crate) fn ends_part(part: &ForPart, token: &Lexeme<'_>) -> bool
 }
 
 /// A token where an expression may be left out.
-#[tactic(auto, using(crate::proofs::StepLemmas::part_steps))]
 pub(crate) fn part_step(
     alloc: Global,
     at: u64,
@@ -110,7 +110,6 @@ fn jump(kind: Jump, at: u64, label: Option<Text>) -> TallStmt
 }
 
 /// A token after `break` or `continue`: a label stands in the same line, if there is one.
-#[tactic(auto, using(crate::proofs::StepLemmas::missing))]
 pub(crate) fn target_step(
     alloc: Global,
     kind: Jump,

@@ -145,14 +145,8 @@ impl BodyReading {
             State::AfterArm(_, condition, first) => reach.body(condition.height()).risen(first),
             State::AfterBody(_, body) => body.as_body(),
             State::Part(_, _) => Height::none(),
-            State::Condition(_)
-            | State::ForParen(_)
-            | State::SwitchBrace(_, _)
-            | State::Clause(_)
-            | State::Value(_)
-            | State::Negative(_, _)
-            | State::CaseColon(_, _)
-            | State::DefaultColon(_) => Height::none(),
+            State::InSwitch(_, _) => Height::none(),
+            State::Condition(_) | State::ForParen(_) | State::SwitchBrace(_, _) => Height::none(),
         }
     }
 }

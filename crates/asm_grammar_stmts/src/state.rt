@@ -10,7 +10,7 @@ ghost use Rattle.asm_grammar_nodes.specs.Views.{lexeme_view};
 ghost use Rattle.asm_grammar_stmts.specs.Purposes.{counted_purpose};
 ghost use Rattle.asm_grammar_stmts.specs.declared.state.BodyStep.TheVariants.{On};
 ghost use Rattle.asm_grammar_stmts.specs.Fed.{ended_view};
-ghost use Rattle.asm_grammar_stmts.specs.Views.{around_view, body_step_view, condition_view, inner_view, next_view, part_after, purpose_view};
+ghost use Rattle.asm_grammar_stmts.specs.Views.{around_view, body_step_view, condition_view, in_switch_view, inner_view, next_view, part_after, purpose_view, switch_view};
 
 use crate::begin::statement_step;
 use crate::clauses::{
@@ -136,7 +136,6 @@ impl Purpose {
     }
 
     /// A token after an expression that has ended.
-    #[tactic(auto, using(crate::proofs::StepLemmas::part_steps))]
     pub(crate) fn ended(
         self,
         alloc: Global,
@@ -173,6 +172,53 @@ pub(crate) enum Jump {
     Continue,
 }
 
+/// What must come within the braces of a switch.
+pub(crate) enum SwitchPart {
+    /// A clause, or the end.
+    Clause,
+    /// The value of a case.
+    Value,
+    /// The value of a case after its minus sign.
+    Negative(Word),
+    /// The `:` after the value of a case.
+    CaseColon(i128),
+    /// The `:` after `default`.
+    DefaultColon,
+}
+
+impl Drop for SwitchPart {
+    fn drop(self) {
+        match self {
+            SwitchPart::Clause => {}
+            SwitchPart::Value => {}
+            SwitchPart::Negative(_) => {}
+            SwitchPart::CaseColon(_) => {}
+            SwitchPart::DefaultColon => {}
+        }
+    }
+}
+
+impl SwitchPart {
+    /// What one token makes of it.
+    fn step(
+        self,
+        alloc: Global,
+        switch: Switch,
+        around: Around,
+        token: &Lexeme<'_>,
+    ) -> Result<BodyStep, AllocError>
+        ensures { IfOk result (λ r. (k : StmtTrees → Step) → body_step_view r k (lexeme_view token.now) ≡ advance (in_switch_view self (switch_view switch (around_view around k))) (lexeme_view token.now)) }
+    {
+        match self {
+            SwitchPart::Clause => clause_step(alloc, switch, around, token),
+            SwitchPart::Value => value_step(alloc, switch, around, token),
+            SwitchPart::Negative(_) => negative_step(switch, around, token),
+            SwitchPart::CaseColon(value) => case_step(alloc, value, switch, around, token),
+            SwitchPart::DefaultColon => default_step(alloc, switch, around, token),
+        }
+    }
+}
+
 /// What is complete so far of the innermost statement, or what must come.
 pub(crate) enum State {
     /// A statement; in a list also the end of the list.
@@ -199,16 +245,8 @@ pub(crate) enum State {
     AfterBody(u64, TallStmt),
     /// The `{` of a switch.
     SwitchBrace(u64, TallExpr),
-    /// A clause of a switch, or its end.
-    Clause(Switch),
-    /// The value of a case.
-    Value(Switch),
-    /// The value of a case after its minus sign.
-    Negative(Word, Switch),
-    /// The `:` after the value of a case.
-    CaseColon(i128, Switch),
-    /// The `:` after `default`.
-    DefaultColon(Switch),
+    /// A part of a switch within its braces.
+    InSwitch(SwitchPart, Switch),
 }
 
 impl Drop for State {
@@ -227,11 +265,7 @@ impl Drop for State {
             State::AfterArm(_, _, _) => {}
             State::AfterBody(_, _) => {}
             State::SwitchBrace(_, _) => {}
-            State::Clause(_) => {}
-            State::Value(_) => {}
-            State::Negative(_, _) => {}
-            State::CaseColon(_, _) => {}
-            State::DefaultColon(_) => {}
+            State::InSwitch(_, _) => {}
         }
     }
 }
@@ -283,11 +317,7 @@ impl State {
             }
             State::AfterBody(at, body) => after_body_step(at, body, around, token),
             State::SwitchBrace(at, subject) => subject_step(alloc, at, subject, around, token),
-            State::Clause(switch) => clause_step(alloc, switch, around, token),
-            State::Value(switch) => value_step(alloc, switch, around, token),
-            State::Negative(_, switch) => negative_step(switch, around, token),
-            State::CaseColon(value, switch) => case_step(alloc, value, switch, around, token),
-            State::DefaultColon(switch) => default_step(alloc, switch, around, token),
+            State::InSwitch(part, switch) => part.step(alloc, switch, around, token),
         }
     }
 }

@@ -15,3 +15,8 @@ pub returns-in-Ok : goal.returns-in-Ok
 returns-in-Ok c =
     let t = lexeme_view c.args.token.now in
     λ k. ap (λ x. expr_step_view x k t) (sym c.in-Stuck.is) ∙ c.in-Ok.ensures k ∙ ap (λ s. feed s t) (c.start.ensures k)
+
+pub returns-in-On : goal.returns-in-On
+returns-in-On c =
+    let t = lexeme_view c.args.token.now in
+    λ k. ap (λ x. expr_step_view x k t) (sym c.in-On.is) ∙ c.in-Ok.ensures k ∙ ap (λ s. feed s t) (c.start.ensures k)

@@ -30,3 +30,21 @@ returns-in-Arm c = λ k t.
     (ap (λ x. enclosed_view x below) (sym c.in-Arm.is) ∙ c.in-Ok.ensures below
     ∙ popped_view (frames_list c.loop-frame.frames) (frames_list c.pop.new.self) c.in-Some.frame bottom (stmt_tall_view c.loop-frame.stmt) c.in-Some.ensures
     ∙ c.loop-frame.invariant k)
+
+pub returns-in-Body : goal.returns-in-Body
+returns-in-Body c = λ k t.
+    let bottom = in_body (items_view c.into_parts-body.result.0) k in
+    let below = frames_view (frames_list c.pop.new.self) bottom in
+    ap (λ r. body_step_view r k t) c.on-in-Body.ensures
+    ∙ ap goes
+    (ap (λ x. enclosed_view x below) (sym c.in-Body.is) ∙ c.in-Ok.ensures below
+    ∙ popped_view (frames_list c.loop-frame.frames) (frames_list c.pop.new.self) c.in-Some.frame bottom (stmt_tall_view c.loop-frame.stmt) c.in-Some.ensures
+    ∙ c.loop-frame.invariant k)
+
+pub loop-frame-preserved : goal.loop-frame-preserved
+loop-frame-preserved c = λ k.
+    let bottom = in_body (items_view c.into_parts-body.result.0) k in
+    let below = frames_view (frames_list c.pop.new.self) bottom in
+    ap (λ x. enclosed_view x below) (sym c.in-Stmt.is) ∙ c.in-Ok.ensures below
+    ∙ popped_view (frames_list c.loop-frame.frames) (frames_list c.pop.new.self) c.in-Some.frame bottom (stmt_tall_view c.loop-frame.stmt) c.in-Some.ensures
+    ∙ c.loop-frame.invariant k

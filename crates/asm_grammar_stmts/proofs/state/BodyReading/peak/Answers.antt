@@ -2,8 +2,8 @@ use Rattle.asm_grammar_nodes.specs.Rises.{rise_view}
 use Rattle.asm_grammar_nodes.specs.Tall.{tall_view, stmt_tall_view}
 use Rattle.asm_grammar_stmts.specs.declared.state.State.TheVariants as states
 use Rattle.asm_grammar_stmts.specs.Reach.{reach_view}
-use Rattle.asm_grammar_stmts.specs.Views.{around_view}
-use Rattle.asm_grammar_stmts.proofs.RisingStates.{at_state, list_state, name_state, return_state, target_state, end_state, arm_state, expr_state, part_state}
+use Rattle.asm_grammar_stmts.specs.Views.{around_view, switch_view}
+use Rattle.asm_grammar_stmts.proofs.RisingStates.{at_state, list_state, name_state, return_state, target_state, end_state, arm_state, expr_state, part_state, in_switch_state}
 use Rattle.asm_grammar_stmts.proofs.state.BodyReading.peak.Goals as goal
 
 pub returns-in-Statement : goal.returns-in-Statement
@@ -70,3 +70,10 @@ returns-in-Part c = λ k.
     let at = c.in-Part.field-0 in
     let p = c.in-Part.field-1 in
     at_state r (states.Part at p) c.none.result.count k c.in-Part.is (part_state at p (around_view r.around k) c.none.result.count c.none.ensures)
+
+pub returns-in-InSwitch : goal.returns-in-InSwitch
+returns-in-InSwitch c = λ k.
+    let r = c.args.self.now in
+    let p = c.in-InSwitch.field-0 in
+    let w = c.in-InSwitch.field-1 in
+    at_state r (states.InSwitch p w) c.none-in-InSwitch.result.count k c.in-InSwitch.is (in_switch_state p (switch_view w (around_view r.around k)) c.none-in-InSwitch.result.count c.none-in-InSwitch.ensures)
