@@ -14,8 +14,9 @@ use Rattle.asm_grammar_nodes.specs.Views.{lexeme_view, table_view, export_view, 
 use Rattle.asm_grammar_decls.specs.declared.init.InitReading.{InitReading}
 use Rattle.asm_grammar_decls.specs.declared.names.NamesReading.{NamesReading}
 use Rattle.asm_grammar_functions.specs.declared.function.FunctionReading.{FunctionReading}
-use Rattle.asm_grammar_modules.specs.declared.heading.Begun.{Begun}
-use Rattle.asm_grammar_modules.specs.declared.heading.Begun.TheVariants as begins
+use Rattle.asm_grammar_decls.specs.declared.heading.HeadingReading.{HeadingReading}
+use Rattle.asm_grammar_modules.specs.declared.heading.InHeading.{InHeading}
+use Rattle.asm_grammar_modules.specs.declared.heading.InHeading.TheVariants as in_headings
 use Rattle.asm_grammar_modules.specs.declared.globals.GlobalPlace.{GlobalPlace}
 use Rattle.asm_grammar_modules.specs.declared.globals.GlobalPlace.TheVariants as globals
 use Rattle.asm_grammar_modules.specs.declared.globals.GlobalStep.{GlobalStep}
@@ -38,6 +39,8 @@ use Rattle.asm_grammar_modules.specs.declared.ending.EndPlace.{EndPlace}
 use Rattle.asm_grammar_modules.specs.declared.ending.EndPlace.TheVariants as end_places
 use Rattle.asm_grammar_modules.specs.declared.ending.EndStep.{EndStep}
 use Rattle.asm_grammar_modules.specs.declared.ending.EndStep.TheVariants as end_steps
+use Rattle.asm_grammar_modules.specs.declared.ending.InEnd.{InEnd}
+use Rattle.asm_grammar_modules.specs.declared.ending.InEnd.TheVariants as in_ends
 use Rattle.asm_grammar_modules.specs.declared.parts.Parts.{Parts}
 use Rattle.asm_grammar_modules.specs.declared.outside.Outside.{Outside}
 use Rattle.asm_grammar_modules.specs.declared.outside.Outside.TheVariants as outsides
@@ -73,10 +76,11 @@ exports_of es = map export_view (list_items es)
 abbrev pub heading_of : Option (List ℕ) → List (List ℕ) → Heading
 heading_of name params = record { name = name; params = params }
 
-abbrev pub begun_view : Begun → Lexeme → Step
-begun_view (begins.On r) t = heading_reading_view r
-begun_view (begins.Done h) t = goes (at_use (heading_view h))
-begun_view begins.Stuck t = stuck t
+-- in place
+abbrev pub in_heading_view : InHeading → HeadingReading → Lexeme → Step
+in_heading_view in_headings.On r t = heading_reading_view r
+in_heading_view (in_headings.Done h) r t = goes (at_use (heading_view h))
+in_heading_view in_headings.Stuck r t = stuck t
 
 -- ---- global variables
 
@@ -233,6 +237,11 @@ end_view end_places.Over m = goes (at_end false m)
 abbrev pub end_step_view : EndStep → ModuleTree → Lexeme → Step
 end_step_view (end_steps.On place) m t = end_view place m
 end_step_view end_steps.Stuck m t = stuck t
+
+-- in place
+abbrev pub in_end_view : InEnd → EndPlace → ModuleTree → Lexeme → Step
+in_end_view in_ends.On place m t = end_view place m
+in_end_view in_ends.Stuck place m t = stuck t
 
 -- ---- modules
 

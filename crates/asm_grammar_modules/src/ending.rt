@@ -7,7 +7,7 @@ ghost use Rattle.asm_laws_height.specs.Peaks.{step_peak};
 ghost use Rattle.asm_grammar_nodes.specs.Heights.{counted};
 ghost use Rattle.asm_grammar_nodes.specs.Views.{lexeme_view, module_view};
 ghost use Rattle.asm_grammar_modules.specs.Ends.{finished_view};
-ghost use Rattle.asm_grammar_modules.specs.Readings.{close_brace_step, end_step_view, end_view};
+ghost use Rattle.asm_grammar_modules.specs.Readings.{close_brace_step, end_step_view, end_view, in_end_view};
 
 use crate::tall::TallModule;
 use asm_grammar_decls::{Ending, end_before, is};
@@ -31,9 +31,29 @@ pub enum EndStep {
     Stuck,
 }
 
+/// What one token did to the end of a module that is read in place.
+#[derive(Clone, Copy)]
+pub enum InEnd {
+    On,
+    Stuck,
+}
+
 impl EndPlace {
-    /// Reads one token.
-    pub fn step(self, token: &Lexeme<'_>) -> EndStep
+    /// Reads one token, in place.
+    pub fn feed(&mut self, token: &Lexeme<'_>) -> InEnd
+        ensures { (m : PlainModule) → in_end_view result self.new m (lexeme_view token.now) ≡ advance (end_view self.old m) (lexeme_view token.now) }
+    {
+        match self.step(token) {
+            EndStep::On(next) => {
+                *self = next;
+                InEnd::On
+            }
+            EndStep::Stuck => InEnd::Stuck,
+        }
+    }
+
+    /// What one token makes of it.
+    fn step(self, token: &Lexeme<'_>) -> EndStep
         ensures { (m : PlainModule) → end_step_view result m (lexeme_view token.now) ≡ advance (end_view self m) (lexeme_view token.now) }
     {
         match self {

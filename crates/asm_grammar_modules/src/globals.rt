@@ -102,17 +102,20 @@ fn initial_value<'a>(
 ) -> Result<GlobalStep<'a>, AllocError>
     ensures { IfOk result (λ r. (h : PlainHeading) → global_step_view r h (variables_of variables.new) (lexeme_view token.now) ≡ advance (initial_global h (variables_of variables.old) name.entry init.entry) (lexeme_view token.now)) }
 {
-    match init.feed(alloc, token)? {
-        InitStep::On(init) => Ok(GlobalStep::On(GlobalPlace::Init(name, init))),
-        InitStep::Taken(value) => {
-            add(alloc, variables, &name, value)?;
-            Ok(GlobalStep::On(GlobalPlace::After))
-        }
-        InitStep::Before(value) => {
-            add(alloc, variables, &name, value)?;
-            Ok(after_global(token))
-        }
-        InitStep::Stuck => Ok(GlobalStep::Stuck),
+    match init.feed(alloc, token) {
+        Ok(step) => match step {
+            InitStep::On(init) => Ok(GlobalStep::On(GlobalPlace::Init(name, init))),
+            InitStep::Taken(value) => match add(alloc, variables, &name, value) {
+                Ok(()) => Ok(GlobalStep::On(GlobalPlace::After)),
+                Err(error) => Err(error),
+            },
+            InitStep::Before(value) => match add(alloc, variables, &name, value) {
+                Ok(()) => Ok(after_global(token)),
+                Err(error) => Err(error),
+            },
+            InitStep::Stuck => Ok(GlobalStep::Stuck),
+        },
+        Err(error) => Err(error),
     }
 }
 

@@ -5,17 +5,17 @@ ghost use Rattle.sem_words.specs.Lists.{list_items};
 ghost use Rattle.asm_lang.specs.Machine.{advance};
 ghost use Rattle.asm_grammar_nodes.specs.Views.{heading_view, lexeme_view, name_option, names_view};
 ghost use Rattle.asm_grammar_decls.specs.Parts.{heading_reading_view, name_text, params_view};
-ghost use Rattle.asm_grammar_modules.specs.Readings.{begun_view, heading_of};
+ghost use Rattle.asm_grammar_modules.specs.Readings.{heading_of, in_heading_view};
 
 use asm_grammar_decls::{HeadingParams, HeadingReading, HeadingStep};
 use asm_grammar_nodes::{Heading, Lexeme};
 use sem_words::{List, Text};
 use std::alloc::{AllocError, Global};
 
-/// What one token does to a heading.
+/// What one token did to a heading that is read in place.
 #[derive(Drop)]
-pub enum Begun<'a> {
-    On(HeadingReading<'a>),
+pub enum InHeading {
+    On,
     /// The `{` was taken.
     Done(Heading),
     Stuck,
@@ -62,17 +62,23 @@ fn heading(
     Ok(Heading { name, params })
 }
 
-/// Reads one token of the heading.
-pub fn heading_step<'a>(
+/// Reads one token of the heading, in place.
+pub fn in_heading<'a>(
     alloc: Global,
-    reading: HeadingReading<'a>,
+    reading: &mut HeadingReading<'a>,
     token: &Lexeme<'a>,
-) -> Result<Begun<'a>, AllocError>
-    ensures { IfOk result (λ r. begun_view r (lexeme_view token.now) ≡ advance (heading_reading_view reading.entry) (lexeme_view token.now)) }
+) -> Result<InHeading, AllocError>
+    ensures { IfOk result (λ r. in_heading_view r reading.new (lexeme_view token.now) ≡ advance (heading_reading_view reading.old) (lexeme_view token.now)) }
 {
     match reading.feed(token) {
-        HeadingStep::On(reading) => Ok(Begun::On(reading)),
-        HeadingStep::Done(name, params) => Ok(Begun::Done(heading(alloc, name, params)?)),
-        HeadingStep::Stuck => Ok(Begun::Stuck),
+        HeadingStep::On(next) => {
+            *reading = next;
+            Ok(InHeading::On)
+        }
+        HeadingStep::Done(name, params) => match heading(alloc, name, params) {
+            Ok(heading) => Ok(InHeading::Done(heading)),
+            Err(error) => Err(error),
+        },
+        HeadingStep::Stuck => Ok(InHeading::Stuck),
     }
 }

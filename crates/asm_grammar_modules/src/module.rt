@@ -104,14 +104,17 @@ fn in_outside<'a>(
     ensures { IfOk result (λ r. in_outside_view r place.new parts.new (lexeme_view token.now) ≡ advance (outside_view place.old parts.old) (lexeme_view token.now)) }
 {
     let old = mem::replace(place, Outside::Functions);
-    match step(alloc, parts, old, token)? {
-        Next::On(next) => {
-            *place = next;
-            Ok(InOutside::On)
-        }
-        Next::Function => Ok(InOutside::Function),
-        Next::Done(exports) => Ok(InOutside::Done(exports)),
-        Next::Stuck => Ok(InOutside::Stuck),
+    match step(alloc, parts, old, token) {
+        Ok(step) => match step {
+            Next::On(next) => {
+                *place = next;
+                Ok(InOutside::On)
+            }
+            Next::Function => Ok(InOutside::Function),
+            Next::Done(exports) => Ok(InOutside::Done(exports)),
+            Next::Stuck => Ok(InOutside::Stuck),
+        },
+        Err(error) => Err(error),
     }
 }
 

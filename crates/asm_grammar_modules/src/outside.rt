@@ -60,21 +60,24 @@ fn global<'a>(
 ) -> Result<Next<'a>, AllocError>
     ensures { IfOk result (λ r. next_view r parts.new (lexeme_view token.now) ≡ advance (outside_view (places.Global place.entry) parts.old) (lexeme_view token.now)) }
 {
-    match global_step(alloc, &mut parts.variables, place, token)? {
-        GlobalStep::On(place) => Ok(Next::On(Outside::Global(place))),
-        GlobalStep::Function => {
-            parts.end_globals(alloc);
-            Ok(Next::Function)
-        }
-        GlobalStep::Table(name) => {
-            parts.end_globals(alloc);
-            Ok(Next::On(Outside::Table(TablePlace::FirstMember(name))))
-        }
-        GlobalStep::Export => {
-            parts.end_globals(alloc);
-            Ok(Next::On(Outside::Export(ExportPlace::First)))
-        }
-        GlobalStep::Stuck => Ok(Next::Stuck),
+    match global_step(alloc, &mut parts.variables, place, token) {
+        Ok(step) => match step {
+            GlobalStep::On(place) => Ok(Next::On(Outside::Global(place))),
+            GlobalStep::Function => {
+                parts.end_globals(alloc);
+                Ok(Next::Function)
+            }
+            GlobalStep::Table(name) => {
+                parts.end_globals(alloc);
+                Ok(Next::On(Outside::Table(TablePlace::FirstMember(name))))
+            }
+            GlobalStep::Export => {
+                parts.end_globals(alloc);
+                Ok(Next::On(Outside::Export(ExportPlace::First)))
+            }
+            GlobalStep::Stuck => Ok(Next::Stuck),
+        },
+        Err(error) => Err(error),
     }
 }
 
@@ -105,10 +108,13 @@ fn table<'a>(
 ) -> Result<Next<'a>, AllocError>
     ensures { IfOk result (λ r. next_view r parts.new (lexeme_view token.now) ≡ advance (outside_view (places.Table place.entry) parts.old) (lexeme_view token.now)) }
 {
-    match table_step(alloc, &mut parts.tables, place, token)? {
-        TableStep::On(place) => Ok(Next::On(Outside::Table(place))),
-        TableStep::Export => Ok(Next::On(Outside::Export(ExportPlace::First))),
-        TableStep::Stuck => Ok(Next::Stuck),
+    match table_step(alloc, &mut parts.tables, place, token) {
+        Ok(step) => match step {
+            TableStep::On(place) => Ok(Next::On(Outside::Table(place))),
+            TableStep::Export => Ok(Next::On(Outside::Export(ExportPlace::First))),
+            TableStep::Stuck => Ok(Next::Stuck),
+        },
+        Err(error) => Err(error),
     }
 }
 
@@ -121,9 +127,12 @@ fn export<'a>(
 ) -> Result<Next<'a>, AllocError>
     ensures { IfOk result (λ r. next_view r parts.new (lexeme_view token.now) ≡ advance (outside_view (places.Export place.entry) parts.old) (lexeme_view token.now)) }
 {
-    match export_step(alloc, &mut parts.exports, place, token)? {
-        ExportStep::On(place) => Ok(Next::On(Outside::Export(place))),
-        ExportStep::Done(exports) => Ok(Next::Done(exports)),
-        ExportStep::Stuck => Ok(Next::Stuck),
+    match export_step(alloc, &mut parts.exports, place, token) {
+        Ok(step) => match step {
+            ExportStep::On(place) => Ok(Next::On(Outside::Export(place))),
+            ExportStep::Done(exports) => Ok(Next::Done(exports)),
+            ExportStep::Stuck => Ok(Next::Stuck),
+        },
+        Err(error) => Err(error),
     }
 }

@@ -8,8 +8,8 @@ ghost use Rattle.asm_grammar_nodes.specs.Views.{heading_view, lexeme_view};
 ghost use Rattle.asm_grammar_modules.specs.Ends.{finished_view};
 ghost use Rattle.asm_grammar_modules.specs.Readings.{module_fed_view, module_reading_view, reading_view};
 
-use crate::ending::{EndPlace, EndStep};
-use crate::heading::{Begun, heading_step};
+use crate::ending::{EndPlace, InEnd};
+use crate::heading::{InHeading, in_heading};
 use crate::module::{InModule, ModuleReading};
 use crate::tall::TallModule;
 use asm_grammar_decls::HeadingReading;
@@ -88,16 +88,16 @@ impl<'a> Reading<'a> {
         ensures { IfOk result (λ r. module_fed_view r self.new (lexeme_view token.now) ≡ advance (reading_view self.old) (lexeme_view token.now)) }
     {
         match self {
-            Reading::Heading(reading) => match heading_step(alloc, *reading, token)? {
-                Begun::On(next) => {
-                    *reading = next;
-                    Ok(ModuleFed::On)
-                }
-                Begun::Done(heading) => {
-                    *self = Reading::Directive(heading);
-                    Ok(ModuleFed::On)
-                }
-                Begun::Stuck => Ok(ModuleFed::Stuck),
+            Reading::Heading(reading) => match in_heading(alloc, reading, token) {
+                Ok(fed) => match fed {
+                    InHeading::On => Ok(ModuleFed::On),
+                    InHeading::Done(heading) => {
+                        *self = Reading::Directive(heading);
+                        Ok(ModuleFed::On)
+                    }
+                    InHeading::Stuck => Ok(ModuleFed::Stuck),
+                },
+                Err(error) => Err(error),
             },
             Reading::Directive(heading) => match token.class {
                 Class::Directive => {
@@ -106,20 +106,20 @@ impl<'a> Reading<'a> {
                 }
                 _ => Ok(ModuleFed::NoUseAsm),
             },
-            Reading::Module(module) => match module.feed(alloc, token)? {
-                InModule::On => Ok(ModuleFed::On),
-                InModule::Done(whole) => {
-                    *self = Reading::End(whole, EndPlace::Ends);
-                    Ok(ModuleFed::On)
-                }
-                InModule::Stuck => Ok(ModuleFed::Stuck),
+            Reading::Module(module) => match module.feed(alloc, token) {
+                Ok(fed) => match fed {
+                    InModule::On => Ok(ModuleFed::On),
+                    InModule::Done(whole) => {
+                        *self = Reading::End(whole, EndPlace::Ends);
+                        Ok(ModuleFed::On)
+                    }
+                    InModule::Stuck => Ok(ModuleFed::Stuck),
+                },
+                Err(error) => Err(error),
             },
-            Reading::End(_, place) => match place.step(token) {
-                EndStep::On(next) => {
-                    *place = next;
-                    Ok(ModuleFed::On)
-                }
-                EndStep::Stuck => Ok(ModuleFed::Stuck),
+            Reading::End(_, place) => match place.feed(token) {
+                InEnd::On => Ok(ModuleFed::On),
+                InEnd::Stuck => Ok(ModuleFed::Stuck),
             },
         }
     }
