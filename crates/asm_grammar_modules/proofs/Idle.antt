@@ -32,7 +32,7 @@ use Rattle.asm_grammar_modules.specs.declared.module.ModuleReading.{ModuleReadin
 use Rattle.asm_grammar_modules.specs.declared.tall.TallModule.{TallModule}
 use Rattle.asm_grammar_modules.specs.declared.reading.Reading.{Reading}
 use Rattle.asm_grammar_modules.specs.declared.reading.Reading.TheVariants as readings
-use Rattle.asm_grammar_modules.specs.Readings.{tables_of, exports_of, exported, global_view, in_members, table_place_view, exports_place_view, export_place_view, outside_view, place_view, module_reading_view, reading_view}
+use Rattle.asm_grammar_modules.specs.Readings.{tables_of, exports_of, exported, global_view, in_members, table_place_view, exports_place_view, export_place_view, outside_view, place_view, reading_view}
 
 pub idle_heading : (r : HeadingReading) → Idle (heading_reading_view r)
 idle_heading headings.Start = (refl, refl)

@@ -4,7 +4,7 @@ use Rattle.sem_words.specs.Lists.{list_items}
 use Rattle.sem_words.specs.declared.list.List.{List as Listed}
 use Rattle.asm_lang.specs.Lexemes.{identifier, close_brace, close_bracket, open_bracket, colon, equals, Lexeme, sign}
 use Rattle.asm_lang.specs.Grammar.{texts}
-use Rattle.asm_lang.specs.Trees.{VariableTree, FunctionTree, TableTree, ExportTree, ExportsTree, many, Heading, ModuleTree}
+use Rattle.asm_lang.specs.Trees.{VariableTree, FunctionTree, TableTree, ExportTree, many, Heading, ModuleTree}
 use Rattle.asm_lang.specs.Machine.{closes, ends, at_init, at_use, at_globals, at_value, in_globals, at_functions, at_tables, in_tables, at_export, at_exports, in_exports, at_end, Step, goes, expects, refuses, no_use_asm, stuck, variable_of, declared, closed_module, module_of, table_of, members_step, function_step, table_step, export_of}
 use Rattle.asm_grammar_nodes.specs.declared.lexeme.Lexeme.{Lexeme as CodeLexeme}
 use Rattle.asm_grammar_nodes.specs.declared.declarations.TableTree.{TableTree as CodeTable}
