@@ -13,12 +13,13 @@ use Rattle.js_tokens.specs.declared.token.Token.{Token}
 use Rattle.js_tokens.specs.Views.{placed_token}
 use Rattle.asm_grammar.specs.declared.fault.ParseFault.{ParseFault}
 use Rattle.asm_grammar.specs.declared.fault.ParseFault.TheVariants.{LiteralForm, Grammar, NoUseAsm, Height, Memory}
-use Rattle.asm_grammar.specs.declared.tall.TallModule.{TallModule}
+use Rattle.asm_grammar_modules.specs.declared.tall.TallModule.{TallModule}
 use Rattle.asm_grammar.specs.declared.parsing.Fed.{Fed}
 use Rattle.asm_grammar.specs.declared.parsing.Fed.TheVariants as feds
 use Rattle.asm_grammar.specs.declared.parsing.Parser.{Parser}
-use Rattle.asm_grammar.specs.Ends.{stopped, finished_view}
-use Rattle.asm_grammar.specs.Readings.{reading_view}
+use Rattle.asm_grammar_modules.specs.Ends.{finished_view}
+use Rattle.asm_grammar.specs.Ends.{stopped}
+use Rattle.asm_grammar_modules.specs.Readings.{reading_view}
 use Rattle.asm_grammar.specs.Gives.{fed_view, Gives, IsRefusal, is_negative_zero}
 use Rattle.asm_grammar.specs.Parsed.{HasRead, IsLast, place_in}
 use Rattle.asm_grammar.proofs.Low.{stops_high}

@@ -1,16 +1,14 @@
 -- What one token does within the limit on the height.
-use Rattle.std.proofs.Common.{◌≡◌, ℕ, ◌<◌, ◌≤◌, Bool, true, false, List, [], ◌∷◌, inl, inr, refl, sym, ap, subst, ◌∙◌, arith}
+use Rattle.std.proofs.Common.{◌≡◌, ℕ, ◌<◌, ◌≤◌, Bool, true, false, List, [], ◌∷◌, inl, inr, sym, ap, subst, ◌∙◌, arith}
 use Rattle.std.proofs.lemmas.Bool.{cases_lt}
 use Rattle.asm_lang.specs.Lexemes.{Lexeme}
 use Rattle.asm_lang.specs.Machine.{grammar, no_use_asm, refuses, Step, stuck, advance}
 use Rattle.asm_lang.specs.Heights.{height_limit}
 use Rattle.asm_laws_height.specs.Peaks.{run_low, step_peak}
 use Rattle.asm_grammar_nodes.specs.Heights.{counted}
-use Rattle.asm_grammar.specs.declared.reading.FunctionInModule.{FunctionInModule}
-use Rattle.asm_grammar.specs.declared.reading.Reading.{Reading}
-use Rattle.asm_grammar.specs.declared.reading.Reading.TheVariants as readings
-use Rattle.asm_grammar.specs.declared.reading.ModuleFed.{ModuleFed}
-use Rattle.asm_grammar.specs.Readings.{reading_view, module_fed_view, left_view}
+use Rattle.asm_grammar_modules.specs.declared.reading.Reading.{Reading}
+use Rattle.asm_grammar_modules.specs.declared.reading.ModuleFed.{ModuleFed}
+use Rattle.asm_grammar_modules.specs.Readings.{reading_view, module_fed_view}
 use Rattle.asm_grammar.specs.Ends.{stopped}
 use Rattle.asm_grammar.proofs.Low.{stops_high, on_low, high_low, refused_low}
 
@@ -32,8 +30,3 @@ fed_step f g r s u t fg ut h = ap (λ (m : ModuleFed). module_fed_view m r t) (s
 
 pub not_over : (b : Bool) (n limit : ℕ) → (limit < n → b ≡ true) → b ≡ false → n ≤ limit
 not_over b n limit h e = elim (cases_lt limit n) [ inl lt ↦ (let is : b ≡ true = h lt in absurd cc) | inr le ↦ le ]
-
--- where no function is being read, none is left
-pub stays : (r : Reading) → ((f : FunctionInModule) → r ≡ readings.Function f → ⊥) → reading_view r ≡ left_view r
-stays (readings.Function f) other = absurd (other f refl)
-stays _ other = refl

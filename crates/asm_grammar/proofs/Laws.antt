@@ -22,7 +22,7 @@ use Rattle.asm_tree.specs.declared.tree.Parsed.{Parsed}
 use Rattle.asm_tree.specs.Views as plain
 use Rattle.asm_grammar.specs.declared.fault.ParseFault.{ParseFault}
 use Rattle.asm_grammar.specs.declared.fault.ParseFault.TheVariants.{LiteralForm, Grammar, NoUseAsm, Height, Memory}
-use Rattle.asm_grammar.specs.declared.tall.TallModule.{TallModule}
+use Rattle.asm_grammar_modules.specs.declared.tall.TallModule.{TallModule}
 use Rattle.asm_grammar.specs.Ends.{stopped}
 use Rattle.asm_grammar.specs.Gives.{Gives, HasTree, IsLow}
 use Rattle.asm_grammar.specs.Parsed.{IsParsed, HasModule, IsFault, IsVerdict}

@@ -1,9 +1,5 @@
-pub mod Pushes
 pub mod Laws
-pub mod Idle
 pub mod Low
 pub mod Pairs
-pub mod Totals
 pub mod Fed
-pub mod Classes
 pub mod All

@@ -14,7 +14,7 @@ use Rattle.js_tokens.specs.declared.token.Token.{Token}
 use Rattle.js_tokens.specs.Views.{placed_token}
 use Rattle.asm_grammar.specs.declared.fault.ParseFault.{ParseFault}
 use Rattle.asm_grammar.specs.declared.fault.ParseFault.TheVariants as faults
-use Rattle.asm_grammar.specs.declared.tall.TallModule.{TallModule}
+use Rattle.asm_grammar_modules.specs.declared.tall.TallModule.{TallModule}
 use Rattle.asm_grammar.specs.declared.parsing.Fed.{Fed}
 use Rattle.asm_grammar.specs.declared.parsing.Fed.TheVariants as feds
 use Rattle.asm_grammar.specs.Ends.{stopped}

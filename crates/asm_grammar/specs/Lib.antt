@@ -1,4 +1,3 @@
-pub mod Readings
 pub mod Ends
 pub mod Parsed
 pub mod Gives

@@ -20,7 +20,7 @@ use Rattle.js_tokens.specs.Views.{placed_token}
 use Rattle.asm_grammar.specs.declared.fault.ParseFault.{ParseFault}
 use Rattle.asm_grammar.specs.declared.fault.ParseFault.TheVariants as faults
 use Rattle.asm_grammar.specs.declared.parsing.Parser.{Parser}
-use Rattle.asm_grammar.specs.Readings.{reading_view}
+use Rattle.asm_grammar_modules.specs.Readings.{reading_view}
 
 -- ---- what the parser has read
 

@@ -1,14 +1,8 @@
-//! asm.js: a module is read token by token.
+//! asm.js: a module is read token by token, within the limit on its height.
 #![tactic(auto)]
 
-mod exports;
 mod fault;
-mod globals;
-mod module;
 mod parsing;
-mod reading;
-mod tables;
-mod tall;
 
 pub use fault::ParseFault;
 pub use parsing::Parser;

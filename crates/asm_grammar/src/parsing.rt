@@ -7,12 +7,12 @@ ghost use Rattle.asm_lang.specs.Machine.{advance, Step};
 ghost use Rattle.asm_lang.specs.Heights.{height_limit};
 ghost use Rattle.js_tokens.specs.Views.{placed_token};
 ghost use Rattle.asm_grammar.specs.Gives.{IsRefusal, fed_view, is_negative_zero};
-ghost use Rattle.asm_grammar.specs.Readings.{reading_view};
+ghost use Rattle.asm_grammar_modules.specs.Readings.{reading_view};
 
 use crate::fault::ParseFault;
-use crate::reading::{ModuleFed, Reading};
 use asm_grammar_decls::{HeadingReading, is, is_zero, lexeme_of};
 use asm_grammar_erase::erased;
+use asm_grammar_modules::{ModuleFed, Reading};
 use asm_grammar_nodes::Class;
 use asm_tree::Parsed;
 use js_tokens::Token;

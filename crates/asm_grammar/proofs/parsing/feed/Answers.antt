@@ -1,8 +1,8 @@
 use Rattle.asm_lang.specs.Lexemes.{lexeme_of}
 use Rattle.asm_grammar_nodes.specs.Views.{lexeme_view}
 use Rattle.js_tokens.specs.Views.{placed_token}
-use Rattle.asm_grammar.specs.declared.reading.ModuleFed.TheVariants.{Stuck, NoUseAsm}
-use Rattle.asm_grammar.specs.Readings.{reading_view}
+use Rattle.asm_grammar_modules.specs.declared.reading.ModuleFed.TheVariants.{Stuck, NoUseAsm}
+use Rattle.asm_grammar_modules.specs.Readings.{reading_view}
 use Rattle.asm_grammar.proofs.Fed.{fed_step, fed_stuck, fed_no_use}
 use Rattle.asm_grammar.proofs.parsing.feed.Goals as goal
 

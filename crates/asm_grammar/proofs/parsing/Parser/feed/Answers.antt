@@ -1,4 +1,4 @@
-use Rattle.asm_grammar.specs.Readings.{reading_view}
+use Rattle.asm_grammar_modules.specs.Readings.{reading_view}
 use Rattle.asm_grammar.proofs.All.{refused, lacks_use, too_high}
 use Rattle.asm_grammar.proofs.Laws.{verdict_of}
 use Rattle.asm_grammar.proofs.parsing.Parser.feed.Goals as goal

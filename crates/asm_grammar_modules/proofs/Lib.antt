@@ -1,0 +1,5 @@
+pub mod Pushes
+pub mod Idle
+pub mod Totals
+pub mod Classes
+pub mod Begins
