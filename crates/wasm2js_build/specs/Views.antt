@@ -89,9 +89,11 @@ abbrev pub term_layer : Term-F words.Term → words.Term
 term_layer (terms.Read n) = words.read (name_view n)
 term_layer (terms.Number z) = words.number z
 term_layer (terms.Both op a b) = words.both (bit_view op) a.now b.now
+term_layer (terms.BothNumber op a z) = words.both (bit_view op) a.now (words.number z)
 term_layer (terms.Flip a) = words.flip a.now
 term_layer (terms.SumOfTwo a minus b) = words.sum a.now (further minus b.now no_more)
 term_layer (terms.SumOfThree a first b second c) = words.sum a.now (further first b.now (further second c.now no_more))
+term_layer (terms.SumNumber a minus z) = words.sum a.now (further minus (words.number z) no_more)
 term_layer (terms.SumOfFour a b c d) = words.sum a.now (further false b.now (further false c.now (further false d.now no_more)))
 term_layer (terms.Product a b) = words.product a.now b.now
 term_layer (terms.Zeros a) = words.zeros a.now

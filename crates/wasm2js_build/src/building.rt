@@ -32,6 +32,10 @@ pub fn expr(alloc: Global, term: &Term<'_>) -> Result<Expr, AllocError>
             let b = int_expr(alloc, b)?;
             binary(alloc, js_bit(*operator), a, b)
         }
+        Term::BothNumber(operator, a, value) => {
+            let a = int_expr(alloc, a)?;
+            binary(alloc, js_bit(*operator), a, literal(*value))
+        }
         Term::Flip(a) => {
             let a = int_expr(alloc, a)?;
             flipped(alloc, a)
@@ -46,6 +50,10 @@ pub fn expr(alloc: Global, term: &Term<'_>) -> Result<Expr, AllocError>
             let b = int_expr(alloc, b)?;
             let c = int_expr(alloc, c)?;
             sum_of_three(alloc, a, (*first, b), (*second, c))
+        }
+        Term::SumNumber(a, minus, value) => {
+            let a = int_expr(alloc, a)?;
+            sum_of_two(alloc, a, *minus, literal(*value))
         }
         Term::SumOfFour(a, b, c, d) => {
             let a = int_expr(alloc, a)?;
@@ -103,12 +111,14 @@ fn int_form(alloc: Global, term: &Term<'_>, e: Expr) -> Result<Expr, AllocError>
     match term {
         Term::SumOfTwo(_, _, _)
         | Term::SumOfThree(_, _, _, _, _)
+        | Term::SumNumber(_, _, _)
         | Term::SumOfFour(_, _, _, _)
         | Term::Byte(_, _)
         | Term::Whole(_) => signed(alloc, e),
         Term::Read(_)
         | Term::Number(_)
         | Term::Both(_, _, _)
+        | Term::BothNumber(_, _, _)
         | Term::Flip(_)
         | Term::Product(_, _)
         | Term::Zeros(_)

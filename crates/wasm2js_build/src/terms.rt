@@ -38,10 +38,14 @@ pub enum Term<'a> {
     /// A literal of asm.js.
     Number(i64),
     Both(BitOp, &'a Term<'a>, &'a Term<'a>),
+    /// Of a word and a literal.
+    BothNumber(BitOp, &'a Term<'a>, i64),
     Flip(&'a Term<'a>),
     /// A sum, or with a mark a difference.
     SumOfTwo(&'a Term<'a>, bool, &'a Term<'a>),
     SumOfThree(&'a Term<'a>, bool, &'a Term<'a>, bool, &'a Term<'a>),
+    /// A sum of a word and a literal, or with a mark their difference.
+    SumNumber(&'a Term<'a>, bool, i64),
     SumOfFour(&'a Term<'a>, &'a Term<'a>, &'a Term<'a>, &'a Term<'a>),
     Product(&'a Term<'a>, &'a Term<'a>),
     /// How many leading bits are 0.
@@ -78,6 +82,14 @@ impl<'a> Term<'a> {
         Term::Both(op, a, b)
     }
 
+    /// Of a word and a literal.
+    #[tactic(auto, using(crate::proofs::Views::terms))]
+    pub fn both_number(op: BitOp, a: &'a Term<'a>, value: i64) -> Term<'a>
+        ensures { term_view result ≡ words.both (bit_view op) (term_view a.now) (words.number value) }
+    {
+        Term::BothNumber(op, a, value)
+    }
+
     #[tactic(auto, using(crate::proofs::Views::terms))]
     pub fn flip(a: &'a Term<'a>) -> Term<'a>
         ensures { term_view result ≡ words.flip (term_view a.now) }
@@ -99,6 +111,22 @@ impl<'a> Term<'a> {
         ensures { term_view result ≡ pairs.minus (term_view a.now) (term_view b.now) }
     {
         Term::SumOfTwo(a, true, b)
+    }
+
+    /// `a+value`
+    #[tactic(auto, using(crate::proofs::Views::terms))]
+    pub fn plus_number(a: &'a Term<'a>, value: i64) -> Term<'a>
+        ensures { term_view result ≡ pairs.plus (term_view a.now) (words.number value) }
+    {
+        Term::SumNumber(a, false, value)
+    }
+
+    /// `a-value`
+    #[tactic(auto, using(crate::proofs::Views::terms))]
+    pub fn minus_number(a: &'a Term<'a>, value: i64) -> Term<'a>
+        ensures { term_view result ≡ pairs.minus (term_view a.now) (words.number value) }
+    {
+        Term::SumNumber(a, true, value)
     }
 
     /// `a+b+c`
