@@ -72,10 +72,10 @@ pub fn wide_extend(block: &mut Block, bits: u32, a: Pair, to: Pair) -> Result<()
 pub fn put_extended(block: &mut Block, bits: u32, from: Name, to: Name) -> Result<(), AllocError>
     ensures { IfOk result (λ _. statements_of block.new ≡ statements_of block.old ++ simple_statements (words.put (name_view to) (pairs.extended bits (words.read (name_view from))) ∷ [])) }
 {
-    let places = Term::number(32u32.saturating_sub(bits) as i64);
+    let places = 32u32.saturating_sub(bits) as i64;
     let a = Term::read(from);
-    let far = Term::both(BitOp::Shl, &a, &places);
-    block.put(to, &Term::both(BitOp::Sar, &far, &places))
+    let far = Term::both_number(BitOp::Shl, &a, places);
+    block.put(to, &Term::both_number(BitOp::Sar, &far, places))
 }
 
 /// The high word of a number of 64 bits that has the value of the low word's signed reading.
@@ -83,18 +83,15 @@ pub fn put_sign(block: &mut Block, low: Name, high: Name) -> Result<(), AllocErr
     ensures { IfOk result (λ _. statements_of block.new ≡ statements_of block.old ++ simple_statements (words.put (name_view high) (pairs.sign_of (words.read (name_view low))) ∷ [])) }
 {
     let word = Term::read(low);
-    let places = Term::number(31);
-    block.put(high, &Term::both(BitOp::Sar, &word, &places))
+    block.put(high, &Term::both_number(BitOp::Sar, &word, 31))
 }
 
 // The carry of the low words goes into the high one.
 fn sum(block: &mut Block, a: Pair, b: Pair, to: Pair) -> Result<(), AllocError>
     ensures { IfOk result (λ _. statements_of block.new ≡ statements_of block.old ++ simple_statements (wide.wide_sum (pair_view a) (pair_view b) (pair_view to))) }
 {
-    let b_low = Term::read(b.low);
-    block.put(to.low, &Term::plus(&Term::read(a.low), &b_low))?;
-    let low = Term::read(to.low);
-    let carry = Term::compare(false, Relation::Less, &low, &b_low);
+    block.put(to.low, &Term::plus_read(a.low, b.low))?;
+    let carry = Term::compare_read(false, Relation::Less, to.low, b.low);
     let a_high = Term::read(a.high);
     let b_high = Term::read(b.high);
     block.put(to.high, &Term::sum_of_three(&a_high, &b_high, &carry))
@@ -104,26 +101,18 @@ fn sum(block: &mut Block, a: Pair, b: Pair, to: Pair) -> Result<(), AllocError>
 fn difference(block: &mut Block, a: Pair, b: Pair, to: Pair) -> Result<(), AllocError>
     ensures { IfOk result (λ _. statements_of block.new ≡ statements_of block.old ++ simple_statements (wide.wide_difference (pair_view a) (pair_view b) (pair_view to))) }
 {
-    let a_low = Term::read(a.low);
-    let b_low = Term::read(b.low);
-    let borrow = Term::compare(false, Relation::Less, &a_low, &b_low);
+    let borrow = Term::compare_read(false, Relation::Less, a.low, b.low);
     let a_high = Term::read(a.high);
     let b_high = Term::read(b.high);
     block.put(to.high, &Term::less_two(&a_high, &b_high, &borrow))?;
-    block.put(to.low, &Term::minus(&a_low, &b_low))
+    block.put(to.low, &Term::minus_read(a.low, b.low))
 }
 
 fn bits(block: &mut Block, op: BitOp, a: Pair, b: Pair, to: Pair) -> Result<(), AllocError>
     ensures { IfOk result (λ _. statements_of block.new ≡ statements_of block.old ++ simple_statements (wide.wide_bits (bit_view op) (pair_view a) (pair_view b) (pair_view to))) }
 {
-    block.put(
-        to.low,
-        &Term::both(op, &Term::read(a.low), &Term::read(b.low)),
-    )?;
-    block.put(
-        to.high,
-        &Term::both(op, &Term::read(a.high), &Term::read(b.high)),
-    )
+    block.put(to.low, &Term::both_read(op, a.low, b.low))?;
+    block.put(to.high, &Term::both_read(op, a.high, b.high))
 }
 
 // By a helper that takes both words and a count.
@@ -170,10 +159,7 @@ fn set_bits(block: &mut Block, a: Pair, to: Pair) -> Result<(), AllocError>
     ensures { IfOk result (λ _. statements_of block.new ≡ statements_of block.old ++ simple_statements (wide.wide_unary uns.Popcnt (pair_view a) (pair_view to))) }
 {
     set_bits_of_words(block, a, to)?;
-    block.put(
-        to.low,
-        &Term::plus(&Term::read(to.low), &Term::read(to.high)),
-    )?;
+    block.put(to.low, &Term::plus_read(to.low, to.high))?;
     block.put(to.high, &Term::number(0))
 }
 

@@ -40,38 +40,27 @@ pub fn wide_compare(
 pub fn wide_zero(block: &mut Block, a: Pair, to: Name) -> Result<(), AllocError>
     ensures { IfOk result (λ _. statements_of block.new ≡ statements_of block.old ++ simple_statements (words.put (name_view to) (wide.is_wide_zero (pair_view a)) ∷ [])) }
 {
-    let none = Term::number(0);
-    let low = Term::read(a.low);
-    let low_is_zero = Term::compare(true, Relation::Equal, &low, &none);
-    let high = Term::read(a.high);
-    let high_is_zero = Term::compare(true, Relation::Equal, &high, &none);
+    let (low, high) = (Term::read(a.low), Term::read(a.high));
+    let low_is_zero = Term::compare_number(true, Relation::Equal, &low, 0);
+    let high_is_zero = Term::compare_number(true, Relation::Equal, &high, 0);
     block.put(to, &Term::both(BitOp::And, &low_is_zero, &high_is_zero))
 }
 
 fn put_equal(block: &mut Block, a: Pair, b: Pair, to: Name) -> Result<(), AllocError>
     ensures { IfOk result (λ _. statements_of block.new ≡ statements_of block.old ++ simple_statements (words.put (name_view to) (wide.are_equal (pair_view a) (pair_view b)) ∷ [])) }
 {
-    let a_low = Term::read(a.low);
-    let b_low = Term::read(b.low);
-    let low = Term::compare(true, Relation::Equal, &a_low, &b_low);
-    let a_high = Term::read(a.high);
-    let b_high = Term::read(b.high);
-    let high = Term::compare(true, Relation::Equal, &a_high, &b_high);
+    let low = Term::compare_read(true, Relation::Equal, a.low, b.low);
+    let high = Term::compare_read(true, Relation::Equal, a.high, b.high);
     block.put(to, &Term::both(BitOp::And, &low, &high))
 }
 
 fn put_unequal(block: &mut Block, a: Pair, b: Pair, to: Name) -> Result<(), AllocError>
     ensures { IfOk result (λ _. statements_of block.new ≡ statements_of block.old ++ simple_statements (wide.wide_compare rels.Ne (pair_view a) (pair_view b) (name_view to))) }
 {
-    let a_low = Term::read(a.low);
-    let b_low = Term::read(b.low);
-    let low = Term::compare(true, Relation::Equal, &a_low, &b_low);
-    let a_high = Term::read(a.high);
-    let b_high = Term::read(b.high);
-    let high = Term::compare(true, Relation::Equal, &a_high, &b_high);
+    let low = Term::compare_read(true, Relation::Equal, a.low, b.low);
+    let high = Term::compare_read(true, Relation::Equal, a.high, b.high);
     let equal = Term::both(BitOp::And, &low, &high);
-    let none = Term::number(0);
-    block.put(to, &Term::compare(true, Relation::Equal, &equal, &none))
+    block.put(to, &Term::compare_number(true, Relation::Equal, &equal, 0))
 }
 
 // The high words decide where they differ.
@@ -85,12 +74,8 @@ fn put_order(
 ) -> Result<(), AllocError>
     ensures { IfOk result (λ _. statements_of block.new ≡ statements_of block.old ++ simple_statements (words.put (name_view to) (wide.in_order signed (relation_view relation) (pair_view a) (pair_view b)) ∷ [])) }
 {
-    let a_high = Term::read(a.high);
-    let b_high = Term::read(b.high);
-    let alike = Term::compare(true, Relation::Equal, &a_high, &b_high);
-    let a_low = Term::read(a.low);
-    let b_low = Term::read(b.low);
-    let by_low = Term::compare(false, relation, &a_low, &b_low);
-    let by_high = Term::compare(signed, relation, &a_high, &b_high);
+    let alike = Term::compare_read(true, Relation::Equal, a.high, b.high);
+    let by_low = Term::compare_read(false, relation, a.low, b.low);
+    let by_high = Term::compare_read(signed, relation, a.high, b.high);
     block.put(to, &Term::choose(&alike, &by_low, &by_high))
 }

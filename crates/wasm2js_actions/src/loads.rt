@@ -1,5 +1,5 @@
 //! Loads.
-ghost use Rattle.std.specs.Prelude.{◌≡◌, ◌+◌, ◌<◌, ◌^◌, [], ◌∷◌, ◌++◌, ◌==◌, if◌then◌else◌, IfOk};
+ghost use Rattle.std.specs.Prelude.{◌≡◌, ◌+◌, ◌<◌, ◌^◌, [], ◌∷◌, ◌++◌, ◌==◌, if◌then◌else◌, false, IfOk};
 ghost use Rattle.wasm2js_words.specs.Names as names;
 ghost use Rattle.wasm2js_words.specs.Words as words;
 ghost use Rattle.wasm2js_words.specs.Words.{simple_statements, statements};
@@ -99,8 +99,7 @@ fn load_byte(block: &mut Block, signed: bool, offset: u64, p: Name) -> Result<()
     ensures { IfOk result (λ _. statements_of block.new ≡ statements_of block.old ++ simple_statements (words.put (name_view p) (words.byte signed (code.place (name_view p) offset)) ∷ [])) }
 {
     let address = Term::read(p);
-    let far = Term::number(offset as i64);
-    let at = place(&address, &far, offset);
+    let at = place(&address, offset);
     block.put(p, &Term::byte(signed, &at))
 }
 
@@ -110,15 +109,24 @@ fn load_half(block: &mut Block, signed: bool, offset: u64, p: Name) -> Result<()
     ensures { IfOk result (λ _. statements_of block.new ≡ statements_of block.old ++ simple_statements (words.put (name_view p) (code.half signed (name_view p) offset) ∷ [])) }
 {
     let address = Term::read(p);
-    let far = Term::number(offset as i64);
-    let at = place(&address, &far, offset);
-    let low = Term::byte(false, &at);
-    let address = Term::read(p);
-    let next = Term::number(offset as i64 + 1);
-    let after = place(&address, &next, offset + 1);
-    let upper = Term::byte(signed, &after);
-    let eight = Term::number(8);
-    let high = Term::both(BitOp::Shl, &upper, &eight);
+    let at = place(&address, offset);
+    let after = place(&address, offset + 1);
+    put_half(block, signed, &at, &after, p)
+}
+
+// Of the byte at one place, and above it the one at the next.
+fn put_half<'a>(
+    block: &mut Block,
+    signed: bool,
+    at: &'a Term<'a>,
+    after: &'a Term<'a>,
+    p: Name,
+) -> Result<(), AllocError>
+    ensures { IfOk result (λ _. statements_of block.new ≡ statements_of block.old ++ simple_statements (words.put (name_view p) (pairs.plus (words.byte false (term_view at.now)) (words.both words.shift_left (words.byte signed (term_view after.now)) (pairs.literal 8))) ∷ [])) }
+{
+    let low = Term::byte(false, at);
+    let upper = Term::byte(signed, after);
+    let high = Term::both_number(BitOp::Shl, &upper, 8);
     block.put(p, &Term::plus(&low, &high))
 }
 
@@ -127,8 +135,7 @@ fn load_narrow(alloc: Global, block: &mut Block, offset: u64, p: Pair) -> Result
     ensures { IfOk result (λ _. statements_of block.new ≡ statements_of block.old ++ statements (code.by_place (name_view p.low) offset (words.ask (name_view p.low) names.load_32 (code.place (name_view p.low) offset ∷ []) ∷ []) (words.put (name_view p.low) (words.whole (code.place (name_view p.low) offset)) ∷ []))) }
 {
     let address = Term::read(p.low);
-    let far = Term::number(offset as i64);
-    let at = place(&address, &far, offset);
+    let at = place(&address, offset);
     let apart = narrow_apart(alloc, &at, p.low)?;
     let together = narrow_together(alloc, &at, p.low)?;
     by_place(block, &at, apart, together)
@@ -155,8 +162,7 @@ fn load_wide(alloc: Global, block: &mut Block, offset: u64, p: Pair) -> Result<(
     ensures { IfOk result (λ _. statements_of block.new ≡ statements_of block.old ++ statements (code.by_place (name_view p.low) offset (words.ask (name_view p.low) names.load_64 (code.place (name_view p.low) offset ∷ []) ∷ words.put (name_view p.high) (words.read (names.fixed names.spare_high)) ∷ []) (words.put (name_view p.high) (words.whole (code.place (name_view p.low) (offset + 4))) ∷ words.put (name_view p.low) (words.whole (code.place (name_view p.low) offset)) ∷ []))) }
 {
     let address = Term::read(p.low);
-    let far = Term::number(offset as i64);
-    let at = place(&address, &far, offset);
+    let at = place(&address, offset);
     let apart = wide_apart(alloc, &at, p)?;
     let together = wide_together(alloc, &at, offset, p)?;
     by_place(block, &at, apart, together)
@@ -178,8 +184,7 @@ fn wide_together(alloc: Global, at: &Term<'_>, offset: u64, p: Pair) -> Result<B
 {
     let mut block = Block::new(alloc);
     let address = Term::read(p.low);
-    let far = Term::number(offset as i64 + 4);
-    let after = place(&address, &far, offset + 4);
+    let after = place(&address, offset + 4);
     block.put(p.high, &Term::whole(&after))?;
     block.put(p.low, &Term::whole(at))?;
     Ok(block)

@@ -7,7 +7,7 @@ ghost use Rattle.wasm2js_words.specs.Words as words;
 ghost use Rattle.wasm2js_words.specs.Words.{simple_statements};
 ghost use Rattle.wasm2js_code.specs.Pairs as pairs;
 ghost use Rattle.wasm2js_code.specs.Actions as code;
-ghost use Rattle.wasm2js_build.specs.Views.{name_view, fixed_view, bit_view, relation_view};
+ghost use Rattle.wasm2js_build.specs.Views.{name_view, fixed_view, bit_view, relation_view, term_view};
 ghost use Rattle.wasm2js_build.specs.Blocks.{statements_of};
 ghost use Rattle.split_words.specs.Views.{pair_view};
 
@@ -21,8 +21,8 @@ pub fn binary(block: &mut Block, op: Bin, a: Name, b: Name) -> Result<(), AllocE
     ensures { IfOk result (λ _. statements_of block.new ≡ statements_of block.old ++ simple_statements (code.narrow_binary op (name_view a) (name_view b))) }
 {
     match op {
-        Bin::Add => block.put(a, &Term::plus(&Term::read(a), &Term::read(b))),
-        Bin::Sub => block.put(a, &Term::minus(&Term::read(a), &Term::read(b))),
+        Bin::Add => block.put(a, &Term::plus_read(a, b)),
+        Bin::Sub => block.put(a, &Term::minus_read(a, b)),
         Bin::Mul => block.put(a, &Term::product(&Term::read(a), &Term::read(b))),
         Bin::DivS => ask_both(block, Fixed::DivideSigned, a, b),
         Bin::DivU => ask_both(block, Fixed::Divide, a, b),
@@ -72,8 +72,7 @@ pub fn is_zero(block: &mut Block, a: Name) -> Result<(), AllocError>
     ensures { IfOk result (λ _. statements_of block.new ≡ statements_of block.old ++ simple_statements (words.put (name_view a) (words.compare true words.equal (words.read (name_view a)) (pairs.literal 0)) ∷ [])) }
 {
     let word = Term::read(a);
-    let none = Term::number(0);
-    block.put(a, &Term::compare(true, Relation::Equal, &word, &none))
+    block.put(a, &Term::compare_number(true, Relation::Equal, &word, 0))
 }
 
 /// The low bits of an operand, of 64 bits where it is wide, extended with their sign.
@@ -142,7 +141,7 @@ fn ask_both(block: &mut Block, helper: Fixed, a: Name, b: Name) -> Result<(), Al
 fn put_both(block: &mut Block, op: BitOp, a: Name, b: Name) -> Result<(), AllocError>
     ensures { IfOk result (λ _. statements_of block.new ≡ statements_of block.old ++ simple_statements (words.put (name_view a) (words.both (bit_view op) (words.read (name_view a)) (words.read (name_view b))) ∷ [])) }
 {
-    block.put(a, &Term::both(op, &Term::read(a), &Term::read(b)))
+    block.put(a, &Term::both_read(op, a, b))
 }
 
 fn put_compared(
@@ -154,10 +153,7 @@ fn put_compared(
 ) -> Result<(), AllocError>
     ensures { IfOk result (λ _. statements_of block.new ≡ statements_of block.old ++ simple_statements (words.put (name_view a) (words.compare signed (relation_view relation) (words.read (name_view a)) (words.read (name_view b))) ∷ [])) }
 {
-    block.put(
-        a,
-        &Term::compare(signed, relation, &Term::read(a), &Term::read(b)),
-    )
+    block.put(a, &Term::compare_read(signed, relation, a, b))
 }
 
 // By 32 places less those to the left, two shifts to the right, since a shift by 32 places is none.
@@ -165,30 +161,33 @@ fn turn_left(block: &mut Block, a: Name, b: Name) -> Result<(), AllocError>
     ensures { IfOk result (λ _. statements_of block.new ≡ statements_of block.old ++ simple_statements (words.put (name_view a) (pairs.funnel_left (words.read (name_view a)) (words.read (name_view a)) (words.read (name_view b))) ∷ [])) }
 {
     let word = Term::read(a);
-    let places = Term::read(b);
-    let moved = Term::both(BitOp::Shl, &word, &places);
-    let one = Term::number(1);
-    let again = Term::read(a);
-    let half = Term::both(BitOp::Shr, &again, &one);
-    let places = Term::read(b);
-    let rest = Term::flip(&places);
-    let back = Term::both(BitOp::Shr, &half, &rest);
-    block.put(a, &Term::plus(&moved, &back))
+    let half = Term::both_number(BitOp::Shr, &word, 1);
+    put_turned(block, a, b, &half, BitOp::Shl, BitOp::Shr)
 }
 
 fn turn_right(block: &mut Block, a: Name, b: Name) -> Result<(), AllocError>
     ensures { IfOk result (λ _. statements_of block.new ≡ statements_of block.old ++ simple_statements (words.put (name_view a) (pairs.funnel_right (words.read (name_view a)) (words.read (name_view a)) (words.read (name_view b))) ∷ [])) }
 {
     let word = Term::read(a);
-    let places = Term::read(b);
-    let moved = Term::both(BitOp::Shr, &word, &places);
-    let one = Term::number(1);
-    let again = Term::read(a);
-    let double = Term::both(BitOp::Shl, &again, &one);
+    let double = Term::both_number(BitOp::Shl, &word, 1);
+    put_turned(block, a, b, &double, BitOp::Shr, BitOp::Shl)
+}
+
+// The word in a by as many places as b says, and what comes in at its other end: a word that is one place on already, by the rest of them.
+fn put_turned(
+    block: &mut Block,
+    a: Name,
+    b: Name,
+    one_on: &Term<'_>,
+    to: BitOp,
+    back: BitOp,
+) -> Result<(), AllocError>
+    ensures { IfOk result (λ _. statements_of block.new ≡ statements_of block.old ++ simple_statements (words.put (name_view a) (pairs.plus (words.both (bit_view to) (words.read (name_view a)) (words.read (name_view b))) (words.both (bit_view back) (term_view one_on.now) (words.flip (words.read (name_view b))))) ∷ [])) }
+{
     let places = Term::read(b);
     let rest = Term::flip(&places);
-    let back = Term::both(BitOp::Shl, &double, &rest);
-    block.put(a, &Term::plus(&moved, &back))
+    let moved = Term::both_read(to, a, b);
+    block.put(a, &Term::plus(&moved, &Term::both(back, one_on, &rest)))
 }
 
 // By the bits below the lowest one that is set.
@@ -197,10 +196,15 @@ fn trailing_zeros(block: &mut Block, a: Name) -> Result<(), AllocError>
 {
     let word = Term::read(a);
     let others = Term::flip(&word);
-    let one = Term::number(1);
-    let before = Term::minus(&word, &one);
-    let below = Term::both(BitOp::And, &others, &before);
-    let leading = Term::zeros(&below);
-    let all = Term::number(32);
-    block.put(a, &Term::minus(&all, &leading))
+    let before = Term::minus_number(&word, 1);
+    put_fewer(block, a, 32, &Term::both(BitOp::And, &others, &before))
+}
+
+// So many less the leading zeros of a word.
+fn put_fewer(block: &mut Block, to: Name, most: i64, word: &Term<'_>) -> Result<(), AllocError>
+    ensures { IfOk result (λ _. statements_of block.new ≡ statements_of block.old ++ simple_statements (words.put (name_view to) (pairs.minus (words.number most) (words.zeros (term_view word.now))) ∷ [])) }
+{
+    let leading = Term::zeros(word);
+    let most = Term::number(most);
+    block.put(to, &Term::minus(&most, &leading))
 }

@@ -1,5 +1,5 @@
 //! Places in the memory.
-ghost use Rattle.std.specs.Prelude.{◌≡◌, [], ◌∷◌, ◌++◌, ◌==◌, if◌then◌else◌, IfOk};
+ghost use Rattle.std.specs.Prelude.{◌≡◌, ◌<◌, ◌^◌, [], ◌∷◌, ◌++◌, ◌==◌, if◌then◌else◌, IfOk};
 ghost use Rattle.asm_lang.specs.Modules as text;
 ghost use Rattle.wasm2js_words.specs.Words.{both, conjunction, expr, signed_number, stmts_in};
 ghost use Rattle.wasm2js_code.specs.Pairs as pairs;
@@ -9,14 +9,15 @@ ghost use Rattle.wasm2js_build.specs.Blocks.{statements_of};
 use std::alloc::AllocError;
 use wasm2js_build::{BitOp, Block, Term};
 
-/// The place so many bytes past the address, where `far` is that number.
-pub fn place<'a>(address: &'a Term<'a>, far: &'a Term<'a>, offset: u64) -> Term<'a>
-    ensures { term_view result ≡ (if offset == 0 then term_view address.now else pairs.plus (term_view address.now) (term_view far.now)) }
+/// The place so many bytes past the address.
+pub fn place<'a>(address: &'a Term<'a>, offset: u64) -> Term<'a>
+    requires { offset < 2 ^ 33 }
+    ensures { term_view result ≡ (if offset == 0 then term_view address.now else pairs.plus (term_view address.now) (pairs.literal offset)) }
 {
     if offset == 0 {
         *address
     } else {
-        Term::plus(address, far)
+        Term::plus_number(address, offset as i64)
     }
 }
 
@@ -29,6 +30,5 @@ pub fn by_place(
 ) -> Result<(), AllocError>
     ensures { IfOk result (λ _. statements_of block.new ≡ statements_of block.old ++ text.if_else (signed_number (expr (both conjunction (term_view at.now) (pairs.literal 3)))) (text.block (stmts_in (statements_of apart))) (text.block (stmts_in (statements_of together))) ∷ []) }
 {
-    let three = Term::number(3);
-    block.either(&Term::both(BitOp::And, at, &three), apart, together)
+    block.either(&Term::both_number(BitOp::And, at, 3), apart, together)
 }

@@ -92,8 +92,7 @@ fn store_byte(block: &mut Block, offset: u64, a: Name, v: Name) -> Result<(), Al
     ensures { IfOk result (λ _. statements_of block.new ≡ statements_of block.old ++ simple_statements (words.write_byte (code.place (name_view a) offset) (words.read (name_view v)) ∷ [])) }
 {
     let address = Term::read(a);
-    let far = Term::number(offset as i64);
-    let at = place(&address, &far, offset);
+    let at = place(&address, offset);
     block.write_byte(&at, &Term::read(v))
 }
 
@@ -103,11 +102,9 @@ fn store_upper(block: &mut Block, offset: u64, a: Name, v: Name) -> Result<(), A
     ensures { IfOk result (λ _. statements_of block.new ≡ statements_of block.old ++ simple_statements (words.write_byte (code.place (name_view a) offset) (words.both words.shift_right (words.read (name_view v)) (pairs.literal 8)) ∷ [])) }
 {
     let address = Term::read(a);
-    let far = Term::number(offset as i64);
-    let at = place(&address, &far, offset);
+    let at = place(&address, offset);
     let word = Term::read(v);
-    let eight = Term::number(8);
-    block.write_byte(&at, &Term::both(BitOp::Shr, &word, &eight))
+    block.write_byte(&at, &Term::both_number(BitOp::Shr, &word, 8))
 }
 
 fn store_narrow(
@@ -121,8 +118,7 @@ fn store_narrow(
     ensures { IfOk result (λ _. statements_of block.new ≡ statements_of block.old ++ statements (code.by_place (name_view a) offset (words.tell names.store_32 (code.place (name_view a) offset ∷ words.read (name_view v) ∷ []) ∷ []) (words.write_whole (code.place (name_view a) offset) (words.read (name_view v)) ∷ []))) }
 {
     let address = Term::read(a);
-    let far = Term::number(offset as i64);
-    let at = place(&address, &far, offset);
+    let at = place(&address, offset);
     let apart = narrow_apart(alloc, &at, v)?;
     let together = narrow_together(alloc, &at, v)?;
     by_place(block, &at, apart, together)
@@ -155,8 +151,7 @@ fn store_wide(
     ensures { IfOk result (λ _. statements_of block.new ≡ statements_of block.old ++ statements (code.by_place (name_view a) offset (words.tell names.store_64 (code.place (name_view a) offset ∷ words.read (name_view v.low) ∷ words.read (name_view v.high) ∷ []) ∷ []) (words.write_whole (code.place (name_view a) offset) (words.read (name_view v.low)) ∷ words.write_whole (code.place (name_view a) (offset + 4)) (words.read (name_view v.high)) ∷ []))) }
 {
     let address = Term::read(a);
-    let far = Term::number(offset as i64);
-    let at = place(&address, &far, offset);
+    let at = place(&address, offset);
     let apart = wide_apart(alloc, &at, v)?;
     let together = wide_together(alloc, &at, offset, a, v)?;
     by_place(block, &at, apart, together)
@@ -186,8 +181,7 @@ fn wide_together(
     let mut block = Block::new(alloc);
     block.write_whole(at, &Term::read(v.low))?;
     let address = Term::read(a);
-    let far = Term::number(offset as i64 + 4);
-    let after = place(&address, &far, offset + 4);
+    let after = place(&address, offset + 4);
     block.write_whole(&after, &Term::read(v.high))?;
     Ok(block)
 }

@@ -24,6 +24,14 @@ pub term_view-Both : (op : BitOp) (a b : Bor Term) → term_view (variants.Both 
 unfolding term_view
 term_view-Both op a b = ap term_view (sym (variants.rolls-Both op a b)) ∙ fold-roll-Term words.Term term_layer (opens.Both op a b)
 
+pub term_view-BothNumber : (op : BitOp) (a : Bor Term) (z : ℤ) → term_view (variants.BothNumber op a z) ≡ both (bit_view op) (term_view a.now) (number z)
+unfolding term_view
+term_view-BothNumber op a z = ap term_view (sym (variants.rolls-BothNumber op a z)) ∙ fold-roll-Term words.Term term_layer (opens.BothNumber op a z)
+
+pub term_view-BothRead : (op : BitOp) (a b : Name) → term_view (variants.BothRead op a b) ≡ both (bit_view op) (read (name_view a)) (read (name_view b))
+unfolding term_view
+term_view-BothRead op a b = ap term_view (sym (variants.rolls-BothRead op a b)) ∙ fold-roll-Term words.Term term_layer (opens.BothRead op a b)
+
 pub term_view-Flip : (a : Bor Term) → term_view (variants.Flip a) ≡ flip (term_view a.now)
 unfolding term_view
 term_view-Flip a = ap term_view (sym (variants.rolls-Flip a)) ∙ fold-roll-Term words.Term term_layer (opens.Flip a)
@@ -35,6 +43,14 @@ term_view-SumOfTwo a minus b = ap term_view (sym (variants.rolls-SumOfTwo a minu
 pub term_view-SumOfThree : (a : Bor Term) (first : Bool) (b : Bor Term) (second : Bool) (c : Bor Term) → term_view (variants.SumOfThree a first b second c) ≡ sum (term_view a.now) (further first (term_view b.now) (further second (term_view c.now) no_more))
 unfolding term_view
 term_view-SumOfThree a first b second c = ap term_view (sym (variants.rolls-SumOfThree a first b second c)) ∙ fold-roll-Term words.Term term_layer (opens.SumOfThree a first b second c)
+
+pub term_view-SumNumber : (a : Bor Term) (minus : Bool) (z : ℤ) → term_view (variants.SumNumber a minus z) ≡ sum (term_view a.now) (further minus (number z) no_more)
+unfolding term_view
+term_view-SumNumber a minus z = ap term_view (sym (variants.rolls-SumNumber a minus z)) ∙ fold-roll-Term words.Term term_layer (opens.SumNumber a minus z)
+
+pub term_view-SumRead : (a : Name) (minus : Bool) (b : Name) → term_view (variants.SumRead a minus b) ≡ sum (read (name_view a)) (further minus (read (name_view b)) no_more)
+unfolding term_view
+term_view-SumRead a minus b = ap term_view (sym (variants.rolls-SumRead a minus b)) ∙ fold-roll-Term words.Term term_layer (opens.SumRead a minus b)
 
 pub term_view-SumOfFour : (a b c d : Bor Term) → term_view (variants.SumOfFour a b c d) ≡ sum (term_view a.now) (further false (term_view b.now) (further false (term_view c.now) (further false (term_view d.now) no_more)))
 unfolding term_view
@@ -52,6 +68,14 @@ pub term_view-Compare : (signed : Bool) (r : Relation) (a b : Bor Term) → term
 unfolding term_view
 term_view-Compare signed r a b = ap term_view (sym (variants.rolls-Compare signed r a b)) ∙ fold-roll-Term words.Term term_layer (opens.Compare signed r a b)
 
+pub term_view-CompareNumber : (signed : Bool) (r : Relation) (a : Bor Term) (z : ℤ) → term_view (variants.CompareNumber signed r a z) ≡ compare signed (relation_view r) (term_view a.now) (number z)
+unfolding term_view
+term_view-CompareNumber signed r a z = ap term_view (sym (variants.rolls-CompareNumber signed r a z)) ∙ fold-roll-Term words.Term term_layer (opens.CompareNumber signed r a z)
+
+pub term_view-CompareRead : (signed : Bool) (r : Relation) (a b : Name) → term_view (variants.CompareRead signed r a b) ≡ compare signed (relation_view r) (read (name_view a)) (read (name_view b))
+unfolding term_view
+term_view-CompareRead signed r a b = ap term_view (sym (variants.rolls-CompareRead signed r a b)) ∙ fold-roll-Term words.Term term_layer (opens.CompareRead signed r a b)
+
 pub term_view-Choose : (t a b : Bor Term) → term_view (variants.Choose t a b) ≡ choose (term_view t.now) (term_view a.now) (term_view b.now)
 unfolding term_view
 term_view-Choose t a b = ap term_view (sym (variants.rolls-Choose t a b)) ∙ fold-roll-Term words.Term term_layer (opens.Choose t a b)
@@ -64,4 +88,4 @@ pub term_view-Whole : (at : Bor Term) → term_view (variants.Whole at) ≡ whol
 unfolding term_view
 term_view-Whole at = ap term_view (sym (variants.rolls-Whole at)) ∙ fold-roll-Term words.Term term_layer (opens.Whole at)
 
-pub ruleset terms = (term_view-Read, term_view-Number, term_view-Both, term_view-Flip, term_view-SumOfTwo, term_view-SumOfThree, term_view-SumOfFour, term_view-Product, term_view-Zeros, term_view-Compare, term_view-Choose, term_view-Byte, term_view-Whole)
+pub ruleset terms = (term_view-Read, term_view-Number, term_view-Both, term_view-BothNumber, term_view-BothRead, term_view-Flip, term_view-SumOfTwo, term_view-SumOfThree, term_view-SumNumber, term_view-SumRead, term_view-SumOfFour, term_view-Product, term_view-Zeros, term_view-Compare, term_view-CompareNumber, term_view-CompareRead, term_view-Choose, term_view-Byte, term_view-Whole)

@@ -4,8 +4,9 @@ ghost use Rattle.sem_words.specs.Lists.{list_items};
 ghost use Rattle.asm_lang.specs.Modules as plain;
 ghost use Rattle.asm_tree.specs.Views.{expr_view, exprs_view, links_view};
 ghost use Rattle.wasm2js_words.specs.Names as plain_names;
+ghost use Rattle.wasm2js_words.specs.Names.{spelled};
 ghost use Rattle.wasm2js_words.specs.Words.{bit_operator, relation_operator, as_number, as_int, byte_view, name_of, indexed, arguments, expr as expr_for, int_of};
-ghost use Rattle.wasm2js_build.specs.Views.{bit_view, relation_view, term_view, terms_view};
+ghost use Rattle.wasm2js_build.specs.Views.{name_view, bit_view, relation_view, term_view, terms_view};
 
 use crate::names::{Fixed, Name};
 use crate::nodes::{
@@ -27,53 +28,38 @@ pub fn expr(alloc: Global, term: &Term<'_>) -> Result<Expr, AllocError>
     match term {
         Term::Read(name) => variable(alloc, *name),
         Term::Number(value) => Ok(literal(*value)),
-        Term::Both(operator, a, b) => {
+        Term::Both(operator, a, b) => both(alloc, *operator, a, b),
+        Term::BothNumber(operator, a, value) => {
             let a = int_expr(alloc, a)?;
-            let b = int_expr(alloc, b)?;
-            binary(alloc, js_bit(*operator), a, b)
+            binary(alloc, js_bit(*operator), a, literal(*value))
         }
+        Term::BothRead(operator, a, b) => both_read(alloc, *operator, *a, *b),
         Term::Flip(a) => {
             let a = int_expr(alloc, a)?;
             flipped(alloc, a)
         }
-        Term::SumOfTwo(a, minus, b) => {
+        Term::SumOfTwo(a, minus, b) => two(alloc, a, *minus, b),
+        Term::SumOfThree(a, first, b, second, c) => three(alloc, a, *first, b, *second, c),
+        Term::SumOfFour(a, b, c, d) => four(alloc, a, b, c, d),
+        Term::SumNumber(a, minus, value) => {
             let a = int_expr(alloc, a)?;
-            let b = int_expr(alloc, b)?;
-            sum_of_two(alloc, a, *minus, b)
+            sum_of_two(alloc, a, *minus, literal(*value))
         }
-        Term::SumOfThree(a, first, b, second, c) => {
-            let a = int_expr(alloc, a)?;
-            let b = int_expr(alloc, b)?;
-            let c = int_expr(alloc, c)?;
-            sum_of_three(alloc, a, (*first, b), (*second, c))
-        }
-        Term::SumOfFour(a, b, c, d) => {
-            let a = int_expr(alloc, a)?;
-            let b = int_expr(alloc, b)?;
-            let c = int_expr(alloc, c)?;
-            let d = int_expr(alloc, d)?;
-            sum_of_four(alloc, a, b, c, d)
-        }
-        Term::Product(a, b) => {
-            let a = int_expr(alloc, a)?;
-            let b = int_expr(alloc, b)?;
-            call_of_two(alloc, Name::Always(Fixed::Imul), a, b)
-        }
+        Term::SumRead(a, minus, b) => sum_read(alloc, *a, *minus, *b),
+        Term::Product(a, b) => product(alloc, a, b),
         Term::Zeros(a) => {
             let a = int_expr(alloc, a)?;
             call_of_one(alloc, Name::Always(Fixed::Clz32), a)
         }
-        Term::Compare(is_signed, relation, a, b) => {
+        Term::Compare(is_signed, relation, a, b) => compared(alloc, *is_signed, *relation, a, b),
+        Term::CompareNumber(is_signed, relation, a, value) => {
             let a = number_expr(alloc, a, *is_signed)?;
-            let b = number_expr(alloc, b, *is_signed)?;
-            binary(alloc, js_relation(*relation), a, b)
+            compared_number(alloc, *is_signed, *relation, a, *value)
         }
-        Term::Choose(test, a, b) => {
-            let test = number_expr(alloc, test, true)?;
-            let a = int_expr(alloc, a)?;
-            let b = int_expr(alloc, b)?;
-            chosen(alloc, test, a, b)
+        Term::CompareRead(is_signed, relation, a, b) => {
+            compared_read(alloc, *is_signed, *relation, *a, *b)
         }
+        Term::Choose(test, a, b) => choice(alloc, test, a, b),
         Term::Byte(is_signed, at) => {
             let at = expr(alloc, at)?;
             byte(alloc, *is_signed, at)
@@ -83,6 +69,146 @@ pub fn expr(alloc: Global, term: &Term<'_>) -> Result<Expr, AllocError>
             whole(alloc, at)
         }
     }
+}
+
+#[cycle(building)]
+#[inline(never)]
+fn both(alloc: Global, operator: BitOp, a: &Term<'_>, b: &Term<'_>) -> Result<Expr, AllocError>
+    ensures { IfOk result (λ e. expr_view e ≡ plain.binary (bit_operator (bit_view operator)) (int_of (term_view a.now)) (int_of (term_view b.now))) }
+{
+    let a = int_expr(alloc, a)?;
+    let b = int_expr(alloc, b)?;
+    binary(alloc, js_bit(operator), a, b)
+}
+
+#[inline(never)]
+fn both_read(alloc: Global, operator: BitOp, a: Name, b: Name) -> Result<Expr, AllocError>
+    ensures { IfOk result (λ e. expr_view e ≡ plain.binary (bit_operator (bit_view operator)) (plain.var (spelled (name_view a))) (plain.var (spelled (name_view b)))) }
+{
+    let a = variable(alloc, a)?;
+    let b = variable(alloc, b)?;
+    binary(alloc, js_bit(operator), a, b)
+}
+
+#[cycle(building)]
+#[inline(never)]
+fn two(alloc: Global, a: &Term<'_>, minus: bool, b: &Term<'_>) -> Result<Expr, AllocError>
+    ensures { IfOk result (λ e. expr_view e ≡ plain.chain (int_of (term_view a.now)) (plain.links minus (int_of (term_view b.now)) plain.no_links)) }
+{
+    let a = int_expr(alloc, a)?;
+    let b = int_expr(alloc, b)?;
+    sum_of_two(alloc, a, minus, b)
+}
+
+#[inline(never)]
+fn sum_read(alloc: Global, a: Name, minus: bool, b: Name) -> Result<Expr, AllocError>
+    ensures { IfOk result (λ e. expr_view e ≡ plain.chain (plain.var (spelled (name_view a))) (plain.links minus (plain.var (spelled (name_view b))) plain.no_links)) }
+{
+    let a = variable(alloc, a)?;
+    let b = variable(alloc, b)?;
+    sum_of_two(alloc, a, minus, b)
+}
+
+#[cycle(building)]
+#[inline(never)]
+fn three(
+    alloc: Global,
+    a: &Term<'_>,
+    first: bool,
+    b: &Term<'_>,
+    second: bool,
+    c: &Term<'_>,
+) -> Result<Expr, AllocError>
+    ensures { IfOk result (λ e. expr_view e ≡ plain.chain (int_of (term_view a.now)) (plain.links first (int_of (term_view b.now)) (plain.links second (int_of (term_view c.now)) plain.no_links))) }
+{
+    let a = int_expr(alloc, a)?;
+    let b = int_expr(alloc, b)?;
+    let c = int_expr(alloc, c)?;
+    sum_of_three(alloc, a, (first, b), (second, c))
+}
+
+#[cycle(building)]
+#[inline(never)]
+fn four(
+    alloc: Global,
+    a: &Term<'_>,
+    b: &Term<'_>,
+    c: &Term<'_>,
+    d: &Term<'_>,
+) -> Result<Expr, AllocError>
+    ensures { IfOk result (λ e. expr_view e ≡ plain.chain (int_of (term_view a.now)) (plain.links false (int_of (term_view b.now)) (plain.links false (int_of (term_view c.now)) (plain.links false (int_of (term_view d.now)) plain.no_links)))) }
+{
+    let a = int_expr(alloc, a)?;
+    let b = int_expr(alloc, b)?;
+    let c = int_expr(alloc, c)?;
+    let d = int_expr(alloc, d)?;
+    sum_of_four(alloc, a, b, c, d)
+}
+
+#[cycle(building)]
+#[inline(never)]
+fn product(alloc: Global, a: &Term<'_>, b: &Term<'_>) -> Result<Expr, AllocError>
+    ensures { IfOk result (λ e. expr_view e ≡ plain.call (name_of plain_names.imul) (plain.exprs (int_of (term_view a.now)) (plain.exprs (int_of (term_view b.now)) plain.no_exprs))) }
+{
+    let a = int_expr(alloc, a)?;
+    let b = int_expr(alloc, b)?;
+    call_of_two(alloc, Name::Always(Fixed::Imul), a, b)
+}
+
+#[cycle(building)]
+#[inline(never)]
+fn compared(
+    alloc: Global,
+    is_signed: bool,
+    relation: Relation,
+    a: &Term<'_>,
+    b: &Term<'_>,
+) -> Result<Expr, AllocError>
+    ensures { IfOk result (λ e. expr_view e ≡ plain.binary (relation_operator (relation_view relation)) (as_number is_signed (expr_for (term_view a.now))) (as_number is_signed (expr_for (term_view b.now)))) }
+{
+    let a = number_expr(alloc, a, is_signed)?;
+    let b = number_expr(alloc, b, is_signed)?;
+    binary(alloc, js_relation(relation), a, b)
+}
+
+#[inline(never)]
+fn compared_number(
+    alloc: Global,
+    is_signed: bool,
+    relation: Relation,
+    a: Expr,
+    value: i64,
+) -> Result<Expr, AllocError>
+    ensures { IfOk result (λ e. expr_view e ≡ plain.binary (relation_operator (relation_view relation)) (expr_view a) (as_number is_signed (plain.lit value))) }
+{
+    let value = number_form(alloc, literal(value), is_signed)?;
+    binary(alloc, js_relation(relation), a, value)
+}
+
+#[inline(never)]
+fn compared_read(
+    alloc: Global,
+    is_signed: bool,
+    relation: Relation,
+    a: Name,
+    b: Name,
+) -> Result<Expr, AllocError>
+    ensures { IfOk result (λ e. expr_view e ≡ plain.binary (relation_operator (relation_view relation)) (as_number is_signed (plain.var (spelled (name_view a)))) (as_number is_signed (plain.var (spelled (name_view b))))) }
+{
+    let a = number_form(alloc, variable(alloc, a)?, is_signed)?;
+    let b = number_form(alloc, variable(alloc, b)?, is_signed)?;
+    binary(alloc, js_relation(relation), a, b)
+}
+
+#[cycle(building)]
+#[inline(never)]
+fn choice(alloc: Global, test: &Term<'_>, a: &Term<'_>, b: &Term<'_>) -> Result<Expr, AllocError>
+    ensures { IfOk result (λ e. expr_view e ≡ plain.cond (as_number true (expr_for (term_view test.now))) (int_of (term_view a.now)) (int_of (term_view b.now))) }
+{
+    let test = number_expr(alloc, test, true)?;
+    let a = int_expr(alloc, a)?;
+    let b = int_expr(alloc, b)?;
+    chosen(alloc, test, a, b)
 }
 
 /// The expression of a term, of type int.
@@ -103,16 +229,22 @@ fn int_form(alloc: Global, term: &Term<'_>, e: Expr) -> Result<Expr, AllocError>
     match term {
         Term::SumOfTwo(_, _, _)
         | Term::SumOfThree(_, _, _, _, _)
+        | Term::SumNumber(_, _, _)
+        | Term::SumRead(_, _, _)
         | Term::SumOfFour(_, _, _, _)
         | Term::Byte(_, _)
         | Term::Whole(_) => signed(alloc, e),
         Term::Read(_)
         | Term::Number(_)
         | Term::Both(_, _, _)
+        | Term::BothNumber(_, _, _)
+        | Term::BothRead(_, _, _)
         | Term::Flip(_)
         | Term::Product(_, _)
         | Term::Zeros(_)
         | Term::Compare(_, _, _, _)
+        | Term::CompareNumber(_, _, _, _)
+        | Term::CompareRead(_, _, _, _)
         | Term::Choose(_, _, _) => Ok(e),
     }
 }
@@ -154,6 +286,12 @@ pub(crate) fn number_expr(
     ensures { IfOk result (λ e. expr_view e ≡ as_number is_signed (expr_for (term_view term.now))) }
 {
     let e = expr(alloc, term)?;
+    number_form(alloc, e, is_signed)
+}
+
+fn number_form(alloc: Global, e: Expr, is_signed: bool) -> Result<Expr, AllocError>
+    ensures { IfOk result (λ r. expr_view r ≡ as_number is_signed (expr_view e)) }
+{
     if is_signed {
         signed(alloc, e)
     } else {

@@ -38,16 +38,28 @@ pub enum Term<'a> {
     /// A literal of asm.js.
     Number(i64),
     Both(BitOp, &'a Term<'a>, &'a Term<'a>),
+    /// Of a word and a literal.
+    BothNumber(BitOp, &'a Term<'a>, i64),
+    /// Of two variables.
+    BothRead(BitOp, Name, Name),
     Flip(&'a Term<'a>),
     /// A sum, or with a mark a difference.
     SumOfTwo(&'a Term<'a>, bool, &'a Term<'a>),
     SumOfThree(&'a Term<'a>, bool, &'a Term<'a>, bool, &'a Term<'a>),
+    /// A sum of a word and a literal, or with a mark their difference.
+    SumNumber(&'a Term<'a>, bool, i64),
+    /// A sum of two variables, or with a mark their difference.
+    SumRead(Name, bool, Name),
     SumOfFour(&'a Term<'a>, &'a Term<'a>, &'a Term<'a>, &'a Term<'a>),
     Product(&'a Term<'a>, &'a Term<'a>),
     /// How many leading bits are 0.
     Zeros(&'a Term<'a>),
     /// Of signed numbers, or not.
     Compare(bool, Relation, &'a Term<'a>, &'a Term<'a>),
+    /// A word with a literal.
+    CompareNumber(bool, Relation, &'a Term<'a>, i64),
+    /// Two variables.
+    CompareRead(bool, Relation, Name, Name),
     /// By a test, the first or the second.
     Choose(&'a Term<'a>, &'a Term<'a>, &'a Term<'a>),
     /// Of the heap, with its sign or not, at this place.
@@ -78,6 +90,22 @@ impl<'a> Term<'a> {
         Term::Both(op, a, b)
     }
 
+    /// Of a word and a literal.
+    #[tactic(auto, using(crate::proofs::Views::terms))]
+    pub fn both_number(op: BitOp, a: &'a Term<'a>, value: i64) -> Term<'a>
+        ensures { term_view result ≡ words.both (bit_view op) (term_view a.now) (words.number value) }
+    {
+        Term::BothNumber(op, a, value)
+    }
+
+    /// Of two variables.
+    #[tactic(auto, using(crate::proofs::Views::terms))]
+    pub fn both_read(op: BitOp, a: Name, b: Name) -> Term<'a>
+        ensures { term_view result ≡ words.both (bit_view op) (words.read (name_view a)) (words.read (name_view b)) }
+    {
+        Term::BothRead(op, a, b)
+    }
+
     #[tactic(auto, using(crate::proofs::Views::terms))]
     pub fn flip(a: &'a Term<'a>) -> Term<'a>
         ensures { term_view result ≡ words.flip (term_view a.now) }
@@ -99,6 +127,38 @@ impl<'a> Term<'a> {
         ensures { term_view result ≡ pairs.minus (term_view a.now) (term_view b.now) }
     {
         Term::SumOfTwo(a, true, b)
+    }
+
+    /// `a+value`
+    #[tactic(auto, using(crate::proofs::Views::terms))]
+    pub fn plus_number(a: &'a Term<'a>, value: i64) -> Term<'a>
+        ensures { term_view result ≡ pairs.plus (term_view a.now) (words.number value) }
+    {
+        Term::SumNumber(a, false, value)
+    }
+
+    /// `a-value`
+    #[tactic(auto, using(crate::proofs::Views::terms))]
+    pub fn minus_number(a: &'a Term<'a>, value: i64) -> Term<'a>
+        ensures { term_view result ≡ pairs.minus (term_view a.now) (words.number value) }
+    {
+        Term::SumNumber(a, true, value)
+    }
+
+    /// `a+b`, of two variables
+    #[tactic(auto, using(crate::proofs::Views::terms))]
+    pub fn plus_read(a: Name, b: Name) -> Term<'a>
+        ensures { term_view result ≡ pairs.plus (words.read (name_view a)) (words.read (name_view b)) }
+    {
+        Term::SumRead(a, false, b)
+    }
+
+    /// `a-b`, of two variables
+    #[tactic(auto, using(crate::proofs::Views::terms))]
+    pub fn minus_read(a: Name, b: Name) -> Term<'a>
+        ensures { term_view result ≡ pairs.minus (words.read (name_view a)) (words.read (name_view b)) }
+    {
+        Term::SumRead(a, true, b)
     }
 
     /// `a+b+c`
@@ -149,6 +209,22 @@ impl<'a> Term<'a> {
         ensures { term_view result ≡ words.compare signed (relation_view relation) (term_view a.now) (term_view b.now) }
     {
         Term::Compare(signed, relation, a, b)
+    }
+
+    /// Of a word with a literal.
+    #[tactic(auto, using(crate::proofs::Views::terms))]
+    pub fn compare_number(signed: bool, relation: Relation, a: &'a Term<'a>, value: i64) -> Term<'a>
+        ensures { term_view result ≡ words.compare signed (relation_view relation) (term_view a.now) (words.number value) }
+    {
+        Term::CompareNumber(signed, relation, a, value)
+    }
+
+    /// Of two variables.
+    #[tactic(auto, using(crate::proofs::Views::terms))]
+    pub fn compare_read(signed: bool, relation: Relation, a: Name, b: Name) -> Term<'a>
+        ensures { term_view result ≡ words.compare signed (relation_view relation) (words.read (name_view a)) (words.read (name_view b)) }
+    {
+        Term::CompareRead(signed, relation, a, b)
     }
 
     #[tactic(auto, using(crate::proofs::Views::terms))]

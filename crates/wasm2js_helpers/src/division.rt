@@ -87,8 +87,7 @@ fn test_divisor(block: &mut Block) -> Result<(), AllocError>
     ensures { IfOk result (λ _. statements_of block.new ≡ statements_of block.old ++ helpers.divisor_test ∷ []) }
 {
     let divisor = second();
-    let zero = Term::number(0);
-    let test = Term::compare(true, Relation::Equal, &divisor, &zero);
+    let test = Term::compare_number(true, Relation::Equal, &divisor, 0);
     block.trap_when(&test, 3)
 }
 
@@ -96,12 +95,9 @@ fn test_divisor(block: &mut Block) -> Result<(), AllocError>
 fn test_overflow(block: &mut Block) -> Result<(), AllocError>
     ensures { IfOk result (λ _. statements_of block.new ≡ statements_of block.old ++ helpers.overflow_test ∷ []) }
 {
-    let dividend = first();
-    let least = Term::number(-2_147_483_648);
-    let is_least = Term::compare(true, Relation::Equal, &dividend, &least);
-    let divisor = second();
-    let minus_one = Term::number(-1);
-    let is_minus_one = Term::compare(true, Relation::Equal, &divisor, &minus_one);
+    let (dividend, divisor) = (first(), second());
+    let is_least = Term::compare_number(true, Relation::Equal, &dividend, -2_147_483_648);
+    let is_minus_one = Term::compare_number(true, Relation::Equal, &divisor, -1);
     let test = Term::both(BitOp::And, &is_least, &is_minus_one);
     block.trap_when(&test, 4)
 }

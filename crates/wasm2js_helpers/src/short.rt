@@ -52,31 +52,38 @@ pub fn third() -> Term<'static>
     Term::read(argument(2))
 }
 
-/// `to=a operator b;`
-pub fn put_both<'a>(
+/// `to=a operator b;`, of two variables.
+pub fn put_both(
     block: &mut Block,
     to: Name,
     operator: BitOp,
-    a: &'a Term<'a>,
-    b: &'a Term<'a>,
+    a: Name,
+    b: Name,
 ) -> Result<(), AllocError>
-    ensures { IfOk result (λ _. statements_of block.new ≡ statements_of block.old ++ helpers.sets (name_view to) (words.both (bit_view operator) (term_view a.now) (term_view b.now)) ∷ []) }
+    ensures { IfOk result (λ _. statements_of block.new ≡ statements_of block.old ++ helpers.sets (name_view to) (words.both (bit_view operator) (words.read (name_view a)) (words.read (name_view b))) ∷ []) }
 {
-    let value = Term::both(operator, a, b);
-    block.put(to, &value)
+    block.put(to, &Term::both_read(operator, a, b))
 }
 
-/// `return (a operator b)|0;`
-pub fn gives_both<'a>(
+/// `to=a operator value;`, of a variable and a literal.
+pub fn put_both_number(
     block: &mut Block,
+    to: Name,
     operator: BitOp,
-    a: &'a Term<'a>,
-    b: &'a Term<'a>,
+    a: Name,
+    value: i64,
 ) -> Result<(), AllocError>
-    ensures { IfOk result (λ _. statements_of block.new ≡ statements_of block.old ++ helpers.gives (words.both (bit_view operator) (term_view a.now) (term_view b.now)) ∷ []) }
+    ensures { IfOk result (λ _. statements_of block.new ≡ statements_of block.old ++ helpers.sets (name_view to) (words.both (bit_view operator) (words.read (name_view a)) (words.number value)) ∷ []) }
 {
-    let value = Term::both(operator, a, b);
-    block.gives(&value)
+    let a = Term::read(a);
+    block.put(to, &Term::both_number(operator, &a, value))
+}
+
+/// `return (a operator b)|0;`, of two variables.
+pub fn gives_both(block: &mut Block, operator: BitOp, a: Name, b: Name) -> Result<(), AllocError>
+    ensures { IfOk result (λ _. statements_of block.new ≡ statements_of block.old ++ helpers.gives (words.both (bit_view operator) (words.read (name_view a)) (words.read (name_view b))) ∷ []) }
+{
+    block.gives(&Term::both_read(operator, a, b))
 }
 
 /// A helper of one argument.

@@ -10,11 +10,12 @@ ghost use Rattle.wasm2js_code.specs.Pairs.{literal, sign_of, funnel_right, plus,
 ghost use Rattle.wasm2js_code.specs.Actions.{low_ones};
 ghost use Rattle.wasm2js_code.specs.Helpers as helpers;
 ghost use Rattle.wasm2js_code.specs.Helpers.{when, repeat, sets, gives, is_far, shift_left_function, shift_right_function, shift_right_signed_function, rotate_left_function, leading_zeros_function, trailing_zeros_function, set_bits_function};
-ghost use Rattle.wasm2js_build.specs.Views.{name_view, term_view};
+ghost use Rattle.wasm2js_build.specs.Views.{name_view, bit_view, term_view};
 ghost use Rattle.wasm2js_build.specs.Blocks.{statements_of};
 
 use crate::short::{
-    add, argument, first, gives_both, of_one, of_three, of_two, own, put_both, second, spare, third,
+    add, argument, first, gives_both, of_one, of_three, of_two, own, put_both, put_both_number,
+    second, spare, third,
 };
 use asm_tree::Function;
 use sem_words::List;
@@ -60,8 +61,7 @@ fn when_far(block: &mut Block, inner: Block) -> Result<(), AllocError>
     ensures { IfOk result (λ _. statements_of block.new ≡ statements_of block.old ++ when is_far (statements_of inner) ∷ []) }
 {
     let count = third();
-    let least = Term::number(32);
-    let test = Term::both(BitOp::And, &count, &least);
+    let test = Term::both_number(BitOp::And, &count, 32);
     block.when(&test, inner)
 }
 
@@ -69,51 +69,55 @@ fn when_far(block: &mut Block, inner: Block) -> Result<(), AllocError>
 fn put_funnel_left(block: &mut Block, to: Name, a: Name, b: Name) -> Result<(), AllocError>
     ensures { IfOk result (λ _. statements_of block.new ≡ statements_of block.old ++ sets (name_view to) (pairs.funnel_left (words.read (name_view a)) (words.read (name_view b)) helpers.third) ∷ []) }
 {
-    let a = Term::read(a);
-    let count = third();
-    let moved = Term::both(BitOp::Shl, &a, &count);
     let b = Term::read(b);
-    let one = Term::number(1);
-    let half = Term::both(BitOp::Shr, &b, &one);
+    let half = Term::both_number(BitOp::Shr, &b, 1);
     let count = third();
     let rest = Term::flip(&count);
-    let carried = Term::both(BitOp::Shr, &half, &rest);
-    let value = Term::plus(&moved, &carried);
-    block.put(to, &value)
+    put_moved(block, to, a, &Term::both(BitOp::Shr, &half, &rest))
+}
+
+// `to=(a<<count)+carried;`
+fn put_moved(block: &mut Block, to: Name, a: Name, carried: &Term<'_>) -> Result<(), AllocError>
+    ensures { IfOk result (λ _. statements_of block.new ≡ statements_of block.old ++ sets (name_view to) (plus (both shift_left (words.read (name_view a)) helpers.third) (term_view carried.now)) ∷ []) }
+{
+    let moved = Term::both_read(BitOp::Shl, a, argument(2));
+    block.put(to, &Term::plus(&moved, carried))
 }
 
 // `return (a<<count)+(b>>>1>>>~count)|0;`
 fn gives_funnel_left(block: &mut Block, a: Name, b: Name) -> Result<(), AllocError>
     ensures { IfOk result (λ _. statements_of block.new ≡ statements_of block.old ++ gives (pairs.funnel_left (words.read (name_view a)) (words.read (name_view b)) helpers.third) ∷ []) }
 {
-    let a = Term::read(a);
-    let count = third();
-    let moved = Term::both(BitOp::Shl, &a, &count);
     let b = Term::read(b);
-    let one = Term::number(1);
-    let half = Term::both(BitOp::Shr, &b, &one);
+    let half = Term::both_number(BitOp::Shr, &b, 1);
     let count = third();
     let rest = Term::flip(&count);
-    let carried = Term::both(BitOp::Shr, &half, &rest);
-    let value = Term::plus(&moved, &carried);
-    block.gives(&value)
+    gives_moved(block, BitOp::Shl, a, &Term::both(BitOp::Shr, &half, &rest))
+}
+
+// `return (a operator count)+carried|0;`
+fn gives_moved(
+    block: &mut Block,
+    operator: BitOp,
+    a: Name,
+    carried: &Term<'_>,
+) -> Result<(), AllocError>
+    ensures { IfOk result (λ _. statements_of block.new ≡ statements_of block.old ++ gives (plus (both (bit_view operator) (words.read (name_view a)) helpers.third) (term_view carried.now)) ∷ []) }
+{
+    let moved = Term::both_read(operator, a, argument(2));
+    block.gives(&Term::plus(&moved, carried))
 }
 
 // `return (low>>>count)+(high<<1<<~count)|0;`
 fn gives_funnel_right(block: &mut Block) -> Result<(), AllocError>
     ensures { IfOk result (λ _. statements_of block.new ≡ statements_of block.old ++ gives (funnel_right helpers.first helpers.second helpers.third) ∷ []) }
 {
-    let low = first();
-    let count = third();
-    let moved = Term::both(BitOp::Shr, &low, &count);
     let high = second();
-    let one = Term::number(1);
-    let double = Term::both(BitOp::Shl, &high, &one);
+    let double = Term::both_number(BitOp::Shl, &high, 1);
     let count = third();
     let rest = Term::flip(&count);
     let carried = Term::both(BitOp::Shl, &double, &rest);
-    let value = Term::plus(&moved, &carried);
-    block.gives(&value)
+    gives_moved(block, BitOp::Shr, argument(0), &carried)
 }
 
 // ---- shifts
@@ -122,7 +126,7 @@ fn shift_left_far(alloc: Global) -> Result<Block, AllocError>
     ensures { IfOk result (λ b. statements_of b ≡ sets helpers.spare (both shift_left helpers.first helpers.third) ∷ gives (literal 0) ∷ []) }
 {
     let mut block = Block::new(alloc);
-    put_both(&mut block, spare(), BitOp::Shl, &first(), &third())?;
+    put_both(&mut block, spare(), BitOp::Shl, argument(0), argument(2))?;
     block.gives(&Term::number(0))?;
     Ok(block)
 }
@@ -133,7 +137,7 @@ fn shift_left(alloc: Global) -> Result<Function, AllocError>
     let mut block = Block::new(alloc);
     when_far(&mut block, shift_left_far(alloc)?)?;
     put_funnel_left(&mut block, spare(), argument(1), argument(0))?;
-    gives_both(&mut block, BitOp::Shl, &first(), &third())?;
+    gives_both(&mut block, BitOp::Shl, argument(0), argument(2))?;
     of_three(alloc, Fixed::ShiftLeft, &[], block)
 }
 
@@ -141,14 +145,8 @@ fn shift_right_signed_far(alloc: Global) -> Result<Block, AllocError>
     ensures { IfOk result (λ b. statements_of b ≡ sets helpers.spare (sign_of helpers.second) ∷ gives (both shift_right_signed helpers.second helpers.third) ∷ []) }
 {
     let mut block = Block::new(alloc);
-    put_both(
-        &mut block,
-        spare(),
-        BitOp::Sar,
-        &second(),
-        &Term::number(31),
-    )?;
-    gives_both(&mut block, BitOp::Sar, &second(), &third())?;
+    put_both_number(&mut block, spare(), BitOp::Sar, argument(1), 31)?;
+    gives_both(&mut block, BitOp::Sar, argument(1), argument(2))?;
     Ok(block)
 }
 
@@ -157,7 +155,7 @@ fn shift_right_signed(alloc: Global) -> Result<Function, AllocError>
 {
     let mut block = Block::new(alloc);
     when_far(&mut block, shift_right_signed_far(alloc)?)?;
-    put_both(&mut block, spare(), BitOp::Sar, &second(), &third())?;
+    put_both(&mut block, spare(), BitOp::Sar, argument(1), argument(2))?;
     gives_funnel_right(&mut block)?;
     of_three(alloc, Fixed::ShiftRightSigned, &[], block)
 }
@@ -167,7 +165,7 @@ fn shift_right_far(alloc: Global) -> Result<Block, AllocError>
 {
     let mut block = Block::new(alloc);
     block.put(spare(), &Term::number(0))?;
-    gives_both(&mut block, BitOp::Shr, &second(), &third())?;
+    gives_both(&mut block, BitOp::Shr, argument(1), argument(2))?;
     Ok(block)
 }
 
@@ -176,7 +174,7 @@ fn shift_right(alloc: Global) -> Result<Function, AllocError>
 {
     let mut block = Block::new(alloc);
     when_far(&mut block, shift_right_far(alloc)?)?;
-    put_both(&mut block, spare(), BitOp::Shr, &second(), &third())?;
+    put_both(&mut block, spare(), BitOp::Shr, argument(1), argument(2))?;
     gives_funnel_right(&mut block)?;
     of_three(alloc, Fixed::ShiftRight, &[], block)
 }
@@ -220,8 +218,7 @@ fn gives_low_zeros(block: &mut Block) -> Result<(), AllocError>
     let low = first();
     let count = Term::zeros(&low);
     let above = Term::number(32);
-    let value = Term::plus(&above, &count);
-    block.gives(&value)
+    block.gives(&Term::plus(&above, &count))
 }
 
 fn leading_zeros(alloc: Global) -> Result<Function, AllocError>
@@ -238,14 +235,18 @@ fn gives_trailing(block: &mut Block, most: i64, word: Name) -> Result<(), AllocE
     ensures { IfOk result (λ _. statements_of block.new ≡ statements_of block.old ++ gives (minus (words.number most) (zeros (low_ones (words.read (name_view word))))) ∷ []) }
 {
     let word = Term::read(word);
-    let one = Term::number(1);
     let others = Term::flip(&word);
-    let below = Term::minus(&word, &one);
-    let ones = Term::both(BitOp::And, &others, &below);
-    let count = Term::zeros(&ones);
+    let below = Term::minus_number(&word, 1);
+    gives_fewer(block, most, &Term::both(BitOp::And, &others, &below))
+}
+
+// So many less the leading zeros of a word.
+fn gives_fewer(block: &mut Block, most: i64, word: &Term<'_>) -> Result<(), AllocError>
+    ensures { IfOk result (λ _. statements_of block.new ≡ statements_of block.old ++ gives (minus (words.number most) (zeros (term_view word.now))) ∷ []) }
+{
+    let count = Term::zeros(word);
     let most = Term::number(most);
-    let value = Term::minus(&most, &count);
-    block.gives(&value)
+    block.gives(&Term::minus(&most, &count))
 }
 
 fn low_trailing(alloc: Global) -> Result<Block, AllocError>
@@ -270,11 +271,9 @@ fn count_bit(block: &mut Block) -> Result<(), AllocError>
     ensures { IfOk result (λ _. statements_of block.new ≡ statements_of block.old ++ sets (helpers.own 0) (plus (words.read (helpers.own 0)) (both conjunction helpers.first (literal 1))) ∷ []) }
 {
     let word = first();
-    let one = Term::number(1);
-    let bit = Term::both(BitOp::And, &word, &one);
+    let bit = Term::both_number(BitOp::And, &word, 1);
     let count = Term::read(own(0));
-    let value = Term::plus(&count, &bit);
-    block.put(own(0), &value)
+    block.put(own(0), &Term::plus(&count, &bit))
 }
 
 fn each_bit(alloc: Global) -> Result<Block, AllocError>
@@ -282,13 +281,7 @@ fn each_bit(alloc: Global) -> Result<Block, AllocError>
 {
     let mut block = Block::new(alloc);
     count_bit(&mut block)?;
-    put_both(
-        &mut block,
-        argument(0),
-        BitOp::Shr,
-        &first(),
-        &Term::number(1),
-    )?;
+    put_both_number(&mut block, argument(0), BitOp::Shr, argument(0), 1)?;
     Ok(block)
 }
 
