@@ -39,12 +39,9 @@ fn put_bytes<'a>(
 ) -> Result<(), AllocError>
     ensures { IfOk result (λ _. statements_of block.new ≡ statements_of block.old ++ helpers.sets (name_view to) (bytes_together (term_view a.now) (term_view b.now) (term_view c.now) (term_view d.now)) ∷ []) }
 {
-    let one = Term::number(8);
-    let second = Term::both(BitOp::Shl, b, &one);
-    let two = Term::number(16);
-    let third = Term::both(BitOp::Shl, c, &two);
-    let three = Term::number(24);
-    let fourth = Term::both(BitOp::Shl, d, &three);
+    let second = Term::both_number(BitOp::Shl, b, 8);
+    let third = Term::both_number(BitOp::Shl, c, 16);
+    let fourth = Term::both_number(BitOp::Shl, d, 24);
     let value = Term::sum_of_four(a, &second, &third, &fourth);
     block.put(to, &value)
 }
@@ -59,12 +56,9 @@ fn gives_bytes<'a>(
 ) -> Result<(), AllocError>
     ensures { IfOk result (λ _. statements_of block.new ≡ statements_of block.old ++ helpers.gives (bytes_together (term_view a.now) (term_view b.now) (term_view c.now) (term_view d.now)) ∷ []) }
 {
-    let one = Term::number(8);
-    let second = Term::both(BitOp::Shl, b, &one);
-    let two = Term::number(16);
-    let third = Term::both(BitOp::Shl, c, &two);
-    let three = Term::number(24);
-    let fourth = Term::both(BitOp::Shl, d, &three);
+    let second = Term::both_number(BitOp::Shl, b, 8);
+    let third = Term::both_number(BitOp::Shl, c, 16);
+    let fourth = Term::both_number(BitOp::Shl, d, 24);
     let value = Term::sum_of_four(a, &second, &third, &fourth);
     block.gives(&value)
 }
@@ -109,11 +103,10 @@ fn gives_low_word(block: &mut Block) -> Result<(), AllocError>
     ensures { IfOk result (λ _. statements_of block.new ≡ statements_of block.old ++ helpers.gives (helpers.word_at 0) ∷ []) }
 {
     let at = first();
-    let (one, two, three) = (Term::number(1), Term::number(2), Term::number(3));
-    let b = Term::plus(&at, &one);
-    let c = Term::plus(&at, &two);
-    let d = Term::plus(&at, &three);
-    gives_word(block, &first(), &b, &c, &d)
+    let b = Term::plus_number(&at, 1);
+    let c = Term::plus_number(&at, 2);
+    let d = Term::plus_number(&at, 3);
+    gives_word(block, &at, &b, &c, &d)
 }
 
 // Of the place four bytes past the address.
@@ -121,12 +114,10 @@ fn put_high_word(block: &mut Block) -> Result<(), AllocError>
     ensures { IfOk result (λ _. statements_of block.new ≡ statements_of block.old ++ helpers.sets helpers.spare (helpers.word_at 4) ∷ []) }
 {
     let at = first();
-    let (four, five) = (Term::number(4), Term::number(5));
-    let (six, seven) = (Term::number(6), Term::number(7));
-    let a = Term::plus(&at, &four);
-    let b = Term::plus(&at, &five);
-    let c = Term::plus(&at, &six);
-    let d = Term::plus(&at, &seven);
+    let a = Term::plus_number(&at, 4);
+    let b = Term::plus_number(&at, 5);
+    let c = Term::plus_number(&at, 6);
+    let d = Term::plus_number(&at, 7);
     put_word(block, spare(), &a, &b, &c, &d)
 }
 
@@ -157,8 +148,7 @@ fn write_at(block: &mut Block, offset: u32, value: &Term<'_>) -> Result<(), Allo
         return block.write_byte(&first(), value);
     }
     let at = first();
-    let further = Term::number(i64::from(offset));
-    let place = Term::plus(&at, &further);
+    let place = Term::plus_number(&at, i64::from(offset));
     block.write_byte(&place, value)
 }
 
@@ -167,8 +157,7 @@ fn write_shifted(block: &mut Block, offset: u32, value: Name, bits: i64) -> Resu
     ensures { IfOk result (λ _. statements_of block.new ≡ statements_of block.old ++ helpers.write_at offset (both shift_right (words.read (name_view value)) (words.number bits)) ∷ []) }
 {
     let word = Term::read(value);
-    let bits = Term::number(bits);
-    let byte = Term::both(BitOp::Shr, &word, &bits);
+    let byte = Term::both_number(BitOp::Shr, &word, bits);
     write_at(block, offset, &byte)
 }
 

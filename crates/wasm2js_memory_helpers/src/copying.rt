@@ -2,8 +2,8 @@
 ghost use Rattle.std.specs.Prelude.{◌≡◌, true, false, ◌++◌, ◌∷◌, [], List, map, IfOk, pos};
 ghost use Rattle.asm_lang.specs.Modules as plain;
 ghost use Rattle.asm_tree.specs.Views.{function_view};
-ghost use Rattle.wasm2js_words.specs.Words.{int_of, disjunction, both, compare, at_most, greater, read, number};
-ghost use Rattle.wasm2js_code.specs.Pairs.{minus, literal};
+ghost use Rattle.wasm2js_words.specs.Words.{int_of, disjunction, both, compare, at_most, greater, read, number, whole, byte, write_whole, write_byte, simple_statement};
+ghost use Rattle.wasm2js_code.specs.Pairs.{plus, minus, literal};
 ghost use Rattle.wasm2js_code.specs.Helpers as helpers;
 ghost use Rattle.wasm2js_build.specs.Views.{name_view, term_view};
 ghost use Rattle.wasm2js_build.specs.Blocks.{statements_of};
@@ -12,7 +12,7 @@ use crate::runs::{each_byte, each_word, test_length, test_start, when_whole};
 use asm_tree::Function;
 use std::alloc::{AllocError, Global};
 use wasm2js_build::{BitOp, Block, Fixed, Name, Relation, Term};
-use wasm2js_helpers::short::{argument, first, of_three, own, second, third};
+use wasm2js_helpers::short::{argument, of_three, own, third};
 
 /// The helper, in a memory of so many bytes.
 pub fn copy_function(alloc: Global, bytes: u32) -> Result<Function, AllocError>
@@ -30,8 +30,7 @@ pub fn copy_function(alloc: Global, bytes: u32) -> Result<Function, AllocError>
 fn copy(block: &mut Block, up: Block, down: Block) -> Result<(), AllocError>
     ensures { IfOk result (λ _. statements_of block.new ≡ statements_of block.old ++ plain.if_else (int_of (compare false at_most helpers.first helpers.second)) (helpers.block_of (statements_of up)) (helpers.block_of (statements_of down)) ∷ []) }
 {
-    let (to, from) = (first(), second());
-    let test = Term::compare(false, Relation::AtMost, &to, &from);
+    let test = Term::compare_read(false, Relation::AtMost, argument(0), argument(1));
     block.when_else(&test, up, down)
 }
 
@@ -39,24 +38,30 @@ fn copy(block: &mut Block, up: Block, down: Block) -> Result<(), AllocError>
 fn copy_word(block: &mut Block, far: Name) -> Result<(), AllocError>
     ensures { IfOk result (λ _. statements_of block.new ≡ statements_of block.old ++ helpers.copy_word (read (name_view far)) ∷ []) }
 {
-    let (to, more) = (first(), Term::read(far));
-    let to = Term::plus(&to, &more);
-    let (from, more) = (second(), Term::read(far));
-    let from = Term::plus(&from, &more);
-    let value = Term::whole(&from);
-    block.write_whole(&to, &value)
+    put_word(block, &Term::plus_read(argument(0), far), far)
+}
+
+// The word so many bytes past the second argument.
+fn put_word(block: &mut Block, to: &Term<'_>, far: Name) -> Result<(), AllocError>
+    ensures { IfOk result (λ _. statements_of block.new ≡ statements_of block.old ++ simple_statement (write_whole (term_view to.now) (whole (plus helpers.second (read (name_view far))))) ∷ []) }
+{
+    let from = Term::plus_read(argument(1), far);
+    block.write_whole(to, &Term::whole(&from))
 }
 
 // One byte, so many bytes further.
 fn copy_byte(block: &mut Block, far: Name) -> Result<(), AllocError>
     ensures { IfOk result (λ _. statements_of block.new ≡ statements_of block.old ++ helpers.copy_byte (read (name_view far)) ∷ []) }
 {
-    let (to, more) = (first(), Term::read(far));
-    let to = Term::plus(&to, &more);
-    let (from, more) = (second(), Term::read(far));
-    let from = Term::plus(&from, &more);
-    let value = Term::byte(false, &from);
-    block.write_byte(&to, &value)
+    put_byte(block, &Term::plus_read(argument(0), far), far)
+}
+
+// The byte so many bytes past the second argument.
+fn put_byte(block: &mut Block, to: &Term<'_>, far: Name) -> Result<(), AllocError>
+    ensures { IfOk result (λ _. statements_of block.new ≡ statements_of block.old ++ simple_statement (write_byte (term_view to.now) (byte false (plus helpers.second (read (name_view far))))) ∷ []) }
+{
+    let from = Term::plus_read(argument(1), far);
+    block.write_byte(to, &Term::byte(false, &from))
 }
 
 // ---- upwards
@@ -74,8 +79,7 @@ fn words_up(alloc: Global) -> Result<Block, AllocError>
 fn when_both_whole(block: &mut Block, inner: Block) -> Result<(), AllocError>
     ensures { IfOk result (λ _. statements_of block.new ≡ statements_of block.old ++ helpers.when (helpers.is_whole (both disjunction helpers.first helpers.second)) (statements_of inner) ∷ []) }
 {
-    let (to, from) = (first(), second());
-    let places = Term::both(BitOp::Or, &to, &from);
+    let places = Term::both_read(BitOp::Or, argument(0), argument(1));
     when_whole(block, &places, inner)
 }
 
@@ -96,17 +100,16 @@ fn copy_up(alloc: Global) -> Result<Block, AllocError>
 fn fall(block: &mut Block, size: i64) -> Result<(), AllocError>
     ensures { IfOk result (λ _. statements_of block.new ≡ statements_of block.old ++ helpers.sets (helpers.argument 2) (minus helpers.third (number size)) ∷ []) }
 {
-    let (left, size) = (third(), Term::number(size));
-    let value = Term::minus(&left, &size);
-    block.put(argument(2), &value)
+    let left = third();
+    block.put(argument(2), &Term::minus_number(&left, size))
 }
 
 // While bytes are left.
 fn while_left(alloc: Global, inner: Block) -> Result<Block, AllocError>
     ensures { IfOk result (λ b. statements_of b ≡ helpers.repeat (compare true greater helpers.third (literal 0)) (statements_of inner) ∷ []) }
 {
-    let (left, zero) = (third(), Term::number(0));
-    let test = Term::compare(true, Relation::Greater, &left, &zero);
+    let left = third();
+    let test = Term::compare_number(true, Relation::Greater, &left, 0);
     let mut block = Block::new(alloc);
     block.repeat(&test, inner)?;
     Ok(block)
@@ -134,14 +137,24 @@ fn bytes_down(alloc: Global) -> Result<Block, AllocError>
 fn choose_down(block: &mut Block, by_words: Block, by_bytes: Block) -> Result<(), AllocError>
     ensures { IfOk result (λ _. statements_of block.new ≡ statements_of block.old ++ plain.if_else (int_of (helpers.is_whole (both disjunction (both disjunction helpers.first helpers.second) helpers.third))) (helpers.block_of (statements_of by_words)) (helpers.block_of (statements_of by_bytes)) ∷ []) }
 {
-    let (to, from, length) = (first(), second(), third());
-    let places = Term::both(BitOp::Or, &to, &from);
+    let length = third();
+    let places = Term::both_read(BitOp::Or, argument(0), argument(1));
     let all = Term::both(BitOp::Or, &places, &length);
-    let mask = Term::number(3);
-    let rest = Term::both(BitOp::And, &all, &mask);
-    let zero = Term::number(0);
-    let test = Term::compare(true, Relation::Equal, &rest, &zero);
-    block.when_else(&test, by_words, by_bytes)
+    when_all_whole(block, &all, by_words, by_bytes)
+}
+
+// The first block where a number is a multiple of four, and else the second.
+fn when_all_whole(
+    block: &mut Block,
+    all: &Term<'_>,
+    whole: Block,
+    other: Block,
+) -> Result<(), AllocError>
+    ensures { IfOk result (λ _. statements_of block.new ≡ statements_of block.old ++ plain.if_else (int_of (helpers.is_whole (term_view all.now))) (helpers.block_of (statements_of whole)) (helpers.block_of (statements_of other)) ∷ []) }
+{
+    let rest = Term::both_number(BitOp::And, all, 3);
+    let test = Term::compare_number(true, Relation::Equal, &rest, 0);
+    block.when_else(&test, whole, other)
 }
 
 fn copy_down(alloc: Global) -> Result<Block, AllocError>

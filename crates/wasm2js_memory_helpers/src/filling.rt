@@ -29,8 +29,8 @@ pub fn fill_function(alloc: Global, bytes: u32) -> Result<Function, AllocError>
 fn put_four_times(block: &mut Block) -> Result<(), AllocError>
     ensures { IfOk result (λ _. statements_of block.new ≡ statements_of block.old ++ helpers.sets (helpers.own 1) (helpers.four_times helpers.second) ∷ []) }
 {
-    let (value, mask) = (second(), Term::number(255));
-    let low = Term::both(BitOp::And, &value, &mask);
+    let value = second();
+    let low = Term::both_number(BitOp::And, &value, 255);
     let ones = Term::number(16_843_009);
     let all = Term::product(&low, &ones);
     block.put(own(1), &all)
@@ -39,8 +39,7 @@ fn put_four_times(block: &mut Block) -> Result<(), AllocError>
 fn one_word(alloc: Global) -> Result<Block, AllocError>
     ensures { IfOk result (λ b. statements_of b ≡ simple_statement (write_whole (plus helpers.first helpers.done) (read (helpers.own 1))) ∷ []) }
 {
-    let (at, done) = (first(), Term::read(own(0)));
-    let place = Term::plus(&at, &done);
+    let place = Term::plus_read(argument(0), own(0));
     let mut block = Block::new(alloc);
     block.write_whole(&place, &Term::read(own(1)))?;
     Ok(block)
@@ -49,8 +48,7 @@ fn one_word(alloc: Global) -> Result<Block, AllocError>
 fn one_byte(alloc: Global) -> Result<Block, AllocError>
     ensures { IfOk result (λ b. statements_of b ≡ simple_statement (write_byte (plus helpers.first helpers.done) helpers.second) ∷ []) }
 {
-    let (at, done) = (first(), Term::read(own(0)));
-    let place = Term::plus(&at, &done);
+    let place = Term::plus_read(argument(0), own(0));
     let mut block = Block::new(alloc);
     block.write_byte(&place, &second())?;
     Ok(block)

@@ -9,7 +9,7 @@ ghost use Rattle.wasm2js_build.specs.Blocks.{statements_of};
 
 use std::alloc::AllocError;
 use wasm2js_build::{BitOp, Block, Name, Relation, Term};
-use wasm2js_helpers::short::{own, third};
+use wasm2js_helpers::short::{argument, own, third};
 
 // ---- tests of a run
 
@@ -36,10 +36,8 @@ pub fn test_start(block: &mut Block, bytes: u32, at: Name) -> Result<(), AllocEr
 pub fn when_whole<'a>(block: &mut Block, at: &'a Term<'a>, inner: Block) -> Result<(), AllocError>
     ensures { IfOk result (λ _. statements_of block.new ≡ statements_of block.old ++ helpers.when (helpers.is_whole (term_view at.now)) (statements_of inner) ∷ []) }
 {
-    let mask = Term::number(3);
-    let rest = Term::both(BitOp::And, at, &mask);
-    let zero = Term::number(0);
-    let test = Term::compare(true, Relation::Equal, &rest, &zero);
+    let rest = Term::both_number(BitOp::And, at, 3);
+    let test = Term::compare_number(true, Relation::Equal, &rest, 0);
     block.when(&test, inner)
 }
 
@@ -50,9 +48,7 @@ fn count(block: &mut Block, bytes: i64) -> Result<(), AllocError>
     ensures { IfOk result (λ _. statements_of block.new ≡ statements_of block.old ++ helpers.sets (helpers.own 0) (plus helpers.done (number bytes)) ∷ []) }
 {
     let done = Term::read(own(0));
-    let more = Term::number(bytes);
-    let value = Term::plus(&done, &more);
-    block.put(own(0), &value)
+    block.put(own(0), &Term::plus_number(&done, bytes))
 }
 
 /// While there are four bytes more. The inner block is for one word.
@@ -61,9 +57,8 @@ pub fn each_word(block: &mut Block, inner: Block) -> Result<(), AllocError>
 {
     let mut inner = inner;
     count(&mut inner, 4)?;
-    let four = Term::number(4);
     let length = third();
-    let last = Term::minus(&length, &four);
+    let last = Term::minus_number(&length, 4);
     let done = Term::read(own(0));
     let test = Term::compare(true, Relation::AtMost, &done, &last);
     block.repeat(&test, inner)
@@ -75,8 +70,6 @@ pub fn each_byte(block: &mut Block, inner: Block) -> Result<(), AllocError>
 {
     let mut inner = inner;
     count(&mut inner, 1)?;
-    let length = third();
-    let done = Term::read(own(0));
-    let test = Term::compare(true, Relation::Less, &done, &length);
+    let test = Term::compare_read(true, Relation::Less, own(0), argument(2));
     block.repeat(&test, inner)
 }
