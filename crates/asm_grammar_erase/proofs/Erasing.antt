@@ -81,6 +81,16 @@ links_done e sum more items i x low is h had =
     let here : drop i items ≡ x ∷ drop (i + 1) items = drop_more items i x low ∙ ap (λ y. y ∷ drop (i + 1) items) (sym is) in
     ap (λ s. links_on s (map addend_view (drop (i + 1) items))) h ∙ sym (ap (λ xs. links_on sum (map addend_view xs)) here ∙ links_on-step sum x (drop (i + 1) items)) ∙ had
 
+-- what a tree says, by its variant, and what its parts say
+pub tree_says : (tree variant : CodeExpr) (x : Expr) → tree ≡ variant → expr_of (expr_view variant) ≡ x → x ≡ expr_of (expr_view tree)
+tree_says tree variant x is h = sym (ap (λ e. expr_of (expr_view e)) is ∙ h)
+
+pub inner_says : (x : Expr) (d e : CodeExpr) → x ≡ expr_of (expr_view d) → d ≡ e → x ≡ expr_of (expr_view e)
+inner_says x d e h is = h ∙ ap (λ y. expr_of (expr_view y)) is
+
+pub all_say : (xs : Exprs) (ds es : List CodeExpr) → xs ≡ exprs_of (exprs_view ds) → ds ≡ es → xs ≡ exprs_of (exprs_view es)
+all_say xs ds es h is = h ∙ ap (λ ys. exprs_of (exprs_view ys)) is
+
 -- expressions before others
 abbrev pub before : List Expr → Exprs → Exprs
 before [] es = es

@@ -24,7 +24,7 @@ use Rattle.asm_grammar_nodes.specs.Heights.{is_chain}
 use Rattle.asm_grammar_nodes.specs.Views.{AddendView, ClauseView, addend_view, sign_of, sum_in, word_view, words_view, under_all, expr_view, exprs_view, expr_option, stmt_view, stmts_view, clauses_view}
 use Rattle.asm_grammar_nodes.proofs.Levels.{binary_is, sign_is}
 use Rattle.asm_grammar_nodes.proofs.Views.{addend_view-is, clause_view-is, expr_view-Literal, expr_view-Negative, expr_view-Decimals, expr_view-Variable, expr_view-Element, expr_view-Call, expr_view-TableCall, expr_view-Assignment, expr_view-Store, expr_view-Unary, expr_view-Conditional, expr_view-Listed, expr_view-Binary, expr_view-Sum, stmt_view-Block, stmt_view-Plain, stmt_view-Empty, stmt_view-If_only, stmt_view-If_else, stmt_view-Return, stmt_view-While, stmt_view-DoWhile, stmt_view-For, stmt_view-Break, stmt_view-Continue, stmt_view-Switch, stmt_view-Labelled}
-use Rattle.asm_grammar_erase.specs.Parts.{own_place, sum_place, addends_places, below_labels}
+use Rattle.asm_grammar_erase.specs.Parts.{own_place, sum_place, addends_places, head_places, below_labels}
 
 -- ---- expressions
 
@@ -194,6 +194,14 @@ below-DoWhile at s c = ap below_labels (stmt_view-DoWhile at s c) ∙ sym (ap st
 pub places-For : (at : ℕ) (h : Box ForHeadTree Global) (s : Box CodeStmt Global) → stmt_places (stmt_view (stmts.For at h s)) ≡ at ∷ (option_places (expr_option h.value.start) ++ (option_places (expr_option h.value.condition) ++ (option_places (expr_option h.value.step) ++ stmt_places (stmt_view s.value))))
 places-For at h s = ap stmt_places (stmt_view-For at h s)
 
+pub places-For_head : (at : ℕ) (h : Box ForHeadTree Global) (s : Box CodeStmt Global) → stmt_places (stmt_view (stmts.For at h s)) ≡ at ∷ (head_places h.value ++ stmt_places (stmt_view s.value))
+places-For_head at h s =
+    let start = option_places (expr_option h.value.start) in
+    let condition = option_places (expr_option h.value.condition) in
+    let step = option_places (expr_option h.value.step) in
+    let body = stmt_places (stmt_view s.value) in
+    places-For at h s ∙ ap (λ r. at ∷ r) (sym (append_assoc start (condition ++ step) body ∙ ap (λ r. start ++ r) (append_assoc condition step body)))
+
 pub below-For : (at : ℕ) (h : Box ForHeadTree Global) (s : Box CodeStmt Global) → below_labels (stmt_view (stmts.For at h s)) ≡ stmt_places (stmt_view (stmts.For at h s))
 below-For at h s = ap below_labels (stmt_view-For at h s) ∙ sym (ap stmt_places (stmt_view-For at h s))
 
@@ -240,6 +248,23 @@ pub places-Labelled : (ls : Listed Word) (s : Box CodeStmt Global) (w : Word) (w
 places-Labelled ls s w ws h =
     ap stmt_places (stmt_view-Labelled ls s) ∙ ap (λ us. under_words us s.value) h
     ∙ places_under (word_view w) (under_all (words_view ws) (stmt_view s.value)) ∙ ap (λ ps. w.at ∷ ps) (below_all (words_view ws) (stmt_view s.value))
+
+-- ---- a whole, once each of its parts has put its places
+
+pub places_say : (tree variant : CodeExpr) (ps : List ℕ) → tree ≡ variant → expr_places (expr_view variant) ≡ ps → expr_places (expr_view tree) ≡ ps
+places_say tree variant ps is h = ap (λ e. expr_places (expr_view e)) is ∙ h
+
+pub stmt_places_say : (tree variant : CodeStmt) (ps : List ℕ) → tree ≡ variant → stmt_places (stmt_view variant) ≡ ps → stmt_places (stmt_view tree) ≡ ps
+stmt_places_say tree variant ps is h = ap (λ e. stmt_places (stmt_view e)) is ∙ h
+
+pub one_part : (ps own a q0 whole : List ℕ) → q0 ≡ ps ++ own → whole ≡ own ++ a → q0 ++ a ≡ ps ++ whole
+one_part ps own a q0 whole h0 is = ap (λ q. q ++ a) h0 ∙ append_assoc ps own a ∙ ap (λ q. ps ++ q) (sym is)
+
+pub two_parts : (ps own a b q0 q1 whole : List ℕ) → q0 ≡ ps ++ own → q1 ≡ q0 ++ a → whole ≡ own ++ (a ++ b) → q1 ++ b ≡ ps ++ whole
+two_parts ps own a b q0 q1 whole h0 h1 is = ap (λ q. q ++ b) h1 ∙ append_assoc q0 a b ∙ one_part ps own (a ++ b) q0 whole h0 is
+
+pub three_parts : (ps own a b c q0 q1 q2 whole : List ℕ) → q0 ≡ ps ++ own → q1 ≡ q0 ++ a → q2 ≡ q1 ++ b → whole ≡ own ++ (a ++ (b ++ c)) → q2 ++ c ≡ ps ++ whole
+three_parts ps own a b c q0 q1 q2 whole h0 h1 h2 is = ap (λ q. q ++ c) h2 ∙ append_assoc q1 b c ∙ two_parts ps own a (b ++ c) q0 q1 whole h0 h1 is
 
 pub nothing : {X : Type 0} (xs : List X) → length xs ≡ 0 → xs ≡ []
 nothing [] h = refl

@@ -88,16 +88,36 @@ under_labels (n ∷ ns) s = under_one n (under_all ns s) ∙ ap (merged (n.text 
 pub erased-Labelled : (ls : Listed Word) (s : Box CodeStmt Global) → stmt_of (stmt_view (placed_stmts.Labelled ls s)) ≡ with_labels (label_texts (words_view (list_items ls))) (stmt_of (stmt_view s.value))
 erased-Labelled ls s = ap stmt_of (stmt_view-Labelled ls s) ∙ under_labels (words_view (list_items ls)) (stmt_view s.value)
 
+-- what a tree says, by its variant, and what its parts say
+pub tree_says : (tree variant : CodeStmt) (x : Stmt) → tree ≡ variant → stmt_of (stmt_view variant) ≡ x → x ≡ stmt_of (stmt_view tree)
+tree_says tree variant x is h = sym (ap (λ e. stmt_of (stmt_view e)) is ∙ h)
+
+pub inner_says : (x : Stmt) (d e : CodeStmt) → x ≡ stmt_of (stmt_view d) → d ≡ e → x ≡ stmt_of (stmt_view e)
+inner_says x d e h is = h ∙ ap (λ y. stmt_of (stmt_view y)) is
+
+pub all_say : (xs : Stmts) (ds es : List CodeStmt) → xs ≡ stmts_of (stmts_view ds) → ds ≡ es → xs ≡ stmts_of (stmts_view es)
+all_say xs ds es h is = h ∙ ap (λ ys. stmts_of (stmts_view ys)) is
+
+pub clauses_say : (xs : Clauses) (ds es : List CodeClause) → xs ≡ clauses_of (clauses_view ds) → ds ≡ es → xs ≡ clauses_of (clauses_view es)
+clauses_say xs ds es h is = h ∙ ap (λ ys. clauses_of (clauses_view ys)) is
+
 pub texts_joined : (ts us : List Text) → texts_view (ts ++ us) ≡ texts_view ts ++ texts_view us
 texts_joined [] us = refl
 texts_joined (t ∷ ts) us = ap (λ r. text_bytes t ∷ r) (texts_joined ts us)
 
--- the labels of a statement that has labels go on
-pub on_labelled : (body : PlainStmt) (inner all labels : Listed Text) (s : Box PlainStmt Global) → body ≡ plain_stmts.Labelled inner s → list_items all ≡ list_items labels ++ list_items inner
-    → plain.stmt_view (plain_stmts.Labelled all s) ≡ merged (texts_view (list_items labels)) (plain.stmt_view body)
-on_labelled body inner all labels s is joined =
+pub under_joined : (inner all labels : Listed Text) (s : Box PlainStmt Global) → list_items all ≡ list_items labels ++ list_items inner
+    → plain.stmt_view (plain_stmts.Labelled all s) ≡ labelled (texts_view (list_items labels) ++ texts_view (list_items inner)) (plain.stmt_view s.value)
+under_joined inner all labels s joined =
     plain_views.stmt_view-Labelled all s ∙ ap (λ ts. labelled (texts_view ts) (plain.stmt_view s.value)) joined ∙ ap (λ ts. labelled ts (plain.stmt_view s.value)) (texts_joined (list_items labels) (list_items inner))
-    ∙ sym (ap (λ b. merged (texts_view (list_items labels)) (plain.stmt_view b)) is ∙ ap (merged (texts_view (list_items labels))) (plain_views.stmt_view-Labelled inner s))
+
+pub under_boxed : (body : PlainStmt) (labels : Listed Text) (s : Box PlainStmt Global) → s.value ≡ body → plain.stmt_view (plain_stmts.Labelled labels s) ≡ labelled (texts_view (list_items labels)) (plain.stmt_view body)
+under_boxed body labels s is = plain_views.stmt_view-Labelled labels s ∙ ap (λ b. labelled (texts_view (list_items labels)) (plain.stmt_view b)) is
+
+-- the labels of a statement that has labels go on
+pub on_labelled : (body : PlainStmt) (inner labels : Listed Text) (s : Box PlainStmt Global) → body ≡ plain_stmts.Labelled inner s
+    → labelled (texts_view (list_items labels) ++ texts_view (list_items inner)) (plain.stmt_view s.value) ≡ merged (texts_view (list_items labels)) (plain.stmt_view body)
+on_labelled body inner labels s is =
+    sym (ap (λ b. merged (texts_view (list_items labels)) (plain.stmt_view b)) is ∙ ap (merged (texts_view (list_items labels))) (plain_views.stmt_view-Labelled inner s))
 
 abbrev is_labelled : Stmt → Bool
 is_labelled (labelled ls s) = true
@@ -117,10 +137,8 @@ merged_by : (ns : List (List ℕ)) (s : Stmt) → is_labelled s ≡ false → me
 merged_by ns (labelled ls s) h = absurd (true≢false h)
 merged_by ns _ h = refl
 
-pub on_other : (body : PlainStmt) (labels : Listed Text) (s : Box PlainStmt Global) → ((ls : Listed Text) (b : Box PlainStmt Global) → body ≡ plain_stmts.Labelled ls b → ⊥) → s.value ≡ body
-    → plain.stmt_view (plain_stmts.Labelled labels s) ≡ merged (texts_view (list_items labels)) (plain.stmt_view body)
-on_other body labels s not is =
-    plain_views.stmt_view-Labelled labels s ∙ ap (λ b. labelled (texts_view (list_items labels)) (plain.stmt_view b)) is ∙ sym (merged_by (texts_view (list_items labels)) (plain.stmt_view body) (not_labelled body not))
+pub on_other : (body : PlainStmt) (labels : Listed Text) → ((ls : Listed Text) (b : Box PlainStmt Global) → body ≡ plain_stmts.Labelled ls b → ⊥) → labelled (texts_view (list_items labels)) (plain.stmt_view body) ≡ merged (texts_view (list_items labels)) (plain.stmt_view body)
+on_other body labels not = sym (merged_by (texts_view (list_items labels)) (plain.stmt_view body) (not_labelled body not))
 
 -- ---- lists
 

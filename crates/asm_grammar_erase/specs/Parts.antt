@@ -3,8 +3,9 @@ use Rattle.std.specs.Prelude.{ℕ, Bool, true, false, List, [], ◌∷◌, ◌++
 use Rattle.asm_lang.specs.Lexemes.{Lexeme}
 use Rattle.asm_lang.specs.Trees.{StmtTree, labelled, FunctionTree}
 use Rattle.asm_lang.specs.Modules as modules
-use Rattle.asm_lang.specs.Modules.{Expr, chained, expr_of, Stmt, expr_places, stmt_places, stmts_places, params_places, variables_places}
-use Rattle.asm_grammar_nodes.specs.Views.{AddendView}
+use Rattle.asm_lang.specs.Modules.{Expr, chained, expr_of, Stmt, expr_places, option_places, stmt_places, stmts_places, params_places, variables_places}
+use Rattle.asm_grammar_nodes.specs.Views.{AddendView, expr_option}
+use Rattle.asm_grammar_nodes.specs.declared.tree.ForHeadTree.{ForHeadTree}
 
 -- ---- places
 
@@ -21,6 +22,10 @@ sum_place goes_on (a ∷ others) = own_place goes_on a.at
 abbrev pub addends_places : List AddendView → List ℕ
 addends_places [] = []
 addends_places (a ∷ others) = expr_places a.operand ++ addends_places others
+
+-- the heading of a for loop
+abbrev pub head_places : ForHeadTree → List ℕ
+head_places h = option_places (expr_option h.start) ++ (option_places (expr_option h.condition) ++ option_places (expr_option h.step))
 
 -- without the place of its own labels
 abbrev pub below_labels : StmtTree → List ℕ

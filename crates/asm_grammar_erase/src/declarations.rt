@@ -2,6 +2,7 @@
 
 ghost use Rattle.std.specs.Prelude.{◌≡◌, ◌∷◌, map, if◌then◌else◌, IfOk};
 ghost use Rattle.sem_words.specs.Lists.{list_items, text_bytes};
+ghost use Rattle.asm_lang.specs.Trees.{view};
 ghost use Rattle.asm_lang.specs.Modules.{init_of, variable_of, param_of, function_of, table_of, export_of, exports_of};
 ghost use Rattle.asm_grammar_nodes.specs.Views as placed;
 ghost use Rattle.asm_tree.specs.Views as plain;
@@ -31,6 +32,25 @@ fn signed(alloc: Global, minus: bool, text: &Text) -> Result<Text, AllocError>
     }
 }
 
+/// The copies of two texts.
+fn both_copied(alloc: Global, first: &Text, second: &Text) -> Result<(Text, Text), AllocError>
+    ensures before { IfOk result (λ r. text_bytes r.0 ≡ text_bytes first.now) }
+    ensures after { IfOk result (λ r. text_bytes r.1 ≡ text_bytes second.now) }
+{
+    let first = copied(alloc, first)?;
+    let second = copied(alloc, second)?;
+    Ok((first, second))
+}
+
+/// The view of the heap that a member of the standard library makes.
+fn erased_view(alloc: Global, stdlib: &Text, member: &Text, heap: &Text) -> Result<Init, AllocError>
+    ensures { IfOk result (λ r. plain.init_view r ≡ view (text_bytes stdlib.now) (text_bytes member.now) (text_bytes heap.now)) }
+{
+    let (stdlib, member) = both_copied(alloc, stdlib, member)?;
+    let heap = copied(alloc, heap)?;
+    Ok(Init::View(stdlib, member, heap))
+}
+
 fn erased_init(alloc: Global, init: &InitTree) -> Result<Init, AllocError>
     ensures { IfOk result (λ r. plain.init_view r ≡ init_of (placed.init_view init.now)) }
 {
@@ -41,31 +61,22 @@ fn erased_init(alloc: Global, init: &InitTree) -> Result<Init, AllocError>
             Ok(Init::Decimal(text))
         }
         InitTree::ForeignInt(foreign, member) => {
-            let foreign = copied(alloc, foreign)?;
-            let member = copied(alloc, member)?;
+            let (foreign, member) = both_copied(alloc, foreign, member)?;
             Ok(Init::ForeignInt(foreign, member))
         }
         InitTree::ForeignDouble(foreign, member) => {
-            let foreign = copied(alloc, foreign)?;
-            let member = copied(alloc, member)?;
+            let (foreign, member) = both_copied(alloc, foreign, member)?;
             Ok(Init::ForeignDouble(foreign, member))
         }
         InitTree::Member(module, member) => {
-            let module = copied(alloc, module)?;
-            let member = copied(alloc, member)?;
+            let (module, member) = both_copied(alloc, module, member)?;
             Ok(Init::Member(module, member))
         }
         InitTree::Math(stdlib, member) => {
-            let stdlib = copied(alloc, stdlib)?;
-            let member = copied(alloc, member)?;
+            let (stdlib, member) = both_copied(alloc, stdlib, member)?;
             Ok(Init::Math(stdlib, member))
         }
-        InitTree::View(stdlib, member, heap) => {
-            let stdlib = copied(alloc, stdlib)?;
-            let member = copied(alloc, member)?;
-            let heap = copied(alloc, heap)?;
-            Ok(Init::View(stdlib, member, heap))
-        }
+        InitTree::View(stdlib, member, heap) => erased_view(alloc, stdlib, member, heap),
     }
 }
 

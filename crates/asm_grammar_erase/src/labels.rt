@@ -2,12 +2,14 @@
 
 ghost use Rattle.std.specs.Prelude.{◌≡◌, ◌++◌, IfOk};
 ghost use Rattle.sem_words.specs.Lists.{list_items, text_bytes};
+ghost use Rattle.asm_lang.specs.Modules.{labelled};
 ghost use Rattle.asm_tree.specs.Views.{stmt_view, texts_view};
 ghost use Rattle.asm_grammar_nodes.specs.Views.{words_view};
 ghost use Rattle.asm_grammar_erase.specs.Parts.{merged, with_labels, label_texts};
 
 use crate::lists::pushed;
 use crate::nodes::copied;
+use crate::wholes::boxed;
 use asm_grammar_nodes::Word;
 use asm_tree::Stmt;
 use sem_words::{List, Text};
@@ -37,19 +39,29 @@ fn joined(first: List<Text>, second: List<Text>) -> Result<List<Text>, AllocErro
     }
 }
 
+/// A statement under labels, those that it has after these.
+fn under_more(labels: List<Text>, inner: List<Text>, body: Box<Stmt>) -> Result<Stmt, AllocError>
+    ensures { IfOk result (λ r. stmt_view r ≡ labelled (texts_view (list_items labels) ++ texts_view (list_items inner)) (stmt_view body.value)) }
+{
+    let labels = joined(labels, inner)?;
+    Ok(Stmt::Labelled(labels, body))
+}
+
+/// A statement that has no labels, under these.
+fn under_first(alloc: Global, labels: List<Text>, body: Stmt) -> Result<Stmt, AllocError>
+    ensures { IfOk result (λ r. stmt_view r ≡ labelled (texts_view (list_items labels)) (stmt_view body)) }
+{
+    let body = boxed(alloc, body)?;
+    Ok(Stmt::Labelled(labels, body))
+}
+
 /// The labels of a statement that has labels go on.
 pub(crate) fn merged(alloc: Global, labels: List<Text>, body: Stmt) -> Result<Stmt, AllocError>
     ensures { IfOk result (λ r. stmt_view r ≡ merged (texts_view (list_items labels)) (stmt_view body)) }
 {
     match body.into_labelled() {
-        Ok((inner, body)) => {
-            let labels = joined(labels, inner)?;
-            Ok(Stmt::Labelled(labels, body))
-        }
-        Err(body) => {
-            let body = Box::new(alloc, body)?;
-            Ok(Stmt::Labelled(labels, body))
-        }
+        Ok((inner, body)) => under_more(labels, inner, body),
+        Err(body) => under_first(alloc, labels, body),
     }
 }
 

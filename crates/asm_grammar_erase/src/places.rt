@@ -2,12 +2,13 @@
 
 ghost use Rattle.std.specs.Prelude.{◌≡◌, ◌&&◌, ◌++◌, ◌∷◌, [], map, IfOk, OnOk};
 ghost use Rattle.sem_words.specs.Lists.{list_items};
-ghost use Rattle.asm_lang.specs.Modules.{expr_places, exprs_places, option_places, stmt_places, stmts_places, clauses_places};
+ghost use Rattle.asm_lang.specs.Modules.{is_sum, expr_of, expr_places, exprs_places, option_places, stmt_places, stmts_places, clauses_places};
+ghost use Rattle.asm_grammar_nodes.specs.Heights.{is_chain};
 ghost use Rattle.asm_grammar_nodes.specs.Views.{expr_view, addend_view, exprs_view, expr_option, stmt_view, stmts_view, clauses_view};
-ghost use Rattle.asm_grammar_erase.specs.Parts.{own_place, sum_place, addends_places, below_labels};
+ghost use Rattle.asm_grammar_erase.specs.Parts.{own_place, sum_place, addends_places, head_places, below_labels};
 
-use asm_grammar_nodes::{Addend, ClauseTree, ExprTree, StmtTree, is_chain, is_sum};
-use sem_words::List;
+use asm_grammar_nodes::{Addend, ClauseTree, ExprTree, ForHeadTree, StmtTree, is_chain, is_sum};
+use sem_words::{JsOp, List};
 use std::alloc::AllocError;
 
 /// The list with one more place at its end.
@@ -70,8 +71,7 @@ pub(crate) fn expr_places(places: &mut List<u64>, tree: &ExprTree) -> Result<(),
             expr_places(places, operand)
         }
         ExprTree::Binary(at, left, operator, right) => {
-            let goes_on = is_sum(*operator) && is_chain(left);
-            place_unless(goes_on, places, *at)?;
+            binary_place(places, *at, *operator, left)?;
             expr_places(places, left)?;
             expr_places(places, right)
         }
@@ -103,6 +103,18 @@ fn place_unless(goes_on: bool, places: &mut List<u64>, at: u64) -> Result<(), Al
     } else {
         put_place(places, at)
     }
+}
+
+/// The place of a binary node, unless it goes on with the chain that is its first operand.
+fn binary_place(
+    places: &mut List<u64>,
+    at: u64,
+    operator: JsOp,
+    left: &ExprTree,
+) -> Result<(), AllocError>
+    ensures { OnOk result (list_items places.new ≡ list_items places.old ++ own_place (is_sum operator && is_chain (expr_of (expr_view left.now))) at) }
+{
+    place_unless(is_sum(operator) && is_chain(left), places, at)
 }
 
 /// The place of a sum is its first operator, and that of its first operand where that is a chain.
@@ -148,6 +160,15 @@ fn option_places(places: &mut List<u64>, tree: &Option<Box<ExprTree>>) -> Result
     }
 }
 
+#[tactic(auto, using(crate::proofs::PlaceLemmas::own_places))]
+fn head_places(places: &mut List<u64>, head: &ForHeadTree) -> Result<(), AllocError>
+    ensures { OnOk result (list_items places.new ≡ list_items places.old ++ head_places head.now) }
+{
+    option_places(places, &head.start)?;
+    option_places(places, &head.condition)?;
+    option_places(places, &head.step)
+}
+
 /// Puts the places of a statement at the list's end. A level takes little of the machine's stack here too.
 #[cycle(stmts)]
 #[inline(never)]
@@ -190,9 +211,7 @@ pub(crate) fn stmt_places(places: &mut List<u64>, tree: &StmtTree) -> Result<(),
         }
         StmtTree::For(at, head, body) => {
             put_place(places, *at)?;
-            option_places(places, &head.start)?;
-            option_places(places, &head.condition)?;
-            option_places(places, &head.step)?;
+            head_places(places, head)?;
             stmt_places(places, body)
         }
         StmtTree::Break(at, _) => put_place(places, *at),

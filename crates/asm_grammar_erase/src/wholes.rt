@@ -123,6 +123,16 @@ fn erased_head(alloc: Global, head: &ForHeadTree) -> Result<ForHead, AllocError>
 }
 
 #[inline(never)]
+fn boxed_head(alloc: Global, head: &ForHeadTree) -> Result<Box<ForHead>, AllocError>
+    ensures start { IfOk result (λ r. views.expr_option r.value.start ≡ option_of (placed.expr_option head.now.start)) }
+    ensures condition { IfOk result (λ r. views.expr_option r.value.condition ≡ option_of (placed.expr_option head.now.condition)) }
+    ensures step { IfOk result (λ r. views.expr_option r.value.step ≡ option_of (placed.expr_option head.now.step)) }
+{
+    let head = erased_head(alloc, head)?;
+    Ok(Box::new(alloc, head)?)
+}
+
+#[inline(never)]
 #[tactic(auto, using(crate::proofs::StmtErasing::statements))]
 pub(crate) fn for_loop(
     alloc: Global,
@@ -131,8 +141,8 @@ pub(crate) fn for_loop(
 ) -> Result<Stmt, AllocError>
     ensures { IfOk result (λ r. views.stmt_view r ≡ for_loop (option_of (placed.expr_option head.now.start)) (option_of (placed.expr_option head.now.condition)) (option_of (placed.expr_option head.now.step)) (views.stmt_view body.value)) }
 {
-    let head = erased_head(alloc, head)?;
-    Ok(Stmt::For(Box::new(alloc, head)?, body))
+    let head = boxed_head(alloc, head)?;
+    Ok(Stmt::For(head, body))
 }
 
 #[inline(never)]
