@@ -31,6 +31,6 @@ returns-in-2-clause-value c =
 pub returns-in-3-clause-value : goal.returns-in-3-clause-value
 returns-in-3-clause-value c =
     let byte_is : c.in_ok-byte.byte ≡ 3 = omega arith in
-    let fits : nat_le (c.args.globals + 1) most_globals ≡ true = sym c.within-in-3-1.ensures ∙ c.if-within-2.true in
+    let fits : nat_le (c.args.globals + 1) most_globals ≡ true = cc in
     field_as (λ k. k) c.imported_global.result (onto kinds.Global (global_type_field (input_of c.in_ok-byte.rest))) (import_kind_field c.args.functions c.args.globals (input_of c.args.input))
     (global_at c.args.functions c.args.globals (input_of c.args.input) (input_of c.in_ok-byte.rest) c.in_ok-byte.byte c.in_ok-byte.ensures.value byte_is fits) c.imported_global.ensures.value
