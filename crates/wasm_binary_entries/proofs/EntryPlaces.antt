@@ -100,3 +100,21 @@ code_at params i j k l n locals code e f g =
 pub body_at : (i content after rest : Input) (p : ℕ) → body_head i ≡ Ok (content, after) → code_place content ≡ Ok (p, rest) → body_place i ≡ Ok (p, after)
 body_at i content after rest p e f =
     ap (λ r. r >>= λ body. code_place body.0 >>= λ code. Ok (code.0, body.1)) e ∙ ap (λ r. r >>= λ code. Ok (code.0, after)) f
+
+-- ---- kinds of imports by their bytes
+
+module _ (functions globals : ℕ) (i j : Input) (b : ℕ) (first : byte i ≡ Ok (b, j)) where
+  kind_of_byte : import_kind_field functions globals i ≡ kind_by functions globals i.at b j
+  kind_of_byte = ap (λ r. r >>= λ b. kind_by functions globals i.at b.0 b.1) first
+
+  pub function_at : b ≡ 0 → nat_le (functions + 1) most_functions ≡ true → import_kind_field functions globals i ≡ onto imports.Func (u32 j)
+  function_at h fits = kind_of_byte ∙ ap (λ b. kind_by functions globals i.at b j) h ∙ ap (λ t. expects t Limit i.at >>= λ _. onto imports.Func (u32 j)) fits
+
+  pub table_at : b ≡ 1 → import_kind_field functions globals i ≡ onto imports.Table (table_field j)
+  table_at h = kind_of_byte ∙ ap (λ b. kind_by functions globals i.at b j) h
+
+  pub memory_at : b ≡ 2 → import_kind_field functions globals i ≡ onto imports.Memory (memory_field j)
+  memory_at h = kind_of_byte ∙ ap (λ b. kind_by functions globals i.at b j) h
+
+  pub global_at : b ≡ 3 → nat_le (globals + 1) most_globals ≡ true → import_kind_field functions globals i ≡ onto imports.Global (global_type_field j)
+  global_at h fits = kind_of_byte ∙ ap (λ b. kind_by functions globals i.at b j) h ∙ ap (λ t. expects t Limit i.at >>= λ _. onto imports.Global (global_type_field j)) fits

@@ -5,5 +5,6 @@ pub mod Header
 pub mod ImportsInRow
 pub mod ItemsInRow
 pub mod Lending
+pub mod LimitSteps
 pub mod Spellings
 pub mod TextTests

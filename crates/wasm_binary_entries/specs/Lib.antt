@@ -1,3 +1,4 @@
+pub mod Kinds
 pub mod Lent
 pub mod Openings
 pub mod Places

@@ -5,6 +5,7 @@ ghost use Rattle.wasm_lang.specs.Reading as reading;
 ghost use Rattle.wasm_lang.specs.ReadingModule as modules;
 ghost use Rattle.wasm_tree.specs.Inputs.{input_of, IsField, IsRead, Continues};
 ghost use Rattle.wasm_tree.specs.Views.{type_of, global_of, export_of, element_of, segment_of};
+ghost use Rattle.wasm_binary_entries.specs.Kinds.{exported_by};
 ghost use Rattle.wasm_binary_entries.specs.Lent.{source_of, IsLentExport, IsLentSegment, EachAt, Located};
 ghost use Rattle.wasm_binary_entries.specs.Places.{export_place, segment_place};
 ghost use Rattle.wasm_binary_entries.specs.Views.{types_of, globals_of, exports_of, elements_of, segments_of};
@@ -165,22 +166,32 @@ pub fn globals<'a>(
     Ok((list, rest))
 }
 
+// An export by its byte, which is at most 3.
+fn exported(byte: u8, number: u32) -> ExportKind
+    ensures { result ≡ exported_by byte number }
+{
+    match byte {
+        0x00 => ExportKind::Func(number),
+        0x01 => ExportKind::Table(number),
+        0x02 => ExportKind::Memory(number),
+        _ => ExportKind::Global(number),
+    }
+}
+
 // What is exported.
 fn export_kind<'a>(input: Input<'a>) -> Result<(ExportKind, Input<'a>), Fault>
     ensures value { IsField (λ k. k) result (modules.export_kind_field (input_of input.entry)) }
     ensures follows { IfOk result (λ x. Continues x.1 input.entry) }
 {
     let (byte, rest) = input.byte(Row::SectionSize)?;
-    match byte {
-        0x00 => number(rest).map(|(n, rest)| (ExportKind::Func(n), rest)),
-        0x01 => number(rest).map(|(n, rest)| (ExportKind::Table(n), rest)),
-        0x02 => number(rest).map(|(n, rest)| (ExportKind::Memory(n), rest)),
-        0x03 => number(rest).map(|(n, rest)| (ExportKind::Global(n), rest)),
-        _ => Err(Fault {
+    if byte > 0x03 {
+        return Err(Fault {
             row: Row::UnknownByte,
             at: input.at,
-        }),
+        });
     }
+    let (n, rest) = number(rest)?;
+    Ok((exported(byte, n), rest))
 }
 
 /// An export.

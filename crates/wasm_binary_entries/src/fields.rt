@@ -7,6 +7,7 @@ ghost use Rattle.wasm_lang.specs.ReadingModule as modules;
 ghost use Rattle.wasm_tree.specs.Inputs.{input_of, IsField, Continues};
 ghost use Rattle.wasm_tree.specs.Slices.{Stands};
 ghost use Rattle.wasm_tree.specs.Views.{bytes_of};
+ghost use Rattle.wasm_binary_entries.specs.Kinds.{maximum_field};
 ghost use Rattle.wasm_binary_entries.specs.Lent.{source_of, IsLent, Located};
 ghost use Rattle.wasm_binary_entries.specs.Places.{counted_place};
 
@@ -142,6 +143,19 @@ pub fn flag<'a>(input: Input<'a>) -> Result<(bool, Input<'a>), Fault>
     }
 }
 
+// The limits of a minimum, and of a maximum where there is one more.
+fn limits<'a>(input: Input<'a>, more: bool, min: u32) -> Result<(Limits, Input<'a>), Fault>
+    ensures value { IsField (λ l. l) result (maximum_field more min (input_of input.entry)) }
+    ensures follows { IfOk result (λ x. Continues x.1 input.entry) }
+{
+    if !more {
+        return Ok((Limits { min, max: None }, input));
+    }
+    let (max, rest) = number(input)?;
+    let max = Some(max);
+    Ok((Limits { min, max }, rest))
+}
+
 /// The limits of a memory.
 pub fn memory<'a>(input: Input<'a>) -> Result<(Limits, Input<'a>), Fault>
     ensures value { IsField (λ l. l) result (modules.memory_field (input_of input.entry)) }
@@ -149,12 +163,7 @@ pub fn memory<'a>(input: Input<'a>) -> Result<(Limits, Input<'a>), Fault>
 {
     let (more, rest) = flag(input)?;
     let (min, rest) = number(rest)?;
-    if !more {
-        return Ok((Limits { min, max: None }, rest));
-    }
-    let (max, rest) = number(rest)?;
-    let max = Some(max);
-    Ok((Limits { min, max }, rest))
+    limits(rest, more, min)
 }
 
 /// The limits of a table.
@@ -165,12 +174,7 @@ pub fn table<'a>(input: Input<'a>) -> Result<(Limits, Input<'a>), Fault>
     let rest = input.exactly(0x70)?;
     let (more, rest) = flag(rest)?;
     let (min, rest) = count(rest, 0, MOST_ENTRIES)?;
-    if !more {
-        return Ok((Limits { min, max: None }, rest));
-    }
-    let (max, rest) = number(rest)?;
-    let max = Some(max);
-    Ok((Limits { min, max }, rest))
+    limits(rest, more, min)
 }
 
 /// The type of a global.

@@ -1,6 +1,7 @@
 //! Imports, with the limits on how many functions and globals there are.
 ghost use Rattle.std.specs.Prelude.{◌≡◌, ℕ, ◌+◌, ◌<◌, ◌≤◌, [], ◌∷◌, map, IfOk};
 ghost use Rattle.wasm_lang.specs.Limits.{function_imports, global_imports};
+ghost use Rattle.wasm_lang.specs.declared.types.ImportKind.TheVariants as kinds;
 ghost use Rattle.wasm_lang.specs.Reading as reading;
 ghost use Rattle.wasm_lang.specs.ReadingModule as modules;
 ghost use Rattle.wasm_tree.specs.Inputs.{input_of, IsField, IsRead, Continues};
@@ -20,6 +21,42 @@ pub const MOST_FUNCTIONS: usize = 80_000;
 /// The most globals, with the imported ones.
 pub const MOST_GLOBALS: usize = 220_000;
 
+// A function that is imported, by the number of its type.
+fn imported_function<'a>(input: Input<'a>) -> Result<(ImportKind, Input<'a>), Fault>
+    ensures value { IsField (λ k. k) result (reading.onto kinds.Func (reading.u32 (input_of input.entry))) }
+    ensures follows { IfOk result (λ x. Continues x.1 input.entry) }
+{
+    let (n, rest) = number(input)?;
+    Ok((ImportKind::Func(n), rest))
+}
+
+// A table that is imported.
+fn imported_table<'a>(input: Input<'a>) -> Result<(ImportKind, Input<'a>), Fault>
+    ensures value { IsField (λ k. k) result (reading.onto kinds.Table (modules.table_field (input_of input.entry))) }
+    ensures follows { IfOk result (λ x. Continues x.1 input.entry) }
+{
+    let (limits, rest) = table(input)?;
+    Ok((ImportKind::Table(limits), rest))
+}
+
+// A memory that is imported.
+fn imported_memory<'a>(input: Input<'a>) -> Result<(ImportKind, Input<'a>), Fault>
+    ensures value { IsField (λ k. k) result (reading.onto kinds.Memory (modules.memory_field (input_of input.entry))) }
+    ensures follows { IfOk result (λ x. Continues x.1 input.entry) }
+{
+    let (limits, rest) = memory(input)?;
+    Ok((ImportKind::Memory(limits), rest))
+}
+
+// A global that is imported.
+fn imported_global<'a>(input: Input<'a>) -> Result<(ImportKind, Input<'a>), Fault>
+    ensures value { IsField (λ k. k) result (reading.onto kinds.Global (modules.global_type_field (input_of input.entry))) }
+    ensures follows { IfOk result (λ x. Continues x.1 input.entry) }
+{
+    let (kind, rest) = global_type(input)?;
+    Ok((ImportKind::Global(kind), rest))
+}
+
 // What is imported, where so many functions and globals were imported before it.
 fn import_kind<'a>(
     input: Input<'a>,
@@ -31,14 +68,10 @@ fn import_kind<'a>(
 {
     let (byte, rest) = input.byte(Row::SectionSize)?;
     let row = match byte {
-        0x00 if within(functions, 1, MOST_FUNCTIONS) => {
-            return number(rest).map(|(n, rest)| (ImportKind::Func(n), rest));
-        }
-        0x01 => return table(rest).map(|(limits, rest)| (ImportKind::Table(limits), rest)),
-        0x02 => return memory(rest).map(|(limits, rest)| (ImportKind::Memory(limits), rest)),
-        0x03 if within(globals, 1, MOST_GLOBALS) => {
-            return global_type(rest).map(|(kind, rest)| (ImportKind::Global(kind), rest));
-        }
+        0x00 if within(functions, 1, MOST_FUNCTIONS) => return imported_function(rest),
+        0x01 => return imported_table(rest),
+        0x02 => return imported_memory(rest),
+        0x03 if within(globals, 1, MOST_GLOBALS) => return imported_global(rest),
         0x00 | 0x03 => Row::Limit,
         _ => Row::UnknownByte,
     };
