@@ -3,12 +3,12 @@ ghost use Rattle.std.specs.Prelude.{◌≡◌};
 ghost use Rattle.sem_words.specs.Lists.{text_bytes};
 ghost use Rattle.asm_tree.specs.Views.{module_view};
 ghost use Rattle.asm_lang_valid.specs.Typing.{named};
-ghost use Rattle.asm_validate_names.specs.Meanings.{meaning_view};
+ghost use Rattle.asm_names.specs.Meanings.{meaning_view};
 ghost use Rattle.asm2wasm_code.specs.Numbers.{place_of, first_scratch};
 ghost use Rattle.asm2wasm_numbers.specs.Places.{place_seen};
 ghost use Rattle.asm2wasm_emit_values.specs.Contexts.{scope_in};
 
-use asm_validate_names::Meaning;
+use asm_names::Meaning;
 use asm2wasm_emit_pieces::Scratch;
 use asm2wasm_numbers::{FunctionNumbers, ModuleNumbers, Place};
 use sem_words::Text;

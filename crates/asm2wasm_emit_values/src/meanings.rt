@@ -12,7 +12,7 @@ ghost use Rattle.asm2wasm_code.specs.Values as code;
 ghost use Rattle.asm2wasm_emit_values.specs.Contexts.{scope_in};
 
 use crate::context::Context;
-use asm_validate_names::Meaning;
+use asm_names::Meaning;
 use asm2wasm_emit_pieces::{Output, builtin, from_base, load, store};
 use sem_words::Text;
 use std::alloc::AllocError;

@@ -5,8 +5,8 @@ use Rattle.asm_tree.specs.declared.tree.Function.{Function}
 use Rattle.asm_tree.specs.Views.{module_view, function_view}
 use Rattle.asm_lang_valid.specs.Typing.{Scope as PlainScope}
 use Rattle.asm_lang_valid.specs.Typed.{scope_of}
-use Rattle.asm_validate_names.specs.declared.scope.Scope.{Scope}
-use Rattle.asm_validate_names.specs.Scopes.{scope_view, IsCompleteScope}
+use Rattle.asm_names.specs.declared.scope.Scope.{Scope}
+use Rattle.asm_names.specs.Scopes.{scope_view, IsCompleteScope}
 use Rattle.asm2wasm_code.specs.Numbers.{local_names}
 
 -- a module, and the function whose body it is

@@ -3,8 +3,8 @@ use Rattle.std.specs.Prelude.{◌≡◌}
 use Rattle.sem_words.specs.Lists.{list_items}
 use Rattle.asm_tree.specs.declared.tree.Module.{Module as Tree}
 use Rattle.asm_tree.specs.Views.{module_view}
-use Rattle.asm_validate_names.specs.declared.environment.Environment.{Environment}
-use Rattle.asm_validate_names.specs.Environments.{IsComplete}
+use Rattle.asm_names.specs.declared.environment.Environment.{Environment}
+use Rattle.asm_names.specs.Environments.{IsComplete}
 use Rattle.asm2wasm_lang.specs.Tables.{bases_of, entries_of}
 use Rattle.link_tables.specs.declared.plan.TablePlan.{TablePlan}
 use Rattle.asm2wasm_numbers.specs.declared.names.ModuleNames.{ModuleNames}

@@ -16,7 +16,7 @@ use Rattle.asm_lang.specs.Modules.{Function, Module}
 use Rattle.asm_tree.specs.declared.tree.Module.{Module as Tree}
 use Rattle.asm_tree.specs.Views.{module_view}
 use Rattle.asm_lang_valid.specs.Refusal.{IsAccepted}
-use Rattle.asm_validate_names.specs.declared.environment.Environment.{Environment}
+use Rattle.asm_names.specs.declared.environment.Environment.{Environment}
 use Rattle.asm_lang_exec.specs.Runs.{Place}
 use Rattle.asm_lang_exec.specs.Session.{exported_function, first_place, asm}
 use Rattle.script_fits.specs.FitLaws.{a_call}

@@ -4,8 +4,8 @@ use Rattle.sem_laws.specs.Script.{ScriptPlain}
 use Rattle.asm_tree.specs.declared.tree.Module.{Module as Tree}
 use Rattle.asm_tree.specs.Views.{module_view}
 use Rattle.asm_lang_valid.specs.Refusal.{IsAccepted}
-use Rattle.asm_validate_names.specs.declared.environment.Environment.{Environment}
-use Rattle.asm_validate_names.specs.Environments.{IsComplete}
+use Rattle.asm_names.specs.declared.environment.Environment.{Environment}
+use Rattle.asm_names.specs.Environments.{IsComplete}
 use Rattle.asm_lang_exec.specs.Fits.{misfit}
 use Rattle.asm_lang_exec.specs.Session.{first_place}
 use Rattle.asm_run_state.specs.declared.world.World.{World}

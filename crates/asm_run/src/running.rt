@@ -2,7 +2,7 @@
 ghost use Rattle.std.specs.Prelude.{IfOk, map};
 ghost use Rattle.sem_laws.specs.Views.{call_of};
 ghost use Rattle.asm_tree.specs.Views.{module_view};
-ghost use Rattle.asm_validate_names.specs.Environments.{IsComplete};
+ghost use Rattle.asm_names.specs.Environments.{IsComplete};
 ghost use Rattle.asm_laws_machine.specs.Literals.{SmallModule};
 ghost use Rattle.asm_run.specs.Exports.{IsTableOf};
 ghost use Rattle.asm_run.specs.Session.{SmallCalls, IsSession};
@@ -10,7 +10,7 @@ ghost use Rattle.asm_run.specs.Session.{SmallCalls, IsSession};
 use crate::exports::ExportTable;
 use crate::host_calls::{Hosted, host_call};
 use asm_run_state::World;
-use asm_validate_names::Environment;
+use asm_names::Environment;
 use script_seen::Seen;
 use sem_laws::{CallLine, End};
 use std::alloc::{AllocError, Global};

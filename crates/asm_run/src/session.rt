@@ -13,7 +13,7 @@ use crate::exports::ExportTable;
 use crate::run;
 use asm_run_state::World;
 use asm_validate::Checked;
-use asm_validate_names::Environment;
+use asm_names::Environment;
 use script_seen::Seen;
 use sem_laws::Script;
 use std::alloc::{AllocError, Global};

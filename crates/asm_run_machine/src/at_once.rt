@@ -5,7 +5,7 @@ ghost use Rattle.sem_words.specs.Lists.{text_bytes};
 ghost use Rattle.sem_words.specs.JsValues.{IsValue};
 ghost use Rattle.asm_lang.specs.Modules.{Module, var, index as index_of, unary, binary, chain, cond, assign, store};
 ghost use Rattle.asm_tree.specs.Views.{module_view, expr_view, links_view};
-ghost use Rattle.asm_validate_names.specs.Environments.{IsComplete};
+ghost use Rattle.asm_names.specs.Environments.{IsComplete};
 ghost use Rattle.asm_run_machine.specs.Machines.{waiting, function, place};
 ghost use Rattle.asm_run_machine.specs.AtOnce.{simple_value, HasValue, HasSum, Gives};
 
@@ -15,7 +15,7 @@ use crate::operands::operator_of;
 use crate::simple::Simple;
 use asm_run_work::Kept;
 use asm_tree::{Expr, Link};
-use asm_validate_names::Environment;
+use asm_names::Environment;
 use sem_words::{JsOp, JsUnary, Text};
 
 // How many levels an expression may have whose value is taken at once. An expression that has a call is tried again for

@@ -2,7 +2,7 @@
 ghost use Rattle.std.specs.Prelude.{◌≡◌, ◌++◌, ◌∷◌, [], IfOk};
 ghost use Rattle.sem_words.specs.Lists.{text_bytes};
 ghost use Rattle.asm_tree.specs.Views.{module_view, function_view, exprs_view};
-ghost use Rattle.asm_validate_names.specs.Environments.{IsComplete};
+ghost use Rattle.asm_names.specs.Environments.{IsComplete};
 ghost use Rattle.asm_lang_exec.specs.Runs.{and_then};
 ghost use Rattle.asm_lang_exec.specs.Values as values;
 ghost use Rattle.asm_run_state.specs.Locals.{HasSmallLocals};
@@ -20,7 +20,7 @@ use asm_run_work::{
     Work,
 };
 use asm_tree::{Expr, Function};
-use asm_validate_names::Environment;
+use asm_names::Environment;
 use sem_words::{JsValue, Text};
 use std::alloc::{AllocError, Global};
 use std::mem;

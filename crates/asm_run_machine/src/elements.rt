@@ -5,7 +5,7 @@ ghost use Rattle.sem_words.specs.JsValues.{IsValue};
 ghost use Rattle.asm_tree.specs.Views.{module_view, function_view};
 ghost use Rattle.asm_lang_valid.specs.Typing.{named};
 ghost use Rattle.asm_lang_valid.specs.Typed.{scope_of};
-ghost use Rattle.asm_validate_names.specs.Environments.{IsComplete};
+ghost use Rattle.asm_names.specs.Environments.{IsComplete};
 ghost use Rattle.asm_lang_exec.specs.Runs.{defined};
 ghost use Rattle.asm_lang_exec.specs.Values as values;
 ghost use Rattle.asm_run_state.specs.Worlds.{Bindings, place_of};
@@ -13,7 +13,7 @@ ghost use Rattle.asm_run_state.specs.Worlds.{Bindings, place_of};
 use crate::names::view_meant;
 use asm_run_state::World;
 use asm_run_work::Frame;
-use asm_validate_names::Environment;
+use asm_names::Environment;
 use sem_words::{JsValue, Text};
 
 /// The element at an index of the view that a name means. None where it means none, or where the index

@@ -2,7 +2,7 @@
 ghost use Rattle.std.specs.Prelude.{◌≡◌, IfOk};
 ghost use Rattle.asm_lang.specs.Modules.{Module};
 ghost use Rattle.asm_tree.specs.Views.{module_view, expr_view, exprs_view};
-ghost use Rattle.asm_validate_names.specs.Environments.{IsComplete};
+ghost use Rattle.asm_names.specs.Environments.{IsComplete};
 ghost use Rattle.asm_laws_machine.specs.Steps.{comma_step, eval_step};
 ghost use Rattle.asm_laws_machine.specs.Literals.{SmallExpr, SmallModule};
 ghost use Rattle.asm_run_machine.specs.Machines.{waiting, function, place, moved};
@@ -10,7 +10,7 @@ ghost use Rattle.asm_run_machine.specs.Machines.{waiting, function, place, moved
 use crate::machine::Machine;
 use asm_run_work::{Arguments, Callee, ExprWork, Flow, Kept, Mode, Outcome, Work};
 use asm_tree::Expr;
-use asm_validate_names::Environment;
+use asm_names::Environment;
 use sem_words::JsValue;
 use std::alloc::{AllocError, Global};
 

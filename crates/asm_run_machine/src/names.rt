@@ -2,8 +2,8 @@
 ghost use Rattle.std.specs.Prelude.{◌≡◌};
 ghost use Rattle.sem_words.specs.Lists.{text_bytes};
 ghost use Rattle.asm_tree.specs.Views.{module_view};
-ghost use Rattle.asm_validate_names.specs.Environments.{IsComplete};
-ghost use Rattle.asm_validate_names.specs.Meanings.{meaning_view};
+ghost use Rattle.asm_names.specs.Environments.{IsComplete};
+ghost use Rattle.asm_names.specs.Meanings.{meaning_view};
 ghost use Rattle.asm_run_tables.specs.Seen.{function_seen};
 ghost use Rattle.asm_lang_exec.specs.Values.{entry_of};
 ghost use Rattle.asm_run_machine.specs.Beyond.{beyond, viewed, called};
@@ -13,7 +13,7 @@ use asm_lang_valid::{Builtin, Element};
 use asm_run_tables::table_entry;
 use asm_run_work::Frame;
 use asm_tree::Function;
-use asm_validate_names::{Environment, Meaning};
+use asm_names::{Environment, Meaning};
 use sem_words::{JsValue, Text};
 
 /// What a call may reach: a function of the module, the foreign function of a name, or a function of the

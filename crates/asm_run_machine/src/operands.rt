@@ -2,7 +2,7 @@
 ghost use Rattle.std.specs.Prelude.{◌≡◌, IfOk};
 ghost use Rattle.asm_lang.specs.Modules.{Module};
 ghost use Rattle.asm_tree.specs.Views.{module_view, links_view};
-ghost use Rattle.asm_validate_names.specs.Environments.{IsComplete};
+ghost use Rattle.asm_names.specs.Environments.{IsComplete};
 ghost use Rattle.asm_lang_exec.specs.Meaning.{link_operator};
 ghost use Rattle.asm_laws_machine.specs.Steps.{expr_work_step, links_step};
 ghost use Rattle.asm_laws_machine.specs.Literals.{SmallModule};
@@ -13,7 +13,7 @@ use crate::elements::{read_element, write_element};
 use crate::machine::Machine;
 use asm_run_work::{Arguments, Callee, ExprWork, Flow, Kept, Mode, Outcome, Work};
 use asm_tree::Link;
-use asm_validate_names::Environment;
+use asm_names::Environment;
 use sem_words::{JsOp, js_binary, js_unary, truthy};
 use std::alloc::{AllocError, Global};
 

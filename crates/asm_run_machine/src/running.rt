@@ -1,7 +1,7 @@
 //! Runs a function's body to its end.
 ghost use Rattle.std.specs.Prelude.{◌≡◌, IfOk};
 ghost use Rattle.asm_tree.specs.Views.{module_view, expr_view};
-ghost use Rattle.asm_validate_names.specs.Environments.{IsComplete};
+ghost use Rattle.asm_names.specs.Environments.{IsComplete};
 ghost use Rattle.asm_laws_machine.specs.Steps.{work_step};
 ghost use Rattle.asm_laws_machine.specs.Literals.{SmallExpr, SmallMode, SmallModule, SmallWorks};
 ghost use Rattle.asm_run_work.specs.Views.{work_view, outcome_view, mode_view};
@@ -11,7 +11,7 @@ ghost use Rattle.asm_run_machine.specs.Reached.{Leads, SmallLeft, StepFalls, Uni
 use crate::machine::Machine;
 use asm_run_work::{Completion, Flow, Mode, Outcome, Work};
 use asm_tree::Expr;
-use asm_validate_names::Environment;
+use asm_names::Environment;
 use sem_laws::End;
 use std::alloc::{AllocError, Global};
 

@@ -3,12 +3,12 @@ ghost use Rattle.std.specs.Prelude.{◌≡◌};
 ghost use Rattle.sem_words.specs.Lists.{text_bytes};
 ghost use Rattle.asm_tree.specs.Views.{module_view, table_view};
 ghost use Rattle.asm_lang_valid.specs.Scope.{a_table, module_meaning};
-ghost use Rattle.asm_validate_names.specs.Environments.{IsComplete};
+ghost use Rattle.asm_names.specs.Environments.{IsComplete};
 ghost use Rattle.asm_lang_exec.specs.Values.{function_of, member_at, entry_of};
 ghost use Rattle.asm_run_tables.specs.Seen.{function_seen, text_seen};
 
 use asm_tree::{Function, Table};
-use asm_validate_names::{Environment, Meaning};
+use asm_names::{Environment, Meaning};
 use sem_words::{JsValue, Text};
 
 /// The function that a table has at an index, if the index is one of its members' and the member is a

@@ -6,8 +6,8 @@ ghost use Rattle.asm_lang_valid.specs.declared.rule.Rule.TheVariants as rules;
 ghost use Rattle.asm_lang_valid.specs.Rows.{first, need};
 ghost use Rattle.asm_lang_valid.specs.Typing as typing;
 ghost use Rattle.asm_lang_valid.specs.TypeRows as rows;
-ghost use Rattle.asm_validate_names.specs.Meanings.{meaning_view};
-ghost use Rattle.asm_validate_names.specs.Scopes.{scope_view};
+ghost use Rattle.asm_names.specs.Meanings.{meaning_view};
+ghost use Rattle.asm_names.specs.Scopes.{scope_view};
 ghost use Rattle.asm_validate_exprs.specs.Contexts.{IsContext};
 ghost use Rattle.asm_validate_exprs.specs.Forms.{builtin_rows};
 ghost use Rattle.asm_validate_exprs.specs.Found.{row_of};
@@ -19,7 +19,7 @@ use crate::signatures::{Arguments, callee_fits, mask_fits, table_fits};
 use asm_lang_valid::{Builtin, Met, Rule};
 use asm_tree::Expr;
 use asm_types::ValueType;
-use asm_validate_names::Meaning;
+use asm_names::Meaning;
 use sem_words::JsOp;
 
 fn is_outside(meaning: Option<Meaning<'_>>) -> bool

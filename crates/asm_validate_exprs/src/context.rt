@@ -6,13 +6,13 @@ ghost use Rattle.asm_tree.specs.Views.{module_view, function_view};
 ghost use Rattle.asm_lang_valid.specs.Scope.{module_meaning};
 ghost use Rattle.asm_lang_valid.specs.Typing.{named};
 ghost use Rattle.asm_lang_valid.specs.Typed.{scope_of};
-ghost use Rattle.asm_validate_names.specs.Meanings.{meaning_view};
-ghost use Rattle.asm_validate_names.specs.Environments.{IsComplete};
-ghost use Rattle.asm_validate_names.specs.Scopes.{scope_view};
+ghost use Rattle.asm_names.specs.Meanings.{meaning_view};
+ghost use Rattle.asm_names.specs.Environments.{IsComplete};
+ghost use Rattle.asm_names.specs.Scopes.{scope_view};
 ghost use Rattle.asm_validate_exprs.specs.Contexts.{IsContext};
 
 use asm_tree::Function;
-use asm_validate_names::{Environment, Meaning, Scope};
+use asm_names::{Environment, Meaning, Scope};
 use sem_words::Text;
 use std::alloc::{AllocError, Global};
 

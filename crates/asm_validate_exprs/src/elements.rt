@@ -6,7 +6,7 @@ ghost use Rattle.asm_lang_valid.specs.Scope as scopes;
 ghost use Rattle.asm_lang_valid.specs.Rows.{first};
 ghost use Rattle.asm_lang_valid.specs.Typing as typing;
 ghost use Rattle.asm_lang_valid.specs.TypeRows as rows;
-ghost use Rattle.asm_validate_names.specs.Meanings.{meaning_view};
+ghost use Rattle.asm_names.specs.Meanings.{meaning_view};
 ghost use Rattle.asm_validate_exprs.specs.Indexes.{index_of, index_form_by, index_rule_by, index_view};
 ghost use Rattle.asm_validate_exprs.specs.Found.{row_of};
 
@@ -15,7 +15,7 @@ use crate::node::needs;
 use asm_lang_valid::{Element, Met, Rule};
 use asm_tree::Expr;
 use asm_types::{ValueType, below};
-use asm_validate_names::Meaning;
+use asm_names::Meaning;
 use sem_words::JsOp;
 
 /// An index as the rules see it.

@@ -7,7 +7,7 @@ ghost use Rattle.asm_lang.specs.Modules.{store, binary, chain, cond};
 ghost use Rattle.asm_lang_valid.specs.Rows.{first, expr_count, exprs_count, links_count};
 ghost use Rattle.asm_lang_valid.specs.Typing as typing;
 ghost use Rattle.asm_lang_valid.specs.TypeRows as rows;
-ghost use Rattle.asm_validate_names.specs.Scopes.{scope_view};
+ghost use Rattle.asm_names.specs.Scopes.{scope_view};
 ghost use Rattle.asm_validate_exprs.specs.Contexts.{IsContext};
 ghost use Rattle.asm_validate_exprs.specs.Found.{row_of};
 

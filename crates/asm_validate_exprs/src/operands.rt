@@ -9,7 +9,7 @@ ghost use Rattle.asm_lang_valid.specs.declared.rule.Rule.TheVariants as rules;
 ghost use Rattle.asm_lang_valid.specs.Rows.{first, need};
 ghost use Rattle.asm_lang_valid.specs.Typing as typing;
 ghost use Rattle.asm_lang_valid.specs.TypeRows as rows;
-ghost use Rattle.asm_validate_names.specs.Meanings.{meaning_view};
+ghost use Rattle.asm_names.specs.Meanings.{meaning_view};
 ghost use Rattle.asm_validate_exprs.specs.Forms.{assigned_rows, assigned_type, stored_rows, stored_type, chain_rows, chain_type};
 ghost use Rattle.asm_validate_exprs.specs.Found.{row_of};
 
@@ -20,7 +20,7 @@ use crate::node::{needs, typed};
 use asm_lang_valid::{Met, Rule};
 use asm_tree::Expr;
 use asm_types::{ValueType, below, binary_row, unary_row};
-use asm_validate_names::Meaning;
+use asm_names::Meaning;
 use sem_words::{JsOp, JsUnary};
 
 fn is_int(meaning: Option<Meaning<'_>>) -> bool

@@ -5,8 +5,8 @@ ghost use Rattle.asm_types.specs.Types.{is_below};
 ghost use Rattle.asm_tree.specs.Views.{stmt_view, stmts_view, function_view, table_view, expr_view};
 ghost use Rattle.asm_lang_valid.specs.Scope as scopes;
 ghost use Rattle.asm_lang_valid.specs.Typing as typing;
-ghost use Rattle.asm_validate_names.specs.Meanings.{meaning_view};
-ghost use Rattle.asm_validate_names.specs.Scopes.{scope_view};
+ghost use Rattle.asm_names.specs.Meanings.{meaning_view};
+ghost use Rattle.asm_names.specs.Scopes.{scope_view};
 ghost use Rattle.asm_validate_exprs.specs.Contexts.{IsContext};
 ghost use Rattle.asm_validate_exprs.specs.Signatures.{signature_view, signature_option};
 
@@ -14,7 +14,7 @@ use crate::context::Context;
 use crate::literals::is_masked;
 use asm_tree::{Expr, Function, Stmt, Table};
 use asm_types::{ValueType, below};
-use asm_validate_names::Meaning;
+use asm_names::Meaning;
 
 /// How many arguments a function takes, all of them ints, and whether it has a result, which is signed.
 #[derive(Clone, Copy, PartialEq, Eq)]

@@ -7,14 +7,15 @@ ghost use Rattle.asm_lang_valid.specs.Scope.{a_foreign};
 ghost use Rattle.asm_lang_valid.specs.Typing as typing;
 ghost use Rattle.asm_lang_valid.specs.Typing.{or_zero};
 ghost use Rattle.asm_lang_valid.specs.LimitRows.{callee_marks};
-ghost use Rattle.asm_validate_names.specs.Meanings.{meaning_view};
+ghost use Rattle.asm_names.specs.Meanings.{meaning_view};
 ghost use Rattle.asm_validate_limits.specs.Passes.{Tallied};
 ghost use Rattle.asm_validate_limits.specs.Places as places;
 
 use crate::numbers::MOST_PARAMS;
 use crate::tally::{Tally, needs, use_call};
 use asm_tree::Expr;
-use asm_validate_names::{AsmRefusal, Meaning};
+use asm_names::Meaning;
+use asm_validate_names::AsmRefusal;
 use sem_words::{JsOp, Text};
 
 /// Where an expression stands.

@@ -4,7 +4,7 @@ ghost use Rattle.std.specs.Prelude.{◌≡◌, ◌+◌, ◌<◌, ◌≤◌, ◌^
 ghost use Rattle.asm_tree.specs.Views.{expr_option, clauses_view};
 ghost use Rattle.asm_lang_valid.specs.Rows.{option_count};
 ghost use Rattle.asm_lang_valid.specs.LimitRows.{clauses_length, most_clauses};
-ghost use Rattle.asm_validate_names.specs.Scopes.{scope_view, IsCompleteScope};
+ghost use Rattle.asm_names.specs.Scopes.{scope_view, IsCompleteScope};
 ghost use Rattle.asm_validate_limits.specs.Passes.{Tallied, limited};
 ghost use Rattle.asm_validate_limits.specs.Places as places;
 ghost use Rattle.asm_validate_limits.specs.Places.{option_placed};
@@ -14,7 +14,8 @@ use crate::expressions::placed_limits;
 use crate::numbers::MOST_CASES;
 use crate::tally::{Tally, needs};
 use asm_tree::{Clause, Expr};
-use asm_validate_names::{AsmRefusal, Scope};
+use asm_names::Scope;
+use asm_validate_names::AsmRefusal;
 
 /// The first limit that is passed in an expression at this place, which may be left out.
 pub fn option_limits<'a>(

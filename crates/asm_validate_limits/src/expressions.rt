@@ -6,14 +6,15 @@ ghost use Rattle.asm_tree.specs.Views.{expr_view, exprs_view, links_view};
 ghost use Rattle.asm_lang_valid.specs.Rows.{expr_count, exprs_count, links_count};
 ghost use Rattle.asm_lang_valid.specs.Typing.{named, exprs_length};
 ghost use Rattle.asm_lang_valid.specs.LimitRows.{expr_marks, exprs_marks, links_marks, comma_marks};
-ghost use Rattle.asm_validate_names.specs.Scopes.{scope_view, IsCompleteScope};
+ghost use Rattle.asm_names.specs.Scopes.{scope_view, IsCompleteScope};
 ghost use Rattle.asm_validate_limits.specs.Passes.{Tallied};
 ghost use Rattle.asm_validate_limits.specs.Places.{placed_marks, called_marks, left_place as place_before};
 
 use crate::callee::{Place, callee_limits, left_place, part_place};
 use crate::tally::Tally;
 use asm_tree::{Expr, Link};
-use asm_validate_names::{AsmRefusal, Scope};
+use asm_names::Scope;
+use asm_validate_names::AsmRefusal;
 use sem_words::{JsOp, Text};
 
 /// The first limit that is passed in an expression that is no call in a place for calls.

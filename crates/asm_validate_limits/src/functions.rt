@@ -5,7 +5,7 @@ ghost use Rattle.asm_tree.specs.Views.{module_view, function_view};
 ghost use Rattle.asm_lang_valid.specs.declared.rule.Rule.TheVariants.{PastLimit};
 ghost use Rattle.asm_lang_valid.specs.Rows.{body_at, function_count, functions_count};
 ghost use Rattle.asm_lang_valid.specs.LimitRows.{function_marks, functions_marks};
-ghost use Rattle.asm_validate_names.specs.Environments.{IsComplete};
+ghost use Rattle.asm_names.specs.Environments.{IsComplete};
 ghost use Rattle.asm_validate_limits.specs.Passes.{Tallied};
 ghost use Rattle.asm_validate_names.specs.declared.refusal.AsmRefusal.TheVariants as refusals;
 ghost use Rattle.asm_validate_limits.specs.declared.tally.Tally.{Tally};
@@ -16,7 +16,8 @@ use crate::statements::stmts_limits;
 use crate::tally::{Tally, needs};
 use asm_lang_valid::Rule;
 use asm_tree::Function;
-use asm_validate_names::{AsmRefusal, Environment, Scope};
+use asm_names::{Environment, Scope};
+use asm_validate_names::AsmRefusal;
 use std::alloc::Global;
 
 // So many names, each a node from this one on, before which there are some already.

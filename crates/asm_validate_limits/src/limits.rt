@@ -4,7 +4,7 @@ ghost use Rattle.std.specs.Prelude.{◌≡◌, ◌+◌, ◌<◌, ◌^◌, [], le
 ghost use Rattle.asm_tree.specs.Views.{module_view};
 ghost use Rattle.asm_lang_valid.specs.Rows.{functions_count, module_count};
 ghost use Rattle.asm_lang_valid.specs.LimitRows.{marks, limit_rows, foreign_calls};
-ghost use Rattle.asm_validate_names.specs.Environments.{IsComplete};
+ghost use Rattle.asm_names.specs.Environments.{IsComplete};
 ghost use Rattle.asm_validate_names.specs.Refusals.{IsRow};
 ghost use Rattle.asm_validate_limits.specs.Called.{foreign_list};
 ghost use Rattle.asm_validate_limits.specs.Passes.{Tallied};
@@ -14,7 +14,8 @@ use crate::functions::functions_limits;
 use crate::globals::globals_limits;
 use crate::tables::tables_limits;
 use crate::tally::Tally;
-use asm_validate_names::{AsmRefusal, Environment};
+use asm_names::Environment;
+use asm_validate_names::AsmRefusal;
 use sem_words::List;
 use std::alloc::Global;
 

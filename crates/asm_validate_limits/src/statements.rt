@@ -5,7 +5,7 @@ ghost use Rattle.asm_tree.specs.Views.{expr_view, expr_option, stmt_view, stmts_
 ghost use Rattle.asm_lang_valid.specs.declared.rule.Rule.TheVariants.{PastLimit};
 ghost use Rattle.asm_lang_valid.specs.Rows.{need, expr_count, option_count, stmt_count, stmts_count, clauses_count};
 ghost use Rattle.asm_lang_valid.specs.LimitRows.{expr_marks, stmt_marks, stmts_marks, clauses_marks, clauses_length, most_clauses, rows_of};
-ghost use Rattle.asm_validate_names.specs.Scopes.{scope_view, IsCompleteScope};
+ghost use Rattle.asm_names.specs.Scopes.{scope_view, IsCompleteScope};
 ghost use Rattle.asm_validate_limits.specs.Passes.{Tallied};
 ghost use Rattle.asm_validate_limits.specs.Places.{option_placed};
 ghost use Rattle.asm_validate_limits.specs.declared.callee.Place.TheVariants.{Operand, Effect};
@@ -15,7 +15,8 @@ use crate::clauses::{check_cases, option_limits};
 use crate::expressions::{expr_limits, placed_limits};
 use crate::tally::Tally;
 use asm_tree::{Clause, Expr, ForHead, Stmt};
-use asm_validate_names::{AsmRefusal, Scope};
+use asm_names::Scope;
+use asm_validate_names::AsmRefusal;
 
 /// The first limit that is passed in a statement.
 #[cycle(statements)]

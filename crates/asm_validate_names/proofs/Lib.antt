@@ -1,6 +1,3 @@
-pub mod Parameters
-pub mod Put
-pub mod Variables
 pub mod Found
 pub mod Order
 pub mod Shapes

@@ -12,9 +12,9 @@ use Rattle.asm_lang_valid.specs.declared.rule.Met.{Met}
 use Rattle.asm_lang_valid.specs.Rows.{need, first}
 use Rattle.asm_lang_valid.specs.Scope.{module_meaning}
 use Rattle.asm_lang_valid.specs.NameRows.{is_declared, knows, is_function, all_known, all_functions, function_uses, tables_names, keys_names}
-use Rattle.asm_validate_names.specs.declared.meaning.Meaning.{Meaning}
-use Rattle.asm_validate_names.specs.declared.meaning.Meaning.TheVariants.{Int, Outside, Foreign, Builtin, View, Function, Table as ATable, Parameter}
-use Rattle.asm_validate_names.specs.Meanings.{meaning_view}
+use Rattle.asm_names.specs.declared.meaning.Meaning.{Meaning}
+use Rattle.asm_names.specs.declared.meaning.Meaning.TheVariants.{Int, Outside, Foreign, Builtin, View, Function, Table as ATable, Parameter}
+use Rattle.asm_names.specs.Meanings.{meaning_view}
 use Rattle.asm_validate_names.specs.Members.{fit_rows, table_rows, export_rows}
 
 pub declared_is : (o : Option Meaning) → is_declared (meaning_view o) ≡ is_some o

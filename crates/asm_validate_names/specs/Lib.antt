@@ -1,6 +1,3 @@
-pub mod Meanings
-pub mod Environments
-pub mod Scopes
 pub mod Found
 pub mod Refusals
 pub mod Seen

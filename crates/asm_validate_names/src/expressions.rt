@@ -5,12 +5,12 @@ ghost use Rattle.sem_words.specs.Lists.{list_items};
 ghost use Rattle.asm_tree.specs.Views.{expr_view, exprs_view, links_view};
 ghost use Rattle.asm_lang_valid.specs.Rows.{first, expr_count, exprs_count, links_count};
 ghost use Rattle.asm_lang_valid.specs.NameRows as rows;
-ghost use Rattle.asm_validate_names.specs.Scopes.{scope_view, IsCompleteScope};
+ghost use Rattle.asm_names.specs.Scopes.{scope_view, IsCompleteScope};
 ghost use Rattle.asm_validate_names.specs.Found.{row_of};
 
-use crate::scope::Scope;
 use crate::uses::{use_callee, use_table, use_variable, use_view};
 use asm_lang_valid::Met;
+use asm_names::Scope;
 use asm_tree::{Expr, Link};
 
 /// The first name in an expression that breaks a rule. `at` is the number of the next node.

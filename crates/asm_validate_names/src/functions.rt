@@ -6,15 +6,14 @@ ghost use Rattle.asm_tree.specs.Views.{module_view, function_view, param_view, l
 ghost use Rattle.asm_lang_valid.specs.Rows.{first, stmts_count, function_count, functions_count};
 ghost use Rattle.asm_lang_valid.specs.NameRows as rows;
 ghost use Rattle.asm_lang_valid.specs.NameRows.{param_texts};
-ghost use Rattle.asm_validate_names.specs.Environments.{IsComplete};
+ghost use Rattle.asm_names.specs.Environments.{IsComplete};
 ghost use Rattle.asm_validate_names.specs.Refusals.{IsRow};
 ghost use Rattle.asm_validate_names.specs.Seen.{names, own_rows, own_count, body_rows, inner_rows, inner_count, texts_of};
 
-use crate::environment::Environment;
 use crate::refusal::AsmRefusal;
-use crate::scope::Scope;
 use crate::seen::declare;
 use crate::statements::stmts_names;
+use asm_names::{Environment, Scope};
 use asm_tree::{Function, Local, Param};
 use indexmap::IndexSet;
 use std::alloc::Global;

@@ -6,20 +6,19 @@ ghost use Rattle.asm_tree.specs.Views.{module_view, init_view, global_view};
 ghost use Rattle.asm_lang_valid.specs.Rows.{first};
 ghost use Rattle.asm_lang_valid.specs.Scope.{is_in};
 ghost use Rattle.asm_lang_valid.specs.NameRows as rows;
-ghost use Rattle.asm_validate_names.specs.Environments.{IsComplete};
+ghost use Rattle.asm_names.specs.Environments.{IsComplete};
 ghost use Rattle.asm_validate_names.specs.Found.{row_of};
 ghost use Rattle.asm_validate_names.specs.Imported.{imports_view, globals_texts};
 ghost use Rattle.asm_validate_names.specs.Refusals.{IsRow};
 ghost use Rattle.asm_validate_names.specs.Seen.{names};
 
-use crate::environment::Environment;
 use crate::imports::{Imports, add_import, clashes, has_forbidden_member};
-use crate::init::{is_foreign, is_heap, is_stdlib};
 use crate::refusal::AsmRefusal;
 use crate::seen::{add, declared};
 use crate::tables::{fit, knows};
 use crate::words::is_forbidden;
 use asm_lang_valid::Met;
+use asm_names::{Environment, is_foreign, is_heap, is_stdlib};
 use asm_tree::{Global_, Init, Module};
 use indexmap::IndexSet;
 

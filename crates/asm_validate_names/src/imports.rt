@@ -8,9 +8,9 @@ ghost use Rattle.asm_lang_valid.specs.NameRows as rows;
 ghost use Rattle.asm_validate_names.specs.Imported.{imports_view, no_imports};
 ghost use Rattle.asm_validate_names.specs.Seen.{names};
 
-use crate::init::is_foreign;
 use crate::seen::add;
 use crate::words::is_forbidden_key;
+use asm_names::is_foreign;
 use asm_tree::{Init, Module};
 use indexmap::IndexSet;
 use sem_words::Text;

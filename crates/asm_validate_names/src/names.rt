@@ -4,12 +4,11 @@ ghost use Rattle.std.specs.Prelude.{◌≡◌, ◌+◌, ◌++◌, ◌<◌, ◌^�
 ghost use Rattle.asm_tree.specs.Views.{module_view, texts_view};
 ghost use Rattle.asm_lang_valid.specs.Rows.{first, functions_at, module_count};
 ghost use Rattle.asm_lang_valid.specs.NameRows as rows;
-ghost use Rattle.asm_validate_names.specs.Environments.{IsComplete};
+ghost use Rattle.asm_names.specs.Environments.{IsComplete};
 ghost use Rattle.asm_validate_names.specs.Heading.{heading_rows, variables_rows, later_rows, rest_rows};
 ghost use Rattle.asm_validate_names.specs.Refusals.{IsRow};
 ghost use Rattle.asm_validate_names.specs.Seen.{names};
 
-use crate::environment::Environment;
 use crate::functions::functions_names;
 use crate::globals::globals_names;
 use crate::imports::Imports;
@@ -17,6 +16,7 @@ use crate::refusal::AsmRefusal;
 use crate::seen::{add, declared};
 use crate::tables::{exports_names, tables_names};
 use crate::words::is_forbidden;
+use asm_names::Environment;
 use asm_tree::Module;
 use indexmap::IndexSet;
 use sem_words::Text;

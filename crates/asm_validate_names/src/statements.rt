@@ -4,12 +4,12 @@ ghost use Rattle.std.specs.Prelude.{◌≡◌, ◌+◌, ◌<◌, ◌^◌, IfOk};
 ghost use Rattle.asm_tree.specs.Views.{expr_option, stmt_view, stmts_view, clauses_view};
 ghost use Rattle.asm_lang_valid.specs.Rows.{first, option_count, stmt_count, stmts_count, clauses_count};
 ghost use Rattle.asm_lang_valid.specs.NameRows as rows;
-ghost use Rattle.asm_validate_names.specs.Scopes.{scope_view, IsCompleteScope};
+ghost use Rattle.asm_names.specs.Scopes.{scope_view, IsCompleteScope};
 ghost use Rattle.asm_validate_names.specs.Found.{row_of};
 
 use crate::expressions::expr_names;
-use crate::scope::Scope;
 use asm_lang_valid::Met;
+use asm_names::Scope;
 use asm_tree::{Clause, Expr, Stmt};
 
 /// The first name in a statement that breaks a rule. `at` is the number of the next node.

@@ -6,19 +6,18 @@ ghost use Rattle.asm_tree.specs.Views.{module_view, texts_view, table_view, expo
 ghost use Rattle.asm_lang_valid.specs.Rows.{first, exports_count};
 ghost use Rattle.asm_lang_valid.specs.Scope.{module_meaning};
 ghost use Rattle.asm_lang_valid.specs.NameRows as rows;
-ghost use Rattle.asm_validate_names.specs.Environments.{IsComplete};
-ghost use Rattle.asm_validate_names.specs.Meanings.{meaning_view};
+ghost use Rattle.asm_names.specs.Environments.{IsComplete};
+ghost use Rattle.asm_names.specs.Meanings.{meaning_view};
 ghost use Rattle.asm_validate_names.specs.Members.{fit_rows, table_rows, export_rows};
 ghost use Rattle.asm_validate_names.specs.Found.{row_of};
 ghost use Rattle.asm_validate_names.specs.Refusals.{IsRow};
 ghost use Rattle.asm_validate_names.specs.Seen.{names};
 
-use crate::environment::Environment;
-use crate::meaning::Meaning;
 use crate::refusal::AsmRefusal;
 use crate::seen::{declare, declare_key};
 use crate::uses::needs;
 use asm_lang_valid::{Met, Rule};
+use asm_names::{Environment, Meaning};
 use asm_tree::{Export, Exports, Table};
 use indexmap::IndexSet;
 use sem_words::Text;

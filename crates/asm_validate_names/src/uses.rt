@@ -5,13 +5,12 @@ ghost use Rattle.sem_words.specs.Lists.{text_bytes};
 ghost use Rattle.asm_lang_valid.specs.Rows.{first, need};
 ghost use Rattle.asm_lang_valid.specs.Typing.{named};
 ghost use Rattle.asm_lang_valid.specs.NameRows as rows;
-ghost use Rattle.asm_validate_names.specs.Meanings.{meaning_view};
-ghost use Rattle.asm_validate_names.specs.Scopes.{scope_view, IsCompleteScope};
+ghost use Rattle.asm_names.specs.Meanings.{meaning_view};
+ghost use Rattle.asm_names.specs.Scopes.{scope_view, IsCompleteScope};
 ghost use Rattle.asm_validate_names.specs.Found.{row_of};
 
-use crate::meaning::Meaning;
-use crate::scope::Scope;
 use asm_lang_valid::{Met, Rule};
+use asm_names::{Meaning, Scope};
 use sem_words::Text;
 
 /// A name that is used at a node and has this meaning, which fits or doesn't.

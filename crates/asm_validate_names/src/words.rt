@@ -1,15 +1,9 @@
 // Names that aren't like others.
 
 ghost use Rattle.std.specs.Prelude.{◌≡◌};
-ghost use Rattle.std.specs.Str.{bytes_eq};
 ghost use Rattle.asm_lang_valid.specs.NameRows as rows;
 
-/// Whether the name is this word.
-pub fn is_word(word: &[u8], name: &[u8]) -> bool
-    ensures { result ≡ bytes_eq word.now name.now }
-{
-    word == name
-}
+use asm_names::is_word;
 
 /// Whether a name may not be declared.
 pub fn is_forbidden(name: &[u8]) -> bool

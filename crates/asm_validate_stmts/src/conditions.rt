@@ -6,7 +6,7 @@ ghost use Rattle.asm_lang_valid.specs.declared.rule.Rule.TheVariants as rules;
 ghost use Rattle.asm_lang_valid.specs.Rows.{first, need, expr_count, option_count};
 ghost use Rattle.asm_lang_valid.specs.Typing as typing;
 ghost use Rattle.asm_lang_valid.specs.TypeRows as rows;
-ghost use Rattle.asm_validate_names.specs.Scopes.{scope_view};
+ghost use Rattle.asm_names.specs.Scopes.{scope_view};
 ghost use Rattle.asm_validate_exprs.specs.Contexts.{IsContext};
 ghost use Rattle.asm_validate_exprs.specs.Found.{row_of};
 

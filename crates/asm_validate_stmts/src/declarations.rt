@@ -16,7 +16,7 @@ use asm_validate_exprs::{literal_type, needs};
 use sem_words::Text;
 
 /// Whether this is the name of the module's first parameter.
-#[tactic(auto, using(asm_validate_names::proofs::Parameters::nth_is))]
+#[tactic(auto, using(asm_names::proofs::Parameters::nth_is))]
 fn is_stdlib(home: &Module, name: &Text) -> bool
     ensures { result ≡ is_stdlib (module_view home.now) (text_bytes name.now) }
 {

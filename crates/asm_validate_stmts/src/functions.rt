@@ -4,7 +4,7 @@ ghost use Rattle.std.specs.Prelude.{◌≡◌, ◌+◌, ◌<◌, ◌^◌, None, 
 ghost use Rattle.asm_tree.specs.Views.{module_view, function_view, local_view};
 ghost use Rattle.asm_lang_valid.specs.Rows.{first, function_count, functions_count};
 ghost use Rattle.asm_lang_valid.specs.TypeRows as rows;
-ghost use Rattle.asm_validate_names.specs.Environments.{IsComplete};
+ghost use Rattle.asm_names.specs.Environments.{IsComplete};
 ghost use Rattle.asm_validate_exprs.specs.Found.{row_of};
 ghost use Rattle.asm_validate_names.specs.Refusals.{IsRow};
 
@@ -14,7 +14,8 @@ use asm_lang_valid::{Met, Rule};
 use asm_tree::{Function, Local};
 use asm_validate_exprs::{Context, needs};
 use asm_validate_labels::{Labels, at_top};
-use asm_validate_names::{AsmRefusal, Environment};
+use asm_names::Environment;
+use asm_validate_names::AsmRefusal;
 use std::alloc::Global;
 
 #[tactic(auto, using(asm_validate_exprs::proofs::Sequences::sequences))]

@@ -4,13 +4,14 @@ ghost use Rattle.std.specs.Prelude.{◌≡◌, ◌<◌, ◌^◌, [], MatchResult
 ghost use Rattle.asm_tree.specs.Views.{module_view};
 ghost use Rattle.asm_lang_valid.specs.Rows.{module_count};
 ghost use Rattle.asm_lang_valid.specs.TypeRows as rows;
-ghost use Rattle.asm_validate_names.specs.Environments.{IsComplete};
+ghost use Rattle.asm_names.specs.Environments.{IsComplete};
 ghost use Rattle.asm_validate_names.specs.Refusals.{IsRow};
 
 use crate::declarations::globals_typed;
 use crate::functions::functions_typed;
 use crate::tables::tables_typed;
-use asm_validate_names::{AsmRefusal, Environment};
+use asm_names::Environment;
+use asm_validate_names::AsmRefusal;
 use std::alloc::Global;
 
 /// The first node of a module that breaks a rule of types, in text order with the parts of an expression before the

@@ -6,7 +6,7 @@ ghost use Rattle.asm_lang.specs.Modules.{for_loop, labelled, switches};
 ghost use Rattle.asm_lang_valid.specs.Rows.{first, expr_count, option_count, stmt_count, stmts_count, clauses_count};
 ghost use Rattle.asm_lang_valid.specs.Typing as typing;
 ghost use Rattle.asm_lang_valid.specs.TypeRows as rows;
-ghost use Rattle.asm_validate_names.specs.Scopes.{scope_view};
+ghost use Rattle.asm_names.specs.Scopes.{scope_view};
 ghost use Rattle.asm_validate_exprs.specs.Contexts.{IsContext};
 ghost use Rattle.asm_validate_labels.specs.Arounds.{around_view};
 ghost use Rattle.asm_validate_names.specs.Refusals.{IsRow};

@@ -5,14 +5,14 @@ ghost use Rattle.asm_tree.specs.Views.{module_view, table_view, texts_view};
 ghost use Rattle.asm_lang_valid.specs.Rows.{first};
 ghost use Rattle.asm_lang_valid.specs.Typed as typed;
 ghost use Rattle.asm_lang_valid.specs.TypeRows as rows;
-ghost use Rattle.asm_validate_names.specs.Environments.{IsComplete};
+ghost use Rattle.asm_names.specs.Environments.{IsComplete};
 ghost use Rattle.asm_validate_exprs.specs.Found.{row_of};
 ghost use Rattle.asm_validate_exprs.specs.Signatures.{signature_option};
 
 use asm_lang_valid::{Met, Rule};
 use asm_tree::Table;
 use asm_validate_exprs::{Signature, function_signature, needs};
-use asm_validate_names::Environment;
+use asm_names::Environment;
 use sem_words::Text;
 
 fn is_power_of_two(n: usize) -> bool

@@ -2,7 +2,7 @@
 use asm_run_tables::table_entry;
 use asm_text::read;
 use asm_tree::Function;
-use asm_validate_names::Environment;
+use asm_names::Environment;
 use sem_words::JsValue;
 use std::test::Fail;
 

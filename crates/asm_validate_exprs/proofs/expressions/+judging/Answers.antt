@@ -11,8 +11,8 @@ use Rattle.asm_tree.proofs.Views.{expr_view-Lit}
 use Rattle.asm_lang_valid.specs.Rows.{first, expr_count, links_count}
 use Rattle.asm_lang_valid.specs.Typing.{last_type, literal_type}
 use Rattle.asm_lang_valid.specs.TypeRows as rows
-use Rattle.asm_validate_names.specs.Meanings.{meaning_view}
-use Rattle.asm_validate_names.specs.Scopes.{scope_view}
+use Rattle.asm_names.specs.Meanings.{meaning_view}
+use Rattle.asm_names.specs.Scopes.{scope_view}
 use Rattle.asm_validate_names.proofs.Found.{first_after, first_before, exprs_step, links_step}
 use Rattle.asm_validate_exprs.proofs.Steps.{if_ok, lengths, link_lengths, below_step, exprs_after, exprs_within, links_after, links_within, fit_step, comma_after, comma_within, comma_type, last_at, lit_typed, binary_rows, chain_end, chain_typed, cond_second, table_row, table_call_fits}
 use Rattle.asm_validate_names.proofs.Shapes.{positive, index_is, call_is, table_call_is, assign_is, unary_is, comma_is, store_is, binary_is, chain_is, cond_is}

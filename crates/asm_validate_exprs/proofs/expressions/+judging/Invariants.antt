@@ -4,7 +4,7 @@ use Rattle.asm_tree.specs.Views.{expr_view, exprs_view, links_view}
 use Rattle.asm_lang_valid.specs.Rows.{first, expr_count, exprs_count, links_count}
 use Rattle.asm_lang_valid.specs.Typing.{all_below, links_fit, last_type}
 use Rattle.asm_lang_valid.specs.TypeRows as rows
-use Rattle.asm_validate_names.specs.Scopes.{scope_view}
+use Rattle.asm_names.specs.Scopes.{scope_view}
 use Rattle.asm_validate_exprs.proofs.expressions.+judging.Given as goal
 
 abbrev pub invariant-judge_all-loop-expr : goal.invariant-judge_all-loop-expr

@@ -1,7 +1,7 @@
 use Rattle.std.proofs.Common.{ap, ◌∙◌}
 use Rattle.sem_words.specs.Lists.{list_items}
 use Rattle.asm_lang_valid.specs.Scope.{function_signature}
-use Rattle.asm_validate_names.specs.Scopes.{scope_view}
+use Rattle.asm_names.specs.Scopes.{scope_view}
 use Rattle.asm_validate_exprs.proofs.Lengths.{first_is}
 use Rattle.asm_validate_exprs.proofs.signatures.first_member.Goals as goal
 

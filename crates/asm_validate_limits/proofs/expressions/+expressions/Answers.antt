@@ -5,8 +5,8 @@ use Rattle.asm_tree.specs.Views.{expr_view, exprs_view, links_view}
 use Rattle.asm_lang_valid.specs.Rows.{expr_count, exprs_count, links_count}
 use Rattle.asm_lang_valid.specs.LimitRows.{Mark, expr_marks, exprs_marks, links_marks, comma_marks}
 use Rattle.asm_lang_valid.specs.Typing.{named, exprs_length}
-use Rattle.asm_validate_names.specs.Meanings.{meaning_view}
-use Rattle.asm_validate_names.specs.Scopes.{scope_view}
+use Rattle.asm_names.specs.Meanings.{meaning_view}
+use Rattle.asm_names.specs.Scopes.{scope_view}
 use Rattle.asm_validate_limits.specs.Passes.{Tallied}
 use Rattle.asm_validate_limits.specs.Places.{placed_marks, called_marks, left_place}
 use Rattle.asm_validate_limits.proofs.Passes.{err_first, then_, then_at, same, from_err}

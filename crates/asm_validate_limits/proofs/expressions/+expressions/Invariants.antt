@@ -1,7 +1,7 @@
 use Rattle.std.proofs.Common.{◌≡◌, ◌+◌, ◌*◌, ◌≤◌, drop}
 use Rattle.asm_tree.specs.Views.{expr_view, exprs_view, links_view}
 use Rattle.asm_lang_valid.specs.Rows.{expr_count, exprs_count, links_count}
-use Rattle.asm_validate_names.specs.Scopes.{scope_view}
+use Rattle.asm_names.specs.Scopes.{scope_view}
 use Rattle.asm_validate_limits.proofs.Lists.{Completes}
 use Rattle.asm_validate_limits.proofs.Parts.{arguments_marks, operands_marks, parts_marks, nodes_in, nodes_of}
 use Rattle.asm_validate_limits.proofs.expressions.+expressions.Given as goal

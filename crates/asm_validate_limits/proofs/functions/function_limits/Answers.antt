@@ -3,7 +3,7 @@ use Rattle.asm_tree.specs.declared.tree.Stmt.{Stmt}
 use Rattle.asm_tree.specs.Views.{module_view, stmts_view}
 use Rattle.asm_lang_valid.specs.Rows.{stmts_count}
 use Rattle.asm_lang_valid.specs.LimitRows.{stmts_marks}
-use Rattle.asm_validate_names.specs.Scopes.{scope_view}
+use Rattle.asm_names.specs.Scopes.{scope_view}
 use Rattle.asm_validate_limits.specs.declared.tally.Tally.{Tally}
 use Rattle.asm_validate_limits.specs.Passes.{calls_of, Tallied}
 use Rattle.asm_validate_limits.proofs.Passes.{from_err}

@@ -6,7 +6,7 @@ use Rattle.asm_tree.specs.Views.{expr_view, expr_option, stmt_view, stmts_view, 
 use Rattle.asm_lang_valid.specs.declared.rule.Rule.TheVariants.{PastLimit}
 use Rattle.asm_lang_valid.specs.Rows.{need, expr_count, option_count, stmt_count, stmts_count, clauses_count}
 use Rattle.asm_lang_valid.specs.LimitRows.{Mark, rows_of, expr_marks, stmt_marks, stmts_marks, clauses_marks, clauses_length, most_clauses}
-use Rattle.asm_validate_names.specs.Scopes.{scope_view}
+use Rattle.asm_names.specs.Scopes.{scope_view}
 use Rattle.asm_validate_limits.specs.declared.callee.Place.TheVariants.{Operand, Effect}
 use Rattle.asm_validate_limits.specs.Places.{placed_marks, option_placed}
 use Rattle.asm_validate_limits.proofs.Passes.{err_first, after_none, then_at, from_err, need_err, need_ok}

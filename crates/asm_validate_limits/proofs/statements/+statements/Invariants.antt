@@ -1,7 +1,7 @@
 use Rattle.std.proofs.Common.{◌≡◌, ◌+◌, ◌*◌, ◌≤◌, drop}
 use Rattle.asm_tree.specs.Views.{expr_view, expr_option, stmt_view, stmts_view, clauses_view}
 use Rattle.asm_lang_valid.specs.Rows.{expr_count, option_count, stmt_count, stmts_count, clauses_count}
-use Rattle.asm_validate_names.specs.Scopes.{scope_view}
+use Rattle.asm_names.specs.Scopes.{scope_view}
 use Rattle.asm_validate_limits.proofs.Lists.{Completes}
 use Rattle.asm_validate_limits.proofs.Stmts.{body_marks, body_count, switch_marks, switch_count}
 use Rattle.asm_validate_limits.proofs.statements.+statements.Given as goal

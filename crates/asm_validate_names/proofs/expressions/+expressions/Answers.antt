@@ -7,7 +7,7 @@ use Rattle.asm_tree.specs.declared.tree.Link.{Link}
 use Rattle.asm_tree.specs.Views.{expr_view, exprs_view, links_view}
 use Rattle.asm_tree.proofs.Views.{expr_view-Var}
 use Rattle.asm_lang_valid.specs.Rows.{expr_count, exprs_count, links_count}
-use Rattle.asm_validate_names.specs.Scopes.{scope_view}
+use Rattle.asm_names.specs.Scopes.{scope_view}
 use Rattle.asm_validate_names.proofs.Found.{if_ok, stops, passes, not_ok, exprs_step, links_step, links_after, links_within}
 use Rattle.asm_validate_names.proofs.Shapes.{positive, index_is, call_is, table_call_is, assign_is, unary_is, comma_is, store_is, binary_is, chain_is, cond_is}
 use Rattle.asm_validate_names.proofs.ExpressionRows.{var_rows, index_rows, call_rows, table_call_rows, assign_rows, store_rows, unary_rows, binary_rows, chain_rows, cond_rows, comma_rows}

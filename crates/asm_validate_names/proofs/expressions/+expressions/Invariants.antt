@@ -2,7 +2,7 @@ use Rattle.std.proofs.Common.{◌≡◌, ◌+◌, ◌*◌, ◌≤◌, drop}
 use Rattle.asm_tree.specs.Views.{expr_view, exprs_view, links_view}
 use Rattle.asm_lang_valid.specs.Rows.{first, expr_count, exprs_count, links_count}
 use Rattle.asm_lang_valid.specs.NameRows as rows
-use Rattle.asm_validate_names.specs.Scopes.{scope_view}
+use Rattle.asm_names.specs.Scopes.{scope_view}
 use Rattle.asm_validate_names.proofs.expressions.+expressions.Given as goal
 
 abbrev pub invariant-exprs_names-loop-expr : goal.invariant-exprs_names-loop-expr

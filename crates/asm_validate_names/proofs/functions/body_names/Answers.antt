@@ -2,7 +2,7 @@ use Rattle.std.proofs.Common.{rules, ◌+◌, ap, ◌∙◌, arith}
 use Rattle.asm_tree.specs.Views.{module_view, stmts_view}
 use Rattle.asm_lang_valid.specs.Rows.{stmts_count}
 use Rattle.asm_validate_names.specs.declared.refusal.AsmRefusal.TheVariants.{Refused}
-use Rattle.asm_validate_names.specs.Scopes.{scope_view}
+use Rattle.asm_names.specs.Scopes.{scope_view}
 use Rattle.asm_validate_names.proofs.Order.{err_row}
 use Rattle.asm_validate_names.proofs.Rest.{body_is}
 use Rattle.asm_validate_names.proofs.functions.body_names.Goals as goal

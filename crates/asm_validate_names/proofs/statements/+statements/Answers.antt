@@ -5,7 +5,7 @@ use Rattle.asm_tree.specs.declared.tree.Stmt.{Stmt}
 use Rattle.asm_tree.specs.Views.{expr_view, stmt_view}
 use Rattle.asm_lang_valid.specs.Rows.{first, stmt_count}
 use Rattle.asm_lang_valid.specs.NameRows as rows
-use Rattle.asm_validate_names.specs.Scopes.{scope_view}
+use Rattle.asm_names.specs.Scopes.{scope_view}
 use Rattle.asm_validate_names.proofs.StatementRows.{block_is, plain_is, return_is, while_is, do_is, labelled_is, for_is, else_rows, else_count, if_count, while_rows, do_rows, switch_rows, if_rows, for_rows}
 use Rattle.asm_validate_names.proofs.Found.{stops, passes, not_ok, clauses_step, clauses_after, clauses_within}
 use Rattle.asm_validate_names.proofs.Shapes.{positive, stmt_positive, switch_is}

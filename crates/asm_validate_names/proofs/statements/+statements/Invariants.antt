@@ -2,7 +2,7 @@ use Rattle.std.proofs.Common.{◌≡◌, ◌+◌, ◌*◌, ◌≤◌, drop}
 use Rattle.asm_tree.specs.Views.{stmt_view, stmts_view, clauses_view}
 use Rattle.asm_lang_valid.specs.Rows.{first, stmt_count, stmts_count, clauses_count}
 use Rattle.asm_lang_valid.specs.NameRows as rows
-use Rattle.asm_validate_names.specs.Scopes.{scope_view}
+use Rattle.asm_names.specs.Scopes.{scope_view}
 use Rattle.asm_validate_names.proofs.statements.+statements.Given as goal
 
 abbrev pub invariant-stmts_names-loop-stmt : goal.invariant-stmts_names-loop-stmt

@@ -1,6 +1,6 @@
 use Rattle.std.proofs.Common.{rules, ◌+◌, ap}
 use Rattle.asm_tree.specs.Views.{module_view}
-use Rattle.asm_validate_names.specs.Scopes.{scope_view}
+use Rattle.asm_names.specs.Scopes.{scope_view}
 use Rattle.asm_validate_labels.specs.Arounds.{around_view}
 use Rattle.asm_validate_names.specs.declared.refusal.AsmRefusal.TheVariants.{Refused}
 use Rattle.asm_validate_names.proofs.Order.{err_row}

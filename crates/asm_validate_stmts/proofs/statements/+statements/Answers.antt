@@ -1,6 +1,6 @@
 use Rattle.std.proofs.Common.{rules, ap, ◌∙◌, arith}
 use Rattle.asm_tree.specs.Views.{expr_view, stmt_view, clauses_view}
-use Rattle.asm_validate_names.specs.Scopes.{scope_view}
+use Rattle.asm_names.specs.Scopes.{scope_view}
 use Rattle.asm_validate_names.proofs.Found.{clauses_step}
 use Rattle.asm_validate_names.proofs.Shapes.{stmt_positive}
 use Rattle.asm_validate_labels.specs.declared.places.Place.{Place}

@@ -1,0 +1,101 @@
+// The names of declarations, put into a map. Later ones are put in first, so that an earlier one takes their place.
+
+ghost use Rattle.std.specs.Prelude.{◌≡◌, ℕ, List, Some, IfOk, map, if◌then◌else◌};
+ghost use Rattle.std.specs.Str.{bytes_eq};
+ghost use Rattle.sem_words.specs.Lists.{text_bytes};
+ghost use Rattle.asm_tree.specs.Views.{texts_view, module_view, global_view, function_view, table_view};
+ghost use Rattle.asm_lang_valid.specs.Scope.{is_in, a_parameter, among_globals, among_functions};
+ghost use Rattle.asm_names.specs.Meanings.{meaning_view, seen, tables_over, declared_over};
+
+use crate::init::init_meaning;
+use crate::meaning::Meaning;
+use asm_tree::{Function, Global_, Module, Table};
+use indexmap::IndexMap;
+use sem_words::Text;
+use std::alloc::AllocError;
+
+/// The names of a module.
+pub fn put_all<'a>(
+    names: &mut IndexMap<&'a [u8], Meaning<'a>>,
+    home: &'a Module,
+) -> Result<(), AllocError>
+    ensures { IfOk result (λ _. (n : List ℕ) → seen names.new n ≡ declared_over (module_view home.now) n (seen names.old n)) }
+{
+    put_tables(names, home.tables.as_slice())?;
+    put_functions(names, home.functions.as_slice())?;
+    put_globals(names, home, home.globals.as_slice())?;
+    put_params(names, home.params.as_slice())?;
+    Ok(())
+}
+
+fn put_tables<'a>(
+    names: &mut IndexMap<&'a [u8], Meaning<'a>>,
+    tables: &'a [Table],
+) -> Result<(), AllocError>
+    ensures { IfOk result (λ _. (n : List ℕ) → seen names.new n ≡ tables_over (map table_view tables.now) n (seen names.old n)) }
+{
+    let mut i = tables.len();
+    while i > 0 {
+        i -= 1;
+        let table = &tables[i];
+        put(names, &table.name, Meaning::Table(table))?;
+    }
+    Ok(())
+}
+
+fn put_functions<'a>(
+    names: &mut IndexMap<&'a [u8], Meaning<'a>>,
+    functions: &'a [Function],
+) -> Result<(), AllocError>
+    ensures { IfOk result (λ _. (n : List ℕ) → seen names.new n ≡ among_functions (map function_view functions.now) n (seen names.old n)) }
+{
+    let mut i = functions.len();
+    while i > 0 {
+        i -= 1;
+        let function = &functions[i];
+        put(names, &function.name, Meaning::Function(function))?;
+    }
+    Ok(())
+}
+
+fn put_globals<'a>(
+    names: &mut IndexMap<&'a [u8], Meaning<'a>>,
+    home: &'a Module,
+    globals: &'a [Global_],
+) -> Result<(), AllocError>
+    ensures { IfOk result (λ _. (n : List ℕ) → seen names.new n ≡ among_globals (module_view home.now) (map global_view globals.now) n (seen names.old n)) }
+{
+    let mut i = globals.len();
+    while i > 0 {
+        i -= 1;
+        let global = &globals[i];
+        let meaning = init_meaning(home, &global.init);
+        put(names, &global.name, meaning)?;
+    }
+    Ok(())
+}
+
+fn put_params<'a>(
+    names: &mut IndexMap<&'a [u8], Meaning<'a>>,
+    params: &'a [Text],
+) -> Result<(), AllocError>
+    ensures { IfOk result (λ _. (n : List ℕ) → seen names.new n ≡ (if is_in n (texts_view params.now) then a_parameter else seen names.old n)) }
+{
+    let mut i = params.len();
+    while i > 0 {
+        i -= 1;
+        put(names, &params[i], Meaning::Parameter)?;
+    }
+    Ok(())
+}
+
+fn put<'a>(
+    names: &mut IndexMap<&'a [u8], Meaning<'a>>,
+    name: &'a Text,
+    meaning: Meaning<'a>,
+) -> Result<(), AllocError>
+    ensures { IfOk result (λ _. (n : List ℕ) → seen names.new n ≡ (if bytes_eq (text_bytes name.now) n then meaning_view (Some meaning.entry) else seen names.old n)) }
+{
+    names.insert(name.as_bytes(), meaning)?;
+    Ok(())
+}

@@ -1,0 +1,50 @@
+// What each name of a module means.
+
+ghost use Rattle.std.specs.Prelude.{◌≡◌, IfOk};
+ghost use Rattle.asm_tree.specs.Views.{module_view};
+ghost use Rattle.asm_lang_valid.specs.Scope.{module_meaning};
+ghost use Rattle.asm_names.specs.Meanings.{meaning_view};
+ghost use Rattle.asm_names.specs.Environments.{IsComplete};
+
+use crate::declared::put_all;
+use crate::meaning::Meaning;
+use asm_tree::Module;
+use indexmap::IndexMap;
+use std::alloc::{AllocError, Global};
+
+/// The names of a module with their meanings. Of declarations with one name the first counts.
+#[derive(Drop)]
+pub struct Environment<'a> {
+    home: &'a Module,
+    names: IndexMap<&'a [u8], Meaning<'a>>,
+}
+
+impl<'a> Environment<'a> {
+    /// The names of a module.
+    pub fn new(alloc: Global, home: &'a Module) -> Result<Environment<'a>, AllocError>
+        ensures of { IfOk result (λ e. e.home.now ≡ home.now) }
+        ensures complete { IfOk result IsComplete }
+    {
+        let mut names = IndexMap::new(alloc);
+        put_all(&mut names, home)?;
+        Ok(Environment { home, names })
+    }
+
+    /// The module.
+    pub fn home(&self) -> &'a Module
+        ensures { result.now ≡ self.now.home.now }
+    {
+        self.home
+    }
+
+    /// What a name means in the module, or None where it isn't declared.
+    pub fn meaning(&self, name: &[u8]) -> Option<Meaning<'a>>
+        requires { IsComplete self.now }
+        ensures { meaning_view result ≡ module_meaning (module_view self.now.home.now) name.now }
+    {
+        match self.names.get(name) {
+            Some(meaning) => Some(*meaning),
+            None => None,
+        }
+    }
+}

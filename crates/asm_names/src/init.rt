@@ -1,0 +1,101 @@
+// What a global declaration makes of its name.
+
+ghost use Rattle.std.specs.Prelude.{◌≡◌, Some};
+ghost use Rattle.sem_words.specs.Lists.{text_bytes};
+ghost use Rattle.asm_lang.specs.Trees as trees;
+ghost use Rattle.asm_tree.specs.Views.{module_view, init_view};
+ghost use Rattle.asm_lang_valid.specs.Scope as scopes;
+ghost use Rattle.asm_lang_valid.specs.Scope.{constructors, constructor_in, viewed};
+ghost use Rattle.asm_names.specs.Meanings.{meaning_view};
+
+use crate::meaning::Meaning;
+use crate::words::is_word;
+use asm_lang_valid::{Builtin, Element};
+use asm_tree::{Init, Module};
+use sem_words::Text;
+
+/// What a global variable with this declaration means.
+pub fn init_meaning<'a>(module: &'a Module, init: &'a Init) -> Meaning<'a>
+    ensures { meaning_view (Some result) ≡ scopes.init_meaning (module_view «module».now) (init_view init.now) }
+{
+    match init {
+        Init::Number(_) | Init::ForeignInt(_, _) => Meaning::Int,
+        Init::Decimal(_) | Init::ForeignDouble(_, _) => Meaning::Outside,
+        Init::Member(object, field) => member_meaning(module, object, field),
+        Init::Math(_, field) => math_meaning(field.as_bytes()),
+        Init::View(_, constructor, _) => view_meaning(constructor.as_bytes()),
+    }
+}
+
+fn member_meaning<'a>(module: &'a Module, object: &'a Text, field: &'a Text) -> Meaning<'a>
+    ensures { meaning_view (Some result) ≡ scopes.init_meaning (module_view «module».now) (trees.member (text_bytes object.now) (text_bytes field.now)) }
+{
+    if is_foreign(module, object) {
+        Meaning::Foreign(field)
+    } else {
+        Meaning::Outside
+    }
+}
+
+/// Whether this is the name of the module's first parameter.
+pub fn is_stdlib(module: &Module, name: &Text) -> bool
+    ensures { result ≡ scopes.is_stdlib (module_view «module».now) (text_bytes name.now) }
+{
+    is_parameter(module, 0, name)
+}
+
+/// .. of the second.
+pub fn is_foreign(module: &Module, name: &Text) -> bool
+    ensures { result ≡ scopes.is_foreign (module_view «module».now) (text_bytes name.now) }
+{
+    is_parameter(module, 1, name)
+}
+
+/// .. of the third.
+pub fn is_heap(module: &Module, name: &Text) -> bool
+    ensures { result ≡ scopes.is_heap (module_view «module».now) (text_bytes name.now) }
+{
+    is_parameter(module, 2, name)
+}
+
+#[tactic(auto, using(crate::proofs::Parameters::nth_is))]
+fn is_parameter(module: &Module, i: usize, name: &Text) -> bool
+    ensures { result ≡ scopes.is_name (text_bytes name.now) (scopes.nth (module_view «module».now).params i) }
+{
+    match module.params.get(i) {
+        None => false,
+        Some(parameter) => parameter.as_bytes() == name.as_bytes(),
+    }
+}
+
+fn math_meaning(field: &[u8]) -> Meaning<'static>
+    ensures { meaning_view (Some result) ≡ scopes.math_meaning field.now }
+{
+    if is_word(b"imul", field) {
+        Meaning::Builtin(Builtin::Imul)
+    } else if is_word(b"clz32", field) {
+        Meaning::Builtin(Builtin::Clz32)
+    } else {
+        Meaning::Outside
+    }
+}
+
+fn view_meaning(constructor: &[u8]) -> Meaning<'static>
+    ensures { meaning_view (Some result) ≡ viewed (constructor_in constructors constructor.now) }
+{
+    if is_word(b"Int8Array", constructor) {
+        Meaning::View(Element::Int8)
+    } else if is_word(b"Uint8Array", constructor) {
+        Meaning::View(Element::Uint8)
+    } else if is_word(b"Int16Array", constructor) {
+        Meaning::View(Element::Int16)
+    } else if is_word(b"Uint16Array", constructor) {
+        Meaning::View(Element::Uint16)
+    } else if is_word(b"Int32Array", constructor) {
+        Meaning::View(Element::Int32)
+    } else if is_word(b"Uint32Array", constructor) {
+        Meaning::View(Element::Uint32)
+    } else {
+        Meaning::Outside
+    }
+}
