@@ -6,8 +6,8 @@ ghost use Rattle.asm_validate_names.specs.Environments.{IsComplete};
 ghost use Rattle.asm_validate_names.specs.Meanings.{meaning_view};
 ghost use Rattle.asm_run_tables.specs.Seen.{function_seen};
 ghost use Rattle.asm_lang_exec.specs.Values.{entry_of};
-ghost use Rattle.asm_run_machine.specs.Beyond.{beyond, viewed, called};
-ghost use Rattle.asm_run_machine.specs.Targets.{target_view};
+ghost use Rattle.asm_run_values.specs.Beyond.{beyond, viewed, called};
+ghost use Rattle.asm_run_values.specs.Targets.{target_view};
 
 use asm_lang_valid::{Builtin, Element};
 use asm_run_tables::table_entry;
