@@ -1,28 +1,16 @@
 -- What a machine in code finds of an expression without calls.
-use Rattle.std.specs.Prelude.{◌≡◌, true, false}
+use Rattle.std.specs.Prelude.{◌≡◌}
 use Rattle.sem_words.specs.declared.js_value.JsValue.{JsValue}
-use Rattle.sem_words.specs.declared.js_value.JsValue.TheVariants as values
-use Rattle.asm_lang.specs.Modules.{Expr, Links, Module}
+use Rattle.asm_lang.specs.Modules.{Expr, Module}
 use Rattle.asm_lang_valid.specs.Typed.{scope_of}
 use Rattle.asm_lang_exec.specs.Runs.{goes}
-use Rattle.asm_laws_machine.specs.AtOnce.{value_at, links_at, at_once}
+use Rattle.asm_laws_machine.specs.AtOnce.{value_at, at_once}
 use Rattle.asm_run_machine.specs.declared.machine.Machine.{Machine}
-use Rattle.asm_run_machine.specs.declared.simple.Simple.{Simple}
-use Rattle.asm_run_machine.specs.declared.simple.Simple.TheVariants.{Whole, True, False}
 use Rattle.asm_run_machine.specs.Machines.{function, place}
-
-abbrev pub simple_value : Simple → JsValue
-simple_value (Whole z) = values.Whole z
-simple_value True = values.Bool true
-simple_value False = values.Bool false
 
 -- the expression has this value where the machine stands
 abbrev pub HasValue : Module → Machine → Expr → JsValue → Type 0
 HasValue m s e v = value_at (scope_of m (function s)) e (place s) ≡ goes v (place s)
-
--- so have the further operands of a chain, after this value
-abbrev pub HasSum : Module → Machine → Links → JsValue → JsValue → Type 0
-HasSum m s ls v w = links_at (scope_of m (function s)) ls v (place s) ≡ goes w (place s)
 
 -- the first machine has this value of the expression, and is then the second
 abbrev pub Gives : Module → Machine → Expr → JsValue → Machine → Type 0

@@ -1,5 +1,3 @@
-pub mod Beyond
-pub mod Targets
 pub mod Machines
 pub mod Reached
 pub mod AtOnce

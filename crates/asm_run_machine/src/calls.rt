@@ -13,14 +13,14 @@ ghost use Rattle.asm_run_work.specs.Views.{callee_view};
 ghost use Rattle.asm_run_machine.specs.Machines.{waiting, function, place, moved};
 
 use crate::machine::{Machine, after};
-use crate::names::{Target, entry_meant, target_meant};
+use asm_names::Environment;
 use asm_run_state::{Called, call_builtin, first_locals, locals_layout};
+use asm_run_values::{Target, entry_meant, target_meant};
 use asm_run_work::{
     Arguments, Callee, Completion, EndWork, ExprWork, Flow, Frame, Kept, Mode, Outcome, Pending,
     Work,
 };
 use asm_tree::{Expr, Function};
-use asm_names::Environment;
 use sem_words::{JsValue, Text};
 use std::alloc::{AllocError, Global};
 use std::mem;

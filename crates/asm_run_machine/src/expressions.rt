@@ -8,9 +8,9 @@ ghost use Rattle.asm_laws_machine.specs.Literals.{SmallExpr, SmallModule};
 ghost use Rattle.asm_run_machine.specs.Machines.{waiting, function, place, moved};
 
 use crate::machine::Machine;
+use asm_names::Environment;
 use asm_run_work::{Arguments, Callee, ExprWork, Flow, Kept, Mode, Outcome, Work};
 use asm_tree::Expr;
-use asm_names::Environment;
 use sem_words::JsValue;
 use std::alloc::{AllocError, Global};
 

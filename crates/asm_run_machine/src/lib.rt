@@ -4,15 +4,12 @@
 
 mod at_once;
 mod calls;
-mod elements;
 mod ends;
 mod expressions;
 mod loops;
 mod machine;
-mod names;
 mod operands;
 mod running;
-mod simple;
 mod statements;
 mod tests_of;
 

@@ -3,18 +3,17 @@ ghost use Rattle.std.specs.Prelude.{◌≡◌, IfOk};
 ghost use Rattle.asm_lang.specs.Modules.{Module};
 ghost use Rattle.asm_tree.specs.Views.{module_view, links_view};
 ghost use Rattle.asm_names.specs.Environments.{IsComplete};
-ghost use Rattle.asm_lang_exec.specs.Meaning.{link_operator};
 ghost use Rattle.asm_laws_machine.specs.Steps.{expr_work_step, links_step};
 ghost use Rattle.asm_laws_machine.specs.Literals.{SmallModule};
 ghost use Rattle.asm_run_work.specs.Views.{expr_work_view};
 ghost use Rattle.asm_run_machine.specs.Machines.{waiting, function, place, moved};
 
-use crate::elements::{read_element, write_element};
 use crate::machine::Machine;
+use asm_names::Environment;
+use asm_run_values::{operator_of, read_element, write_element};
 use asm_run_work::{Arguments, Callee, ExprWork, Flow, Kept, Mode, Outcome, Work};
 use asm_tree::Link;
-use asm_names::Environment;
-use sem_words::{JsOp, js_binary, js_unary, truthy};
+use sem_words::{js_binary, js_unary, truthy};
 use std::alloc::{AllocError, Global};
 
 impl<'a> Machine<'a> {
@@ -103,11 +102,4 @@ impl<'a> Machine<'a> {
         let piece = ExprWork::Right(operator_of(link), value);
         self.evaluate(Work::Expr(piece), &link.operand)
     }
-}
-
-/// What joins an operand of a chain to what stands before it.
-pub fn operator_of(link: &Link) -> JsOp
-    ensures { result ≡ link_operator link.now.minus }
-{
-    if link.minus { JsOp::Sub } else { JsOp::Add }
 }

@@ -9,9 +9,9 @@ ghost use Rattle.asm_run_machine.specs.Machines.{waiting, function, place, moved
 ghost use Rattle.asm_run_machine.specs.Reached.{Leads, SmallLeft, StepFalls, UnitsFall, Within, reached_of, bottom_of};
 
 use crate::machine::Machine;
+use asm_names::Environment;
 use asm_run_work::{Completion, Flow, Mode, Outcome, Work};
 use asm_tree::Expr;
-use asm_names::Environment;
 use sem_laws::End;
 use std::alloc::{AllocError, Global};
 

@@ -6,7 +6,7 @@ use Rattle.asm_lang_exec.specs.Runs.{and_then, defined}
 use Rattle.asm_lang_exec.specs.Values.{builtin_value}
 use Rattle.asm_laws_machine.specs.Steps.{to_value}
 use Rattle.asm_run_machine.specs.Machines.{waiting, function, place}
-use Rattle.asm_run_machine.specs.Targets.{target_view}
+use Rattle.asm_run_values.specs.Targets.{target_view}
 use Rattle.asm_run_machine.proofs.Hiding.{target_small, calls}
 use Rattle.asm_run_machine.proofs.Led.{ok_more}
 use Rattle.asm_run_machine.proofs.machine.Machine.call_named.Goals as goal

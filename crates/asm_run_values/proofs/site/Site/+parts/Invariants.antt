@@ -1,11 +1,9 @@
 use Rattle.std.proofs.Common.{◌≡◌, ◌+◌, ◌*◌, drop}
 use Rattle.sem_words.specs.JsValues.{IsValue}
-use Rattle.asm_tree.specs.Views.{module_view, links_view}
-use Rattle.asm_lang_valid.specs.Typed.{scope_of}
+use Rattle.asm_tree.specs.Views.{links_view}
 use Rattle.asm_laws_machine.specs.AtOnce.{links_at}
-use Rattle.asm_run_machine.specs.Machines.{function, place}
-use Rattle.asm_run_machine.specs.AtOnce.{simple_value}
-use Rattle.asm_run_machine.proofs.machine.Machine.+parts.Given as goal
+use Rattle.asm_run_values.specs.Values.{simple_value, scope, place}
+use Rattle.asm_run_values.proofs.site.Site.+parts.Given as goal
 
 abbrev pub decreases-value_at : goal.decreases-value_at
 decreases-value_at l = 3 * l.depth
@@ -31,8 +29,6 @@ decreases-cond_at l = 3 * l.depth + 1
 -- the operands that are left come to the same after the sum so far as all of them
 abbrev pub invariant-links_at-loop-link : goal.invariant-links_at-loop-link
 invariant-links_at-loop-link l = record {
-  sum :
-      links_at (scope_of (module_view l.environment.home.now) (function l.self)) (links_view l.links) (simple_value l.fn.first) (place l.self)
-      ≡ links_at (scope_of (module_view l.environment.home.now) (function l.self)) (links_view (drop l.link-index l.links)) (simple_value l.value) (place l.self);
+  sum : links_at (scope l.self) (links_view l.links) (simple_value l.fn.first) (place l.self) ≡ links_at (scope l.self) (links_view (drop l.link-index l.links)) (simple_value l.value) (place l.self);
   kept : IsValue (simple_value l.value);
 }

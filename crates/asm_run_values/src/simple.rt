@@ -2,7 +2,7 @@
 ghost use Rattle.std.specs.Prelude.{◌≡◌, Some, IfSome};
 ghost use Rattle.sem_words.specs.JsValues.{IsValue, to_uint32_of, truthy_of};
 ghost use Rattle.sem_words.specs.JsOperators.{js_binary_of, js_unary_of, signed_value};
-ghost use Rattle.asm_run_machine.specs.AtOnce.{simple_value};
+ghost use Rattle.asm_run_values.specs.Values.{simple_value};
 
 use sem_words::{JsOp, JsUnary, JsValue, js_binary, js_unary, signed32, to_uint32, truthy};
 

@@ -6,14 +6,14 @@ ghost use Rattle.asm_names.specs.Environments.{IsComplete};
 ghost use Rattle.asm_names.specs.Meanings.{meaning_view};
 ghost use Rattle.asm_run_tables.specs.Seen.{function_seen};
 ghost use Rattle.asm_lang_exec.specs.Values.{entry_of};
-ghost use Rattle.asm_run_machine.specs.Beyond.{beyond, viewed, called};
-ghost use Rattle.asm_run_machine.specs.Targets.{target_view};
+ghost use Rattle.asm_run_values.specs.Beyond.{beyond, viewed, called};
+ghost use Rattle.asm_run_values.specs.Targets.{target_view};
 
 use asm_lang_valid::{Builtin, Element};
+use asm_names::{Environment, Meaning};
 use asm_run_tables::table_entry;
 use asm_run_work::Frame;
 use asm_tree::Function;
-use asm_names::{Environment, Meaning};
 use sem_words::{JsValue, Text};
 
 /// What a call may reach: a function of the module, the foreign function of a name, or a function of the

@@ -2,8 +2,8 @@ use Rattle.std.proofs.Common.{◌∙◌}
 use Rattle.sem_words.specs.Lists.{text_bytes}
 use Rattle.asm_tree.specs.Views.{module_view, function_view}
 use Rattle.asm_run_state.specs.Worlds.{place_of}
-use Rattle.asm_run_machine.proofs.Hiding.{reads, reads_none}
-use Rattle.asm_run_machine.proofs.elements.read_element.Goals as goal
+use Rattle.asm_run_values.proofs.Hiding.{reads, reads_none}
+use Rattle.asm_run_values.proofs.elements.read_element.Goals as goal
 
 pub returns-in-Some-clause-value : goal.returns-in-Some-clause-value
 returns-in-Some-clause-value c = λ locals.

@@ -11,9 +11,9 @@ ghost use Rattle.asm_lang_exec.specs.Values as values;
 ghost use Rattle.asm_run_state.specs.Worlds.{Bindings, place_of};
 
 use crate::names::view_meant;
+use asm_names::Environment;
 use asm_run_state::World;
 use asm_run_work::Frame;
-use asm_names::Environment;
 use sem_words::{JsValue, Text};
 
 /// The element at an index of the view that a name means. None where it means none, or where the index

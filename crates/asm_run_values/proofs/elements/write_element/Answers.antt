@@ -2,8 +2,8 @@ use Rattle.std.proofs.Common.{◌∙◌}
 use Rattle.sem_words.specs.Lists.{text_bytes}
 use Rattle.asm_tree.specs.Views.{module_view, function_view}
 use Rattle.asm_run_state.specs.Worlds.{place_of}
-use Rattle.asm_run_machine.proofs.Hiding.{writes, writes_none}
-use Rattle.asm_run_machine.proofs.elements.write_element.Goals as goal
+use Rattle.asm_run_values.proofs.Hiding.{writes, writes_none}
+use Rattle.asm_run_values.proofs.elements.write_element.Goals as goal
 
 pub returns-in-Some-clause-value : goal.returns-in-Some-clause-value
 returns-in-Some-clause-value c = λ locals.
