@@ -91,7 +91,13 @@ impl Site<'_, '_> {
         let Some(index) = self.value_at(index, depth) else {
             return None;
         };
-        match read_element(self.environment, self.world, self.frame, name, index.value()) {
+        match read_element(
+            self.environment,
+            self.world,
+            self.frame,
+            name,
+            index.value(),
+        ) {
             None => None,
             Some(element) => Simple::of(element),
         }
