@@ -1,4 +1,3 @@
-pub mod PlaceLemmas
 pub mod ChainLemmas
 pub mod Erasing
 pub mod StmtErasing

@@ -1,4 +1,4 @@
-//! From a tree with places to the module of asm.js that it says, and the places of its nodes.
+//! From a tree with places to the module of asm.js that it says, with the places of its nodes.
 #![tactic(auto)]
 
 mod chains;
@@ -6,10 +6,8 @@ mod declarations;
 mod expressions;
 mod labels;
 mod lists;
-mod module_places;
 mod nodes;
 mod number;
-mod places;
 mod statements;
 mod whole;
 mod wholes;

@@ -7,7 +7,7 @@ ghost use Rattle.asm_grammar_nodes.specs.Views as placed;
 ghost use Rattle.asm_tree.specs.Views as plain;
 
 use crate::labels::with_labels;
-use crate::lists::pushed;
+use crate::lists::{last_taken, pushed};
 use crate::nodes::room_for;
 use crate::number::value_of;
 use crate::wholes::{
@@ -95,7 +95,7 @@ fn erased_stmts(alloc: Global, trees: &[StmtTree]) -> Result<List<Stmt>, AllocEr
     Ok(stmts)
 }
 
-/// The statements of a body. Each is let go as soon as it is erased, so that few are held twice.
+/// The statements of a body. Each is let go as soon as it is erased, and room of the list with it, so that few are held twice.
 pub(crate) fn used_stmts(alloc: Global, trees: List<StmtTree>) -> Result<List<Stmt>, AllocError>
     ensures { IfOk result (λ r. plain.stmts_view (list_items r) ≡ stmts_of (placed.stmts_view (list_items trees))) }
 {
@@ -103,7 +103,7 @@ pub(crate) fn used_stmts(alloc: Global, trees: List<StmtTree>) -> Result<List<St
     let mut stmts = empty;
     let mut left = trees.into_vec();
     left.reverse();
-    while let Some(tree) = left.pop() {
+    while let Some(tree) = last_taken(&mut left) {
         let stmt = erased_stmt(alloc, &tree)?;
         stmts = pushed(stmts, stmt)?;
     }

@@ -9,9 +9,9 @@ ghost use Rattle.asm_tree.specs.Views as plain;
 use crate::declarations::{
     erased_exports, erased_globals, erased_tables, erased_texts, used_functions,
 };
-use crate::module_places::module_places;
 use crate::wholes::copied_option;
 use asm_grammar_nodes::ModuleTree;
+use asm_grammar_places::module_places;
 use asm_tree::{Module, Parsed};
 use std::alloc::{AllocError, Global};
 

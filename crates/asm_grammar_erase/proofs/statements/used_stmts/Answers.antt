@@ -10,8 +10,8 @@ use Rattle.asm_grammar_erase.proofs.statements.used_stmts.Goals as goal
 pub loop-tree-preserved : goal.loop-tree-preserved
 loop-tree-preserved c =
     let l = c.loop-tree in
-    let popped : l.left.items ≡ c.pop.new.self.items ++ c.in-Some.tree ∷ [] = search rules in
-    stmt_popped (list_items l.stmts) (list_items c.in_ok-stmts.stmts) l.left.items c.pop.new.self.items c.in-Some.tree c.in_ok-stmt.stmt (stmts_of (placed.stmts_view (list_items c.args.trees))) popped c.in_ok-stmts.ensures c.in_ok-stmt.ensures l.invariant
+    let popped : l.left.items ≡ c.last_taken.new.left.items ++ c.in-Some.tree ∷ [] = search rules in
+    stmt_popped (list_items l.stmts) (list_items c.in_ok-stmts.stmts) l.left.items c.last_taken.new.left.items c.in-Some.tree c.in_ok-stmt.stmt (stmts_of (placed.stmts_view (list_items c.args.trees))) popped c.in_ok-stmts.ensures c.in_ok-stmt.ensures l.invariant
 
 pub returns : goal.returns
 returns c =

@@ -3,7 +3,7 @@
 ghost use Rattle.std.specs.Prelude.{◌≡◌, ◌++◌, map, IfOk};
 ghost use Rattle.sem_words.specs.Lists.{list_items};
 ghost use Rattle.asm_lang.specs.Modules.{variables_places, params_places, functions_places, tables_places, exports_places, module_places};
-ghost use Rattle.asm_grammar_erase.specs.Parts.{function_places};
+ghost use Rattle.asm_grammar_places.specs.Parts.{function_places};
 ghost use Rattle.asm_grammar_nodes.specs.Views.{variable_view, param_view, function_view, table_view, export_view, exports_view, module_view};
 
 use crate::places::{stmts_places, with_place};
@@ -84,7 +84,8 @@ fn exports_places(places: List<u64>, tree: &ExportsTree) -> Result<List<u64>, Al
     }
 }
 
-pub(crate) fn module_places(alloc: Global, tree: &ModuleTree) -> Result<List<u64>, AllocError>
+/// The places of the nodes of a module: a whole before its parts, in text order, as offsets in bytes.
+pub fn module_places(alloc: Global, tree: &ModuleTree) -> Result<List<u64>, AllocError>
     ensures { IfOk result (λ r. list_items r ≡ module_places (module_view tree.now)) }
 {
     let places = with_place(List::new(alloc), 0)?;

@@ -24,7 +24,7 @@ use Rattle.asm_grammar_nodes.specs.Heights.{is_chain}
 use Rattle.asm_grammar_nodes.specs.Views.{AddendView, ClauseView, addend_view, sign_of, sum_in, word_view, words_view, under_all, expr_view, exprs_view, expr_option, stmt_view, stmts_view, clauses_view}
 use Rattle.asm_grammar_nodes.proofs.Levels.{binary_is, sign_is}
 use Rattle.asm_grammar_nodes.proofs.Views.{addend_view-is, clause_view-is, expr_view-Literal, expr_view-Negative, expr_view-Decimals, expr_view-Variable, expr_view-Element, expr_view-Call, expr_view-TableCall, expr_view-Assignment, expr_view-Store, expr_view-Unary, expr_view-Conditional, expr_view-Listed, expr_view-Binary, expr_view-Sum, stmt_view-Block, stmt_view-Plain, stmt_view-Empty, stmt_view-If_only, stmt_view-If_else, stmt_view-Return, stmt_view-While, stmt_view-DoWhile, stmt_view-For, stmt_view-Break, stmt_view-Continue, stmt_view-Switch, stmt_view-Labelled}
-use Rattle.asm_grammar_erase.specs.Parts.{own_place, sum_place, addends_places, head_places, below_labels}
+use Rattle.asm_grammar_places.specs.Parts.{own_place, sum_place, addends_places, head_places, below_labels}
 
 -- ---- expressions
 

@@ -5,9 +5,9 @@ use Rattle.sem_words.specs.Lists.{list_items}
 use Rattle.asm_lang.specs.Modules.{expr_places, option_places, stmt_places, stmts_places, clauses_places}
 use Rattle.asm_grammar_nodes.specs.Views.{expr_view, expr_option, stmt_view, stmts_view, clauses_view}
 use Rattle.asm_grammar_nodes.specs.declared.tree.ClauseTree.{ClauseTree}
-use Rattle.asm_grammar_erase.specs.Parts.{head_places}
-use Rattle.asm_grammar_erase.proofs.PlaceLemmas.{stmt_places_say, one_part, two_parts, clauses_places-step, item_done, nothing, places-Block, places-Plain, places-Return, places-While, places-DoWhile, places-For_head, places-Switch, places-Unlabelled}
-use Rattle.asm_grammar_erase.proofs.places.+stmts.Goals as goal
+use Rattle.asm_grammar_places.specs.Parts.{head_places}
+use Rattle.asm_grammar_places.proofs.Places.{stmt_places_say, one_part, two_parts, clauses_places-step, item_done, nothing, places-Block, places-Plain, places-Return, places-While, places-DoWhile, places-For_head, places-Switch, places-Unlabelled}
+use Rattle.asm_grammar_places.proofs.places.+stmts.Goals as goal
 
 pub clauses_places-loop-clause-preserved : goal.clauses_places-loop-clause-preserved
 clauses_places-loop-clause-preserved t c =
