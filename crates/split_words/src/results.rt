@@ -14,9 +14,9 @@ ghost use Rattle.split_words.specs.Views.{pair_view};
 use crate::pair::Pair;
 use sem_words::{Bin, Un};
 use std::alloc::AllocError;
-use wasm2js_nodes::{Fixed, Name};
 use wasm_lang::ValType;
 use wasm2js_build::{BitOp, Block, Relation, Term};
+use wasm2js_nodes::{Fixed, Name};
 
 /// A value of this type from one place to another.
 pub fn moved(block: &mut Block, kind: ValType, from: Pair, to: Pair) -> Result<(), AllocError>

@@ -5,8 +5,8 @@ ghost use Rattle.wasm2js_code.specs.Actions as code;
 ghost use Rattle.wasm2js_nodes.specs.Names.{name_view};
 
 use split_words::operand_pair;
-use wasm2js_nodes::Name;
 use wasm_lang::ValType;
+use wasm2js_nodes::Name;
 
 /// The variable of the word, or of the low word, of an operand.
 pub fn low(d: u64) -> Name

@@ -14,9 +14,9 @@ use crate::numeric::put_number;
 use crate::places::{by_place, place};
 use split_words::{Pair, operand_pair, put_sign};
 use std::alloc::{AllocError, Global};
-use wasm2js_nodes::{Fixed, Name};
 use wasm_lang::MemOp;
 use wasm2js_build::{BitOp, Block, Term};
+use wasm2js_nodes::{Fixed, Name};
 
 // A load from a memory of so many bytes, whose address stands in the low one of the variables that it fills.
 #[tactic(auto, using(crate::proofs::Joined::joins))]

@@ -16,10 +16,10 @@ use crate::operators::{
 use crate::stores::{store_at, tell_three};
 use crate::variables::{global_get, global_set, local_get, local_set, select};
 use std::alloc::{AllocError, Global};
-use wasm2js_nodes::Fixed;
 use wasm_lang::{GlobalType, ValType};
 use wasm_tree::Instr;
 use wasm2js_build::Block;
+use wasm2js_nodes::Fixed;
 
 /// What an instruction is in: how many bytes the memory has, the types of the function's locals, its parameters among them,
 /// and of the module's globals.

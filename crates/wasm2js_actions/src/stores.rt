@@ -14,9 +14,9 @@ use crate::depths::low;
 use crate::places::{by_place, place};
 use split_words::{Pair, operand_pair};
 use std::alloc::{AllocError, Global};
-use wasm2js_nodes::{Fixed, Name};
 use wasm_lang::MemOp;
 use wasm2js_build::{BitOp, Block, Term};
+use wasm2js_nodes::{Fixed, Name};
 
 // A store to a memory of so many bytes, to the address in a, of the value in v.
 #[tactic(auto, using(crate::proofs::Joined::joins))]

@@ -11,9 +11,9 @@ ghost use Rattle.split_words.specs.Views.{pair_view};
 use crate::depths::{low, second_kind};
 use split_words::{Pair, global_pair, local_pair, moved, operand_pair};
 use std::alloc::AllocError;
-use wasm2js_nodes::Name;
 use wasm_lang::{GlobalType, ValType};
 use wasm2js_build::{Block, Term};
+use wasm2js_nodes::Name;
 
 /// From a local to the operand of number d.
 pub fn local_get(

@@ -13,7 +13,10 @@ use crate::terms::{BitOp, Relation, Term};
 use asm_tree::{Expr, Link};
 use sem_words::{JsOp, List};
 use std::alloc::{AllocError, Global};
-use wasm2js_nodes::{Fixed, Name, binary, call_of_one, call_of_two, chain, chosen, element, flipped, literal, room_for, shifted, signed, unsigned, variable, with_expr};
+use wasm2js_nodes::{
+    Fixed, Name, binary, call_of_one, call_of_two, chain, chosen, element, flipped, literal,
+    room_for, shifted, signed, unsigned, variable, with_expr,
+};
 
 /// The expression of a term, as it is.
 #[cycle(building)]

@@ -15,13 +15,13 @@ ghost use Rattle.wasm2js_functions.specs.Facts.{FactsOf};
 use crate::facts::Facts;
 use asm_tree::Function;
 use std::alloc::{AllocError, Global};
-use wasm2js_nodes::{Name, Numbered};
 use wasm_lang::ValType;
 use wasm_run_flat::Body;
 use wasm_tree::{self, FuncType, Module};
 use wasm2js_bodies::{Sizes, body_statements};
 use wasm2js_build::function;
 use wasm2js_jumps::result_type;
+use wasm2js_nodes::{Name, Numbered};
 use wasm2js_operands::BodyScope;
 use wasm2js_rooms::{declared_names, param_names};
 

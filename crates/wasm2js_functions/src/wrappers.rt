@@ -16,11 +16,11 @@ ghost use Rattle.wasm2js_functions.specs.Sending.{sent_word};
 use asm_tree::{Expr, Function};
 use sem_words::List;
 use std::alloc::{AllocError, Global};
-use wasm2js_nodes::{Fixed, Name, Numbered, call, plainly, put_in, returns, signed, variable};
 use wasm_lang::ValType;
 use wasm_tree::FuncType;
 use wasm2js_build::{Block, function};
 use wasm2js_jumps::{result_type, signed_word};
+use wasm2js_nodes::{Fixed, Name, Numbered, call, plainly, put_in, returns, signed, variable};
 use wasm2js_rooms::param_names;
 
 // What is sent of a variable, after others.

@@ -5,8 +5,8 @@ ghost use Rattle.wasm2js_code.specs.Bodies.{labels_round};
 ghost use Rattle.wasm2js_nodes.specs.Names.{name_view};
 ghost use Rattle.wasm2js_jumps.specs.Aims.{aim_view, aims_view};
 
-use wasm2js_nodes::{Name, Numbered};
 use wasm_lang::ValType;
+use wasm2js_nodes::{Name, Numbered};
 
 /// What a branch to a label does. A base is how many operands lie below those of the label's block.
 #[derive(Clone, Copy)]

@@ -19,10 +19,10 @@ use crate::values::take_high;
 use asm_tree::Expr;
 use sem_words::List;
 use std::alloc::{AllocError, Global};
-use wasm2js_nodes::{Name, Numbered, call, natural, put_in, signed, variable};
 use wasm_lang::ValType;
 use wasm_tree::FuncType;
 use wasm2js_build::{Block, Term};
+use wasm2js_nodes::{Name, Numbered, call, natural, put_in, signed, variable};
 
 fn add_word(
     alloc: Global,

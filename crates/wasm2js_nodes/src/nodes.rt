@@ -92,12 +92,7 @@ pub fn flipped(alloc: Global, e: Expr) -> Result<Expr, AllocError>
 
 #[inline(never)]
 #[tactic(auto, using(asm_tree::proofs::Views::views))]
-pub fn chosen(
-    alloc: Global,
-    test: Expr,
-    first: Expr,
-    second: Expr,
-) -> Result<Expr, AllocError>
+pub fn chosen(alloc: Global, test: Expr, first: Expr, second: Expr) -> Result<Expr, AllocError>
     ensures { IfOk result (λ r. expr_view r ≡ plain.cond (expr_view test) (expr_view first) (expr_view second)) }
 {
     let test = boxed(alloc, test)?;
@@ -167,12 +162,7 @@ pub fn call_of_one(alloc: Global, name: Name, argument: Expr) -> Result<Expr, Al
 
 /// `name(first,second)`
 #[inline(never)]
-pub fn call_of_two(
-    alloc: Global,
-    name: Name,
-    first: Expr,
-    second: Expr,
-) -> Result<Expr, AllocError>
+pub fn call_of_two(alloc: Global, name: Name, first: Expr, second: Expr) -> Result<Expr, AllocError>
     ensures { IfOk result (λ e. expr_view e ≡ plain.call (spelled (name_view name)) (plain.exprs (expr_view first) (plain.exprs (expr_view second) plain.no_exprs))) }
 {
     let arguments = with_expr(room_for(alloc, 2)?, first)?;
@@ -215,10 +205,6 @@ pub fn store_in(alloc: Global, view: Name, at: Expr, value: Expr) -> Result<Stmt
 pub fn trap_call(alloc: Global, kind: u32) -> Result<Stmt, AllocError>
     ensures { IfOk result (λ s. stmt_view s ≡ words.trap_call kind) }
 {
-    let e = call_of_one(
-        alloc,
-        Name::Always(Fixed::Trap),
-        natural(kind as u64),
-    )?;
+    let e = call_of_one(alloc, Name::Always(Fixed::Trap), natural(kind as u64))?;
     Ok(plainly(e))
 }

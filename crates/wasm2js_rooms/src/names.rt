@@ -12,9 +12,9 @@ ghost use Rattle.wasm2js_rooms.specs.Flags.{flagged_names};
 use crate::room::Room;
 use crate::walk::room_of;
 use std::alloc::{AllocError, Global};
-use wasm2js_nodes::{Name, Numbered};
 use wasm_lang::ValType;
 use wasm_run_flat::Body;
+use wasm2js_nodes::{Name, Numbered};
 use wasm2js_operands::BodyScope;
 
 fn push(names: &mut Vec<Name>, name: Name) -> Result<(), AllocError>

@@ -15,9 +15,9 @@ use asm_tree::{Export, Exports};
 use sem_laws::export_name;
 use sem_words::{List, Text};
 use std::alloc::{AllocError, Global};
-use wasm2js_nodes::{Fixed, Name, Numbered, spell};
 use wasm_tree::{ExportKind, WasmExport};
 use wasm_validate::Valid;
+use wasm2js_nodes::{Fixed, Name, Numbered, spell};
 
 /// The exports of what a valid module is translated to. Those of the source that are no functions are left out.
 #[tactic(auto, using(std::proofs::lemmas::List::append_assoc))]

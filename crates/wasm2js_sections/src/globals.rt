@@ -13,8 +13,8 @@ use crate::declaring::{given, word, zero};
 use asm_tree::Global_;
 use sem_words::Text;
 use std::alloc::{AllocError, Global};
-use wasm2js_nodes::{Name, Numbered};
 use wasm_tree::{GlobalDef, Instr};
+use wasm2js_nodes::{Name, Numbered};
 
 /// Adds the globals, which are numbered from `first` on, where the imported ones have these names.
 pub fn add_own(

@@ -13,8 +13,8 @@ use asm_tree::Global_;
 use sem_laws::import_name;
 use sem_words::Text;
 use std::alloc::{AllocError, Global};
-use wasm2js_nodes::{Name, Numbered};
 use wasm_tree::{Import, ImportKind};
+use wasm2js_nodes::{Name, Numbered};
 
 /// Adds the imported functions.
 pub fn add_functions(

@@ -15,9 +15,9 @@ use crate::numbers::stub_of;
 use asm_tree::Table;
 use sem_words::{List, Text};
 use std::alloc::{AllocError, Global};
-use wasm2js_nodes::{Name, Numbered, spell};
 use wasm_tree::FuncType;
 use wasm_validate::Valid;
+use wasm2js_nodes::{Name, Numbered, spell};
 use wasm2js_tables::{Cell, MaskedTable};
 
 /// The tables of a module in the profile, from its masked ones.

@@ -17,9 +17,9 @@ use crate::needs::{Needed, needs_of};
 use asm_tree::Function;
 use sem_words::List;
 use std::alloc::{AllocError, Global};
-use wasm2js_nodes::{Name, Numbered, natural, returns};
 use wasm_validate::Valid;
 use wasm2js_build::{Block, function};
+use wasm2js_nodes::{Name, Numbered, natural, returns};
 use wasm2js_tables::MaskedTable;
 
 /// Adds the functions that the tables of a module in the profile need for missing entries.
