@@ -1,5 +1,5 @@
 -- What pairs of the code say, as plain data.
-use Rattle.wasm2js_build.specs.Views.{name_view}
+use Rattle.wasm2js_nodes.specs.Names.{name_view}
 use Rattle.wasm2js_code.specs.Pairs as plain
 use Rattle.split_words.specs.declared.pair.Pair.{Pair}
 

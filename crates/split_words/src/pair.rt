@@ -3,7 +3,7 @@ ghost use Rattle.std.specs.Prelude.{◌≡◌};
 ghost use Rattle.wasm2js_code.specs.Pairs as pairs;
 ghost use Rattle.split_words.specs.Views.{pair_view};
 
-use wasm2js_build::{Name, Numbered};
+use wasm2js_nodes::{Name, Numbered};
 
 /// The variables of a value: that of its word, or of its low word, and that of its high word where it has 64 bits.
 #[derive(Clone, Copy, PartialEq, Eq, Debug)]

@@ -6,7 +6,8 @@ ghost use Rattle.wasm2js_words.specs.Words as words;
 ghost use Rattle.wasm2js_words.specs.Words.{simple_statements};
 ghost use Rattle.wasm2js_code.specs.Pairs as pairs;
 ghost use Rattle.wasm2js_code.specs.Wide as wide;
-ghost use Rattle.wasm2js_build.specs.Views.{name_view, fixed_view, bit_view, term_view};
+ghost use Rattle.wasm2js_nodes.specs.Names.{name_view, fixed_view};
+ghost use Rattle.wasm2js_build.specs.Views.{bit_view, term_view};
 ghost use Rattle.wasm2js_build.specs.Blocks.{statements_of};
 ghost use Rattle.split_words.specs.Views.{pair_view};
 
@@ -14,7 +15,8 @@ use crate::pair::Pair;
 use sem_words::{Bin, Un};
 use std::alloc::AllocError;
 use wasm_lang::ValType;
-use wasm2js_build::{BitOp, Block, Fixed, Name, Relation, Term};
+use wasm2js_build::{BitOp, Block, Relation, Term};
+use wasm2js_nodes::{Fixed, Name};
 
 /// A value of this type from one place to another.
 pub fn moved(block: &mut Block, kind: ValType, from: Pair, to: Pair) -> Result<(), AllocError>

@@ -4,14 +4,16 @@ ghost use Rattle.sem_words.specs.declared.word.Rel.TheVariants as rels;
 ghost use Rattle.wasm2js_words.specs.Words as words;
 ghost use Rattle.wasm2js_words.specs.Words.{simple_statements};
 ghost use Rattle.wasm2js_code.specs.Wide as wide;
-ghost use Rattle.wasm2js_build.specs.Views.{name_view, relation_view};
+ghost use Rattle.wasm2js_nodes.specs.Names.{name_view};
+ghost use Rattle.wasm2js_build.specs.Views.{relation_view};
 ghost use Rattle.wasm2js_build.specs.Blocks.{statements_of};
 ghost use Rattle.split_words.specs.Views.{pair_view};
 
 use crate::pair::Pair;
 use sem_words::Rel;
 use std::alloc::AllocError;
-use wasm2js_build::{BitOp, Block, Name, Relation, Term};
+use wasm2js_build::{BitOp, Block, Relation, Term};
+use wasm2js_nodes::Name;
 
 pub fn wide_compare(
     block: &mut Block,

@@ -2,11 +2,11 @@
 ghost use Rattle.std.specs.Prelude.{◌≡◌, ◌+◌, ◌<◌, ◌^◌, length, reverse, slice_get};
 ghost use Rattle.wasm2js_code.specs.Pairs as pairs;
 ghost use Rattle.wasm2js_code.specs.Actions as code;
-ghost use Rattle.wasm2js_build.specs.Views.{name_view};
+ghost use Rattle.wasm2js_nodes.specs.Names.{name_view};
 
 use split_words::operand_pair;
 use wasm_lang::ValType;
-use wasm2js_build::Name;
+use wasm2js_nodes::Name;
 
 /// The variable of the word, or of the low word, of an operand.
 pub fn low(d: u64) -> Name

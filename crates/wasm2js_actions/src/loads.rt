@@ -5,7 +5,8 @@ ghost use Rattle.wasm2js_words.specs.Words as words;
 ghost use Rattle.wasm2js_words.specs.Words.{simple_statements, statements};
 ghost use Rattle.wasm2js_code.specs.Pairs as pairs;
 ghost use Rattle.wasm2js_code.specs.Actions as code;
-ghost use Rattle.wasm2js_build.specs.Views.{name_view, term_view};
+ghost use Rattle.wasm2js_nodes.specs.Names.{name_view};
+ghost use Rattle.wasm2js_build.specs.Views.{term_view};
 ghost use Rattle.wasm2js_build.specs.Blocks.{statements_of};
 ghost use Rattle.split_words.specs.Views.{pair_view};
 
@@ -14,7 +15,8 @@ use crate::places::{by_place, place};
 use split_words::{Pair, operand_pair, put_sign};
 use std::alloc::{AllocError, Global};
 use wasm_lang::MemOp;
-use wasm2js_build::{BitOp, Block, Fixed, Name, Term};
+use wasm2js_build::{BitOp, Block, Term};
+use wasm2js_nodes::{Fixed, Name};
 
 // A load from a memory of so many bytes, whose address stands in the low one of the variables that it fills.
 #[tactic(auto, using(crate::proofs::Joined::joins))]

@@ -7,14 +7,16 @@ ghost use Rattle.wasm2js_words.specs.Words as words;
 ghost use Rattle.wasm2js_words.specs.Words.{simple_statements};
 ghost use Rattle.wasm2js_code.specs.Pairs as pairs;
 ghost use Rattle.wasm2js_code.specs.Actions as code;
-ghost use Rattle.wasm2js_build.specs.Views.{name_view, fixed_view, bit_view, relation_view, term_view};
+ghost use Rattle.wasm2js_nodes.specs.Names.{name_view, fixed_view};
+ghost use Rattle.wasm2js_build.specs.Views.{bit_view, relation_view, term_view};
 ghost use Rattle.wasm2js_build.specs.Blocks.{statements_of};
 ghost use Rattle.split_words.specs.Views.{pair_view};
 
 use sem_words::{Bin, Rel, Un};
 use split_words::{Pair, put_extended, put_sign, wide_extend};
 use std::alloc::AllocError;
-use wasm2js_build::{BitOp, Block, Fixed, Name, Relation, Term};
+use wasm2js_build::{BitOp, Block, Relation, Term};
+use wasm2js_nodes::{Fixed, Name};
 
 /// Of the operands in a and b, in a.
 pub fn binary(block: &mut Block, op: Bin, a: Name, b: Name) -> Result<(), AllocError>

@@ -18,7 +18,8 @@ use crate::variables::{global_get, global_set, local_get, local_set, select};
 use std::alloc::{AllocError, Global};
 use wasm_lang::{GlobalType, ValType};
 use wasm_tree::Instr;
-use wasm2js_build::{Block, Fixed};
+use wasm2js_build::Block;
+use wasm2js_nodes::Fixed;
 
 /// What an instruction is in: how many bytes the memory has, the types of the function's locals, its parameters among them,
 /// and of the module's globals.

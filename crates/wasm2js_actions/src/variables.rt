@@ -4,7 +4,7 @@ ghost use Rattle.wasm2js_words.specs.Words as words;
 ghost use Rattle.wasm2js_words.specs.Words.{simple_statements};
 ghost use Rattle.wasm2js_code.specs.Pairs as pairs;
 ghost use Rattle.wasm2js_code.specs.Actions as code;
-ghost use Rattle.wasm2js_build.specs.Views.{name_view};
+ghost use Rattle.wasm2js_nodes.specs.Names.{name_view};
 ghost use Rattle.wasm2js_build.specs.Blocks.{statements_of};
 ghost use Rattle.split_words.specs.Views.{pair_view};
 
@@ -12,7 +12,8 @@ use crate::depths::{low, second_kind};
 use split_words::{Pair, global_pair, local_pair, moved, operand_pair};
 use std::alloc::AllocError;
 use wasm_lang::{GlobalType, ValType};
-use wasm2js_build::{Block, Name, Term};
+use wasm2js_build::{Block, Term};
+use wasm2js_nodes::Name;
 
 /// From a local to the operand of number d.
 pub fn local_get(

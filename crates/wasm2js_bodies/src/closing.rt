@@ -12,10 +12,11 @@ ghost use Rattle.asm_tree.specs.Views.{stmt_view};
 use asm_tree::Stmt;
 use std::alloc::{AllocError, Global};
 use wasm_lang::ValType;
-use wasm2js_build::{Block, Name, Numbered};
+use wasm2js_build::Block;
 use wasm2js_jumps::{
     Aim, bare_break, block_of, endless, if_else, labelled, leave_with, signed_word,
 };
+use wasm2js_nodes::{Name, Numbered};
 use wasm2js_operands::add;
 
 /// What a branch past a block does that begins above these operands.

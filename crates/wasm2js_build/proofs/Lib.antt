@@ -1,4 +1,3 @@
 pub mod Views
 pub mod Sizes
-pub mod Numerals
 pub mod Lists

@@ -4,13 +4,14 @@ use Rattle.std.specs.Prelude.{ℤ}
 use Rattle.std.specs.Borrow.{Bor}
 use Rattle.wasm2js_words.specs.Words as words
 use Rattle.wasm2js_words.specs.Words.{read, number, both, flip, sum, product, zeros, compare, choose, byte, whole, no_more, further}
-use Rattle.wasm2js_build.specs.declared.names.Name.{Name}
+use Rattle.wasm2js_nodes.specs.declared.names.Name.{Name}
 use Rattle.wasm2js_build.specs.declared.terms.BitOp.{BitOp}
 use Rattle.wasm2js_build.specs.declared.terms.Relation.{Relation}
 use Rattle.wasm2js_build.specs.declared.terms.Term.{Term, fold-roll-Term}
 use Rattle.wasm2js_build.specs.declared.terms.Term.TheOpen as opens
 use Rattle.wasm2js_build.specs.declared.terms.Term.TheVariants as variants
-use Rattle.wasm2js_build.specs.Views.{name_view, bit_view, relation_view, term_layer, term_view}
+use Rattle.wasm2js_nodes.specs.Names.{name_view}
+use Rattle.wasm2js_build.specs.Views.{bit_view, relation_view, term_layer, term_view}
 
 pub term_view-Read : (n : Name) → term_view (variants.Read n) ≡ read (name_view n)
 unfolding term_view

@@ -7,20 +7,19 @@ ghost use Rattle.wasm2js_words.specs.Names as names;
 ghost use Rattle.wasm2js_words.specs.Words as words;
 ghost use Rattle.wasm2js_words.specs.Words.{simple_statement, signed_number, expr as expr_for, int_of, stmts_in};
 ghost use Rattle.wasm2js_code.specs.Helpers as helpers;
-ghost use Rattle.wasm2js_build.specs.Views.{name_view, fixed_view, term_view, terms_view};
+ghost use Rattle.wasm2js_nodes.specs.Names.{name_view, fixed_view};
+ghost use Rattle.wasm2js_build.specs.Views.{term_view, terms_view};
 ghost use Rattle.wasm2js_build.specs.Blocks.{statements_of};
 
 use crate::building::{argument_list, expr, int_expr, number_expr};
-use crate::names::{Fixed, Name};
-use crate::nodes::{binary, call, natural, plainly, put_in, shifted, signed, store_in, trap_call};
-use crate::spelling::spell;
-use crate::statements::{
-    block_statement, gives, if_else, if_only, locals_of, params_of, while_loop,
-};
 use crate::terms::Term;
 use asm_tree::{Expr, Function, Stmt};
 use sem_words::{JsOp, List};
 use std::alloc::{AllocError, Global};
+use wasm2js_nodes::{
+    Fixed, Name, binary, block_statement, call, gives, if_else, if_only, locals_of, natural,
+    params_of, plainly, put_in, shifted, signed, spell, store_in, trap_call, while_loop,
+};
 
 /// A list of statements that grows at its end. Contracts read the statements by `statements_of`.
 #[derive(Drop)]

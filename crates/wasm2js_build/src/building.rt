@@ -6,17 +6,17 @@ ghost use Rattle.asm_tree.specs.Views.{expr_view, exprs_view, links_view};
 ghost use Rattle.wasm2js_words.specs.Names as plain_names;
 ghost use Rattle.wasm2js_words.specs.Names.{spelled};
 ghost use Rattle.wasm2js_words.specs.Words.{bit_operator, relation_operator, as_number, as_int, byte_view, name_of, indexed, arguments, expr as expr_for, int_of};
-ghost use Rattle.wasm2js_build.specs.Views.{name_view, bit_view, relation_view, term_view, terms_view};
+ghost use Rattle.wasm2js_nodes.specs.Names.{name_view};
+ghost use Rattle.wasm2js_build.specs.Views.{bit_view, relation_view, term_view, terms_view};
 
-use crate::names::{Fixed, Name};
-use crate::nodes::{
-    binary, call_of_one, call_of_two, chain, chosen, element, flipped, literal, room_for, shifted,
-    signed, unsigned, variable, with_expr,
-};
 use crate::terms::{BitOp, Relation, Term};
 use asm_tree::{Expr, Link};
 use sem_words::{JsOp, List};
 use std::alloc::{AllocError, Global};
+use wasm2js_nodes::{
+    Fixed, Name, binary, call_of_one, call_of_two, chain, chosen, element, flipped, literal,
+    room_for, shifted, signed, unsigned, variable, with_expr,
+};
 
 /// The expression of a term, as it is.
 #[cycle(building)]

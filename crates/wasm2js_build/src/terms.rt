@@ -3,9 +3,10 @@ ghost use Rattle.std.specs.Prelude.{◌≡◌, true, false};
 ghost use Rattle.wasm2js_words.specs.Words as words;
 ghost use Rattle.wasm2js_words.specs.Words.{no_more, further};
 ghost use Rattle.wasm2js_code.specs.Pairs as pairs;
-ghost use Rattle.wasm2js_build.specs.Views.{name_view, bit_view, relation_view, term_view};
+ghost use Rattle.wasm2js_nodes.specs.Names.{name_view};
+ghost use Rattle.wasm2js_build.specs.Views.{bit_view, relation_view, term_view};
 
-use crate::names::Name;
+use wasm2js_nodes::Name;
 
 /// An operator on the bits of two words; a count of a shift counts modulo 32.
 #[derive(Clone, Copy, PartialEq, Eq, Debug)]

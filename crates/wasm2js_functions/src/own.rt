@@ -19,8 +19,9 @@ use wasm_lang::ValType;
 use wasm_run_flat::Body;
 use wasm_tree::{self, FuncType, Module};
 use wasm2js_bodies::{Sizes, body_statements};
-use wasm2js_build::{Name, Numbered, function};
+use wasm2js_build::function;
 use wasm2js_jumps::result_type;
+use wasm2js_nodes::{Name, Numbered};
 use wasm2js_operands::BodyScope;
 use wasm2js_rooms::{declared_names, param_names};
 

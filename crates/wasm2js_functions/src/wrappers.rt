@@ -9,7 +9,7 @@ ghost use Rattle.wasm2js_code.specs.Bodies as bodies;
 ghost use Rattle.wasm2js_code.specs.Modules as modules;
 ghost use Rattle.wasm2js_words.specs.Names.{numbered, foreign, high, spelled};
 ghost use Rattle.wasm2js_words.specs.Words as words;
-ghost use Rattle.wasm2js_build.specs.Views.{name_view};
+ghost use Rattle.wasm2js_nodes.specs.Names.{name_view};
 ghost use Rattle.wasm2js_build.specs.Blocks.{statements_of};
 ghost use Rattle.wasm2js_functions.specs.Sending.{sent_word};
 
@@ -18,10 +18,9 @@ use sem_words::List;
 use std::alloc::{AllocError, Global};
 use wasm_lang::ValType;
 use wasm_tree::FuncType;
-use wasm2js_build::{
-    Block, Fixed, Name, Numbered, call, function, plainly, put_in, returns, signed, variable,
-};
+use wasm2js_build::{Block, function};
 use wasm2js_jumps::{result_type, signed_word};
+use wasm2js_nodes::{Fixed, Name, Numbered, call, plainly, put_in, returns, signed, variable};
 use wasm2js_rooms::param_names;
 
 // What is sent of a variable, after others.

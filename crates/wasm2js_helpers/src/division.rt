@@ -7,14 +7,15 @@ ghost use Rattle.wasm2js_words.specs.Names as names;
 ghost use Rattle.wasm2js_words.specs.Words as words;
 ghost use Rattle.wasm2js_code.specs.Helpers as helpers;
 ghost use Rattle.wasm2js_helpers.specs.Pieces.{divide_signed_function, divide_function, remainder_signed_function, remainder_function};
-ghost use Rattle.wasm2js_build.specs.Views.{fixed_view};
+ghost use Rattle.wasm2js_nodes.specs.Names.{fixed_view};
 ghost use Rattle.wasm2js_build.specs.Blocks.{statements_of};
 
 use crate::short::{add, first, of_two, second};
 use asm_tree::{Expr, Function, Stmt};
 use sem_words::{JsOp, List};
 use std::alloc::{AllocError, Global};
-use wasm2js_build::{BitOp, Block, Fixed, Relation, Term, binary, expr, natural, returns, signed};
+use wasm2js_build::{BitOp, Block, Relation, Term, expr};
+use wasm2js_nodes::{Fixed, binary, natural, returns, signed};
 
 /// Adds the helpers.
 #[tactic(auto, using(std::proofs::lemmas::List::append_assoc))]

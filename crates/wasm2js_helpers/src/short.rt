@@ -5,13 +5,15 @@ ghost use Rattle.asm_tree.specs.Views.{function_view};
 ghost use Rattle.wasm2js_words.specs.Names.{fixed};
 ghost use Rattle.wasm2js_words.specs.Words as words;
 ghost use Rattle.wasm2js_code.specs.Helpers as helpers;
-ghost use Rattle.wasm2js_build.specs.Views.{name_view, fixed_view, bit_view, term_view};
+ghost use Rattle.wasm2js_nodes.specs.Names.{name_view, fixed_view};
+ghost use Rattle.wasm2js_build.specs.Views.{bit_view, term_view};
 ghost use Rattle.wasm2js_build.specs.Blocks.{statements_of};
 
 use asm_tree::Function;
 use sem_words::List;
 use std::alloc::{AllocError, Global};
-use wasm2js_build::{BitOp, Block, Fixed, Name, Numbered, Term, function};
+use wasm2js_build::{BitOp, Block, Term, function};
+use wasm2js_nodes::{Fixed, Name, Numbered};
 
 /// An argument, by its number.
 pub fn argument(number: u64) -> Name

@@ -10,7 +10,8 @@ ghost use Rattle.wasm2js_code.specs.Pairs.{literal, sign_of, funnel_right, plus,
 ghost use Rattle.wasm2js_code.specs.Actions.{low_ones};
 ghost use Rattle.wasm2js_code.specs.Helpers as helpers;
 ghost use Rattle.wasm2js_code.specs.Helpers.{when, repeat, sets, gives, is_far, shift_left_function, shift_right_function, shift_right_signed_function, rotate_left_function, leading_zeros_function, trailing_zeros_function, set_bits_function};
-ghost use Rattle.wasm2js_build.specs.Views.{name_view, bit_view, term_view};
+ghost use Rattle.wasm2js_nodes.specs.Names.{name_view};
+ghost use Rattle.wasm2js_build.specs.Views.{bit_view, term_view};
 ghost use Rattle.wasm2js_build.specs.Blocks.{statements_of};
 
 use crate::short::{
@@ -20,7 +21,8 @@ use crate::short::{
 use asm_tree::Function;
 use sem_words::List;
 use std::alloc::{AllocError, Global};
-use wasm2js_build::{BitOp, Block, Fixed, Name, Term};
+use wasm2js_build::{BitOp, Block, Term};
+use wasm2js_nodes::{Fixed, Name};
 
 /// Adds the helpers.
 #[tactic(auto, using(std::proofs::lemmas::List::append_assoc))]

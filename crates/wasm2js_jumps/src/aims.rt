@@ -2,11 +2,11 @@
 ghost use Rattle.std.specs.Prelude.{◌≡◌, suc, drop, option_map, slice_get};
 ghost use Rattle.wasm2js_words.specs.Names.{numbered, label as label_kind};
 ghost use Rattle.wasm2js_code.specs.Bodies.{labels_round};
-ghost use Rattle.wasm2js_build.specs.Views.{name_view};
+ghost use Rattle.wasm2js_nodes.specs.Names.{name_view};
 ghost use Rattle.wasm2js_jumps.specs.Aims.{aim_view, aims_view};
 
 use wasm_lang::ValType;
-use wasm2js_build::{Name, Numbered};
+use wasm2js_nodes::{Name, Numbered};
 
 /// What a branch to a label does. A base is how many operands lie below those of the label's block.
 #[derive(Clone, Copy)]

@@ -10,7 +10,7 @@ ghost use Rattle.wasm2js_code.specs.Bodies as bodies;
 ghost use Rattle.wasm2js_code.specs.Actions.{low};
 ghost use Rattle.wasm2js_words.specs.Words as words;
 ghost use Rattle.wasm2js_words.specs.Names.{numbered, table as table_kind, spelled};
-ghost use Rattle.wasm2js_build.specs.Views.{numbered_view};
+ghost use Rattle.wasm2js_nodes.specs.Names.{numbered_view};
 ghost use Rattle.wasm2js_build.specs.Blocks.{statements_of};
 ghost use Rattle.wasm2js_jumps.specs.Arguments.{words_at, words_from};
 
@@ -21,7 +21,8 @@ use sem_words::List;
 use std::alloc::{AllocError, Global};
 use wasm_lang::ValType;
 use wasm_tree::FuncType;
-use wasm2js_build::{Block, Name, Numbered, Term, call, natural, put_in, signed, variable};
+use wasm2js_build::{Block, Term};
+use wasm2js_nodes::{Name, Numbered, call, natural, put_in, signed, variable};
 
 fn add_word(
     alloc: Global,

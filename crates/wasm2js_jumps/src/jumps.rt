@@ -5,7 +5,7 @@ ghost use Rattle.wasm2js_code.specs.Bodies as bodies;
 ghost use Rattle.wasm2js_code.specs.Pairs.{moved, operand_pair};
 ghost use Rattle.wasm2js_words.specs.Names.{numbered, spelled};
 ghost use Rattle.wasm2js_words.specs.Words.{simple_statement, simple_statements, put, read};
-ghost use Rattle.wasm2js_build.specs.Views.{name_view, numbered_view};
+ghost use Rattle.wasm2js_nodes.specs.Names.{name_view, numbered_view};
 ghost use Rattle.wasm2js_build.specs.Blocks.{statements_of};
 ghost use Rattle.wasm2js_jumps.specs.Aims.{aim_view, aims_view};
 
@@ -14,7 +14,8 @@ use crate::nodes::{break_to, continue_to, give, leave};
 use crate::values::{keep_high, signed_word};
 use std::alloc::{AllocError, Global};
 use wasm_lang::ValType;
-use wasm2js_build::{Block, Name, Numbered, Term};
+use wasm2js_build::{Block, Term};
+use wasm2js_nodes::{Name, Numbered};
 
 fn give_word(alloc: Global, depth: u64, block: &mut Block) -> Result<(), AllocError>
     ensures { IfOk result (λ _. statements_of block.new ≡ statements_of block.old ++ plain.returns (Some (bodies.signed_word depth)) ∷ []) }

@@ -7,13 +7,14 @@ ghost use Rattle.asm_tree.specs.Views.{expr_view, expr_option, exprs_view, stmt_
 ghost use Rattle.wasm2js_words.specs.Names.{spelled};
 ghost use Rattle.wasm2js_code.specs.Helpers as helpers;
 ghost use Rattle.wasm2js_code.specs.Bodies as bodies;
-ghost use Rattle.wasm2js_build.specs.Views.{name_view};
+ghost use Rattle.wasm2js_nodes.specs.Names.{name_view};
 ghost use Rattle.wasm2js_build.specs.Blocks.{statements_of};
 
 use asm_tree::{Clause, Expr, Stmt};
 use sem_words::{JsOp, List, Text};
 use std::alloc::{AllocError, Global};
-use wasm2js_build::{Block, Name, natural, spell};
+use wasm2js_build::Block;
+use wasm2js_nodes::{Name, natural, spell};
 
 fn boxed(alloc: Global, stmt: Stmt) -> Result<Box<Stmt>, AllocError>
     ensures { IfOk result (λ b. b.value ≡ stmt) }

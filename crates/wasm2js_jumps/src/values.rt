@@ -8,7 +8,8 @@ ghost use Rattle.wasm2js_build.specs.Blocks.{statements_of};
 
 use asm_tree::Expr;
 use std::alloc::{AllocError, Global};
-use wasm2js_build::{Block, Fixed, Name, Numbered, put_in, signed, variable};
+use wasm2js_build::Block;
+use wasm2js_nodes::{Fixed, Name, Numbered, put_in, signed, variable};
 
 /// The operand above so many others, as a signed number.
 pub fn signed_word(alloc: Global, depth: u64) -> Result<Expr, AllocError>

@@ -7,14 +7,16 @@ ghost use Rattle.wasm2js_words.specs.Words as words;
 ghost use Rattle.wasm2js_code.specs.Pairs.{literal};
 ghost use Rattle.wasm2js_code.specs.Helpers as helpers;
 ghost use Rattle.wasm2js_memory_helpers.specs.Pieces.{bytes_together, word_of, load_32_function, load_64_function, store_32_function, store_64_function};
-ghost use Rattle.wasm2js_build.specs.Views.{name_view, term_view};
+ghost use Rattle.wasm2js_nodes.specs.Names.{name_view};
+ghost use Rattle.wasm2js_build.specs.Views.{term_view};
 ghost use Rattle.wasm2js_build.specs.Blocks.{statements_of};
 
 use asm_tree::Function;
 use sem_words::List;
 use std::alloc::{AllocError, Global};
-use wasm2js_build::{BitOp, Block, Fixed, Name, Term};
+use wasm2js_build::{BitOp, Block, Term};
 use wasm2js_helpers::short::{add, argument, first, of_one, of_three, of_two, second, spare};
+use wasm2js_nodes::{Fixed, Name};
 
 /// Adds the helpers that read and write words.
 pub fn access_helpers(alloc: Global, functions: &mut List<Function>) -> Result<(), AllocError>

@@ -5,14 +5,16 @@ ghost use Rattle.asm_tree.specs.Views.{function_view};
 ghost use Rattle.wasm2js_words.specs.Words.{int_of, disjunction, both, compare, at_most, greater, read, number, whole, byte, write_whole, write_byte, simple_statement};
 ghost use Rattle.wasm2js_code.specs.Pairs.{plus, minus, literal};
 ghost use Rattle.wasm2js_code.specs.Helpers as helpers;
-ghost use Rattle.wasm2js_build.specs.Views.{name_view, term_view};
+ghost use Rattle.wasm2js_nodes.specs.Names.{name_view};
+ghost use Rattle.wasm2js_build.specs.Views.{term_view};
 ghost use Rattle.wasm2js_build.specs.Blocks.{statements_of};
 
 use crate::runs::{each_byte, each_word, test_length, test_start, when_whole};
 use asm_tree::Function;
 use std::alloc::{AllocError, Global};
-use wasm2js_build::{BitOp, Block, Fixed, Name, Relation, Term};
+use wasm2js_build::{BitOp, Block, Relation, Term};
 use wasm2js_helpers::short::{argument, of_three, own, third};
+use wasm2js_nodes::{Fixed, Name};
 
 /// The helper, in a memory of so many bytes.
 pub fn copy_function(alloc: Global, bytes: u32) -> Result<Function, AllocError>

@@ -10,8 +10,9 @@ ghost use Rattle.wasm2js_build.specs.Blocks.{statements_of};
 use crate::runs::{each_byte, each_word, test_length, test_start, when_whole};
 use asm_tree::Function;
 use std::alloc::{AllocError, Global};
-use wasm2js_build::{BitOp, Block, Fixed, Term};
+use wasm2js_build::{BitOp, Block, Term};
 use wasm2js_helpers::short::{argument, first, of_three, own, second};
+use wasm2js_nodes::Fixed;
 
 /// The helper, in a memory of so many bytes.
 pub fn fill_function(alloc: Global, bytes: u32) -> Result<Function, AllocError>

@@ -4,12 +4,14 @@ ghost use Rattle.wasm2js_words.specs.Words.{read, number};
 ghost use Rattle.wasm2js_code.specs.Pairs.{plus};
 ghost use Rattle.wasm2js_memory_helpers.specs.Pieces.{words_while, bytes_while};
 ghost use Rattle.wasm2js_code.specs.Helpers as helpers;
-ghost use Rattle.wasm2js_build.specs.Views.{name_view, term_view};
+ghost use Rattle.wasm2js_nodes.specs.Names.{name_view};
+ghost use Rattle.wasm2js_build.specs.Views.{term_view};
 ghost use Rattle.wasm2js_build.specs.Blocks.{statements_of};
 
 use std::alloc::AllocError;
-use wasm2js_build::{BitOp, Block, Name, Relation, Term};
+use wasm2js_build::{BitOp, Block, Relation, Term};
 use wasm2js_helpers::short::{argument, own, third};
+use wasm2js_nodes::Name;
 
 // ---- tests of a run
 

@@ -6,7 +6,7 @@ ghost use Rattle.wasm2js_code.specs.Pairs.{names_of, local_pair};
 ghost use Rattle.wasm2js_code.specs.Rooms as rooms;
 ghost use Rattle.wasm2js_code.specs.Modules as modules;
 ghost use Rattle.wasm2js_operands.specs.Scopes.{context_in};
-ghost use Rattle.wasm2js_build.specs.Views.{name_view};
+ghost use Rattle.wasm2js_nodes.specs.Names.{name_view};
 ghost use Rattle.wasm2js_rooms.specs.Flags.{flagged_names};
 
 use crate::room::Room;
@@ -14,7 +14,7 @@ use crate::walk::room_of;
 use std::alloc::{AllocError, Global};
 use wasm_lang::ValType;
 use wasm_run_flat::Body;
-use wasm2js_build::{Name, Numbered};
+use wasm2js_nodes::{Name, Numbered};
 use wasm2js_operands::BodyScope;
 
 fn push(names: &mut Vec<Name>, name: Name) -> Result<(), AllocError>

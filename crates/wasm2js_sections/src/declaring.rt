@@ -8,12 +8,12 @@ ghost use Rattle.wasm2js_words.specs.Names.{fixed};
 ghost use Rattle.wasm2js_code.specs.Helpers.{zero_variable};
 ghost use Rattle.wasm2js_code.specs.Modules as modules;
 ghost use Rattle.wasm2js_code.specs.Modules.{stdlib_name, foreign_name, heap_name};
-ghost use Rattle.wasm2js_build.specs.Views.{name_view, fixed_view};
+ghost use Rattle.wasm2js_nodes.specs.Names.{name_view, fixed_view};
 
 use asm_tree::{Global_, Init};
 use sem_words::{Text, signed32};
 use std::alloc::{AllocError, Global};
-use wasm2js_build::{Fixed, Name, spell};
+use wasm2js_nodes::{Fixed, Name, spell};
 
 /// Adds the views of the heap.
 #[tactic(auto, using(std::proofs::lemmas::List::append_assoc))]

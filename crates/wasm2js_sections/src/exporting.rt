@@ -9,7 +9,7 @@ ghost use Rattle.asm_tree.specs.Views.{export_view, exports_view};
 ghost use Rattle.wasm2js_words.specs.Names.{fixed, init, last_high};
 ghost use Rattle.wasm2js_code.specs.Modules as modules;
 ghost use Rattle.wasm2js_code.specs.Modules.{exports_of};
-ghost use Rattle.wasm2js_build.specs.Views.{name_view};
+ghost use Rattle.wasm2js_nodes.specs.Names.{name_view};
 
 use asm_tree::{Export, Exports};
 use sem_laws::export_name;
@@ -17,7 +17,7 @@ use sem_words::{List, Text};
 use std::alloc::{AllocError, Global};
 use wasm_tree::{ExportKind, WasmExport};
 use wasm_validate::Valid;
-use wasm2js_build::{Fixed, Name, Numbered, spell};
+use wasm2js_nodes::{Fixed, Name, Numbered, spell};
 
 /// The exports of what a valid module is translated to. Those of the source that are no functions are left out.
 #[tactic(auto, using(std::proofs::lemmas::List::append_assoc))]

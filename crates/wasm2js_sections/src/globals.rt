@@ -6,7 +6,7 @@ ghost use Rattle.asm_tree.specs.Views.{global_view};
 ghost use Rattle.wasm2js_words.specs.Names as names_of;
 ghost use Rattle.wasm2js_words.specs.Names.{numbered};
 ghost use Rattle.wasm2js_code.specs.Modules as modules;
-ghost use Rattle.wasm2js_build.specs.Views.{name_view};
+ghost use Rattle.wasm2js_nodes.specs.Names.{name_view};
 ghost use Rattle.wasm2js_sections.specs.Parts.{given_of};
 
 use crate::declaring::{given, word, zero};
@@ -14,7 +14,7 @@ use asm_tree::Global_;
 use sem_words::Text;
 use std::alloc::{AllocError, Global};
 use wasm_tree::{GlobalDef, Instr};
-use wasm2js_build::{Name, Numbered};
+use wasm2js_nodes::{Name, Numbered};
 
 /// Adds the globals, which are numbered from `first` on, where the imported ones have these names.
 pub fn add_own(

@@ -14,7 +14,7 @@ use sem_laws::import_name;
 use sem_words::Text;
 use std::alloc::{AllocError, Global};
 use wasm_tree::{Import, ImportKind};
-use wasm2js_build::{Name, Numbered};
+use wasm2js_nodes::{Name, Numbered};
 
 /// Adds the imported functions.
 pub fn add_functions(

@@ -8,7 +8,8 @@ ghost use Rattle.wasm2js_code.specs.Modules as modules;
 
 use asm_tree::{Function, Stmt};
 use std::alloc::{AllocError, Global};
-use wasm2js_build::{Block, Fixed, Name, function, returns, signed, variable};
+use wasm2js_build::{Block, function};
+use wasm2js_nodes::{Fixed, Name, returns, signed, variable};
 
 /// `$hi`, which is the same in each module.
 pub fn high_function(alloc: Global) -> Result<Function, AllocError>

@@ -5,13 +5,14 @@ ghost use Rattle.asm_lang.specs.Modules as plain;
 ghost use Rattle.asm_tree.specs.Views.{expr_view, stmt_view};
 ghost use Rattle.wasm2js_words.specs.Words as words;
 ghost use Rattle.wasm2js_code.specs.Modules as modules;
-ghost use Rattle.wasm2js_build.specs.Views.{fixed_view};
+ghost use Rattle.wasm2js_nodes.specs.Names.{fixed_view};
 ghost use Rattle.wasm2js_build.specs.Blocks.{statements_of};
 
 use asm_tree::{Expr, Stmt};
 use sem_words::signed32;
 use std::alloc::{AllocError, Global};
-use wasm2js_build::{Block, Fixed, Name, natural, spell};
+use wasm2js_build::Block;
+use wasm2js_nodes::{Fixed, Name, natural, spell};
 
 /// Puts bytes into the memory from a place on.
 pub fn set_run(alloc: Global, body: &mut Block, at: u32, bytes: &[u8]) -> Result<(), AllocError>

@@ -13,7 +13,8 @@ use sem_words::List;
 use std::alloc::{AllocError, Global};
 use wasm_tree::{Instr, Segment};
 use wasm_validate::Valid;
-use wasm2js_build::{Block, Fixed, Name, Numbered, call, function, plainly};
+use wasm2js_build::{Block, function};
+use wasm2js_nodes::{Fixed, Name, Numbered, call, plainly};
 
 /// `$init` of what a valid module is translated to, with a statement for each four bytes of the segments, or fewer.
 pub fn init_function(alloc: Global, valid: &Valid<'_>) -> Result<Function, AllocError>

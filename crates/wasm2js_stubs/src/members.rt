@@ -6,7 +6,7 @@ ghost use Rattle.wasm_lang_valid.specs.Profile.{outside_profile};
 ghost use Rattle.asm_tree.specs.Views.{table_view};
 ghost use Rattle.wasm2js_words.specs.Names.{spelled};
 ghost use Rattle.wasm2js_code.specs.Tables;
-ghost use Rattle.wasm2js_build.specs.Views.{name_view};
+ghost use Rattle.wasm2js_nodes.specs.Names.{name_view};
 ghost use Rattle.wasm2js_tables.specs.Views.{cell_view, masked_view};
 ghost use Rattle.wasm2js_stubs.specs.Few.{TakeFew};
 ghost use Rattle.wasm2js_stubs.specs.Members.{table_in, table_with};
@@ -17,7 +17,7 @@ use sem_words::{List, Text};
 use std::alloc::{AllocError, Global};
 use wasm_tree::FuncType;
 use wasm_validate::Valid;
-use wasm2js_build::{Name, Numbered, spell};
+use wasm2js_nodes::{Name, Numbered, spell};
 use wasm2js_tables::{Cell, MaskedTable};
 
 /// The tables of a module in the profile, from its masked ones.

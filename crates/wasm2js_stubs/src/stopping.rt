@@ -8,7 +8,7 @@ ghost use Rattle.asm_tree.specs.Views.{function_view};
 ghost use Rattle.wasm2js_words.specs.Words as words;
 ghost use Rattle.wasm2js_code.specs.Helpers as helpers;
 ghost use Rattle.wasm2js_code.specs.Tables;
-ghost use Rattle.wasm2js_build.specs.Views.{name_view, numbered_view};
+ghost use Rattle.wasm2js_nodes.specs.Names.{name_view, numbered_view};
 ghost use Rattle.wasm2js_build.specs.Blocks.{statements_of};
 ghost use Rattle.wasm2js_tables.specs.Views.{masked_view};
 ghost use Rattle.wasm2js_stubs.specs.Needs.{functions_at, functions_from};
@@ -18,7 +18,8 @@ use asm_tree::Function;
 use sem_words::List;
 use std::alloc::{AllocError, Global};
 use wasm_validate::Valid;
-use wasm2js_build::{Block, Name, Numbered, function, natural, returns};
+use wasm2js_build::{Block, function};
+use wasm2js_nodes::{Name, Numbered, natural, returns};
 use wasm2js_tables::MaskedTable;
 
 /// Adds the functions that the tables of a module in the profile need for missing entries.

@@ -1,5 +1,5 @@
 use Rattle.std.proofs.Common.{◌≡◌, ◌++◌, map, drop}
-use Rattle.wasm2js_build.specs.Views.{name_view}
+use Rattle.wasm2js_nodes.specs.Names.{name_view}
 use Rattle.wasm2js_rooms.specs.Flags.{flagged_names}
 use Rattle.wasm2js_rooms.proofs.names.push_locals.Given as goal
 

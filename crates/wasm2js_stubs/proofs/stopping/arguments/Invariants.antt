@@ -1,7 +1,7 @@
 use Rattle.std.proofs.Common.{◌≡◌, map}
 use Rattle.std.specs.List.{range_with_len}
 use Rattle.wasm2js_code.specs.Helpers as helpers
-use Rattle.wasm2js_build.specs.Views.{name_view}
+use Rattle.wasm2js_nodes.specs.Names.{name_view}
 use Rattle.wasm2js_stubs.proofs.stopping.arguments.Given as goal
 
 abbrev pub invariant-loop-number : goal.invariant-loop-number

@@ -5,7 +5,7 @@ ghost use Rattle.asm_lang.specs.Modules as plain;
 ghost use Rattle.asm_tree.specs.Views.{expr_view, stmt_view, param_view, local_view};
 ghost use Rattle.wasm2js_words.specs.Words.{stmts_in, signed_number};
 ghost use Rattle.wasm2js_code.specs.Helpers as helpers;
-ghost use Rattle.wasm2js_build.specs.Views.{name_view};
+ghost use Rattle.wasm2js_nodes.specs.Names.{name_view};
 
 use crate::names::Name;
 use crate::nodes::signed;
@@ -80,7 +80,7 @@ pub fn returns_nothing() -> Stmt
 }
 
 /// `return value|0;`
-pub(crate) fn gives(alloc: Global, value: Expr) -> Result<Stmt, AllocError>
+pub fn gives(alloc: Global, value: Expr) -> Result<Stmt, AllocError>
     ensures { IfOk result (λ s. stmt_view s ≡ plain.returns (Some (signed_number (expr_view value)))) }
 {
     let value = signed(alloc, value)?;
@@ -88,7 +88,7 @@ pub(crate) fn gives(alloc: Global, value: Expr) -> Result<Stmt, AllocError>
 }
 
 /// Int parameters of these names.
-pub(crate) fn params_of(alloc: Global, names: &[Name]) -> Result<List<Param>, AllocError>
+pub fn params_of(alloc: Global, names: &[Name]) -> Result<List<Param>, AllocError>
     ensures { IfOk result (λ ps. map param_view (list_items ps) ≡ map helpers.int_param (map name_view names.now)) }
 {
     let mut params = List::new(alloc);
@@ -114,7 +114,7 @@ fn with_param(alloc: Global, params: List<Param>, name: Name) -> Result<List<Par
 }
 
 /// Int variables of these names, which begin with 0.
-pub(crate) fn locals_of(alloc: Global, names: &[Name]) -> Result<List<Local>, AllocError>
+pub fn locals_of(alloc: Global, names: &[Name]) -> Result<List<Local>, AllocError>
     ensures { IfOk result (λ ls. map local_view (list_items ls) ≡ map helpers.zero_variable (map name_view names.now)) }
 {
     let mut locals = List::new(alloc);

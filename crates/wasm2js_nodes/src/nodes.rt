@@ -6,9 +6,9 @@ ghost use Rattle.asm_tree.specs.Views.{expr_view, exprs_view, links_view, stmt_v
 ghost use Rattle.sem_words.specs.declared.js_value.JsUnary.TheVariants as js_unary;
 ghost use Rattle.wasm2js_words.specs.Names.{spelled};
 ghost use Rattle.wasm2js_words.specs.Words as words;
-ghost use Rattle.wasm2js_build.specs.Views.{name_view};
+ghost use Rattle.wasm2js_nodes.specs.Names.{name_view};
 
-use crate::names::Name;
+use crate::names::{Fixed, Name};
 use crate::spelling::spell;
 use asm_tree::{Expr, Link, Stmt};
 use sem_words::{JsOp, JsUnary, List};
@@ -24,7 +24,7 @@ pub fn natural(value: u64) -> Expr
 
 /// A literal.
 #[tactic(auto, using(asm_tree::proofs::Views::views))]
-pub(crate) fn literal(value: i64) -> Expr
+pub fn literal(value: i64) -> Expr
     ensures { expr_view result ≡ plain.lit value }
 {
     Expr::Lit(value as i128)
@@ -47,14 +47,14 @@ pub fn signed(alloc: Global, e: Expr) -> Result<Expr, AllocError>
 }
 
 /// `e>>>0`
-pub(crate) fn unsigned(alloc: Global, e: Expr) -> Result<Expr, AllocError>
+pub fn unsigned(alloc: Global, e: Expr) -> Result<Expr, AllocError>
     ensures { IfOk result (λ r. expr_view r ≡ words.plain_number (expr_view e)) }
 {
     binary(alloc, JsOp::Shr, e, natural(0))
 }
 
 /// `e>>places`
-pub(crate) fn shifted(alloc: Global, e: Expr, places: u64) -> Result<Expr, AllocError>
+pub fn shifted(alloc: Global, e: Expr, places: u64) -> Result<Expr, AllocError>
     ensures { IfOk result (λ r. expr_view r ≡ words.indexed places (expr_view e)) }
 {
     binary(alloc, JsOp::Sar, e, natural(places))
@@ -83,7 +83,7 @@ pub fn binary(alloc: Global, operator: JsOp, left: Expr, right: Expr) -> Result<
 
 #[inline(never)]
 #[tactic(auto, using(asm_tree::proofs::Views::views))]
-pub(crate) fn flipped(alloc: Global, e: Expr) -> Result<Expr, AllocError>
+pub fn flipped(alloc: Global, e: Expr) -> Result<Expr, AllocError>
     ensures { IfOk result (λ r. expr_view r ≡ plain.unary js_unary.BitNot (expr_view e)) }
 {
     let e = boxed(alloc, e)?;
@@ -92,12 +92,7 @@ pub(crate) fn flipped(alloc: Global, e: Expr) -> Result<Expr, AllocError>
 
 #[inline(never)]
 #[tactic(auto, using(asm_tree::proofs::Views::views))]
-pub(crate) fn chosen(
-    alloc: Global,
-    test: Expr,
-    first: Expr,
-    second: Expr,
-) -> Result<Expr, AllocError>
+pub fn chosen(alloc: Global, test: Expr, first: Expr, second: Expr) -> Result<Expr, AllocError>
     ensures { IfOk result (λ r. expr_view r ≡ plain.cond (expr_view test) (expr_view first) (expr_view second)) }
 {
     let test = boxed(alloc, test)?;
@@ -108,7 +103,7 @@ pub(crate) fn chosen(
 
 #[inline(never)]
 #[tactic(auto, using(asm_tree::proofs::Views::views))]
-pub(crate) fn chain(alloc: Global, first: Expr, links: List<Link>) -> Result<Expr, AllocError>
+pub fn chain(alloc: Global, first: Expr, links: List<Link>) -> Result<Expr, AllocError>
     ensures { IfOk result (λ r. expr_view r ≡ plain.chain (expr_view first) (links_view (list_items links))) }
 {
     let first = boxed(alloc, first)?;
@@ -118,7 +113,7 @@ pub(crate) fn chain(alloc: Global, first: Expr, links: List<Link>) -> Result<Exp
 /// An element of a view.
 #[inline(never)]
 #[tactic(auto, using(asm_tree::proofs::Views::views))]
-pub(crate) fn element(alloc: Global, view: Name, at: Expr) -> Result<Expr, AllocError>
+pub fn element(alloc: Global, view: Name, at: Expr) -> Result<Expr, AllocError>
     ensures { IfOk result (λ r. expr_view r ≡ plain.index (spelled (name_view view)) (expr_view at)) }
 {
     let view = spell(alloc, view)?;
@@ -137,7 +132,7 @@ pub fn call(alloc: Global, name: Name, arguments: List<Expr>) -> Result<Expr, Al
 }
 
 /// An empty list with room for so many items and no more, since a list that grows takes room for four at once.
-pub(crate) fn room_for<T>(alloc: Global, count: usize) -> Result<List<T>, AllocError>
+pub fn room_for<T>(alloc: Global, count: usize) -> Result<List<T>, AllocError>
     ensures { IfOk result (λ r. list_items r ≡ []) }
 {
     let items = Vec::with_capacity(alloc, count)?;
@@ -158,7 +153,7 @@ pub fn with_expr(list: List<Expr>, e: Expr) -> Result<List<Expr>, AllocError>
 
 /// `name(argument)`
 #[inline(never)]
-pub(crate) fn call_of_one(alloc: Global, name: Name, argument: Expr) -> Result<Expr, AllocError>
+pub fn call_of_one(alloc: Global, name: Name, argument: Expr) -> Result<Expr, AllocError>
     ensures { IfOk result (λ e. expr_view e ≡ plain.call (spelled (name_view name)) (plain.exprs (expr_view argument) plain.no_exprs)) }
 {
     let arguments = with_expr(room_for(alloc, 1)?, argument)?;
@@ -167,12 +162,7 @@ pub(crate) fn call_of_one(alloc: Global, name: Name, argument: Expr) -> Result<E
 
 /// `name(first,second)`
 #[inline(never)]
-pub(crate) fn call_of_two(
-    alloc: Global,
-    name: Name,
-    first: Expr,
-    second: Expr,
-) -> Result<Expr, AllocError>
+pub fn call_of_two(alloc: Global, name: Name, first: Expr, second: Expr) -> Result<Expr, AllocError>
     ensures { IfOk result (λ e. expr_view e ≡ plain.call (spelled (name_view name)) (plain.exprs (expr_view first) (plain.exprs (expr_view second) plain.no_exprs))) }
 {
     let arguments = with_expr(room_for(alloc, 2)?, first)?;
@@ -202,7 +192,7 @@ pub fn put_in(alloc: Global, name: Name, value: Expr) -> Result<Stmt, AllocError
 /// `view[at]=value;`
 #[inline(never)]
 #[tactic(auto, using(asm_tree::proofs::Views::views))]
-pub(crate) fn store_in(alloc: Global, view: Name, at: Expr, value: Expr) -> Result<Stmt, AllocError>
+pub fn store_in(alloc: Global, view: Name, at: Expr, value: Expr) -> Result<Stmt, AllocError>
     ensures { IfOk result (λ s. stmt_view s ≡ plain.plain (plain.store (spelled (name_view view)) (expr_view at) (expr_view value))) }
 {
     let view = spell(alloc, view)?;
@@ -212,13 +202,9 @@ pub(crate) fn store_in(alloc: Global, view: Name, at: Expr, value: Expr) -> Resu
 }
 
 /// `$trap(kind);`
-pub(crate) fn trap_call(alloc: Global, kind: u32) -> Result<Stmt, AllocError>
+pub fn trap_call(alloc: Global, kind: u32) -> Result<Stmt, AllocError>
     ensures { IfOk result (λ s. stmt_view s ≡ words.trap_call kind) }
 {
-    let e = call_of_one(
-        alloc,
-        Name::Always(crate::names::Fixed::Trap),
-        natural(kind as u64),
-    )?;
+    let e = call_of_one(alloc, Name::Always(Fixed::Trap), natural(kind as u64))?;
     Ok(plainly(e))
 }
