@@ -24,12 +24,12 @@ module _ (s : CodeStmt) where
   pub return_is : (o : Option CodeExpr) → s ≡ variants.Return o → stmt_view s ≡ returns (expr_option o)
   return_is o h = ap stmt_view h ∙ stmt_view-Return o
 
-  pub if_only_is : (c : CodeExpr) (b : Box CodeStmt Global) (o : Option (Box CodeStmt Global)) (y : CodeStmt) → s ≡ variants.If c b o → o ≡ None → y ≡ b.value → stmt_view s ≡ if_only (expr_view c) (stmt_view y)
-  if_only_is c b o y h n k = ap stmt_view (h ∙ ap (variants.If c b) n) ∙ stmt_view-If_only c b ∙ ap (λ x. if_only (expr_view c) (stmt_view x)) (sym k)
+  pub if_only_is : (c : CodeExpr) (b : Box CodeStmt Global) (o : Option (Box CodeStmt Global)) (y : CodeStmt) → s ≡ variants.If b o c → o ≡ None → y ≡ b.value → stmt_view s ≡ if_only (expr_view c) (stmt_view y)
+  if_only_is c b o y h n k = ap stmt_view (h ∙ ap (λ o. variants.If b o c) n) ∙ stmt_view-If_only c b ∙ ap (λ x. if_only (expr_view c) (stmt_view x)) (sym k)
 
-  pub if_else_is : (c : CodeExpr) (b d : Box CodeStmt Global) (o : Option (Box CodeStmt Global)) (y z : CodeStmt) → s ≡ variants.If c b o → o ≡ Some d → y ≡ b.value → z ≡ d.value → stmt_view s ≡ if_else (expr_view c) (stmt_view y) (stmt_view z)
+  pub if_else_is : (c : CodeExpr) (b d : Box CodeStmt Global) (o : Option (Box CodeStmt Global)) (y z : CodeStmt) → s ≡ variants.If b o c → o ≡ Some d → y ≡ b.value → z ≡ d.value → stmt_view s ≡ if_else (expr_view c) (stmt_view y) (stmt_view z)
   if_else_is c b d o y z h n k m =
-      ap stmt_view (h ∙ ap (variants.If c b) n) ∙ stmt_view-If_else c b d
+      ap stmt_view (h ∙ ap (λ o. variants.If b o c) n) ∙ stmt_view-If_else c b d
       ∙ ap (λ x. if_else (expr_view c) (stmt_view x) (stmt_view d.value)) (sym k) ∙ ap (λ x. if_else (expr_view c) (stmt_view y) (stmt_view x)) (sym m)
 
   pub while_is : (c : CodeExpr) (b : Box CodeStmt Global) (y : CodeStmt) → s ≡ variants.While c b → y ≡ b.value → stmt_view s ≡ while_loop (expr_view c) (stmt_view y)
@@ -46,7 +46,7 @@ module _ (s : CodeStmt) where
   pub labelled_is : (ls : Listed Text) (b : Box CodeStmt Global) (t : CodeStmt) → s ≡ variants.Labelled ls b → t ≡ b.value → stmt_view s ≡ labelled (texts_view (list_items ls)) (stmt_view t)
   labelled_is ls b t h k = ap stmt_view h ∙ stmt_view-Labelled ls b ∙ ap (λ u. labelled (texts_view (list_items ls)) (stmt_view u)) (sym k)
 
-  pub switch_is : (e : CodeExpr) (l : Listed CodeClause) (ks : List CodeClause) → s ≡ variants.Switch e l → ks ≡ list_items l → stmt_view s ≡ switches (expr_view e) (clauses_view ks)
+  pub switch_is : (e : CodeExpr) (l : Listed CodeClause) (ks : List CodeClause) → s ≡ variants.Switch l e → ks ≡ list_items l → stmt_view s ≡ switches (expr_view e) (clauses_view ks)
   switch_is e l ks h k = ap stmt_view h ∙ stmt_view-Switch e l ∙ ap (λ x. switches (expr_view e) (clauses_view x)) (sym k)
 
   pub empty_is : s ≡ variants.Empty → stmt_view s ≡ empty

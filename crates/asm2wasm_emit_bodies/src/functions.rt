@@ -124,8 +124,8 @@ fn last_value(last: &Stmt) -> Option<&Expr>
         Stmt::Block(_)
         | Stmt::Plain(_)
         | Stmt::Empty
-        | Stmt::If(_, _, None)
-        | Stmt::If(_, _, Some(_))
+        | Stmt::If(_, None, _)
+        | Stmt::If(_, Some(_), _)
         | Stmt::While(_, _)
         | Stmt::DoWhile(_, _)
         | Stmt::For(_, _)

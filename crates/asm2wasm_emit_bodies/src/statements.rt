@@ -39,7 +39,7 @@ pub fn emit_stmt<'l>(
         Stmt::Empty => Ok(()),
         Stmt::Block(body) => emit_stmts(context, output, alloc, labels, body.as_slice()),
         Stmt::Plain(expr) => emit(context, output, false, 0, expr),
-        Stmt::If(condition, yes, no) => match no {
+        Stmt::If(yes, no, condition) => match no {
             None => emit_if(context, output, alloc, labels, condition, yes),
             Some(no) => emit_if_else(context, output, alloc, labels, condition, yes, no),
         },
@@ -63,7 +63,7 @@ pub fn emit_stmt<'l>(
             let inside = Labels::Inside(Open::NamedEnd(names), labels);
             emit_block(context, output, alloc, &inside, names, body)
         }
-        Stmt::Switch(subject, clauses) => {
+        Stmt::Switch(clauses, subject) => {
             emit_switch(context, output, alloc, labels, subject, clauses.as_slice())
         }
     }

@@ -126,8 +126,8 @@ is_labelled _ = false
 labelled_or_not : (o : Stmt-F PlainStmt PlainClause) → ((ls : Listed Text) (s : Box PlainStmt Global) → roll-Stmt o ≡ plain_stmts.Labelled ls s → ⊥) → is_labelled (plain.stmt_view (roll-Stmt o)) ≡ false
 unfolding plain.stmt_view plain.clause_view
 labelled_or_not (layers.Labelled ls s) h = absurd (h ls s (plain_stmts.rolls-Labelled ls s))
-labelled_or_not (layers.If c s None) h = ap is_labelled (fold-roll-Stmt Stmt plain.ClauseView stmt_layer clause_layer (layers.If c s None))
-labelled_or_not (layers.If c s (Some r)) h = ap is_labelled (fold-roll-Stmt Stmt plain.ClauseView stmt_layer clause_layer (layers.If c s (Some r)))
+labelled_or_not (layers.If s None c) h = ap is_labelled (fold-roll-Stmt Stmt plain.ClauseView stmt_layer clause_layer (layers.If s None c))
+labelled_or_not (layers.If s (Some r) c) h = ap is_labelled (fold-roll-Stmt Stmt plain.ClauseView stmt_layer clause_layer (layers.If s (Some r) c))
 labelled_or_not o h = ap is_labelled (fold-roll-Stmt Stmt plain.ClauseView stmt_layer clause_layer o)
 
 not_labelled : (b : PlainStmt) → ((ls : Listed Text) (s : Box PlainStmt Global) → b ≡ plain_stmts.Labelled ls s → ⊥) → is_labelled (plain.stmt_view b) ≡ false

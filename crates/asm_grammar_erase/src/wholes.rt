@@ -54,7 +54,7 @@ pub(crate) fn if_only(
     ensures { IfOk result (λ r. views.stmt_view r ≡ if_only (expr_of (placed.expr_view condition.now)) (views.stmt_view first.value)) }
 {
     let condition = erased_expr(alloc, condition)?;
-    Ok(Stmt::If(condition, first, None))
+    Ok(Stmt::If(first, None, condition))
 }
 
 #[inline(never)]
@@ -68,7 +68,7 @@ pub(crate) fn if_else(
     ensures { IfOk result (λ r. views.stmt_view r ≡ if_else (expr_of (placed.expr_view condition.now)) (views.stmt_view first.value) (views.stmt_view second.value)) }
 {
     let condition = erased_expr(alloc, condition)?;
-    Ok(Stmt::If(condition, first, Some(second)))
+    Ok(Stmt::If(first, Some(second), condition))
 }
 
 #[inline(never)]
@@ -173,5 +173,5 @@ pub(crate) fn switches(
     ensures { IfOk result (λ r. views.stmt_view r ≡ switches (expr_of (placed.expr_view subject.now)) (views.clauses_view (list_items clauses))) }
 {
     let subject = erased_expr(alloc, subject)?;
-    Ok(Stmt::Switch(subject, clauses))
+    Ok(Stmt::Switch(clauses, subject))
 }

@@ -28,7 +28,7 @@ fn put_stmt(out: &mut Output, stmt: &Stmt) -> Result<(), AllocError>
             out.word(b";")
         }
         Stmt::Empty => out.word(b";"),
-        Stmt::If(condition, body, other) => {
+        Stmt::If(body, other, condition) => {
             put_condition(out, b"if", condition)?;
             put_stmt(out, body)?;
             match other {
@@ -64,7 +64,7 @@ fn put_stmt(out: &mut Output, stmt: &Stmt) -> Result<(), AllocError>
             put_labels(out, labels.as_slice())?;
             put_stmt(out, body)
         }
-        Stmt::Switch(subject, clauses) => {
+        Stmt::Switch(clauses, subject) => {
             put_condition(out, b"switch", subject)?;
             out.word(b"{")?;
             put_clauses(out, clauses.as_slice())?;

@@ -23,7 +23,7 @@ impl<'a> Machine<'a> {
             }
             Stmt::Plain(expr) => self.evaluate(Work::Stmt(StmtWork::Plain), expr),
             Stmt::Empty => Ok(after(Completion::Normal)),
-            Stmt::If(condition, yes, no) => match no {
+            Stmt::If(yes, no, condition) => match no {
                 None => {
                     let piece = StmtWork::If(yes, None);
                     self.evaluate(Work::Stmt(piece), condition)
@@ -46,7 +46,7 @@ impl<'a> Machine<'a> {
                 let piece = EndWork::Label(names.as_slice());
                 self.execute(Work::End(piece), names.as_slice(), body)
             }
-            Stmt::Switch(subject, clauses) => {
+            Stmt::Switch(clauses, subject) => {
                 let piece = StmtWork::Switch(clauses.as_slice());
                 self.evaluate(Work::Stmt(piece), subject)
             }

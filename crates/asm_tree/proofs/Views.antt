@@ -84,13 +84,13 @@ pub stmt_view-Empty : stmt_view (code_stmts.Empty) ≡ empty
 unfolding stmt_view clause_view
 stmt_view-Empty = ap stmt_view (sym (code_stmts.rolls-Empty)) ∙ fold-roll-Stmt Stmt ClauseView stmt_layer clause_layer stmt_layers.Empty
 
-pub stmt_view-If_only : (c : CodeExpr) (s : Box CodeStmt Global) → stmt_view (code_stmts.If c s None) ≡ if_only (expr_view c) (stmt_view s.value)
+pub stmt_view-If_only : (c : CodeExpr) (s : Box CodeStmt Global) → stmt_view (code_stmts.If s None c) ≡ if_only (expr_view c) (stmt_view s.value)
 unfolding stmt_view clause_view
-stmt_view-If_only c s = ap stmt_view (sym (code_stmts.rolls-If c s None)) ∙ fold-roll-Stmt Stmt ClauseView stmt_layer clause_layer (stmt_layers.If c s None)
+stmt_view-If_only c s = ap stmt_view (sym (code_stmts.rolls-If s None c)) ∙ fold-roll-Stmt Stmt ClauseView stmt_layer clause_layer (stmt_layers.If s None c)
 
-pub stmt_view-If_else : (c : CodeExpr) (s : Box CodeStmt Global) (r : Box CodeStmt Global) → stmt_view (code_stmts.If c s (Some r)) ≡ if_else (expr_view c) (stmt_view s.value) (stmt_view r.value)
+pub stmt_view-If_else : (c : CodeExpr) (s : Box CodeStmt Global) (r : Box CodeStmt Global) → stmt_view (code_stmts.If s (Some r) c) ≡ if_else (expr_view c) (stmt_view s.value) (stmt_view r.value)
 unfolding stmt_view clause_view
-stmt_view-If_else c s r = ap stmt_view (sym (code_stmts.rolls-If c s (Some r))) ∙ fold-roll-Stmt Stmt ClauseView stmt_layer clause_layer (stmt_layers.If c s (Some r))
+stmt_view-If_else c s r = ap stmt_view (sym (code_stmts.rolls-If s (Some r) c)) ∙ fold-roll-Stmt Stmt ClauseView stmt_layer clause_layer (stmt_layers.If s (Some r) c)
 
 pub stmt_view-Return : (o : Option CodeExpr) → stmt_view (code_stmts.Return o) ≡ returns (expr_option o)
 unfolding stmt_view clause_view
@@ -120,9 +120,9 @@ pub stmt_view-Labelled : (ls : Listed Text) (s : Box CodeStmt Global) → stmt_v
 unfolding stmt_view clause_view
 stmt_view-Labelled ls s = ap stmt_view (sym (code_stmts.rolls-Labelled ls s)) ∙ fold-roll-Stmt Stmt ClauseView stmt_layer clause_layer (stmt_layers.Labelled ls s)
 
-pub stmt_view-Switch : (e : CodeExpr) (cs : Listed CodeClause) → stmt_view (code_stmts.Switch e cs) ≡ switches (expr_view e) (clauses_view (list_items cs))
+pub stmt_view-Switch : (e : CodeExpr) (cs : Listed CodeClause) → stmt_view (code_stmts.Switch cs e) ≡ switches (expr_view e) (clauses_view (list_items cs))
 unfolding stmt_view clause_view
-stmt_view-Switch e cs = ap stmt_view (sym (code_stmts.rolls-Switch e cs)) ∙ fold-roll-Stmt Stmt ClauseView stmt_layer clause_layer (stmt_layers.Switch e cs)
+stmt_view-Switch e cs = ap stmt_view (sym (code_stmts.rolls-Switch cs e)) ∙ fold-roll-Stmt Stmt ClauseView stmt_layer clause_layer (stmt_layers.Switch cs e)
 
 pub link_view-is : (l : CodeLink) → link_view l ≡ record { minus = l.minus; operand = expr_view l.operand }
 unfolding link_view expr_view

@@ -96,8 +96,8 @@ abbrev pub stmt_layer : Stmt-F Stmt ClauseView → Stmt
 stmt_layer (stmts_open.Block ss) = block (stmts_in ss.items.items)
 stmt_layer (stmts_open.Plain e) = plain (expr_view e)
 stmt_layer stmts_open.Empty = empty
-stmt_layer (stmts_open.If c s None) = if_only (expr_view c) s.value
-stmt_layer (stmts_open.If c s (Some r)) = if_else (expr_view c) s.value r.value
+stmt_layer (stmts_open.If s None c) = if_only (expr_view c) s.value
+stmt_layer (stmts_open.If s (Some r) c) = if_else (expr_view c) s.value r.value
 stmt_layer (stmts_open.Return o) = returns (expr_option o)
 stmt_layer (stmts_open.While c s) = while_loop (expr_view c) s.value
 stmt_layer (stmts_open.DoWhile s c) = do_while s.value (expr_view c)
@@ -105,7 +105,7 @@ stmt_layer (stmts_open.For h s) = for_loop (expr_option h.value.start) (expr_opt
 stmt_layer (stmts_open.Break l) = breaks (text_option l)
 stmt_layer (stmts_open.Continue l) = continues (text_option l)
 stmt_layer (stmts_open.Labelled ls s) = labelled (texts_view (list_items ls)) s.value
-stmt_layer (stmts_open.Switch e cs) = switches (expr_view e) (clauses_in cs.items.items)
+stmt_layer (stmts_open.Switch cs e) = switches (expr_view e) (clauses_in cs.items.items)
 
 abbrev pub clause_layer : Clause-F Stmt ClauseView → ClauseView
 clause_layer c = record { value = c.value; body = stmts_in c.body.items.items }

@@ -82,13 +82,15 @@ pub struct Export {
     pub function: Text,
 }
 
+/// A statement. An expression is aligned to 16 bytes, so it stands last in `If` and `Switch`: a statement has 96 bytes so, and not 112.
 #[derive(Debug)]
 #[cycle(stmts)]
 pub enum Stmt {
     Block(List<Stmt>),
     Plain(Expr),
     Empty,
-    If(Expr, Box<Stmt>, Option<Box<Stmt>>),
+    /// `if` and `else`, and the condition.
+    If(Box<Stmt>, Option<Box<Stmt>>, Expr),
     Return(Option<Expr>),
     While(Expr, Box<Stmt>),
     DoWhile(Box<Stmt>, Expr),
@@ -96,7 +98,8 @@ pub enum Stmt {
     Break(Option<Text>),
     Continue(Option<Text>),
     Labelled(List<Text>, Box<Stmt>),
-    Switch(Expr, List<Clause>),
+    /// The clauses, and what they are chosen by.
+    Switch(List<Clause>, Expr),
 }
 
 impl Stmt {

@@ -36,8 +36,8 @@ fn gives_value(stmt: &Stmt) -> bool
         Stmt::Block(_)
         | Stmt::Plain(_)
         | Stmt::Empty
-        | Stmt::If(_, _, None)
-        | Stmt::If(_, _, Some(_))
+        | Stmt::If(_, None, _)
+        | Stmt::If(_, Some(_), _)
         | Stmt::While(_, _)
         | Stmt::DoWhile(_, _)
         | Stmt::For(_, _)

@@ -77,8 +77,8 @@ pub fn is_loop(stmt: &Stmt) -> bool
         | Stmt::Block(_)
         | Stmt::Plain(_)
         | Stmt::Empty
-        | Stmt::If(_, _, None)
-        | Stmt::If(_, _, Some(_))
+        | Stmt::If(_, None, _)
+        | Stmt::If(_, Some(_), _)
         | Stmt::Break(_)
         | Stmt::Continue(_)
         | Stmt::Labelled(_, _)

@@ -35,7 +35,7 @@ pub fn stmt_limits<'a>(
         Stmt::Empty | Stmt::Break(_) | Stmt::Continue(_) => Ok(()),
         Stmt::Block(body) => stmts_limits(scope, tally, body.as_slice()),
         Stmt::Plain(expr) => placed_limits(scope, tally, Place::Effect, expr),
-        Stmt::If(condition, yes, no) => match no {
+        Stmt::If(yes, no, condition) => match no {
             None => guarded_limits(scope, tally, condition, yes),
             Some(no) => choice_limits(scope, tally, condition, yes, no),
         },
@@ -47,7 +47,7 @@ pub fn stmt_limits<'a>(
             for_limits(scope, tally, &head.start, &head.condition, &head.step, body)
         }
         Stmt::Labelled(_, body) => stmt_limits(scope, tally, body),
-        Stmt::Switch(subject, clauses) => {
+        Stmt::Switch(clauses, subject) => {
             switch_limits(scope, tally, subject, clauses.as_slice(), node)
         }
     }

@@ -48,7 +48,7 @@ stmt_positive (continues l) = omega arith
 stmt_positive (labelled ls s) = omega arith
 stmt_positive (switches e cs) = omega arith
 
-pub switch_is : (s : CodeStmt) (e : CodeExpr) (l : Listed CodeClause) (ks : List CodeClause) → s ≡ stmts.Switch e l → ks ≡ list_items l → stmt_view s ≡ switches (expr_view e) (clauses_view ks)
+pub switch_is : (s : CodeStmt) (e : CodeExpr) (l : Listed CodeClause) (ks : List CodeClause) → s ≡ stmts.Switch l e → ks ≡ list_items l → stmt_view s ≡ switches (expr_view e) (clauses_view ks)
 switch_is s e l ks h k = ap stmt_view h ∙ stmt_view-Switch e l ∙ ap (λ x. switches (expr_view e) (clauses_view x)) (sym k)
 
 module _ (e : CodeExpr) where

@@ -55,7 +55,7 @@ module _ (s : CodeStmt) where
       ∙ ap (λ (w : ForHead). for_loop (expr_option x.start) (expr_option y.condition) (expr_option w.step) (stmt_view b.value)) (sym k)
       ∙ ap (λ t. for_loop (expr_option x.start) (expr_option y.condition) (expr_option z.step) (stmt_view t)) (sym l)
 
-  pub if_count : (e : CodeExpr) (b : Box CodeStmt Global) (o : Option (Box CodeStmt Global)) (d : CodeStmt) → s ≡ stmts.If e b o → d ≡ b.value → stmt_count (stmt_view s) ≡ 1 + (expr_count (expr_view e) + (stmt_count (stmt_view d) + else_count o))
+  pub if_count : (e : CodeExpr) (b : Box CodeStmt Global) (o : Option (Box CodeStmt Global)) (d : CodeStmt) → s ≡ stmts.If b o e → d ≡ b.value → stmt_count (stmt_view s) ≡ 1 + (expr_count (expr_view e) + (stmt_count (stmt_view d) + else_count o))
   if_count e b None d h k =
       let i = ap (λ x. stmt_count (stmt_view x)) h ∙ ap stmt_count (stmt_view-If_only e b) in
       let j = ap (λ x. stmt_count (stmt_view x)) k in
@@ -69,10 +69,10 @@ module _ (s : CodeStmt) where
     pub do_rows : (b : Box CodeStmt Global) (e : CodeExpr) (d : CodeStmt) (mid : ℕ) → s ≡ stmts.DoWhile b e → d ≡ b.value → mid ≡ at + 1 + stmt_count (stmt_view d) → first (stmt_names c at (stmt_view s)) ≡ first (stmt_names c (at + 1) (stmt_view d) ++ expr_names c mid (expr_view e))
     do_rows b e d mid h k next = ap (λ t. first (stmt_names c at t)) (do_is b e d h k) ∙ ap (λ p. first (stmt_names c (at + 1) (stmt_view d) ++ expr_names c p (expr_view e))) (sym next)
 
-    pub switch_rows : (e : CodeExpr) (l : Listed CodeClause) (ks : List CodeClause) (mid : ℕ) → s ≡ stmts.Switch e l → ks ≡ list_items l → mid ≡ at + 1 + expr_count (expr_view e) → first (stmt_names c at (stmt_view s)) ≡ first (expr_names c (at + 1) (expr_view e) ++ clauses_names c mid (clauses_view ks))
+    pub switch_rows : (e : CodeExpr) (l : Listed CodeClause) (ks : List CodeClause) (mid : ℕ) → s ≡ stmts.Switch l e → ks ≡ list_items l → mid ≡ at + 1 + expr_count (expr_view e) → first (stmt_names c at (stmt_view s)) ≡ first (expr_names c (at + 1) (expr_view e) ++ clauses_names c mid (clauses_view ks))
     switch_rows e l ks mid h k next = ap (λ t. first (stmt_names c at t)) (switch_is s e l ks h k) ∙ ap (λ p. first (expr_names c (at + 1) (expr_view e) ++ clauses_names c p (clauses_view ks))) (sym next)
 
-    pub if_rows : (e : CodeExpr) (b : Box CodeStmt Global) (o : Option (Box CodeStmt Global)) (d : CodeStmt) (mid last : ℕ) → s ≡ stmts.If e b o → d ≡ b.value → mid ≡ at + 1 + expr_count (expr_view e) → last ≡ mid + stmt_count (stmt_view d) → first (stmt_names c at (stmt_view s)) ≡ first (expr_names c (at + 1) (expr_view e) ++ (stmt_names c mid (stmt_view d) ++ else_rows c last o))
+    pub if_rows : (e : CodeExpr) (b : Box CodeStmt Global) (o : Option (Box CodeStmt Global)) (d : CodeStmt) (mid last : ℕ) → s ≡ stmts.If b o e → d ≡ b.value → mid ≡ at + 1 + expr_count (expr_view e) → last ≡ mid + stmt_count (stmt_view d) → first (stmt_names c at (stmt_view s)) ≡ first (expr_names c (at + 1) (expr_view e) ++ (stmt_names c mid (stmt_view d) ++ else_rows c last o))
     if_rows e b None d mid last h k next end =
         ap (λ x. first (stmt_names c at (stmt_view x))) h ∙ ap (λ t. first (stmt_names c at t)) (stmt_view-If_only e b)
         ∙ ap (λ x. first (expr_names c (at + 1) (expr_view e) ++ stmt_names c (at + 1 + expr_count (expr_view e)) (stmt_view x))) (sym k)

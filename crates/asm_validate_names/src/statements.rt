@@ -26,7 +26,7 @@ pub fn stmt_names(scope: &Scope<'_, '_>, stmt: &Stmt, at: &mut u64) -> Result<()
         Stmt::Empty | Stmt::Break(_) | Stmt::Continue(_) => Ok(()),
         Stmt::Block(body) => stmts_names(scope, body.as_slice(), at),
         Stmt::Plain(expr) => expr_names(scope, expr, at),
-        Stmt::If(condition, yes, no) => {
+        Stmt::If(yes, no, condition) => {
             expr_names(scope, condition, at)?;
             stmt_names(scope, yes, at)?;
             match no {
@@ -50,7 +50,7 @@ pub fn stmt_names(scope: &Scope<'_, '_>, stmt: &Stmt, at: &mut u64) -> Result<()
             stmt_names(scope, body, at)
         }
         Stmt::Labelled(_, body) => stmt_names(scope, body, at),
-        Stmt::Switch(subject, clauses) => {
+        Stmt::Switch(clauses, subject) => {
             expr_names(scope, subject, at)?;
             clauses_names(scope, clauses.as_slice(), at)
         }

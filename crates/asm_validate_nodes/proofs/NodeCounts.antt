@@ -56,7 +56,7 @@ stmt_positive (plain.continues l) = omega arith
 stmt_positive (plain.labelled ls s) = omega arith
 stmt_positive (plain.switches e cs) = omega arith
 
-pub switch_is : (s : Stmt) (e : Expr) (l : Listed Clause) (ks : List Clause) → s ≡ code.Switch e l → ks ≡ list_items l → stmt_view s ≡ plain.switches (expr_view e) (clauses_view ks)
+pub switch_is : (s : Stmt) (e : Expr) (l : Listed Clause) (ks : List Clause) → s ≡ code.Switch l e → ks ≡ list_items l → stmt_view s ≡ plain.switches (expr_view e) (clauses_view ks)
 switch_is s e l ks h k = ap stmt_view h ∙ stmt_view-Switch e l ∙ ap (λ x. plain.switches (expr_view e) (clauses_view x)) (sym k)
 
 -- ---- an element of a list counts among those that are left

@@ -55,7 +55,7 @@ fn count_stmt(stmt: &Stmt, before: u64) -> Option<u64>
         Stmt::Empty | Stmt::Break(_) | Stmt::Continue(_) => Some(at),
         Stmt::Block(body) => count_stmts(body.as_slice(), at),
         Stmt::Plain(expr) => count_expr(expr, at),
-        Stmt::If(condition, yes, no) => {
+        Stmt::If(yes, no, condition) => {
             let at = count_expr(condition, at)?;
             let at = count_stmt(yes, at)?;
             match no {
@@ -79,7 +79,7 @@ fn count_stmt(stmt: &Stmt, before: u64) -> Option<u64>
             count_stmt(body, at)
         }
         Stmt::Labelled(_, body) => count_stmt(body, at),
-        Stmt::Switch(subject, clauses) => {
+        Stmt::Switch(clauses, subject) => {
             let at = count_expr(subject, at)?;
             count_clauses(clauses.as_slice(), at)
         }

@@ -44,7 +44,7 @@ pub fn judge_stmt<'a>(
         Stmt::Block(body) => judge_stmts(context, labels, place, body.as_slice(), at),
         Stmt::Plain(expr) => Ok(judge_effect(context, expr, at)?),
         Stmt::Empty => Ok(()),
-        Stmt::If(test, yes, no) => {
+        Stmt::If(yes, no, test) => {
             condition(context, test, at)?;
             judge_stmt(context, labels, place, yes, at)?;
             match no {
@@ -78,7 +78,7 @@ pub fn judge_stmt<'a>(
         Stmt::Labelled(names, body) => {
             judge_labelled(context, labels, place, names.as_slice(), body, node, at)
         }
-        Stmt::Switch(test, clauses) => {
+        Stmt::Switch(clauses, test) => {
             judge_switch(context, labels, place, test, clauses.as_slice(), node, at)
         }
     }

@@ -95,7 +95,7 @@ pub fn if_only(alloc: Global, test: Expr, yes: Stmt) -> Result<Stmt, AllocError>
     ensures { IfOk result (λ s. stmt_view s ≡ plain.if_only (expr_view test) (stmt_view yes)) }
 {
     let yes = boxed(alloc, yes)?;
-    Ok(Stmt::If(test, yes, None))
+    Ok(Stmt::If(yes, None, test))
 }
 
 /// `if(test) yes else no`
@@ -105,7 +105,7 @@ pub fn if_else(alloc: Global, test: Expr, yes: Stmt, no: Stmt) -> Result<Stmt, A
 {
     let yes = boxed(alloc, yes)?;
     let no = boxed(alloc, no)?;
-    Ok(Stmt::If(test, yes, Some(no)))
+    Ok(Stmt::If(yes, Some(no), test))
 }
 
 /// `while(1){..}`
@@ -145,7 +145,7 @@ pub(crate) fn effect(e: Expr) -> Stmt
 pub(crate) fn switch(subject: Expr, clauses: List<Clause>) -> Stmt
     ensures { stmt_view result ≡ plain.switches (expr_view subject) (clauses_view (list_items clauses)) }
 {
-    Stmt::Switch(subject, clauses)
+    Stmt::Switch(clauses, subject)
 }
 
 /// `a&b`

@@ -39,7 +39,7 @@ pub fn if_only(alloc: Global, test: Expr, statement: Stmt) -> Result<Stmt, Alloc
     ensures { IfOk result (λ s. stmt_view s ≡ plain.if_only (expr_view test) (stmt_view statement)) }
 {
     let statement = boxed(alloc, statement)?;
-    Ok(Stmt::If(test, statement, None))
+    Ok(Stmt::If(statement, None, test))
 }
 
 /// `if(test)first else second`
@@ -50,7 +50,7 @@ pub fn if_else(alloc: Global, test: Expr, first: Stmt, second: Stmt) -> Result<S
 {
     let first = boxed(alloc, first)?;
     let second = boxed(alloc, second)?;
-    Ok(Stmt::If(test, first, Some(second)))
+    Ok(Stmt::If(first, Some(second), test))
 }
 
 /// `while(test)statement`
