@@ -14,14 +14,14 @@ use Rattle.asm_grammar_decls.specs.Variables.{variables_of}
 use Rattle.asm_grammar_functions.specs.declared.function.FunctionReading.{FunctionReading}
 use Rattle.asm_grammar_functions.specs.Bodies.{function_reading_view, functions_of}
 use Rattle.asm_grammar_functions.proofs.Idle.{Idle, idle_init}
-use Rattle.asm_grammar_modules.specs.declared.globals.GlobalPlace.{GlobalPlace}
-use Rattle.asm_grammar_modules.specs.declared.globals.GlobalPlace.TheVariants as globals
-use Rattle.asm_grammar_modules.specs.declared.tables.TablePlace.{TablePlace}
-use Rattle.asm_grammar_modules.specs.declared.tables.TablePlace.TheVariants as tables
-use Rattle.asm_grammar_modules.specs.declared.exports.ExportsPlace.{ExportsPlace}
-use Rattle.asm_grammar_modules.specs.declared.exports.ExportsPlace.TheVariants as exports
-use Rattle.asm_grammar_modules.specs.declared.exports.ExportPlace.{ExportPlace}
-use Rattle.asm_grammar_modules.specs.declared.exports.ExportPlace.TheVariants as export_places
+use Rattle.asm_grammar_outside.specs.declared.globals.GlobalPlace.{GlobalPlace}
+use Rattle.asm_grammar_outside.specs.declared.globals.GlobalPlace.TheVariants as globals
+use Rattle.asm_grammar_outside.specs.declared.tables.TablePlace.{TablePlace}
+use Rattle.asm_grammar_outside.specs.declared.tables.TablePlace.TheVariants as tables
+use Rattle.asm_grammar_outside.specs.declared.exports.ExportsPlace.{ExportsPlace}
+use Rattle.asm_grammar_outside.specs.declared.exports.ExportsPlace.TheVariants as exports
+use Rattle.asm_grammar_outside.specs.declared.exports.ExportPlace.{ExportPlace}
+use Rattle.asm_grammar_outside.specs.declared.exports.ExportPlace.TheVariants as export_places
 use Rattle.asm_grammar_modules.specs.declared.ending.EndPlace.{EndPlace}
 use Rattle.asm_grammar_modules.specs.declared.parts.Parts.{Parts}
 use Rattle.asm_grammar_modules.specs.declared.outside.Outside.{Outside}
@@ -32,7 +32,8 @@ use Rattle.asm_grammar_modules.specs.declared.module.ModuleReading.{ModuleReadin
 use Rattle.asm_grammar_modules.specs.declared.tall.TallModule.{TallModule}
 use Rattle.asm_grammar_modules.specs.declared.reading.Reading.{Reading}
 use Rattle.asm_grammar_modules.specs.declared.reading.Reading.TheVariants as readings
-use Rattle.asm_grammar_modules.specs.Readings.{tables_of, exports_of, exported, global_view, in_members, table_place_view, exports_place_view, export_place_view, outside_view, place_view, reading_view}
+use Rattle.asm_grammar_outside.specs.Outside.{tables_of, exports_of, exported, global_view, in_members, table_place_view, exports_place_view, export_place_view}
+use Rattle.asm_grammar_modules.specs.Readings.{outside_view, place_view, reading_view}
 
 pub idle_heading : (r : HeadingReading) → Idle (heading_reading_view r)
 idle_heading headings.Start = (refl, refl)

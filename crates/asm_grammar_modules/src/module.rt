@@ -9,12 +9,12 @@ ghost use Rattle.asm_grammar_nodes.specs.Views.{heading_view, lexeme_view};
 ghost use Rattle.asm_grammar_functions.specs.Bodies.{functions_of};
 ghost use Rattle.asm_grammar_modules.specs.Readings.{function_place, in_function_view, in_module_view, in_outside_view, module_reading_view, outside_view};
 
-use crate::globals::GlobalPlace;
 use crate::outside::{Next, Outside, step};
 use crate::parts::Parts;
 use crate::tall::TallModule;
 use asm_grammar_functions::{FunctionFed, FunctionReading, TallFunctions};
 use asm_grammar_nodes::{ExportsTree, Heading, Height, Lexeme};
+use asm_grammar_outside::GlobalPlace;
 use std::alloc::{AllocError, Global};
 use std::mem;
 

@@ -6,11 +6,12 @@ ghost use Rattle.asm_grammar_nodes.specs.Views.{lexeme_view};
 ghost use Rattle.asm_grammar_modules.specs.Readings.{next_view, outside_view};
 ghost use Rattle.asm_grammar_modules.specs.declared.outside.Outside.TheVariants as places;
 
-use crate::exports::{ExportPlace, ExportStep, export_step};
-use crate::globals::{GlobalPlace, GlobalStep, global_step};
 use crate::parts::Parts;
-use crate::tables::{FunctionsStep, TablePlace, TableStep, functions_step, table_step};
 use asm_grammar_nodes::{ExportsTree, Lexeme};
+use asm_grammar_outside::{
+    ExportPlace, ExportStep, FunctionsStep, GlobalPlace, GlobalStep, TablePlace, TableStep,
+    export_step, functions_step, global_step, table_step,
+};
 use std::alloc::{AllocError, Global};
 
 /// What must come or may come next outside functions.

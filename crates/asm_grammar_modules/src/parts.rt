@@ -7,7 +7,7 @@ ghost use Rattle.asm_lang.specs.Modules as plain;
 ghost use Rattle.asm_grammar_nodes.specs.Views.{exports_view, heading_view, module_view};
 ghost use Rattle.asm_grammar_decls.specs.Variables.{variables_of};
 ghost use Rattle.asm_grammar_functions.specs.Bodies.{functions_of};
-ghost use Rattle.asm_grammar_modules.specs.Readings.{tables_of};
+ghost use Rattle.asm_grammar_outside.specs.Outside.{tables_of};
 
 use crate::tall::TallModule;
 use asm_grammar_functions::{TallFunctions, leaves};

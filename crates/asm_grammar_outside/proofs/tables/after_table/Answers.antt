@@ -1,7 +1,7 @@
 use Rattle.std.proofs.Common.{◌∙◌}
 use Rattle.asm_grammar_decls.specs.declared.want.Ending.TheVariants.{Written, Missing, Wrong}
-use Rattle.asm_grammar_modules.proofs.Classes.{table_ends}
-use Rattle.asm_grammar_modules.proofs.tables.after_table.Goals as goal
+use Rattle.asm_grammar_outside.proofs.Classes.{table_ends}
+use Rattle.asm_grammar_outside.proofs.tables.after_table.Goals as goal
 
 pub returns-in-Written : goal.returns-in-Written
 returns-in-Written c = λ h gs fs ts. table_ends c.args.token.now c.end_before.result Written h gs fs ts c.in-Written.is c.end_before.ensures c.in_default.not-Comma

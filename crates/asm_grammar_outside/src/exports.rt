@@ -4,8 +4,8 @@ ghost use Rattle.std.specs.Prelude.{◌≡◌, ◌∷◌, [], ◌++◌, IfOk, On
 ghost use Rattle.asm_lang.specs.Trees.{ExportTree as PlainExport, FunctionTree as PlainFunction, Heading as PlainHeading, TableTree as PlainTable, VariableTree as PlainVariable};
 ghost use Rattle.asm_lang.specs.Machine.{advance, at_export, at_exports, export_of, feed, in_exports, Step};
 ghost use Rattle.asm_grammar_nodes.specs.Views.{lexeme_view};
-ghost use Rattle.asm_grammar_modules.specs.declared.exports.ExportPlace.TheVariants as places;
-ghost use Rattle.asm_grammar_modules.specs.Readings.{export_place_view, export_step_view, exports_of, exports_place_view, exports_step_view};
+ghost use Rattle.asm_grammar_outside.specs.declared.exports.ExportPlace.TheVariants as places;
+ghost use Rattle.asm_grammar_outside.specs.Outside.{export_place_view, export_step_view, exports_of, exports_place_view, exports_step_view};
 
 use asm_grammar_decls::{is, is_word};
 use asm_grammar_nodes::{Class, ExportTree, ExportsTree, Lexeme};

@@ -1,8 +1,8 @@
 use Rattle.std.proofs.Common.{◌∙◌}
 use Rattle.asm_grammar_nodes.specs.Views.{lexeme_view}
 use Rattle.asm_grammar_decls.specs.Variables.{variables_of}
-use Rattle.asm_grammar_modules.proofs.Classes.{ok_map, no_members}
-use Rattle.asm_grammar_modules.proofs.globals.value.Goals as goal
+use Rattle.asm_grammar_outside.proofs.Classes.{ok_map, no_members}
+use Rattle.asm_grammar_outside.proofs.globals.value.Goals as goal
 
 pub returns-in_default : goal.returns-in_default
 returns-in_default c =

@@ -6,7 +6,7 @@ ghost use Rattle.asm_lang.specs.Trees.{Heading as PlainHeading, VariableTree as 
 ghost use Rattle.asm_lang.specs.Machine.{advance, at_globals, at_value, ends, feed, globals_by, in_globals, stuck, variable_of};
 ghost use Rattle.asm_grammar_nodes.specs.Views.{init_view, lexeme_view};
 ghost use Rattle.asm_grammar_decls.specs.Variables.{variables_of};
-ghost use Rattle.asm_grammar_modules.specs.Readings.{global_step_view, global_view, initial_global};
+ghost use Rattle.asm_grammar_outside.specs.Outside.{global_step_view, global_view, initial_global};
 
 use asm_grammar_decls::{Ending, InitReading, InitStep, end_before, is, with_variable};
 use asm_grammar_nodes::{Class, InitTree, Lexeme, VariableTree};

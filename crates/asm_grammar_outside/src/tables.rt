@@ -7,7 +7,7 @@ ghost use Rattle.asm_lang.specs.Lexemes.{Lexeme as PlainLexeme};
 ghost use Rattle.asm_lang.specs.Trees.{FunctionTree as PlainFunction, Heading as PlainHeading, TableTree as PlainTable, VariableTree as PlainVariable};
 ghost use Rattle.asm_lang.specs.Machine.{advance, feed, functions_by, in_tables, stuck, table_of, tables_by};
 ghost use Rattle.asm_grammar_nodes.specs.Views.{lexeme_view, lexemes_view, names_view};
-ghost use Rattle.asm_grammar_modules.specs.Readings.{functions_step_view, in_members, table_place_view, table_step_view, tables_of};
+ghost use Rattle.asm_grammar_outside.specs.Outside.{functions_step_view, in_members, table_place_view, table_step_view, tables_of};
 
 use asm_grammar_decls::{Ending, NamesReading, NamesStep, end_before, is};
 use asm_grammar_nodes::{Class, Lexeme, TableTree};
