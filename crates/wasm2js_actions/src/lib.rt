@@ -5,12 +5,9 @@
 #![tactic(auto)]
 
 mod depths;
-mod loads;
 mod numeric;
 mod operators;
-mod places;
 mod plain;
-mod stores;
 mod variables;
 
 pub use plain::{InstructionScope, instruction};

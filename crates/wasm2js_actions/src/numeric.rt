@@ -15,6 +15,7 @@ ghost use Rattle.split_words.specs.Views.{pair_view};
 use sem_words::{Bin, Rel, Un};
 use split_words::{Pair, put_extended, put_sign, wide_extend};
 use std::alloc::AllocError;
+use wasm2js_accesses::put_number;
 use wasm2js_build::{BitOp, Block, Relation, Term};
 use wasm2js_nodes::{Fixed, Name};
 
@@ -88,13 +89,6 @@ pub fn sign_extended(block: &mut Block, wide: bool, bits: u32, a: Pair) -> Resul
     } else {
         wide_extend(block, bits, a, a)
     }
-}
-
-/// A literal.
-pub fn put_number(block: &mut Block, to: Name, value: i64) -> Result<(), AllocError>
-    ensures { IfOk result (λ _. statements_of block.new ≡ statements_of block.old ++ simple_statements (words.put (name_view to) (words.number value) ∷ [])) }
-{
-    block.put(to, &Term::number(value))
 }
 
 /// A constant by its word.

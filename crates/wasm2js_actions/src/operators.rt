@@ -10,13 +10,13 @@ ghost use Rattle.wasm2js_code.specs.Wide as wide;
 ghost use Rattle.wasm2js_code.specs.Actions as code;
 ghost use Rattle.wasm2js_build.specs.Blocks.{statements_of};
 
-use crate::depths::{high, low};
 use crate::numeric::{
-    binary, is_zero, narrow_constant, put_number, relation, sign_extended, unary, wide_constant,
+    binary, is_zero, narrow_constant, relation, sign_extended, unary, wide_constant,
 };
 use sem_words::{Bin, Rel, Un};
 use split_words::{operand_pair, put_sign, wide_binary, wide_compare, wide_unary, wide_zero};
 use std::alloc::AllocError;
+use wasm2js_accesses::{high, low, put_number};
 use wasm2js_build::Block;
 
 pub fn binary_at(block: &mut Block, op: Bin, d: u64) -> Result<(), AllocError>

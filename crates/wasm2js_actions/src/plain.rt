@@ -7,17 +7,16 @@ ghost use Rattle.wasm2js_build.specs.Blocks.{statements_of};
 ghost use Rattle.wasm2js_actions.specs.Scopes.{Suits, instruction_actions, least_context};
 
 use crate::depths::under;
-use crate::loads::load_at;
 use crate::operators::{
     binary_at, constant_at, extend_at, extend_signed_at, relation_at, sign_extend_at, size_at,
     unary_at, wide_binary_at, wide_constant_at, wide_relation_at, wide_unary_at, wide_zero_at,
     zero_at,
 };
-use crate::stores::{store_at, tell_three};
 use crate::variables::{global_get, global_set, local_get, local_set, select};
 use std::alloc::{AllocError, Global};
 use wasm_lang::{GlobalType, ValType};
 use wasm_tree::Instr;
+use wasm2js_accesses::{load_at, store_at, tell_three};
 use wasm2js_build::Block;
 use wasm2js_nodes::Fixed;
 
@@ -47,7 +46,7 @@ pub fn instruction(
 }
 
 // In a context that has nothing but the scope.
-#[tactic(auto, using(crate::proofs::Joined::joins))]
+#[tactic(auto, using(wasm2js_accesses::proofs::Joined::joins))]
 fn plain_instruction(
     alloc: Global,
     block: &mut Block,

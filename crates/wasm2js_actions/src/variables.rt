@@ -8,10 +8,11 @@ ghost use Rattle.wasm2js_nodes.specs.Names.{name_view};
 ghost use Rattle.wasm2js_build.specs.Blocks.{statements_of};
 ghost use Rattle.split_words.specs.Views.{pair_view};
 
-use crate::depths::{low, second_kind};
+use crate::depths::second_kind;
 use split_words::{Pair, global_pair, local_pair, moved, operand_pair};
 use std::alloc::AllocError;
 use wasm_lang::{GlobalType, ValType};
+use wasm2js_accesses::low;
 use wasm2js_build::{Block, Term};
 use wasm2js_nodes::Name;
 

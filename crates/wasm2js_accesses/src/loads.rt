@@ -10,7 +10,7 @@ ghost use Rattle.wasm2js_build.specs.Views.{term_view};
 ghost use Rattle.wasm2js_build.specs.Blocks.{statements_of};
 ghost use Rattle.split_words.specs.Views.{pair_view};
 
-use crate::numeric::put_number;
+use crate::numbers::put_number;
 use crate::places::{by_place, place};
 use split_words::{Pair, operand_pair, put_sign};
 use std::alloc::{AllocError, Global};
