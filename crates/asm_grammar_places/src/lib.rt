@@ -1,7 +1,7 @@
 //! The places of the nodes of a tree, in text order.
 #![tactic(auto)]
 
-mod module_places;
+mod modules;
 mod places;
 
-pub use module_places::module_places;
+pub use modules::module_places;

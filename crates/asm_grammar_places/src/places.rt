@@ -35,7 +35,7 @@ fn put_place(places: &mut List<u64>, at: u64) -> Result<(), AllocError>
 /// Puts the places of an expression at the list's end. A tree may be 1,000 high, so a level takes little of the machine's stack.
 #[cycle(exprs)]
 #[inline(never)]
-#[tactic(auto, using(crate::proofs::Places::expressions))]
+#[tactic(auto, using(crate::proofs::PlaceLemmas::expressions))]
 pub(crate) fn expr_places(places: &mut List<u64>, tree: &ExprTree) -> Result<(), AllocError>
     ensures { OnOk result (list_items places.new ≡ list_items places.old ++ expr_places (expr_view tree.now)) }
 {
@@ -94,7 +94,7 @@ pub(crate) fn expr_places(places: &mut List<u64>, tree: &ExprTree) -> Result<(),
 }
 
 /// The place of a node is that of its first operand, where it goes on with a chain.
-#[tactic(auto, using(crate::proofs::Places::own_places))]
+#[tactic(auto, using(crate::proofs::PlaceLemmas::own_places))]
 fn place_unless(goes_on: bool, places: &mut List<u64>, at: u64) -> Result<(), AllocError>
     ensures { OnOk result (list_items places.new ≡ list_items places.old ++ own_place goes_on at) }
 {
@@ -118,7 +118,7 @@ fn binary_place(
 }
 
 /// The place of a sum is its first operator, and that of its first operand where that is a chain.
-#[tactic(auto, using(crate::proofs::Places::own_places))]
+#[tactic(auto, using(crate::proofs::PlaceLemmas::own_places))]
 fn sum_place(places: &mut List<u64>, goes_on: bool, others: &[Addend]) -> Result<(), AllocError>
     ensures { OnOk result (list_items places.new ≡ list_items places.old ++ sum_place goes_on (map addend_view others.now)) }
 {
@@ -150,7 +150,7 @@ fn addends_places(places: &mut List<u64>, addends: &[Addend]) -> Result<(), Allo
     Ok(())
 }
 
-#[tactic(auto, using(crate::proofs::Places::own_places))]
+#[tactic(auto, using(crate::proofs::PlaceLemmas::own_places))]
 fn option_places(places: &mut List<u64>, tree: &Option<Box<ExprTree>>) -> Result<(), AllocError>
     ensures { OnOk result (list_items places.new ≡ list_items places.old ++ option_places (expr_option tree.now)) }
 {
@@ -160,7 +160,7 @@ fn option_places(places: &mut List<u64>, tree: &Option<Box<ExprTree>>) -> Result
     }
 }
 
-#[tactic(auto, using(crate::proofs::Places::own_places))]
+#[tactic(auto, using(crate::proofs::PlaceLemmas::own_places))]
 fn head_places(places: &mut List<u64>, head: &ForHeadTree) -> Result<(), AllocError>
     ensures { OnOk result (list_items places.new ≡ list_items places.old ++ head_places head.now) }
 {
@@ -172,7 +172,7 @@ fn head_places(places: &mut List<u64>, head: &ForHeadTree) -> Result<(), AllocEr
 /// Puts the places of a statement at the list's end. A level takes little of the machine's stack here too.
 #[cycle(stmts)]
 #[inline(never)]
-#[tactic(auto, using(crate::proofs::Places::statements))]
+#[tactic(auto, using(crate::proofs::PlaceLemmas::statements))]
 pub(crate) fn stmt_places(places: &mut List<u64>, tree: &StmtTree) -> Result<(), AllocError>
     ensures { OnOk result (list_items places.new ≡ list_items places.old ++ stmt_places (stmt_view tree.now)) }
 {
@@ -234,7 +234,7 @@ pub(crate) fn stmt_places(places: &mut List<u64>, tree: &StmtTree) -> Result<(),
 /// Without the place of its own labels: those of labels one in another are one node.
 #[cycle(stmts)]
 #[inline(never)]
-#[tactic(auto, using(crate::proofs::Places::statements))]
+#[tactic(auto, using(crate::proofs::PlaceLemmas::statements))]
 fn places_within(places: &mut List<u64>, tree: &StmtTree) -> Result<(), AllocError>
     ensures { OnOk result (list_items places.new ≡ list_items places.old ++ below_labels (stmt_view tree.now)) }
 {

@@ -6,7 +6,7 @@ use Rattle.asm_grammar_nodes.specs.Heights.{is_chain}
 use Rattle.asm_grammar_nodes.specs.Views.{expr_view, exprs_view, addend_view}
 use Rattle.asm_grammar_nodes.specs.declared.tree.Addend.{Addend}
 use Rattle.asm_grammar_places.specs.Parts.{own_place, sum_place, addends_places}
-use Rattle.asm_grammar_places.proofs.Places.{places_say, one_part, two_parts, three_parts, addends_places-step, item_done, places-Element, places-Call, places-TableCall, places-Assignment, places-Store, places-Unary, places-Conditional, places-Listed, places-Binary, places-Sum}
+use Rattle.asm_grammar_places.proofs.PlaceLemmas.{places_say, one_part, two_parts, three_parts, addends_places-step, item_done, places-Element, places-Call, places-TableCall, places-Assignment, places-Store, places-Unary, places-Conditional, places-Listed, places-Binary, places-Sum}
 use Rattle.asm_grammar_places.proofs.places.+exprs.Goals as goal
 
 pub addends_places-loop-addend-preserved : goal.addends_places-loop-addend-preserved

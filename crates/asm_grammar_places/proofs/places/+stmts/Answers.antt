@@ -6,7 +6,7 @@ use Rattle.asm_lang.specs.Modules.{expr_places, option_places, stmt_places, stmt
 use Rattle.asm_grammar_nodes.specs.Views.{expr_view, expr_option, stmt_view, stmts_view, clauses_view}
 use Rattle.asm_grammar_nodes.specs.declared.tree.ClauseTree.{ClauseTree}
 use Rattle.asm_grammar_places.specs.Parts.{head_places}
-use Rattle.asm_grammar_places.proofs.Places.{stmt_places_say, one_part, two_parts, clauses_places-step, item_done, nothing, places-Block, places-Plain, places-Return, places-While, places-DoWhile, places-For_head, places-Switch, places-Unlabelled}
+use Rattle.asm_grammar_places.proofs.PlaceLemmas.{stmt_places_say, one_part, two_parts, clauses_places-step, item_done, nothing, places-Block, places-Plain, places-Return, places-While, places-DoWhile, places-For_head, places-Switch, places-Unlabelled}
 use Rattle.asm_grammar_places.proofs.places.+stmts.Goals as goal
 
 pub clauses_places-loop-clause-preserved : goal.clauses_places-loop-clause-preserved

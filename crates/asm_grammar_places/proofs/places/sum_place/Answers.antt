@@ -1,5 +1,5 @@
 use Rattle.std.proofs.Common.{rules, ◌≡◌, ◌∷◌}
-use Rattle.asm_grammar_places.proofs.Places.{sum_place-first}
+use Rattle.asm_grammar_places.proofs.PlaceLemmas.{sum_place-first}
 use Rattle.asm_grammar_places.proofs.places.sum_place.Goals as goal
 
 pub returns-in-Some : goal.returns-in-Some
