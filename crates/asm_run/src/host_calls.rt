@@ -14,11 +14,11 @@ ghost use Rattle.asm_run.specs.Exports.{IsTableOf};
 ghost use Rattle.asm_run.specs.Hosted.{Calls, Enters, Runs, Leaves, UnitsLeft};
 
 use crate::exports::ExportTable;
+use asm_names::Environment;
 use asm_run_machine::{Ended, Machine};
 use asm_run_state::{World, first_locals, locals_layout, result_event};
 use asm_run_work::{Arguments, Completion, EndWork, Frame, Kept, Mode, Outcome, Stack, Work};
 use asm_tree::Function;
-use asm_names::Environment;
 use script_seen::Seen;
 use sem_laws::CallLine;
 use sem_words::JsValue;

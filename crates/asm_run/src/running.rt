@@ -9,8 +9,8 @@ ghost use Rattle.asm_run.specs.Session.{SmallCalls, IsSession};
 
 use crate::exports::ExportTable;
 use crate::host_calls::{Hosted, host_call};
-use asm_run_state::World;
 use asm_names::Environment;
+use asm_run_state::World;
 use script_seen::Seen;
 use sem_laws::{CallLine, End};
 use std::alloc::{AllocError, Global};

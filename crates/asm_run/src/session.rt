@@ -11,9 +11,9 @@ ghost use Rattle.asm_lang_exec.specs.Fits.{misfit};
 
 use crate::exports::ExportTable;
 use crate::run;
+use asm_names::Environment;
 use asm_run_state::World;
 use asm_validate::Checked;
-use asm_names::Environment;
 use script_seen::Seen;
 use sem_laws::Script;
 use std::alloc::{AllocError, Global};

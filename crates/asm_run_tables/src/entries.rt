@@ -7,8 +7,8 @@ ghost use Rattle.asm_names.specs.Environments.{IsComplete};
 ghost use Rattle.asm_lang_exec.specs.Values.{function_of, member_at, entry_of};
 ghost use Rattle.asm_run_tables.specs.Seen.{function_seen, text_seen};
 
-use asm_tree::{Function, Table};
 use asm_names::{Environment, Meaning};
+use asm_tree::{Function, Table};
 use sem_words::{JsValue, Text};
 
 /// The function that a table has at an index, if the index is one of its members' and the member is a

@@ -17,9 +17,9 @@ use crate::literals::or_zero;
 use crate::node::{needs, typed};
 use crate::signatures::{Arguments, callee_fits, mask_fits, table_fits};
 use asm_lang_valid::{Builtin, Met, Rule};
+use asm_names::Meaning;
 use asm_tree::Expr;
 use asm_types::ValueType;
-use asm_names::Meaning;
 use sem_words::JsOp;
 
 fn is_outside(meaning: Option<Meaning<'_>>) -> bool

@@ -11,8 +11,8 @@ ghost use Rattle.asm_names.specs.Environments.{IsComplete};
 ghost use Rattle.asm_names.specs.Scopes.{scope_view};
 ghost use Rattle.asm_validate_exprs.specs.Contexts.{IsContext};
 
-use asm_tree::Function;
 use asm_names::{Environment, Meaning, Scope};
+use asm_tree::Function;
 use sem_words::Text;
 use std::alloc::{AllocError, Global};
 

@@ -13,9 +13,9 @@ ghost use Rattle.asm_validate_exprs.specs.Found.{row_of};
 use crate::literals::is_literal;
 use crate::node::needs;
 use asm_lang_valid::{Element, Met, Rule};
+use asm_names::Meaning;
 use asm_tree::Expr;
 use asm_types::{ValueType, below};
-use asm_names::Meaning;
 use sem_words::JsOp;
 
 /// An index as the rules see it.

@@ -18,9 +18,9 @@ use crate::elements::element;
 use crate::literals::is_factor;
 use crate::node::{needs, typed};
 use asm_lang_valid::{Met, Rule};
+use asm_names::Meaning;
 use asm_tree::Expr;
 use asm_types::{ValueType, below, binary_row, unary_row};
-use asm_names::Meaning;
 use sem_words::{JsOp, JsUnary};
 
 fn is_int(meaning: Option<Meaning<'_>>) -> bool

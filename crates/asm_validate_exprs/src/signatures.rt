@@ -12,9 +12,9 @@ ghost use Rattle.asm_validate_exprs.specs.Signatures.{signature_view, signature_
 
 use crate::context::Context;
 use crate::literals::is_masked;
+use asm_names::Meaning;
 use asm_tree::{Expr, Function, Stmt, Table};
 use asm_types::{ValueType, below};
-use asm_names::Meaning;
 
 /// How many arguments a function takes, all of them ints, and whether it has a result, which is signed.
 #[derive(Clone, Copy, PartialEq, Eq)]

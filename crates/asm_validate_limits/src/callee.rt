@@ -13,8 +13,8 @@ ghost use Rattle.asm_validate_limits.specs.Places as places;
 
 use crate::numbers::MOST_PARAMS;
 use crate::tally::{Tally, needs, use_call};
-use asm_tree::Expr;
 use asm_names::Meaning;
+use asm_tree::Expr;
 use asm_validate_names::AsmRefusal;
 use sem_words::{JsOp, Text};
 

@@ -13,8 +13,8 @@ use crate::callee::Place;
 use crate::expressions::placed_limits;
 use crate::numbers::MOST_CASES;
 use crate::tally::{Tally, needs};
-use asm_tree::{Clause, Expr};
 use asm_names::Scope;
+use asm_tree::{Clause, Expr};
 use asm_validate_names::AsmRefusal;
 
 /// The first limit that is passed in an expression at this place, which may be left out.

@@ -12,8 +12,8 @@ ghost use Rattle.asm_validate_limits.specs.Places.{placed_marks, called_marks, l
 
 use crate::callee::{Place, callee_limits, left_place, part_place};
 use crate::tally::Tally;
-use asm_tree::{Expr, Link};
 use asm_names::Scope;
+use asm_tree::{Expr, Link};
 use asm_validate_names::AsmRefusal;
 use sem_words::{JsOp, Text};
 

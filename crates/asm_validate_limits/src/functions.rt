@@ -15,8 +15,8 @@ use crate::numbers::{MOST_FUNCTIONS, MOST_LOCALS, MOST_PARAMS};
 use crate::statements::stmts_limits;
 use crate::tally::{Tally, needs};
 use asm_lang_valid::Rule;
-use asm_tree::Function;
 use asm_names::{Environment, Scope};
+use asm_tree::Function;
 use asm_validate_names::AsmRefusal;
 use std::alloc::Global;
 

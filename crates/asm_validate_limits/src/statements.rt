@@ -14,8 +14,8 @@ use crate::callee::Place;
 use crate::clauses::{check_cases, option_limits};
 use crate::expressions::{expr_limits, placed_limits};
 use crate::tally::Tally;
-use asm_tree::{Clause, Expr, ForHead, Stmt};
 use asm_names::Scope;
+use asm_tree::{Clause, Expr, ForHead, Stmt};
 use asm_validate_names::AsmRefusal;
 
 /// The first limit that is passed in a statement.

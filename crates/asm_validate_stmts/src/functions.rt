@@ -11,10 +11,10 @@ ghost use Rattle.asm_validate_names.specs.Refusals.{IsRow};
 use crate::declarations::literal_fits;
 use crate::statements::judge_stmts;
 use asm_lang_valid::{Met, Rule};
+use asm_names::Environment;
 use asm_tree::{Function, Local};
 use asm_validate_exprs::{Context, needs};
 use asm_validate_labels::{Labels, at_top};
-use asm_names::Environment;
 use asm_validate_names::AsmRefusal;
 use std::alloc::Global;
 

@@ -10,9 +10,9 @@ ghost use Rattle.asm_validate_exprs.specs.Found.{row_of};
 ghost use Rattle.asm_validate_exprs.specs.Signatures.{signature_option};
 
 use asm_lang_valid::{Met, Rule};
+use asm_names::Environment;
 use asm_tree::Table;
 use asm_validate_exprs::{Signature, function_signature, needs};
-use asm_names::Environment;
 use sem_words::Text;
 
 fn is_power_of_two(n: usize) -> bool

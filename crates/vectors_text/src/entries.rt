@@ -1,8 +1,8 @@
 //! Worked rows.
+use asm_names::Environment;
 use asm_run_tables::table_entry;
 use asm_text::read;
 use asm_tree::Function;
-use asm_names::Environment;
 use sem_words::JsValue;
 use std::test::Fail;
 
