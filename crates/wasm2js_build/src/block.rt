@@ -243,7 +243,7 @@ fn whole_statement(alloc: Global, at: Expr, value: Expr) -> Result<Stmt, AllocEr
 }
 
 /// A function of ints, whose local variables begin with 0.
-#[tactic(auto, using(crate::proofs::Lists::stmts_are))]
+#[tactic(auto, using(wasm2js_nodes::proofs::Lists::stmts_are))]
 pub fn function(
     alloc: Global,
     name: Name,
