@@ -1,2 +1,2 @@
 pub mod Hiding
-pub mod Values
+pub mod Parts

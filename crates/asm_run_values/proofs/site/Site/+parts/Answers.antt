@@ -3,7 +3,7 @@ use Rattle.sem_words.specs.declared.js_value.JsValue.{JsValue}
 use Rattle.asm_tree.specs.Views.{expr_view}
 use Rattle.asm_lang_exec.specs.Runs.{goes}
 use Rattle.asm_run_values.specs.Values.{simple_value, scope, place}
-use Rattle.asm_run_values.proofs.Values.{some_more, viewed, var_is, lit_is, index_is, unary_is, binary_is, chain_is, cond_is, next_link}
+use Rattle.asm_run_values.proofs.Parts.{some_more, viewed, var_is, lit_is, index_is, unary_is, binary_is, chain_is, cond_is, next_link}
 use Rattle.asm_run_values.proofs.site.Site.+parts.Goals as goal
 
 pub links_at-loop-link-preserved : goal.links_at-loop-link-preserved
