@@ -6,7 +6,6 @@ mod links;
 mod names;
 mod simple;
 mod site;
-mod values;
 
 pub use elements::{read_element, write_element};
 pub use links::operator_of;
