@@ -1,16 +1,15 @@
 //! A function: its name, parameters, marks, local variables and body.
 
-ghost use Rattle.std.specs.Prelude.{◌≡◌, Some, None, [], map, IfOk};
-ghost use Rattle.sem_words.specs.Lists.{list_items};
+ghost use Rattle.std.specs.Prelude.{◌≡◌, Some, None, IfOk};
 ghost use Rattle.asm_lang.specs.Lexemes.{Lexeme as PlainLexeme};
-ghost use Rattle.asm_lang.specs.Trees.{FunctionTree as PlainFunction, StmtTrees};
+ghost use Rattle.asm_lang.specs.Trees.{FunctionTree as PlainFunction};
 ghost use Rattle.asm_lang.specs.Machine.{advance, function_of, State};
 ghost use Rattle.asm_laws_height.specs.Peaks.{step_peak};
 ghost use Rattle.asm_grammar_nodes.specs.Heights.{counted};
 ghost use Rattle.asm_grammar_nodes.specs.Tall.{stmts_tall_view};
-ghost use Rattle.asm_grammar_nodes.specs.Views.{function_view, lexeme_view, lexemes_view};
+ghost use Rattle.asm_grammar_nodes.specs.Views.{lexeme_view};
 ghost use Rattle.asm_grammar_decls.specs.Variables.{left_view, locals_reading_view, params_of, variables_of};
-ghost use Rattle.asm_grammar_functions.specs.Bodies.{first_param_step, function_body_view, function_fed_view, function_reading_view, function_step_view, locals_of, marks_step, named_view, open_brace_step, params_step, tall_function_view};
+ghost use Rattle.asm_grammar_functions.specs.Bodies.{body_of, first_param_step, function_body_view, function_fed_view, function_reading_view, function_step_view, locals_of, marks_step, named_view, open_brace_step, params_step, tall_function_view};
 ghost use Rattle.asm_grammar_functions.specs.declared.function.FunctionReading.TheVariants.{Body};
 
 use crate::tall::{TallFunction, leaves};
@@ -183,14 +182,20 @@ impl<'a> FunctionBody<'a> {
     {
         match self.body.feed(alloc, token)? {
             BodyFed::On => Ok(FunctionFed::On),
-            BodyFed::Done(stmts) => {
-                let params = mem::replace(&mut self.params, List::new(alloc));
-                let locals = mem::replace(&mut self.locals, List::new(alloc));
-                let function = function(alloc, &self.name, params, locals, stmts)?;
-                Ok(FunctionFed::Done(Box::new(alloc, function)?))
-            }
+            BodyFed::Done(stmts) => self.ended(alloc, stmts),
             BodyFed::Stuck => Ok(FunctionFed::Stuck),
         }
+    }
+
+    /// The function with this body, whose parts are taken out. It stands apart, so that a token within a body needs no room for it.
+    #[inline(never)]
+    fn ended(&mut self, alloc: Global, stmts: TallStmts) -> Result<FunctionFed, AllocError>
+        ensures { IfOk result (λ r. (k : PlainFunction → State) (t : PlainLexeme) → function_fed_view r (Body self.new) k t ≡ body_of (lexeme_view self.old.name) (params_of self.old.params) (variables_of self.old.locals) k (stmts_tall_view stmts)) }
+    {
+        let params = mem::replace(&mut self.params, List::new(alloc));
+        let locals = mem::replace(&mut self.locals, List::new(alloc));
+        let function = function(alloc, &self.name, params, locals, stmts)?;
+        Ok(FunctionFed::Done(Box::new(alloc, function)?))
     }
 }
 

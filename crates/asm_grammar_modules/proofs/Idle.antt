@@ -1,5 +1,7 @@
 -- Where no node ends and no module: most of what is being read of a module.
 use Rattle.std.proofs.Common.{◌≡◌, List, [], ◌∷◌, ◌++◌, ap, refl}
+use Rattle.std.specs.Global.{Global}
+use Rattle.std.specs.declared.boxed.Box.{Box}
 use Rattle.asm_lang.specs.Lexemes.{Lexeme}
 use Rattle.asm_lang.specs.Trees.{VariableTree, FunctionTree, TableTree, ExportTree, Heading}
 use Rattle.asm_lang.specs.Machine.{State, at_functions, Step, failed, grammar, stops}
@@ -88,7 +90,7 @@ place_quiet (places.Function r) m between within = absurd (within r refl)
 -- ---- whole modules
 
 abbrev pub IsNoEnd : Reading → Type 0
-IsNoEnd r = (m : TallModule) (place : EndPlace) → r ≡ readings.End m place → ⊥
+IsNoEnd r = (m : Box TallModule Global) (place : EndPlace) → r ≡ readings.End m place → ⊥
 
 pub unfinished : FunctionsEnd → (r : Reading) → IsNoEnd r → stops (reading_view r) ≡ failed grammar []
 unfinished h (readings.Heading r) other = let idle = idle_heading r in idle.1

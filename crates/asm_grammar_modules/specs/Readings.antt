@@ -46,7 +46,7 @@ heading_of name params = record { name = name; params = params }
 -- in place
 abbrev pub in_heading_view : InHeading → HeadingReading → Lexeme → Step
 in_heading_view in_headings.On r t = heading_reading_view r
-in_heading_view (in_headings.Done h) r t = goes (at_use (heading_view h))
+in_heading_view (in_headings.Done h) r t = goes (at_use (heading_view h.value))
 in_heading_view in_headings.Stuck r t = stuck t
 
 -- ---- functions
@@ -89,7 +89,7 @@ next_view nexts.Stuck m t = stuck t
 abbrev pub in_outside_view : InOutside → Outside → Parts → Lexeme → Step
 in_outside_view in_outsides.On place m t = outside_view place m
 in_outside_view in_outsides.Function place m t = function_begun m
-in_outside_view (in_outsides.Done x) place m t = module_ended m x
+in_outside_view (in_outsides.Done x) place m t = module_ended m x.value
 in_outside_view in_outsides.Stuck place m t = stuck t
 
 -- ---- between the directive and the end
@@ -104,7 +104,7 @@ module_reading_view m = place_view m.place m.parts
 -- in place
 abbrev pub in_module_view : InModule → ModuleReading → Lexeme → Step
 in_module_view in_modules.On m t = module_reading_view m
-in_module_view (in_modules.Done whole) m t = goes (closed_module (module_view whole.tree))
+in_module_view (in_modules.Done whole) m t = goes (closed_module (module_view whole.value.tree))
 in_module_view in_modules.Stuck m t = stuck t
 
 -- ---- the end
@@ -133,7 +133,7 @@ abbrev pub reading_view : Reading → Step
 reading_view (readings.Heading r) = heading_reading_view r
 reading_view (readings.Directive h) = goes (at_use (heading_view h))
 reading_view (readings.Module m) = module_reading_view m
-reading_view (readings.End m place) = end_view place (module_view m.tree)
+reading_view (readings.End m place) = end_view place (module_view m.value.tree)
 
 -- in place: with what the token made of the module
 abbrev pub module_fed_view : ModuleFed → Reading → Lexeme → Step

@@ -16,8 +16,8 @@ use std::alloc::{AllocError, Global};
 #[derive(Drop)]
 pub enum InHeading {
     On,
-    /// The `{` was taken.
-    Done(Heading),
+    /// The `{` was taken. In a box, so that the answer to each token is small.
+    Done(Box<Heading>),
     Stuck,
 }
 
@@ -63,6 +63,7 @@ fn heading(
 }
 
 /// Reads one token of the heading, in place.
+#[inline(never)]
 pub fn in_heading<'a>(
     alloc: Global,
     reading: &mut HeadingReading<'a>,
@@ -76,7 +77,7 @@ pub fn in_heading<'a>(
             Ok(InHeading::On)
         }
         HeadingStep::Done(name, params) => match heading(alloc, name, params) {
-            Ok(heading) => Ok(InHeading::Done(heading)),
+            Ok(heading) => Ok(InHeading::Done(Box::new(alloc, heading)?)),
             Err(error) => Err(error),
         },
         HeadingStep::Stuck => Ok(InHeading::Stuck),

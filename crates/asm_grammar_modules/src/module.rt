@@ -1,18 +1,19 @@
 //! A module that is being read, after its directive and before its end.
 
-ghost use Rattle.std.specs.Prelude.{◌≡◌, [], IfOk, List as Items};
+ghost use Rattle.std.specs.Prelude.{◌≡◌, [], ◌∷◌, ◌++◌, IfOk, OnOk, List as Items};
 ghost use Rattle.asm_lang.specs.Trees.{Heading as PlainHeading, VariableTree as PlainVariable};
+ghost use Rattle.asm_lang.specs.Lexemes.{Lexeme as PlainLexeme};
 ghost use Rattle.asm_lang.specs.Machine.{advance, at_globals, ends, goes};
 ghost use Rattle.asm_laws_height.specs.Peaks.{step_peak};
 ghost use Rattle.asm_grammar_nodes.specs.Heights.{counted};
 ghost use Rattle.asm_grammar_nodes.specs.Views.{heading_view, lexeme_view};
-ghost use Rattle.asm_grammar_functions.specs.Bodies.{functions_of};
-ghost use Rattle.asm_grammar_modules.specs.Readings.{function_place, in_function_view, in_module_view, in_outside_view, module_reading_view, outside_view};
+ghost use Rattle.asm_grammar_functions.specs.Bodies.{functions_of, tall_function_view};
+ghost use Rattle.asm_grammar_modules.specs.Readings.{function_begun, function_place, functions_place, in_function_view, in_module_view, in_outside_view, module_ended, module_reading_view, outside_view};
 
 use crate::outside::{Next, Outside, step};
 use crate::parts::Parts;
 use crate::tall::TallModule;
-use asm_grammar_functions::{FunctionFed, FunctionReading, TallFunctions};
+use asm_grammar_functions::{FunctionFed, FunctionReading, TallFunction, TallFunctions};
 use asm_grammar_nodes::{ExportsTree, Heading, Height, Lexeme};
 use asm_grammar_outside::GlobalPlace;
 use std::alloc::{AllocError, Global};
@@ -50,8 +51,8 @@ impl Drop for ModuleReading<'_> {
 #[derive(Drop)]
 pub enum InModule {
     On,
-    /// The exports have ended, and the module is taken out.
-    Done(TallModule),
+    /// The exports have ended, and the module is taken out. In a box, so that the answer to each token is small.
+    Done(Box<TallModule>),
     Stuck,
 }
 
@@ -62,7 +63,7 @@ pub enum InOutside {
     /// The `function` of a function was taken.
     Function,
     /// The exports have ended.
-    Done(ExportsTree),
+    Done(Box<ExportsTree>),
     Stuck,
 }
 
@@ -87,14 +88,23 @@ fn in_function<'a>(
     match reading.feed(alloc, token)? {
         FunctionFed::On => Ok(InFunction::On),
         FunctionFed::Done(function) => {
-            functions.push(Box::into_inner(function))?;
+            keep(functions, function)?;
             Ok(InFunction::Done)
         }
         FunctionFed::Stuck => Ok(InFunction::Stuck),
     }
 }
 
+/// Puts a function at the end of the functions.
+#[inline(never)]
+fn keep(functions: &mut TallFunctions, function: Box<TallFunction>) -> Result<(), AllocError>
+    ensures { OnOk result (functions_of functions.new ≡ functions_of functions.old ++ tall_function_view function.value ∷ []) }
+{
+    functions.push(Box::into_inner(function))
+}
+
 /// Reads one token outside functions, in place.
+#[inline(never)]
 fn in_outside<'a>(
     alloc: Global,
     parts: &mut Parts,
@@ -111,7 +121,7 @@ fn in_outside<'a>(
                 Ok(InOutside::On)
             }
             Next::Function => Ok(InOutside::Function),
-            Next::Done(exports) => Ok(InOutside::Done(exports)),
+            Next::Done(exports) => Ok(InOutside::Done(Box::new(alloc, exports)?)),
             Next::Stuck => Ok(InOutside::Stuck),
         },
         Err(error) => Err(error),
@@ -139,6 +149,31 @@ impl<'a> ModuleReading<'a> {
         }
     }
 
+    /// Goes on after a function. What happens once for each function stands apart, so that a token within one needs no room for it.
+    #[inline(never)]
+    fn end_function(&mut self)
+        ensures { module_reading_view self.new ≡ functions_place self.old.parts }
+    {
+        self.place = Place::Outside(Outside::Functions);
+    }
+
+    /// Goes on with a function.
+    #[inline(never)]
+    fn begin_function(&mut self)
+        ensures { module_reading_view self.new ≡ function_begun self.old.parts }
+    {
+        self.place = Place::Function(FunctionReading::Name);
+    }
+
+    /// The module with these exports, whose other parts are taken out.
+    #[inline(never)]
+    fn ended(&mut self, alloc: Global, exports: Box<ExportsTree>) -> Result<InModule, AllocError>
+        ensures { IfOk result (λ r. (t : PlainLexeme) → in_module_view r self.new t ≡ module_ended self.old.parts exports.value) }
+    {
+        let whole = self.parts.taken(alloc).whole(Box::into_inner(exports));
+        Ok(InModule::Done(Box::new(alloc, whole)?))
+    }
+
     /// Reads one token.
     pub fn feed(&mut self, alloc: Global, token: &Lexeme<'a>) -> Result<InModule, AllocError>
         ensures { IfOk result (λ r. in_module_view r self.new (lexeme_view token.now) ≡ advance (module_reading_view self.old) (lexeme_view token.now)) }
@@ -148,7 +183,7 @@ impl<'a> ModuleReading<'a> {
                 match in_function(alloc, &mut self.parts.functions, reading, token)? {
                     InFunction::On => Ok(InModule::On),
                     InFunction::Done => {
-                        self.place = Place::Outside(Outside::Functions);
+                        self.end_function();
                         Ok(InModule::On)
                     }
                     InFunction::Stuck => Ok(InModule::Stuck),
@@ -157,13 +192,10 @@ impl<'a> ModuleReading<'a> {
             Place::Outside(place) => match in_outside(alloc, &mut self.parts, place, token)? {
                 InOutside::On => Ok(InModule::On),
                 InOutside::Function => {
-                    self.place = Place::Function(FunctionReading::Name);
+                    self.begin_function();
                     Ok(InModule::On)
                 }
-                InOutside::Done(exports) => {
-                    let whole = self.parts.taken(alloc).whole(exports);
-                    Ok(InModule::Done(whole))
-                }
+                InOutside::Done(exports) => self.ended(alloc, exports),
                 InOutside::Stuck => Ok(InModule::Stuck),
             },
         }

@@ -5,8 +5,10 @@ ghost use Rattle.asm_lang.specs.Machine.{advance, at_globals, ends, goes, stops}
 ghost use Rattle.asm_laws_height.specs.Peaks.{step_peak};
 ghost use Rattle.asm_grammar_nodes.specs.Heights.{counted};
 ghost use Rattle.asm_grammar_nodes.specs.Views.{heading_view, lexeme_view};
+ghost use Rattle.asm_grammar_modules.specs.declared.ending.EndPlace.TheVariants as end_places;
+ghost use Rattle.asm_grammar_modules.specs.declared.reading.Reading.TheVariants as readings;
 ghost use Rattle.asm_grammar_modules.specs.Ends.{finished_view};
-ghost use Rattle.asm_grammar_modules.specs.Readings.{module_fed_view, module_reading_view, reading_view};
+ghost use Rattle.asm_grammar_modules.specs.Readings.{module_fed_view, reading_view};
 
 use crate::ending::{EndPlace, InEnd};
 use crate::heading::{InHeading, in_heading};
@@ -24,7 +26,7 @@ pub enum Reading<'a> {
     Heading(HeadingReading<'a>),
     Directive(Heading),
     Module(ModuleReading<'a>),
-    End(TallModule, EndPlace),
+    End(Box<TallModule>, EndPlace),
 }
 
 /// By hand, so that the end of a module that is being read is one call wherever it is let go.
@@ -49,15 +51,15 @@ pub enum ModuleFed {
     NoUseAsm,
 }
 
-/// What is read after the directive. The heading is taken out.
-fn after_directive<'a>(alloc: Global, heading: &mut Heading) -> ModuleReading<'a>
-    ensures { module_reading_view result ≡ goes (ends (at_globals (heading_view heading.old) [])) }
+/// Takes a heading out.
+fn taken(alloc: Global, heading: &mut Heading) -> Heading
+    ensures { result ≡ heading.old }
 {
     let none = Heading {
         name: None,
         params: List::new(alloc),
     };
-    ModuleReading::new(alloc, mem::replace(heading, none))
+    mem::replace(heading, none)
 }
 
 impl<'a> Reading<'a> {
@@ -78,9 +80,33 @@ impl<'a> Reading<'a> {
     {
         functions_end_no_module();
         match self {
-            Reading::End(whole, place) => place.finished(whole),
+            Reading::End(whole, place) => place.finished(Box::into_inner(whole)),
             _ => None,
         }
+    }
+
+    /// Goes on with the directive. What happens once stands apart, so that a token needs no room for it.
+    #[inline(never)]
+    fn end_heading(&mut self, heading: Box<Heading>)
+        ensures { self.new ≡ readings.Directive heading.value }
+    {
+        *self = Reading::Directive(Box::into_inner(heading));
+    }
+
+    /// Goes on after the directive.
+    #[inline(never)]
+    fn begin_module(&mut self, alloc: Global, heading: Heading)
+        ensures { reading_view self.new ≡ goes (ends (at_globals (heading_view heading) [])) }
+    {
+        *self = Reading::Module(ModuleReading::new(alloc, heading));
+    }
+
+    /// Goes on with the module's end.
+    #[inline(never)]
+    fn end_exports(&mut self, whole: Box<TallModule>)
+        ensures { self.new ≡ readings.End whole end_places.Ends }
+    {
+        *self = Reading::End(whole, EndPlace::Ends);
     }
 
     /// Reads one token.
@@ -92,7 +118,7 @@ impl<'a> Reading<'a> {
                 Ok(fed) => match fed {
                     InHeading::On => Ok(ModuleFed::On),
                     InHeading::Done(heading) => {
-                        *self = Reading::Directive(heading);
+                        self.end_heading(heading);
                         Ok(ModuleFed::On)
                     }
                     InHeading::Stuck => Ok(ModuleFed::Stuck),
@@ -101,7 +127,8 @@ impl<'a> Reading<'a> {
             },
             Reading::Directive(heading) => match token.class {
                 Class::Directive => {
-                    *self = Reading::Module(after_directive(alloc, heading));
+                    let heading = taken(alloc, heading);
+                    self.begin_module(alloc, heading);
                     Ok(ModuleFed::On)
                 }
                 _ => Ok(ModuleFed::NoUseAsm),
@@ -110,7 +137,7 @@ impl<'a> Reading<'a> {
                 Ok(fed) => match fed {
                     InModule::On => Ok(ModuleFed::On),
                     InModule::Done(whole) => {
-                        *self = Reading::End(whole, EndPlace::Ends);
+                        self.end_exports(whole);
                         Ok(ModuleFed::On)
                     }
                     InModule::Stuck => Ok(ModuleFed::Stuck),
