@@ -1,7 +1,7 @@
 #!/usr/bin/env python3
 """python3 bench/run_asm.py PROGRAM [TURNS ..]: time and peak memory of `PROGRAM run-asm` on a loop of asm.js that loads,
-adds and stores, for so many turns, beside node on the same text, where it is installed. The file of each size is the
-script."""
+adds and stores, for so many turns, beside node and SpiderMonkey's shell js102 as an interpreter on the same text, where they are
+installed. The file of each size is the script."""
 from measure import compare_sessions
 
 TURNS = [1_000_000, 3_000_000, 10_000_000]
@@ -18,11 +18,20 @@ NODE = (
 )
 
 
+# its compilers switched off
+JS102 = ["--no-blinterp", "--no-baseline", "--no-ion", "--no-asmjs"]
+JS102_RUN = (
+    "const f=evaluate('('+read('%s')+')')(globalThis,{},new ArrayBuffer(65536));"
+    "print('result '+f(Number(read('%s').split(' ')[2])))"
+)
+
+
 def tools(program, text):
     # a unit of the budget for each call and each turn
     return [
         ("bridge", lambda script: [program, "run-asm", text, script, "--steps", "1000000000"]),
         ("node", lambda script: ["node", "-e", NODE, text, script]),
+        ("js102", lambda script: ["js102", *JS102, "-e", JS102_RUN % (text, script)]),
     ]
 
 

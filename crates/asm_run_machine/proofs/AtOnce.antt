@@ -1,15 +1,17 @@
 -- An expression that has its value at once.
 use Rattle.std.proofs.Common.{◌≡◌, List, ℕ, sym, ap, ◌∙◌}
 use Rattle.sem_words.specs.declared.js_value.JsValue.{JsValue}
-use Rattle.asm_lang.specs.Modules.{Expr, lit, decimal, var, index, call, table_call, assign, store, unary, binary, chain, cond, comma}
+use Rattle.asm_lang.specs.Modules.{Expr, lit, decimal, var, index, call, table_call, assign, store, unary, binary, chain, cond, comma, plain}
 use Rattle.std.specs.Global.{Global}
 use Rattle.std.specs.declared.boxed.Box.{Box}
 use Rattle.sem_words.specs.declared.text.Text.{Text}
 use Rattle.sem_words.specs.Lists.{text_bytes}
 use Rattle.asm_tree.specs.declared.tree.Expr.{Expr as Code}
 use Rattle.asm_tree.specs.declared.tree.Expr.TheVariants as code
-use Rattle.asm_tree.specs.Views.{expr_view}
-use Rattle.asm_tree.proofs.Views.{expr_view-Assign, expr_view-Store}
+use Rattle.asm_tree.specs.declared.tree.Stmt.{Stmt as CodeStmt}
+use Rattle.asm_tree.specs.declared.tree.Stmt.TheVariants as statements
+use Rattle.asm_tree.specs.Views.{expr_view, stmt_view}
+use Rattle.asm_tree.proofs.Views.{expr_view-Assign, expr_view-Store, stmt_view-Plain}
 use Rattle.asm_lang_valid.specs.Typing.{Scope, named}
 use Rattle.asm_lang_exec.specs.Runs.{Place, goes, after, and_then, write}
 use Rattle.asm_lang_exec.specs.Values.{write_element}
@@ -43,3 +45,6 @@ assign_is e n v x h k = ap expr_view h ∙ expr_view-Assign n v ∙ ap (λ (x : 
 pub store_is : (e : Code) (n : Text) (i v : Box Code Global) (x y : Code) → e ≡ code.Store n i v → x ≡ i.value → y ≡ v.value → expr_view e ≡ store (text_bytes n) (expr_view x) (expr_view y)
 store_is e n i v x y h k l =
     ap expr_view h ∙ expr_view-Store n i v ∙ ap (λ (x : Code). store (text_bytes n) (expr_view x) (expr_view v.value)) (sym k) ∙ ap (λ (y : Code). store (text_bytes n) (expr_view x) (expr_view y)) (sym l)
+
+pub plain_is : (x : CodeStmt) (e : Code) → x ≡ statements.Plain e → stmt_view x ≡ plain (expr_view e)
+plain_is x e h = ap stmt_view h ∙ stmt_view-Plain e

@@ -1,5 +1,5 @@
 -- A call of a name does the same whether a variable of the function is an int, a double, or nothing that the module declares.
-use Rattle.std.proofs.Common.{◌≡◌, ℕ, Bool, true, false, List, Option, Some, None, refl, sym, ap, ◌∙◌, subst}
+use Rattle.std.proofs.Common.{◌≡◌, ℕ, Bool, true, false, List, Option, Some, refl, sym, ap, ◌∙◌, subst}
 use Rattle.std.proofs.lemmas.List.Elements.{All-weaker}
 use Rattle.std.specs.Prelude.{is_some, if◌then◌else◌}
 use Rattle.sem_words.specs.declared.js_value.JsValue.{JsValue}

@@ -8,10 +8,11 @@ use Rattle.asm_lang.specs.Modules.{Function, Module}
 use Rattle.asm_tree.specs.declared.tree.Expr.{Expr}
 use Rattle.asm_tree.specs.declared.tree.Stmt.{Stmt}
 use Rattle.asm_tree.specs.Views.{texts_view, expr_view, stmt_view}
+use Rattle.asm_lang_exec.specs.Meaning.{normal}
 use Rattle.asm_lang_exec.specs.Runs.{Place, Run, goes, stops, spent, wrong, after}
 use Rattle.asm_laws_machine.specs.Work as plain
 use Rattle.asm_laws_machine.specs.Steps.{eval_step, exec_step, work_step}
-use Rattle.asm_laws_machine.specs.Sizes.{total, machine_size}
+use Rattle.asm_laws_machine.specs.Sizes.{expr_size, stmt_size, total, machine_size}
 use Rattle.asm_laws_machine.specs.Resuming.{resume, mode_to, machine_to}
 use Rattle.asm_laws_machine.specs.Laws.{Falls}
 use Rattle.asm_laws_machine.proofs.Means.{eval_means, exec_means, work_means}
@@ -19,6 +20,7 @@ use Rattle.asm_laws_machine.proofs.AtOnce.{once_means, once_falls}
 use Rattle.asm_laws_machine.proofs.Falls.{eval_falls, exec_falls, work_falls}
 use Rattle.asm_laws_machine.specs.Literals.{SmallModule, SmallMode, SmallWorks, SmallRun}
 use Rattle.asm_laws_machine.proofs.Keeps.{eval_keeps, exec_keeps, work_keeps}
+use Rattle.asm_run_work.specs.declared.endings.Completion.TheVariants.{Normal}
 use Rattle.asm_run_work.specs.Views.{work_view, works_view, outcome_view, mode_view}
 use Rattle.asm_run_work.specs.declared.work.Work.{Work}
 use Rattle.asm_run_work.specs.declared.work.Outcome.{Outcome}
@@ -32,7 +34,7 @@ use Rattle.asm_run_machine.specs.declared.running.Ended.{Ended}
 use Rattle.asm_run_machine.specs.declared.running.Ended.TheVariants.{Body, Stops as Stopped, Spent as Unpaid, Wrong as Mistaken}
 use Rattle.asm_run_machine.specs.declared.running.Reached.{Reached}
 use Rattle.asm_run_machine.specs.declared.running.Reached.TheVariants.{Goes, Ends}
-use Rattle.asm_run_machine.specs.AtOnce.{Gives}
+use Rattle.asm_run_machine.specs.AtOnce.{Gives, Passes}
 use Rattle.asm_run_machine.specs.Machines.{waiting, function, place, moved}
 use Rattle.asm_run_machine.specs.Reached.{Next, ended_to, goes_to, reached_to, Leads, SmallLeft, size, Within, StepFalls, reached_of, bottom_of}
 
@@ -87,6 +89,27 @@ module _ (m : Module) (s t : Machine) (e : Bor Expr) (work : waiting t ≡ waiti
 
     pub once_small : SmallWorks (waiting s) → SmallLeft t (Goes (Comes (Gave v)))
     once_small w = (tt, subst SmallWorks (sym work) w)
+
+-- ---- a statement whose expression has a value at once
+
+module _ (m : Module) (s t : Machine) (own : Bor (List Text)) (x : Bor Stmt) (work : waiting t ≡ waiting s) (same : function t ≡ function s) where
+  module _ (passes : Passes m s (stmt_view x.now) t) where
+    pub pass_leads : Leads m s (Executes own x) t (Goes (Comes (Did Normal)))
+    pass_leads bound next le =
+        ap (λ ws. resume m bound next ws (function t) (plain.did normal) (place t)) work
+        ∙ ap (λ f. resume m bound next (waiting s) f (plain.did normal) (place t)) same
+        ∙ sym (once_means m bound next (plain.of_stmt plain.at_plain ∷ waiting s) (function s) passes.expr (place s) passes.value (place t) passes.gives)
+        ∙ ap (λ x. mode_to m bound next (plain.executes (texts_view own.now) x) (waiting s) (function s) (place s)) (sym passes.is)
+
+    pub pass_less : StepFalls s (Executes own x) t (Goes (Comes (Did Normal)))
+    pass_less =
+        let fell : Falls s.world.units (expr_size passes.expr + total (waiting s)) (goes (plain.machine (plain.comes (plain.gave passes.value)) (waiting s) (function s)) (place t)) = once_falls m (waiting s) (function s) passes.expr (place s) passes.value (place t) passes.gives in
+        let left : total (waiting t) ≡ total (waiting s) = ap total work in
+        let whole : stmt_size (stmt_view x.now) ≡ expr_size passes.expr + 2 = ap stmt_size passes.is in
+        (fell.0, λ _. omega (arith, left, whole))
+
+    pub pass_small : SmallWorks (waiting s) → SmallLeft t (Goes (Comes (Did Normal)))
+    pass_small w = (tt, subst SmallWorks (sym work) w)
 
 -- what comes of a machine comes of one with the same work in the same function at the same place
 module _ (m : Module) (s t : Machine) (mode : Mode) (work : waiting t ≡ waiting s) (same : function t ≡ function s) (stays : place t ≡ place s) (u : Machine) where

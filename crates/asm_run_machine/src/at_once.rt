@@ -1,19 +1,19 @@
 //! Expressions without calls: their values are taken at once, and nothing waits for their parts.
-ghost use Rattle.std.specs.Prelude.{◌≡◌, IfSome, MatchOption};
+ghost use Rattle.std.specs.Prelude.{◌≡◌, IfSome, MatchBool, MatchOption};
 ghost use Rattle.sem_words.specs.Lists.{text_bytes};
 ghost use Rattle.sem_words.specs.JsValues.{IsValue};
 ghost use Rattle.asm_lang.specs.Modules.{assign, store};
-ghost use Rattle.asm_tree.specs.Views.{module_view, expr_view};
+ghost use Rattle.asm_tree.specs.Views.{module_view, expr_view, stmt_view};
 ghost use Rattle.asm_names.specs.Environments.{IsComplete};
 ghost use Rattle.asm_run_machine.specs.Machines.{waiting, function, place};
 ghost use Rattle.asm_run_values.specs.Values.{simple_value};
-ghost use Rattle.asm_run_machine.specs.AtOnce.{HasValue, Gives};
+ghost use Rattle.asm_run_machine.specs.AtOnce.{HasValue, Gives, Passes};
 
 use crate::machine::Machine;
 use asm_names::Environment;
 use asm_run_values::{Simple, Site, write_element};
 use asm_run_work::Kept;
-use asm_tree::Expr;
+use asm_tree::{Expr, Stmt};
 use sem_words::Text;
 
 impl<'a> Machine<'a> {
@@ -39,6 +39,22 @@ impl<'a> Machine<'a> {
             | Expr::Chain(_, _)
             | Expr::Cond(_, _, _)
             | Expr::Comma(_) => self.value_at_once(environment, expr),
+        }
+    }
+
+    /// Does a statement that is an expression, where its value is taken at once. False, and nothing is changed, where it isn't.
+    pub fn passed_at_once(&mut self, environment: &Environment<'a>, stmt: &Stmt) -> bool
+        requires { IsComplete environment.now }
+        ensures work { waiting self.new ≡ waiting self.old }
+        ensures function { function self.new ≡ function self.old }
+        ensures passes { MatchBool result (Passes (module_view environment.now.home.now) self.old (stmt_view stmt.now) self.new) (place self.new ≡ place self.old) }
+    {
+        match stmt {
+            Stmt::Plain(expr) => match self.at_once(environment, expr) {
+                Some(_) => true,
+                None => false,
+            },
+            _ => false,
         }
     }
 

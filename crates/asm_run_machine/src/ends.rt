@@ -1,8 +1,6 @@
 //! What waits for how a statement ends.
 ghost use Rattle.std.specs.Prelude.{◌≡◌, IfOk};
 ghost use Rattle.asm_tree.specs.Views.{stmts_view, clauses_view};
-ghost use Rattle.asm_lang_exec.specs.Runs.{and_then, back_to};
-ghost use Rattle.asm_lang_exec.specs.Meaning.{function_end};
 ghost use Rattle.asm_laws_machine.specs.Work.{at_list, at_body, at_do_body, at_clauses, at_call};
 ghost use Rattle.asm_laws_machine.specs.Steps.{end_work_step};
 ghost use Rattle.asm_run_work.specs.Endings.{completion_view};

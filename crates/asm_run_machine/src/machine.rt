@@ -3,9 +3,8 @@ ghost use Rattle.std.specs.Prelude.{◌≡◌, ◌∷◌, IfOk, IfSome};
 ghost use Rattle.sem_words.specs.JsValues.{IsValue};
 ghost use Rattle.asm_tree.specs.Views.{expr_view, stmt_view, texts_view};
 ghost use Rattle.asm_lang_exec.specs.Runs.{and_then, defined};
-ghost use Rattle.asm_laws_machine.specs.Steps.{to_value, to_end, to_expr, to_stmt};
+ghost use Rattle.asm_laws_machine.specs.Steps.{to_value, to_expr, to_stmt};
 ghost use Rattle.asm_run_work.specs.Views.{work_view};
-ghost use Rattle.asm_run_work.specs.Endings.{completion_view};
 ghost use Rattle.asm_run_machine.specs.Machines.{waiting, function, place, moved};
 
 use asm_run_state::World;

@@ -1,9 +1,9 @@
 //! Runs a function's body to its end.
 ghost use Rattle.std.specs.Prelude.{◌≡◌, IfOk};
-ghost use Rattle.asm_tree.specs.Views.{module_view, expr_view};
+ghost use Rattle.asm_tree.specs.Views.{module_view, expr_view, stmt_view};
 ghost use Rattle.asm_names.specs.Environments.{IsComplete};
 ghost use Rattle.asm_laws_machine.specs.Steps.{work_step};
-ghost use Rattle.asm_laws_machine.specs.Literals.{SmallExpr, SmallMode, SmallModule, SmallWorks};
+ghost use Rattle.asm_laws_machine.specs.Literals.{SmallExpr, SmallMode, SmallModule, SmallStmt, SmallWorks};
 ghost use Rattle.asm_run_work.specs.Views.{work_view, outcome_view, mode_view};
 ghost use Rattle.asm_run_machine.specs.Machines.{waiting, function, place, moved};
 ghost use Rattle.asm_run_machine.specs.Reached.{Leads, SmallLeft, StepFalls, UnitsFall, Within, reached_of, bottom_of};
@@ -11,8 +11,9 @@ ghost use Rattle.asm_run_machine.specs.Reached.{Leads, SmallLeft, StepFalls, Uni
 use crate::machine::Machine;
 use asm_names::Environment;
 use asm_run_work::{Completion, Flow, Mode, Outcome, Work};
-use asm_tree::Expr;
+use asm_tree::{Expr, Stmt};
 use sem_laws::End;
+use sem_words::Text;
 use std::alloc::{AllocError, Global};
 
 /// What a function's body comes to: it ends, or the session does, or a unit is due where none is left, or
@@ -85,6 +86,27 @@ impl<'a> Machine<'a> {
         }
     }
 
+    // The end of a statement that is an expression, where its value is taken at once, and else the step to a first part.
+    fn end_or_part(
+        &mut self,
+        environment: &Environment<'a>,
+        labels: &'a [Text],
+        stmt: &'a Stmt,
+    ) -> Result<Reached<'a>, AllocError>
+        requires complete { IsComplete environment.now }
+        requires literals { SmallStmt (stmt_view stmt.now) }
+        requires work { SmallWorks (waiting self.old) }
+        ensures leads { IfOk result (λ r. Leads (module_view environment.now.home.now) self.old (Mode.Executes labels.entry stmt.entry) self.new r) }
+        ensures falls { IfOk result (λ r. StepFalls self.old (Mode.Executes labels.entry stmt.entry) self.new r) }
+        ensures small { IfOk result (λ r. SmallLeft self.new r) }
+    {
+        if self.passed_at_once(environment, stmt) {
+            return Ok(Reached::Goes(Mode::Comes(Outcome::Did(Completion::Normal))));
+        }
+        let flow = self.exec(labels, stmt)?;
+        Ok(made_of(flow))
+    }
+
     // One step.
     fn step(
         &mut self,
@@ -102,10 +124,7 @@ impl<'a> Machine<'a> {
     {
         match mode {
             Mode::Evaluates(expr) => self.value_or_part(environment, alloc, expr),
-            Mode::Executes(labels, stmt) => {
-                let flow = self.exec(labels, stmt)?;
-                Ok(made_of(flow))
-            }
+            Mode::Executes(labels, stmt) => self.end_or_part(environment, labels, stmt),
             Mode::Comes(outcome) => match self.work.pop() {
                 None => Ok(Reached::Ends(bottom(outcome))),
                 Some(piece) => {

@@ -88,11 +88,27 @@ fn slot_among(names: &[&[u8]], name: &[u8]) -> Option<usize>
     ensures { result ≡ slot_of (names_in names.now) name.now }
 {
     for (i, known) in names.iter().enumerate() {
-        if *known == name {
+        if is_same(known, name) {
             return Some(i);
         }
     }
     None
+}
+
+// Whether two names are the same. Names are short, so their bytes are compared here, which is faster than a call.
+#[inline(always)]
+fn is_same(known: &[u8], name: &[u8]) -> bool
+    ensures { result ≡ bytes_eq known.now name.now }
+{
+    if known.len() != name.len() {
+        return false;
+    }
+    for (i, byte) in known.iter().enumerate() {
+        if *byte != name[i] {
+            return false;
+        }
+    }
+    true
 }
 
 // A map of the names, where there are more than a few.

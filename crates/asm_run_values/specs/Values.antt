@@ -2,7 +2,7 @@
 use Rattle.std.specs.Prelude.{◌≡◌, true, false}
 use Rattle.sem_words.specs.declared.js_value.JsValue.{JsValue}
 use Rattle.sem_words.specs.declared.js_value.JsValue.TheVariants as values
-use Rattle.asm_lang.specs.Modules.{Expr, Links, Module, Function}
+use Rattle.asm_lang.specs.Modules.{Expr, Links}
 use Rattle.asm_tree.specs.Views.{module_view, function_view}
 use Rattle.asm_lang_valid.specs.Typing.{Scope}
 use Rattle.asm_lang_valid.specs.Typed.{scope_of}

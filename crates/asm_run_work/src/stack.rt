@@ -28,7 +28,8 @@ impl<T: Drop> Stack<T> {
         }
     }
 
-    /// Puts an item on top.
+    /// Puts an item on top. It stands where it is called, since the machine does it at each step.
+    #[inline(always)]
     pub fn push(&mut self, x: T) -> Result<(), AllocError>
         ensures { OnOk result (self.new ≡ x ∷ self.old) }
     {

@@ -1,4 +1,4 @@
-use Rattle.std.proofs.Common.{None, rules}
+use Rattle.std.proofs.Common.{rules}
 use Rattle.asm_run_work.proofs.Switches.{found_default, default_next}
 use Rattle.asm_run_work.proofs.clauses.from_default.Goals as goal
 

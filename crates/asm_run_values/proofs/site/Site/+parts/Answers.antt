@@ -50,3 +50,14 @@ pub value_at-returns-in-Cond-clause-value : goal.value_at-returns-in-Cond-clause
 value_at-returns-in-Cond-clause-value t c =
     viewed c.args.self.now c.cond_at.result _ (expr_view c.args.expr.now) c.cond_at.ensures.value
     (cond_is c.args.expr.now _ _ _ _ _ _ c.in-Cond.is c.deref-in-Cond.ensures c.deref-in-Cond-2.ensures c.deref-in-Cond-3.ensures)
+
+pub part_at-returns-in-Lit-clause-value : goal.part_at-returns-in-Lit-clause-value
+part_at-returns-in-Lit-clause-value t c =
+    viewed c.args.self.now c.literal.result _ (expr_view c.args.expr.now)
+    (some_more c.literal.result _ _ c.literal.ensures.value (λ s e. ap (λ (v : JsValue). goes v (place c.args.self.now)) (sym e)))
+    (lit_is c.args.expr.now c.in-Lit.value c.in-Lit.is)
+
+pub part_at-returns-in-Var-clause-value : goal.part_at-returns-in-Var-clause-value
+part_at-returns-in-Var-clause-value t c =
+    viewed c.args.self.now c.variable.result _ (expr_view c.args.expr.now) c.variable.ensures.value
+    (var_is c.args.expr.now c.in-Var.name c.in-Var.is)
