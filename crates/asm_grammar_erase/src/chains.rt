@@ -5,7 +5,6 @@ ghost use Rattle.sem_words.specs.Lists.{list_items};
 ghost use Rattle.asm_lang.specs.Modules.{binary, chained, binary_of};
 ghost use Rattle.asm_tree.specs.Views.{expr_view};
 
-use crate::nodes::room_for;
 use asm_tree::{Expr, Link};
 use sem_words::{JsOp, List};
 use std::alloc::{AllocError, Global};
@@ -37,7 +36,7 @@ pub(crate) fn chained(
             Ok(Expr::Chain(first, links))
         }
         Err(left) => {
-            let links = with_link(room_for(alloc, 1)?, minus, right)?;
+            let links = with_link(List::with_capacity(alloc, 1)?, minus, right)?;
             let left = Box::new(alloc, left)?;
             Ok(Expr::Chain(left, links))
         }

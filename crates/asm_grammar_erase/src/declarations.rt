@@ -8,7 +8,7 @@ ghost use Rattle.asm_grammar_nodes.specs.Views as placed;
 ghost use Rattle.asm_tree.specs.Views as plain;
 
 use crate::lists::pushed;
-use crate::nodes::{copied, room_for};
+use crate::nodes::copied;
 use crate::number::nearest;
 use crate::statements::used_stmts;
 use asm_grammar_nodes::{
@@ -172,7 +172,7 @@ pub(crate) fn used_functions(
 ) -> Result<List<Function>, AllocError>
     ensures { IfOk result (λ r. map plain.function_view (list_items r) ≡ map function_of (map placed.function_view (list_items trees))) }
 {
-    let empty = room_for(alloc, trees.len())?;
+    let empty = List::with_capacity(alloc, trees.len())?;
     let mut functions = empty;
     let mut left = trees.into_vec();
     left.reverse();

@@ -9,9 +9,7 @@ ghost use Rattle.asm_grammar_erase.specs.Parts.{links_on};
 
 use crate::chains::{binary, chained};
 use crate::lists::pushed;
-use crate::nodes::{
-    assignment, boxed, call, decimal, element, room_for, store, table_call, variable,
-};
+use crate::nodes::{assignment, boxed, call, decimal, element, store, table_call, variable};
 use asm_grammar_nodes::{Addend, ExprTree};
 use asm_tree::Expr;
 use sem_words::List;
@@ -94,7 +92,7 @@ fn erased_box(alloc: Global, tree: &ExprTree) -> Result<Box<Expr>, AllocError>
 fn erased_exprs(alloc: Global, trees: &[ExprTree]) -> Result<List<Expr>, AllocError>
     ensures { IfOk result (λ r. plain.exprs_view (list_items r) ≡ exprs_of (placed.exprs_view trees.now)) }
 {
-    let empty = room_for(alloc, trees.len())?;
+    let empty = List::with_capacity(alloc, trees.len())?;
     let mut exprs = empty;
     for tree in trees {
         let expr = erased_expr(alloc, tree)?;

@@ -1,7 +1,7 @@
 //! Statements under labels.
 
 ghost use Rattle.std.specs.Prelude.{◌≡◌, ◌++◌, IfOk};
-ghost use Rattle.sem_words.specs.Lists.{list_items, text_bytes};
+ghost use Rattle.sem_words.specs.Lists.{list_items};
 ghost use Rattle.asm_lang.specs.Modules.{labelled};
 ghost use Rattle.asm_tree.specs.Views.{stmt_view, texts_view};
 ghost use Rattle.asm_grammar_nodes.specs.Views.{words_view};

@@ -1,6 +1,6 @@
 //! Expressions whose inner expressions are erased already, and those without inner ones.
 
-ghost use Rattle.std.specs.Prelude.{◌≡◌, [], IfOk};
+ghost use Rattle.std.specs.Prelude.{◌≡◌, IfOk};
 ghost use Rattle.sem_words.specs.Lists.{list_items, text_bytes};
 ghost use Rattle.asm_lang.specs.Modules.{decimal, var, index, call, table_call, assign, store};
 ghost use Rattle.asm_tree.specs.Views.{expr_view, exprs_view};
@@ -13,14 +13,6 @@ pub(crate) fn copied(alloc: Global, text: &Text) -> Result<Text, AllocError>
     ensures { IfOk result (λ r. text_bytes r ≡ text_bytes text.now) }
 {
     Text::from_bytes(alloc, text.as_bytes())
-}
-
-/// An empty list with room for so many items and no more, since a list that grows takes room for four at once.
-pub(crate) fn room_for<T>(alloc: Global, count: usize) -> Result<List<T>, AllocError>
-    ensures { IfOk result (λ r. list_items r ≡ []) }
-{
-    let items = Vec::with_capacity(alloc, count)?;
-    Ok(List::from_vec(items))
 }
 
 #[inline(never)]

@@ -8,7 +8,6 @@ ghost use Rattle.asm_tree.specs.Views as plain;
 
 use crate::labels::with_labels;
 use crate::lists::{last_taken, pushed};
-use crate::nodes::room_for;
 use crate::number::value_of;
 use crate::wholes::{
     boxed, breaks, continues, do_while, expression, for_loop, if_else, if_only, returns, switches,
@@ -86,7 +85,7 @@ fn erased_body(alloc: Global, tree: &StmtTree) -> Result<Box<Stmt>, AllocError>
 fn erased_stmts(alloc: Global, trees: &[StmtTree]) -> Result<List<Stmt>, AllocError>
     ensures { IfOk result (λ r. plain.stmts_view (list_items r) ≡ stmts_of (placed.stmts_view trees.now)) }
 {
-    let empty = room_for(alloc, trees.len())?;
+    let empty = List::with_capacity(alloc, trees.len())?;
     let mut stmts = empty;
     for tree in trees {
         let stmt = erased_stmt(alloc, tree)?;
@@ -99,7 +98,7 @@ fn erased_stmts(alloc: Global, trees: &[StmtTree]) -> Result<List<Stmt>, AllocEr
 pub(crate) fn used_stmts(alloc: Global, trees: List<StmtTree>) -> Result<List<Stmt>, AllocError>
     ensures { IfOk result (λ r. plain.stmts_view (list_items r) ≡ stmts_of (placed.stmts_view (list_items trees))) }
 {
-    let empty = room_for(alloc, trees.len())?;
+    let empty = List::with_capacity(alloc, trees.len())?;
     let mut stmts = empty;
     let mut left = trees.into_vec();
     left.reverse();
@@ -115,7 +114,7 @@ pub(crate) fn used_stmts(alloc: Global, trees: List<StmtTree>) -> Result<List<St
 fn erased_clauses(alloc: Global, trees: &[ClauseTree]) -> Result<List<Clause>, AllocError>
     ensures { IfOk result (λ r. plain.clauses_view (list_items r) ≡ clauses_of (placed.clauses_view trees.now)) }
 {
-    let empty = room_for(alloc, trees.len())?;
+    let empty = List::with_capacity(alloc, trees.len())?;
     let mut clauses = empty;
     for tree in trees {
         let body = erased_stmts(alloc, tree.body.as_slice())?;

@@ -1,8 +1,8 @@
 //! A list of values, for trees and scripts.
-ghost use Rattle.std.specs.Prelude.{◌≡◌, ◌<◌, [], ◌∷◌, ◌++◌, length, IfErr, IsSome, IsTrue, OnOk, OnErr, ◌↔◌, option_copied, slice_get};
+ghost use Rattle.std.specs.Prelude.{◌≡◌, ◌<◌, [], ◌∷◌, ◌++◌, length, IfErr, IfOk, IsSome, IsTrue, OnOk, OnErr, ◌↔◌, option_copied, slice_get};
 ghost use Rattle.sem_words.specs.Lists.{list_items};
 
-use std::alloc::Global;
+use std::alloc::{AllocError, Global};
 
 /// A list of values that owns them. It may stand inside the type of its own values.
 #[derive(PartialEq, Eq, Debug, Drop)]
@@ -18,6 +18,14 @@ impl<T> List<T> {
         List {
             items: Vec::new(alloc),
         }
+    }
+
+    /// An empty list with room for so many items and no more, since a list that grows takes room for four at once.
+    pub fn with_capacity(alloc: Global, count: usize) -> Result<List<T>, AllocError>
+        ensures { IfOk result (λ list. list_items list ≡ []) }
+    {
+        let items = Vec::with_capacity(alloc, count)?;
+        Ok(List { items })
     }
 
     /// Puts `item` at the end. For want of memory the item comes back, and the list is as before.

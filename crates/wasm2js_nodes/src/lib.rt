@@ -9,7 +9,7 @@ mod statements;
 pub use names::{Fixed, Name, Numbered};
 pub use nodes::{
     binary, call, call_of_one, call_of_two, chain, chosen, element, flipped, literal, natural,
-    plainly, put_in, room_for, shifted, signed, store_in, trap_call, unsigned, variable, with_expr,
+    plainly, put_in, shifted, signed, store_in, trap_call, unsigned, variable, with_expr,
 };
 pub use spelling::spell;
 pub use statements::{

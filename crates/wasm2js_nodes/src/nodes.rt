@@ -1,6 +1,6 @@
 //! Expressions of asm.js, one node after another.
-ghost use Rattle.std.specs.Prelude.{◌≡◌, [], ◌∷◌, ◌++◌, List, map, pos, IfOk};
-ghost use Rattle.sem_words.specs.Lists.{list_items, text_bytes};
+ghost use Rattle.std.specs.Prelude.{◌≡◌, [], ◌∷◌, ◌++◌, List, IfOk};
+ghost use Rattle.sem_words.specs.Lists.{list_items};
 ghost use Rattle.asm_lang.specs.Modules as plain;
 ghost use Rattle.asm_tree.specs.Views.{expr_view, exprs_view, links_view, stmt_view};
 ghost use Rattle.sem_words.specs.declared.js_value.JsUnary.TheVariants as js_unary;
@@ -131,14 +131,6 @@ pub fn call(alloc: Global, name: Name, arguments: List<Expr>) -> Result<Expr, Al
     Ok(Expr::Call(name, arguments))
 }
 
-/// An empty list with room for so many items and no more, since a list that grows takes room for four at once.
-pub fn room_for<T>(alloc: Global, count: usize) -> Result<List<T>, AllocError>
-    ensures { IfOk result (λ r. list_items r ≡ []) }
-{
-    let items = Vec::with_capacity(alloc, count)?;
-    Ok(List::from_vec(items))
-}
-
 /// The list with one more item at its end.
 #[inline(never)]
 pub fn with_expr(list: List<Expr>, e: Expr) -> Result<List<Expr>, AllocError>
@@ -156,7 +148,7 @@ pub fn with_expr(list: List<Expr>, e: Expr) -> Result<List<Expr>, AllocError>
 pub fn call_of_one(alloc: Global, name: Name, argument: Expr) -> Result<Expr, AllocError>
     ensures { IfOk result (λ e. expr_view e ≡ plain.call (spelled (name_view name)) (plain.exprs (expr_view argument) plain.no_exprs)) }
 {
-    let arguments = with_expr(room_for(alloc, 1)?, argument)?;
+    let arguments = with_expr(List::with_capacity(alloc, 1)?, argument)?;
     call(alloc, name, arguments)
 }
 
@@ -165,7 +157,7 @@ pub fn call_of_one(alloc: Global, name: Name, argument: Expr) -> Result<Expr, Al
 pub fn call_of_two(alloc: Global, name: Name, first: Expr, second: Expr) -> Result<Expr, AllocError>
     ensures { IfOk result (λ e. expr_view e ≡ plain.call (spelled (name_view name)) (plain.exprs (expr_view first) (plain.exprs (expr_view second) plain.no_exprs))) }
 {
-    let arguments = with_expr(room_for(alloc, 2)?, first)?;
+    let arguments = with_expr(List::with_capacity(alloc, 2)?, first)?;
     let arguments = with_expr(arguments, second)?;
     call(alloc, name, arguments)
 }
