@@ -1,6 +1,6 @@
 -- The table of a small module with two tables, and modules that don't stand for their text: one whose segment has the functions of a table in
 -- another order, one without a function, and one that divides without a guard.
-use Rattle.std.proofs.Common.{◌≡◌, ℕ, ◌+◌, List, [], ◌∷◌, length, map, Some, None, refl, ap}
+use Rattle.std.proofs.Common.{◌≡◌, ℕ, ◌+◌, List, [], ◌∷◌, length, map, Some, refl, ap}
 use Rattle.std.specs.Prelude.{pos}
 use Rattle.std.proofs.lemmas.List.Elements.{All-nil}
 use Rattle.heap_lang.specs.Numbers.{IsBytes}

@@ -6,7 +6,6 @@ use Rattle.std.proofs.lemmas.Option.{slice_get-map}
 use Rattle.sem_laws.specs.Observation.{trapped}
 use Rattle.wasm_lang.specs.Modules.{WasmModule}
 use Rattle.wasm_lang_valid.specs.ModuleRules.{imported_functions}
-use Rattle.wasm_lang_exec.specs.Session.{first_store, with_entries}
 use Rattle.wasm_lang_valid.specs.declared.rule.Rule.{Rule}
 use Rattle.wasm_lang_valid.specs.declared.section.Section.{Section}
 use Rattle.wasm_lang_valid.specs.Validity.{IsValidModule, RefusesModule}

@@ -7,7 +7,7 @@ use Rattle.wasm_lang.specs.Instructions.{Plain, bin32, rel32, eqz32, local_get, 
 use Rattle.wasm_lang_exec.specs.Code.{Trees, ε, ◌▹◌, ◌⊕◌, block, loop, if_block, br, br_if, br_table, return}
 use Rattle.asm_lang.specs.Trees.{Init, number}
 use Rattle.asm_lang.specs.Modules as text
-use Rattle.asm_lang.specs.Modules.{Expr, Stmt, if_only, if_else, returns, while_loop, do_while, for_loop, breaks, continues, labelled, switches, empty, Stmts, no_stmts, stmts, Clauses, no_clauses, clauses, Variable, Function}
+use Rattle.asm_lang.specs.Modules.{Expr, Stmt, if_only, if_else, returns, while_loop, do_while, for_loop, breaks, continues, labelled, switches, empty, Stmts, no_stmts, stmts, Clauses, no_clauses, clauses, Variable}
 use Rattle.asm_lang_valid.specs.Scope.{is_in}
 use Rattle.asm_lang_valid.specs.Typing.{Scope, values}
 use Rattle.asm_lang_exec.specs.Meaning.{before_default, passed_over}

@@ -1,5 +1,5 @@
 //! Worked code and sessions. Each function does nothing, and its contract is what the check computes of small modules.
-ghost use Rattle.std.specs.Prelude.{◌≡◌, ◌∷◌, ◌++◌, [], replicate, codes};
+ghost use Rattle.std.specs.Prelude.{◌≡◌, ◌∷◌, [], codes};
 ghost use Rattle.sem_laws.specs.Observation.{done, call_returned};
 ghost use Rattle.asm2wasm_code.specs.Pieces.{operating, operating_script, long_switch, long_script, small_elements, small_script, bodies, storing, dividing, continuing, switching, few_cases, dense_cases, tabled, tabled_script, storing_script};
 ghost use Rattle.asm2wasm_code.specs.Worked.{ShowsSame, body, storing_code, dividing_code, continuing_code, few_code, dense_code, first_code, first_part, all_clauses_code, clauses_part, gave, imported, IsAlike};

@@ -1,5 +1,5 @@
 //! Statements. Each begins and ends with no value on the stack.
-ghost use Rattle.std.specs.Prelude.{◌≡◌, ◌<◌, ◌≤◌, ◌^◌, [], ◌∷◌, ◌++◌, None, Some, OnOk, length};
+ghost use Rattle.std.specs.Prelude.{◌≡◌, ◌<◌, ◌≤◌, [], ◌++◌, None, Some, OnOk, length};
 ghost use Rattle.wasm_lang_exec.specs.Code.{ε, ◌▹◌, block};
 ghost use Rattle.wasm_laws_trees.specs.Spelled.{flat};
 ghost use Rattle.wasm_laws_write.specs.Lengths.{IsNarrow};

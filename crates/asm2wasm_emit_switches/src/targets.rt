@@ -1,5 +1,5 @@
 //! The labels of the clauses of a switch.
-ghost use Rattle.std.specs.Prelude.{◌≡◌, ◌<◌, ◌≤◌, ◌^◌, ◌≤ℤ◌, ◌-ℤ◌, true, suc, length, IfOk, IfSome, unsigned_abs};
+ghost use Rattle.std.specs.Prelude.{◌≡◌, ◌<◌, ◌≤◌, ◌^◌, true, suc, length, IfOk};
 ghost use Rattle.asm_tree.specs.Views.{clauses_view};
 ghost use Rattle.asm_lang_valid.specs.Typing as typing;
 ghost use Rattle.asm_lang_exec.specs.Meaning as meaning;

@@ -1,7 +1,7 @@
 //! From asm.js to WebAssembly: what may be written for a module, said without any translation.
 #![tactic(auto)]
 
-ghost use Rattle.std.specs.Prelude.{◌≡◌, ◌≤◌, ◌*◌, ◌+◌, ◌<◌, ℕ, true, List, length, map, Some, slice_get};
+ghost use Rattle.std.specs.Prelude.{◌≡◌, ◌≤◌, ◌*◌, ◌+◌, ◌<◌, ℕ, true, List, Some, slice_get};
 ghost use Rattle.heap_lang.specs.Heap.{IsHeapLength};
 ghost use Rattle.asm_lang.specs.Modules.{Table, Module};
 ghost use Rattle.asm_lang_valid.specs.Refusal.{function_number};

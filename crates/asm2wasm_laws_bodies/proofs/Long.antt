@@ -22,7 +22,6 @@ use Rattle.asm_lang_exec.specs.Values.{Calls}
 use Rattle.asm_lang_exec.specs.Meaning.{Completion, normal, broken, continued, returned, unless_left, exec_all, exec_clauses}
 use Rattle.asm2wasm_code.specs.Numbers.{first_scratch}
 use Rattle.asm2wasm_code.specs.Values as value
-use Rattle.asm2wasm_code.specs.Values.{plains}
 use Rattle.asm2wasm_code.specs.Bodies.{Label, plainly, breakable, reached, all_further, stmts_code, long_code}
 use Rattle.asm2wasm_laws_run.specs.Straight.{on_from, effects}
 use Rattle.asm2wasm_laws_run.specs.Straight as straight

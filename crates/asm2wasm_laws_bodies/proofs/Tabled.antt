@@ -22,7 +22,6 @@ use Rattle.asm_lang.specs.Modules.{Clauses, no_clauses, clauses}
 use Rattle.asm_lang_valid.specs.Typing.{values, in_range}
 use Rattle.asm_lang_exec.specs.Meaning.{is_case, before_case, before_default, has_case, passed_over}
 use Rattle.asm2wasm_code.specs.Values as value
-use Rattle.asm2wasm_code.specs.Values.{plains}
 use Rattle.asm2wasm_code.specs.Bodies.{lesser, greater, least, greatest, low, span, is_dense, targets, table_branch}
 use Rattle.asm2wasm_laws_run.specs.Straight.{reached, on_from, effects}
 use Rattle.asm2wasm_laws_run.proofs.Straight.{runs}

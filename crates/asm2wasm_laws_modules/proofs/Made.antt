@@ -11,7 +11,7 @@ use Rattle.wasm_lang_exec.specs.Reductions.{Callee, type_of, callee_at, same_typ
 use Rattle.wasm_laws_trees.specs.Laws.{IsReadAgain}
 use Rattle.asm_lang.specs.Modules.{Function, Table, Module}
 use Rattle.asm_lang_valid.specs.Scope as text
-use Rattle.asm_lang_valid.specs.Scope.{Meaning, a_table, Signature, signature_of, function_signature, first_member, module_meaning}
+use Rattle.asm_lang_valid.specs.Scope.{a_table, Signature, signature_of, function_signature, first_member, module_meaning}
 use Rattle.asm_lang_valid.specs.Typed.{same_signature, all_alike, alike, is_power_of_two}
 use Rattle.asm_lang_valid.specs.LimitRows.{ForeignCall, is_same, is_among, foreign_calls}
 use Rattle.asm_lang_valid.specs.Refusal.{function_number}

@@ -24,7 +24,7 @@ use Rattle.asm_lang.specs.Modules.{Variable, Function, Table, Export, Exports, o
 use Rattle.asm_lang_valid.specs.Scope.{Signature, signature_of, is_in}
 use Rattle.asm_lang_valid.specs.LimitRows.{ForeignCall, foreign_calls}
 use Rattle.asm_lang_valid.specs.Refusal as text
-use Rattle.asm_lang_valid.specs.Refusal.{foreign_globals, has_heap, IsAccepted, exported_from, function_number}
+use Rattle.asm_lang_valid.specs.Refusal.{foreign_globals, has_heap, exported_from, function_number}
 use Rattle.asm2wasm_lang.specs.Heaps.{is_heap_length, pages_for}
 use Rattle.asm2wasm_lang.specs.Tables.{entries_of}
 use Rattle.asm2wasm_lang.specs.Calling.{exactly, constant_int}

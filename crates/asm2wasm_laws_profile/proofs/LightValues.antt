@@ -9,7 +9,7 @@ use Rattle.sem_words.specs.declared.js_value.JsUnary.{JsUnary}
 use Rattle.sem_words.specs.declared.js_value.JsUnary.TheVariants.{Neg, BitNot, Not, Plus}
 use Rattle.wasm_lang.specs.declared.types.ValType.TheVariants.{I32}
 use Rattle.wasm_lang.specs.Instructions as instructions
-use Rattle.wasm_lang.specs.Instructions.{Plain, const32, bin32, rel32, un32, eqz32, local_get, local_set, local_tee, global_get, global_set, drop_operand, Instruction}
+use Rattle.wasm_lang.specs.Instructions.{Plain, bin32, local_get, local_set, drop_operand}
 use Rattle.wasm_lang_exec.specs.Code.{Trees, ε, ◌▹◌, ◌⊕◌, if_block}
 use Rattle.wasm_laws_bytes.specs.Each.{EachIn}
 use Rattle.wasm_laws_bytes.proofs.Spelled.{each_joins}

@@ -8,7 +8,7 @@ use Rattle.sem_words.specs.declared.word.Rel.TheVariants as rels
 use Rattle.heap_lang.specs.Heap.{is_inside, store_bytes}
 use Rattle.heap_lang.proofs.RunLemmas.{is_inside_within}
 use Rattle.wasm_lang.specs.Instructions as code
-use Rattle.wasm_lang.specs.Instructions.{Plain, bin32, rel32, local_get, local_set, local_tee}
+use Rattle.wasm_lang.specs.Instructions.{Plain, rel32, local_get, local_set, local_tee}
 use Rattle.wasm_lang_exec.specs.Code.{Trees, ε, ◌▹◌, ◌⊕◌, if_block}
 use Rattle.wasm_lang_exec.specs.Store.{Store}
 use Rattle.wasm_lang_exec.specs.Plain.{flag, pushed, with_local, stored, put_memory}

@@ -27,7 +27,7 @@ use Rattle.wasm_lang.specs.Modules.{Imported, GlobalEntry, ElementSegment, WasmM
 use Rattle.wasm_lang_valid.specs.Runnable.{pages}
 use Rattle.wasm_lang_exec.specs.Store.{Store, written, page}
 use Rattle.wasm_lang_exec.specs.Session as machine
-use Rattle.wasm_lang_exec.specs.Session.{imported_globals, some_or_zero, value_of, bytes_in, first_memory, first_store, entries_fit, with_entries, with_bytes, instantiated, calls_seen, wasm}
+use Rattle.wasm_lang_exec.specs.Session.{imported_globals, some_or_zero, value_of, bytes_in, first_memory, first_store, with_entries, with_bytes, instantiated, calls_seen, wasm}
 use Rattle.asm_lang.specs.Trees.{Init, number, decimal, foreign_int, foreign_double, member, math, view}
 use Rattle.asm_lang.specs.Modules.{Variable, Module}
 use Rattle.asm_lang_valid.specs.Scope.{is_in}

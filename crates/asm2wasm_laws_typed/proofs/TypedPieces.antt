@@ -11,7 +11,7 @@ use Rattle.sem_words.specs.declared.js_value.JsUnary.TheVariants.{Neg, BitNot, N
 use Rattle.wasm_lang.specs.declared.types.ValType.{ValType}
 use Rattle.wasm_lang.specs.declared.types.ValType.TheVariants.{I32}
 use Rattle.wasm_lang.specs.Instructions as instructions
-use Rattle.wasm_lang.specs.Instructions.{Plain, bin32, local_get, drop_operand}
+use Rattle.wasm_lang.specs.Instructions.{bin32, local_get, drop_operand}
 use Rattle.wasm_lang_valid.specs.Typing.{Context, type_of, inside}
 use Rattle.wasm_lang_exec.specs.Code.{Trees, ◌⊕◌}
 use Rattle.wasm_laws_sound.specs.Trees.{IsTyped}

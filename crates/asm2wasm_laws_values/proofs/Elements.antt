@@ -15,7 +15,7 @@ use Rattle.heap_lang.proofs.HeapLemmas.{load_bytes_within, length-store, IsBytes
 use Rattle.wasm_lang.specs.declared.types.MemOp.{MemOp}
 use Rattle.wasm_lang.specs.declared.types.ValType.TheVariants.{I32}
 use Rattle.wasm_lang.specs.Instructions as instructions
-use Rattle.wasm_lang.specs.Instructions.{Plain, local_get, local_tee, rel32}
+use Rattle.wasm_lang.specs.Instructions.{Plain, local_get, rel32}
 use Rattle.wasm_lang_exec.specs.Code.{Trees, ε, ◌▹◌, ◌⊕◌, if_block}
 use Rattle.wasm_lang_exec.specs.Store.{Store}
 use Rattle.wasm_lang_exec.specs.Plain.{flag, loaded, pushed, with_local, put_memory}

@@ -14,7 +14,7 @@ use Rattle.sem_words.specs.declared.js_value.JsUnary.TheVariants.{Neg, BitNot, N
 use Rattle.wasm_lang.specs.declared.types.ValType.{ValType}
 use Rattle.wasm_lang.specs.declared.types.ValType.TheVariants.{I32}
 use Rattle.wasm_lang.specs.Instructions as instructions
-use Rattle.wasm_lang.specs.Instructions.{Plain, const32, bin32, rel32, un32, eqz32, local_get, local_set, local_tee, global_get, global_set, drop_operand, Instruction}
+use Rattle.wasm_lang.specs.Instructions.{Plain, bin32, rel32, un32, eqz32, local_get, local_set, local_tee, global_get, global_set, drop_operand}
 use Rattle.wasm_lang.specs.Opcodes.{form_at}
 use Rattle.wasm_lang.specs.Shape.{HasOpcode}
 use Rattle.wasm_lang_exec.specs.Code.{Trees, ε, ◌▹◌, ◌⊕◌, if_block}

@@ -4,7 +4,7 @@ ghost use Rattle.asm_lang_valid.specs.LimitRows as limits;
 ghost use Rattle.asm_lang_valid.specs.LimitRows.{is_same};
 ghost use Rattle.asm_validate_limits.specs.Called.{foreign_view};
 ghost use Rattle.asm2wasm_code.specs.Numbers.{number_among};
-ghost use Rattle.asm2wasm_numbers.specs.Calls.{call_view, call_found, IsCounted};
+ghost use Rattle.asm2wasm_numbers.specs.Calls.{call_found, IsCounted};
 
 use asm_validate::ForeignCall;
 use indexmap::IndexMap;

@@ -1,7 +1,6 @@
 //! The numbers of one function.
 ghost use Rattle.std.specs.Prelude.{◌≡◌, IfOk};
 ghost use Rattle.sem_words.specs.Lists.{text_bytes};
-ghost use Rattle.asm_tree.specs.Views.{function_view};
 ghost use Rattle.asm_lang_valid.specs.Typing.{named};
 ghost use Rattle.asm_names.specs.Meanings.{meaning_view};
 ghost use Rattle.asm2wasm_code.specs.Numbers as code;

@@ -1,5 +1,5 @@
 //! The numbers of a module.
-ghost use Rattle.std.specs.Prelude.{◌≡◌, None, List, ℕ, IfOk, map, length};
+ghost use Rattle.std.specs.Prelude.{◌≡◌, None, IfOk, map, length};
 ghost use Rattle.sem_words.specs.Lists.{list_items, text_bytes};
 ghost use Rattle.asm_tree.specs.Views.{module_view, table_view};
 ghost use Rattle.asm_lang_valid.specs.Refusal.{foreign_globals};

@@ -1,5 +1,5 @@
 // The names of declarations by their places.
-ghost use Rattle.std.specs.Prelude.{◌≡◌, ◌++◌, List, ℕ, IfOk, map};
+ghost use Rattle.std.specs.Prelude.{◌≡◌, ◌++◌, IfOk, map};
 ghost use Rattle.asm_tree.specs.Views.{module_view, table_view, global_view, function_view, param_view, local_view, init_view, texts_view};
 ghost use Rattle.asm2wasm_code.specs.Numbers.{int_variables, local_names, is_variable};
 ghost use Rattle.link_tables.specs.Names.{names_in};

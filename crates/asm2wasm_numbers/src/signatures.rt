@@ -1,5 +1,5 @@
 // Signatures, each once.
-ghost use Rattle.std.specs.Prelude.{◌≡◌, ◌++◌, [], ◌∷◌, List, IfOk, map, length};
+ghost use Rattle.std.specs.Prelude.{◌≡◌, ◌++◌, [], ◌∷◌, List, IfOk, map};
 ghost use Rattle.asm_tree.specs.Views.{module_view, function_view};
 ghost use Rattle.asm_lang_valid.specs.Scope as scopes;
 ghost use Rattle.asm_validate_limits.specs.Called.{foreign_view};

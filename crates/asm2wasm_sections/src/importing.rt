@@ -1,5 +1,5 @@
 //! Imports.
-ghost use Rattle.std.specs.Prelude.{◌≡◌, ◌++◌, true, [], ◌∷◌, codes, map, IfOk, OnOk};
+ghost use Rattle.std.specs.Prelude.{◌≡◌, ◌++◌, true, codes, map, IfOk, OnOk};
 ghost use Rattle.sem_words.specs.Lists.{list_items, text_bytes};
 ghost use Rattle.wasm_lang.specs.declared.types.ImportKind.TheVariants as kinds;
 ghost use Rattle.wasm_tree.specs.Views.{import_of};

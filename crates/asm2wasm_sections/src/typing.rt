@@ -1,5 +1,5 @@
 //! Types of functions.
-ghost use Rattle.std.specs.Prelude.{◌≡◌, [], ◌∷◌, map, replicate, IfOk, if◌then◌else◌};
+ghost use Rattle.std.specs.Prelude.{◌≡◌, [], ◌∷◌, map, IfOk, if◌then◌else◌};
 ghost use Rattle.sem_words.specs.Lists.{list_items};
 ghost use Rattle.wasm_lang.specs.declared.types.ValType.TheVariants.{I32};
 ghost use Rattle.wasm_tree.specs.Views.{type_of};

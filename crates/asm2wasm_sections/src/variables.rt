@@ -1,7 +1,6 @@
 //! Variables of the module.
-ghost use Rattle.std.specs.Prelude.{◌≡◌, ◌<◌, ◌^◌, ◌∷◌, [], true, ℕ, List, length, map, IfOk, OnOk, ◌++◌};
+ghost use Rattle.std.specs.Prelude.{◌≡◌, ◌<◌, true, List, map, IfOk};
 ghost use Rattle.sem_words.specs.Lists.{list_items, text_bytes};
-ghost use Rattle.wasm_lang.specs.Instructions.{end_mark};
 ghost use Rattle.wasm_tree.specs.Views.{instr_of, global_of};
 ghost use Rattle.asm_tree.specs.Views.{module_view, global_view, init_view};
 ghost use Rattle.sem_words.specs.Words.{word_of};

@@ -21,7 +21,7 @@ use Rattle.asm_grammar_modules.specs.Ends.{finished_view}
 use Rattle.asm_grammar.specs.Ends.{stopped}
 use Rattle.asm_grammar_modules.specs.Readings.{reading_view}
 use Rattle.asm_grammar.specs.Gives.{fed_view, Gives, IsRefusal, is_negative_zero}
-use Rattle.asm_grammar.specs.Parsed.{HasRead, IsLast, place_in}
+use Rattle.asm_grammar.specs.Parsed.{HasRead, IsLast}
 use Rattle.asm_grammar.proofs.Low.{stops_high}
 use Rattle.asm_grammar.proofs.Pairs.{place_there, place_behind, dropped, dropped_more, lexemes-length, within, pair_at, shifted, no_pair}
 

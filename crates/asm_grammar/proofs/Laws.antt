@@ -25,7 +25,7 @@ use Rattle.asm_grammar.specs.declared.fault.ParseFault.TheVariants.{LiteralForm,
 use Rattle.asm_grammar_modules.specs.declared.tall.TallModule.{TallModule}
 use Rattle.asm_grammar.specs.Ends.{stopped}
 use Rattle.asm_grammar.specs.Gives.{Gives, HasTree, IsLow}
-use Rattle.asm_grammar.specs.Parsed.{IsParsed, HasModule, IsFault, IsVerdict}
+use Rattle.asm_grammar.specs.Parsed.{HasModule, IsFault, IsVerdict}
 
 abbrev Low : ℕ → List PlacedToken → Result TallModule ParseFault → Type 0
 Low end ts r = Gives end ts r (run_low height_limit at_start (lexemes_of ts))

@@ -1,7 +1,6 @@
 //! The local variables of a function; and a variable at the end of others.
 
 ghost use Rattle.std.specs.Prelude.{◌≡◌, ◌∷◌, [], ◌++◌, List as Items, IfOk};
-ghost use Rattle.sem_words.specs.Lists.{list_items};
 ghost use Rattle.asm_lang.specs.Trees.{VariableTree as PlainVariable};
 ghost use Rattle.asm_lang.specs.Machine.{advance, at_locals, feed, in_locals, State, variable_of};
 ghost use Rattle.asm_grammar_nodes.specs.Views.{init_view, lexeme_view};

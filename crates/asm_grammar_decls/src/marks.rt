@@ -1,11 +1,10 @@
 //! The marks that say which parameters of a function are ints, and which doubles.
 
 ghost use Rattle.std.specs.Prelude.{◌≡◌, ◌∷◌, [], ◌++◌, if◌then◌else◌, List as Items, IfOk};
-ghost use Rattle.sem_words.specs.Lists.{list_items, text_bytes};
 ghost use Rattle.asm_lang.specs.Lexemes.{Lexeme as PlainLexeme};
 ghost use Rattle.asm_lang.specs.Trees.{ParamTree as PlainParam};
 ghost use Rattle.asm_lang.specs.Machine.{advance, at_marks, ends, feed, goes, State, stuck};
-ghost use Rattle.asm_grammar_nodes.specs.Views.{lexeme_view, param_view};
+ghost use Rattle.asm_grammar_nodes.specs.Views.{lexeme_view};
 ghost use Rattle.asm_grammar_decls.specs.Begun.{begun_mark};
 ghost use Rattle.asm_grammar_decls.specs.Variables.{in_mark, left_view, mark_of, mark_view, marks_reading_view, marks_step_view, params_of};
 

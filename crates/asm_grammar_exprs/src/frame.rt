@@ -1,7 +1,6 @@
 //! What is open round an expression.
 
 ghost use Rattle.std.specs.Prelude.{◌≡◌, IfOk};
-ghost use Rattle.asm_lang.specs.Trees.{ExprTree};
 ghost use Rattle.asm_grammar_nodes.specs.Tall.{tall_view, talls_view};
 ghost use Rattle.asm_laws_height.specs.Rises.{capped_rise};
 ghost use Rattle.asm_grammar_nodes.specs.Rises.{rise_view};

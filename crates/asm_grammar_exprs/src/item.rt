@@ -1,9 +1,8 @@
 //! What is open round an expression of a list.
 
 ghost use Rattle.std.specs.Prelude.{◌≡◌, IfOk};
-ghost use Rattle.asm_lang.specs.Trees.{ExprTree, ExprTrees, no_expr, one_expr};
-ghost use Rattle.asm_lang.specs.Lexemes.{close_paren};
-ghost use Rattle.asm_lang.specs.Machine.{State, closes, goes, after_expr, in_rest, more_exprs};
+ghost use Rattle.asm_lang.specs.Trees.{ExprTree, ExprTrees};
+ghost use Rattle.asm_lang.specs.Machine.{State, in_rest, more_exprs};
 ghost use Rattle.asm_grammar_nodes.specs.Tall.{talls_view};
 ghost use Rattle.asm_grammar_exprs.specs.Views.{frames_view, listing_view, first_argument_view};
 

@@ -1,6 +1,6 @@
 //! The end of input within an expression.
 
-ghost use Rattle.std.specs.Prelude.{◌≡◌, [], Result};
+ghost use Rattle.std.specs.Prelude.{◌≡◌, []};
 ghost use Rattle.asm_lang.specs.Trees.{ExprTree};
 ghost use Rattle.asm_lang.specs.Machine.{State, ended, failed, grammar};
 ghost use Rattle.asm_grammar_exprs.specs.declared.state.ExprReading.{ExprReading};

@@ -1,8 +1,7 @@
 //! The tokens of a declaration.
 
-ghost use Rattle.std.specs.Prelude.{◌≡◌, [], ◌∷◌, ◌++◌, OnOk, map, false};
+ghost use Rattle.std.specs.Prelude.{◌≡◌, [], OnOk, map, false};
 ghost use Rattle.sem_words.specs.Lists.{text_bytes};
-ghost use Rattle.asm_lang.specs.Modules.{Variable};
 ghost use Rattle.asm_lang.specs.Printing.{decimal_pieces, member_text, init_text, variable_text, locals_text, names_text, mark_text, marks_text, param_names, function_text};
 ghost use Rattle.asm_tree.specs.Views.{init_view, local_view, param_view, texts_view, function_view};
 ghost use Rattle.asm_grammar_print.specs.Put.{written, put};

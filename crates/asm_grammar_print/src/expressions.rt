@@ -1,10 +1,10 @@
 //! The tokens of an expression.
 
-ghost use Rattle.std.specs.Prelude.{◌≡◌, [], ◌∷◌, ◌++◌, true, false, OnOk, codes};
+ghost use Rattle.std.specs.Prelude.{◌≡◌, [], ◌∷◌, false, OnOk, codes};
 ghost use Rattle.sem_words.specs.Lists.{text_bytes};
 ghost use Rattle.asm_lang.specs.Grammar.{level_of};
 ghost use Rattle.asm_lang.specs.Modules.{lit, unary, index};
-ghost use Rattle.asm_lang.specs.Printing.{word, between, operator_text, prefix_text, minus_text, expr_level, at_level, is_literal, after_prefix, expr_text, exprs_text, links_text, option_text};
+ghost use Rattle.asm_lang.specs.Printing.{word, between, operator_text, prefix_text, minus_text, expr_level, at_level, is_literal, expr_text, exprs_text, links_text, option_text};
 ghost use Rattle.asm_tree.specs.Views.{expr_view, exprs_view, links_view, expr_option};
 ghost use Rattle.asm_grammar_print.specs.Put.{written, put};
 

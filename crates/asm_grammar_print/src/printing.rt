@@ -1,7 +1,7 @@
 //! The text of a module.
 
-ghost use Rattle.std.specs.Prelude.{◌≡◌, [], ◌∷◌, ◌++◌, OnOk, IfOk, map, false};
-ghost use Rattle.sem_words.specs.Lists.{text_bytes, list_items};
+ghost use Rattle.std.specs.Prelude.{◌≡◌, [], ◌∷◌, OnOk, IfOk, map, false};
+ghost use Rattle.sem_words.specs.Lists.{list_items};
 ghost use Rattle.asm_lang.specs.Heights.{IsWellFormed};
 ghost use Rattle.asm_lang.specs.Texts.{IsTextOf};
 ghost use Rattle.asm_lang.specs.Printing.{globals_text, functions_text, table_text, tables_text, export_pieces, exports_text, module_name_text, module_pieces, canonical_text};

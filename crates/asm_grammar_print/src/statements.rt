@@ -1,8 +1,7 @@
 //! The tokens of a statement.
 
-ghost use Rattle.std.specs.Prelude.{◌≡◌, [], ◌∷◌, ◌++◌, OnOk, codes};
-ghost use Rattle.sem_words.specs.Lists.{text_bytes};
-ghost use Rattle.asm_lang.specs.Printing.{word, between, condition_text, target_text, labels_text, value_text, stmt_text, stmts_text, clauses_text};
+ghost use Rattle.std.specs.Prelude.{◌≡◌, OnOk};
+ghost use Rattle.asm_lang.specs.Printing.{word, condition_text, target_text, labels_text, value_text, stmt_text, stmts_text, clauses_text};
 ghost use Rattle.asm_tree.specs.Views.{expr_view, expr_option, text_option, texts_view, stmt_view, stmts_view, clauses_view};
 ghost use Rattle.asm_grammar_print.specs.Put.{written, put, for_heading};
 

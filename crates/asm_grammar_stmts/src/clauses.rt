@@ -1,9 +1,9 @@
 //! The clauses of a switch.
 
-ghost use Rattle.std.specs.Prelude.{◌≡◌, refl, false, ℤ, IfOk};
+ghost use Rattle.std.specs.Prelude.{◌≡◌, false, IfOk};
 ghost use Rattle.asm_lang.specs.Lexemes.{Lexeme as Token};
-ghost use Rattle.asm_lang.specs.Trees.{StmtTrees, Init, no_stmt, StmtTree};
-ghost use Rattle.asm_lang.specs.Machine.{State as Machine, closes, at_literal, after_sign, Step, goes, feed, advance, clauses_by, stmts_by, in_case_by};
+ghost use Rattle.asm_lang.specs.Trees.{StmtTrees, StmtTree};
+ghost use Rattle.asm_lang.specs.Machine.{State as Machine, at_literal, after_sign, Step, goes, feed, advance, clauses_by, stmts_by, in_case_by};
 ghost use Rattle.asm_grammar_nodes.specs.Views.{lexeme_view};
 ghost use Rattle.asm_grammar_nodes.specs.Tall.{tall_view, stmt_tall_view, stmts_tall_view};
 ghost use Rattle.asm_grammar_stmts.specs.Classes.{end_class};

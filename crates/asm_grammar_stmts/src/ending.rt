@@ -1,6 +1,6 @@
 //! The end of a statement before a token.
 
-ghost use Rattle.std.specs.Prelude.{◌≡◌, refl, IfOk};
+ghost use Rattle.std.specs.Prelude.{◌≡◌, IfOk};
 ghost use Rattle.asm_lang.specs.Trees.{StmtTrees};
 ghost use Rattle.asm_lang.specs.Machine.{ends, ends_do, after_arm, after_body, feed, Step};
 ghost use Rattle.asm_grammar_nodes.specs.Views.{lexeme_view};

@@ -1,6 +1,6 @@
 //! A complete statement and what is open round it.
 
-ghost use Rattle.std.specs.Prelude.{◌≡◌, ◌≢◌, IfOk};
+ghost use Rattle.std.specs.Prelude.{◌≡◌, IfOk};
 ghost use Rattle.asm_lang.specs.Lexemes.{Lexeme as Token};
 ghost use Rattle.asm_lang.specs.Trees.{StmtTrees};
 ghost use Rattle.asm_lang.specs.Machine.{Step, goes, feed};

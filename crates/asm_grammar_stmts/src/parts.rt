@@ -1,11 +1,11 @@
 //! What stands between a statement's first token and what is in it.
 
-ghost use Rattle.std.specs.Prelude.{◌≡◌, ◌&&◌, not, Some, None, refl, IfOk};
+ghost use Rattle.std.specs.Prelude.{◌≡◌, ◌&&◌, not, Some, None, IfOk};
 ghost use Rattle.asm_lang.specs.Trees.{StmtTrees, returns};
-ghost use Rattle.asm_lang.specs.Machine.{at_return, at_target, Step, goes, feed, advance, condition, same_class, begins_expr};
+ghost use Rattle.asm_lang.specs.Machine.{at_return, at_target, Step, feed, advance, condition, same_class, begins_expr};
 ghost use Rattle.asm_grammar_nodes.specs.Views.{lexeme_view, name_option};
 ghost use Rattle.asm_grammar_nodes.specs.Tall.{stmt_tall_view};
-ghost use Rattle.asm_grammar_stmts.specs.Views.{around_view, body_step_view, condition_view, for_view, part_view, part_end, jump_view, purpose_view};
+ghost use Rattle.asm_grammar_stmts.specs.Views.{around_view, body_step_view, condition_view, for_view, part_view, part_end, jump_view};
 
 use crate::begin::expression_begins;
 use crate::classes::{Sign, begins_expr, is};

@@ -7,7 +7,6 @@ use Rattle.asm_lang_tokens.specs.Forms.{Kind, name, number, quoted, punctuator, 
 use Rattle.asm_lang_tokens.specs.Text.{PlacedToken}
 use Rattle.asm_lang.specs.Lexemes.{class_of, identifier, in_word, directive, other, Lexeme, lexemes_of}
 use Rattle.asm_lang.specs.Trees as trees
-use Rattle.asm_lang.specs.Trees.{ModuleTree}
 use Rattle.asm_lang.specs.Machine.{run, at_start, failed, grammar, no_use_asm}
 use Rattle.asm_lang.specs.Modules.{init_of, lit, var, unary, binary, chain, links, no_links, block, empty, if_only, no_stmts, stmts, one, expr_of, expr_places, Module}
 use Rattle.asm_lang.specs.Heights.{expr_height, stmt_heights, module_height}

@@ -3,7 +3,7 @@
 //! A token list is a module of the grammar, or it has exactly one place and kind of fault.
 #![tactic(auto)]
 
-ghost use Rattle.std.specs.Prelude.{◌≡◌, ◌≤◌, ◌+◌, ℕ, List, Result, Ok, Err, length, drop};
+ghost use Rattle.std.specs.Prelude.{◌≡◌, ◌≤◌, ◌+◌, ℕ, List, Ok, length, drop};
 ghost use Rattle.asm_lang.specs.Lexemes.{Lexeme};
 ghost use Rattle.asm_lang.specs.Trees.{ModuleTree};
 ghost use Rattle.asm_lang.specs.Grammar.{IsModule};

@@ -8,7 +8,7 @@ use Rattle.asm_lang.specs.Grammar.{IsFunction, a_function, IsFunctions, no_funct
 use Rattle.asm_lang.specs.Modules.{function_of}
 use Rattle.asm_lang.specs.Heights.{function_height}
 use Rattle.asm_lang.specs.Machine as machine
-use Rattle.asm_lang.specs.Machine.{State, closes, at_stmts, in_names, at_marks, at_locals, at_use, at_globals, at_functions, at_end, Step, goes, expects, either, refuses, body_step, function_step, globals_by, functions_by, use_by, feed, advance, Refusal, ended, stops, run, at_start}
+use Rattle.asm_lang.specs.Machine.{State, at_stmts, in_names, at_marks, at_locals, at_use, at_globals, at_functions, at_end, Step, goes, expects, either, body_step, function_step, globals_by, functions_by, use_by, feed, advance, Refusal, stops, run, at_start}
 use Rattle.asm_lang.proofs.Leads.{Observer, ◌▸◌, by_step, takes, closed, on_class}
 use Rattle.asm_lang.proofs.CompleteStmts.{end_read}
 use Rattle.asm_lang.proofs.CompleteModules.{with_all, with_nothing, heading_read, globals_read, params_read, marks_read, locals_read, locals_over, function_read, body_read}

@@ -5,7 +5,7 @@ use Rattle.sem_words.specs.declared.js_value.JsOp.TheVariants.{Add, Sub, Or}
 use Rattle.asm_lang.specs.Lexemes.{Class, identifier, function_word, new_word, return_word, var_word, while_word, a_number, a_decimal, directive, open_brace, close_brace, open_bracket, dot, semicolon, comma, operator, Lexeme, is_word, named}
 use Rattle.asm_lang.specs.Trees.{variable, element, plain, empty, if_only, StmtTrees, no_stmt, no_clause, one_clause, Init, number, decimal, foreign_int, foreign_double, member, math, view, VariableTree, ParamTree, FunctionTree, TableTree, ExportTree, ExportsTree, one, many, Heading, ModuleTree}
 use Rattle.asm_lang.specs.Machine as machine
-use Rattle.asm_lang.specs.Machine.{same_class, meets, is_quiet, State, closes, at_expr, after_minus, after_name, after_index, after_expr, at_arguments, in_rest, ends, ends_do, at_stmt, after_stmt_name, at_option, at_return, at_target, after_arm, after_body, at_stmts, at_clauses, in_case, at_literal, after_sign, at_init, after_member, in_names, at_marks, at_locals, in_locals, may_comma, at_use, at_globals, at_value, in_globals, at_functions, at_tables, in_tables, at_export, at_exports, in_exports, at_end, Step, goes, expects, either, refuses, stuck, end_by, literal_by, sign_by, init_by, member_by, names_by, int_mark, double_mark, mark_step, variable_of, declared, local_step, locals_by, in_locals_by, closed_module, export_by, export_step, table_of, members_step, table_step, body_step, function_step, globals_by, value_by, in_globals_by, functions_by, tables_by, in_tables_by, export_of, exports_step, in_exports_by, use_by, end_step, comma_by, feed, advance, Refusal, ended, stops, run, params_step, heading_step, at_start}
+use Rattle.asm_lang.specs.Machine.{same_class, meets, is_quiet, State, closes, at_expr, after_minus, after_name, after_index, after_expr, at_arguments, in_rest, ends, ends_do, at_stmt, after_stmt_name, at_option, at_return, at_target, after_arm, after_body, at_stmts, at_clauses, in_case, at_literal, after_sign, at_init, after_member, in_names, at_marks, at_locals, in_locals, may_comma, at_use, at_globals, at_value, in_globals, at_functions, at_tables, in_tables, at_export, at_exports, in_exports, at_end, Step, goes, expects, either, refuses, stuck, literal_by, sign_by, init_by, member_by, names_by, int_mark, double_mark, mark_step, variable_of, local_step, locals_by, in_locals_by, export_by, members_step, table_step, body_step, function_step, globals_by, value_by, in_globals_by, functions_by, tables_by, in_tables_by, exports_step, in_exports_by, use_by, end_step, comma_by, feed, advance, ended, run, params_step, heading_step, at_start}
 use Rattle.asm_lang.specs.TreeHeights.{block_height, whole_height}
 use Rattle.asm_laws_height.specs.Peaks.{peak, step_peak}
 use Rattle.asm_laws_height.proofs.Sizes.{last_below, bodies, bodies_more, last_function_low, bodies_low}

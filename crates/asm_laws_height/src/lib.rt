@@ -1,7 +1,7 @@
 //! asm.js: the limit on the height of a module's nodes, and the token at which a node above it is complete.
 #![tactic(auto)]
 
-ghost use Rattle.std.specs.Prelude.{◌≡◌, ◌≤◌, ◌+◌, ◌++◌, ℕ, ℤ, Bool, true, false, List, Option, Some, Result, Ok, Err, length, take, drop, max, min, nat_lt};
+ghost use Rattle.std.specs.Prelude.{◌≡◌, ◌≤◌, ◌+◌, ◌++◌, ℕ, ℤ, Bool, true, false, List, Option, Some, Ok, Err, length, take, drop, max, min, nat_lt};
 ghost use Rattle.sem_words.specs.declared.js_value.JsOp.{JsOp};
 ghost use Rattle.sem_words.specs.declared.js_value.JsUnary.{JsUnary};
 ghost use Rattle.asm_lang.specs.Lexemes.{Class, Lexeme};

@@ -10,7 +10,7 @@ use Rattle.asm_lang.specs.Lexemes.{Class, identifier, else_word, a_decimal, Lexe
 use Rattle.asm_lang.specs.Trees.{ExprTree, ExprTrees, StmtTree, StmtTrees, ClauseTrees, Init}
 use Rattle.asm_lang.specs.Grammar.{is_else, no_else, IsExpr, an_operand, a_binary, a_conditional, an_assignment, a_store, a_list, IsOperand, a_literal, a_negative, a_decimal_literal, a_variable, an_element, a_call, a_table_call, in_parens, a_prefix, a_minus, IsIndex, an_index, IsArguments, no_argument, arguments, IsRest, no_further, a_further, IsEnd, written, missing, IsDoEnd, do_written, do_missing, IsOption, absent, present, IsReturned, no_value, a_value, IsTarget, no_label, a_label, IsLiteral, positive, negative, positive_decimal, negative_decimal, IsStmt, a_block, a_plain, an_empty, an_if_only, an_if_else, a_return, a_while, a_do, a_for, a_break, a_continue, a_labelled, a_switch, IsStmts, no_stmts, more_stmts, IsClauses, no_clauses, a_case, a_default}
 use Rattle.asm_lang.specs.Modules as m
-use Rattle.asm_lang.specs.Modules.{Expr, Links, Stmt, no_links, links, is_sum, nearest, init_of, more_links, chained, binary_of, expr_of, exprs_of, option_of, stmt_of, stmts_of, clauses_of}
+use Rattle.asm_lang.specs.Modules.{Expr, Links, Stmt, no_links, links, nearest, init_of, more_links, chained, binary_of, expr_of, exprs_of, option_of, stmt_of, stmts_of, clauses_of}
 use Rattle.asm_laws_print.specs.Spelled.{HasClass, some_links, FitsExpr, FitsExprs, FitsLinks}
 use Rattle.asm_laws_print.specs.Fitting.{FitsOption, FitsName, IsProperty, FitsNumber, ends_open, FitsStmt, FitsStmts, FitsClauses, unsigned, FitsLiteral}
 use Rattle.asm_laws_print.proofs.Stmts.{more_label, under_is}

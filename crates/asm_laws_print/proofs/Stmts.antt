@@ -7,7 +7,7 @@ use Rattle.asm_lang.specs.Trees as trees
 use Rattle.asm_lang.specs.Trees.{ExprTree, StmtTree, StmtTrees, ClauseTrees}
 use Rattle.asm_lang.specs.Grammar.{no_else, place_of, under, IsExpr, IsEnd, written, do_written, IsOption, absent, present, IsReturned, no_value, a_value, IsTarget, no_label, a_label, IsStmt, a_block, a_plain, an_empty, an_if_only, an_if_else, a_return, a_while, a_do, a_for, a_break, a_continue, a_labelled, a_switch, IsStmts, no_stmts, more_stmts, IsClauses, no_clauses, a_case, a_default}
 use Rattle.asm_lang.specs.Modules as m
-use Rattle.asm_lang.specs.Modules.{Expr, Stmt, Stmts, Clauses, expr_of, option_of, stmt_of, stmts_of, clauses_of, value_of}
+use Rattle.asm_lang.specs.Modules.{Expr, Stmt, Stmts, Clauses, expr_of, option_of, stmt_of, stmts_of, clauses_of}
 use Rattle.asm_lang.specs.Printing.{word, between, expr_text, option_text, a_semicolon, condition_text, target_text, labels_text, literal_text, stmt_text, stmts_text, clauses_text}
 use Rattle.asm_laws_print.specs.Spelled.{Spells, no_piece, FitsExpr, IsRead}
 use Rattle.asm_laws_print.specs.Fitting.{FitsOption, FitsName, AreNames, ends_open, is_labelled, FitsStmt, FitsStmts, FitsClauses}

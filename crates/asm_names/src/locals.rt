@@ -1,7 +1,7 @@
 // The names of a function, put into a map with whether each is an int. Later ones are put in first, so that an
 // earlier one takes their place.
 
-ghost use Rattle.std.specs.Prelude.{◌≡◌, ℕ, List, IfOk, Some, not, map, if◌then◌else◌};
+ghost use Rattle.std.specs.Prelude.{◌≡◌, ℕ, List, IfOk, Some, map, if◌then◌else◌};
 ghost use Rattle.std.specs.Str.{bytes_eq};
 ghost use Rattle.sem_words.specs.Lists.{text_bytes};
 ghost use Rattle.asm_tree.specs.Views.{local_view, param_view, init_view};

@@ -1,5 +1,5 @@
 //! The exported functions of an accepted module.
-ghost use Rattle.std.specs.Prelude.{◌≡◌, ◌++◌, IfOk, map, slice_get};
+ghost use Rattle.std.specs.Prelude.{◌≡◌, IfOk, map, slice_get};
 ghost use Rattle.asm_tree.specs.Views.{function_view, module_view};
 ghost use Rattle.asm_lang_valid.specs.Refusal.{Exported};
 ghost use Rattle.asm_lang.specs.Modules.{Module};

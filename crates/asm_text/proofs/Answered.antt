@@ -1,5 +1,5 @@
 -- What reading a text answers, of what its tokens and the parser answered.
-use Rattle.std.proofs.Common.{◌≡◌, ℕ, ◌≤◌, List, length, Result, Ok, Err, refl, sym, subst, ◌∙◌, inl, inr}
+use Rattle.std.proofs.Common.{◌≡◌, ℕ, ◌≤◌, List, length, Result, Ok, Err, sym, subst, ◌∙◌, inl, inr}
 use Rattle.sem_words.specs.Lists.{list_items}
 use Rattle.asm_lang_tokens.specs.Text.{PlacedToken, PlacedFault, Reading, IsReading}
 use Rattle.asm_lang_tokens.proofs.Readings.{same_reading}

@@ -1,19 +1,18 @@
 -- A text that is read up to a place.
-use Rattle.std.proofs.Common.{◌≡◌, ℕ, List, [], ◌∷◌, ◌++◌, length, Result, Ok, Err, append_assoc, sym, subst, inl, inr}
-use Rattle.asm_lang_tokens.specs.Text.{PlacedToken, Reading, IsReading}
-use Rattle.asm_tree.specs.declared.tree.Parsed.{Parsed}
+use Rattle.std.proofs.Common.{◌≡◌, ℕ, List, [], ◌∷◌, ◌++◌, length, Ok, Err, append_assoc, sym, subst, inl, inr}
+use Rattle.asm_lang_tokens.specs.Text.{PlacedToken, IsReading}
 use Rattle.js_tokens.specs.declared.token.Token.{Token}
 use Rattle.js_tokens.specs.declared.fault.TokenFault.{TokenFault}
 use Rattle.js_tokens.specs.declared.scanner.Scanner.{Scanner}
 use Rattle.js_tokens.specs.declared.scanner.Next.TheVariants as nexts
 use Rattle.js_tokens.specs.Left.{IsLeft, IsFirstFault, IsNext}
 use Rattle.js_tokens.specs.Views.{placed_token}
-use Rattle.js_tokens.proofs.GoingOn.{GoesOn, begins_whole, one_more, all_found, fault_in, with_front}
+use Rattle.js_tokens.proofs.GoingOn.{GoesOn, begins_whole, one_more, all_found, fault_in}
 use Rattle.asm_grammar.specs.declared.fault.ParseFault.{ParseFault}
 use Rattle.asm_grammar.specs.declared.parsing.Parser.{Parser}
 use Rattle.asm_grammar.specs.Parsed.{HasRead, IsVerdict}
 use Rattle.asm_text.specs.declared.fault.TextFault.{TextFault}
-use Rattle.asm_text.specs.Places.{of_reading, of_parsing, IsStopped}
+use Rattle.asm_text.specs.Places.{of_reading, IsStopped}
 use Rattle.asm_text.specs.Said.{IsAnswered}
 use Rattle.asm_text.proofs.Answered.{refusal_answered, fault_answered}
 

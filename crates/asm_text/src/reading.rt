@@ -1,6 +1,6 @@
 //! Reading a text: its tokens one by one, and the module that they spell.
 
-ghost use Rattle.std.specs.Prelude.{◌≡◌, ◌≤◌, List, Ok, IfOk, IfErr};
+ghost use Rattle.std.specs.Prelude.{◌≤◌, List, Ok, IfOk, IfErr};
 ghost use Rattle.sem_words.specs.Lists.{list_items};
 ghost use Rattle.asm_lang_tokens.specs.Text.{PlacedToken, IsReading};
 ghost use Rattle.asm_lang.specs.Heights.{height_limit, module_height, IsWellFormed};

@@ -1,6 +1,6 @@
 // Indexes of views.
 
-ghost use Rattle.std.specs.Prelude.{◌≡◌, ◌^◌, Some, true, IfOk};
+ghost use Rattle.std.specs.Prelude.{◌≡◌, Some, true, IfOk};
 ghost use Rattle.asm_tree.specs.Views.{expr_view};
 ghost use Rattle.asm_lang_valid.specs.Scope as scopes;
 ghost use Rattle.asm_lang_valid.specs.Rows.{first};

@@ -1,8 +1,7 @@
 // The rows of one node, by the types of its parts.
 
-ghost use Rattle.std.specs.Prelude.{◌≡◌, ◌++◌, ◌&&◌, Some, true, false, not, is_some, IfOk, option_and_then};
+ghost use Rattle.std.specs.Prelude.{◌≡◌, ◌&&◌, Some, is_some, IfOk};
 ghost use Rattle.asm_tree.specs.Views.{expr_view};
-ghost use Rattle.asm_lang.specs.Modules.{lit};
 ghost use Rattle.asm_types.specs.Types as types;
 ghost use Rattle.asm_types.specs.Rows.{row, unary_row_of};
 ghost use Rattle.asm_lang_valid.specs.declared.rule.Rule.TheVariants as rules;

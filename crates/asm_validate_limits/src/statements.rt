@@ -1,6 +1,6 @@
 // The limits in statements.
 
-ghost use Rattle.std.specs.Prelude.{◌≡◌, ◌+◌, ◌++◌, ◌<◌, ◌^◌, nat_le};
+ghost use Rattle.std.specs.Prelude.{◌+◌, ◌++◌, ◌<◌, ◌^◌, nat_le};
 ghost use Rattle.asm_tree.specs.Views.{expr_view, expr_option, stmt_view, stmts_view, clauses_view};
 ghost use Rattle.asm_lang_valid.specs.declared.rule.Rule.TheVariants.{PastLimit};
 ghost use Rattle.asm_lang_valid.specs.Rows.{need, expr_count, option_count, stmt_count, stmts_count, clauses_count};

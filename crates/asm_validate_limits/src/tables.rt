@@ -1,6 +1,6 @@
 // The limits on tables.
 
-ghost use Rattle.std.specs.Prelude.{◌≡◌, ◌+◌, ◌<◌, ◌≤◌, ◌^◌, length, map, IfOk};
+ghost use Rattle.std.specs.Prelude.{◌+◌, ◌<◌, ◌≤◌, ◌^◌, length, map, IfOk};
 ghost use Rattle.sem_words.specs.Lists.{list_items};
 ghost use Rattle.asm_tree.specs.Views.{table_view};
 ghost use Rattle.asm_lang_valid.specs.LimitRows.{tables_marks, most_entries};

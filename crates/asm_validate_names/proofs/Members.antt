@@ -1,6 +1,5 @@
 -- Members of tables and functions of exports.
-use Rattle.std.proofs.Common.{◌≡◌, ℕ, ◌+◌, ◌<◌, Bool, true, false, not, ◌&&◌, List, [], ◌∷◌, ◌++◌, length, map, drop, get_or, Option, Some, None, is_some, refl, sym, ap, ◌∙◌, append_assoc}
-use Rattle.std.specs.Prelude.{if◌then◌else◌}
+use Rattle.std.proofs.Common.{◌≡◌, ℕ, ◌+◌, ◌<◌, Bool, true, false, ◌&&◌, List, [], ◌∷◌, ◌++◌, length, map, drop, get_or, Option, Some, None, is_some, refl, sym, ap, ◌∙◌, append_assoc}
 use Rattle.std.proofs.lemmas.List.{at_drop_more}
 use Rattle.sem_words.specs.declared.text.Text.{Text}
 use Rattle.sem_words.specs.Lists.{text_bytes, list_items}
@@ -8,8 +7,7 @@ use Rattle.asm_lang.specs.Modules.{Module}
 use Rattle.asm_tree.specs.declared.tree.Table.{Table}
 use Rattle.asm_tree.specs.declared.tree.Export.{Export}
 use Rattle.asm_tree.specs.Views.{texts_view, table_view, export_view}
-use Rattle.asm_lang_valid.specs.declared.rule.Met.{Met}
-use Rattle.asm_lang_valid.specs.Rows.{need, first}
+use Rattle.asm_lang_valid.specs.Rows.{first}
 use Rattle.asm_lang_valid.specs.Scope.{module_meaning}
 use Rattle.asm_lang_valid.specs.NameRows.{is_declared, knows, is_function, all_known, all_functions, function_uses, tables_names, keys_names}
 use Rattle.asm_names.specs.declared.meaning.Meaning.{Meaning}

@@ -1,7 +1,6 @@
 // The names that expressions use.
 
 ghost use Rattle.std.specs.Prelude.{◌≡◌, ◌+◌, ◌<◌, ◌^◌, IfOk};
-ghost use Rattle.sem_words.specs.Lists.{list_items};
 ghost use Rattle.asm_tree.specs.Views.{expr_view, exprs_view, links_view};
 ghost use Rattle.asm_lang_valid.specs.Rows.{first, expr_count, exprs_count, links_count};
 ghost use Rattle.asm_lang_valid.specs.NameRows as rows;

@@ -1,6 +1,6 @@
 // How many nodes a module has, or None where 64 bits don't hold the number. Each count goes on from the nodes before.
 
-ghost use Rattle.std.specs.Prelude.{◌≡◌, ◌+◌, ◌<◌, ◌^◌, SomeIff, length, map};
+ghost use Rattle.std.specs.Prelude.{◌≡◌, ◌+◌, ◌<◌, ◌^◌, SomeIff, map};
 ghost use Rattle.asm_tree.specs.Views.{expr_view, exprs_view, links_view, expr_option, stmt_view, stmts_view, clauses_view, function_view, exports_view, module_view};
 ghost use Rattle.asm_lang_valid.specs.Rows.{expr_count, exprs_count, links_count, option_count, stmt_count, stmts_count, clauses_count, function_count, functions_count, exports_count, module_count};
 

@@ -1,13 +1,12 @@
 -- The rows of a function: those of its locals, and those of its body.
-use Rattle.std.proofs.Common.{◌≡◌, ℕ, ◌+◌, ◌++◌, false, List, [], length, map, None, refl, sym, ap, subst, ◌∙◌, arith}
+use Rattle.std.proofs.Common.{◌≡◌, ℕ, ◌+◌, false, List, [], length, map, None, sym, ap, subst, ◌∙◌, arith}
 use Rattle.std.specs.Prelude.{Result, Ok, Err, IfOk, MatchResult}
 use Rattle.sem_words.specs.Lists.{list_items}
 use Rattle.asm_lang.specs.Modules as modules
 use Rattle.asm_tree.specs.declared.tree.Local.{Local}
 use Rattle.asm_tree.specs.declared.tree.Function.{Function}
 use Rattle.asm_tree.specs.declared.tree.Stmt.{Stmt}
-use Rattle.asm_tree.specs.Views.{param_view, local_view, function_view, stmts_view}
-use Rattle.asm_lang_valid.specs.declared.rule.Met.{Met}
+use Rattle.asm_tree.specs.Views.{local_view, function_view, stmts_view}
 use Rattle.asm_lang_valid.specs.Rows.{first, stmts_count, body_at, function_count}
 use Rattle.asm_lang_valid.specs.Typing.{Scope, Label, Around, at_top}
 use Rattle.asm_lang_valid.specs.Typed.{scope_of}

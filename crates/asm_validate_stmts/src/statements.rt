@@ -1,10 +1,9 @@
 // The first node in statements that breaks a rule of types.
 
-ghost use Rattle.std.specs.Prelude.{◌≡◌, ◌+◌, ◌++◌, ◌<◌, ◌^◌, None, IfOk, MatchResult};
-ghost use Rattle.asm_tree.specs.Views.{expr_view, expr_option, stmt_view, stmts_view, clauses_view, texts_view, text_option};
-ghost use Rattle.asm_lang.specs.Modules.{for_loop, labelled, switches};
-ghost use Rattle.asm_lang_valid.specs.Rows.{first, expr_count, option_count, stmt_count, stmts_count, clauses_count};
-ghost use Rattle.asm_lang_valid.specs.Typing as typing;
+ghost use Rattle.std.specs.Prelude.{◌≡◌, ◌+◌, ◌<◌, ◌^◌, None, IfOk, MatchResult};
+ghost use Rattle.asm_tree.specs.Views.{expr_view, stmt_view, stmts_view, clauses_view, texts_view};
+ghost use Rattle.asm_lang.specs.Modules.{labelled, switches};
+ghost use Rattle.asm_lang_valid.specs.Rows.{first, expr_count, stmt_count, stmts_count, clauses_count};
 ghost use Rattle.asm_lang_valid.specs.TypeRows as rows;
 ghost use Rattle.asm_names.specs.Scopes.{scope_view};
 ghost use Rattle.asm_validate_exprs.specs.Contexts.{IsContext};

@@ -28,7 +28,7 @@ use Rattle.bridge_cmd.specs.Asking.{done_by, named_by}
 use Rattle.bridge_cmd.specs.declared.words.Making.TheVariants.{AsmToWasm, WasmToAsm, CheckAsm, CheckWasm, Show}
 use Rattle.bridge_cmd.specs.declared.words.Action.{Action}
 use Rattle.bridge_cmd.specs.declared.words.Action.TheVariants.{Make, Run}
-use Rattle.bridge_cmd.specs.Command.{Asked, Running, as_binary, run, on_files, gen, asked, asm_js, web_assembly, begins_with_zero, language_of, read_as, file_of}
+use Rattle.bridge_cmd.specs.Command.{Asked, Running, as_binary, run, on_files, asked, asm_js, web_assembly, begins_with_zero, language_of, read_as, file_of}
 use Rattle.bridge_cmd.specs.Answers.{IsAnswered, a_bar, want_of_memory, IsScriptAnswer, an_unfit_line, no_room, MayAnswer, a_refusal, a_read_fault, no_memory}
 use Rattle.bridge_cmd.specs.Job.{Job, refused, file_limit, Holds, IsFileJob, absent, long, held, IsBarred, not_accepted, not_valid, not_translated, outside, IsMade, translated, translated_back, text_counted, bytes_counted, printed, listed, IsPlayed, unfit, ran, IsModuleJob, barred, made, scripted, IsJob, no_command, commanded, generated}
 use Rattle.bridge_cmd.specs.Runs.{Runner, text_runner, binary_runner, IsRunner, a_text, a_binary, script_for, Prints}

@@ -1,20 +1,13 @@
 -- What the commands write there and back is what may be written.
-use Rattle.std.proofs.Common.{◌≡◌, ℕ, List, sym, subst, ◌∙◌}
-use Rattle.std.specs.Prelude.{None}
-use Rattle.sem_laws.specs.Script.{ScriptPlain}
-use Rattle.sem_laws.specs.Simulation.{Sim}
-use Rattle.sem_laws.specs.Laws.{comparison_there_and_back}
+use Rattle.std.proofs.Common.{◌≡◌, ℕ, List, subst}
 use Rattle.wasm_lang.specs.Modules.{WasmModule}
 use Rattle.wasm_lang.proofs.ReadingLawsOne.{one_module}
 use Rattle.wasm_lang_valid.specs.Bytes.{IsValidBytes}
 use Rattle.asm_lang.specs.Modules.{Module}
 use Rattle.asm_lang_valid.specs.Texts.{IsAcceptedText}
-use Rattle.asm_lang_exec.specs.Session.{first_heap}
-use Rattle.asm_lang_exec.specs.Fits.{misfit}
 use Rattle.asm2wasm_lang.specs.Allowed as there
-use Rattle.asm2wasm_lang.specs.Allowed.{WritesBytes, source_session}
 use Rattle.wasm2js_lang.specs.Allowed as back
-use Rattle.wasm2js_laws_round_trip.specs.Laws.{script_back, size_back, session_back, RoundTripsSimulate}
+use Rattle.wasm2js_laws_round_trip.specs.Laws.{RoundTripsSimulate}
 use Rattle.cmd_check_asm.proofs.Verdicts as laws
 use Rattle.bridge_cmd.specs.Command.{asm_to_wasm, wasm_to_asm}
 use Rattle.bridge_cmd.specs.Job.{IsMade, translated, translated_back}

@@ -1,8 +1,8 @@
 -- The module of so many functions is small.
-use Rattle.std.proofs.Common.{◌≡◌, ℕ, zero, suc, ◌+◌, ◌≤◌, max, false, List, [], ◌∷◌, length, refl, ap, ◌∙◌, arith}
+use Rattle.std.proofs.Common.{◌≡◌, ℕ, zero, suc, ◌≤◌, false, [], length, refl, ap, arith}
 use Rattle.std.specs.Prelude.{All}
 use Rattle.std.proofs.lemmas.List.Elements.{All-nil, All-cons}
-use Rattle.asm_lang.specs.Heights.{function_height, functions_height, module_height}
+use Rattle.asm_lang.specs.Heights.{function_height, functions_height}
 use Rattle.asm_lang.specs.Modules.{Variable, Function}
 use Rattle.asm_lang_valid.specs.Rows.{function_count}
 use Rattle.asm2wasm_laws_profile.specs.Small.{is_foreign_member, HaveNoSwitch, IsSmall}

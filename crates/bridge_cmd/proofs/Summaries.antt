@@ -1,7 +1,6 @@
 -- The summary of what is made of a text of so many functions.
 use Rattle.std.proofs.Common.{◌≡◌, ◌≤◌, ℕ, true, List, [], length, refl, sym, ap, subst, ◌∙◌}
 use Rattle.std.specs.Prelude.{None}
-use Rattle.wasm_lang.specs.Bytes.{IsRead}
 use Rattle.wasm_lang.specs.Grammar.{IsModuleBytes}
 use Rattle.wasm_lang.specs.Modules.{WasmModule}
 use Rattle.wasm_lang.specs.Shape.{IsWritable}

@@ -1,5 +1,5 @@
 //! The summary of a text of so many functions.
-ghost use Rattle.std.specs.Prelude.{◌≡◌, ◌≤◌, None, IfOk, length};
+ghost use Rattle.std.specs.Prelude.{◌≡◌, None, IfOk, length};
 ghost use Rattle.asm_tree.specs.Views.{module_view};
 ghost use Rattle.asm_lang.specs.Printing.{canonical_text};
 ghost use Rattle.asm_lang_valid.specs.Texts.{IsAcceptedText};

@@ -1,5 +1,5 @@
 //! Writing the line of a refusal, in pieces that take no memory.
-ghost use Rattle.std.specs.Prelude.{ℕ, ◌≤◌, ◌++◌, ◌∷◌, [], OnOk, OnErr, map, codes, decimal};
+ghost use Rattle.std.specs.Prelude.{ℕ, ◌≤◌, ◌∷◌, [], OnOk, OnErr, map, codes, decimal};
 ghost use Rattle.std.specs.List.{concat};
 ghost use Rattle.bridge_cmd.specs.Reason.{line_of};
 ghost use Rattle.cmd_check_asm.specs.Names as texts;

@@ -1,6 +1,5 @@
 //! Modules that are run.
-ghost use Rattle.std.specs.Prelude.{◌≡◌, ℕ, List, None, IfOk, IfErr, MatchResult};
-ghost use Rattle.heap_lang.specs.Heap.{IsHeapLength};
+ghost use Rattle.std.specs.Prelude.{◌≡◌, ℕ, List, None, IfOk, IfErr};
 ghost use Rattle.asm_tree.specs.Views.{module_view};
 ghost use Rattle.wasm_lang_valid.specs.Runnable.{not_runnable};
 ghost use Rattle.bridge_cmd.specs.Command as spec;

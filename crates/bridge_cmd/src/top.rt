@@ -1,5 +1,5 @@
 //! The one call that does everything.
-ghost use Rattle.std.specs.Prelude.{◌≡◌, ◌≢◌, ◌⊎◌, ℕ, ◌≤◌, List, map, string_bytes, IsSome, None, Bool};
+ghost use Rattle.std.specs.Prelude.{◌≡◌, ◌≢◌, ◌⊎◌, ℕ, ◌≤◌, map, string_bytes, IsSome, None, Bool};
 ghost use Rattle.bridge_io.specs.Outside.{Rose, RoseBy};
 ghost use Rattle.bridge_cmd.specs.Command.{asked};
 ghost use Rattle.bridge_cmd.specs.Job.{Job, IsJob};

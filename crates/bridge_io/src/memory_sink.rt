@@ -1,5 +1,5 @@
 // A sink in memory, of which listed writes fail.
-ghost use Rattle.std.specs.Prelude.{◌≡◌, ◌⊎◌, ℕ, ◌+◌, ◌<◌, ◌≤◌, min, List, [], ◌∷◌, ◌++◌, length, take, Some, Ok, OnOk, OnErr, IfOk, IsErr};
+ghost use Rattle.std.specs.Prelude.{◌≡◌, ◌⊎◌, ◌+◌, ◌<◌, ◌≤◌, min, [], ◌∷◌, ◌++◌, length, take, Some, Ok, OnOk, OnErr, IfOk, IsErr};
 ghost use Rattle.bridge_io.specs.Outside.{raised, Rose, NeverFalls, appended};
 
 use crate::{Failed, Sink};

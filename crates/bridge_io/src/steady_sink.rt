@@ -1,6 +1,6 @@
 // A sink in memory whose writes never fail.
-ghost use Rattle.std.specs.Prelude.{◌≡◌, ℕ, ◌+◌, ◌<◌, ◌≤◌, min, max, List, [], ◌++◌, length, take, Some, Ok, OnOk, OnErr, IfOk};
-ghost use Rattle.bridge_io.specs.Outside.{raised, NeverFalls, appended};
+ghost use Rattle.std.specs.Prelude.{◌≡◌, ◌+◌, ◌<◌, ◌≤◌, min, max, [], ◌++◌, length, take, Some, Ok, OnOk, OnErr, IfOk};
+ghost use Rattle.bridge_io.specs.Outside.{raised};
 
 use crate::{Failed, Sink};
 use std::alloc::{AllocError, Global};
@@ -17,7 +17,7 @@ pub struct SteadySink {
 }
 
 impl Model for SteadySink {
-    ghost use Rattle.std.specs.Prelude.{◌≤◌, ◌<◌, vec_len, vec_capacity};
+    ghost use Rattle.std.specs.Prelude.{◌≤◌, ◌<◌, vec_capacity};
     ghost use Rattle.bridge_io.specs.InMemory.{SteadySinkState};
 
     ghost Value = { SteadySinkState };

@@ -1,8 +1,8 @@
 -- What reading a text and validating its module tell of the text.
-use Rattle.std.proofs.Common.{◌≡◌, ℕ, ◌<◌, List, [], ◌∷◌, length, map, Result, Ok, Err, Some, refl, sym, ap, ◌∙◌, subst, arith}
+use Rattle.std.proofs.Common.{◌≡◌, ℕ, ◌<◌, List, length, map, Result, Ok, Err, Some, refl, sym, ap, ◌∙◌, subst, arith}
 use Rattle.std.proofs.lemmas.List.{length-map}
 use Rattle.std.proofs.lemmas.Option.{slice_get-get_or}
-use Rattle.std.specs.Prelude.{IfOk, IfErr, MatchResult}
+use Rattle.std.specs.Prelude.{IfOk, IfErr}
 use Rattle.asm_lang.specs.Trees.{ModuleTree}
 use Rattle.asm_lang.specs.Modules.{Module, Export, Exports, one, many, module_of, module_places}
 use Rattle.asm_lang.specs.Texts.{SaysModule}
@@ -26,7 +26,7 @@ use Rattle.cmd_check_asm.specs.declared.fault.AsmRow.TheVariants as rows
 use Rattle.cmd_check_asm.specs.declared.fault.CheckFault.{CheckFault}
 use Rattle.cmd_check_asm.specs.declared.fault.CheckFault.TheVariants.{Refused, Memory}
 use Rattle.cmd_check_asm.specs.Refusals.{of_text, of_module, IsWithin}
-use Rattle.cmd_check_asm.specs.Judged.{Breaks, IsVerdict}
+use Rattle.cmd_check_asm.specs.Judged.{IsVerdict}
 use Rattle.cmd_check_asm.specs.Verdicts.{IsRefusal}
 
 -- ---- a module that was read

@@ -1,6 +1,6 @@
 //! The summary.
 
-ghost use Rattle.std.specs.Prelude.{◌≡◌, ◌++◌, IfOk, OnOk, codes, decimal};
+ghost use Rattle.std.specs.Prelude.{◌≡◌, IfOk};
 ghost use Rattle.gen_lang.specs.Recipe as spec;
 
 use itoa::Buffer;

@@ -1,5 +1,5 @@
 //! The kinds of view.
-ghost use Rattle.std.specs.Prelude.{◌≡◌, ◌<◌, ◌^◌, pos};
+ghost use Rattle.std.specs.Prelude.{◌≡◌, ◌<◌, ◌^◌};
 ghost use Rattle.heap_lang.specs.Numbers.{signed_reading};
 
 /// How a view reads its elements: of 8, 16 or 32 bits, with a sign or without.

@@ -1,7 +1,7 @@
 //! A block of whole words, all of them written: its numbers, and its runs of bytes.
 ghost use Rattle.std.specs.Prelude.{◌≡◌, ◌+◌, ◌*◌, ◌^◌, ◌<◌, ◌≤◌, length, take, drop, replicate, IfOk};
 ghost use Rattle.heap_lang.specs.Numbers.{little_endian};
-ghost use Rattle.heap_lang.specs.Heap.{with_run, store_bytes, copied, filled, IsWordSize};
+ghost use Rattle.heap_lang.specs.Heap.{with_run, store_bytes, IsWordSize};
 ghost use Rattle.heap_views.specs.Block.{IsBlock, Becomes};
 
 use crate::region::{Base, Cells, Deed, free, make};

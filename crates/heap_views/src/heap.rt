@@ -1,5 +1,5 @@
 //! The heap, and its accesses by byte places.
-ghost use Rattle.std.specs.Prelude.{◌≡◌, ◌≤◌, ◌<◌, ◌^◌, length, replicate, IfOk, IfSome, is_some, option_copied};
+ghost use Rattle.std.specs.Prelude.{◌≡◌, ◌<◌, ◌^◌, length, replicate, IfOk, IfSome, is_some, option_copied};
 ghost use Rattle.std.specs.Bool.{OnFalse};
 ghost use Rattle.heap_lang.specs.Numbers.{IsBytes};
 ghost use Rattle.heap_lang.specs.Heap.{load, store, load_bytes, store_bytes, run_at, with_run, copied, can_copy, filled, is_inside, place_of, IsWordSize, IsElement, IsHeapLength};

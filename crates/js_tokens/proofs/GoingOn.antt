@@ -6,7 +6,7 @@ use Rattle.std.specs.List.{list_any}
 use Rattle.std.specs.Global.{Vec}
 use Rattle.asm_lang_tokens.specs.Bytes.{is_line_end}
 use Rattle.asm_lang_tokens.specs.Forms.{Kind}
-use Rattle.asm_lang_tokens.specs.Text.{Fault, gap, token, fault, front_of, PlacedToken, Reading, with_first, Reads, the_end, a_fault, a_gap, a_token, IsReading, OfTokens, HasFault}
+use Rattle.asm_lang_tokens.specs.Text.{Fault, gap, token, fault, front_of, PlacedToken, Reading, with_first, Reads, the_end, a_fault, a_gap, a_token, IsReading, OfTokens}
 use Rattle.asm_lang_tokens.proofs.Readings.{same_reading}
 use Rattle.js_tokens.specs.declared.token.Token.{Token}
 use Rattle.js_tokens.specs.declared.fault.TokenFault.{TokenFault}

@@ -1,5 +1,5 @@
 -- What is left of a text whose tokens are cut off one by one.
-use Rattle.std.specs.Prelude.{ℕ, ◌<◌, false, [], Ok, Err, length}
+use Rattle.std.specs.Prelude.{◌<◌, false, [], Ok, Err, length}
 use Rattle.asm_lang_tokens.specs.Text.{non_ascii, bad_token, open_comment, literal_form, Reading, Reads, with_first}
 use Rattle.js_tokens.specs.declared.fault.TokenFault.{TokenFault}
 use Rattle.js_tokens.specs.declared.fault.TokenFault.TheVariants as faults

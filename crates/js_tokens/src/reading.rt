@@ -1,6 +1,6 @@
 //! A text cut into its tokens.
 
-ghost use Rattle.std.specs.Prelude.{◌≡◌, IfOk, IfErr, Ok};
+ghost use Rattle.std.specs.Prelude.{IfOk, IfErr, Ok};
 ghost use Rattle.std.specs.List.{AllByRecursion};
 ghost use Rattle.asm_lang_tokens.specs.Text.{Reading, IsReading, IsAt, HasForm, IsJoined};
 ghost use Rattle.js_tokens.specs.Views.{placed_tokens, IsFault, Tells};

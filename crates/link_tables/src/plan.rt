@@ -1,9 +1,9 @@
 // The tables of a module laid end to end.
-ghost use Rattle.std.specs.Prelude.{◌≡◌, ◌++◌, ◌∷◌, [], List, map, length, IfOk};
-ghost use Rattle.sem_words.specs.Lists.{list_items, text_bytes};
+ghost use Rattle.std.specs.Prelude.{◌≡◌, ◌++◌, List, map, IfOk};
+ghost use Rattle.sem_words.specs.Lists.{list_items};
 ghost use Rattle.asm_tree.specs.Views.{module_view, function_view, table_view, texts_view};
 ghost use Rattle.asm2wasm_lang.specs.Tables.{bases_of, entries_of, bases_from};
-ghost use Rattle.link_tables.specs.Names.{names_in, function_names, numbers_in, entries_in};
+ghost use Rattle.link_tables.specs.Names.{function_names, numbers_in, entries_in};
 
 use crate::slots::Slots;
 use asm_tree::{Function, Table};

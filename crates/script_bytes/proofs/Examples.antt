@@ -1,5 +1,5 @@
 -- A script whose heap line writes 256 doesn't write bytes, nor does one whose reply does.
-use Rattle.std.proofs.Common.{◌≡◌, ◌<◌, ℕ, List, [], ◌∷◌, arith}
+use Rattle.std.proofs.Common.{◌<◌, [], ◌∷◌, arith}
 use Rattle.std.proofs.lemmas.List.Elements.{All-head}
 use Rattle.heap_lang.specs.Numbers.{IsBytes}
 use Rattle.sem_laws.specs.Script.{WritePlain, give, ReplyLinePlain, ScriptPlain}

@@ -1,5 +1,5 @@
 -- Byte writes past the end of every heap.
-use Rattle.std.proofs.Common.{◌≡◌, ℕ, ◌+◌, ◌≤◌, ◌<◌, ◌^◌, List, length, sym, arith}
+use Rattle.std.proofs.Common.{◌≡◌, ℕ, ◌<◌, ◌^◌, List, length, sym, arith}
 use Rattle.heap_lang.specs.Heap.{IsHeapLength, with_run}
 use Rattle.heap_lang.proofs.RunLemmas.{with_run_past}
 

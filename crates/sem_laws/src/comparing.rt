@@ -1,5 +1,5 @@
 //! When one observation is below another.
-ghost use Rattle.std.specs.Prelude.{◌≡◌, [], ◌∷◌, ◌↔◌, IsTrue, map, option_map};
+ghost use Rattle.std.specs.Prelude.{◌≡◌, [], ◌∷◌, ◌↔◌, IsTrue, map};
 ghost use Rattle.sem_words.specs.Lists.{text_bytes, list_items};
 ghost use Rattle.sem_words.specs.Words.{trap_code};
 ghost use Rattle.sem_words.specs.declared.word.Word.TheVariants.{W32};

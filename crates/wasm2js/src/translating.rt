@@ -1,12 +1,11 @@
 //! The whole module.
-ghost use Rattle.std.specs.Prelude.{◌≡◌, ◌∷◌, ◌++◌, [], None, Some, codes, map, IfOk};
-ghost use Rattle.sem_words.specs.Lists.{list_items, text_bytes};
+ghost use Rattle.std.specs.Prelude.{◌≡◌, ◌∷◌, ◌++◌, [], None, Some, map, IfOk};
+ghost use Rattle.sem_words.specs.Lists.{list_items};
 ghost use Rattle.sem_laws.specs.Script.{ScriptPlain};
 ghost use Rattle.asm_lang.specs.Heights.{IsWellFormed};
-ghost use Rattle.asm_lang.specs.Modules.{many};
 ghost use Rattle.asm_lang_valid.specs.Refusal.{IsAccepted};
 ghost use Rattle.asm_lang_exec.specs.Fits.{misfit};
-ghost use Rattle.asm_tree.specs.Views.{module_view, global_view, function_view, table_view, exports_view, texts_view};
+ghost use Rattle.asm_tree.specs.Views.{module_view, function_view, texts_view};
 ghost use Rattle.wasm_lang_valid.specs.Profile.{outside_profile};
 ghost use Rattle.wasm_lang_exec.specs.Fits as machine;
 ghost use Rattle.wasm2js_lang.specs.Heaps.{heap_bytes};
@@ -17,7 +16,6 @@ ghost use Rattle.wasm2js_lang_parts.specs.Functions.{HasFunctions};
 ghost use Rattle.wasm2js_lang_parts.specs.Imports.{HasImports};
 ghost use Rattle.wasm2js_lang_parts.specs.Tables.{HasTables};
 ghost use Rattle.wasm2js_code.specs.Modules as code;
-ghost use Rattle.wasm2js_code.specs.Tables.{tables_for};
 ghost use Rattle.wasm2js_tables.specs.Views.{masked_view};
 ghost use Rattle.wasm2js.specs.Parts.{first_functions, last_functions};
 

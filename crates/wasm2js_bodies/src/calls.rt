@@ -1,6 +1,5 @@
 //! Calls.
 ghost use Rattle.std.specs.Prelude.{◌≡◌, ◌≤◌, ◌+◌, ◌++◌, suc, length, drop, slice_get, vec_len, IfOk};
-ghost use Rattle.asm_lang.specs.Modules as plain;
 ghost use Rattle.wasm_lang_valid.specs.Typing as typing;
 ghost use Rattle.wasm_tree.specs.Views.{type_of};
 ghost use Rattle.wasm2js_code.specs.Actions as actions;

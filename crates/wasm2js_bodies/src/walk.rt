@@ -1,5 +1,5 @@
 //! The walk over a body, from one instruction to the next and into blocks.
-ghost use Rattle.std.specs.Prelude.{◌≡◌, ◌≤◌, ◌∷◌, [], ◌++◌, Some, slice_get, vec_len, IfOk};
+ghost use Rattle.std.specs.Prelude.{◌≡◌, ◌≤◌, ◌∷◌, [], Some, slice_get, vec_len, IfOk};
 ghost use Rattle.wasm_lang.specs.Instructions as flat;
 ghost use Rattle.wasm2js_build.specs.Blocks.{statements_of};
 ghost use Rattle.wasm2js_jumps.specs.Aims.{aim_view, aims_view};

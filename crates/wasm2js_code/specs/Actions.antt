@@ -17,7 +17,7 @@ use Rattle.wasm_lang.specs.Instructions.{Plain, nop, drop_operand, select, local
 use Rattle.wasm_lang_valid.specs.Typing.{Context}
 use Rattle.wasm_lang_exec.specs.Store.{page}
 use Rattle.wasm2js_words.specs.Names as names
-use Rattle.wasm2js_words.specs.Names.{Name, Fixed, fixed, spare_high}
+use Rattle.wasm2js_words.specs.Names.{Name, fixed, spare_high}
 use Rattle.wasm2js_words.specs.Words.{conjunction, disjunction, exclusion, shift_left, shift_right_signed, shift_right, equal, unequal, less, at_most, greater, at_least, Term, read, number, both, flip, product, zeros, compare, choose, byte, whole, Simple, put, ask, tell, guard, stop, write_byte, write_whole, Action, simply, either}
 use Rattle.wasm2js_code.specs.Pairs.{Pair, local_pair, operand_pair, global_pair, literal, plus, minus, sign_of, funnel_left, funnel_right, extended, simples, moved}
 use Rattle.wasm2js_code.specs.Wide.{wide_binary, wide_unary, wide_extend, wide_compare, is_wide_zero}

@@ -12,7 +12,7 @@ use Rattle.wasm_lang_valid.specs.Typing.{Context, Shape, Fixed, Leaves, AnyOne, 
 use Rattle.wasm_lang_valid.specs.Measures.{same_type}
 use Rattle.wasm_lang_exec.specs.Code.{unreachable, block, loop, if_block, br, br_if, br_table, return, call, call_indirect, plain, Trees, ε, ◌▹◌}
 use Rattle.asm_lang.specs.Modules as text
-use Rattle.asm_lang.specs.Modules.{Expr, lit, var, table_call, binary, Exprs, no_exprs, exprs, Stmt, if_only, if_else, returns, while_loop, breaks, continues, labelled, switches, Clauses, no_clauses, clauses}
+use Rattle.asm_lang.specs.Modules.{Expr, var, table_call, binary, Exprs, no_exprs, exprs, Stmt, if_only, if_else, returns, while_loop, breaks, continues, labelled, switches, Clauses, no_clauses, clauses}
 use Rattle.wasm2js_words.specs.Names.{Name, numbered, function, table, label, fixed, result_high, spelled}
 use Rattle.wasm2js_words.specs.Words.{read, signed_number, natural, put_in, guard, simple_statement, simple_statements, statements, trap_call, stmts_in}
 use Rattle.wasm2js_code.specs.Pairs.{operand_pair, moved}

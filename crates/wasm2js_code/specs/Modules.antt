@@ -1,5 +1,5 @@
 -- The module of asm.js that a module of WebAssembly is translated to.
-use Rattle.std.specs.Prelude.{ℕ, suc, ◌+◌, ◌-◌, ◌*◌, ◌/◌, ◌%◌, List, [], ◌∷◌, ◌++◌, length, take, drop, Option, Some, None, slice_get, codes, pos, if◌then◌else◌}
+use Rattle.std.specs.Prelude.{ℕ, suc, ◌+◌, ◌-◌, ◌/◌, ◌%◌, List, [], ◌∷◌, ◌++◌, length, take, drop, Option, Some, None, slice_get, codes, pos, if◌then◌else◌}
 use Rattle.std.specs.List.{flat_map}
 use Rattle.sem_words.specs.Words.{signed_of}
 use Rattle.heap_lang.specs.Numbers.{little_endian}
@@ -19,7 +19,7 @@ use Rattle.wasm_lang_exec.specs.Reductions.{Callee, an_import, a_function, calle
 use Rattle.wasm_lang_exec.specs.Fits.{GlobalImport, global_imports}
 use Rattle.asm_lang.specs.Trees.{Init, number, foreign_int, member, math, view}
 use Rattle.asm_lang.specs.Modules as text
-use Rattle.asm_lang.specs.Modules.{Expr, lit, var, call, store, Exprs, no_exprs, exprs, Stmt, returns, Variable, Function, Export, many, Module}
+use Rattle.asm_lang.specs.Modules.{Expr, lit, call, store, Exprs, no_exprs, exprs, Stmt, returns, Variable, Function, Export, many, Module}
 use Rattle.wasm2js_words.specs.Names.{Name, numbered, function, foreign, global_low, global_high, fixed, view_of_bytes, view_of_signed_bytes, view_of_words, imul, clz32, trap, high, spare_high, result_high, init, last_high, spelled}
 use Rattle.wasm2js_words.specs.Words.{signed_number, put_in, name_of}
 use Rattle.wasm2js_code.specs.Pairs.{names_of, local_pair}

@@ -1,5 +1,5 @@
 //! The functions that the module defines.
-ghost use Rattle.std.specs.Prelude.{◌≡◌, ◌++◌, drop, length, Some, IsSome, IfOk};
+ghost use Rattle.std.specs.Prelude.{◌≡◌, drop, length, Some, IsSome, IfOk};
 ghost use Rattle.asm_tree.specs.Views.{function_view};
 ghost use Rattle.wasm_tree.specs.Views.{body_of, module_of, type_of};
 ghost use Rattle.wasm_lang_exec.specs.Code.{Trees, tree_of};

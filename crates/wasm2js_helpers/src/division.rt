@@ -1,5 +1,5 @@
 //! Quotients and remainders of words of 32 bits, which trap.
-ghost use Rattle.std.specs.Prelude.{◌≡◌, ◌++◌, ◌∷◌, [], List, map, Some, IfOk, pos, negsuc};
+ghost use Rattle.std.specs.Prelude.{◌≡◌, ◌++◌, ◌∷◌, [], List, map, Some, IfOk};
 ghost use Rattle.sem_words.specs.Lists.{list_items};
 ghost use Rattle.asm_lang.specs.Modules as plain;
 ghost use Rattle.asm_tree.specs.Views.{expr_view, stmt_view, function_view};

@@ -1,6 +1,6 @@
 //! Helpers on words of 64 bits: each takes a low word, a high word and perhaps a count, gives the low word of its result, and leaves the
 //! high one in a variable.
-ghost use Rattle.std.specs.Prelude.{◌≡◌, ◌++◌, ◌∷◌, [], List, map, IfOk, pos};
+ghost use Rattle.std.specs.Prelude.{◌≡◌, ◌++◌, ◌∷◌, [], List, map, IfOk};
 ghost use Rattle.sem_words.specs.Lists.{list_items};
 ghost use Rattle.asm_tree.specs.Views.{function_view};
 ghost use Rattle.wasm2js_words.specs.Words as words;

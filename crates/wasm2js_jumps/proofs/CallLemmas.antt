@@ -1,13 +1,12 @@
 -- What a call passes.
-use Rattle.std.proofs.Common.{◌≡◌, ◌<◌, ◌+◌, ℕ, suc, List, [], ◌∷◌, ◌++◌, length, get_or, drop, refl, sym, ap, ◌∙◌, arith, append_assoc}
-use Rattle.std.proofs.lemmas.List.{drop_more}
+use Rattle.std.proofs.Common.{◌≡◌, ℕ, suc, List, [], ◌∷◌, refl, ap}
 use Rattle.wasm_lang.specs.declared.types.ValType.{ValType}
 use Rattle.wasm_lang.specs.declared.types.ValType.TheVariants.{I32, I64}
-use Rattle.asm_lang.specs.Modules.{Expr, exprs}
+use Rattle.asm_lang.specs.Modules.{exprs}
 use Rattle.asm_tree.specs.Views.{exprs_in}
 use Rattle.wasm2js_code.specs.Pairs.{operand_pair}
 use Rattle.wasm2js_code.specs.Bodies.{word_in, arguments_from}
-use Rattle.wasm2js_jumps.specs.Arguments.{words_at, words_from}
+use Rattle.wasm2js_jumps.specs.Arguments.{words_from}
 
 pub words_are : (d : ℕ) (ts : List ValType) → exprs_in (words_from d ts) ≡ arguments_from d ts
 words_are d [] = refl

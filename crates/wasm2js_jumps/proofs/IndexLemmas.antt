@@ -1,13 +1,13 @@
 -- The switches of a branch by an index, one after another.
-use Rattle.std.proofs.Common.{◌≡◌, ◌≤◌, ◌<◌, ◌+◌, ◌-◌, ◌*◌, ◌/◌, ◌^◌, ℕ, zero, suc, min, List, [], ◌∷◌, ◌++◌, Option, Some, None, Result, Ok, Err, IfOk, length, take, drop, refl, sym, ap, subst, ◌∙◌, arith, append_assoc, length-drop}
+use Rattle.std.proofs.Common.{◌≡◌, ◌≤◌, ◌<◌, ◌+◌, ◌-◌, ◌*◌, ◌/◌, ℕ, zero, suc, min, List, [], ◌∷◌, ◌++◌, Some, None, Result, Ok, Err, IfOk, length, take, drop, refl, sym, ap, subst, ◌∙◌, arith, append_assoc, length-drop}
 use Rattle.std.proofs.lemmas.List.{length-take}
 use Rattle.std.proofs.Math.ListN.{drop_of_length-le}
 use Rattle.std.proofs.Math.Nat.{min-le_right, min-le_left, div-mul-le_self}
 use Rattle.sem_words.specs.Words.{signed_of}
-use Rattle.asm_lang.specs.Modules.{Expr, Stmt, switches, Clauses, no_clauses, clauses}
-use Rattle.asm_tree.specs.Views.{ClauseView, clauses_in}
+use Rattle.asm_lang.specs.Modules.{Expr, Stmt, switches, no_clauses, clauses}
+use Rattle.asm_tree.specs.Views.{clauses_in}
 use Rattle.wasm2js_words.specs.Words.{stmts_in}
-use Rattle.wasm2js_code.specs.Bodies.{cases, switches_from, by_index, most_cases}
+use Rattle.wasm2js_code.specs.Bodies.{cases, switches_from, by_index}
 use Rattle.wasm2js_jumps.specs.Clauses.{clause_for, case_list}
 
 pub cases_alone : (to : ℕ → List Stmt) (i : ℕ) (ks : List ℕ) → clauses_in (case_list to i ks) ≡ cases to i ks no_clauses

@@ -1,9 +1,9 @@
 //! Statements and expressions of asm.js, one node each.
-ghost use Rattle.std.specs.Prelude.{◌≡◌, [], ◌∷◌, Some, None, map, IfOk};
+ghost use Rattle.std.specs.Prelude.{◌≡◌, [], ◌∷◌, Some, None, IfOk};
 ghost use Rattle.sem_words.specs.Lists.{list_items};
 ghost use Rattle.sem_words.specs.declared.js_value.JsOp.TheVariants.{And};
 ghost use Rattle.asm_lang.specs.Modules as plain;
-ghost use Rattle.asm_tree.specs.Views.{expr_view, expr_option, exprs_view, stmt_view, clauses_view};
+ghost use Rattle.asm_tree.specs.Views.{expr_view, exprs_view, stmt_view, clauses_view};
 ghost use Rattle.wasm2js_words.specs.Names.{spelled};
 ghost use Rattle.wasm2js_code.specs.Helpers as helpers;
 ghost use Rattle.wasm2js_code.specs.Bodies as bodies;

@@ -1,10 +1,9 @@
 //! A branch by an index.
-ghost use Rattle.std.specs.Prelude.{◌≡◌, ◌≤◌, ◌<◌, ◌+◌, ◌^◌, ◌/◌, ◌∷◌, [], ◌++◌, List, length, take, Some, None, map, option_map, pos, slice_get, IfOk};
+ghost use Rattle.std.specs.Prelude.{◌≡◌, ◌≤◌, ◌<◌, ◌+◌, ◌^◌, ◌/◌, ◌∷◌, [], ◌++◌, List, length, take, Some, None, map, IfOk};
 ghost use Rattle.sem_words.specs.Lists.{list_items};
 ghost use Rattle.asm_lang.specs.Modules as plain;
 ghost use Rattle.asm_tree.specs.Views.{clause_view, clauses_view, stmt_view};
 ghost use Rattle.wasm2js_code.specs.Bodies as bodies;
-ghost use Rattle.wasm2js_words.specs.Words.{stmts_in};
 ghost use Rattle.wasm2js_build.specs.Blocks.{statements_of};
 ghost use Rattle.wasm2js_jumps.specs.Jumps.{jump_to};
 ghost use Rattle.wasm2js_jumps.specs.Clauses.{clause_for, case_list};

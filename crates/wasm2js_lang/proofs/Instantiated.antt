@@ -14,7 +14,7 @@ use Rattle.wasm_lang_valid.specs.Runnable.{first_import, or_else, row_or}
 use Rattle.wasm_lang_valid.specs.declared.profile.Beyond.{Beyond}
 use Rattle.wasm_lang_valid.specs.declared.profile.Outside.{Outside}
 use Rattle.wasm_lang_valid.specs.Profile as profile
-use Rattle.wasm_lang_valid.specs.Profile.{or_zero, is_global_offset, constant_offset, offset_from_import, table_min, imported_entries, own_entries, outside_profile, IsInProfile}
+use Rattle.wasm_lang_valid.specs.Profile.{or_zero, is_global_offset, constant_offset, offset_from_import, table_min, imported_entries, own_entries}
 use Rattle.wasm_lang_exec.specs.Store.{Store}
 use Rattle.wasm_lang_exec.specs.Session as session
 use Rattle.wasm_lang_exec.specs.Session.{replaced, value_of, place_of, offset_of, with_entries, first_store}

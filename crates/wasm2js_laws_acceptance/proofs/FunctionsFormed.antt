@@ -8,7 +8,7 @@ use Rattle.std.proofs.lemmas.List.Elements.{recursion_from_All}
 use Rattle.wasm_lang.specs.declared.types.ValType.{ValType}
 use Rattle.wasm_lang.specs.declared.types.ValType.TheVariants.{I32, I64}
 use Rattle.wasm_lang.specs.Instructions as flat
-use Rattle.wasm_lang.specs.Instructions.{Plain, nop, drop_operand, select, local_get, local_set, local_tee, global_get, global_set, load, store, memory_size, memory_copy, memory_fill, const32, const64, eqz32, eqz64, rel32, rel64, un32, un64, bin32, bin64, wrap, extend_s, extend_u, sign_extend, Instruction}
+use Rattle.wasm_lang.specs.Instructions.{Plain, load, store, const32, const64, bin64, sign_extend, Instruction}
 use Rattle.wasm_lang.specs.Modules.{FunctionType, FunctionBody, WasmModule}
 use Rattle.wasm_lang.specs.Opcodes.{opcodes, form_at, form_of}
 use Rattle.wasm_lang.specs.Shape.{HasOpcode, IsShapedCode}

@@ -10,7 +10,7 @@ use Rattle.wasm_lang_valid.specs.Profile.{or_zero, memory_bytes}
 use Rattle.wasm_lang_valid.specs.Runnable.{above, most_pages_to_run, pages}
 use Rattle.asm_lang.specs.Modules.{Function}
 use Rattle.wasm2js_words.specs.Names as names
-use Rattle.wasm2js_words.specs.Names.{Name, fixed}
+use Rattle.wasm2js_words.specs.Names.{fixed}
 use Rattle.wasm2js_words.specs.Words.{Term, conjunction, disjunction, shift_left, shift_right_signed, shift_right, equal, less, at_most, greater, both, read, number, zeros, compare, byte, whole}
 use Rattle.wasm2js_code.specs.Pairs.{literal, plus, minus, sign_of, funnel_left, funnel_right}
 use Rattle.wasm2js_code.specs.Actions.{low_ones, place}

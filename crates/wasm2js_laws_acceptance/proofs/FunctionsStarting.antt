@@ -21,7 +21,7 @@ use Rattle.wasm_laws_sound.proofs.Functions.{meets_none, meets_rest}
 use Rattle.asm_types.specs.declared.value_type.ValueType.{ValueType}
 use Rattle.asm_types.specs.declared.value_type.ValueType.TheVariants.{Int, Intish}
 use Rattle.asm_lang.specs.Modules as text
-use Rattle.asm_lang.specs.Modules.{Expr, lit, call, store, no_exprs, Stmt}
+use Rattle.asm_lang.specs.Modules.{lit, store}
 use Rattle.asm_lang_valid.specs.declared.meaning.Element.{Element}
 use Rattle.asm_lang_valid.specs.declared.meaning.Element.TheVariants.{Uint8, Int32}
 use Rattle.asm_lang_valid.specs.Scope.{a_view, shift_of, Signature, last_gives_value}

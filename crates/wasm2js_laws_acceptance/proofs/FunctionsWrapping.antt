@@ -13,18 +13,18 @@ use Rattle.wasm_lang.specs.Modules.{FunctionType, WasmModule}
 use Rattle.wasm_lang_valid.specs.Typing.{result_of as type_result}
 use Rattle.wasm_lang_exec.specs.Reductions.{an_import, callees}
 use Rattle.asm_lang.specs.Modules as text
-use Rattle.asm_lang.specs.Modules.{Expr, call, Exprs, no_exprs, exprs, Stmt, Function, returns}
+use Rattle.asm_lang.specs.Modules.{Expr, call, Exprs, no_exprs, Stmt, Function, returns}
 use Rattle.asm_lang.specs.Heights.{expr_height, exprs_height, stmts_height}
 use Rattle.asm_laws_print.specs.Spelled.{FitsExpr, FitsExprs}
 use Rattle.asm_laws_print.specs.Fitting.{FitsStmts}
 use Rattle.asm_lang_valid.specs.Scope.{a_foreign}
 use Rattle.asm_lang_valid.specs.Rows.{expr_count, stmt_count}
 use Rattle.asm_lang_valid.specs.LimitRows as limits
-use Rattle.asm_lang_valid.specs.LimitRows.{ForeignCall, Mark, a_use, expr_marks, exprs_marks, call_marks, stmt_marks, stmts_marks}
+use Rattle.asm_lang_valid.specs.LimitRows.{ForeignCall, expr_marks, exprs_marks, call_marks, stmt_marks, stmts_marks}
 use Rattle.asm_lang_valid.specs.Typing.{Scope, at_top, named, typed_below, is_call, type_of, all_below, exprs_length, call_fits, result_of, all_typed}
 use Rattle.asm_lang_valid.specs.Typed.{scope_of}
 use Rattle.wasm2js_words.specs.Names as names
-use Rattle.wasm2js_words.specs.Names.{Name, numbered, function, foreign, operand_low, fixed, spelled}
+use Rattle.wasm2js_words.specs.Names.{Name, numbered, function, foreign, fixed, spelled}
 use Rattle.wasm2js_words.specs.Words.{signed_number, put_in, name_of, stmts_in}
 use Rattle.wasm2js_laws_words.specs.Sound.{IsInt}
 use Rattle.wasm2js_laws_words.specs.Laws.{IsFineExpr}

@@ -14,9 +14,9 @@ use Rattle.wasm_lang_exec.specs.Reductions.{Callee, an_import, a_function, calle
 use Rattle.wasm_laws_sound.proofs.Functions.{typed_functions}
 use Rattle.asm_lang.specs.Modules.{Expr, Stmt, Function}
 use Rattle.asm_lang_valid.specs.Scope as scopes
-use Rattle.asm_lang_valid.specs.Scope.{gives_value, last_gives_value, signature_of, Signature}
+use Rattle.asm_lang_valid.specs.Scope.{gives_value, last_gives_value, signature_of}
 use Rattle.wasm2js_words.specs.Names as names
-use Rattle.wasm2js_words.specs.Names.{Name, numbered, spelled}
+use Rattle.wasm2js_words.specs.Names.{numbered, spelled}
 use Rattle.wasm2js_words.specs.Words.{Action, simply, either, Simple, put, ask, tell, guard, stop, write_byte, write_whole, stmts_in, statement, statements, simple_statement}
 use Rattle.wasm2js_code.specs.Actions.{under, actions}
 use Rattle.wasm2js_code.specs.Bodies.{out, leave_with, jump, switches_from, most_cases, answered, call_stmts, indirect_stmts, after_plain, types_after_call, stmts_of, closing, body_stmts}

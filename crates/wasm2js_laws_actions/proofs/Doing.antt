@@ -9,7 +9,7 @@ use Rattle.heap_lang.specs.Heap.{store}
 use Rattle.heap_lang.proofs.HeapLemmas.{length-store, IsBytes-store}
 use Rattle.asm_lang_valid.specs.Scope.{is_in}
 use Rattle.asm_lang_exec.specs.Runs as runs
-use Rattle.asm_lang_exec.specs.Runs.{Place, Run, spent, wrong, Part, after, value_in, with_value, written, write}
+use Rattle.asm_lang_exec.specs.Runs.{Place, Run, spent, wrong, Part, after, value_in, written, write}
 use Rattle.asm_lang_exec.specs.Meaning.{Completion, normal, unless_left}
 use Rattle.wasm2js_words.specs.Names.{Name, spelled}
 use Rattle.wasm2js_laws_places.specs.Straight.{Words, with_word, Outcome, goes, stops, then_do, units_after}

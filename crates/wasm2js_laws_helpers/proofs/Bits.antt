@@ -22,7 +22,6 @@ use Rattle.wasm2js_words.specs.Words.{Term, read, conjunction, shift_right, both
 use Rattle.wasm2js_code.specs.Pairs.{literal, plus}
 use Rattle.wasm2js_code.specs.Helpers.{sets, gives, argument, own, block_of, first, set_bits_function}
 use Rattle.wasm2js_laws_places.specs.Straight as straight
-use Rattle.wasm2js_laws_places.specs.Straight.{value}
 use Rattle.wasm2js_laws_places.specs.Places.{word_at, names_in, IsHeap}
 use Rattle.wasm2js_laws_places.specs.Helped.{Helps}
 use Rattle.wasm2js_laws_actions.proofs.Numbers.{is_true}

@@ -10,7 +10,7 @@ use Rattle.sem_laws.specs.Imports.{low_word, high_word}
 use Rattle.asm_lang.specs.Modules.{Stmt}
 use Rattle.asm_lang_valid.specs.Typing.{Scope}
 use Rattle.asm_lang_exec.specs.Runs as runs
-use Rattle.asm_lang_exec.specs.Runs.{Binding, binding, Place, Run, goes, stops, spent, wrong, Part, after, and_then, value_in, with_value, written, write}
+use Rattle.asm_lang_exec.specs.Runs.{Binding, Place, Run, goes, stops, spent, wrong, Part, after, value_in, with_value, write}
 use Rattle.asm_lang_exec.specs.Values.{Calls}
 use Rattle.asm_lang_exec.specs.Meaning.{eval, Completion, normal, broken, continued, returned, unless_left, exec_all}
 use Rattle.wasm2js_words.specs.Names.{spare_high}

@@ -12,7 +12,7 @@ use Rattle.asm_lang_valid.specs.declared.meaning.Builtin.TheVariants.{Clz32}
 use Rattle.asm_lang_valid.specs.Scope.{a_builtin, a_view}
 use Rattle.asm_lang_valid.specs.Typing.{Scope, named}
 use Rattle.asm_lang_exec.specs.Runs as runs
-use Rattle.asm_lang_exec.specs.Runs.{Binding, Place, Run, wrong, Part, after, and_then, defined, value_in, with_value, written}
+use Rattle.asm_lang_exec.specs.Runs.{Place, Run, wrong, Part, after, and_then, defined}
 use Rattle.asm_lang_exec.specs.Values.{Calls, call_named}
 use Rattle.asm_lang_exec.specs.Meaning.{eval, eval_all, eval_links, link_operator, returned, unless_left, exec_all}
 use Rattle.wasm2js_words.specs.Names.{clz32, spelled}

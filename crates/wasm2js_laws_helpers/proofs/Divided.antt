@@ -17,7 +17,7 @@ use Rattle.asm_lang.specs.Modules.{Expr, Stmt, Function, Module, lit, binary}
 use Rattle.asm_lang_valid.specs.Scope.{a_foreign}
 use Rattle.asm_lang_valid.specs.Typing.{Scope, named}
 use Rattle.asm_lang_exec.specs.Runs as runs
-use Rattle.asm_lang_exec.specs.Runs.{Binding, Place, Run, goes, stops, spent, wrong, Part, after, and_then, defined, paid, with_locals, back_to}
+use Rattle.asm_lang_exec.specs.Runs.{Binding, Place, Run, goes, stops, spent, wrong, after, and_then, defined, back_to}
 use Rattle.asm_lang_exec.specs.Values.{Calls}
 use Rattle.asm_lang_exec.specs.Meaning.{eval, Completion, normal, broken, continued, returned, unless_left, exec, function_end}
 use Rattle.wasm2js_words.specs.Names.{trap}

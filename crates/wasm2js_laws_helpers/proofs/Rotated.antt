@@ -20,7 +20,6 @@ use Rattle.wasm2js_code.specs.Pairs.{funnel_left}
 use Rattle.wasm2js_code.specs.Helpers.{sets, gives, spare, when, argument, own, is_far, first, second, third, rotate_left_function}
 use Rattle.wasm2js_laws_places.specs.Places.{word_at}
 use Rattle.wasm2js_laws_numbers.specs.Laws as numbers
-use Rattle.wasm2js_laws_numbers.specs.Laws.{joined, ByWords}
 use Rattle.wasm2js_laws_numbers.proofs.Shifted.{rotations_left}
 use Rattle.wasm2js_laws_helpers.specs.Laws.{RotateLeftHelps}
 use Rattle.wasm2js_laws_helpers.proofs.Called.{Returns, placed}

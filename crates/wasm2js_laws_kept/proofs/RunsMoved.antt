@@ -19,7 +19,7 @@ use Rattle.wasm_lang_exec.specs.Plain.{Effect, do_plain}
 use Rattle.wasm2js_words.specs.Names as names
 use Rattle.wasm2js_code.specs.Bodies.{after_form}
 use Rattle.wasm2js_laws_places.specs.Straight as straight
-use Rattle.wasm2js_laws_places.specs.Straight.{Words, Answer, traps, Helping, Outcome, goes, stops, told, then_do, units_after, run_actions, actions_units}
+use Rattle.wasm2js_laws_places.specs.Straight.{Words, Answer, traps, Helping, Outcome, goes, told, then_do, units_after, run_actions, actions_units}
 use Rattle.wasm2js_laws_places.specs.Places.{operands, locals_of, globals_of, store_with, IsHeap}
 use Rattle.wasm2js_laws_kept.specs.ControlControl.{Function}
 use Rattle.wasm2js_laws_kept.specs.InstructionsPlain.{IsAlike, IsPlain}

@@ -25,7 +25,7 @@ use Rattle.wasm2js_words.specs.Names.{numbered, operand_low}
 use Rattle.wasm2js_words.specs.Words.{stmts_in}
 use Rattle.wasm2js_code.specs.Actions.{under}
 use Rattle.wasm2js_code.specs.Bodies as bodies
-use Rattle.wasm2js_code.specs.Bodies.{Aim, label_of, jump, most_cases, comes_to_end}
+use Rattle.wasm2js_code.specs.Bodies.{Aim, label_of, jump, most_cases}
 use Rattle.wasm2js_laws_pace.specs.Following.{Rest}
 use Rattle.wasm2js_laws_places.specs.Straight.{Words}
 use Rattle.wasm2js_laws_places.specs.Places.{word_at, operands, Stays}

@@ -9,7 +9,7 @@ use Rattle.wasm_lang_valid.specs.Measures.{called_types, is_among}
 use Rattle.wasm_lang_valid.specs.Profile.{table_length, padded, IsInProfile}
 use Rattle.wasm_laws_sound.proofs.Functions.{typed_functions}
 use Rattle.wasm2js_words.specs.Names as names
-use Rattle.wasm2js_words.specs.Names.{Name, numbered, spelled}
+use Rattle.wasm2js_words.specs.Names.{numbered, spelled}
 use Rattle.wasm2js_words.proofs.Spelling.{spellings_differ}
 use Rattle.wasm2js_lang.specs.Tables.{Cell, a_function, empty, other, MaskedTable, entries_of, cell, cells_of, masked_from, masked}
 use Rattle.wasm2js_code.specs.Modules.{translated}

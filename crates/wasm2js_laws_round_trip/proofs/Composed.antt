@@ -25,7 +25,7 @@ use Rattle.asm2wasm_lang.specs.Heaps.{pages_for}
 use Rattle.asm2wasm_lang.specs.Calling as there_called
 use Rattle.asm2wasm_lang.specs.Calling.{Import, imported_as, memory_of, of_kind, memories_asked, from_env, exactly}
 use Rattle.asm2wasm_lang.specs.Allowed as there
-use Rattle.asm2wasm_lang.specs.Allowed.{or_nothing, WritesBytes}
+use Rattle.asm2wasm_lang.specs.Allowed.{or_nothing}
 use Rattle.wasm2js_lang.specs.Heaps.{heap_bytes}
 use Rattle.wasm2js_lang.specs.Calling.{IsCalledAs}
 use Rattle.wasm2js_lang.specs.Allowed as back

@@ -1,5 +1,5 @@
 -- The variables of a function: the source's parameters and locals, and operands.
-use Rattle.std.proofs.Common.{◌≡◌, ℕ, zero, suc, ◌+◌, ◌<◌, ◌≤◌, Bool, true, false, ◌&&◌, List, [], ◌∷◌, ◌++◌, map, length, Option, Some, None, inl, inr, refl, sym, ap, ◌∙◌, subst, arith}
+use Rattle.std.proofs.Common.{◌≡◌, ℕ, zero, suc, ◌+◌, ◌<◌, ◌≤◌, Bool, true, false, List, [], ◌∷◌, ◌++◌, map, length, Some, inl, inr, refl, sym, ◌∙◌, subst, arith}
 use Rattle.std.specs.Prelude.{slice_get, nat_lt, ◌==◌, if◌then◌else◌}
 use Rattle.std.specs.List.{list_all, list_any, flat_map, range_with_len}
 use Rattle.std.proofs.lemmas.Bool.{and_parts}
@@ -7,15 +7,15 @@ use Rattle.std.proofs.lemmas.Bool.Decides.{nat_tests}
 use Rattle.wasm_lang.specs.declared.types.ValType.{ValType}
 use Rattle.wasm_lang.specs.declared.types.ValType.TheVariants.{I32, I64}
 use Rattle.asm_lang.specs.Modules.{Stmt, Module}
-use Rattle.asm_lang_valid.specs.Scope.{an_int, among_params, among_locals, module_meaning}
-use Rattle.asm_lang_valid.specs.Typing.{Scope, named}
+use Rattle.asm_lang_valid.specs.Scope.{among_locals, module_meaning}
+use Rattle.asm_lang_valid.specs.Typing.{named}
 use Rattle.asm_lang_valid.specs.Typed.{scope_of}
-use Rattle.wasm2js_words.specs.Names.{Name, numbered, operand_low, spelled}
+use Rattle.wasm2js_words.specs.Names.{Name, spelled}
 use Rattle.wasm2js_laws_words.specs.Sound.{IsInt}
 use Rattle.wasm2js_code.specs.Pairs.{local_pair, operand_pair, names_of}
-use Rattle.wasm2js_code.specs.Helpers.{int_param, zero_variable, function_of}
+use Rattle.wasm2js_code.specs.Helpers.{zero_variable, function_of}
 use Rattle.wasm2js_code.specs.Modules.{param_names}
-use Rattle.wasm2js_code.specs.Rooms.{Room, local_names, operand_names, declared_names}
+use Rattle.wasm2js_code.specs.Rooms.{local_names, operand_names, declared_names}
 use Rattle.wasm2js_laws_scopes.specs.Provided.{AreInts, IsNamed}
 use Rattle.wasm2js_laws_scopes.specs.Laws.{is_own, RoomIsDeclared, ModuleNamesAreSeen, VariablesAreOwn}
 use Rattle.wasm2js_laws_scopes.proofs.Among.{Among, in_left, in_right, AllAmong, all_left, all_right, all_themselves, past_params, param_found, local_found, no_param, no_local}

@@ -1,5 +1,5 @@
 -- What the head and the helpers of a translated module mean.
-use Rattle.std.proofs.Common.{◌≡◌, ℕ, suc, Bool, true, false, List, [], ◌∷◌, ◌++◌, length, Option, Some, None, refl, sym, ap, ◌∙◌, subst}
+use Rattle.std.proofs.Common.{◌≡◌, ℕ, suc, Bool, true, false, List, [], ◌∷◌, ◌++◌, length, Option, Some, None, refl, ap, ◌∙◌}
 use Rattle.std.specs.Prelude.{codes, bytes_eq, ◌||◌, if◌then◌else◌}
 use Rattle.std.specs.List.{list_all}
 use Rattle.std.proofs.lemmas.List.{append_assoc}
@@ -13,17 +13,16 @@ use Rattle.asm_lang.specs.Modules.{Stmt, Variable, Function, Module}
 use Rattle.asm_lang_valid.specs.declared.meaning.Builtin.TheVariants.{Imul, Clz32}
 use Rattle.asm_lang_valid.specs.declared.meaning.Element.TheVariants.{Int8, Uint8, Int32}
 use Rattle.asm_lang_valid.specs.Scope as scopes
-use Rattle.asm_lang_valid.specs.Scope.{is_in, Meaning, a_parameter, an_int, a_foreign, a_builtin, a_view, init_meaning, among_globals, among_functions, among_tables, module_meaning, Signature}
-use Rattle.asm_lang_valid.specs.Typing.{Scope, named}
+use Rattle.asm_lang_valid.specs.Scope.{is_in, Meaning, a_parameter, an_int, a_foreign, a_builtin, a_view, init_meaning, among_globals, among_functions, among_tables}
+use Rattle.asm_lang_valid.specs.Typing.{named}
 use Rattle.asm_lang_valid.specs.Typed.{scope_of}
 use Rattle.wasm2js_words.specs.Names as names
 use Rattle.wasm2js_words.specs.Names.{Name, Fixed, numbered, fixed, word, spelled}
 use Rattle.wasm2js_words.proofs.Spelling.{spellings_are_usable}
-use Rattle.wasm2js_laws_words.specs.Sound.{IsHelper}
 use Rattle.wasm2js_code.specs.Helpers.{function_of, wide_helpers, division_helpers, memory_helpers}
 use Rattle.wasm2js_code.specs.Modules.{functions_from, init_function, high_function, helpers, functions_of, stdlib_name, foreign_name, heap_name, view_variables, fixed_variables, foreign_variables, given_variable, imported_variables, first_values, own_variables, global_variables, variables_of, translated}
 use Rattle.wasm2js_code.specs.Tables.{stubs, tables_for}
-use Rattle.wasm2js_laws_scopes.specs.Provided.{wide_helper, memory_helper, HasFixed, HasMemory}
+use Rattle.wasm2js_laws_scopes.specs.Provided.{HasFixed, HasMemory}
 use Rattle.wasm2js_laws_scopes.specs.Laws.{is_own, HeadIsProvided, MemoryIsProvided}
 use Rattle.wasm2js_laws_scopes.proofs.Among.{other_spelling}
 use Rattle.wasm2js_laws_scopes.proofs.Declared.{module_names_are_seen}

@@ -42,7 +42,7 @@ use Rattle.wasm2js_words.specs.Names.{numbered, operand_low, spelled}
 use Rattle.wasm2js_words.specs.Words as words
 use Rattle.wasm2js_words.specs.Words.{natural, guard, simple_statement, trap_call, stmts_in}
 use Rattle.wasm2js_lang.specs.Tables as tables
-use Rattle.wasm2js_lang.specs.Tables.{Cell, empty, other, cell, cells_of, entries_of, has_form, masked}
+use Rattle.wasm2js_lang.specs.Tables.{Cell, empty, other, cells_of, entries_of, has_form, masked}
 use Rattle.wasm2js_lang.specs.Laws.{HasTable}
 use Rattle.wasm2js_lang.proofs.Masked.{called_types_have_tables}
 use Rattle.wasm2js_code.specs.Actions.{low}

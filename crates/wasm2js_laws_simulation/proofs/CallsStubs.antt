@@ -27,7 +27,7 @@ use Rattle.asm_lang_exec.specs.Runs.{Binding, Place, spent, Part, and_then, defi
 use Rattle.asm_lang_exec.specs.Meaning.{first_locals, function_end}
 use Rattle.asm_laws_continuation.specs.Following.{call_named_to, call_at_to, exec_all_to, with_locals_to}
 use Rattle.wasm2js_words.specs.Names as names
-use Rattle.wasm2js_words.specs.Names.{Name, Numbered, numbered, spelled}
+use Rattle.wasm2js_words.specs.Names.{Numbered, numbered, spelled}
 use Rattle.wasm2js_words.specs.Words.{natural, trap_call, stmts_in}
 use Rattle.wasm2js_lang.specs.Tables.{Cell, empty, other, cells_of, masked}
 use Rattle.wasm2js_code.specs.Helpers.{argument}

@@ -12,7 +12,7 @@ use Rattle.asm_lang_valid.specs.Scope.{a_view, a_function, module_meaning}
 use Rattle.asm_lang_exec.specs.Runs.{Place}
 use Rattle.asm_lang_exec.specs.Meaning.{call_at}
 use Rattle.wasm2js_words.specs.Names as names
-use Rattle.wasm2js_words.specs.Names.{Fixed, fixed, spelled}
+use Rattle.wasm2js_words.specs.Names.{Fixed, fixed}
 use Rattle.wasm2js_words.specs.Words.{name_of}
 use Rattle.wasm2js_code.specs.Helpers.{shift_left_function, shift_right_signed_function, shift_right_function, rotate_left_function, leading_zeros_function, trailing_zeros_function, set_bits_function, copy_function, fill_function}
 use Rattle.wasm2js_code.specs.Modules.{translated}

@@ -12,7 +12,7 @@ use Rattle.wasm_lang.specs.declared.types.ValType.{ValType}
 use Rattle.wasm_lang.specs.declared.types.ValType.TheVariants.{I32, I64}
 use Rattle.asm_lang_valid.specs.Typing.{Scope}
 use Rattle.wasm2js_words.specs.Names as names
-use Rattle.wasm2js_words.specs.Names.{Name, Fixed, fixed}
+use Rattle.wasm2js_words.specs.Names.{Name, Fixed}
 use Rattle.wasm2js_words.specs.Words.{read, Term, Simple, put, stop, guard, byte, Action, simply}
 use Rattle.wasm2js_laws_words.specs.Sound.{IsInt, IsHelper, IsSound, AreSoundSimple, AreSoundActions}
 use Rattle.wasm2js_laws_scopes.specs.Provided.{signature, AreInts, HasFixed, HasMemory}

@@ -1,5 +1,5 @@
 //! Copies of runs of bytes.
-ghost use Rattle.std.specs.Prelude.{◌≡◌, true, false, ◌++◌, ◌∷◌, [], List, map, IfOk, pos};
+ghost use Rattle.std.specs.Prelude.{◌≡◌, true, false, ◌++◌, ◌∷◌, [], IfOk};
 ghost use Rattle.asm_lang.specs.Modules as plain;
 ghost use Rattle.asm_tree.specs.Views.{function_view};
 ghost use Rattle.wasm2js_words.specs.Words.{int_of, disjunction, both, compare, at_most, greater, read, number, whole, byte, write_whole, write_byte, simple_statement};

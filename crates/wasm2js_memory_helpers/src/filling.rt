@@ -1,6 +1,5 @@
 //! Runs of bytes that are all alike.
-ghost use Rattle.std.specs.Prelude.{◌≡◌, ◌++◌, ◌∷◌, [], List, map, IfOk, pos};
-ghost use Rattle.sem_words.specs.Lists.{list_items};
+ghost use Rattle.std.specs.Prelude.{◌≡◌, ◌++◌, ◌∷◌, [], IfOk};
 ghost use Rattle.asm_tree.specs.Views.{function_view};
 ghost use Rattle.wasm2js_words.specs.Words.{read, write_whole, write_byte, simple_statement};
 ghost use Rattle.wasm2js_code.specs.Pairs.{plus};

@@ -1,5 +1,5 @@
 //! Runs of bytes in the memory: their tests and their loops.
-ghost use Rattle.std.specs.Prelude.{◌≡◌, ◌++◌, ◌∷◌, [], List, map, IfOk, pos};
+ghost use Rattle.std.specs.Prelude.{◌≡◌, ◌++◌, ◌∷◌, [], IfOk};
 ghost use Rattle.wasm2js_words.specs.Words.{read, number};
 ghost use Rattle.wasm2js_code.specs.Pairs.{plus};
 ghost use Rattle.wasm2js_memory_helpers.specs.Pieces.{words_while, bytes_while};

@@ -1,5 +1,5 @@
 //! The helpers of a module.
-ghost use Rattle.std.specs.Prelude.{◌≡◌, ◌++◌, ◌∷◌, [], List, map, IfOk};
+ghost use Rattle.std.specs.Prelude.{◌≡◌, ◌++◌, List, map, IfOk};
 ghost use Rattle.sem_words.specs.Lists.{list_items};
 ghost use Rattle.asm_tree.specs.Views.{function_view};
 ghost use Rattle.wasm2js_code.specs.Helpers as pieces;

@@ -1,7 +1,5 @@
 //! Variables that each module has, and those of each module with a memory.
-ghost use Rattle.std.specs.Prelude.{◌≡◌, ◌++◌, ◌∷◌, [], List, map, pos, IfOk};
-ghost use Rattle.sem_words.specs.Lists.{text_bytes};
-ghost use Rattle.sem_words.specs.Words.{signed_of};
+ghost use Rattle.std.specs.Prelude.{◌≡◌, ◌++◌, List, map, IfOk};
 ghost use Rattle.asm_lang.specs.Trees as trees;
 ghost use Rattle.asm_tree.specs.Views.{global_view, init_view};
 ghost use Rattle.wasm2js_words.specs.Names.{fixed};

@@ -1,7 +1,6 @@
 //! Exports: the two functions that each module has, and the source's functions.
 ghost use Rattle.std.specs.Prelude.{◌≡◌, ◌++◌, ◌∷◌, [], List, map, codes, IfOk};
 ghost use Rattle.std.specs.List.{flat_map};
-ghost use Rattle.sem_words.specs.Lists.{text_bytes};
 ghost use Rattle.wasm_lang.specs.Modules.{Exported};
 ghost use Rattle.wasm_tree.specs.Views.{bytes_of, export_of};
 ghost use Rattle.asm_lang.specs.Modules.{many};

@@ -1,6 +1,5 @@
 //! Variables that hold imported functions and imported globals.
-ghost use Rattle.std.specs.Prelude.{◌≡◌, ◌+◌, ◌<◌, ◌≤◌, ◌^◌, ◌++◌, ◌∷◌, [], List, map, length, IfOk};
-ghost use Rattle.sem_words.specs.Lists.{text_bytes};
+ghost use Rattle.std.specs.Prelude.{◌≡◌, ◌+◌, ◌<◌, ◌≤◌, ◌^◌, ◌++◌, ◌∷◌, List, map, IfOk};
 ghost use Rattle.wasm_lang.specs.Modules.{Imported};
 ghost use Rattle.wasm_tree.specs.Views.{import_of};
 ghost use Rattle.wasm_lang_exec.specs.Fits.{global_imports};

@@ -1,5 +1,5 @@
 //! The function that gives the high word of the last result of 64 bits.
-ghost use Rattle.std.specs.Prelude.{◌≡◌, [], ◌∷◌, Some, IfOk};
+ghost use Rattle.std.specs.Prelude.{◌≡◌, [], Some, IfOk};
 ghost use Rattle.asm_lang.specs.Modules.{returns};
 ghost use Rattle.asm_tree.specs.Views.{stmt_view, function_view};
 ghost use Rattle.wasm2js_words.specs.Words.{signed_number};

@@ -2,7 +2,7 @@
 ghost use Rattle.std.specs.Prelude.{◌≡◌, ◌+◌, ◌<◌, ◌^◌, ◌++◌, [], ◌∷◌, length, pos, IfOk};
 ghost use Rattle.heap_lang.specs.Numbers.{little_endian};
 ghost use Rattle.asm_lang.specs.Modules as plain;
-ghost use Rattle.asm_tree.specs.Views.{expr_view, stmt_view};
+ghost use Rattle.asm_tree.specs.Views.{stmt_view};
 ghost use Rattle.wasm2js_words.specs.Words as words;
 ghost use Rattle.wasm2js_code.specs.Modules as modules;
 ghost use Rattle.wasm2js_nodes.specs.Names.{fixed_view};

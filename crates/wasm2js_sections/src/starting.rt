@@ -1,5 +1,5 @@
 //! The function that begins a session: the segments of the memory, and then the start function.
-ghost use Rattle.std.specs.Prelude.{◌≡◌, ◌++◌, [], ◌∷◌, List, map, IfOk};
+ghost use Rattle.std.specs.Prelude.{◌≡◌, ◌++◌, [], List, map, IfOk};
 ghost use Rattle.std.specs.List.{flat_map};
 ghost use Rattle.wasm_tree.specs.Views.{instr_of, segment_of};
 ghost use Rattle.wasm_lang_valid.specs.Profile.{constant_offset, or_zero};

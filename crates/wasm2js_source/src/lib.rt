@@ -1,7 +1,7 @@
 //! From WebAssembly to asm.js: each valid module in the profile can be translated.
 #![tactic(auto)]
 
-ghost use Rattle.std.specs.Prelude.{◌≡◌, ◌<◌, ◌^◌, None, All, map};
+ghost use Rattle.std.specs.Prelude.{◌≡◌, ◌<◌, None, All, map};
 ghost use Rattle.wasm_lang.specs.Shape.{IsShaped};
 ghost use Rattle.wasm_lang_valid.specs.Profile.{outside_profile};
 ghost use Rattle.wasm_laws_sound.specs.Laws.{IsWhole};

@@ -1,7 +1,7 @@
 // The types that indirect calls name.
 
-ghost use Rattle.std.specs.Prelude.{◌≡◌, map, IfOk};
-ghost use Rattle.wasm_tree.specs.Views.{body_of, module_of, type_of};
+ghost use Rattle.std.specs.Prelude.{map, IfOk};
+ghost use Rattle.wasm_tree.specs.Views.{body_of, type_of};
 ghost use Rattle.wasm_lang_valid.specs.Measures.{called_types};
 ghost use Rattle.wasm_validate_bodies.specs.Calls.{IsCalled};
 

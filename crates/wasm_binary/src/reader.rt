@@ -1,5 +1,5 @@
 //! Reading a module.
-ghost use Rattle.std.specs.Prelude.{◌≡◌, ℕ, List as Listed, Ok, Err, IfOk, IfErr};
+ghost use Rattle.std.specs.Prelude.{ℕ, List as Listed, Ok, Err, IfOk, IfErr};
 ghost use Rattle.wasm_lang.specs.Grammar.{IsModuleBytes};
 ghost use Rattle.wasm_lang.specs.Limits.{IsWithinReader};
 ghost use Rattle.wasm_lang.specs.Modules.{WasmModule};

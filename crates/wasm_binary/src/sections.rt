@@ -1,5 +1,5 @@
 //! Sections: each is absent or stands next, with its size before its content.
-ghost use Rattle.std.specs.Prelude.{◌≡◌, ℕ, List as Bytes, true, false, None, [], length, Ok, Err, IfOk, IfSome, MatchOption, MatchResult};
+ghost use Rattle.std.specs.Prelude.{◌≡◌, ℕ, List as Bytes, true, false, None, [], Ok, Err, IfOk, IfSome, MatchOption, MatchResult};
 ghost use Rattle.sem_words.specs.Lists.{list_items};
 ghost use Rattle.wasm_lang.specs.Reading as reading;
 ghost use Rattle.wasm_lang.specs.ReadingModule as modules;

@@ -1,10 +1,10 @@
 //! Bodies of functions.
-ghost use Rattle.std.specs.Prelude.{◌≡◌, ℕ, ◌+◌, ◌++◌, length, replicate, map, Ok, Err, IfOk, OnOk, MatchResult};
+ghost use Rattle.std.specs.Prelude.{◌≡◌, ◌+◌, ◌++◌, length, replicate, map, Ok, Err, IfOk, OnOk, MatchResult};
 ghost use Rattle.sem_words.specs.Lists.{list_items};
-ghost use Rattle.wasm_lang.specs.Limits.{params_of, most_locals};
+ghost use Rattle.wasm_lang.specs.Limits.{params_of};
 ghost use Rattle.wasm_lang.specs.Reading as reading;
 ghost use Rattle.wasm_lang.specs.ReadingModule as modules;
-ghost use Rattle.wasm_tree.specs.Inputs.{input_of, IsField, IsRead, Continues};
+ghost use Rattle.wasm_tree.specs.Inputs.{input_of, IsRead, Continues};
 ghost use Rattle.wasm_tree.specs.Views.{type_of, locals_in, body_of};
 ghost use Rattle.wasm_binary_entries.specs.Lent.{source_of, IsLentBody, EachAt, Located};
 ghost use Rattle.wasm_binary_entries.specs.Places.{code_place, body_place};

@@ -1,12 +1,11 @@
 //! Expressions: instructions one after another, up to the end that closes them.
-ghost use Rattle.std.specs.Prelude.{◌≡◌, ℕ, Some, None, Ok, Err, IfOk, MatchResult, cond, if◌then◌else◌};
-ghost use Rattle.sem_words.specs.Lists.{list_items};
+ghost use Rattle.std.specs.Prelude.{◌≡◌, Ok, Err, IfOk, MatchResult};
 ghost use Rattle.wasm_lang.specs.ReadingCode as reading;
-ghost use Rattle.wasm_tree.specs.Inputs.{input_of, IsField, IsRead, Continues};
-ghost use Rattle.wasm_tree.specs.Views.{instr_of, code_of};
+ghost use Rattle.wasm_tree.specs.Inputs.{input_of, IsRead, Continues};
+ghost use Rattle.wasm_tree.specs.Views.{code_of};
 ghost use Rattle.wasm_binary_entries.specs.Views.{instrs_of};
 ghost use Rattle.wasm_binary_entries.specs.Lent.{source_of, IsLentCode};
-ghost use Rattle.wasm_binary_entries.specs.Openings.{openings_of, opening_of, IsNext, IsTurned};
+ghost use Rattle.wasm_binary_entries.specs.Openings.{openings_of, IsNext, IsTurned};
 
 use sem_words::List;
 use std::alloc::{AllocError, Global};

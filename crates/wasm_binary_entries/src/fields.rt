@@ -1,7 +1,6 @@
 //! Fields of a few bytes.
-ghost use Rattle.std.specs.Prelude.{◌≡◌, ℕ, ◌+◌, ◌≤◌, Bool, true, false, nat_le, length, take, drop, IfOk, MatchResult, MatchOption, Ok, Err};
+ghost use Rattle.std.specs.Prelude.{◌≡◌, ◌+◌, ◌≤◌, true, false, nat_le, length, take, drop, IfOk, MatchResult, Ok, Err};
 ghost use Rattle.std.specs.Str.{is_utf8};
-ghost use Rattle.wasm_lang.specs.Limits.{most_entries};
 ghost use Rattle.wasm_lang.specs.Reading as reading;
 ghost use Rattle.wasm_lang.specs.ReadingModule as modules;
 ghost use Rattle.wasm_tree.specs.Inputs.{input_of, IsField, Continues};

@@ -1,5 +1,5 @@
 //! Imports, with the limits on how many functions and globals there are.
-ghost use Rattle.std.specs.Prelude.{◌≡◌, ℕ, ◌+◌, ◌<◌, ◌≤◌, [], ◌∷◌, map, IfOk};
+ghost use Rattle.std.specs.Prelude.{◌≡◌, ◌+◌, ◌<◌, ◌≤◌, [], ◌∷◌, map, IfOk};
 ghost use Rattle.wasm_lang.specs.Limits.{function_imports, global_imports};
 ghost use Rattle.wasm_lang.specs.declared.types.ImportKind.TheVariants as kinds;
 ghost use Rattle.wasm_lang.specs.Reading as reading;

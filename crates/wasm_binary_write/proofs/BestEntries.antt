@@ -2,7 +2,7 @@
 use Rattle.std.proofs.Common.{ℕ, List, ◌++◌, length, arith}
 use Rattle.wasm_lang.specs.Numbers.{IsU32}
 use Rattle.wasm_lang.specs.Grammar.{IsVec, IsBytes, IsName, IsCode, IsGlobalType, IsImportKind, function_import, table_import, memory_import, global_import, IsImport, an_import, IsGlobal, a_global, IsExportKind, function_export, table_export, memory_export, global_export, IsExport, an_export, IsElement, an_element, IsSegment, a_segment}
-use Rattle.wasm_binary_write.specs.Spelling.{unsigned, items, vector, sized, value_type, table, limits, import_kind, imported, global, export_kind, exported, element, same_type, runs_from, runs, run, body, segment}
+use Rattle.wasm_binary_write.specs.Spelling.{unsigned, items, vector, sized, import_kind, imported, global, export_kind, exported, element, segment}
 use Rattle.wasm_binary_write.specs.Spelling as own
 use Rattle.wasm_binary_write.proofs.Best.{bytes_append, Best, AreBest, before, two_shorter, best_u32, best_vec, best_bytes, best_name}
 use Rattle.wasm_binary_write.proofs.BestCode.{best_limits, best_table, best_global_type, best_code}

@@ -6,7 +6,7 @@ use Rattle.wasm_lang.specs.declared.types.ValType.{ValType}
 use Rattle.wasm_lang.specs.declared.types.ValType.TheVariants.{I32, I64}
 use Rattle.wasm_lang.specs.Numbers.{IsUnsigned, last_unsigned, more_unsigned, IsU32}
 use Rattle.wasm_lang.specs.Grammar.{Items, no_item, item, IsVec, IsValType, i32_type, i64_type, IsCode, locals_of, IsRun, a_run, IsFunctionBody, a_body}
-use Rattle.wasm_binary_write.specs.Spelling.{groups, unsigned, items, vector, value_type, same_type, runs_from, runs, run, body}
+use Rattle.wasm_binary_write.specs.Spelling.{unsigned, items, vector, value_type, same_type, runs_from, runs, run, body}
 use Rattle.wasm_binary_write.specs.Spelling as own
 use Rattle.wasm_binary_write.proofs.Groups.{groups_last, groups_more}
 use Rattle.wasm_binary_write.proofs.Best.{AreBytes, bytes_append, Best, AreBest, before, two_shorter, sevens, best_u32, best_unsigned, best_items}

@@ -1,5 +1,5 @@
 //! Numbers in their shortest form (WebAssembly Core 1.0, section 5.2.2).
-ghost use Rattle.std.specs.Prelude.{◌≡◌, ℕ, ◌+◌, ◌-◌, ◌^◌, ◌<◌, ◌≤◌, ◌++◌, OnOk};
+ghost use Rattle.std.specs.Prelude.{◌≡◌, ◌+◌, ◌-◌, ◌<◌, ◌≤◌, ◌++◌, OnOk};
 ghost use Rattle.wasm_binary_write.specs.Spelling.{groups, unsigned, integer, seven_bits};
 
 use std::alloc::AllocError;

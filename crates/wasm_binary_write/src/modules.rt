@@ -1,5 +1,5 @@
 //! Modules (WebAssembly Core 1.0, section 5.5.15).
-ghost use Rattle.std.specs.Prelude.{◌≡◌, ◌++◌, map, IfOk, OnOk};
+ghost use Rattle.std.specs.Prelude.{◌≡◌, ◌++◌, IfOk, OnOk};
 ghost use Rattle.wasm_tree.specs.Views.{module_of};
 ghost use Rattle.wasm_binary_write.specs.Spelling.{spelling, start_section, section, table};
 

@@ -9,7 +9,7 @@ use Rattle.wasm_lang.specs.declared.types.Limits.{Limits}
 use Rattle.wasm_lang.specs.Modules.{FunctionType, Imported, GlobalEntry, Exported, ElementSegment, DataSegment, FunctionBody, WasmModule}
 use Rattle.wasm_lang.specs.Numbers.{IsU32}
 use Rattle.wasm_lang.specs.Limits.{most_types, most_functions, most_params, most_locals, most_levels, most_globals, most_entries, function_imports, global_imports, params_of, levels, MayImport, IsWithinReader}
-use Rattle.wasm_lang.specs.Grammar.{Spelling, Items, IsVec, IsSized, IsFunctionType, IsImport, IsTable, IsLimits, IsGlobal, IsExport, IsElement, IsFunctionBody, IsSegment, IsSection, IsNumberSection, IsCustoms, no_custom, header, IsModuleBytes}
+use Rattle.wasm_lang.specs.Grammar.{IsVec, IsSized, IsFunctionType, IsImport, IsTable, IsLimits, IsGlobal, IsExport, IsElement, IsFunctionBody, IsSegment, IsCustoms, no_custom, header, IsModuleBytes}
 use Rattle.wasm_lang.specs.Grammar as grammar
 use Rattle.wasm_lang.specs.Reading.{Input, u32, onto, items_field, vec_field}
 use Rattle.wasm_lang.specs.ReadingModule.{function_type_field, table_field, memory_field, global_field, export_field, element_field, segment_field, types_content, imports_content, functions_content, globals_content, bodies_content, counts, segments_content, end_field, read_module}

@@ -7,7 +7,7 @@ use Rattle.std.proofs.lemmas.List.Elements.{All-from_recursion}
 use Rattle.wasm_lang.specs.Instructions.{Instruction}
 use Rattle.wasm_lang.specs.Modules.{Imported, GlobalEntry, Exported, ElementSegment, DataSegment, FunctionBody, WasmModule}
 use Rattle.wasm_lang.specs.Shape.{HasOpcode, IsShapedCode, IsShaped}
-use Rattle.wasm_lang.specs.Grammar.{Spelling, Items, no_item, item, IsVec, IsSized, IsInstruction, instruction, IsCode, IsImport, an_import, IsGlobal, a_global, IsExport, an_export, IsElement, an_element, IsFunctionBody, a_body, IsSegment, a_segment, IsSection, no_section, section, IsModuleBytes}
+use Rattle.wasm_lang.specs.Grammar.{Spelling, Items, no_item, item, IsSized, IsInstruction, instruction, IsCode, IsImport, an_import, IsGlobal, a_global, IsExport, an_export, IsElement, an_element, IsFunctionBody, a_body, IsSegment, a_segment, IsSection, no_section, section, IsModuleBytes}
 
 -- what each spelling tells of its value holds of all items
 items_all : {X : Type 0} (P : Spelling X) (Q : X → Type 0) → ((v : X) (xs ys : List ℕ) → P v xs ys → Q v)

@@ -1,24 +1,24 @@
 -- Blocks that are entered, and ends.
-use Rattle.std.proofs.Common.{◌≡◌, ℕ, zero, suc, ◌+◌, List, [], ◌∷◌, ◌++◌, Option, Some, None, length, refl, sym, ap, subst, ◌∙◌}
+use Rattle.std.proofs.Common.{◌≡◌, ℕ, suc, ◌+◌, List, [], ◌∷◌, ◌++◌, Option, length, refl, sym, ap, subst, ◌∙◌}
 use Rattle.sem_words.specs.declared.word.Word.{Word}
 use Rattle.sem_words.specs.declared.word.Word.TheVariants.{W32, W64}
 use Rattle.wasm_lang.specs.declared.types.ValType.{ValType}
 use Rattle.wasm_lang.specs.Instructions.{Instruction}
 use Rattle.wasm_lang.specs.Modules.{WasmModule}
-use Rattle.wasm_lang_exec.specs.Code.{block, loop, if_block, Tree, Trees, ε, ◌▹◌, ◌⊕◌, one}
+use Rattle.wasm_lang_exec.specs.Code.{block, loop, if_block, Tree, Trees, ε, ◌▹◌, one}
 use Rattle.wasm_lang_exec.specs.Reductions.{arity_of, choose}
-use Rattle.wasm_laws_drive.specs.Drive.{State, Outcome, Stuck, onward}
+use Rattle.wasm_laws_drive.specs.Drive.{State, Outcome, Stuck}
 use Rattle.wasm_laws_drive.specs.Equations.{take_number}
-use Rattle.wasm_laws_drive.specs.Contexts.{Surrounding, in_label, in_frame, closed}
-use Rattle.wasm_laws_drive.specs.Steps.{goes_with, in_block, to_caller}
-use Rattle.wasm_laws_drive.proofs.Stepping.{block_step, loop_step, if_step, end_of_label, end_of_frame}
+use Rattle.wasm_laws_drive.specs.Contexts.{Surrounding, in_label}
+use Rattle.wasm_laws_drive.specs.Steps.{goes_with, in_block}
+use Rattle.wasm_laws_drive.proofs.Stepping.{block_step, loop_step, if_step}
 use Rattle.wasm_run_flat.specs.declared.target.Target.{Target}
 use Rattle.wasm_run_flat.specs.declared.target.Target.TheVariants.{Past, Again}
-use Rattle.wasm_run_flat.specs.Places.{code_at, after_at, continuation, Stands}
-use Rattle.wasm_run_flat.specs.Laws.{IsOpened, IsLeft, IsDone}
-use Rattle.wasm_laws_machine.specs.Machine.{LabelPlain, FramePlain, EnclosingPlain, of_label, of_frame, MachinePlain, state_of, targets_of}
-use Rattle.wasm_laws_machine.specs.Meaning.{IsBelow, IsEnclosed, IsLabel, IsFrame, code_in, codes_in, IsPlace, Encloses, Within, Shows, Runs}
-use Rattle.wasm_laws_machine.proofs.Plainly.{place_stands, is_place, code_is, codes_are}
+use Rattle.wasm_run_flat.specs.Places.{code_at, after_at, continuation}
+use Rattle.wasm_run_flat.specs.Laws.{IsOpened}
+use Rattle.wasm_laws_machine.specs.Machine.{LabelPlain, of_label, MachinePlain, state_of, targets_of}
+use Rattle.wasm_laws_machine.specs.Meaning.{codes_in, Encloses, Shows, Runs}
+use Rattle.wasm_laws_machine.proofs.Plainly.{is_place, code_is, codes_are}
 
 -- the machine inside a block that is entered
 abbrev pub in_a_block : MachinePlain → List Word → List Word → Target → ℕ → ℕ → ℕ → MachinePlain

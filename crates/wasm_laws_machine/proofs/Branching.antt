@@ -4,20 +4,19 @@ use Rattle.std.specs.Prelude.{slice_get}
 use Rattle.sem_words.specs.declared.word.Word.{Word}
 use Rattle.wasm_lang.specs.Instructions.{Instruction}
 use Rattle.wasm_lang.specs.Modules.{WasmModule}
-use Rattle.wasm_lang_exec.specs.Code.{br, return, Trees, ε, ◌▹◌, ◌⊕◌}
+use Rattle.wasm_lang_exec.specs.Code.{return, Trees, ε, ◌⊕◌}
 use Rattle.wasm_lang_exec.specs.Reductions.{top_of}
 use Rattle.wasm_laws_drive.specs.Drive.{State, Outcome, Next, Branch, Leave, Stuck, onward}
 use Rattle.wasm_laws_drive.specs.Equations.{take_values, over}
 use Rattle.wasm_laws_drive.proofs.Instructions.{no_code}
-use Rattle.wasm_laws_drive.specs.Contexts.{Surrounding, in_label, in_frame, closed}
+use Rattle.wasm_laws_drive.specs.Contexts.{Surrounding, closed}
 use Rattle.wasm_laws_drive.specs.Steps.{goes_with, to_caller}
 use Rattle.wasm_laws_drive.proofs.Closing.{stuck_stays}
-use Rattle.wasm_laws_drive.proofs.Stepping.{br_step, return_step, end_of_label, end_of_frame, branch_to_label, branch_out_of_frame, return_out_of_frame}
-use Rattle.wasm_run_flat.specs.declared.target.Target.{Target}
+use Rattle.wasm_laws_drive.proofs.Stepping.{return_step, end_of_label, end_of_frame, branch_to_label, branch_out_of_frame, return_out_of_frame}
 use Rattle.wasm_run_flat.specs.Places.{code_at, after_at, continuation, place_of, Stands}
 use Rattle.wasm_run_flat.specs.Laws.{IsNext, IsLeft, IsDone, IsBranch, BranchGoesOn}
 use Rattle.wasm_laws_machine.specs.Machine.{LabelPlain, FramePlain, EnclosingPlain, of_label, of_frame, MachinePlain, state_of, targets_of}
-use Rattle.wasm_laws_machine.specs.Meaning.{IsBelow, IsEnclosed, IsLabel, IsFrame, code_in, codes_in, IsPlace, Encloses, Within, Leaving, HaveLeft, Shows, Runs, Branches, Returns}
+use Rattle.wasm_laws_machine.specs.Meaning.{IsBelow, IsEnclosed, IsLabel, IsFrame, code_in, codes_in, IsPlace, Encloses, Within, Shows, Runs, Branches, Returns}
 use Rattle.wasm_laws_machine.specs.Carrying.{IsCarried, Carries, ComesDown}
 use Rattle.wasm_laws_machine.proofs.Plainly.{place_stands, is_place, code_is, codes_are, comes_of}
 

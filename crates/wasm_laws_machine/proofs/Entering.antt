@@ -1,5 +1,5 @@
 -- Calls, and branches that depend on an operand.
-use Rattle.std.proofs.Common.{◌≡◌, ℕ, zero, suc, ◌+◌, Bool, true, false, List, [], ◌∷◌, ◌++◌, Option, Some, None, length, refl, sym, ap, subst, ◌∙◌}
+use Rattle.std.proofs.Common.{◌≡◌, ℕ, suc, ◌+◌, true, false, List, [], ◌∷◌, ◌++◌, Option, Some, None, length, refl, sym, ap, subst, ◌∙◌}
 use Rattle.std.specs.Prelude.{slice_get, reverse, if◌then◌else◌}
 use Rattle.std.proofs.lemmas.List.{reverse-reverse}
 use Rattle.sem_words.specs.declared.word.Word.{Word}
@@ -10,19 +10,19 @@ use Rattle.sem_laws.specs.Imports.{Given, ImportAnswer, goes_on, ends, answer_im
 use Rattle.wasm_lang.specs.declared.types.ValType.{ValType}
 use Rattle.wasm_lang.specs.Instructions.{Instruction}
 use Rattle.wasm_lang.specs.Modules.{FunctionType, WasmModule}
-use Rattle.wasm_lang_exec.specs.Code.{br, br_if, br_table, call, call_indirect, Tree, Trees, ε, ◌▹◌}
-use Rattle.wasm_lang_exec.specs.Store.{Store, zeros_of}
+use Rattle.wasm_lang_exec.specs.Code.{br, br_if, br_table, call, call_indirect, Tree, Trees}
+use Rattle.wasm_lang_exec.specs.Store.{zeros_of}
 use Rattle.wasm_lang_exec.specs.Reductions.{Callee, an_import, a_function, callee_at, params_of, top_of, below_top, result_word, of_type, choose, default_to}
 use Rattle.wasm_laws_drive.specs.Drive.{State, Outcome, Branch, Ended, Stuck, onward}
 use Rattle.wasm_laws_drive.specs.Equations.{take_number, answered}
-use Rattle.wasm_laws_drive.specs.Contexts.{Surrounding, in_label, in_frame, closed}
+use Rattle.wasm_laws_drive.specs.Contexts.{Surrounding, in_frame, closed}
 use Rattle.wasm_laws_drive.specs.Steps.{goes_with, after_answer, in_function, in_call, in_entry}
 use Rattle.wasm_laws_drive.proofs.Stepping.{br_step, br_if_step, br_table_step, call_step, call_indirect_step}
-use Rattle.wasm_run_flat.specs.Places.{code_at, after_at, Stands}
+use Rattle.wasm_run_flat.specs.Places.{code_at}
 use Rattle.wasm_run_flat.specs.Laws.{IsNext, Begins}
-use Rattle.wasm_laws_machine.specs.Machine.{LabelPlain, FramePlain, EnclosingPlain, of_label, of_frame, MachinePlain, state_of, targets_of}
-use Rattle.wasm_laws_machine.specs.Meaning.{IsBelow, IsEnclosed, IsFrame, code_in, codes_in, IsPlace, Encloses, Within, Shows, Runs, Calls, Branches}
-use Rattle.wasm_laws_machine.proofs.Plainly.{place_stands, is_place, code_is, codes_are, comes_of, next_shows}
+use Rattle.wasm_laws_machine.specs.Machine.{FramePlain, of_frame, MachinePlain, state_of, targets_of}
+use Rattle.wasm_laws_machine.specs.Meaning.{code_in, codes_in, Encloses, Shows, Runs, Calls, Branches}
+use Rattle.wasm_laws_machine.proofs.Plainly.{is_place, code_is, codes_are, comes_of, next_shows}
 use Rattle.wasm_laws_machine.proofs.Branching.{branch_begins}
 
 module _ (bodies : ℕ → List Instruction) (m : WasmModule) where

@@ -1,6 +1,5 @@
 -- Instructions that open, close and leave nothing.
-use Rattle.std.proofs.Common.{◌≡◌, ℕ, zero, suc, ◌+◌, Bool, false, List, [], ◌∷◌, ◌++◌, Option, Some, None, refl, sym, ap, subst, ◌∙◌}
-use Rattle.std.specs.Prelude.{slice_get}
+use Rattle.std.proofs.Common.{◌≡◌, ℕ, suc, ◌+◌, false, List, [], ◌∷◌, refl, sym, ap, subst, ◌∙◌}
 use Rattle.sem_words.specs.declared.word.Word.{Word}
 use Rattle.sem_words.specs.declared.word.Word.TheVariants.{W32, W64}
 use Rattle.sem_words.specs.declared.word.TrapKind.{TrapKind}
@@ -8,19 +7,19 @@ use Rattle.sem_words.specs.declared.word.TrapKind.TheVariants as kinds
 use Rattle.sem_laws.specs.Observation.{trapped}
 use Rattle.wasm_lang.specs.Instructions.{Instruction, Plain, const32, const64}
 use Rattle.wasm_lang.specs.Modules.{WasmModule}
-use Rattle.wasm_lang_exec.specs.Code.{plain, unreachable, br, br_if, br_table, return, Tree, Trees, ε, ◌▹◌}
+use Rattle.wasm_lang_exec.specs.Code.{plain, unreachable, Tree, ◌▹◌}
 use Rattle.wasm_lang_exec.specs.Store.{Store}
 use Rattle.wasm_lang_exec.specs.Plain.{Effect, goes, traps, sticks, do_plain}
-use Rattle.wasm_laws_drive.specs.Drive.{State, Outcome, Ended, Stuck, onward}
+use Rattle.wasm_laws_drive.specs.Drive.{Outcome, Ended, Stuck}
 use Rattle.wasm_laws_drive.specs.Equations.{after, is_constant}
 use Rattle.wasm_laws_drive.proofs.Instructions.{narrow_constant, wide_constant}
-use Rattle.wasm_laws_drive.specs.Contexts.{Surrounding, closed}
+use Rattle.wasm_laws_drive.specs.Contexts.{closed}
 use Rattle.wasm_laws_drive.specs.Steps.{goes_with}
 use Rattle.wasm_laws_drive.proofs.Stepping.{plain_step, unreachable_step}
 use Rattle.wasm_run_flat.specs.Places.{code_at, after_at, Stands}
 use Rattle.wasm_run_flat.specs.Laws.{IsNext}
 use Rattle.wasm_laws_machine.specs.Machine.{EnclosingPlain, MachinePlain, state_of, targets_of}
-use Rattle.wasm_laws_machine.specs.Meaning.{IsEnclosed, code_in, codes_in, IsPlace, Encloses, Within, Shows, Runs}
+use Rattle.wasm_laws_machine.specs.Meaning.{IsEnclosed, code_in, codes_in, IsPlace, Encloses, Shows, Runs}
 
 module _ (bodies : ℕ → List Instruction) where
   -- ---- a place of a function

@@ -1,5 +1,5 @@
 -- The machine as plain values.
-use Rattle.std.specs.Prelude.{ℕ, List, [], ◌∷◌, length}
+use Rattle.std.specs.Prelude.{ℕ, List, [], ◌∷◌}
 use Rattle.sem_words.specs.declared.word.Word.{Word}
 use Rattle.wasm_lang_exec.specs.Store.{Store}
 use Rattle.wasm_laws_drive.specs.Drive.{State}

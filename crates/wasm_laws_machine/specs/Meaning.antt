@@ -1,11 +1,11 @@
 -- What the machine stands for: surroundings with trees of code, and an outcome of them.
-use Rattle.std.specs.Prelude.{◌≡◌, ℕ, suc, ◌+◌, List, [], ◌∷◌, ◌++◌, drop, length, Option}
+use Rattle.std.specs.Prelude.{◌≡◌, ℕ, ◌+◌, List, [], ◌∷◌, ◌++◌, drop, length, Option}
 use Rattle.sem_words.specs.declared.word.Word.{Word}
 use Rattle.wasm_lang.specs.Instructions.{Instruction}
 use Rattle.wasm_lang.specs.Modules.{WasmModule}
 use Rattle.wasm_lang_exec.specs.Code.{Trees, ε}
 use Rattle.wasm_lang_exec.specs.Reductions.{Callee}
-use Rattle.wasm_laws_drive.specs.Drive.{State, Outcome, Next, Branch, Leave}
+use Rattle.wasm_laws_drive.specs.Drive.{Outcome, Branch, Leave}
 use Rattle.wasm_laws_drive.specs.Contexts.{Surrounding, in_label, in_frame, closed}
 use Rattle.wasm_laws_drive.specs.Steps.{goes_with, in_call}
 use Rattle.wasm_run_flat.specs.Places.{code_at, after_at, continuation, Stands}

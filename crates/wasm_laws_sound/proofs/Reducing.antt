@@ -16,7 +16,7 @@ use Rattle.wasm_lang_valid.specs.declared.rule.Rule.{Rule}
 use Rattle.wasm_lang_valid.specs.declared.rule.Rule.TheVariants.{NoLabel, NoFunction, NoType, NoTable, LabelsDiffer}
 use Rattle.wasm_lang_valid.specs.ModuleRules.{has_table, type_of_function}
 use Rattle.wasm_lang_valid.specs.Typing as typing
-use Rattle.wasm_lang_valid.specs.Typing.{Context, Shape, Fixed, Leaves, listed, result_of, inside, found, onward, unless, all_labels, same, same_result, carries, alike, call_shape}
+use Rattle.wasm_lang_valid.specs.Typing.{Context, Fixed, Leaves, listed, result_of, inside, found, onward, unless, all_labels, same, same_result, carries, alike, call_shape}
 use Rattle.wasm_lang_exec.specs.Code.{unreachable, block, loop, if_block, br, br_if, br_table, return, call, call_indirect, plain, Trees, ε, ◌▹◌, ◌⊕◌}
 use Rattle.wasm_lang_exec.specs.Store.{Store, zeros_of}
 use Rattle.wasm_lang_exec.specs.Plain.{Effect, goes, traps, sticks, do_plain}

@@ -3,7 +3,7 @@ use Rattle.std.proofs.Common.{◌≡◌, List, [], ◌∷◌, ◌++◌, Option, 
 use Rattle.std.proofs.lemmas.List.{append_assoc}
 use Rattle.wasm_lang.specs.declared.types.ValType.{ValType}
 use Rattle.wasm_lang.specs.Instructions as instructions
-use Rattle.wasm_lang.specs.Instructions.{Instruction, Nested, empty, simple, in_block, in_loop, in_if, in_arms, else_mark, end_mark}
+use Rattle.wasm_lang.specs.Instructions.{Instruction, Nested, empty, simple, in_block, in_loop, in_if, in_arms, end_mark}
 use Rattle.wasm_lang_exec.specs.Code.{Tree, unreachable, block, loop, if_block, br, br_if, br_table, return, call, call_indirect, plain, Trees, ε, ◌▹◌, ◌⊕◌, one, Open, a_block, a_loop, an_if, an_else, nest}
 use Rattle.wasm_laws_trees.specs.Spelled.{after_else, flat}
 use Rattle.wasm_laws_trees.specs.Laws.{IsReadAgain, IsWellNested}

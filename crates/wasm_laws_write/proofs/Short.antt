@@ -11,7 +11,7 @@ use Rattle.wasm_lang.specs.declared.types.ExportKind.{ExportKind}
 use Rattle.wasm_lang.specs.declared.types.ExportKind.TheVariants as exports
 use Rattle.wasm_lang.specs.Instructions.{Plain, local_get, local_set, local_tee, global_get, global_set, load, store, memory_size, memory_copy, memory_fill, const32, const64, Instruction, block, loop, if_block, br, br_if, br_table, call, call_indirect, plain}
 use Rattle.wasm_binary_write.specs.Opcodes.{opcode_of}
-use Rattle.wasm_binary_write.specs.Spelling.{groups, unsigned, integer, items, vector, sized, value_type, block_type, function_type, limits_to, limits, table, mutability, plain_immediates, immediates, behind, instruction, import_kind, imported, global, export_kind, exported, element, runs_from, runs, run, body}
+use Rattle.wasm_binary_write.specs.Spelling.{groups, unsigned, integer, items, vector, sized, value_type, block_type, limits_to, table, mutability, plain_immediates, immediates, behind, instruction, import_kind, export_kind, runs_from, runs, run}
 use Rattle.wasm_binary_write.specs.Spelling as own
 use Rattle.wasm_binary_write.proofs.Groups.{groups_last, groups_more}
 use Rattle.wasm_laws_write.specs.Fits.{FitsU32, PlainFits, OptionFits, ImportFits, ExportFits}

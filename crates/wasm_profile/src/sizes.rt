@@ -1,12 +1,10 @@
 // Counts that pass a limit.
 
-ghost use Rattle.std.specs.Prelude.{◌≡◌, ◌≤◌, ◌*◌, ◌^◌, List, length, map, Option, ℕ, None};
-ghost use Rattle.wasm_lang.specs.Modules.{FunctionType};
+ghost use Rattle.std.specs.Prelude.{◌≡◌, ◌≤◌, ◌*◌, ◌^◌, length, map, Option, ℕ, None};
 ghost use Rattle.wasm_tree.specs.Views.{import_of, module_of, type_of};
 ghost use Rattle.wasm_lang_valid.specs.Measures.{measures_of};
 ghost use Rattle.wasm_lang_valid.specs.ModuleRules.{function_types, global_types, imported_functions, imported_globals};
 ghost use Rattle.wasm_lang_valid.specs.Profile;
-ghost use Rattle.wasm_lang_valid.specs.Profile.{most_cells, too_many};
 ghost use Rattle.wasm_lang_valid.specs.Runnable;
 
 use crate::table::{padded, table_length};

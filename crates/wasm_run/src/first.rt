@@ -1,6 +1,6 @@
 // What a session begins with.
 
-ghost use Rattle.std.specs.Prelude.{◌≡◌, ◌≤◌, ◌*◌, ◌++◌, [], None, map, replicate, IfOk, OnOk};
+ghost use Rattle.std.specs.Prelude.{◌≡◌, ◌*◌, ◌++◌, [], None, map, replicate, IfOk, OnOk};
 ghost use Rattle.heap_lang.specs.Heap.{IsHeapLength};
 ghost use Rattle.sem_laws.specs.Imports.{first_replies};
 ghost use Rattle.sem_laws.specs.Names as names;

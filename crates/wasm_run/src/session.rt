@@ -2,7 +2,6 @@
 
 ghost use Rattle.std.specs.Prelude.{◌≡◌, ◌++◌, [], ℕ, map, reverse, IfOk, OnOk};
 ghost use Rattle.sem_laws.specs.Observation.{ObservationPlain};
-ghost use Rattle.sem_laws.specs.Script.{ScriptPlain};
 ghost use Rattle.sem_laws.specs.Views.{call_of, script_of};
 ghost use Rattle.wasm_tree.specs.Views.{module_of};
 ghost use Rattle.wasm_lang_exec.specs.Session as session;

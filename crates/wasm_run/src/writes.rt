@@ -4,7 +4,6 @@ ghost use Rattle.std.specs.Prelude.{◌≡◌, ◌*◌, map};
 ghost use Rattle.std.specs.List.{list_all};
 ghost use Rattle.sem_laws.specs.Script.{WritePlain, ReplyLinePlain};
 ghost use Rattle.sem_laws.specs.Views.{write_of, reply_of, reply_line_of};
-ghost use Rattle.wasm_lang.specs.Modules.{WasmModule};
 ghost use Rattle.wasm_tree.specs.Views.{import_of, module_of};
 ghost use Rattle.wasm_lang_valid.specs.Runnable;
 ghost use Rattle.script_fits.specs.Fits as parts;

@@ -1,10 +1,10 @@
 -- Where blocks end is where the levels outside them are read.
-use Rattle.std.proofs.Common.{◌≡◌, ℕ, zero, suc, List, [], ◌∷◌, drop, Option, Some, None, refl, ap, subst, ◌∙◌}
+use Rattle.std.proofs.Common.{◌≡◌, ℕ, suc, List, [], ◌∷◌, drop, Option, Some, None, refl, ap, subst}
 use Rattle.wasm_lang.specs.Instructions as flat
 use Rattle.wasm_lang.specs.Instructions.{Instruction}
-use Rattle.wasm_lang_exec.specs.Code.{Tree, unreachable, block, loop, if_block, br, br_if, br_table, return, call, call_indirect, plain, Trees, ε, one}
+use Rattle.wasm_lang_exec.specs.Code.{Tree, unreachable, block, loop, if_block, br, br_if, br_table, return, call, call_indirect, plain, Trees, one}
 use Rattle.wasm_run_flat.specs.declared.body.Jump.{Jump}
-use Rattle.wasm_run_flat.specs.Reading.{Level, to_end, to_else, code_of, second_of, put, with_single, with_block, with_if, with_else, with_end, in_front, read}
+use Rattle.wasm_run_flat.specs.Reading.{Level, to_end, to_else, code_of, second_of, with_single, with_block, with_if, with_else, with_end, in_front, read}
 use Rattle.wasm_run_flat.specs.Jumps.{closing, closings, first_jump, tail_of}
 use Rattle.wasm_run_flat.specs.Places.{put_first}
 use Rattle.wasm_run_flat.proofs.Lists.{further}

@@ -1,5 +1,5 @@
 -- From one place to the next.
-use Rattle.std.proofs.Common.{◌≡◌, ℕ, zero, suc, ◌+◌, ◌<◌, List, [], ◌∷◌, length, drop, Option, Some, None, refl, sym, ap, subst, ◌∙◌, ◌⊎◌, inl, inr}
+use Rattle.std.proofs.Common.{◌≡◌, ℕ, zero, suc, List, [], ◌∷◌, length, drop, Option, Some, None, refl, sym, ap, subst, ◌∙◌, inl, inr}
 use Rattle.std.proofs.Math.Numerals.{suc-eq-add-one}
 use Rattle.std.specs.Prelude.{map, slice_get}
 use Rattle.wasm_lang.specs.declared.types.ValType.{ValType}
@@ -8,10 +8,10 @@ use Rattle.wasm_lang.specs.Instructions.{Instruction}
 use Rattle.wasm_lang_exec.specs.Code.{Tree, block, loop, if_block, Trees, ε, ◌▹◌, ◌⊕◌, one}
 use Rattle.wasm_run_flat.specs.declared.target.Target.{Target}
 use Rattle.wasm_run_flat.specs.declared.target.Target.TheVariants.{Past, Again}
-use Rattle.wasm_run_flat.specs.Reading.{Level, to_end, to_else, code_of, second_of, put, single, with_single, with_block, with_if, with_else, with_end, in_front, read}
+use Rattle.wasm_run_flat.specs.Reading.{Level, to_end, to_else, code_of, second_of, put, with_single, with_block, with_if, with_else, with_end, in_front, read}
 use Rattle.wasm_run_flat.specs.Jumps.{closings, past_end, other_arm}
 use Rattle.wasm_run_flat.specs.Places.{levels_of, levels_at, first_code, outer_codes, code_at, after_at, place_of, first_of, continuation, put_first, Fit, Stands}
-use Rattle.wasm_run_flat.specs.Laws.{Begins, TreeStands, StandsInside, CodesAfter, IsNext, SingleGoesOn, IsOpened, BlockOpens, LoopOpens, FirstArmOpens, SecondArmOpens, BlockGoesOn, LoopGoesOn, IsLeft, EndLeaves, ElseLeaves, IsDone, LastEnds, ElseStandsInside, IsBranch, BranchGoesOn}
+use Rattle.wasm_run_flat.specs.Laws.{Begins, TreeStands, StandsInside, CodesAfter, IsNext, SingleGoesOn, IsOpened, BlockOpens, LoopOpens, FirstArmOpens, SecondArmOpens, BlockGoesOn, LoopGoesOn, IsLeft, EndLeaves, ElseLeaves, IsDone, LastEnds, ElseStandsInside, BranchGoesOn}
 use Rattle.wasm_run_flat.proofs.Lists.{from_here, within}
 use Rattle.wasm_run_flat.proofs.Reading.{in_front_single, reads_expression}
 use Rattle.wasm_run_flat.proofs.Leading.{leads_at, past_first, other_first}

@@ -5,10 +5,10 @@
 -- innermost first: for a label of this target and arity and the code beside it
 --     in_label values arity (continuation body target) code
 -- where `values` are the operands of the block *outside* it: from that block's own height up to the label's height.
-use Rattle.std.specs.Prelude.{◌≡◌, ℕ, suc, List, [], ◌∷◌, drop, map, Option, Some, None}
+use Rattle.std.specs.Prelude.{◌≡◌, ℕ, List, [], ◌∷◌, drop, map, Option, Some, None}
 use Rattle.wasm_lang.specs.Instructions.{Instruction}
 use Rattle.wasm_lang_exec.specs.Code.{Trees, ε, ◌▹◌, one}
-use Rattle.wasm_run_flat.specs.Reading.{Level, to_end, to_else, code_of, put, read}
+use Rattle.wasm_run_flat.specs.Reading.{Level, to_end, code_of, put, read}
 use Rattle.wasm_run_flat.specs.declared.target.Target.{Target}
 use Rattle.wasm_run_flat.specs.declared.target.Target.TheVariants.{Past, Again}
 

@@ -5,7 +5,7 @@
 use Rattle.std.specs.Prelude.{List, [], ◌∷◌, Option, Some, None}
 use Rattle.wasm_lang.specs.Instructions as flat
 use Rattle.wasm_lang.specs.Instructions.{Instruction}
-use Rattle.wasm_lang_exec.specs.Code.{Tree, unreachable, block, loop, if_block, br, br_if, br_table, return, call, call_indirect, plain, Trees, ε, ◌▹◌, ◌⊕◌, one}
+use Rattle.wasm_lang_exec.specs.Code.{Tree, unreachable, block, loop, if_block, br, br_if, br_table, return, call, call_indirect, plain, Trees, ε, ◌⊕◌, one}
 
 -- the rest of a block: its code up to its end, or that of an if's first arm up to the `else`, and the second arm
 pub data Level : Type 0 where

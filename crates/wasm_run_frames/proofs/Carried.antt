@@ -1,10 +1,10 @@
 -- Operands that come out of blocks.
-use Rattle.std.proofs.Common.{◌≡◌, ℕ, ◌<◌, Bool, true, false, List, [], ◌∷◌, ◌++◌, Option, Some, None, length, refl, sym, ap, subst, ◌∙◌, arith, length-append}
+use Rattle.std.proofs.Common.{◌≡◌, ℕ, ◌<◌, Bool, true, false, List, ◌++◌, Some, None, length, sym, ap, ◌∙◌, arith, length-append}
 use Rattle.std.specs.Prelude.{MatchBool}
 use Rattle.sem_words.specs.declared.word.Word.{Word}
 use Rattle.wasm_lang_exec.specs.Reductions.{top_of}
 use Rattle.wasm_laws_machine.specs.Meaning.{IsBelow}
-use Rattle.wasm_laws_machine.specs.Carrying.{IsCarried, Carries, ComesDown}
+use Rattle.wasm_laws_machine.specs.Carrying.{Carries, ComesDown}
 use Rattle.wasm_laws_machine.proofs.Tops.{top_stays}
 
 some_is : {A : Type 0} {x y : A} → Some x ≡ Some y → x ≡ y

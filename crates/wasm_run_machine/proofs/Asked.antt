@@ -1,11 +1,10 @@
 -- The call of an import, step by step, and functions that the list has.
-use Rattle.std.proofs.Common.{◌≡◌, ℕ, List, [], ◌∷◌, ◌++◌, Option, Some, None, length, map, reverse, refl, sym, ap, subst, ◌∙◌}
-use Rattle.std.specs.Prelude.{slice_get}
+use Rattle.std.proofs.Common.{◌≡◌, ℕ, List, [], ◌∷◌, ◌++◌, Some, length, reverse, refl, sym, ap, subst, ◌∙◌}
 use Rattle.std.proofs.lemmas.List.{reverse-reverse}
 use Rattle.sem_words.specs.declared.word.Word.{Word}
 use Rattle.sem_laws.specs.Observation.{EndPlain}
 use Rattle.sem_laws.specs.Script.{WritePlain}
-use Rattle.sem_laws.specs.Imports.{Given, ImportAnswer, goes_on, ends, answer_import}
+use Rattle.sem_laws.specs.Imports.{Given, goes_on, ends, answer_import}
 use Rattle.script_replies.specs.Puts.{after_puts}
 use Rattle.heap_lang.specs.Heap.{with_run}
 use Rattle.wasm_lang.specs.declared.types.ValType.{ValType}
@@ -17,7 +16,7 @@ use Rattle.wasm_laws_drive.specs.Drive.{State, Outcome, Ended}
 use Rattle.wasm_laws_drive.specs.Equations.{answered}
 use Rattle.wasm_laws_drive.specs.Steps.{goes_with, after_answer, in_function}
 use Rattle.wasm_laws_machine.specs.Machine.{MachinePlain, state_of}
-use Rattle.wasm_laws_machine.specs.Meaning.{code_in, codes_in, Encloses, Within, Shows, Calls}
+use Rattle.wasm_laws_machine.specs.Meaning.{code_in, codes_in, Encloses, Shows, Calls}
 use Rattle.wasm_run_machine.specs.Asking.{Asks}
 
 -- byte writes, in two words for the same

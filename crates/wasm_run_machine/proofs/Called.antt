@@ -1,16 +1,14 @@
 -- Functions that the list has, and how they are called.
-use Rattle.std.proofs.Common.{◌≡◌, ℕ, Bool, false, List, [], ◌∷◌, ◌++◌, Option, Some, None, length, map, reverse, refl, sym, ap, subst, ◌∙◌}
+use Rattle.std.proofs.Common.{◌≡◌, ℕ, false, List, [], ◌∷◌, ◌++◌, Option, Some, None, length, map, reverse, refl, sym, ap, subst, ◌∙◌}
 use Rattle.std.specs.Prelude.{slice_get, option_map}
 use Rattle.std.proofs.lemmas.Option.{slice_get-map}
 use Rattle.sem_words.specs.declared.word.Word.{Word}
 use Rattle.sem_words.specs.Lists.{text_bytes}
 use Rattle.wasm_lang.specs.declared.types.ValType.{ValType}
-use Rattle.wasm_lang.specs.Instructions.{Instruction}
 use Rattle.wasm_lang.specs.Modules.{FunctionType, FunctionBody, WasmModule}
-use Rattle.wasm_lang_exec.specs.Code.{Trees}
 use Rattle.wasm_lang_exec.specs.Store.{zeros_of}
 use Rattle.wasm_lang_exec.specs.Reductions as meaning
-use Rattle.wasm_lang_exec.specs.Reductions.{an_import, a_function, callee_at, params_of, type_of, of_type, same_type, top_of, below_top}
+use Rattle.wasm_lang_exec.specs.Reductions.{an_import, a_function, callee_at, params_of, of_type, same_type, top_of, below_top}
 use Rattle.wasm_laws_drive.specs.Drive.{Outcome, Stuck}
 use Rattle.wasm_run_flat.specs.Laws.{Begins}
 use Rattle.wasm_run_flat.proofs.Standing.{tree_stands}

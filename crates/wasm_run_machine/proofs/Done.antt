@@ -1,5 +1,5 @@
 -- Instructions that open and close nothing, of a machine that stands at them.
-use Rattle.std.proofs.Common.{◌≡◌, ◌≢◌, ℕ, zero, suc, ◌+◌, Bool, true, false, List, [], ◌∷◌, ◌++◌, Option, Some, None, length, refl, sym, ap, subst, ◌∙◌}
+use Rattle.std.proofs.Common.{◌≡◌, ◌≢◌, ℕ, zero, suc, ◌+◌, true, false, List, ◌∷◌, Option, Some, None, length, refl, sym, ap, subst}
 use Rattle.std.specs.Prelude.{slice_get}
 use Rattle.sem_words.specs.declared.word.Word.{Word}
 use Rattle.sem_words.specs.declared.word.Word.TheVariants.{W32, W64}
@@ -11,7 +11,7 @@ use Rattle.wasm_lang.specs.Instructions.{Instruction, Plain, const32, const64}
 use Rattle.wasm_lang.specs.Modules.{WasmModule}
 use Rattle.wasm_lang_exec.specs.Code.{unreachable, br, br_if, br_table, return, call, call_indirect, plain, Tree}
 use Rattle.wasm_lang_exec.specs.Store.{Store}
-use Rattle.wasm_lang_exec.specs.Plain.{Effect, goes, traps, sticks, do_plain}
+use Rattle.wasm_lang_exec.specs.Plain.{goes, traps, sticks, do_plain}
 use Rattle.wasm_lang_exec.specs.Reductions.{callee_at, of_type, default_to}
 use Rattle.wasm_laws_drive.specs.Drive.{Outcome, Ended, Stuck}
 use Rattle.wasm_laws_drive.specs.Equations.{is_constant}

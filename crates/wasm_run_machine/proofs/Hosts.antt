@@ -1,26 +1,23 @@
 -- Runs of a host's call, from its call to what it comes to.
-use Rattle.std.proofs.Common.{◌≡◌, ◌≢◌, ℕ, zero, suc, ◌+◌, ◌-◌, ◌<◌, Bool, false, List, [], ◌∷◌, Option, Some, length, map, reverse, refl, sym, ap, subst, ◌∙◌, arith}
+use Rattle.std.proofs.Common.{◌≡◌, ◌≢◌, ℕ, zero, suc, ◌-◌, ◌<◌, false, List, [], ◌∷◌, Some, length, map, reverse, refl, sym, ap, subst, ◌∙◌, arith}
 use Rattle.std.specs.Prelude.{slice_get}
 use Rattle.std.proofs.lemmas.List.{reverse-reverse, length-reverse, length-map}
 use Rattle.sem_words.specs.declared.word.Word.{Word}
-use Rattle.sem_laws.specs.Observation.{EndPlain}
 use Rattle.wasm_lang.specs.Instructions.{Instruction}
 use Rattle.wasm_lang.specs.Modules.{WasmModule}
 use Rattle.wasm_lang_exec.specs.Code.{call, ε, ◌▹◌}
 use Rattle.wasm_lang_exec.specs.Store.{Store}
 use Rattle.wasm_lang_exec.specs.Reductions.{Code, callee_at}
 use Rattle.wasm_lang_exec.specs.Session as session
-use Rattle.wasm_lang_exec.specs.Session.{run_call, finished, spent, over}
-use Rattle.wasm_laws_drive.specs.Drive.{Outcome, Next, Ended, Stuck, Spent, at}
+use Rattle.wasm_lang_exec.specs.Session.{run_call, spent}
+use Rattle.wasm_laws_drive.specs.Drive.{Outcome, Spent, at}
 use Rattle.wasm_laws_drive.specs.Laws.{run_of}
 use Rattle.wasm_laws_drive.proofs.Counting.{run_is_driven}
 use Rattle.wasm_laws_drive.specs.Steps.{in_call}
 use Rattle.wasm_laws_drive.proofs.Stepping.{call_step}
-use Rattle.wasm_run_flat.specs.Places.{Stands}
 use Rattle.wasm_run_flat.proofs.Standing.{stands_inside}
 use Rattle.wasm_laws_machine.specs.Machine.{EnclosingPlain, MachinePlain, state_of, targets_of}
-use Rattle.wasm_laws_machine.specs.Meaning.{IsEnclosed, Within, Shows, Runs, Calls}
-use Rattle.wasm_laws_machine.proofs.Branching.{shows_finished}
+use Rattle.wasm_laws_machine.specs.Meaning.{IsEnclosed, Runs, Calls}
 use Rattle.wasm_run_frames.specs.declared.machine.Enclosing.{Enclosing}
 use Rattle.wasm_run_frames.specs.Views.{enclosing_of, all_enclosing}
 use Rattle.wasm_run_machine.specs.Kinds.{is_free}

@@ -2,23 +2,21 @@
 use Rattle.std.proofs.Common.{◌≡◌, ℕ, zero, suc, ◌+◌, List, [], ◌∷◌, ◌++◌, Option, Some, None, length, refl, sym, ap, subst, ◌∙◌}
 use Rattle.std.specs.Prelude.{slice_get}
 use Rattle.sem_words.specs.declared.word.Word.{Word}
-use Rattle.sem_words.specs.declared.word.Word.TheVariants.{W32, W64}
+use Rattle.sem_words.specs.declared.word.Word.TheVariants.{W32}
 use Rattle.wasm_lang.specs.declared.types.ValType.{ValType}
 use Rattle.wasm_lang.specs.Instructions as flat
 use Rattle.wasm_lang.specs.Instructions.{Instruction}
 use Rattle.wasm_lang.specs.Modules.{WasmModule}
-use Rattle.wasm_lang_exec.specs.Code.{Trees}
 use Rattle.wasm_lang_exec.specs.Reductions.{arity_of, choose}
 use Rattle.wasm_laws_drive.specs.Drive.{Outcome, Stuck}
 use Rattle.wasm_run_operands.specs.Tops.{top32}
-use Rattle.wasm_run_flat.specs.declared.target.Target.{Target}
 use Rattle.wasm_run_flat.specs.declared.target.Target.TheVariants.{Past, Again}
 use Rattle.wasm_run_flat.specs.Jumps.{past_end, other_arm}
 use Rattle.wasm_run_flat.specs.Places.{code_at}
 use Rattle.wasm_run_flat.proofs.Standing.{block_opens, loop_opens, first_arm_opens, second_arm_opens, block_goes_on, loop_goes_on, end_leaves, else_leaves, last_ends, else_stands_inside}
 use Rattle.wasm_run_flat.specs.Places.{Stands}
 use Rattle.wasm_run_flat.specs.Laws.{IsLeft}
-use Rattle.wasm_laws_machine.specs.Machine.{EnclosingPlain, of_label, of_frame, MachinePlain, targets_of}
+use Rattle.wasm_laws_machine.specs.Machine.{MachinePlain, targets_of}
 use Rattle.wasm_laws_machine.specs.Meaning.{Shows, Runs}
 use Rattle.wasm_laws_machine.proofs.Blocks.{in_a_block, enters_block, enters_loop, enters_arm, if_sticks}
 use Rattle.wasm_run_frames.specs.Flows.{IsEndAt}

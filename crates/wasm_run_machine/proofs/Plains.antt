@@ -1,16 +1,15 @@
 -- Constants and other plain instructions, by what the code says of them.
-use Rattle.std.proofs.Common.{◌≡◌, ℕ, suc, ◌+◌, Bool, true, false, not, List, [], ◌∷◌, ◌++◌, Option, Some, None, length, take, drop, refl, sym, ap, subst, ◌∙◌}
+use Rattle.std.proofs.Common.{◌≡◌, ℕ, suc, ◌+◌, Bool, true, false, not, List, ◌∷◌, ◌++◌, Some, None, length, take, drop, refl, sym, ap, subst, ◌∙◌}
 use Rattle.std.proofs.Math.Seq.{take-append_seam}
 use Rattle.std.specs.Prelude.{slice_get}
 use Rattle.sem_words.specs.declared.word.Word.{Word}
-use Rattle.sem_words.specs.declared.word.Word.TheVariants.{W32, W64}
 use Rattle.sem_words.specs.declared.word.TrapKind.{TrapKind}
 use Rattle.sem_laws.specs.Observation.{trapped}
 use Rattle.wasm_lang.specs.Instructions as flat
 use Rattle.wasm_lang.specs.Instructions.{Instruction, Plain, const32, const64}
 use Rattle.wasm_lang.specs.Modules.{WasmModule}
 use Rattle.wasm_lang_exec.specs.Store.{Store}
-use Rattle.wasm_lang_exec.specs.Plain.{goes, traps, sticks, do_plain}
+use Rattle.wasm_lang_exec.specs.Plain.{goes, traps, sticks}
 use Rattle.wasm_laws_drive.specs.Drive.{Outcome, Ended, Stuck}
 use Rattle.wasm_laws_drive.specs.Equations.{is_constant}
 use Rattle.wasm_run_plain.specs.Forms.{instruction_effect}

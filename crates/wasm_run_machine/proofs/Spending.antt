@@ -1,13 +1,11 @@
 -- With no reduction left, nothing but a constant is done.
-use Rattle.std.proofs.Common.{◌≡◌, ℕ, zero, suc, ◌+◌, Bool, false, List, [], ◌∷◌, Option, Some, refl, sym, ap, subst, ◌∙◌}
+use Rattle.std.proofs.Common.{◌≡◌, ℕ, ◌+◌, false, List, [], ◌∷◌, Some, refl, ap, subst, ◌∙◌}
 use Rattle.std.specs.Prelude.{slice_get}
-use Rattle.wasm_lang.specs.declared.types.ValType.{ValType}
 use Rattle.wasm_lang.specs.Instructions as flat
 use Rattle.wasm_lang.specs.Instructions.{Instruction}
 use Rattle.wasm_lang.specs.Modules.{WasmModule}
-use Rattle.wasm_lang_exec.specs.Code.{unreachable, block, loop, if_block, br, br_if, br_table, return, call, call_indirect, plain, Tree, Trees, ε, ◌▹◌}
+use Rattle.wasm_lang_exec.specs.Code.{unreachable, block, loop, if_block, br, br_if, br_table, return, call, call_indirect, plain, Tree, ε, ◌▹◌}
 use Rattle.wasm_laws_drive.specs.Drive.{Outcome, Spent}
-use Rattle.wasm_laws_drive.specs.Contexts.{Surrounding}
 use Rattle.wasm_laws_drive.specs.Steps.{goes_with}
 use Rattle.wasm_laws_drive.proofs.Stepping.{plain_step, unreachable_step, block_step, loop_step, if_step, br_step, br_if_step, br_table_step, return_step, call_step, call_indirect_step, end_of_label, end_of_frame}
 use Rattle.wasm_run_flat.specs.declared.target.Target.{Target}
@@ -17,7 +15,7 @@ use Rattle.wasm_run_flat.specs.Places.{code_at, after_at, continuation, Stands}
 use Rattle.wasm_run_flat.specs.Laws.{IsNext, IsOpened, IsLeft, IsDone}
 use Rattle.wasm_run_flat.proofs.Standing.{single_goes_on, block_opens, loop_opens, first_arm_opens, end_leaves, else_leaves, last_ends, else_stands_inside}
 use Rattle.wasm_laws_machine.specs.Machine.{LabelPlain, FramePlain, EnclosingPlain, of_label, of_frame, MachinePlain, state_of, targets_of}
-use Rattle.wasm_laws_machine.specs.Meaning.{IsEnclosed, IsLabel, IsFrame, code_in, codes_in, IsPlace, Encloses, Within, Shows, Runs}
+use Rattle.wasm_laws_machine.specs.Meaning.{IsEnclosed, IsLabel, IsFrame, code_in, codes_in, IsPlace, Encloses, Shows, Runs}
 use Rattle.wasm_laws_machine.proofs.Plainly.{place_stands, code_is, comes_of}
 use Rattle.wasm_laws_machine.proofs.Branching.{shows_with}
 use Rattle.wasm_run_machine.specs.Kinds.{is_free}

@@ -1,5 +1,5 @@
 //! The numeric instructions (section 4.4.1), by the operators' tables.
-ghost use Rattle.std.specs.Prelude.{◌≡◌, List, ◌∷◌, true, false, Ok, IfOk};
+ghost use Rattle.std.specs.Prelude.{◌≡◌, List, true, false, Ok, IfOk};
 ghost use Rattle.sem_words.specs.declared.word.Word.{Word};
 ghost use Rattle.wasm_lang.specs.Instructions.{eqz32, eqz64, rel32 as rel32_plain, rel64 as rel64_plain, un32 as un32_plain, un64 as un64_plain, bin32 as bin32_plain, bin64 as bin64_plain, wrap as wrap_plain, extend_s as extend_s_plain, extend_u as extend_u_plain, sign_extend};
 ghost use Rattle.wasm_lang_exec.specs.Store.{Store};

@@ -1,5 +1,5 @@
 //! The parametric and variable instructions (sections 4.4.2 and 4.4.3).
-ghost use Rattle.std.specs.Prelude.{◌≡◌, List, ◌∷◌, true, false, IfOk, MatchOption, slice_get, slice_set, if◌then◌else◌};
+ghost use Rattle.std.specs.Prelude.{◌≡◌, List, true, false, IfOk, MatchOption, slice_get, slice_set, if◌then◌else◌};
 ghost use Rattle.sem_words.specs.declared.word.Word.{Word};
 ghost use Rattle.wasm_lang.specs.Instructions as plain;
 ghost use Rattle.wasm_lang_exec.specs.Store.{Store};

@@ -1,5 +1,5 @@
 -- An import, and a function with its body.
-use Rattle.std.proofs.Common.{◌≡◌, ℕ, ◌+◌, ◌<◌, true, List, [], ◌∷◌, ◌++◌, Option, Some, None, length, map, take, get_or, refl, sym, ap, subst, ◌∙◌, arith}
+use Rattle.std.proofs.Common.{◌≡◌, ℕ, ◌+◌, ◌<◌, true, List, [], ◌∷◌, ◌++◌, Option, Some, None, length, take, get_or, sym, ap, subst, ◌∙◌, arith}
 use Rattle.std.proofs.lemmas.Bool.Decides.{nat_tests}
 use Rattle.std.proofs.lemmas.List.{append-nil}
 use Rattle.std.proofs.lemmas.Option.{slice_get_within, slice_get-get_or, get_or_from_slice_get}
@@ -10,15 +10,15 @@ use Rattle.sem_laws.specs.Names.{import_name}
 use Rattle.wasm_lang.specs.declared.types.ImportKind.{ImportKind}
 use Rattle.wasm_lang.specs.declared.types.ImportKind.TheVariants as imports
 use Rattle.wasm_lang.specs.Instructions.{Instruction}
-use Rattle.wasm_lang.specs.Modules.{FunctionType, Imported, FunctionBody, WasmModule}
+use Rattle.wasm_lang.specs.Modules.{Imported, FunctionBody, WasmModule}
 use Rattle.wasm_lang.specs.Shape.{HasOpcode, IsShapedCode, IsShaped}
 use Rattle.wasm_lang_valid.specs.declared.rule.Rule.TheVariants.{NoType}
 use Rattle.wasm_lang_valid.specs.declared.section.Section.TheVariants as sections
 use Rattle.wasm_lang_valid.specs.ModuleRules.{meets, is_type, import_rule, item_rule, at}
 use Rattle.wasm_lang_valid.specs.Validity.{no_type, body_context, IsValidBody, IsValidModule}
-use Rattle.wasm_lang_exec.specs.Code.{Trees, tree_of}
+use Rattle.wasm_lang_exec.specs.Code.{tree_of}
 use Rattle.wasm_lang_exec.specs.Reductions as meaning
-use Rattle.wasm_lang_exec.specs.Reductions.{an_import, a_function, if_function, imported_callee, imported_callees, own_callee}
+use Rattle.wasm_lang_exec.specs.Reductions.{an_import, if_function, imported_callee, imported_callees, own_callee}
 use Rattle.wasm_laws_sound.proofs.Functions.{meets_none}
 use Rattle.wasm_laws_sound.proofs.Nesting.{tree_is_typed}
 use Rattle.wasm_run_flat.specs.declared.body.Body.{Body}

@@ -1,7 +1,7 @@
 -- Segments that are tested and then copied, one after the other.
-use Rattle.std.proofs.Common.{◌≡◌, ℕ, zero, suc, ◌+◌, ◌-◌, ◌<◌, ◌≤◌, Bool, true, false, List, [], ◌∷◌, ◌++◌, length, map, take, drop, get_or, set, Some, refl, sym, ap, ◌∙◌, arith, leb-true}
+use Rattle.std.proofs.Common.{◌≡◌, ℕ, ◌+◌, ◌-◌, ◌<◌, ◌≤◌, Bool, true, false, List, [], ◌∷◌, ◌++◌, length, map, take, drop, get_or, set, Some, refl, sym, ap, ◌∙◌, arith, leb-true}
 use Rattle.std.proofs.lemmas.List.{length-append, length-take, length-drop, length-map, take_more, take_more_set, map-append, drop_more}
-use Rattle.std.specs.Prelude.{◌&&◌, nat_le, Option}
+use Rattle.std.specs.Prelude.{◌&&◌, Option}
 use Rattle.sem_words.specs.declared.word.Word.{Word}
 use Rattle.wasm_lang.specs.Modules.{ElementSegment}
 use Rattle.wasm_lang_exec.specs.Store.{Store}

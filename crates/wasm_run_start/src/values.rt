@@ -1,6 +1,5 @@
 //! Values of constant expressions.
 ghost use Rattle.std.specs.Prelude.{◌≡◌, ◌+◌, ◌++◌, ◌∷◌, List, map, nat_le, slice_get, OnOk};
-ghost use Rattle.sem_words.specs.Lists.{list_items};
 ghost use Rattle.wasm_lang.specs.Instructions.{Instruction};
 ghost use Rattle.wasm_lang.specs.Modules.{GlobalEntry};
 ghost use Rattle.wasm_tree.specs.Views.{global_of, instr_of};

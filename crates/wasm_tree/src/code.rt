@@ -1,5 +1,5 @@
 //! Bytes and code that a module lends from its input or owns.
-ghost use Rattle.std.specs.Prelude.{◌≡◌, ℕ, map, IfOk};
+ghost use Rattle.std.specs.Prelude.{◌≡◌, map, IfOk};
 ghost use Rattle.sem_words.specs.Lists.{list_items};
 ghost use Rattle.wasm_lang.specs.ReadingCode.{spelled};
 ghost use Rattle.wasm_tree.specs.Views.{instr_of, bytes_of, code_of, IsOnlyCodeOf};

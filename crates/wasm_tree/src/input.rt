@@ -1,5 +1,5 @@
 //! A place in the input, and the fields that stand at one.
-ghost use Rattle.std.specs.Prelude.{◌≡◌, ℕ, ◌+◌, ◌-◌, ◌<◌, ◌≤◌, ◌^◌, length, Ok, Err, IfOk, MatchResult};
+ghost use Rattle.std.specs.Prelude.{◌≡◌, ◌+◌, ◌-◌, ◌<◌, ◌≤◌, ◌^◌, length, Ok, Err, IfOk, MatchResult};
 
 use crate::leb::{integer, unsigned};
 use wasm_lang::{Fault, NumberFault, Row, ValType};

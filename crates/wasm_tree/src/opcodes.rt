@@ -2,7 +2,7 @@
 //! `memory.fill`).
 #![tactic(auto, unfolding(wasm_lang::specs::Opcodes::form_at))]
 
-ghost use Rattle.std.specs.Prelude.{◌≡◌, ℕ, ◌+◌, ◌<◌, ◌≤◌, false, slice_get, MatchOption, Some, option_map};
+ghost use Rattle.std.specs.Prelude.{◌≡◌, ◌+◌, ◌<◌, ◌≤◌, false, slice_get, MatchOption, Some, option_map};
 ghost use Rattle.wasm_lang.specs.Instructions as plain;
 ghost use Rattle.wasm_lang.specs.Opcodes.{IsOpcode, HasNoOpcode, bare_at, form_at, comparisons, counts, operators};
 ghost use Rattle.wasm_tree.specs.Operators.{is_operator, is_load, is_store};

@@ -2,7 +2,7 @@
 //! `memory.copy` and `memory.fill`).
 #![tactic(auto, using(crate::proofs::Slices::stands_trans, crate::proofs::Slices::stands_self), unfolding(wasm_lang::specs::ReadingCode::after_opcode, wasm_lang::specs::ReadingCode::opcode_fault, wasm_lang::specs::Opcodes::form_at))]
 
-ghost use Rattle.std.specs.Prelude.{◌≡◌, ℕ, ◌+◌, ◌<◌, ◌≤◌, [], false, Some, None, IfOk, MatchOption};
+ghost use Rattle.std.specs.Prelude.{◌≡◌, ◌<◌, ◌≤◌, [], false, Some, None, IfOk};
 ghost use Rattle.sem_words.specs.Lists.{list_items};
 ghost use Rattle.wasm_lang.specs.Instructions as plain;
 ghost use Rattle.wasm_lang.specs.Opcodes.{bare_at, form_at};

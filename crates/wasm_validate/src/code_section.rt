@@ -1,9 +1,7 @@
 // The items of the code section.
 
 ghost use Rattle.std.specs.Prelude.{◌≡◌, ◌<◌, ◌^◌, ◌++◌, length, map, All, IfOk, MatchOption, MatchResult};
-ghost use Rattle.sem_words.specs.Lists.{list_items};
 ghost use Rattle.wasm_lang.specs.Instructions.{IsExpression};
-ghost use Rattle.wasm_lang.specs.Modules.{FunctionBody};
 ghost use Rattle.wasm_tree.specs.Views.{body_of, instr_of, module_of, type_of};
 ghost use Rattle.wasm_lang_valid.specs.Measures.{body_slots};
 ghost use Rattle.wasm_lang_valid.specs.ModuleRules.{imported_functions};

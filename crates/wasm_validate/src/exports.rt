@@ -1,7 +1,7 @@
 // The items of the export section.
 
-ghost use Rattle.std.specs.Prelude.{◌≡◌, length, take, MatchResult};
-ghost use Rattle.wasm_tree.specs.Views.{module_of, export_of};
+ghost use Rattle.std.specs.Prelude.{length, MatchResult};
+ghost use Rattle.wasm_tree.specs.Views.{module_of};
 ghost use Rattle.wasm_lang_valid.specs.declared.section.Section.TheVariants as sections;
 ghost use Rattle.wasm_lang_valid.specs.ModuleRules;
 ghost use Rattle.wasm_validate.specs.Facts.{FactsOf};

@@ -1,7 +1,6 @@
 // What the rules of a module look up.
 
-ghost use Rattle.std.specs.Prelude.{◌≡◌, ◌++◌, map, take, MatchResult, IfOk, nat_lt};
-ghost use Rattle.sem_words.specs.Lists.{list_items};
+ghost use Rattle.std.specs.Prelude.{◌≡◌, ◌++◌, map, IfOk};
 ghost use Rattle.wasm_tree.specs.Views.{import_of, global_of, module_of};
 ghost use Rattle.wasm_lang_valid.specs.ModuleRules;
 ghost use Rattle.wasm_validate.specs.Facts.{FactsOf};

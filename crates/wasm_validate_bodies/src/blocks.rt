@@ -1,7 +1,7 @@
 // The open blocks of a pass over a body.
 
-ghost use Rattle.std.specs.Prelude.{◌≡◌, ◌≤◌, ◌<◌, ◌^◌, ◌-◌, ◌∷◌, [], List, length, map, take, reverse, slice_get, MatchOption, MatchResult, IfOk};
-ghost use Rattle.wasm_lang_valid.specs.State.{Level, label_of, on_top, opened, turned, ended, step, at_start};
+ghost use Rattle.std.specs.Prelude.{◌≡◌, ◌<◌, ◌^◌, ◌-◌, ◌∷◌, List, length, map, reverse, slice_get, MatchResult, IfOk};
+ghost use Rattle.wasm_lang_valid.specs.State.{Level, label_of, on_top, opened, turned, ended, at_start};
 ghost use Rattle.wasm_lang_valid.specs.Measures.{standing};
 ghost use Rattle.wasm_lang_valid.specs.Typing;
 ghost use Rattle.wasm_lang_valid.specs.Typing.{all_labels, alike, listed, Fixed, Leaves, AnyOne, TwoAlike};

@@ -1,6 +1,6 @@
 // The types that indirect calls name, those of one form counted once.
 
-ghost use Rattle.std.specs.Prelude.{◌≡◌, ◌≤◌, ◌^◌, ◌++◌, ◌∷◌, [], List, map, length, Some, slice_get, IfOk};
+ghost use Rattle.std.specs.Prelude.{◌≡◌, ◌≤◌, ◌^◌, ◌++◌, ◌∷◌, [], List, map, Some, slice_get, IfOk};
 ghost use Rattle.wasm_lang.specs.declared.types.ValType.{ValType};
 ghost use Rattle.wasm_lang.specs.Modules.{FunctionType};
 ghost use Rattle.wasm_tree.specs.Views.{instr_of, type_of};

@@ -1,7 +1,6 @@
 // What a body may refer to.
 
-ghost use Rattle.std.specs.Prelude.{◌≡◌, Some, None, map, slice_get, MatchOption};
-ghost use Rattle.sem_words.specs.Lists.{list_items};
+ghost use Rattle.std.specs.Prelude.{◌≡◌, Some, None, slice_get, MatchOption};
 ghost use Rattle.wasm_tree.specs.Views;
 ghost use Rattle.wasm_lang_valid.specs.Typing;
 ghost use Rattle.wasm_validate_bodies.specs.Scopes.{outside};

@@ -1,5 +1,4 @@
 use Rattle.std.proofs.Common.{◌≡◌, IfOk, subst}
-use Rattle.wasm_tree.specs.Views.{module_of}
 use Rattle.asm_tree.specs.Views.{module_view}
 use Rattle.asm2wasm_code.specs.Modules.{translation}
 use Rattle.asm2wasm.specs.Standing.{StandsFor}

@@ -1,5 +1,4 @@
-use Rattle.std.proofs.Common.{rules, ◌≡◌, ◌++◌, ◌∷◌, [], map, reverse, sym, ap, ◌∙◌, arith}
-use Rattle.std.proofs.lemmas.List.{reverse-reverse}
+use Rattle.std.proofs.Common.{rules, ◌≡◌, ◌++◌, ◌∷◌, [], map, reverse, sym, ap, ◌∙◌}
 use Rattle.sem_words.specs.Lists.{list_items}
 use Rattle.asm_lang.specs.Modules.{stmts_of}
 use Rattle.asm_grammar_nodes.specs.Views as placed

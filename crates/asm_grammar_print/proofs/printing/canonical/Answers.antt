@@ -1,4 +1,4 @@
-use Rattle.std.proofs.Common.{◌≡◌, ap, ◌∙◌}
+use Rattle.std.proofs.Common.{ap, ◌∙◌}
 use Rattle.asm_lang.specs.Printing.{module_pieces}
 use Rattle.asm_tree.specs.Views.{module_view}
 use Rattle.asm_grammar_print.specs.Put.{Written, put}

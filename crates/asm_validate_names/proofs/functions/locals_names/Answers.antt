@@ -2,7 +2,6 @@ use Rattle.std.proofs.Common.{rules, ◌+◌, map, drop, sym, ap, ◌∙◌, ari
 use Rattle.asm_tree.specs.Views.{local_view}
 use Rattle.asm_lang_valid.specs.Rows.{first}
 use Rattle.asm_lang_valid.specs.NameRows as rows
-use Rattle.asm_lang_valid.specs.NameRows.{param_texts}
 use Rattle.asm_validate_names.proofs.Order.{none_rest, row_rest, err_row}
 use Rattle.asm_validate_names.proofs.Rest.{locals_rest}
 use Rattle.asm_validate_names.proofs.functions.locals_names.Goals as goal

@@ -2,7 +2,6 @@ use Rattle.std.proofs.Common.{◌≡◌, ◌+◌, map, drop}
 use Rattle.asm_tree.specs.Views.{local_view}
 use Rattle.asm_lang_valid.specs.Rows.{first}
 use Rattle.asm_lang_valid.specs.NameRows as rows
-use Rattle.asm_lang_valid.specs.NameRows.{param_texts}
 use Rattle.asm_validate_names.specs.Seen.{names}
 use Rattle.asm_validate_names.proofs.functions.locals_names.Given as goal
 

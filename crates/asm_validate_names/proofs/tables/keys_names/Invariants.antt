@@ -1,5 +1,5 @@
-use Rattle.std.proofs.Common.{◌≡◌, ◌+◌, ◌++◌, map, drop}
-use Rattle.asm_tree.specs.Views.{module_view, texts_view, export_view}
+use Rattle.std.proofs.Common.{◌≡◌, ◌+◌, map, drop}
+use Rattle.asm_tree.specs.Views.{module_view, export_view}
 use Rattle.asm_lang_valid.specs.Rows.{first}
 use Rattle.asm_lang_valid.specs.NameRows as rows
 use Rattle.asm_validate_names.specs.Seen.{names}

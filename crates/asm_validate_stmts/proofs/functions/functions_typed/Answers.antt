@@ -1,8 +1,6 @@
 use Rattle.std.proofs.Common.{rules, ◌+◌, map, drop, sym, ap, ◌∙◌, arith}
-use Rattle.std.proofs.lemmas.List.{at_drop_more}
-use Rattle.asm_tree.specs.declared.tree.Function.{Function}
 use Rattle.asm_tree.specs.Views.{module_view, function_view}
-use Rattle.asm_lang_valid.specs.Rows.{first, function_count}
+use Rattle.asm_lang_valid.specs.Rows.{first}
 use Rattle.asm_lang_valid.specs.TypeRows as rows
 use Rattle.asm_validate_names.proofs.Rest.{functions_step}
 use Rattle.asm_validate_names.proofs.Order.{none_rest, row_rest, err_row}

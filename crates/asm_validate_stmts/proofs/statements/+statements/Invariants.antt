@@ -1,6 +1,6 @@
 use Rattle.std.proofs.Common.{◌≡◌, ◌+◌, ◌*◌, ◌≤◌, drop}
-use Rattle.asm_tree.specs.Views.{expr_view, stmt_view, stmts_view, clauses_view}
-use Rattle.asm_lang_valid.specs.Rows.{first, expr_count, stmt_count, stmts_count, clauses_count}
+use Rattle.asm_tree.specs.Views.{stmt_view, stmts_view, clauses_view}
+use Rattle.asm_lang_valid.specs.Rows.{first, stmt_count, stmts_count, clauses_count}
 use Rattle.asm_lang_valid.specs.TypeRows as rows
 use Rattle.asm_names.specs.Scopes.{scope_view}
 use Rattle.asm_validate_labels.specs.Arounds.{around_view}

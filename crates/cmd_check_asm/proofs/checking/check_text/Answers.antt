@@ -1,7 +1,7 @@
 use Rattle.sem_words.specs.Lists.{list_items}
 use Rattle.asm_lang.specs.Modules.{module_places}
 use Rattle.asm_tree.specs.Views.{module_view}
-use Rattle.cmd_check_asm.proofs.Judging.{well_formed, refused_there, accepted_text, refused_text, same_module, fault_of_text, no_fault}
+use Rattle.cmd_check_asm.proofs.Judging.{well_formed, refused_there, accepted_text, refused_text, same_module, no_fault}
 use Rattle.cmd_check_asm.proofs.checking.check_text.Goals as goal
 
 pub judge-requires : goal.judge-requires

@@ -1,4 +1,3 @@
-use Rattle.std.proofs.Common.{sym, subst}
 use Rattle.sem_words.specs.Lists.{list_items}
 use Rattle.asm_tree.specs.Views.{module_view}
 use Rattle.cmd_check_asm.proofs.Judging.{is_within, verdict_of}

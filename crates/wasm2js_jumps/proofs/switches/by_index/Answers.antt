@@ -1,4 +1,4 @@
-use Rattle.std.proofs.Common.{◌≡◌, ◌≤◌, ◌+◌, ◌-◌, ◌*◌, ◌/◌, ◌++◌, List, length, take, drop, refl, sym, ap, subst, ◌∙◌, arith}
+use Rattle.std.proofs.Common.{◌≡◌, ◌+◌, ◌-◌, ◌*◌, ◌/◌, ◌++◌, length, refl, arith}
 use Rattle.std.proofs.Math.Nat.{div-mul-le_self}
 use Rattle.wasm2js_code.specs.Bodies as bodies
 use Rattle.wasm2js_build.specs.Blocks.{statements_of}

@@ -1,6 +1,4 @@
-use Rattle.std.proofs.Common.{◌≡◌, ◌+◌, ◌<◌, ◌∷◌, [], ◌++◌, map, replicate, sym, ap, ◌∙◌, arith, append_assoc}
-use Rattle.std.proofs.lemmas.Grind.{common_steps}
-use Rattle.wasm_binary_write.specs.Runs.{runs_after}
+use Rattle.std.proofs.Common.{map, sym, ◌∙◌}
 use Rattle.wasm_binary_write.specs.Views.{joined_of}
 use Rattle.wasm_binary_write.proofs.Joining.{runs_begun, runs_joined, runs_ended}
 use Rattle.wasm_binary_write.proofs.code.next_run.Goals as goal

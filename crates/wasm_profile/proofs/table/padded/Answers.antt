@@ -1,4 +1,4 @@
-use Rattle.std.proofs.Common.{refl, sym, ap, ◌∙◌, subst, ◌<◌, ◌≤◌, arith}
+use Rattle.std.proofs.Common.{refl, sym, ap, ◌∙◌}
 use Rattle.wasm_profile.proofs.Powers.{power_from, from_one, here, next, last}
 use Rattle.wasm_profile.proofs.table.padded.Goals as goal
 

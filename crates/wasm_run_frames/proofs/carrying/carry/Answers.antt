@@ -1,4 +1,3 @@
-use Rattle.std.proofs.Common.{refl, sym, ap, ◌∙◌}
 use Rattle.wasm_run_frames.proofs.Carried.{carried}
 use Rattle.wasm_run_frames.proofs.carrying.carry.Goals as goal
 

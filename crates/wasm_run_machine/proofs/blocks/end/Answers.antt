@@ -1,6 +1,6 @@
 use Rattle.std.proofs.Common.{◌+◌, refl}
 use Rattle.wasm_run_frames.specs.Views.{machine_of}
-use Rattle.wasm_run_machine.proofs.Opened.{block_does, loop_does, if_does, if_is_stuck, end_is_at, else_is_at}
+use Rattle.wasm_run_machine.proofs.Opened.{end_is_at}
 use Rattle.wasm_run_machine.proofs.blocks.end.Goals as goal
 
 pub returns : goal.returns

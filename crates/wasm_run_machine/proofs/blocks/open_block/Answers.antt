@@ -1,5 +1,5 @@
 use Rattle.wasm_run_frames.specs.Views.{machine_of}
-use Rattle.wasm_run_machine.proofs.Opened.{block_does, loop_does, if_does, if_is_stuck, end_is_at, else_is_at}
+use Rattle.wasm_run_machine.proofs.Opened.{block_does}
 use Rattle.wasm_run_machine.proofs.blocks.open_block.Goals as goal
 
 pub returns : goal.returns

@@ -1,8 +1,7 @@
-use Rattle.std.proofs.Common.{◌≡◌, ◌∷◌, length, refl, ap, ◌∙◌}
-use Rattle.sem_words.specs.Lists.{list_items}
+use Rattle.std.proofs.Common.{◌∷◌, length, refl, ap, ◌∙◌}
 use Rattle.sem_words.specs.declared.word.Word.TheVariants.{W32}
 use Rattle.wasm_run_frames.specs.Views.{machine_of}
-use Rattle.wasm_run_machine.proofs.Done.{br_does, br_if_taken, br_if_passes, br_if_is_stuck, br_table_does, br_table_is_stuck, return_does}
+use Rattle.wasm_run_machine.proofs.Done.{br_if_taken, br_if_passes, br_if_is_stuck}
 use Rattle.wasm_run_machine.proofs.branches.branch_if.Goals as goal
 
 pub returns-in_default : goal.returns-in_default

@@ -1,4 +1,4 @@
-use Rattle.std.proofs.Common.{◌≡◌, Some, reverse, length, sym, ap, subst, ◌∙◌}
+use Rattle.std.proofs.Common.{Some, sym, ap, subst, ◌∙◌}
 use Rattle.sem_words.specs.Lists.{text_bytes, list_items}
 use Rattle.wasm_tree.specs.Views.{module_of, type_of, locals_in, body_of}
 use Rattle.wasm_lang_exec.specs.Reductions.{top_of, below_top}

@@ -1,7 +1,7 @@
-use Rattle.std.proofs.Common.{◌≡◌, ◌∷◌, length, refl, ap, sym, ◌∙◌, arith}
+use Rattle.std.proofs.Common.{ap, sym, ◌∙◌}
 use Rattle.wasm_tree.specs.Views.{instr_of}
 use Rattle.wasm_run_frames.specs.Views.{machine_of}
-use Rattle.wasm_run_machine.proofs.Plains.{constant_does, no_constant_there}
+use Rattle.wasm_run_machine.proofs.Plains.{constant_does}
 use Rattle.wasm_run_machine.proofs.computing.push_constants.Goals as goal
 
 pub constants-preserved : goal.constants-preserved

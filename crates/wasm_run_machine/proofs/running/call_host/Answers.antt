@@ -1,4 +1,4 @@
-use Rattle.std.proofs.Common.{◌≡◌, ◌-◌, [], reverse, refl, subst}
+use Rattle.std.proofs.Common.{◌-◌, [], reverse, refl, subst}
 use Rattle.wasm_tree.specs.Views.{module_of}
 use Rattle.wasm_lang_exec.specs.Code.{ε}
 use Rattle.wasm_lang_exec.specs.Reductions.{callee_at}

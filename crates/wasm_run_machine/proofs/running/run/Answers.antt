@@ -1,9 +1,8 @@
-use Rattle.std.proofs.Common.{◌≡◌, ◌≢◌, ℕ, suc, ◌-◌, Some, length, get_or, refl, sym, ap, subst, ◌∙◌, arith}
+use Rattle.std.proofs.Common.{◌≡◌, ◌≢◌, ◌-◌, Some, length, get_or, ap, subst, ◌∙◌, arith}
 use Rattle.std.proofs.lemmas.Option.{slice_get-get_or}
 use Rattle.std.proofs.lemmas.Grind.{common_steps}
 use Rattle.wasm_lang.specs.Instructions.{return}
 use Rattle.wasm_tree.specs.Views.{module_of}
-use Rattle.wasm_laws_machine.specs.Machine.{MachinePlain}
 use Rattle.wasm_laws_machine.specs.Meaning.{Runs}
 use Rattle.wasm_laws_machine.proofs.Branching.{shows_finished}
 use Rattle.wasm_run_frames.specs.declared.machine.Flow.{Flow}

@@ -1,4 +1,3 @@
-use Rattle.std.proofs.Common.{ℕ}
 use Rattle.wasm_laws_drive.specs.Drive.{Outcome}
 use Rattle.wasm_tree.specs.Views.{module_of}
 use Rattle.wasm_laws_machine.specs.Meaning.{Shows}

@@ -1,4 +1,4 @@
-use Rattle.std.proofs.Common.{◌≡◌, Some, refl, sym, ap, ◌∙◌}
+use Rattle.std.proofs.Common.{Some, ap, ◌∙◌}
 use Rattle.wasm_tree.specs.Views.{instr_of, module_of}
 use Rattle.wasm_run_frames.specs.Views.{machine_of}
 use Rattle.wasm_run_machine.specs.Functions.{bodies_of}

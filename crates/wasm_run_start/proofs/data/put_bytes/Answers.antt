@@ -1,4 +1,4 @@
-use Rattle.std.proofs.Common.{◌≡◌, ◌+◌, ◌∷◌, List, drop, map, sym, ap, ◌∙◌}
+use Rattle.std.proofs.Common.{◌+◌, List, drop, map, sym, ap, ◌∙◌}
 use Rattle.wasm_tree.specs.declared.module.Segment.{Segment}
 use Rattle.wasm_tree.specs.Views.{segment_of}
 use Rattle.wasm_lang_exec.specs.Store.{Store}

@@ -1,4 +1,4 @@
-use Rattle.std.proofs.Common.{◌≡◌, ap, ◌∙◌}
+use Rattle.std.proofs.Common.{ap, ◌∙◌}
 use Rattle.sem_laws.specs.Names.{import_name}
 use Rattle.wasm_tree.specs.Views.{bytes_of, import_of}
 use Rattle.wasm_run_start.proofs.Parts.{adds_import}

@@ -1,4 +1,4 @@
-use Rattle.std.proofs.Common.{◌≡◌, ◌++◌, ◌∷◌, [], List, Option, map, take, sym, ap, subst, ◌∙◌, append_assoc}
+use Rattle.std.proofs.Common.{◌++◌, ◌∷◌, [], List, Option, map, take, sym, ap, subst, ◌∙◌, append_assoc}
 use Rattle.wasm_tree.specs.Views.{import_of}
 use Rattle.wasm_lang_exec.specs.Reductions as meaning
 use Rattle.wasm_lang_exec.specs.Reductions.{imported_callees}

@@ -1,4 +1,4 @@
-use Rattle.std.proofs.Common.{◌≡◌, ◌++◌, List, Option, map, take}
+use Rattle.std.proofs.Common.{◌++◌, List, Option, map, take}
 use Rattle.wasm_lang.specs.Modules.{WasmModule}
 use Rattle.wasm_tree.specs.Views.{import_of}
 use Rattle.wasm_lang_exec.specs.Reductions as meaning

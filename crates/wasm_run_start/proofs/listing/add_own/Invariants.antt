@@ -1,4 +1,4 @@
-use Rattle.std.proofs.Common.{◌≡◌, ◌++◌, List, Option, take}
+use Rattle.std.proofs.Common.{◌++◌, List, Option, take}
 use Rattle.wasm_lang.specs.Shape.{IsShaped}
 use Rattle.wasm_tree.specs.Views.{module_of}
 use Rattle.wasm_lang_valid.specs.Validity.{IsValidModule}

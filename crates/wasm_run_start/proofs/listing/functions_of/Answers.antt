@@ -1,5 +1,4 @@
-use Rattle.std.proofs.Common.{◌≡◌, [], List, map, sym, ap, subst, ◌∙◌}
-use Rattle.wasm_tree.specs.declared.module.Import.{Import}
+use Rattle.std.proofs.Common.{◌≡◌, [], List, map, sym, ap, subst}
 use Rattle.wasm_tree.specs.Views.{import_of, module_of}
 use Rattle.wasm_lang_exec.specs.Reductions.{imported_callees, callees}
 use Rattle.wasm_run_machine.specs.declared.functions.Function.{Function}

@@ -1,4 +1,4 @@
-use Rattle.std.proofs.Common.{◌≡◌, ◌+◌, ◌++◌, ◌∷◌, [], map, take, drop, sym, ap, ◌∙◌, subst}
+use Rattle.std.proofs.Common.{◌+◌, map, take, drop, sym, ap, ◌∙◌, subst}
 use Rattle.wasm_tree.specs.Views.{import_of}
 use Rattle.wasm_lang_valid.specs.Measures.{first_mixed}
 use Rattle.wasm_validate.specs.Mixed.{AreNames}

@@ -1,6 +1,5 @@
 use Rattle.std.proofs.Common.{◌<◌, sym, ◌∙◌, arith, length, false-eqb}
 use Rattle.std.proofs.lemmas.Bool.{eqb-true}
-use Rattle.std.proofs.lemmas.List.{length-drop}
 use Rattle.js_tokens.specs.Views.{kind_view}
 use Rattle.js_tokens.proofs.GoingOn.{after_gap, at_token, at_flaw, at_the_end}
 use Rattle.js_tokens.proofs.scanner.Scanner.next.Goals as goal
