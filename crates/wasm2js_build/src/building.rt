@@ -15,7 +15,7 @@ use sem_words::{JsOp, List};
 use std::alloc::{AllocError, Global};
 use wasm2js_nodes::{
     Fixed, Name, binary, call_of_one, call_of_two, chain, chosen, element, flipped, literal,
-    room_for, shifted, signed, unsigned, variable, with_expr,
+    shifted, signed, unsigned, variable, with_expr,
 };
 
 /// The expression of a term, as it is.
@@ -322,7 +322,7 @@ fn whole(alloc: Global, at: Expr) -> Result<Expr, AllocError>
 fn sum_of_two(alloc: Global, a: Expr, minus: bool, b: Expr) -> Result<Expr, AllocError>
     ensures { IfOk result (λ e. expr_view e ≡ plain.chain (expr_view a) (plain.links minus (expr_view b) plain.no_links)) }
 {
-    let links = with_link(room_for(alloc, 1)?, minus, b)?;
+    let links = with_link(List::with_capacity(alloc, 1)?, minus, b)?;
     chain(alloc, a, links)
 }
 
@@ -334,7 +334,7 @@ fn sum_of_three(
 ) -> Result<Expr, AllocError>
     ensures { IfOk result (λ e. expr_view e ≡ plain.chain (expr_view a) (plain.links b.0 (expr_view b.1) (plain.links c.0 (expr_view c.1) plain.no_links))) }
 {
-    let links = with_link(room_for(alloc, 2)?, b.0, b.1)?;
+    let links = with_link(List::with_capacity(alloc, 2)?, b.0, b.1)?;
     let links = with_link(links, c.0, c.1)?;
     chain(alloc, a, links)
 }
@@ -342,7 +342,7 @@ fn sum_of_three(
 fn sum_of_four(alloc: Global, a: Expr, b: Expr, c: Expr, d: Expr) -> Result<Expr, AllocError>
     ensures { IfOk result (λ e. expr_view e ≡ plain.chain (expr_view a) (plain.links false (expr_view b) (plain.links false (expr_view c) (plain.links false (expr_view d) plain.no_links)))) }
 {
-    let links = with_link(room_for(alloc, 3)?, false, b)?;
+    let links = with_link(List::with_capacity(alloc, 3)?, false, b)?;
     let links = with_link(links, false, c)?;
     let links = with_link(links, false, d)?;
     chain(alloc, a, links)
@@ -366,7 +366,7 @@ fn with_link(links: List<Link>, minus: bool, operand: Expr) -> Result<List<Link>
 pub(crate) fn argument_list(alloc: Global, terms: &[Term<'_>]) -> Result<List<Expr>, AllocError>
     ensures { IfOk result (λ r. exprs_view (list_items r) ≡ arguments (terms_view terms.now)) }
 {
-    let mut exprs = room_for(alloc, terms.len())?;
+    let mut exprs = List::with_capacity(alloc, terms.len())?;
     for term in terms {
         let e = int_expr(alloc, term)?;
         exprs = with_expr(exprs, e)?;
