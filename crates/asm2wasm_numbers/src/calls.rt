@@ -8,6 +8,7 @@ ghost use Rattle.asm2wasm_numbers.specs.Calls.{call_found, IsCounted};
 
 use asm_validate::ForeignCall;
 use indexmap::IndexMap;
+use key_hashes::{KeyHashes, Seed};
 use std::alloc::{AllocError, Global};
 use std::marker::Model;
 
@@ -23,7 +24,7 @@ pub struct Call<'a> {
 #[derive(Drop)]
 pub struct CallNumbers<'a> {
     calls: &'a [ForeignCall],
-    numbers: IndexMap<Call<'a>, usize>,
+    numbers: IndexMap<Call<'a>, usize, KeyHashes>,
 }
 
 impl<'a> Model for CallNumbers<'a> {
@@ -45,7 +46,7 @@ impl<'a> CallNumbers<'a> {
     pub fn new(alloc: Global, calls: &'a [ForeignCall]) -> Result<CallNumbers<'a>, AllocError>
         ensures { IfOk result (λ numbers. numbers ≡ map foreign_view calls.now) }
     {
-        let mut numbers = IndexMap::new(alloc);
+        let mut numbers = IndexMap::with_capacity_and_hasher(alloc, calls.len(), hashes_of(calls))?;
         put_calls(&mut numbers, calls)?;
         Ok(CallNumbers { calls, numbers })
     }
@@ -74,9 +75,19 @@ impl<'a> CallNumbers<'a> {
     }
 }
 
+// Hashers for these calls.
+fn hashes_of(calls: &[ForeignCall]) -> KeyHashes {
+    let mut seed = Seed::new();
+    for call in calls {
+        seed.add(call.name.as_bytes());
+        seed.add(&call.params.to_le_bytes());
+    }
+    seed.hashes()
+}
+
 // Later calls are put in first, so that an earlier one takes their place.
 fn put_calls<'a>(
-    numbers: &mut IndexMap<Call<'a>, usize>,
+    numbers: &mut IndexMap<Call<'a>, usize, KeyHashes>,
     calls: &'a [ForeignCall],
 ) -> Result<(), AllocError>
     ensures { IfOk result (λ _. (f : limits.ForeignCall) → call_found numbers.old f (length calls.now) ≡ length calls.now → call_found numbers.new f (length calls.now) ≡ number_among f (map foreign_view calls.now)) }
@@ -90,7 +101,7 @@ fn put_calls<'a>(
 }
 
 fn put<'a>(
-    numbers: &mut IndexMap<Call<'a>, usize>,
+    numbers: &mut IndexMap<Call<'a>, usize, KeyHashes>,
     call: &'a ForeignCall,
     number: usize,
 ) -> Result<(), AllocError>

@@ -1,3 +1,4 @@
 pub mod Meanings
 pub mod Environments
 pub mod Scopes
+pub mod Hashed

@@ -11,12 +11,13 @@ use crate::init::init_meaning;
 use crate::meaning::Meaning;
 use asm_tree::{Function, Global_, Module, Table};
 use indexmap::IndexMap;
+use key_hashes::KeyHashes;
 use sem_words::Text;
 use std::alloc::AllocError;
 
 /// The names of a module.
 pub fn put_all<'a>(
-    names: &mut IndexMap<&'a [u8], Meaning<'a>>,
+    names: &mut IndexMap<&'a [u8], Meaning<'a>, KeyHashes>,
     home: &'a Module,
 ) -> Result<(), AllocError>
     ensures { IfOk result (λ _. (n : List ℕ) → seen names.new n ≡ declared_over (module_view home.now) n (seen names.old n)) }
@@ -29,7 +30,7 @@ pub fn put_all<'a>(
 }
 
 fn put_tables<'a>(
-    names: &mut IndexMap<&'a [u8], Meaning<'a>>,
+    names: &mut IndexMap<&'a [u8], Meaning<'a>, KeyHashes>,
     tables: &'a [Table],
 ) -> Result<(), AllocError>
     ensures { IfOk result (λ _. (n : List ℕ) → seen names.new n ≡ tables_over (map table_view tables.now) n (seen names.old n)) }
@@ -44,7 +45,7 @@ fn put_tables<'a>(
 }
 
 fn put_functions<'a>(
-    names: &mut IndexMap<&'a [u8], Meaning<'a>>,
+    names: &mut IndexMap<&'a [u8], Meaning<'a>, KeyHashes>,
     functions: &'a [Function],
 ) -> Result<(), AllocError>
     ensures { IfOk result (λ _. (n : List ℕ) → seen names.new n ≡ among_functions (map function_view functions.now) n (seen names.old n)) }
@@ -59,7 +60,7 @@ fn put_functions<'a>(
 }
 
 fn put_globals<'a>(
-    names: &mut IndexMap<&'a [u8], Meaning<'a>>,
+    names: &mut IndexMap<&'a [u8], Meaning<'a>, KeyHashes>,
     home: &'a Module,
     globals: &'a [Global_],
 ) -> Result<(), AllocError>
@@ -76,7 +77,7 @@ fn put_globals<'a>(
 }
 
 fn put_params<'a>(
-    names: &mut IndexMap<&'a [u8], Meaning<'a>>,
+    names: &mut IndexMap<&'a [u8], Meaning<'a>, KeyHashes>,
     params: &'a [Text],
 ) -> Result<(), AllocError>
     ensures { IfOk result (λ _. (n : List ℕ) → seen names.new n ≡ (if is_in n (texts_view params.now) then a_parameter else seen names.old n)) }
@@ -90,7 +91,7 @@ fn put_params<'a>(
 }
 
 fn put<'a>(
-    names: &mut IndexMap<&'a [u8], Meaning<'a>>,
+    names: &mut IndexMap<&'a [u8], Meaning<'a>, KeyHashes>,
     name: &'a Text,
     meaning: Meaning<'a>,
 ) -> Result<(), AllocError>

@@ -4,6 +4,7 @@
 
 mod declared;
 mod environment;
+mod hashes;
 mod init;
 mod locals;
 mod meaning;
@@ -11,6 +12,7 @@ mod scope;
 mod words;
 
 pub use environment::Environment;
+pub use hashes::function_hashes;
 pub use init::{is_foreign, is_heap, is_stdlib};
 pub use meaning::Meaning;
 pub use scope::Scope;

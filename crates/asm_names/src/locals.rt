@@ -11,11 +11,12 @@ ghost use Rattle.asm_names.specs.Scopes.{local_seen, variable_of};
 
 use asm_tree::{Init, Local, Param};
 use indexmap::IndexMap;
+use key_hashes::KeyHashes;
 use sem_words::Text;
 use std::alloc::AllocError;
 
 pub fn put_locals<'a>(
-    names: &mut IndexMap<&'a [u8], bool>,
+    names: &mut IndexMap<&'a [u8], bool, KeyHashes>,
     locals: &'a [Local],
 ) -> Result<(), AllocError>
     ensures { IfOk result (λ _. (n : List ℕ) (o : Meaning) → local_seen names.new n o ≡ among_locals (map local_view locals.now) n (local_seen names.old n o)) }
@@ -30,7 +31,7 @@ pub fn put_locals<'a>(
 }
 
 pub fn put_params<'a>(
-    names: &mut IndexMap<&'a [u8], bool>,
+    names: &mut IndexMap<&'a [u8], bool, KeyHashes>,
     params: &'a [Param],
 ) -> Result<(), AllocError>
     ensures { IfOk result (λ _. (n : List ℕ) (o : Meaning) → local_seen names.new n o ≡ among_params (map param_view params.now) n (local_seen names.old n o)) }
@@ -51,7 +52,7 @@ fn is_int(init: &Init) -> bool
 }
 
 fn put<'a>(
-    names: &mut IndexMap<&'a [u8], bool>,
+    names: &mut IndexMap<&'a [u8], bool, KeyHashes>,
     name: &'a Text,
     is_int: bool,
 ) -> Result<(), AllocError>

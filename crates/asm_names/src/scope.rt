@@ -9,10 +9,12 @@ ghost use Rattle.asm_names.specs.Environments.{IsComplete};
 ghost use Rattle.asm_names.specs.Scopes.{scope_view, variable_of, IsCompleteScope};
 
 use crate::environment::Environment;
+use crate::hashes::function_hashes;
 use crate::locals::{put_locals, put_params};
 use crate::meaning::Meaning;
 use asm_tree::Function;
 use indexmap::IndexMap;
+use key_hashes::KeyHashes;
 use std::alloc::{AllocError, Global};
 
 /// The names of a function, which hide those of the module. Of its parameters and locals with one name the first
@@ -22,7 +24,7 @@ pub struct Scope<'e, 'a> {
     environment: &'e Environment<'a>,
     function: &'a Function,
     // whether each parameter and local is an int
-    locals: IndexMap<&'a [u8], bool>,
+    locals: IndexMap<&'a [u8], bool, KeyHashes>,
 }
 
 impl<'e, 'a> Scope<'e, 'a> {
@@ -36,7 +38,7 @@ impl<'e, 'a> Scope<'e, 'a> {
         ensures of { IfOk result (λ s. scope_view s ≡ scope_of (module_view environment.now.home.now) (function_view function.now)) }
         ensures complete { IfOk result IsCompleteScope }
     {
-        let mut locals = IndexMap::new(alloc);
+        let mut locals = IndexMap::with_hasher(alloc, function_hashes(function));
         put_locals(&mut locals, function.locals.as_slice())?;
         put_params(&mut locals, function.params.as_slice())?;
         Ok(Scope {

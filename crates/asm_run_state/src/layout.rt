@@ -8,6 +8,7 @@ ghost use Rattle.asm_run_state.specs.Variables.{names_in, slot_of, found, bindin
 
 use crate::values::Values;
 use indexmap::IndexMap;
+use key_hashes::{KeyHashes, hashes_of};
 use sem_words::JsValue;
 use std::alloc::{AllocError, Global};
 use std::marker::Model;
@@ -20,7 +21,7 @@ const FEW: usize = 8;
 pub struct Layout<'a> {
     names: Vec<&'a [u8]>,
     /// Where there are more than a few.
-    slots: IndexMap<&'a [u8], usize>,
+    slots: IndexMap<&'a [u8], usize, KeyHashes>,
 }
 
 impl<'a> Model for Layout<'a> {
@@ -112,21 +113,27 @@ fn is_same(known: &[u8], name: &[u8]) -> bool
 }
 
 // A map of the names, where there are more than a few.
-fn slots_for<'a>(alloc: Global, names: &[&'a [u8]]) -> Result<IndexMap<&'a [u8], usize>, AllocError>
+fn slots_for<'a>(
+    alloc: Global,
+    names: &[&'a [u8]],
+) -> Result<IndexMap<&'a [u8], usize, KeyHashes>, AllocError>
     ensures { IfOk result (λ slots. 8 < length names.now → (n : List ℕ) → found slots n ≡ slot_of (names_in names.now) n) }
 {
     if names.len() <= FEW {
-        return Ok(IndexMap::new(alloc));
+        return Ok(IndexMap::with_hasher(alloc, hashes_of(&[])));
     }
     let slots = slots_of(alloc, names)?;
     Ok(slots)
 }
 
 // Later names are put in first, so that an earlier one takes their place.
-fn slots_of<'a>(alloc: Global, names: &[&'a [u8]]) -> Result<IndexMap<&'a [u8], usize>, AllocError>
+fn slots_of<'a>(
+    alloc: Global,
+    names: &[&'a [u8]],
+) -> Result<IndexMap<&'a [u8], usize, KeyHashes>, AllocError>
     ensures { IfOk result (λ slots. (n : List ℕ) → found slots n ≡ slot_of (names_in names.now) n) }
 {
-    let mut slots = IndexMap::with_capacity(alloc, names.len())?;
+    let mut slots = IndexMap::with_capacity_and_hasher(alloc, names.len(), hashes_of(names))?;
     let mut i = names.len();
     while i > 0 {
         i -= 1;
@@ -136,7 +143,7 @@ fn slots_of<'a>(alloc: Global, names: &[&'a [u8]]) -> Result<IndexMap<&'a [u8], 
 }
 
 fn put<'a>(
-    slots: &mut IndexMap<&'a [u8], usize>,
+    slots: &mut IndexMap<&'a [u8], usize, KeyHashes>,
     name: &'a [u8],
     slot: usize,
 ) -> Result<(), AllocError>

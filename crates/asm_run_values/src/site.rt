@@ -14,8 +14,8 @@ use asm_run_work::Frame;
 use asm_tree::{Expr, Link};
 use sem_words::{JsOp, JsUnary, Text};
 
-// How many levels an expression may have whose value is taken at once. An expression that has a call is tried again for
-// each part that the call lies in, so this is also how often a part may be tried.
+// How many levels an expression may have whose value is taken at once, without the literals and variables at its ends. An expression
+// that has a call is tried again for each part that the call lies in, so this is also how often a part may be tried.
 const DEPTH: u32 = 17;
 
 /// Where an expression stands: what names mean in the module, the session, and the function that runs.
@@ -39,10 +39,10 @@ impl Site<'_, '_> {
         ensures value { IfSome result (λ s. HasValue self.now (expr_view expr.now) (simple_value s)) }
         ensures keeps { IfSome result (λ s. IsValue (simple_value s)) }
     {
-        self.value_at(expr, DEPTH)
+        self.part_at(expr, DEPTH)
     }
 
-    // The value of an expression of at most so many levels.
+    // The value of an expression that has parts, of at most so many levels without the literals and variables at its ends.
     #[cycle(parts)]
     fn value_at(&self, expr: &Expr, depth: u32) -> Option<Simple>
         requires { IsComplete self.now.environment.now }
@@ -54,14 +54,14 @@ impl Site<'_, '_> {
         }
         let below = depth - 1;
         match expr {
-            Expr::Lit(value) => literal(value),
-            Expr::Var(name) => self.variable(name),
             Expr::Index(name, index) => self.index_at(name, index, below),
             Expr::Unary(operator, operand) => self.unary_at(*operator, operand, below),
             Expr::Binary(operator, left, right) => self.binary_at(*operator, left, right, below),
             Expr::Chain(first, links) => self.chain_at(first, links.as_slice(), below),
             Expr::Cond(condition, yes, no) => self.cond_at(condition, yes, no, below),
-            Expr::Decimal(_)
+            Expr::Lit(_)
+            | Expr::Var(_)
+            | Expr::Decimal(_)
             | Expr::Call(_, _)
             | Expr::TableCall(_, _, _)
             | Expr::Assign(_, _)
@@ -70,7 +70,7 @@ impl Site<'_, '_> {
         }
     }
 
-    // .. of a part. What has no parts of its own takes no call, since half of all parts have none.
+    // .. of any expression. What has no parts takes no call, since half of all parts have none.
     #[cycle(parts)]
     #[inline(always)]
     fn part_at(&self, expr: &Expr, depth: u32) -> Option<Simple>

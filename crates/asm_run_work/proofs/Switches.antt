@@ -3,7 +3,7 @@ use Rattle.std.proofs.Common.{◌≡◌, Bool, true, false, List, ◌∷◌, Opt
 use Rattle.std.specs.Prelude.{ℤ, if◌then◌else◌}
 use Rattle.asm_lang.specs.Modules.{Stmts, Clauses, clauses}
 use Rattle.asm_tree.specs.declared.tree.Clause.{Clause}
-use Rattle.asm_tree.specs.Views.{ClauseView, clause_view, clauses_view, stmts_view}
+use Rattle.asm_tree.specs.Views.{ClauseView, clauses_view, stmts_view}
 use Rattle.asm_tree.proofs.Views.{clause_view-is}
 use Rattle.sem_words.specs.Lists.{list_items}
 use Rattle.asm_lang_exec.specs.Meaning.{is_case, has_case, before_case, before_default}

@@ -10,6 +10,7 @@ ghost use Rattle.asm_validate_facts.specs.Numbers.{Bytes, Functions, number_seen
 
 use asm_tree::{Export, Exports, Function, Module};
 use indexmap::IndexMap;
+use key_hashes::{KeyHashes, Seed};
 use sem_words::{List, Text};
 use std::alloc::{AllocError, Global};
 
@@ -23,7 +24,7 @@ pub struct ExportOf {
 /// The numbers of a module's functions by their names. Of functions with one name the first counts.
 #[derive(Drop)]
 pub struct Numbers<'a> {
-    names: IndexMap<&'a [u8], u32>,
+    names: IndexMap<&'a [u8], u32, KeyHashes>,
     // of functions
     count: u32,
 }
@@ -33,7 +34,8 @@ impl<'a> Numbers<'a> {
         requires { length functions.now < 2 ^ 32 }
         ensures { IfOk result (λ numbers. IsNumbered numbers (map function_view functions.now)) }
     {
-        let mut names = IndexMap::new(alloc);
+        let hashes = hashes_of(functions);
+        let mut names = IndexMap::with_capacity_and_hasher(alloc, functions.len(), hashes)?;
         put_numbers(&mut names, functions)?;
         Ok(Numbers {
             names,
@@ -61,8 +63,17 @@ impl<'a> Numbers<'a> {
     }
 }
 
+// Hashers for the names of functions.
+fn hashes_of(functions: &[Function]) -> KeyHashes {
+    let mut seed = Seed::new();
+    for function in functions {
+        seed.add(function.name.as_bytes());
+    }
+    seed.hashes()
+}
+
 fn put_numbers<'a>(
-    names: &mut IndexMap<&'a [u8], u32>,
+    names: &mut IndexMap<&'a [u8], u32, KeyHashes>,
     functions: &'a [Function],
 ) -> Result<(), AllocError>
     requires { length functions.now < 2 ^ 32 }
@@ -78,7 +89,7 @@ fn put_numbers<'a>(
 }
 
 fn put<'a>(
-    names: &mut IndexMap<&'a [u8], u32>,
+    names: &mut IndexMap<&'a [u8], u32, KeyHashes>,
     name: &'a Text,
     number: u32,
 ) -> Result<(), AllocError>

@@ -9,11 +9,12 @@ ghost use Rattle.asm_validate_facts.specs.Names.{held, bytes_of};
 
 use asm_tree::{Global_, Init};
 use indexmap::IndexSet;
+use key_hashes::{KeyHashes, Seed};
 use sem_words::{List, Text};
 use std::alloc::{AllocError, Global};
 
 // One declaration more.
-fn add<'a>(names: &mut IndexSet<&'a [u8]>, init: &'a Init) -> Result<(), AllocError>
+fn add<'a>(names: &mut IndexSet<&'a [u8], KeyHashes>, init: &'a Init) -> Result<(), AllocError>
     ensures { IfOk result (λ _. held names.new ≡ with_global (held names.old) (init_view init.now)) }
 {
     match init {
@@ -27,18 +28,29 @@ fn add<'a>(names: &mut IndexSet<&'a [u8]>, init: &'a Init) -> Result<(), AllocEr
     }
 }
 
-fn insert<'a>(names: &mut IndexSet<&'a [u8]>, name: &'a Text) -> Result<(), AllocError>
+fn insert<'a>(names: &mut IndexSet<&'a [u8], KeyHashes>, name: &'a Text) -> Result<(), AllocError>
     ensures { IfOk result (λ _. held names.new ≡ added (held names.old) (text_bytes name.now)) }
 {
     names.insert(name.as_bytes())?;
     Ok(())
 }
 
+// Hashers for the names of foreign members.
+fn hashes_of(globals: &[Global_]) -> KeyHashes {
+    let mut seed = Seed::new();
+    for global in globals {
+        if let Init::ForeignInt(_, field) = &global.init {
+            seed.add(field.as_bytes());
+        }
+    }
+    seed.hashes()
+}
+
 /// Each once, in order of first declaration.
 pub fn foreign_globals(alloc: Global, globals: &[Global_]) -> Result<List<Text>, AllocError>
     ensures { IfOk result (λ texts. texts_view (list_items texts) ≡ global_imports [] (map global_view globals.now)) }
 {
-    let mut names = IndexSet::new(alloc);
+    let mut names = IndexSet::with_hasher(alloc, hashes_of(globals));
     for global in globals {
         add(&mut names, &global.init)?;
     }

@@ -7,6 +7,7 @@ ghost use Rattle.asm_validate_labels.specs.Cases.{value_before, least, greatest,
 
 use asm_tree::Clause;
 use indexmap::IndexSet;
+use key_hashes::{KeyHashes, Seed};
 use std::alloc::{AllocError, Global};
 
 fn value_fits(value: Option<i64>) -> bool
@@ -85,7 +86,7 @@ fn are_close(clauses: &[Clause]) -> bool
 }
 
 /// Adds the value of a case, and says whether it is new.
-fn add(seen: &mut IndexSet<i64>, value: Option<i64>) -> Result<bool, AllocError>
+fn add(seen: &mut IndexSet<i64, KeyHashes>, value: Option<i64>) -> Result<bool, AllocError>
     ensures is_new { IfOk result (λ b. (vs : List ℤ) → Knows seen.old vs → typing.distinct vs ≡ true → b ≡ typing.distinct (value_before value vs)) }
     ensures added { IfOk result (λ b. (vs : List ℤ) → Knows seen.old vs → b ≡ true → Knows seen.new (value_before value vs)) }
 {
@@ -95,10 +96,21 @@ fn add(seen: &mut IndexSet<i64>, value: Option<i64>) -> Result<bool, AllocError>
     }
 }
 
+// Hashers for the values of cases.
+fn hashes_of(clauses: &[Clause]) -> KeyHashes {
+    let mut seed = Seed::new();
+    for clause in clauses {
+        if let Some(value) = clause.value {
+            seed.add(&value.to_le_bytes());
+        }
+    }
+    seed.hashes()
+}
+
 fn are_distinct(alloc: Global, clauses: &[Clause]) -> Result<bool, AllocError>
     ensures { IfOk result (λ b. b ≡ typing.distinct (typing.values (clauses_view clauses.now))) }
 {
-    let mut seen = IndexSet::new(alloc);
+    let mut seen = IndexSet::with_hasher(alloc, hashes_of(clauses));
     let mut i = clauses.len();
     while i > 0 {
         i -= 1;

@@ -31,7 +31,7 @@ pub fn check_limits(
     ensures exactly { MatchResult result (λ _. limit_rows (module_view environment.now.home.now) ≡ []) (IsRow (limit_rows (module_view environment.now.home.now))) }
     ensures calls { IfOk result (λ calls. foreign_list calls ≡ foreign_calls (module_view environment.now.home.now)) }
 {
-    let mut tally = Tally::new(alloc);
+    let mut tally = Tally::new(alloc, environment.hashes());
     module_limits(alloc, environment, &mut tally)?;
     let calls = copied(alloc, tally.calls.as_slice())?;
     Ok(calls)

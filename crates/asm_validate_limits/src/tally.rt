@@ -9,6 +9,7 @@ use crate::numbers::MOST_FOREIGN_CALLS;
 use asm_lang_valid::Rule;
 use asm_validate_names::AsmRefusal;
 use indexmap::IndexSet;
+use key_hashes::KeyHashes;
 use sem_words::Text;
 use std::alloc::Global;
 
@@ -23,18 +24,18 @@ pub struct Call<'a> {
 /// The calls of foreign functions so far, each once, and the number of the next node.
 #[derive(Drop)]
 pub struct Tally<'a> {
-    pub calls: IndexSet<Call<'a>>,
+    pub calls: IndexSet<Call<'a>, KeyHashes>,
     pub at: u64,
 }
 
 impl<'a> Tally<'a> {
     /// Before the first node after the module.
-    pub fn new(alloc: Global) -> Tally<'a>
+    pub fn new(alloc: Global, hashes: KeyHashes) -> Tally<'a>
         ensures none { calls_of result ≡ [] }
         ensures first { result.at ≡ 1 }
     {
         Tally {
-            calls: IndexSet::new(alloc),
+            calls: IndexSet::with_hasher(alloc, hashes),
             at: 1,
         }
     }

@@ -13,14 +13,15 @@ ghost use Rattle.asm_validate_names.specs.Seen.{names, own_rows, own_count, body
 use crate::refusal::AsmRefusal;
 use crate::seen::declare;
 use crate::statements::stmts_names;
-use asm_names::{Environment, Scope};
+use asm_names::{Environment, Scope, function_hashes};
 use asm_tree::{Function, Local, Param};
 use indexmap::IndexSet;
+use key_hashes::KeyHashes;
 use std::alloc::Global;
 
 #[tactic(auto, using(crate::proofs::Rest::lists))]
 fn params_names<'a>(
-    seen: &mut IndexSet<&'a [u8]>,
+    seen: &mut IndexSet<&'a [u8], KeyHashes>,
     params: &'a [Param],
     at: &mut u64,
 ) -> Result<(), AsmRefusal>
@@ -38,7 +39,7 @@ fn params_names<'a>(
 
 #[tactic(auto, using(crate::proofs::Rest::lists))]
 fn locals_names<'a>(
-    seen: &mut IndexSet<&'a [u8]>,
+    seen: &mut IndexSet<&'a [u8], KeyHashes>,
     locals: &'a [Local],
     at: &mut u64,
 ) -> Result<(), AsmRefusal>
@@ -59,7 +60,7 @@ fn own_names(alloc: Global, function: &Function, at: &mut u64) -> Result<(), Asm
     ensures row { MatchResult result (λ _. first (own_rows (function_view function.now) at.old) ≡ None) (IsRow (own_rows (function_view function.now) at.old)) }
     ensures counted { IfOk result (λ _. at.new ≡ at.old + own_count (function_view function.now)) }
 {
-    let mut own = IndexSet::new(alloc);
+    let mut own = IndexSet::with_hasher(alloc, function_hashes(function));
     params_names(&mut own, function.params.as_slice(), at)?;
     locals_names(&mut own, function.locals.as_slice(), at)
 }
@@ -101,7 +102,7 @@ fn inner_names<'a>(
 fn function_names<'a>(
     alloc: Global,
     environment: &Environment<'a>,
-    seen: &mut IndexSet<&'a [u8]>,
+    seen: &mut IndexSet<&'a [u8], KeyHashes>,
     function: &'a Function,
     at: &mut u64,
 ) -> Result<(), AsmRefusal>
@@ -121,7 +122,7 @@ fn function_names<'a>(
 pub fn functions_names<'a>(
     alloc: Global,
     environment: &Environment<'a>,
-    seen: &mut IndexSet<&'a [u8]>,
+    seen: &mut IndexSet<&'a [u8], KeyHashes>,
     functions: &'a [Function],
     at: &mut u64,
 ) -> Result<(), AsmRefusal>

@@ -21,6 +21,7 @@ use asm_lang_valid::Met;
 use asm_names::{Environment, is_foreign, is_heap, is_stdlib};
 use asm_tree::{Global_, Init, Module};
 use indexmap::IndexSet;
+use key_hashes::KeyHashes;
 
 fn knows_all(environment: &Environment<'_>, init: &Init) -> bool
     requires { IsComplete environment.now }
@@ -93,7 +94,7 @@ fn global_row(
 // The names of a global variable, after those that were seen.
 fn global_names<'a>(
     environment: &Environment<'a>,
-    seen: &mut IndexSet<&'a [u8]>,
+    seen: &mut IndexSet<&'a [u8], KeyHashes>,
     imports: &mut Imports<'a>,
     global: &'a Global_,
     node: u64,
@@ -112,7 +113,7 @@ fn global_names<'a>(
 /// The names of global variables, after those that were seen and the imports of them.
 pub fn globals_names<'a>(
     environment: &Environment<'a>,
-    seen: &mut IndexSet<&'a [u8]>,
+    seen: &mut IndexSet<&'a [u8], KeyHashes>,
     imports: &mut Imports<'a>,
     globals: &'a [Global_],
     at: &mut u64,

@@ -13,24 +13,25 @@ use crate::words::is_forbidden_key;
 use asm_names::is_foreign;
 use asm_tree::{Init, Module};
 use indexmap::IndexSet;
+use key_hashes::KeyHashes;
 use sem_words::Text;
 use std::alloc::{AllocError, Global};
 
 /// The members of the foreign object that were imported as values, and those that were as functions.
 #[derive(Drop)]
 pub struct Imports<'a> {
-    values: IndexSet<&'a [u8]>,
-    functions: IndexSet<&'a [u8]>,
+    values: IndexSet<&'a [u8], KeyHashes>,
+    functions: IndexSet<&'a [u8], KeyHashes>,
 }
 
 impl<'a> Imports<'a> {
     /// None yet.
-    pub fn new(alloc: Global) -> Imports<'a>
+    pub fn new(alloc: Global, hashes: KeyHashes) -> Imports<'a>
         ensures { imports_view result ≡ no_imports }
     {
         Imports {
-            values: IndexSet::new(alloc),
-            functions: IndexSet::new(alloc),
+            values: IndexSet::with_hasher(alloc, hashes),
+            functions: IndexSet::with_hasher(alloc, hashes),
         }
     }
 }
@@ -49,7 +50,7 @@ pub fn clashes(home: &Module, imports: &Imports<'_>, init: &Init) -> bool
 }
 
 #[tactic(auto, using(crate::proofs::Rest::seen_is))]
-fn has(set: &IndexSet<&[u8]>, name: &Text) -> bool
+fn has(set: &IndexSet<&[u8], KeyHashes>, name: &Text) -> bool
     ensures { result ≡ is_in (text_bytes name.now) (names set.now) }
 {
     set.contains(name.as_bytes())

@@ -19,6 +19,7 @@ use crate::words::is_forbidden;
 use asm_names::Environment;
 use asm_tree::Module;
 use indexmap::IndexSet;
+use key_hashes::KeyHashes;
 use sem_words::Text;
 use std::alloc::{AllocError, Global};
 
@@ -41,7 +42,9 @@ fn module_names(alloc: Global, environment: &Environment<'_>) -> Result<(), AsmR
     requires room { module_count (module_view environment.now.home.now) < 2 ^ 64 }
     ensures { MatchResult result (λ _. first (rows.name_rows (module_view environment.now.home.now)) ≡ None) (IsRow (rows.name_rows (module_view environment.now.home.now))) }
 {
-    let mut seen = IndexSet::new(alloc);
+    let home = environment.home();
+    let count = home.functions.len().saturating_add(home.globals.len());
+    let mut seen = IndexSet::with_capacity_and_hasher(alloc, count, environment.hashes())?;
     all_names(alloc, environment, &mut seen)
 }
 
@@ -49,7 +52,7 @@ fn module_names(alloc: Global, environment: &Environment<'_>) -> Result<(), AsmR
 fn all_names<'a>(
     alloc: Global,
     environment: &Environment<'a>,
-    seen: &mut IndexSet<&'a [u8]>,
+    seen: &mut IndexSet<&'a [u8], KeyHashes>,
 ) -> Result<(), AsmRefusal>
     requires complete { IsComplete environment.now }
     requires none { names seen.old ≡ [] }
@@ -64,7 +67,7 @@ fn all_names<'a>(
 fn declared_names<'a>(
     alloc: Global,
     environment: &Environment<'a>,
-    seen: &mut IndexSet<&'a [u8]>,
+    seen: &mut IndexSet<&'a [u8], KeyHashes>,
 ) -> Result<(), AsmRefusal>
     requires complete { IsComplete environment.now }
     requires params { names seen.old ≡ (module_view environment.now.home.now).params }
@@ -80,7 +83,7 @@ fn declared_names<'a>(
 fn variables_names<'a>(
     alloc: Global,
     environment: &Environment<'a>,
-    seen: &mut IndexSet<&'a [u8]>,
+    seen: &mut IndexSet<&'a [u8], KeyHashes>,
     at: &mut u64,
 ) -> Result<(), AsmRefusal>
     requires complete { IsComplete environment.now }
@@ -89,7 +92,7 @@ fn variables_names<'a>(
     ensures seen { IfOk result (λ _. names seen.new ≡ names seen.old ++ rows.global_texts (module_view environment.now.home.now)) }
     ensures counted { IfOk result (λ _. at.new ≡ at.old + length (module_view environment.now.home.now).globals) }
 {
-    let mut imports = Imports::new(alloc);
+    let mut imports = Imports::new(alloc, environment.hashes());
     let globals = environment.home().globals.as_slice();
     globals_names(environment, seen, &mut imports, globals, at)
 }
@@ -98,7 +101,7 @@ fn variables_names<'a>(
 fn later_names<'a>(
     alloc: Global,
     environment: &Environment<'a>,
-    seen: &mut IndexSet<&'a [u8]>,
+    seen: &mut IndexSet<&'a [u8], KeyHashes>,
     at: &mut u64,
 ) -> Result<(), AsmRefusal>
     requires complete { IsComplete environment.now }
@@ -114,7 +117,10 @@ fn later_names<'a>(
 }
 
 // The names of the module and of its parameters.
-fn heading_names<'a>(seen: &mut IndexSet<&'a [u8]>, home: &'a Module) -> Result<(), AsmRefusal>
+fn heading_names<'a>(
+    seen: &mut IndexSet<&'a [u8], KeyHashes>,
+    home: &'a Module,
+) -> Result<(), AsmRefusal>
     requires { names seen.old ≡ [] }
     ensures row { MatchResult result (λ _. first (heading_rows (module_view home.now)) ≡ None) (IsRow (heading_rows (module_view home.now))) }
     ensures seen { IfOk result (λ _. names seen.new ≡ (module_view home.now).params) }
@@ -126,7 +132,10 @@ fn heading_names<'a>(seen: &mut IndexSet<&'a [u8]>, home: &'a Module) -> Result<
 }
 
 // Adds names, and says whether each is new.
-fn add_all<'a>(seen: &mut IndexSet<&'a [u8]>, params: &'a [Text]) -> Result<bool, AllocError>
+fn add_all<'a>(
+    seen: &mut IndexSet<&'a [u8], KeyHashes>,
+    params: &'a [Text],
+) -> Result<bool, AllocError>
     ensures is_new { IfOk result (λ b. b ≡ rows.all_new (names seen.old) (texts_view params.now)) }
     ensures seen { IfOk result (λ b. b ≡ true → names seen.new ≡ names seen.old ++ texts_view params.now) }
 {

@@ -14,12 +14,13 @@ use crate::uses::needs;
 use crate::words::{is_forbidden, is_forbidden_key};
 use asm_lang_valid::{Met, Rule};
 use indexmap::IndexSet;
+use key_hashes::KeyHashes;
 use sem_words::Text;
 use std::alloc::AllocError;
 
 /// Adds a name, and says whether it is new.
 #[tactic(auto)]
-pub fn add<'a>(seen: &mut IndexSet<&'a [u8]>, name: &'a Text) -> Result<bool, AllocError>
+pub fn add<'a>(seen: &mut IndexSet<&'a [u8], KeyHashes>, name: &'a Text) -> Result<bool, AllocError>
     ensures is_new { IfOk result (λ b. b ≡ not (is_in (text_bytes name.now) (names seen.old))) }
     ensures added { IfOk result (λ _. names seen.new ≡ rows.added (names seen.old) (text_bytes name.now)) }
 {
@@ -29,7 +30,7 @@ pub fn add<'a>(seen: &mut IndexSet<&'a [u8]>, name: &'a Text) -> Result<bool, Al
 
 /// A name that is declared at a node, after those that were seen.
 pub fn declare<'a>(
-    seen: &mut IndexSet<&'a [u8]>,
+    seen: &mut IndexSet<&'a [u8], KeyHashes>,
     name: &'a Text,
     node: u64,
 ) -> Result<(), AsmRefusal>
@@ -44,7 +45,7 @@ pub fn declare<'a>(
 
 /// The key of an export at a node, after those that were seen.
 pub fn declare_key<'a>(
-    seen: &mut IndexSet<&'a [u8]>,
+    seen: &mut IndexSet<&'a [u8], KeyHashes>,
     key: &'a Text,
     node: u64,
 ) -> Result<(), AsmRefusal>

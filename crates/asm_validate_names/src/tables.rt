@@ -20,6 +20,7 @@ use asm_lang_valid::{Met, Rule};
 use asm_names::{Environment, Meaning};
 use asm_tree::{Export, Exports, Table};
 use indexmap::IndexSet;
+use key_hashes::KeyHashes;
 use sem_words::Text;
 use std::alloc::Global;
 
@@ -107,7 +108,7 @@ pub fn fit(known: bool, fits: bool, node: u64) -> Result<(), Met>
 // The name of a table and those of its members.
 fn table_names<'a>(
     environment: &Environment<'a>,
-    seen: &mut IndexSet<&'a [u8]>,
+    seen: &mut IndexSet<&'a [u8], KeyHashes>,
     table: &'a Table,
     node: u64,
 ) -> Result<(), AsmRefusal>
@@ -123,7 +124,7 @@ fn table_names<'a>(
 /// The names of tables, after those that were seen. `at` is the number of the first one's node.
 pub fn tables_names<'a>(
     environment: &Environment<'a>,
-    seen: &mut IndexSet<&'a [u8]>,
+    seen: &mut IndexSet<&'a [u8], KeyHashes>,
     tables: &'a [Table],
     at: &mut u64,
 ) -> Result<(), AsmRefusal>
@@ -142,7 +143,7 @@ pub fn tables_names<'a>(
 // The key of an export and the name of its function.
 fn export_names<'a>(
     environment: &Environment<'a>,
-    keys: &mut IndexSet<&'a [u8]>,
+    keys: &mut IndexSet<&'a [u8], KeyHashes>,
     export: &'a Export,
     node: u64,
 ) -> Result<(), AsmRefusal>
@@ -157,7 +158,7 @@ fn export_names<'a>(
 
 fn keys_names<'a>(
     environment: &Environment<'a>,
-    keys: &mut IndexSet<&'a [u8]>,
+    keys: &mut IndexSet<&'a [u8], KeyHashes>,
     exports: &'a [Export],
     at: u64,
 ) -> Result<(), AsmRefusal>
@@ -190,7 +191,8 @@ pub fn exports_names<'a>(
             Ok(())
         }
         Exports::Many(many) => {
-            let mut keys = IndexSet::new(alloc);
+            let hashes = environment.hashes();
+            let mut keys = IndexSet::with_capacity_and_hasher(alloc, many.len(), hashes)?;
             keys_names(environment, &mut keys, many.as_slice(), at)
         }
     }

@@ -5,6 +5,7 @@ ghost use Rattle.script_print.specs.Texts as spec;
 ghost use Rattle.wasm_lang_exec.specs.Fits.{misfit};
 ghost use Rattle.wasm_lang_exec.specs.Session.{wasm};
 ghost use Rattle.wasm_lang_valid.specs.Runnable.{not_runnable};
+ghost use Rattle.wasm_run.specs.Exports.{callees_of};
 ghost use Rattle.cmd_run_wasm.specs.Runs.{Prints, IsScriptRefusal};
 
 use script_print::observation_text;
@@ -27,23 +28,25 @@ pub fn run_script(
 {
     let script = read_script(alloc, text)?;
     match fits_wasm(alloc, valid, &script)? {
-        Ok(()) => Ok(observation(alloc, valid, &script, steps)?),
+        Ok(callees) => Ok(observation(alloc, valid, &script, callees, steps)?),
         Err(misfit) => Err(ScriptFault::Refused { line: misfit.line }),
     }
 }
 
-// What is printed of the session of a script that fits.
+// What is printed of the session of a script that fits, of whose calls the functions are these.
 fn observation(
     alloc: Global,
     valid: &Valid<'_>,
     script: &Script,
+    callees: Vec<Option<u32>>,
     steps: u32,
 ) -> Result<Vec<u8>, AllocError>
     requires runs { not_runnable valid.now ≡ None }
     requires fits { misfit valid.now (script_of script.now) ≡ None }
+    requires callees { callees.items ≡ callees_of valid.now (script_of script.now).calls }
     ensures { IfOk result (λ output. output.items ≡ spec.observation_text (wasm valid.now (script_of script.now) steps)) }
 {
-    let instance = Instance::start(alloc, valid, script)?;
+    let instance = Instance::start(alloc, valid, script, callees)?;
     let seen = instance.run(u64::from(steps))?;
     observation_text(alloc, &seen)
 }

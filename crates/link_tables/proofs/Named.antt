@@ -1,5 +1,5 @@
 -- The places of names, one name more at a time.
-use Rattle.std.proofs.Common.{◌≡◌, ℕ, suc, ◌+◌, ◌<◌, ◌^◌, Bool, true, false, List, [], ◌∷◌, ◌++◌, length, map, drop, get_or, Option, Some, None, refl, sym, ap, ◌∙◌, append_assoc, arith, zero-add, subst}
+use Rattle.std.proofs.Common.{◌≡◌, ℕ, zero, suc, ◌+◌, ◌<◌, ◌^◌, Bool, true, false, List, [], ◌∷◌, ◌++◌, length, map, drop, get_or, Option, Some, None, refl, sym, ap, ◌∙◌, append_assoc, arith, zero-add, subst}
 use Rattle.std.proofs.lemmas.List.{at_drop_more, map-append}
 use Rattle.std.specs.Prelude.{if◌then◌else◌, option_map, IfSome}
 use Rattle.std.specs.Borrow.{Bor}
@@ -13,6 +13,11 @@ use Rattle.asm2wasm_code.specs.Numbers.{slot_of}
 use Rattle.link_tables.specs.Names.{names_in, or_else, slot_or_length, function_names}
 
 -- ---- the map
+
+pub same_within : {A : Type 0} (xs : List A) (i : ℕ) (d e : A) → i < length xs → get_or xs i d ≡ get_or xs i e
+same_within [] i d e h = absurd (omega (arith, h))
+same_within (x ∷ xs) zero d e h = refl
+same_within (x ∷ xs) (suc i) d e h = same_within xs i d e (omega (arith, h))
 
 shifted : (c : Bool) (i : ℕ) (o : Option ℕ) → (if c then Some i else option_map (λ k. (i + 1) + k) o) ≡ option_map (λ k. i + k) (if c then Some 0 else option_map (λ k. suc k) o)
 shifted true i o = ap (λ (k : ℕ). Some k) (omega arith)

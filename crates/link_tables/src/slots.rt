@@ -5,6 +5,7 @@ ghost use Rattle.asm2wasm_code.specs.Numbers.{slot_of};
 ghost use Rattle.link_tables.specs.Names.{names_in, found, slot_or_length};
 
 use indexmap::IndexMap;
+use key_hashes::{KeyHashes, hashes_of};
 use std::alloc::{AllocError, Global};
 use std::marker::Model;
 
@@ -12,7 +13,7 @@ use std::marker::Model;
 #[derive(Drop)]
 pub struct Slots<'a> {
     names: Vec<&'a [u8]>,
-    slots: IndexMap<&'a [u8], usize>,
+    slots: IndexMap<&'a [u8], usize, KeyHashes>,
 }
 
 impl<'a> Model for Slots<'a> {
@@ -60,10 +61,13 @@ impl<'a> Slots<'a> {
 }
 
 // Later names are put in first, so that an earlier one takes their place.
-fn slots_of<'a>(alloc: Global, names: &[&'a [u8]]) -> Result<IndexMap<&'a [u8], usize>, AllocError>
+fn slots_of<'a>(
+    alloc: Global,
+    names: &[&'a [u8]],
+) -> Result<IndexMap<&'a [u8], usize, KeyHashes>, AllocError>
     ensures { IfOk result (λ slots. (n : List ℕ) → found slots n ≡ slot_of (names_in names.now) n) }
 {
-    let mut slots = IndexMap::new(alloc);
+    let mut slots = IndexMap::with_capacity_and_hasher(alloc, names.len(), hashes_of(names))?;
     let mut i = names.len();
     while i > 0 {
         i -= 1;
@@ -73,7 +77,7 @@ fn slots_of<'a>(alloc: Global, names: &[&'a [u8]]) -> Result<IndexMap<&'a [u8], 
 }
 
 fn put<'a>(
-    slots: &mut IndexMap<&'a [u8], usize>,
+    slots: &mut IndexMap<&'a [u8], usize, KeyHashes>,
     name: &'a [u8],
     slot: usize,
 ) -> Result<(), AllocError>

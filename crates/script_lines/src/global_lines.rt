@@ -9,6 +9,7 @@ ghost use Rattle.script_lines.specs.GlobalLines as by_name;
 ghost use Rattle.script_lines.specs.GlobalLines.{found, line_named};
 
 use indexmap::IndexMap;
+use key_hashes::{KeyHashes, Seed};
 use sem_laws::GlobalLine;
 use sem_words::Text;
 use std::alloc::{AllocError, Global};
@@ -19,7 +20,7 @@ use std::marker::Model;
 pub struct Lines<'a> {
     lines: &'a [GlobalLine],
     // the place of the first line of each name
-    places: IndexMap<&'a [u8], usize>,
+    places: IndexMap<&'a [u8], usize, KeyHashes>,
 }
 
 impl<'a> Model for Lines<'a> {
@@ -95,14 +96,23 @@ impl<'a> Lines<'a> {
     }
 }
 
+// Hashers for the names of lines.
+fn hashes_of(lines: &[GlobalLine]) -> KeyHashes {
+    let mut seed = Seed::new();
+    for line in lines {
+        seed.add(line.name.as_bytes());
+    }
+    seed.hashes()
+}
+
 // Later lines are put in first, so that an earlier one takes their place.
 fn places_of<'a>(
     alloc: Global,
     lines: &'a [GlobalLine],
-) -> Result<IndexMap<&'a [u8], usize>, AllocError>
+) -> Result<IndexMap<&'a [u8], usize, KeyHashes>, AllocError>
     ensures { IfOk result (λ places. (n : List ℕ) → found places n ≡ line_named (map global_of lines.now) n) }
 {
-    let mut places = IndexMap::with_capacity(alloc, lines.len())?;
+    let mut places = IndexMap::with_capacity_and_hasher(alloc, lines.len(), hashes_of(lines))?;
     let mut i = lines.len();
     while i > 0 {
         i -= 1;
@@ -112,7 +122,7 @@ fn places_of<'a>(
 }
 
 fn put<'a>(
-    places: &mut IndexMap<&'a [u8], usize>,
+    places: &mut IndexMap<&'a [u8], usize, KeyHashes>,
     name: &'a Text,
     place: usize,
 ) -> Result<(), AllocError>

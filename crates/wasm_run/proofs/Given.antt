@@ -1,7 +1,7 @@
 -- Numbers of the script, and the names that they are given to.
-use Rattle.std.proofs.Common.{◌≡◌, ℕ, ◌+◌, ◌<◌, ◌≤◌, zero, suc, Bool, true, false, cond, List, [], ◌∷◌, Option, Some, None, length, drop, get_or, bytes_eq, refl, sym, ap, ◌∙◌, arith}
+use Rattle.std.proofs.Common.{◌≡◌, ℕ, ◌+◌, ◌<◌, ◌≤◌, zero, suc, Bool, true, false, cond, List, [], ◌∷◌, Option, Some, None, length, drop, get_or, refl, sym, ap, ◌∙◌, arith}
 use Rattle.std.proofs.lemmas.Bool.Decides.{nat_tests}
-use Rattle.std.specs.Prelude.{ℤ, ◌&&◌, nat_eq, nat_lt, slice_get}
+use Rattle.std.specs.Prelude.{ℤ, nat_lt, slice_get}
 use Rattle.wasm_lang.specs.declared.types.ValType.{ValType}
 use Rattle.wasm_lang.specs.Modules.{WasmModule}
 use Rattle.wasm_lang_valid.specs.declared.profile.Beyond.{Beyond}
@@ -10,15 +10,6 @@ use Rattle.wasm_lang_valid.specs.declared.profile.Outside.{Outside}
 use Rattle.wasm_lang_valid.specs.ModuleRules.{is_table}
 use Rattle.wasm_lang_valid.specs.Runnable.{is_mutable, first_import, pages, above, row_or, not_runnable}
 use Rattle.wasm_lang_exec.specs.Session.{word_for, words_for}
-
-equal_either_way : (x y : ℕ) → nat_eq x y ≡ nat_eq y x
-equal_either_way x y = grind (arith, nat_tests)
-
-pub same_either_way : (xs ys : List ℕ) → bytes_eq xs ys ≡ bytes_eq ys xs
-same_either_way [] [] = refl
-same_either_way [] (y ∷ ys) = refl
-same_either_way (x ∷ xs) [] = refl
-same_either_way (x ∷ xs) (y ∷ ys) = ap (λ b. b && bytes_eq xs ys) (equal_either_way x y) ∙ ap (λ b. nat_eq y x && b) (same_either_way xs ys)
 
 -- past the last number there are no words
 no_more : (ts : List ValType) → words_for ts [] ≡ []

@@ -1,7 +1,8 @@
 pub mod Arguments
+pub mod Callees
 pub mod ExportNames
 pub mod Given
-pub mod GlobalLines
+pub mod GivenWords
 pub mod GlobalKinds
 pub mod Hosts
 pub mod Observed

@@ -1,22 +1,11 @@
 -- What is found under the names of globals.
-use Rattle.std.specs.Prelude.{ℕ, suc, Bool, not, ◌&&◌, List, [], ◌∷◌, Option, Some, None, option_map, if◌then◌else◌}
-use Rattle.std.specs.Borrow.{Bor}
+use Rattle.std.specs.Prelude.{ℕ, Bool, not, ◌&&◌, List, [], ◌∷◌, Option, Some, None, if◌then◌else◌}
 use Rattle.std.specs.Str.{bytes_eq}
-use Rattle.indexmap.specs.IndexMap.{IndexMap, get_by}
 use Rattle.sem_laws.specs.Script.{GlobalPlain}
 use Rattle.wasm_lang.specs.declared.types.ValType.{ValType}
 use Rattle.wasm_lang.specs.declared.types.ValType.TheVariants.{I32, I64}
 use Rattle.script_fits.specs.Fits.{is_given}
 use Rattle.wasm_lang_exec.specs.Fits.{GlobalImport, is_imported, has_range}
-
--- what a map has under a name
-abbrev pub found : {A S : Type 0} → IndexMap (Bor (List ℕ)) A S → List ℕ → Option A
-found entries n = get_by (λ k. bytes_eq n k.now) entries
-
--- the place of the first line of a name
-abbrev pub line_named : List GlobalPlain → List ℕ → Option ℕ
-line_named [] n = None
-line_named (g ∷ gs) n = if bytes_eq g.name n then Some 0 else option_map (λ i. suc i) (line_named gs n)
 
 -- the narrower of a type and another, where there is another
 abbrev pub narrowest : ValType → Option ValType → ValType

@@ -1,5 +1,5 @@
 -- What an instance stands for.
-use Rattle.std.specs.Prelude.{◌≡◌, List, [], None}
+use Rattle.std.specs.Prelude.{◌≡◌, ℕ, List, [], Option, None}
 use Rattle.sem_laws.specs.Script.{ScriptPlain}
 use Rattle.sem_laws.specs.Imports.{first_replies}
 use Rattle.wasm_lang.specs.Modules.{WasmModule}
@@ -10,16 +10,18 @@ use Rattle.wasm_run_operands.specs.declared.state.State.{State}
 use Rattle.wasm_run_operands.specs.Effects.{store_of}
 use Rattle.wasm_run_machine.specs.declared.functions.Function.{Function}
 use Rattle.wasm_run_machine.specs.Functions.{AreFunctions, AllHaveForms}
+use Rattle.wasm_run.specs.Exports.{callees_of}
 
 -- a module and the script that it is run with
 pub record InstancePlain : Type 0 where
   pub code : WasmModule
   pub script : ScriptPlain
 
--- the functions and the first state of both
-pub record IsInstance (m : WasmModule) (script : ScriptPlain) (functions : List Function) (state : State) : Type 0 where
+-- the functions, those that the script's calls name, and the first state of both
+pub record IsInstance (m : WasmModule) (script : ScriptPlain) (functions : List Function) (called : List (Option ℕ)) (state : State) : Type 0 where
   pub whole : IsWhole m
   pub fits : misfit m script ≡ None
   pub each : AreFunctions m functions
   pub forms : AllHaveForms functions
+  pub calls : called ≡ callees_of m script.calls
   pub begins : store_of state [] (first_replies script) ≡ first_store m script

@@ -5,9 +5,10 @@ ghost use Rattle.sem_laws.specs.Script.{CallPlain};
 ghost use Rattle.sem_laws.specs.Views.{call_of};
 ghost use Rattle.script_fits.specs.Fits as parts;
 ghost use Rattle.wasm_lang_exec.specs.Fits;
+ghost use Rattle.wasm_lang_exec.specs.Session.{function_named};
+ghost use Rattle.wasm_run.specs.Exports.{callees_of};
 ghost use Rattle.wasm_run.specs.Forms.{after_argument};
 
-use crate::exports::Exports;
 use crate::ranges::in_range;
 use script_fits::lesser;
 use sem_laws::CallLine;
@@ -48,12 +49,13 @@ fn takes_arguments(params: &[ValType], args: &[i128]) -> bool
     }
 }
 
+// Whether a call of this function, if its name is that of one, fits.
 #[tactic(auto, using(crate::proofs::Arguments::past_all))]
-fn fits_call(valid: &Valid<'_>, exports: &Exports<'_>, call: &CallLine) -> bool
-    requires { exports.now ≡ valid.now.exports }
+fn fits_call(valid: &Valid<'_>, callee: Option<u32>, call: &CallLine) -> bool
+    requires { callee ≡ function_named valid.now.exports (call_of call.now).name }
     ensures { result ≡ Fits.fits_call valid.now (call_of call.now) }
 {
-    match exports.function_named(call.name.as_bytes()) {
+    match callee {
         None => false,
         Some(function) => match valid.func_type(function) {
             None => false,
@@ -62,15 +64,15 @@ fn fits_call(valid: &Valid<'_>, exports: &Exports<'_>, call: &CallLine) -> bool
     }
 }
 
-/// The first line of a call that doesn't fit.
+/// The first line of a call that doesn't fit, by the functions that the calls name.
 #[tactic(auto, using(script_fits::proofs::FirstLines::earlier_lesser, script_fits::proofs::FirstLines::earlier_none))]
-pub fn first_call(valid: &Valid<'_>, exports: &Exports<'_>, calls: &[CallLine]) -> Option<u64>
-    requires { exports.now ≡ valid.now.exports }
+pub fn first_call(valid: &Valid<'_>, functions: &[Option<u32>], calls: &[CallLine]) -> Option<u64>
+    requires { functions.now ≡ callees_of valid.now (map call_of calls.now) }
     ensures { result ≡ parts.least (parts.lines_of (Fits.fits_call valid.now) (λ (c : CallPlain). c.line) (map call_of calls.now)) }
 {
     let mut first = None;
-    for call in calls {
-        if !fits_call(valid, exports, call) {
+    for (i, call) in calls.iter().enumerate() {
+        if !fits_call(valid, functions[i], call) {
             first = lesser(call.line, first);
         }
     }

@@ -1,131 +1,183 @@
-// The exports of a module, by their names.
+// The functions that the script's calls name.
 
-ghost use Rattle.std.specs.Prelude.{◌≡◌, ℕ, List, IfOk, IfSome, map, if◌then◌else◌};
+ghost use Rattle.std.specs.Prelude.{◌≡◌, ℕ, List, Some, IfOk, IfSome, map, if◌then◌else◌};
 ghost use Rattle.std.specs.Str.{bytes_eq};
+ghost use Rattle.sem_laws.specs.Views.{call_of};
+ghost use Rattle.script_lines.specs.GlobalLines.{found};
 ghost use Rattle.wasm_tree.specs.Views.{bytes_of, export_of};
 ghost use Rattle.wasm_lang_exec.specs.Session as session;
-ghost use Rattle.wasm_run.specs.Exports.{function_in};
+ghost use Rattle.wasm_run.specs.Exports.{EachIsFirst, callees_of, is_named_at, place_named};
 
 use indexmap::IndexMap;
+use key_hashes::{KeyHashes, Seed};
+use sem_laws::CallLine;
 use std::alloc::{AllocError, Global};
 use std::marker::Model;
 use wasm_lang::ExportKind;
 use wasm_tree::WasmExport;
+use wasm_validate::Valid;
 
 // For up to so many calls the exports are looked through: to compare a name costs a tenth of what it costs to put it
 // into a map, or less, and takes no memory.
 const FEW: usize = 8;
 
-/// Exports, whose functions are found by their names. Of several exports of one name the first counts.
+/// Exports, of which no two have one name, so that their functions are found by their names.
 #[derive(Drop)]
 pub struct Exports<'a> {
     exports: &'a [WasmExport<'a>],
-    // what the first export of each name has, where that is a function; no map where there are few calls
-    functions: Option<IndexMap<&'a [u8], Option<u32>>>,
+    // how many calls look up a name
+    calls: usize,
+    // the place after that of the export that was found last, where a name is looked for first
+    next: usize,
+    // the place of each name, once it was wanted; no map where there are few calls
+    places: Option<IndexMap<&'a [u8], usize, KeyHashes>>,
 }
 
 impl<'a> Model for Exports<'a> {
     ghost use Rattle.std.specs.Prelude.{◌≡◌, ℕ, List, IfSome, map};
     ghost use Rattle.wasm_lang.specs.Modules.{Exported};
     ghost use Rattle.wasm_tree.specs.Views.{export_of};
-    ghost use Rattle.wasm_lang_exec.specs.Session.{function_named};
-    ghost use Rattle.wasm_run.specs.Exports.{function_in};
+    ghost use Rattle.script_lines.specs.GlobalLines.{found};
+    ghost use Rattle.wasm_run.specs.Exports.{EachIsFirst, place_named};
 
     ghost Value = { List Exported };
 
     ghost view = { λ s. map export_of s.exports.now };
 
-    ghost invariant = { λ s. IfSome s.functions (λ functions. (n : List ℕ) → function_in functions n ≡ function_named (map export_of s.exports.now) n) };
+    ghost invariant = { λ s. EachIsFirst (map export_of s.exports.now)
+        × IfSome s.places (λ places. (n : List ℕ) → found places n ≡ place_named (map export_of s.exports.now) n) };
 }
 
 impl<'a> Exports<'a> {
-    /// These exports, in which at most so many calls look up a name.
-    pub fn new(
-        alloc: Global,
-        exports: &'a [WasmExport<'a>],
-        calls: usize,
-    ) -> Result<Exports<'a>, AllocError>
-        ensures { IfOk result (λ made. made ≡ map export_of exports.now) }
+    /// These exports, in which so many calls look up a name.
+    pub fn new(exports: &'a [WasmExport<'a>], calls: usize) -> Exports<'a>
+        requires { EachIsFirst (map export_of exports.now) }
+        ensures { result ≡ map export_of exports.now }
     {
-        let functions = functions_for(alloc, exports, calls)?;
-        Ok(Exports { exports, functions })
+        Exports {
+            exports,
+            calls,
+            next: 0,
+            places: None,
+        }
     }
 
     /// The function that is exported under a name.
-    pub fn function_named(&self, name: &[u8]) -> Option<u32>
-        ensures { result ≡ session.function_named self.now name.now }
+    #[tactic(auto, using(crate::proofs::ExportNames::function_nowhere))]
+    pub fn function_named(&mut self, alloc: Global, name: &[u8]) -> Result<Option<u32>, AllocError>
+        ensures function { IfOk result (λ function. function ≡ session.function_named self.old name.now) }
+        ensures same { self.new ≡ self.old }
     {
-        match &self.functions {
-            Some(functions) => function_in(functions, name),
-            None => function_among(self.exports, name),
+        let Some(place) = self.place(alloc, name)? else {
+            return Ok(None);
+        };
+        self.next = place.saturating_add(1);
+        Ok(function_at(self.exports, place, name))
+    }
+
+    // The place of the export of a name.
+    fn place(&mut self, alloc: Global, name: &[u8]) -> Result<Option<usize>, AllocError>
+        ensures place { IfOk result (λ place. place ≡ place_named self.old name.now) }
+        ensures same { self.new ≡ self.old }
+    {
+        if is_named_at(self.exports, self.next, name) {
+            return Ok(Some(self.next));
         }
+        if self.calls <= FEW {
+            return Ok(place_among(self.exports, name));
+        }
+        self.place_by_map(alloc, name)
+    }
+
+    fn place_by_map(&mut self, alloc: Global, name: &[u8]) -> Result<Option<usize>, AllocError>
+        ensures place { IfOk result (λ place. place ≡ place_named self.old name.now) }
+        ensures same { self.new ≡ self.old }
+    {
+        let places = match self.places.take() {
+            Some(places) => places,
+            None => places_of(alloc, self.exports)?,
+        };
+        let place = place_in(&places, name);
+        self.places = Some(places);
+        Ok(place)
     }
 }
 
-// The function of the first export of this name.
-fn function_among(exports: &[WasmExport<'_>], name: &[u8]) -> Option<u32>
-    ensures { result ≡ session.function_named (map export_of exports.now) name.now }
+// Whether the export at a place has this name.
+fn is_named_at(exports: &[WasmExport<'_>], place: usize, name: &[u8]) -> bool
+    ensures { result ≡ is_named_at (map export_of exports.now) place name.now }
 {
-    for export in exports {
+    match exports.get(place) {
+        Some(export) => export.name.as_bytes() == name,
+        None => false,
+    }
+}
+
+// The place of the first export of this name.
+fn place_among(exports: &[WasmExport<'_>], name: &[u8]) -> Option<usize>
+    ensures { result ≡ place_named (map export_of exports.now) name.now }
+{
+    for (i, export) in exports.iter().enumerate() {
         if export.name.as_bytes() == name {
-            return exported_function(export.kind);
+            return Some(i);
         }
     }
     None
 }
 
-// The function that a map has under this name.
-fn function_in(functions: &IndexMap<&[u8], Option<u32>>, name: &[u8]) -> Option<u32>
-    ensures { result ≡ function_in functions.now name.now }
+fn place_in(places: &IndexMap<&[u8], usize, KeyHashes>, name: &[u8]) -> Option<usize>
+    ensures { result ≡ found places.now name.now }
 {
-    match functions.get(name) {
-        Some(function) => *function,
+    match places.get(name) {
+        Some(place) => Some(*place),
         None => None,
     }
 }
 
-// A map of the exports, where there are more than a few calls.
-fn functions_for<'a>(
-    alloc: Global,
-    exports: &'a [WasmExport<'a>],
-    calls: usize,
-) -> Result<Option<IndexMap<&'a [u8], Option<u32>>>, AllocError>
-    ensures { IfOk result (λ made. IfSome made (λ functions. (n : List ℕ) → function_in functions n ≡ session.function_named (map export_of exports.now) n)) }
-{
-    if calls <= FEW {
-        return Ok(None);
+// Hashers for the names of exports.
+fn hashes_of(exports: &[WasmExport<'_>]) -> KeyHashes {
+    let mut seed = Seed::new();
+    for export in exports {
+        seed.add(export.name.as_bytes());
     }
-    let functions = functions_by_name(alloc, exports)?;
-    Ok(Some(functions))
+    seed.hashes()
 }
 
 // Later exports are put in first, so that an earlier one takes their place.
-fn functions_by_name<'a>(
+fn places_of<'a>(
     alloc: Global,
     exports: &'a [WasmExport<'a>],
-) -> Result<IndexMap<&'a [u8], Option<u32>>, AllocError>
-    ensures { IfOk result (λ functions. (n : List ℕ) → function_in functions n ≡ session.function_named (map export_of exports.now) n) }
+) -> Result<IndexMap<&'a [u8], usize, KeyHashes>, AllocError>
+    ensures { IfOk result (λ places. (n : List ℕ) → found places n ≡ place_named (map export_of exports.now) n) }
 {
-    let mut functions = IndexMap::with_capacity(alloc, exports.len())?;
+    let mut places = IndexMap::with_capacity_and_hasher(alloc, exports.len(), hashes_of(exports))?;
     let mut i = exports.len();
     while i > 0 {
         i -= 1;
-        put(&mut functions, &exports[i])?;
+        put(&mut places, &exports[i], i)?;
     }
-    Ok(functions)
+    Ok(places)
 }
 
 fn put<'a>(
-    functions: &mut IndexMap<&'a [u8], Option<u32>>,
+    places: &mut IndexMap<&'a [u8], usize, KeyHashes>,
     export: &'a WasmExport<'a>,
+    place: usize,
 ) -> Result<(), AllocError>
-    ensures { IfOk result (λ _. (n : List ℕ) → function_in functions.new n
-        ≡ (if bytes_eq (bytes_of export.now.name) n then session.exported_function export.now.kind else function_in functions.old n)) }
+    ensures { IfOk result (λ _. (n : List ℕ) → found places.new n ≡ (if bytes_eq (bytes_of export.now.name) n then Some place else found places.old n)) }
 {
     let name = export.name.as_bytes();
-    let function = exported_function(export.kind);
-    functions.insert(name, function)?;
+    places.insert(name, place)?;
     Ok(())
+}
+
+// The function of the first export of a name, which stands at this place.
+#[tactic(auto, using(crate::proofs::ExportNames::function_here, crate::proofs::ExportNames::place_within))]
+fn function_at(exports: &[WasmExport<'_>], place: usize, name: &[u8]) -> Option<u32>
+    requires { place_named (map export_of exports.now) name.now ≡ Some place }
+    ensures { result ≡ session.function_named (map export_of exports.now) name.now }
+{
+    exported_function(exports[place].kind)
 }
 
 fn exported_function(kind: ExportKind) -> Option<u32>
@@ -135,4 +187,29 @@ fn exported_function(kind: ExportKind) -> Option<u32>
         ExportKind::Func(function) => Some(function),
         ExportKind::Table(_) | ExportKind::Memory(_) | ExportKind::Global(_) => None,
     }
+}
+
+// The exports of a valid module.
+fn exports_of<'a>(valid: &'a Valid<'_>) -> &'a [WasmExport<'a>]
+    ensures exports { map export_of result.now ≡ valid.now.exports }
+    ensures first { EachIsFirst (map export_of result.now) }
+{
+    valid.module().exports.as_slice()
+}
+
+/// The functions that calls of exports of a valid module name, in the order of the calls. None for a name under which no function
+/// is exported.
+pub fn callees(
+    alloc: Global,
+    valid: &Valid<'_>,
+    calls: &[CallLine],
+) -> Result<Vec<Option<u32>>, AllocError>
+    ensures { IfOk result (λ functions. functions.items ≡ callees_of valid.now (map call_of calls.now)) }
+{
+    let mut exports = Exports::new(exports_of(valid), calls.len());
+    let mut functions = Vec::with_capacity(alloc, calls.len())?;
+    for call in calls {
+        functions.push(exports.function_named(alloc, call.name.as_bytes())?)?;
+    }
+    Ok(functions)
 }

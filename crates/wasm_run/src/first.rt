@@ -8,11 +8,13 @@ ghost use Rattle.sem_laws.specs.Views.{script_of};
 ghost use Rattle.wasm_tree.specs.Views.{bytes_of, import_of, module_of};
 ghost use Rattle.wasm_lang_valid.specs.Runnable.{not_runnable, pages};
 ghost use Rattle.wasm_lang_exec.specs.Session as session;
+ghost use Rattle.wasm_lang_exec.specs.Store.{word_of_type};
 ghost use Rattle.wasm_run_operands.specs.Effects.{store_of};
 
-use crate::lines::Lines;
+use crate::words::word_for;
 use crate::writes::memory_pages;
 use heap_views::Heap;
+use script_lines::Lines;
 use script_replies::put_writes;
 use sem_laws::{Script, import_name};
 use sem_words::Word;
@@ -55,7 +57,28 @@ fn value_for(
     ensures { IfOk result (λ value. value ≡ session.given_value lines.now (names.import_name (bytes_of import.now.«module») (bytes_of import.now.field)) kind) }
 {
     let name = import_name(alloc, import.module.as_bytes(), import.field.as_bytes())?;
-    Ok(lines.value(name.as_bytes(), kind))
+    Ok(word_given(lines, name.as_bytes(), kind))
+}
+
+// The word of a type that the lines give to a name.
+#[tactic(auto, using(crate::proofs::GivenWords::word_given, crate::proofs::GivenWords::no_word_given))]
+fn word_given(lines: &Lines<'_>, name: &[u8], kind: ValType) -> Word
+    ensures { result ≡ session.given_value lines.now name.now kind }
+{
+    match lines.given(name) {
+        Some(number) => word_for(kind, number),
+        None => zero_of(kind),
+    }
+}
+
+// The word of a type that stands for 0.
+fn zero_of(kind: ValType) -> Word
+    ensures { result ≡ word_of_type kind 0 }
+{
+    match kind {
+        ValType::I32 => Word::W32(0),
+        ValType::I64 => Word::W64(0),
+    }
 }
 
 // The values of imported globals.

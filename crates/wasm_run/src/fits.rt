@@ -6,14 +6,15 @@ ghost use Rattle.sem_laws.specs.Views.{script_of};
 ghost use Rattle.script_fits.specs.Fits.{least, lines_of, unfit_lines};
 ghost use Rattle.wasm_lang_exec.specs.Fits;
 ghost use Rattle.wasm_lang_exec.specs.Fits.{global_imports, tests, misfit};
+ghost use Rattle.wasm_run.specs.Exports.{callees_of};
 
 use crate::calls::first_call;
-use crate::exports::Exports;
+use crate::exports::callees;
 use crate::globals::first_global;
 use crate::imported::{Imported, imported_globals};
-use crate::lines::Lines;
 use crate::writes::{first_reply, first_write, imported_pages, memory_pages};
 use script_fits::earlier;
+use script_lines::Lines;
 use sem_laws::{Misfit, Script};
 use std::alloc::{AllocError, Global};
 use wasm_validate::Valid;
@@ -25,11 +26,11 @@ fn first_in_writes(valid: &Valid<'_>, script: &Script) -> Option<u64>
     first_write(pages, script.writes.as_slice())
 }
 
-fn first_in_calls(valid: &Valid<'_>, script: &Script, exports: &Exports<'_>) -> Option<u64>
-    requires { exports.now ≡ valid.now.exports }
+fn first_in_calls(valid: &Valid<'_>, script: &Script, functions: &[Option<u32>]) -> Option<u64>
+    requires { functions.now ≡ callees_of valid.now (script_of script.now).calls }
     ensures { result ≡ least (lines_of (Fits.fits_call valid.now) (λ (c : CallPlain). c.line) (script_of script.now).calls) }
 {
-    first_call(valid, exports, script.calls.as_slice())
+    first_call(valid, functions, script.calls.as_slice())
 }
 
 fn first_in_replies(valid: &Valid<'_>, script: &Script) -> Option<u64>
@@ -45,34 +46,34 @@ fn first_unfit(
     script: &Script,
     imported: &Imported<'_>,
     lines: &Lines<'_>,
-    exports: &Exports<'_>,
+    functions: &[Option<u32>],
 ) -> Option<u64>
     requires imported { imported.now ≡ global_imports valid.now.imports }
     requires lines { lines.now ≡ (script_of script.now).globals }
-    requires exports { exports.now ≡ valid.now.exports }
+    requires functions { functions.now ≡ callees_of valid.now (script_of script.now).calls }
     ensures { result ≡ least (unfit_lines (tests valid.now) (script_of script.now)) }
 {
     let globals = first_global(imported, lines);
     let writes = first_in_writes(valid, script);
-    let calls = first_in_calls(valid, script, exports);
+    let calls = first_in_calls(valid, script, functions);
     let replies = first_in_replies(valid, script);
     earlier(earlier(earlier(globals, writes), calls), replies)
 }
 
-// Whether the script fits, by the module's imported globals and exports and the script's lines of globals.
+// Whether the script fits, by the module's imported globals, the script's lines of globals and the functions that its calls name.
 fn fits_by(
     valid: &Valid<'_>,
     script: &Script,
     imported: &Imported<'_>,
     lines: &Lines<'_>,
-    exports: &Exports<'_>,
+    functions: &[Option<u32>],
 ) -> Result<(), Misfit>
     requires imported { imported.now ≡ global_imports valid.now.imports }
     requires lines { lines.now ≡ (script_of script.now).globals }
-    requires exports { exports.now ≡ valid.now.exports }
+    requires functions { functions.now ≡ callees_of valid.now (script_of script.now).calls }
     ensures { MatchResult result (λ _. misfit valid.now (script_of script.now) ≡ None) (λ refused. misfit valid.now (script_of script.now) ≡ Some refused.line) }
 {
-    match first_unfit(valid, script, imported, lines, exports) {
+    match first_unfit(valid, script, imported, lines, functions) {
         Some(line) => Err(Misfit { line }),
         None => {
             if imported.are_given(lines) {
@@ -89,19 +90,22 @@ fn fits_by(
 /// each call names an exported function and has an argument for each parameter, in the range of its
 /// type; and each imported global is given.
 ///
-/// The refusal has the first line that doesn't fit, or 0 where only a global is missing. An error of memory says nothing
-/// of the script.
+/// Where it fits, it comes with the functions that its calls name, in order. The refusal has the first line that doesn't fit, or 0 where
+/// only a global is missing. An error of memory says nothing of the script.
 pub fn fits_wasm(
     alloc: Global,
     valid: &Valid<'_>,
     script: &Script,
-) -> Result<Result<(), Misfit>, AllocError>
-    ensures { IfOk result (λ answer. MatchResult answer (λ _. misfit valid.now (script_of script.now) ≡ None) (λ refused. misfit valid.now (script_of script.now) ≡ Some refused.line)) }
+) -> Result<Result<Vec<Option<u32>>, Misfit>, AllocError>
+    ensures fits { IfOk result (λ answer. MatchResult answer (λ _. misfit valid.now (script_of script.now) ≡ None) (λ refused. misfit valid.now (script_of script.now) ≡ Some refused.line)) }
+    ensures functions { IfOk result (λ answer. IfOk answer (λ functions. functions.items ≡ callees_of valid.now (script_of script.now).calls)) }
 {
     let lines = Lines::new(alloc, script.globals.as_slice())?;
     let globals = imported_globals(alloc, valid.module().imports.as_slice())?;
     let imported = Imported::new(alloc, globals.as_slice())?;
-    let calls = script.calls.len();
-    let exports = Exports::new(alloc, valid.module().exports.as_slice(), calls)?;
-    Ok(fits_by(valid, script, &imported, &lines, &exports))
+    let functions = callees(alloc, valid, script.calls.as_slice())?;
+    match fits_by(valid, script, &imported, &lines, functions.as_slice()) {
+        Ok(()) => Ok(Ok(functions)),
+        Err(misfit) => Ok(Err(misfit)),
+    }
 }

@@ -6,8 +6,8 @@ ghost use Rattle.script_fits.specs.Fits as parts;
 ghost use Rattle.wasm_run.specs.Globals.{fits_line};
 
 use crate::imported::Imported;
-use crate::lines::Lines;
 use script_fits::lesser;
+use script_lines::Lines;
 use sem_laws::GlobalLine;
 
 // Whether a line names an imported global, with a value in its range, and no line before this place does.

@@ -5,14 +5,16 @@ ghost use Rattle.std.specs.Str.{bytes_eq};
 ghost use Rattle.sem_words.specs.Lists.{text_bytes};
 ghost use Rattle.wasm_tree.specs.Views.{import_of};
 ghost use Rattle.script_fits.specs.Fits as parts;
+ghost use Rattle.script_lines.specs.GlobalLines.{found};
 ghost use Rattle.wasm_lang_exec.specs.Fits;
 ghost use Rattle.wasm_lang_exec.specs.Fits.{global_imports, global_names};
-ghost use Rattle.wasm_run.specs.Globals.{found, kind_named, narrowest};
+ghost use Rattle.wasm_run.specs.Globals.{kind_named, narrowest};
 ghost use Rattle.wasm_run.specs.GlobalViews.{imported_of};
 
-use crate::lines::Lines;
 use crate::ranges::in_range;
 use indexmap::IndexMap;
+use key_hashes::{KeyHashes, Seed};
+use script_lines::Lines;
 use sem_laws::import_name;
 use sem_words::Text;
 use std::alloc::{AllocError, Global};
@@ -74,13 +76,14 @@ pub fn imported_globals(
 #[derive(Drop)]
 pub struct Imported<'a> {
     globals: &'a [ImportedGlobal],
-    kinds: IndexMap<&'a [u8], ValType>,
+    kinds: IndexMap<&'a [u8], ValType, KeyHashes>,
 }
 
 impl<'a> Model for Imported<'a> {
     ghost use Rattle.std.specs.Prelude.{◌≡◌, ℕ, List, map};
     ghost use Rattle.wasm_lang_exec.specs.Fits.{GlobalImport};
-    ghost use Rattle.wasm_run.specs.Globals.{found, kind_named};
+    ghost use Rattle.script_lines.specs.GlobalLines.{found};
+    ghost use Rattle.wasm_run.specs.Globals.{kind_named};
     ghost use Rattle.wasm_run.specs.GlobalViews.{imported_of};
 
     ghost Value = { List GlobalImport };
@@ -139,14 +142,23 @@ fn are_given(globals: &[ImportedGlobal], lines: &Lines<'_>) -> bool
     true
 }
 
+// Hashers for the names of imported globals.
+fn hashes_of(globals: &[ImportedGlobal]) -> KeyHashes {
+    let mut seed = Seed::new();
+    for global in globals {
+        seed.add(global.name.as_bytes());
+    }
+    seed.hashes()
+}
+
 // Later globals are put in first.
 fn kinds_of<'a>(
     alloc: Global,
     globals: &'a [ImportedGlobal],
-) -> Result<IndexMap<&'a [u8], ValType>, AllocError>
+) -> Result<IndexMap<&'a [u8], ValType, KeyHashes>, AllocError>
     ensures { IfOk result (λ kinds. (n : List ℕ) → found kinds n ≡ kind_named (map imported_of globals.now) n) }
 {
-    let mut kinds = IndexMap::with_capacity(alloc, globals.len())?;
+    let mut kinds = IndexMap::with_capacity_and_hasher(alloc, globals.len(), hashes_of(globals))?;
     let mut i = globals.len();
     while i > 0 {
         i -= 1;
@@ -156,7 +168,7 @@ fn kinds_of<'a>(
 }
 
 fn put<'a>(
-    kinds: &mut IndexMap<&'a [u8], ValType>,
+    kinds: &mut IndexMap<&'a [u8], ValType, KeyHashes>,
     global: &'a ImportedGlobal,
 ) -> Result<(), AllocError>
     ensures { IfOk result (λ _. (n : List ℕ) → found kinds.new n
@@ -169,7 +181,7 @@ fn put<'a>(
 }
 
 // The narrowest of a kind and that of a name, where it has one.
-fn kind_with(kinds: &IndexMap<&[u8], ValType>, name: &[u8], kind: ValType) -> ValType
+fn kind_with(kinds: &IndexMap<&[u8], ValType, KeyHashes>, name: &[u8], kind: ValType) -> ValType
     ensures { result ≡ narrowest kind (found kinds.now name.now) }
 {
     match kinds.get(name) {

@@ -12,6 +12,7 @@ ghost use Rattle.wasm_lang_exec.specs.Fits.{misfit};
 ghost use Rattle.wasm_laws_sound.specs.Laws.{IsWhole};
 ghost use Rattle.wasm_laws_sound.specs.Places.{GoesOn, IsTypedPlace, place, seen};
 ghost use Rattle.wasm_run_frames.specs.Views.{machine_of};
+ghost use Rattle.wasm_run.specs.Exports.{callees_of};
 ghost use Rattle.wasm_run.specs.Runs.{seen_as};
 
 use crate::first::first_state;
@@ -38,6 +39,8 @@ pub struct Instance<'a> {
     module: &'a Module<'a>,
     script: &'a Script,
     functions: Vec<Function>,
+    // the functions that the script's calls name
+    callees: Vec<Option<u32>>,
     state: State,
 }
 
@@ -50,7 +53,7 @@ impl<'a> Model for Instance<'a> {
 
     ghost view = { λ i. record { code = module_of i.«module».now; script = script_of i.script.now } };
 
-    ghost invariant = { λ i. IsInstance (module_of i.«module».now) (script_of i.script.now) i.functions.items i.state };
+    ghost invariant = { λ i. IsInstance (module_of i.«module».now) (script_of i.script.now) i.functions.items i.callees.items i.state };
 }
 
 // What is seen of a session that has this end, or none.
@@ -77,15 +80,17 @@ fn whole_module<'a>(valid: &'a Valid<'a>) -> &'a Module<'a>
 }
 
 impl<'a> Instance<'a> {
-    /// An instance of a module that can be run, with a script that fits it. It takes memory, table and globals, so that nothing that
+    /// An instance of a module that can be run, with a script that fits it and the functions that its calls name. It takes memory, table and globals, so that nothing that
     /// the session stores can be refused later.
     pub fn start(
         alloc: Global,
         valid: &'a Valid<'a>,
         script: &'a Script,
+        callees: Vec<Option<u32>>,
     ) -> Result<Instance<'a>, AllocError>
         requires runnable { not_runnable valid.now ≡ None }
         requires fits { misfit valid.now (script_of script.now) ≡ None }
+        requires callees { callees.items ≡ callees_of valid.now (script_of script.now).calls }
         ensures code { IfOk result (λ i. i.code ≡ valid.now) }
         ensures script { IfOk result (λ i. i.script ≡ script_of script.now) }
     {
@@ -97,6 +102,7 @@ impl<'a> Instance<'a> {
             module,
             script,
             functions,
+            callees,
             state,
         })
     }
@@ -128,6 +134,7 @@ impl<'a> Instance<'a> {
             alloc,
             self.module,
             functions,
+            self.callees.as_slice(),
             self.script,
             &mut machine,
             steps,

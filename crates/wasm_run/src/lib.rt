@@ -8,7 +8,6 @@ mod fits;
 mod globals;
 mod imported;
 mod instance;
-mod lines;
 mod ranges;
 mod session;
 mod words;

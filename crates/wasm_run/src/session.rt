@@ -8,9 +8,9 @@ ghost use Rattle.wasm_lang_exec.specs.Session as session;
 ghost use Rattle.wasm_lang_exec.specs.Store.{Store};
 ghost use Rattle.wasm_run_frames.specs.Views.{machine_of};
 ghost use Rattle.wasm_run_machine.specs.Functions.{AllHaveForms, AreFunctions};
+ghost use Rattle.wasm_run.specs.Exports.{callees_of};
 ghost use Rattle.wasm_run.specs.Runs.{after_ran, begun, seen_as};
 
-use crate::exports::Exports;
 use crate::words::arguments_for;
 use sem_laws::{CallLine, End, Event, Script};
 use sem_words::{TrapKind, Word};
@@ -61,23 +61,23 @@ fn note_result(machine: &mut Machine<'_>) -> Result<(), AllocError>
     }
 }
 
-// One call of the script.
+// One call of the script, of the function that it names.
 fn run_one(
     alloc: Global,
     module: &Module<'_>,
     functions: &[Function],
-    exports: &Exports<'_>,
+    callee: Option<u32>,
     call: &CallLine,
     machine: &mut Machine<'_>,
     steps: u64,
 ) -> Result<Ran, AllocError>
     requires forms { AllHaveForms functions.now }
-    requires exports { exports.now ≡ (module_of «module».now).exports }
+    requires callee { callee ≡ session.function_named (module_of «module».now).exports (call_of call.now).name }
     ensures { IfOk result (λ ran. (next : ℕ → Store → ObservationPlain) → AreFunctions (module_of «module».now) functions.now
         → session.one_call (module_of «module».now) (session.function_named (module_of «module».now).exports (call_of call.now).name) (call_of call.now).args steps (machine_of machine.old).store next
         ≡ after_ran ran (machine_of machine.new).store next) }
 {
-    let Some(function) = exports.function_named(call.name.as_bytes()) else {
+    let Some(function) = callee else {
         return Ok(Ran::Spent);
     };
     let arguments = arguments_for(alloc, module, functions, function, call.args.as_slice())?;
@@ -92,24 +92,24 @@ fn run_one(
     }
 }
 
-// The script's calls. Some end, or None where the reductions are used up or there is no next one.
+// The script's calls, of the functions that they name. Some end, or None where the reductions are used up or there is no next one.
 fn run_calls(
     alloc: Global,
     module: &Module<'_>,
     functions: &[Function],
-    exports: &Exports<'_>,
+    callees: &[Option<u32>],
     calls: &[CallLine],
     machine: &mut Machine<'_>,
     steps: u64,
 ) -> Result<Option<End>, AllocError>
     requires forms { AllHaveForms functions.now }
-    requires exports { exports.now ≡ (module_of «module».now).exports }
+    requires callees { callees.now ≡ callees_of (module_of «module».now) (map call_of calls.now) }
     ensures { IfOk result (λ end. AreFunctions (module_of «module».now) functions.now
         → session.calls_seen (module_of «module».now) (map call_of calls.now) steps (machine_of machine.old).store ≡ seen_as end (machine_of machine.new).store) }
 {
     let mut left = steps;
-    for call in calls {
-        match run_one(alloc, module, functions, exports, call, machine, left)? {
+    for (i, call) in calls.iter().enumerate() {
+        match run_one(alloc, module, functions, callees[i], call, machine, left)? {
             Ran::Back(more) => left = more,
             Ran::Over(end) => return Ok(Some(end)),
             Ran::Spent => return Ok(None),
@@ -143,19 +143,20 @@ fn run_started(
     alloc: Global,
     module: &Module<'_>,
     functions: &[Function],
+    callees: &[Option<u32>],
     calls: &[CallLine],
     machine: &mut Machine<'_>,
     steps: u64,
 ) -> Result<Option<End>, AllocError>
-    requires { AllHaveForms functions.now }
+    requires forms { AllHaveForms functions.now }
+    requires callees { callees.now ≡ callees_of (module_of «module».now) (map call_of calls.now) }
     ensures { IfOk result (λ end. AreFunctions (module_of «module».now) functions.now
         → session.started (module_of «module».now) (module_of «module».now).start steps (machine_of machine.old).store (session.calls_seen (module_of «module».now) (map call_of calls.now))
         ≡ seen_as end (machine_of machine.new).store) }
 {
     match run_start(alloc, module, functions, machine, steps)? {
         Ran::Back(left) => {
-            let exports = Exports::new(alloc, module.exports.as_slice(), calls.len())?;
-            let end = run_calls(alloc, module, functions, &exports, calls, machine, left)?;
+            let end = run_calls(alloc, module, functions, callees, calls, machine, left)?;
             Ok(end)
         }
         Ran::Over(end) => Ok(Some(end)),
@@ -163,17 +164,19 @@ fn run_started(
     }
 }
 
-/// A session from its first store on: instantiation, the start function and the script's calls. Some end, or None where the
-/// reductions are used up or there is no next one.
+/// A session from its first store on: instantiation, the start function and the script's calls, of the functions that they name. Some
+/// end, or None where the reductions are used up or there is no next one.
 pub fn run_session(
     alloc: Global,
     module: &Module<'_>,
     functions: &[Function],
+    callees: &[Option<u32>],
     script: &Script,
     machine: &mut Machine<'_>,
     steps: u64,
 ) -> Result<Option<End>, AllocError>
-    requires { AllHaveForms functions.now }
+    requires forms { AllHaveForms functions.now }
+    requires callees { callees.now ≡ callees_of (module_of «module».now) (script_of script.now).calls }
     ensures { IfOk result (λ end. AreFunctions (module_of «module».now) functions.now
         → begun (module_of «module».now) (script_of script.now) steps (machine_of machine.old).store ≡ seen_as end (machine_of machine.new).store) }
 {
@@ -188,6 +191,6 @@ pub fn run_session(
     put_entries(&mut machine.state, elements);
     put_bytes(&mut machine.state, segments);
     let calls = script.calls.as_slice();
-    let end = run_started(alloc, module, functions, calls, machine, steps - 1)?;
+    let end = run_started(alloc, module, functions, callees, calls, machine, steps - 1)?;
     Ok(end)
 }

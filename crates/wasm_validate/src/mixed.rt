@@ -8,6 +8,7 @@ ghost use Rattle.wasm_lang_valid.specs.Measures.{is_given, mixes};
 ghost use Rattle.wasm_validate.specs.Mixed.{AreNames, holds, is_named};
 
 use indexmap::IndexSet;
+use key_hashes::{KeyHashes, Seed};
 use std::alloc::{AllocError, Global};
 use wasm_lang::ImportKind;
 use wasm_tree::Import;
@@ -15,17 +16,17 @@ use wasm_tree::Import;
 /// The names, of module and field, that were imported as functions, and as globals.
 #[derive(Drop)]
 pub struct Names<'a> {
-    functions: IndexSet<(&'a [u8], &'a [u8])>,
-    globals: IndexSet<(&'a [u8], &'a [u8])>,
+    functions: IndexSet<(&'a [u8], &'a [u8]), KeyHashes>,
+    globals: IndexSet<(&'a [u8], &'a [u8]), KeyHashes>,
 }
 
 impl<'a> Names<'a> {
-    fn new(alloc: Global) -> Names<'a>
+    fn new(alloc: Global, hashes: KeyHashes) -> Names<'a>
         ensures { AreNames result [] }
     {
         Names {
-            functions: IndexSet::new(alloc),
-            globals: IndexSet::new(alloc),
+            functions: IndexSet::with_hasher(alloc, hashes),
+            globals: IndexSet::with_hasher(alloc, hashes),
         }
     }
 
@@ -56,7 +57,7 @@ impl<'a> Names<'a> {
 
 // One more name.
 fn insert<'n>(
-    names: &mut IndexSet<(&'n [u8], &'n [u8])>,
+    names: &mut IndexSet<(&'n [u8], &'n [u8]), KeyHashes>,
     name: (&'n [u8], &'n [u8]),
 ) -> Result<(), AllocError>
     ensures { IfOk result (λ _. (i : Imported) → holds names.new.keys i ≡ holds names.old.keys i || is_named i name.entry) }
@@ -76,11 +77,21 @@ fn is_given(import: &Import<'_>) -> bool
         && (field == b"$high".as_slice() || field == b"$trap".as_slice())
 }
 
+// Hashers for the names of imports.
+fn hashes_of(imports: &[Import<'_>]) -> KeyHashes {
+    let mut seed = Seed::new();
+    for import in imports {
+        seed.add(import.module.as_bytes());
+        seed.add(import.field.as_bytes());
+    }
+    seed.hashes()
+}
+
 /// The number of the first import of a name that is imported as a function and as a global.
 pub fn first_mixed(alloc: Global, imports: &[Import<'_>]) -> Result<Option<usize>, AllocError>
     ensures { IfOk result (λ n. n ≡ Measures.first_mixed [] 0 (map import_of imports.now)) }
 {
-    let mut names = Names::new(alloc);
+    let mut names = Names::new(alloc, hashes_of(imports));
     for (i, import) in imports.iter().enumerate() {
         if names.mixes(import) {
             return Ok(Some(i));

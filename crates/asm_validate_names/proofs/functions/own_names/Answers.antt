@@ -23,11 +23,11 @@ locals_names-requires c =
 pub returns-in_err-params_names-clause-row : goal.returns-in_err-params_names-clause-row
 returns-in_err-params_names-clause-row c =
     err_row _ _ c.in_err-params_names.field-0.0 (search rules)
-    (own_params c.args.function.now (names c.new-own.result) c.as_slice.result.now c.args.at.now (no_names _ c.new-own.ensures.empty) c.as_slice.ensures _ c.in_err-params_names.ensures.row)
+    (own_params c.args.function.now (names c.with_hasher-own.result) c.as_slice.result.now c.args.at.now (no_names _ c.with_hasher-own.ensures.empty) c.as_slice.ensures _ c.in_err-params_names.ensures.row)
 
 pub returns-clause-row : goal.returns-clause-row
 returns-clause-row c =
-    own_locals c.args.function.now (names c.new-own.result) c.as_slice.result.now c.args.at.now (no_names _ c.new-own.ensures.empty) c.as_slice.ensures
+    own_locals c.args.function.now (names c.with_hasher-own.result) c.as_slice.result.now c.args.at.now (no_names _ c.with_hasher-own.ensures.empty) c.as_slice.ensures
     (names c.params_names.new.seen) c.as_slice-2.result.now c.params_names.new.at c.in_ok-params_names.ensures.row c.in_ok-params_names.ensures.seen c.in_ok-params_names.ensures.counted c.as_slice-2.ensures
     c.locals_names.result c.locals_names.ensures.row
 

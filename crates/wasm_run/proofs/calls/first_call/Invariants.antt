@@ -6,7 +6,7 @@ use Rattle.wasm_lang_exec.specs.Fits.{fits_call}
 use Rattle.script_fits.specs.Earlier.{earlier}
 use Rattle.wasm_run.proofs.calls.first_call.Given as goal
 
-abbrev pub invariant-loop-call : goal.invariant-loop-call
-invariant-loop-call l =
+abbrev pub invariant-loop-i : goal.invariant-loop-i
+invariant-loop-i l =
     least (lines_of (fits_call l.valid) (λ (c : CallPlain). c.line) (map call_of l.calls))
-    ≡ earlier l.first (least (lines_of (fits_call l.valid) (λ (c : CallPlain). c.line) (map call_of (drop l.call-index l.calls))))
+    ≡ earlier l.first (least (lines_of (fits_call l.valid) (λ (c : CallPlain). c.line) (map call_of (drop l.i l.calls))))

@@ -1,6 +1,6 @@
 use Rattle.std.proofs.Common.{sym, ◌∙◌}
+use Rattle.script_lines.proofs.GlobalLines.{line_fits, line_unfit}
 use Rattle.wasm_run.specs.Globals.{fits_line}
-use Rattle.wasm_run.proofs.GlobalLines.{line_fits, line_unfit}
 use Rattle.wasm_run.proofs.globals.first_global.Goals.{then-not-fits_global, else-not-fits_global}
 use Rattle.wasm_run.proofs.globals.first_global.Goals as goal
 

@@ -1,5 +1,6 @@
 use Rattle.std.proofs.Common.{◌≡◌, ◌≤◌, ℕ, List, length, drop, map}
-use Rattle.wasm_run.specs.Globals.{found, kind_named}
+use Rattle.script_lines.specs.GlobalLines.{found}
+use Rattle.wasm_run.specs.Globals.{kind_named}
 use Rattle.wasm_run.specs.GlobalViews.{imported_of}
 use Rattle.wasm_run.proofs.imported.kinds_of.Given as goal
 

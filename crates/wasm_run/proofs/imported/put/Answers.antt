@@ -2,7 +2,8 @@ use Rattle.std.proofs.Common.{ap, ◌∙◌}
 use Rattle.std.specs.Prelude.{Some, if◌then◌else◌}
 use Rattle.std.specs.Str.{bytes_eq}
 use Rattle.sem_words.specs.Lists.{text_bytes}
-use Rattle.wasm_run.specs.Globals.{found, narrowest}
+use Rattle.script_lines.specs.GlobalLines.{found}
+use Rattle.wasm_run.specs.Globals.{narrowest}
 use Rattle.wasm_run.proofs.imported.put.Goals as goal
 
 pub returns : goal.returns

@@ -6,8 +6,8 @@ use Rattle.wasm_run_frames.specs.Views.{machine_of}
 use Rattle.wasm_run_machine.specs.Functions.{AreFunctions}
 use Rattle.wasm_run.proofs.session.run_calls.Given as goal
 
-abbrev pub invariant-loop-call : goal.invariant-loop-call
-invariant-loop-call l =
+abbrev pub invariant-loop-i : goal.invariant-loop-i
+invariant-loop-i l =
     AreFunctions (module_of l.«module») l.functions
     → calls_seen (module_of l.«module») (map call_of l.calls) l.fn.steps (machine_of l.fn.machine).store
-    ≡ calls_seen (module_of l.«module») (map call_of (drop l.call-index l.calls)) l.left (machine_of l.machine).store
+    ≡ calls_seen (module_of l.«module») (map call_of (drop l.i l.calls)) l.left (machine_of l.machine).store

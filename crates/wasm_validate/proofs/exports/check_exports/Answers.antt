@@ -13,9 +13,9 @@ pub returns-in-Some : goal.returns-in-Some
 returns-in-Some c =
     let m = module_of c.args.«module».now in
     let i = c.loop-i.i in
-    let at = c.export-item in
+    let at = c.index-exports-i in
     let e = export_of at.result in
-    let xs = c.as_slice-export-items in
+    let xs = c.as_slice-exports in
     let stands = subst (λ l. slice_get (map export_of l) i ≡ Some e) xs.ensures (item_at export_of xs.result.now i at.result at.is c.loop-i-test.true) in
     let held = names_held c.as_bytes.result.now c.loop-i.names.keys (take i m.exports) c.loop-i.invariant.names ∙ ap (λ n. is_named n (take i m.exports)) c.as_bytes.ensures in
     let rule = export_at m i e c.in-Ok-insert.is_new c.first_of-named.result c.exported_rule.result stands (c.in-Ok-insert.ensures.added ∙ ap not held) c.first_of-named.ensures (c.exported_rule.ensures m c.requires) in
@@ -25,9 +25,9 @@ pub loop-i-preserved : goal.loop-i-preserved
 loop-i-preserved c =
     let m = module_of c.args.«module».now in
     let i = c.loop-i.i in
-    let at = c.export-item in
+    let at = c.index-exports-i in
     let e = export_of at.result in
-    let xs = c.as_slice-export-items in
+    let xs = c.as_slice-exports in
     let keys = c.loop-i.names.keys in
     let name = c.as_bytes.result in
     let stands = subst (λ l. slice_get (map export_of l) i ≡ Some e) xs.ensures (item_at export_of xs.result.now i at.result at.is c.loop-i-test.true) in

@@ -4,5 +4,5 @@ use Rattle.asm2wasm_numbers.proofs.calls.CallNumbers.new.Goals as goal
 
 pub invariant_of-result : goal.invariant_of-result
 invariant_of-result c = record {
-  known = λ f. c.in_ok-put_calls.ensures f (none_found c.new-numbers.result.entries f (length c.args.calls.now) c.new-numbers.ensures.empty);
+  known = λ f. c.in_ok-put_calls.ensures f (none_found _ f (length c.args.calls.now) c.in_ok-numbers.ensures.empty);
 }

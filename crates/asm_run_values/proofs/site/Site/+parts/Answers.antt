@@ -15,17 +15,6 @@ links_at-loop-link-preserved t c = record {
   kept = c.in-Some-binary.ensures.keeps;
 }
 
-pub value_at-returns-in-Lit-clause-value : goal.value_at-returns-in-Lit-clause-value
-value_at-returns-in-Lit-clause-value t c =
-    viewed c.args.self.now c.literal.result _ (expr_view c.args.expr.now)
-    (some_more c.literal.result _ _ c.literal.ensures.value (λ s e. ap (λ (v : JsValue). goes v (place c.args.self.now)) (sym e)))
-    (lit_is c.args.expr.now c.in-Lit.value c.in-Lit.is)
-
-pub value_at-returns-in-Var-clause-value : goal.value_at-returns-in-Var-clause-value
-value_at-returns-in-Var-clause-value t c =
-    viewed c.args.self.now c.variable.result _ (expr_view c.args.expr.now) c.variable.ensures.value
-    (var_is c.args.expr.now c.in-Var.name c.in-Var.is)
-
 pub value_at-returns-in-Index-clause-value : goal.value_at-returns-in-Index-clause-value
 value_at-returns-in-Index-clause-value t c =
     viewed c.args.self.now c.index_at.result _ (expr_view c.args.expr.now) c.index_at.ensures.value
