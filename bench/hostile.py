@@ -11,13 +11,15 @@ seconds and the peak memory on the long input, and how many times as much each i
     GIB         above 1 GiB
 
 With `--part=N` the counts are divided by N; `--commands` gives the commands that are run; `--share=1/3` takes every third family from the first on, for
-three runs side by side; `--runs=3` runs each command three times on each input, and shows the run that took the fewest seconds. With words, only the families whose names hold one of them. The exit status is 1 where a process was ended by a signal."""
+three runs side by side; with `--runs=3` a row that would be marked TIME is run again, up to three times in all, and shows of each input the run that
+took the fewest seconds. With words, only the families whose names hold one of them. The exit status is 1 where a process was ended by a signal."""
 import os
 import resource
 import subprocess
 import sys
 import tempfile
 
+import colliding
 import hostile_asm
 import hostile_wasm
 
@@ -55,12 +57,28 @@ def called_keys(n):
     return module, b"".join(b"call e%d 1\n" % i for i in range(n))
 
 
+def colliding_exports(n):
+    names = [it.encode() for it in colliding.names(n)]
+    return hostile_wasm.exports(n, lambda i: names[i]), b"".join(b"call %s\n" % it for it in reversed(names))
+
+
+def colliding_keys(n):
+    names = colliding.names(n)
+    module = hostile_asm.text("", after="return{" + ",".join(f"{it}:f" for it in names) + "};")
+    return module, "".join(f"call {it} 1\n" for it in reversed(names)).encode()
+
+
 def last_export(n):
     return hostile_wasm.exports(1000), b"call e999\n" * n
 
 
 def changing_exports(n):
     return hostile_wasm.exports(1000), b"call e999\ncall e998\n" * n
+
+
+def if_found(name, family):
+    """A family of colliding names, where there are any."""
+    return {name: family} if colliding.finder() else {}
 
 
 LITTLE_TEXT = hostile_asm.text("", before="var H=new s.Int32Array(h);")
@@ -78,6 +96,7 @@ ASM_SCRIPTS = {
     "a reply of many writes": (250_000, script(lambda n: b"reply 1" + b" 1=00" * n, LITTLE_TEXT)),
     "foreign globals with a line each": (9_000, foreign_globals),
     "a call of each of many exports": (60_000, called_keys),
+    **if_found("calls of keys that collide", (20_000, colliding_keys)),
 }
 WASM_SCRIPTS = {
     "calls": (160_000, script(lambda n: b"call f\n" * n, LITTLE_MODULE)),
@@ -87,6 +106,7 @@ WASM_SCRIPTS = {
     "a call of each of many exports": (60_000, called_exports),
     "calls of the last of 1,000 exports": (16_000, last_export),
     "calls of two of 1,000 exports": (8_000, changing_exports),
+    **if_found("calls of exports that collide", (20_000, colliding_exports)),
 }
 
 
@@ -108,25 +128,39 @@ def measured(words):
     return child.returncode, usage.ru_utime + usage.ru_stime, usage.ru_maxrss / 1024, line
 
 
-def least(words, runs):
+def least(rows):
     """The run that took the fewest seconds, or one that was ended by a signal."""
-    return min((measured(words) for _ in range(runs)), key=lambda row: (row[0] >= 0, row[1]))
+    return min(rows, key=lambda row: (row[0] >= 0, row[1]))
 
 
-def both(words, lengths, run):
+def times_as_long(short, long):
+    return long[1] / max(short[1], 0.01)
+
+
+def grows_faster(short, long, growth):
+    """Whether the seconds grow faster than the input, by more than a tenth."""
+    return times_as_long(short, long) > 1.1 * growth and long[1] > 0.1
+
+
+def both(words, lengths, run, runs):
     """The row of one command. Answers whether a process was ended by a signal."""
-    short, long = run(0), run(1)
-    status, seconds, memory, line = long
-    times, more = seconds / max(short[1], 0.01), memory / short[2]
     growth = lengths[1] / lengths[0]
+    shorts, longs = [run(0)], [run(1)]
+    while grows_faster(least(shorts), least(longs), growth) and len(longs) < runs:
+        shorts.append(run(0))
+        longs.append(run(1))
+    short, long = least(shorts), least(longs)
+    status, seconds, memory, line = long
+    times, more = times_as_long(short, long), memory / short[2]
     marks = [f"SIGNAL {-it[0]}" for it in (short, long) if it[0] < 0]
-    marks += ["TIME"] * (times > 1.1 * growth and seconds > 0.1)
+    marks += ["TIME"] * grows_faster(short, long, growth)
     marks += ["MEMORY"] * (more > 1.1 * growth and memory > 100)
     marks += ["GIB"] * (memory > 1024)
     said = line if status and status > 0 else ""
     print(
         f"  {words:11} {status:3} {lengths[1]:9} bytes {growth:5.1f} times"
-        f"  {seconds:8.2f} s {times:6.1f} times  {memory:7.0f} MiB {more:5.1f} times  {' '.join([*marks, said])}",
+        f"  {seconds:8.2f} s {times:6.1f} times  {memory:7.0f} MiB {more:5.1f} times"
+        f"{f'  of {len(longs)} runs' if len(longs) > 1 else ''}  {' '.join([*marks, said])}",
         flush=True,
     )
     return min(short[0], long[0]) < 0
@@ -155,7 +189,7 @@ def family(program, folder, make, n, commands, runs):
     ended = False
     for command in commands:
         files = 2 if command.startswith("run-") else 1
-        ended |= both(command, lengths, lambda at: least([program, command, *paths[at][:files]], runs))
+        ended |= both(command, lengths, lambda at: measured([program, command, *paths[at][:files]]), runs)
     return ended
 
 

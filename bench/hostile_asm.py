@@ -1,4 +1,5 @@
 """Hostile texts of asm.js: each family gives the bytes for a count."""
+import colliding
 
 
 def text(body, parameters="s,o,h", before="", after="return f;"):
@@ -119,6 +120,17 @@ WIDE = {
     ),
 }
 
+# Names that collide in a hash map without a seed.
+COLLIDING = {
+    "globals whose names collide": (20_000, lambda n: text("", before="var " + ",".join(f"{it}=0" for it in colliding.names(n)) + ";")),
+    "foreign members whose names collide": (
+        20_000,
+        lambda n: text("", before="var " + ",".join(f"g{i}=o.{it}|0" for i, it in enumerate(colliding.names(n))) + ";"),
+    ),
+    "locals whose names collide": (20_000, lambda n: text("var " + ",".join(f"{it}=0" for it in colliding.names(n)) + ";")),
+    "exports whose keys collide": (20_000, lambda n: text("", after="return{" + ",".join(f"{it}:f" for it in colliding.names(n)) + "};")),
+}
+
 # Long names, spaces and numbers.
 LONG = {
     "a long name": (700_000, lambda n: f'function {"n" * n}(){{"use asm";function f(){{}}return f;}}'.encode()),
@@ -138,4 +150,4 @@ LONG = {
     "a truncated text": (160_000, lambda n: text("x=x|0;" * n)[:-3]),
 }
 
-FAMILIES = {**NESTED, **WIDE, **LONG}
+FAMILIES = {**NESTED, **WIDE, **(COLLIDING if colliding.finder() else {}), **LONG}

@@ -1,4 +1,5 @@
 """Hostile modules of WebAssembly: each family gives the bytes for a count."""
+import colliding
 from wasm_module import section, signed, sized, unsigned, vector
 
 HEADER = b"\x00asm\x01\x00\x00\x00"
@@ -185,3 +186,8 @@ FAMILIES = {
     "a truncated module": (160_000, lambda n: one(b"\x41\x00\x1a" * n)[:-1]),
     "a truncated section": (1_600_000, lambda n: HEADER + b"\x0a" + unsigned(n + 9) + b"\x01" * n),
 }
+
+# Names that collide in a hash map without a seed.
+if colliding.finder():
+    FAMILIES["exports whose names collide"] = (20_000, lambda n: exports(n, lambda i: colliding.names(n)[i].encode()))
+    FAMILIES["imports whose names collide"] = (7_500, lambda n: imports(n, lambda i: colliding.names(n)[i].encode()))
