@@ -1,5 +1,8 @@
 // The numbers of the calls of foreign functions.
-ghost use Rattle.std.specs.Prelude.{◌≡◌, ◌<◌, ◌^◌, ℕ, List, Some, IfOk, map, length, if◌then◌else◌};
+ghost use Rattle.std.specs.Prelude.{◌≡◌, ◌++◌, ◌∷◌, ◌<◌, ◌^◌, ℕ, List, Some, IfOk, map, length, if◌then◌else◌};
+ghost use Rattle.std.proofs.Common.{rules};
+ghost use Rattle.std.specs.Cmp.Rules.{hashing};
+ghost use Rattle.std.specs.Hash as fed;
 ghost use Rattle.asm_lang_valid.specs.LimitRows as limits;
 ghost use Rattle.asm_lang_valid.specs.LimitRows.{is_same};
 ghost use Rattle.asm_validate_limits.specs.Called.{foreign_view};
@@ -10,14 +13,28 @@ use asm_validate::ForeignCall;
 use indexmap::IndexMap;
 use key_hashes::{KeyHashes, Seed};
 use std::alloc::{AllocError, Global};
+use std::hash::{Hash, Hasher};
 use std::marker::Model;
 
 /// A call of a foreign function.
-#[derive(Clone, Copy, PartialEq, Eq, Hash)]
+#[derive(Clone, Copy, PartialEq, Eq)]
 pub struct Call<'a> {
     pub name: &'a [u8],
     pub params: usize,
     pub result: bool,
+}
+
+// The name is written whole, as long as it may be: sixteen bytes take one step, and by themselves as many as they are.
+impl Hash for Call<'_> {
+    ghost hash_input = { λ c. c.name.now ∷ fed.usize c.params ++ fed.bool c.result };
+
+    ghost respects_eq = { Prim.search (hashing, rules) };
+
+    fn hash<H: Hasher>(&self, state: &mut H) {
+        state.write(self.name);
+        state.write_usize(self.params);
+        self.result.hash(state);
+    }
 }
 
 /// Calls of foreign functions in order, each found by a map. Of equal ones the first counts.

@@ -1,6 +1,9 @@
 // What is counted on the way through a module.
 
-ghost use Rattle.std.specs.Prelude.{◌≡◌, [], ◌∷◌, false, true, nat_le};
+ghost use Rattle.std.specs.Prelude.{◌≡◌, [], ◌∷◌, ◌++◌, false, true, nat_le};
+ghost use Rattle.std.proofs.Common.{rules};
+ghost use Rattle.std.specs.Cmp.Rules.{hashing};
+ghost use Rattle.std.specs.Hash as fed;
 ghost use Rattle.sem_words.specs.Lists.{text_bytes};
 ghost use Rattle.asm_lang_valid.specs.LimitRows.{a_use, most_foreign_calls};
 ghost use Rattle.asm_validate_limits.specs.Passes.{Tallied, calls_of, limited};
@@ -12,13 +15,27 @@ use indexmap::IndexSet;
 use key_hashes::KeyHashes;
 use sem_words::Text;
 use std::alloc::Global;
+use std::hash::{Hash, Hasher};
 
 /// A call of a foreign function.
-#[derive(Clone, Copy, PartialEq, Eq, Hash)]
+#[derive(Clone, Copy, PartialEq, Eq)]
 pub struct Call<'a> {
     pub name: &'a [u8],
     pub params: u32,
     pub result: bool,
+}
+
+// The name is written whole, as long as it may be: sixteen bytes take one step, and by themselves as many as they are.
+impl Hash for Call<'_> {
+    ghost hash_input = { λ c. c.name.now ∷ fed.u32 c.params ++ fed.bool c.result };
+
+    ghost respects_eq = { Prim.search (hashing, rules) };
+
+    fn hash<H: Hasher>(&self, state: &mut H) {
+        state.write(self.name);
+        state.write_u32(self.params);
+        self.result.hash(state);
+    }
 }
 
 /// The calls of foreign functions so far, each once, and the number of the next node.
