@@ -140,6 +140,14 @@ LONG = {
         15,
         lambda n: text("e0();", before=many(n, lambda i: f"var e{i}=o.{'n' * 99_000}{i};")),
     ),
+    "long foreign members, each by 150 shapes": (
+        8,
+        lambda n: text(
+            many(n, lambda i: many(150, lambda k: f"e{i}({','.join(['x|0'] * k)});")),
+            before=many(n, lambda i: f"var e{i}=o.{'n' * 99_000}{i};"),
+        ),
+    ),
+    "calls of a long foreign member": (10_000, lambda n: text("e();" * n, before=f"var e=o.{'n' * (n * 99 // 100)};")),
     "a comment": (1_600_000, lambda n: b"/*" + b"*" * n + b"/" + text("")),
     "a comment that stays open": (1_600_000, lambda n: b"/*" + b"*" * n),
     "comments": (400_000, lambda n: b"/**/" * n + text("")),
