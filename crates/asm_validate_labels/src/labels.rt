@@ -8,23 +8,24 @@ ghost use Rattle.asm_lang_valid.specs.Typing as typing;
 ghost use Rattle.asm_validate_labels.specs.Open.{labels_in, AreDistinct};
 
 use indexmap::IndexMap;
+use key_hashes::KeyHashes;
 use sem_words::Text;
 use std::alloc::{AllocError, Global};
 
 /// The labels that are open, from the outermost to the innermost, each with whether it is one of a loop.
 #[derive(Drop)]
 pub struct Labels<'a> {
-    open: IndexMap<&'a [u8], bool>,
+    open: IndexMap<&'a [u8], bool, KeyHashes>,
     ghost distinct: { AreDistinct open.entries } by { Prim.hlevel props },
 }
 
 impl<'a> Labels<'a> {
     /// No labels.
-    pub fn new(alloc: Global) -> Labels<'a>
+    pub fn new(alloc: Global, hashes: KeyHashes) -> Labels<'a>
         ensures { labels_in result.open.entries ≡ [] }
     {
         Labels {
-            open: IndexMap::new(alloc),
+            open: IndexMap::with_hasher(alloc, hashes),
         }
     }
 

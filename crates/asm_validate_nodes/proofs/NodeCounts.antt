@@ -12,6 +12,8 @@ use Rattle.sem_words.specs.declared.list.List.{List as Listed}
 use Rattle.asm_tree.proofs.Views.{views, link_view-is, clause_view-is, stmt_view-Switch}
 use Rattle.asm_lang.specs.Modules as plain
 use Rattle.asm_lang_valid.specs.Rows.{expr_count, links_count, stmt_count, stmts_count, clauses_count}
+use Rattle.key_hashes.specs.declared.seed.Seed.{Seed}
+use Rattle.asm_validate_nodes.specs.Labelled.{with_stmts, with_clauses}
 
 -- a number that is reached in another way
 pub whole : (r : Option ℕ) (n m : ℕ) → SomeIff r (n < 2 ^ 64) n → n ≡ m → SomeIff r (m < 2 ^ 64) m
@@ -78,5 +80,11 @@ clauses_step ks i k ss h is body =
     at_drop_more (λ l. clauses_count (clauses_view l)) ks i k h
     ∙ ap (λ (x : Clause). stmts_count (clause_view x).body + clauses_count (clauses_view (drop (i + 1) ks))) (sym is)
     ∙ ap (λ n. stmts_count n + clauses_count (clauses_view (drop (i + 1) ks))) (clause_body k ss body)
+
+pub labels_step : (seed : Seed) (ks : List Clause) (i : ℕ) (k : Clause) (ss : List Stmt) → i < length ks → k ≡ get_or ks i k → ss ≡ list_items k.body → with_clauses seed (clauses_view (drop i ks)) ≡ with_clauses (with_stmts seed (stmts_view ss)) (clauses_view (drop (i + 1) ks))
+labels_step seed ks i k ss h is body =
+    at_drop_more (λ l. with_clauses seed (clauses_view l)) ks i k h
+    ∙ ap (λ (x : Clause). with_clauses (with_stmts seed (clause_view x).body) (clauses_view (drop (i + 1) ks))) (sym is)
+    ∙ ap (λ n. with_clauses (with_stmts seed n) (clauses_view (drop (i + 1) ks))) (clause_body k ss body)
 
 pub ruleset counts = (views, link_operand, whole, past)

@@ -16,6 +16,7 @@ use asm_tree::{Function, Local};
 use asm_validate_exprs::{Context, needs};
 use asm_validate_labels::{Labels, at_top};
 use asm_validate_names::AsmRefusal;
+use asm_validate_nodes::label_hashes;
 use std::alloc::Global;
 
 #[tactic(auto, using(asm_validate_exprs::proofs::Sequences::sequences))]
@@ -47,7 +48,7 @@ fn function_typed<'a>(
     *at += 1 + function.params.len() as u64;
     locals_typed(function.locals.as_slice(), at)?;
     let context = Context::new(alloc, environment, function)?;
-    let mut labels = Labels::new(alloc);
+    let mut labels = Labels::new(alloc, label_hashes(function.body.as_slice()));
     judge_stmts(
         &context,
         &mut labels,

@@ -16,10 +16,10 @@ returns-in_err-locals_typed-clause-row c =
 pub returns-clause-row : goal.returns-clause-row
 returns-clause-row c =
     in_body (module_view c.args.environment.now.home.now) c.args.function.now c.args.at.now (c.args.at.now + (1 + c.len.result)) c.as_slice.result.now (ap (λ n. c.args.at.now + (1 + n)) c.len.ensures) c.as_slice.ensures
-    (scope_view c.in_ok-context.context.scope) (around_view c.at_top.result c.new-labels.result.open.entries) c.as_slice-2.result.now c.locals_typed.new.at c.judge_stmts.result
-    c.in_ok-locals_typed.ensures.row c.in_ok-locals_typed.ensures.counted c.in_ok-context.ensures.of (top_is c.at_top.result c.new-labels.result.open.entries c.at_top.ensures c.new-labels.ensures) c.as_slice-2.ensures c.judge_stmts.ensures.row
+    (scope_view c.in_ok-context.context.scope) (around_view c.at_top.result c.new-labels.result.open.entries) c.as_slice-3.result.now c.locals_typed.new.at c.judge_stmts.result
+    c.in_ok-locals_typed.ensures.row c.in_ok-locals_typed.ensures.counted c.in_ok-context.ensures.of (top_is c.at_top.result c.new-labels.result.open.entries c.at_top.ensures c.new-labels.ensures) c.as_slice-3.ensures c.judge_stmts.ensures.row
 
 pub returns-clause-counted : goal.returns-clause-counted
 returns-clause-counted c =
     in_count (module_view c.args.environment.now.home.now) c.args.function.now c.args.at.now (c.args.at.now + (1 + c.len.result)) c.as_slice.result.now (ap (λ n. c.args.at.now + (1 + n)) c.len.ensures) c.as_slice.ensures
-    c.as_slice-2.result.now c.locals_typed.new.at c.judge_stmts.new.at c.judge_stmts.result c.in_ok-locals_typed.ensures.counted c.as_slice-2.ensures c.judge_stmts.ensures.counted
+    c.as_slice-3.result.now c.locals_typed.new.at c.judge_stmts.new.at c.judge_stmts.result c.in_ok-locals_typed.ensures.counted c.as_slice-3.ensures c.judge_stmts.ensures.counted
