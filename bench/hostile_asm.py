@@ -127,6 +127,7 @@ COLLIDING = {
         20_000,
         lambda n: text("", before="var " + ",".join(f"g{i}=o.{it}|0" for i, it in enumerate(colliding.names(n))) + ";"),
     ),
+    "labels whose names collide": (20_000, lambda n: text("".join(f"{it}:" for it in colliding.names(n)) + ";")),
     "locals whose names collide": (20_000, lambda n: text("var " + ",".join(f"{it}=0" for it in colliding.names(n)) + ";")),
     "exports whose keys collide": (20_000, lambda n: text("", after="return{" + ",".join(f"{it}:f" for it in colliding.names(n)) + "};")),
 }
