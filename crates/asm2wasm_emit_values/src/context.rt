@@ -4,6 +4,7 @@ ghost use Rattle.sem_words.specs.Lists.{text_bytes};
 ghost use Rattle.asm_tree.specs.Views.{module_view};
 ghost use Rattle.asm_lang_valid.specs.Typing.{named};
 ghost use Rattle.asm_names.specs.Meanings.{meaning_view};
+ghost use Rattle.asm_names.specs.Members.{IsNumbered};
 ghost use Rattle.asm2wasm_code.specs.Numbers.{place_of, first_scratch};
 ghost use Rattle.asm2wasm_numbers.specs.Places.{place_seen};
 ghost use Rattle.asm2wasm_emit_values.specs.Contexts.{scope_in};
@@ -52,7 +53,8 @@ impl<'c, 'm, 'a> Context<'c, 'm, 'a> {
 
     /// What a name means in the function, or None where it isn't declared.
     pub fn meaning(&self, name: &Text) -> Option<Meaning<'a>>
-        ensures { meaning_view result ≡ named (scope_in self.now) (text_bytes name.now) }
+        ensures known { meaning_view result ≡ named (scope_in self.now) (text_bytes name.now) }
+        ensures numbered { IsNumbered (scope_in self.now).home result }
     {
         self.numbers.meaning(name)
     }

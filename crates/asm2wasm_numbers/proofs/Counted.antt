@@ -1,20 +1,22 @@
 -- The numbers of calls, one more at a time.
 use Rattle.std.proofs.Common.{◌≡◌, ℕ, suc, ◌+◌, ◌<◌, ◌≤◌, Bool, true, false, cond, ◌&&◌, List, [], ◌∷◌, length, map, drop, get_or, Option, Some, None, refl, sym, ap, ◌∙◌, arith, zero-add}
-use Rattle.std.proofs.lemmas.List.{at_drop_more, at_drop_all}
+use Rattle.std.proofs.lemmas.List.{at_drop_more, at_drop_all, length-map}
 use mathlib.Core.Bool.{beq}
-use Rattle.std.specs.Prelude.{if◌then◌else◌, ◌==◌, bytes_eq}
+use Rattle.std.specs.Prelude.{if◌then◌else◌, ◌==◌}
 use Rattle.std.specs.Map.{lookup}
 use Rattle.std.specs.Cmp.{nat_eq_equiv}
-use Rattle.std.specs.Cmp.Lexicographic.{nat_list_eq_equiv}
+use Rattle.asm_lang.specs.Modules.{Module}
 use Rattle.asm_lang_valid.specs.Typing.{same}
-use Rattle.asm_lang_valid.specs.LimitRows.{ForeignCall, is_same}
+use Rattle.asm_lang_valid.specs.LimitRows.{ForeignCall, is_same, foreign_calls}
+use Rattle.asm_names.specs.Members.{IsFirst, IsMember, import_at}
+use Rattle.asm_names.proofs.Numbered.{same_member, member_first}
 use Rattle.asm_validate_limits.specs.declared.calls.ForeignCall.{ForeignCall as CodeCall}
-use Rattle.asm_validate_limits.specs.Called.{foreign_view}
-use Rattle.asm2wasm_code.specs.Numbers.{number_among}
+use Rattle.asm_validate_limits.specs.Called.{foreign_view, EachIsFirst}
+use Rattle.asm2wasm_code.specs.Numbers.{number_among, import_number}
 use Rattle.link_tables.specs.Names.{or_else}
 use Rattle.asm2wasm_numbers.specs.declared.calls.Call.{Call}
 use Rattle.asm2wasm_numbers.specs.contracts.calls.CallPartialEq.TheImpl.{eq-value}
-use Rattle.asm2wasm_numbers.specs.Calls.{call_view}
+use Rattle.asm2wasm_numbers.specs.Calls.{key_of, same_call, place_among}
 
 -- ---- equal calls
 
@@ -24,8 +26,8 @@ same_is true false = refl
 same_is false true = refl
 same_is false false = refl
 
-eq_is : (k x : Call) → (eq-value).it k x ≡ is_same (call_view k) (call_view x)
-eq_is k x = ap (λ b. bytes_eq k.name.now x.name.now && ((k.params == x.params) && b)) (same_is k.result x.result)
+eq_is : (c d : Call) → (eq-value).it c d ≡ same_call c d
+eq_is c d = ap (λ b. (c.declaration == d.declaration) && ((c.params == d.params) && b)) (same_is c.result d.result)
 
 same_both_ways : (a b : Bool) → same a b ≡ same b a
 same_both_ways true true = refl
@@ -33,36 +35,32 @@ same_both_ways true false = refl
 same_both_ways false true = refl
 same_both_ways false false = refl
 
-is_same_both_ways : (f g : ForeignCall) → is_same f g ≡ is_same g f
-is_same_both_ways f g =
-    ap (λ b. b && ((f.params == g.params) && same f.result g.result)) (nat_list_eq_equiv.symm f.name g.name)
-    ∙ ap (λ b. bytes_eq g.name f.name && (b && same f.result g.result)) (nat_eq_equiv.symm f.params g.params)
-    ∙ ap (λ b. bytes_eq g.name f.name && ((g.params == f.params) && b)) (same_both_ways f.result g.result)
+same_call_both_ways : (c d : Call) → same_call c d ≡ same_call d c
+same_call_both_ways c d =
+    ap (λ b. b && ((c.params == d.params) && same c.result d.result)) (nat_eq_equiv.symm c.declaration d.declaration)
+    ∙ ap (λ b. (d.declaration == c.declaration) && (b && same c.result d.result)) (nat_eq_equiv.symm c.params d.params)
+    ∙ ap (λ b. (d.declaration == c.declaration) && ((d.params == c.params) && b)) (same_both_ways c.result d.result)
 
 -- ---- the map
 
-abbrev as_call : ForeignCall → Call
-as_call f = record { name = record { ref_ptr = (0, 0); now = f.name }; params = f.params; result = f.result }
-
-pub looked_up : (es : List (Call × ℕ)) (k : Call) → lookup ((eq-value).it k) es ≡ lookup (λ x. is_same (call_view k) (call_view x)) es
-looked_up es k = ap (λ t. lookup t es) (λ i x. eq_is k x i)
+pub looked_up : (es : List (Call × ℕ)) (c : Call) → lookup ((eq-value).it c) es ≡ lookup (same_call c) es
+looked_up es c = ap (λ t. lookup t es) (λ i d. eq_is c d i)
 
 found_put : (b : Bool) (v o : ℕ) (p x : Option ℕ) → x ≡ cond b (Some v) p → or_else x o ≡ (if b then v else or_else p o)
 found_put true v o p x e = ap (λ x. or_else x o) e
 found_put false v o p x e = ap (λ x. or_else x o) e
 
--- what is found of f after the call k has the number v
-pub call_put : (old new : List (Call × ℕ)) (k : Call) (f g : ForeignCall) (v o : ℕ) → call_view k ≡ g → ((q : Call) → lookup ((eq-value).it q) new ≡ cond ((eq-value).it k q) (Some v) (lookup ((eq-value).it q) old)) →
-    or_else (lookup (λ x. is_same f (call_view x)) new) o ≡ (if is_same f g then v else or_else (lookup (λ x. is_same f (call_view x)) old) o)
-call_put old new k f g v o is h =
-    let before = lookup (λ x. is_same f (call_view x)) old in
-    found_put (is_same f g) v o before (lookup (λ x. is_same f (call_view x)) new)
-    (sym (looked_up new (as_call f)) ∙ h (as_call f)
-    ∙ ap (λ p. cond ((eq-value).it k (as_call f)) (Some v) p) (looked_up old (as_call f))
-    ∙ ap (λ b. cond b (Some v) before) (eq_is k (as_call f) ∙ is_same_both_ways (call_view k) f ∙ ap (is_same f) is))
+-- what is found of c after the call k has the number v
+pub call_put : (old new : List (Call × ℕ)) (k c : Call) (v o : ℕ) → ((q : Call) → lookup ((eq-value).it q) new ≡ cond ((eq-value).it k q) (Some v) (lookup ((eq-value).it q) old)) →
+    or_else (lookup (same_call c) new) o ≡ (if same_call c k then v else or_else (lookup (same_call c) old) o)
+call_put old new k c v o h =
+    found_put (same_call c k) v o (lookup (same_call c) old) (lookup (same_call c) new)
+    (sym (looked_up new c) ∙ h c
+    ∙ ap (λ p. cond ((eq-value).it k c) (Some v) p) (looked_up old c)
+    ∙ ap (λ b. cond b (Some v) (lookup (same_call c) old)) (eq_is k c ∙ same_call_both_ways k c))
 
-pub none_found : (es : List (Call × ℕ)) (f : ForeignCall) (o : ℕ) → es ≡ [] → or_else (lookup (λ x. is_same f (call_view x)) es) o ≡ o
-none_found es f o h = ap (λ es. or_else (lookup (λ x. is_same f (call_view x)) es) o) h
+pub none_found : (es : List (Call × ℕ)) (c : Call) (o : ℕ) → es ≡ [] → or_else (lookup (same_call c) es) o ≡ o
+none_found es c o h = ap (λ es. or_else (lookup (same_call c) es) o) h
 
 -- ---- numbers
 
@@ -70,28 +68,46 @@ either : (b : Bool) (i r : ℕ) → (if b then i else (i + 1 + r)) ≡ i + (if b
 either true i r = omega arith
 either false i r = omega arith
 
-pub number_put : (gs : List CodeCall) (i j : ℕ) (g : CodeCall) (f : ForeignCall) (x y : ℕ) → j ≡ i + 1 → i < length gs → g ≡ get_or gs i g → x ≡ (if is_same f (foreign_view g) then i else y) → y ≡ j + number_among f (map foreign_view (drop j gs)) → x ≡ i + number_among f (map foreign_view (drop i gs))
-number_put gs i j g f x y p h is e k =
-    e ∙ ap (λ y. if is_same f (foreign_view g) then i else y) (k ∙ ap (λ j. j + number_among f (map foreign_view (drop j gs))) p)
-    ∙ either (is_same f (foreign_view g)) i (number_among f (map foreign_view (drop (i + 1) gs)))
-    ∙ ap (λ (w : CodeCall). i + number_among f (foreign_view w ∷ map foreign_view (drop (i + 1) gs))) is
-    ∙ sym (at_drop_more (λ l. i + number_among f (map foreign_view l)) gs i g h)
+pub number_put : (gs : List CodeCall) (i j : ℕ) (g d : CodeCall) (c : Call) (x y : ℕ) → j ≡ i + 1 → i < length gs → g ≡ get_or gs i d → x ≡ (if same_call c (key_of g) then i else y) → y ≡ j + place_among c (drop j gs) → x ≡ i + place_among c (drop i gs)
+number_put gs i j g d c x y p h is e k =
+    e ∙ ap (λ y. if same_call c (key_of g) then i else y) (k ∙ ap (λ j. j + place_among c (drop j gs)) p)
+    ∙ either (same_call c (key_of g)) i (place_among c (drop (i + 1) gs))
+    ∙ ap (λ (w : CodeCall). i + place_among c (w ∷ drop (i + 1) gs)) is
+    ∙ sym (at_drop_more (λ l. i + place_among c l) gs i d h)
 
-pub numbers_begin : (gs : List CodeCall) (f : ForeignCall) (x : ℕ) → x ≡ length gs → x ≡ length gs + number_among f (map foreign_view (drop (length gs) gs))
-numbers_begin gs f x h =
+pub numbers_begin : (gs : List CodeCall) (c : Call) (x : ℕ) → x ≡ length gs → x ≡ length gs + place_among c (drop (length gs) gs)
+numbers_begin gs c x h =
     let least : length gs ≤ length gs = omega arith in
     let none : length gs ≡ length gs + 0 = omega arith in
-    h ∙ none ∙ sym (at_drop_all (λ l. length gs + number_among f (map foreign_view l)) gs (length gs) least)
+    h ∙ none ∙ sym (at_drop_all (λ l. length gs + place_among c l) gs (length gs) least)
 
-pub numbers_end : (gs : List CodeCall) (i : ℕ) (f : ForeignCall) (x : ℕ) → i ≡ 0 → x ≡ i + number_among f (map foreign_view (drop i gs)) → x ≡ number_among f (map foreign_view gs)
-numbers_end gs i f x e h = h ∙ ap (λ i. i + number_among f (map foreign_view (drop i gs))) e ∙ zero-add (number_among f (map foreign_view gs))
+pub numbers_end : (gs : List CodeCall) (i : ℕ) (c : Call) (x : ℕ) → i ≡ 0 → x ≡ i + place_among c (drop i gs) → x ≡ place_among c gs
+numbers_end gs i c x e h = h ∙ ap (λ i. i + place_among c (drop i gs)) e ∙ zero-add (place_among c gs)
 
-pub calls_count : (gs : List CodeCall) → length (map foreign_view gs) ≡ length gs
-calls_count [] = refl
-calls_count (g ∷ gs) = ap suc (calls_count gs)
+pub found_number : (es : List (Call × ℕ)) (c : Call) (l i n : ℕ) → Some i ≡ lookup ((eq-value).it c) es → or_else (lookup (same_call c) es) l ≡ n → i ≡ n
+found_number es c l i n e h = ap (λ o. or_else o l) (e ∙ looked_up es c) ∙ h
 
-pub found_number : (es : List (Call × ℕ)) (k : Call) (l i n : ℕ) → Some i ≡ lookup ((eq-value).it k) es → or_else (lookup (λ x. is_same (call_view k) (call_view x)) es) l ≡ n → i ≡ n
-found_number es k l i n e h = ap (λ o. or_else o l) (e ∙ looked_up es k) ∙ h
+pub no_number : (es : List (Call × ℕ)) (c : Call) (l n : ℕ) → None ≡ lookup ((eq-value).it c) es → or_else (lookup (same_call c) es) l ≡ n → l ≡ n
+no_number es c l n e h = ap (λ o. or_else o l) (e ∙ looked_up es c) ∙ h
 
-pub no_number : (es : List (Call × ℕ)) (k : Call) (l n : ℕ) → None ≡ lookup ((eq-value).it k) es → or_else (lookup (λ x. is_same (call_view k) (call_view x)) es) l ≡ n → l ≡ n
-no_number es k l n e h = ap (λ o. or_else o l) (e ∙ looked_up es k) ∙ h
+-- ---- a call's place is its number among the module's calls
+
+module _ (m : Module) where
+  abbrev named : Call → ForeignCall
+  named c = record { name = import_at m.globals c.declaration; params = c.params; result = c.result }
+
+  pub place_is : (c : Call) (fs : List CodeCall) → IsFirst m c.declaration → EachIsFirst m fs → place_among c fs ≡ number_among (named c) (map (foreign_view m) fs)
+  place_is c [] first_c each = refl
+  place_is c (f ∷ fs) first_c each =
+      ap (λ b. if b && ((c.params == f.params) && same c.result f.result) then 0 else suc (place_among c fs)) (same_member m c.declaration f.declaration first_c each.0)
+      ∙ ap (λ n. if is_same (named c) (foreign_view m f) then 0 else suc n) (place_is c fs first_c each.1)
+
+  -- so of a member
+  pub import_is : (name : List ℕ) (c : Call) (fs : List CodeCall) → IsMember m name c.declaration → EachIsFirst m fs → map (foreign_view m) fs ≡ foreign_calls m → place_among c fs ≡ import_number m (record { name = name; params = c.params; result = c.result })
+  import_is name c fs member each all =
+      place_is c fs (member_first m name c.declaration member) each
+      ∙ ap (number_among (named c)) all
+      ∙ ap (λ n. number_among (record { name = n; params = c.params; result = c.result }) (foreign_calls m)) member.named
+
+  pub calls_count : (fs : List CodeCall) → map (foreign_view m) fs ≡ foreign_calls m → length fs ≡ length (foreign_calls m)
+  calls_count fs h = sym (length-map fs (foreign_view m)) ∙ ap length h

@@ -9,12 +9,13 @@ use Rattle.asm_lang_valid.specs.Typing.{same}
 use Rattle.asm_tree.specs.declared.tree.Function.{Function}
 use Rattle.asm_tree.specs.Views.{function_view}
 use Rattle.asm_validate_limits.specs.declared.calls.ForeignCall.{ForeignCall as CodeCall}
+use Rattle.asm_lang.specs.Modules.{Module}
 use Rattle.asm_validate_limits.specs.Called.{foreign_view}
 use Rattle.asm2wasm_code.specs.Numbers.{is_signature, is_known, each_once, asked_signature, place_of_type}
 use Rattle.link_tables.specs.Names.{or_else}
 use Rattle.asm2wasm_numbers.specs.declared.signatures.Signature.{Signature}
 use Rattle.asm2wasm_numbers.specs.contracts.signatures.SignaturePartialEq.TheImpl.{eq-value}
-use Rattle.asm2wasm_numbers.specs.Signatures.{signature_said}
+use Rattle.asm2wasm_numbers.specs.Signatures.{asked, signature_said}
 
 same_is : (a b : Bool) → beq a b ≡ same a b
 same_is true true = refl
@@ -47,14 +48,19 @@ added_is s ks new rest h =
     ∙ put (list_any ((eq-value).it s) ks) s ks rest
     ∙ ap (λ l. each_once (map signature_said l) rest) (sym h)
 
-pub call_more : (first old new rest : List scopes.Signature) (cs : List CodeCall) (i : ℕ) (c : CodeCall) (s : scopes.Signature) → i < length cs → c ≡ get_or cs i c → s ≡ asked_signature (foreign_view c) → ((r : List scopes.Signature) → each_once old (s ∷ r) ≡ each_once new r) →
-    first ≡ each_once old (map asked_signature (map foreign_view (drop i cs)) ++ rest) → first ≡ each_once new (map asked_signature (map foreign_view (drop (i + 1) cs)) ++ rest)
+pub call_more : (first old new rest : List scopes.Signature) (cs : List CodeCall) (i : ℕ) (c : CodeCall) (s : scopes.Signature) → i < length cs → c ≡ get_or cs i c → s ≡ asked c → ((r : List scopes.Signature) → each_once old (s ∷ r) ≡ each_once new r) →
+    first ≡ each_once old (map asked (drop i cs) ++ rest) → first ≡ each_once new (map asked (drop (i + 1) cs) ++ rest)
 call_more first old new rest cs i c s h is same step e =
-    let later = map asked_signature (map foreign_view (drop (i + 1) cs)) ++ rest in
-    e ∙ at_drop_more (λ l. each_once old (map asked_signature (map foreign_view l) ++ rest)) cs i c h
-    ∙ ap (λ (w : CodeCall). each_once old (asked_signature (foreign_view w) ∷ later)) (sym is)
+    let later = map asked (drop (i + 1) cs) ++ rest in
+    e ∙ at_drop_more (λ l. each_once old (map asked l ++ rest)) cs i c h
+    ∙ ap (λ (w : CodeCall). each_once old (asked w ∷ later)) (sym is)
     ∙ ap (λ (x : scopes.Signature). each_once old (x ∷ later)) (sym same)
     ∙ step later
+
+-- what calls ask for, by their names
+pub asked_are : (m : Module) (cs : List CodeCall) → map asked cs ≡ map asked_signature (map (foreign_view m) cs)
+asked_are m [] = refl
+asked_are m (c ∷ cs) = ap (λ l. asked c ∷ l) (asked_are m cs)
 
 pub function_more : (first old new rest : List scopes.Signature) (fs : List Function) (i : ℕ) (f : Function) (s : scopes.Signature) → i < length fs → f ≡ get_or fs i f → s ≡ scopes.signature_of (function_view f) → ((r : List scopes.Signature) → each_once old (s ∷ r) ≡ each_once new r) →
     first ≡ each_once old (map scopes.signature_of (map function_view (drop i fs)) ++ rest) → first ≡ each_once new (map scopes.signature_of (map function_view (drop (i + 1) fs)) ++ rest)

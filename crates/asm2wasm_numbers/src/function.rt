@@ -3,6 +3,7 @@ ghost use Rattle.std.specs.Prelude.{◌≡◌, IfOk};
 ghost use Rattle.sem_words.specs.Lists.{text_bytes};
 ghost use Rattle.asm_lang_valid.specs.Typing.{named};
 ghost use Rattle.asm_names.specs.Meanings.{meaning_view};
+ghost use Rattle.asm_names.specs.Members.{IsNumbered};
 ghost use Rattle.asm2wasm_code.specs.Numbers as code;
 ghost use Rattle.asm2wasm_numbers.specs.Places.{place_seen};
 ghost use Rattle.asm2wasm_numbers.specs.Functions.{scope_said};
@@ -64,7 +65,8 @@ impl<'m, 'a> FunctionNumbers<'m, 'a> {
 
     /// What a name means in the function, or None where it isn't declared.
     pub fn meaning(&self, name: &Text) -> Option<Meaning<'a>>
-        ensures { meaning_view result ≡ named (scope_said self.now) (text_bytes name.now) }
+        ensures known { meaning_view result ≡ named (scope_said self.now) (text_bytes name.now) }
+        ensures numbered { IsNumbered (scope_said self.now).home result }
     {
         self.scope.meaning(name.as_bytes())
     }

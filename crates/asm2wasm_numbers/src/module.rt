@@ -7,16 +7,18 @@ ghost use Rattle.asm_lang_valid.specs.Scope as scopes;
 ghost use Rattle.asm_lang_valid.specs.Scope.{first_member, module_meaning};
 ghost use Rattle.asm_validate_exprs.specs.Signatures.{signature_option};
 ghost use Rattle.asm_names.specs.Environments.{IsComplete};
+ghost use Rattle.asm_names.specs.Members.{IsMember};
 ghost use Rattle.asm2wasm_lang.specs.Tables.{bases_of, entries_of};
 ghost use Rattle.asm2wasm_code.specs.Numbers as code;
 ghost use Rattle.asm2wasm_code.specs.Numbers.{slot_of, global_names, place_among};
 ghost use Rattle.asm2wasm_numbers.specs.Places.{place_seen, base_or_zero};
 ghost use Rattle.asm2wasm_numbers.specs.Signatures.{signature_said};
 
+use crate::calls::Call;
 use crate::names::ModuleNames;
 use crate::place::Place;
 use crate::signatures::{ModuleTypes, Signature, place_of};
-use asm_names::Environment;
+use asm_names::{Environment, Member};
 use asm_tree::Table;
 use asm_validate::Checked;
 use asm_validate_exprs::function_signature;
@@ -60,7 +62,7 @@ impl<'a> ModuleNumbers<'a> {
     {
         let plan = TablePlan::of(alloc, checked)?;
         let environment = Environment::new(alloc, checked.module())?;
-        let types = ModuleTypes::new(alloc, checked)?;
+        let types = ModuleTypes::new(alloc, checked, environment.hashes())?;
         let names = ModuleNames::new(alloc, checked)?;
         Ok(ModuleNumbers {
             checked,
@@ -93,11 +95,16 @@ impl<'a> ModuleNumbers<'a> {
         self.types.calls.len() + self.names.functions.slot_or_len(name.as_bytes())
     }
 
-    /// The number of an imported function, by its name, the number of arguments, and whether it has a result.
-    pub fn import_number(&self, name: &Text, params: usize, valued: bool) -> usize
-        ensures { result ≡ code.import_number (module_view self.now) (record { name = text_bytes name.now; params = params; result = valued }) }
+    /// The number of an imported function, by the foreign member, the number of arguments, and whether it has a result.
+    pub fn import_number(&self, member: Member<'_>, params: usize, valued: bool) -> usize
+        requires { IsMember (module_view self.now) (text_bytes member.name.now) member.declaration }
+        ensures { result ≡ code.import_number (module_view self.now) (record { name = text_bytes member.entry.name.now; params = params; result = valued }) }
     {
-        self.types.calls.number(name.as_bytes(), params, valued)
+        self.types.calls.number(Call {
+            declaration: member.declaration,
+            params,
+            result: valued,
+        })
     }
 
     /// The number of a type, by the number of arguments and whether it has a result.

@@ -2,16 +2,16 @@
 ghost use Rattle.std.specs.Prelude.{◌≡◌, ◌++◌, [], ◌∷◌, List, IfOk, map};
 ghost use Rattle.asm_tree.specs.Views.{module_view, function_view};
 ghost use Rattle.asm_lang_valid.specs.Scope as scopes;
-ghost use Rattle.asm_validate_limits.specs.Called.{foreign_view};
-ghost use Rattle.asm2wasm_code.specs.Numbers.{each_once, asked_signature, place_of_type};
+ghost use Rattle.asm2wasm_code.specs.Numbers.{each_once, place_of_type};
 ghost use Rattle.asm2wasm_numbers.specs.Typed.{IsTyped};
-ghost use Rattle.asm2wasm_numbers.specs.Signatures.{signature_said, said};
+ghost use Rattle.asm2wasm_numbers.specs.Signatures.{asked, signature_said, said};
 
 use crate::calls::CallNumbers;
 use asm_tree::Function;
 use asm_validate::{Checked, ForeignCall};
 use asm_validate_exprs::signature_of;
 use indexmap::IndexSet;
+use key_hashes::KeyHashes;
 use std::alloc::{AllocError, Global};
 
 /// How many arguments a function takes, all of them ints, and whether it has a result, which is signed.
@@ -29,14 +29,18 @@ pub struct ModuleTypes<'a> {
 }
 
 impl<'a> ModuleTypes<'a> {
-    /// Those of an accepted module.
-    pub fn new(alloc: Global, checked: &'a Checked) -> Result<ModuleTypes<'a>, AllocError>
+    /// Those of an accepted module, with these hashers for a map of the calls.
+    pub fn new(
+        alloc: Global,
+        checked: &'a Checked,
+        hashes: KeyHashes,
+    ) -> Result<ModuleTypes<'a>, AllocError>
         ensures { IfOk result (λ types. IsTyped (module_view checked.now) types) }
     {
         let foreign = checked.foreign_calls();
         let module = checked.module();
         let own = module.functions.as_slice();
-        let calls = CallNumbers::new(alloc, foreign)?;
+        let calls = CallNumbers::new(alloc, foreign, hashes)?;
         let signatures = signatures_of(alloc, foreign, own)?;
         Ok(ModuleTypes { calls, signatures })
     }
@@ -48,7 +52,7 @@ fn signatures_of(
     calls: &[ForeignCall],
     functions: &[Function],
 ) -> Result<IndexSet<Signature>, AllocError>
-    ensures { IfOk result (λ signatures. said signatures ≡ each_once [] (map asked_signature (map foreign_view calls.now) ++ map scopes.signature_of (map function_view functions.now))) }
+    ensures { IfOk result (λ signatures. said signatures ≡ each_once [] (map asked calls.now ++ map scopes.signature_of (map function_view functions.now))) }
 {
     let mut signatures = IndexSet::new(alloc);
     add_calls(&mut signatures, calls)?;
@@ -67,7 +71,7 @@ pub fn place_of(signatures: &IndexSet<Signature>, signature: Signature) -> usize
 }
 
 fn add_calls(signatures: &mut IndexSet<Signature>, calls: &[ForeignCall]) -> Result<(), AllocError>
-    ensures { IfOk result (λ _. (rest : List scopes.Signature) → each_once (said signatures.old) (map asked_signature (map foreign_view calls.now) ++ rest) ≡ each_once (said signatures.new) rest) }
+    ensures { IfOk result (λ _. (rest : List scopes.Signature) → each_once (said signatures.old) (map asked calls.now ++ rest) ≡ each_once (said signatures.new) rest) }
 {
     for call in calls {
         let signature = Signature {

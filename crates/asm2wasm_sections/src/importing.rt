@@ -38,11 +38,11 @@ pub fn imports<'a>(
 
 fn put_functions<'a>(
     imports: &mut Vec<Import<'a>>,
-    calls: &'a [ForeignCall],
-    numbers: &ModuleNumbers<'_>,
+    calls: &[ForeignCall],
+    numbers: &ModuleNumbers<'a>,
 ) -> Result<(), AllocError>
     requires few { FewTypes (module_view numbers.now) }
-    ensures { OnOk result (map import_of imports.new.items ≡ map import_of imports.old.items ++ map (imported_function (module_view numbers.now)) (map foreign_view calls.now)) }
+    ensures { OnOk result (map import_of imports.new.items ≡ map import_of imports.old.items ++ map (imported_function (module_view numbers.now)) (map (foreign_view (module_view numbers.now)) calls.now)) }
 {
     for call in calls {
         imports.push(function(call, numbers))?;
@@ -50,12 +50,13 @@ fn put_functions<'a>(
     Ok(())
 }
 
-fn function<'a>(call: &'a ForeignCall, numbers: &ModuleNumbers<'_>) -> Import<'a>
+fn function<'a>(call: &ForeignCall, numbers: &ModuleNumbers<'a>) -> Import<'a>
     requires few { FewTypes (module_view numbers.now) }
-    ensures { import_of result ≡ imported_function (module_view numbers.now) (foreign_view call.now) }
+    ensures { import_of result ≡ imported_function (module_view numbers.now) (foreign_view (module_view numbers.now) call.now) }
 {
     let number = numbers.type_number(call.params as usize, call.result);
-    from_env(&call.name, ImportKind::Func(number as u32))
+    let name = call.name(numbers.checked().module());
+    from_env(name, ImportKind::Func(number as u32))
 }
 
 fn put_globals<'a>(imports: &mut Vec<Import<'a>>, names: &'a [Text]) -> Result<(), AllocError>
@@ -74,7 +75,7 @@ fn global(name: &Text) -> Import<'_>
         kind: ValType::I32,
         mutable: false,
     };
-    from_env(name, ImportKind::Global(kind))
+    from_env(name.as_bytes(), ImportKind::Global(kind))
 }
 
 fn memory(heap: u32) -> Import<'static>
@@ -100,12 +101,12 @@ fn pages_for(heap: u32) -> u32
     heap.div_ceil(65_536)
 }
 
-fn from_env<'a>(name: &'a Text, kind: ImportKind) -> Import<'a>
-    ensures { import_of result ≡ from_env (text_bytes name.now) kind }
+fn from_env<'a>(name: &'a [u8], kind: ImportKind) -> Import<'a>
+    ensures { import_of result ≡ from_env name.now kind }
 {
     Import {
         module: Bytes::Lent(b"env"),
-        field: Bytes::Lent(name.as_bytes()),
+        field: Bytes::Lent(name),
         kind,
     }
 }

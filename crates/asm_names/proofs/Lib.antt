@@ -1,3 +1,4 @@
+pub mod Numbered
 pub mod Parameters
 pub mod Put
 pub mod Variables

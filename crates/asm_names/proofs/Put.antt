@@ -1,5 +1,5 @@
 -- One declaration more, before those that a map has.
-use Rattle.std.proofs.Common.{◌≡◌, ℕ, ◌+◌, ◌<◌, Bool, true, false, cond, ◌||◌, List, [], ◌∷◌, length, map, drop, get_or, Option, Some, refl, sym, ap, ◌∙◌}
+use Rattle.std.proofs.Common.{◌≡◌, ℕ, ◌+◌, ◌<◌, Bool, true, false, cond, ◌||◌, List, [], ◌∷◌, length, map, drop, get_or, Option, Some, refl, sym, ap, ◌∙◌, subst}
 use Rattle.std.proofs.lemmas.List.{at_drop_more}
 use Rattle.std.specs.Prelude.{if◌then◌else◌}
 use Rattle.std.specs.Str.{bytes_eq}
@@ -15,6 +15,7 @@ use Rattle.asm_tree.specs.Views.{texts_view, function_view, global_view, table_v
 use Rattle.asm_lang_valid.specs.Scope.{Meaning, a_function, a_table, a_parameter, nothing, is_in, init_meaning, among_functions, among_globals, among_tables, module_meaning}
 use Rattle.asm_names.specs.declared.meaning.Meaning.{Meaning as CodeMeaning}
 use Rattle.asm_names.specs.Meanings.{meaning_view, tables_over, declared_over}
+use Rattle.asm_names.specs.Members.{IsNumbered}
 
 -- x has the value of the i-th declaration, before y, which the later ones have, before z
 pub function_put : (fs : List Function) (i j : ℕ) (f : Function) (n : List ℕ) (x y z : Meaning) → j ≡ i + 1 → i < length fs → f ≡ get_or fs i f → x ≡ (if bytes_eq (text_bytes f.name) n then a_function (function_view f) else y) → y ≡ among_functions (map function_view (drop j fs)) n z → x ≡ among_functions (map function_view (drop i fs)) n z
@@ -51,6 +52,11 @@ pub found_put : (b : Bool) (v : CodeMeaning) (o x : Option CodeMeaning) → x �
 found_put true v o x e = ap meaning_view e
 found_put false v o x e = ap meaning_view e
 
+-- .. and so are the members' numbers
+pub numbered_put : (m : Module) (b : Bool) (v : CodeMeaning) (o x : Option CodeMeaning) → x ≡ cond b (Some v) o → IsNumbered m (Some v) → IsNumbered m o → IsNumbered m x
+numbered_put m true v o x e h k = subst (IsNumbered m) (sym e) h
+numbered_put m false v o x e h k = subst (IsNumbered m) (sym e) k
+
 over_nothing : (ts : List PlainTable) (n : List ℕ) → tables_over ts n nothing ≡ among_tables ts n
 over_nothing [] n = refl
 over_nothing (t ∷ ts) n = ap (λ x. if bytes_eq t.name n then a_table t else x) (over_nothing ts n)
@@ -67,3 +73,6 @@ all_known m n a e h k =
 -- nothing is found in an empty map
 pub none_found : (es : List (Bor (List ℕ) × CodeMeaning)) (n : List ℕ) → es ≡ [] → meaning_view (lookup (λ k. bytes_eq n k.now) es) ≡ nothing
 none_found es n h = ap (λ es. meaning_view (lookup (λ k. bytes_eq n k.now) es)) h
+
+pub none_numbered : (m : Module) (es : List (Bor (List ℕ) × CodeMeaning)) (n : List ℕ) → es ≡ [] → IsNumbered m (lookup (λ k. bytes_eq n k.now) es)
+none_numbered m es n h = subst (λ es. IsNumbered m (lookup (λ k. bytes_eq n k.now) es)) (sym h) tt

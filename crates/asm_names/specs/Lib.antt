@@ -1,4 +1,5 @@
 pub mod Meanings
+pub mod Members
 pub mod Environments
 pub mod Scopes
 pub mod Hashed

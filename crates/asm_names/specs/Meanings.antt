@@ -15,7 +15,7 @@ abbrev pub meaning_view : Option Meaning → scopes.Meaning
 meaning_view None = scopes.nothing
 meaning_view (Some Int) = scopes.an_int
 meaning_view (Some Outside) = scopes.an_outside
-meaning_view (Some (Foreign p)) = scopes.a_foreign (text_bytes p.now)
+meaning_view (Some (Foreign f)) = scopes.a_foreign (text_bytes f.name.now)
 meaning_view (Some (Builtin b)) = scopes.a_builtin b
 meaning_view (Some (View e)) = scopes.a_view e
 meaning_view (Some (Function f)) = scopes.a_function (function_view f.now)

@@ -4,12 +4,14 @@ ghost use Rattle.std.specs.Prelude.{◌≡◌, IfOk};
 ghost use Rattle.asm_tree.specs.Views.{module_view};
 ghost use Rattle.asm_lang_valid.specs.Scope.{module_meaning};
 ghost use Rattle.asm_names.specs.Meanings.{meaning_view};
+ghost use Rattle.asm_names.specs.Members.{IsNumbered};
 ghost use Rattle.key_hashes.specs.Hashes.{hashes};
 ghost use Rattle.asm_names.specs.Environments.{IsComplete};
 ghost use Rattle.asm_names.specs.Hashed.{module_seed};
 
 use crate::declared::put_all;
 use crate::hashes::module_hashes;
+use crate::imports::imports_of;
 use crate::meaning::Meaning;
 use asm_tree::Module;
 use indexmap::IndexMap;
@@ -33,8 +35,9 @@ impl<'a> Environment<'a> {
     {
         let count = home.functions.len().saturating_add(home.globals.len());
         let hashes = module_hashes(home);
+        let imports = imports_of(alloc, home, hashes)?;
         let mut names = IndexMap::with_capacity_and_hasher(alloc, count, hashes)?;
-        put_all(&mut names, home)?;
+        put_all(&mut names, home, &imports)?;
         Ok(Environment {
             home,
             hashes,
@@ -59,7 +62,8 @@ impl<'a> Environment<'a> {
     /// What a name means in the module, or None where it isn't declared.
     pub fn meaning(&self, name: &[u8]) -> Option<Meaning<'a>>
         requires { IsComplete self.now }
-        ensures { meaning_view result ≡ module_meaning (module_view self.now.home.now) name.now }
+        ensures known { meaning_view result ≡ module_meaning (module_view self.now.home.now) name.now }
+        ensures numbered { IsNumbered (module_view self.now.home.now) result }
     {
         match self.names.get(name) {
             Some(meaning) => Some(*meaning),

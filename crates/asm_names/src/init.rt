@@ -1,39 +1,76 @@
 // What a global declaration makes of its name.
 
-ghost use Rattle.std.specs.Prelude.{◌≡◌, Some};
+ghost use Rattle.std.specs.Prelude.{◌≡◌, ℕ, List, Some, length};
 ghost use Rattle.sem_words.specs.Lists.{text_bytes};
+ghost use Rattle.asm_lang.specs.Modules as plain;
 ghost use Rattle.asm_lang.specs.Trees as trees;
 ghost use Rattle.asm_tree.specs.Views.{module_view, init_view};
 ghost use Rattle.asm_lang_valid.specs.Scope as scopes;
 ghost use Rattle.asm_lang_valid.specs.Scope.{constructors, constructor_in, viewed};
 ghost use Rattle.asm_names.specs.Meanings.{meaning_view};
+ghost use Rattle.asm_names.specs.Members.{IsImported, IsNumbered, first_import, number_in};
 
-use crate::meaning::Meaning;
+use crate::meaning::{Meaning, Member};
 use crate::words::is_word;
 use asm_lang_valid::{Builtin, Element};
 use asm_tree::{Init, Module};
+use indexmap::IndexMap;
+use key_hashes::KeyHashes;
 use sem_words::Text;
 
 /// What a global variable with this declaration means.
-pub fn init_meaning<'a>(module: &'a Module, init: &'a Init) -> Meaning<'a>
-    ensures { meaning_view (Some result) ≡ scopes.init_meaning (module_view «module».now) (init_view init.now) }
+pub fn init_meaning<'a>(
+    module: &Module,
+    imports: &IndexMap<&'a [u8], usize, KeyHashes>,
+    init: &'a Init,
+) -> Meaning<'a>
+    requires { (n : List ℕ) → number_in imports.now n (length (module_view «module».now).globals) ≡ first_import (module_view «module».now).globals n }
+    ensures known { meaning_view (Some result) ≡ scopes.init_meaning (module_view «module».now) (init_view init.now) }
+    ensures numbered { IsImported (module_view «module».now) (init_view init.now) → IsNumbered (module_view «module».now) (Some result) }
 {
     match init {
         Init::Number(_) | Init::ForeignInt(_, _) => Meaning::Int,
         Init::Decimal(_) | Init::ForeignDouble(_, _) => Meaning::Outside,
-        Init::Member(object, field) => member_meaning(module, object, field),
+        Init::Member(object, field) => member_meaning(module, imports, object, field),
         Init::Math(_, field) => math_meaning(field.as_bytes()),
         Init::View(_, constructor, _) => view_meaning(constructor.as_bytes()),
     }
 }
 
-fn member_meaning<'a>(module: &'a Module, object: &'a Text, field: &'a Text) -> Meaning<'a>
-    ensures { meaning_view (Some result) ≡ scopes.init_meaning (module_view «module».now) (trees.member (text_bytes object.now) (text_bytes field.now)) }
+fn member_meaning<'a>(
+    module: &Module,
+    imports: &IndexMap<&'a [u8], usize, KeyHashes>,
+    object: &Text,
+    field: &'a Text,
+) -> Meaning<'a>
+    requires { (n : List ℕ) → number_in imports.now n (length (module_view «module».now).globals) ≡ first_import (module_view «module».now).globals n }
+    ensures known { meaning_view (Some result) ≡ scopes.init_meaning (module_view «module».now) (trees.member (text_bytes object.now) (text_bytes field.now)) }
+    ensures numbered { IsImported (module_view «module».now) (trees.member (text_bytes object.now) (text_bytes field.now)) → IsNumbered (module_view «module».now) (Some result) }
 {
     if is_foreign(module, object) {
-        Meaning::Foreign(field)
+        Meaning::Foreign(foreign_member(module, imports, field))
     } else {
         Meaning::Outside
+    }
+}
+
+// The member of this name with its number.
+fn foreign_member<'a>(
+    module: &Module,
+    imports: &IndexMap<&'a [u8], usize, KeyHashes>,
+    field: &'a Text,
+) -> Member<'a>
+    requires { (n : List ℕ) → number_in imports.now n (length (module_view «module».now).globals) ≡ first_import (module_view «module».now).globals n }
+    ensures named { result.name.now ≡ field.now }
+    ensures first { result.declaration ≡ first_import (module_view «module».now).globals (text_bytes field.now) }
+{
+    let declaration = match imports.get(field.as_bytes()) {
+        Some(number) => *number,
+        None => module.globals.len(),
+    };
+    Member {
+        name: field,
+        declaration,
     }
 }
 
@@ -69,7 +106,8 @@ fn is_parameter(module: &Module, i: usize, name: &Text) -> bool
 }
 
 fn math_meaning(field: &[u8]) -> Meaning<'static>
-    ensures { meaning_view (Some result) ≡ scopes.math_meaning field.now }
+    ensures known { meaning_view (Some result) ≡ scopes.math_meaning field.now }
+    ensures numbered { (m : plain.Module) → IsNumbered m (Some result) }
 {
     if is_word(b"imul", field) {
         Meaning::Builtin(Builtin::Imul)
@@ -81,7 +119,8 @@ fn math_meaning(field: &[u8]) -> Meaning<'static>
 }
 
 fn view_meaning(constructor: &[u8]) -> Meaning<'static>
-    ensures { meaning_view (Some result) ≡ viewed (constructor_in constructors constructor.now) }
+    ensures known { meaning_view (Some result) ≡ viewed (constructor_in constructors constructor.now) }
+    ensures numbered { (m : plain.Module) → IsNumbered m (Some result) }
 {
     if is_word(b"Int8Array", constructor) {
         Meaning::View(Element::Int8)

@@ -5,6 +5,7 @@
 mod declared;
 mod environment;
 mod hashes;
+mod imports;
 mod init;
 mod locals;
 mod meaning;
@@ -14,6 +15,6 @@ mod words;
 pub use environment::Environment;
 pub use hashes::function_hashes;
 pub use init::{is_foreign, is_heap, is_stdlib};
-pub use meaning::Meaning;
+pub use meaning::{Meaning, Member};
 pub use scope::Scope;
 pub use words::is_word;

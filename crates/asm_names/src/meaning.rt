@@ -4,6 +4,15 @@ use asm_lang_valid::{Builtin, Element};
 use asm_tree::{Function, Table};
 use sem_words::Text;
 
+/// A member of the foreign object.
+#[derive(Clone, Copy)]
+pub struct Member<'a> {
+    pub name: &'a Text,
+    /// The number of the module's first global declaration that imports a member of this name, so that members are equal
+    /// where their numbers are.
+    pub declaration: usize,
+}
+
 /// What a declared name means.
 #[derive(Clone, Copy)]
 pub enum Meaning<'a> {
@@ -11,8 +20,8 @@ pub enum Meaning<'a> {
     Int,
     /// A double, or what is accepted only unused.
     Outside,
-    /// The foreign function of this name.
-    Foreign(&'a Text),
+    /// A foreign function.
+    Foreign(Member<'a>),
     Builtin(Builtin),
     View(Element),
     Function(&'a Function),

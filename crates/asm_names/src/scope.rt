@@ -5,6 +5,7 @@ ghost use Rattle.asm_tree.specs.Views.{module_view, function_view};
 ghost use Rattle.asm_lang_valid.specs.Typing.{named};
 ghost use Rattle.asm_lang_valid.specs.Typed.{scope_of};
 ghost use Rattle.asm_names.specs.Meanings.{meaning_view};
+ghost use Rattle.asm_names.specs.Members.{IsNumbered};
 ghost use Rattle.asm_names.specs.Environments.{IsComplete};
 ghost use Rattle.asm_names.specs.Scopes.{scope_view, variable_of, IsCompleteScope};
 
@@ -51,7 +52,8 @@ impl<'e, 'a> Scope<'e, 'a> {
     /// What a name means in the function, or None where it isn't declared.
     pub fn meaning(&self, name: &[u8]) -> Option<Meaning<'a>>
         requires { IsCompleteScope self.now }
-        ensures { meaning_view result ≡ named (scope_view self.now) name.now }
+        ensures known { meaning_view result ≡ named (scope_view self.now) name.now }
+        ensures numbered { IsNumbered (scope_view self.now).home result }
     {
         match self.locals.get(name) {
             Some(is_int) => Some(variable(*is_int)),

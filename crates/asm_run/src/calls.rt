@@ -4,15 +4,15 @@ ghost use Rattle.std.specs.Prelude.{◌≡◌, Some, map};
 ghost use Rattle.std.specs.List.{list_all};
 ghost use Rattle.sem_laws.specs.Script.{CallPlain};
 ghost use Rattle.sem_laws.specs.Views.{call_of};
-ghost use Rattle.asm_lang.specs.Modules.{Module};
-ghost use Rattle.asm_tree.specs.Views.{function_view};
+ghost use Rattle.asm_tree.specs.Views.{function_view, module_view};
 ghost use Rattle.script_fits.specs.Fits as parts;
-ghost use Rattle.asm_run.specs.Exports.{IsTableOf};
 ghost use Rattle.asm_lang_exec.specs.Fits;
+ghost use Rattle.asm_lang_exec.specs.Session.{exported_function};
+ghost use Rattle.asm_run.specs.Exports.{callees_of, callees_said, function_seen};
 
-use crate::exports::ExportTable;
 use crate::ranges::in_range;
 use asm_tree::Function;
+use asm_validate::Checked;
 use script_fits::lesser;
 use sem_laws::CallLine;
 
@@ -29,23 +29,30 @@ fn takes(function: &Function, args: &[i128]) -> bool
     args.len() == function.params.len() && are_in_range(args)
 }
 
-// Whether a call names one of the exports, with arguments that it takes.
-fn fits_call(exports: &ExportTable<'_>, call: &CallLine) -> bool
-    ensures { (m : Module) → IsTableOf m exports.now → result ≡ Fits.fits_call m (call_of call.now) }
+// Whether a call of this function, if its name is that of one, fits.
+fn fits_call(checked: &Checked, callee: Option<&Function>, call: &CallLine) -> bool
+    requires { function_seen callee ≡ exported_function (module_view checked.now) (call_of call.now).name }
+    ensures { result ≡ Fits.fits_call (module_view checked.now) (call_of call.now) }
 {
-    match exports.function(call.name.as_bytes()) {
+    match callee {
         None => false,
         Some(function) => takes(function, call.args.as_slice()),
     }
 }
 
-/// The first line of a call that doesn't fit the module of these exports.
-pub fn first_call(exports: &ExportTable<'_>, calls: &[CallLine]) -> Option<u64>
-    ensures { (m : Module) → IsTableOf m exports.now → result ≡ parts.least (parts.lines_of (Fits.fits_call m) (λ (c : CallPlain). c.line) (map call_of calls.now)) }
+/// The first line of a call that doesn't fit, by the functions that the calls name.
+#[tactic(auto, using(script_fits::proofs::FirstLines::earlier_lesser, script_fits::proofs::FirstLines::earlier_none))]
+pub fn first_call(
+    checked: &Checked,
+    callees: &[Option<&Function>],
+    calls: &[CallLine],
+) -> Option<u64>
+    requires { callees_said callees.now ≡ callees_of (module_view checked.now) (map call_of calls.now) }
+    ensures { result ≡ parts.least (parts.lines_of (Fits.fits_call (module_view checked.now)) (λ (c : CallPlain). c.line) (map call_of calls.now)) }
 {
     let mut first = None;
-    for call in calls {
-        if !fits_call(exports, call) {
+    for (i, call) in calls.iter().enumerate() {
+        if !fits_call(checked, callees[i], call) {
             first = lesser(call.line, first);
         }
     }

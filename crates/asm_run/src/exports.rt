@@ -1,72 +1,154 @@
-//! The exported functions of an accepted module.
-ghost use Rattle.std.specs.Prelude.{◌≡◌, IfOk, map, slice_get};
+// The functions that the script's calls name.
+ghost use Rattle.std.specs.Prelude.{◌≡◌, IfOk, map, option_and_then, slice_get};
+ghost use Rattle.std.specs.Option.{option_map};
+ghost use Rattle.sem_laws.specs.Views.{call_of};
 ghost use Rattle.asm_tree.specs.Views.{function_view, module_view};
-ghost use Rattle.asm_lang_valid.specs.Refusal.{Exported};
-ghost use Rattle.asm_lang.specs.Modules.{Module};
+ghost use Rattle.asm_lang_valid.specs.Refusal.{Exported, exported_from};
 ghost use Rattle.asm_lang_exec.specs.Session as session;
 ghost use Rattle.asm_validate_facts.specs.Numbers.{export_said};
-ghost use Rattle.asm_run_state.specs.Variables.{names_in};
-ghost use Rattle.asm_run.specs.Exports.{function_seen, IsTableOf};
+ghost use Rattle.asm_run_state.specs.Variables.{names_in, slot_of};
+ghost use Rattle.asm_run.specs.Exports.{EachIsFirst, callees_of, callees_said, function_seen, is_key_at, keys_in};
 
 use asm_run_state::Layout;
 use asm_tree::Function;
 use asm_validate::Checked;
 use asm_validate_facts::ExportOf;
+use sem_laws::CallLine;
 use std::alloc::{AllocError, Global};
+use std::marker::Model;
 
-/// The exports of a module, each found by a map from its key.
+/// Exports, of which no two have one key, so that their functions are found by their keys.
 #[derive(Drop)]
-pub struct ExportTable<'a> {
-    keys: Layout<'a>,
+pub struct Exports<'a> {
     exports: &'a [ExportOf],
-    functions: &'a [Function],
+    // the place after that of the export that was found last, where a key is looked for first
+    next: usize,
+    // the keys with their places, once a key wasn't found there
+    keys: Option<Layout<'a>>,
 }
 
-impl<'a> ExportTable<'a> {
-    /// The exports of this module.
-    pub fn new(alloc: Global, checked: &'a Checked) -> Result<ExportTable<'a>, AllocError>
-        ensures { IfOk result (λ table. IsTableOf (module_view checked.now) table) }
+impl<'a> Model for Exports<'a> {
+    ghost use Rattle.std.specs.Prelude.{◌≡◌, List, IfSome, map};
+    ghost use Rattle.asm_lang_valid.specs.Refusal.{Exported};
+    ghost use Rattle.asm_validate_facts.specs.Numbers.{export_said};
+    ghost use Rattle.asm_run.specs.Exports.{EachIsFirst, keys_in};
+
+    ghost Value = { List Exported };
+
+    ghost view = { λ s. map export_said s.exports.now };
+
+    ghost invariant = { λ s. EachIsFirst (map export_said s.exports.now)
+        × IfSome s.keys (λ keys. keys ≡ keys_in (map export_said s.exports.now)) };
+}
+
+impl<'a> Exports<'a> {
+    /// These exports.
+    pub fn new(exports: &'a [ExportOf]) -> Exports<'a>
+        requires { EachIsFirst (map export_said exports.now) }
+        ensures { result ≡ map export_said exports.now }
     {
-        let exports = checked.exports();
-        let keys = keys_of(alloc, exports)?;
-        let keys = Layout::new(alloc, keys)?;
-        Ok(ExportTable {
-            keys,
+        Exports {
             exports,
-            functions: checked.module().functions.as_slice(),
-        })
+            next: 0,
+            keys: None,
+        }
     }
 
-    /// The function that is exported under a key, if there is one.
-    pub fn function(&self, key: &[u8]) -> Option<&'a Function>
-        ensures { (m : Module) → IsTableOf m self.now → function_seen result ≡ session.exported_function m key.now }
+    /// The number of the function that is exported under a key.
+    pub fn number(&mut self, alloc: Global, key: &[u8]) -> Result<Option<u32>, AllocError>
+        ensures number { IfOk result (λ number. number ≡ session.export_number self.old key.now) }
+        ensures same { self.new ≡ self.old }
     {
-        let Some(slot) = self.keys.slot(key) else {
-            return None;
+        let Some(place) = self.place(alloc, key)? else {
+            return Ok(None);
         };
-        match self.exports.get(slot) {
-            None => None,
-            Some(export) => self.numbered(export.function as usize),
-        }
+        self.next = place.saturating_add(1);
+        Ok(number_at(self.exports, place))
     }
 
-    // The function of a number, if there is one.
-    fn numbered(&self, number: usize) -> Option<&'a Function>
-        ensures { function_seen result ≡ slice_get (map function_view self.now.functions.now) number }
+    // The place of the export of a key.
+    fn place(&mut self, alloc: Global, key: &[u8]) -> Result<Option<usize>, AllocError>
+        ensures place { IfOk result (λ place. place ≡ slot_of (keys_in self.old) key.now) }
+        ensures same { self.new ≡ self.old }
     {
-        match self.functions.get(number) {
-            None => None,
-            Some(function) => Some(function),
+        if is_key_at(self.exports, self.next, key) {
+            return Ok(Some(self.next));
         }
+        let keys = match self.keys.take() {
+            Some(keys) => keys,
+            None => layout_of(alloc, self.exports)?,
+        };
+        let place = keys.slot(key);
+        self.keys = Some(keys);
+        Ok(place)
     }
 }
 
-fn keys_of<'a>(alloc: Global, exports: &'a [ExportOf]) -> Result<Vec<&'a [u8]>, AllocError>
-    ensures { IfOk result (λ keys. names_in keys.items ≡ map (λ (e : Exported). e.key) (map export_said exports.now)) }
+// Whether the export at a place has this key.
+fn is_key_at(exports: &[ExportOf], place: usize, key: &[u8]) -> bool
+    ensures { result ≡ is_key_at (map export_said exports.now) place key.now }
 {
-    let mut keys = Vec::new(alloc);
+    match exports.get(place) {
+        Some(export) => export.key.as_bytes() == key,
+        None => false,
+    }
+}
+
+// The number of the function of the export at a place.
+fn number_at(exports: &[ExportOf], place: usize) -> Option<u32>
+    ensures { result ≡ option_map (λ (e : Exported). e.function) (slice_get (map export_said exports.now) place) }
+{
+    match exports.get(place) {
+        Some(export) => Some(export.function),
+        None => None,
+    }
+}
+
+// The keys of exports, each found by a map.
+fn layout_of<'a>(alloc: Global, exports: &'a [ExportOf]) -> Result<Layout<'a>, AllocError>
+    ensures { IfOk result (λ layout. layout ≡ keys_in (map export_said exports.now)) }
+{
+    let mut keys = Vec::with_capacity(alloc, exports.len())?;
     for export in exports {
         keys.push(export.key.as_bytes())?;
     }
-    Ok(keys)
+    Layout::new(alloc, keys)
+}
+
+// The exports of an accepted module.
+fn exports_of(checked: &Checked) -> &[ExportOf]
+    ensures exports { map export_said result.now ≡ exported_from (module_view checked.now) (module_view checked.now).exports }
+    ensures first { EachIsFirst (map export_said result.now) }
+{
+    checked.module();
+    checked.exports()
+}
+
+// The function of a number, if there is one.
+fn numbered<'a>(functions: &'a [Function], number: Option<u32>) -> Option<&'a Function>
+    ensures { function_seen result ≡ option_and_then (λ i. slice_get (map function_view functions.now) i) number }
+{
+    match number {
+        None => None,
+        Some(number) => functions.get(number as usize),
+    }
+}
+
+/// The functions that calls of exports of an accepted module name, in the order of the calls. None for a key under which no function
+/// is exported.
+pub fn callees<'a>(
+    alloc: Global,
+    checked: &'a Checked,
+    calls: &[CallLine],
+) -> Result<Vec<Option<&'a Function>>, AllocError>
+    ensures { IfOk result (λ functions. callees_said functions.items ≡ callees_of (module_view checked.now) (map call_of calls.now)) }
+{
+    let mut exports = Exports::new(exports_of(checked));
+    let functions = checked.module().functions.as_slice();
+    let mut callees = Vec::with_capacity(alloc, calls.len())?;
+    for call in calls {
+        let number = exports.number(alloc, call.name.as_bytes())?;
+        callees.push(numbered(functions, number))?;
+    }
+    Ok(callees)
 }

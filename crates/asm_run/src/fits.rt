@@ -6,13 +6,14 @@ ghost use Rattle.asm_tree.specs.Views.{module_view};
 ghost use Rattle.asm_lang_valid.specs.Refusal.{foreign_globals};
 ghost use Rattle.script_fits.specs.Fits.{least, unfit_lines};
 ghost use Rattle.asm_lang_exec.specs.Fits.{tests, misfit};
-ghost use Rattle.asm_run.specs.Exports.{IsTableOf};
+ghost use Rattle.asm_run.specs.Exports.{callees_of, callees_said};
 
 use crate::calls::first_call;
-use crate::exports::ExportTable;
+use crate::exports::callees;
 use crate::globals::{are_given, first_global, imported_globals};
 use crate::writes::{first_reply, first_write};
 use asm_run_state::Layout;
+use asm_tree::Function;
 use asm_validate::Checked;
 use script_fits::earlier;
 use script_lines::Lines;
@@ -26,35 +27,35 @@ fn first_unfit(
     script: &Script,
     imported: &Layout<'_>,
     lines: &Lines<'_>,
-    exports: &ExportTable<'_>,
+    callees: &[Option<&Function>],
 ) -> Option<u64>
     requires imported { imported.now ≡ foreign_globals (module_view checked.now) }
     requires lines { lines.now ≡ (script_of script.now).globals }
-    requires exports { IsTableOf (module_view checked.now) exports.now }
+    requires callees { callees_said callees.now ≡ callees_of (module_view checked.now) (script_of script.now).calls }
     ensures { result ≡ least (unfit_lines (tests (module_view checked.now) heap_len) (script_of script.now)) }
 {
     let globals = first_global(imported, lines);
     let writes = first_write(checked, heap_len, script.writes.as_slice());
-    let calls = first_call(exports, script.calls.as_slice());
+    let calls = first_call(checked, callees, script.calls.as_slice());
     let replies = first_reply(checked, heap_len, script.replies.as_slice());
     earlier(earlier(earlier(globals, writes), calls), replies)
 }
 
-// Whether the script fits, by the module's imported globals and exports and the script's lines of globals.
+// Whether the script fits, by the module's imported globals, the script's lines of globals and the functions that its calls name.
 fn fits_by(
     checked: &Checked,
     heap_len: u32,
     script: &Script,
     imported: &Layout<'_>,
     lines: &Lines<'_>,
-    exports: &ExportTable<'_>,
+    callees: &[Option<&Function>],
 ) -> Result<(), Misfit>
     requires imported { imported.now ≡ foreign_globals (module_view checked.now) }
     requires lines { lines.now ≡ (script_of script.now).globals }
-    requires exports { IsTableOf (module_view checked.now) exports.now }
+    requires callees { callees_said callees.now ≡ callees_of (module_view checked.now) (script_of script.now).calls }
     ensures { MatchResult result (λ _. misfit (module_view checked.now) heap_len (script_of script.now) ≡ None) (λ refused. misfit (module_view checked.now) heap_len (script_of script.now) ≡ Some refused.line) }
 {
-    match first_unfit(checked, heap_len, script, imported, lines, exports) {
+    match first_unfit(checked, heap_len, script, imported, lines, callees) {
         Some(line) => Err(Misfit { line }),
         None => {
             if are_given(checked, lines) {
@@ -71,18 +72,23 @@ fn fits_by(
 /// and has an argument for each parameter, values of globals and arguments lie in [-2^31, 2^32), and
 /// each imported global is given.
 ///
-/// The refusal has the first line that doesn't fit, or 0 where only a global is missing. An error of memory
-/// says nothing of the script.
-pub fn fits_asm(
+/// Where it fits, it comes with the functions that its calls name, in order. The refusal has the first line that doesn't fit, or 0
+/// where only a global is missing. An error of memory says nothing of the script.
+pub fn fits_asm<'a>(
     alloc: Global,
-    checked: &Checked,
+    checked: &'a Checked,
     heap_len: u32,
     script: &Script,
-) -> Result<Result<(), Misfit>, AllocError>
-    ensures { IfOk result (λ answer. MatchResult answer (λ _. misfit (module_view checked.now) heap_len (script_of script.now) ≡ None) (λ refused. misfit (module_view checked.now) heap_len (script_of script.now) ≡ Some refused.line)) }
+) -> Result<Result<Vec<Option<&'a Function>>, Misfit>, AllocError>
+    ensures fits { IfOk result (λ answer. MatchResult answer (λ _. misfit (module_view checked.now) heap_len (script_of script.now) ≡ None) (λ refused. misfit (module_view checked.now) heap_len (script_of script.now) ≡ Some refused.line)) }
+    ensures callees { IfOk result (λ answer. IfOk answer (λ callees. callees_said callees.items ≡ callees_of (module_view checked.now) (script_of script.now).calls)) }
 {
     let lines = Lines::new(alloc, script.globals.as_slice())?;
     let imported = imported_globals(alloc, checked)?;
-    let exports = ExportTable::new(alloc, checked)?;
-    Ok(fits_by(checked, heap_len, script, &imported, &lines, &exports))
+    let functions = callees(alloc, checked, script.calls.as_slice())?;
+    let callees = functions.as_slice();
+    match fits_by(checked, heap_len, script, &imported, &lines, callees) {
+        Ok(()) => Ok(Ok(functions)),
+        Err(misfit) => Ok(Err(misfit)),
+    }
 }

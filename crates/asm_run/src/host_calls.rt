@@ -10,10 +10,10 @@ ghost use Rattle.asm_run_state.specs.Variables.{bindings};
 ghost use Rattle.asm_lang_exec.specs.Runs.{Place, defined};
 ghost use Rattle.asm_lang_exec.specs.Meaning.{function_end};
 ghost use Rattle.asm_run_work.specs.Endings.{completion_view};
-ghost use Rattle.asm_run.specs.Exports.{IsTableOf};
+ghost use Rattle.asm_lang_exec.specs.Session.{exported_function};
+ghost use Rattle.asm_run.specs.Exports.{function_seen};
 ghost use Rattle.asm_run.specs.Hosted.{Calls, Enters, Runs, Leaves, UnitsLeft};
 
-use crate::exports::ExportTable;
 use asm_names::Environment;
 use asm_run_machine::{Ended, Machine};
 use asm_run_state::{World, first_locals, locals_layout, result_event};
@@ -33,22 +33,22 @@ pub enum Hosted<'a> {
     Wrong,
 }
 
-/// A call of the script.
+/// A call of the script, of the function that it names.
 pub fn host_call<'a>(
     alloc: Global,
     environment: &Environment<'a>,
-    exports: &ExportTable<'a>,
+    callee: Option<&'a Function>,
     world: World<'a>,
     call: &CallLine,
 ) -> Result<Hosted<'a>, AllocError>
     requires complete { IsComplete environment.now }
-    requires exports { IsTableOf (module_view environment.now.home.now) exports.now }
+    requires callee { function_seen callee ≡ exported_function (module_view environment.now.home.now) (call_of call.now).name }
     requires small { SmallModule (module_view environment.now.home.now) }
     requires args { All IsSmall (list_items call.now.args) }
     ensures calls { IfOk result (λ h. Calls (module_view environment.now.home.now) (call_of call.now) world.entry h) }
     ensures fewer { IfOk result (UnitsLeft world.entry.units) }
 {
-    let Some(function) = exports.function(call.name.as_bytes()) else {
+    let Some(function) = callee else {
         return Ok(Hosted::Wrong);
     };
     let arguments = whole_arguments(alloc, call.args.as_slice())?;

@@ -9,7 +9,6 @@ mod ranges;
 mod session;
 mod writes;
 
-pub use exports::ExportTable;
 pub use fits::fits_asm;
 pub use session::Session;
 

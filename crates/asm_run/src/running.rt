@@ -1,38 +1,38 @@
 //! Runs the calls of a script.
-ghost use Rattle.std.specs.Prelude.{IfOk, map};
+ghost use Rattle.std.specs.Prelude.{◌≡◌, IfOk, map};
 ghost use Rattle.sem_laws.specs.Views.{call_of};
 ghost use Rattle.asm_tree.specs.Views.{module_view};
 ghost use Rattle.asm_names.specs.Environments.{IsComplete};
 ghost use Rattle.asm_laws_machine.specs.Literals.{SmallModule};
-ghost use Rattle.asm_run.specs.Exports.{IsTableOf};
+ghost use Rattle.asm_run.specs.Exports.{callees_of, callees_said};
 ghost use Rattle.asm_run.specs.Session.{SmallCalls, IsSession};
 
-use crate::exports::ExportTable;
 use crate::host_calls::{Hosted, host_call};
 use asm_names::Environment;
 use asm_run_state::World;
+use asm_tree::Function;
 use script_seen::Seen;
 use sem_laws::{CallLine, End};
 use std::alloc::{AllocError, Global};
 
-/// What is seen of the module where the script makes these calls in a world; None where the session goes
+/// What is seen of the module where the script makes these calls, of these functions, in a world; None where the session goes
 /// wrong.
 pub fn run<'a>(
     alloc: Global,
     environment: &Environment<'a>,
-    exports: &ExportTable<'a>,
+    callees: &[Option<&'a Function>],
     world: World<'a>,
     calls: &[CallLine],
 ) -> Result<Option<Seen>, AllocError>
     requires complete { IsComplete environment.now }
-    requires exports { IsTableOf (module_view environment.now.home.now) exports.now }
+    requires callees { callees_said callees.now ≡ callees_of (module_view environment.now.home.now) (map call_of calls.now) }
     requires literals { SmallModule (module_view environment.now.home.now) }
     requires arguments { SmallCalls calls.now }
     ensures { IfOk result (λ seen. IsSession (module_view environment.now.home.now) (map call_of calls.now) world.entry seen) }
 {
     let mut world = world;
-    for call in calls {
-        match host_call(alloc, environment, exports, world, call)? {
+    for (i, call) in calls.iter().enumerate() {
+        match host_call(alloc, environment, callees[i], world, call)? {
             Hosted::Goes(next) => world = next,
             Hosted::Ends(seen) => return Ok(Some(seen)),
             Hosted::Wrong => return Ok(None),

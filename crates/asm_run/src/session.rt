@@ -8,11 +8,12 @@ ghost use Rattle.script_seen.specs.Views.{seen_of};
 ghost use Rattle.asm_tree.specs.Views.{module_view};
 ghost use Rattle.asm_lang_exec.specs.Session.{asm, checked_asm};
 ghost use Rattle.asm_lang_exec.specs.Fits.{misfit};
+ghost use Rattle.asm_run.specs.Exports.{callees_of, callees_said};
 
-use crate::exports::ExportTable;
 use crate::run;
 use asm_names::Environment;
 use asm_run_state::World;
+use asm_tree::Function;
 use asm_validate::Checked;
 use script_seen::Seen;
 use sem_laws::Script;
@@ -26,7 +27,7 @@ pub struct Session<'a> {
     heap_len: u32,
     script: &'a Script,
     environment: Environment<'a>,
-    exports: ExportTable<'a>,
+    callees: Vec<Option<&'a Function>>,
     world: World<'a>,
 }
 
@@ -36,7 +37,8 @@ impl<'a> Model for Session<'a> {
     ghost use Rattle.asm_tree.specs.contracts.tree.Expr as exprs;
     ghost use Rattle.asm_tree.specs.contracts.tree.Stmt as stmts;
     ghost use Rattle.asm_tree.specs.Views.{module_view};
-    ghost use Rattle.asm_run.specs.Exports.{IsTableOf};
+    ghost use Rattle.std.specs.Prelude.{◌≡◌};
+    ghost use Rattle.asm_run.specs.Exports.{callees_of, callees_said};
     ghost use Rattle.asm_run.specs.Linked.{SessionPlain, IsLinked};
 
     ghost Value = { SessionPlain };
@@ -45,21 +47,23 @@ impl<'a> Model for Session<'a> {
 
     ghost view = { λ s. record { code = s.checked.now; size = s.heap_len; script = script_of s.script.now } };
 
-    ghost invariant = { λ s. IsLinked s.checked.now s.heap_len (script_of s.script.now) s.environment s.world × IsTableOf (module_view s.checked.now) s.exports };
+    ghost invariant = { λ s. IsLinked s.checked.now s.heap_len (script_of s.script.now) s.environment s.world × (callees_said s.callees.items ≡ callees_of (module_view s.checked.now) (script_of s.script.now).calls) };
 }
 
 impl<'a> Session<'a> {
-    /// Links a module with a heap of this length and a script. It takes the memory of the heap, of the
-    /// module's variables and of a map of its exports, and while it links that of a map of the script's
-    /// lines of globals.
+    /// Links a module with a heap of this length and a script, of which `fits_asm` said that it fits and which functions its calls
+    /// name. It takes the memory of the heap and of the module's variables, and while it links that of a map of the script's lines
+    /// of globals.
     pub fn link(
         alloc: Global,
         checked: &'a Checked,
         heap_len: u32,
         script: &'a Script,
+        callees: Vec<Option<&'a Function>>,
     ) -> Result<Session<'a>, AllocError>
         requires fits { misfit (module_view checked.now) heap_len (script_of script.now) ≡ None }
         requires length { IsHeapLength heap_len }
+        requires callees { callees_said callees.items ≡ callees_of (module_view checked.now) (script_of script.now).calls }
         ensures code { IfOk result (λ s. s.code ≡ checked.now) }
         ensures size { IfOk result (λ s. s.size ≡ heap_len) }
         ensures script { IfOk result (λ s. s.script ≡ script_of script.now) }
@@ -67,14 +71,13 @@ impl<'a> Session<'a> {
         asm_run_state::laws::literals_are_small();
         let module = checked.module();
         let environment = Environment::new(alloc, module)?;
-        let exports = ExportTable::new(alloc, checked)?;
         let world = World::first(alloc, module, heap_len, script, 0)?;
         Ok(Session {
             checked,
             heap_len,
             script,
             environment,
-            exports,
+            callees,
             world,
         })
     }
@@ -89,14 +92,14 @@ impl<'a> Session<'a> {
         asm_laws_machine::accepted::accepted_laws();
         asm_laws_sound::laws::accepted_modules();
         let environment = self.environment;
-        let exports = self.exports;
+        let callees = self.callees;
         let script = self.script;
         let mut world = self.world;
         world.set_units(budget);
         let seen = run(
             alloc,
             &environment,
-            &exports,
+            callees.as_slice(),
             world,
             script.calls.as_slice(),
         )?;

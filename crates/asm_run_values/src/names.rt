@@ -62,7 +62,7 @@ pub fn target_meant<'a>(
 {
     match meant(environment, frame, name) {
         Some(Meaning::Function(function)) => Some(Target::Function(function)),
-        Some(Meaning::Foreign(import)) => Some(Target::Foreign(import)),
+        Some(Meaning::Foreign(import)) => Some(Target::Foreign(import.name)),
         Some(Meaning::Builtin(builtin)) => Some(Target::Builtin(builtin)),
         _ => None,
     }

@@ -10,7 +10,7 @@ ghost use Rattle.asm_lang_valid.specs.Refusal.{IsAccepted};
 ghost use Rattle.asm_lang_valid.specs.Rows.{module_count};
 ghost use Rattle.asm_lang_valid.specs.Scope as scopes;
 ghost use Rattle.asm_validate_facts.specs.Numbers.{export_said};
-ghost use Rattle.asm_validate_limits.specs.Called.{foreign_view};
+ghost use Rattle.asm_validate_limits.specs.Called.{EachIsFirst, foreign_view};
 ghost use Rattle.asm_validate.specs.Refusals.{IsRefused};
 ghost use Rattle.asm_validate.specs.Signatures.{signature_said};
 
@@ -51,7 +51,8 @@ impl Model for Checked {
     ghost use Rattle.asm_lang_valid.specs.LimitRows as limits;
     ghost use Rattle.asm_lang_valid.specs.Refusal.{IsAccepted};
     ghost use Rattle.asm_validate_facts.specs.FactsOf.{FactsOf};
-    ghost use Rattle.asm_validate_limits.specs.Called.{foreign_list};
+    ghost use Rattle.sem_words.specs.Lists.{list_items};
+    ghost use Rattle.asm_validate_limits.specs.Called.{EachIsFirst, foreign_list};
 
     ghost Value = { Tree };
 
@@ -59,7 +60,7 @@ impl Model for Checked {
 
     ghost view = { λ c. c.«module» };
 
-    ghost invariant = { λ c. IsWellFormed (module_view c.«module») × IsAccepted (module_view c.«module») × FactsOf c.facts (module_view c.«module») × (foreign_list c.foreign_calls ≡ limits.foreign_calls (module_view c.«module»)) };
+    ghost invariant = { λ c. IsWellFormed (module_view c.«module») × IsAccepted (module_view c.«module») × FactsOf c.facts (module_view c.«module») × (foreign_list (module_view c.«module») c.foreign_calls ≡ limits.foreign_calls (module_view c.«module»)) × EachIsFirst (module_view c.«module») (list_items c.foreign_calls) };
 }
 
 /// Accepts a well-formed module, or refuses it for the first node that breaks a rule of names, or else of types, or else
@@ -134,7 +135,8 @@ impl Checked {
     /// The calls of foreign functions in order of first use, each name once for each number of arguments with a result
     /// and without.
     pub fn foreign_calls(&self) -> &[ForeignCall]
-        ensures { map foreign_view result.now ≡ limits.foreign_calls (module_view self.now) }
+        ensures calls { map (foreign_view (module_view self.now)) result.now ≡ limits.foreign_calls (module_view self.now) }
+        ensures first { EachIsFirst (module_view self.now) result.now }
     {
         self.foreign_calls.as_slice()
     }

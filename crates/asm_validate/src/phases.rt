@@ -5,7 +5,8 @@ ghost use Rattle.asm_tree.specs.Views.{module_view};
 ghost use Rattle.asm_lang_valid.specs.Rows.{module_count};
 ghost use Rattle.asm_lang_valid.specs.LimitRows.{foreign_calls};
 ghost use Rattle.asm_lang_valid.specs.Refusal.{IsAccepted};
-ghost use Rattle.asm_validate_limits.specs.Called.{foreign_list};
+ghost use Rattle.sem_words.specs.Lists.{list_items};
+ghost use Rattle.asm_validate_limits.specs.Called.{EachIsFirst, foreign_list};
 ghost use Rattle.asm_validate.specs.Refusals.{IsRefused};
 
 use asm_tree::Module;
@@ -19,7 +20,8 @@ use std::alloc::Global;
 pub fn check_phases(alloc: Global, module: &Module) -> Result<List<ForeignCall>, AsmRefusal>
     requires { module_count (module_view «module».now) < 2 ^ 64 }
     ensures exactly { MatchResult result (λ _. IsAccepted (module_view «module».now)) (IsRefused (module_view «module».now)) }
-    ensures calls { IfOk result (λ calls. foreign_list calls ≡ foreign_calls (module_view «module».now)) }
+    ensures calls { IfOk result (λ calls. foreign_list (module_view «module».now) calls ≡ foreign_calls (module_view «module».now)) }
+    ensures first { IfOk result (λ calls. EachIsFirst (module_view «module».now) (list_items calls)) }
 {
     let environment = check_names(alloc, module)?;
     check_types(alloc, &environment)?;

@@ -112,7 +112,7 @@ module _ (f : Function) (before at p l : ℕ) (params : p ≡ length (list_items
       omega arith
 
   -- the body after the rest
-  module _ (m : plain.Module) (s : Scope) (scope : s ≡ record { home = m; within = function_view f }) (a b c : Tally) (r : Result (Unit {0}) AsmRefusal) (start : a.at ≡ at) (same_calls : calls_of b ≡ calls_of a) (node : b.at ≡ at + (1 + (p + l))) where
+  module _ (m : plain.Module) (s : Scope) (scope : s ≡ record { home = m; within = function_view f }) (a b c : Tally) (r : Result (Unit {0}) AsmRefusal) (start : a.at ≡ at) (like : b ≡ record { home = a.home; calls = a.calls; at = b.at }) (node : b.at ≡ at + (1 + (p + l))) where
     split : function_marks m before at (function_view f) ≡ heading_marks before at (function_view f) ++ stmts_marks s b.at (function_view f).body
     split =
         let there : body_at (function_view f) at ≡ b.at = room ∙ sym node in
@@ -129,7 +129,7 @@ module _ (f : Function) (before at p l : ℕ) (params : p ≡ length (list_items
         let count : function_count (function_view f) ≡ 0 + ((1 + (p + l)) + stmts_count (function_view f).body) = omega arith in
         same (function_marks m before at (function_view f)) (heading_marks before at (function_view f) ++ stmts_marks s b.at (function_view f).body) (function_count (function_view f)) (0 + ((1 + (p + l)) + stmts_count (function_view f).body)) a c r split count
         (then_ (heading_marks before at (function_view f)) (stmts_marks s b.at (function_view f).body) 0 ((1 + (p + l)) + stmts_count (function_view f).body) a a c r passed
-        (moved (stmts_marks s b.at (function_view f).body) (stmts_count (function_view f).body) (1 + (p + l)) a b c r same_calls moves h))
+        (moved (stmts_marks s b.at (function_view f).body) (stmts_count (function_view f).body) (1 + (p + l)) a b c r like moves h))
 
 -- a fault before the body
 pub heading_fault : (m : plain.Module) (f : Function) (before at : ℕ) (s : List ForeignCall) (x : AsmRefusal) → IsFault (heading_marks before at (function_view f)) s x → IsFault (function_marks m before at (function_view f)) s x

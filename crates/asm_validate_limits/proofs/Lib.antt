@@ -1,3 +1,5 @@
+pub mod Cases
+pub mod Imported
 pub mod Passes
 pub mod Lists
 pub mod Shapes
@@ -5,7 +7,6 @@ pub mod Parts
 pub mod Uses
 pub mod Stmts
 pub mod Items
-pub mod Copies
 pub mod Headings
 pub mod Whole
 pub mod Parameters

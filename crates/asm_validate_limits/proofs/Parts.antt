@@ -30,7 +30,7 @@ use Rattle.asm_validate_limits.proofs.Shapes.{is_direct, lit_is, decimal_is, var
 
 -- the next node
 abbrev pub entered : Tally → Tally
-entered a = record { calls = a.calls; at = a.at + 1 }
+entered a = record { home = a.home; calls = a.calls; at = a.at + 1 }
 
 pub inside : (ms ks : List Mark) (n k : ℕ) (a c : Tally) (r : Result (Unit {0}) AsmRefusal) → ms ≡ ks → n ≡ 1 + k → Tallied ks k (entered a) c r → Tallied ms n a c r
 inside ms ks n k a c r e d h = into ms ks n k a (entered a) c r refl refl e d h

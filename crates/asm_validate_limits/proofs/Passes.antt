@@ -8,7 +8,7 @@ use Rattle.asm_lang_valid.specs.LimitRows.{ForeignCall, Mark, a_row, a_use, rows
 use Rattle.asm_validate_names.specs.declared.refusal.AsmRefusal.{AsmRefusal}
 use Rattle.asm_validate_names.specs.declared.refusal.AsmRefusal.TheVariants.{Refused, Memory}
 use Rattle.asm_validate_limits.specs.declared.tally.Tally.{Tally}
-use Rattle.asm_validate_limits.specs.Passes.{calls_of, Passed, IsFault, Tallied, limited}
+use Rattle.asm_validate_limits.specs.Passes.{calls_of, IsOf, Passed, IsFault, Tallied, limited}
 
 pub distinct-append : (s : List ForeignCall) (ms ns : List Mark) → distinct_after s (ms ++ ns) ≡ distinct_after (distinct_after s ms) ns
 distinct-append s [] ns = refl
@@ -45,6 +45,7 @@ then_ ms ns n k a b c (Ok u) p h =
       none = rows-append (calls_of a) ms ns ∙ ap (λ l. l ++ rows_after (distinct_after (calls_of a) ms) ns) p.none ∙ ap (λ s. rows_after s ns) (sym p.calls) ∙ h.none;
       calls = h.calls ∙ ap (λ s. distinct_after s ns) p.calls ∙ sym (distinct-append (calls_of a) ms ns);
       counted = omega arith;
+      of = λ m o. h.of m (p.of m o);
     }
 then_ ms ns n k a b c (Err (Refused r x)) p h =
     ap first (rows-append (calls_of a) ms ns ∙ ap (λ l. l ++ rows_after (distinct_after (calls_of a) ms) ns) p.none ∙ ap (λ s. rows_after s ns) (sym p.calls)) ∙ h
@@ -58,23 +59,25 @@ pub same : (ms ks : List Mark) (n k : ℕ) (a c : Tally) (r : Result (Unit {0}) 
 same ms ks n k a c r e d h = subst (λ l. Tallied l n a c r) (sym e) (subst (λ m. Tallied ks m a c r) (sym d) h)
 
 -- so many nodes, and then those after them
-pub moved : (ms : List Mark) (n k : ℕ) (a b c : Tally) (r : Result (Unit {0}) AsmRefusal) → calls_of b ≡ calls_of a → b.at ≡ a.at + k → Tallied ms n b c r → Tallied ms (k + n) a c r
-moved ms n k a b c (Ok u) calls at h =
+pub moved : (ms : List Mark) (n k : ℕ) (a b c : Tally) (r : Result (Unit {0}) AsmRefusal) → b ≡ record { home = a.home; calls = a.calls; at = b.at } → b.at ≡ a.at + k → Tallied ms n b c r → Tallied ms (k + n) a c r
+moved ms n k a b c (Ok u) like at h =
     let o = h.counted in
+    let calls : calls_of b ≡ calls_of a = ap calls_of like in
     record {
       none = ap (λ s. rows_after s ms) (sym calls) ∙ h.none;
       calls = h.calls ∙ ap (λ s. distinct_after s ms) calls;
       counted = omega arith;
+      of = λ m o. h.of m (subst (IsOf m) (sym like) o);
     }
-moved ms n k a b c (Err (Refused r x)) calls at h = ap first (ap (λ s. rows_after s ms) (sym calls)) ∙ h
-moved ms n k a b c (Err Memory) calls at h = tt
+moved ms n k a b c (Err (Refused r x)) like at h = ap first (ap (λ s. rows_after s ms) (sym (ap calls_of like))) ∙ h
+moved ms n k a b c (Err Memory) like at h = tt
 
 -- a node's own number, and then its parts
-pub into : (ms ks : List Mark) (n k : ℕ) (a b c : Tally) (r : Result (Unit {0}) AsmRefusal) → calls_of b ≡ calls_of a → b.at ≡ a.at + 1 → ms ≡ ks → n ≡ 1 + k → Tallied ks k b c r → Tallied ms n a c r
-into ms ks n k a b c r calls at e d h = same ms ks n (1 + k) a c r e d (moved ks k 1 a b c r calls at h)
+pub into : (ms ks : List Mark) (n k : ℕ) (a b c : Tally) (r : Result (Unit {0}) AsmRefusal) → b ≡ record { home = a.home; calls = a.calls; at = b.at } → b.at ≡ a.at + 1 → ms ≡ ks → n ≡ 1 + k → Tallied ks k b c r → Tallied ms n a c r
+into ms ks n k a b c r like at e d h = same ms ks n (1 + k) a c r e d (moved ks k 1 a b c r like at h)
 
 pub nothing : (a : Tally) → Passed [] 0 a a
-nothing a = record { none = refl; calls = refl; counted = omega arith }
+nothing a = record { none = refl; calls = refl; counted = omega arith; of = λ m o. o }
 
 pub from_err : (ms : List Mark) (n : ℕ) (a c : Tally) (r : Result (Unit {0}) AsmRefusal) (x : AsmRefusal) → r ≡ Err x → IsFault ms (calls_of a) x → Tallied ms n a c r
 from_err ms n a c r x e h = subst (λ r. Tallied ms n a c r) (sym e) h

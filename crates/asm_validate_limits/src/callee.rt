@@ -1,22 +1,23 @@
 // Where calls stand, and what their callees are.
 
 ghost use Rattle.std.specs.Prelude.{◌≡◌, ◌+◌, ◌<◌, ◌==◌};
-ghost use Rattle.asm_tree.specs.Views.{expr_view};
+ghost use Rattle.asm_tree.specs.Views.{expr_view, module_view};
 ghost use Rattle.sem_words.specs.Lists.{text_bytes};
 ghost use Rattle.asm_lang_valid.specs.Scope.{a_foreign};
 ghost use Rattle.asm_lang_valid.specs.Typing as typing;
 ghost use Rattle.asm_lang_valid.specs.Typing.{or_zero};
 ghost use Rattle.asm_lang_valid.specs.LimitRows.{callee_marks};
 ghost use Rattle.asm_names.specs.Meanings.{meaning_view};
-ghost use Rattle.asm_validate_limits.specs.Passes.{Tallied};
+ghost use Rattle.asm_names.specs.Members.{IsMember, IsNumbered};
+ghost use Rattle.asm_validate_limits.specs.Passes.{IsOf, Tallied};
 ghost use Rattle.asm_validate_limits.specs.Places as places;
 
 use crate::numbers::MOST_PARAMS;
 use crate::tally::{Tally, needs, use_call};
-use asm_names::Meaning;
+use asm_names::{Meaning, Member};
 use asm_tree::Expr;
 use asm_validate_names::AsmRefusal;
-use sem_words::{JsOp, Text};
+use sem_words::JsOp;
 
 /// Where an expression stands.
 #[derive(Clone, Copy)]
@@ -86,10 +87,12 @@ pub fn callee_limits<'a>(
     count: usize,
     node: u64,
 ) -> Result<(), AsmRefusal>
+    requires of { IsOf (module_view tally.old.home.now) tally.old }
+    requires numbered { IsNumbered (module_view tally.old.home.now) callee }
     ensures { Tallied (places.called_marks place (meaning_view callee.entry) count node) 0 tally.old tally.new result }
 {
     match callee {
-        Some(Meaning::Foreign(name)) => foreign_limits(tally, place, name, count, node),
+        Some(Meaning::Foreign(member)) => foreign_limits(tally, place, member, count, node),
         _ => Ok(()),
     }
 }
@@ -97,28 +100,32 @@ pub fn callee_limits<'a>(
 fn foreign_limits<'a>(
     tally: &mut Tally<'a>,
     place: Place,
-    name: &'a Text,
+    member: Member<'a>,
     count: usize,
     node: u64,
 ) -> Result<(), AsmRefusal>
-    ensures { Tallied (places.called_marks place (a_foreign (text_bytes name.now)) count node) 0 tally.old tally.new result }
+    requires of { IsOf (module_view tally.old.home.now) tally.old }
+    requires member { IsMember (module_view tally.old.home.now) (text_bytes member.name.now) member.declaration }
+    ensures { Tallied (places.called_marks place (a_foreign (text_bytes member.entry.name.now)) count node) 0 tally.old tally.new result }
 {
     match place {
         Place::Operand => Ok(()),
-        Place::Valued => outward_limits(tally, name, count, true, node),
-        Place::Effect => outward_limits(tally, name, count, false, node),
+        Place::Valued => outward_limits(tally, member, count, true, node),
+        Place::Effect => outward_limits(tally, member, count, false, node),
     }
 }
 
 fn outward_limits<'a>(
     tally: &mut Tally<'a>,
-    name: &'a Text,
+    member: Member<'a>,
     count: usize,
     valued: bool,
     node: u64,
 ) -> Result<(), AsmRefusal>
-    ensures { Tallied (callee_marks (a_foreign (text_bytes name.now)) valued count node) 0 tally.old tally.new result }
+    requires of { IsOf (module_view tally.old.home.now) tally.old }
+    requires member { IsMember (module_view tally.old.home.now) (text_bytes member.name.now) member.declaration }
+    ensures { Tallied (callee_marks (a_foreign (text_bytes member.entry.name.now)) valued count node) 0 tally.old tally.new result }
 {
     needs(count <= MOST_PARAMS, node)?;
-    use_call(tally, name, count as u32, valued, node)
+    use_call(tally, member, count as u32, valued, node)
 }

@@ -5,7 +5,7 @@ ghost use Rattle.asm_tree.specs.Views.{expr_option, clauses_view};
 ghost use Rattle.asm_lang_valid.specs.Rows.{option_count};
 ghost use Rattle.asm_lang_valid.specs.LimitRows.{clauses_length, most_clauses};
 ghost use Rattle.asm_names.specs.Scopes.{scope_view, IsCompleteScope};
-ghost use Rattle.asm_validate_limits.specs.Passes.{Tallied, limited};
+ghost use Rattle.asm_validate_limits.specs.Passes.{IsOf, Tallied, limited};
 ghost use Rattle.asm_validate_limits.specs.Places as places;
 ghost use Rattle.asm_validate_limits.specs.Places.{option_placed};
 
@@ -25,6 +25,7 @@ pub fn option_limits<'a>(
     expr: &Option<Expr>,
 ) -> Result<(), AsmRefusal>
     requires known { IsCompleteScope scope.now }
+    requires of { IsOf (scope_view scope.now).home tally.old }
     requires room { tally.old.at + option_count (expr_option expr.now) < 2 ^ 64 }
     ensures { Tallied (option_placed (scope_view scope.now) place tally.old.at (expr_option expr.now)) (option_count (expr_option expr.now)) tally.old tally.new result }
 {

@@ -7,7 +7,7 @@ ghost use Rattle.asm_lang_valid.specs.Rows.{expr_count, exprs_count, links_count
 ghost use Rattle.asm_lang_valid.specs.Typing.{named, exprs_length};
 ghost use Rattle.asm_lang_valid.specs.LimitRows.{expr_marks, exprs_marks, links_marks, comma_marks};
 ghost use Rattle.asm_names.specs.Scopes.{scope_view, IsCompleteScope};
-ghost use Rattle.asm_validate_limits.specs.Passes.{Tallied};
+ghost use Rattle.asm_validate_limits.specs.Passes.{IsOf, Tallied};
 ghost use Rattle.asm_validate_limits.specs.Places.{placed_marks, called_marks, left_place as place_before};
 
 use crate::callee::{Place, callee_limits, left_place, part_place};
@@ -25,6 +25,7 @@ pub fn expr_limits<'a>(
     expr: &Expr,
 ) -> Result<(), AsmRefusal>
     requires known { IsCompleteScope scope.now }
+    requires of { IsOf (scope_view scope.now).home tally.old }
     requires room { tally.old.at + expr_count (expr_view expr.now) < 2 ^ 64 }
     ensures { Tallied (expr_marks (scope_view scope.now) tally.old.at (expr_view expr.now)) (expr_count (expr_view expr.now)) tally.old tally.new result }
 {
@@ -54,6 +55,7 @@ fn both_limits<'a>(
     right: &Expr,
 ) -> Result<(), AsmRefusal>
     requires known { IsCompleteScope scope.now }
+    requires of { IsOf (scope_view scope.now).home tally.old }
     requires room { tally.old.at + (expr_count (expr_view left.now) + expr_count (expr_view right.now)) < 2 ^ 64 }
     ensures { Tallied (expr_marks (scope_view scope.now) tally.old.at (expr_view left.now) ++ expr_marks (scope_view scope.now) (tally.old.at + expr_count (expr_view left.now)) (expr_view right.now)) (expr_count (expr_view left.now) + expr_count (expr_view right.now)) tally.old tally.new result }
 {
@@ -70,6 +72,7 @@ fn binary_limits<'a>(
     right: &Expr,
 ) -> Result<(), AsmRefusal>
     requires known { IsCompleteScope scope.now }
+    requires of { IsOf (scope_view scope.now).home tally.old }
     requires room { tally.old.at + (expr_count (expr_view left.now) + expr_count (expr_view right.now)) < 2 ^ 64 }
     ensures { Tallied (placed_marks (scope_view scope.now) (place_before op (expr_view right.now)) tally.old.at (expr_view left.now) ++ expr_marks (scope_view scope.now) (tally.old.at + expr_count (expr_view left.now)) (expr_view right.now)) (expr_count (expr_view left.now) + expr_count (expr_view right.now)) tally.old tally.new result }
 {
@@ -86,6 +89,7 @@ fn cond_limits<'a>(
     no: &Expr,
 ) -> Result<(), AsmRefusal>
     requires known { IsCompleteScope scope.now }
+    requires of { IsOf (scope_view scope.now).home tally.old }
     requires room { tally.old.at + (expr_count (expr_view condition.now) + (expr_count (expr_view yes.now) + expr_count (expr_view no.now))) < 2 ^ 64 }
     ensures { Tallied (expr_marks (scope_view scope.now) tally.old.at (expr_view condition.now) ++ (expr_marks (scope_view scope.now) (tally.old.at + expr_count (expr_view condition.now)) (expr_view yes.now) ++ expr_marks (scope_view scope.now) (tally.old.at + expr_count (expr_view condition.now) + expr_count (expr_view yes.now)) (expr_view no.now))) (expr_count (expr_view condition.now) + (expr_count (expr_view yes.now) + expr_count (expr_view no.now))) tally.old tally.new result }
 {
@@ -102,6 +106,7 @@ fn indexed_limits<'a>(
     arguments: &[Expr],
 ) -> Result<(), AsmRefusal>
     requires known { IsCompleteScope scope.now }
+    requires of { IsOf (scope_view scope.now).home tally.old }
     requires room { tally.old.at + (expr_count (expr_view index.now) + exprs_count (exprs_view arguments.now)) < 2 ^ 64 }
     ensures { Tallied (expr_marks (scope_view scope.now) tally.old.at (expr_view index.now) ++ exprs_marks (scope_view scope.now) (tally.old.at + expr_count (expr_view index.now)) (exprs_view arguments.now)) (expr_count (expr_view index.now) + exprs_count (exprs_view arguments.now)) tally.old tally.new result }
 {
@@ -117,6 +122,7 @@ fn chain_limits<'a>(
     links: &[Link],
 ) -> Result<(), AsmRefusal>
     requires known { IsCompleteScope scope.now }
+    requires of { IsOf (scope_view scope.now).home tally.old }
     requires room { tally.old.at + (expr_count (expr_view first.now) + links_count (links_view links.now)) < 2 ^ 64 }
     ensures { Tallied (expr_marks (scope_view scope.now) tally.old.at (expr_view first.now) ++ links_marks (scope_view scope.now) (tally.old.at + expr_count (expr_view first.now)) (links_view links.now)) (expr_count (expr_view first.now) + links_count (links_view links.now)) tally.old tally.new result }
 {
@@ -131,6 +137,7 @@ fn exprs_limits<'a>(
     exprs: &[Expr],
 ) -> Result<(), AsmRefusal>
     requires known { IsCompleteScope scope.now }
+    requires of { IsOf (scope_view scope.now).home tally.old }
     requires room { tally.old.at + exprs_count (exprs_view exprs.now) < 2 ^ 64 }
     ensures { Tallied (exprs_marks (scope_view scope.now) tally.old.at (exprs_view exprs.now)) (exprs_count (exprs_view exprs.now)) tally.old tally.new result }
 {
@@ -147,6 +154,7 @@ fn links_limits<'a>(
     links: &[Link],
 ) -> Result<(), AsmRefusal>
     requires known { IsCompleteScope scope.now }
+    requires of { IsOf (scope_view scope.now).home tally.old }
     requires room { tally.old.at + links_count (links_view links.now) < 2 ^ 64 }
     ensures { Tallied (links_marks (scope_view scope.now) tally.old.at (links_view links.now)) (links_count (links_view links.now)) tally.old tally.new result }
 {
@@ -163,6 +171,7 @@ fn comma_limits<'a>(
     parts: &[Expr],
 ) -> Result<(), AsmRefusal>
     requires known { IsCompleteScope scope.now }
+    requires of { IsOf (scope_view scope.now).home tally.old }
     requires room { tally.old.at + exprs_count (exprs_view parts.now) < 2 ^ 64 }
     ensures { Tallied (comma_marks (scope_view scope.now) tally.old.at (exprs_view parts.now)) (exprs_count (exprs_view parts.now)) tally.old tally.new result }
 {
@@ -181,6 +190,7 @@ pub fn placed_limits<'a>(
     expr: &Expr,
 ) -> Result<(), AsmRefusal>
     requires known { IsCompleteScope scope.now }
+    requires of { IsOf (scope_view scope.now).home tally.old }
     requires room { tally.old.at + expr_count (expr_view expr.now) < 2 ^ 64 }
     ensures { Tallied (placed_marks (scope_view scope.now) place tally.old.at (expr_view expr.now)) (expr_count (expr_view expr.now)) tally.old tally.new result }
 {
@@ -202,6 +212,7 @@ fn direct_limits<'a>(
     arguments: &[Expr],
 ) -> Result<(), AsmRefusal>
     requires known { IsCompleteScope scope.now }
+    requires of { IsOf (scope_view scope.now).home tally.old }
     requires room { tally.old.at + (1 + exprs_count (exprs_view arguments.now)) < 2 ^ 64 }
     ensures { Tallied (exprs_marks (scope_view scope.now) (tally.old.at + 1) (exprs_view arguments.now) ++ called_marks place (named (scope_view scope.now) (text_bytes name.now)) (exprs_length (exprs_view arguments.now)) tally.old.at) (1 + exprs_count (exprs_view arguments.now)) tally.old tally.new result }
 {

@@ -6,7 +6,7 @@ ghost use Rattle.asm_lang_valid.specs.declared.rule.Rule.TheVariants.{PastLimit}
 ghost use Rattle.asm_lang_valid.specs.Rows.{body_at, function_count, functions_count};
 ghost use Rattle.asm_lang_valid.specs.LimitRows.{function_marks, functions_marks};
 ghost use Rattle.asm_names.specs.Environments.{IsComplete};
-ghost use Rattle.asm_validate_limits.specs.Passes.{Tallied};
+ghost use Rattle.asm_validate_limits.specs.Passes.{IsOf, Tallied};
 ghost use Rattle.asm_validate_names.specs.declared.refusal.AsmRefusal.TheVariants as refusals;
 ghost use Rattle.asm_validate_limits.specs.declared.tally.Tally.{Tally};
 ghost use Rattle.asm_validate_limits.specs.Declarations.{heading_marks};
@@ -61,6 +61,7 @@ fn function_limits<'a>(
     function: &'a Function,
 ) -> Result<(), AsmRefusal>
     requires complete { IsComplete environment.now }
+    requires of { IsOf (module_view environment.now.home.now) tally.old }
     requires room { tally.old.at + function_count (function_view function.now) < 2 ^ 64 }
     ensures { Tallied (function_marks (module_view environment.now.home.now) before tally.old.at (function_view function.now)) (function_count (function_view function.now)) tally.old tally.new result }
 {
@@ -78,6 +79,7 @@ pub fn functions_limits<'a>(
     functions: &'a [Function],
 ) -> Result<(), AsmRefusal>
     requires complete { IsComplete environment.now }
+    requires of { IsOf (module_view environment.now.home.now) tally.old }
     requires room { tally.old.at + functions_count (map function_view functions.now) < 2 ^ 64 }
     ensures { Tallied (functions_marks (module_view environment.now.home.now) 0 tally.old.at (map function_view functions.now)) (functions_count (map function_view functions.now)) tally.old tally.new result }
 {

@@ -1,15 +1,16 @@
 //! The third phase of validation: limits.
 
 ghost use Rattle.std.specs.Prelude.{◌≡◌, ◌+◌, ◌<◌, ◌^◌, [], length, IfOk, MatchResult};
+ghost use Rattle.sem_words.specs.Lists.{list_items};
 ghost use Rattle.asm_tree.specs.Views.{module_view};
 ghost use Rattle.asm_lang_valid.specs.Rows.{functions_count, module_count};
 ghost use Rattle.asm_lang_valid.specs.LimitRows.{marks, limit_rows, foreign_calls};
 ghost use Rattle.asm_names.specs.Environments.{IsComplete};
 ghost use Rattle.asm_validate_names.specs.Refusals.{IsRow};
-ghost use Rattle.asm_validate_limits.specs.Called.{foreign_list};
-ghost use Rattle.asm_validate_limits.specs.Passes.{Tallied};
+ghost use Rattle.asm_validate_limits.specs.Called.{EachIsFirst, foreign_list};
+ghost use Rattle.asm_validate_limits.specs.Passes.{IsOf, Tallied};
 
-use crate::calls::{ForeignCall, copied};
+use crate::calls::{ForeignCall, listed};
 use crate::functions::functions_limits;
 use crate::globals::globals_limits;
 use crate::tables::tables_limits;
@@ -29,11 +30,12 @@ pub fn check_limits(
     requires complete { IsComplete environment.now }
     requires room { module_count (module_view environment.now.home.now) < 2 ^ 64 }
     ensures exactly { MatchResult result (λ _. limit_rows (module_view environment.now.home.now) ≡ []) (IsRow (limit_rows (module_view environment.now.home.now))) }
-    ensures calls { IfOk result (λ calls. foreign_list calls ≡ foreign_calls (module_view environment.now.home.now)) }
+    ensures calls { IfOk result (λ calls. foreign_list (module_view environment.now.home.now) calls ≡ foreign_calls (module_view environment.now.home.now)) }
+    ensures first { IfOk result (λ calls. EachIsFirst (module_view environment.now.home.now) (list_items calls)) }
 {
-    let mut tally = Tally::new(alloc, environment.hashes());
+    let mut tally = Tally::new(alloc, environment.home(), environment.hashes());
     module_limits(alloc, environment, &mut tally)?;
-    let calls = copied(alloc, tally.calls.as_slice())?;
+    let calls = listed(alloc, tally.calls.as_slice())?;
     Ok(calls)
 }
 
@@ -43,6 +45,7 @@ fn module_limits<'a>(
     tally: &mut Tally<'a>,
 ) -> Result<(), AsmRefusal>
     requires complete { IsComplete environment.now }
+    requires of { IsOf (module_view environment.now.home.now) tally.old }
     requires first { tally.old.at ≡ 1 }
     requires room { module_count (module_view environment.now.home.now) < 2 ^ 64 }
     ensures { let home = module_view environment.now.home.now in Tallied (marks home) (length home.globals + (functions_count home.functions + length home.tables)) tally.old tally.new result }

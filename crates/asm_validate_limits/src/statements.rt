@@ -6,7 +6,7 @@ ghost use Rattle.asm_lang_valid.specs.declared.rule.Rule.TheVariants.{PastLimit}
 ghost use Rattle.asm_lang_valid.specs.Rows.{need, expr_count, option_count, stmt_count, stmts_count, clauses_count};
 ghost use Rattle.asm_lang_valid.specs.LimitRows.{expr_marks, stmt_marks, stmts_marks, clauses_marks, clauses_length, most_clauses, rows_of};
 ghost use Rattle.asm_names.specs.Scopes.{scope_view, IsCompleteScope};
-ghost use Rattle.asm_validate_limits.specs.Passes.{Tallied};
+ghost use Rattle.asm_validate_limits.specs.Passes.{IsOf, Tallied};
 ghost use Rattle.asm_validate_limits.specs.Places.{option_placed};
 ghost use Rattle.asm_validate_limits.specs.declared.callee.Place.TheVariants.{Operand, Effect};
 
@@ -26,6 +26,7 @@ pub fn stmt_limits<'a>(
     stmt: &Stmt,
 ) -> Result<(), AsmRefusal>
     requires known { IsCompleteScope scope.now }
+    requires of { IsOf (scope_view scope.now).home tally.old }
     requires room { tally.old.at + stmt_count (stmt_view stmt.now) < 2 ^ 64 }
     ensures { Tallied (stmt_marks (scope_view scope.now) tally.old.at (stmt_view stmt.now)) (stmt_count (stmt_view stmt.now)) tally.old tally.new result }
 {
@@ -61,6 +62,7 @@ pub fn stmts_limits<'a>(
     stmts: &[Stmt],
 ) -> Result<(), AsmRefusal>
     requires known { IsCompleteScope scope.now }
+    requires of { IsOf (scope_view scope.now).home tally.old }
     requires room { tally.old.at + stmts_count (stmts_view stmts.now) < 2 ^ 64 }
     ensures { Tallied (stmts_marks (scope_view scope.now) tally.old.at (stmts_view stmts.now)) (stmts_count (stmts_view stmts.now)) tally.old tally.new result }
 {
@@ -79,6 +81,7 @@ fn guarded_limits<'a>(
     body: &Stmt,
 ) -> Result<(), AsmRefusal>
     requires known { IsCompleteScope scope.now }
+    requires of { IsOf (scope_view scope.now).home tally.old }
     requires room { tally.old.at + (expr_count (expr_view condition.now) + stmt_count (stmt_view body.now)) < 2 ^ 64 }
     ensures { Tallied (expr_marks (scope_view scope.now) tally.old.at (expr_view condition.now) ++ stmt_marks (scope_view scope.now) (tally.old.at + expr_count (expr_view condition.now)) (stmt_view body.now)) (expr_count (expr_view condition.now) + stmt_count (stmt_view body.now)) tally.old tally.new result }
 {
@@ -95,6 +98,7 @@ fn choice_limits<'a>(
     no: &Stmt,
 ) -> Result<(), AsmRefusal>
     requires known { IsCompleteScope scope.now }
+    requires of { IsOf (scope_view scope.now).home tally.old }
     requires room { tally.old.at + (expr_count (expr_view condition.now) + (stmt_count (stmt_view yes.now) + stmt_count (stmt_view no.now))) < 2 ^ 64 }
     ensures { Tallied (expr_marks (scope_view scope.now) tally.old.at (expr_view condition.now) ++ (stmt_marks (scope_view scope.now) (tally.old.at + expr_count (expr_view condition.now)) (stmt_view yes.now) ++ stmt_marks (scope_view scope.now) (tally.old.at + expr_count (expr_view condition.now) + stmt_count (stmt_view yes.now)) (stmt_view no.now))) (expr_count (expr_view condition.now) + (stmt_count (stmt_view yes.now) + stmt_count (stmt_view no.now))) tally.old tally.new result }
 {
@@ -110,6 +114,7 @@ fn pair_limits<'a>(
     no: &Stmt,
 ) -> Result<(), AsmRefusal>
     requires known { IsCompleteScope scope.now }
+    requires of { IsOf (scope_view scope.now).home tally.old }
     requires room { tally.old.at + (stmt_count (stmt_view yes.now) + stmt_count (stmt_view no.now)) < 2 ^ 64 }
     ensures { Tallied (stmt_marks (scope_view scope.now) tally.old.at (stmt_view yes.now) ++ stmt_marks (scope_view scope.now) (tally.old.at + stmt_count (stmt_view yes.now)) (stmt_view no.now)) (stmt_count (stmt_view yes.now) + stmt_count (stmt_view no.now)) tally.old tally.new result }
 {
@@ -126,6 +131,7 @@ fn until_limits<'a>(
     condition: &Expr,
 ) -> Result<(), AsmRefusal>
     requires known { IsCompleteScope scope.now }
+    requires of { IsOf (scope_view scope.now).home tally.old }
     requires room { tally.old.at + (stmt_count (stmt_view body.now) + expr_count (expr_view condition.now)) < 2 ^ 64 }
     ensures { Tallied (stmt_marks (scope_view scope.now) tally.old.at (stmt_view body.now) ++ expr_marks (scope_view scope.now) (tally.old.at + stmt_count (stmt_view body.now)) (expr_view condition.now)) (stmt_count (stmt_view body.now) + expr_count (expr_view condition.now)) tally.old tally.new result }
 {
@@ -143,6 +149,7 @@ fn for_limits<'a>(
     body: &Stmt,
 ) -> Result<(), AsmRefusal>
     requires known { IsCompleteScope scope.now }
+    requires of { IsOf (scope_view scope.now).home tally.old }
     requires room { tally.old.at + (option_count (expr_option start.now) + (option_count (expr_option condition.now) + (option_count (expr_option step.now) + stmt_count (stmt_view body.now)))) < 2 ^ 64 }
     ensures { Tallied (option_placed (scope_view scope.now) Effect tally.old.at (expr_option start.now) ++ (option_placed (scope_view scope.now) Operand (tally.old.at + option_count (expr_option start.now)) (expr_option condition.now) ++ (option_placed (scope_view scope.now) Effect (tally.old.at + option_count (expr_option start.now) + option_count (expr_option condition.now)) (expr_option step.now) ++ stmt_marks (scope_view scope.now) (tally.old.at + option_count (expr_option start.now) + option_count (expr_option condition.now) + option_count (expr_option step.now)) (stmt_view body.now)))) (option_count (expr_option start.now) + (option_count (expr_option condition.now) + (option_count (expr_option step.now) + stmt_count (stmt_view body.now)))) tally.old tally.new result }
 {
@@ -160,6 +167,7 @@ fn turn_limits<'a>(
     body: &Stmt,
 ) -> Result<(), AsmRefusal>
     requires known { IsCompleteScope scope.now }
+    requires of { IsOf (scope_view scope.now).home tally.old }
     requires room { tally.old.at + (option_count (expr_option condition.now) + (option_count (expr_option step.now) + stmt_count (stmt_view body.now))) < 2 ^ 64 }
     ensures { Tallied (option_placed (scope_view scope.now) Operand tally.old.at (expr_option condition.now) ++ (option_placed (scope_view scope.now) Effect (tally.old.at + option_count (expr_option condition.now)) (expr_option step.now) ++ stmt_marks (scope_view scope.now) (tally.old.at + option_count (expr_option condition.now) + option_count (expr_option step.now)) (stmt_view body.now))) (option_count (expr_option condition.now) + (option_count (expr_option step.now) + stmt_count (stmt_view body.now))) tally.old tally.new result }
 {
@@ -175,6 +183,7 @@ fn stepped_limits<'a>(
     body: &Stmt,
 ) -> Result<(), AsmRefusal>
     requires known { IsCompleteScope scope.now }
+    requires of { IsOf (scope_view scope.now).home tally.old }
     requires room { tally.old.at + (option_count (expr_option step.now) + stmt_count (stmt_view body.now)) < 2 ^ 64 }
     ensures { Tallied (option_placed (scope_view scope.now) Effect tally.old.at (expr_option step.now) ++ stmt_marks (scope_view scope.now) (tally.old.at + option_count (expr_option step.now)) (stmt_view body.now)) (option_count (expr_option step.now) + stmt_count (stmt_view body.now)) tally.old tally.new result }
 {
@@ -192,6 +201,7 @@ fn switch_limits<'a>(
     node: u64,
 ) -> Result<(), AsmRefusal>
     requires known { IsCompleteScope scope.now }
+    requires of { IsOf (scope_view scope.now).home tally.old }
     requires room { tally.old.at + (expr_count (expr_view subject.now) + clauses_count (clauses_view clauses.now)) < 2 ^ 64 }
     ensures { Tallied (expr_marks (scope_view scope.now) tally.old.at (expr_view subject.now) ++ (rows_of (need (nat_le (clauses_length (clauses_view clauses.now)) most_clauses) PastLimit node) ++ clauses_marks (scope_view scope.now) (tally.old.at + expr_count (expr_view subject.now)) (clauses_view clauses.now))) (expr_count (expr_view subject.now) + clauses_count (clauses_view clauses.now)) tally.old tally.new result }
 {
@@ -207,6 +217,7 @@ fn clauses_limits<'a>(
     clauses: &[Clause],
 ) -> Result<(), AsmRefusal>
     requires known { IsCompleteScope scope.now }
+    requires of { IsOf (scope_view scope.now).home tally.old }
     requires room { tally.old.at + clauses_count (clauses_view clauses.now) < 2 ^ 64 }
     ensures { Tallied (clauses_marks (scope_view scope.now) tally.old.at (clauses_view clauses.now)) (clauses_count (clauses_view clauses.now)) tally.old tally.new result }
 {

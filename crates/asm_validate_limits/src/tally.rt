@@ -1,57 +1,39 @@
 // What is counted on the way through a module.
 
-ghost use Rattle.std.specs.Prelude.{◌≡◌, [], ◌∷◌, ◌++◌, false, true, nat_le};
-ghost use Rattle.std.proofs.Common.{rules};
-ghost use Rattle.std.specs.Cmp.Rules.{hashing};
-ghost use Rattle.std.specs.Hash as fed;
+ghost use Rattle.std.specs.Prelude.{◌≡◌, [], ◌∷◌, false, true, nat_le};
 ghost use Rattle.sem_words.specs.Lists.{text_bytes};
+ghost use Rattle.asm_tree.specs.Views.{module_view};
+ghost use Rattle.asm_names.specs.Members.{IsMember};
 ghost use Rattle.asm_lang_valid.specs.LimitRows.{a_use, most_foreign_calls};
-ghost use Rattle.asm_validate_limits.specs.Passes.{Tallied, calls_of, limited};
+ghost use Rattle.asm_validate_limits.specs.Passes.{IsOf, Tallied, calls_of, limited};
 
+use crate::calls::ForeignCall;
 use crate::numbers::MOST_FOREIGN_CALLS;
 use asm_lang_valid::Rule;
+use asm_names::Member;
+use asm_tree::Module;
 use asm_validate_names::AsmRefusal;
 use indexmap::IndexSet;
 use key_hashes::KeyHashes;
-use sem_words::Text;
 use std::alloc::Global;
-use std::hash::{Hash, Hasher};
-
-/// A call of a foreign function.
-#[derive(Clone, Copy, PartialEq, Eq)]
-pub struct Call<'a> {
-    pub name: &'a [u8],
-    pub params: u32,
-    pub result: bool,
-}
-
-// The name is written whole, as long as it may be: sixteen bytes take one step, and by themselves as many as they are.
-impl Hash for Call<'_> {
-    ghost hash_input = { λ c. c.name.now ∷ fed.u32 c.params ++ fed.bool c.result };
-
-    ghost respects_eq = { Prim.search (hashing, rules) };
-
-    fn hash<H: Hasher>(&self, state: &mut H) {
-        state.write(self.name);
-        state.write_u32(self.params);
-        self.result.hash(state);
-    }
-}
 
 /// The calls of foreign functions so far, each once, and the number of the next node.
 #[derive(Drop)]
 pub struct Tally<'a> {
-    pub calls: IndexSet<Call<'a>, KeyHashes>,
+    pub home: &'a Module,
+    pub calls: IndexSet<ForeignCall, KeyHashes>,
     pub at: u64,
 }
 
 impl<'a> Tally<'a> {
     /// Before the first node after the module.
-    pub fn new(alloc: Global, hashes: KeyHashes) -> Tally<'a>
+    pub fn new(alloc: Global, home: &'a Module, hashes: KeyHashes) -> Tally<'a>
+        ensures of { IsOf (module_view home.now) result }
         ensures none { calls_of result ≡ [] }
         ensures first { result.at ≡ 1 }
     {
         Tally {
+            home,
             calls: IndexSet::with_hasher(alloc, hashes),
             at: 1,
         }
@@ -75,15 +57,17 @@ pub fn needs(holds: bool, node: u64) -> Result<(), AsmRefusal>
 /// A call of a foreign function at a node.
 pub fn use_call<'a>(
     tally: &mut Tally<'a>,
-    name: &'a Text,
+    member: Member<'a>,
     params: u32,
     valued: bool,
     node: u64,
 ) -> Result<(), AsmRefusal>
-    ensures { Tallied (a_use (record { name = text_bytes name.now; params = params; result = valued }) node ∷ []) 0 tally.old tally.new result }
+    requires of { IsOf (module_view tally.old.home.now) tally.old }
+    requires member { IsMember (module_view tally.old.home.now) (text_bytes member.name.now) member.declaration }
+    ensures { Tallied (a_use (record { name = text_bytes member.entry.name.now; params = params; result = valued }) node ∷ []) 0 tally.old tally.new result }
 {
-    let call = Call {
-        name: name.as_bytes(),
+    let call = ForeignCall {
+        declaration: member.declaration,
         params,
         result: valued,
     };

@@ -1,3 +1,4 @@
+pub mod Members
 pub mod Forms
 pub mod Rows
 pub mod Worked

@@ -4,9 +4,11 @@ ghost use Rattle.heap_lang.specs.Heap.{IsHeapLength};
 ghost use Rattle.sem_laws.specs.Views.{script_of};
 ghost use Rattle.asm_tree.specs.Views.{module_view};
 ghost use Rattle.asm_lang_exec.specs.Fits.{misfit};
+ghost use Rattle.asm_run.specs.Exports.{callees_of, callees_said};
 ghost use Rattle.cmd_run_asm.specs.Runs.{Prints, Shows, IsScriptRefusal};
 
 use asm_run::{Session, fits_asm};
+use asm_tree::Function;
 use asm_validate::Checked;
 use script_print::observation_text;
 use script_read::{ScriptFault, read_script};
@@ -27,24 +29,26 @@ pub fn run_script(
 {
     let script = read_script(alloc, text)?;
     match fits_asm(alloc, checked, heap_len, &script)? {
-        Ok(()) => Ok(observation(alloc, checked, heap_len, &script, budget)?),
+        Ok(callees) => Ok(observation(alloc, checked, heap_len, &script, callees, budget)?),
         Err(misfit) => Err(ScriptFault::Refused { line: misfit.line }),
     }
 }
 
-// What is printed of the session of a script that fits.
-fn observation(
+// What is printed of the session of a script that fits, whose calls name these functions.
+fn observation<'a>(
     alloc: Global,
-    checked: &Checked,
+    checked: &'a Checked,
     heap_len: u32,
-    script: &Script,
+    script: &'a Script,
+    callees: Vec<Option<&'a Function>>,
     budget: u32,
 ) -> Result<Vec<u8>, AllocError>
     requires fits { misfit (module_view checked.now) heap_len (script_of script.now) ≡ None }
     requires length { IsHeapLength heap_len }
+    requires callees { callees_said callees.items ≡ callees_of (module_view checked.now) (script_of script.now).calls }
     ensures { IfOk result (λ output. Shows (module_view checked.now) heap_len (script_of script.now) budget output.items) }
 {
-    let session = Session::link(alloc, checked, heap_len, script)?;
+    let session = Session::link(alloc, checked, heap_len, script, callees)?;
     let seen = session.run(alloc, u64::from(budget))?;
     observation_text(alloc, &seen)
 }

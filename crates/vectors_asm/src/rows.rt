@@ -71,8 +71,8 @@ fn observed(alloc: Global, text: &[u8], script: &Script, budget: u64) -> Option<
         return None;
     };
     match fits_asm(alloc, &checked, 4096, script) {
-        Ok(Ok(())) => {
-            let Ok(session) = Session::link(alloc, &checked, 4096, script) else {
+        Ok(Ok(callees)) => {
+            let Ok(session) = Session::link(alloc, &checked, 4096, script, callees) else {
                 return None;
             };
             let Ok(seen) = session.run(alloc, budget) else {
@@ -298,7 +298,7 @@ fn an_import_throws(rt: HostRuntime) {
 fn misfit(alloc: Global, checked: &Checked, calls: &[Call<'_>]) -> Result<Option<u64>, AllocError> {
     let script = script(alloc, calls, &[])?;
     match fits_asm(alloc, checked, 4096, &script)? {
-        Ok(()) => Ok(None),
+        Ok(_) => Ok(None),
         Err(misfit) => Ok(Some(misfit.line)),
     }
 }

@@ -78,8 +78,14 @@ fn exports_have_the_numbers_of_their_functions(rt: HostRuntime) -> Result<(), Fa
     }
 }
 
-fn is_call(call: &ForeignCall, name: &[u8], params: u32, has_result: bool) -> bool {
-    call.name.as_bytes() == name && call.params == params && call.result == has_result
+fn is_call(
+    module: &Checked,
+    call: &ForeignCall,
+    name: &[u8],
+    params: u32,
+    has_result: bool,
+) -> bool {
+    call.name(module.module()) == name && call.params == params && call.result == has_result
 }
 
 #[test]
@@ -89,8 +95,8 @@ fn foreign_calls_count_once(rt: HostRuntime) -> Result<(), Fail> {
     };
     match module.foreign_calls() {
         [first, second] => {
-            assert!(rt; is_call(first, b"f", 1, false));
-            assert!(rt; is_call(second, b"f", 2, true));
+            assert!(rt; is_call(&module, first, b"f", 1, false));
+            assert!(rt; is_call(&module, second, b"f", 2, true));
         }
         _ => return Err(Fail::new("calls")),
     }

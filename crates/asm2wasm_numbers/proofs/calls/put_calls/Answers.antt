@@ -1,4 +1,4 @@
-use Rattle.std.proofs.Common.{◌-◌, length, arith}
+use Rattle.std.proofs.Common.{◌-◌, length, refl, arith}
 use Rattle.asm2wasm_numbers.proofs.Counted.{number_put}
 use Rattle.asm2wasm_numbers.proofs.calls.put_calls.Goals as goal
 
@@ -9,5 +9,5 @@ loop-i-preserved c =
     let within = c.loop-i.invariant.within in
     record {
       within = omega arith;
-      put = λ f h. number_put c.args.calls.now (i - 1) i _ f _ _ (omega arith) (omega arith) c.index-calls-i.is (c.in_ok-put.ensures f (length c.args.calls.now)) (c.loop-i.invariant.put f h);
+      put = λ f h. number_put c.args.calls.now (i - 1) i _ _ f _ _ (omega arith) (omega arith) refl (c.in_ok-put.ensures f (length c.args.calls.now)) (c.loop-i.invariant.put f h);
     }

@@ -1,9 +1,8 @@
 use Rattle.std.proofs.Common.{◌≡◌, ◌++◌, List, map, drop}
 use Rattle.asm_lang_valid.specs.Scope as scopes
-use Rattle.asm_validate_limits.specs.Called.{foreign_view}
-use Rattle.asm2wasm_code.specs.Numbers.{each_once, asked_signature}
-use Rattle.asm2wasm_numbers.specs.Signatures.{said}
+use Rattle.asm2wasm_code.specs.Numbers.{each_once}
+use Rattle.asm2wasm_numbers.specs.Signatures.{asked, said}
 use Rattle.asm2wasm_numbers.proofs.signatures.add_calls.Given as goal
 
 abbrev pub invariant-loop-call : goal.invariant-loop-call
-invariant-loop-call l = (rest : List scopes.Signature) → each_once (said l.initial.signatures) (map asked_signature (map foreign_view l.calls) ++ rest) ≡ each_once (said l.signatures) (map asked_signature (map foreign_view (drop l.call-index l.calls)) ++ rest)
+invariant-loop-call l = (rest : List scopes.Signature) → each_once (said l.initial.signatures) (map asked l.calls ++ rest) ≡ each_once (said l.signatures) (map asked (drop l.call-index l.calls) ++ rest)

@@ -12,6 +12,6 @@ entry_numbers-requires c =
     let same : module_view c.checked.result.now ≡ m = ap module_view c.checked.ensures in
     let calls = c.foreign_calls-imported.result.now in
     let many : length calls ≡ length (foreign_calls m) =
-    sym (length-map calls foreign_view) ∙ ap length c.foreign_calls-imported.ensures ∙ ap (λ n. length (foreign_calls n)) same in
+    sym (length-map calls (foreign_view (module_view c.checked.result.now))) ∙ ap length c.foreign_calls-imported.ensures.calls ∙ ap (λ n. length (foreign_calls n)) same in
     subst (All (λ entry. length calls + entry < 2 ^ 32)) (sym (c.as_slice.ensures ∙ c.plan.ensures.entries))
     (entries_small m m.tables (length calls) (subst (λ n. n + length m.functions < 2 ^ 32) (sym many) c.requires.few))

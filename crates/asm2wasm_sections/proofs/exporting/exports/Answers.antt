@@ -12,7 +12,7 @@ given-requires c =
     let m = module_view c.args.numbers.now in
     let same : module_view c.checked-checked.result.now ≡ m = ap module_view c.checked-checked.ensures in
     let many : length c.foreign_calls.result.now ≡ length (foreign_calls m) =
-    sym (length-map c.foreign_calls.result.now foreign_view) ∙ ap length c.foreign_calls.ensures ∙ ap (λ n. length (foreign_calls n)) same in
+    sym (length-map c.foreign_calls.result.now (foreign_view (module_view c.checked-checked.result.now))) ∙ ap length c.foreign_calls.ensures.calls ∙ ap (λ n. length (foreign_calls n)) same in
     record {
       few = exports_small m (length c.foreign_calls.result.now) m.exports c.exports.result.now
           (c.exports.ensures ∙ ap (λ n. exported_from n n.exports) same)

@@ -7,5 +7,5 @@ use Rattle.asm2wasm_sections.proofs.importing.put_functions.Given as goal
 
 abbrev pub invariant-loop-call : goal.invariant-loop-call
 invariant-loop-call l =
-    map import_of l.imports.items ++ map (imported_function (module_view l.numbers)) (map foreign_view (drop l.call-index l.calls))
-    ≡ map import_of l.initial.imports.items ++ map (imported_function (module_view l.numbers)) (map foreign_view l.calls)
+    map import_of l.imports.items ++ map (imported_function (module_view l.numbers)) (map (foreign_view (module_view l.numbers)) (drop l.call-index l.calls))
+    ≡ map import_of l.initial.imports.items ++ map (imported_function (module_view l.numbers)) (map (foreign_view (module_view l.numbers)) l.calls)

@@ -9,5 +9,6 @@ loop-i-preserved c =
     let within = c.loop-i.invariant.within in
     record {
       within = omega arith;
-      put = λ n. function_put c.args.functions.now (i - 1) i _ n _ _ _ (omega arith) (omega arith) c.index-functions-i.is (c.in_ok-put.ensures n) (c.loop-i.invariant.put n);
+      put = λ n. function_put c.args.functions.now (i - 1) i _ n _ _ _ (omega arith) (omega arith) c.index-functions-i.is (c.in_ok-put.ensures.known n) (c.loop-i.invariant.put n);
+      numbered = λ m h. c.in_ok-put.ensures.numbered m (c.loop-i.invariant.numbered m h) tt;
     }

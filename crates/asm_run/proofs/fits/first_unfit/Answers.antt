@@ -19,5 +19,5 @@ returns c =
     four (tests m c.args.heap_len) script c.first_global-globals.result c.first_write-writes.result c.first_call-calls.result c.first_reply-replies.result
     c.earlier.result c.earlier-2.result c.earlier-3.result
     globals (rw c.as_slice.ensures at c.first_write-writes.ensures)
-    (rw c.as_slice-2.ensures at c.first_call-calls.ensures m c.requires.exports) (rw c.as_slice-3.ensures at c.first_reply-replies.ensures)
+    (rw c.as_slice-2.ensures at c.first_call-calls.ensures) (rw c.as_slice-3.ensures at c.first_reply-replies.ensures)
     c.earlier.ensures c.earlier-2.ensures c.earlier-3.ensures

@@ -5,8 +5,8 @@ use Rattle.asm_run.proofs.Whole.{calls_from}
 use Rattle.asm_run.proofs.running.run.Given as goal
 
 -- the calls that are left come to the same as all calls from where the session began
-abbrev pub invariant-loop-call : goal.invariant-loop-call
-invariant-loop-call l = record {
-  same : calls_from (module_view l.environment.home.now) l.fn.world.units (map call_of (drop l.call-index l.calls)) l.world ≡ calls_from (module_view l.environment.home.now) l.fn.world.units (map call_of l.calls) l.fn.world;
+abbrev pub invariant-loop-i : goal.invariant-loop-i
+invariant-loop-i l = record {
+  same : calls_from (module_view l.environment.home.now) l.fn.world.units (map call_of (drop l.i l.calls)) l.world ≡ calls_from (module_view l.environment.home.now) l.fn.world.units (map call_of l.calls) l.fn.world;
   units : l.world.units ≤ l.fn.world.units;
 }

@@ -1,8 +1,10 @@
-use Rattle.std.proofs.Common.{rules, ◌≡◌, [], ap, ◌∙◌, subst}
+use Rattle.std.proofs.Common.{rules, ◌≡◌, [], subst}
 use Rattle.asm_tree.specs.declared.tree.Module.{Module}
 use Rattle.asm_tree.specs.Views.{module_view}
 use Rattle.asm_lang_valid.specs.TypeRows.{type_rows}
 use Rattle.asm_lang_valid.specs.LimitRows.{limit_rows, foreign_calls}
+use Rattle.sem_words.specs.Lists.{list_items}
+use Rattle.asm_validate_limits.specs.Called.{EachIsFirst, foreign_list}
 use Rattle.asm_validate_names.specs.Refusals.{IsRow}
 use Rattle.asm_validate.proofs.InOrder.{by_names, by_types, by_limits, accepted, refused_by}
 use Rattle.asm_validate.proofs.phases.check_phases.Goals as goal
@@ -31,4 +33,7 @@ returns-clause-exactly c =
     (subst (λ (m : Module). limit_rows (module_view m) ≡ []) c.in_ok-environment.ensures.of c.in_ok-calls.ensures.exactly)
 
 pub returns-clause-calls : goal.returns-clause-calls
-returns-clause-calls c = c.in_ok-calls.ensures.calls ∙ ap (λ (m : Module). foreign_calls (module_view m)) c.in_ok-environment.ensures.of
+returns-clause-calls c = subst (λ (m : Module). foreign_list (module_view m) c.in_ok-calls.calls ≡ foreign_calls (module_view m)) c.in_ok-environment.ensures.of c.in_ok-calls.ensures.calls
+
+pub returns-clause-first : goal.returns-clause-first
+returns-clause-first c = subst (λ (m : Module). EachIsFirst (module_view m) (list_items c.in_ok-calls.calls)) c.in_ok-environment.ensures.of c.in_ok-calls.ensures.first

@@ -9,10 +9,10 @@ use Rattle.asm_validate_limits.proofs.callee.outward_limits.Goals as goal
 
 pub returns-in_err-needs : goal.returns-in_err-needs
 returns-in_err-needs c =
-    err_first (rows_of (need (nat_le c.args.count most_params) PastLimit c.args.node)) (a_use (record { name = text_bytes c.args.name.now; params = c.args.count; result = c.args.valued }) c.args.node ∷ []) 0 c.args.tally.now _ _ c.in_err-needs.field-0.0 (search rules)
+    err_first (rows_of (need (nat_le c.args.count most_params) PastLimit c.args.node)) (a_use (record { name = text_bytes c.args.member.name.now; params = c.args.count; result = c.args.valued }) c.args.node ∷ []) 0 c.args.tally.now _ _ c.in_err-needs.field-0.0 (search rules)
     (need_err (nat_le c.args.count most_params) c.args.node c.args.tally.now _ c.in_err-needs.ensures)
 
 pub returns : goal.returns
 returns c =
-    then_ (rows_of (need (nat_le c.args.count most_params) PastLimit c.args.node)) (a_use (record { name = text_bytes c.args.name.now; params = c.args.count; result = c.args.valued }) c.args.node ∷ []) 0 0 c.args.tally.now c.args.tally.now c.use_call.new.tally c.use_call.result
+    then_ (rows_of (need (nat_le c.args.count most_params) PastLimit c.args.node)) (a_use (record { name = text_bytes c.args.member.name.now; params = c.args.count; result = c.args.valued }) c.args.node ∷ []) 0 0 c.args.tally.now c.args.tally.now c.use_call.new.tally c.use_call.result
     (need_ok (nat_le c.args.count most_params) c.args.node c.args.tally.now c.in_ok-needs.ensures) c.use_call.ensures

@@ -1,5 +1,5 @@
 use Rattle.std.proofs.Common.{arith}
-use Rattle.asm_validate_limits.proofs.Copies.{cases_left}
+use Rattle.asm_validate_limits.proofs.Cases.{cases_left}
 use Rattle.asm_validate_limits.proofs.clauses.case_count.Goals as goal
 
 pub loop-clause-preserved : goal.loop-clause-preserved

@@ -6,6 +6,7 @@ use Rattle.asm_lang_valid.specs.Rows.{expr_count, exprs_count, links_count}
 use Rattle.asm_lang_valid.specs.LimitRows.{Mark, expr_marks, exprs_marks, links_marks, comma_marks}
 use Rattle.asm_lang_valid.specs.Typing.{named, exprs_length}
 use Rattle.asm_names.specs.Meanings.{meaning_view}
+use Rattle.asm_names.specs.Members.{IsNumbered}
 use Rattle.asm_names.specs.Scopes.{scope_view}
 use Rattle.asm_validate_limits.specs.Passes.{Tallied}
 use Rattle.asm_validate_limits.specs.Places.{placed_marks, called_marks, left_place}
@@ -28,7 +29,7 @@ both_limits-expr_limits-requires-2 t c =
     let r = c.requires.room in
     let d0 = c.decreases in
     let n = c.in_ok-expr_limits.ensures.counted in
-    (omega arith, (c.requires.known, omega arith))
+    (omega arith, (c.requires.known, (c.in_ok-expr_limits.ensures.of _ c.requires.of, omega arith)))
 
 pub binary_limits-returns-in_err-placed_limits : goal.binary_limits-returns-in_err-placed_limits
 binary_limits-returns-in_err-placed_limits t c =
@@ -47,7 +48,7 @@ binary_limits-expr_limits-requires t c =
     let r = c.requires.room in
     let d0 = c.decreases in
     let n = c.in_ok-placed_limits.ensures.counted in
-    (omega arith, (c.requires.known, omega arith))
+    (omega arith, (c.requires.known, (c.in_ok-placed_limits.ensures.of _ c.requires.of, omega arith)))
 
 pub cond_limits-returns-in_err-expr_limits : goal.cond_limits-returns-in_err-expr_limits
 cond_limits-returns-in_err-expr_limits t c =
@@ -63,7 +64,7 @@ cond_limits-both_limits-requires t c =
     let r = c.requires.room in
     let d0 = c.decreases in
     let n = c.in_ok-expr_limits.ensures.counted in
-    (omega arith, (c.requires.known, omega arith))
+    (omega arith, (c.requires.known, (c.in_ok-expr_limits.ensures.of _ c.requires.of, omega arith)))
 
 pub indexed_limits-returns-in_err-expr_limits : goal.indexed_limits-returns-in_err-expr_limits
 indexed_limits-returns-in_err-expr_limits t c =
@@ -79,7 +80,7 @@ indexed_limits-exprs_limits-requires t c =
     let r = c.requires.room in
     let d0 = c.decreases in
     let n = c.in_ok-expr_limits.ensures.counted in
-    (omega arith, (c.requires.known, omega arith))
+    (omega arith, (c.requires.known, (c.in_ok-expr_limits.ensures.of _ c.requires.of, omega arith)))
 
 pub chain_limits-returns-in_err-expr_limits : goal.chain_limits-returns-in_err-expr_limits
 chain_limits-returns-in_err-expr_limits t c =
@@ -95,7 +96,7 @@ chain_limits-links_limits-requires t c =
     let r = c.requires.room in
     let d0 = c.decreases in
     let n = c.in_ok-expr_limits.ensures.counted in
-    (omega arith, (c.requires.known, omega arith))
+    (omega arith, (c.requires.known, (c.in_ok-expr_limits.ensures.of _ c.requires.of, omega arith)))
 
 pub expr_limits-overflow_add-tally : goal.expr_limits-overflow_add-tally
 expr_limits-overflow_add-tally t c =
@@ -108,7 +109,7 @@ expr_limits-expr_limits-requires t c =
     let r = c.requires.room in
     let d0 = c.decreases in
     let k = ap expr_count (index_is c.args.expr.now _ _ _ c.in-Index.is c.deref.ensures) in
-    (omega arith, (c.requires.known, omega arith))
+    (omega arith, (c.requires.known, (c.requires.of, omega arith)))
 
 pub expr_limits-returns-in-Index : goal.expr_limits-returns-in-Index
 expr_limits-returns-in-Index t c =
@@ -119,7 +120,7 @@ expr_limits-expr_limits-requires-in-Assign t c =
     let r = c.requires.room in
     let d0 = c.decreases in
     let k = ap expr_count (assign_is c.args.expr.now _ _ _ c.in-Assign.is c.deref-in-Assign.ensures) in
-    (omega arith, (c.requires.known, omega arith))
+    (omega arith, (c.requires.known, (c.requires.of, omega arith)))
 
 pub expr_limits-returns-in-Assign : goal.expr_limits-returns-in-Assign
 expr_limits-returns-in-Assign t c =
@@ -130,7 +131,7 @@ expr_limits-expr_limits-requires-in-Unary t c =
     let r = c.requires.room in
     let d0 = c.decreases in
     let k = ap expr_count (unary_is c.args.expr.now _ _ _ c.in-Unary.is c.deref-in-Unary.ensures) in
-    (omega arith, (c.requires.known, omega arith))
+    (omega arith, (c.requires.known, (c.requires.of, omega arith)))
 
 pub expr_limits-returns-in-Unary : goal.expr_limits-returns-in-Unary
 expr_limits-returns-in-Unary t c =
@@ -141,7 +142,7 @@ expr_limits-exprs_limits-requires t c =
     let r = c.requires.room in
     let d0 = c.decreases in
     let k = ap expr_count (call_is c.args.expr.now _ _ _ c.in-Call.is c.as_slice.ensures) in
-    (omega arith, (c.requires.known, omega arith))
+    (omega arith, (c.requires.known, (c.requires.of, omega arith)))
 
 pub expr_limits-returns-in-Call : goal.expr_limits-returns-in-Call
 expr_limits-returns-in-Call t c =
@@ -152,7 +153,7 @@ expr_limits-indexed_limits-requires t c =
     let r = c.requires.room in
     let d0 = c.decreases in
     let k = ap expr_count (table_call_is c.args.expr.now _ _ _ _ _ c.in-TableCall.is c.deref-in-TableCall.ensures c.as_slice-in-TableCall.ensures) in
-    (omega arith, (c.requires.known, omega arith))
+    (omega arith, (c.requires.known, (c.requires.of, omega arith)))
 
 pub expr_limits-returns-in-TableCall : goal.expr_limits-returns-in-TableCall
 expr_limits-returns-in-TableCall t c =
@@ -163,7 +164,7 @@ expr_limits-both_limits-requires t c =
     let r = c.requires.room in
     let d0 = c.decreases in
     let k = ap expr_count (store_is c.args.expr.now _ _ _ _ _ c.in-Store.is c.deref-in-Store.ensures c.deref-in-Store-2.ensures) in
-    (omega arith, (c.requires.known, omega arith))
+    (omega arith, (c.requires.known, (c.requires.of, omega arith)))
 
 pub expr_limits-returns-in-Store : goal.expr_limits-returns-in-Store
 expr_limits-returns-in-Store t c =
@@ -174,7 +175,7 @@ expr_limits-binary_limits-requires t c =
     let r = c.requires.room in
     let d0 = c.decreases in
     let k = ap expr_count (binary_is c.args.expr.now _ _ _ _ _ c.in-Binary.is c.deref-in-Binary.ensures c.deref-in-Binary-2.ensures) in
-    (omega arith, (c.requires.known, omega arith))
+    (omega arith, (c.requires.known, (c.requires.of, omega arith)))
 
 pub expr_limits-returns-in-Binary : goal.expr_limits-returns-in-Binary
 expr_limits-returns-in-Binary t c =
@@ -185,7 +186,7 @@ expr_limits-chain_limits-requires t c =
     let r = c.requires.room in
     let d0 = c.decreases in
     let k = ap expr_count (chain_is c.args.expr.now _ _ _ _ c.in-Chain.is c.deref-in-Chain.ensures c.as_slice-in-Chain.ensures) in
-    (omega arith, (c.requires.known, omega arith))
+    (omega arith, (c.requires.known, (c.requires.of, omega arith)))
 
 pub expr_limits-returns-in-Chain : goal.expr_limits-returns-in-Chain
 expr_limits-returns-in-Chain t c =
@@ -196,7 +197,7 @@ expr_limits-cond_limits-requires t c =
     let r = c.requires.room in
     let d0 = c.decreases in
     let k = ap expr_count (cond_is c.args.expr.now _ _ _ _ _ _ c.in-Cond.is c.deref-in-Cond.ensures c.deref-in-Cond-2.ensures c.deref-in-Cond-3.ensures) in
-    (omega arith, (c.requires.known, omega arith))
+    (omega arith, (c.requires.known, (c.requires.of, omega arith)))
 
 pub expr_limits-returns-in-Cond : goal.expr_limits-returns-in-Cond
 expr_limits-returns-in-Cond t c =
@@ -207,7 +208,7 @@ expr_limits-comma_limits-requires t c =
     let r = c.requires.room in
     let d0 = c.decreases in
     let k = ap expr_count (comma_is c.args.expr.now _ _ c.in-Comma.is c.as_slice-in-Comma.ensures) in
-    (omega arith, (c.requires.known, omega arith))
+    (omega arith, (c.requires.known, (c.requires.of, omega arith)))
 
 pub expr_limits-returns-in-Comma : goal.expr_limits-returns-in-Comma
 expr_limits-returns-in-Comma t c =
@@ -218,7 +219,7 @@ placed_limits-direct_limits-requires t c =
     let r = c.requires.room in
     let d0 = c.decreases in
     let k = ap expr_count (call_is c.args.expr.now _ _ _ c.in-Call.is c.as_slice.ensures) in
-    (omega arith, (c.requires.known, omega arith))
+    (omega arith, (c.requires.known, (c.requires.of, omega arith)))
 
 pub placed_limits-returns-in-Call : goal.placed_limits-returns-in-Call
 placed_limits-returns-in-Call t c =
@@ -236,7 +237,7 @@ exprs_limits-expr_limits-requires t c =
     let k = nodes_left c.args.exprs.now c.loop-expr.expr-index c.expr-item.result c.loop-expr-test.true c.expr-item.is in
     let left = c.loop-expr.invariant.left in
     let counted = c.loop-expr.invariant.counted in
-    (omega arith, (c.requires.known, omega arith))
+    (omega arith, (c.requires.known, (c.loop-expr.invariant.of, omega arith)))
 
 pub exprs_limits-returns-in_err-expr_limits : goal.exprs_limits-returns-in_err-expr_limits
 exprs_limits-returns-in_err-expr_limits t c =
@@ -252,6 +253,7 @@ exprs_limits-loop-expr-preserved t c =
       rest = λ u r h. c.loop-expr.invariant.rest u r (next_argument (scope_view c.args.scope.now) c.loop-expr.tally c.args.exprs.now c.loop-expr.expr-index c.expr-item.result c.expr_limits.new.tally c.loop-expr-test.true c.expr-item.is c.in_ok-expr_limits.ensures u r h);
       left = omega arith;
       counted = omega arith;
+      of = c.in_ok-expr_limits.ensures.of _ c.loop-expr.invariant.of;
     }
 
 pub exprs_limits-returns : goal.exprs_limits-returns
@@ -265,7 +267,7 @@ links_limits-expr_limits-requires t c =
     let k = operands_left c.args.links.now c.loop-link.link-index c.link-item.result c.loop-link-test.true c.link-item.is in
     let left = c.loop-link.invariant.left in
     let counted = c.loop-link.invariant.counted in
-    (omega arith, (c.requires.known, omega arith))
+    (omega arith, (c.requires.known, (c.loop-link.invariant.of, omega arith)))
 
 pub links_limits-returns-in_err-expr_limits : goal.links_limits-returns-in_err-expr_limits
 links_limits-returns-in_err-expr_limits t c =
@@ -281,6 +283,7 @@ links_limits-loop-link-preserved t c =
       rest = λ u r h. c.loop-link.invariant.rest u r (next_operand (scope_view c.args.scope.now) c.loop-link.tally c.args.links.now c.loop-link.link-index c.link-item.result c.expr_limits.new.tally c.loop-link-test.true c.link-item.is c.in_ok-expr_limits.ensures u r h);
       left = omega arith;
       counted = omega arith;
+      of = c.in_ok-expr_limits.ensures.of _ c.loop-link.invariant.of;
     }
 
 pub links_limits-returns : goal.links_limits-returns
@@ -291,12 +294,20 @@ pub direct_limits-returns-in_err-exprs_limits : goal.direct_limits-returns-in_er
 direct_limits-returns-in_err-exprs_limits t c =
     err_first (exprs_marks (scope_view c.args.scope.now) (c.args.tally.now.at + 1) (exprs_view c.args.arguments.now)) (called_marks c.args.place (named (scope_view c.args.scope.now) (text_bytes c.args.name.now)) (exprs_length (exprs_view c.args.arguments.now)) c.args.tally.now.at) _ c.args.tally.now _ _ c.in_err-exprs_limits.field-0.0 (search rules) c.in_err-exprs_limits.ensures
 
+pub direct_limits-callee_limits-requires : goal.direct_limits-callee_limits-requires
+direct_limits-callee_limits-requires t c =
+    let of = c.in_ok-exprs_limits.ensures.of _ c.requires.of in
+    record {
+      of = (refl, of.1);
+      numbered = subst (λ m. IsNumbered m c.meaning-callee.result) (sym of.0) c.meaning-callee.ensures.numbered;
+    }
+
 pub direct_limits-returns : goal.direct_limits-returns
 direct_limits-returns t c =
     let ms = exprs_marks (scope_view c.args.scope.now) (c.args.tally.now.at + 1) (exprs_view c.args.arguments.now) in
     let ns = called_marks c.args.place (meaning_view c.meaning-callee.result) (length c.args.arguments.now) c.args.tally.now.at in
     let n = exprs_count (exprs_view c.args.arguments.now) in
-    let known = ap (λ x. named (scope_view c.args.scope.now) x) (sym c.as_bytes.ensures) ∙ sym c.meaning-callee.ensures in
+    let known = ap (λ x. named (scope_view c.args.scope.now) x) (sym c.as_bytes.ensures) ∙ sym c.meaning-callee.ensures.known in
     let same_marks : ms ++ called_marks c.args.place (named (scope_view c.args.scope.now) (text_bytes c.args.name.now)) (exprs_length (exprs_view c.args.arguments.now)) c.args.tally.now.at ≡ ms ++ ns =
     ap (λ m. ms ++ called_marks c.args.place m (exprs_length (exprs_view c.args.arguments.now)) c.args.tally.now.at) known
     ∙ ap (λ k. ms ++ called_marks c.args.place (meaning_view c.meaning-callee.result) k c.args.tally.now.at) (arguments_length c.args.arguments.now) in
@@ -311,7 +322,7 @@ comma_limits-placed_limits-requires t c =
     let k = nodes_left c.args.parts.now c.loop-i.i c.index-parts-i.result c.loop-i-test.true c.index-parts-i.is in
     let left = c.loop-i.invariant.left in
     let counted = c.loop-i.invariant.counted in
-    (omega arith, (c.requires.known, omega arith))
+    (omega arith, (c.requires.known, (c.loop-i.invariant.of, omega arith)))
 
 pub comma_limits-returns-in_err-placed_limits : goal.comma_limits-returns-in_err-placed_limits
 comma_limits-returns-in_err-placed_limits t c =
@@ -328,6 +339,7 @@ comma_limits-loop-i-preserved t c =
       rest = λ u r h. c.loop-i.invariant.rest u r (next_part (scope_view c.args.scope.now) c.loop-i.tally c.args.parts.now c.loop-i.i c.index-parts-i.result c.part_place.result c.loop-i-test.true c.index-parts-i.is (search rules) c.placed_limits.new.tally c.in_ok-placed_limits.ensures u r h);
       left = omega arith;
       counted = omega arith;
+      of = c.in_ok-placed_limits.ensures.of _ c.loop-i.invariant.of;
     }
 
 pub comma_limits-returns : goal.comma_limits-returns

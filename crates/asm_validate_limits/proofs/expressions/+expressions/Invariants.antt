@@ -2,6 +2,7 @@ use Rattle.std.proofs.Common.{◌≡◌, ◌+◌, ◌*◌, ◌≤◌, drop}
 use Rattle.asm_tree.specs.Views.{expr_view, exprs_view, links_view}
 use Rattle.asm_lang_valid.specs.Rows.{expr_count, exprs_count, links_count}
 use Rattle.asm_names.specs.Scopes.{scope_view}
+use Rattle.asm_validate_limits.specs.Passes.{IsOf}
 use Rattle.asm_validate_limits.proofs.Lists.{Completes}
 use Rattle.asm_validate_limits.proofs.Parts.{arguments_marks, operands_marks, parts_marks, nodes_in, nodes_of}
 use Rattle.asm_validate_limits.proofs.expressions.+expressions.Given as goal
@@ -11,6 +12,7 @@ invariant-exprs_limits-loop-expr l = record {
   rest : Completes (arguments_marks (scope_view l.scope) l.exprs l.initial.tally.at) (nodes_in l.exprs) l.initial.tally (arguments_marks (scope_view l.scope) (drop l.expr-index l.exprs) l.tally.at) (nodes_in (drop l.expr-index l.exprs)) l.tally;
   left : nodes_in (drop l.expr-index l.exprs) ≤ nodes_in l.exprs;
   counted : l.tally.at + nodes_in (drop l.expr-index l.exprs) ≡ l.initial.tally.at + nodes_in l.exprs;
+  of : IsOf (scope_view l.scope).home l.tally;
 }
 
 abbrev pub invariant-links_limits-loop-link : goal.invariant-links_limits-loop-link
@@ -18,6 +20,7 @@ invariant-links_limits-loop-link l = record {
   rest : Completes (operands_marks (scope_view l.scope) l.links l.initial.tally.at) (nodes_of l.links) l.initial.tally (operands_marks (scope_view l.scope) (drop l.link-index l.links) l.tally.at) (nodes_of (drop l.link-index l.links)) l.tally;
   left : nodes_of (drop l.link-index l.links) ≤ nodes_of l.links;
   counted : l.tally.at + nodes_of (drop l.link-index l.links) ≡ l.initial.tally.at + nodes_of l.links;
+  of : IsOf (scope_view l.scope).home l.tally;
 }
 
 abbrev pub invariant-comma_limits-loop-i : goal.invariant-comma_limits-loop-i
@@ -25,6 +28,7 @@ invariant-comma_limits-loop-i l = record {
   rest : Completes (parts_marks (scope_view l.scope) l.parts l.initial.tally.at) (nodes_in l.parts) l.initial.tally (parts_marks (scope_view l.scope) (drop l.i l.parts) l.tally.at) (nodes_in (drop l.i l.parts)) l.tally;
   left : nodes_in (drop l.i l.parts) ≤ nodes_in l.parts;
   counted : l.tally.at + nodes_in (drop l.i l.parts) ≡ l.initial.tally.at + nodes_in l.parts;
+  of : IsOf (scope_view l.scope).home l.tally;
 }
 
 abbrev pub decreases-expr_limits : goal.decreases-expr_limits

@@ -17,7 +17,7 @@ returns-in_err-heading_limits c =
 
 pub returns : goal.returns
 returns c =
-    let moved : Tally = record { calls = c.args.tally.now.calls; at = c.args.tally.now.at + (1 + (c.len.result + c.len-2.result)) } in
+    let moved : Tally = record { home = c.args.tally.now.home; calls = c.args.tally.now.calls; at = c.args.tally.now.at + (1 + (c.len.result + c.len-2.result)) } in
     with_body c.args.function.now c.args.before c.args.tally.now.at c.len.result c.len-2.result c.len.ensures c.len-2.ensures (module_view c.args.environment.now.home.now) (scope_view c.in_ok-scope.scope) c.in_ok-scope.ensures.of c.args.tally.now moved c.stmts_limits.new.tally c.stmts_limits.result refl refl refl
     (c.in_ok-heading_limits.ensures c.args.tally.now)
     (subst (λ (l : List Stmt). Tallied (stmts_marks (scope_view c.in_ok-scope.scope) moved.at (stmts_view l)) (stmts_count (stmts_view l)) moved c.stmts_limits.new.tally c.stmts_limits.result) c.as_slice.ensures c.stmts_limits.ensures)

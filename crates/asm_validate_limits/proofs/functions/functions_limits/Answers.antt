@@ -9,7 +9,7 @@ function_limits-requires c =
     let k = functions_step (module_view c.args.environment.now.home.now) c.args.functions.now c.loop-before.before c.index-functions-before.result c.loop-before-test.true c.index-functions-before.is in
     let counted = c.loop-before.invariant.counted in
     let r = c.requires.room in
-    record { complete = c.requires.complete; room = omega arith }
+    record { complete = c.requires.complete; of = c.loop-before.invariant.of; room = omega arith }
 
 pub returns-in_err-function_limits : goal.returns-in_err-function_limits
 returns-in_err-function_limits c =
@@ -24,6 +24,7 @@ loop-before-preserved c =
     record {
       rest = λ u r h. c.loop-before.invariant.rest u r (next_function (module_view c.args.environment.now.home.now) c.args.functions.now c.loop-before.before c.index-functions-before.result c.loop-before-test.true c.index-functions-before.is c.loop-before.tally c.function_limits.new.tally c.in_ok-function_limits.ensures u r h);
       counted = omega arith;
+      of = c.in_ok-function_limits.ensures.of _ c.loop-before.invariant.of;
     }
 
 pub returns : goal.returns

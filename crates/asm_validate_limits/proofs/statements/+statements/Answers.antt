@@ -29,7 +29,7 @@ guarded_limits-stmt_limits-requires t c =
     let d0 = c.decreases in
     let n = c.in_ok-expr_limits.ensures.counted in
     let p = positive (expr_view c.args.condition.now) in
-    (omega arith, (c.requires.known, omega arith))
+    (omega arith, (c.requires.known, (c.in_ok-expr_limits.ensures.of _ c.requires.of, omega arith)))
 
 pub choice_limits-returns-in_err-expr_limits : goal.choice_limits-returns-in_err-expr_limits
 choice_limits-returns-in_err-expr_limits t c =
@@ -45,7 +45,7 @@ choice_limits-pair_limits-requires t c =
     let r = c.requires.room in
     let d0 = c.decreases in
     let n = c.in_ok-expr_limits.ensures.counted in
-    (omega arith, (c.requires.known, omega arith))
+    (omega arith, (c.requires.known, (c.in_ok-expr_limits.ensures.of _ c.requires.of, omega arith)))
 
 pub pair_limits-returns-in_err-stmt_limits : goal.pair_limits-returns-in_err-stmt_limits
 pair_limits-returns-in_err-stmt_limits t c =
@@ -61,7 +61,7 @@ pair_limits-stmt_limits-requires-2 t c =
     let r = c.requires.room in
     let d0 = c.decreases in
     let n = c.in_ok-stmt_limits.ensures.counted in
-    (omega arith, (c.requires.known, omega arith))
+    (omega arith, (c.requires.known, (c.in_ok-stmt_limits.ensures.of _ c.requires.of, omega arith)))
 
 pub until_limits-returns-in_err-stmt_limits : goal.until_limits-returns-in_err-stmt_limits
 until_limits-returns-in_err-stmt_limits t c =
@@ -86,7 +86,7 @@ for_limits-turn_limits-requires t c =
     let r = c.requires.room in
     let d0 = c.decreases in
     let n = c.in_ok-option_limits.ensures.counted in
-    (omega arith, (c.requires.known, omega arith))
+    (omega arith, (c.requires.known, (c.in_ok-option_limits.ensures.of _ c.requires.of, omega arith)))
 
 pub turn_limits-returns-in_err-option_limits : goal.turn_limits-returns-in_err-option_limits
 turn_limits-returns-in_err-option_limits t c =
@@ -102,7 +102,7 @@ turn_limits-stepped_limits-requires t c =
     let r = c.requires.room in
     let d0 = c.decreases in
     let n = c.in_ok-option_limits.ensures.counted in
-    (omega arith, (c.requires.known, omega arith))
+    (omega arith, (c.requires.known, (c.in_ok-option_limits.ensures.of _ c.requires.of, omega arith)))
 
 pub stepped_limits-returns-in_err-option_limits : goal.stepped_limits-returns-in_err-option_limits
 stepped_limits-returns-in_err-option_limits t c =
@@ -118,7 +118,7 @@ stepped_limits-stmt_limits-requires t c =
     let r = c.requires.room in
     let d0 = c.decreases in
     let n = c.in_ok-option_limits.ensures.counted in
-    (omega arith, (c.requires.known, omega arith))
+    (omega arith, (c.requires.known, (c.in_ok-option_limits.ensures.of _ c.requires.of, omega arith)))
 
 pub switch_limits-returns-in_err-expr_limits : goal.switch_limits-returns-in_err-expr_limits
 switch_limits-returns-in_err-expr_limits t c =
@@ -143,7 +143,7 @@ switch_limits-clauses_limits-requires t c =
     let d0 = c.decreases in
     let n = c.in_ok-expr_limits.ensures.counted in
     let p = positive (expr_view c.args.subject.now) in
-    (omega arith, (c.requires.known, omega arith))
+    (omega arith, (c.requires.known, (c.in_ok-expr_limits.ensures.of _ c.requires.of, omega arith)))
 
 pub stmt_limits-overflow_add-tally : goal.stmt_limits-overflow_add-tally
 stmt_limits-overflow_add-tally t c =
@@ -156,7 +156,7 @@ stmt_limits-stmts_limits-requires t c =
     let r = c.requires.room in
     let d0 = c.decreases in
     let k = ap stmt_count (block_is c.args.stmt.now _ _ c.in-Block.is c.as_slice.ensures) in
-    (omega arith, (c.requires.known, omega arith))
+    (omega arith, (c.requires.known, (c.requires.of, omega arith)))
 
 pub stmt_limits-returns-in-Block : goal.stmt_limits-returns-in-Block
 stmt_limits-returns-in-Block t c =
@@ -171,7 +171,7 @@ stmt_limits-guarded_limits-requires-in-While t c =
     let r = c.requires.room in
     let d0 = c.decreases in
     let k = ap stmt_count (while_is c.args.stmt.now _ _ _ c.in-While.is c.deref-in-While.ensures) in
-    (omega arith, (c.requires.known, omega arith))
+    (omega arith, (c.requires.known, (c.requires.of, omega arith)))
 
 pub stmt_limits-returns-in-While : goal.stmt_limits-returns-in-While
 stmt_limits-returns-in-While t c =
@@ -182,7 +182,7 @@ stmt_limits-until_limits-requires t c =
     let r = c.requires.room in
     let d0 = c.decreases in
     let k = ap stmt_count (do_is c.args.stmt.now _ _ _ c.in-DoWhile.is c.deref-in-DoWhile.ensures) in
-    (omega arith, (c.requires.known, omega arith))
+    (omega arith, (c.requires.known, (c.requires.of, omega arith)))
 
 pub stmt_limits-returns-in-DoWhile : goal.stmt_limits-returns-in-DoWhile
 stmt_limits-returns-in-DoWhile t c =
@@ -193,7 +193,7 @@ stmt_limits-for_limits-requires t c =
     let r = c.requires.room in
     let d0 = c.decreases in
     let k = ap stmt_count (for_is c.args.stmt.now _ _ _ _ c.in-For.is c.deref-head.ensures c.deref-in-For.ensures) in
-    (omega arith, (c.requires.known, omega arith))
+    (omega arith, (c.requires.known, (c.requires.of, omega arith)))
 
 pub stmt_limits-returns-in-For : goal.stmt_limits-returns-in-For
 stmt_limits-returns-in-For t c =
@@ -208,7 +208,7 @@ stmt_limits-stmt_limits-requires t c =
     let r = c.requires.room in
     let d0 = c.decreases in
     let k = ap stmt_count (labelled_is c.args.stmt.now _ _ _ c.in-Labelled.is c.deref-in-Labelled.ensures) in
-    (omega arith, (c.requires.known, omega arith))
+    (omega arith, (c.requires.known, (c.requires.of, omega arith)))
 
 pub stmt_limits-returns-in-Labelled : goal.stmt_limits-returns-in-Labelled
 stmt_limits-returns-in-Labelled t c =
@@ -219,7 +219,7 @@ stmt_limits-switch_limits-requires t c =
     let r = c.requires.room in
     let d0 = c.decreases in
     let k = ap stmt_count (switch_is c.args.stmt.now _ _ _ c.in-Switch.is c.as_slice-in-Switch.ensures) in
-    (omega arith, (c.requires.known, omega arith))
+    (omega arith, (c.requires.known, (c.requires.of, omega arith)))
 
 pub stmt_limits-returns-in-Switch : goal.stmt_limits-returns-in-Switch
 stmt_limits-returns-in-Switch t c =
@@ -232,7 +232,7 @@ stmts_limits-stmt_limits-requires t c =
     let k = body_left c.args.stmts.now c.loop-stmt.stmt-index c.stmt-item.result c.loop-stmt-test.true c.stmt-item.is in
     let left = c.loop-stmt.invariant.left in
     let counted = c.loop-stmt.invariant.counted in
-    (omega arith, (c.requires.known, omega arith))
+    (omega arith, (c.requires.known, (c.loop-stmt.invariant.of, omega arith)))
 
 pub stmts_limits-returns-in_err-stmt_limits : goal.stmts_limits-returns-in_err-stmt_limits
 stmts_limits-returns-in_err-stmt_limits t c =
@@ -248,6 +248,7 @@ stmts_limits-loop-stmt-preserved t c =
       rest = λ u r h. c.loop-stmt.invariant.rest u r (next_stmt (scope_view c.args.scope.now) c.loop-stmt.tally c.args.stmts.now c.loop-stmt.stmt-index c.stmt-item.result c.stmt_limits.new.tally c.loop-stmt-test.true c.stmt-item.is c.in_ok-stmt_limits.ensures u r h);
       left = omega arith;
       counted = omega arith;
+      of = c.in_ok-stmt_limits.ensures.of _ c.loop-stmt.invariant.of;
     }
 
 pub stmts_limits-returns : goal.stmts_limits-returns
@@ -262,7 +263,7 @@ clauses_limits-stmts_limits-requires t c =
     let left = c.loop-clause.invariant.left in
     let counted = c.loop-clause.invariant.counted in
     let b = ap (λ (x : List Stmt). stmts_count (stmts_view x)) c.as_slice.ensures in
-    (omega arith, (c.requires.known, omega arith))
+    (omega arith, (c.requires.known, (c.loop-clause.invariant.of, omega arith)))
 
 pub clauses_limits-returns-in_err-stmts_limits : goal.clauses_limits-returns-in_err-stmts_limits
 clauses_limits-returns-in_err-stmts_limits t c =
@@ -279,6 +280,7 @@ clauses_limits-loop-clause-preserved t c =
       rest = λ u r h. c.loop-clause.invariant.rest u r (next_clause (scope_view c.args.scope.now) c.loop-clause.tally c.args.clauses.now c.loop-clause.clause-index c.clause-item.result c.as_slice.result.now c.stmts_limits.new.tally c.loop-clause-test.true c.clause-item.is c.as_slice.ensures c.in_ok-stmts_limits.ensures u r h);
       left = omega arith;
       counted = omega arith;
+      of = c.in_ok-stmts_limits.ensures.of _ c.loop-clause.invariant.of;
     }
 
 pub clauses_limits-returns : goal.clauses_limits-returns
@@ -302,14 +304,14 @@ stmt_limits-guarded_limits-requires t c =
     let r = c.requires.room in
     let d0 = c.decreases in
     let k = ap stmt_count (if_only_is c.args.stmt.now _ _ _ _ c.in-If.is c.in-None.is c.deref.ensures) in
-    (omega arith, (c.requires.known, omega arith))
+    (omega arith, (c.requires.known, (c.requires.of, omega arith)))
 
 pub stmt_limits-choice_limits-requires : goal.stmt_limits-choice_limits-requires
 stmt_limits-choice_limits-requires t c =
     let r = c.requires.room in
     let d0 = c.decreases in
     let k = ap stmt_count (if_else_is c.args.stmt.now _ _ _ _ _ _ c.in-If.is c.in-Some.is c.deref-in-Some.ensures c.deref-in-Some-2.ensures) in
-    (omega arith, (c.requires.known, omega arith))
+    (omega arith, (c.requires.known, (c.requires.of, omega arith)))
 
 pub stmt_limits-returns-in-None : goal.stmt_limits-returns-in-None
 stmt_limits-returns-in-None t c =

@@ -2,6 +2,7 @@ use Rattle.std.proofs.Common.{◌≡◌, ◌+◌, ◌*◌, ◌≤◌, drop}
 use Rattle.asm_tree.specs.Views.{expr_view, expr_option, stmt_view, stmts_view, clauses_view}
 use Rattle.asm_lang_valid.specs.Rows.{expr_count, option_count, stmt_count, stmts_count, clauses_count}
 use Rattle.asm_names.specs.Scopes.{scope_view}
+use Rattle.asm_validate_limits.specs.Passes.{IsOf}
 use Rattle.asm_validate_limits.proofs.Lists.{Completes}
 use Rattle.asm_validate_limits.proofs.Stmts.{body_marks, body_count, switch_marks, switch_count}
 use Rattle.asm_validate_limits.proofs.statements.+statements.Given as goal
@@ -11,6 +12,7 @@ invariant-stmts_limits-loop-stmt l = record {
   rest : Completes (body_marks (scope_view l.scope) l.stmts l.initial.tally.at) (body_count l.stmts) l.initial.tally (body_marks (scope_view l.scope) (drop l.stmt-index l.stmts) l.tally.at) (body_count (drop l.stmt-index l.stmts)) l.tally;
   left : body_count (drop l.stmt-index l.stmts) ≤ body_count l.stmts;
   counted : l.tally.at + body_count (drop l.stmt-index l.stmts) ≡ l.initial.tally.at + body_count l.stmts;
+  of : IsOf (scope_view l.scope).home l.tally;
 }
 
 abbrev pub invariant-clauses_limits-loop-clause : goal.invariant-clauses_limits-loop-clause
@@ -18,6 +20,7 @@ invariant-clauses_limits-loop-clause l = record {
   rest : Completes (switch_marks (scope_view l.scope) l.clauses l.initial.tally.at) (switch_count l.clauses) l.initial.tally (switch_marks (scope_view l.scope) (drop l.clause-index l.clauses) l.tally.at) (switch_count (drop l.clause-index l.clauses)) l.tally;
   left : switch_count (drop l.clause-index l.clauses) ≤ switch_count l.clauses;
   counted : l.tally.at + switch_count (drop l.clause-index l.clauses) ≡ l.initial.tally.at + switch_count l.clauses;
+  of : IsOf (scope_view l.scope).home l.tally;
 }
 
 abbrev pub decreases-stmt_limits : goal.decreases-stmt_limits

@@ -7,4 +7,4 @@ use Rattle.asm2wasm_numbers.proofs.module.ModuleNumbers.named_signature.Goals as
 pub returns : goal.returns
 returns c =
     c.function_signature.ensures
-    ∙ ap function_signature (c.meaning.ensures ∙ ap (λ (t : Tree). module_meaning (module_view t) c.as_bytes.result.now) (c.self.invariant.home_is ∙ c.self.view_is) ∙ ap (module_meaning (module_view c.args.self.now)) c.as_bytes.ensures)
+    ∙ ap function_signature (c.meaning.ensures.known ∙ ap (λ (t : Tree). module_meaning (module_view t) c.as_bytes.result.now) (c.self.invariant.home_is ∙ c.self.view_is) ∙ ap (module_meaning (module_view c.args.self.now)) c.as_bytes.ensures)
