@@ -5,7 +5,6 @@ use Rattle.std.proofs.lemmas.Bool.{eqb-true, eq-eqb}
 use Rattle.std.specs.Cmp.{both_ways}
 use Rattle.std.proofs.lemmas.Slice.Eq.{bytes_eq-Decides}
 use Rattle.std.specs.Prelude.{if◌then◌else◌, ◌==◌}
-use Rattle.std.specs.Borrow.{Bor}
 use Rattle.std.specs.Map.{lookup}
 use Rattle.std.specs.Option.{unwrap_or}
 use Rattle.std.specs.Str.{bytes_eq}
@@ -21,8 +20,8 @@ pub found_put : (b : Bool) (v o : ℕ) (p x : Option ℕ) → x ≡ cond b (Some
 found_put true v o p x e = ap (λ x. unwrap_or x o) e
 found_put false v o p x e = ap (λ x. unwrap_or x o) e
 
-pub none_found : (es : List (Bor (List ℕ) × ℕ)) (n : List ℕ) (o : ℕ) → es ≡ [] → unwrap_or (lookup (λ k. bytes_eq n k.now) es) o ≡ o
-none_found es n o h = ap (λ es. unwrap_or (lookup (λ k. bytes_eq n k.now) es) o) h
+pub none_found : (es : List (List ℕ × ℕ)) (n : List ℕ) (o : ℕ) → es ≡ [] → unwrap_or (lookup (bytes_eq n) es) o ≡ o
+none_found es n o h = ap (λ es. unwrap_or (lookup (bytes_eq n) es) o) h
 
 either : (b : Bool) (i r : ℕ) → (if b then i else (i + 1 + r)) ≡ i + (if b then 0 else suc r)
 either true i r = omega arith

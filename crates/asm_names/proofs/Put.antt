@@ -3,7 +3,6 @@ use Rattle.std.proofs.Common.{◌≡◌, ℕ, ◌+◌, ◌<◌, Bool, true, fals
 use Rattle.std.proofs.lemmas.List.{at_drop_more}
 use Rattle.std.specs.Prelude.{if◌then◌else◌}
 use Rattle.std.specs.Str.{bytes_eq}
-use Rattle.std.specs.Borrow.{Bor}
 use Rattle.std.specs.Map.{lookup}
 use Rattle.asm_lang.specs.Modules.{Module, Table as PlainTable}
 use Rattle.asm_tree.specs.declared.tree.Global_.{Global_}
@@ -71,8 +70,8 @@ all_known m n a e h k =
     ∙ ap (λ t. if is_in n m.params then a_parameter else among_globals m m.globals n (among_functions m.functions n t)) (over_nothing m.tables n)
 
 -- nothing is found in an empty map
-pub none_found : (es : List (Bor (List ℕ) × CodeMeaning)) (n : List ℕ) → es ≡ [] → meaning_view (lookup (λ k. bytes_eq n k.now) es) ≡ nothing
-none_found es n h = ap (λ es. meaning_view (lookup (λ k. bytes_eq n k.now) es)) h
+pub none_found : (es : List (List ℕ × CodeMeaning)) (n : List ℕ) → es ≡ [] → meaning_view (lookup (bytes_eq n) es) ≡ nothing
+none_found es n h = ap (λ es. meaning_view (lookup (bytes_eq n) es)) h
 
-pub none_numbered : (m : Module) (es : List (Bor (List ℕ) × CodeMeaning)) (n : List ℕ) → es ≡ [] → IsNumbered m (lookup (λ k. bytes_eq n k.now) es)
-none_numbered m es n h = subst (λ es. IsNumbered m (lookup (λ k. bytes_eq n k.now) es)) (sym h) tt
+pub none_numbered : (m : Module) (es : List (List ℕ × CodeMeaning)) (n : List ℕ) → es ≡ [] → IsNumbered m (lookup (bytes_eq n) es)
+none_numbered m es n h = subst (λ es. IsNumbered m (lookup (bytes_eq n) es)) (sym h) tt

@@ -1,6 +1,5 @@
 -- What the code says of a name, as a meaning.
 use Rattle.std.specs.Prelude.{ℕ, List, [], ◌∷◌, Option, Some, None, if◌then◌else◌}
-use Rattle.std.specs.Borrow.{Bor}
 use Rattle.std.specs.Str.{bytes_eq}
 use Rattle.indexmap.specs.IndexMap.{IndexMap, get_by}
 use Rattle.asm_lang.specs.Modules as tables
@@ -23,8 +22,8 @@ meaning_view (Some (Table t)) = scopes.a_table (table_view t.now)
 meaning_view (Some Parameter) = scopes.a_parameter
 
 -- what a map has under a name
-abbrev pub seen : {S : Type 0} → IndexMap (Bor (List ℕ)) Meaning S → List ℕ → scopes.Meaning
-seen m n = meaning_view (get_by (λ k. bytes_eq n k.now) m)
+abbrev pub seen : {S : Type 0} → IndexMap (List ℕ) Meaning S → List ℕ → scopes.Meaning
+seen m n = meaning_view (get_by (bytes_eq n) m)
 
 -- the tables' names before others
 abbrev pub tables_over : List tables.Table → List ℕ → scopes.Meaning → scopes.Meaning

@@ -1,6 +1,5 @@
 -- The members of the foreign object that a module imports, and their numbers.
 use Rattle.std.specs.Prelude.{◌≡◌, ℕ, zero, suc, List, [], ◌∷◌, Option, Some, None, if◌then◌else◌}
-use Rattle.std.specs.Borrow.{Bor}
 use Rattle.std.specs.Option.{unwrap_or}
 use Rattle.std.specs.Str.{bytes_eq}
 use Rattle.indexmap.specs.IndexMap.{IndexMap, get_by}
@@ -52,9 +51,9 @@ IsNumbered m (Some (Table t)) = Unit {0}
 IsNumbered m (Some Parameter) = Unit {0}
 
 -- so is what a map has under each name
-abbrev pub EachIsNumbered : {S : Type 0} → Module → IndexMap (Bor (List ℕ)) Meaning S → Type 0
-EachIsNumbered m names = (n : List ℕ) → IsNumbered m (get_by (λ k. bytes_eq n k.now) names)
+abbrev pub EachIsNumbered : {S : Type 0} → Module → IndexMap (List ℕ) Meaning S → Type 0
+EachIsNumbered m names = (n : List ℕ) → IsNumbered m (get_by (bytes_eq n) names)
 
 -- the number that a map has for a member
-abbrev pub number_in : {S : Type 0} → IndexMap (Bor (List ℕ)) ℕ S → List ℕ → ℕ → ℕ
-number_in numbers n otherwise = unwrap_or (get_by (λ k. bytes_eq n k.now) numbers) otherwise
+abbrev pub number_in : {S : Type 0} → IndexMap (List ℕ) ℕ S → List ℕ → ℕ → ℕ
+number_in numbers n otherwise = unwrap_or (get_by (bytes_eq n) numbers) otherwise

@@ -14,14 +14,15 @@ use crate::meaning::Meaning;
 use asm_tree::{Function, Global_, Module, Table};
 use indexmap::IndexMap;
 use key_hashes::KeyHashes;
+use name_keys::NameKey;
 use sem_words::Text;
 use std::alloc::AllocError;
 
 /// The names of a module.
 pub fn put_all<'a>(
-    names: &mut IndexMap<&'a [u8], Meaning<'a>, KeyHashes>,
+    names: &mut IndexMap<NameKey<'a>, Meaning<'a>, KeyHashes>,
     home: &'a Module,
-    imports: &IndexMap<&'a [u8], usize, KeyHashes>,
+    imports: &IndexMap<NameKey<'a>, usize, KeyHashes>,
 ) -> Result<(), AllocError>
     requires { (n : List ℕ) → number_in imports.now n (length (module_view home.now).globals) ≡ first_import (module_view home.now).globals n }
     ensures known { IfOk result (λ _. (n : List ℕ) → seen names.new n ≡ declared_over (module_view home.now) n (seen names.old n)) }
@@ -35,7 +36,7 @@ pub fn put_all<'a>(
 }
 
 fn put_tables<'a>(
-    names: &mut IndexMap<&'a [u8], Meaning<'a>, KeyHashes>,
+    names: &mut IndexMap<NameKey<'a>, Meaning<'a>, KeyHashes>,
     tables: &'a [Table],
 ) -> Result<(), AllocError>
     ensures known { IfOk result (λ _. (n : List ℕ) → seen names.new n ≡ tables_over (map table_view tables.now) n (seen names.old n)) }
@@ -51,7 +52,7 @@ fn put_tables<'a>(
 }
 
 fn put_functions<'a>(
-    names: &mut IndexMap<&'a [u8], Meaning<'a>, KeyHashes>,
+    names: &mut IndexMap<NameKey<'a>, Meaning<'a>, KeyHashes>,
     functions: &'a [Function],
 ) -> Result<(), AllocError>
     ensures known { IfOk result (λ _. (n : List ℕ) → seen names.new n ≡ among_functions (map function_view functions.now) n (seen names.old n)) }
@@ -67,9 +68,9 @@ fn put_functions<'a>(
 }
 
 fn put_globals<'a>(
-    names: &mut IndexMap<&'a [u8], Meaning<'a>, KeyHashes>,
+    names: &mut IndexMap<NameKey<'a>, Meaning<'a>, KeyHashes>,
     home: &'a Module,
-    imports: &IndexMap<&'a [u8], usize, KeyHashes>,
+    imports: &IndexMap<NameKey<'a>, usize, KeyHashes>,
     globals: &'a [Global_],
 ) -> Result<(), AllocError>
     requires imports { (n : List ℕ) → number_in imports.now n (length (module_view home.now).globals) ≡ first_import (module_view home.now).globals n }
@@ -88,7 +89,7 @@ fn put_globals<'a>(
 }
 
 fn put_params<'a>(
-    names: &mut IndexMap<&'a [u8], Meaning<'a>, KeyHashes>,
+    names: &mut IndexMap<NameKey<'a>, Meaning<'a>, KeyHashes>,
     params: &'a [Text],
 ) -> Result<(), AllocError>
     ensures known { IfOk result (λ _. (n : List ℕ) → seen names.new n ≡ (if is_in n (texts_view params.now) then a_parameter else seen names.old n)) }
@@ -103,13 +104,13 @@ fn put_params<'a>(
 }
 
 fn put<'a>(
-    names: &mut IndexMap<&'a [u8], Meaning<'a>, KeyHashes>,
+    names: &mut IndexMap<NameKey<'a>, Meaning<'a>, KeyHashes>,
     name: &'a Text,
     meaning: Meaning<'a>,
 ) -> Result<(), AllocError>
     ensures known { IfOk result (λ _. (n : List ℕ) → seen names.new n ≡ (if bytes_eq (text_bytes name.now) n then meaning_view (Some meaning.entry) else seen names.old n)) }
     ensures numbered { IfOk result (λ _. (m : plain.Module) → EachIsNumbered m names.old → IsNumbered m (Some meaning.entry) → EachIsNumbered m names.new) }
 {
-    names.insert(name.as_bytes(), meaning)?;
+    names.insert(NameKey::of(name.as_bytes()), meaning)?;
     Ok(())
 }

@@ -16,6 +16,7 @@ use crate::meaning::Meaning;
 use asm_tree::Module;
 use indexmap::IndexMap;
 use key_hashes::KeyHashes;
+use name_keys::NameKey;
 use std::alloc::{AllocError, Global};
 
 /// The names of a module with their meanings. Of declarations with one name the first counts.
@@ -23,7 +24,7 @@ use std::alloc::{AllocError, Global};
 pub struct Environment<'a> {
     home: &'a Module,
     hashes: KeyHashes,
-    names: IndexMap<&'a [u8], Meaning<'a>, KeyHashes>,
+    names: IndexMap<NameKey<'a>, Meaning<'a>, KeyHashes>,
 }
 
 impl<'a> Environment<'a> {
@@ -65,7 +66,7 @@ impl<'a> Environment<'a> {
         ensures known { meaning_view result ≡ module_meaning (module_view self.now.home.now) name.now }
         ensures numbered { IsNumbered (module_view self.now.home.now) result }
     {
-        match self.names.get(name) {
+        match self.names.get(&NameKey::of(name)) {
             Some(meaning) => Some(*meaning),
             None => None,
         }

@@ -9,6 +9,7 @@ ghost use Rattle.asm_names.specs.Members.{first_import, member_name, number_in};
 use asm_tree::{Global_, Init, Module};
 use indexmap::IndexMap;
 use key_hashes::KeyHashes;
+use name_keys::NameKey;
 use std::alloc::{AllocError, Global};
 
 /// For each member that the module imports, the number of the first declaration that imports one of its name.
@@ -16,7 +17,7 @@ pub fn imports_of<'a>(
     alloc: Global,
     home: &'a Module,
     hashes: KeyHashes,
-) -> Result<IndexMap<&'a [u8], usize, KeyHashes>, AllocError>
+) -> Result<IndexMap<NameKey<'a>, usize, KeyHashes>, AllocError>
     ensures { IfOk result (λ imports. (n : List ℕ) → number_in imports n (length (module_view home.now).globals) ≡ first_import (module_view home.now).globals n) }
 {
     let mut imports = IndexMap::with_hasher(alloc, hashes);
@@ -25,7 +26,7 @@ pub fn imports_of<'a>(
 }
 
 fn put_imports<'a>(
-    imports: &mut IndexMap<&'a [u8], usize, KeyHashes>,
+    imports: &mut IndexMap<NameKey<'a>, usize, KeyHashes>,
     globals: &'a [Global_],
 ) -> Result<(), AllocError>
     ensures { IfOk result (λ _. (n : List ℕ) → number_in imports.old n (length globals.now) ≡ length globals.now → number_in imports.new n (length globals.now) ≡ first_import (map global_view globals.now) n) }
@@ -40,7 +41,7 @@ fn put_imports<'a>(
 }
 
 fn put_import<'a>(
-    imports: &mut IndexMap<&'a [u8], usize, KeyHashes>,
+    imports: &mut IndexMap<NameKey<'a>, usize, KeyHashes>,
     init: &'a Init,
     number: usize,
 ) -> Result<(), AllocError>
@@ -48,7 +49,7 @@ fn put_import<'a>(
 {
     match init {
         Init::Member(_, field) => {
-            imports.insert(field.as_bytes(), number)?;
+            imports.insert(NameKey::of(field.as_bytes()), number)?;
             Ok(())
         }
         Init::Number(_)

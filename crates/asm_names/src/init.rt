@@ -16,12 +16,13 @@ use asm_lang_valid::{Builtin, Element};
 use asm_tree::{Init, Module};
 use indexmap::IndexMap;
 use key_hashes::KeyHashes;
+use name_keys::NameKey;
 use sem_words::Text;
 
 /// What a global variable with this declaration means.
 pub fn init_meaning<'a>(
     module: &Module,
-    imports: &IndexMap<&'a [u8], usize, KeyHashes>,
+    imports: &IndexMap<NameKey<'a>, usize, KeyHashes>,
     init: &'a Init,
 ) -> Meaning<'a>
     requires { (n : List ℕ) → number_in imports.now n (length (module_view «module».now).globals) ≡ first_import (module_view «module».now).globals n }
@@ -39,7 +40,7 @@ pub fn init_meaning<'a>(
 
 fn member_meaning<'a>(
     module: &Module,
-    imports: &IndexMap<&'a [u8], usize, KeyHashes>,
+    imports: &IndexMap<NameKey<'a>, usize, KeyHashes>,
     object: &Text,
     field: &'a Text,
 ) -> Meaning<'a>
@@ -57,14 +58,14 @@ fn member_meaning<'a>(
 // The member of this name with its number.
 fn foreign_member<'a>(
     module: &Module,
-    imports: &IndexMap<&'a [u8], usize, KeyHashes>,
+    imports: &IndexMap<NameKey<'a>, usize, KeyHashes>,
     field: &'a Text,
 ) -> Member<'a>
     requires { (n : List ℕ) → number_in imports.now n (length (module_view «module».now).globals) ≡ first_import (module_view «module».now).globals n }
     ensures named { result.name.now ≡ field.now }
     ensures first { result.declaration ≡ first_import (module_view «module».now).globals (text_bytes field.now) }
 {
-    let declaration = match imports.get(field.as_bytes()) {
+    let declaration = match imports.get(&NameKey::of(field.as_bytes())) {
         Some(number) => *number,
         None => module.globals.len(),
     };

@@ -11,8 +11,8 @@ abbrev pub names_in : List (Bor (List ℕ)) → List (List ℕ)
 names_in bs = map (λ (b : Bor (List ℕ)). b.now) bs
 
 -- what a map has under a name
-abbrev pub found : {S : Type 0} → IndexMap (Bor (List ℕ)) ℕ S → List ℕ → Option ℕ
-found slots n = get_by (λ k. bytes_eq n k.now) slots
+abbrev pub found : {S : Type 0} → IndexMap (List ℕ) ℕ S → List ℕ → Option ℕ
+found slots n = get_by (bytes_eq n) slots
 
 abbrev pub or_else : Option ℕ → ℕ → ℕ
 or_else None otherwise = otherwise

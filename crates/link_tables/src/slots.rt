@@ -6,6 +6,7 @@ ghost use Rattle.link_tables.specs.Names.{names_in, found, slot_or_length};
 
 use indexmap::IndexMap;
 use key_hashes::{KeyHashes, hashes_of};
+use name_keys::NameKey;
 use std::alloc::{AllocError, Global};
 use std::marker::Model;
 
@@ -13,7 +14,7 @@ use std::marker::Model;
 #[derive(Drop)]
 pub struct Slots<'a> {
     names: Vec<&'a [u8]>,
-    slots: IndexMap<&'a [u8], usize, KeyHashes>,
+    slots: IndexMap<NameKey<'a>, usize, KeyHashes>,
 }
 
 impl<'a> Model for Slots<'a> {
@@ -42,7 +43,7 @@ impl<'a> Slots<'a> {
         ensures place { result ≡ slot_of self.now name.now }
         ensures small { IfSome result (λ i. i < 2 ^ 63) }
     {
-        match self.slots.get(name) {
+        match self.slots.get(&NameKey::of(name)) {
             Some(slot) => Some(*slot),
             None => None,
         }
@@ -53,7 +54,7 @@ impl<'a> Slots<'a> {
         ensures place { result ≡ slot_or_length self.now name.now }
         ensures small { result < 2 ^ 63 }
     {
-        match self.slots.get(name) {
+        match self.slots.get(&NameKey::of(name)) {
             Some(slot) => *slot,
             None => self.names.len(),
         }
@@ -64,7 +65,7 @@ impl<'a> Slots<'a> {
 fn slots_of<'a>(
     alloc: Global,
     names: &[&'a [u8]],
-) -> Result<IndexMap<&'a [u8], usize, KeyHashes>, AllocError>
+) -> Result<IndexMap<NameKey<'a>, usize, KeyHashes>, AllocError>
     ensures { IfOk result (λ slots. (n : List ℕ) → found slots n ≡ slot_of (names_in names.now) n) }
 {
     let mut slots = IndexMap::with_capacity_and_hasher(alloc, names.len(), hashes_of(names))?;
@@ -77,12 +78,12 @@ fn slots_of<'a>(
 }
 
 fn put<'a>(
-    slots: &mut IndexMap<&'a [u8], usize, KeyHashes>,
+    slots: &mut IndexMap<NameKey<'a>, usize, KeyHashes>,
     name: &'a [u8],
     slot: usize,
 ) -> Result<(), AllocError>
     ensures { IfOk result (λ _. (n : List ℕ) → found slots.new n ≡ (if bytes_eq name.now n then Some slot else found slots.old n)) }
 {
-    slots.insert(name, slot)?;
+    slots.insert(NameKey::of(name), slot)?;
     Ok(())
 }

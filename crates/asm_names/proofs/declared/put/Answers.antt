@@ -7,9 +7,9 @@ use Rattle.asm_names.proofs.declared.put.Goals as goal
 
 pub returns-clause-known : goal.returns-clause-known
 returns-clause-known c = λ n.
-    found_put (bytes_eq c.as_bytes.result.now n) c.args.meaning _ _ (c.in_ok-insert.ensures.updates.0 (record { ref_ptr = (0, 0); now = n }))
-    ∙ ap (λ k. if bytes_eq k n then meaning_view (Some c.args.meaning) else seen c.args.names.now n) c.as_bytes.ensures
+    found_put (bytes_eq c.of.result n) c.args.meaning _ _ (c.in_ok-insert.ensures.updates.0 n)
+    ∙ ap (λ k. if bytes_eq k n then meaning_view (Some c.args.meaning) else seen c.args.names.now n) (c.of.ensures ∙ c.as_bytes.ensures)
 
 pub returns-clause-numbered : goal.returns-clause-numbered
 returns-clause-numbered c = λ m each this n.
-    numbered_put m (bytes_eq c.as_bytes.result.now n) c.args.meaning _ _ (c.in_ok-insert.ensures.updates.0 (record { ref_ptr = (0, 0); now = n })) this (each n)
+    numbered_put m (bytes_eq c.of.result n) c.args.meaning _ _ (c.in_ok-insert.ensures.updates.0 n) this (each n)

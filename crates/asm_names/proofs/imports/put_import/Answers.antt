@@ -9,6 +9,6 @@ use Rattle.asm_names.proofs.imports.put_import.Goals as goal
 
 pub returns-in_ok-insert-in-Member : goal.returns-in_ok-insert-in-Member
 returns-in_ok-insert-in-Member c = λ n o.
-    found_put (bytes_eq c.as_bytes.result.now n) c.args.number o _ _ (c.in_ok-insert-in-Member.ensures.updates.0 (record { ref_ptr = (0, 0); now = n }))
-    ∙ ap (λ k. if bytes_eq k n then c.args.number else number_in c.args.imports.now n o) c.as_bytes.ensures
+    found_put (bytes_eq c.of.result n) c.args.number o _ _ (c.in_ok-insert-in-Member.ensures.updates.0 n)
+    ∙ ap (λ k. if bytes_eq k n then c.args.number else number_in c.args.imports.now n o) (c.of.ensures ∙ c.as_bytes.ensures)
     ∙ ap (λ i. if is_name n (member_name (init_view i)) then c.args.number else number_in c.args.imports.now n o) (sym c.in-Member.is)

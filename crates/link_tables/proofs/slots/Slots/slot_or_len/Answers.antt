@@ -1,4 +1,5 @@
-use Rattle.std.proofs.Common.{sym, ◌∙◌, arith}
+use Rattle.std.proofs.Common.{sym, ap, ◌∙◌, arith}
+use Rattle.link_tables.specs.Names.{found}
 use Rattle.link_tables.proofs.Named.{small_place}
 use Rattle.link_tables.proofs.slots.Slots.slot_or_len.Goals as goal
 
@@ -8,4 +9,4 @@ returns-in-Some-clause-small c =
     let count = names.ok.0 in
     let fits = names.ok.1 in
     let room = names.small in
-    small_place names.items c.args.name.now c.in-Some.slot.now (omega arith) (sym (c.self.invariant c.args.name.now) ∙ sym c.in-Some.ensures.value)
+    small_place names.items c.args.name.now c.in-Some.slot.now (omega arith) (sym (c.self.invariant c.args.name.now) ∙ sym (ap (found c.self.inside.slots) c.of.ensures) ∙ sym c.in-Some.ensures.value)
