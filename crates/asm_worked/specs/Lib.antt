@@ -1,3 +1,4 @@
+pub mod Callees
 pub mod Members
 pub mod Forms
 pub mod Rows
