@@ -120,6 +120,7 @@ fn exports_of(checked: &Checked) -> &[ExportOf]
     ensures exports { map export_said result.now ≡ exported_from (module_view checked.now) (module_view checked.now).exports }
     ensures first { EachIsFirst (map export_said result.now) }
 {
+    // that the module is accepted, by which no two keys are equal, is what this call says
     checked.module();
     checked.exports()
 }
