@@ -70,7 +70,7 @@ impl Eq for NameKey<'_> {
     ghost laws = { on_equiv (λ k. k) nat_list_eq_equiv };
 }
 
-// The name is written whole, as long as it may be: sixteen bytes take one step, and by themselves as many as they are.
+// The name is written whole: sixteen bytes take one step, where the hash of a slice takes a step for each byte.
 impl Hash for NameKey<'_> {
     ghost hash_input = { λ k. k ∷ [] };
 
