@@ -39,6 +39,9 @@ function _put(p,v){p=p|0;v=v|0;HEAP32[p>>2]=Math_imul(v,3)|0;HEAP8[p+4>>0]=v;if(
 return {stackAlloc:stackAlloc,_put:_put};
 }"""
 
+# A member with a long name, called by two shapes.
+LONG = b'function m(s,o){"use asm";var e=o.' + b"n" * 300 + b";function f(x){x=x|0;e();e(x|0);}return f;}"
+
 # It exports `m`, the sum of two numbers of 64 bits.
 WIDE_SUM = b"\0asm\x01\0\0\0\x01\x07\x01`\x02~~\x01~\x03\x02\x01\0\x07\x05\x01\x01m\0\0\x0a\x09\x01\x07\0 \0 \x01|\x0b"
 
@@ -46,6 +49,7 @@ FILES = {
     "sum.js": SUM,
     "sum.txt": b"call f 2147483647 1\n",
     "usual.js": USUAL,
+    "long.js": LONG,
     "usual.txt": b"global STACKTOP 1000\ncall stackAlloc 5\ncall stackAlloc 0\ncall _put 16 -2\nreply 0\n",
     "wide.wasm": WIDE_SUM,
     "wide.txt": b"call m 4294967295 4294967295\n",
@@ -53,6 +57,7 @@ FILES = {
 
 COMMANDS = [
     *(f"{command} {name}.js" for command in ("check-asm", "show", "asm2wasm") for name in ("sum", "usual")),
+    "asm2wasm long.js",
     "run-asm sum.js sum.txt",
     "run-asm usual.js usual.txt",
     *(f"{command} wide.wasm" for command in ("check-wasm", "show", "wasm2js")),

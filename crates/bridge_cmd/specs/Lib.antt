@@ -2,6 +2,7 @@ pub mod Answers
 pub mod Asking
 pub mod Code
 pub mod Command
+pub mod Imported
 pub mod Job
 pub mod Outcome
 pub mod Reason

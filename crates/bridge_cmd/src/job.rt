@@ -14,6 +14,7 @@ use crate::playing::{FILE_LIMIT, script_run};
 use crate::refusal::{Refusal, of_gathering, of_words};
 use crate::words::{Action, Command, Wanted, asked};
 use bridge_io::{Files, gather};
+use shared_bytes::SharedBytes;
 use std::alloc::Global;
 
 /// What is done with a module's bytes, and with the script's file.
@@ -22,13 +23,13 @@ fn module_output<F: Files>(
     action: Action,
     bytes: &[u8],
     files: &mut F,
-) -> Result<Vec<u8>, Refusal>
+) -> Result<SharedBytes, Refusal>
     requires { length bytes.now ≤ file_limit }
     ensures told { F.told files.new ≡ F.told files.old }
     ensures faults { F.faults files.old ≤ F.faults files.new }
     ensures absences { F.absences files.old ≤ F.absences files.new }
     ensures given { F.given files.old ≤ F.given files.new }
-    ensures written { (file : List ℕ) → IfOk result (λ output. IsModuleJob (F.told files.old) (done_by action file) bytes.now (written output.items)) }
+    ensures written { (file : List ℕ) → IfOk result (λ output. IsModuleJob (F.told files.old) (done_by action file) bytes.now (written output)) }
     ensures refused { (file : List ℕ) → IfErr result (λ refusal. MayAnswer (IsModuleJob (F.told files.old) (done_by action file) bytes.now) (reason_of refusal)) }
     ensures read_fault { IfErr result (λ refusal. reason_of refusal ≡ read_fault → Rose (F.faults files.old) (F.faults files.new)) }
     ensures missing { IfErr result (λ refusal. (is_script : Bool) (file : List ℕ) → reason_of refusal ≡ missing is_script file → Rose (F.absences files.old) (F.absences files.new)) }
@@ -49,12 +50,12 @@ fn command_output<F: Files>(
     alloc: Global,
     command: Command,
     files: &mut F,
-) -> Result<Vec<u8>, Refusal>
+) -> Result<SharedBytes, Refusal>
     ensures told { F.told files.new ≡ F.told files.old }
     ensures faults { F.faults files.old ≤ F.faults files.new }
     ensures absences { F.absences files.old ≤ F.absences files.new }
     ensures given { F.given files.old ≤ F.given files.new }
-    ensures written { IfOk result (λ output. IsFileJob (F.told files.old) false (spec.file_of (asked_by command)) (IsModuleJob (F.told files.old) (asked_by command)) (written output.items)) }
+    ensures written { IfOk result (λ output. IsFileJob (F.told files.old) false (spec.file_of (asked_by command)) (IsModuleJob (F.told files.old) (asked_by command)) (written output)) }
     ensures refused { IfErr result (λ refusal. MayAnswer (IsFileJob (F.told files.old) false (spec.file_of (asked_by command)) (IsModuleJob (F.told files.old) (asked_by command))) (reason_of refusal)) }
     ensures read_fault { IfErr result (λ refusal. reason_of refusal ≡ read_fault → Rose (F.faults files.old) (F.faults files.new)) }
     ensures missing { IfErr result (λ refusal. (is_script : Bool) (file : List ℕ) → reason_of refusal ≡ missing is_script file → Rose (F.absences files.old) (F.absences files.new)) }
@@ -72,12 +73,12 @@ pub(crate) fn output_of<F: Files>(
     alloc: Global,
     words: &[String],
     files: &mut F,
-) -> Result<Vec<u8>, Refusal>
+) -> Result<SharedBytes, Refusal>
     ensures told { F.told files.new ≡ F.told files.old }
     ensures faults { F.faults files.old ≤ F.faults files.new }
     ensures absences { F.absences files.old ≤ F.absences files.new }
     ensures given { F.given files.old ≤ F.given files.new }
-    ensures written { IfOk result (λ output. IsJob (map string_bytes words.now) (F.told files.old) (written output.items)) }
+    ensures written { IfOk result (λ output. IsJob (map string_bytes words.now) (F.told files.old) (written output)) }
     ensures refused { IfErr result (λ refusal. MayAnswer (IsJob (map string_bytes words.now) (F.told files.old)) (reason_of refusal)) }
     ensures faulty_words { spec.asked (map string_bytes words.now) ≡ None → IfErr result (λ refusal. (reason_of refusal ≡ faulty_words) ⊎ (reason_of refusal ≡ out_of_memory)) }
     ensures read_fault { IfErr result (λ refusal. reason_of refusal ≡ read_fault → Rose (F.faults files.old) (F.faults files.new)) }
@@ -87,7 +88,7 @@ pub(crate) fn output_of<F: Files>(
     match asked(alloc, words) {
         Ok(Wanted::OnFiles(command)) => command_output(alloc, command, files),
         Ok(Wanted::Gen(count)) => match generated(alloc, count) {
-            Ok(output) => Ok(output),
+            Ok(output) => Ok(SharedBytes::from_vec(alloc, output)),
             Err(_) => Err(Refusal::OutOfMemory),
         },
         Err(fault) => Err(of_words(fault)),

@@ -3,6 +3,7 @@
 
 mod composed;
 mod generating;
+mod hashes;
 mod job;
 mod making;
 mod playing;

@@ -13,6 +13,7 @@ ghost use Rattle.bridge_cmd.specs.Job.{file_limit, IsMade};
 ghost use Rattle.bridge_cmd.specs.Answers.{IsAnswered};
 ghost use Rattle.bridge_cmd.specs.Refused.{reason_of};
 
+use crate::hashes::import_hashes;
 use crate::refusal::{Refusal, of_check, of_outside, of_text};
 use crate::words::Making;
 use asm_grammar_print::print;
@@ -22,16 +23,18 @@ use asm2wasm::translate;
 use bridge_words::HeapLength;
 use cmd_check_asm::check_text;
 use cmd_check_wasm::check_bytes;
+use shared_bytes::SharedBytes;
 use std::alloc::{AllocError, Global};
-use wasm_binary_write::{spelling_laws, write};
+use std::mem;
+use wasm_binary_write::{spelling_laws, write_shared};
 use wasm_listing::listing;
 use wasm_profile::profile;
 use wasm_validate::Valid;
 
 /// The bytes of a module of WebAssembly for an accepted module of asm.js with a heap of this length.
-fn translated(alloc: Global, text: &[u8], heap: HeapLength) -> Result<Vec<u8>, Refusal>
+fn translated(alloc: Global, text: &[u8], heap: HeapLength) -> Result<SharedBytes, Refusal>
     requires { length text.now ≤ file_limit }
-    ensures made { (file : List ℕ) → IfOk result (λ output. IsMade (spec.asm_to_wasm file heap.bytes) text.now output.items) }
+    ensures made { (file : List ℕ) → IfOk result (λ output. IsMade (spec.asm_to_wasm file heap.bytes) text.now output) }
     ensures barred { (file : List ℕ) → IfErr result (λ refusal. IsAnswered (spec.asm_to_wasm file heap.bytes) text.now (reason_of refusal)) }
 {
     asm2wasm_laws_writable::texts();
@@ -43,24 +46,27 @@ fn translated(alloc: Global, text: &[u8], heap: HeapLength) -> Result<Vec<u8>, R
         Err(fault) => return Err(of_text(fault)),
     };
     let _home = checked.module();
-    match written(alloc, &checked, heap) {
+    let output = written(alloc, &checked, heap);
+    // The command ends soon, and the system takes the memory back faster than piece by piece. So below.
+    mem::forget(checked);
+    match output {
         Ok(output) => Ok(output),
         Err(_) => Err(Refusal::OutOfMemory),
     }
 }
 
 // The shortest spelling of the translation.
-fn written(alloc: Global, checked: &Checked, heap: HeapLength) -> Result<Vec<u8>, AllocError>
+fn written(alloc: Global, checked: &Checked, heap: HeapLength) -> Result<SharedBytes, AllocError>
     requires { IsOfShortText (module_view checked.now) }
-    ensures { IfOk result (λ output. output.items ≡ spelling (translation (module_view checked.now) heap.bytes)) }
+    ensures { IfOk result (λ output. output ≡ spelling (translation (module_view checked.now) heap.bytes)) }
 {
     let translation = translate(alloc, checked, heap.bytes)?;
-    write(alloc, &translation)
+    write_shared(alloc, &translation, import_hashes(checked.module()))
 }
 
 /// The canonical text of asm.js for a module of WebAssembly that can be translated.
-fn translated_back(alloc: Global, bytes: &[u8]) -> Result<Vec<u8>, Refusal>
-    ensures made { (file : List ℕ) → IfOk result (λ output. IsMade (spec.wasm_to_asm file) bytes.now output.items) }
+fn translated_back(alloc: Global, bytes: &[u8]) -> Result<SharedBytes, Refusal>
+    ensures made { (file : List ℕ) → IfOk result (λ output. IsMade (spec.wasm_to_asm file) bytes.now output) }
     ensures barred { (file : List ℕ) → IfErr result (λ refusal. IsAnswered (spec.wasm_to_asm file) bytes.now (reason_of refusal)) }
 {
     wasm2js_laws_simulation::whole_laws::spelled();
@@ -75,8 +81,10 @@ fn translated_back(alloc: Global, bytes: &[u8]) -> Result<Vec<u8>, Refusal>
         Err(outside) => return Err(of_outside(outside)),
     }
     let _home = valid.module();
-    match text_of(alloc, &valid) {
-        Ok(output) => Ok(output),
+    let output = text_of(alloc, &valid);
+    mem::forget(valid);
+    match output {
+        Ok(output) => Ok(SharedBytes::from_vec(alloc, output)),
         Err(_) => Err(Refusal::OutOfMemory),
     }
 }
@@ -94,53 +102,57 @@ pub(crate) fn text_of(alloc: Global, valid: &Valid<'_>) -> Result<Vec<u8>, Alloc
 }
 
 /// The counts line of an accepted module of asm.js.
-fn text_counts(alloc: Global, text: &[u8]) -> Result<Vec<u8>, Refusal>
-    ensures made { (file : List ℕ) → IfOk result (λ output. IsMade (spec.check_asm file) text.now output.items) }
+fn text_counts(alloc: Global, text: &[u8]) -> Result<SharedBytes, Refusal>
+    ensures made { (file : List ℕ) → IfOk result (λ output. IsMade (spec.check_asm file) text.now output) }
     ensures barred { (file : List ℕ) → IfErr result (λ refusal. IsAnswered (spec.check_asm file) text.now (reason_of refusal)) }
 {
     match cmd_check_asm::counts(alloc, text) {
-        Ok(line) => Ok(line),
+        Ok(line) => Ok(SharedBytes::from_vec(alloc, line)),
         Err(fault) => Err(of_text(fault)),
     }
 }
 
 /// The counts line of a valid module of WebAssembly.
-fn bytes_counts(alloc: Global, bytes: &[u8]) -> Result<Vec<u8>, Refusal>
-    ensures made { (file : List ℕ) → IfOk result (λ output. IsMade (spec.check_wasm file) bytes.now output.items) }
+fn bytes_counts(alloc: Global, bytes: &[u8]) -> Result<SharedBytes, Refusal>
+    ensures made { (file : List ℕ) → IfOk result (λ output. IsMade (spec.check_wasm file) bytes.now output) }
     ensures barred { (file : List ℕ) → IfErr result (λ refusal. IsAnswered (spec.check_wasm file) bytes.now (reason_of refusal)) }
 {
     match cmd_check_wasm::counts(alloc, bytes) {
-        Ok(line) => Ok(line),
+        Ok(line) => Ok(SharedBytes::from_vec(alloc, line)),
         Err(fault) => Err(of_check(fault)),
     }
 }
 
 /// The canonical text of an accepted module of asm.js.
-fn printed(alloc: Global, text: &[u8]) -> Result<Vec<u8>, Refusal>
-    ensures made { (file : List ℕ) → spec.begins_with_zero text.now ≡ false → IfOk result (λ output. IsMade (spec.show file) text.now output.items) }
+fn printed(alloc: Global, text: &[u8]) -> Result<SharedBytes, Refusal>
+    ensures made { (file : List ℕ) → spec.begins_with_zero text.now ≡ false → IfOk result (λ output. IsMade (spec.show file) text.now output) }
     ensures barred { (file : List ℕ) → spec.begins_with_zero text.now ≡ false → IfErr result (λ refusal. IsAnswered (spec.show file) text.now (reason_of refusal)) }
 {
     let checked = match check_text(alloc, text) {
         Ok(checked) => checked,
         Err(fault) => return Err(of_text(fault)),
     };
-    match print(alloc, checked.module()) {
-        Ok(output) => Ok(output),
+    let output = print(alloc, checked.module());
+    mem::forget(checked);
+    match output {
+        Ok(output) => Ok(SharedBytes::from_vec(alloc, output)),
         Err(_) => Err(Refusal::OutOfMemory),
     }
 }
 
 /// The listing of a valid module of WebAssembly.
-fn listed(alloc: Global, bytes: &[u8]) -> Result<Vec<u8>, Refusal>
-    ensures made { (file : List ℕ) → spec.begins_with_zero bytes.now ≡ true → IfOk result (λ output. IsMade (spec.show file) bytes.now output.items) }
+fn listed(alloc: Global, bytes: &[u8]) -> Result<SharedBytes, Refusal>
+    ensures made { (file : List ℕ) → spec.begins_with_zero bytes.now ≡ true → IfOk result (λ output. IsMade (spec.show file) bytes.now output) }
     ensures barred { (file : List ℕ) → spec.begins_with_zero bytes.now ≡ true → IfErr result (λ refusal. IsAnswered (spec.show file) bytes.now (reason_of refusal)) }
 {
     let valid = match check_bytes(alloc, bytes) {
         Ok(valid) => valid,
         Err(fault) => return Err(of_check(fault)),
     };
-    match listing(alloc, valid.module()) {
-        Ok(output) => Ok(output),
+    let output = listing(alloc, valid.module());
+    mem::forget(valid);
+    match output {
+        Ok(output) => Ok(SharedBytes::from_vec(alloc, output)),
         Err(_) => Err(Refusal::OutOfMemory),
     }
 }
@@ -153,8 +165,8 @@ fn begins_with_zero(bytes: &[u8]) -> bool
 }
 
 /// What a module of either language is shown as.
-fn shown(alloc: Global, bytes: &[u8]) -> Result<Vec<u8>, Refusal>
-    ensures made { (file : List ℕ) → IfOk result (λ output. IsMade (spec.show file) bytes.now output.items) }
+fn shown(alloc: Global, bytes: &[u8]) -> Result<SharedBytes, Refusal>
+    ensures made { (file : List ℕ) → IfOk result (λ output. IsMade (spec.show file) bytes.now output) }
     ensures barred { (file : List ℕ) → IfErr result (λ refusal. IsAnswered (spec.show file) bytes.now (reason_of refusal)) }
 {
     if begins_with_zero(bytes) {
@@ -165,9 +177,9 @@ fn shown(alloc: Global, bytes: &[u8]) -> Result<Vec<u8>, Refusal>
 }
 
 /// What is made of a module's bytes.
-pub(crate) fn made(alloc: Global, making: Making, bytes: &[u8]) -> Result<Vec<u8>, Refusal>
+pub(crate) fn made(alloc: Global, making: Making, bytes: &[u8]) -> Result<SharedBytes, Refusal>
     requires { length bytes.now ≤ file_limit }
-    ensures made { (file : List ℕ) → IfOk result (λ output. IsMade (made_by making file) bytes.now output.items) }
+    ensures made { (file : List ℕ) → IfOk result (λ output. IsMade (made_by making file) bytes.now output) }
     ensures barred { (file : List ℕ) → IfErr result (λ refusal. IsAnswered (made_by making file) bytes.now (reason_of refusal)) }
 {
     match making {

@@ -12,7 +12,9 @@ use crate::refusal::{Refusal, of_gathering};
 use crate::runner::{played, runner_for};
 use crate::words::Running;
 use bridge_io::{Files, gather};
+use shared_bytes::SharedBytes;
 use std::alloc::Global;
+use std::mem;
 
 /// The largest file that is read, in bytes.
 pub(crate) const FILE_LIMIT: u64 = 16_777_216;
@@ -25,12 +27,12 @@ pub(crate) fn script_run<F: Files>(
     script: String,
     steps: u32,
     files: &mut F,
-) -> Result<Vec<u8>, Refusal>
+) -> Result<SharedBytes, Refusal>
     ensures told { F.told files.new ≡ F.told files.old }
     ensures faults { F.faults files.old ≤ F.faults files.new }
     ensures absences { F.absences files.old ≤ F.absences files.new }
     ensures given { F.given files.old ≤ F.given files.new }
-    ensures written { (file : List ℕ) → IfOk result (λ output. IsModuleJob (F.told files.old) (spec.run (run_as running) file (string_bytes script) steps) bytes.now (written output.items)) }
+    ensures written { (file : List ℕ) → IfOk result (λ output. IsModuleJob (F.told files.old) (spec.run (run_as running) file (string_bytes script) steps) bytes.now (written output)) }
     ensures refused { (file : List ℕ) → IfErr result (λ refusal. MayAnswer (IsModuleJob (F.told files.old) (spec.run (run_as running) file (string_bytes script) steps) bytes.now) (reason_of refusal)) }
     ensures read_fault { IfErr result (λ refusal. reason_of refusal ≡ read_fault → Rose (F.faults files.old) (F.faults files.new)) }
     ensures missing { IfErr result (λ refusal. (is_script : Bool) (file : List ℕ) → reason_of refusal ≡ missing is_script file → Rose (F.absences files.old) (F.absences files.new)) }
@@ -41,7 +43,12 @@ pub(crate) fn script_run<F: Files>(
         Err(refusal) => return Err(refusal),
     };
     match gather(alloc, files, script.as_str(), FILE_LIMIT) {
-        Ok(text) => played(alloc, &runner, text.as_slice(), steps),
+        Ok(text) => {
+            let output = played(alloc, &runner, text.as_slice(), steps);
+            // The command ends soon, and the system takes the memory back faster than piece by piece.
+            mem::forget(runner);
+            output
+        }
         Err(fault) => Err(of_gathering(fault, true, script)),
     }
 }

@@ -16,6 +16,7 @@ use asm_validate::Checked;
 use bridge_words::HeapLength;
 use cmd_check_asm::check_text;
 use cmd_run_wasm::runnable_module;
+use shared_bytes::SharedBytes;
 use std::alloc::Global;
 use wasm_validate::Valid;
 
@@ -53,12 +54,12 @@ fn text_played(
     heap: HeapLength,
     script: &[u8],
     steps: u32,
-) -> Result<Vec<u8>, Refusal>
-    ensures ran { IfOk result (λ output. IsPlayed (text_runner (module_view checked.now) heap.bytes) steps script.now (written output.items)) }
+) -> Result<SharedBytes, Refusal>
+    ensures ran { IfOk result (λ output. IsPlayed (text_runner (module_view checked.now) heap.bytes) steps script.now (written output)) }
     ensures refused { IfErr result (λ refusal. IsScriptAnswer (text_runner (module_view checked.now) heap.bytes) steps script.now (reason_of refusal)) }
 {
     match cmd_run_asm::run_script(alloc, checked, heap.bytes, script, steps) {
-        Ok(output) => Ok(output),
+        Ok(output) => Ok(SharedBytes::from_vec(alloc, output)),
         Err(fault) => Err(of_script(fault)),
     }
 }
@@ -68,13 +69,13 @@ fn binary_played(
     valid: &Valid<'_>,
     script: &[u8],
     steps: u32,
-) -> Result<Vec<u8>, Refusal>
+) -> Result<SharedBytes, Refusal>
     requires runs { not_runnable valid.now ≡ None }
-    ensures ran { IfOk result (λ output. IsPlayed (binary_runner valid.now) steps script.now (written output.items)) }
+    ensures ran { IfOk result (λ output. IsPlayed (binary_runner valid.now) steps script.now (written output)) }
     ensures refused { IfErr result (λ refusal. IsScriptAnswer (binary_runner valid.now) steps script.now (reason_of refusal)) }
 {
     match cmd_run_wasm::run_script(alloc, valid, script, steps) {
-        Ok(output) => Ok(output),
+        Ok(output) => Ok(SharedBytes::from_vec(alloc, output)),
         Err(fault) => Err(of_script(fault)),
     }
 }
@@ -85,9 +86,9 @@ pub(crate) fn played(
     runner: &Runner<'_>,
     script: &[u8],
     steps: u32,
-) -> Result<Vec<u8>, Refusal>
+) -> Result<SharedBytes, Refusal>
     requires { (bytes : List ℕ) × (running : spec.Running) × IsRunner bytes running (runner_of runner.now) }
-    ensures ran { IfOk result (λ output. IsPlayed (runner_of runner.now) steps script.now (written output.items)) }
+    ensures ran { IfOk result (λ output. IsPlayed (runner_of runner.now) steps script.now (written output)) }
     ensures refused { IfErr result (λ refusal. IsScriptAnswer (runner_of runner.now) steps script.now (reason_of refusal)) }
 {
     match runner {

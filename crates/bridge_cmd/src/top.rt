@@ -9,7 +9,7 @@ ghost use Rattle.bridge_cmd.specs.Sinks.{seen};
 use crate::job::output_of;
 use crate::report::write_line;
 use crate::status::Status;
-use bridge_io::{Files, Sink, put_all};
+use bridge_io::{Files, Sink};
 use std::alloc::Global;
 
 /// Does what the words ask for, over files and two sinks.
@@ -71,7 +71,7 @@ pub fn bridge<F: Files, O: Sink, E: Sink>(
         (seen (E.told report.old) (E.faults report.old)) (seen (E.told report.new) (E.faults report.new)) }
 {
     match output_of(alloc, words, files) {
-        Ok(output) => match put_all(out, output.as_slice()) {
+        Ok(output) => match output.put(out) {
             Ok(()) => Status::Done,
             Err(_) => Status::WriteFault,
         },

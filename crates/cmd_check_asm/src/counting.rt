@@ -12,6 +12,7 @@ use crate::fault::CheckFault;
 use asm_validate::Checked;
 use itoa::Buffer;
 use std::alloc::{AllocError, Global};
+use std::mem;
 
 fn function_count(checked: &Checked) -> usize
     ensures { result ≡ length (module_view checked.now).functions }
@@ -64,7 +65,10 @@ pub fn counts(alloc: Global, text: &[u8]) -> Result<Vec<u8>, CheckFault>
     ensures refused { IfErr result (λ fault. IsRefusal text.now fault) }
 {
     let checked = check_text(alloc, text)?;
-    match counts_line(alloc, &checked) {
+    let line = counts_line(alloc, &checked);
+    // The command ends here, and the system takes the memory back faster than piece by piece.
+    mem::forget(checked);
+    match line {
         Ok(line) => Ok(line),
         Err(_) => Err(CheckFault::Memory),
     }

@@ -5,6 +5,7 @@ ghost use Rattle.cmd_check_wasm.specs.Verdicts.{IsCounted, IsRefused};
 use crate::checking::check_bytes;
 use crate::fault::CheckFault;
 use std::alloc::Global;
+use std::mem;
 use wasm_listing::counts_line;
 
 /// The counts line of the valid module that the bytes spell.
@@ -13,7 +14,10 @@ pub fn counts(alloc: Global, bytes: &[u8]) -> Result<Vec<u8>, CheckFault>
     ensures refused { IfErr result (λ fault. IsRefused bytes.now fault) }
 {
     let valid = check_bytes(alloc, bytes)?;
-    match counts_line(alloc, valid.module()) {
+    let line = counts_line(alloc, valid.module());
+    // The command ends here, and the system takes the memory back faster than piece by piece.
+    mem::forget(valid);
+    match line {
         Ok(line) => Ok(line),
         Err(_) => Err(CheckFault::Memory),
     }

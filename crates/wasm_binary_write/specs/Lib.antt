@@ -1,4 +1,5 @@
 pub mod Opcodes
+pub mod Parts
 pub mod Runs
 pub mod Spelling
 pub mod Views

@@ -6,6 +6,7 @@
 
 mod code;
 mod entries;
+mod imports;
 mod instrs;
 mod laws;
 mod leb;
@@ -14,4 +15,4 @@ mod spell;
 mod types;
 
 pub use laws::spelling_laws;
-pub use modules::write;
+pub use modules::{write, write_shared};

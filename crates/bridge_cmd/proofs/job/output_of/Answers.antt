@@ -21,7 +21,7 @@ returns-in-Ok-OnFiles-clause-refused g c =
 pub returns-in-Ok-clause-written : goal.returns-in-Ok-clause-written
 returns-in-Ok-clause-written g c =
     let named = rw c.in-Ok-Gen.field-0-is at c.in-Ok-Gen.ensures in
-    generated c.in-Ok-Gen.count.functions named c.in-Ok.ensures
+    rw c.from_vec.ensures (generated c.in-Ok-Gen.count.functions named c.in-Ok.ensures)
 
 pub returns-in-Err-generated-clause-refused : goal.returns-in-Err-generated-clause-refused
 returns-in-Err-generated-clause-refused g c = no_memory

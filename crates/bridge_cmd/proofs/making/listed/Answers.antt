@@ -9,9 +9,9 @@ use Rattle.bridge_cmd.proofs.making.listed.Goals as goal
 pub returns-in-Err-clause-barred : goal.returns-in-Err-clause-barred
 returns-in-Err-clause-barred c = λ file is. rw c.of_check.ensures (check_answer (show file) c.args.bytes.now c.in-Err.fault (reads_module c.args.bytes.now is) c.in-Err.ensures.refused)
 
-pub returns-in-Ok-listing-clause-made : goal.returns-in-Ok-listing-clause-made
-returns-in-Ok-listing-clause-made c = λ file is. listed c.in-Ok.valid (reads_module c.args.bytes.now is) c.in-Ok.ensures.valid
-    (c.in-Ok-listing.ensures ∙ ap listing c.module.ensures.given)
+pub returns-in-Ok-output-clause-made : goal.returns-in-Ok-output-clause-made
+returns-in-Ok-output-clause-made c = λ file is. rw c.from_vec.ensures (listed c.in-Ok.valid (reads_module c.args.bytes.now is) c.in-Ok.ensures.valid
+    (c.in-Ok-output.ensures ∙ ap listing c.module.ensures.given))
 
-pub returns-clause-barred : goal.returns-clause-barred
-returns-clause-barred c = λ file is. want_of_memory
+pub returns-in-Err-output-clause-barred : goal.returns-in-Err-output-clause-barred
+returns-in-Err-output-clause-barred c = λ file is. want_of_memory

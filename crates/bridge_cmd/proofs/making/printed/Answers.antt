@@ -10,9 +10,9 @@ use Rattle.bridge_cmd.proofs.making.printed.Goals as goal
 pub returns-in-Err-clause-barred : goal.returns-in-Err-clause-barred
 returns-in-Err-clause-barred c = λ file is. rw c.of_text.ensures (text_answer (show file) c.args.text.now c.in-Err.fault (reads_text c.args.text.now is) c.in-Err.ensures.refused)
 
-pub returns-in-Ok-print-clause-made : goal.returns-in-Ok-print-clause-made
-returns-in-Ok-print-clause-made c = λ file is. printed (module_view c.in-Ok.checked) (reads_text c.args.text.now is) c.in-Ok.ensures.accepted
-    (c.in-Ok-print.ensures.canonical ∙ ap (λ m. canonical_text (module_view m)) c.module.ensures.given)
+pub returns-in-Ok-output-clause-made : goal.returns-in-Ok-output-clause-made
+returns-in-Ok-output-clause-made c = λ file is. rw c.from_vec.ensures (printed (module_view c.in-Ok.checked) (reads_text c.args.text.now is) c.in-Ok.ensures.accepted
+    (c.in-Ok-output.ensures.canonical ∙ ap (λ m. canonical_text (module_view m)) c.module.ensures.given))
 
-pub returns-clause-barred : goal.returns-clause-barred
-returns-clause-barred c = λ file is. want_of_memory
+pub returns-in-Err-output-clause-barred : goal.returns-in-Err-output-clause-barred
+returns-in-Err-output-clause-barred c = λ file is. want_of_memory

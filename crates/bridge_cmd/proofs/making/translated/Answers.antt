@@ -10,14 +10,14 @@ pub returns-in-Err-clause-barred : goal.returns-in-Err-clause-barred
 returns-in-Err-clause-barred c = λ file.
     rw c.of_text.ensures (text_answer (asm_to_wasm file c.args.heap.bytes) c.args.text.now c.in-Err.fault refl c.in-Err.ensures.refused)
 
-pub written-requires : goal.written-requires
-written-requires c = c.texts.ensures c.args.text.now (module_view c.in-Ok.checked) c.in-Ok.ensures.accepted c.requires
+pub written-output-requires : goal.written-output-requires
+written-output-requires c = c.texts.ensures c.args.text.now (module_view c.in-Ok.checked) c.in-Ok.ensures.accepted c.requires
 
-pub returns-in-Ok-written-clause-made : goal.returns-in-Ok-written-clause-made
-returns-in-Ok-written-clause-made c = λ file.
+pub returns-in-Ok-output-clause-made : goal.returns-in-Ok-output-clause-made
+returns-in-Ok-output-clause-made c = λ file.
     made c.translations.ensures.allowed c.translations.ensures.bounded c.writable.ensures c.spelling_laws.ensures.spells c.spelling_laws.ensures.shortest
-    file c.args.text.now c.in-Ok-written.output.items c.args.heap.bytes (module_view c.in-Ok.checked) c.in-Ok.ensures.accepted
-    c.module-home.ensures.well_formed c.requires c.args.heap.allowed c.in-Ok-written.ensures
+    file c.args.text.now c.in-Ok-output.output c.args.heap.bytes (module_view c.in-Ok.checked) c.in-Ok.ensures.accepted
+    c.module-home.ensures.well_formed c.requires c.args.heap.allowed c.in-Ok-output.ensures
 
-pub returns-clause-barred : goal.returns-clause-barred
-returns-clause-barred c = λ file. want_of_memory
+pub returns-in-Err-output-clause-barred : goal.returns-in-Err-output-clause-barred
+returns-in-Err-output-clause-barred c = λ file. want_of_memory

@@ -14,11 +14,11 @@ returns-in-Err-profile-clause-barred c = λ file.
     rw c.of_outside.ensures
     (a_bar (not_translated c.in-Err-profile.outside (record { «module» = c.in-Ok.valid; taken = c.in-Ok.ensures.valid; meets = c.in-Err-profile.ensures })))
 
-pub returns-in-Ok-text_of-clause-made : goal.returns-in-Ok-text_of-clause-made
-returns-in-Ok-text_of-clause-made c = λ file.
-    made c.spelled.ensures.allowed c.spelled.ensures.traps c.spelled-2.ensures c.printed_texts_are_read.ensures.again file c.args.bytes.now
-    c.in-Ok-text_of.output.items c.in-Ok.valid
-    (record { read = c.in-Ok.ensures.valid.read; within = record { valid = c.in-Ok.ensures.valid.valid; within = c.in-Ok-profile.ensures } }) c.in-Ok-text_of.ensures
+pub returns-in-Ok-output-clause-made : goal.returns-in-Ok-output-clause-made
+returns-in-Ok-output-clause-made c = λ file.
+    rw c.from_vec.ensures (made c.spelled.ensures.allowed c.spelled.ensures.traps c.spelled-2.ensures c.printed_texts_are_read.ensures.again file c.args.bytes.now
+    c.in-Ok-output.output.items c.in-Ok.valid
+    (record { read = c.in-Ok.ensures.valid.read; within = record { valid = c.in-Ok.ensures.valid.valid; within = c.in-Ok-profile.ensures } }) c.in-Ok-output.ensures)
 
-pub returns-clause-barred : goal.returns-clause-barred
-returns-clause-barred c = λ file. want_of_memory
+pub returns-in-Err-output-clause-barred : goal.returns-in-Err-output-clause-barred
+returns-in-Err-output-clause-barred c = λ file. want_of_memory

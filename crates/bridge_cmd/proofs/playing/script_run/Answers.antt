@@ -23,32 +23,32 @@ returns-in-Err-clause-too_large g c = λ b file is. absurd (quiet_too_large _ b 
 
 pub returns-in-Ok-gather-clause-written : goal.returns-in-Ok-gather-clause-written
 returns-in-Ok-gather-clause-written g c = λ file.
-    IfOk-weaker c.played.result _ _
+    IfOk-weaker c.played-output.result _ _
     (λ output is. scripted (runner_of c.in-Ok.runner) c.in-Ok.ensures.runs (held c.as_slice.result.now
     (holds _ _ _ (λ told e. rw (← c.as_str.ensures.value) (rw c.as_slice.ensures.value (c.in-Ok-gather.ensures.content told e))))
     (rw c.as_slice.ensures.len c.in-Ok-gather.ensures.within) is))
-    c.played.ensures.ran
+    c.played-output.ensures.ran
 
 pub returns-in-Ok-gather-clause-refused : goal.returns-in-Ok-gather-clause-refused
 returns-in-Ok-gather-clause-refused g c = λ file.
-    IfErr-weaker c.played.result _ _
+    IfErr-weaker c.played-output.result _ _
     (λ refusal is. of_script_file _ _ file _ c.args.bytes.now _ (runner_of c.in-Ok.runner) _ c.in-Ok.ensures.runs
     (of_held _ true _ c.as_slice.result.now _ _
     (holds _ _ _ (λ told e. rw (← c.as_str.ensures.value) (rw c.as_slice.ensures.value (c.in-Ok-gather.ensures.content told e))))
     (rw c.as_slice.ensures.len c.in-Ok-gather.ensures.within) (script_may _ _ _ _ is)))
-    c.played.ensures.refused
+    c.played-output.ensures.refused
 
 pub returns-in-Ok-gather-clause-read_fault : goal.returns-in-Ok-gather-clause-read_fault
 returns-in-Ok-gather-clause-read_fault g c =
-    IfErr-weaker c.played.result _ _ (λ refusal a is. absurd (quiet_read_fault _ (script_quiet _ _ _ _ a) is)) c.played.ensures.refused
+    IfErr-weaker c.played-output.result _ _ (λ refusal a is. absurd (quiet_read_fault _ (script_quiet _ _ _ _ a) is)) c.played-output.ensures.refused
 
 pub returns-in-Ok-gather-clause-missing : goal.returns-in-Ok-gather-clause-missing
 returns-in-Ok-gather-clause-missing g c =
-    IfErr-weaker c.played.result _ _ (λ refusal a b file is. absurd (quiet_missing _ b file (script_quiet _ _ _ _ a) is)) c.played.ensures.refused
+    IfErr-weaker c.played-output.result _ _ (λ refusal a b file is. absurd (quiet_missing _ b file (script_quiet _ _ _ _ a) is)) c.played-output.ensures.refused
 
 pub returns-in-Ok-gather-clause-too_large : goal.returns-in-Ok-gather-clause-too_large
 returns-in-Ok-gather-clause-too_large g c =
-    IfErr-weaker c.played.result _ _ (λ refusal a b file is. absurd (quiet_too_large _ b file (script_quiet _ _ _ _ a) is)) c.played.ensures.refused
+    IfErr-weaker c.played-output.result _ _ (λ refusal a b file is. absurd (quiet_too_large _ b file (script_quiet _ _ _ _ a) is)) c.played-output.ensures.refused
 
 pub returns-in-Err-gather-clause-refused : goal.returns-in-Err-gather-clause-refused
 returns-in-Err-gather-clause-refused g c = λ file. rw c.of_gathering.ensures

@@ -4,7 +4,7 @@ use Rattle.bridge_cmd.proofs.Jobs.{text_script_answer}
 use Rattle.bridge_cmd.proofs.runner.text_played.Goals as goal
 
 pub returns-in-Ok-clause-ran : goal.returns-in-Ok-clause-ran
-returns-in-Ok-clause-ran c = ran c.in-Ok.ensures
+returns-in-Ok-clause-ran c = rw c.from_vec.ensures (ran c.in-Ok.ensures)
 
 pub returns-in-Err-clause-refused : goal.returns-in-Err-clause-refused
 returns-in-Err-clause-refused c = rw c.of_script.ensures

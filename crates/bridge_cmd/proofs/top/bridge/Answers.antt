@@ -5,9 +5,9 @@ use Rattle.bridge_cmd.specs.Refused.{status_of}
 use Rattle.bridge_cmd.proofs.Jobs.{one_end, reported_exactly, usage_words}
 use Rattle.bridge_cmd.proofs.top.bridge.Goals as goal
 
-pub returns-in-Ok-put_all-clause-exact : goal.returns-in-Ok-put_all-clause-exact
-returns-in-Ok-put_all-clause-exact g c =
-    λ job told is. inl (one_end _ _ told (written c.in-Ok.output.items) job c.in-Ok.ensures.written is)
+pub returns-in-Ok-put-clause-exact : goal.returns-in-Ok-put-clause-exact
+returns-in-Ok-put-clause-exact g c =
+    λ job told is. inl (one_end _ _ told (written c.in-Ok.output) job c.in-Ok.ensures.written is)
 
 pub returns-in-Ok-clause-exact : goal.returns-in-Ok-clause-exact
 returns-in-Ok-clause-exact g c = λ job told is. inr by_a_write
