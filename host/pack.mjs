@@ -1,7 +1,7 @@
 // node pack.mjs [--script NAME] FILE.wasm FILE.js    a module of WebAssembly, and what `bridge wasm2js` made of it
 // node pack.mjs [--script NAME] FILE.js FILE.wasm    a text of asm.js, and what `bridge asm2wasm` made of it
 // Writes one ES module with all that is needed to load the translation; or with --script a script that defines NAME, which a page loads from a disk too.
-import { readFileSync } from "node:fs";
+import { readFileSync, realpathSync } from "node:fs";
 import { basename } from "node:path";
 import { pathToFileURL } from "node:url";
 import { checkText } from "./asm.mjs";
@@ -14,14 +14,16 @@ function hostCode(file, names) {
 }
 
 /** Definitions as a module that exports these names, or as a script that defines an object of them. */
-const wrapped = (code, names, script) => (script ? `var ${script} = (() => {\n${code}return { ${names.join(", ")} };\n})();\n` : `${code}export { ${names.join(", ")} };\n`);
+function wrapped(code, names, script) {
+  return script ? `var ${script} = (() => {\n${code}return { ${names.join(", ")} };\n})();\n` : `${code}export { ${names.join(", ")} };\n`;
+}
 
 /**
  * Packs what `bridge wasm2js` wrote.
  * @param {Uint8Array} bytes the module of WebAssembly
  * @param {string} text what was made of it
  * @param {string} [script] the name that a script is to define
- * @returns {string} the code of an ES module, or of a script: `instantiate(imports)`, `instantiateSync(imports)`, `Memory`, `RuntimeError` and `LinkError`, as in asm.mjs
+ * @returns {string} the code of an ES module, or of a script, that gives `instantiate(imports)`, `instantiateSync(imports)`, and the classes of asm.mjs
  * @throws {TypeError | LinkError} where the text wasn't made of this module
  */
 export function packAsm(bytes, text, script) {
@@ -48,7 +50,12 @@ function described(text) {
   const pairs = returned[1] ? [[returned[1], returned[1]]] : list(returned[2]).map((pair) => list(pair.replace(":", ",")));
   const foreign = list(head[2])[1]?.replace(/\$/g, "\\$&");
   const members = foreign === undefined ? [] : code.matchAll(RegExp(`=\\s*\\+?\\s*${foreign}\\s*\\.\\s*([\\w$]+)`, "g"));
-  return { exports: pairs.map(([key, name]) => `${key}(${counts.get(name)})`), members: new Set(Array.from(members, (m) => m[1])), hasHeap: /=\s*new\b/.test(code), returns: returned[1] ? "function" : "object" };
+  return {
+    exports: pairs.map(([key, name]) => `${key}(${counts.get(name)})`),
+    members: new Set(Array.from(members, (match) => match[1])),
+    hasHeap: /=\s*new\b/.test(code),
+    returns: returned[1] ? "function" : "object",
+  };
 }
 
 /**
@@ -56,7 +63,7 @@ function described(text) {
  * @param {string} text the text of asm.js
  * @param {Uint8Array} bytes the module that was made of it
  * @param {string} [script] the name that a script is to define
- * @returns {string} the code of an ES module, or of a script: `linkAsm(stdlib, foreign, heap)` as in wasm.mjs, where the heap has the module's length if it isn't given
+ * @returns {string} the code of an ES module, or of a script, that gives wasm.mjs's `linkAsm(stdlib, foreign, heap)`; a heap of the module's pages where none is given
  * @throws {TypeError} where the module wasn't made of this text
  */
 export function packWasm(text, bytes, script) {
@@ -75,16 +82,18 @@ const linkAsm = (stdlib, foreign, heap = ${pages * 65536}) => host.linkAsm(bytes
   return wrapped(code, ["linkAsm"], script);
 }
 
+/** Writes to standard output what is packed of the files that the words name. @throws {Error} where they name none, or files that don't belong together */
 function main(words) {
   const at = words.indexOf("--script");
   const [, script = ""] = at < 0 ? [] : words.splice(at, 2);
-  if (words.length !== 2 || (at >= 0 && !/^[A-Za-z_$][\w$]*$/.test(script))) throw new TypeError("usage: node pack.mjs [--script NAME] FILE.wasm FILE.js, or FILE.js FILE.wasm");
+  if (words.length !== 2 || (at >= 0 && !/^[A-Za-z_$][\w$]*$/.test(script)))
+    throw new TypeError("usage: node pack.mjs [--script NAME] FILE.wasm FILE.js, or FILE.js FILE.wasm");
   const [source, made] = words.map((file) => readFileSync(file));
   const packed = source[0] === 0 ? packAsm(source, made.toString(), script) : packWasm(source.toString(), made, script);
-  process.stdout.write(`// Made by Bridge's host/pack.mjs of ${words.map((file) => basename(file)).join(" and ")}.\n${packed}`);
+  process.stdout.write(`// Made by Bridge's host/pack.mjs of ${words.map((file) => JSON.stringify(basename(file))).join(" and ")}.\n${packed}`);
 }
 
-if (process.argv[1] && import.meta.url === pathToFileURL(process.argv[1]).href) {
+if (process.argv[1] && import.meta.url === pathToFileURL(realpathSync(process.argv[1])).href) {
   try {
     main(process.argv.slice(2));
   } catch (error) {

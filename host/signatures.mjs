@@ -10,12 +10,13 @@ class Reader {
     this.at = 0;
   }
 
+  /** @returns {number} */
   byte() {
     if (this.at >= this.bytes.length) throw new TypeError("bytes: the module ends early");
     return this.bytes[this.at++];
   }
 
-  /** One of these: what stands in `table` for the next byte. */
+  /** What stands in `table` for the next byte; `what` says in an error what is due. */
   one(table, what) {
     const byte = this.byte();
     if (table[byte] === undefined) throw new TypeError(`bytes: ${byte} at ${this.at - 1} is no ${what} of the integer part`);
@@ -33,10 +34,12 @@ class Reader {
     return signed ? BigInt.asIntN(Number(shift), value) : value;
   }
 
+  /** A number of 32 bits. */
   number() {
     return Number(this.leb(false));
   }
 
+  /** A name in UTF-8. */
   name() {
     const end = this.number() + this.at;
     let escaped = "";
@@ -44,10 +47,12 @@ class Reader {
     return decodeURIComponent(escaped);
   }
 
+  /** A vector, of which `item` reads each part. */
   list(item) {
     return Array.from({ length: this.number() }, item);
   }
 
+  /** @returns {{ params: string[], result: string | null }} */
   functionType() {
     this.one({ 0x60: true }, "function type");
     const params = this.list(() => this.one(TYPES, "type"));
@@ -64,6 +69,7 @@ class Reader {
     return least;
   }
 
+  /** @returns {{ type: string, mutable: boolean }} */
   globalType() {
     return { type: this.one(TYPES, "type"), mutable: this.one([false, true], "mutability") };
   }
@@ -76,6 +82,7 @@ class Reader {
     return opcode === "i64" ? { value: String(value) } : opcode === "i32" ? { value: Number(value) } : { global: Number(value) };
   }
 
+  /** An import, with what is known of its kind. */
   imported(types) {
     const item = { module: this.name(), name: this.name(), kind: this.one(KINDS, "kind") };
     if (item.kind === "function") return { ...item, ...types[this.number()] };
@@ -96,6 +103,7 @@ const SECTIONS = {
   8: (from, parts) => (parts.start = from.number()),
 };
 
+/** What the sections hold. */
 function partsOf(from) {
   const parts = { types: [], imports: [], functions: [], memories: [], globals: [], exports: [], start: null };
   while (from.at < from.bytes.length) {

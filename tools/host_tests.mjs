@@ -3,7 +3,7 @@
 // The random modules need python3; SEED and COUNT may be given for them.
 import assert from "node:assert/strict";
 import { spawnSync } from "node:child_process";
-import { mkdtempSync, rmSync, writeFileSync } from "node:fs";
+import { mkdtempSync, readFileSync, rmSync, writeFileSync } from "node:fs";
 import { tmpdir } from "node:os";
 import path from "node:path";
 import { after, test } from "node:test";
@@ -15,7 +15,7 @@ import { packAsm, packWasm } from "../host/pack.mjs";
 import { signaturesOf } from "../host/signatures.mjs";
 import { linkAsm } from "../host/wasm.mjs";
 import { encode } from "./hosts/encode.mjs";
-import { ASKING, FAULTY_FOREIGN, FAULTY_IMPORTS, FAULTY_MEMORIES, FAULTY_TEXTS, OTHER_MODULES, TEXT, given } from "./hosts/faulty.mjs";
+import { ASKING, ASKING_FOR_THREE, FAULTY_FOREIGN, FAULTY_IMPORTS, FAULTY_MEMORIES, FAULTY_TEXTS, OTHER_MODULES, TEXT, given } from "./hosts/faulty.mjs";
 import { MODULES } from "./hosts/modules.mjs";
 import { asmSight, isDeep, randomModules, wasmSight } from "./hosts/random.mjs";
 import { outcome, sameOutcome, sameSight, seen } from "./hosts/sessions.mjs";
@@ -97,7 +97,10 @@ for (const { name, text, foreign = () => undefined, ...session } of TEXTS)
     const theirs = linkedSight(called(text, length), { ...session, foreign }, log);
     assert.equal(theirs.outcomes.length, session.calls.length);
     const module = await WebAssembly.compile(bytes);
-    for (const source of [bytes, module]) sameLinked(theirs, linkedSight((given) => linkAsm(source, globalThis, given, length, { returns }), { ...session, foreign }, log));
+    for (const source of [bytes, module]) {
+      const link = (given) => linkAsm(source, globalThis, given, length, { returns });
+      sameLinked(theirs, linkedSight(link, { ...session, foreign }, log));
+    }
   });
 
 // ---- what is refused before anything runs
@@ -122,6 +125,11 @@ test("refused: imports that are missing or of another kind", async () => {
   }
   for (const [imports, field] of FAULTY_MEMORIES) assertRefused(() => instantiateSync(asking.text, asking.signatures, imports), [LinkError], field);
   assert.equal(instantiateSync(asking.text, asking.signatures, given().imports).exports.run(7), 7);
+  // Of three and of four pages the heaps are as long.
+  const three = encode(ASKING_FOR_THREE), text = toJs(three);
+  const withPages = (initial) => given({ memory: new Memory({ initial }) }).imports;
+  assertRefused(() => instantiateSync(text, signaturesOf(three), withPages(4)), [LinkError], 'import "env" "memory"');
+  assert.equal(instantiateSync(text, signaturesOf(three), withPages(3)).exports.run(7), 7);
 });
 
 test("refused: texts that wasm2js wrote of another module, or didn't write", async () => {
@@ -139,7 +147,8 @@ test("refused: texts that wasm2js wrote of another module, or didn't write", asy
 });
 
 test("refused: bytes that are no module", () => {
-  for (const bytes of [[], [0, 97, 115, 109], [1, 2, 3, 4, 5, 6, 7, 8], askingBytes.slice(0, 40)]) assertRefused(() => signaturesOf(Uint8Array.from(bytes)), [TypeError], "bytes");
+  for (const bytes of [[], [0, 97, 115, 109], [1, 2, 3, 4, 5, 6, 7, 8], askingBytes.slice(0, 40)])
+    assertRefused(() => signaturesOf(Uint8Array.from(bytes)), [TypeError], "bytes");
   assert.deepEqual(signaturesOf(askingBytes.buffer), asking.signatures);
 });
 
@@ -149,7 +158,11 @@ test("refused: words of another length, calls during an import, and a heap that 
   assertRefused(() => exports.run(5n), [TypeError], 'export "run"');
   assertRefused(() => exports.wide(5, 1), [TypeError], 'export "wide"');
   let inside;
-  const held = instantiateSync(asking.text, asking.signatures, given({ f: (x) => (x === 9 ? (inside = outcome(() => held.exports.at(0))) : x, x) }, { w: () => 5 }).imports);
+  const back = (x) => {
+    if (x === 9) inside = outcome(() => held.exports.at(0));
+    return x;
+  };
+  const held = instantiateSync(asking.text, asking.signatures, given({ f: back }, { w: () => 5 }).imports);
   assert.equal(held.exports.run(9), 9);
   assert.match(inside.error.message, /^export "at": called while the import "env" "f" runs/);
   assertRefused(() => held.exports.wide(1n, 1), [TypeError], 'import "other" "w": result');
@@ -165,9 +178,11 @@ test("refused: words of another length, calls during an import, and a heap that 
 });
 
 test("refused: memories of other lengths, and their growth", () => {
-  for (const limits of [{ initial: -1 }, { initial: 1.5 }, { initial: 4097 }, { initial: "1" }, {}, { initial: 2, maximum: 1 }]) assertRefused(() => new Memory(limits), [RangeError], "Memory");
+  for (const limits of [{ initial: -1 }, { initial: 1.5 }, { initial: 4097 }, { initial: "1" }, {}, { initial: 2, maximum: 1 }])
+    assertRefused(() => new Memory(limits), [RangeError], "Memory");
   assertRefused(() => new Memory({ initial: 1, maximum: 2 }).grow(1), [RangeError], "Memory");
-  for (const [pages, length] of [[0, 4096], [1, 65536], [2, 131072], [3, 262144], [127, 2 ** 23], [128, 2 ** 23], [129, 2 ** 24], [256, 2 ** 24], [257, 2 ** 25], [600, 3 * 2 ** 24]])
+  const lengths = [[0, 4096], [1, 65536], [2, 131072], [3, 262144], [127, 2 ** 23], [128, 2 ** 23], [129, 2 ** 24], [256, 2 ** 24], [257, 2 ** 25], [600, 3 * 2 ** 24]];
+  for (const [pages, length] of lengths)
     assert.deepEqual([new Memory({ initial: pages }).buffer.byteLength, new Memory({ initial: pages }).bytes.length], [length, pages * 65536]);
 });
 
@@ -233,6 +248,13 @@ for (const { name, text, foreign = () => undefined, ...session } of TEXTS.slice(
       for (const heap of [length, undefined]) sameLinked(theirs, linkedSight((given) => host.linkAsm(globalThis, given, heap), { ...session, foreign }, log));
   });
 
+test("packed: the example page has what is made of its programs now", () => {
+  const page = (name) => fileURLToPath(new URL(`../examples/page/${name}`, import.meta.url));
+  const set = page("mandelbrot.wasm"), life = page("life.js");
+  assert.equal(readFileSync(page("mandelbrot_asm.js"), "utf8"), packed(["--script", "mandelbrotAsm", set, file("mandelbrot.js", toJs(readFileSync(set)))]));
+  assert.equal(readFileSync(page("life_wasm.js"), "utf8"), packed(["--script", "lifeWasm", life, file("life.wasm", toWasm(readFileSync(life, "utf8"), 2 ** 21))]));
+});
+
 test("packed: where WebAssembly is missing", () => {
   const { module, calls } = MODULES.find((one) => /trap, /.test(one.name));
   const bytes = encode(module);
@@ -258,7 +280,13 @@ test("packed: where WebAssembly is missing", () => {
 test("packed: files that don't belong together are refused", () => {
   for (const [module, field] of OTHER_MODULES) assertRefused(() => packAsm(askingBytes, toJs(encode(module))), [LinkError], field);
   const made = toWasm(TEXT, 65536);
-  const others = [[/foreign\.f/, "foreign.h", "f"], [/\{ run: run/, "{ ran: run", "exports"], [/, other: other/, "", "exports"], [/function run\(x\)/, "function run(x, y)", "exports"], [/new stdlib.*?;/, "0;", "heap"]];
+  const others = [
+    [/foreign\.f/, "foreign.h", "f"],
+    [/\{ run: run/, "{ ran: run", "exports"],
+    [/, other: other/, "", "exports"],
+    [/function run\(x\)/, "function run(x, y)", "exports"],
+    [/new stdlib.*?;/, "0;", "heap"],
+  ];
   for (const [old, now, field] of others) {
     assert.match(TEXT, old);
     assertRefused(() => packWasm(TEXT.replace(old, now), made), [TypeError], field);
@@ -269,7 +297,9 @@ test("packed: files that don't belong together are refused", () => {
 
 test("packed: faulty words and files write nothing, and give status 1", () => {
   const wasm = file("asking.wasm", askingBytes), js = file("asking.js", asking.text), text = file("text.js", TEXT);
-  for (const words of [[], [wasm], [wasm, js, js], [wasm, js, "--script"], ["--script", "a b", wasm, js], [js, wasm], [wasm, wasm], [text, js], [path.join(room, "none"), js]]) {
+  const none = path.join(room, "none");
+  const faulty = [[], [wasm], [wasm, js, js], [wasm, js, "--script"], ["--script", "a b", wasm, js], [js, wasm], [wasm, wasm], [text, js], [none, js]];
+  for (const words of faulty) {
     const [stdout, stderr] = packed(words, 1);
     assert.ok(stdout === "" && stderr.startsWith("pack: "), `${words}: ${stderr}`);
   }
@@ -295,8 +325,10 @@ function compared(theirs, ours) {
 function comparedWasm(job) {
   const bytes = Buffer.from(job.bytes, "base64"), text = toJs(bytes), signatures = signaturesOf(bytes);
   const hidden = signatures.exports.filter((item) => item.kind === "table" || item.mutable).map((item) => item.name);
-  const theirs = wasmSight(job, (imports) => new WebAssembly.Instance(new WebAssembly.Module(bytes), imports), { makeMemory: (limits) => new WebAssembly.Memory(limits), hidden, seconds: 5 });
-  return compared(theirs, theirs && wasmSight(job, (imports) => asPlainJavaScript(() => instantiateSync(text, signatures, imports)), { makeMemory: (limits) => new Memory(limits), hidden, seconds: 60 }));
+  const engine = (imports) => new WebAssembly.Instance(new WebAssembly.Module(bytes), imports);
+  const host = (imports) => asPlainJavaScript(() => instantiateSync(text, signatures, imports));
+  const theirs = wasmSight(job, engine, { makeMemory: (limits) => new WebAssembly.Memory(limits), hidden, seconds: 5 });
+  return compared(theirs, theirs && wasmSight(job, host, { makeMemory: (limits) => new Memory(limits), hidden, seconds: 60 }));
 }
 
 function comparedAsm(job) {

@@ -113,6 +113,13 @@ async function expectedText(folder) {
   return `crc32 ${instance.exports.crc32(65536, 13) >>> 0}, hash ${instance.exports.hash(1n, 65536, 13)}`;
 }
 
+/** That docs/USAGE.md has the page as it is, and what it shows. */
+function assertDescribed(shown, folder) {
+  const usage = readFileSync(path.join(TOP, "docs/USAGE.md"), "utf8");
+  const page = readFileSync(path.join(folder, "page.html"), "utf8").trimEnd();
+  for (const part of [shown, page.replace(/^/gm, "       ")]) assert.ok(usage.includes(part), `docs/USAGE.md doesn't have:\n${part}`);
+}
+
 /** A copy of the examples, with what PROGRAM makes of them. */
 function prepared(program, room) {
   for (const folder of ["examples", "host"]) cpSync(path.join(TOP, folder), path.join(room, folder), { recursive: true });
@@ -136,7 +143,9 @@ async function main(program) {
   try {
     const expected = await expectedPictures(pages);
     for (const url of [`file://${pages}/index.html`, `${address}/examples/page/index.html`]) assertDrawn(reportOf(await opened(browser, url, room)), expected);
-    assert.equal(textOf(await opened(browser, `${address}/examples/c/page.html`, room), "body").trim(), await expectedText(c));
+    const due = await expectedText(c);
+    assert.equal(textOf(await opened(browser, `${address}/examples/c/page.html`, room), "body").trim(), due);
+    assertDescribed(due, c);
   } finally {
     server.close();
     rmSync(room, { recursive: true });

@@ -1,4 +1,4 @@
-// Made by Bridge's host/pack.mjs of life.js and life.wasm.
+// Made by Bridge's host/pack.mjs of "life.js" and "life.wasm".
 var lifeWasm = (() => {
 const host = (() => {
 "use strict";

@@ -1,4 +1,4 @@
-// Made by Bridge's host/pack.mjs of mandelbrot.wasm and mandelbrot.js.
+// Made by Bridge's host/pack.mjs of "mandelbrot.wasm" and "mandelbrot.js".
 var mandelbrotAsm = (() => {
 const host = (() => {
 "use strict";
@@ -77,17 +77,20 @@ class Memory {
 
 // ---- names, as crates/sem_laws/specs/Names.antt spells them
 
+/** Whether a name may stand in asm.js as it is. */
 const isPlain = (name) => /^[A-Za-z_$][\w$]*$/.test(name) && name !== "__proto__";
 
 /** The bytes of a name in hexadecimal. */
 const hex = (name) => encodeURIComponent(name).replace(/%(..)|./g, (char, code) => (code ? code.toLowerCase() : char.charCodeAt(0).toString(16)));
 
+/** The foreign member that stands for an import, and the key that stands for an export. */
 const importName = ({ module, name }) => (module === "env" && isPlain(name) && !name.startsWith("$x") ? name : `$x${hex(module)}$${hex(name)}`);
 const exportName = ({ name }) => (isPlain(name) && !name.startsWith("$") ? name : `$x${hex(name)}`);
 
 /** How an error names an import, or an export. */
 const fieldOf = ({ module, name }) => (module === undefined ? `export ${JSON.stringify(name)}` : `import ${JSON.stringify(module)} ${JSON.stringify(name)}`);
 
+/** The imports, or exports, of a kind. */
 const ofKind = (kind, items) => items.filter((item) => item.kind === kind);
 
 // ---- words: one of 32 bits is a Number, and one of 64 a BigInt, which asm.js takes as two ints, the low one first
@@ -99,6 +102,7 @@ function wordOf(type, value, field) {
   throw new TypeError(`${field}: an ${type} is due, and there is the ${typeof value} ${value}`);
 }
 
+/** The two ints of a word of 64 bits, both signed; and the word. */
 const lowOf = (wide) => Number(BigInt.asIntN(32, wide));
 const highOf = (wide) => Number(wide >> 32n);
 const wideOf = (low, high) => (BigInt(high) << 32n) | BigInt(low >>> 0);
@@ -275,7 +279,8 @@ function piecesOf({ imports, exports, pages, start }) {
 function checkText(text, signatures) {
   const lines = String(text).replace(/\r\n/g, "\n");
   const has = (piece) => (typeof piece === "string" ? lines.includes(piece) : piece.test(lines));
-  for (const [field, ...pieces] of piecesOf(signatures)) if (!pieces.every(has)) throw new LinkError(`${field}: not as in the text that wasm2js writes of this module`);
+  const wrong = piecesOf(signatures).find(([, ...pieces]) => !pieces.every(has));
+  if (wrong) throw new LinkError(`${wrong[0]}: not as in the text that wasm2js writes of this module`);
 }
 
 /** The module function of a text that was checked. A page whose policy forbids this gives the function itself, as packed modules do. */

@@ -53,18 +53,21 @@ export const FAULTY_MEMORIES = [
 /** Other modules than ASKING, whose texts aren't its text, and the field in which they differ. */
 const changed = (change) => ({ ...ASKING, ...change });
 const imported = (k, change) => changed({ imports: ASKING.imports.map((item, at) => (at === k ? { ...item, ...change } : item)) });
+export const ASKING_FOR_THREE = imported(3, { least: 3, most: 3 });
 export const OTHER_MODULES = [
   [imported(0, { name: "h" }), F], [imported(1, { module: "env" }), W], [imported(2, { name: "h" }), G], [imported(3, { least: 2, most: 2 }), "memory"],
   [imported(1, { name: "w2" }), W],
   [changed({ imports: [...ASKING.imports, { module: "env", name: "more", kind: "function", type: 2 }], functions: ASKING.functions.slice(1), start: 2 }), "imports"],
-  [changed({ imports: ASKING.imports.slice(0, 3), functions: ASKING.functions.map((f) => (f.type === 3 ? f : own(f.type, f.type === 0 ? get(0) : []))), exports: ASKING.exports.slice(0, 3) }), "memory"],
+  [changed({ imports: ASKING.imports.slice(0, 3), functions: [own(2, []), ...ASKING.functions.slice(1, 3), own(0, get(0))], exports: ASKING.exports.slice(0, 3) }), "memory"],
   [changed({ exports: ASKING.exports.slice(1) }), "exports"], [changed({ exports: [["ran", "function", 3], ...ASKING.exports.slice(1)] }), "exports"],
   [changed({ exports: [["run", "function", 5], ["wide", "function", 4], ["at", "function", 3]] }), "exports"],
   [changed({ types: [...ASKING.types.slice(0, 3), [[I32, I64], [I64]]] }), 'export "wide"'],
   [changed({ start: undefined }), "start"],
 ];
 
-export const FAULTY_TEXTS = ["", "function wasm(){}", "<!doctype html><p>Not found", "export default 5;", 'function wasm(stdlib,foreign,heap){"use asm";\nreturn{$init:$init,$hi:$hi,};}'];
+export const FAULTY_TEXTS = [
+  "", "function wasm(){}", "<!doctype html><p>Not found", "export default 5;", 'function wasm(stdlib,foreign,heap){"use asm";\nreturn{$init:$init,$hi:$hi,};}',
+];
 
 // ---- asm.js
 
@@ -81,6 +84,7 @@ export const FAULTY_FOREIGN = [
   [undefined, 65536, "foreign.f"], [null, 65536, "foreign.f"], [{}, 65536, "foreign.f"],
   ...[undefined, null, 5, {}, 5n].map((f) => [{ ...good, f }, 65536, "foreign.f"]),
   ...[undefined, null, "5", 5n, {}, () => 5].map((g) => [{ ...good, g }, 65536, "foreign.g"]),
-  ...[undefined, null, "65536", 0, -1, 1, 65537, 4095, 3 * 65536, NaN, Infinity, 2 ** 29, 65536n, new ArrayBuffer(65536), new Uint8Array(65536)].map((heap) => [good, heap, "heap"]),
+  ...[undefined, null, "65536", 0, -1, 1, 65537, 4095, 3 * 65536, NaN, Infinity, 2 ** 29, 65536n].map((heap) => [good, heap, "heap"]),
+  ...[new ArrayBuffer(65536), new Uint8Array(65536)].map((heap) => [good, heap, "heap"]),
   ...[131072, 2 ** 24, new WebAssembly.Memory({ initial: 1 }), new WebAssembly.Memory({ initial: 2, maximum: 2 })].map((heap) => [good, heap, "heap"]),
 ];

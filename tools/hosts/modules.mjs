@@ -79,25 +79,33 @@ const names = {
   imports: (log) => ({
     env: Object.assign(Object.fromEntries([["__proto__", told(log, "proto", [6])]]), {
       twice: (value) => (log.push(["twice", value]), typeof value === "bigint" ? 3 : log.length % 2 ? 5 : 6n),
-      $trap: told(log, "$trap"), $high: told(log, "$high", [1]), $hi: told(log, "$hi", [2]), "": told(log, "", [3]), $x61: told(log, "$x61", [4]), toString: told(log, "toString", [5]),
+      $trap: told(log, "$trap"), $high: told(log, "$high", [1]), $hi: told(log, "$hi", [2]),
+      "": told(log, "", [3]), $x61: told(log, "$x61", [4]), toString: told(log, "toString", [5]),
     }),
     "é€\u{1f600}": { "a b": told(log, "a b", [10]) },
     "": { x: told(log, "x", [11]) },
   }),
-  calls: [["$init", 1], ["$init", 2], ["$hi", 5n], ["", 1], ["", 2], ["__proto__", 7], ["__proto__", 8], ["a b", 3n], ["é€\u{1f600}"], ["hasOwnProperty"], ["$x61"], ["default"], ["1"], ["0", 4]],
+  calls: [
+    ["$init", 1], ["$init", 2], ["$hi", 5n], ["", 1], ["", 2], ["__proto__", 7], ["__proto__", 8], ["a b", 3n], ["é€\u{1f600}"],
+    ["hasOwnProperty"], ["$x61"], ["default"], ["1"], ["0", 4],
+  ],
 };
 
 const constants = {
   name: "imported and exported constants, and exports that can't be seen",
   module: {
     types: [[[], [I32]]],
-    imports: [{ module: "env", name: "number", kind: "global", type: I32 }, { module: "values", name: "global", kind: "global", type: I32 }, { module: "env", name: "number", kind: "global", type: I32 }],
+    imports: [["env", "number"], ["values", "global"], ["env", "number"]].map(([module, name]) => ({ module, name, kind: "global", type: I32 })),
     globals: [
-      { type: I32, init: const32(-5) }, { type: I64, init: const64(-(2n ** 63n)) }, { type: I32, init: getGlobal(1) }, { type: I32, mutable: true, init: getGlobal(0) }, { type: I64, init: const64(77n) },
+      { type: I32, init: const32(-5) }, { type: I64, init: const64(-(2n ** 63n)) }, { type: I32, init: getGlobal(1) },
+      { type: I32, mutable: true, init: getGlobal(0) }, { type: I64, init: const64(77n) },
     ],
     table: { least: 1 },
     functions: [own(0, [getGlobal(0), getGlobal(1), op.add, getGlobal(6), op.add])],
-    exports: [["number", "global", 0], ["given", "global", 1], ["own", "global", 3], ["wide", "global", 4], ["copied", "global", 5], ["changes", "global", 6], ["table", "table", 0], ["sum", "function", 0], ["wide too", "global", 7]],
+    exports: [
+      ["number", "global", 0], ["given", "global", 1], ["own", "global", 3], ["wide", "global", 4], ["copied", "global", 5], ["changes", "global", 6],
+      ["table", "table", 0], ["sum", "function", 0], ["wide too", "global", 7],
+    ],
   },
   imports: () => ({ env: { number: 2 ** 32 - 2.5 }, values: { global: new WebAssembly.Global({ value: "i32" }, 41) } }),
   hidden: ["changes", "table"],
@@ -109,13 +117,17 @@ const ownMemory = {
   module: {
     types: [[[I32, I32], []], [[I32, I64], []], [[I32], [I32]], [[I32], [I64]], [[I32, I32, I32], []]],
     memory: memory(3),
-    functions: [own(0, [get(0), get(1), store()]), own(1, [get(0), get(1), store64()]), own(2, [get(0), load()]), own(3, [get(0), load64()]), own(4, [get(0), get(1), get(2), op.fill]), own(4, [get(0), get(1), get(2), op.copy])],
-    exports: [["memory", "memory", 0], ["put", "function", 0], ["put64", "function", 1], ["at", "function", 2], ["at64", "function", 3], ["fill", "function", 4], ["copy", "function", 5]],
+    functions: [
+      own(0, [get(0), get(1), store()]), own(1, [get(0), get(1), store64()]), own(2, [get(0), load()]), own(3, [get(0), load64()]),
+      own(4, [get(0), get(1), get(2), op.fill]), own(4, [get(0), get(1), get(2), op.copy]),
+    ],
+    exports: [["memory", "memory", 0], ...["put", "put64", "at", "at64", "fill", "copy"].map((name, k) => [name, "function", k])],
     segments: [[10, [1, 2, 3, 4, 5, 6, 7, 8, 9]], [3 * 65536 - 2, [254, 255]], [65533, [1, 1, 1, 1, 1]]],
   },
   calls: [
-    ["at", 10], ["at64", 11], ["put", 3 * 65536 - 4, -2], ["put64", 3 * 65536 - 8, -3n], ["at64", 3 * 65536 - 8], ["at", 3 * 65536 - 3], ["at64", 3 * 65536 - 7], ["put", 3 * 65536 - 3, 1], ["put64", -1, 1n],
-    ["at", 4 * 65536 - 4], ["fill", 3 * 65536 - 5, 7, 5], ["fill", 3 * 65536 - 5, 8, 6], ["copy", 0, 3 * 65536 - 9, 9], ["copy", 3 * 65536 - 1, 0, 2], ["at", 10], ["at", -1],
+    ["at", 10], ["at64", 11], ["put", 3 * 65536 - 4, -2], ["put64", 3 * 65536 - 8, -3n], ["at64", 3 * 65536 - 8], ["at", 3 * 65536 - 3],
+    ["at64", 3 * 65536 - 7], ["put", 3 * 65536 - 3, 1], ["put64", -1, 1n], ["at", 4 * 65536 - 4], ["fill", 3 * 65536 - 5, 7, 5],
+    ["fill", 3 * 65536 - 5, 8, 6], ["copy", 0, 3 * 65536 - 9, 9], ["copy", 3 * 65536 - 1, 0, 2], ["at", 10], ["at", -1],
   ],
 };
 
@@ -153,12 +165,12 @@ const traps = {
       own(1, [const32(12), get(1), store(), get(0), get(1), callIndirect(0)]),
       own(2, [const32(16), get(0), store(), get(0), call(0), op.drop]),
     ],
-    exports: [["memory", "memory", 0], ["unreachable", "function", 0], ["at", "function", 1], ["divS", "function", 2], ["divU", "function", 3], ["remS", "function", 4], ["remU", "function", 5], ["through", "function", 6], ["nested", "function", 7]],
+    exports: [["memory", "memory", 0], ...["unreachable", "at", "divS", "divU", "remS", "remU", "through", "nested"].map((name, k) => [name, "function", k])],
   },
   calls: [
-    ["unreachable", 1], ["unreachable", 0], ["at", 65533], ["at", 65532], ["at", -1], ["divS", 7, 0], ["divS", -(2 ** 31), -1], ["divS", 7, -2], ["divU", 7, 0], ["divU", -1, 2],
-    ["remS", 7, 0], ["remS", -(2 ** 31), -1], ["remU", 7, 0], ["remU", -1, 10], ["through", 0, 0], ["through", 1, 0], ["through", 0, 1], ["through", 0, 2], ["through", 0, 3], ["through", 0, -1],
-    ["nested", 3], ["nested", 0], ["unreachable", 0],
+    ["unreachable", 1], ["unreachable", 0], ["at", 65533], ["at", 65532], ["at", -1],
+    ["divS", 7, 0], ["divS", -(2 ** 31), -1], ["divS", 7, -2], ["divU", 7, 0], ["divU", -1, 2], ["remS", 7, 0], ["remS", -(2 ** 31), -1], ["remU", 7, 0], ["remU", -1, 10],
+    ["through", 0, 0], ["through", 1, 0], ["through", 0, 1], ["through", 0, 2], ["through", 0, 3], ["through", 0, -1], ["nested", 3], ["nested", 0], ["unreachable", 0],
   ],
   // which of the two numbers is meant where V8 has one message
   numbers: { 16: 6, 17: 5, 18: 5, 19: 5 },
@@ -171,7 +183,9 @@ const starts = {
   exports: [["wide", "function", 3]],
   segments: [[100, [1, 2, 3]]],
 };
-const startImports = (results) => (log) => ({ env: { memory: newMemory(), start: told(log, "start", results), wide: told(log, "wide", [0x1234567890n]), told: told(log, "told") } });
+const startImports = (results) => (log) => ({
+  env: { memory: newMemory(), start: told(log, "start", results), wide: told(log, "wide", [0x1234567890n]), told: told(log, "told") },
+});
 const withStart = (name, code, start = 3, results = []) => ({
   name: `a start function ${name}`,
   module: { ...starts, functions: [own(0, code), own(1, call(1))], exports: [["wide", "function", 4]], start },

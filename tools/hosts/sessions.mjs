@@ -40,16 +40,16 @@ export function sameOutcome(theirs, ours) {
   else assert.deepEqual(ours, theirs);
 }
 
-/** How an export looks: a function with its name and length, the value of a constant, or a memory. */
-function lookOf(value) {
-  if (typeof value === "function") return ["function", value.name, value.length];
+/** How an export looks: a function with its name and length, and the first key that it has; the value of a constant; or a memory. */
+function lookOf(value, exports, shown) {
+  if (typeof value === "function") return ["function", value.name, value.length, shown.find((key) => exports[key] === value)];
   return value.buffer ? ["memory"] : ["constant", value.value, value.valueOf()];
 }
 
 /** The exports that can be seen, in order, and how the object itself is. */
 export function looks(exports, hidden = []) {
   const shown = Object.keys(exports).filter((key) => !hidden.includes(key));
-  return { frozen: Object.isFrozen(exports), prototype: Object.getPrototypeOf(exports), shown: shown.map((key) => [key, lookOf(exports[key])]) };
+  return { frozen: Object.isFrozen(exports), prototype: Object.getPrototypeOf(exports), shown: shown.map((key) => [key, lookOf(exports[key], exports, shown)]) };
 }
 
 /** A copy of the module's bytes, of the memory that is exported or imported. */

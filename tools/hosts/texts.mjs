@@ -8,6 +8,8 @@ const told = (log, name, give) => (...values) => {
   return give?.(...values);
 };
 
+const ANSWERS = [7, -7, 2 ** 31, 2 ** 40 + 3, 1.9, "5", undefined, true, { valueOf: () => 8 }, 5n, Symbol.iterator];
+
 const counting = {
   name: "an object of functions, a heap, foreign functions and values",
   text: `function counting(stdlib, foreign, heap) {
@@ -22,9 +24,12 @@ const counting = {
   return { same: same, put: put, at: at, scaled: scaled, asked: asked, again: same };
 }`,
   length: 65536,
-  foreign: (log) => ({ report: told(log, "report"), ask: told(log, "ask", (x) => [7, -7, 2 ** 31, 2 ** 40 + 3, 1.9, "5", undefined, true, { valueOf: () => 8 }, 5n, Symbol.iterator][x]), factor: 2 ** 32 + 7, flag: true }),
-  calls: [...WORDS.map((word) => ["same", word]), ["same"], ["same", 1, 2], ["put", 65532, -2], ["put", 65536, 1], ["put", -4, 1], ["at", 65535], ["at", 65536], ["at", -1],
-    ["scaled", 3], ["scaled", 2 ** 31], ...Array.from({ length: 11 }, (_, k) => ["asked", k]), ["again", 5]],
+  foreign: (log) => ({ report: told(log, "report"), ask: told(log, "ask", (x) => ANSWERS[x]), factor: 2 ** 32 + 7, flag: true }),
+  calls: [
+    ...WORDS.map((word) => ["same", word]), ["same"], ["same", 1, 2],
+    ["put", 65532, -2], ["put", 65536, 1], ["put", -4, 1], ["at", 65535], ["at", 65536], ["at", -1],
+    ["scaled", 3], ["scaled", 2 ** 31], ...ANSWERS.map((_, k) => ["asked", k]), ["again", 5],
+  ],
 };
 
 const single = {
