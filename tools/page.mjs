@@ -13,6 +13,7 @@ import { fileURLToPath } from "node:url";
 const TOP = fileURLToPath(new URL("..", import.meta.url));
 const BROWSERS = ["chromium", "chromium-browser", "google-chrome", "google-chrome-stable", "chrome"];
 const LONGEST = 300; // seconds of a page
+const POLICY = "script-src 'self' 'unsafe-inline' 'wasm-unsafe-eval'"; // what is packed makes no code of a text
 const ROUNDS = 3;
 const MADE = ["mandelbrot_wasm.js", "mandelbrot_asm.js", "life_wasm.js"];
 const IDS = ["set-source", "set-made", "life-source", "life-made"];
@@ -97,7 +98,7 @@ function served(folder) {
   const server = createServer((request, response) => {
     try {
       const content = readFileSync(path.join(folder, path.normalize(new URL(request.url, "http://x").pathname)));
-      response.writeHead(200, { "content-type": TYPES[path.extname(request.url)] ?? "application/octet-stream" }).end(content);
+      response.writeHead(200, { "content-type": TYPES[path.extname(request.url)], "content-security-policy": POLICY }).end(content);
     } catch {
       response.writeHead(404).end();
     }
