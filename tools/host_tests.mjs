@@ -57,7 +57,12 @@ for (const { name, module, imports, numbers = {}, ...session } of MODULES)
     const known = { ...session, imports: imports?.(log), log };
     const theirs = await seen(async (all) => (await WebAssembly.instantiate(bytes, all)).instance, known);
     const plainly = (all) => asPlainJavaScript(() => instantiateSync(text, JSON.parse(JSON.stringify(signatures)), all));
-    for (const load of [async (all) => (await instantiate(text, signatures, all)).instance, plainly]) {
+    const later = async (all) => {
+      const promise = instantiate(text, signatures, all);
+      assert.deepEqual(log, [], "nothing runs before the promise is given");
+      return (await promise).instance;
+    };
+    for (const load of [later, plainly]) {
       const ours = await seen(load, known);
       sameSight(theirs, ours);
       for (const [call, number] of Object.entries(numbers)) assert.equal(ours.outcomes[call].error.number, number);
@@ -138,9 +143,11 @@ test("refused: texts that wasm2js wrote of another module, or didn't write", asy
     const bytes = encode(module);
     assert.doesNotThrow(() => new WebAssembly.Module(bytes));
     assertRefused(() => instantiateSync(toJs(bytes), asking.signatures, imports), [LinkError], field, log);
+    assertRefused(() => instantiateSync(asking.text, signaturesOf(bytes), imports), [LinkError], "", log);
     await assert.rejects(instantiate(toJs(bytes), asking.signatures, imports), LinkError);
   }
-  for (const text of FAULTY_TEXTS) assertRefused(() => instantiateSync(text, asking.signatures, given().imports), [LinkError], "");
+  for (const signatures of [undefined, askingBytes, "{}"]) assertRefused(() => instantiateSync(asking.text, signatures, given().imports), [TypeError], "signatures");
+  for (const text of FAULTY_TEXTS(asking.text)) assertRefused(() => instantiateSync(text, asking.signatures, given().imports), [LinkError], "");
   for (const wasm of [() => undefined, () => ({ $init() {}, $hi() {} }), () => ({ $init() {}, $hi() {}, run() {}, wide() {}, at() {} })])
     assertRefused(() => instantiateSync(wasm, asking.signatures, given().imports), [LinkError], "");
   assert.equal(instantiateSync(asking.text.replace(/\n/g, "\r\n"), asking.signatures, given().imports).exports.run(7), 7);
@@ -251,8 +258,11 @@ for (const { name, text, foreign = () => undefined, ...session } of TEXTS.slice(
 test("packed: the example page has what is made of its programs now", () => {
   const page = (name) => fileURLToPath(new URL(`../examples/page/${name}`, import.meta.url));
   const set = page("mandelbrot.wasm"), life = page("life.js");
-  assert.equal(readFileSync(page("mandelbrot_asm.js"), "utf8"), packed(["--script", "mandelbrotAsm", set, file("mandelbrot.js", toJs(readFileSync(set)))]));
-  assert.equal(readFileSync(page("life_wasm.js"), "utf8"), packed(["--script", "lifeWasm", life, file("life.wasm", toWasm(readFileSync(life, "utf8"), 2 ** 21))]));
+  const made = [
+    ["mandelbrot_asm.js", packed(["--script", "mandelbrotAsm", set, file("mandelbrot.js", toJs(readFileSync(set)))])],
+    ["life_wasm.js", packed(["--script", "lifeWasm", life, file("life.wasm", toWasm(readFileSync(life, "utf8"), 2 ** 21))])],
+  ];
+  for (const [name, code] of made) assert.ok(readFileSync(page(name), "utf8") === code, `${name}: examples/page/build.sh makes another one`);
 });
 
 test("packed: where WebAssembly is missing", () => {
@@ -302,6 +312,14 @@ test("packed: faulty words and files write nothing, and give status 1", () => {
   for (const words of faulty) {
     const [stdout, stderr] = packed(words, 1);
     assert.ok(stdout === "" && stderr.startsWith("pack: "), `${words}: ${stderr}`);
+  }
+});
+
+test("types: each declaration file names what its module exports", async () => {
+  for (const name of ["asm", "wasm", "signatures", "pack"]) {
+    const place = new URL(`../host/${name}.mjs`, import.meta.url);
+    const declared = Array.from(readFileSync(new URL(`${name}.d.mts`, place), "utf8").matchAll(/^export (?:function|class|const) (\w+)/gm), (match) => match[1]);
+    assert.deepEqual(declared.sort(), Object.keys(await import(place)).sort());
   }
 });
 

@@ -25,14 +25,12 @@ function memberOf({ name, kind }, foreign) {
   return kind === "global" ? member | 0 : member;
 }
 
-/** The imports object's `env`, which gives the values one after the other where a foreign member is named as the memory is. */
+/** The imports object's `env`. It is read once for each import, and where several have one name, as a foreign member and the memory may, gives them in order. */
 function environmentOf(items, values) {
+  const members = new Map();
+  items.forEach(({ name }, k) => members.set(name, [...(members.get(name) ?? []), values[k]]));
   const environment = {};
-  for (const { name } of items) {
-    const own = values.filter((_, k) => items[k].name === name);
-    const get = () => (own.every((value) => value === own[0]) ? own[0] : own.shift());
-    Object.defineProperty(environment, name, { get, configurable: true });
-  }
+  for (const [name, list] of members) Object.defineProperty(environment, name, { get: () => (list.length > 1 ? list.shift() : list[0]) });
   return environment;
 }
 

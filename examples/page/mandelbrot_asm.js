@@ -31,6 +31,9 @@ const RuntimeError = errorClass("RuntimeError");
 /** What is thrown where an import is of the wrong kind, or a text isn't of the module that has the signatures. */
 const LinkError = errorClass("LinkError");
 
+/** What kind of object this is, also where it is of another frame. */
+const tagOf = (value) => Object.prototype.toString.call(value).slice(8, -1);
+
 /** The length of the shortest heap that asm.js allows for so many pages: a power of two from 2^12 to 2^23, or a multiple of 2^24. */
 const heapLength = (pages) => (pages > 128 ? Math.ceil(pages / 256) * 256 * PAGE : 2 ** Math.max(12, Math.ceil(Math.log2(pages * PAGE))));
 
@@ -138,7 +141,7 @@ function isConstant(global) {
 
 /** Whether this is a memory of so many pages, in a heap as long as asm.js needs. One that was detached is empty. */
 function isMemory(value, pages) {
-  if (Object.prototype.toString.call(value) !== "[object WebAssembly.Memory]" || !(value.buffer instanceof ArrayBuffer)) return false;
+  if (tagOf(value) !== "WebAssembly.Memory" || tagOf(value.buffer) !== "ArrayBuffer") return false;
   const { buffer, byteLength = buffer.byteLength } = value;
   return byteLength === pages * PAGE && buffer.byteLength === heapLength(pages);
 }
@@ -255,20 +258,18 @@ function exportsOf(signatures, values, linked, state) {
 /** The names that asm.js has for parameters. */
 const namesOf = (params) => params.flatMap((type, k) => (type === "i64" ? [`x${k}`, `X${k}`] : [`x${k}`]));
 
-/** What stands in a text of the module with these signatures, each with the field that says so. */
-function piecesOf({ imports, exports, pages, start }) {
-  const head = (item, number) => `\nfunction f${number}(${namesOf(item.params)}){`;
-  const functions = ofKind("function", exports), imported = ofKind("function", imports);
-  const returned = ["$init:$init", "$hi:$hi", ...functions.map((item) => `${exportName(item)}:f${item.index}`)];
+/** The lines, or beginnings of lines, by which a text says what its functions take, what it imports, and how long its memory is. */
+const PIECES = /^(var [ig]\d+=foreign\..*|function f\d+\(.*?\)|function \$copy\(.*?\$trap\(2\);)/gm;
+
+/** Those of them that stand in a text of the module with these signatures, each with the field that says so. */
+function piecesOf({ imports, exports, pages }) {
+  const imported = ofKind("function", imports);
+  const head = (item, number) => `function f${number}(${namesOf(item.params)})`;
   return [
-    ["text", /^function wasm\(stdlib,foreign,heap\)\{"use asm";\n/],
-    ["exports", `\nreturn{${returned}};}`],
-    ...functions.map((item) => [fieldOf(item), head(item, item.index)]),
-    ...imported.map((item, k) => [fieldOf(item), `\nvar i${k}=foreign.${importName(item)};\n`, head(item, k)]),
-    ...ofKind("global", imports).map((item, k) => [fieldOf(item), `\nvar g${k}=foreign.${importName(item)}|0;\n`]),
-    ["imports", RegExp(`^(?![^]*\nvar i${imported.length}=)`)],
-    ["memory", pages === null ? /^(?![^]*\nfunction \$copy)/ : RegExp(`\nfunction \\$copy\\(.*>${pages * PAGE}\\)\\$trap\\(2\\)`)],
-    ["start", start === null ? "" : RegExp(`\nfunction \\$init\\(.*[;{]f${start}\\(\\);\\}\n`)],
+    ...ofKind("function", exports).map((item) => [fieldOf(item), head(item, item.index)]),
+    ...imported.map((item, k) => [fieldOf(item), `var i${k}=foreign.${importName(item)};`, head(item, k)]),
+    ...ofKind("global", imports).map((item, k) => [fieldOf(item), `var g${k}=foreign.${importName(item)}|0;`]),
+    ...(pages === null ? [] : [["memory", `function $copy(x0,x1,x2){x0=x0|0;x1=x1|0;x2=x2|0;var s0=0;if(x2>>>0>${pages * PAGE})$trap(2);`]]),
   ];
 }
 
@@ -277,14 +278,23 @@ function piecesOf({ imports, exports, pages, start }) {
  * @throws {LinkError} where it wasn't, with the field
  */
 function checkText(text, signatures) {
-  const lines = String(text).replace(/\r\n/g, "\n");
-  const has = (piece) => (typeof piece === "string" ? lines.includes(piece) : piece.test(lines));
-  const wrong = piecesOf(signatures).find(([, ...pieces]) => !pieces.every(has));
-  if (wrong) throw new LinkError(`${wrong[0]}: not as in the text that wasm2js writes of this module`);
+  const lines = String(text).trimEnd();
+  const returned = ["$init:$init", "$hi:$hi", ...ofKind("function", signatures.exports).map((item) => `${exportName(item)}:f${item.index}`)];
+  const found = new Set(lines.match(PIECES));
+  const count = (start) => Array.from(found).filter((piece) => piece.startsWith(start)).length;
+  const started = /^function \$init\(\)\{(?:.*;)?f(\d+)\(\);\}$/m.exec(lines)?.[1] ?? "null";
+  let [wrong] = piecesOf(signatures).find(([, ...pieces]) => !pieces.every((piece) => found.has(piece))) ?? [];
+  if (!lines.startsWith('function wasm(stdlib,foreign,heap){"use asm";')) wrong = "text";
+  if (!lines.endsWith(`\nreturn{${returned}};}`)) wrong ??= "exports";
+  if (count("var i") !== ofKind("function", signatures.imports).length) wrong ??= "imports";
+  if (count("function $copy") !== Number(signatures.pages !== null)) wrong ??= "memory";
+  if (started !== String(signatures.start)) wrong ??= "start";
+  if (wrong) throw new LinkError(`${wrong}: not as in the text that wasm2js writes of this module`);
 }
 
-/** The module function of a text that was checked. A page whose policy forbids this gives the function itself, as packed modules do. */
+/** The module function of a text, which is checked. A page whose policy forbids this gives the function itself, as packed modules do. */
 function moduleOf(text, signatures) {
+  if (!Array.isArray(signatures?.imports)) throw new TypeError("signatures: what `signaturesOf` gives is due");
   if (typeof text === "function") return text;
   checkText(text, signatures);
   return new Function(`${text}\nreturn wasm;`)();

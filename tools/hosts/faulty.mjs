@@ -62,10 +62,12 @@ export const OTHER_MODULES = [
   [changed({ exports: ASKING.exports.slice(1) }), "exports"], [changed({ exports: [["ran", "function", 3], ...ASKING.exports.slice(1)] }), "exports"],
   [changed({ exports: [["run", "function", 5], ["wide", "function", 4], ["at", "function", 3]] }), "exports"],
   [changed({ types: [...ASKING.types.slice(0, 3), [[I32, I64], [I64]]] }), 'export "wide"'],
+  [{ ...imported(1, { type: 4 }), types: [...ASKING.types, [[I32], [I64]]], functions: ASKING.functions.map((f) => (f.type === 3 ? own(3, [get(1), call(1)]) : f)) }, W],
   [changed({ start: undefined }), "start"],
 ];
 
-export const FAULTY_TEXTS = [
+export const FAULTY_TEXTS = (text) => [
+  `alert(1);\n${text}`, `${text}\nalert(1);`, text.slice(1), text.slice(0, -9),
   "", "function wasm(){}", "<!doctype html><p>Not found", "export default 5;", 'function wasm(stdlib,foreign,heap){"use asm";\nreturn{$init:$init,$hi:$hi,};}',
 ];
 
