@@ -10,7 +10,7 @@ use Rattle.hex.specs.Hex.{IsBytes}
 use Rattle.sem_laws.specs.Script.{GlobalPlain, WritePlain, CallPlain, ReplyPlain, ScriptPlain}
 use Rattle.sem_laws.specs.CallingForms.{foreign_import, global_to_wasm, script_to_wasm}
 use Rattle.sem_laws.proofs.NameLaws.{different_imports_have_different_names}
-use Rattle.script_fits.specs.Fits.{is_given, writes_of}
+use Rattle.script_fits.specs.Fits.{is_given, writes_of, are_bytes}
 use Rattle.script_fits.specs.FitLaws.{IsUnfit, a_global, a_write, a_call, a_reply, Fits}
 use Rattle.script_fits.proofs.Misfits.{no_misfit_fits, what_fits_has_no_misfit}
 use Rattle.wasm_lang.specs.declared.types.ValType.TheVariants.{I32}
@@ -106,19 +106,27 @@ module _ (m : Module) (size : ℕ) where
   -- ---- bytes
 
   module _ (hold : size ≤ pages_for size * page) where
-    lies : (end : ℕ) (b : Bool) (x : WritePlain) → x.at + length x.bytes ≡ end → (b && nat_le end size) ≡ true → machine.lies_in (pages_by b) x ≡ true
-    lies end true x e h = grind (arith, nat_tests)
-    lies end false x e h = absurd (cc h)
+    in_pages : (end : ℕ) → nat_le end size ≡ true → nat_le end (pages_for size * page) ≡ true
+    in_pages end h = grind (arith, nat_tests)
+
+    lies : (b : Bool) (x : WritePlain) → are_bytes x.bytes ≡ true → (b && nat_le (x.at + length x.bytes) size) ≡ true → machine.lies_in (pages_by b) x ≡ true
+    lies true x bytes h = and_from (are_bytes x.bytes) (nat_le (x.at + length x.bytes) (pages_for size * page)) bytes (in_pages (x.at + length x.bytes) h)
+    lies false x bytes h = absurd (cc h)
+
+    lies_by : (o : Option ℕ) (x : WritePlain) → o ≡ pages_by (has_heap m) → source.fits_write m size x ≡ true → machine.lies_in o x ≡ true
+    lies_by o x are h =
+        let p = and_parts (are_bytes x.bytes) (has_heap m && nat_le (x.at + length x.bytes) size) h in
+        ap (λ o. machine.lies_in o x) are ∙ lies (has_heap m) x p.0 p.1
 
     write_fits : (x : WritePlain) → source.fits_write m size x ≡ true → machine.fits_write w x ≡ true
-    write_fits x h = ap (λ o. machine.lies_in o x) imported_pages_are ∙ lies (x.at + length x.bytes) (has_heap m) x refl h
+    write_fits x h = lies_by (machine_pages.imported_pages w.imports) x imported_pages_are h
 
     all_lie : (xs : List WritePlain) → list_all (source.fits_write m size) xs ≡ true → list_all (machine.lies_in (machine_pages.pages w)) xs ≡ true
     all_lie [] h = refl
     all_lie (x ∷ xs) h =
         let parts = and_parts (source.fits_write m size x) (list_all (source.fits_write m size) xs) h in
         and_from (machine.lies_in (machine_pages.pages w) x) (list_all (machine.lies_in (machine_pages.pages w)) xs)
-        (ap (λ o. machine.lies_in o x) pages_are ∙ lies (x.at + length x.bytes) (has_heap m) x refl parts.0) (all_lie xs parts.1)
+        (lies_by (machine_pages.pages w) x pages_are parts.0) (all_lie xs parts.1)
 
     reply_fits : (r : ReplyPlain) → source.fits_reply m size r ≡ true → machine.fits_reply w r ≡ true
     reply_fits r h = all_lie (writes_of r) h

@@ -19,7 +19,7 @@ use Rattle.heap_lang.proofs.RunLemmas.{length-with_run, IsBytes-with_run}
 use Rattle.sem_laws.specs.Script.{GlobalPlain, WritePlain, ReplyPlain, give, throw, ReplyLinePlain, ScriptPlain}
 use Rattle.sem_laws.specs.CallingForms.{foreign_import, global_to_wasm, script_to_wasm}
 use Rattle.sem_laws.proofs.NameLaws.{different_imports_have_different_names}
-use Rattle.script_fits.specs.Fits.{is_given}
+use Rattle.script_fits.specs.Fits.{is_given, are_bytes}
 use Rattle.script_fits.specs.FitLaws.{a_global, a_write, a_reply, Fits}
 use Rattle.wasm_lang.specs.declared.types.ValType.TheVariants.{I32}
 use Rattle.wasm_lang.specs.declared.types.ImportKind.TheVariants as imports
@@ -79,7 +79,7 @@ module _ (m : Module) (size : ℕ) where
   long = heap_length m size
 
   stays : (x : WritePlain) → fits_write m size x ≡ true → IsBytes x.bytes → Stays long x
-  stays x h bytes = record { within = stays_where (has_heap m) size x h; bytes = bytes }
+  stays x h bytes = record { within = stays_where (has_heap m) size x (and_parts (are_bytes x.bytes) (has_heap m && nat_le (x.at + length x.bytes) size) h).1; bytes = bytes }
 
   all_stay : (xs : List WritePlain) → list_all (fits_write m size) xs ≡ true → AllByRecursion (λ (x : WritePlain). IsBytes x.bytes) xs → AllByRecursion (Stays long) xs
   all_stay [] h all = tt

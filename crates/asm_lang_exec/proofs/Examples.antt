@@ -394,6 +394,9 @@ the_global_is_missing = refl
 bytes_pass_the_end : misfit outside 8 (record (once (pos 1 ∷ [])) { writes = record { at = 7; bytes = 1 ∷ 2 ∷ []; line = 5 } ∷ [] }) ≡ Some 5
 bytes_pass_the_end = refl
 
+what_is_written_are_bytes : misfit outside 8 (record (once (pos 1 ∷ [])) { writes = record { at = 0; bytes = 1 ∷ 256 ∷ []; line = 5 } ∷ [] }) ≡ Some 5
+what_is_written_are_bytes = refl
+
 without_a_heap_no_byte_fits : misfit sum 8 (record (script [] []) { writes = record { at = 0; bytes = 1 ∷ []; line = 5 } ∷ [] }) ≡ Some 5
 without_a_heap_no_byte_fits = refl
 

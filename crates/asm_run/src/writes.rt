@@ -9,12 +9,13 @@ ghost use Rattle.script_fits.specs.Fits as parts;
 ghost use Rattle.asm_lang_exec.specs.Fits;
 
 use asm_validate::Checked;
-use script_fits::lesser;
+use script_fits::{bytes_are, lesser};
 use sem_laws::{Reply, ReplyLine, WriteLine};
 
 fn fits_write(checked: &Checked, heap_len: u32, write: &WriteLine) -> bool
     ensures { result ≡ Fits.fits_write (module_view checked.now) heap_len (write_of write.now) }
 {
+    bytes_are(write.bytes.as_bytes());
     let size = heap_len as u64;
     let len = write.bytes.as_bytes().len() as u64;
     checked.has_heap() && len <= size && write.at <= size - len

@@ -6,15 +6,15 @@ use Rattle.script_fits.specs.Fits.{Tests, or_else, is_given, are_given, global_l
 use Rattle.script_fits.specs.FitLaws.{IsUnfit, a_global, a_write, a_call, a_reply, Fits, IsFirstUnfit, HasMissing, NoMisfitFits, WhatFitsHasNoMisfit, MisfitIsFirst}
 use Rattle.script_fits.proofs.UnfitLines.{IsIn, in_front, in_back, in_either, least_none, least_some, item_of_line, line_of_item, global_of_line, line_of_global}
 
-both_first : (a b : Bool) → (a && b) ≡ true → a ≡ true
+pub both_first : (a b : Bool) → (a && b) ≡ true → a ≡ true
 both_first true b e = refl
 both_first false b e = cc e
 
-both_second : (a b : Bool) → (a && b) ≡ true → b ≡ true
+pub both_second : (a b : Bool) → (a && b) ≡ true → b ≡ true
 both_second true b e = e
 both_second false b e = cc e
 
-both : (a b : Bool) → a ≡ true → b ≡ true → (a && b) ≡ true
+pub both : (a b : Bool) → a ≡ true → b ≡ true → (a && b) ≡ true
 both true b e h = h
 both false b e h = cc e
 

@@ -1,5 +1,5 @@
 -- Which scripts fit a module, by its tests of each part, and the line of the first part of a script that doesn't.
-use Rattle.std.specs.Prelude.{ℕ, min, Bool, true, false, List, [], ◌∷◌, ◌++◌, Option, Some, None, Result, Ok, Err, bytes_eq}
+use Rattle.std.specs.Prelude.{ℕ, min, Bool, true, false, List, [], ◌∷◌, ◌++◌, Option, Some, None, Result, Ok, Err, bytes_eq, nat_lt}
 use Rattle.std.specs.List.{list_all, list_any}
 use Rattle.sem_laws.specs.Script.{GlobalPlain, WritePlain, CallPlain, ReplyPlain, give, throw, ReplyLinePlain, ScriptPlain}
 
@@ -22,6 +22,10 @@ is_given gs name = list_any (λ (g : GlobalPlain). bytes_eq name g.name) gs
 abbrev pub writes_of : ReplyPlain → List WritePlain
 writes_of (give word writes) = writes
 writes_of throw = []
+
+-- each of the numbers that are written is a byte
+abbrev pub are_bytes : List ℕ → Bool
+are_bytes = list_all (λ b. nat_lt b 256)
 
 -- ---- the lines of what doesn't fit
 

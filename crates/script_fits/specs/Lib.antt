@@ -1,3 +1,4 @@
 pub mod Fits
 pub mod FitLaws
 pub mod Earlier
+pub mod Written

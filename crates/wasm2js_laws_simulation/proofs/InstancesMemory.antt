@@ -11,6 +11,7 @@ use Rattle.heap_lang.specs.Numbers.{IsBytes}
 use Rattle.heap_lang.specs.Heap.{with_run}
 use Rattle.heap_lang.proofs.RunLemmas.{length-with_run, with_run-append, IsBytes-with_run}
 use Rattle.sem_laws.specs.Script.{WritePlain, ReplyPlain, give, throw, ReplyLinePlain, ScriptPlain}
+use Rattle.script_fits.specs.Fits.{are_bytes}
 use Rattle.script_fits.specs.FitLaws.{a_reply, Fits}
 use Rattle.script_fits.proofs.Misfits.{no_misfit_fits}
 use Rattle.wasm_lang.specs.Modules.{DataSegment, WasmModule}
@@ -170,7 +171,7 @@ module _ (w : WasmModule) (source : IsSource w) (called : IsCalledAs w (translat
 
   one_lies : (o : Option ℕ) (x : WritePlain) → lies_in o x ≡ true → x.at + length x.bytes ≤ or_zero o * 65536
   one_lies None x h = cc h
-  one_lies (Some n) x h = test_le (x.at + length x.bytes) (n * page) h
+  one_lies (Some n) x h = test_le (x.at + length x.bytes) (n * page) (and_parts (are_bytes x.bytes) (nat_le (x.at + length x.bytes) (n * page)) h).1
 
   all_writable : (ws : List WritePlain) → list_all (lies_in (pages w)) ws ≡ true → AllByRecursion (λ (x : WritePlain). IsBytes x.bytes) ws → AllByRecursion (IsWritable (memory_bytes w)) ws
   all_writable [] h k = tt

@@ -98,6 +98,13 @@ past_the_memory = refl
 reply_past_the_memory : misfit imports_all (record fitting { replies = reply 5 (write 5 65536 (1 ∷ []) ∷ []) ∷ [] }) ≡ Some 5
 reply_past_the_memory = refl
 
+-- what is written are bytes
+no_byte : misfit imports_all (record fitting { writes = write 3 65534 (1 ∷ 256 ∷ []) ∷ [] }) ≡ Some 3
+no_byte = refl
+
+no_byte_in_a_reply : misfit imports_all (record fitting { replies = reply 5 (write 5 0 (256 ∷ []) ∷ []) ∷ [] }) ≡ Some 5
+no_byte_in_a_reply = refl
+
 -- a memory of the module's own takes a reply's bytes, but no bytes of the host before the session
 own_memory_and_heap : misfit own_memory (record fitting { globals = []; calls = [] }) ≡ Some 3
 own_memory_and_heap = refl

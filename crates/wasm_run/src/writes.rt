@@ -9,7 +9,7 @@ ghost use Rattle.wasm_lang_valid.specs.Runnable;
 ghost use Rattle.script_fits.specs.Fits as parts;
 ghost use Rattle.wasm_lang_exec.specs.Fits;
 
-use script_fits::lesser;
+use script_fits::{bytes_are, lesser};
 use sem_laws::{Reply, ReplyLine, WriteLine};
 use wasm_lang::ImportKind;
 use wasm_tree::{Import, Module};
@@ -45,6 +45,7 @@ fn lies_in(pages: Option<u32>, write: &WriteLine) -> bool
     let Some(pages) = pages else {
         return false;
     };
+    bytes_are(write.bytes.as_bytes());
     let size = pages as u64 * 65536;
     let len = write.bytes.as_bytes().len() as u64;
     len <= size && write.at <= size - len
