@@ -22,7 +22,7 @@ use Rattle.wasm2js_laws_simulation.specs.WholeLaws.{SpelledAreAllowed, TrapsOfSp
 use Rattle.wasm2js_laws_simulation.specs.BoundedLaws.{SpelledAreBounded}
 use Rattle.gen_lang.specs.Recipe.{recipe, recipe_heap, summary}
 use Rattle.gen_laws.specs.Modules.{recipe_module}
-use Rattle.bridge_cmd.specs.Job.{IsSummarized, translated}
+use Rattle.bridge_lang.specs.Job.{IsSummarized, translated}
 use Rattle.cmd_check_asm.specs.declared.fault.CheckFault.{CheckFault as TextFault}
 use Rattle.cmd_check_asm.specs.declared.fault.CheckFault.TheVariants as text_faults
 use Rattle.cmd_check_asm.specs.Verdicts as texts

@@ -11,8 +11,8 @@ use Rattle.asm_lang_exec.specs.Session.{first_heap}
 use Rattle.asm_lang_exec.specs.Fits.{misfit}
 use Rattle.asm2wasm_lang.specs.Allowed.{WritesBytes, source_session}
 use Rattle.wasm2js_laws_round_trip.specs.Laws.{script_back, size_back, session_back}
-use Rattle.bridge_cmd.specs.Command.{asm_to_wasm, wasm_to_asm}
-use Rattle.bridge_cmd.specs.Job.{IsMade}
+use Rattle.bridge_lang.specs.Command.{asm_to_wasm, wasm_to_asm}
+use Rattle.bridge_lang.specs.Job.{IsMade}
 
 -- where `asm2wasm` makes the bytes of a text, and `wasm2js` another text of those, the second text simulates the first one, with
 -- each script that fits it

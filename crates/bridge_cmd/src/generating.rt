@@ -8,7 +8,7 @@ ghost use Rattle.wasm_binary_write.specs.Spelling.{spelling};
 ghost use Rattle.wasm2js_code.specs.Modules.{translated as asm_js_for};
 ghost use Rattle.gen_lang.specs.Recipe as spec;
 ghost use Rattle.gen_laws.specs.Modules.{recipe_module};
-ghost use Rattle.bridge_cmd.specs.Job.{IsSummarized};
+ghost use Rattle.bridge_lang.specs.Job.{IsSummarized};
 
 use crate::making::text_of;
 use asm_text::printed_texts_are_read;

@@ -1,7 +1,7 @@
 //! Commands that read one file.
 ghost use Rattle.std.specs.Prelude.{◌≡◌, ◌≤◌, ℕ, true, false, None, List, length, IfOk, IfErr};
 ghost use Rattle.bridge_cmd.specs.Asking.{made_by};
-ghost use Rattle.bridge_cmd.specs.Command as spec;
+ghost use Rattle.bridge_lang.specs.Command as spec;
 ghost use Rattle.asm_tree.specs.Views.{module_view};
 ghost use Rattle.wasm_binary_write.specs.Spelling.{spelling};
 ghost use Rattle.asm2wasm_code.specs.Modules.{translation};
@@ -9,8 +9,8 @@ ghost use Rattle.asm2wasm_laws_writable.specs.Parts.{IsOfShortText};
 ghost use Rattle.asm_lang.specs.Printing.{canonical_text};
 ghost use Rattle.wasm_lang_valid.specs.Profile.{outside_profile};
 ghost use Rattle.wasm2js_code.specs.Modules.{translated as asm_js_for};
-ghost use Rattle.bridge_cmd.specs.Job.{file_limit, IsMade};
-ghost use Rattle.bridge_cmd.specs.Answers.{IsAnswered};
+ghost use Rattle.bridge_lang.specs.Job.{file_limit, IsMade};
+ghost use Rattle.bridge_lang.specs.Answers.{IsAnswered};
 ghost use Rattle.bridge_cmd.specs.Refused.{reason_of};
 
 use crate::hashes::import_hashes;

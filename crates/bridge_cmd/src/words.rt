@@ -1,7 +1,7 @@
 //! The commands, as the words name them.
 ghost use Rattle.std.specs.Prelude.{◌≡◌, map, string_bytes};
 ghost use Rattle.bridge_words.specs.Answer.{Answers};
-ghost use Rattle.bridge_cmd.specs.Command as spec;
+ghost use Rattle.bridge_lang.specs.Command as spec;
 ghost use Rattle.bridge_cmd.specs.Asking.{named_by, made_by, run_as};
 
 use bridge_words::{FunctionCount, HeapLength, Job, WordsFault, read_words};

@@ -10,7 +10,7 @@ use Rattle.clap.specs.declared.error.Error.{Error}
 use Rattle.clap.specs.declared.error.kind.ErrorKind.TheVariants.{OutOfMemory}
 use Rattle.clap.specs.declared.parser.matches.ArgMatches.{ArgMatches}
 use Rattle.clap.proofs.OnLiterals.{clap_on_literals}
-use Rattle.bridge_words.specs.App.{bridge_app, faults_of, rows_read}
+use Rattle.bridge_lang.specs.App.{bridge_app, faults_of, rows_read}
 
 bridge_simple : is_simple bridge_app ≡ true
 unfolding bridge_app clap_on_literals

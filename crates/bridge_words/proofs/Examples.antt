@@ -1,9 +1,9 @@
 -- What the definition says of words that are written out.
 use Rattle.std.proofs.Common.{◌≡◌, refl, [], ◌∷◌, Some, None, codes}
 use Rattle.clap.proofs.OnLiterals.{clap_on_literals}
-use Rattle.bridge_words.specs.App.{bridge_app, faults_of, rows_read}
-use Rattle.bridge_words.specs.Number.{is_gen_count, is_heap, is_steps, number_of}
-use Rattle.bridge_words.specs.Job.{gen, given_in, heap_of, job_in, job_named, job_of, lone_operand, run_wasm, show, steps_of}
+use Rattle.bridge_lang.specs.App.{bridge_app, faults_of, rows_read}
+use Rattle.bridge_lang.specs.Number.{is_gen_count, is_heap, is_steps, number_of}
+use Rattle.bridge_lang.specs.Words.{gen, given_in, heap_of, job_in, job_named, job_of, lone_operand, run_wasm, show, steps_of}
 
 steps_by_word : job_of (codes "bridge" ∷ codes "run-wasm" ∷ codes "a" ∷ codes "b" ∷ codes "--steps" ∷ codes "5" ∷ []) ≡ Some (run_wasm (codes "a") (codes "b") 5)
 unfolding bridge_app faults_of rows_read number_of is_heap is_steps lone_operand heap_of steps_of job_named given_in job_in job_of clap_on_literals

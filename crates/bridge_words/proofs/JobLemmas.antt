@@ -6,8 +6,8 @@ use Rattle.clap.specs.Matches.{first_value, matched_of, raw_values}
 use Rattle.clap.specs.Kinds.{Kinds}
 use Rattle.clap.specs.declared.parser.matches.Found.{Found}
 use Rattle.clap.proofs.WalkLemmas.{first_value-rows, raw_values-rows}
-use Rattle.bridge_words.specs.App.{faults_of, rows_read}
-use Rattle.bridge_words.specs.Job.{GivenTexts, JobRead, given_in, job_in, job_named, job_of, texts_or_none, unless_faulty}
+use Rattle.bridge_lang.specs.App.{faults_of, rows_read}
+use Rattle.bridge_lang.specs.Words.{GivenTexts, JobRead, given_in, job_in, job_named, job_of, texts_or_none, unless_faulty}
 use Rattle.bridge_words.specs.Answer.{Answers, given_texts, job_read, text_of, texts_of}
 use Rattle.bridge_words.specs.declared.command.Given.{Given}
 use Rattle.bridge_words.specs.declared.job.Job.{Job}

@@ -7,7 +7,7 @@ use Rattle.std.proofs.lemmas.Grind.{common_steps}
 use Rattle.std.proofs.lemmas.Str.Parse.{IsNumeralModel, numerals_by_value, parse_plain, tells_all_ascii_digits}
 use Rattle.std.proofs.lemmas.Bool.{false_from_ne_true}
 use Rattle.clap.specs.Walk.{Text, is_empty}
-use Rattle.bridge_words.specs.Number.{is_gen_count, is_heap, is_steps, kept, number_of}
+use Rattle.bridge_lang.specs.Number.{is_gen_count, is_heap, is_steps, kept, number_of}
 
 abbrev fits : ℕ → Bool
 fits n = nat_lt n (2 ^ 32)

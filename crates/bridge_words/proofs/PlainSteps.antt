@@ -6,8 +6,8 @@ use Rattle.clap.specs.Kinds.{or_else}
 use Rattle.clap.specs.Faults.{turn_fault, walk_fault}
 use Rattle.clap.proofs.WalkLemmas.{both as and-true}
 use Rattle.clap.proofs.OnLiterals.{clap_on_literals}
-use Rattle.bridge_words.specs.App.{bridge_app}
-use Rattle.bridge_words.specs.Job.{given_in, job_in, job_named, job_of, unless_faulty}
+use Rattle.bridge_lang.specs.App.{bridge_app}
+use Rattle.bridge_lang.specs.Words.{given_in, job_in, job_named, job_of, unless_faulty}
 use Rattle.bridge_words.proofs.PlainWords.{shape, is_plain, row, operand_rows, after_name, after_operand, name_step, first_step, next_step, name_fault, first_fault, next_fault, end_fault, level, faults_are, rows_are_read, not_hyphen}
 
 record Walked (name : Text) (done : List Text) (last : Text) (rest : List Text) : Type 0 where

@@ -11,8 +11,8 @@ use Rattle.clap.specs.declared.parser.matches.ValueSource.TheVariants.{CommandLi
 use Rattle.clap.proofs.WalkLemmas.{both as and-true}
 use Rattle.clap.proofs.OnLiterals.{clap_on_literals}
 use Rattle.clap.proofs.FaultLemmas.{leaf_fault}
-use Rattle.bridge_words.specs.Job.{given_in, job_in, job_named, job_of, unless_faulty}
-use Rattle.bridge_words.specs.App.{bridge_app, faults_of, rows_read}
+use Rattle.bridge_lang.specs.Words.{given_in, job_in, job_named, job_of, unless_faulty}
+use Rattle.bridge_lang.specs.App.{bridge_app, faults_of, rows_read}
 
 abbrev pub shape : Shape
 unfolding bridge_app

@@ -2,8 +2,8 @@
 use Rattle.std.specs.Prelude.{◌≡◌, ℕ, List, Option, Some, None, Result, Ok, Err, map, option_map}
 use Rattle.std.specs.Prelude.{string_bytes}
 use Rattle.std.specs.Borrow.{Bor}
-use Rattle.bridge_words.specs.Job.{GivenTexts, texts_or_none, JobRead, check_asm, check_wasm, asm_to_wasm, wasm_to_asm}
-use Rattle.bridge_words.specs.Job.{run_asm, run_wasm, show, gen}
+use Rattle.bridge_lang.specs.Words.{GivenTexts, texts_or_none, JobRead, check_asm, check_wasm, asm_to_wasm, wasm_to_asm}
+use Rattle.bridge_lang.specs.Words.{run_asm, run_wasm, show, gen}
 use Rattle.bridge_words.specs.declared.command.Given.{Given}
 use Rattle.bridge_words.specs.declared.job.Job.{Job}
 use Rattle.bridge_words.specs.declared.job.Job.TheVariants.{CheckAsm, CheckWasm, AsmToWasm, WasmToAsm}

@@ -3,9 +3,9 @@
 ghost use Rattle.std.specs.Prelude.{◌≡◌, ◌≢◌, IfOk, IfErr, map, string_bytes, []};
 ghost use Rattle.clap.specs.Words.{app_of, found_of, rows_of};
 ghost use Rattle.bridge_words.specs.declared.fault.WordsFault.TheVariants as faults;
-ghost use Rattle.bridge_words.specs.Job.{given_in};
+ghost use Rattle.bridge_lang.specs.Words.{given_in};
 ghost use Rattle.bridge_words.specs.Answer.{given_texts};
-ghost use Rattle.bridge_words.specs.App.{bridge_app, faults_of, rows_read};
+ghost use Rattle.bridge_lang.specs.App.{bridge_app, faults_of, rows_read};
 
 use crate::fault::WordsFault;
 use clap::error::ErrorKind;

@@ -1,7 +1,7 @@
 //! How many functions a text is made of.
 
 ghost use Rattle.std.specs.Prelude.{◌≡◌, ◌≤◌, true};
-ghost use Rattle.bridge_words.specs.Number.{is_gen_count};
+ghost use Rattle.bridge_lang.specs.Number.{is_gen_count};
 
 /// How many functions a text is made of: 1 to 10,000.
 #[derive(Clone, Copy, Debug)]

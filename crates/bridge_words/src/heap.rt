@@ -1,7 +1,7 @@
 //! Lengths of heaps.
 
 ghost use Rattle.std.specs.Prelude.{◌≡◌, ◌^◌, ◌%◌, ◌≤◌, true};
-ghost use Rattle.bridge_words.specs.Number.{is_heap};
+ghost use Rattle.bridge_lang.specs.Number.{is_heap};
 
 /// A heap's length in bytes: a power of two from 4 KiB to 8 MiB, or a multiple of 16 MiB up to 256 MiB.
 #[derive(Clone, Copy, Debug)]

@@ -1,8 +1,8 @@
 //! The commands with their operands and options.
 
 ghost use Rattle.std.specs.Prelude.{◌≡◌, Some, map, string_bytes};
-ghost use Rattle.bridge_words.specs.Job as spec;
-ghost use Rattle.bridge_words.specs.Job.{job_named, job_of, only, only_two, asm_to_wasm_of, run_asm_of, run_wasm_of, gen_of};
+ghost use Rattle.bridge_lang.specs.Words as spec;
+ghost use Rattle.bridge_lang.specs.Words.{job_named, job_of, only, only_two, asm_to_wasm_of, run_asm_of, run_wasm_of, gen_of};
 ghost use Rattle.bridge_words.specs.Answer.{Answers, text_of, given_texts, job_read};
 
 use crate::command::{Given, given_of, matches_for};

@@ -1,9 +1,9 @@
 //! The numbers that words write.
 
 ghost use Rattle.std.specs.Prelude.{◌≡◌, ◌^◌, nat_lt, option_map};
-ghost use Rattle.bridge_words.specs.Number as spec;
-ghost use Rattle.bridge_words.specs.Number.{kept, number_of};
-ghost use Rattle.bridge_words.specs.Job.{heap_of, steps_of};
+ghost use Rattle.bridge_lang.specs.Number as spec;
+ghost use Rattle.bridge_lang.specs.Number.{kept, number_of};
+ghost use Rattle.bridge_lang.specs.Words.{heap_of, steps_of};
 ghost use Rattle.bridge_words.specs.Answer.{given_texts};
 
 use crate::command::Given;

@@ -1,7 +1,7 @@
 //! The names of rows as they are printed.
 
 ghost use Rattle.std.specs.Prelude.{◌≡◌};
-ghost use Rattle.cmd_check_asm.specs.Names as names;
+ghost use Rattle.bridge_lang.specs.AsmRows as names;
 
 use crate::fault::AsmRow;
 

@@ -5,7 +5,8 @@ ghost use Rattle.sem_laws.specs.Views.{script_of};
 ghost use Rattle.asm_tree.specs.Views.{module_view};
 ghost use Rattle.asm_lang_exec.specs.Fits.{misfit};
 ghost use Rattle.asm_run.specs.Exports.{callees_of, callees_said};
-ghost use Rattle.cmd_run_asm.specs.Runs.{Prints, Shows, IsScriptRefusal};
+ghost use Rattle.bridge_lang.specs.AsmRuns.{Prints, Shows};
+ghost use Rattle.cmd_run_asm.specs.Runs.{IsScriptRefusal};
 
 use asm_run::{Session, fits_asm};
 use asm_tree::Function;

@@ -4,7 +4,7 @@ use Rattle.std.specs.Prelude.{codes}
 use Rattle.std.specs.Fmt.{digits}
 use Rattle.wasm_lang_valid.specs.declared.profile.Beyond.{Beyond}
 use Rattle.wasm_lang_valid.specs.declared.profile.Beyond.TheVariants as rows
-use Rattle.cmd_run_wasm.specs.Names.{row_word, row_name}
+use Rattle.bridge_lang.specs.WasmRows.{beyond_word, beyond_name}
 
 abbrev pub written : Beyond → List ℕ
 written rows.ImportedTable = codes "B14 ImportedTable"

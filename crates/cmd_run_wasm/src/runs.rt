@@ -6,7 +6,8 @@ ghost use Rattle.wasm_lang_exec.specs.Fits.{misfit};
 ghost use Rattle.wasm_lang_exec.specs.Session.{wasm};
 ghost use Rattle.wasm_lang_valid.specs.Runnable.{not_runnable};
 ghost use Rattle.wasm_run.specs.Exports.{callees_of};
-ghost use Rattle.cmd_run_wasm.specs.Runs.{Prints, IsScriptRefusal};
+ghost use Rattle.bridge_lang.specs.WasmRuns.{Prints};
+ghost use Rattle.cmd_run_wasm.specs.Runs.{IsScriptRefusal};
 
 use script_print::observation_text;
 use script_read::{ScriptFault, read_script};

@@ -3,7 +3,7 @@
 ghost use Rattle.std.specs.Prelude.{◌≡◌, ◌+◌, ◌<◌, ◌≤◌, ◌^◌, ◌++◌, length, map, IfOk, OnOk};
 ghost use Rattle.wasm_tree.specs.Views.{body_of, code_of, import_of, module_of, type_of};
 ghost use Rattle.wasm_lang_valid.specs.ModuleRules.{imported_functions};
-ghost use Rattle.wasm_listing.specs.Listing as spec;
+ghost use Rattle.bridge_lang.specs.Listing as spec;
 
 use crate::counts::counts_line;
 use crate::types::push_numbered;

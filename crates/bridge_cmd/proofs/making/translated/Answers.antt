@@ -1,7 +1,7 @@
 use Rattle.std.proofs.Common.{refl}
 use Rattle.asm_tree.specs.Views.{module_view}
-use Rattle.bridge_cmd.specs.Command.{asm_to_wasm}
-use Rattle.bridge_cmd.specs.Answers.{want_of_memory}
+use Rattle.bridge_lang.specs.Command.{asm_to_wasm}
+use Rattle.bridge_lang.specs.Answers.{want_of_memory}
 use Rattle.bridge_cmd.proofs.Jobs.{text_answer}
 use Rattle.bridge_cmd.proofs.Translated.{made}
 use Rattle.bridge_cmd.proofs.making.translated.Goals as goal

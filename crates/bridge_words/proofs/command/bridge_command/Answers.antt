@@ -2,7 +2,7 @@ use Rattle.std.proofs.Common.{rules, ap, ap₂, true, ◌≡◌, ◌∙◌}
 use Rattle.std.proofs.lemmas.Result.{IfOk-weaker}
 use Rattle.clap.specs.Walk.{rule_of}
 use Rattle.clap.specs.Simple.{app_of, app_of_fields, on_top, with_rule}
-use Rattle.bridge_words.specs.App.{bare_app, bridge_app, command_rule, heap_rule, operands_rule, steps_rule}
+use Rattle.bridge_lang.specs.App.{bare_app, bridge_app, command_rule, heap_rule, operands_rule, steps_rule}
 use Rattle.bridge_words.proofs.command.bridge_command.Goals as goal
 
 pub returns : goal.returns

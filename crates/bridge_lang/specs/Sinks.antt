@@ -1,6 +1,5 @@
 -- What a sink gains.
 use Rattle.std.specs.Prelude.{◌≡◌, ◌≤◌, ℕ, List, Option, length, take}
-use Rattle.std.specs.Borrow.{Bor}
 use Rattle.bridge_io.specs.Outside.{Rose, appended}
 
 -- a sink's bytes so far, where they are told, and its count of failed writes
@@ -25,7 +24,3 @@ Stays old new = new.bytes ≡ old.bytes
 
 abbrev pub seen : Option (List ℕ) → ℕ → Seen
 seen bytes faults = record { bytes = bytes; faults = faults }
-
--- the bytes behind a slice
-abbrev pub now_of : Bor (List ℕ) → List ℕ
-now_of piece = piece.now

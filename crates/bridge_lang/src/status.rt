@@ -1,10 +1,10 @@
 //! How a call of `bridge` ends.
 ghost use Rattle.std.specs.Prelude.{◌≡◌};
-ghost use Rattle.bridge_cmd.specs.Code.{code_of};
+ghost use Rattle.bridge_lang.specs.Statuses.{code_of};
 
-use cmd_check_asm::AsmRow;
-use wasm_tree::Row;
-use wasm_validate::{Beyond, Rule, Section};
+use crate::row::AsmRow;
+use wasm_lang::Row;
+use wasm_lang_valid::{Beyond, Rule, Section};
 
 /// Why the bytes are no WebAssembly module that the command takes.
 #[derive(Clone, Copy, Debug, PartialEq, Eq)]

@@ -1,16 +1,16 @@
 -- Why there is no output, and the line that says so.
 use Rattle.std.specs.Prelude.{ℕ, Bool, List, [], ◌∷◌, ◌++◌, codes, decimal}
 use Rattle.std.specs.List.{concat}
-use Rattle.cmd_check_asm.specs.declared.fault.AsmRow.{AsmRow}
-use Rattle.cmd_check_asm.specs.Names as texts
+use Rattle.bridge_lang.specs.declared.row.AsmRow.{AsmRow}
+use Rattle.bridge_lang.specs.AsmRows as texts
 use Rattle.wasm_lang.specs.declared.fault.Row.{Row}
 use Rattle.wasm_lang_valid.specs.declared.rule.Rule.{Rule}
 use Rattle.wasm_lang_valid.specs.declared.section.Section.{Section}
 use Rattle.wasm_lang_valid.specs.declared.profile.Beyond.{Beyond}
 use Rattle.wasm_lang_valid.specs.Rules.{number}
 use Rattle.wasm_lang_valid.specs.Validity.{id}
-use Rattle.cmd_check_wasm.specs.Names.{row_name}
-use Rattle.cmd_run_wasm.specs.Names as outsiders
+use Rattle.bridge_lang.specs.WasmRows.{row_name}
+use Rattle.bridge_lang.specs.WasmRows as outsiders
 
 pub data Reason : Type 0 where
   faulty_words : Reason
@@ -37,7 +37,7 @@ parts_of (not_a_binary row at) = codes "wasm refused: " ∷ row_name row ∷ cod
 parts_of (not_valid rule section index instruction) =
     codes "wasm refused: B13 Invalid V" ∷ decimal (number rule) ∷ codes " at section " ∷ decimal (id section)
     ∷ codes " index " ∷ decimal index ∷ codes " instruction " ∷ decimal instruction ∷ []
-parts_of (not_run row value) = codes "wasm refused: " ∷ outsiders.row_name row ∷ codes " " ∷ decimal value ∷ []
+parts_of (not_run row value) = codes "wasm refused: " ∷ outsiders.beyond_name row ∷ codes " " ∷ decimal value ∷ []
 parts_of (bad_script line) = codes "script refused: line " ∷ decimal line ∷ []
 parts_of read_fault = codes "read fault" ∷ []
 parts_of (missing is_script file) = codes "missing: " ∷ file ∷ []

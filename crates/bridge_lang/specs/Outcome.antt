@@ -1,13 +1,13 @@
 -- How a call ends, and what it leaves in its two sinks.
 use Rattle.std.specs.Prelude.{◌≡◌, ℕ, List, Option}
 use Rattle.bridge_io.specs.Outside.{Told}
-use Rattle.bridge_cmd.specs.Reason.{Reason, line_of}
-use Rattle.bridge_cmd.specs.Refused.{status_of}
-use Rattle.bridge_cmd.specs.Sinks.{Seen, Gains, GainsFront, Stays}
-use Rattle.bridge_cmd.specs.Answers.{MayAnswer}
-use Rattle.bridge_cmd.specs.Job.{Job, refused, written, IsJob}
-use Rattle.bridge_cmd.specs.declared.status.Status.{Status}
-use Rattle.bridge_cmd.specs.declared.status.Status.TheVariants.{Done, ReadFault, WriteFault, Memory}
+use Rattle.bridge_lang.specs.Reason.{Reason, line_of}
+use Rattle.bridge_lang.specs.Statuses.{status_of}
+use Rattle.bridge_lang.specs.Sinks.{Seen, Gains, GainsFront, Stays}
+use Rattle.bridge_lang.specs.Answers.{MayAnswer}
+use Rattle.bridge_lang.specs.Job.{Job, refused, written, IsJob}
+use Rattle.bridge_lang.specs.declared.status.Status.{Status}
+use Rattle.bridge_lang.specs.declared.status.Status.TheVariants.{Done, ReadFault, WriteFault, Memory}
 
 abbrev pub EndsAs : Job → Status → Type 0
 EndsAs (refused reason) status = status ≡ status_of reason

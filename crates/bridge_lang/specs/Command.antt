@@ -1,7 +1,7 @@
 -- Which command the words name.
 use Rattle.std.specs.Prelude.{ℕ, Bool, false, List, [], ◌∷◌, Option, ◌==◌, if◌then◌else◌, option_map}
-use Rattle.bridge_words.specs.Job.{JobRead, job_of}
-use Rattle.bridge_words.specs.Job as words
+use Rattle.bridge_lang.specs.Words.{JobRead, job_of}
+use Rattle.bridge_lang.specs.Words as words
 
 -- what a module is run as; one of asm.js with a heap of so many bytes
 pub data Running : Type 0 where

@@ -4,8 +4,8 @@ use Rattle.std.specs.Prelude.{if◌then◌else◌, option_and_then, option_map, 
 use Rattle.std.specs.Str.{bytes_eq}
 use Rattle.clap.specs.Kinds.{Kinds}
 use Rattle.clap.specs.Walk.{Row, Text, all_of, first_of}
-use Rattle.bridge_words.specs.App.{faults_of, rows_read}
-use Rattle.bridge_words.specs.Number.{is_gen_count, is_heap, is_steps, kept, number_of, number_or}
+use Rattle.bridge_lang.specs.App.{faults_of, rows_read}
+use Rattle.bridge_lang.specs.Number.{is_gen_count, is_heap, is_steps, kept, number_of, number_or}
 
 -- a job, as texts and numbers
 pub data JobRead : Type 0 where

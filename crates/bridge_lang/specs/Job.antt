@@ -4,25 +4,26 @@ use Rattle.std.specs.Prelude.{◌≡◌, ◌≢◌, ◌<◌, ◌≤◌, ℕ, Boo
 use Rattle.bridge_io.specs.Outside.{Told, content_of}
 use Rattle.asm_lang.specs.Modules.{Module}
 use Rattle.asm_lang.specs.Printing.{canonical_text}
-use Rattle.cmd_check_asm.specs.declared.fault.CheckFault.{CheckFault as TextFault}
 use Rattle.asm_lang_valid.specs.Texts.{IsAcceptedText}
-use Rattle.cmd_check_asm.specs.Verdicts as texts
+use Rattle.bridge_lang.specs.AsmVerdicts.{IsRefusedText}
+use Rattle.bridge_lang.specs.AsmVerdicts as texts
+use Rattle.bridge_lang.specs.declared.row.AsmRow.{AsmRow}
 use Rattle.wasm_lang.specs.Modules.{WasmModule}
+use Rattle.wasm_lang.specs.declared.fault.Row.{Row}
+use Rattle.wasm_lang.specs.Bytes.{IsFirstFault}
 use Rattle.wasm_lang_valid.specs.declared.profile.Outside.{Outside}
-use Rattle.wasm_lang_valid.specs.Bytes.{IsValidBytes, IsTranslatable, IsBeyond}
-use Rattle.cmd_check_wasm.specs.declared.fault.CheckFault.{CheckFault}
-use Rattle.cmd_check_wasm.specs.declared.fault.CheckFault.TheVariants.{Memory}
-use Rattle.cmd_check_wasm.specs.Verdicts.{IsCounted, IsRefused}
-use Rattle.wasm_listing.specs.Listing.{listing}
-use Rattle.cmd_run_wasm.specs.Modules.{IsOutside}
+use Rattle.wasm_lang_valid.specs.declared.rule.Rule.{Rule}
+use Rattle.wasm_lang_valid.specs.declared.section.Section.{Section}
+use Rattle.wasm_lang_valid.specs.Bytes.{IsValidBytes, IsInvalidBytes, IsTranslatable, IsBeyond}
+use Rattle.bridge_lang.specs.WasmVerdicts.{IsCounted}
+use Rattle.bridge_lang.specs.Listing.{listing}
+use Rattle.bridge_lang.specs.WasmRuns.{IsOutside}
 use Rattle.asm2wasm_lang.specs.Allowed.{IsAllowed, IsBounded, IsShortest}
 use Rattle.wasm2js_lang.specs.Allowed.{IsAllowed as IsAllowedAsm, IsBounded as IsBoundedAsm, TrapsAreCalls}
-use Rattle.wasm2js_code.specs.Modules.{translated as asm_js_for}
 use Rattle.gen_lang.specs.Recipe.{recipe, recipe_heap, summary}
-use Rattle.bridge_cmd.specs.Command.{Asked, asm_to_wasm, wasm_to_asm, check_asm, check_wasm, show, Running, as_binary, run, on_files, gen, file_of, asked, asm_js, web_assembly, language_of, read_as}
-use Rattle.bridge_cmd.specs.Reason.{Reason, faulty_words, not_run, bad_script, missing, too_large}
-use Rattle.bridge_cmd.specs.Runs.{Runner, IsRunner, script_for, Prints}
-use Rattle.bridge_cmd.specs.Refused.{reason_of_check, reason_of_text}
+use Rattle.bridge_lang.specs.Command.{Asked, asm_to_wasm, wasm_to_asm, check_asm, check_wasm, show, Running, as_binary, run, on_files, gen, file_of, asked, asm_js, web_assembly, language_of, read_as}
+use Rattle.bridge_lang.specs.Reason.{Reason, faulty_words, not_asm, not_a_binary, not_valid, not_run, bad_script, missing, too_large}
+use Rattle.bridge_lang.specs.Runs.{Runner, IsRunner, script_for, Prints}
 
 pub data Job : Type 0 where
   refused : Reason → Job
@@ -56,10 +57,10 @@ pub data IsFileJob (told : Option Told) (is_script : Bool) (file : List ℕ) (Of
 
 -- why a command doesn't take its module's bytes
 pub data IsBarred : Asked → List ℕ → Reason → Type 0 where
-  not_accepted : {a : Asked} {bytes : List ℕ} (fault : TextFault) → read_as a bytes ≡ asm_js → texts.HasRefusal bytes fault
-      → IsBarred a bytes (reason_of_text fault)
-  not_valid : {a : Asked} {bytes : List ℕ} (fault : CheckFault) → read_as a bytes ≡ web_assembly → IsRefused bytes fault → fault ≢ Memory
-      → IsBarred a bytes (reason_of_check fault)
+  not_accepted : {a : Asked} {bytes : List ℕ} (row : AsmRow) (at : ℕ) → read_as a bytes ≡ asm_js → IsRefusedText bytes row at → IsBarred a bytes (not_asm row at)
+  unreadable : {a : Asked} {bytes : List ℕ} (row : Row) (at : ℕ) → read_as a bytes ≡ web_assembly → IsFirstFault bytes row at → IsBarred a bytes (not_a_binary row at)
+  invalid : {a : Asked} {bytes : List ℕ} (rule : Rule) (section : Section) (index instruction : ℕ) → read_as a bytes ≡ web_assembly
+      → IsInvalidBytes bytes rule section index instruction → IsBarred a bytes (not_valid rule section index instruction)
   not_translated : {file bytes : List ℕ} (row : Outside) → IsBeyond bytes row → IsBarred (wasm_to_asm file) bytes (not_run row.row row.value)
   outside : {file script bytes : List ℕ} {steps : ℕ} (row : Outside) → IsOutside bytes row → IsBarred (run as_binary file script steps) bytes (not_run row.row row.value)
 
@@ -67,7 +68,7 @@ pub data IsBarred : Asked → List ℕ → Reason → Type 0 where
 pub data IsMade : Asked → List ℕ → List ℕ → Type 0 where
   translated : {file bytes output : List ℕ} {heap : ℕ} (m : Module) (w : WasmModule) → IsAcceptedText bytes m → IsAllowed m heap w → IsBounded m heap w → IsShortest output w
       → IsMade (asm_to_wasm file heap) bytes output
-  translated_back : {file bytes output : List ℕ} (w : WasmModule) (a : Module) → IsTranslatable bytes w → a ≡ asm_js_for w → output ≡ canonical_text a → IsAcceptedText output a
+  translated_back : {file bytes output : List ℕ} (w : WasmModule) (a : Module) → IsTranslatable bytes w → output ≡ canonical_text a → IsAcceptedText output a
       → IsAllowedAsm w a → TrapsAreCalls w a → IsBoundedAsm w a → IsMade (wasm_to_asm file) bytes output
   text_counted : {file bytes output : List ℕ} → texts.IsCounted bytes output → IsMade (check_asm file) bytes output
   bytes_counted : {file bytes output : List ℕ} → IsCounted bytes output → IsMade (check_wasm file) bytes output

@@ -3,11 +3,11 @@ use Rattle.std.specs.Prelude.{ℕ, List, Result}
 use Rattle.sem_laws.specs.Script.{ScriptPlain}
 use Rattle.asm_lang.specs.Modules.{Module}
 use Rattle.asm_lang_valid.specs.Texts.{IsAcceptedText}
-use Rattle.cmd_run_asm.specs.Runs as texts
+use Rattle.bridge_lang.specs.AsmRuns as texts
 use Rattle.wasm_lang.specs.Modules.{WasmModule}
-use Rattle.cmd_run_wasm.specs.Modules.{IsRunnable}
-use Rattle.cmd_run_wasm.specs.Runs as binaries
-use Rattle.bridge_cmd.specs.Command.{Running, as_text, as_binary}
+use Rattle.bridge_lang.specs.WasmRuns.{IsRunnable}
+use Rattle.bridge_lang.specs.WasmRuns as binaries
+use Rattle.bridge_lang.specs.Command.{Running, as_text, as_binary}
 
 -- a module that is run; one of asm.js with a heap of so many bytes
 pub data Runner : Type 0 where
