@@ -35,7 +35,8 @@ fi
 find . -mindepth 1 ! -name out | sort >"STUB/given"
 cat crates.txt >"STUB/given crates"
 echo "$BASHPID" >"STUB/proving"
-while [ -e "STUB/hold" ]; do sleep 0.02; done
+for ((turns = 0; turns < 2000; turns++)); do [ -e "STUB/hold" ] || break; sleep 0.02; done
+[ ! -e "STUB/next version" ] || mv "STUB/next version" "STUB/version"
 if [ -e "STUB/fails" ]; then
   echo "words NOT PROVED"
   exit 3
@@ -45,7 +46,7 @@ echo made >>"STUB/made"
 mkdir -p crates/bridge/out
 cat >crates/bridge/out/bridge.new <<END
 #!/usr/bin/env bash
-[ "\$1" != hold ] || { echo begun; while [ -e "STUB/run on" ]; do sleep 0.02; done; }
+[ "\$1" != hold ] || { echo begun; for turns in {1..2000}; do [ -e "STUB/run on" ] || break; sleep 0.02; done; }
 echo "source $(cat crates/words/src/lib.rt), proofs $(ls crates/words/proofs | tr '\n' ' '), made $(wc -l <"STUB/made")"
 printf 'word %s\n' "\$@"
 exit "\${#1}"
@@ -411,6 +412,29 @@ def edited_while_it_proves(case):
     case.is_clean()
 
 
+def edited_before_it_is_copied(case):
+    """The program is kept by what was proved, and not by what stood there before."""
+    edit = f"echo two >'{case.top}/crates/words/src/lib.rt'"
+    case.command("mktemp", f'#!/usr/bin/env bash\n{edit}\nexec "{shutil.which("mktemp")}" "$@"\n')
+    ended = case.call("check-asm", "a b.js")
+    case.same("the call", ended.output.split(",")[0], "source two")
+    case.command("mktemp", f'#!/usr/bin/env bash\nexec "{shutil.which("mktemp")}" "$@"\n')
+    case.runs(shown("two"))
+    case.write("crates/words/src/lib.rt", "one\n")
+    case.builds(shown(made=2))
+    case.is_clean()
+
+
+def kit_changes_while_it_proves(case):
+    case.tell("next version", "kit 2\n")
+    ended = case.call("x")
+    case.same("the call", (ended.status, ended.output), (70, ""))
+    case.same("its report", ended.report, PROVING + "bridge: the kit changed while it proved the program\n")
+    case.same("programs kept", case.kept(), [])
+    case.builds(shown(made=2))
+    case.is_clean()
+
+
 def at_once(case, *places):
     """Calls that all begin before a program is made: each says first what it does."""
     case.tell("hold")
@@ -436,6 +460,26 @@ def two_at_once(case):
 def two_at_once_without_flock(case):
     (case.commands / "flock").unlink(missing_ok=True)
     at_once(case, case.top / "bin/bridge", case.top / "bin/bridge")
+
+
+def waits_for_the_proof_alone(case):
+    """A call that waits goes on when the program is there, while the call that proved it still runs it; and it can be told to end."""
+    case.tell("hold")
+    case.tell("run on")
+    first = case.begin("hold")
+    case.await_note("proving")
+    second, third = case.begin("check-asm", "a b.js"), case.begin("x")
+    for call in (second, third):
+        case.same("a call that waits", call.stderr.readline().decode().startswith("bridge: another call"), True)
+    third.terminate()
+    case.same("a call that is told to end", Ended.of(third).status, 143)
+    case.untell("hold")
+    case.ran(Ended.of(second), shown())
+    case.same("the first call still runs", first.poll(), None)
+    case.untell("run on")
+    case.same("the first call", Ended.of(first).output.splitlines()[:2], ["begun", shown()])
+    case.same("programs made", case.made(), 1)
+    case.is_clean()
 
 
 def failed_build(case):
@@ -685,9 +729,10 @@ def gate_is_plain(case):
 
 CASES = [
     first_and_later_calls, another_checkout, no_handles, no_handles_later, no_crates, link_among_sources, no_kit, version_fails, another_kit,
-    changed_sources, old_times, fast_changes, edited_while_it_proves, two_at_once, two_at_once_without_flock, failed_build, nothing_built, stopped,
-    no_room_for_the_program, nowhere_to_run, read_only, no_home, no_home_and_another_owner, other_homes, no_room, spaces, links, copied_script, replaced_while_it_runs, gate_keeps,
-    gate_without_home, gate_fails, gate_over_changes, gate_is_plain,
+    changed_sources, old_times, fast_changes, edited_while_it_proves, edited_before_it_is_copied, kit_changes_while_it_proves, two_at_once,
+    two_at_once_without_flock, waits_for_the_proof_alone, failed_build, nothing_built, stopped, no_room_for_the_program, nowhere_to_run, read_only,
+    no_home, no_home_and_another_owner, other_homes, no_room, spaces, links, copied_script, replaced_while_it_runs, gate_keeps, gate_without_home,
+    gate_fails, gate_over_changes, gate_is_plain,
 ]
 FOLDERS = {"spaces": "a check out"}
 
@@ -695,22 +740,28 @@ FOLDERS = {"spaces": "a check out"}
 def tried(case_of):
     """The assertions that hold in a case, whether it was passed over, and why it failed, if it did."""
     name = case_of.__name__
-    with tempfile.TemporaryDirectory(prefix="bridge tests " if name in FOLDERS else "bridge-tests-") as room:
-        os.chmod(room, 0o755)
-        case = Case(pathlib.Path(room), FOLDERS.get(name, "checkout"))
-        try:
-            case_of(case)
-            return case.asserted, None, None
-        except PassedOver as why:
-            return 0, f"{name}: passed over: {why}", None
-        except (Failed, OSError, subprocess.SubprocessError) as error:
-            return case.asserted, None, f"{name}: {error}"
+    room = tempfile.mkdtemp(prefix="bridge tests " if name in FOLDERS else "bridge-tests-")
+    os.chmod(room, 0o755)
+    case = Case(pathlib.Path(room), FOLDERS.get(name, "checkout"))
+    try:
+        case_of(case)
+        return case.asserted, None, None
+    except PassedOver as why:
+        return 0, f"{name}: passed over: {why}", None
+    except (Failed, OSError, subprocess.SubprocessError) as error:
+        return case.asserted, None, f"{name}: {error}"
+    finally:
+        # (what a failed case left running ends with its folder)
+        shutil.rmtree(room, ignore_errors=True)
 
 
 def main():
     wanted = [case_of for case_of in CASES if case_of.__name__ in sys.argv[1:] or not sys.argv[1:]]
     if not wanted:
         sys.exit(__doc__)
+    # (a gate in the background is deaf to these, and what it calls would be)
+    for number in (signal.SIGINT, signal.SIGHUP):
+        signal.signal(number, lambda number, _: sys.exit(128 + number))
     with concurrent.futures.ThreadPoolExecutor(8) as pool:
         answers = list(pool.map(tried, wanted))
     for _, passed_over, wrong in answers:
