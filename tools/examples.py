@@ -1,6 +1,6 @@
 #!/usr/bin/env python3
-"""Runs the commands of README.md, of examples/commands.txt and of the recipes in docs/USAGE.md, each file's in a folder of its own, and
-compares what each prints, and its exit status, with what stands below it.
+"""Runs the commands of README.md, examples/commands.txt and docs/USAGE.md, each file's in a folder of its own, and compares what each prints,
+and its exit status, with what stands below it.
 
     tools/examples.py PROGRAM
 

@@ -272,6 +272,18 @@ def another_checkout(case):
     case.is_clean()
 
 
+def removed_programs(case):
+    """A program that is gone is made again, also where the sum of its files was noted."""
+    case.settle()
+    case.builds(shown())
+    for kept in case.kept():
+        (case.home / ".cache/bridge" / kept).unlink()
+    case.builds(shown(made=2))
+    shutil.rmtree(case.home / ".cache")
+    case.builds(shown(made=3))
+    case.is_clean()
+
+
 def no_handles(case):
     (case.top / "HANDLES").unlink()
     case.refused(case.call("x"), "/HANDLES is missing")
@@ -709,8 +721,11 @@ def gate_over_changes(case):
     ended = Ended.of(gate)
     case.same("the gate", (ended.status, ended.output), (0, "the program isn't kept for bin/bridge: files changed during the run\n"))
     case.tell("edit")
-    case.same("the gate", case.gate().status, 0)
+    case.same("the gate", case.gate().output, "the program isn't kept for bin/bridge: files changed during the run\n")
     case.untell("edit")
+    (case.top / "HANDLES").unlink()
+    case.same("the gate", case.gate().output, "the program isn't kept for bin/bridge\n")
+    case.write("HANDLES", FILES["HANDLES"])
     ended = case.gate(HOME="/dev/null")
     case.same("the gate", (ended.status, ended.output), (0, "the program isn't kept for bin/bridge\n"))
     case.same("programs kept", case.kept(), [])
@@ -728,8 +743,8 @@ def gate_is_plain(case):
 
 
 CASES = [
-    first_and_later_calls, another_checkout, no_handles, no_handles_later, no_crates, link_among_sources, no_kit, version_fails, another_kit,
-    changed_sources, old_times, fast_changes, edited_while_it_proves, edited_before_it_is_copied, kit_changes_while_it_proves, two_at_once,
+    first_and_later_calls, another_checkout, removed_programs, no_handles, no_handles_later, no_crates, link_among_sources, no_kit, version_fails,
+    another_kit, changed_sources, old_times, fast_changes, edited_while_it_proves, edited_before_it_is_copied, kit_changes_while_it_proves, two_at_once,
     two_at_once_without_flock, waits_for_the_proof_alone, failed_build, nothing_built, stopped, no_room_for_the_program, nowhere_to_run, read_only,
     no_home, no_home_and_another_owner, other_homes, no_room, spaces, links, copied_script, replaced_while_it_runs, gate_keeps, gate_without_home,
     gate_fails, gate_over_changes, gate_is_plain,
