@@ -1,5 +1,6 @@
 #!/usr/bin/env python3
-"""Runs the commands of examples/commands.txt and of the recipes in docs/USAGE.md, and compares what each prints, and its exit status, with what stands below it.
+"""Runs the commands of README.md, examples/commands.txt and docs/USAGE.md, each file's in a folder of its own, and compares what each prints,
+and its exit status, with what stands below it.
 
     tools/examples.py PROGRAM
 
@@ -12,6 +13,8 @@ import sys
 import tempfile
 
 TOP = pathlib.Path(__file__).resolve().parent.parent
+# Each file, and where in a checkout its commands are run.
+SOURCES = {"README.md": ".", "examples/commands.txt": "examples", "docs/USAGE.md": "."}
 
 
 def commands(text):
@@ -53,17 +56,21 @@ def tried(source, folder, program):
     return len(rows) - len(skipped), len(skipped), wrong
 
 
-def main():
-    if len(sys.argv) != 2:
-        sys.exit(__doc__)
-    program = pathlib.Path(sys.argv[1]).resolve()
+def tried_apart(source, program):
+    """The same in a copy of the examples, where bin/bridge is the program."""
     with tempfile.TemporaryDirectory() as name:
         room = pathlib.Path(name)
         shutil.copytree(TOP / "examples", room / "examples")
         (room / "bin").mkdir()
         (room / "bin" / "bridge").symlink_to(program)
-        counts = [tried("examples/commands.txt", room / "examples", program), tried("docs/USAGE.md", room, program)]
-    run, skipped, wrong = map(sum, zip(*counts))
+        return tried(source, room / SOURCES[source], program)
+
+
+def main():
+    if len(sys.argv) != 2:
+        sys.exit(__doc__)
+    program = pathlib.Path(sys.argv[1]).resolve()
+    run, skipped, wrong = map(sum, zip(*(tried_apart(source, program) for source in SOURCES)))
     if skipped:
         print(f"{skipped} examples skipped: node is not installed")
     print(f"{run} examples run, {wrong} differ")
