@@ -12,7 +12,7 @@ use Rattle.wasm_lang_valid.specs.Typing.{typed_empty, typed_plain, fixed}
 use Rattle.wasm_lang_valid.specs.Validity.{IsValidModule}
 use Rattle.wasm_lang_exec.specs.Fits.{tests}
 use Rattle.script_fits.proofs.Misfits.{no_misfit_fits}
-use Rattle.wasm_laws_sound.specs.Places.{place, GoesOn}
+use Rattle.wasm_lang_exec.specs.Places.{place, GoesOn}
 use Rattle.wasm_laws_sound.specs.Laws.{IsWhole}
 use Rattle.wasm_laws_sound.proofs.Sessions.{sessions_go_on}
 

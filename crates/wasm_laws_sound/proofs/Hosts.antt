@@ -15,7 +15,8 @@ use Rattle.wasm_lang_exec.specs.Reductions.{Callee, an_import, a_function, calle
 use Rattle.wasm_laws_drive.specs.Drive.{halted, driven, drive}
 use Rattle.wasm_laws_sound.specs.Configurations.{HaveTypes, IsTypedStore, IsTypedConfig, IsTypedReduct, AreTypedFunctions}
 use Rattle.wasm_laws_sound.specs.Outcomes.{IsCalledOutcome}
-use Rattle.wasm_laws_sound.specs.Places.{Place, Follows, place_now, place_after, place_in_call, place_of_call, IsReduction, GoesOn, IsTypedPlace}
+use Rattle.wasm_lang_exec.specs.Places.{Place, Follows, place_now, place_after, place_in_call, place_of_call, IsReduction, GoesOn}
+use Rattle.wasm_laws_sound.specs.TypedPlaces.{IsTypedPlace}
 use Rattle.wasm_laws_sound.specs.Laws.{HostCallsAreTyped}
 use Rattle.wasm_laws_sound.proofs.Values.{have_reverse}
 use Rattle.wasm_laws_sound.proofs.Reducing.{reduce_typed}

@@ -29,7 +29,7 @@ use Rattle.wasm_lang_exec.specs.Fits.{in_range, takes_arguments, takes, type_at,
 use Rattle.wasm_lang_exec.specs.FitLaws.{Fits}
 use Rattle.script_fits.specs.FitLaws.{a_call}
 use Rattle.wasm_laws_sound.specs.Configurations.{HasType, HaveTypes, kinds, AreEntries, IsTypedStore, AreTypedFunctions}
-use Rattle.wasm_laws_sound.specs.Places.{Place, place_of_call, place_of_one, place_in_calls, place_of_start, place_of_instance, place}
+use Rattle.wasm_lang_exec.specs.Places.{Place, place_of_call, place_of_one, place_in_calls, place_of_start, place_of_instance, place}
 use Rattle.wasm_laws_sound.specs.Laws.{IsWhole, SessionsGoOn, PlacesAreTyped}
 use Rattle.wasm_laws_sound.proofs.Values.{word_has_type, have_at, have_both, length-written}
 use Rattle.wasm_laws_sound.proofs.Reducing.{same_is, both_true}

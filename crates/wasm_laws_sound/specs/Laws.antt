@@ -19,7 +19,8 @@ use Rattle.wasm_laws_drive.specs.Drive.{drive}
 use Rattle.wasm_laws_sound.specs.Trees.{IsTyped}
 use Rattle.wasm_laws_sound.specs.Configurations.{HaveTypes, IsTypedStore, within, IsTypedEffect, IsTypedConfig, IsTypedReduct, AreTypedFunctions}
 use Rattle.wasm_laws_sound.specs.Outcomes.{IsTypedOutcome, IsCalledOutcome}
-use Rattle.wasm_laws_sound.specs.Places.{place, seen, GoesOn, IsTypedPlace}
+use Rattle.wasm_lang_exec.specs.Places.{place, seen, GoesOn}
+use Rattle.wasm_laws_sound.specs.TypedPlaces.{IsTypedPlace}
 
 -- ---- code
 

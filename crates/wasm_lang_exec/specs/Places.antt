@@ -5,13 +5,11 @@ use Rattle.sem_words.specs.declared.word.Word.{Word}
 use Rattle.sem_words.specs.declared.word.TrapKind.TheVariants as kinds
 use Rattle.sem_laws.specs.Script.{CallPlain, ScriptPlain}
 use Rattle.sem_laws.specs.Observation.{EndPlain, done, trapped, ObservationPlain}
-use Rattle.wasm_lang.specs.declared.types.ValType.{ValType}
 use Rattle.wasm_lang.specs.Modules.{WasmModule}
 use Rattle.wasm_lang_exec.specs.Code.{call, ε, ◌▹◌}
 use Rattle.wasm_lang_exec.specs.Store.{Store}
 use Rattle.wasm_lang_exec.specs.Reductions.{callee_at, Config, Code, Reduct, to, is_values, branches, returns, stops, is_stuck, reduce}
 use Rattle.wasm_lang_exec.specs.Session.{seen_running, seen_end, result_event, with_event, function_named, arguments_for, with_entries, with_bytes, entries_fit, bytes_fit, first_store}
-use Rattle.wasm_laws_sound.specs.Configurations.{HaveTypes, IsTypedStore, IsTypedConfig}
 
 pub data Place : Type 0 where
   -- the instantiation is next
@@ -92,10 +90,3 @@ GoesOn m (begins s) = Unit {0}
 GoesOn m (reduces c locals s) = IsReduction (reduce m c locals s)
 GoesOn m (names_none s) = ⊥
 GoesOn m (has_ended e s) = Unit {0}
-
--- the configuration that is to be reduced is typed, and so is the store
-abbrev pub IsTypedPlace : WasmModule → Place → Type 0
-IsTypedPlace m (begins s) = IsTypedStore m s
-IsTypedPlace m (reduces c locals s) = (results : List ValType) × IsTypedConfig m c [] [] None results × HaveTypes [] locals × IsTypedStore m s
-IsTypedPlace m (names_none s) = IsTypedStore m s
-IsTypedPlace m (has_ended e s) = Unit {0}
