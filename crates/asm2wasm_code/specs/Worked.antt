@@ -1,17 +1,17 @@
 -- What is computed of the small modules: their code, and what is seen of sessions in both languages.
-use Rattle.std.specs.Prelude.{◌≡◌, ℕ, false, List, [], ◌∷◌, ◌++◌, Some, None, map, take, replicate}
+use Rattle.std.specs.Prelude.{◌≡◌, ℕ, pos, false, List, [], ◌∷◌, ◌++◌, Some, None, map, take, replicate}
 use Rattle.sem_words.specs.declared.word.Word.TheVariants.{W32}
 use Rattle.sem_words.specs.declared.word.Bin.TheVariants as bins
 use Rattle.sem_words.specs.declared.word.Rel.TheVariants as rels
 use Rattle.sem_laws.specs.Script.{ScriptPlain}
 use Rattle.sem_laws.specs.Observation.{EventPlain, import_called, call_gave, EndPlain, done}
 use Rattle.sem_laws.specs.CallingForms.{script_to_wasm, event_to_wasm, end_to_wasm}
-use Rattle.wasm_lang.specs.declared.types.ValType.TheVariants.{I32}
+use Rattle.wasm_lang.specs.declared.types.ValType.TheVariants.{I32, I64}
 use Rattle.wasm_lang.specs.declared.types.MemOp.{MemOp}
-use Rattle.wasm_lang.specs.Instructions.{Instruction, block, loop, if_block, else_mark, end_mark, br, br_if, br_table, plain, const32, local_get, local_set, local_tee, bin32, rel32, eqz32, store}
-use Rattle.wasm_lang.specs.Modules.{FunctionBody}
+use Rattle.wasm_lang.specs.Instructions.{Instruction, block, loop, if_block, else_mark, end_mark, br, br_if, br_table, plain, const32, local_get, local_set, local_tee, bin32, rel32, eqz32, wrap, store}
+use Rattle.wasm_lang.specs.Modules.{FunctionBody, WasmModule}
 use Rattle.wasm_lang_exec.specs.Session.{wasm}
-use Rattle.asm_lang.specs.Modules.{Module}
+use Rattle.asm_lang.specs.Modules.{var, returns, Module}
 use Rattle.asm_lang_exec.specs.Session.{asm}
 use Rattle.asm_lang_exec.specs.Fits.{misfit}
 use Rattle.wasm_laws_trees.specs.Spelled.{flat}
@@ -19,7 +19,7 @@ use Rattle.asm_lang_valid.specs.Typed.{scope_of}
 use Rattle.asm2wasm_code.specs.Bodies.{first_clause, long_code}
 use Rattle.asm2wasm_lang.specs.Allowed.{or_nothing}
 use Rattle.asm2wasm_code.specs.Modules.{translation}
-use Rattle.asm2wasm_code.specs.Pieces.{function, f, x, y, int_variable, few_cases, switching}
+use Rattle.asm2wasm_code.specs.Pieces.{signed, module_of, called, calls_alone, function, f, x, y, int_variable, few_cases, switching}
 
 -- ---- code
 
@@ -101,6 +101,21 @@ first_part = flat (first_clause 2 3 few_cases)
 
 abbrev pub clauses_part : List Instruction
 clauses_part = flat (long_code 4096 (scope_of (switching few_cases) (function f (x ∷ []) (int_variable 0 y ∷ []) [])) [] 0 few_cases)
+
+-- ---- `x=x|0;return x|0;`, and a module whose function takes 64 bits in place of 32, and wraps them
+
+abbrev pub giving_back : Module
+giving_back = module_of [] (function f (x ∷ []) [] (returns (Some (signed (var x))) ∷ []) ∷ []) []
+
+abbrev pub wide_export : WasmModule
+wide_export = record (translation giving_back 4096) {
+  types = record { params = I64 ∷ []; results = I32 ∷ [] } ∷ [];
+  bodies = body 0 (get 0 ∷ plain wrap ∷ []) ∷ [];
+}
+
+-- f of 7
+abbrev pub of_seven : ScriptPlain
+of_seven = calls_alone (called (pos 7 ∷ []) 1 ∷ [])
 
 -- ---- sessions
 

@@ -1,8 +1,13 @@
 //! Worked code and sessions. Each function does nothing, and its contract is what the check computes of small modules.
-ghost use Rattle.std.specs.Prelude.{◌≡◌, ◌∷◌, [], codes};
+ghost use Rattle.std.specs.Prelude.{◌≡◌, ◌∷◌, [], None, codes};
 ghost use Rattle.sem_laws.specs.Observation.{done, call_returned};
+ghost use Rattle.sem_laws.specs.CallingForms.{script_to_wasm};
+ghost use Rattle.wasm_lang_exec.specs.Fits as machine;
+ghost use Rattle.wasm_lang_exec.specs.Session.{wasm};
+ghost use Rattle.asm2wasm_lang.specs.Calling.{IsCalledAs};
+ghost use Rattle.asm2wasm_code.specs.Modules.{translation};
 ghost use Rattle.asm2wasm_code.specs.Pieces.{operating, operating_script, long_switch, long_script, small_elements, small_script, bodies, storing, dividing, continuing, switching, few_cases, dense_cases, tabled, tabled_script, storing_script};
-ghost use Rattle.asm2wasm_code.specs.Worked.{ShowsSame, body, storing_code, dividing_code, continuing_code, few_code, dense_code, first_code, first_part, all_clauses_code, clauses_part, gave, imported, IsAlike};
+ghost use Rattle.asm2wasm_code.specs.Worked.{ShowsSame, body, storing_code, dividing_code, continuing_code, few_code, dense_code, first_code, first_part, all_clauses_code, clauses_part, gave, imported, giving_back, wide_export, of_seven, IsAlike};
 
 /// `H[a>>2]=H[b>>2]=c`: both indices wait on the stack, so that two scratch locals serve both stores.
 pub fn a_store_in_a_store()
@@ -43,4 +48,13 @@ pub fn the_same()
     ensures operators { ShowsSame operating 0 operating_script 100 10000 }
     ensures many_clauses { ShowsSame long_switch 0 long_script 10 20000 }
     ensures elements { ShowsSame small_elements 8 small_script 10 1000 }
+{}
+
+/// A function that gives back its argument. A module whose function takes 64 bits and wraps them takes the same script and shows
+/// the same; it isn't called as asked, and the translation is.
+pub fn a_wide_export()
+    ensures fits { machine.misfit wide_export (script_to_wasm of_seven) ≡ None }
+    ensures shows_the_same { (wasm wide_export (script_to_wasm of_seven) 10).events ≡ gave 7 ∷ [] }
+    ensures wide { IsCalledAs giving_back 4096 wide_export → ⊥ }
+    ensures narrow { IsCalledAs giving_back 4096 (translation giving_back 4096) }
 {}

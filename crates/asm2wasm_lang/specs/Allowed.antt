@@ -1,5 +1,5 @@
 -- Which modules of WebAssembly may stand for one of asm.js, how far apart their budgets lie, and which bytes are written of one.
-use Rattle.std.specs.Prelude.{◌≡◌, ℕ, ◌+◌, ◌*◌, ◌≤◌, List, [], ◌∷◌, length, max, Option, Some, None, All}
+use Rattle.std.specs.Prelude.{◌≡◌, ◌≢◌, ℕ, ◌+◌, ◌*◌, ◌≤◌, List, [], ◌∷◌, length, max, Option, Some, None, All}
 use Rattle.heap_lang.specs.Numbers.{IsBytes}
 use Rattle.sem_laws.specs.Script.{WritePlain, ReplyPlain, give, throw, ReplyLinePlain, ScriptPlain}
 use Rattle.sem_laws.specs.Observation.{ObservationPlain, running}
@@ -19,7 +19,7 @@ use Rattle.asm2wasm_lang.specs.Calling.{IsCalledAs}
 
 -- ---- sessions
 
--- a session that goes wrong shows nothing; none of an accepted module with a script that fits does
+-- a session that goes wrong shows nothing
 abbrev pub or_nothing : Option ObservationPlain → ObservationPlain
 or_nothing None = running []
 or_nothing (Some seen) = seen
@@ -49,11 +49,13 @@ comparison w s = comparison_to_wasm (first_memory w (script_to_wasm s))
 
 -- ---- what may be written
 
--- it is valid and called as asked; each script that fits the one fits the other, and the two sessions show the same
+-- It is valid and called as asked. Each script that fits the one fits the other; then the session of the text never goes wrong, and the
+-- two sessions show the same.
 pub record IsAllowed (m : Module) (size : ℕ) (w : WasmModule) : Type 0 where
   pub valid : IsValidModule w
   pub called : IsCalledAs m size w
   pub fits : (s : ScriptPlain) → misfit m size s ≡ None → machine.misfit w (script_to_wasm s) ≡ None
+  pub goes_right : (s : ScriptPlain) → misfit m size s ≡ None → (units : ℕ) → asm m size s units ≢ None
   pub simulates : (s : ScriptPlain) → WritesBytes s → misfit m size s ≡ None → Sim (comparison w s) (source_session m size s) (target_session w s)
 
 -- the bytes spell the module, and no spelling of it is shorter

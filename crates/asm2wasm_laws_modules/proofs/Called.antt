@@ -1,5 +1,5 @@
 -- The translated module asks for what the text does.
-use Rattle.std.proofs.Common.{◌≡◌, ℕ, Bool, true, false, List, [], ◌∷◌, ◌++◌, map, Option, Some, refl, ap, ◌∙◌}
+use Rattle.std.proofs.Common.{◌≡◌, ℕ, Bool, true, false, List, [], ◌∷◌, ◌++◌, map, get_or, Option, Some, refl, ap, ◌∙◌}
 use Rattle.std.specs.Prelude.{if◌then◌else◌, codes}
 use Rattle.std.specs.List.{AllByRecursion}
 use Rattle.wasm_lang.specs.declared.types.GlobalType.{GlobalType}
@@ -8,13 +8,14 @@ use Rattle.wasm_lang.specs.declared.types.ImportKind.TheVariants as imports
 use Rattle.wasm_lang.specs.Modules.{FunctionType, Imported, WasmModule}
 use Rattle.asm_lang.specs.Modules.{Module}
 use Rattle.asm_lang_valid.specs.LimitRows.{ForeignCall, foreign_calls}
-use Rattle.asm_lang_valid.specs.Refusal.{foreign_globals, has_heap}
+use Rattle.asm_lang_valid.specs.Refusal.{foreign_globals, has_heap, exported_from}
 use Rattle.asm2wasm_lang.specs.Heaps.{pages_for}
 use Rattle.asm2wasm_lang.specs.Calling as form
 use Rattle.asm2wasm_lang.specs.Calling.{Import, imported_as, function_of, table_of, memory_of, global_of, of_kind, int_type, constant_int, exactly}
 use Rattle.asm2wasm_code.specs.Numbers.{asked_signature, type_number}
 use Rattle.asm2wasm_code.specs.Modules.{from_env, imported_function, imported_global, translation}
 use Rattle.asm2wasm_laws_modules.specs.Laws.{TranslationIsCalled}
+use Rattle.asm2wasm_laws_modules.proofs.Imports.{functions_have_types}
 use Rattle.asm2wasm_laws_modules.proofs.Types.{Known, calls_known, type_at}
 
 module _ (m : Module) (size : ℕ) where
@@ -80,6 +81,7 @@ translation_is_called m size =
       memories = past_functions m size memory_of (λ t. refl) is after ∙ past_globals m size memory_of refl gs memory ∙ memories_from m size (has_heap m);
       tables = past_functions m size table_of (λ t. refl) is after ∙ past_globals m size table_of refl gs memory ∙ past_memory m size table_of refl (has_heap m);
       exported = refl;
+      typed = λ k d lt f is. functions_have_types m size (get_or (exported_from m m.exports) k d).function f is;
       no_memory = refl;
       no_bytes = refl;
       no_start = refl;

@@ -1,6 +1,7 @@
 -- Whole sessions.
 use Rattle.std.proofs.Common.{◌≡◌, ℕ, ◌+◌, ◌*◌, ◌≤◌, length, Some, None, true, refl, sym, ap, ◌∙◌, arith}
 use Rattle.std.proofs.lemmas.List.{length-map}
+use Rattle.std.proofs.lemmas.Option.{none-some}
 use Rattle.heap_lang.specs.Heap.{IsHeapLength}
 use Rattle.sem_laws.specs.Script.{ScriptPlain}
 use Rattle.sem_laws.specs.Observation.{EndPlain, ObservationPlain}
@@ -124,5 +125,6 @@ module _ (called : FunctionsAreCalled) (hold : (size : ℕ) → size ≤ pages_f
     valid = valid m size ok heap;
     called = is_called m size;
     fits = λ s fit. scripts_fit m size s formed fit;
+    goes_right = λ s fit units none. let there = accepted_never_go_wrong m size s units ok fit in none-some there.0 (sym none ∙ there.1);
     simulates = λ s bytes fit. (simulate m size s ok formed heap bytes fit).0;
   }

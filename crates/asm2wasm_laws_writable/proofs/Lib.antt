@@ -2,6 +2,7 @@ pub mod Lists
 pub mod Named
 pub mod ConstantsOfValues
 pub mod ConstantsOfBodies
+pub mod Clauses
 pub mod Constants
 pub mod Narrow
 pub mod Properties

@@ -191,7 +191,7 @@ bodies_fit m heap (f ∷ fs) a b =
     (record { locals = omega (arith, few); code = narrow_trees_fit (function_code heap (scope_of m f)) b.0 }, bodies_fit m heap fs a.1 b.1)
 
 pub numbers_fit_in_translations : IsReadAgain → LevelsAreKept → PagesAreFew → PagesHold → TranslationsNumbersFit
-numbers_fit_in_translations again kept few hold m heap ok formed short h =
+numbers_fit_in_translations again kept few hold m heap ok formed h =
     let w = translation m heap in
     let within = translation_is_within kept m heap ok formed in
     let types = within.types in
@@ -204,6 +204,6 @@ numbers_fit_in_translations again kept few hold m heap ok formed short h =
       exports = All-from_recursion (λ (e : Exported). ExportFits e.kind) w.exports (exports_fit m ok m.exports);
       start = tt;
       elements = All-from_recursion ElementFits w.elements (elements_fit m ok m.tables);
-      bodies = All-from_recursion BodyFits w.bodies (bodies_fit m heap m.functions (all_few_locals m heap within) (functions_are_narrow again kept few hold m heap ok formed short h));
+      bodies = All-from_recursion BodyFits w.bodies (bodies_fit m heap m.functions (all_few_locals m heap within) (functions_are_narrow again kept few hold m heap ok formed h));
       segments = All-from_recursion SegmentFits [] tt;
     }
