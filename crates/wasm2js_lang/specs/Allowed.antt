@@ -3,9 +3,9 @@ use Rattle.std.specs.Prelude.{◌≡◌, ℕ, ◌+◌, ◌*◌, Bool, true, fals
 use Rattle.std.specs.List.{list_any}
 use Rattle.sem_words.specs.declared.word.Word.TheVariants.{W32}
 use Rattle.sem_laws.specs.Script.{ScriptPlain}
-use Rattle.sem_laws.specs.Observation.{stopped, trap_name, as_stop, ObservationPlain}
+use Rattle.sem_laws.specs.Observation.{call_gave, call_returned, done, stopped, trap_name, as_stop, ObservationPlain, ended}
 use Rattle.sem_laws.specs.Simulation.{Session, Comparison, IsSameAs, SourceIsBelow, Sim}
-use Rattle.sem_laws.specs.CallingForms.{split, comparison_to_asm}
+use Rattle.sem_laws.specs.CallingForms.{init_call, hi_call, split, comparison_to_asm}
 use Rattle.wasm_lang.specs.Instructions.{Instruction, plain, memory_copy, memory_fill}
 use Rattle.wasm_lang.specs.Modules.{FunctionBody, DataSegment, WasmModule}
 use Rattle.wasm_lang_exec.specs.Session.{wasm}
@@ -38,12 +38,30 @@ comparison w a s = comparison_to_asm (first_heap a (heap_bytes w) (script_for w 
 
 -- ---- what may be written
 
--- it is accepted and called as asked; each script that fits the one fits the other, and the two sessions show the same
+-- the session of `$init` and `$hi` alone, with what a script gives
+abbrev pub asking_high : ScriptPlain → ScriptPlain
+asking_high s = record s { calls = init_call ∷ hi_call 0 ∷ [] }
+
+-- it ends, and `$hi` has given 0
+pub record GivesNoHighWord (w : WasmModule) (a : Module) (s : ScriptPlain) : Type 0 where
+  pub units : ℕ
+  pub heap : List ℕ
+  pub gives : asm a (heap_bytes w) (asking_high s) units ≡ Some (ended (call_returned ∷ call_gave (W32 0) ∷ []) done heap)
+
+-- what the session shows
+pub record Shows (w : WasmModule) (a : Module) (s : ScriptPlain) (units : ℕ) : Type 0 where
+  pub seen : ObservationPlain
+  pub shows : asm a (heap_bytes w) (script_for w s) units ≡ Some seen
+
+-- It is accepted and called as asked; each script that fits the one fits the other, its session never goes wrong, and the two sessions show
+-- the same. Before any result of 64 bits the high word is 0: so it is right after `$init` where no start function gives one.
 pub record IsAllowed (w : WasmModule) (a : Module) : Type 0 where
   pub accepted : IsAccepted a
   pub well_formed : IsWellFormed a
   pub called : IsCalledAs w a
   pub fits : (s : ScriptPlain) → machine.misfit w s ≡ None → misfit a (heap_bytes w) (script_for w s) ≡ None
+  pub never_wrong : (s : ScriptPlain) → machine.misfit w s ≡ None → (units : ℕ) → Shows w a s units
+  pub no_high_word : w.start ≡ None → (s : ScriptPlain) → WritesBytes s → machine.misfit w s ≡ None → GivesNoHighWord w a s
   pub simulates : (s : ScriptPlain) → WritesBytes s → machine.misfit w s ≡ None → Sim (comparison w a s) (source_session w s) (target_session w a s)
 
 -- ---- traps

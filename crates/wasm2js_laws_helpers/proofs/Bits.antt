@@ -65,7 +65,7 @@ word_is j y s a b e f g = omega arith
 -- ---- what the loop comes to
 
 -- a value of this word is returned after so many units, and nothing else has changed but locals
-abbrev Pops : ℕ → (cost : ℕ) → Place → Run Completion → Type 0
+abbrev pub Pops : ℕ → (cost : ℕ) → Place → Run Completion → Type 0
 Pops w cost p (goes (returned v) q) = (to_uint32_of v ≡ w) × (q.units + cost ≡ p.units) × (q.heap ≡ p.heap) × (q.events ≡ p.events) × (q.replies ≡ p.replies) × (q.globals ≡ p.globals)
 Pops w cost p (goes normal q) = ⊥
 Pops w cost p (goes (broken n) q) = ⊥
@@ -92,7 +92,7 @@ no_more w x n p before (stops y q) e k = absurd k
 no_more w x n p before (spent q) e k = absurd k
 no_more w x n p before wrong e k = tt
 
-abbrev pop_locals : (a s : JsValue) → List Binding
+abbrev pub pop_locals : (a s : JsValue) → List Binding
 pop_locals a s = binding (spelled (argument 0)) a ∷ binding (spelled (own 0)) s ∷ []
 
 abbrev count : Term
@@ -182,10 +182,10 @@ module _ (calls : Calls) (c : Scope) (bound : ℕ) (p : Place) where
 -- ---- the call
 
 module _ (m : Module) (bytes : ℕ) (v : JsValue) where
-  abbrev result : ℕ
+  abbrev pub result : ℕ
   result = set_bits_of 32 (to_uint32_of v)
 
-  abbrev turns_made : ℕ
+  abbrev pub turns_made : ℕ
   turns_made = suc (length_of 32 (to_uint32_of v))
 
   ended : (p : Place) (n : ℕ) (locals : List Binding) → IsHeap bytes p.heap → p.units ≡ suc n → (r : Run Completion) → Pops result turns_made (placed p n locals) r
@@ -210,7 +210,7 @@ module _ (m : Module) (bytes : ℕ) (v : JsValue) where
   ended p n locals heap e (spent q) k = let u = k.0 in record { few = omega (arith, u, e); events = k.1 }
   ended p n locals heap e wrong k = tt
 
-  body : (d n : ℕ) (p : Place) → n ≤ d → Pops result turns_made (placed p n (pop_locals (signed_value (to_uint32_of v)) (Whole (pos 0))))
+  pub body : (d n : ℕ) (p : Place) → n ≤ d → Pops result turns_made (placed p n (pop_locals (signed_value (to_uint32_of v)) (Whole (pos 0))))
       (exec_all false (call_at false m d) (scope_of m set_bits_function) d set_bits_function.body (placed p n (pop_locals (signed_value (to_uint32_of v)) (Whole (pos 0)))))
   body d n p le =
       let a = signed_value (to_uint32_of v) in

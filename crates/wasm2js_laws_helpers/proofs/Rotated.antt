@@ -37,7 +37,7 @@ other_locals w h p locals (stops e q) k = absurd k
 other_locals w h p locals (spent q) k = absurd k
 other_locals w h p locals wrong k = tt
 
-abbrev four_locals : (s a b n : JsValue) → List Binding
+abbrev pub four_locals : (s a b n : JsValue) → List Binding
 four_locals s a b n = binding (spelled (argument 0)) a ∷ binding (spelled (argument 1)) b ∷ binding (spelled (argument 2)) n ∷ binding (spelled (own 0)) s ∷ []
 
 abbrev exchange : List Stmt
@@ -77,7 +77,7 @@ module _ (calls : Calls) (c : Scope) (turns : ℕ) (p : Place) (units : ℕ) whe
         (other_locals across (Some straight) here (four_locals a b a n) (run calls c turns funnels (placed p units (four_locals a b a n))) (funnelled a b a n)))
         (λ e. subst (λ t. Rotates t (run calls c turns funnels here)) (sym (sym (far_truth (to_uint32_of n)) ∙ e)) (funnelled s a b n))
 
-first_rotate : (m : Module) (vs : List JsValue) → first_locals rotate_left_function vs ≡ locals_of m rotate_left_function rotl_of (four_locals (Whole (pos 0))) vs
+pub first_rotate : (m : Module) (vs : List JsValue) → first_locals rotate_left_function vs ≡ locals_of m rotate_left_function rotl_of (four_locals (Whole (pos 0))) vs
 first_rotate m [] = refl
 first_rotate m (v ∷ []) = refl
 first_rotate m (v ∷ w ∷ []) = refl
@@ -87,7 +87,7 @@ first_rotate m (v ∷ w ∷ u ∷ x ∷ more) = refl
 both_small : (a x n : ℕ) → a < 2 ^ 32 → x < 2 ^ 32 → (numbers.funnel_left x a n < 2 ^ 32) × (numbers.funnel_left a x n < 2 ^ 32)
 both_small a x n p q = (sum_small (shl_of 32 x n) (shr_u_of 32 (shr_u_of 32 a 1) (numbers.flipped n)), sum_small (shl_of 32 a n) (shr_u_of 32 (shr_u_of 32 x 1) (numbers.flipped n)))
 
-rotate_body : (m : Module) → Body m rotate_left_function rotl_of (four_locals (Whole (pos 0)))
+pub rotate_body : (m : Module) → Body m rotate_left_function rotl_of (four_locals (Whole (pos 0)))
 rotate_body m v w u p d n locals is =
     subst (λ locals. Returns (low_word (whole rotl_of v w u)) (Some (high_word (whole rotl_of v w u))) (placed p n locals)
     (exec_all false (call_at false m d) (scope_of m rotate_left_function) d rotate_left_function.body (placed p n locals)))

@@ -144,14 +144,14 @@ module _ (m : Module) (g : Function) (op : ℕ → ℕ → ℕ → ℕ) (locals_
 
 -- ---- shifts
 
-first_shift_left : (m : Module) (vs : List JsValue) → first_locals shift_left_function vs ≡ locals_of m shift_left_function shl_of three_locals vs
+pub first_shift_left : (m : Module) (vs : List JsValue) → first_locals shift_left_function vs ≡ locals_of m shift_left_function shl_of three_locals vs
 first_shift_left m [] = refl
 first_shift_left m (v ∷ []) = refl
 first_shift_left m (v ∷ w ∷ []) = refl
 first_shift_left m (v ∷ w ∷ u ∷ []) = refl
 first_shift_left m (v ∷ w ∷ u ∷ x ∷ more) = refl
 
-shift_left_body : (m : Module) → Body m shift_left_function shl_of three_locals
+pub shift_left_body : (m : Module) → Body m shift_left_function shl_of three_locals
 shift_left_body m v w u p d n locals is =
     subst (λ locals. Returns (low_word (whole shl_of v w u)) (Some (high_word (whole shl_of v w u))) (placed p n locals) (exec_all false (call_at false m d) (scope_of m shift_left_function) d shift_left_function.body (placed p n locals)))
     (sym is)
@@ -174,14 +174,14 @@ shift_left_body m v w u p d n locals is =
 pub shift_left_helps : ShiftLeftHelps
 shift_left_helps m = helps_by m shift_left_function shl_of three_locals (first_shift_left m) (shift_left_body m)
 
-first_shift_right_signed : (m : Module) (vs : List JsValue) → first_locals shift_right_signed_function vs ≡ locals_of m shift_right_signed_function shr_s_of three_locals vs
+pub first_shift_right_signed : (m : Module) (vs : List JsValue) → first_locals shift_right_signed_function vs ≡ locals_of m shift_right_signed_function shr_s_of three_locals vs
 first_shift_right_signed m [] = refl
 first_shift_right_signed m (v ∷ []) = refl
 first_shift_right_signed m (v ∷ w ∷ []) = refl
 first_shift_right_signed m (v ∷ w ∷ u ∷ []) = refl
 first_shift_right_signed m (v ∷ w ∷ u ∷ x ∷ more) = refl
 
-shift_right_signed_body : (m : Module) → Body m shift_right_signed_function shr_s_of three_locals
+pub shift_right_signed_body : (m : Module) → Body m shift_right_signed_function shr_s_of three_locals
 shift_right_signed_body m v w u p d n locals is =
     subst (λ locals. Returns (low_word (whole shr_s_of v w u)) (Some (high_word (whole shr_s_of v w u))) (placed p n locals) (exec_all false (call_at false m d) (scope_of m shift_right_signed_function) d shift_right_signed_function.body (placed p n locals)))
     (sym is)
@@ -204,14 +204,14 @@ shift_right_signed_body m v w u p d n locals is =
 pub shift_right_signed_helps : ShiftRightSignedHelps
 shift_right_signed_helps m = helps_by m shift_right_signed_function shr_s_of three_locals (first_shift_right_signed m) (shift_right_signed_body m)
 
-first_shift_right : (m : Module) (vs : List JsValue) → first_locals shift_right_function vs ≡ locals_of m shift_right_function shr_u_of three_locals vs
+pub first_shift_right : (m : Module) (vs : List JsValue) → first_locals shift_right_function vs ≡ locals_of m shift_right_function shr_u_of three_locals vs
 first_shift_right m [] = refl
 first_shift_right m (v ∷ []) = refl
 first_shift_right m (v ∷ w ∷ []) = refl
 first_shift_right m (v ∷ w ∷ u ∷ []) = refl
 first_shift_right m (v ∷ w ∷ u ∷ x ∷ more) = refl
 
-shift_right_body : (m : Module) → Body m shift_right_function shr_u_of three_locals
+pub shift_right_body : (m : Module) → Body m shift_right_function shr_u_of three_locals
 shift_right_body m v w u p d n locals is =
     subst (λ locals. Returns (low_word (whole shr_u_of v w u)) (Some (high_word (whole shr_u_of v w u))) (placed p n locals) (exec_all false (call_at false m d) (scope_of m shift_right_function) d shift_right_function.body (placed p n locals)))
     (sym is)

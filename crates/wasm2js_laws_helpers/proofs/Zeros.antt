@@ -35,11 +35,11 @@ two_locals a b = binding (spelled (argument 0)) a ∷ binding (spelled (argument
 
 -- a function with two arguments, by its body at the marked ones
 module _ (m : Module) (g : Function) (op : ℕ → ℕ → ℕ) where
-  abbrev locals_of : List JsValue → Option (List Binding)
+  abbrev pub locals_of : List JsValue → Option (List Binding)
   locals_of (v ∷ w ∷ []) = Some (two_locals (signed_value (to_uint32_of v)) (signed_value (to_uint32_of w)))
   locals_of _ = None
 
-  abbrev Body : Type 0
+  abbrev pub Body : Type 0
   Body =
       (v w : JsValue) (p : Place) (d n : ℕ) (locals : List Binding) → locals ≡ two_locals (signed_value (to_uint32_of v)) (signed_value (to_uint32_of w))
       → Returns (op 64 (joined (to_uint32_of v) (to_uint32_of w))) None (placed p n locals) (exec_all false (call_at false m d) (scope_of m g) d g.body (placed p n locals))
@@ -69,7 +69,7 @@ none v e = is_zero (to_uint32_of v == 0) _ (is_true (to_uint32_of v) (to_uint32_
 
 -- ---- leading zeros
 
-first_leading : (m : Module) (vs : List JsValue) → first_locals leading_zeros_function vs ≡ locals_of m leading_zeros_function leading_zeros_of vs
+pub first_leading : (m : Module) (vs : List JsValue) → first_locals leading_zeros_function vs ≡ locals_of m leading_zeros_function leading_zeros_of vs
 first_leading m [] = refl
 first_leading m (v ∷ []) = refl
 first_leading m (v ∷ w ∷ []) = refl
@@ -78,7 +78,7 @@ first_leading m (v ∷ w ∷ u ∷ more) = refl
 small_sum : (n : ℕ) → n ≤ 32 → add_of 32 32 n ≡ 32 + n
 small_sum n h = omega arith
 
-leading_body : (m : Module) → HasZeros m → Body m leading_zeros_function leading_zeros_of
+pub leading_body : (m : Module) → HasZeros m → Body m leading_zeros_function leading_zeros_of
 leading_body m has v w p d n locals is =
     subst (λ locals. Returns (leading_zeros_of 64 (joined (to_uint32_of v) (to_uint32_of w))) None (placed p n locals)
     (exec_all false (call_at false m d) (scope_of m leading_zeros_function) d leading_zeros_function.body (placed p n locals))) (sym is)
@@ -117,7 +117,7 @@ leading_zeros_help m has = helps_by m leading_zeros_function leading_zeros_of (f
 
 -- ---- trailing zeros
 
-first_trailing : (m : Module) (vs : List JsValue) → first_locals trailing_zeros_function vs ≡ locals_of m trailing_zeros_function trailing_zeros_of vs
+pub first_trailing : (m : Module) (vs : List JsValue) → first_locals trailing_zeros_function vs ≡ locals_of m trailing_zeros_function trailing_zeros_of vs
 first_trailing m [] = refl
 first_trailing m (v ∷ []) = refl
 first_trailing m (v ∷ w ∷ []) = refl
@@ -133,7 +133,7 @@ less_64 l t h = omega arith
 abbrev trailing_term : ℕ → Term → Term
 trailing_term k t = minus (literal k) (zeros (low_ones t))
 
-trailing_body : (m : Module) → HasZeros m → Body m trailing_zeros_function trailing_zeros_of
+pub trailing_body : (m : Module) → HasZeros m → Body m trailing_zeros_function trailing_zeros_of
 trailing_body m has v w p d n locals is =
     subst (λ locals. Returns (trailing_zeros_of 64 (joined (to_uint32_of v) (to_uint32_of w))) None (placed p n locals)
     (exec_all false (call_at false m d) (scope_of m trailing_zeros_function) d trailing_zeros_function.body (placed p n locals))) (sym is)

@@ -20,7 +20,7 @@ use Rattle.asm_laws_continuation.proofs.Following.{sessions_follow}
 use Rattle.asm_laws_sound.proofs.Sessions.{accepted_never_go_wrong}
 use Rattle.asm2wasm_lang.specs.Allowed.{or_nothing, WritesBytes}
 use Rattle.wasm2js_lang.specs.Heaps.{heap_bytes}
-use Rattle.wasm2js_lang.specs.Allowed.{script_for, source_session, target_session, comparison, segment_bytes}
+use Rattle.wasm2js_lang.specs.Allowed.{script_for, source_session, target_session, comparison, Shows, segment_bytes}
 use Rattle.wasm2js_code.specs.Modules.{translated}
 use Rattle.wasm2js_laws_scripts.proofs.Fitting.{holds_or, all_from_places, scripts_fit}
 use Rattle.wasm2js_laws_scripts.proofs.Names.{shaped_exports_are_bytes}
@@ -30,6 +30,7 @@ use Rattle.wasm2js_laws_pace.proofs.Paced.{followed_from_the_start}
 use Rattle.wasm2js_laws_simulation.proofs.HostCalls.{host_calls_follow}
 use Rattle.wasm2js_laws_simulation.specs.StartLaws.{begins_at}
 use Rattle.wasm2js_laws_simulation.proofs.StartInit.{init_follows}
+use Rattle.wasm2js_laws_simulation.proofs.StartHigh.{no_high_word}
 use Rattle.wasm2js_laws_simulation.specs.InstancesLaws.{StoresAreHeld}
 use Rattle.wasm2js_laws_simulation.specs.SessionsLaws.{IsReady, SessionsAreFollowed, SessionsSimulate, SessionsAreBounded, TranslationsAreAllowed, TranslationsAreBounded}
 
@@ -44,6 +45,11 @@ module _ (held : StoresAreHeld) where
   module _ (w : WasmModule) (pace : ℕ) (ready : IsReady w pace) where
     fitting : (s : ScriptPlain) → machine.misfit w s ≡ None → misfit (translated w) (heap_bytes w) (script_for w s) ≡ None
     fitting s fit = scripts_fit w (translated w) s ready.source.within (shaped_exports_are_bytes w ready.source.shaped) ready.called fit
+
+    shown : (s : ScriptPlain) → machine.misfit w s ≡ None → (units : ℕ) → Shows w (translated w) s units
+    shown s fit units =
+        let right = accepted_never_go_wrong (translated w) (heap_bytes w) (script_for w s) units (translations_are_accepted w ready.source ready.words) (fitting s fit) in
+        record { seen = right.0; shows = right.1 }
 
     module _ (s : ScriptPlain) (bytes : WritesBytes s) (fit : machine.misfit w s ≡ None) where
       abbrev by : Comparison
@@ -98,6 +104,8 @@ module _ (held : StoresAreHeld) where
     well_formed = translations_are_well_formed w ready.source ready.words;
     called = ready.called;
     fits = λ s fit. fitting w pace ready s fit;
+    never_wrong = λ s fit units. shown w pace ready s fit units;
+    no_high_word = λ none s bytes fit. no_high_word w ready.source ready.called s bytes fit none;
     simulates = λ s bytes fit. sessions_simulate w pace ready s bytes fit;
   }
 
