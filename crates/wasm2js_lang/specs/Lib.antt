@@ -4,3 +4,4 @@ pub mod Calling
 pub mod Allowed
 pub mod Laws
 pub mod Worked
+pub mod SplitWords
