@@ -12,7 +12,7 @@ use Rattle.asm_types.specs.Values.{fits_of}
 use Rattle.asm_lang.specs.Trees.{Init, number, foreign_int}
 use Rattle.asm_lang.specs.Modules.{Stmt, Stmts, no_stmts, stmts, Variable, Param, Function, Module}
 use Rattle.asm_lang_valid.specs.declared.meaning.Builtin.TheVariants.{Clz32}
-use Rattle.asm_lang_valid.specs.Scope.{an_int, a_builtin, a_function, is_in, module_meaning, local_init, meaning}
+use Rattle.asm_lang_valid.specs.Scope.{an_int, a_builtin, a_function, is_in, module_meaning, local_init}
 use Rattle.asm_lang_valid.specs.Typing.{Around, is_int, all_typed}
 use Rattle.asm_lang_valid.specs.Typed.{scope_of}
 use Rattle.asm_lang_valid.specs.Refusal.{IsAccepted}
@@ -54,15 +54,15 @@ abbrev pub variables_among : List Variable → List Declared
 variables_among [] = []
 variables_among (v ∷ vs) = if starts_as_int v.init then declared v.name true ∷ variables_among vs else variables_among vs
 
--- each of these functions is what its name stands for in the function f
-abbrev pub AreKnown : Module → Function → List Function → Type 0
-AreKnown m f [] = Unit {0}
-AreKnown m f (h ∷ hs) = (meaning m f h.name ≡ a_function h) × AreKnown m f hs
+-- each of these functions is what its name stands for in the module
+abbrev pub AreHeld : Module → List Function → Type 0
+AreHeld m [] = Unit {0}
+AreHeld m (h ∷ hs) = (module_meaning m h.name ≡ a_function h) × AreHeld m hs
 
 -- statements of the function f of an accepted module, which holds the helper functions and declares what they name; f has no `$q` of its own
 pub record StandIn (helpers : List Function) (m : Module) (f : Function) (ss : List Stmt) : Type 0 where
   pub accepted : IsAccepted m
-  pub known : AreKnown m f helpers
+  pub held : AreHeld m helpers
   pub zeros : module_meaning m (codes "$clz32") ≡ a_builtin Clz32
   pub spare_is_int : module_meaning m spare ≡ an_int
   pub spare_is_shown : is_in spare (own_names f) ≡ false
