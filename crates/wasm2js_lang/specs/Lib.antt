@@ -4,4 +4,5 @@ pub mod Calling
 pub mod Allowed
 pub mod Helpers
 pub mod Worked
+pub mod SplitWords
 pub mod Laws

@@ -29,7 +29,7 @@ use Rattle.wasm2js_laws_actions.proofs.Reading.{read_then}
 use Rattle.wasm2js_laws_numbers.proofs.Counted.{set_bits_step}
 use Rattle.wasm2js_laws_helpers.specs.Answers.{length_of}
 use Rattle.wasm2js_laws_helpers.specs.Laws.{SetBitsHelp, FewUnits}
-use Rattle.wasm2js_laws_helpers.proofs.Called.{Returns, placed, called, words_after}
+use Rattle.wasm2js_laws_helpers.proofs.Called.{Returns, placed, CallGives, call_helps, called}
 use Rattle.wasm2js_laws_helpers.proofs.Computed.{int_read, given}
 use Rattle.wasm2js_laws_helpers.proofs.Turned.{marked_word}
 use Rattle.wasm2js_laws_helpers.proofs.Bodies.{run}
@@ -181,34 +181,22 @@ module _ (calls : Calls) (c : Scope) (bound : ℕ) (p : Place) where
 
 -- ---- the call
 
-module _ (m : Module) (bytes : ℕ) (v : JsValue) where
+module _ (m : Module) (v : JsValue) where
   abbrev pub result : ℕ
   result = set_bits_of 32 (to_uint32_of v)
 
   abbrev pub turns_made : ℕ
   turns_made = suc (length_of 32 (to_uint32_of v))
 
-  ended : (p : Place) (n : ℕ) (locals : List Binding) → IsHeap bytes p.heap → p.units ≡ suc n → (r : Run Completion) → Pops result turns_made (placed p n locals) r
-      → Helps bytes (straight.gives result None p.heap) (suc turns_made) p (after (after r (λ d. function_end d)) (back_to p.locals))
-  ended p n locals heap e (goes (returned y) q) k = (
-    k.0,
-    record {
-      has_words = words_after None p (record q { locals = p.locals }) refl k.5;
-      has_heap = k.2;
-      is_heap = heap;
-      left = let u = k.1 in omega (arith, u, e);
-      locals = refl;
-      globals = ap names_in k.5;
-      events = k.3;
-      replies = k.4;
-    },
-  )
-  ended p n locals heap e (goes normal q) k = absurd k
-  ended p n locals heap e (goes (broken x) q) k = absurd k
-  ended p n locals heap e (goes (continued x) q) k = absurd k
-  ended p n locals heap e (stops x q) k = absurd k
-  ended p n locals heap e (spent q) k = let u = k.0 in record { few = omega (arith, u, e); events = k.1 }
-  ended p n locals heap e wrong k = tt
+  ended : (p : Place) (n : ℕ) (locals : List Binding) → p.units ≡ suc n → (r : Run Completion) → Pops result turns_made (placed p n locals) r
+      → CallGives result None (suc turns_made) p (after (after r (λ d. function_end d)) (back_to p.locals))
+  ended p n locals e (goes (returned y) q) k = (k.0, record { left = let u = k.1 in omega (arith, u, e); heap = k.2; events = k.3; replies = k.4; locals = refl; globals = k.5 })
+  ended p n locals e (goes normal q) k = absurd k
+  ended p n locals e (goes (broken x) q) k = absurd k
+  ended p n locals e (goes (continued x) q) k = absurd k
+  ended p n locals e (stops x q) k = absurd k
+  ended p n locals e (spent q) k = let u = k.0 in record { few = omega (arith, u, e); events = k.1 }
+  ended p n locals e wrong k = tt
 
   pub body : (d n : ℕ) (p : Place) → n ≤ d → Pops result turns_made (placed p n (pop_locals (signed_value (to_uint32_of v)) (Whole (pos 0))))
       (exec_all false (call_at false m d) (scope_of m set_bits_function) d set_bits_function.body (placed p n (pop_locals (signed_value (to_uint32_of v)) (Whole (pos 0)))))
@@ -225,29 +213,32 @@ module _ (m : Module) (bytes : ℕ) (v : JsValue) where
       zero_add : (x : ℕ) → 0 + x ≡ x
       zero_add x = omega arith
 
-  called_once : (bound : ℕ) (p : Place) → IsHeap bytes p.heap → p.units ≤ bound
-      → Helps bytes (straight.gives result None p.heap) (2 + length_of 32 (to_uint32_of v)) p (call_at false m bound set_bits_function (v ∷ []) p)
-  called_once bound p heap le =
-      subst (λ cost. Helps bytes (straight.gives result None p.heap) cost p (call_at false m bound set_bits_function (v ∷ []) p)) (two (length_of 32 (to_uint32_of v))) (at bound le)
+  call_pops : (bound : ℕ) (p : Place) → p.units ≤ bound → CallGives result None (2 + length_of 32 (to_uint32_of v)) p (call_at false m bound set_bits_function (v ∷ []) p)
+  call_pops bound p le = subst (λ cost. CallGives result None cost p (call_at false m bound set_bits_function (v ∷ []) p)) (two (length_of 32 (to_uint32_of v))) (at bound le)
     where
       two : (x : ℕ) → suc (suc x) ≡ 2 + x
       two x = omega arith
 
       by : (d u : ℕ) → p.units ≡ u → p.units ≤ suc d
-          → Helps bytes (straight.gives result None p.heap) (suc turns_made) p
+          → CallGives result None (suc turns_made) p
           (after (paid u p) (λ _. and_then (defined (first_locals set_bits_function (v ∷ []))) (λ locals. with_locals locals (and_then (exec_all false (call_at false m d) (scope_of m set_bits_function) d set_bits_function.body) (λ d. function_end d)))))
       by d zero e le = record { few = omega arith; events = refl }
       by d (suc n) e le =
-          ended p n (pop_locals (signed_value (to_uint32_of v)) (Whole (pos 0))) heap e
+          ended p n (pop_locals (signed_value (to_uint32_of v)) (Whole (pos 0))) e
           (exec_all false (call_at false m d) (scope_of m set_bits_function) d set_bits_function.body (placed p n (pop_locals (signed_value (to_uint32_of v)) (Whole (pos 0))))) (body d n p (omega arith))
 
-      at : (bound : ℕ) → p.units ≤ bound → Helps bytes (straight.gives result None p.heap) (suc turns_made) p (call_at false m bound set_bits_function (v ∷ []) p)
+      at : (bound : ℕ) → p.units ≤ bound → CallGives result None (suc turns_made) p (call_at false m bound set_bits_function (v ∷ []) p)
       at zero le = record { few = omega arith; events = refl }
       at (suc d) le = by d p.units refl le
 
+pub set_bits_give : (m : Module) (bound : ℕ) (v : JsValue) (p : Place) → p.units ≤ bound
+    → CallGives (set_bits_of 32 (to_uint32_of v)) None (2 + length_of 32 (to_uint32_of v)) p (call_at false m bound set_bits_function (v ∷ []) p)
+set_bits_give m bound v p le = call_pops m v bound p le
+
 pub set_bits_help : SetBitsHelp
 set_bits_help m bound bytes [] p heap le = called m set_bits_function bytes [] 0 None bound p heap le (λ d n locals is. absurd (cc is))
-set_bits_help m bound bytes (v ∷ []) p heap le = called_once m bytes v bound p heap le
+set_bits_help m bound bytes (v ∷ []) p heap le =
+    call_helps bytes (set_bits_of 32 (to_uint32_of v)) None (2 + length_of 32 (to_uint32_of v)) p heap (call_at false m bound set_bits_function (v ∷ []) p) (set_bits_give m bound v p le)
 set_bits_help m bound bytes (v ∷ w ∷ more) p heap le = called m set_bits_function bytes (v ∷ w ∷ more) 0 None bound p heap le (λ d n locals is. absurd (cc is))
 
 long_at_most : (k a : ℕ) → length_of k a ≤ k

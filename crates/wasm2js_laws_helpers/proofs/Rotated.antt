@@ -24,7 +24,7 @@ use Rattle.wasm2js_laws_numbers.proofs.Shifted.{rotations_left}
 use Rattle.wasm2js_laws_helpers.specs.Laws.{RotateLeftHelps}
 use Rattle.wasm2js_laws_helpers.proofs.Called.{Returns, placed}
 use Rattle.wasm2js_laws_helpers.proofs.Computed.{given}
-use Rattle.wasm2js_laws_helpers.proofs.Turned.{split_of, sum_small, whole, returned_words, locals_of, Body, helps_by}
+use Rattle.wasm2js_laws_helpers.proofs.Turned.{split_of, sum_small, whole, returned_words, locals_of, GivesTwo, Body, gives_by, helps_by}
 use Rattle.wasm2js_laws_helpers.proofs.Bodies.{run, set_then, when_then, far_truth}
 
 -- what is known of a body from a place with other variables
@@ -106,6 +106,9 @@ rotate_body m v w u p d n locals is =
 
     k : JsValue
     k = signed_value (to_uint32_of u)
+
+pub rotate_left_gives : (m : Module) → GivesTwo m rotate_left_function rotl_of
+rotate_left_gives m = gives_by m rotate_left_function rotl_of (four_locals (Whole (pos 0))) (first_rotate m) (rotate_body m)
 
 pub rotate_left_helps : RotateLeftHelps
 rotate_left_helps m = helps_by m rotate_left_function rotl_of (four_locals (Whole (pos 0))) (first_rotate m) (rotate_body m)

@@ -1,5 +1,5 @@
 -- Shifts and rotations of words of 64 bits.
-use Rattle.std.proofs.Common.{◌≡◌, ℕ, ◌+◌, ◌*◌, ◌%◌, ◌^◌, ◌<◌, Bool, false, List, [], ◌∷◌, Option, Some, None, refl, sym, ap, ◌∙◌, subst, arith}
+use Rattle.std.proofs.Common.{◌≡◌, ℕ, ◌+◌, ◌*◌, ◌%◌, ◌^◌, ◌<◌, ◌≤◌, Bool, false, List, [], ◌∷◌, Option, Some, None, refl, sym, ap, ◌∙◌, subst, arith}
 use Rattle.std.specs.Prelude.{if◌then◌else◌, bit_and}
 use Rattle.std.specs.Int.{int_shr}
 use Rattle.std.proofs.lemmas.Nat.{shr_le, mod_below, pow_pos}
@@ -28,7 +28,7 @@ use Rattle.wasm2js_laws_numbers.proofs.Shifted.{shifts_left, shifts_right}
 use Rattle.wasm2js_laws_numbers.proofs.Signed.{shifts_right_signed}
 use Rattle.wasm2js_laws_helpers.specs.Answers.{turned}
 use Rattle.wasm2js_laws_helpers.specs.Laws.{HelpsAtOnce, ShiftLeftHelps, ShiftRightSignedHelps, ShiftRightHelps}
-use Rattle.wasm2js_laws_helpers.proofs.Called.{Returns, placed, called}
+use Rattle.wasm2js_laws_helpers.proofs.Called.{Returns, placed, CallGives, call_helps, call_gives, called}
 use Rattle.wasm2js_laws_helpers.proofs.Computed.{Known, given}
 use Rattle.wasm2js_laws_helpers.proofs.Bodies.{Split, split, left, run, set_then, when_then, far_truth}
 
@@ -122,6 +122,12 @@ marked_locals v w u = three_locals (signed_value (to_uint32_of v)) (signed_value
 pub the_locals : (a b : List Binding) → Some a ≡ Some b → a ≡ b
 the_locals a b e = cc e
 
+-- a call with three arguments gives both words, for one unit
+abbrev pub GivesTwo : Module → Function → (ℕ → ℕ → ℕ → ℕ) → Type 0
+GivesTwo m g op =
+    (bound : ℕ) (v w u : JsValue) (p : Place) → p.units ≤ bound
+    → CallGives (low_word (whole op v w u)) (Some (high_word (whole op v w u))) 1 p (call_at false m bound g (v ∷ w ∷ u ∷ []) p)
+
 -- a function with three arguments, by its body at the marked ones
 module _ (m : Module) (g : Function) (op : ℕ → ℕ → ℕ → ℕ) (locals_for : JsValue → JsValue → JsValue → List Binding) where
   abbrev pub locals_of : List JsValue → Option (List Binding)
@@ -133,13 +139,17 @@ module _ (m : Module) (g : Function) (op : ℕ → ℕ → ℕ → ℕ) (locals_
       (v w u : JsValue) (p : Place) (d n : ℕ) (locals : List Binding) → locals ≡ locals_for (signed_value (to_uint32_of v)) (signed_value (to_uint32_of w)) (signed_value (to_uint32_of u))
       → Returns (low_word (whole op v w u)) (Some (high_word (whole op v w u))) (placed p n locals) (exec_all false (call_at false m d) (scope_of m g) d g.body (placed p n locals))
 
+  pub gives_by : ((vs : List JsValue) → first_locals g vs ≡ locals_of vs) → Body → GivesTwo m g op
+  gives_by first body bound v w u p le =
+      call_gives m g (v ∷ w ∷ u ∷ []) (low_word (whole op v w u)) (Some (high_word (whole op v w u))) bound p le
+      (λ d n locals is. body v w u p d n locals (the_locals locals _ (sym is ∙ first (v ∷ w ∷ u ∷ []))))
+
   pub helps_by : ((vs : List JsValue) → first_locals g vs ≡ locals_of vs) → Body → HelpsAtOnce m g (turned op)
   helps_by first body bound bytes [] p heap le = called m g bytes [] 0 None bound p heap le (λ d n locals is. let e = first [] in absurd (cc (is, e)))
   helps_by first body bound bytes (v ∷ []) p heap le = called m g bytes (v ∷ []) 0 None bound p heap le (λ d n locals is. let e = first (v ∷ []) in absurd (cc (is, e)))
   helps_by first body bound bytes (v ∷ w ∷ []) p heap le = called m g bytes (v ∷ w ∷ []) 0 None bound p heap le (λ d n locals is. let e = first (v ∷ w ∷ []) in absurd (cc (is, e)))
   helps_by first body bound bytes (v ∷ w ∷ u ∷ []) p heap le =
-      called m g bytes (v ∷ w ∷ u ∷ []) (low_word (whole op v w u)) (Some (high_word (whole op v w u))) bound p heap le
-      (λ d n locals is. body v w u p d n locals (the_locals locals _ (sym is ∙ first (v ∷ w ∷ u ∷ []))))
+      call_helps bytes (low_word (whole op v w u)) (Some (high_word (whole op v w u))) 1 p heap (call_at false m bound g (v ∷ w ∷ u ∷ []) p) (gives_by first body bound v w u p le)
   helps_by first body bound bytes (v ∷ w ∷ u ∷ x ∷ more) p heap le = called m g bytes (v ∷ w ∷ u ∷ x ∷ more) 0 None bound p heap le (λ d n locals is. let e = first (v ∷ w ∷ u ∷ x ∷ more) in absurd (cc (is, e)))
 
 -- ---- shifts
@@ -171,6 +181,9 @@ shift_left_body m v w u p d n locals is =
     k : JsValue
     k = signed_value (to_uint32_of u)
 
+pub shift_left_gives : (m : Module) → GivesTwo m shift_left_function shl_of
+shift_left_gives m = gives_by m shift_left_function shl_of three_locals (first_shift_left m) (shift_left_body m)
+
 pub shift_left_helps : ShiftLeftHelps
 shift_left_helps m = helps_by m shift_left_function shl_of three_locals (first_shift_left m) (shift_left_body m)
 
@@ -201,6 +214,9 @@ shift_right_signed_body m v w u p d n locals is =
     k : JsValue
     k = signed_value (to_uint32_of u)
 
+pub shift_right_signed_gives : (m : Module) → GivesTwo m shift_right_signed_function shr_s_of
+shift_right_signed_gives m = gives_by m shift_right_signed_function shr_s_of three_locals (first_shift_right_signed m) (shift_right_signed_body m)
+
 pub shift_right_signed_helps : ShiftRightSignedHelps
 shift_right_signed_helps m = helps_by m shift_right_signed_function shr_s_of three_locals (first_shift_right_signed m) (shift_right_signed_body m)
 
@@ -230,6 +246,9 @@ shift_right_body m v w u p d n locals is =
 
     k : JsValue
     k = signed_value (to_uint32_of u)
+
+pub shift_right_gives : (m : Module) → GivesTwo m shift_right_function shr_u_of
+shift_right_gives m = gives_by m shift_right_function shr_u_of three_locals (first_shift_right m) (shift_right_body m)
 
 pub shift_right_helps : ShiftRightHelps
 shift_right_helps m = helps_by m shift_right_function shr_u_of three_locals (first_shift_right m) (shift_right_body m)

@@ -127,7 +127,7 @@ module _ (m : Module) (v : JsValue) where
       by (suc n) e =
           popped p n (pop_locals (signed_value (to_uint32_of v)) (Whole (pos 0))) e
           (exec_all false (call_at false m d) (scope_of m set_bits_function) d set_bits_function.body (placed p n (pop_locals (signed_value (to_uint32_of v)) (Whole (pos 0)))))
-          (body m 0 v d n p (omega (arith, e, le)))
+          (body m v d n p (omega (arith, e, le)))
 
 pub bits_back : (m : Module) (bound : ℕ) (vs : List JsValue) (p : Place) → length vs ≡ 1 → p.units ≤ bound
     → MayComeBack (bits_set (map to_uint32_of vs)) None 34 p (call_at false m bound set_bits_function vs p)
