@@ -12,7 +12,8 @@ use Rattle.wasm_lang.specs.Instructions.{plain, const32, local_get, bin32, end_m
 use Rattle.wasm_lang.specs.Modules.{ElementSegment, WasmModule}
 use Rattle.asm_lang.specs.Modules.{binary, returns, var, Table, Module}
 use Rattle.asm_lang_valid.specs.LimitRows.{foreign_calls}
-use Rattle.asm2wasm_lang.specs.Allowed.{replied_writes, AreBytes, WritesBytes}
+use Rattle.script_fits.specs.Fits.{writes_of}
+use Rattle.script_fits.specs.Written.{AreBytes, WritesBytes}
 use Rattle.asm2wasm_lang.specs.Calling.{exactly}
 use Rattle.asm2wasm_lang.specs.Tables.{entries_of, bases_of}
 use Rattle.asm2wasm_code.specs.Modules.{translation}
@@ -73,11 +74,5 @@ unguarded = record (translation quotient 4096) {
 abbrev by_zero : ScriptPlain
 by_zero = calls_alone (called (pos 7 ∷ pos 0 ∷ []) 1 ∷ [])
 
-writes_nothing : WritesBytes by_zero
-writes_nothing = record {
-  before = All-nil (λ (w : WritePlain). IsBytes w.bytes);
-  replied = All-nil (λ (r : ReplyLinePlain). AreBytes (replied_writes r.reply));
-}
-
 unguarded_traps : NeverTraps quotient 4096 unguarded → ⊥
-unguarded_traps never = never by_zero writes_nothing refl 10 kinds.ZeroDivisor refl
+unguarded_traps never = never by_zero refl 10 kinds.ZeroDivisor refl

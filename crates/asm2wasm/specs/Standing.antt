@@ -18,7 +18,7 @@ use Rattle.asm_lang_valid.specs.Refusal.{function_number}
 use Rattle.asm_lang_valid.specs.Scope.{signature_of}
 use Rattle.asm_lang_valid.specs.Typed.{scope_of}
 use Rattle.asm_lang_exec.specs.Fits.{misfit}
-use Rattle.asm2wasm_lang.specs.Allowed.{target_session, WritesBytes, IsAllowed, IsBounded}
+use Rattle.asm2wasm_lang.specs.Allowed.{target_session, IsAllowed, IsBounded}
 use Rattle.asm2wasm_lang.specs.Calling.{exactly}
 use Rattle.asm2wasm_lang.specs.Tables.{entries_of, bases_of}
 use Rattle.asm2wasm_code.specs.Bodies.{function_code}
@@ -26,7 +26,7 @@ use Rattle.asm2wasm_code.specs.Modules.{type_for, body_for}
 
 -- no session of a script that fits the text ends with a trap
 abbrev pub NeverTraps : Module → ℕ → WasmModule → Type 0
-NeverTraps m size w = (s : ScriptPlain) → WritesBytes s → misfit m size s ≡ None → (n : ℕ) (kind : TrapKind) → (target_session w s n).end ≢ Some (trapped kind)
+NeverTraps m size w = (s : ScriptPlain) → misfit m size s ≡ None → (n : ℕ) (kind : TrapKind) → (target_session w s n).end ≢ Some (trapped kind)
 
 -- ---- functions
 

@@ -39,7 +39,8 @@ use Rattle.asm_lang_exec.specs.Session.{first_globals, heap_length, first_heap, 
 use Rattle.asm_lang_exec.specs.Fits.{in_range, fits_global, fits_write, fits_reply, tests}
 use Rattle.asm2wasm_lang.specs.Heaps.{pages_for}
 use Rattle.asm2wasm_lang.specs.Calling.{exactly}
-use Rattle.asm2wasm_lang.specs.Allowed.{replied_writes, WritesBytes}
+use Rattle.script_fits.specs.Fits.{writes_of}
+use Rattle.script_fits.specs.Written.{WritesBytes}
 use Rattle.asm2wasm_code.specs.Numbers.{slot_of, int_variables}
 use Rattle.asm2wasm_code.specs.Modules.{from_env, imported_function, imported_global, imported_memory, or_zero, global_for, translation}
 use Rattle.asm2wasm_laws_heap.proofs.Writes.{writes_stay_in_front}
@@ -86,9 +87,9 @@ module _ (m : Module) (size : ℕ) where
   all_stay (x ∷ xs) h all = let p = and_parts (fits_write m size x) (list_all (fits_write m size) xs) h in (stays x p.0 all.0, all_stay xs p.1 all.1)
 
   abbrev Replied : ReplyPlain → Type 0
-  Replied r = All (Stays long) (replied_writes r)
+  Replied r = All (Stays long) (writes_of r)
 
-  reply_stays : (r : ReplyPlain) → fits_reply m size r ≡ true → All (λ (x : WritePlain). IsBytes x.bytes) (replied_writes r) → Replied r
+  reply_stays : (r : ReplyPlain) → fits_reply m size r ≡ true → All (λ (x : WritePlain). IsBytes x.bytes) (writes_of r) → Replied r
   reply_stays (give word ws) h all = All-from_recursion (Stays long) ws (all_stay ws h (recursion_from_All (λ (x : WritePlain). IsBytes x.bytes) ws all))
   reply_stays throw h all = All-from_recursion (Stays long) [] tt
 
@@ -292,7 +293,7 @@ module _ (m : Module) (size : ℕ) (s : ScriptPlain) where
   pub fits_to : Fits (tests m size) s → WritesBytes s → ((n : List ℕ) → is_in n (foreign_globals m) ≡ true → plain.IsBytes n) → FitsTo
   fits_to fits bytes low = record {
     writes = all_stay m size s.writes all_written (recursion_from_All (λ (x : WritePlain). IsBytes x.bytes) s.writes bytes.before);
-    replies = All-from_recursion (Replied m size) (map (λ (r : ReplyLinePlain). r.reply) s.replies) (replied s.replies fits_replies (recursion_from_All (λ (r : ReplyLinePlain). All (λ (x : WritePlain). IsBytes x.bytes) (replied_writes r.reply)) s.replies bytes.replied));
+    replies = All-from_recursion (Replied m size) (map (λ (r : ReplyLinePlain). r.reply) s.replies) (replied s.replies fits_replies (recursion_from_All (λ (r : ReplyLinePlain). All (λ (x : WritePlain). IsBytes x.bytes) (writes_of r.reply)) s.replies bytes.replied));
     named = all_from_places (λ (g : GlobalPlain). plain.IsBytes g.name) s.globals name_bytes;
     asks = all_low_names (foreign_globals m) low;
   }
@@ -308,7 +309,7 @@ module _ (m : Module) (size : ℕ) (s : ScriptPlain) where
       fits_replies = all_from_places (λ (r : ReplyLinePlain). fits_reply m size r.reply ≡ true) s.replies (λ i r e. holds_or (fits_reply m size r.reply) (λ h. fits.all_fit r.line (a_reply i r e h)))
 
       replied : (rs : List ReplyLinePlain) → AllByRecursion (λ (r : ReplyLinePlain). fits_reply m size r.reply ≡ true) rs
-          → AllByRecursion (λ (r : ReplyLinePlain). All (λ (x : WritePlain). IsBytes x.bytes) (replied_writes r.reply)) rs → AllByRecursion (Replied m size) (map (λ (r : ReplyLinePlain). r.reply) rs)
+          → AllByRecursion (λ (r : ReplyLinePlain). All (λ (x : WritePlain). IsBytes x.bytes) (writes_of r.reply)) rs → AllByRecursion (Replied m size) (map (λ (r : ReplyLinePlain). r.reply) rs)
       replied [] fits bytes = tt
       replied (r ∷ rs) fits bytes = (reply_stays m size r.reply fits.0 bytes.0, replied rs fits.1 bytes.1)
 

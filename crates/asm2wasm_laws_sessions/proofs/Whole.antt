@@ -26,7 +26,9 @@ use Rattle.asm_lang_exec.specs.Fits.{misfit, tests}
 use Rattle.asm_laws_print.specs.Fitting.{FitsModule}
 use Rattle.asm_laws_sound.proofs.Sessions.{accepted_never_go_wrong, checks_change_nothing}
 use Rattle.asm2wasm_lang.specs.Heaps.{is_heap_length, pages_for}
-use Rattle.asm2wasm_lang.specs.Allowed.{or_nothing, source_session, target_session, WritesBytes, comparison, most_nodes, enough_for}
+use Rattle.script_fits.specs.Written.{WritesBytes}
+use Rattle.asm_lang_exec.proofs.Written.{fitting_writes}
+use Rattle.asm2wasm_lang.specs.Allowed.{or_nothing, source_session, target_session, comparison, most_nodes, enough_for}
 use Rattle.asm2wasm_code.specs.Modules.{translation}
 use Rattle.asm2wasm_laws_run.specs.State.{IsNoTrap, store_of}
 use Rattle.asm2wasm_laws_values.specs.Kept.{Surroundings}
@@ -51,7 +53,10 @@ enough nodes calls n = omega arith
 
 module _ (called : FunctionsAreCalled) (hold : (size : ℕ) → size ≤ pages_for size * page) (of_heap : (size : ℕ) → is_heap_length size ≡ true → IsHeapLength size)
     (formed_fits : (m : Module) → IsWellFormed m → FitsModule m) (kept : FunctionsAreKept) (pay : NodesPay) where
-  module _ (m : Module) (size : ℕ) (s : ScriptPlain) (ok : IsAccepted m) (formed : IsWellFormed m) (heap : is_heap_length size ≡ true) (bytes : WritesBytes s) (fit : misfit m size s ≡ None) where
+  module _ (m : Module) (size : ℕ) (s : ScriptPlain) (ok : IsAccepted m) (formed : IsWellFormed m) (heap : is_heap_length size ≡ true) (fit : misfit m size s ≡ None) where
+    bytes : WritesBytes s
+    bytes = fitting_writes m size s fit
+
     abbrev w : WasmModule
     w = translation m size
 
@@ -109,15 +114,15 @@ module _ (called : FunctionsAreCalled) (hold : (size : ℕ) → size ≤ pages_f
         (sessions_are_monotone w (script_to_wasm s)) (enough_for m s) match
 
   pub sessions_are_matched : SessionsAreMatched
-  sessions_are_matched m size s ok formed heap bytes fit n = match m size s ok formed heap bytes fit n
+  sessions_are_matched m size s ok formed heap fit n = match m size s ok formed heap fit n
 
   pub sessions_never_trap : SessionsNeverTrap
-  sessions_never_trap m size s ok formed heap bytes fit n e h = never_trap m size s ok formed heap bytes fit n e h
+  sessions_never_trap m size s ok formed heap fit n e h = never_trap m size s ok formed heap fit n e h
 
   pub translation_is_bounded : TranslationIsBounded
   translation_is_bounded m size ok formed heap = record {
-    no_fewer = λ s bytes fit n. (simulate m size s ok formed heap bytes fit).2 n;
-    no_more = λ s bytes fit n. (simulate m size s ok formed heap bytes fit).1 n;
+    no_fewer = λ s fit n. (simulate m size s ok formed heap fit).2 n;
+    no_more = λ s fit n. (simulate m size s ok formed heap fit).1 n;
   }
 
   pub translation_is_allowed : TranslationIsValid → TranslationIsCalled → ScriptsFit → TranslationIsAllowed
@@ -126,5 +131,5 @@ module _ (called : FunctionsAreCalled) (hold : (size : ℕ) → size ≤ pages_f
     called = is_called m size;
     fits = λ s fit. scripts_fit m size s formed fit;
     goes_right = λ s fit units none. let there = accepted_never_go_wrong m size s units ok fit in none-some there.0 (sym none ∙ there.1);
-    simulates = λ s bytes fit. (simulate m size s ok formed heap bytes fit).0;
+    simulates = λ s fit. (simulate m size s ok formed heap fit).0;
   }

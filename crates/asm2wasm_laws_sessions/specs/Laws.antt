@@ -7,7 +7,7 @@ use Rattle.asm_lang.specs.Heights.{IsWellFormed}
 use Rattle.asm_lang.specs.Modules.{Module}
 use Rattle.asm_lang_valid.specs.Refusal.{IsAccepted}
 use Rattle.asm_lang_exec.specs.Fits.{misfit}
-use Rattle.asm2wasm_lang.specs.Allowed.{source_session, target_session, WritesBytes, comparison, IsAllowed, enough_for, IsBounded}
+use Rattle.asm2wasm_lang.specs.Allowed.{source_session, target_session, comparison, IsAllowed, enough_for, IsBounded}
 use Rattle.asm2wasm_lang.specs.Heaps.{is_heap_length}
 use Rattle.asm2wasm_code.specs.Modules.{translation}
 use Rattle.asm2wasm_laws_run.specs.State.{IsNoTrap}
@@ -16,13 +16,13 @@ use Rattle.asm2wasm_laws_run.specs.State.{IsNoTrap}
 -- units where they are used up
 abbrev pub SessionsAreMatched : Type 0
 SessionsAreMatched =
-    (m : Module) (size : ℕ) (s : ScriptPlain) → IsAccepted m → IsWellFormed m → is_heap_length size ≡ true → WritesBytes s → misfit m size s ≡ None
+    (m : Module) (size : ℕ) (s : ScriptPlain) → IsAccepted m → IsWellFormed m → is_heap_length size ≡ true → misfit m size s ≡ None
     → (n : ℕ) → IsMatched (comparison (translation m size) s) (source_session m size s) (target_session (translation m size) s) (enough_for m s) n
 
 -- no session of the translation ends with a trap
 abbrev pub SessionsNeverTrap : Type 0
 SessionsNeverTrap =
-    (m : Module) (size : ℕ) (s : ScriptPlain) → IsAccepted m → IsWellFormed m → is_heap_length size ≡ true → WritesBytes s → misfit m size s ≡ None
+    (m : Module) (size : ℕ) (s : ScriptPlain) → IsAccepted m → IsWellFormed m → is_heap_length size ≡ true → misfit m size s ≡ None
     → (n : ℕ) (e : EndPlain) → (target_session (translation m size) s n).end ≡ Some e → IsNoTrap e
 
 -- the translation of an accepted module that a text says may be written for it

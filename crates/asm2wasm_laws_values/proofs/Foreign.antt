@@ -32,7 +32,7 @@ use Rattle.asm_lang_valid.specs.LimitRows.{ForeignCall}
 use Rattle.asm_lang_exec.specs.Runs.{Place}
 use Rattle.asm_lang_exec.specs.Session.{heap_length}
 use Rattle.asm_lang_exec.specs.Values.{with_writes, answered, call_import}
-use Rattle.asm2wasm_lang.specs.Allowed.{replied_writes}
+use Rattle.script_fits.specs.Fits.{writes_of}
 use Rattle.asm2wasm_lang.specs.Calling.{int_type}
 use Rattle.asm2wasm_code.specs.Numbers.{import_number}
 use Rattle.asm2wasm_laws_heap.proofs.Writes.{writes_stay_in_front}
@@ -75,10 +75,10 @@ abbrev Alike : ℕ → ImportAnswer → ImportAnswer → Type 0
 Alike n (ends e) a = (a ≡ ends (end_to_wasm e)) × IsNoTrap e
 Alike n (goes_on g) a =
     (a ≡ goes_on (record { word = g.word; writes = g.writes; events = map event_to_wasm g.events; replies = g.replies }))
-    × AllByRecursion (Stays n) g.writes × All (λ (r : ReplyPlain). All (Stays n) (replied_writes r)) g.replies.left
+    × AllByRecursion (Stays n) g.writes × All (λ (r : ReplyPlain). All (Stays n) (writes_of r)) g.replies.left
 
 abbrev Replied : ℕ → ReplyPlain → Type 0
-Replied n r = All (Stays n) (replied_writes r)
+Replied n r = All (Stays n) (writes_of r)
 
 taken_alike : (n : ℕ) (name : List ℕ) (args : List Word) (left : List ReplyPlain) → AllByRecursion (Replied n) left → Alike n (take_reply name args left) (take_reply (foreign_import name) args left)
 taken_alike n name args [] all = (refl, tt)

@@ -30,5 +30,5 @@ back_is middle bytes output b w (translated_back v n i o says allowed traps boun
     subst (λ x. back.IsAllowed x b) spelled (subst (back.IsAllowed v) same allowed)
 
 pub written_back_simulate : RoundTripsSimulate → WrittenBackSimulate
-written_back_simulate law file middle text bytes output heap one two a b w i k j s writes fits =
-    law a heap w b (there_is file text bytes heap a w one i k) (back_is middle bytes output b w two k j) s writes fits
+written_back_simulate law file middle text bytes output heap one two a b w i k j s fits =
+    law a heap w b (there_is file text bytes heap a w one i k) (back_is middle bytes output b w two k j) s fits

@@ -9,7 +9,7 @@ use Rattle.asm_lang.specs.Modules.{Module}
 use Rattle.asm_lang_valid.specs.Texts.{IsAcceptedText}
 use Rattle.asm_lang_exec.specs.Session.{first_heap}
 use Rattle.asm_lang_exec.specs.Fits.{misfit}
-use Rattle.asm2wasm_lang.specs.Allowed.{WritesBytes, source_session}
+use Rattle.asm2wasm_lang.specs.Allowed.{source_session}
 use Rattle.wasm2js_laws_round_trip.specs.Laws.{script_back, size_back, session_back}
 use Rattle.bridge_lang.specs.Command.{asm_to_wasm, wasm_to_asm}
 use Rattle.bridge_lang.specs.Job.{IsMade}
@@ -20,5 +20,5 @@ abbrev pub WrittenBackSimulate : Type 0
 WrittenBackSimulate =
     (file middle text bytes output : List ℕ) (heap : ℕ) → IsMade (asm_to_wasm file heap) text bytes → IsMade (wasm_to_asm middle) bytes output
     → (a b : Module) (w : WasmModule) → IsAcceptedText text a → IsValidBytes bytes w → IsAcceptedText output b
-    → (s : ScriptPlain) → WritesBytes s → misfit a heap s ≡ None
+    → (s : ScriptPlain) → misfit a heap s ≡ None
     → Sim (comparison_there_and_back (first_heap b (size_back heap) (script_back w s))) (source_session a heap s) (session_back heap w b s)

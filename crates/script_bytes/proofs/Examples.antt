@@ -3,7 +3,8 @@ use Rattle.std.proofs.Common.{◌<◌, [], ◌∷◌, arith}
 use Rattle.std.proofs.lemmas.List.Elements.{All-head}
 use Rattle.heap_lang.specs.Numbers.{IsBytes}
 use Rattle.sem_laws.specs.Script.{WritePlain, give, ReplyLinePlain, ScriptPlain}
-use Rattle.asm2wasm_lang.specs.Allowed.{replied_writes, AreBytes, WritesBytes}
+use Rattle.script_fits.specs.Fits.{writes_of as replied_writes}
+use Rattle.script_fits.specs.Written.{AreBytes, WritesBytes}
 
 abbrev too_large : WritePlain
 too_large = record { at = 0; bytes = 256 ∷ []; line = 1 }

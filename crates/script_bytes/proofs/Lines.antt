@@ -11,7 +11,8 @@ use Rattle.script_read.specs.Numbers.{number_of, place_of}
 use Rattle.script_read.specs.Names.{bytes_of, name_of}
 use Rattle.script_read.specs.Items.{Item, a_global, a_write, a_call, a_reply, all_of, global_line, write_at, heap_line, call_line, at_equals, write_word, reply_line, throw_line, item_of}
 use Rattle.script_read.specs.Reading.{then_items, items_of, writes_of, replies_of, collected, if_all, said_script}
-use Rattle.asm2wasm_lang.specs.Allowed.{replied_writes, AreBytes, WritesBytes}
+use Rattle.script_fits.specs.Fits.{writes_of as replied_writes}
+use Rattle.script_fits.specs.Written.{AreBytes, WritesBytes}
 use Rattle.script_bytes.proofs.Hex.{bytes_below}
 
 -- ---- what an answer has, if there is one

@@ -4,7 +4,7 @@
 ghost use Rattle.std.specs.Prelude.{◌≡◌, ℕ, List, Ok};
 ghost use Rattle.sem_laws.specs.Script.{ScriptPlain};
 ghost use Rattle.script_read.specs.Reading.{said_script};
-ghost use Rattle.asm2wasm_lang.specs.Allowed.{WritesBytes};
+ghost use Rattle.script_fits.specs.Written.{WritesBytes};
 
 /// Each script that a text says writes bytes, by its heap lines and by its replies.
 pub fn read_scripts_write_bytes()

@@ -14,7 +14,6 @@ use Rattle.asm_lang_valid.specs.Scope.{a_function, signature_of}
 use Rattle.asm_lang_exec.specs.Runs.{binding, Place}
 use Rattle.asm_lang_exec.specs.Meaning.{call_at}
 use Rattle.asm_lang_exec.specs.Session.{asm}
-use Rattle.asm2wasm_lang.specs.Allowed.{WritesBytes}
 use Rattle.wasm2js_lang.specs.Heaps.{heap_bytes}
 use Rattle.wasm2js_lang.specs.Allowed.{asking_high}
 use Rattle.wasm2js_lang.specs.Helpers.{IsPlaceOf, ComesBack, IsHelper}
@@ -25,9 +24,6 @@ use Rattle.wasm2js_lang.specs.Laws.{HighWordsBeginAsZero, EmptyHelpersAreRefused
 
 abbrev no_calls : ScriptPlain
 no_calls = calling []
-
-no_bytes : WritesBytes no_calls
-no_bytes = record { before = All-nil _; replied = All-nil _ }
 
 fits : machine.misfit small no_calls ≡ None
 unfolding encode_with
@@ -55,7 +51,7 @@ never (suc zero) heap h = not_yet _ _ refl h
 never (suc (suc n)) heap h = no_seven _ heap h
 
 pub high_words_begin_as_zero : HighWordsBeginAsZero
-high_words_begin_as_zero allowed = let it = allowed.no_high_word refl no_calls no_bytes fits in never it.units it.heap it.gives
+high_words_begin_as_zero allowed = let it = allowed.no_high_word refl no_calls fits in never it.units it.heap it.gives
 
 -- ---- helpers
 

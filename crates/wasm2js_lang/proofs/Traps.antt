@@ -78,6 +78,6 @@ module _ (first : List ℕ) (source target : Session) (sim : Sim (comparison_to_
 
 pub traps_are_calls : (w : WasmModule) (a : Module) → IsAllowed w a → TrapsAreCalls w a
 traps_are_calls w a allowed = record {
-  called = λ s bytes fits kind n h. called (comparison w a s).first_heap (source_session w s) (target_session w a s) (allowed.simulates s bytes fits) kind n h;
-  no_other = λ s bytes fits kind m h. no_other (comparison w a s).first_heap (source_session w s) (target_session w a s) (allowed.simulates s bytes fits) kind m h;
+  called = λ s fits kind n h. called (comparison w a s).first_heap (source_session w s) (target_session w a s) (allowed.simulates s fits) kind n h;
+  no_other = λ s fits kind m h. no_other (comparison w a s).first_heap (source_session w s) (target_session w a s) (allowed.simulates s fits) kind m h;
 }

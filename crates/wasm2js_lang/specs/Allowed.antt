@@ -15,7 +15,7 @@ use Rattle.asm_lang.specs.Heights.{IsWellFormed}
 use Rattle.asm_lang_valid.specs.Refusal.{IsAccepted}
 use Rattle.asm_lang_exec.specs.Session.{asm, first_heap}
 use Rattle.asm_lang_exec.specs.Fits.{misfit}
-use Rattle.asm2wasm_lang.specs.Allowed.{or_nothing, WritesBytes}
+use Rattle.asm2wasm_lang.specs.Allowed.{or_nothing}
 use Rattle.wasm2js_lang.specs.Heaps.{heap_bytes}
 use Rattle.wasm2js_lang.specs.Calling.{shapes_of, IsCalledAs}
 
@@ -61,8 +61,8 @@ pub record IsAllowed (w : WasmModule) (a : Module) : Type 0 where
   pub called : IsCalledAs w a
   pub fits : (s : ScriptPlain) → machine.misfit w s ≡ None → misfit a (heap_bytes w) (script_for w s) ≡ None
   pub never_wrong : (s : ScriptPlain) → machine.misfit w s ≡ None → (units : ℕ) → Shows w a s units
-  pub no_high_word : w.start ≡ None → (s : ScriptPlain) → WritesBytes s → machine.misfit w s ≡ None → GivesNoHighWord w a s
-  pub simulates : (s : ScriptPlain) → WritesBytes s → machine.misfit w s ≡ None → Sim (comparison w a s) (source_session w s) (target_session w a s)
+  pub no_high_word : w.start ≡ None → (s : ScriptPlain) → machine.misfit w s ≡ None → GivesNoHighWord w a s
+  pub simulates : (s : ScriptPlain) → machine.misfit w s ≡ None → Sim (comparison w a s) (source_session w s) (target_session w a s)
 
 -- ---- traps
 
@@ -72,9 +72,9 @@ EndsInTrap kind seen = option_map as_stop seen.end ≡ Some (stopped trap_name (
 
 -- one session ends so exactly where the other does, after the same events and with the same heap
 pub record TrapsAreCalls (w : WasmModule) (a : Module) : Type 0 where
-  pub called : (s : ScriptPlain) → WritesBytes s → machine.misfit w s ≡ None → (kind n : ℕ) → EndsInTrap kind (source_session w s n)
+  pub called : (s : ScriptPlain) → machine.misfit w s ≡ None → (kind n : ℕ) → EndsInTrap kind (source_session w s n)
       → (m : ℕ) × EndsInTrap kind (target_session w a s m) × IsSameAs (comparison w a s) (source_session w s n) (target_session w a s m)
-  pub no_other : (s : ScriptPlain) → WritesBytes s → machine.misfit w s ≡ None → (kind m : ℕ) → EndsInTrap kind (target_session w a s m)
+  pub no_other : (s : ScriptPlain) → machine.misfit w s ≡ None → (kind m : ℕ) → EndsInTrap kind (target_session w a s m)
       → (n : ℕ) × EndsInTrap kind (source_session w s n) × IsSameAs (comparison w a s) (source_session w s n) (target_session w a s m)
 
 -- ---- bounded steps
@@ -100,4 +100,4 @@ enough_for w s reductions = 256 * (reductions + length s.calls + segment_bytes w
 abbrev pub IsBounded : WasmModule → Module → Type 0
 IsBounded w a =
     has_block_operations w ≡ false
-    → (s : ScriptPlain) → WritesBytes s → machine.misfit w s ≡ None → (m : ℕ) → SourceIsBelow (comparison w a s) (source_session w s m) (target_session w a s (enough_for w s m))
+    → (s : ScriptPlain) → machine.misfit w s ≡ None → (m : ℕ) → SourceIsBelow (comparison w a s) (source_session w s m) (target_session w a s (enough_for w s m))

@@ -118,11 +118,11 @@ source_is_narrow : (a : Module) (size : ℕ) (s : ScriptPlain) → IsNarrowSessi
 source_is_narrow a size s = sessions_are_narrow a size s (there.source_session a size s) (λ n. shown (asm a size s n))
 
 pub round_trips_simulate : RoundTripsSimulate
-round_trips_simulate a size w b one two s bytes fits =
+round_trips_simulate a size w b one two s fits =
     let over = script_to_wasm s in
     let fit = one.fits s fits in
-    let first = one.simulates s bytes fits in
-    let second = two.simulates over (record { before = bytes.before; replied = bytes.replied }) fit in
+    let first = one.simulates s fits in
+    let second = two.simulates over fit in
     let begins = heaps_begin w b over two.called fit in
     let whole = round_trip_simulates (first_memory w over) (first_heap b (heap_bytes w) (script_back w s)) begins (there.source_session a size s) (λ n. wasm w over n) (back.target_session w b over) (source_is_narrow a size s) first second in
     let same = same_length a size w one.called b two.called in

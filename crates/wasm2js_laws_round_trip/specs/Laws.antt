@@ -10,7 +10,7 @@ use Rattle.asm_lang_exec.specs.Session.{asm, first_heap}
 use Rattle.asm_lang_exec.specs.Fits.{misfit}
 use Rattle.asm2wasm_lang.specs.Heaps.{pages_for}
 use Rattle.asm2wasm_lang.specs.Allowed as there
-use Rattle.asm2wasm_lang.specs.Allowed.{or_nothing, WritesBytes}
+use Rattle.asm2wasm_lang.specs.Allowed.{or_nothing}
 use Rattle.wasm2js_lang.specs.Heaps.{heap_for}
 use Rattle.wasm2js_lang.specs.Allowed as back
 use Rattle.wasm2js_lang.specs.Allowed.{script_for}
@@ -29,5 +29,5 @@ session_back size w b s n = or_nothing (asm b (size_back size) (script_back w s)
 abbrev pub RoundTripsSimulate : Type 0
 RoundTripsSimulate =
     (a : Module) (size : ℕ) (w : WasmModule) (b : Module) → there.IsAllowed a size w → back.IsAllowed w b
-    → (s : ScriptPlain) → WritesBytes s → misfit a size s ≡ None
+    → (s : ScriptPlain) → misfit a size s ≡ None
     → Sim (comparison_there_and_back (first_heap b (size_back size) (script_back w s))) (there.source_session a size s) (session_back size w b s)

@@ -18,7 +18,7 @@ use Rattle.asm_lang_exec.specs.Fits.{misfit}
 use Rattle.asm_laws_continuation.specs.Following.{call_at_to, host_calls_to}
 use Rattle.asm_laws_continuation.proofs.Following.{sessions_follow}
 use Rattle.asm_laws_sound.proofs.Sessions.{accepted_never_go_wrong}
-use Rattle.asm2wasm_lang.specs.Allowed.{or_nothing, WritesBytes}
+use Rattle.asm2wasm_lang.specs.Allowed.{or_nothing}
 use Rattle.wasm2js_lang.specs.Heaps.{heap_bytes}
 use Rattle.wasm2js_lang.specs.Allowed.{script_for, source_session, target_session, comparison, Shows, segment_bytes}
 use Rattle.wasm2js_code.specs.Modules.{translated}
@@ -51,7 +51,7 @@ module _ (held : StoresAreHeld) where
         let right = accepted_never_go_wrong (translated w) (heap_bytes w) (script_for w s) units (translations_are_accepted w ready.source ready.words) (fitting s fit) in
         record { seen = right.0; shows = right.1 }
 
-    module _ (s : ScriptPlain) (bytes : WritesBytes s) (fit : machine.misfit w s ≡ None) where
+    module _ (s : ScriptPlain) (fit : machine.misfit w s ≡ None) where
       abbrev by : Comparison
       by = comparison w (translated w) s
 
@@ -66,7 +66,7 @@ module _ (held : StoresAreHeld) where
 
       follows : (n : ℕ) → Follows by pace (length s.calls + 1) (begins_at w s n) (source_session w s) (run_of n)
       follows n =
-          init_follows w s pace ready.source ready.called ready.some ready.follow (held w ready.source ready.words ready.called s bytes fit)
+          init_follows w s pace ready.source ready.called ready.some ready.follow (held w ready.source ready.words ready.called s fit)
           (λ bound. host_calls_follow w s pace bound s.calls ready.source ready.some ready.follow calls_fit) n
 
       -- what is seen of it is what the target shows
@@ -90,13 +90,13 @@ module _ (held : StoresAreHeld) where
           (sessions_are_monotone w s) (λ m. pace * (m + length s.calls + segment_bytes w.segments + 1)) followed
 
   pub sessions_are_followed : SessionsAreFollowed
-  sessions_are_followed w pace ready s bytes fit n = followed w pace ready s bytes fit n
+  sessions_are_followed w pace ready s fit n = followed w pace ready s fit n
 
   pub sessions_simulate : SessionsSimulate
-  sessions_simulate w pace ready s bytes fit = (simulate w pace ready s bytes fit).0
+  sessions_simulate w pace ready s fit = (simulate w pace ready s fit).0
 
   pub sessions_are_bounded : SessionsAreBounded
-  sessions_are_bounded w ready s bytes fit m = (simulate w 256 ready s bytes fit).1 m
+  sessions_are_bounded w ready s fit m = (simulate w 256 ready s fit).1 m
 
   pub translations_are_allowed : TranslationsAreAllowed
   translations_are_allowed w pace ready = record {
@@ -105,9 +105,9 @@ module _ (held : StoresAreHeld) where
     called = ready.called;
     fits = λ s fit. fitting w pace ready s fit;
     never_wrong = λ s fit units. shown w pace ready s fit units;
-    no_high_word = λ none s bytes fit. no_high_word w ready.source ready.called s bytes fit none;
-    simulates = λ s bytes fit. sessions_simulate w pace ready s bytes fit;
+    no_high_word = λ none s fit. no_high_word w ready.source ready.called s fit none;
+    simulates = λ s fit. sessions_simulate w pace ready s fit;
   }
 
   pub translations_are_bounded : TranslationsAreBounded
-  translations_are_bounded w ready none s bytes fit m = sessions_are_bounded w (ready none) s bytes fit m
+  translations_are_bounded w ready none s fit m = sessions_are_bounded w (ready none) s fit m

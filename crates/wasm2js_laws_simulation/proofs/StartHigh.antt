@@ -26,7 +26,6 @@ use Rattle.asm_lang_exec.specs.Meaning.{Completion, returned, function_end, call
 use Rattle.asm_lang_exec.specs.Session.{first_globals, first_place, result_event, host_calls, observed}
 use Rattle.asm_laws_continuation.specs.Following.{exec_all_to, unless_left_to, call_at_to, host_calls_to}
 use Rattle.asm_laws_continuation.proofs.Following.{sessions_follow}
-use Rattle.asm2wasm_lang.specs.Allowed.{WritesBytes}
 use Rattle.wasm2js_words.specs.Names.{fixed, result_high, spelled}
 use Rattle.wasm2js_words.specs.Words.{stmts_in}
 use Rattle.wasm2js_lang.specs.Heaps.{heap_bytes}
@@ -58,7 +57,7 @@ nothing_after (stops e p) = refl
 nothing_after (spent p) = refl
 nothing_after wrong = refl
 
-module _ (w : WasmModule) (source : IsSource w) (asked : IsCalledAs w (translated w)) (s : ScriptPlain) (bytes : WritesBytes s) (fit : machine.misfit w s ≡ None) (none : w.start ≡ None) where
+module _ (w : WasmModule) (source : IsSource w) (asked : IsCalledAs w (translated w)) (s : ScriptPlain) (fit : machine.misfit w s ≡ None) (none : w.start ≡ None) where
   abbrev a : text.Module
   a = translated w
 
@@ -125,7 +124,7 @@ module _ (w : WasmModule) (source : IsSource w) (asked : IsCalledAs w (translate
   starts o = exec_all_to (call_at_to a 1) inside 1 (stmts_in (start_stmts o)) ends
 
   holds : memory_bytes w ≤ length begins.heap
-  holds = heap_holds w source asked s bytes fit
+  holds = heap_holds w source asked s fit
 
   whole : host_calls_to (call_at_to a 2) a (init_call ∷ hi_call 0 ∷ []) gives begins ≡ goes tt last
   whole =
