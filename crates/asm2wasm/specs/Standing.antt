@@ -1,5 +1,5 @@
 -- What is proved of a module of WebAssembly that is written for one of asm.js, beyond what it shows: its sessions never trap, its functions and its
--- table are those of the text by number, and it can be written and read.
+-- table are those of the text by number, it can be read and, where the text is short, written, and where the text is small, translated back.
 use Rattle.std.specs.Prelude.{◌≡◌, ◌≢◌, ℕ, ◌+◌, true, List, [], ◌∷◌, length, map, Some, None, slice_get}
 use Rattle.sem_words.specs.declared.word.TrapKind.{TrapKind}
 use Rattle.sem_laws.specs.Script.{ScriptPlain}
@@ -10,19 +10,18 @@ use Rattle.wasm_lang.specs.Limits.{IsWithinReader}
 use Rattle.wasm_lang.specs.Modules.{ElementSegment, WasmModule}
 use Rattle.wasm_lang.specs.Shape.{IsShaped, IsWritable}
 use Rattle.wasm_lang_valid.specs.ModuleRules.{imported_functions}
-use Rattle.wasm_lang_exec.specs.Reductions.{a_function, callee_at}
+use Rattle.wasm_lang_valid.specs.Profile.{IsInProfile}
 use Rattle.wasm_lang_exec.specs.Session.{first_store, entries_fit, with_entries}
 use Rattle.asm_lang.specs.Modules.{Function, Table, Module}
 use Rattle.asm_lang_valid.specs.LimitRows.{foreign_calls}
 use Rattle.asm_lang_valid.specs.Refusal.{function_number}
-use Rattle.asm_lang_valid.specs.Scope.{signature_of}
-use Rattle.asm_lang_valid.specs.Typed.{scope_of}
 use Rattle.asm_lang_exec.specs.Fits.{misfit}
 use Rattle.asm2wasm_lang.specs.Allowed.{target_session, IsAllowed, IsBounded}
 use Rattle.asm2wasm_lang.specs.Calling.{exactly}
 use Rattle.asm2wasm_lang.specs.Tables.{entries_of, bases_of}
-use Rattle.asm2wasm_code.specs.Bodies.{function_code}
-use Rattle.asm2wasm_code.specs.Modules.{type_for, body_for}
+use Rattle.asm2wasm_laws_exports.specs.Alone.{exporting, exporting_number}
+use Rattle.asm2wasm_laws_profile.specs.Small.{IsSmall}
+use Rattle.asm2wasm_laws_writable.specs.Parts.{IsOfShortText}
 
 -- no session of a script that fits the text ends with a trap
 abbrev pub NeverTraps : Module → ℕ → WasmModule → Type 0
@@ -30,12 +29,12 @@ NeverTraps m size w = (s : ScriptPlain) → misfit m size s ≡ None → (n : �
 
 -- ---- functions
 
--- function n of the text is function n after the imported ones: a call of that number finds its type, its locals and its code
+-- Function n of the text is function n after the imported ones, also where no export reaches it: the two modules, each with that function as
+-- its one export, show the same.
 pub record HasFunctions (m : Module) (size : ℕ) (w : WasmModule) : Type 0 where
   pub imported : length (imported_functions w.imports) ≡ length (foreign_calls m)
   pub as_many : length w.functions ≡ length m.functions
-  pub called : (n : ℕ) (f : Function) → slice_get m.functions n ≡ Some f
-      → callee_at w (length (foreign_calls m) + n) ≡ Some (a_function (type_for (signature_of f)) (body_for m size f).locals (function_code size (scope_of m f)))
+  pub each : (n : ℕ) (f : Function) → slice_get m.functions n ≡ Some f → IsAllowed (exporting f m) size (exporting_number f.name (length (foreign_calls m) + n) w)
 
 -- ---- the table
 
@@ -67,6 +66,7 @@ pub record StandsFor (m : Module) (size : ℕ) (w : WasmModule) : Type 0 where
   pub never_traps : NeverTraps m size w
   pub within : IsWithinReader w
   pub shaped : IsShaped w
-  pub writable : IsWritable w
+  pub writable : IsOfShortText m → IsWritable w
   pub functions : HasFunctions m size w
   pub tables : HasTables m w
+  pub profile : IsSmall m → IsInProfile w

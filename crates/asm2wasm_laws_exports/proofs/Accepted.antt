@@ -1,18 +1,18 @@
 -- A module with one of its functions as its one export is accepted and well formed where the module is.
-use Rattle.std.proofs.Common.{◌≡◌, ℕ, zero, suc, ◌+◌, ◌≤◌, max, true, not, List, [], ◌∷◌, ◌++◌, Option, Some, None, refl, ap, ◌∙◌, arith}
+use Rattle.std.proofs.Common.{◌≡◌, ℕ, zero, suc, ◌≤◌, not, List, [], ◌∷◌, ◌++◌, Some, None, refl, ◌∙◌, arith}
 use Rattle.std.specs.Prelude.{slice_get}
 use Rattle.std.specs.List.{AllByRecursion}
-use Rattle.asm_lang.specs.Heights.{functions_height, module_height, height_limit, IsWellFormed}
+use Rattle.asm_lang.specs.Heights.{functions_height}
 use Rattle.asm_lang.specs.Modules.{Function, one, Module}
 use Rattle.asm_lang_valid.specs.declared.rule.Rule.TheVariants.{NameTaken, ForbiddenName}
 use Rattle.asm_lang_valid.specs.declared.rule.Met.{Met}
 use Rattle.asm_lang_valid.specs.LimitRows.{limit_rows}
-use Rattle.asm_lang_valid.specs.NameRows.{is_forbidden, globals_names, functions_names, tables_names, exports_names, all_new, own_name, any_forbidden, global_texts, function_texts, name_rows}
+use Rattle.asm_lang_valid.specs.NameRows.{globals_names, functions_names, tables_names, exports_names, all_new, own_name, any_forbidden, global_texts, function_texts, name_rows}
 use Rattle.asm_lang_valid.specs.Refusal.{all_rows, IsAccepted}
 use Rattle.asm_lang_valid.specs.Rows.{need, first, functions_at, tables_at, exports_at}
-use Rattle.asm_lang_valid.specs.Scope.{Meaning, a_function, module_meaning}
+use Rattle.asm_lang_valid.specs.Scope.{a_function, module_meaning}
 use Rattle.asm_lang_valid.specs.TypeRows.{type_rows}
-use Rattle.asm_laws_print.specs.Fitting.{FitsFunction, FitsModule}
+use Rattle.asm_laws_print.specs.Fitting.{FitsFunction}
 use Rattle.asm_laws_print.proofs.Printed.{well_formed_fits, fits_well_formed}
 use Rattle.asm2wasm_laws_exports.specs.Alone.{exporting}
 use Rattle.asm2wasm_laws_exports.specs.Laws.{ExportingIsAccepted, ExportingIsWellFormed}

@@ -1,6 +1,6 @@
 -- A function of an accepted module is the first of its name, and its name means it.
 use Rattle.std.proofs.Common.{◌≡◌, ℕ, zero, suc, ◌+◌, Bool, true, false, not, List, [], ◌∷◌, ◌++◌, length, map, Some, refl, subst, ◌∙◌}
-use Rattle.std.specs.Prelude.{◌||◌, bytes_eq, slice_get, if◌then◌else◌}
+use Rattle.std.specs.Prelude.{◌||◌, bytes_eq, slice_get}
 use Rattle.std.proofs.lemmas.Slice.Eq.{bytes_eq-Decides}
 use Rattle.asm_lang.specs.Modules.{Variable, Function, Module}
 use Rattle.asm_lang_valid.specs.declared.rule.Rule.TheVariants.{NameTaken, ForbiddenName}

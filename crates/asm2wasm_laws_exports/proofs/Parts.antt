@@ -1,5 +1,5 @@
 -- The rows of a module's declarations, but for its exports, and its foreign calls are the same with other exports.
-use Rattle.std.proofs.Common.{◌≡◌, ℕ, ◌+◌, Bool, List, [], ◌∷◌, ◌++◌, refl}
+use Rattle.std.proofs.Common.{◌≡◌, ℕ, ◌+◌, List, [], ◌∷◌, ◌++◌, refl}
 use Rattle.asm_lang.specs.Trees.{Init, number, decimal, foreign_int, foreign_double, member, math, view}
 use Rattle.asm_lang.specs.Modules.{Variable, Function, Table, Exports, Module}
 use Rattle.asm_lang_valid.specs.LimitRows.{member_length, globals_marks, functions_marks, marks, limit_rows, foreign_calls}

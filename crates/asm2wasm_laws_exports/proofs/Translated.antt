@@ -1,13 +1,13 @@
 -- The translation of a module with one of its functions as its one export is that of the module, with that one export.
-use Rattle.std.proofs.Common.{◌≡◌, ℕ, ◌+◌, Bool, true, false, List, [], ◌∷◌, ◌++◌, length, map, Option, Some, None, refl, ap, ◌∙◌}
+use Rattle.std.proofs.Common.{◌≡◌, ℕ, ◌+◌, List, [], ◌∷◌, ◌++◌, length, map, Option, Some, None, refl, ap, ◌∙◌}
 use Rattle.std.specs.Prelude.{slice_get}
 use Rattle.asm_lang.specs.Trees.{Init, number, decimal, foreign_int, foreign_double, member, math, view}
 use Rattle.asm_lang.specs.Modules.{Variable, Function, Table, one, Module}
 use Rattle.asm_lang_valid.specs.LimitRows.{ForeignCall, foreign_calls}
-use Rattle.asm_lang_valid.specs.Refusal.{IsAccepted, foreign_globals, has_heap}
+use Rattle.asm_lang_valid.specs.Refusal.{IsAccepted, foreign_globals}
 use Rattle.asm_lang_valid.specs.Scope.{Signature, signature_of, first_member}
 use Rattle.asm2wasm_lang.specs.Calling.{exports_given}
-use Rattle.asm2wasm_lang.specs.Tables.{members_of, entries_from, entries_of}
+use Rattle.asm2wasm_lang.specs.Tables.{members_of, entries_from}
 use Rattle.asm2wasm_code.specs.Numbers.{int_variables, signatures, type_number, member_type, table_type}
 use Rattle.asm2wasm_code.specs.Modules.{type_for, imported_function, imported_global, imported_memory, imports_of, first_value, global_for, table_for, elements_for, body_for, translation}
 use Rattle.asm2wasm_laws_exports.specs.Alone.{exporting, exporting_number}

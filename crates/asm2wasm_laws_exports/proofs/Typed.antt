@@ -1,10 +1,10 @@
 -- Where names mean the same, expressions have the same types.
-use Rattle.std.proofs.Common.{◌≡◌, ℕ, Bool, true, false, List, [], ◌∷◌, Option, Some, None, refl}
+use Rattle.std.proofs.Common.{◌≡◌, ℕ, Bool, true, false, List, Option, Some, None, refl}
 use Rattle.asm_types.specs.declared.value_type.ValueType.{ValueType}
 use Rattle.asm_types.specs.declared.value_type.ValueType.TheVariants.{Int, Extern}
 use Rattle.asm_lang.specs.Modules.{Expr, lit, decimal, var, index, call, table_call, assign, store, unary, binary, chain, cond, comma, Exprs, no_exprs, exprs, Links, no_links, links}
 use Rattle.asm_lang_valid.specs.Scope.{Meaning, nothing, an_int, an_outside, a_foreign, a_builtin, a_view, a_function, a_table, a_parameter, first_member}
-use Rattle.asm_lang_valid.specs.Typing.{Scope, named, is_call, table_fits, type_of, all_below, links_fit, call_fits, last_type, effect_fits, result_of, return_fits}
+use Rattle.asm_lang_valid.specs.Typing.{Scope, named, is_call, table_fits, type_of, all_below, links_fit, call_fits, last_type, result_of, return_fits}
 
 -- names mean the same in both, and the function has a result in both or in none
 pub record IsAlike (c d : Scope) : Type 0 where

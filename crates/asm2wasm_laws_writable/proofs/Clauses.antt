@@ -1,15 +1,15 @@
 -- Switches of an accepted module that a text says have at most as many cases as the limit, and a default.
-use Rattle.std.proofs.Common.{◌≡◌, ℕ, suc, ◌+◌, ◌≤◌, Bool, true, false, List, [], ◌∷◌, ◌++◌, length, Option, Some, None, arith}
+use Rattle.std.proofs.Common.{◌≡◌, ℕ, suc, ◌+◌, ◌≤◌, true, List, [], ◌∷◌, ◌++◌, length, Some, None, arith}
 use Rattle.std.specs.Prelude.{nat_le}
 use Rattle.std.specs.List.{AllByRecursion}
 use Rattle.std.proofs.lemmas.Bool.Decides.{nat_tests}
-use Rattle.asm_lang.specs.Modules.{Expr, Stmt, block, plain, empty, if_only, if_else, returns, while_loop, do_while, for_loop, breaks, continues, labelled, switches, Stmts, no_stmts, stmts, Clauses, no_clauses, clauses, Function, Module}
+use Rattle.asm_lang.specs.Modules.{Stmt, block, plain, empty, if_only, if_else, returns, while_loop, do_while, for_loop, breaks, continues, labelled, switches, Stmts, no_stmts, stmts, Clauses, no_clauses, clauses, Function, Module}
 use Rattle.asm_lang_valid.specs.declared.rule.Rule.TheVariants.{PastLimit}
 use Rattle.asm_lang_valid.specs.Rows.{need, expr_count, option_count, stmt_count, stmts_count, body_at, function_count, functions_at}
 use Rattle.asm_lang_valid.specs.Typed.{scope_of}
 use Rattle.asm_lang_valid.specs.Typing.{Scope}
-use Rattle.asm_lang_valid.specs.LimitRows.{Mark, rows_of, expr_marks, part_marks, option_marks, clauses_length, stmt_marks, stmts_marks, clauses_marks, counted, names_marks, function_marks, functions_marks, most_functions, most_params, most_locals, most_clauses}
-use Rattle.asm_laws_print.specs.Fitting.{some_clauses, FitsStmt, FitsStmts, FitsClauses, FitsFunction}
+use Rattle.asm_lang_valid.specs.LimitRows.{rows_of, expr_marks, part_marks, option_marks, clauses_length, stmt_marks, stmts_marks, clauses_marks, counted, names_marks, function_marks, functions_marks, most_functions, most_params, most_locals, most_clauses}
+use Rattle.asm_laws_print.specs.Fitting.{FitsStmt, FitsStmts, FitsClauses, FitsFunction}
 use Rattle.asm_laws_print.proofs.Printed.{well_formed_fits}
 use Rattle.asm2wasm_code.specs.Bodies.{clauses_count}
 use Rattle.asm2wasm_laws_within.proofs.Marks.{NoRows, rows_split, held}

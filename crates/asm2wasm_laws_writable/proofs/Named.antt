@@ -16,8 +16,7 @@ use Rattle.wasm_lang_valid.specs.declared.rule.Rule.{Rule}
 use Rattle.wasm_lang_valid.specs.declared.rule.Rule.TheVariants.{NoType, NoFunction, NoTable, NoLocal, NoGlobal, NoLabel, Alignment}
 use Rattle.wasm_lang_valid.specs.Typing as machine
 use Rattle.wasm_lang_valid.specs.Typing.{Context, Shape, Fixed, Leaves, shape, plain_shape, plain_late, call_shape, found, onward, unless, all_labels, listed, inside, natural}
-use Rattle.wasm_lang_exec.specs.Code.{unreachable, block, loop, if_block, br, br_if, br_table, return, call, call_indirect, plain, Trees, ε, ◌▹◌}
-use Rattle.wasm_laws_trees.specs.Spelled.{tree_levels}
+use Rattle.wasm_lang_exec.specs.Code.{unreachable, block, loop, if_block, br, br_if, br_table, return, call, call_indirect, plain, ε, ◌▹◌}
 use Rattle.asm2wasm_laws_writable.specs.Parts.{PlainNamesBelow, HasAtMost}
 use Rattle.asm2wasm_laws_writable.specs.Laws.{TypedNamesAreBelow}
 

@@ -13,7 +13,7 @@ ghost use Rattle.bridge_lang.specs.Job.{IsSummarized};
 use crate::making::text_of;
 use asm_text::printed_texts_are_read;
 use asm_validate::Checked;
-use asm2wasm::translate_valid;
+use asm2wasm::translate;
 use bridge_words::FunctionCount;
 use cmd_check_asm::{CheckFault, check_text};
 use cmd_gen::{Lengths, recipe, summary};
@@ -29,7 +29,6 @@ pub(crate) fn generated(alloc: Global, count: FunctionCount) -> Result<Vec<u8>, 
     ensures { IfOk result (λ output. IsSummarized count.functions output.items) }
 {
     gen_laws::recipes();
-    asm2wasm_laws_profile::profile();
     asm2wasm_laws_writable::texts();
     wasm2js_laws_simulation::whole_laws::spelled();
     wasm2js_laws_simulation::bounded_laws::spelled();
@@ -39,7 +38,7 @@ pub(crate) fn generated(alloc: Global, count: FunctionCount) -> Result<Vec<u8>, 
     let bytes = text.as_slice();
     let checked = accepted(alloc, bytes, count)?;
     let _home = checked.module();
-    let valid = translate_valid(alloc, &checked, HEAP)?;
+    let valid = translate(alloc, &checked, HEAP)?;
     let length = bytes.len();
     summed(alloc, count.functions, length, &valid)
 }

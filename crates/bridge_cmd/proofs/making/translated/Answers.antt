@@ -10,9 +10,6 @@ pub returns-in-Err-clause-barred : goal.returns-in-Err-clause-barred
 returns-in-Err-clause-barred c = λ file.
     rw c.of_text.ensures (text_answer (asm_to_wasm file c.args.heap.bytes) c.args.text.now c.in-Err.fault refl c.in-Err.ensures.refused)
 
-pub written-output-requires : goal.written-output-requires
-written-output-requires c = c.texts.ensures c.args.text.now (module_view c.in-Ok.checked) c.in-Ok.ensures.accepted c.requires
-
 pub returns-in-Ok-output-clause-made : goal.returns-in-Ok-output-clause-made
 returns-in-Ok-output-clause-made c = λ file.
     made c.translations.ensures.allowed c.translations.ensures.bounded c.writable.ensures c.spelling_laws.ensures.spells c.spelling_laws.ensures.shortest
