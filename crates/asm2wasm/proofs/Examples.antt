@@ -18,7 +18,7 @@ use Rattle.asm2wasm_lang.specs.Calling.{exactly}
 use Rattle.asm2wasm_lang.specs.Tables.{entries_of, bases_of}
 use Rattle.asm2wasm_code.specs.Modules.{translation}
 use Rattle.asm2wasm_code.specs.Pieces.{a, b, f, r, t, x, y, signed, function, module_of, called, calls_alone, tabled, continuing}
-use Rattle.asm2wasm.specs.Standing.{NeverTraps, HasFunctions, tables_for, segments_for, HasTables}
+use Rattle.asm2wasm_lang.specs.Parts.{NeverTraps, HasFunctions, tables_for, segments_for, HasTables}
 
 -- ---- two tables, after one foreign function
 

@@ -21,13 +21,13 @@ use Rattle.asm2wasm_lang.specs.Allowed.{IsAllowed}
 use Rattle.asm2wasm_lang.specs.Heaps.{is_heap_length}
 use Rattle.asm2wasm_lang.specs.Tables.{entries_of, bases_of}
 use Rattle.asm2wasm_code.specs.Modules.{table_for, elements_for, translation}
-use Rattle.asm2wasm_laws_exports.specs.Alone.{exporting, exporting_number}
+use Rattle.asm2wasm_lang.specs.Alone.{exporting, exporting_number}
 use Rattle.asm2wasm_laws_exports.specs.Laws.{ExportingIsAccepted, ExportingIsWellFormed, ExportingIsTranslated}
 use Rattle.asm2wasm_laws_modules.specs.Laws.{FunctionsAreCounted, FunctionsAreAsMany, TablesAreFilled, TranslationIsWithin}
 use Rattle.asm2wasm_laws_profile.specs.Laws.{TranslationIsInProfile}
 use Rattle.asm2wasm_laws_sessions.specs.Laws.{SessionsNeverTrap, TranslationIsAllowed, TranslationIsBounded}
 use Rattle.asm2wasm_laws_writable.specs.Laws.{TranslationIsShaped, TranslationsNumbersFit, TranslationsSectionsFit}
-use Rattle.asm2wasm.specs.Standing.{NeverTraps, HasFunctions, tables_for, segments_for, HasTables, StandsFor}
+use Rattle.asm2wasm_lang.specs.Parts.{NeverTraps, HasFunctions, tables_for, segments_for, HasTables, StandsFor}
 
 -- ---- traps
 

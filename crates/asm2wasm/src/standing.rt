@@ -5,7 +5,7 @@ ghost use Rattle.asm_lang.specs.Modules.{Module};
 ghost use Rattle.asm_lang_valid.specs.Refusal.{IsAccepted};
 ghost use Rattle.asm2wasm_lang.specs.Heaps.{is_heap_length};
 ghost use Rattle.asm2wasm_code.specs.Modules.{translation};
-ghost use Rattle.asm2wasm.specs.Standing.{StandsFor};
+ghost use Rattle.asm2wasm_lang.specs.Parts.{StandsFor};
 
 /// The translation of an accepted module that a text says stands for it.
 pub(crate) fn translation_stands()

@@ -12,11 +12,11 @@ ghost use Rattle.asm2wasm_lang.specs.Heaps.{is_heap_length};
 ghost use Rattle.asm2wasm_lang.specs.Calling.{exports_given};
 ghost use Rattle.asm2wasm_code.specs.Numbers.{signatures, type_number, int_variables};
 ghost use Rattle.asm2wasm_code.specs.Modules.{type_for, imports_of, table_for, global_for, elements_for, translation};
-ghost use Rattle.asm2wasm_laws_profile.specs.Small.{IsSmall};
-ghost use Rattle.asm2wasm_laws_writable.specs.Parts.{IsOfShortText};
+ghost use Rattle.asm2wasm_lang.specs.Small.{IsSmall};
+ghost use Rattle.asm2wasm_lang.specs.Short.{IsOfShortText};
 ghost use Rattle.asm2wasm_sections.specs.Few.{FewTypes, FewFunctions, FewEntries, FewGlobals};
 ghost use Rattle.asm2wasm.specs.Narrow.{AreNarrow};
-ghost use Rattle.asm2wasm.specs.Standing.{NeverTraps, HasFunctions, HasTables};
+ghost use Rattle.asm2wasm_lang.specs.Parts.{NeverTraps, HasFunctions, HasTables};
 
 use crate::bodies::bodies;
 use crate::standing::translation_stands;

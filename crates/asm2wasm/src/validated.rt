@@ -9,9 +9,9 @@ ghost use Rattle.asm_tree.specs.Views.{module_view};
 ghost use Rattle.asm2wasm_lang.specs.Allowed.{IsAllowed, IsBounded};
 ghost use Rattle.asm2wasm_lang.specs.Heaps.{is_heap_length};
 ghost use Rattle.asm2wasm_code.specs.Modules.{translation};
-ghost use Rattle.asm2wasm_laws_profile.specs.Small.{IsSmall};
-ghost use Rattle.asm2wasm_laws_writable.specs.Parts.{IsOfShortText};
-ghost use Rattle.asm2wasm.specs.Standing.{NeverTraps, HasFunctions, HasTables, StandsFor};
+ghost use Rattle.asm2wasm_lang.specs.Small.{IsSmall};
+ghost use Rattle.asm2wasm_lang.specs.Short.{IsOfShortText};
+ghost use Rattle.asm2wasm_lang.specs.Parts.{NeverTraps, HasFunctions, HasTables, StandsFor};
 
 use crate::standing::translation_stands;
 use crate::translating::translate_module;

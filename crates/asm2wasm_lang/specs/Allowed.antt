@@ -11,7 +11,7 @@ use Rattle.wasm_lang_exec.specs.Session.{first_memory, wasm}
 use Rattle.wasm_lang_exec.specs.Fits as machine
 use Rattle.asm_lang.specs.Modules.{Function, Module}
 use Rattle.asm_lang_valid.specs.Rows.{function_count}
-use Rattle.asm_laws_counts.specs.Counts.{body_clauses}
+use Rattle.asm2wasm_lang.specs.Counts.{body_clauses}
 use Rattle.asm_lang_exec.specs.Session.{asm}
 use Rattle.asm_lang_exec.specs.Fits.{misfit}
 use Rattle.asm2wasm_lang.specs.Calling.{IsCalledAs}

@@ -14,7 +14,7 @@ use Rattle.asm_lang_valid.specs.Scope.{a_function, module_meaning}
 use Rattle.asm_lang_valid.specs.TypeRows.{type_rows}
 use Rattle.asm_laws_print.specs.Fitting.{FitsFunction}
 use Rattle.asm_laws_print.proofs.Printed.{well_formed_fits, fits_well_formed}
-use Rattle.asm2wasm_laws_exports.specs.Alone.{exporting}
+use Rattle.asm2wasm_lang.specs.Alone.{exporting}
 use Rattle.asm2wasm_laws_exports.specs.Laws.{ExportingIsAccepted, ExportingIsWellFormed}
 use Rattle.asm2wasm_laws_exports.proofs.Distinct.{both_none, IsNamed, is_named}
 use Rattle.asm2wasm_laws_exports.proofs.Parts as parts

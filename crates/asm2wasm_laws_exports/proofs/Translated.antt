@@ -10,7 +10,7 @@ use Rattle.asm2wasm_lang.specs.Calling.{exports_given}
 use Rattle.asm2wasm_lang.specs.Tables.{members_of, entries_from}
 use Rattle.asm2wasm_code.specs.Numbers.{int_variables, signatures, type_number, member_type, table_type}
 use Rattle.asm2wasm_code.specs.Modules.{type_for, imported_function, imported_global, imported_memory, imports_of, first_value, global_for, table_for, elements_for, body_for, translation}
-use Rattle.asm2wasm_laws_exports.specs.Alone.{exporting, exporting_number}
+use Rattle.asm2wasm_lang.specs.Alone.{exporting, exporting_number}
 use Rattle.asm2wasm_laws_exports.specs.Laws.{ExportingIsTranslated}
 use Rattle.asm2wasm_laws_exports.proofs.Accepted.{named_of}
 use Rattle.asm2wasm_laws_exports.proofs.Parts.{first_same, alike, heap_same, calls_same}

@@ -5,7 +5,7 @@ use Rattle.asm_lang.specs.Modules.{Function, Module}
 use Rattle.asm_lang_valid.specs.LimitRows.{foreign_calls}
 use Rattle.asm_lang_valid.specs.Refusal.{IsAccepted}
 use Rattle.asm2wasm_code.specs.Modules.{translation}
-use Rattle.asm2wasm_laws_exports.specs.Alone.{exporting, exporting_number}
+use Rattle.asm2wasm_lang.specs.Alone.{exporting, exporting_number}
 
 abbrev pub ExportingIsAccepted : Type 0
 ExportingIsAccepted = (m : Module) (i : ℕ) (f : Function) → IsAccepted m → slice_get m.functions i ≡ Some f → IsAccepted (exporting f m)

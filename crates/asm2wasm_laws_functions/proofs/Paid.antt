@@ -4,7 +4,7 @@ use Rattle.std.specs.Prelude.{max, slice_get}
 use Rattle.asm_lang.specs.Modules.{Function}
 use Rattle.asm_lang_valid.specs.Rows.{function_count}
 use Rattle.asm_lang_valid.specs.Typed.{scope_of}
-use Rattle.asm_laws_counts.specs.Counts.{body_clauses}
+use Rattle.asm2wasm_lang.specs.Counts.{body_clauses}
 use Rattle.asm2wasm_lang.specs.Allowed.{most_nodes}
 use Rattle.asm2wasm_laws_typed.proofs.SmallBodies.{functions_are_small}
 use Rattle.asm2wasm_laws_functions.specs.Laws.{NodesPay}

@@ -28,7 +28,7 @@ use Rattle.asm2wasm_laws_typed.specs.Labels.{HaveJoinedLabels}
 use Rattle.asm2wasm_laws_typed.proofs.Said.{labels_are_joined}
 use Rattle.asm2wasm_laws_modules.proofs.Imports.{functions_are_counted}
 use Rattle.asm2wasm_laws_modules.proofs.Valid.{translation_is_valid}
-use Rattle.asm2wasm_laws_profile.specs.Small.{HaveNoSwitch, IsSmall}
+use Rattle.asm2wasm_lang.specs.Small.{HaveNoSwitch, IsSmall}
 use Rattle.asm2wasm_laws_profile.specs.Laws.{TranslationIsInProfile}
 use Rattle.asm2wasm_laws_profile.proofs.LightBodies.{functions_are_light}
 use Rattle.asm2wasm_laws_profile.proofs.Foreign.{nothing_is_foreign}

@@ -18,7 +18,7 @@ use Rattle.asm2wasm_lang.specs.Heaps.{is_heap_length}
 use Rattle.asm2wasm_code.specs.Bodies.{function_code}
 use Rattle.asm2wasm_code.specs.Modules.{translation}
 use Rattle.asm2wasm_laws_typed.specs.Labels.{HaveJoinedLabels}
-use Rattle.asm2wasm_laws_profile.specs.Small.{is_foreign_member, HaveNoSwitch, IsSmall}
+use Rattle.asm2wasm_lang.specs.Small.{is_foreign_member, HaveNoSwitch, IsSmall}
 use Rattle.asm2wasm_laws_profile.specs.Light.{IsLight}
 
 -- ---- operands

@@ -2,7 +2,7 @@
 #![tactic(auto)]
 
 ghost use Rattle.asm2wasm_code.specs.Pieces.{continuing, small_elements, switching, few_cases, tabled};
-ghost use Rattle.asm2wasm_laws_profile.specs.Small.{IsSmall};
+ghost use Rattle.asm2wasm_lang.specs.Small.{IsSmall};
 ghost use Rattle.asm2wasm_laws_profile.specs.Laws.{PeakIsBelowLength, FunctionsAreFlat, FunctionsAreLight, NothingIsForeign, TranslationIsInProfile};
 
 /// Each instruction leaves at most one operand more than stood before it.

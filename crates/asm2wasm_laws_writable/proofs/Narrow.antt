@@ -25,7 +25,7 @@ use Rattle.asm_lang_valid.specs.Rows.{function_count, functions_count}
 use Rattle.asm_lang_valid.specs.Scope.{signature_of}
 use Rattle.asm_lang_valid.specs.Typed.{scope_of}
 use Rattle.asm_lang_valid.specs.Refusal.{foreign_globals, IsAccepted}
-use Rattle.asm_laws_counts.specs.Counts.{body_clauses, functions_clauses}
+use Rattle.asm2wasm_lang.specs.Counts.{body_clauses, functions_clauses}
 use Rattle.asm2wasm_lang.specs.Calling.{constant_int}
 use Rattle.asm2wasm_code.specs.Numbers.{type_number, signatures}
 use Rattle.asm2wasm_code.specs.Modules.{type_for, body_for, translation}

@@ -24,8 +24,8 @@ use Rattle.asm_lang_valid.specs.Typed.{scope_of}
 use Rattle.asm_lang_valid.specs.LimitRows.{ForeignCall, foreign_calls}
 use Rattle.asm_lang_valid.specs.Refusal as text
 use Rattle.asm_lang_valid.specs.Refusal.{foreign_globals, has_heap, IsAccepted, exported_from}
-use Rattle.asm_laws_counts.specs.Counts.{body_clauses, functions_clauses}
-use Rattle.asm_laws_counts.specs.Names.{module_names}
+use Rattle.asm2wasm_lang.specs.Counts.{body_clauses, functions_clauses}
+use Rattle.asm2wasm_lang.specs.Names.{module_names}
 use Rattle.asm2wasm_lang.specs.Heaps.{pages_for}
 use Rattle.asm2wasm_lang.specs.Calling.{exactly}
 use Rattle.asm2wasm_code.specs.Numbers.{int_variables, asked_signature, signatures, type_number}

@@ -18,7 +18,8 @@ use Rattle.asm_lang_valid.specs.Typed.{scope_of}
 use Rattle.asm2wasm_lang.specs.Heaps.{is_heap_length}
 use Rattle.asm2wasm_code.specs.Bodies.{function_code}
 use Rattle.asm2wasm_code.specs.Modules.{translation}
-use Rattle.asm2wasm_laws_writable.specs.Parts.{NamesBelow, HasAtMost, ConstantFits, HaveFewClauses, IsOfShortText}
+use Rattle.asm2wasm_lang.specs.Short.{IsOfShortText}
+use Rattle.asm2wasm_laws_writable.specs.Parts.{NamesBelow, HasAtMost, ConstantFits, HaveFewClauses}
 
 -- ---- code
 

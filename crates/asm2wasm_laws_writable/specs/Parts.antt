@@ -1,14 +1,10 @@
--- What keeps the numbers of an instruction small, and what a short text leaves of a module.
-use Rattle.std.specs.Prelude.{ℕ, suc, ◌+◌, ◌^◌, ◌<◌, ◌≤◌, length, All}
-use Rattle.std.specs.List.{concat}
+-- What keeps the numbers of an instruction small.
+use Rattle.std.specs.Prelude.{ℕ, suc, ◌^◌, ◌<◌, ◌≤◌, length, All}
 use Rattle.wasm_lang.specs.Instructions.{Plain, local_get, local_set, local_tee, global_get, global_set, load, store, const32, const64, Instruction, br, br_if, br_table, call, call_indirect, plain}
 use Rattle.wasm_lang_valid.specs.Typing.{Context}
 use Rattle.wasm_laws_write.specs.Fits.{FitsU32}
-use Rattle.asm_lang.specs.Modules.{Stmt, block, if_only, if_else, while_loop, do_while, for_loop, labelled, switches, Stmts, no_stmts, stmts, Clauses, no_clauses, clauses, Module}
+use Rattle.asm_lang.specs.Modules.{Stmt, block, if_only, if_else, while_loop, do_while, for_loop, labelled, switches, Stmts, no_stmts, stmts, Clauses, no_clauses, clauses}
 use Rattle.asm_lang_valid.specs.LimitRows.{most_clauses}
-use Rattle.asm_lang_valid.specs.Rows.{module_count}
-use Rattle.asm_laws_counts.specs.Counts.{module_clauses}
-use Rattle.asm_laws_counts.specs.Names.{module_names}
 use Rattle.asm2wasm_code.specs.Bodies.{clauses_count}
 
 -- ---- what an instruction names, a local, a global, a function, a type or a label, has a number below n, and an alignment is small
@@ -74,11 +70,3 @@ abbrev mutual
   pub EachHasFewClauses : Clauses → Type 0
   EachHasFewClauses no_clauses = Unit {0}
   EachHasFewClauses (clauses v ss cs) = HaveFewClauses ss × EachHasFewClauses cs
-
--- ---- a module whose translation has room in its sections, as one has that a text of at most 16,777,216 bytes says
-
-pub record IsOfShortText (m : Module) : Type 0 where
-  -- nodes and clauses of switches together
-  pub nodes : module_count m + module_clauses m ≤ 2 ^ 25
-  -- the bytes of its functions' names, its export keys and the names of the foreign globals together
-  pub names : length (concat (module_names m)) ≤ 2 ^ 24

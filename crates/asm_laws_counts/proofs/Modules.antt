@@ -6,7 +6,7 @@ use Rattle.asm_lang.specs.Lexemes.{Lexeme}
 use Rattle.asm_lang.specs.Trees.{Init, VariableTree, ParamTree, FunctionTree, TableTree, ExportTree, ExportsTree, ModuleTree}
 use Rattle.asm_lang.specs.Grammar.{IsMember, a_member, an_int, a_math, IsInit, of_literal, of_member, of_double, of_view, IsNames, no_names, more_names, IsMembers, members_of, IsGlobal, a_global, IsLocal, a_local, IsTable, a_table, IsDeclared, no_var, a_var, a_comma, an_end, IsMarks, no_marks, an_int_mark, a_double_mark, IsParams, no_params, some_params, a_function, IsFunctions, no_functions, more_functions, IsExport, an_export, IsExports, no_export, next_export, after_comma, IsReturnedPart, export_one, export_many, IsExported, an_exported, IsName, unnamed, a_name, IsModuleParams, params_0, params_1, params_2, params_3, IsModule, a_module, a_heading}
 use Rattle.asm_lang.specs.Modules.{function_of, module_of, variables_places, params_places, stmts_places, functions_places, tables_places, exports_places, module_places}
-use Rattle.asm_laws_counts.specs.Counts.{functions_clauses, module_clauses}
+use Rattle.asm2wasm_lang.specs.Counts.{functions_clauses, module_clauses}
 use Rattle.asm_laws_counts.proofs.Exprs.{taken, length_of_four}
 use Rattle.asm_laws_counts.proofs.Stmts.{end_passed, literal_passed, stmts_size}
 

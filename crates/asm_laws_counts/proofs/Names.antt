@@ -9,7 +9,7 @@ use Rattle.asm_lang.specs.Grammar.{IsMember, a_member, an_int, a_math, IsInit, o
 use Rattle.asm_lang.specs.Modules.{Function, Export, Module, init_of, variable_of, function_of, export_of, exports_of, module_of}
 use Rattle.asm_lang_valid.specs.Scope.{is_in}
 use Rattle.asm_lang_valid.specs.Refusal.{Exported, exported, exported_from, with_global, global_imports}
-use Rattle.asm_laws_counts.specs.Names.{module_names}
+use Rattle.asm2wasm_lang.specs.Names.{module_names}
 use Rattle.asm_laws_counts.proofs.Weights.{weight, taken, import_size, end_past, literal_taken, stmts_past}
 
 abbrev joined : List (List ℕ) → ℕ

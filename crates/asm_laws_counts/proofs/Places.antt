@@ -7,7 +7,7 @@ use Rattle.asm_lang.specs.Lexemes.{Lexeme, Want, Is, here}
 use Rattle.asm_lang.specs.Trees.{ExprTree, ExprTrees, StmtTree, labelled, StmtTrees, ClauseTrees, Init, VariableTree, ParamTree, FunctionTree, TableTree, ExportTree, ExportsTree, ModuleTree}
 use Rattle.asm_lang.specs.Grammar.{IsExpr, an_operand, a_binary, a_conditional, an_assignment, a_store, a_list, IsOperand, a_literal, a_negative, a_decimal_literal, a_variable, an_element, a_call, a_table_call, in_parens, a_prefix, a_minus, IsIndex, an_index, IsArguments, no_argument, arguments, IsRest, no_further, a_further, IsEnd, written, missing, IsDoEnd, do_written, do_missing, place_of, under, IsOption, absent, present, IsReturned, no_value, a_value, IsTarget, no_label, a_label, IsLiteral, positive, negative, positive_decimal, negative_decimal, IsStmt, a_block, a_plain, an_empty, an_if_only, an_if_else, a_return, a_while, a_do, a_for, a_break, a_continue, a_labelled, a_switch, IsStmts, no_stmts, more_stmts, IsClauses, no_clauses, a_case, a_default, IsMember, a_member, an_int, a_math, IsInit, of_literal, of_member, of_double, of_view, IsNames, no_names, more_names, IsMembers, members_of, IsGlobal, a_global, IsLocal, a_local, IsTable, a_table, IsDeclared, no_var, a_var, a_comma, an_end, IsMarks, no_marks, an_int_mark, a_double_mark, IsParams, no_params, some_params, a_function, IsFunctions, no_functions, more_functions, IsExport, an_export, IsExports, no_export, next_export, after_comma, IsReturnedPart, export_one, export_many, IsExported, an_exported, IsName, unnamed, a_name, IsModuleParams, params_0, params_1, params_2, params_3, IsModule, a_module, a_heading}
 use Rattle.asm_lang.specs.Modules.{Nodes, all_nodes, sum_nodes, is_sum, expr_nodes, exprs_places, expr_places, option_places, stmt_places, stmts_places, clauses_places, variables_places, params_places, functions_places, tables_places, exports_places, module_places}
-use Rattle.asm_laws_counts.specs.Counts.{offsets}
+use Rattle.asm2wasm_lang.specs.Counts.{offsets}
 use Rattle.asm_laws_counts.proofs.Exprs.{expr_size}
 
 -- P holds of each place; of the place of each token

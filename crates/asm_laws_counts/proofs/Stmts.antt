@@ -4,7 +4,7 @@ use Rattle.asm_lang.specs.Lexemes.{Lexeme}
 use Rattle.asm_lang.specs.Trees.{ExprTree, StmtTree, labelled, StmtTrees, ClauseTrees, Init}
 use Rattle.asm_lang.specs.Grammar.{IsEnd, written, missing, IsDoEnd, do_written, do_missing, under, IsOption, absent, present, IsReturned, no_value, a_value, IsTarget, no_label, a_label, IsLiteral, positive, negative, positive_decimal, negative_decimal, IsStmt, a_block, a_plain, an_empty, an_if_only, an_if_else, a_return, a_while, a_do, a_for, a_break, a_continue, a_labelled, a_switch, IsStmts, no_stmts, more_stmts, IsClauses, no_clauses, a_case, a_default}
 use Rattle.asm_lang.specs.Modules.{stmt_of, stmts_of, clauses_of, expr_places, option_places, stmt_places, stmts_places, clauses_places}
-use Rattle.asm_laws_counts.specs.Counts.{stmt_clauses, body_clauses, switch_clauses}
+use Rattle.asm2wasm_lang.specs.Counts.{stmt_clauses, body_clauses, switch_clauses}
 use Rattle.asm_laws_counts.proofs.Exprs.{taken, length_of_three, length_of_four, expr_size}
 
 pub end_passed : {xs ys : List Lexeme} → IsEnd xs ys → length ys ≤ length xs

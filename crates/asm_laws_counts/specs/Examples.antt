@@ -5,7 +5,7 @@ use Rattle.asm_lang.specs.Lexemes.{Class, identifier, close_brace, Lexeme, here}
 use Rattle.asm_lang.specs.Trees.{ExprTree, variable, binary, StmtTree, plain}
 use Rattle.asm_lang.specs.Grammar.{an_operand, a_variable, missing, IsStmt, a_plain}
 use Rattle.asm_lang.specs.Modules.{Stmt, var, switches, no_stmts, stmts, no_clauses, clauses, expr_places, stmt_places}
-use Rattle.asm_laws_counts.specs.Counts.{stmt_clauses}
+use Rattle.asm2wasm_lang.specs.Counts.{stmt_clauses}
 
 abbrev lexeme : Class → List ℕ → ℕ → Lexeme
 lexeme c s at = record { class = c; text = s; value = 0; line = false; at = at }

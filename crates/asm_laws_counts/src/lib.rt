@@ -8,8 +8,8 @@ ghost use Rattle.asm_lang.specs.Lexemes.{Lexeme, lexemes_of};
 ghost use Rattle.asm_lang.specs.Trees.{ModuleTree};
 ghost use Rattle.asm_lang.specs.Grammar.{IsModule};
 ghost use Rattle.asm_lang.specs.Modules.{module_of, module_places};
-ghost use Rattle.asm_laws_counts.specs.Counts.{module_clauses, offsets};
-ghost use Rattle.asm_laws_counts.specs.Names.{module_names};
+ghost use Rattle.asm2wasm_lang.specs.Counts.{module_clauses, offsets};
+ghost use Rattle.asm2wasm_lang.specs.Names.{module_names};
 
 /// The nodes of a module and its switch clauses are together at most twice as many as its tokens.
 pub fn nodes_and_clauses()

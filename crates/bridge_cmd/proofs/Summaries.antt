@@ -10,10 +10,10 @@ use Rattle.wasm_binary_write.specs.Spelling.{spelling}
 use Rattle.asm_lang.specs.Modules.{Module}
 use Rattle.asm_lang.specs.Printing.{canonical_text}
 use Rattle.asm_lang_valid.specs.Texts.{IsAcceptedText}
-use Rattle.asm2wasm.specs.Standing.{StandsFor}
+use Rattle.asm2wasm_lang.specs.Parts.{StandsFor}
 use Rattle.asm2wasm_lang.specs.Heaps.{is_heap_length}
-use Rattle.asm2wasm_laws_profile.specs.Small.{IsSmall}
-use Rattle.asm2wasm_laws_writable.specs.Parts.{IsOfShortText}
+use Rattle.asm2wasm_lang.specs.Small.{IsSmall}
+use Rattle.asm2wasm_lang.specs.Short.{IsOfShortText}
 use Rattle.wasm2js_code.specs.Modules.{translated as asm_js_for}
 use Rattle.wasm2js_laws_simulation.specs.WholeLaws.{SpelledAreAllowed, TrapsOfSpelledAreCalls}
 use Rattle.wasm2js_laws_simulation.specs.BoundedLaws.{SpelledAreBounded}

@@ -6,9 +6,9 @@ use Rattle.wasm_tree.specs.Views.{module_of}
 use Rattle.asm_tree.specs.Views.{module_view}
 use Rattle.asm2wasm_lang.specs.Allowed.{IsAllowed, IsBounded}
 use Rattle.asm2wasm_code.specs.Modules.{translation}
-use Rattle.asm2wasm_laws_profile.specs.Small.{IsSmall}
-use Rattle.asm2wasm_laws_writable.specs.Parts.{IsOfShortText}
-use Rattle.asm2wasm.specs.Standing.{NeverTraps, HasFunctions, HasTables}
+use Rattle.asm2wasm_lang.specs.Small.{IsSmall}
+use Rattle.asm2wasm_lang.specs.Short.{IsOfShortText}
+use Rattle.asm2wasm_lang.specs.Parts.{NeverTraps, HasFunctions, HasTables}
 use Rattle.asm2wasm.proofs.Stands.{of_made}
 use Rattle.asm2wasm.proofs.translating.translate_module.Goals as goal
 

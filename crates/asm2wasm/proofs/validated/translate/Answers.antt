@@ -5,9 +5,9 @@ use Rattle.wasm_lang_valid.specs.Profile.{IsInProfile}
 use Rattle.asm_tree.specs.Views.{module_view}
 use Rattle.asm2wasm_lang.specs.Allowed.{IsAllowed, IsBounded}
 use Rattle.asm2wasm_code.specs.Modules.{translation}
-use Rattle.asm2wasm_laws_profile.specs.Small.{IsSmall}
-use Rattle.asm2wasm_laws_writable.specs.Parts.{IsOfShortText}
-use Rattle.asm2wasm.specs.Standing.{NeverTraps, HasFunctions, HasTables, StandsFor}
+use Rattle.asm2wasm_lang.specs.Small.{IsSmall}
+use Rattle.asm2wasm_lang.specs.Short.{IsOfShortText}
+use Rattle.asm2wasm_lang.specs.Parts.{NeverTraps, HasFunctions, HasTables, StandsFor}
 use Rattle.asm2wasm.proofs.Stands.{of_made}
 use Rattle.asm2wasm.proofs.validated.translate.Goals as goal
 

@@ -8,7 +8,7 @@ use Rattle.wasm2js_code.specs.Modules.{translated as asm_js_for}
 use Rattle.asm_tree.specs.Views.{module_view}
 use Rattle.gen_lang.specs.Recipe.{recipe, summary}
 use Rattle.gen_laws.specs.Modules.{recipe_module}
-use Rattle.asm2wasm_laws_writable.specs.Parts.{IsOfShortText}
+use Rattle.asm2wasm_lang.specs.Short.{IsOfShortText}
 use Rattle.bridge_cmd.proofs.Summaries.{heap_is, in_profile, summed}
 use Rattle.bridge_cmd.proofs.generating.generated.Goals as goal
 

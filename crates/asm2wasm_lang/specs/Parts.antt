@@ -19,9 +19,9 @@ use Rattle.asm_lang_exec.specs.Fits.{misfit}
 use Rattle.asm2wasm_lang.specs.Allowed.{target_session, IsAllowed, IsBounded}
 use Rattle.asm2wasm_lang.specs.Calling.{exactly}
 use Rattle.asm2wasm_lang.specs.Tables.{entries_of, bases_of}
-use Rattle.asm2wasm_laws_exports.specs.Alone.{exporting, exporting_number}
-use Rattle.asm2wasm_laws_profile.specs.Small.{IsSmall}
-use Rattle.asm2wasm_laws_writable.specs.Parts.{IsOfShortText}
+use Rattle.asm2wasm_lang.specs.Alone.{exporting, exporting_number}
+use Rattle.asm2wasm_lang.specs.Small.{IsSmall}
+use Rattle.asm2wasm_lang.specs.Short.{IsOfShortText}
 
 -- no session of a script that fits the text ends with a trap
 abbrev pub NeverTraps : Module → ℕ → WasmModule → Type 0
