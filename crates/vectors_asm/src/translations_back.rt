@@ -1,9 +1,9 @@
 //! Sessions of WebAssembly, by the texts of asm.js that their modules are translated to.
 use crate::binaries::EMPTY;
 use crate::modules::{
-    ADDING, BLOCKS, EXTENDING, EXTENDING_WIDE, GLOBAL, IMPORTING, LOADING, LOOPING, MANY_PAGES,
-    MULTIPLYING, MUTABLE_IMPORT, PADDED, PAGES, POLYMORPHIC, ROTATING, STORING, TABLE,
-    TABLE_IMPORT,
+    ADDING, BLOCKS, COMPARING, COUNTING, EXTENDING, EXTENDING_WIDE, GLOBAL, IMPORTING, LOADING,
+    LOOPING, MANY_PAGES, MULTIPLYING, MUTABLE_IMPORT, PADDED, PAGES, POLYMORPHIC, ROTATING,
+    STORING, TABLE, TABLE_IMPORT,
 };
 use crate::program::{Row, code_of, done, ends, with_options};
 use std::alloc::Global;
@@ -11,7 +11,7 @@ use std::process::Abort;
 use std::test::Fail;
 
 // The scripts are in the calling form of the translation, and what is printed is what node prints of the texts.
-static ROWS: [Row; 24] = [
+static ROWS: [Row; 26] = [
     Row {
         name: "a module without parts",
         module: EMPTY,
@@ -32,6 +32,20 @@ static ROWS: [Row; 24] = [
         options: &[],
         script: b"call $init\ncall m 4294967295 0 4294967295 0\ncall $hi",
         printed: b"returned\nresult -2\nresult 1\nend done\n",
+    },
+    Row {
+        name: "leading zeros of 64 bits",
+        module: COUNTING,
+        options: &[],
+        script: b"call $init\ncall z 1 0\ncall $hi",
+        printed: b"returned\nresult 63\nresult 0\nend done\n",
+    },
+    Row {
+        name: "comparisons that the low words decide, and the high words",
+        module: COMPARING,
+        options: &[],
+        script: b"call $init\ncall b 1 0 2 0\ncall b 0 1 4294967295 0",
+        printed: b"returned\nresult 1\nresult 0\nend done\n",
     },
     Row {
         name: "a load near the end, and one past it",
