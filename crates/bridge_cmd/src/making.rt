@@ -91,7 +91,7 @@ pub(crate) fn text_of(alloc: Global, valid: &Valid<'_>) -> Result<Vec<u8>, Alloc
     requires { outside_profile valid.now ≡ None }
     ensures { IfOk result (λ output. output.items ≡ canonical_text (asm_js_for valid.now)) }
 {
-    let module = wasm2js::translate(alloc, valid)?;
+    let module = wasm2js::translate_module(alloc, valid)?;
     match print(alloc, &module) {
         Ok(output) => Ok(output),
         Err(_) => Err(AllocError),

@@ -8,12 +8,13 @@ use Rattle.wasm_lang_exec.specs.Fits as machine
 use Rattle.wasm2js_lang.specs.Heaps.{heap_bytes}
 use Rattle.wasm2js_lang.specs.Calling.{IsCalledAs}
 use Rattle.wasm2js_lang.specs.Allowed.{IsAllowed, IsBounded, TrapsAreCalls, script_for}
+use Rattle.wasm2js_lang.specs.Helpers.{HasHelpers}
 use Rattle.wasm2js_lang_parts.specs.Functions.{HasFunctions}
 use Rattle.wasm2js_lang_parts.specs.Imports.{HasImports}
 use Rattle.wasm2js_lang_parts.specs.Tables.{HasTables}
 use Rattle.wasm2js_code.specs.Modules.{translated}
 use Rattle.wasm2js.proofs.Told.{told}
-use Rattle.wasm2js.proofs.translating.translate.Goals as goal
+use Rattle.wasm2js.proofs.translating.translate_module.Goals as goal
 
 pub returns-clause-exact : goal.returns-clause-exact
 returns-clause-exact c = c.exactly.ensures
@@ -49,3 +50,6 @@ returns-clause-tables c = told module_view (translated c.args.valid.now) (HasTab
 
 pub returns-clause-imports : goal.returns-clause-imports
 returns-clause-imports c = told module_view (translated c.args.valid.now) (HasImports c.args.valid.now) c.exactly.result c.properties.ensures.imports c.exactly.ensures
+
+pub returns-clause-helpers : goal.returns-clause-helpers
+returns-clause-helpers c = told module_view (translated c.args.valid.now) (HasHelpers c.args.valid.now) c.exactly.result c.properties.ensures.helpers c.exactly.ensures
