@@ -7,17 +7,17 @@ use Rattle.heap_lang.specs.Numbers.{IsBytes}
 use Rattle.sem_words.specs.declared.word.Bin.TheVariants as bins
 use Rattle.sem_words.specs.declared.word.TrapKind.TheVariants as kinds
 use Rattle.sem_words.specs.declared.js_value.JsOp.TheVariants.{Div}
-use Rattle.sem_laws.specs.Script.{WritePlain, ReplyLinePlain, ScriptPlain}
+use Rattle.session_lang.specs.Script.{WritePlain, ReplyLinePlain, ScriptPlain}
 use Rattle.wasm_lang.specs.Instructions.{plain, const32, local_get, bin32, end_mark}
 use Rattle.wasm_lang.specs.Modules.{ElementSegment, WasmModule}
 use Rattle.asm_lang.specs.Modules.{binary, returns, var, Table, Module}
 use Rattle.asm_lang_valid.specs.LimitRows.{foreign_calls}
-use Rattle.script_fits.specs.Fits.{writes_of}
-use Rattle.script_fits.specs.Written.{AreBytes, WritesBytes}
+use Rattle.session_lang.specs.Fits.{writes_of}
+use Rattle.session_lang.specs.Written.{AreBytes, WritesBytes}
 use Rattle.asm2wasm_lang.specs.Calling.{exactly}
 use Rattle.asm2wasm_lang.specs.Tables.{entries_of, bases_of}
-use Rattle.asm2wasm_code.specs.Modules.{translation}
-use Rattle.asm2wasm_code.specs.Pieces.{a, b, f, r, t, x, y, signed, function, module_of, called, calls_alone, tabled, continuing}
+use Rattle.asm2wasm_translation.specs.Modules.{translation}
+use Rattle.asm2wasm_translation.specs.Pieces.{a, b, f, r, t, x, y, signed, function, module_of, called, calls_alone, tabled, continuing}
 use Rattle.asm2wasm_lang.specs.Parts.{NeverTraps, HasFunctions, tables_for, segments_for, HasTables}
 
 -- ---- two tables, after one foreign function

@@ -3,7 +3,7 @@ use Rattle.std.proofs.Common.{◌≡◌, ℕ, ◌+◌, true, List, [], ◌∷◌
 use Rattle.std.specs.Prelude.{Ok, Err, slice_get, option_map}
 use Rattle.std.proofs.lemmas.List.{length-append}
 use Rattle.std.proofs.lemmas.Option.{slice_get-map}
-use Rattle.sem_laws.specs.Observation.{trapped}
+use Rattle.session_lang.specs.Observation.{trapped}
 use Rattle.wasm_lang.specs.Modules.{WasmModule}
 use Rattle.wasm_lang_valid.specs.ModuleRules.{imported_functions}
 use Rattle.wasm_lang_valid.specs.declared.rule.Rule.{Rule}
@@ -20,12 +20,12 @@ use Rattle.asm_lang_valid.specs.Refusal.{IsAccepted, function_number}
 use Rattle.asm2wasm_lang.specs.Allowed.{IsAllowed}
 use Rattle.asm2wasm_lang.specs.Heaps.{is_heap_length}
 use Rattle.asm2wasm_lang.specs.Tables.{entries_of, bases_of}
-use Rattle.asm2wasm_code.specs.Modules.{table_for, elements_for, translation}
+use Rattle.asm2wasm_translation.specs.Modules.{table_for, elements_for, translation}
 use Rattle.asm2wasm_lang.specs.Alone.{exporting, exporting_number}
-use Rattle.asm2wasm_laws_exports.specs.Laws.{ExportingIsAccepted, ExportingIsWellFormed, ExportingIsTranslated}
-use Rattle.asm2wasm_laws_modules.specs.Laws.{FunctionsAreCounted, FunctionsAreAsMany, TablesAreFilled, TranslationIsWithin}
+use Rattle.asm2wasm_laws_acceptance.specs.Exports.Laws.{ExportingIsAccepted, ExportingIsWellFormed, ExportingIsTranslated}
+use Rattle.asm2wasm_laws_acceptance.specs.Laws.{FunctionsAreCounted, FunctionsAreAsMany, TablesAreFilled, TranslationIsWithin}
 use Rattle.asm2wasm_laws_profile.specs.Laws.{TranslationIsInProfile}
-use Rattle.asm2wasm_laws_sessions.specs.Laws.{SessionsNeverTrap, TranslationIsAllowed, TranslationIsBounded}
+use Rattle.asm2wasm_laws_simulation.specs.Sessions.Laws.{SessionsNeverTrap, TranslationIsAllowed, TranslationIsBounded}
 use Rattle.asm2wasm_laws_writable.specs.Laws.{TranslationIsShaped, TranslationsNumbersFit, TranslationsSectionsFit}
 use Rattle.asm2wasm_lang.specs.Parts.{NeverTraps, HasFunctions, tables_for, segments_for, HasTables, StandsFor}
 

@@ -7,6 +7,6 @@ mod translating;
 mod validated;
 
 pub use asm2wasm_sections::{is_heap_len, pages_for};
-pub use link_tables::TablePlan;
+pub use asm2wasm_tables::TablePlan;
 pub use translating::translate_module;
 pub use validated::translate;

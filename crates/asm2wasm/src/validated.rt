@@ -8,7 +8,7 @@ ghost use Rattle.wasm_tree.specs.Views.{module_of};
 ghost use Rattle.asm_tree.specs.Views.{module_view};
 ghost use Rattle.asm2wasm_lang.specs.Allowed.{IsAllowed, IsBounded};
 ghost use Rattle.asm2wasm_lang.specs.Heaps.{is_heap_length};
-ghost use Rattle.asm2wasm_code.specs.Modules.{translation};
+ghost use Rattle.asm2wasm_translation.specs.Modules.{translation};
 ghost use Rattle.asm2wasm_lang.specs.Small.{IsSmall};
 ghost use Rattle.asm2wasm_lang.specs.Short.{IsOfShortText};
 ghost use Rattle.asm2wasm_lang.specs.Parts.{NeverTraps, HasFunctions, HasTables, StandsFor};

@@ -1,9 +1,9 @@
 -- Which modules of WebAssembly may stand for one of asm.js, how far apart their budgets lie, and which bytes are written of one.
 use Rattle.std.specs.Prelude.{◌≡◌, ◌≢◌, ℕ, ◌+◌, ◌*◌, ◌≤◌, List, [], ◌∷◌, length, max, Option, Some, None}
-use Rattle.sem_laws.specs.Script.{ScriptPlain}
-use Rattle.sem_laws.specs.Observation.{ObservationPlain, running}
-use Rattle.sem_laws.specs.Simulation.{Session, Comparison, SourceIsBelow, TargetIsBelow, Sim}
-use Rattle.sem_laws.specs.CallingForms.{script_to_wasm, comparison_to_wasm}
+use Rattle.session_lang.specs.Script.{ScriptPlain}
+use Rattle.session_lang.specs.Observation.{ObservationPlain, running}
+use Rattle.session_lang.specs.Simulation.{Session, Comparison, SourceIsBelow, TargetIsBelow, Sim}
+use Rattle.session_lang.specs.CallingForms.{script_to_wasm, comparison_to_wasm}
 use Rattle.wasm_lang.specs.Modules.{WasmModule}
 use Rattle.wasm_lang.specs.Grammar.{IsModuleBytes}
 use Rattle.wasm_lang_valid.specs.Validity.{IsValidModule}

@@ -2,8 +2,8 @@
 -- table are those of the text by number, it can be read and, where the text is short, written, and where the text is small, translated back.
 use Rattle.std.specs.Prelude.{◌≡◌, ◌≢◌, ℕ, ◌+◌, true, List, [], ◌∷◌, length, map, Some, None, slice_get}
 use Rattle.sem_words.specs.declared.word.TrapKind.{TrapKind}
-use Rattle.sem_laws.specs.Script.{ScriptPlain}
-use Rattle.sem_laws.specs.Observation.{trapped}
+use Rattle.session_lang.specs.Script.{ScriptPlain}
+use Rattle.session_lang.specs.Observation.{trapped}
 use Rattle.wasm_lang.specs.declared.types.Limits.{Limits}
 use Rattle.wasm_lang.specs.Instructions.{plain, const32, end_mark}
 use Rattle.wasm_lang.specs.Limits.{IsWithinReader}

@@ -11,7 +11,7 @@ use Rattle.asm_lang_valid.specs.Typing.{Scope}
 use Rattle.asm_lang_valid.specs.LimitRows.{rows_of, expr_marks, part_marks, option_marks, clauses_length, stmt_marks, stmts_marks, clauses_marks, counted, names_marks, function_marks, functions_marks, most_functions, most_params, most_locals, most_clauses}
 use Rattle.asm_laws_print.specs.Fitting.{FitsStmt, FitsStmts, FitsClauses, FitsFunction}
 use Rattle.asm_laws_print.proofs.Printed.{well_formed_fits}
-use Rattle.asm2wasm_code.specs.Bodies.{clauses_count}
+use Rattle.asm2wasm_translation.specs.Bodies.{clauses_count}
 use Rattle.asm2wasm_laws_within.proofs.Marks.{NoRows, rows_split, held}
 use Rattle.asm2wasm_laws_within.proofs.Within.{functions_meet_no_row}
 use Rattle.asm2wasm_laws_writable.specs.Parts.{HasFewClauses, HaveFewClauses, EachHasFewClauses}

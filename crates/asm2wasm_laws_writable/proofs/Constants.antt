@@ -3,13 +3,13 @@ use Rattle.std.proofs.Common.{◌≡◌, ℕ, ◌+◌, ◌*◌, ◌^◌, ◌<◌
 use Rattle.std.specs.Prelude.{bytes_eq, if◌then◌else◌}
 use Rattle.std.specs.List.{AllByRecursion}
 use Rattle.wasm_lang_exec.specs.Store.{page}
-use Rattle.wasm_laws_bytes.specs.Each.{EachIn}
+use Rattle.wasm_laws_write.specs.Each.{EachIn}
 use Rattle.asm_lang.specs.Modules.{Function, Table}
 use Rattle.asm_lang_valid.specs.Typed.{scope_of}
 use Rattle.asm2wasm_lang.specs.Heaps.{is_heap_length, pages_for}
 use Rattle.asm2wasm_lang.specs.Tables.{bases_from}
-use Rattle.asm2wasm_code.specs.Numbers.{base_among, base_of}
-use Rattle.asm2wasm_code.specs.Bodies.{function_code}
+use Rattle.asm2wasm_translation.specs.Numbers.{base_among, base_of}
+use Rattle.asm2wasm_translation.specs.Bodies.{function_code}
 use Rattle.asm2wasm_laws_within.specs.Within.{members}
 use Rattle.asm2wasm_laws_within.proofs.Within.{accepted_are_within}
 use Rattle.asm2wasm_laws_writable.specs.Parts.{ConstantFits, HaveFewClauses}

@@ -11,3 +11,7 @@ pub mod Numbers
 pub mod Short
 pub mod Sections
 pub mod Said
+pub mod OpcodesOfValues
+pub mod OpcodesOfBodies
+pub mod OpcodesOfGlobals
+pub mod Ascii

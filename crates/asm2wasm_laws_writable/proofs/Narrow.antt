@@ -19,7 +19,7 @@ use Rattle.wasm_laws_sound.proofs.Nesting.{tree_is_typed}
 use Rattle.wasm_laws_trees.specs.Spelled.{closed, tree_levels}
 use Rattle.wasm_laws_trees.specs.Laws.{IsReadAgain, LevelsAreKept}
 use Rattle.wasm_laws_write.specs.Lengths.{PlainIsNarrow, IsNarrow}
-use Rattle.wasm_laws_bytes.specs.Each.{EachIn}
+use Rattle.wasm_laws_write.specs.Each.{EachIn}
 use Rattle.asm_lang.specs.Modules.{Function, Module}
 use Rattle.asm_lang_valid.specs.Rows.{function_count, functions_count}
 use Rattle.asm_lang_valid.specs.Scope.{signature_of}
@@ -27,15 +27,15 @@ use Rattle.asm_lang_valid.specs.Typed.{scope_of}
 use Rattle.asm_lang_valid.specs.Refusal.{foreign_globals, IsAccepted}
 use Rattle.asm2wasm_lang.specs.Counts.{body_clauses, functions_clauses}
 use Rattle.asm2wasm_lang.specs.Calling.{constant_int}
-use Rattle.asm2wasm_code.specs.Numbers.{type_number, signatures}
-use Rattle.asm2wasm_code.specs.Modules.{type_for, body_for, translation}
-use Rattle.asm2wasm_code.specs.Bodies.{function_code}
+use Rattle.asm2wasm_translation.specs.Numbers.{type_number, signatures}
+use Rattle.asm2wasm_translation.specs.Modules.{type_for, body_for, translation}
+use Rattle.asm2wasm_translation.specs.Bodies.{function_code}
 use Rattle.asm2wasm_laws_within.specs.Within.{FunctionIsWithin}
 use Rattle.asm2wasm_laws_within.proofs.Within.{accepted_are_within}
-use Rattle.asm2wasm_laws_modules.proofs.Lists.{all_at}
-use Rattle.asm2wasm_laws_modules.proofs.Imports.{functions_are_counted}
-use Rattle.asm2wasm_laws_modules.proofs.Contexts.{imported_are, own_type_is, body_is_valid}
-use Rattle.asm2wasm_laws_modules.proofs.Readable.{translation_is_within}
+use Rattle.asm2wasm_laws_acceptance.proofs.Lists.{all_at}
+use Rattle.asm2wasm_laws_acceptance.proofs.Imports.{functions_are_counted}
+use Rattle.asm2wasm_laws_acceptance.proofs.Contexts.{imported_are, own_type_is, body_is_valid}
+use Rattle.asm2wasm_laws_acceptance.proofs.Readable.{translation_is_within}
 use Rattle.asm2wasm_laws_writable.specs.Parts.{PlainNamesBelow, NamesBelow, HasAtMost, PlainConstantFits, ConstantFits}
 use Rattle.asm2wasm_laws_writable.specs.Laws.{FunctionsAreNarrow}
 use Rattle.asm2wasm_laws_writable.proofs.Lists.{from_places}

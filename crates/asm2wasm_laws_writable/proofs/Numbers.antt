@@ -13,8 +13,8 @@ use Rattle.wasm_laws_trees.specs.Laws.{IsReadAgain, LevelsAreKept}
 use Rattle.wasm_laws_write.specs.Fits.{FitsU32, InstructionFits, LimitsFit, ImportFits, ExportFits, ElementFits, SegmentFits, BodyFits}
 use Rattle.wasm_laws_write.specs.Lengths.{IsNarrow}
 use Rattle.wasm_laws_write.proofs.Short.{narrow_fit}
-use Rattle.wasm_laws_bytes.specs.Each.{EachIn}
-use Rattle.wasm_laws_bytes.proofs.Spelled.{narrow_trees_fit}
+use Rattle.wasm_laws_write.specs.Each.{EachIn}
+use Rattle.wasm_laws_write.proofs.Spelled.{narrow_trees_fit}
 use Rattle.asm_lang.specs.Trees.{Init, number, decimal, foreign_int, foreign_double, member, math, view}
 use Rattle.asm_lang.specs.Modules.{Variable, Function, Table, Export, Exports, one, many, Module}
 use Rattle.asm_lang_valid.specs.Scope.{Signature, signature_of}
@@ -25,12 +25,12 @@ use Rattle.asm_lang_valid.specs.Refusal.{foreign_globals, has_heap, IsAccepted, 
 use Rattle.asm2wasm_lang.specs.Heaps.{pages_for}
 use Rattle.asm2wasm_lang.specs.Calling.{exactly}
 use Rattle.asm2wasm_lang.specs.Tables.{members_of, entries_from, entries_of}
-use Rattle.asm2wasm_code.specs.Numbers.{slot_of, int_variables, asked_signature, is_signature, place_of_type, signatures, type_number}
-use Rattle.asm2wasm_code.specs.Modules.{type_for, from_env, imported_function, imported_global, or_zero, first_value, global_for, table_for, elements_for, body_for, translation}
-use Rattle.asm2wasm_code.specs.Bodies.{function_code}
+use Rattle.asm2wasm_translation.specs.Numbers.{slot_of, int_variables, asked_signature, is_signature, place_of_type, signatures, type_number}
+use Rattle.asm2wasm_translation.specs.Modules.{type_for, from_env, imported_function, imported_global, or_zero, first_value, global_for, table_for, elements_for, body_for, translation}
+use Rattle.asm2wasm_translation.specs.Bodies.{function_code}
 use Rattle.asm2wasm_laws_within.specs.Within.{members}
 use Rattle.asm2wasm_laws_within.proofs.Within.{accepted_are_within}
-use Rattle.asm2wasm_laws_modules.proofs.Readable.{translation_is_within}
+use Rattle.asm2wasm_laws_acceptance.proofs.Readable.{translation_is_within}
 use Rattle.asm2wasm_laws_writable.specs.Laws.{TranslationsNumbersFit}
 use Rattle.asm2wasm_laws_writable.proofs.Lists.{both_all}
 use Rattle.asm2wasm_laws_writable.proofs.Constants.{PagesAreFew, PagesHold}

@@ -15,8 +15,8 @@ use Rattle.wasm_laws_trees.specs.Laws.{IsReadAgain, LevelsAreKept}
 use Rattle.wasm_laws_write.specs.Fits.{FitsU32, ExportFits}
 use Rattle.wasm_laws_write.specs.Lengths.{IsNarrow, total}
 use Rattle.wasm_laws_write.proofs.Short.{parts_are_short, bodies_are_short, imports_are_short, exports_are_short}
-use Rattle.wasm_laws_bytes.specs.Each.{EachIn}
-use Rattle.wasm_laws_bytes.proofs.Spelled.{trees_are_short}
+use Rattle.wasm_laws_write.specs.Each.{EachIn}
+use Rattle.wasm_laws_write.proofs.Spelled.{trees_are_short}
 use Rattle.asm_lang.specs.Modules.{Function, Export, Exports, one, many, Module}
 use Rattle.asm_lang_valid.specs.Rows.{function_count, functions_count, exports_count}
 use Rattle.asm_lang_valid.specs.Scope.{signature_of}
@@ -28,14 +28,14 @@ use Rattle.asm2wasm_lang.specs.Counts.{body_clauses, functions_clauses}
 use Rattle.asm2wasm_lang.specs.Names.{module_names}
 use Rattle.asm2wasm_lang.specs.Heaps.{pages_for}
 use Rattle.asm2wasm_lang.specs.Calling.{exactly}
-use Rattle.asm2wasm_code.specs.Numbers.{int_variables, asked_signature, signatures, type_number}
-use Rattle.asm2wasm_code.specs.Modules.{type_for, from_env, imported_function, imported_global, body_for, translation}
-use Rattle.asm2wasm_code.specs.Bodies.{function_code}
+use Rattle.asm2wasm_translation.specs.Numbers.{int_variables, asked_signature, signatures, type_number}
+use Rattle.asm2wasm_translation.specs.Modules.{type_for, from_env, imported_function, imported_global, body_for, translation}
+use Rattle.asm2wasm_translation.specs.Bodies.{function_code}
 use Rattle.asm2wasm_laws_typed.proofs.SmallBodies.{functions_are_small}
 use Rattle.asm2wasm_laws_within.specs.Within.{CallIsWithin}
 use Rattle.asm2wasm_laws_within.proofs.Within.{accepted_are_within}
-use Rattle.asm2wasm_laws_modules.specs.Laws.{room_of}
-use Rattle.asm2wasm_laws_modules.proofs.Readable.{translation_is_within}
+use Rattle.asm2wasm_laws_acceptance.specs.Laws.{room_of}
+use Rattle.asm2wasm_laws_acceptance.proofs.Readable.{translation_is_within}
 use Rattle.asm2wasm_laws_writable.specs.Laws.{TranslationsSectionsFit}
 use Rattle.asm2wasm_laws_writable.proofs.Lists.{total_joins}
 use Rattle.asm2wasm_laws_writable.proofs.Constants.{PagesAreFew, PagesHold}

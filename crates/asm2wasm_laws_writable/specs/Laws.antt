@@ -9,15 +9,15 @@ use Rattle.wasm_laws_sound.specs.Trees.{IsTyped}
 use Rattle.wasm_laws_trees.specs.Spelled.{tree_levels}
 use Rattle.wasm_laws_write.specs.Fits.{NumbersFit, SectionsFit}
 use Rattle.wasm_laws_write.specs.Lengths.{IsNarrow}
-use Rattle.wasm_laws_bytes.specs.Each.{EachIn}
+use Rattle.wasm_laws_write.specs.Each.{EachIn}
 use Rattle.asm_lang.specs.Heights.{IsWellFormed}
 use Rattle.asm_lang.specs.Modules.{Function, Module}
 use Rattle.asm_lang_valid.specs.Refusal.{IsAccepted}
 use Rattle.asm_lang_valid.specs.Texts.{IsAcceptedText}
 use Rattle.asm_lang_valid.specs.Typed.{scope_of}
 use Rattle.asm2wasm_lang.specs.Heaps.{is_heap_length}
-use Rattle.asm2wasm_code.specs.Bodies.{function_code}
-use Rattle.asm2wasm_code.specs.Modules.{translation}
+use Rattle.asm2wasm_translation.specs.Bodies.{function_code}
+use Rattle.asm2wasm_translation.specs.Modules.{translation}
 use Rattle.asm2wasm_lang.specs.Short.{IsOfShortText}
 use Rattle.asm2wasm_laws_writable.specs.Parts.{NamesBelow, HasAtMost, ConstantFits, HaveFewClauses}
 

@@ -5,7 +5,7 @@ use Rattle.wasm_lang_valid.specs.Typing.{Context}
 use Rattle.wasm_laws_write.specs.Fits.{FitsU32}
 use Rattle.asm_lang.specs.Modules.{Stmt, block, if_only, if_else, while_loop, do_while, for_loop, labelled, switches, Stmts, no_stmts, stmts, Clauses, no_clauses, clauses}
 use Rattle.asm_lang_valid.specs.LimitRows.{most_clauses}
-use Rattle.asm2wasm_code.specs.Bodies.{clauses_count}
+use Rattle.asm2wasm_translation.specs.Bodies.{clauses_count}
 
 -- ---- what an instruction names, a local, a global, a function, a type or a label, has a number below n, and an alignment is small
 

@@ -7,7 +7,7 @@ ghost use Rattle.asm_tree.specs.Views.{module_view, texts_view};
 ghost use Rattle.asm_validate_limits.specs.Called.{foreign_view};
 ghost use Rattle.asm2wasm_lang.specs.Heaps.{is_heap_length, pages_for};
 ghost use Rattle.asm2wasm_lang.specs.Calling.{exactly};
-ghost use Rattle.asm2wasm_code.specs.Modules.{imports_of, imported_function, imported_global, from_env};
+ghost use Rattle.asm2wasm_translation.specs.Modules.{imports_of, imported_function, imported_global, from_env};
 ghost use Rattle.asm2wasm_sections.specs.Few.{FewTypes};
 
 use crate::heaps::pages_for;

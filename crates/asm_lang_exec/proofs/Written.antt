@@ -2,11 +2,11 @@
 use Rattle.std.proofs.Common.{◌≡◌, ℕ, true, List, [], ◌∷◌, None, refl}
 use Rattle.std.specs.Prelude.{◌+◌, ◌&&◌, length, nat_le}
 use Rattle.std.specs.List.{list_all}
-use Rattle.sem_laws.specs.Script.{WritePlain, ReplyPlain, ScriptPlain}
-use Rattle.script_fits.specs.Fits.{writes_of, are_bytes}
-use Rattle.script_fits.specs.Written.{WritesBytes, AskForBytes}
-use Rattle.script_fits.proofs.Misfits.{both, both_first, both_second}
-use Rattle.script_fits.proofs.Written.{what_fits_writes_bytes}
+use Rattle.session_lang.specs.Script.{WritePlain, ReplyPlain, ScriptPlain}
+use Rattle.session_lang.specs.Fits.{writes_of, are_bytes}
+use Rattle.session_lang.specs.Written.{WritesBytes, AskForBytes}
+use Rattle.session_lang.proofs.Misfits.{both, both_first, both_second}
+use Rattle.session_lang.proofs.Written.{what_fits_writes_bytes}
 use Rattle.asm_lang.specs.Modules.{Module}
 use Rattle.asm_lang_valid.specs.Refusal.{has_heap}
 use Rattle.asm_lang_exec.specs.Fits.{fits_write, tests, misfit}

@@ -1,9 +1,9 @@
 -- Which scripts fit a module of asm.js with a heap of some length, and the line of the first part of a script that doesn't.
 use Rattle.std.specs.Prelude.{ℕ, ◌+◌, ◌-◌, ◌^◌, Bool, false, not, ◌&&◌, List, length, Option, Some, None, ℤ, pos, negsuc, int_le, int_lt, nat_le, ◌==◌}
 use Rattle.std.specs.List.{list_all}
-use Rattle.sem_laws.specs.Script.{GlobalPlain, WritePlain, CallPlain, ReplyPlain, ScriptPlain}
-use Rattle.script_fits.specs.Fits as parts
-use Rattle.script_fits.specs.Fits.{Tests, is_given, writes_of, are_bytes}
+use Rattle.session_lang.specs.Script.{GlobalPlain, WritePlain, CallPlain, ReplyPlain, ScriptPlain}
+use Rattle.session_lang.specs.Fits as parts
+use Rattle.session_lang.specs.Fits.{Tests, is_given, writes_of, are_bytes}
 use Rattle.asm_lang.specs.Modules.{Function, Module}
 use Rattle.asm_lang_valid.specs.Scope.{is_in}
 use Rattle.asm_lang_valid.specs.Refusal.{foreign_globals, has_heap}

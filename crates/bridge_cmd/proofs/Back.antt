@@ -8,7 +8,7 @@ use Rattle.asm_lang_valid.specs.Texts.{IsAcceptedText}
 use Rattle.wasm_lang.specs.Modules.{WasmModule}
 use Rattle.wasm_lang_valid.specs.Bytes.{IsTranslatable}
 use Rattle.wasm2js_lang.specs.Allowed.{IsAllowed}
-use Rattle.wasm2js_code.specs.Modules.{translated}
+use Rattle.wasm2js_translation.specs.Modules.{translated}
 use Rattle.wasm2js_laws_simulation.specs.WholeLaws.{SpelledAreAllowed, TrapsOfSpelledAreCalls}
 use Rattle.wasm2js_laws_simulation.specs.BoundedLaws.{SpelledAreBounded}
 use Rattle.bridge_lang.specs.Command.{wasm_to_asm}

@@ -25,9 +25,9 @@ use Rattle.cmd_run_wasm.specs.declared.fault.RunFault.{RunFault}
 use Rattle.cmd_run_wasm.specs.declared.fault.RunFault.TheVariants as run_faults
 use Rattle.script_read.specs.declared.fault.ScriptFault.{ScriptFault}
 use Rattle.script_read.specs.declared.fault.ScriptFault.TheVariants as script_faults
-use Rattle.bridge_words.specs.Answer.{Answers}
-use Rattle.bridge_words.specs.declared.fault.WordsFault.{WordsFault}
-use Rattle.bridge_words.specs.declared.fault.WordsFault.TheVariants as words_faults
+use Rattle.bridge_args.specs.Answer.{Answers}
+use Rattle.bridge_args.specs.declared.fault.WordsFault.{WordsFault}
+use Rattle.bridge_args.specs.declared.fault.WordsFault.TheVariants as words_faults
 use Rattle.bridge_lang.specs.declared.status.Status.TheVariants.{Usage}
 use Rattle.bridge_cmd.specs.Asking.{done_by, named_by}
 use Rattle.bridge_cmd.specs.declared.words.Making.TheVariants.{AsmToWasm, WasmToAsm, CheckAsm, CheckWasm, Show}

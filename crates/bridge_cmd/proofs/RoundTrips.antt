@@ -7,7 +7,7 @@ use Rattle.asm_lang.specs.Modules.{Module}
 use Rattle.asm_lang_valid.specs.Texts.{IsAcceptedText}
 use Rattle.asm2wasm_lang.specs.Allowed as there
 use Rattle.wasm2js_lang.specs.Allowed as back
-use Rattle.wasm2js_laws_round_trip.specs.Laws.{RoundTripsSimulate}
+use Rattle.wasm2js_lang.specs.RoundTrips.{RoundTripsSimulate}
 use Rattle.cmd_check_asm.proofs.Verdicts as laws
 use Rattle.bridge_lang.specs.Command.{asm_to_wasm, wasm_to_asm}
 use Rattle.bridge_lang.specs.Job.{IsMade, translated, translated_back}

@@ -14,7 +14,7 @@ use Rattle.asm2wasm_lang.specs.Parts.{StandsFor}
 use Rattle.asm2wasm_lang.specs.Heaps.{is_heap_length}
 use Rattle.asm2wasm_lang.specs.Small.{IsSmall}
 use Rattle.asm2wasm_lang.specs.Short.{IsOfShortText}
-use Rattle.wasm2js_code.specs.Modules.{translated as asm_js_for}
+use Rattle.wasm2js_translation.specs.Modules.{translated as asm_js_for}
 use Rattle.wasm2js_laws_simulation.specs.WholeLaws.{SpelledAreAllowed, TrapsOfSpelledAreCalls}
 use Rattle.wasm2js_laws_simulation.specs.BoundedLaws.{SpelledAreBounded}
 use Rattle.gen_lang.specs.Recipe.{recipe, recipe_heap, summary}

@@ -8,8 +8,8 @@ use Rattle.asm_lang.specs.Heights.{IsWellFormed}
 use Rattle.asm_lang.specs.Modules.{Module}
 use Rattle.asm_lang_valid.specs.Texts.{IsAcceptedText}
 use Rattle.asm2wasm_lang.specs.Heaps.{is_heap_length}
-use Rattle.asm2wasm_code.specs.Modules.{translation}
-use Rattle.asm2wasm_laws_sessions.specs.Laws.{TranslationIsAllowed, TranslationIsBounded}
+use Rattle.asm2wasm_translation.specs.Modules.{translation}
+use Rattle.asm2wasm_laws_simulation.specs.Sessions.Laws.{TranslationIsAllowed, TranslationIsBounded}
 use Rattle.asm2wasm_laws_writable.specs.Laws.{TranslationIsWritable}
 use Rattle.bridge_lang.specs.Number.{is_heap}
 use Rattle.bridge_lang.specs.Command.{asm_to_wasm}

@@ -6,7 +6,7 @@ use Rattle.bridge_cmd.specs.declared.refusal.Refusal as refusal
 use Rattle.bridge_lang.specs.declared.status.Status as status
 use Rattle.bridge_lang.specs.declared.status.WasmFault as wasm
 use Rattle.bridge_io.specs.declared.reading.GatherFault as gathering
-use Rattle.bridge_words.specs.declared.fault.WordsFault as words
+use Rattle.bridge_args.specs.declared.fault.WordsFault as words
 use Rattle.cmd_check_asm.specs.declared.fault.CheckFault as texts
 use Rattle.cmd_check_wasm.specs.declared.fault.CheckFault as checks
 use Rattle.cmd_run_wasm.specs.declared.fault.RunFault as runs

@@ -1,8 +1,8 @@
 -- What becomes of a text that is translated to WebAssembly and back.
 use Rattle.std.specs.Prelude.{◌≡◌, ℕ, List, None}
-use Rattle.sem_laws.specs.Script.{ScriptPlain}
-use Rattle.sem_laws.specs.Simulation.{Sim}
-use Rattle.sem_laws.specs.Laws.{comparison_there_and_back}
+use Rattle.session_lang.specs.Script.{ScriptPlain}
+use Rattle.session_lang.specs.Simulation.{Sim}
+use Rattle.session_lang.specs.Laws.{comparison_there_and_back}
 use Rattle.wasm_lang.specs.Modules.{WasmModule}
 use Rattle.wasm_lang_valid.specs.Bytes.{IsValidBytes}
 use Rattle.asm_lang.specs.Modules.{Module}
@@ -10,7 +10,7 @@ use Rattle.asm_lang_valid.specs.Texts.{IsAcceptedText}
 use Rattle.asm_lang_exec.specs.Session.{first_heap}
 use Rattle.asm_lang_exec.specs.Fits.{misfit}
 use Rattle.asm2wasm_lang.specs.Allowed.{source_session}
-use Rattle.wasm2js_laws_round_trip.specs.Laws.{script_back, size_back, session_back}
+use Rattle.wasm2js_lang.specs.RoundTrips.{script_back, size_back, session_back}
 use Rattle.bridge_lang.specs.Command.{asm_to_wasm, wasm_to_asm}
 use Rattle.bridge_lang.specs.Job.{IsMade}
 

@@ -4,10 +4,10 @@ ghost use Rattle.bridge_cmd.specs.Asking.{made_by};
 ghost use Rattle.bridge_lang.specs.Command as spec;
 ghost use Rattle.asm_tree.specs.Views.{module_view};
 ghost use Rattle.wasm_binary_write.specs.Spelling.{spelling};
-ghost use Rattle.asm2wasm_code.specs.Modules.{translation};
+ghost use Rattle.asm2wasm_translation.specs.Modules.{translation};
 ghost use Rattle.asm_lang.specs.Printing.{canonical_text};
 ghost use Rattle.wasm_lang_valid.specs.Profile.{outside_profile};
-ghost use Rattle.wasm2js_code.specs.Modules.{translated as asm_js_for};
+ghost use Rattle.wasm2js_translation.specs.Modules.{translated as asm_js_for};
 ghost use Rattle.bridge_lang.specs.Job.{file_limit, IsMade};
 ghost use Rattle.bridge_lang.specs.Answers.{IsAnswered};
 ghost use Rattle.bridge_cmd.specs.Refused.{reason_of};
@@ -19,7 +19,7 @@ use asm_grammar_print::print;
 use asm_text::printed_texts_are_read;
 use asm_validate::Checked;
 use asm2wasm::translate_module;
-use bridge_words::HeapLength;
+use bridge_args::HeapLength;
 use cmd_check_asm::check_text;
 use cmd_check_wasm::check_bytes;
 use shared_bytes::SharedBytes;
@@ -37,7 +37,7 @@ fn translated(alloc: Global, text: &[u8], heap: HeapLength) -> Result<SharedByte
     ensures barred { (file : List ℕ) → IfErr result (λ refusal. IsAnswered (spec.asm_to_wasm file heap.bytes) text.now (reason_of refusal)) }
 {
     asm2wasm_laws_writable::writable();
-    asm2wasm_laws_sessions::translations();
+    asm2wasm_laws_simulation::sessions_laws::translations();
     spelling_laws();
     let checked = match check_text(alloc, text) {
         Ok(checked) => checked,

@@ -4,9 +4,9 @@ ghost use Rattle.bridge_lang.specs.Reason.{not_run};
 ghost use Rattle.bridge_cmd.specs.Refused.{reason_of, reason_of_check, reason_of_text, reason_of_words, reason_of_run, reason_of_script, reason_at};
 ghost use Rattle.bridge_lang.specs.Statuses.{status_of};
 
+use bridge_args::WordsFault;
 use bridge_io::GatherFault;
 use bridge_lang::{Status, WasmFault};
-use bridge_words::WordsFault;
 use cmd_check_asm::AsmRow;
 use cmd_check_wasm::CheckFault;
 use cmd_run_wasm::RunFault;

@@ -13,7 +13,7 @@ ghost use Rattle.bridge_cmd.specs.Refused.{reason_of};
 use crate::refusal::{Refusal, of_run, of_script, of_text};
 use crate::words::Running;
 use asm_validate::Checked;
-use bridge_words::HeapLength;
+use bridge_args::HeapLength;
 use cmd_check_asm::check_text;
 use cmd_run_wasm::runnable_module;
 use shared_bytes::SharedBytes;

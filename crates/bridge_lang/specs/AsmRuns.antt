@@ -1,10 +1,10 @@
 -- Which texts are scripts that fit a module of asm.js with a heap of so many bytes, and what is printed of their runs.
 use Rattle.std.specs.Prelude.{◌≡◌, ℕ, List, Some, Result, Ok, Err}
-use Rattle.sem_laws.specs.Observation.{ObservationPlain}
-use Rattle.sem_laws.specs.Script.{ScriptPlain}
-use Rattle.script_fits.specs.Fits.{fitting}
-use Rattle.script_read.specs.Reading.{said_script}
-use Rattle.script_print.specs.Texts.{observation_text}
+use Rattle.session_lang.specs.Observation.{ObservationPlain}
+use Rattle.session_lang.specs.Script.{ScriptPlain}
+use Rattle.session_lang.specs.Fits.{fitting}
+use Rattle.script_lang.specs.Reading.{said_script}
+use Rattle.script_lang.specs.Texts.{observation_text}
 use Rattle.asm_lang.specs.Modules.{Module}
 use Rattle.asm_lang_exec.specs.Fits.{misfit}
 use Rattle.asm_lang_exec.specs.Session.{asm}

@@ -2,7 +2,7 @@
 -- each line is ended by a line feed.
 use Rattle.std.specs.Prelude.{ℕ, suc, List, [], ◌∷◌, ◌++◌, length, slice_get, unwrap_or, codes, decimal}
 use Rattle.std.specs.List.{concat, flat_map}
-use Rattle.sem_laws.specs.Names.{import_name}
+use Rattle.session_lang.specs.Names.{import_name}
 use Rattle.wasm_lang.specs.declared.types.ValType.{ValType}
 use Rattle.wasm_lang.specs.declared.types.ValType.TheVariants.{I32, I64}
 use Rattle.wasm_lang.specs.declared.types.ImportKind.{ImportKind}

@@ -1,6 +1,6 @@
 -- Modules that are run, and what is printed of a script's run on one.
 use Rattle.std.specs.Prelude.{ℕ, List, Result}
-use Rattle.sem_laws.specs.Script.{ScriptPlain}
+use Rattle.session_lang.specs.Script.{ScriptPlain}
 use Rattle.asm_lang.specs.Modules.{Module}
 use Rattle.asm_lang_valid.specs.Texts.{IsAcceptedText}
 use Rattle.bridge_lang.specs.AsmRuns as texts

@@ -1,9 +1,9 @@
 -- Which bytes spell a module that is run, which texts are scripts that fit it, and what is printed of their runs.
 use Rattle.std.specs.Prelude.{◌≡◌, ℕ, List, Some, None, Result, Ok, Err}
-use Rattle.sem_laws.specs.Script.{ScriptPlain}
-use Rattle.script_fits.specs.Fits.{fitting}
-use Rattle.script_read.specs.Reading.{said_script}
-use Rattle.script_print.specs.Texts.{observation_text}
+use Rattle.session_lang.specs.Script.{ScriptPlain}
+use Rattle.session_lang.specs.Fits.{fitting}
+use Rattle.script_lang.specs.Reading.{said_script}
+use Rattle.script_lang.specs.Texts.{observation_text}
 use Rattle.wasm_lang.specs.Modules.{WasmModule}
 use Rattle.wasm_lang_valid.specs.declared.profile.Outside.{Outside as Row}
 use Rattle.wasm_lang_valid.specs.Runnable.{not_runnable}

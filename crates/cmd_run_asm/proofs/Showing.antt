@@ -1,9 +1,9 @@
 -- Equal sessions are seen alike.
 use Rattle.std.proofs.Common.{◌≡◌, ℕ, List, ap, sym, ◌∙◌}
 use Rattle.std.specs.Prelude.{Some}
-use Rattle.sem_laws.specs.Observation.{ObservationPlain}
-use Rattle.sem_laws.specs.Script.{ScriptPlain}
-use Rattle.script_print.specs.Texts.{observation_text}
+use Rattle.session_lang.specs.Observation.{ObservationPlain}
+use Rattle.session_lang.specs.Script.{ScriptPlain}
+use Rattle.script_lang.specs.Texts.{observation_text}
 use Rattle.asm_lang.specs.Modules.{Module}
 use Rattle.asm_lang_exec.specs.Session.{asm}
 use Rattle.bridge_lang.specs.AsmRuns.{Shows}

@@ -1,6 +1,6 @@
 -- What pairs of the code say, as plain data.
 use Rattle.wasm2js_nodes.specs.Names.{name_view}
-use Rattle.wasm2js_code.specs.Pairs as plain
+use Rattle.wasm2js_translation.specs.Pairs as plain
 use Rattle.wasm2js_lang.specs.SplitWords.{Halves}
 use Rattle.wasm2js_laws_wide.specs.Laws.{halves}
 use Rattle.split_words.specs.declared.pair.Pair.{Pair}

@@ -3,12 +3,12 @@ ghost use Rattle.std.specs.Prelude.{◌≡◌, false, true, [], ◌∷◌, ◌++
 ghost use Rattle.sem_words.specs.declared.word.Un.TheVariants as uns;
 ghost use Rattle.wasm_lang_valid.specs.Measures.{is_mul_div};
 ghost use Rattle.wasm2js_lang.specs.SplitWords.{ComputesBinary, ComputesUnary, ComputesExtension, Gains};
-ghost use Rattle.wasm2js_words.specs.Names as names;
-ghost use Rattle.wasm2js_words.specs.Words as words;
-ghost use Rattle.wasm2js_words.specs.Words.{simple_statements};
-ghost use Rattle.wasm2js_code.specs.Pairs as pairs;
-ghost use Rattle.wasm2js_code.specs.Wide as wide;
-ghost use Rattle.wasm2js_code.specs.Helpers.{wide_helpers};
+ghost use Rattle.wasm2js_translation.specs.Names as names;
+ghost use Rattle.wasm2js_translation.specs.Words as words;
+ghost use Rattle.wasm2js_translation.specs.Words.{simple_statements};
+ghost use Rattle.wasm2js_translation.specs.Pairs as pairs;
+ghost use Rattle.wasm2js_translation.specs.Wide as wide;
+ghost use Rattle.wasm2js_translation.specs.Helpers.{wide_helpers};
 ghost use Rattle.wasm2js_nodes.specs.Names.{name_view, fixed_view};
 ghost use Rattle.wasm2js_build.specs.Views.{bit_view, term_view};
 ghost use Rattle.wasm2js_build.specs.Blocks.{statements_of};

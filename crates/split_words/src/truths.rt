@@ -2,11 +2,11 @@
 ghost use Rattle.std.specs.Prelude.{◌≡◌, [], ◌∷◌, ◌++◌, IfOk};
 ghost use Rattle.sem_words.specs.declared.word.Rel.TheVariants as rels;
 ghost use Rattle.wasm2js_lang.specs.SplitWords.{ComputesRelation, ComputesZero, Gains};
-ghost use Rattle.wasm2js_words.specs.Names.{spelled};
-ghost use Rattle.wasm2js_words.specs.Words as words;
-ghost use Rattle.wasm2js_words.specs.Words.{simple_statements};
-ghost use Rattle.wasm2js_code.specs.Wide as wide;
-ghost use Rattle.wasm2js_code.specs.Helpers.{wide_helpers};
+ghost use Rattle.wasm2js_translation.specs.Names.{spelled};
+ghost use Rattle.wasm2js_translation.specs.Words as words;
+ghost use Rattle.wasm2js_translation.specs.Words.{simple_statements};
+ghost use Rattle.wasm2js_translation.specs.Wide as wide;
+ghost use Rattle.wasm2js_translation.specs.Helpers.{wide_helpers};
 ghost use Rattle.wasm2js_nodes.specs.Names.{name_view};
 ghost use Rattle.wasm2js_build.specs.Views.{relation_view};
 ghost use Rattle.wasm2js_build.specs.Blocks.{statements_of};

@@ -1,6 +1,6 @@
 //! The translation as an accepted module.
 ghost use Rattle.std.specs.Prelude.{◌≡◌, None, IfOk};
-ghost use Rattle.sem_laws.specs.Script.{ScriptPlain};
+ghost use Rattle.session_lang.specs.Script.{ScriptPlain};
 ghost use Rattle.asm_lang.specs.Heights.{IsWellFormed};
 ghost use Rattle.asm_lang_valid.specs.Refusal.{IsAccepted};
 ghost use Rattle.asm_lang_exec.specs.Fits.{misfit};
@@ -11,10 +11,10 @@ ghost use Rattle.wasm2js_lang.specs.Heaps.{heap_bytes};
 ghost use Rattle.wasm2js_lang.specs.Calling.{IsCalledAs};
 ghost use Rattle.wasm2js_lang.specs.Allowed.{IsAllowed, IsBounded, TrapsAreCalls, script_for};
 ghost use Rattle.wasm2js_lang.specs.Helpers.{HasHelpers};
-ghost use Rattle.wasm2js_lang_parts.specs.Functions.{HasFunctions};
-ghost use Rattle.wasm2js_lang_parts.specs.Imports.{HasImports};
-ghost use Rattle.wasm2js_lang_parts.specs.Tables.{HasTables};
-ghost use Rattle.wasm2js_code.specs.Modules as code;
+ghost use Rattle.wasm2js_lang.specs.Parts.Functions.{HasFunctions};
+ghost use Rattle.wasm2js_lang.specs.Parts.Imports.{HasImports};
+ghost use Rattle.wasm2js_lang.specs.Parts.Tables.{HasTables};
+ghost use Rattle.wasm2js_translation.specs.Modules as code;
 
 use crate::translating::translate_module;
 use asm_tree::Module;

@@ -1,7 +1,7 @@
 //! The whole module.
 ghost use Rattle.std.specs.Prelude.{◌≡◌, ◌∷◌, ◌++◌, [], None, Some, map, IfOk};
 ghost use Rattle.sem_words.specs.Lists.{list_items};
-ghost use Rattle.sem_laws.specs.Script.{ScriptPlain};
+ghost use Rattle.session_lang.specs.Script.{ScriptPlain};
 ghost use Rattle.asm_lang.specs.Heights.{IsWellFormed};
 ghost use Rattle.asm_lang_valid.specs.Refusal.{IsAccepted};
 ghost use Rattle.asm_lang_exec.specs.Fits.{misfit};
@@ -13,10 +13,10 @@ ghost use Rattle.wasm2js_lang.specs.Calling.{IsCalledAs};
 ghost use Rattle.wasm2js_lang.specs.Allowed.{IsAllowed, IsBounded, TrapsAreCalls, script_for};
 ghost use Rattle.wasm2js_lang.specs.Helpers.{HasHelpers};
 ghost use Rattle.wasm2js_lang.specs.Tables as plain;
-ghost use Rattle.wasm2js_lang_parts.specs.Functions.{HasFunctions};
-ghost use Rattle.wasm2js_lang_parts.specs.Imports.{HasImports};
-ghost use Rattle.wasm2js_lang_parts.specs.Tables.{HasTables};
-ghost use Rattle.wasm2js_code.specs.Modules as code;
+ghost use Rattle.wasm2js_lang.specs.Parts.Functions.{HasFunctions};
+ghost use Rattle.wasm2js_lang.specs.Parts.Imports.{HasImports};
+ghost use Rattle.wasm2js_lang.specs.Parts.Tables.{HasTables};
+ghost use Rattle.wasm2js_translation.specs.Modules as code;
 ghost use Rattle.wasm2js_tables.specs.Views.{masked_view};
 ghost use Rattle.wasm2js.specs.Parts.{first_functions, last_functions};
 

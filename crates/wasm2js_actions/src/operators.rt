@@ -1,14 +1,14 @@
 //! Instructions by the numbers of their operands, of which the deepest stands above d others.
 ghost use Rattle.std.specs.Prelude.{◌≡◌, ◌+◌, ◌<◌, ◌^◌, ◌/◌, [], ◌∷◌, ◌++◌, true, false, IfOk};
 ghost use Rattle.sem_words.specs.Words.{signed_of};
-ghost use Rattle.sem_laws.specs.Imports.{low_word, high_word};
+ghost use Rattle.session_lang.specs.Imports.{low_word, high_word};
 ghost use Rattle.wasm_lang_valid.specs.Measures.{is_mul_div};
 ghost use Rattle.wasm_lang_exec.specs.Store.{page};
-ghost use Rattle.wasm2js_words.specs.Words as words;
-ghost use Rattle.wasm2js_words.specs.Words.{simple_statements};
-ghost use Rattle.wasm2js_code.specs.Pairs as pairs;
-ghost use Rattle.wasm2js_code.specs.Wide as wide;
-ghost use Rattle.wasm2js_code.specs.Actions as code;
+ghost use Rattle.wasm2js_translation.specs.Words as words;
+ghost use Rattle.wasm2js_translation.specs.Words.{simple_statements};
+ghost use Rattle.wasm2js_translation.specs.Pairs as pairs;
+ghost use Rattle.wasm2js_translation.specs.Wide as wide;
+ghost use Rattle.wasm2js_translation.specs.Actions as code;
 ghost use Rattle.wasm2js_build.specs.Blocks.{statements_of};
 
 use crate::numeric::{

@@ -10,11 +10,11 @@ use Rattle.wasm_run_flat.specs.Jumps.{past_end, other_arm}
 use Rattle.wasm_run_flat.specs.Places.{code_at}
 use Rattle.wasm_run_flat.specs.declared.target.Target.TheVariants.{Past, Again}
 use Rattle.wasm_run_flat.proofs.Standing.{block_opens, loop_opens, first_arm_opens, second_arm_opens}
-use Rattle.wasm_laws_flat.proofs.Past.{past_block, past_loop, past_if}
+use Rattle.wasm_run_flat.proofs.Past.{past_block, past_loop, past_if}
 use Rattle.asm_lang.specs.Modules.{Stmt, breaks, if_else}
-use Rattle.wasm2js_code.specs.Helpers.{block_of}
-use Rattle.wasm2js_code.specs.Actions.{under}
-use Rattle.wasm2js_code.specs.Bodies.{Aim, past, again, stmts_of, comes_to_end, labels_round, under_label, endless, signed_word}
+use Rattle.wasm2js_translation.specs.Helpers.{block_of}
+use Rattle.wasm2js_translation.specs.Actions.{under}
+use Rattle.wasm2js_translation.specs.Bodies.{Aim, past, again, stmts_of, comes_to_end, labels_round, under_label, endless, signed_word}
 use Rattle.wasm2js_bodies.specs.Walks.{IsInside, size, GoesOn, IsOver}
 use Rattle.wasm2js_bodies.proofs.Steps.{goes_on}
 

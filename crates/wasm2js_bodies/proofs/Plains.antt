@@ -8,9 +8,9 @@ use Rattle.wasm_lang_valid.specs.Measures.{is_wide_mul_div, has_mul_div}
 use Rattle.wasm_lang_valid.specs.Typing.{Context}
 use Rattle.wasm_lang_exec.specs.Code.{plain}
 use Rattle.asm_lang.specs.Modules.{Stmt}
-use Rattle.wasm2js_words.specs.Words.{statements}
-use Rattle.wasm2js_code.specs.Actions.{actions}
-use Rattle.wasm2js_code.specs.Bodies.{Aim, after_plain}
+use Rattle.wasm2js_translation.specs.Words.{statements}
+use Rattle.wasm2js_translation.specs.Actions.{actions}
+use Rattle.wasm2js_translation.specs.Bodies.{Aim, after_plain}
 use Rattle.wasm2js_actions.specs.Scopes.{instruction_actions}
 use Rattle.wasm2js_operands.specs.Scopes.{after}
 use Rattle.wasm2js_bodies.specs.Kinds.{is_plain}

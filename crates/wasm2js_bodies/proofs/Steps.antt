@@ -13,7 +13,7 @@ use Rattle.wasm_run_flat.specs.Laws.{IsNext}
 use Rattle.wasm_run_flat.specs.declared.target.Target.{Target}
 use Rattle.wasm_run_flat.proofs.Standing.{single_goes_on, end_leaves, else_leaves, last_ends, else_stands_inside}
 use Rattle.asm_lang.specs.Modules.{Stmt}
-use Rattle.wasm2js_code.specs.Bodies.{Aim, stmts_of, comes_to_end}
+use Rattle.wasm2js_translation.specs.Bodies.{Aim, stmts_of, comes_to_end}
 use Rattle.wasm2js_bodies.specs.Walks.{IsInside, size, GoesOn, IsOver}
 
 pub falls : (x : Tree) (is : Trees) → size is < size (x ▹ is)

@@ -7,7 +7,7 @@ use Rattle.wasm_lang_valid.specs.Typing.{Context}
 use Rattle.wasm_lang_exec.specs.Code.{Trees, tree_of}
 use Rattle.wasm_run_flat.proofs.Standing.{tree_stands}
 use Rattle.asm_lang.specs.Modules.{Stmt}
-use Rattle.wasm2js_code.specs.Bodies.{out, stmts_of, closing, body_stmts}
+use Rattle.wasm2js_translation.specs.Bodies.{out, stmts_of, closing, body_stmts}
 use Rattle.wasm2js_bodies.specs.Walks.{IsInside}
 
 inside_if : (body : List Instruction) (found : Option Trees) → has_mul_div body ≡ false → tree_of body ≡ found → IsSome found → IsInside body 0

@@ -8,7 +8,7 @@ use Rattle.wasm_lang_exec.specs.Code.{Trees, ε, ◌▹◌, block, loop, if_bloc
 use Rattle.wasm_run_flat.specs.Places.{code_at, Stands}
 use Rattle.wasm_run_flat.specs.declared.target.Target.{Target}
 use Rattle.asm_lang.specs.Modules.{Stmt}
-use Rattle.wasm2js_code.specs.Bodies.{Aim, stmts_of, comes_to_end}
+use Rattle.wasm2js_translation.specs.Bodies.{Aim, stmts_of, comes_to_end}
 
 -- code stands there, whatever blocks it stands in, in a body whose instructions are translated
 pub record IsInside (body : List Instruction) (at : ℕ) : Type 0 where

@@ -3,7 +3,7 @@ ghost use Rattle.std.specs.Prelude.{◌≡◌, ◌∷◌, [], ◌++◌, false, S
 ghost use Rattle.wasm_lang_valid.specs.Measures.{has_mul_div};
 ghost use Rattle.wasm_lang_exec.specs.Code.{Trees, tree_of};
 ghost use Rattle.wasm_run_flat.specs.Places.{code_at};
-ghost use Rattle.wasm2js_code.specs.Bodies as bodies;
+ghost use Rattle.wasm2js_translation.specs.Bodies as bodies;
 ghost use Rattle.wasm2js_build.specs.Blocks.{statements_of};
 ghost use Rattle.wasm2js_operands.specs.Scopes.{context_in};
 ghost use Rattle.wasm2js_bodies.specs.Walks.{IsInside};

@@ -3,8 +3,8 @@ ghost use Rattle.std.specs.Prelude.{◌≡◌, ◌≤◌, ◌+◌, ◌++◌, ◌
 ghost use Rattle.wasm_lang.specs.Instructions as flat;
 ghost use Rattle.wasm_lang_valid.specs.Measures.{is_wide_mul_div};
 ghost use Rattle.wasm_tree.specs.Views.{instr_of};
-ghost use Rattle.wasm2js_words.specs.Words as words;
-ghost use Rattle.wasm2js_code.specs.Bodies as bodies;
+ghost use Rattle.wasm2js_translation.specs.Words as words;
+ghost use Rattle.wasm2js_translation.specs.Bodies as bodies;
 ghost use Rattle.wasm2js_actions.specs.Scopes.{instruction_actions};
 ghost use Rattle.wasm2js_build.specs.Blocks.{statements_of};
 ghost use Rattle.wasm2js_jumps.specs.Aims.{aims_view};

@@ -6,7 +6,7 @@ ghost use Rattle.wasm_tree.specs.Views.{module_of};
 ghost use Rattle.wasm_lang_valid.specs.Measures.{measures_of};
 ghost use Rattle.wasm_lang_valid.specs.Validity.{IsValidModule};
 ghost use Rattle.wasm_lang_exec.specs.Reductions.{callees};
-ghost use Rattle.wasm2js_code.specs.Modules as modules;
+ghost use Rattle.wasm2js_translation.specs.Modules as modules;
 ghost use Rattle.wasm2js_functions.specs.Facts.{FactsOf};
 ghost use Rattle.wasm2js_functions.specs.Listing.{wrapper_for, wrappers_from, own_at, own_from};
 

@@ -4,12 +4,12 @@ ghost use Rattle.asm_tree.specs.Views.{function_view};
 ghost use Rattle.wasm_tree.specs.Views.{body_of, module_of, type_of};
 ghost use Rattle.wasm_lang_valid.specs.Measures.{has_mul_div};
 ghost use Rattle.wasm_lang_exec.specs.Code.{Trees, tree_of};
-ghost use Rattle.wasm2js_code.specs.Bodies.{body_stmts};
-ghost use Rattle.wasm2js_code.specs.Helpers.{function_of};
-ghost use Rattle.wasm2js_code.specs.Modules as modules;
-ghost use Rattle.wasm2js_code.specs.Rooms as rooms;
-ghost use Rattle.wasm2js_words.specs.Names as names;
-ghost use Rattle.wasm2js_words.specs.Names.{numbered};
+ghost use Rattle.wasm2js_translation.specs.Bodies.{body_stmts};
+ghost use Rattle.wasm2js_translation.specs.Helpers.{function_of};
+ghost use Rattle.wasm2js_translation.specs.Modules as modules;
+ghost use Rattle.wasm2js_translation.specs.Rooms as rooms;
+ghost use Rattle.wasm2js_translation.specs.Names as names;
+ghost use Rattle.wasm2js_translation.specs.Names.{numbered};
 ghost use Rattle.wasm2js_operands.specs.Scopes.{context_in};
 ghost use Rattle.wasm2js_functions.specs.Facts.{FactsOf};
 

@@ -6,8 +6,8 @@ use Rattle.hex.specs.Hex.{encode_with}
 use Rattle.sem_words.specs.declared.js_value.JsValue.{JsValue}
 use Rattle.sem_words.specs.declared.js_value.JsValue.TheVariants.{Whole}
 use Rattle.sem_words.specs.declared.word.Word.TheVariants.{W32}
-use Rattle.sem_laws.specs.Script.{ScriptPlain}
-use Rattle.sem_laws.specs.Observation.{EventPlain, call_gave, call_returned, EndPlain, done, ObservationPlain, running, ended}
+use Rattle.session_lang.specs.Script.{ScriptPlain}
+use Rattle.session_lang.specs.Observation.{EventPlain, call_gave, call_returned, EndPlain, done, ObservationPlain, running, ended}
 use Rattle.wasm_lang_exec.specs.Fits as machine
 use Rattle.asm_lang.specs.Modules.{Stmts, no_stmts, Function}
 use Rattle.asm_lang_valid.specs.Scope.{a_function, signature_of}

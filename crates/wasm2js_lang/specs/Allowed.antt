@@ -2,10 +2,10 @@
 use Rattle.std.specs.Prelude.{◌≡◌, ℕ, ◌+◌, ◌*◌, Bool, true, false, List, [], ◌∷◌, length, Some, None, option_map}
 use Rattle.std.specs.List.{list_any}
 use Rattle.sem_words.specs.declared.word.Word.TheVariants.{W32}
-use Rattle.sem_laws.specs.Script.{ScriptPlain}
-use Rattle.sem_laws.specs.Observation.{call_gave, call_returned, done, stopped, trap_name, as_stop, ObservationPlain, ended}
-use Rattle.sem_laws.specs.Simulation.{Session, Comparison, IsSameAs, SourceIsBelow, Sim}
-use Rattle.sem_laws.specs.CallingForms.{init_call, hi_call, split, comparison_to_asm}
+use Rattle.session_lang.specs.Script.{ScriptPlain}
+use Rattle.session_lang.specs.Observation.{call_gave, call_returned, done, stopped, trap_name, as_stop, ObservationPlain, ended}
+use Rattle.session_lang.specs.Simulation.{Session, Comparison, IsSameAs, SourceIsBelow, Sim}
+use Rattle.session_lang.specs.CallingForms.{init_call, hi_call, split, comparison_to_asm}
 use Rattle.wasm_lang.specs.Instructions.{Instruction, plain, memory_copy, memory_fill}
 use Rattle.wasm_lang.specs.Modules.{FunctionBody, DataSegment, WasmModule}
 use Rattle.wasm_lang_exec.specs.Session.{wasm}

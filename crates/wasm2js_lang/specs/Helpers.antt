@@ -4,8 +4,8 @@ use Rattle.std.specs.List.{AllByRecursion, list_any}
 use Rattle.sem_words.specs.declared.js_value.JsValue.{JsValue}
 use Rattle.sem_words.specs.JsValues.{to_uint32_of}
 use Rattle.sem_words.specs.Words.{shl_of, shr_s_of, shr_u_of, rotl_of, leading_zeros_of, trailing_zeros_of, set_bits_of}
-use Rattle.sem_laws.specs.Script.{ScriptPlain}
-use Rattle.sem_laws.specs.Imports.{low_word, high_word}
+use Rattle.session_lang.specs.Script.{ScriptPlain}
+use Rattle.session_lang.specs.Imports.{low_word, high_word}
 use Rattle.wasm_lang.specs.Instructions.{Instruction, plain, rel64, un64, bin64, sign_extend}
 use Rattle.wasm_lang.specs.Modules.{FunctionBody, WasmModule}
 use Rattle.asm_types.specs.declared.value_type.ValueType.TheVariants.{Int}

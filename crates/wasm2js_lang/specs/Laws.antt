@@ -1,6 +1,6 @@
 -- What holds of masked tables, and what isn't allowed.
 use Rattle.std.specs.Prelude.{◌≡◌, ◌≢◌, ℕ, ◌<◌, ◌≤◌, true, length, Option, Some, slice_get}
-use Rattle.sem_laws.specs.Script.{ScriptPlain}
+use Rattle.session_lang.specs.Script.{ScriptPlain}
 use Rattle.wasm_lang.specs.Modules.{FunctionType, WasmModule}
 use Rattle.wasm_lang_valid.specs.Measures.{called_types, is_among}
 use Rattle.wasm_lang_valid.specs.Profile.{table_length, padded, IsInProfile}

@@ -6,3 +6,5 @@ pub mod Helpers
 pub mod Worked
 pub mod SplitWords
 pub mod Laws
+pub mod Parts
+pub mod RoundTrips

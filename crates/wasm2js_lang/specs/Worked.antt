@@ -1,7 +1,7 @@
 -- Small modules of WebAssembly, what is asked of those of asm.js that stand for them, and some of asm.js that are, or aren't, what is asked.
 use Rattle.std.specs.Prelude.{ℕ, true, false, List, [], ◌∷◌, Some, None, ℤ, pos, negsuc, codes, map}
-use Rattle.sem_laws.specs.Script.{CallPlain, ScriptPlain}
-use Rattle.sem_laws.specs.CallingForms.{ShapePlain}
+use Rattle.session_lang.specs.Script.{CallPlain, ScriptPlain}
+use Rattle.session_lang.specs.CallingForms.{ShapePlain}
 use Rattle.wasm_lang.specs.declared.types.ValType.{ValType}
 use Rattle.wasm_lang.specs.declared.types.ValType.TheVariants.{I32, I64}
 use Rattle.wasm_lang.specs.declared.types.ImportKind.TheVariants as imports

@@ -1,6 +1,8 @@
 //! From WebAssembly to asm.js: what may be written for a module, said without any translation.
 #![tactic(auto)]
 
+pub mod parts;
+
 ghost use Rattle.std.specs.Prelude.{◌≡◌, ◌≤◌, ◌*◌, ◌∷◌, [], ℕ, true, codes};
 ghost use Rattle.wasm_lang.specs.Modules.{WasmModule};
 ghost use Rattle.wasm_lang_exec.specs.Store.{page};

@@ -24,9 +24,9 @@ use Rattle.asm_lang_valid.specs.Typing.{Scope, named}
 use Rattle.asm_lang_exec.specs.Runs.{Place, Run, wrong, Part, after, and_then, defined}
 use Rattle.asm_lang_exec.specs.Values.{Calls, call_named, read_element, element_value, kind_of}
 use Rattle.asm_lang_exec.specs.Meaning.{eval, eval_all, eval_links, link_operator}
-use Rattle.wasm2js_words.specs.Names.{view_of_words, imul, clz32}
-use Rattle.wasm2js_words.specs.Words.{called, Relation, Term, read, number, both, flip, sum, product, zeros, compare, choose, byte, whole, Summands, no_more, further, as_int, as_number, signed_number, relation_operator, bit_operator, indexed, name_of, byte_view, expr, summands, int_of, arguments}
-use Rattle.wasm2js_laws_words.specs.Sound.{IsSound, AreSound, AllSound, byte_element}
+use Rattle.wasm2js_translation.specs.Names.{view_of_words, imul, clz32}
+use Rattle.wasm2js_translation.specs.Words.{called, Relation, Term, read, number, both, flip, sum, product, zeros, compare, choose, byte, whole, Summands, no_more, further, as_int, as_number, signed_number, relation_operator, bit_operator, indexed, name_of, byte_view, expr, summands, int_of, arguments}
+use Rattle.wasm2js_laws_terms.specs.Sound.{IsSound, AreSound, AllSound, byte_element}
 use Rattle.wasm2js_laws_places.specs.Straight.{value, summed, values, bits_of, relation_of, truth, added, byte_kind, index_at, element_word}
 use Rattle.wasm2js_laws_places.specs.Places.{word_at, AreApart}
 use Rattle.wasm2js_laws_actions.specs.Reads.{Reads, ReadsAll}

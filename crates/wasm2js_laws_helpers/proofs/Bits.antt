@@ -17,10 +17,10 @@ use Rattle.asm_lang_exec.specs.Runs as runs
 use Rattle.asm_lang_exec.specs.Runs.{Binding, binding, Place, Run, goes, stops, spent, wrong, Part, after, and_then, defined, paid, with_locals, back_to, write}
 use Rattle.asm_lang_exec.specs.Values.{Calls}
 use Rattle.asm_lang_exec.specs.Meaning.{eval, Completion, normal, broken, continued, returned, unless_left, loop_end, unless_ended, turns, exec, exec_all, first_locals, function_end, call_at}
-use Rattle.wasm2js_words.specs.Names.{spelled}
-use Rattle.wasm2js_words.specs.Words.{Term, read, conjunction, shift_right, both, int_of}
-use Rattle.wasm2js_code.specs.Pairs.{literal, plus}
-use Rattle.wasm2js_code.specs.Helpers.{sets, gives, argument, own, block_of, first, set_bits_function}
+use Rattle.wasm2js_translation.specs.Names.{spelled}
+use Rattle.wasm2js_translation.specs.Words.{Term, read, conjunction, shift_right, both, int_of}
+use Rattle.wasm2js_translation.specs.Pairs.{literal, plus}
+use Rattle.wasm2js_translation.specs.Helpers.{sets, gives, argument, own, block_of, first, set_bits_function}
 use Rattle.wasm2js_laws_places.specs.Straight as straight
 use Rattle.wasm2js_laws_places.specs.Places.{word_at, names_in, IsHeap}
 use Rattle.wasm2js_laws_places.specs.Helped.{Helps}

@@ -6,8 +6,8 @@ use Rattle.asm_lang.specs.Modules.{Function, Module}
 use Rattle.asm_lang_valid.specs.Typed.{scope_of}
 use Rattle.asm_lang_exec.specs.Runs.{Binding, Place, Run, goes, stops, spent, wrong, after, and_then, defined, paid, value_in, with_value, with_locals, back_to}
 use Rattle.asm_lang_exec.specs.Meaning.{Completion, normal, broken, continued, returned, exec_all, first_locals, function_end, call_at}
-use Rattle.wasm2js_words.specs.Names.{Name, fixed, spare_high, spelled}
-use Rattle.wasm2js_words.specs.Words.{name_of}
+use Rattle.wasm2js_translation.specs.Names.{Name, fixed, spare_high, spelled}
+use Rattle.wasm2js_translation.specs.Words.{name_of}
 use Rattle.wasm2js_laws_places.specs.Straight.{gives, with_word, with_high}
 use Rattle.wasm2js_laws_places.specs.Places.{is_own, variables, word_bound, word_at, names_in, IsHeap}
 use Rattle.wasm2js_laws_places.specs.Helped.{IsShort, Helps}

@@ -7,17 +7,17 @@ use Rattle.sem_words.specs.JsValues.{to_uint32_of}
 use Rattle.sem_words.specs.JsOperators.{signed_value}
 use Rattle.sem_words.specs.Words.{shl_of, shr_u_of, rotl_of}
 use Rattle.asm_types.proofs.Sound.{to_uint32_lt}
-use Rattle.sem_laws.specs.Imports.{low_word, high_word}
+use Rattle.session_lang.specs.Imports.{low_word, high_word}
 use Rattle.asm_lang.specs.Modules.{Stmt, Module}
 use Rattle.asm_lang_valid.specs.Typing.{Scope}
 use Rattle.asm_lang_valid.specs.Typed.{scope_of}
 use Rattle.asm_lang_exec.specs.Runs.{Binding, binding, Place, Run, goes, stops, spent, wrong, after}
 use Rattle.asm_lang_exec.specs.Values.{Calls}
 use Rattle.asm_lang_exec.specs.Meaning.{Completion, normal, broken, continued, returned, unless_left, exec_all, first_locals, call_at}
-use Rattle.wasm2js_words.specs.Names.{spelled}
-use Rattle.wasm2js_words.specs.Words.{read}
-use Rattle.wasm2js_code.specs.Pairs.{funnel_left}
-use Rattle.wasm2js_code.specs.Helpers.{sets, gives, spare, when, argument, own, is_far, first, second, third, rotate_left_function}
+use Rattle.wasm2js_translation.specs.Names.{spelled}
+use Rattle.wasm2js_translation.specs.Words.{read}
+use Rattle.wasm2js_translation.specs.Pairs.{funnel_left}
+use Rattle.wasm2js_translation.specs.Helpers.{sets, gives, spare, when, argument, own, is_far, first, second, third, rotate_left_function}
 use Rattle.wasm2js_laws_places.specs.Places.{word_at}
 use Rattle.wasm2js_laws_numbers.specs.Laws as numbers
 use Rattle.wasm2js_laws_numbers.proofs.Shifted.{rotations_left}

@@ -9,17 +9,17 @@ use Rattle.sem_words.specs.JsOperators.{signed_value}
 use Rattle.sem_words.specs.Words.{add_of, signed_of, shl_of, shr_u_of, shr_s_of}
 use Rattle.sem_words.proofs.WordLaws.{word_of-signed_of_32, word_of-IsWord}
 use Rattle.asm_types.proofs.Sound.{to_uint32_lt}
-use Rattle.sem_laws.specs.Imports.{low_word, high_word}
+use Rattle.session_lang.specs.Imports.{low_word, high_word}
 use Rattle.asm_lang.specs.Modules.{Function, Module}
 use Rattle.asm_lang_valid.specs.Typing.{Scope}
 use Rattle.asm_lang_valid.specs.Typed.{scope_of}
 use Rattle.asm_lang_exec.specs.Runs.{Binding, binding, Place, Run, after}
 use Rattle.asm_lang_exec.specs.Values.{Calls}
 use Rattle.asm_lang_exec.specs.Meaning.{Completion, unless_left, exec_all, first_locals, call_at}
-use Rattle.wasm2js_words.specs.Names.{spelled}
-use Rattle.wasm2js_words.specs.Words.{Term, shift_left, shift_right, shift_right_signed, both}
-use Rattle.wasm2js_code.specs.Pairs.{literal, sign_of, funnel_left, funnel_right}
-use Rattle.wasm2js_code.specs.Helpers.{sets, gives, spare, when, argument, is_far, first, second, third, shift_left_function, shift_right_signed_function, shift_right_function}
+use Rattle.wasm2js_translation.specs.Names.{spelled}
+use Rattle.wasm2js_translation.specs.Words.{Term, shift_left, shift_right, shift_right_signed, both}
+use Rattle.wasm2js_translation.specs.Pairs.{literal, sign_of, funnel_left, funnel_right}
+use Rattle.wasm2js_translation.specs.Helpers.{sets, gives, spare, when, argument, is_far, first, second, third, shift_left_function, shift_right_signed_function, shift_right_function}
 use Rattle.wasm2js_laws_places.specs.Straight.{value}
 use Rattle.wasm2js_laws_places.specs.Places.{word_at}
 use Rattle.wasm2js_laws_numbers.specs.Laws as numbers

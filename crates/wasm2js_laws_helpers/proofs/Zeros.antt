@@ -12,11 +12,11 @@ use Rattle.asm_lang.specs.Modules.{Stmt, Function, Module}
 use Rattle.asm_lang_valid.specs.Typed.{scope_of}
 use Rattle.asm_lang_exec.specs.Runs.{Binding, binding, Place, after}
 use Rattle.asm_lang_exec.specs.Meaning.{unless_left, exec_all, first_locals, call_at}
-use Rattle.wasm2js_words.specs.Names.{spelled}
-use Rattle.wasm2js_words.specs.Words.{Term, zeros}
-use Rattle.wasm2js_code.specs.Pairs.{literal, plus, minus}
-use Rattle.wasm2js_code.specs.Actions.{low_ones}
-use Rattle.wasm2js_code.specs.Helpers.{gives, argument, first, second, leading_zeros_function, trailing_zeros_function}
+use Rattle.wasm2js_translation.specs.Names.{spelled}
+use Rattle.wasm2js_translation.specs.Words.{Term, zeros}
+use Rattle.wasm2js_translation.specs.Pairs.{literal, plus, minus}
+use Rattle.wasm2js_translation.specs.Actions.{low_ones}
+use Rattle.wasm2js_translation.specs.Helpers.{gives, argument, first, second, leading_zeros_function, trailing_zeros_function}
 use Rattle.wasm2js_laws_places.specs.Places.{word_at}
 use Rattle.wasm2js_laws_actions.proofs.Numbers.{is_true}
 use Rattle.wasm2js_laws_numbers.specs.Laws as numbers

@@ -4,12 +4,12 @@ use Rattle.std.specs.Prelude.{ℤ, slice_get, if◌then◌else◌, ◌&&◌, ◌
 use Rattle.std.specs.List.{AllByRecursion, list_all, flat_map}
 use Rattle.std.proofs.lemmas.Bool.{and_parts, and_from}
 use Rattle.std.proofs.lemmas.Bool.Decides.{nat_tests}
-use Rattle.sem_laws.specs.Script.{GlobalPlain, WritePlain, CallPlain, ReplyPlain, ScriptPlain}
-use Rattle.sem_laws.specs.Names.{export_name}
-use Rattle.sem_laws.specs.CallingForms.{split_args, init_call, hi_call, split_call_by, split_call}
-use Rattle.script_fits.specs.Fits.{is_given, writes_of, are_bytes}
-use Rattle.script_fits.specs.FitLaws.{IsUnfit, a_global, a_write, a_call, a_reply, Fits}
-use Rattle.script_fits.proofs.Misfits.{no_misfit_fits, what_fits_has_no_misfit}
+use Rattle.session_lang.specs.Script.{GlobalPlain, WritePlain, CallPlain, ReplyPlain, ScriptPlain}
+use Rattle.session_lang.specs.Names.{export_name}
+use Rattle.session_lang.specs.CallingForms.{split_args, init_call, hi_call, split_call_by, split_call}
+use Rattle.session_lang.specs.Fits.{is_given, writes_of, are_bytes}
+use Rattle.session_lang.specs.FitLaws.{IsUnfit, a_global, a_write, a_call, a_reply, Fits}
+use Rattle.session_lang.proofs.Misfits.{no_misfit_fits, what_fits_has_no_misfit}
 use Rattle.wasm_lang.specs.declared.types.ValType.{ValType}
 use Rattle.wasm_lang.specs.declared.types.ValType.TheVariants.{I32, I64}
 use Rattle.wasm_lang.specs.declared.types.Limits.{Limits}

@@ -6,12 +6,12 @@ use Rattle.std.proofs.lemmas.Bool.{and_parts}
 use Rattle.std.proofs.lemmas.Bool.Decides.{nat_tests}
 use Rattle.std.proofs.lemmas.List.{length-replicate, replicate-append-replicate}
 use Rattle.std.proofs.Math.Seq.{take-append_seam}
-use Rattle.sem_laws.specs.Script.{WritePlain, ScriptPlain}
+use Rattle.session_lang.specs.Script.{WritePlain, ScriptPlain}
 use Rattle.heap_lang.specs.Heap.{with_run}
 use Rattle.heap_lang.proofs.RunLemmas.{length-with_run, with_run-append}
-use Rattle.script_fits.specs.Fits.{are_bytes}
-use Rattle.script_fits.specs.FitLaws.{a_write, Fits}
-use Rattle.script_fits.proofs.Misfits.{no_misfit_fits}
+use Rattle.session_lang.specs.Fits.{are_bytes}
+use Rattle.session_lang.specs.FitLaws.{a_write, Fits}
+use Rattle.session_lang.proofs.Misfits.{no_misfit_fits}
 use Rattle.wasm_lang.specs.Modules.{WasmModule}
 use Rattle.wasm_lang_valid.specs.Runnable.{imported_pages, pages}
 use Rattle.wasm_lang_exec.specs.Store.{page, written}

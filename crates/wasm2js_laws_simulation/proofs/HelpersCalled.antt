@@ -5,12 +5,12 @@ use Rattle.sem_words.specs.declared.js_value.JsValue.TheVariants.{Whole}
 use Rattle.sem_words.specs.JsValues.{to_uint32_of}
 use Rattle.sem_words.specs.JsOperators.{signed_value}
 use Rattle.sem_words.specs.Words.{set_bits_of}
-use Rattle.sem_laws.specs.Imports.{low_word, high_word}
+use Rattle.session_lang.specs.Imports.{low_word, high_word}
 use Rattle.asm_lang.specs.Modules.{Function, Module}
 use Rattle.asm_lang_valid.specs.Typed.{scope_of}
 use Rattle.asm_lang_exec.specs.Runs.{Binding, Place, Run, goes, stops, spent, wrong, after, and_then, defined, paid, with_locals, back_to}
 use Rattle.asm_lang_exec.specs.Meaning.{Completion, normal, broken, continued, returned, exec_all, first_locals, function_end, call_at}
-use Rattle.wasm2js_code.specs.Helpers.{set_bits_function}
+use Rattle.wasm2js_translation.specs.Helpers.{set_bits_function}
 use Rattle.wasm2js_lang.specs.Helpers.{turned, counted, bits_set, Leaves, IsBack}
 use Rattle.wasm2js_laws_helpers.specs.Answers.{length_of}
 use Rattle.wasm2js_laws_helpers.proofs.Called.{HasHigh, Returns, placed}

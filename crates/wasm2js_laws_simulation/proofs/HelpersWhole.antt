@@ -20,9 +20,9 @@ use Rattle.asm_laws_sound.proofs.Members.{Typed, accepted_is_typed, Good, good_i
 use Rattle.asm_laws_sound.proofs.Evaluating.{Inv}
 use Rattle.asm_laws_sound.proofs.Executing.{calls_sound}
 use Rattle.wasm_lang.specs.Modules.{WasmModule}
-use Rattle.wasm2js_words.specs.Names as names
-use Rattle.wasm2js_code.specs.Helpers.{shift_left_function, shift_right_signed_function, shift_right_function, rotate_left_function, leading_zeros_function, trailing_zeros_function, set_bits_function}
-use Rattle.wasm2js_code.specs.Modules.{translated}
+use Rattle.wasm2js_translation.specs.Names as names
+use Rattle.wasm2js_translation.specs.Helpers.{shift_left_function, shift_right_signed_function, shift_right_function, rotate_left_function, leading_zeros_function, trailing_zeros_function, set_bits_function}
+use Rattle.wasm2js_translation.specs.Modules.{translated}
 use Rattle.wasm2js_lang.specs.Helpers.{Helper, helper_list, nothing_given, bound_names, ComesBack, IsHelper}
 use Rattle.wasm2js_laws_helpers.proofs.Turned.{three_locals, first_shift_left, shift_left_body, first_shift_right_signed, shift_right_signed_body, first_shift_right, shift_right_body}
 use Rattle.wasm2js_laws_helpers.proofs.Rotated.{four_locals, first_rotate, rotate_body}

@@ -3,7 +3,7 @@ use Rattle.std.proofs.Common.{◌≡◌, ℕ, ◌+◌, ◌<◌, ◌≤◌, true,
 use Rattle.std.specs.List.{AllByRecursion}
 use Rattle.std.proofs.lemmas.Bool.{and_from}
 use Rattle.std.proofs.lemmas.List.Elements.{All-from_recursion}
-use Rattle.sem_laws.specs.Script.{ScriptPlain}
+use Rattle.session_lang.specs.Script.{ScriptPlain}
 use Rattle.wasm_lang.specs.Modules.{DataSegment, WasmModule}
 use Rattle.wasm_lang_valid.specs.Profile.{or_zero, constant_offset, memory_bytes, IsInProfile}
 use Rattle.wasm_lang_exec.specs.Store.{Store}
@@ -12,7 +12,7 @@ use Rattle.wasm_lang_exec.specs.Fits.{misfit}
 use Rattle.wasm2js_lang.specs.Tables.{entries_of}
 use Rattle.wasm2js_lang.specs.Calling.{IsCalledAs}
 use Rattle.wasm2js_lang.specs.Laws.{EntriesAreTheTable}
-use Rattle.wasm2js_code.specs.Modules.{translated}
+use Rattle.wasm2js_translation.specs.Modules.{translated}
 use Rattle.wasm2js_laws_acceptance.specs.FunctionsFunctions.{IsSource}
 use Rattle.wasm2js_laws_places.specs.Places.{Setting, word_at, store_with, store_of}
 use Rattle.wasm2js_laws_simulation.specs.HostHosts.{setting_of}

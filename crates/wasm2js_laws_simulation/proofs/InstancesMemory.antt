@@ -10,10 +10,10 @@ use Rattle.std.proofs.Math.Seq.{take-append_seam, drop-append_seam}
 use Rattle.heap_lang.specs.Numbers.{IsBytes}
 use Rattle.heap_lang.specs.Heap.{with_run}
 use Rattle.heap_lang.proofs.RunLemmas.{length-with_run, with_run-append, IsBytes-with_run}
-use Rattle.sem_laws.specs.Script.{WritePlain, ReplyPlain, give, throw, ReplyLinePlain, ScriptPlain}
-use Rattle.script_fits.specs.Fits.{are_bytes}
-use Rattle.script_fits.specs.FitLaws.{a_reply, Fits}
-use Rattle.script_fits.proofs.Misfits.{no_misfit_fits}
+use Rattle.session_lang.specs.Script.{WritePlain, ReplyPlain, give, throw, ReplyLinePlain, ScriptPlain}
+use Rattle.session_lang.specs.Fits.{are_bytes}
+use Rattle.session_lang.specs.FitLaws.{a_reply, Fits}
+use Rattle.session_lang.proofs.Misfits.{no_misfit_fits}
 use Rattle.wasm_lang.specs.Modules.{DataSegment, WasmModule}
 use Rattle.wasm_lang_valid.specs.Runnable.{pages}
 use Rattle.wasm_lang_valid.specs.Profile.{or_zero, constant_offset, memory_bytes}
@@ -25,14 +25,14 @@ use Rattle.asm_lang_valid.specs.Refusal.{has_heap}
 use Rattle.asm_lang_exec.specs.Values.{with_writes}
 use Rattle.asm_lang_exec.specs.Session.{heap_length, first_heap}
 use Rattle.asm2wasm_lang.specs.Heaps.{is_heap_length}
-use Rattle.script_fits.specs.Fits.{writes_of}
-use Rattle.script_fits.specs.Written.{AreBytes, WritesBytes}
+use Rattle.session_lang.specs.Fits.{writes_of}
+use Rattle.session_lang.specs.Written.{AreBytes, WritesBytes}
 use Rattle.wasm_lang_exec.proofs.Written.{fitting_writes}
 use Rattle.wasm2js_lang.specs.Heaps.{heap_for, heap_bytes}
 use Rattle.wasm2js_lang.specs.Calling.{IsCalledAs}
 use Rattle.wasm2js_lang.specs.Allowed.{script_for}
 use Rattle.wasm2js_lang.proofs.Lengths.{holds, no_shorter}
-use Rattle.wasm2js_code.specs.Modules.{translated}
+use Rattle.wasm2js_translation.specs.Modules.{translated}
 use Rattle.wasm2js_laws_scripts.proofs.Fitting.{holds_or, all_from_places, memory_is_there}
 use Rattle.wasm2js_laws_scripts.proofs.Heaps.{heaps_begin}
 use Rattle.wasm2js_laws_acceptance.proofs.ProvidedWithin.{rows_are_within, few_bytes}

@@ -1,13 +1,13 @@
 -- Whole sessions.
 use Rattle.std.proofs.Common.{◌≡◌, ℕ, ◌+◌, ◌*◌, true, false, length, [], Some, None, refl, sym, ap, ◌∙◌, arith}
 use Rattle.std.specs.List.{AllByRecursion}
-use Rattle.sem_laws.specs.Script.{ScriptPlain}
-use Rattle.sem_laws.specs.Simulation.{Comparison, SourceIsBelow, Sim}
-use Rattle.sem_laws.specs.Laws.{IsFollowed}
-use Rattle.sem_laws.proofs.Forms.{calling_forms_keep_order}
-use Rattle.sem_laws.proofs.Runs.{followed_sessions_simulate}
-use Rattle.script_fits.specs.FitLaws.{a_call, Fits}
-use Rattle.script_fits.proofs.Misfits.{no_misfit_fits}
+use Rattle.session_lang.specs.Script.{ScriptPlain}
+use Rattle.session_lang.specs.Simulation.{Comparison, SourceIsBelow, Sim}
+use Rattle.session_lang.specs.Laws.{IsFollowed}
+use Rattle.session_lang.proofs.Forms.{calling_forms_keep_order}
+use Rattle.session_lang.proofs.Runs.{followed_sessions_simulate}
+use Rattle.session_lang.specs.FitLaws.{a_call, Fits}
+use Rattle.session_lang.proofs.Misfits.{no_misfit_fits}
 use Rattle.wasm_lang.specs.Modules.{WasmModule}
 use Rattle.wasm_lang_exec.specs.Fits as machine
 use Rattle.wasm_laws_drive.proofs.Sessions.{sessions_are_monotone}
@@ -21,12 +21,12 @@ use Rattle.asm_laws_sound.proofs.Sessions.{accepted_never_go_wrong}
 use Rattle.asm2wasm_lang.specs.Allowed.{or_nothing}
 use Rattle.wasm2js_lang.specs.Heaps.{heap_bytes}
 use Rattle.wasm2js_lang.specs.Allowed.{script_for, source_session, target_session, comparison, Shows, segment_bytes}
-use Rattle.wasm2js_code.specs.Modules.{translated}
+use Rattle.wasm2js_translation.specs.Modules.{translated}
 use Rattle.wasm2js_laws_scripts.proofs.Fitting.{holds_or, all_from_places, scripts_fit}
 use Rattle.wasm2js_laws_scripts.proofs.Names.{shaped_exports_are_bytes}
 use Rattle.wasm2js_laws_acceptance.proofs.AcceptedWhole.{translations_are_accepted, translations_are_well_formed}
-use Rattle.wasm2js_laws_pace.specs.Following.{Follows}
-use Rattle.wasm2js_laws_pace.proofs.Paced.{followed_from_the_start}
+use Rattle.wasm2js_laws_places.specs.Following.{Follows}
+use Rattle.wasm2js_laws_places.proofs.Paced.{followed_from_the_start}
 use Rattle.wasm2js_laws_simulation.proofs.HostCalls.{host_calls_follow}
 use Rattle.wasm2js_laws_simulation.specs.StartLaws.{begins_at}
 use Rattle.wasm2js_laws_simulation.proofs.StartInit.{init_follows}

@@ -7,9 +7,9 @@ use Rattle.sem_words.specs.declared.js_value.JsValue.TheVariants.{Whole, Undef}
 use Rattle.sem_words.specs.declared.js_value.JsOp.TheVariants.{Or}
 use Rattle.sem_words.specs.declared.word.Word.TheVariants.{W32}
 use Rattle.sem_words.specs.JsOperators.{js_binary_of}
-use Rattle.sem_laws.specs.Script.{ScriptPlain}
-use Rattle.sem_laws.specs.Observation.{call_gave, call_returned}
-use Rattle.sem_laws.specs.CallingForms.{init_call, hi_call}
+use Rattle.session_lang.specs.Script.{ScriptPlain}
+use Rattle.session_lang.specs.Observation.{call_gave, call_returned}
+use Rattle.session_lang.specs.CallingForms.{init_call, hi_call}
 use Rattle.wasm_lang.specs.Modules.{WasmModule}
 use Rattle.wasm_lang_valid.specs.ModuleRules.{has_memory}
 use Rattle.wasm_lang_valid.specs.Profile.{memory_bytes}
@@ -26,15 +26,15 @@ use Rattle.asm_lang_exec.specs.Meaning.{Completion, returned, function_end, call
 use Rattle.asm_lang_exec.specs.Session.{first_globals, first_place, result_event, host_calls, observed}
 use Rattle.asm_laws_continuation.specs.Following.{exec_all_to, unless_left_to, call_at_to, host_calls_to}
 use Rattle.asm_laws_continuation.proofs.Following.{sessions_follow}
-use Rattle.wasm2js_words.specs.Names.{fixed, result_high, spelled}
-use Rattle.wasm2js_words.specs.Words.{stmts_in}
+use Rattle.wasm2js_translation.specs.Names.{fixed, result_high, spelled}
+use Rattle.wasm2js_translation.specs.Words.{stmts_in}
 use Rattle.wasm2js_lang.specs.Heaps.{heap_bytes}
 use Rattle.wasm2js_lang.specs.Calling.{IsCalledAs}
 use Rattle.wasm2js_lang.specs.Allowed.{asking_high, GivesNoHighWord}
-use Rattle.wasm2js_code.specs.Modules.{segment_stmts, start_stmts, init_function, high_function, view_variables, fixed_variables, foreign_variables, global_variables, variables_of, translated}
+use Rattle.wasm2js_translation.specs.Modules.{segment_stmts, start_stmts, init_function, high_function, view_variables, fixed_variables, foreign_variables, global_variables, variables_of, translated}
 use Rattle.wasm2js_laws_scripts.proofs.Calls.{IsExported, exported_as_asked}
 use Rattle.wasm2js_laws_acceptance.specs.FunctionsFunctions.{IsSource}
-use Rattle.wasm2js_laws_kept.proofs.ControlStepping.{appended}
+use Rattle.wasm2js_laws_preservation.proofs.ControlStepping.{appended}
 use Rattle.wasm2js_laws_simulation.specs.SegmentsLaws.{with_segments}
 use Rattle.wasm2js_laws_simulation.proofs.HostExports.{init_exported, high_exported}
 use Rattle.wasm2js_laws_simulation.proofs.SegmentsStored.{segments_are_stored}

@@ -1,13 +1,13 @@
 -- What holds of the whole sessions of a module of WebAssembly and of its translation, where calls follow.
 use Rattle.std.specs.Prelude.{◌≡◌, ℕ, ◌+◌, ◌*◌, ◌≤◌, false, length, None}
-use Rattle.sem_laws.specs.Script.{ScriptPlain}
-use Rattle.sem_laws.specs.Simulation.{SourceIsBelow, Sim}
-use Rattle.sem_laws.specs.Laws.{IsFollowed}
+use Rattle.session_lang.specs.Script.{ScriptPlain}
+use Rattle.session_lang.specs.Simulation.{SourceIsBelow, Sim}
+use Rattle.session_lang.specs.Laws.{IsFollowed}
 use Rattle.wasm_lang.specs.Modules.{WasmModule}
 use Rattle.wasm_lang_exec.specs.Fits.{misfit}
 use Rattle.wasm2js_lang.specs.Calling.{IsCalledAs}
 use Rattle.wasm2js_lang.specs.Allowed.{source_session, target_session, comparison, segment_bytes, enough_for, has_block_operations, IsAllowed, IsBounded}
-use Rattle.wasm2js_code.specs.Modules.{translated}
+use Rattle.wasm2js_translation.specs.Modules.{translated}
 use Rattle.wasm2js_laws_acceptance.specs.FunctionsFunctions.{IsSource}
 use Rattle.wasm2js_laws_acceptance.specs.AcceptedLaws.{HaveFirstWords}
 use Rattle.wasm2js_laws_simulation.specs.HostHosts.{HostedCallsFollow}

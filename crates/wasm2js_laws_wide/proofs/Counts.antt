@@ -13,12 +13,12 @@ use Rattle.asm_lang_valid.specs.Typing.{named}
 use Rattle.asm_lang_valid.specs.Typed.{scope_of}
 use Rattle.asm_lang_exec.specs.Runs.{Place}
 use Rattle.asm_lang_exec.specs.Meaning.{call_at}
-use Rattle.wasm2js_words.specs.Names as names
-use Rattle.wasm2js_words.specs.Names.{Name, Fixed}
-use Rattle.wasm2js_words.specs.Words.{read, Simple, put, ask, name_of, simple_statements}
-use Rattle.wasm2js_code.specs.Pairs.{Pair, plus, literal}
-use Rattle.wasm2js_code.specs.Wide.{wide_count, wide_unary}
-use Rattle.wasm2js_code.specs.Helpers.{wide_helpers, leading_zeros_function, trailing_zeros_function, set_bits_function}
+use Rattle.wasm2js_translation.specs.Names as names
+use Rattle.wasm2js_translation.specs.Names.{Name, Fixed}
+use Rattle.wasm2js_translation.specs.Words.{read, Simple, put, ask, name_of, simple_statements}
+use Rattle.wasm2js_translation.specs.Pairs.{Pair, plus, literal}
+use Rattle.wasm2js_translation.specs.Wide.{wide_count, wide_unary}
+use Rattle.wasm2js_translation.specs.Helpers.{wide_helpers, leading_zeros_function, trailing_zeros_function, set_bits_function}
 use Rattle.wasm2js_lang.specs.SplitWords.{AreHeld, wide_at, ComputesUnary}
 use Rattle.wasm2js_laws_numbers.specs.Laws.{joined}
 use Rattle.wasm2js_laws_numbers.proofs.Counted.{set_bits}

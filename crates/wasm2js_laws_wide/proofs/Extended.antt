@@ -4,11 +4,11 @@ use Rattle.std.specs.Prelude.{◌^◌, ◌==◌}
 use Rattle.std.proofs.lemmas.Bool.Decides.{Decides-eqb}
 use Rattle.sem_words.specs.Words.{shr_s_of, extend_of}
 use Rattle.asm_lang_exec.specs.Runs.{Place}
-use Rattle.wasm2js_words.specs.Names.{Name}
-use Rattle.wasm2js_words.specs.Words.{simple_statements}
-use Rattle.wasm2js_code.specs.Pairs.{Pair}
-use Rattle.wasm2js_code.specs.Wide.{wide_extend}
-use Rattle.wasm2js_code.specs.Helpers.{wide_helpers}
+use Rattle.wasm2js_translation.specs.Names.{Name}
+use Rattle.wasm2js_translation.specs.Words.{simple_statements}
+use Rattle.wasm2js_translation.specs.Pairs.{Pair}
+use Rattle.wasm2js_translation.specs.Wide.{wide_extend}
+use Rattle.wasm2js_translation.specs.Helpers.{wide_helpers}
 use Rattle.wasm2js_lang.specs.SplitWords.{wide_at, ComputesExtension}
 use Rattle.wasm2js_laws_numbers.specs.Laws as numbers
 use Rattle.wasm2js_laws_numbers.specs.Laws.{joined, with_sign}

@@ -15,8 +15,8 @@ use Rattle.asm_laws_sound.proofs.Both.{EndsIn, Sound, sound_then, sound_gives}
 use Rattle.asm_laws_sound.proofs.Members.{Typed, accepted_is_typed}
 use Rattle.asm_laws_sound.proofs.Evaluating.{Inv, SoundCalls, effect_sound_by, eval_sound, call_sound}
 use Rattle.asm_laws_sound.proofs.Executing.{calls_sound}
-use Rattle.wasm2js_words.specs.Names.{Name}
-use Rattle.wasm2js_words.specs.Words.{Simple, put, ask, tell, guard, stop, write_byte, write_whole, simple_statement, simple_statements, stmts_in}
+use Rattle.wasm2js_translation.specs.Names.{Name}
+use Rattle.wasm2js_translation.specs.Words.{Simple, put, ask, tell, guard, stop, write_byte, write_whole, simple_statement, simple_statements, stmts_in}
 use Rattle.wasm2js_lang.specs.SplitWords.{sequence, spare, Declared, declared, own_variables, own_names, starts_as_int, variables_among, StandIn, Hold, IsWithin, IsSameBut, doing, Ends, Computes}
 use Rattle.wasm2js_laws_places.specs.Straight.{Words}
 use Rattle.wasm2js_laws_wide.proofs.Looked.{words_at, Moves, either_false}

@@ -12,7 +12,7 @@ use Rattle.sem_words.specs.JsValues.{to_uint32_of}
 use Rattle.sem_words.specs.JsOperators.{js_binary_of, signed_value}
 use Rattle.sem_words.specs.Words.{shl_of, shr_s_of, shr_u_of, rotl_of, leading_zeros_of, trailing_zeros_of, set_bits_of}
 use Rattle.sem_words.proofs.WordLaws.{word_of-signed_of_32}
-use Rattle.sem_laws.specs.Imports.{low_word, high_word}
+use Rattle.session_lang.specs.Imports.{low_word, high_word}
 use Rattle.asm_lang.specs.Modules.{Expr, lit}
 use Rattle.asm_lang_valid.specs.Scope.{is_in}
 use Rattle.asm_lang_valid.specs.Typing.{Scope, named}
@@ -20,9 +20,9 @@ use Rattle.asm_lang_exec.specs.Runs as runs
 use Rattle.asm_lang_exec.specs.Runs.{Place, Run, spent, wrong, Part, after, and_then, defined, value_in, write}
 use Rattle.asm_lang_exec.specs.Values.{Calls, call_named}
 use Rattle.asm_lang_exec.specs.Meaning.{eval, eval_all, eval_links, link_operator, Completion, normal, unless_left, exec, exec_all}
-use Rattle.wasm2js_words.specs.Names as names
-use Rattle.wasm2js_words.specs.Names.{Name, Fixed, spelled}
-use Rattle.wasm2js_words.specs.Words.{Term, read, number, both, flip, sum, product, zeros, compare, choose, byte, whole, Summands, no_more, further, Simple, put, ask, tell, guard, stop, write_byte, write_whole, bit_operator, name_of, expr, summands, int_of, arguments, simple_statement, simple_statements, stmts_in}
+use Rattle.wasm2js_translation.specs.Names as names
+use Rattle.wasm2js_translation.specs.Names.{Name, Fixed, spelled}
+use Rattle.wasm2js_translation.specs.Words.{Term, read, number, both, flip, sum, product, zeros, compare, choose, byte, whole, Summands, no_more, further, Simple, put, ask, tell, guard, stop, write_byte, write_whole, bit_operator, name_of, expr, summands, int_of, arguments, simple_statement, simple_statements, stmts_in}
 use Rattle.wasm2js_lang.specs.SplitWords.{spare, value_at, word_of_value, word_at}
 use Rattle.wasm2js_laws_numbers.specs.Laws.{joined}
 use Rattle.wasm2js_laws_places.specs.Straight.{Words, same_name, with_word, with_high, bits_of, value, summed, values, added}

@@ -5,11 +5,11 @@ use Rattle.sem_words.specs.declared.word.Bin.{Bin}
 use Rattle.sem_words.specs.declared.word.Bin.TheVariants.{Add, Sub, And, Or, Xor}
 use Rattle.sem_words.specs.Words.{add_of, sub_of, bin_of}
 use Rattle.asm_lang_exec.specs.Runs.{Place}
-use Rattle.wasm2js_words.specs.Names.{Name}
-use Rattle.wasm2js_words.specs.Words.{BitOp, conjunction, disjunction, exclusion, simple_statements}
-use Rattle.wasm2js_code.specs.Pairs.{Pair}
-use Rattle.wasm2js_code.specs.Wide.{wide_sum, wide_difference, wide_bits}
-use Rattle.wasm2js_code.specs.Helpers.{wide_helpers}
+use Rattle.wasm2js_translation.specs.Names.{Name}
+use Rattle.wasm2js_translation.specs.Words.{BitOp, conjunction, disjunction, exclusion, simple_statements}
+use Rattle.wasm2js_translation.specs.Pairs.{Pair}
+use Rattle.wasm2js_translation.specs.Wide.{wide_sum, wide_difference, wide_bits}
+use Rattle.wasm2js_translation.specs.Helpers.{wide_helpers}
 use Rattle.wasm2js_lang.specs.SplitWords.{wide_at, ComputesBinary}
 use Rattle.wasm2js_laws_numbers.specs.Laws as numbers
 use Rattle.wasm2js_laws_numbers.specs.Laws.{joined, BitsAreApart}

@@ -5,16 +5,16 @@ use Rattle.std.specs.Int.{int_shr}
 use Rattle.sem_words.specs.declared.word.Bin.{Bin}
 use Rattle.sem_words.specs.declared.word.Bin.TheVariants.{Shl, ShrS, ShrU, Rotl, Rotr}
 use Rattle.sem_words.specs.Words.{sub_of, shl_of, shr_s_of, shr_u_of, rotl_of, bin_of, word_of, signed_of}
-use Rattle.sem_laws.specs.Imports.{low_word, high_word}
+use Rattle.session_lang.specs.Imports.{low_word, high_word}
 use Rattle.asm_lang.specs.Modules.{Function, Module}
 use Rattle.asm_lang_valid.specs.Scope.{a_function, module_meaning}
 use Rattle.asm_lang_exec.specs.Runs.{Place}
-use Rattle.wasm2js_words.specs.Names as names
-use Rattle.wasm2js_words.specs.Names.{Name, Fixed, fixed, spare_high}
-use Rattle.wasm2js_words.specs.Words.{Term, read, put, name_of, simple_statements}
-use Rattle.wasm2js_code.specs.Pairs.{Pair, minus, literal}
-use Rattle.wasm2js_code.specs.Wide.{wide_turn}
-use Rattle.wasm2js_code.specs.Helpers.{wide_helpers, shift_left_function, shift_right_signed_function, shift_right_function, rotate_left_function}
+use Rattle.wasm2js_translation.specs.Names as names
+use Rattle.wasm2js_translation.specs.Names.{Name, Fixed, fixed, spare_high}
+use Rattle.wasm2js_translation.specs.Words.{Term, read, put, name_of, simple_statements}
+use Rattle.wasm2js_translation.specs.Pairs.{Pair, minus, literal}
+use Rattle.wasm2js_translation.specs.Wide.{wide_turn}
+use Rattle.wasm2js_translation.specs.Helpers.{wide_helpers, shift_left_function, shift_right_signed_function, shift_right_function, rotate_left_function}
 use Rattle.wasm2js_lang.specs.SplitWords.{AreHeld, wide_at, ComputesBinary}
 use Rattle.wasm2js_laws_numbers.specs.Laws.{joined}
 use Rattle.wasm2js_laws_numbers.proofs.Shifted.{rotations_right}

@@ -4,11 +4,11 @@ use Rattle.sem_words.specs.declared.word.Bin.{Bin}
 use Rattle.sem_words.specs.declared.word.Un.{Un}
 use Rattle.sem_words.specs.declared.word.Rel.{Rel}
 use Rattle.wasm_lang_valid.specs.Measures.{is_mul_div}
-use Rattle.wasm2js_words.specs.Names.{Name, spelled}
-use Rattle.wasm2js_words.specs.Words.{put, simple_statements}
-use Rattle.wasm2js_code.specs.Pairs.{Pair}
-use Rattle.wasm2js_code.specs.Wide.{wide_binary, wide_unary, wide_extend, wide_compare, is_wide_zero}
-use Rattle.wasm2js_code.specs.Helpers.{wide_helpers}
+use Rattle.wasm2js_translation.specs.Names.{Name, spelled}
+use Rattle.wasm2js_translation.specs.Words.{put, simple_statements}
+use Rattle.wasm2js_translation.specs.Pairs.{Pair}
+use Rattle.wasm2js_translation.specs.Wide.{wide_binary, wide_unary, wide_extend, wide_compare, is_wide_zero}
+use Rattle.wasm2js_translation.specs.Helpers.{wide_helpers}
 use Rattle.wasm2js_lang.specs.SplitWords.{Halves, ComputesBinary, ComputesUnary, ComputesExtension, ComputesRelation, ComputesZero}
 
 abbrev pub halves : Pair → Halves

@@ -6,7 +6,7 @@ use Rattle.wasm_lang.specs.declared.types.ExportKind.TheVariants as exports
 use Rattle.wasm_lang.specs.declared.types.ImportKind.TheVariants as imports
 use Rattle.wasm_lang.specs.Instructions.{end_mark}
 use Rattle.wasm_lang.specs.Modules.{WasmModule}
-use Rattle.sem_laws.specs.Script.{GlobalPlain, WritePlain, CallPlain, give, throw, ReplyLinePlain, ScriptPlain}
+use Rattle.session_lang.specs.Script.{GlobalPlain, WritePlain, CallPlain, give, throw, ReplyLinePlain, ScriptPlain}
 use Rattle.wasm_lang_exec.specs.Fits.{misfit}
 
 -- it imports from env the globals low, of 32 bits, and wide, of 64, and a memory of one page; f takes a word of each width

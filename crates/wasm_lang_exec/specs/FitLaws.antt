@@ -1,8 +1,8 @@
 -- What a misfit is, of each part of a script by itself.
 use Rattle.std.specs.Prelude.{◌≡◌, ◌⊎◌, ℕ, Some, None}
-use Rattle.sem_laws.specs.Script.{ScriptPlain}
-use Rattle.script_fits.specs.FitLaws as parts
-use Rattle.script_fits.specs.Written.{WritesBytes}
+use Rattle.session_lang.specs.Script.{ScriptPlain}
+use Rattle.session_lang.specs.FitLaws as parts
+use Rattle.session_lang.specs.Written.{WritesBytes}
 use Rattle.wasm_lang.specs.Modules.{WasmModule}
 use Rattle.wasm_lang_exec.specs.Fits.{tests, misfit}
 

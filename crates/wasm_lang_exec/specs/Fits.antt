@@ -1,10 +1,10 @@
 -- Which scripts fit a module of WebAssembly, and the line of the first part of a script that doesn't.
 use Rattle.std.specs.Prelude.{ℕ, ◌+◌, ◌-◌, ◌*◌, ◌^◌, Bool, true, false, not, ◌&&◌, List, [], ◌∷◌, length, map, Option, Some, None, ℤ, pos, negsuc, int_le, int_lt, nat_le, bytes_eq, if◌then◌else◌}
 use Rattle.std.specs.List.{list_all, list_any}
-use Rattle.sem_laws.specs.Script.{GlobalPlain, WritePlain, CallPlain, ReplyPlain, ScriptPlain}
-use Rattle.sem_laws.specs.Names.{import_name}
-use Rattle.script_fits.specs.Fits as parts
-use Rattle.script_fits.specs.Fits.{Tests, is_given, writes_of, are_bytes}
+use Rattle.session_lang.specs.Script.{GlobalPlain, WritePlain, CallPlain, ReplyPlain, ScriptPlain}
+use Rattle.session_lang.specs.Names.{import_name}
+use Rattle.session_lang.specs.Fits as parts
+use Rattle.session_lang.specs.Fits.{Tests, is_given, writes_of, are_bytes}
 use Rattle.wasm_lang.specs.declared.types.ValType.{ValType}
 use Rattle.wasm_lang.specs.declared.types.ValType.TheVariants.{I32, I64}
 use Rattle.wasm_lang.specs.declared.types.ImportKind.{ImportKind}

@@ -3,8 +3,8 @@
 use Rattle.std.specs.Prelude.{ℕ, zero, suc, Bool, true, false, ◌&&◌, List, [], ◌∷◌, Option, Some, None, ℤ, reverse}
 use Rattle.sem_words.specs.declared.word.Word.{Word}
 use Rattle.sem_words.specs.declared.word.TrapKind.TheVariants as kinds
-use Rattle.sem_laws.specs.Script.{CallPlain, ScriptPlain}
-use Rattle.sem_laws.specs.Observation.{EndPlain, done, trapped, ObservationPlain}
+use Rattle.session_lang.specs.Script.{CallPlain, ScriptPlain}
+use Rattle.session_lang.specs.Observation.{EndPlain, done, trapped, ObservationPlain}
 use Rattle.wasm_lang.specs.Modules.{WasmModule}
 use Rattle.wasm_lang_exec.specs.Code.{call, ε, ◌▹◌}
 use Rattle.wasm_lang_exec.specs.Store.{Store}

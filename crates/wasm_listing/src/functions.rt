@@ -8,7 +8,7 @@ ghost use Rattle.bridge_lang.specs.Listing as spec;
 use crate::counts::counts_line;
 use crate::types::push_numbered;
 use itoa::Buffer;
-use sem_laws::import_name;
+use session_lang::import_name;
 use std::alloc::{AllocError, Global};
 use wasm_tree::{Body, Code, FuncType, Import, ImportKind, Module};
 

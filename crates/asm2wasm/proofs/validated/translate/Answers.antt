@@ -4,7 +4,7 @@ use Rattle.wasm_lang.specs.Shape.{IsWritable}
 use Rattle.wasm_lang_valid.specs.Profile.{IsInProfile}
 use Rattle.asm_tree.specs.Views.{module_view}
 use Rattle.asm2wasm_lang.specs.Allowed.{IsAllowed, IsBounded}
-use Rattle.asm2wasm_code.specs.Modules.{translation}
+use Rattle.asm2wasm_translation.specs.Modules.{translation}
 use Rattle.asm2wasm_lang.specs.Small.{IsSmall}
 use Rattle.asm2wasm_lang.specs.Short.{IsOfShortText}
 use Rattle.asm2wasm_lang.specs.Parts.{NeverTraps, HasFunctions, HasTables, StandsFor}

@@ -1,4 +1,4 @@
-use Rattle.script_fits.proofs.Misfits.{no_misfit_fits, what_fits_has_no_misfit, misfit_is_first}
+use Rattle.session_lang.proofs.Misfits.{no_misfit_fits, what_fits_has_no_misfit, misfit_is_first}
 use Rattle.asm_lang_exec.specs.Fits.{tests}
 use Rattle.asm_lang_exec.proofs.Written.{fitting_writes}
 use Rattle.asm_lang_exec.proofs.laws.fitting_laws.Goals as goal

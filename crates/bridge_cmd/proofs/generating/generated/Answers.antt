@@ -4,7 +4,7 @@ use Rattle.asm_lang.specs.Modules.{Module}
 use Rattle.asm_lang.specs.Printing.{canonical_text}
 use Rattle.asm_lang_valid.specs.Texts.{IsAcceptedText}
 use Rattle.wasm_binary_write.specs.Spelling.{spelling}
-use Rattle.wasm2js_code.specs.Modules.{translated as asm_js_for}
+use Rattle.wasm2js_translation.specs.Modules.{translated as asm_js_for}
 use Rattle.asm_tree.specs.Views.{module_view}
 use Rattle.gen_lang.specs.Recipe.{recipe, summary}
 use Rattle.gen_laws.specs.Modules.{recipe_module}

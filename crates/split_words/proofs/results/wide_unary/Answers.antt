@@ -1,6 +1,6 @@
-use Rattle.wasm2js_words.specs.Words.{simple_statements}
-use Rattle.wasm2js_code.specs.Wide.{wide_unary}
-use Rattle.wasm2js_code.specs.Helpers.{wide_helpers}
+use Rattle.wasm2js_translation.specs.Words.{simple_statements}
+use Rattle.wasm2js_translation.specs.Wide.{wide_unary}
+use Rattle.wasm2js_translation.specs.Helpers.{wide_helpers}
 use Rattle.wasm2js_build.specs.Blocks.{statements_of}
 use Rattle.wasm2js_lang.specs.SplitWords.{ComputesUnary}
 use Rattle.wasm2js_laws_wide.proofs.Each.{unaries_compute}

@@ -1,12 +1,12 @@
-use Rattle.wasm2js_words.specs.Words.{simple_statements}
-use Rattle.wasm2js_code.specs.Wide.{wide_compare}
-use Rattle.wasm2js_code.specs.Helpers.{wide_helpers}
+use Rattle.wasm2js_translation.specs.Words.{simple_statements}
+use Rattle.wasm2js_translation.specs.Wide.{wide_compare}
+use Rattle.wasm2js_translation.specs.Helpers.{wide_helpers}
 use Rattle.wasm2js_build.specs.Blocks.{statements_of}
 use Rattle.wasm2js_lang.specs.SplitWords.{ComputesRelation}
 use Rattle.wasm2js_laws_wide.proofs.Compared.{relations_compute}
 use Rattle.split_words.specs.Views.{pair_view, halves_of}
 use Rattle.wasm2js_nodes.specs.Names.{name_view}
-use Rattle.wasm2js_words.specs.Names.{spelled}
+use Rattle.wasm2js_translation.specs.Names.{spelled}
 use Rattle.split_words.proofs.Gained.{gained}
 use Rattle.split_words.proofs.truths.wide_compare.Goals as goal
 

@@ -1,13 +1,13 @@
 use Rattle.std.proofs.Common.{[], ◌∷◌}
-use Rattle.wasm2js_words.specs.Words.{put, simple_statements}
-use Rattle.wasm2js_code.specs.Wide.{is_wide_zero}
-use Rattle.wasm2js_code.specs.Helpers.{wide_helpers}
+use Rattle.wasm2js_translation.specs.Words.{put, simple_statements}
+use Rattle.wasm2js_translation.specs.Wide.{is_wide_zero}
+use Rattle.wasm2js_translation.specs.Helpers.{wide_helpers}
 use Rattle.wasm2js_build.specs.Blocks.{statements_of}
 use Rattle.wasm2js_lang.specs.SplitWords.{ComputesZero}
 use Rattle.wasm2js_laws_wide.proofs.Compared.{zero_tests_compute}
 use Rattle.split_words.specs.Views.{pair_view, halves_of}
 use Rattle.wasm2js_nodes.specs.Names.{name_view}
-use Rattle.wasm2js_words.specs.Names.{spelled}
+use Rattle.wasm2js_translation.specs.Names.{spelled}
 use Rattle.split_words.proofs.Gained.{gained}
 use Rattle.split_words.proofs.truths.wide_zero.Goals as goal
 

@@ -1,5 +1,5 @@
 use Rattle.std.proofs.Common.{◌≡◌, None}
-use Rattle.sem_laws.specs.Script.{ScriptPlain}
+use Rattle.session_lang.specs.Script.{ScriptPlain}
 use Rattle.asm_tree.specs.Views.{module_view}
 use Rattle.asm_lang.specs.Heights.{IsWellFormed}
 use Rattle.asm_lang_valid.specs.Refusal.{IsAccepted}
@@ -9,10 +9,10 @@ use Rattle.wasm2js_lang.specs.Heaps.{heap_bytes}
 use Rattle.wasm2js_lang.specs.Calling.{IsCalledAs}
 use Rattle.wasm2js_lang.specs.Allowed.{IsAllowed, IsBounded, TrapsAreCalls, script_for}
 use Rattle.wasm2js_lang.specs.Helpers.{HasHelpers}
-use Rattle.wasm2js_lang_parts.specs.Functions.{HasFunctions}
-use Rattle.wasm2js_lang_parts.specs.Imports.{HasImports}
-use Rattle.wasm2js_lang_parts.specs.Tables.{HasTables}
-use Rattle.wasm2js_code.specs.Modules.{translated}
+use Rattle.wasm2js_lang.specs.Parts.Functions.{HasFunctions}
+use Rattle.wasm2js_lang.specs.Parts.Imports.{HasImports}
+use Rattle.wasm2js_lang.specs.Parts.Tables.{HasTables}
+use Rattle.wasm2js_translation.specs.Modules.{translated}
 use Rattle.wasm2js.proofs.Told.{told}
 use Rattle.wasm2js.proofs.translating.translate_module.Goals as goal
 

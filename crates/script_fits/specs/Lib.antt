@@ -1,4 +1,0 @@
-pub mod Fits
-pub mod FitLaws
-pub mod Earlier
-pub mod Written
