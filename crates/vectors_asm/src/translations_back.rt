@@ -135,8 +135,8 @@ static ROWS: [Row; 26] = [
         name: "signs of 32 bits",
         module: EXTENDING_WIDE,
         options: &[],
-        script: b"call $init\ncall e 4294967295 0\ncall $hi\ncall e 0 1\ncall $hi",
-        printed: b"returned\nresult -1\nresult -1\nresult 0\nresult 0\nend done\n",
+        script: b"call $init\ncall e 4294967295 0\ncall $hi\ncall e 0 1\ncall $hi\ncall e 2147483648 0\ncall $hi",
+        printed: b"returned\nresult -1\nresult -1\nresult 0\nresult 0\nresult -2147483648\nresult -1\nend done\n",
     },
     Row {
         name: "a copy to the next byte",
@@ -238,5 +238,35 @@ fn modules_beyond_the_profile_are_refused(rt: HostRuntime) -> Result<(), Fail> {
     for row in &REFUSED {
         ends(&rt, rt.alloc(), &["wasm2js", "m"], row.0, b"", 3, row.1)?;
     }
+    Ok(())
+}
+
+/// Whether a line of the text begins with the front, and has the word in it.
+fn has_line(text: &[u8], front: &[u8], word: &[u8]) -> bool {
+    let mut is_start = true;
+    let mut is_inside = false;
+    for at in 0..text.len() {
+        let rest = &text[at..];
+        if is_start {
+            is_inside = rest.starts_with(front);
+        }
+        if is_inside && rest.starts_with(word) {
+            return true;
+        }
+        is_start = text[at] == b'\n';
+    }
+    false
+}
+
+/// A function of the module calls a helper, which stands in the text beside it.
+#[test]
+fn a_rotation_is_a_call_of_a_helper(rt: HostRuntime) -> Result<(), Fail> {
+    let Some(text) = done(rt.alloc(), &["wasm2js", "m"], ROTATING) else {
+        return Err(Fail::new("no text"));
+    };
+    let text = text.output();
+    assert!(rt;
+        has_line(text, b"function f", b"$rotl(") && has_line(text, b"function $rotl(", b"return")
+    );
     Ok(())
 }
