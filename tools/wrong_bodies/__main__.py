@@ -29,7 +29,7 @@ ROOT = HERE.parents[1]
 OURS = ("what", "crate", "refused", "test", "edit")
 EDITS = ("file", "old", "new")
 FUNCTION = re.compile(r"^\s*(?:pub(?:\(\w+\))? )?(?:const )?(?:unsafe )?fn (\w+)", re.M)
-NOTE = re.compile(r"refused, as it must be: note: (\S+?):(\d+):\d+: it is not proved that what the function ensures holds when it returns \(`(returns[^`]*)`")
+NOTE = re.compile(r"refused, as it must be: note: (\S+?):(\d+):\d+: it is not proved that what the function ensures holds when it returns \(`(returns[^`]*)")
 
 
 class Unusable(Exception):
@@ -108,9 +108,9 @@ def clause_of(body, said):
         return None
     path, line, goal = note.groups()
     before = "\n".join((ROOT / "crates" / body.crate / path).read_text().split("\n")[: int(line)])
-    functions = FUNCTION.findall(before)
+    function = FUNCTION.findall(before)[-1:]
     clause = re.search(r"-clause-(\w+?)(?:-\d+)?$", goal)
-    return (functions[-1], clause[1]) if clause else (functions[-1],)
+    return (*function, clause[1]) if clause else (*function,)
 
 
 def verdict(body, said):
@@ -168,7 +168,7 @@ def try_by_test(body):
         for path, text in body.changed().items():
             (folder / path.relative_to(ROOT)).write_text(text)
         status, said = run_tests(folder, crate)
-    if status == 0 or not re.search(rf"\b{function}\b", said):
+    if status == 0 or not re.search(rf"^test {test} .*FAILED$", said, re.M):
         return False, f"the test {test} doesn't refuse it: {said.strip()[-600:]}"
     return True, f"refused by the test {test} of {crate}"
 
