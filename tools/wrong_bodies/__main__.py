@@ -135,14 +135,13 @@ def try_by_proof(folder, crate, bodies):
 
 
 def only_modules(source, wanted):
-    """Leaves of the tests' modules those that the wanted one uses, and says which these are."""
+    """Leaves of the tests' modules the wanted one and those that it uses."""
     kept, new = set(), {wanted}
     while new:
         kept |= new
         new = {used for it in new for used in re.findall(r"\bcrate::(\w+)", (source / f"{it}.rt").read_text())} - kept
     root = source / "lib.rt"
     root.write_text(re.sub(r"#\[cfg\(test\)\]\nmod (\w+);\n", lambda it: it[0] if it[1] in kept else "", root.read_text()))
-    return kept
 
 
 def run_tests(folder, crate):
