@@ -39,6 +39,8 @@ OTHERS = {
     "bridge_io": "the traits Files and Sink",
     "asm_tree": "what a tree of the code says",
     "wasm_tree": "what a tree of the code says",
+    "heap_views": "what a heap of the code holds",
+    "session_replies": "what is seen of a session, as the code holds it",
 }
 IS_LANG = re.compile(r"\w+_lang(?:_\w+)?")
 

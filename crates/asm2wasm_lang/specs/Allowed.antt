@@ -42,7 +42,7 @@ pub record IsAllowed (m : Module) (size : ℕ) (w : WasmModule) : Type 0 where
   pub valid : IsValidModule w
   pub called : IsCalledAs m size w
   pub fits : (s : ScriptPlain) → misfit m size s ≡ None → machine.misfit w (script_to_wasm s) ≡ None
-  pub goes_right : (s : ScriptPlain) → misfit m size s ≡ None → (units : ℕ) → asm m size s units ≢ None
+  pub never_wrong : (s : ScriptPlain) → misfit m size s ≡ None → (units : ℕ) → asm m size s units ≢ None
   pub simulates : (s : ScriptPlain) → misfit m size s ≡ None → Sim (comparison w s) (source_session m size s) (target_session w s)
 
 -- the bytes spell the module, and no spelling of it is shorter

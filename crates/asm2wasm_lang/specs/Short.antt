@@ -1,5 +1,5 @@
 -- Modules of asm.js whose translation can be written.
-use Rattle.std.specs.Prelude.{ℕ, ◌+◌, ◌^◌, ◌≤◌, length}
+use Rattle.std.specs.Prelude.{◌+◌, ◌^◌, ◌≤◌, length}
 use Rattle.std.specs.List.{concat}
 use Rattle.asm_lang.specs.Modules.{Module}
 use Rattle.asm_lang_valid.specs.Rows.{module_count}

@@ -11,7 +11,7 @@ use Rattle.wasm2js_lang.specs.RoundTrips.{RoundTripsSimulate}
 use Rattle.cmd_check_asm.proofs.Verdicts as laws
 use Rattle.bridge_lang.specs.Command.{asm_to_wasm, wasm_to_asm}
 use Rattle.bridge_lang.specs.Job.{IsMade, translated, translated_back}
-use Rattle.bridge_cmd.specs.RoundTrips.{WrittenBackSimulate}
+use Rattle.bridge_lang.specs.RoundTrips.{WrittenBackSimulate}
 
 -- the bytes are those of this module, which may be written for the text's
 there_is : (file text bytes : List ℕ) (heap : ℕ) (a : Module) (w : WasmModule) → IsMade (asm_to_wasm file heap) text bytes → IsAcceptedText text a → IsValidBytes bytes w

@@ -1,6 +1,5 @@
 pub mod Asking
 pub mod Imported
 pub mod Refused
-pub mod RoundTrips
 pub mod Runners
 pub mod Slices

@@ -1,5 +1,5 @@
 -- Which texts are scripts that fit a module of asm.js with a heap of so many bytes, and what is printed of their runs.
-use Rattle.std.specs.Prelude.{◌≡◌, ℕ, List, Some, Result, Ok, Err}
+use Rattle.std.specs.Prelude.{◌≡◌, ℕ, List, Some, Result, Ok}
 use Rattle.session_lang.specs.Observation.{ObservationPlain}
 use Rattle.session_lang.specs.Script.{ScriptPlain}
 use Rattle.session_lang.specs.Fits.{fitting}

@@ -16,3 +16,4 @@ pub mod Job
 pub mod Answers
 pub mod Sinks
 pub mod Outcome
+pub mod RoundTrips

@@ -1,5 +1,5 @@
 -- Which bytes spell a module that is run, which texts are scripts that fit it, and what is printed of their runs.
-use Rattle.std.specs.Prelude.{◌≡◌, ℕ, List, Some, None, Result, Ok, Err}
+use Rattle.std.specs.Prelude.{◌≡◌, ℕ, List, Some, None, Result, Ok}
 use Rattle.session_lang.specs.Script.{ScriptPlain}
 use Rattle.session_lang.specs.Fits.{fitting}
 use Rattle.script_lang.specs.Reading.{said_script}

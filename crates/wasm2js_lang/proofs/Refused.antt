@@ -1,7 +1,6 @@
 -- Small texts that aren't what is asked.
 use Rattle.std.proofs.Common.{◌≡◌, ℕ, zero, suc, true, false, List, [], ◌∷◌, Option, Some, None, pos, refl, sym, ap, ◌∙◌, subst, arith}
 use Rattle.std.specs.Prelude.{codes}
-use Rattle.std.proofs.lemmas.List.Elements.{All-nil}
 use Rattle.hex.specs.Hex.{encode_with}
 use Rattle.sem_words.specs.declared.js_value.JsValue.{JsValue}
 use Rattle.sem_words.specs.declared.js_value.JsValue.TheVariants.{Whole}

@@ -130,6 +130,6 @@ module _ (called : FunctionsAreCalled) (hold : (size : ℕ) → size ≤ pages_f
     valid = valid m size ok heap;
     called = is_called m size;
     fits = λ s fit. scripts_fit m size s formed fit;
-    goes_right = λ s fit units none. let there = accepted_never_go_wrong m size s units ok fit in none-some there.0 (sym none ∙ there.1);
+    never_wrong = λ s fit units none. let there = accepted_never_go_wrong m size s units ok fit in none-some there.0 (sym none ∙ there.1);
     simulates = λ s fit. (simulate m size s ok formed heap fit).0;
   }
