@@ -237,9 +237,11 @@ def rust_types(path):
 
 
 def types_in(path):
-    """The types of the fields of what a file of code declares."""
+    """The types of the public fields of what a file of code declares; of others a clause sees a model."""
     text = path.read_text(encoding="utf8")
-    declared = re.findall(r"^pub (?:enum|struct) [^;]*?^}", text, re.M)
+    declared = re.findall(r"^pub enum [^;]*?^}", text, re.M)
+    for struct in re.findall(r"^pub struct [^;]*?^}", text, re.M):
+        declared += re.findall(r"^    pub .*", struct, re.M)
     return {word for part in declared for word in re.findall(r"(?:: |[(<])(\w+)", part)}
 
 
