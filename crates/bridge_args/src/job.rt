@@ -55,7 +55,7 @@ fn one_operand(alloc: Global, given: &Given<'_, '_>) -> Result<String, WordsFaul
 }
 
 /// The lone operand of a command that takes no option.
-#[tactic(auto, unfolding(crate::specs::Job::lone_operand))]
+#[tactic(auto, unfolding(bridge_lang::specs::Words::lone_operand))]
 fn lone_text<'a>(given: &Given<'_, 'a>) -> Option<&'a str>
     ensures { text_of result ≡ spec.lone_operand (given_texts given.now) }
 {
@@ -116,7 +116,7 @@ fn generation(given: &Given<'_, '_>) -> Result<Job, WordsFault>
     Ok(Job::Gen(count))
 }
 
-#[tactic(auto, unfolding(crate::specs::Job::job_named))]
+#[tactic(auto, unfolding(bridge_lang::specs::Words::job_named))]
 fn job_for(alloc: Global, name: &str, given: &Given<'_, '_>) -> Result<Job, WordsFault>
     ensures { Answers job_read (job_named name.now (given_texts given.now)) result }
 {

@@ -35,7 +35,7 @@ fn number(text: &str) -> Option<u32>
     }
 }
 
-#[tactic(auto, unfolding(crate::specs::Number::is_heap))]
+#[tactic(auto, unfolding(bridge_lang::specs::Number::is_heap))]
 fn is_heap(n: u32) -> bool
     ensures { result ≡ spec.is_heap n }
 {
@@ -52,7 +52,7 @@ fn heap_number(text: &str) -> Option<HeapLength>
     }
 }
 
-#[tactic(auto, using(crate::proofs::NumberLemmas::absent_heap), unfolding(crate::specs::Job::heap_of))]
+#[tactic(auto, using(crate::proofs::NumberLemmas::absent_heap), unfolding(bridge_lang::specs::Words::heap_of))]
 /// The heap's length in bytes.
 pub fn heap_size(given: &Given<'_, '_>) -> Option<HeapLength>
     ensures { option_map (λ length. length.bytes) result ≡ heap_of (given_texts given.now) }
@@ -63,7 +63,7 @@ pub fn heap_size(given: &Given<'_, '_>) -> Option<HeapLength>
     }
 }
 
-#[tactic(auto, unfolding(crate::specs::Number::is_steps))]
+#[tactic(auto, unfolding(bridge_lang::specs::Number::is_steps))]
 fn is_steps(n: u32) -> bool
     ensures { result ≡ spec.is_steps n }
 {
@@ -80,7 +80,7 @@ fn step_number(text: &str) -> Option<u32>
     }
 }
 
-#[tactic(auto, unfolding(crate::specs::Job::steps_of))]
+#[tactic(auto, unfolding(bridge_lang::specs::Words::steps_of))]
 /// How many units or reductions a run may take.
 pub fn step_count(given: &Given<'_, '_>) -> Option<u32>
     ensures { result ≡ steps_of (given_texts given.now) }
@@ -91,7 +91,7 @@ pub fn step_count(given: &Given<'_, '_>) -> Option<u32>
     }
 }
 
-#[tactic(auto, unfolding(crate::specs::Number::is_gen_count))]
+#[tactic(auto, unfolding(bridge_lang::specs::Number::is_gen_count))]
 fn is_gen_count(n: u32) -> bool
     ensures { result ≡ spec.is_gen_count n }
 {
