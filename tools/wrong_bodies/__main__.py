@@ -1,9 +1,10 @@
 #!/usr/bin/env python3
-"""python3 tools/wrong_bodies [NAME ..] [--list] [--applies] [--jobs N]
+"""python3 tools/wrong_bodies [NAME ..] [--list] [--applies] [--jobs N] [--in FOLDER]
 
 Tries wrong bodies of the program, each of which gives another meaning to what was asked for, on a copy of the repository: each must be refused,
 and by the clause that its file names. --list tells them and tries none; --applies says only whether each can still be put into the sources;
---jobs N tries those of N crates at a time. The status is 1 where one isn't refused, is refused by another clause, or can't be tried.
+--jobs N tries those of N crates at a time; --in FOLDER makes the copy there and keeps it, so that a later run begins with what this one built.
+The status is 1 where one isn't refused, is refused by another clause, or can't be tried.
 
 NAME.edit in this folder is one wrong body, with lines that begin with
 
@@ -17,6 +18,7 @@ NAME.edit in this folder is one wrong body, with lines that begin with
 """
 import argparse
 import concurrent.futures
+import contextlib
 import pathlib
 import re
 import shutil
@@ -94,10 +96,13 @@ class WrongBody:
 
 
 def copy_of_sources(folder):
-    """What the prover reads: no edit, and nothing that it made."""
+    """What the prover reads: no edit, and nothing that it made but what an earlier copy there has."""
+    for part in folder.glob("crates/*/*"):
+        if part.is_dir() and part.name != "out":
+            shutil.rmtree(part)
+    shutil.copytree(ROOT / "crates", folder / "crates", ignore=shutil.ignore_patterns("out", "must-fail"), dirs_exist_ok=True)
     for name in ("crates.txt", "HANDLES"):
         shutil.copy(ROOT / name, folder / name)
-    shutil.copytree(ROOT / "crates", folder / "crates", ignore=shutil.ignore_patterns("out", "must-fail"))
     return folder
 
 
@@ -186,12 +191,12 @@ def wrong_bodies(names):
     return [WrongBody(it) for it in paths if not names or it.stem in names]
 
 
-def try_all(bodies, jobs):
+def try_all(bodies, jobs, place):
     """How many aren't refused as they are to be."""
     crates = {it.crate: [other for other in bodies if other.crate == it.crate] for it in bodies}
     failed = 0
-    with tempfile.TemporaryDirectory(prefix="wrong-bodies-") as room, concurrent.futures.ThreadPoolExecutor(jobs) as pool:
-        folder = copy_of_sources(pathlib.Path(room))
+    with contextlib.ExitStack() as rooms, concurrent.futures.ThreadPoolExecutor(jobs) as pool:
+        folder = copy_of_sources(place or pathlib.Path(rooms.enter_context(tempfile.TemporaryDirectory(prefix="wrong-bodies-"))))
         for found in concurrent.futures.as_completed([pool.submit(tried, folder, *it) for it in crates.items()]):
             for body, is_well, said in found.result():
                 print(f"{body.name}: {said}", flush=True)
@@ -205,6 +210,7 @@ def main():
     words.add_argument("--list", action="store_true")
     words.add_argument("--applies", action="store_true")
     words.add_argument("--jobs", type=int, default=1)
+    words.add_argument("--in", type=pathlib.Path, dest="place")
     words = words.parse_args()
     try:
         bodies = wrong_bodies(words.names)
@@ -214,13 +220,15 @@ def main():
             return 0
         for body in bodies:
             body.changed()
+        if words.place and (words.place / ".git").exists():
+            raise Unusable(f"{words.place} is a checkout, whose files a copy would replace")
     except Unusable as why:
         print(f"wrong_bodies: {why}")
         return 1
     if words.applies:
         print(f"wrong_bodies: {len(bodies)} can be tried")
         return 0
-    failed = try_all(bodies, words.jobs)
+    failed = try_all(bodies, words.jobs, words.place)
     print(f"wrong_bodies: {len(bodies) - failed} of {len(bodies)} are refused as they are to be")
     return 1 if failed else 0
 
