@@ -6,9 +6,11 @@ use crate::modules::{
     STORING, TABLE, TABLE_IMPORT,
 };
 use crate::program::{Row, code_of, done, ends, with_options};
+use cmd_check_wasm::check_bytes;
 use std::alloc::Global;
 use std::process::Abort;
 use std::test::Fail;
+use wasm2js::{profile, translate};
 
 // The scripts are in the calling form of the translation, and what is printed is what node prints of the texts.
 static ROWS: [Row; 26] = [
@@ -268,5 +270,26 @@ fn a_rotation_is_a_call_of_a_helper(rt: HostRuntime) -> Result<(), Fail> {
     assert!(rt;
         has_line(text, b"function f", b"$rotl(") && has_line(text, b"function $rotl(", b"return")
     );
+    Ok(())
+}
+
+/// How many functions the accepted module has that stands for the one that the bytes spell; none where there is none.
+fn functions_of(alloc: Global, bytes: &[u8]) -> usize {
+    let Ok(valid) = check_bytes(alloc, bytes) else {
+        return 0;
+    };
+    if profile(&valid).is_err() {
+        return 0;
+    }
+    match translate(alloc, &valid) {
+        Ok(checked) => checked.module().functions.len(),
+        Err(_) => 0,
+    }
+}
+
+/// A function, the helpers, `$init` and `$hi`.
+#[test]
+fn a_translation_is_given_as_an_accepted_module(rt: HostRuntime) -> Result<(), Fail> {
+    assert!(rt; functions_of(rt.alloc(), ADDING) > 3);
     Ok(())
 }
