@@ -278,8 +278,9 @@ fn functions_of(alloc: Global, bytes: &[u8]) -> usize {
     let Ok(valid) = check_bytes(alloc, bytes) else {
         return 0;
     };
-    if profile(&valid).is_err() {
-        return 0;
+    match profile(&valid) {
+        Ok(()) => {}
+        Err(_) => return 0,
     }
     match translate(alloc, &valid) {
         Ok(checked) => checked.module().functions.len(),
