@@ -150,6 +150,19 @@ def changed_sources(case):
     case.is_clean()
 
 
+def changed_lists(case):
+    """A change of HANDLES or of the list of crates alone is seen, after a call that noted how all files stood."""
+    lists = {"HANDLES": "Handles allowed: Net.\n", "crates.txt": FILES["crates.txt"].replace("bridge: words", "bridge: words clap")}
+    case.settle()
+    case.builds(shown())
+    for made, (name, text) in enumerate(lists.items(), 2):
+        case.runs(shown(made=made - 1))
+        case.write(name, text)
+        case.builds(shown(made=made))
+        case.settle()
+    case.is_clean()
+
+
 def old_times(case):
     """A source that is put back with an old time, as archives do, is another source."""
     source = case.top / "crates/words/src/lib.rt"
@@ -311,14 +324,17 @@ def stopped(case):
         case.same("a stopped call", Ended.of(call).status, status)
         case.wait_until(lambda: not pathlib.Path(f"/proc/{prover}").exists(), "the proof goes on")
         case.is_clean()
-    call = case.begin("x")
+    killed = case.begin("x")
     case.await_note("proving")
-    call.kill()
-    os.kill(int(case.noted("proving")[0]), signal.SIGKILL)
-    Ended.of(call)
+    killed.kill()
+    Ended.of(killed)
+    prover = int(case.noted("proving")[0])
     case.same("what is left", len(list(case.temporary.iterdir())), 1)
+    call = case.begin("check-asm", "a b.js")
+    case.same("a call beside the proof that is left", without_room(call.stderr.readline().decode()), PROVING)
+    os.kill(prover, signal.SIGKILL)
     case.untell("hold")
-    case.builds(shown())
+    case.ran(Ended.of(call), shown())
     case.is_clean()
 
 
@@ -530,10 +546,10 @@ def gate_is_plain(case):
 
 CASES = [
     first_and_later_calls, another_checkout, removed_programs, no_handles, no_handles_later, no_crates, link_among_sources, no_kit, version_fails,
-    another_kit, changed_sources, old_times, fast_changes, edited_while_it_proves, edited_before_it_is_copied, kit_changes_while_it_proves, two_at_once,
-    two_at_once_without_flock, waits_for_the_proof_alone, failed_build, killed_proof, nothing_built, stopped, no_room_for_the_program, nowhere_to_run, read_only,
-    no_home, no_home_and_another_owner, other_homes, no_room, spaces, links, copied_script, replaced_while_it_runs, gate_keeps, gate_without_home,
-    gate_fails, gate_over_changes, gate_is_plain,
+    another_kit, changed_sources, changed_lists, old_times, fast_changes, edited_while_it_proves, edited_before_it_is_copied,
+    kit_changes_while_it_proves, two_at_once, two_at_once_without_flock, waits_for_the_proof_alone, failed_build, killed_proof, nothing_built,
+    stopped, no_room_for_the_program, nowhere_to_run, read_only, no_home, no_home_and_another_owner, other_homes, no_room, spaces, links,
+    copied_script, replaced_while_it_runs, gate_keeps, gate_without_home, gate_fails, gate_over_changes, gate_is_plain,
 ]
 FOLDERS = {"spaces": "a check out"}
 

@@ -12,7 +12,7 @@ import time
 TOP = pathlib.Path(__file__).resolve().parent.parent
 SCRIPTS = ("bin/bridge", "tools/kept.sh", ".ci/run")
 COMMANDS = "awk bash cat chmod cp cut dirname env find flock ln ls mkdir mktemp mv readlink rm sha256sum sleep sort stat sync tar touch tr uniq wc xargs"
-LONGEST = 60  # seconds of a call
+LONGEST = 300  # seconds of a call
 NOBODY = 65534
 
 RT = r"""#!/usr/bin/env bash
@@ -27,7 +27,7 @@ fi
 find . -mindepth 1 ! -name out | sort >"STUB/given"
 cat crates.txt >"STUB/given crates"
 echo "$BASHPID" >"STUB/proving"
-for ((turns = 0; turns < 2000; turns++)); do [ -e "STUB/hold" ] || break; sleep 0.02; done
+for ((turns = 0; turns < 30000; turns++)); do [ -e "STUB/hold" ] || break; sleep 0.02; done
 [ ! -e "STUB/next version" ] || mv "STUB/next version" "STUB/version"
 if [ -e "STUB/fails" ]; then
   echo "words NOT PROVED"
@@ -38,7 +38,7 @@ echo made >>"STUB/made"
 mkdir -p crates/bridge/out
 cat >crates/bridge/out/bridge.new <<END
 #!/usr/bin/env bash
-[ "\$1" != hold ] || { echo begun; for turns in {1..2000}; do [ -e "STUB/run on" ] || break; sleep 0.02; done; }
+[ "\$1" != hold ] || { echo begun; for ((turns = 0; turns < 30000; turns++)); do [ -e "STUB/run on" ] || break; sleep 0.02; done; }
 echo "source $(cat crates/words/src/lib.rt), proofs $(ls crates/words/proofs | tr '\n' ' '), made $(wc -l <"STUB/made")"
 printf 'word %s\n' "\$@"
 exit "\${#1}"
