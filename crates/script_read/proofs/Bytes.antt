@@ -1,4 +1,4 @@
 -- What scripts that are read from texts write.
 mod Hex
-mod Lines
+pub mod Lines
 mod Examples
