@@ -47,7 +47,7 @@ pub fn translate(alloc: Global, valid: &Valid<'_>) -> Result<Checked, AllocError
 fn checked(alloc: Global, made: Module) -> Result<Checked, AllocError>
     requires well_formed { IsWellFormed (module_view made) }
     requires accepted { IsAccepted (module_view made) }
-    ensures { IfOk result (λ checked. checked ≡ made.entry) }
+    ensures { IfOk result (λ checked. checked ≡ made) }
 {
     match validate(alloc, made) {
         Ok(checked) => Ok(checked),
