@@ -8,6 +8,7 @@ import { tmpdir } from "node:os";
 import path from "node:path";
 import { after, test } from "node:test";
 import { fileURLToPath, pathToFileURL } from "node:url";
+import v8 from "node:v8";
 import vm from "node:vm";
 import { instantiate, instantiateSync, LinkError, Memory } from "../host/asm.mjs";
 import { packAsm, packWasm } from "../host/pack.mjs";
@@ -38,6 +39,16 @@ function written(command, content, ...options) {
 const toJs = (bytes) => written("wasm2js", bytes).toString();
 const toWasm = (text, length) => written("asm2wasm", text, ...(length ? ["--heap", String(length)] : []));
 
+/** Does an act that links asm.js without V8's own validator, which some texts keep for ever. */
+function asPlainJavaScript(act) {
+  v8.setFlagsFromString("--no-validate-asm");
+  try {
+    return act();
+  } finally {
+    v8.setFlagsFromString("--validate-asm");
+  }
+}
+
 // ---- WebAssembly, and its translation, with one imports object
 
 for (const { name, module, imports, numbers = {}, ...session } of MODULES)
@@ -45,7 +56,8 @@ for (const { name, module, imports, numbers = {}, ...session } of MODULES)
     const bytes = encode(module), log = [], signatures = signaturesOf(bytes), text = toJs(bytes);
     const known = { ...session, imports: imports?.(log), log };
     const theirs = await seen(async (all) => (await WebAssembly.instantiate(bytes, all)).instance, known);
-    for (const load of [async (all) => (await instantiate(text, signatures, all)).instance, (all) => instantiateSync(text, JSON.parse(JSON.stringify(signatures)), all)]) {
+    const plainly = (all) => asPlainJavaScript(() => instantiateSync(text, JSON.parse(JSON.stringify(signatures)), all));
+    for (const load of [async (all) => (await instantiate(text, signatures, all)).instance, plainly]) {
       const ours = await seen(load, known);
       sameSight(theirs, ours);
       for (const [call, number] of Object.entries(numbers)) assert.equal(ours.outcomes[call].error.number, number);
@@ -73,10 +85,10 @@ function sameLinked(theirs, ours) {
   assert.deepEqual({ ...ours, outcomes: null }, { ...theirs, outcomes: null });
 }
 
-/** A text as JavaScript. */
+/** Links a text as JavaScript. */
 const called = (text, length) => (foreign) => {
   const buffer = length && new ArrayBuffer(length);
-  return { exports: new Function(`var module = ${text}\n; return module;`)()(globalThis, foreign, buffer), buffer };
+  return { exports: asPlainJavaScript(() => new Function(`var module = ${text}\n; return module;`)()(globalThis, foreign, buffer)), buffer };
 };
 
 for (const { name, text, foreign = () => undefined, ...session } of TEXTS)
@@ -284,7 +296,7 @@ function comparedWasm(job) {
   const bytes = Buffer.from(job.bytes, "base64"), text = toJs(bytes), signatures = signaturesOf(bytes);
   const hidden = signatures.exports.filter((item) => item.kind === "table" || item.mutable).map((item) => item.name);
   const theirs = wasmSight(job, (imports) => new WebAssembly.Instance(new WebAssembly.Module(bytes), imports), { makeMemory: (limits) => new WebAssembly.Memory(limits), hidden, seconds: 5 });
-  return compared(theirs, theirs && wasmSight(job, (imports) => instantiateSync(text, signatures, imports), { makeMemory: (limits) => new Memory(limits), hidden, seconds: 60 }));
+  return compared(theirs, theirs && wasmSight(job, (imports) => asPlainJavaScript(() => instantiateSync(text, signatures, imports)), { makeMemory: (limits) => new Memory(limits), hidden, seconds: 60 }));
 }
 
 function comparedAsm(job) {
