@@ -1,18 +1,14 @@
 // node zeros.mjs FILE
-// A host of the module of WebAssembly that `bridge asm2wasm zeros.js` writes.
+// A host of the module of WebAssembly that `bridge asm2wasm zeros.js` writes. But for the line that loads it, it is as it was for the text.
 import { readFileSync } from "node:fs";
+import { linkAsm } from "../host/wasm.mjs";
 
-// 1. The heap is the import `env` `memory`, of as many pages of 65,536 bytes as hold its length, and no more.
-//    A module without a heap has no such import.
-const memory = new WebAssembly.Memory({ initial: 1, maximum: 1 });
-const heap = new Uint8Array(memory.buffer);
+// 1. The foreign object, as the text has it.
+const foreign = { report: (count) => console.log(`reported ${count}`) };
 
-// 2. Each member of the foreign object is an import of `env` with its name: a function, or a number for what is imported as `foreign.name|0`.
-//    What a function of the host returns is taken as a word of 32 bits.
-const report = (count) => console.log(`reported ${count}`);
-
-const module = new WebAssembly.Module(readFileSync(process.argv[2]));
-const { exports } = new WebAssembly.Instance(module, { env: { memory, report } });
+// 2. In place of `zeros(globalThis, foreign, heap)`: the length of the heap, whose buffer comes with the exports.
+const { exports, buffer } = linkAsm(readFileSync(process.argv[2]), globalThis, foreign, 65536);
+const heap = new Uint8Array(buffer);
 
 // 3. The exports have their keys' names, and take and give numbers.
 heap.set([10, 11, 12], 16);

@@ -36,6 +36,15 @@ In a crate `src/` has the code with its contracts, `specs/` the definitions that
 
 Both translators have the same parts: `X_lang` (what may be written, how it is called), `X_translation` (the plain function), `X_laws_acceptance` (the result is accepted, and has the parts that are asked for), `X_laws_preservation` (instruction by instruction), `X_laws_simulation` (functions, calls and whole sessions), `X_tables`, and the code.
 
+Beside the crates:
+
+| Folder | What it is |
+|---|---|
+| `host/` | ES modules that load what Bridge writes: `asm.mjs` and `signatures.mjs` for texts of `wasm2js`, `wasm.mjs` for modules of `asm2wasm`, `pack.mjs` for one file of it all. Tested, not proved |
+| `examples/` | commands, C programs (`c/`) and two programs on a page (`page/`), as `docs/USAGE.md` uses them |
+| `tools/` | what `.ci/run` runs after the gate, `kept.sh` of the first call, and `wrong_bodies` |
+| `bench/` | measurements |
+
 "Stands on" leaves out what another crate of the row stands on.
 """
 

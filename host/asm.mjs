@@ -1,0 +1,318 @@
+// Loads what `bridge wasm2js` writes as `WebAssembly.instantiate` loads the module of which it was made, also where WebAssembly is missing.
+// docs/USAGE.md says how such a text is called; all of that is done here. Signatures are what signatures.mjs reads from the module.
+
+const PAGE = 65536;
+
+/** The kind of each trap by its number less one, and V8's message for it. Of the two for a divisor 0 it is the one of a quotient. */
+const TRAPS = [
+  ["Unreachable", "unreachable"],
+  ["Memory", "memory access out of bounds"],
+  ["ZeroDivisor", "divide by zero"],
+  ["Overflow", "divide result unrepresentable"],
+  ["TableEntry", "table index is out of bounds"],
+  ["OtherType", "null function or function signature mismatch"],
+  ["Segment", "segment is out of bounds"],
+];
+
+/** WebAssembly's own class of errors of this name, or one like it where WebAssembly is missing. */
+function errorClass(name) {
+  const made = class extends Error {};
+  made.prototype.name = name;
+  return globalThis.WebAssembly?.[name] ?? made;
+}
+
+/** What a trap throws, with its `kind` (a word) and its `number` (1 to 7, which is what the text calls `$trap` with). */
+export const RuntimeError = errorClass("RuntimeError");
+
+/** What is thrown where an import is of the wrong kind, or a text isn't of the module that has the signatures. */
+export const LinkError = errorClass("LinkError");
+
+/** The length of the shortest heap that asm.js allows for so many pages: a power of two from 2^12 to 2^23, or a multiple of 2^24. */
+const heapLength = (pages) => (pages > 128 ? Math.ceil(pages / 256) * 256 * PAGE : 2 ** Math.max(12, Math.ceil(Math.log2(pages * PAGE))));
+
+/** A memory of a fixed length, which stands where `WebAssembly.Memory` does in imports and among exports. */
+export class Memory {
+  #pages;
+  #buffer;
+
+  /**
+   * @param {{ initial: number, maximum?: number }} limits in pages of 65,536 bytes, from 0 to 4,096; it never grows
+   * @throws {RangeError} where they are no such numbers
+   */
+  constructor({ initial, maximum = initial }) {
+    if (!Number.isInteger(initial) || initial < 0 || initial > 4096) throw new RangeError(`Memory: initial: ${initial} pages`);
+    if (!(maximum >= initial)) throw new RangeError(`Memory: maximum: ${maximum} pages, and ${initial} at first`);
+    this.#pages = initial;
+    this.#buffer = new ArrayBuffer(heapLength(initial));
+  }
+
+  /** The heap: an ArrayBuffer as long as asm.js needs. The module has its first `byteLength` bytes. */
+  get buffer() {
+    return this.#buffer;
+  }
+
+  /** How many bytes the module's pages have. */
+  get byteLength() {
+    return this.#pages * PAGE;
+  }
+
+  /** A Uint8Array of the module's pages, and of no byte past them. */
+  get bytes() {
+    return new Uint8Array(this.#buffer, 0, this.byteLength);
+  }
+
+  /** @throws {RangeError} always */
+  grow() {
+    throw new RangeError("Memory: grow: a heap of asm.js has a fixed length");
+  }
+
+  get [Symbol.toStringTag]() {
+    return "WebAssembly.Memory";
+  }
+}
+
+// ---- names, as crates/session_lang/specs/Names.antt spells them
+
+const isPlain = (name) => /^[A-Za-z_$][\w$]*$/.test(name) && name !== "__proto__";
+
+/** The bytes of a name in hexadecimal. */
+const hex = (name) => encodeURIComponent(name).replace(/%(..)|./g, (char, code) => (code ? code.toLowerCase() : char.charCodeAt(0).toString(16)));
+
+const importName = ({ module, name }) => (module === "env" && isPlain(name) && !name.startsWith("$x") ? name : `$x${hex(module)}$${hex(name)}`);
+const exportName = ({ name }) => (isPlain(name) && !name.startsWith("$") ? name : `$x${hex(name)}`);
+
+/** How an error names an import, or an export. */
+const fieldOf = ({ module, name }) => (module === undefined ? `export ${JSON.stringify(name)}` : `import ${JSON.stringify(module)} ${JSON.stringify(name)}`);
+
+const ofKind = (kind, items) => items.filter((item) => item.kind === kind);
+
+// ---- words: one of 32 bits is a Number, and one of 64 a BigInt, which asm.js takes as two ints, the low one first
+
+/** A value as the JS API takes it for a type. @throws {TypeError} for a BigInt where an i32 is due, and for a Number where an i64 is */
+function wordOf(type, value, field) {
+  if (type === "i32" && typeof value !== "bigint") return value | 0;
+  if (type === "i64" && typeof value !== "number" && value !== undefined) return BigInt.asIntN(64, value);
+  throw new TypeError(`${field}: an ${type} is due, and there is the ${typeof value} ${value}`);
+}
+
+const lowOf = (wide) => Number(BigInt.asIntN(32, wide));
+const highOf = (wide) => Number(wide >> 32n);
+const wideOf = (low, high) => (BigInt(high) << 32n) | BigInt(low >>> 0);
+
+/** Values of the host as ints of asm.js. */
+function split(params, values, field) {
+  const words = [];
+  for (let k = 0; k < params.length; k++) {
+    const word = wordOf(params[k], values[k], field);
+    if (params[k] === "i64") words.push(lowOf(word), highOf(word));
+    else words.push(word);
+  }
+  return words;
+}
+
+/** Ints of asm.js as values of the host. */
+function joined(params, words) {
+  let at = 0;
+  return params.map((type) => (type === "i64" ? wideOf(words[at++], words[at++]) : words[at++]));
+}
+
+// ---- imports
+
+/** Whether a global can't be set: to set it to its own value changes nothing. */
+function isConstant(global) {
+  try {
+    global.value = global.value;
+    return false;
+  } catch {
+    return true;
+  }
+}
+
+/** Whether this is a memory of so many pages, in a heap as long as asm.js needs. One that was detached is empty. */
+function isMemory(value, pages) {
+  if (Object.prototype.toString.call(value) !== "[object WebAssembly.Memory]" || !(value.buffer instanceof ArrayBuffer)) return false;
+  const { buffer, byteLength = buffer.byteLength } = value;
+  return byteLength === pages * PAGE && buffer.byteLength === heapLength(pages);
+}
+
+/** What stands in the imports object for an import. @throws {TypeError} where there is no object of its module @throws {LinkError} where it is of another kind */
+function taken(item, imports) {
+  const fields = Object(imports)[item.module];
+  if (Object(fields) !== fields) throw new TypeError(`${fieldOf(item)}: imports has no object of this module`);
+  const value = fields[item.name];
+  const fits = {
+    function: () => typeof value === "function",
+    global: () => typeof value === "number" || (typeof value?.value === "number" && isConstant(value)),
+    memory: () => isMemory(value, item.pages),
+  };
+  const due = { function: "a function", global: "a number", memory: `a memory of ${item.pages} pages in a heap of ${heapLength(item.pages)} bytes` };
+  if (!fits[item.kind]()) throw new LinkError(`${fieldOf(item)}: ${due[item.kind]} is due`);
+  return item.kind === "global" ? value.valueOf() | 0 : value;
+}
+
+/** @throws {TypeError} where the heap isn't any more what it was when the instance was made */
+function checkHeap({ heap, length }) {
+  if (heap?.byteLength !== length) throw new TypeError("memory: buffer: it was detached");
+}
+
+/** The function that the text calls for an import. While it runs, `state.importing` says so. */
+function importedFunction(item, callee, state) {
+  return (...words) => {
+    let word;
+    state.importing = item;
+    try {
+      const given = callee(...joined(item.params, words));
+      if (item.result) word = wordOf(item.result, given, `${fieldOf(item)}: result`);
+    } finally {
+      state.importing = null;
+    }
+    checkHeap(state);
+    if (item.result !== "i64") return word;
+    state.high = highOf(word);
+    return lowOf(word);
+  };
+}
+
+/** What the text calls at a trap. @throws {RuntimeError} always */
+function trap(number) {
+  const [kind, message] = TRAPS[number - 1];
+  throw Object.assign(new RuntimeError(message), { kind, number });
+}
+
+/** The foreign object. A name of several functions, as of imports that differ in type, gives them one after the other, in the order in which the text reads them. */
+function foreignOf(signatures, values, state) {
+  const members = new Map([["$trap", [trap]], ["$high", [() => state.high]]]);
+  const made = new Map();
+  signatures.imports.forEach((item, k) => {
+    if (item.kind === "memory") return;
+    const name = importName(item), key = JSON.stringify([name, item.params, item.result]);
+    if (!made.has(key)) made.set(key, item.kind === "function" ? importedFunction(item, values[k], state) : values[k]);
+    members.set(name, [...(members.get(name) ?? []), made.get(key)]);
+  });
+  const foreign = {};
+  for (const [name, list] of members) {
+    const member = list.every((x) => x === list[0]) ? { value: list[0] } : { get: () => list.shift() };
+    Object.defineProperty(foreign, name, { ...member, enumerable: true });
+  }
+  return foreign;
+}
+
+// ---- exports
+
+/** An export of the linked text. @throws {LinkError} where it isn't there, or takes another number of words */
+function linkedFunction(linked, key, count, field) {
+  if (typeof linked?.[key] !== "function" || linked[key].length !== count) throw new LinkError(`${field}: not as in the text that wasm2js writes of this module`);
+  return linked[key];
+}
+
+/** The function that the host calls for an export, with the name and the length that WebAssembly gives it. */
+function exportedFunction(item, linked, state) {
+  const field = fieldOf(item);
+  const callee = linkedFunction(linked, exportName(item), namesOf(item.params).length, field);
+  const call = (...values) => {
+    const words = split(item.params, values, field);
+    if (state.importing) throw new Error(`${field}: called while the ${fieldOf(state.importing)} runs, which what wasm2js writes doesn't allow`);
+    checkHeap(state);
+    const low = callee(...words);
+    return item.result === "i64" ? wideOf(low, linked.$hi()) : low;
+  };
+  return Object.defineProperties(call, { name: { value: String(item.index) }, length: { value: item.params.length } });
+}
+
+/** A frozen object with the value of a constant, as `WebAssembly.Global` has one. */
+function constantOf(item, values) {
+  const value = item.type === "i64" ? BigInt(item.value) : (item.value ?? values[item.import]);
+  return Object.freeze({ value, valueOf: () => value });
+}
+
+/** The exports object. Tables, and globals that change, can't be seen through asm.js: to read one is an error. */
+function exportsOf(signatures, values, linked, state) {
+  const functions = []; // by their numbers: one that has two names is the same
+  const exports = Object.create(null);
+  for (const item of signatures.exports) {
+    let value = null;
+    if (item.kind === "function") value = functions[item.index] ??= exportedFunction(item, linked, state);
+    if (item.kind === "memory") value = state.memory;
+    if (item.kind === "global" && !item.mutable) value = constantOf(item, values);
+    const get = () => {
+      throw new TypeError(`${fieldOf(item)}: a ${item.kind} can't be seen through asm.js`);
+    };
+    Object.defineProperty(exports, item.name, value ? { value, enumerable: true } : { get });
+  }
+  return Object.freeze(exports);
+}
+
+// ---- texts
+
+/** The names that asm.js has for parameters. */
+const namesOf = (params) => params.flatMap((type, k) => (type === "i64" ? [`x${k}`, `X${k}`] : [`x${k}`]));
+
+/** What stands in a text of the module with these signatures, each with the field that says so. */
+function piecesOf({ imports, exports, pages, start }) {
+  const head = (item, number) => `\nfunction f${number}(${namesOf(item.params)}){`;
+  const functions = ofKind("function", exports), imported = ofKind("function", imports);
+  const returned = ["$init:$init", "$hi:$hi", ...functions.map((item) => `${exportName(item)}:f${item.index}`)];
+  return [
+    ["text", /^function wasm\(stdlib,foreign,heap\)\{"use asm";\n/],
+    ["exports", `\nreturn{${returned}};}`],
+    ...functions.map((item) => [fieldOf(item), head(item, item.index)]),
+    ...imported.map((item, k) => [fieldOf(item), `\nvar i${k}=foreign.${importName(item)};\n`, head(item, k)]),
+    ...ofKind("global", imports).map((item, k) => [fieldOf(item), `\nvar g${k}=foreign.${importName(item)}|0;\n`]),
+    ["imports", RegExp(`^(?![^]*\nvar i${imported.length}=)`)],
+    ["memory", pages === null ? /^(?![^]*\nfunction \$copy)/ : RegExp(`\nfunction \\$copy\\(.*>${pages * PAGE}\\)\\$trap\\(2\\)`)],
+    ["start", start === null ? "" : RegExp(`\nfunction \\$init\\(.*[;{]f${start}\\(\\);\\}\n`)],
+  ];
+}
+
+/**
+ * Checks that a text was made of the module that has these signatures, as far as imports, exports, memory and start function say it.
+ * @throws {LinkError} where it wasn't, with the field
+ */
+export function checkText(text, signatures) {
+  const lines = String(text).replace(/\r\n/g, "\n");
+  const has = (piece) => (typeof piece === "string" ? lines.includes(piece) : piece.test(lines));
+  for (const [field, ...pieces] of piecesOf(signatures)) if (!pieces.every(has)) throw new LinkError(`${field}: not as in the text that wasm2js writes of this module`);
+}
+
+/** The module function of a text that was checked. A page whose policy forbids this gives the function itself, as packed modules do. */
+function moduleOf(text, signatures) {
+  if (typeof text === "function") return text;
+  checkText(text, signatures);
+  return new Function(`${text}\nreturn wasm;`)();
+}
+
+// ---- instances
+
+/**
+ * Loads a text at once, as `new WebAssembly.Instance` does a module.
+ * @param {string | Function} text what `bridge wasm2js` wrote; or its function `wasm`, where a page may not make one of a text
+ * @param {Signatures} signatures of the module that it was made of (`signaturesOf` of signatures.mjs)
+ * @param {object} [imports] by module and field: functions, numbers, and a `Memory`, or a `WebAssembly.Memory` whose length is one that asm.js allows.
+ *   What a function throws passes through. A word of 64 bits is a BigInt, both ways
+ * @returns {{ exports: object }} `exports` is frozen and has the module's names: functions, a memory, and constants with their `value`
+ * @throws {TypeError | LinkError} where an import is missing or of another kind, or the text isn't of this module: before anything runs
+ * @throws {RuntimeError} where the start function traps; so do exported functions. The heap is then as it was at the trap, and they may be called again
+ */
+export function instantiateSync(text, signatures, imports) {
+  const wasm = moduleOf(text, signatures);
+  const values = signatures.imports.map((item) => taken(item, imports));
+  const given = values[signatures.imports.findIndex((item) => item.kind === "memory")];
+  const memory = given ?? (signatures.pages === null ? undefined : new Memory({ initial: signatures.pages }));
+  const state = { memory, heap: memory?.buffer, length: memory?.buffer.byteLength, high: 0, importing: null };
+  const linked = wasm(globalThis, foreignOf(signatures, values, state), state.heap);
+  linkedFunction(linked, "$hi", 0, "text");
+  const init = linkedFunction(linked, "$init", 0, "text");
+  const exports = exportsOf(signatures, values, linked, state);
+  init();
+  return Object.freeze({ exports });
+}
+
+/**
+ * Loads a text as `WebAssembly.instantiate` does the bytes of a module, with what `instantiateSync` takes.
+ * @returns {Promise<{ module: Function, instance: { exports: object } }>} `module` may be given in place of the text; what that throws is what this is rejected with
+ */
+export async function instantiate(text, signatures, imports) {
+  const module = moduleOf(text, signatures);
+  await null; // nothing runs before the promise is there
+  return { module, instance: instantiateSync(module, signatures, imports) };
+}
