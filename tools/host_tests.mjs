@@ -3,7 +3,7 @@
 // The random modules need python3; SEED and COUNT may be given for them.
 import assert from "node:assert/strict";
 import { spawnSync } from "node:child_process";
-import { mkdtempSync, rmSync, writeFileSync } from "node:fs";
+import { mkdtempSync, readFileSync, rmSync, writeFileSync } from "node:fs";
 import { tmpdir } from "node:os";
 import path from "node:path";
 import { after, test } from "node:test";
@@ -232,6 +232,13 @@ for (const { name, text, foreign = () => undefined, ...session } of TEXTS.slice(
     for (const host of [loaded, script])
       for (const heap of [length, undefined]) sameLinked(theirs, linkedSight((given) => host.linkAsm(globalThis, given, heap), { ...session, foreign }, log));
   });
+
+test("packed: the example page has what is made of its programs now", () => {
+  const page = (name) => fileURLToPath(new URL(`../examples/page/${name}`, import.meta.url));
+  const set = page("mandelbrot.wasm"), life = page("life.js");
+  assert.equal(readFileSync(page("mandelbrot_asm.js"), "utf8"), packed(["--script", "mandelbrotAsm", set, file("mandelbrot.js", toJs(readFileSync(set)))]));
+  assert.equal(readFileSync(page("life_wasm.js"), "utf8"), packed(["--script", "lifeWasm", life, file("life.wasm", toWasm(readFileSync(life, "utf8"), 2 ** 21))]));
+});
 
 test("packed: where WebAssembly is missing", () => {
   const { module, calls } = MODULES.find((one) => /trap, /.test(one.name));
