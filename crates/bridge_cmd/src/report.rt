@@ -4,7 +4,6 @@ ghost use Rattle.std.specs.List.{concat};
 ghost use Rattle.bridge_lang.specs.Reason.{line_of};
 ghost use Rattle.bridge_lang.specs.AsmRows as texts;
 ghost use Rattle.bridge_lang.specs.WasmRows as names;
-ghost use Rattle.bridge_lang.specs.WasmRows as outsiders;
 ghost use Rattle.wasm_lang_valid.specs.Rules.{number};
 ghost use Rattle.wasm_lang_valid.specs.Validity.{id};
 ghost use Rattle.bridge_cmd.specs.Refused.{reason_of};
@@ -157,9 +156,9 @@ fn put_outside<E: Sink>(report: &mut E, row: Beyond, value: u64) -> Result<(), F
 
     ensures takes { (n : ℕ) → E.takes report.new n }
     ensures never_falls { E.faults report.old ≤ E.faults report.new }
-    ensures whole { OnOk result (Gains (concat (codes "wasm refused: " ∷ outsiders.beyond_name row ∷ codes " " ∷ decimal value ∷ codes "\n" ∷ []))
+    ensures whole { OnOk result (Gains (concat (codes "wasm refused: " ∷ names.beyond_name row ∷ codes " " ∷ decimal value ∷ codes "\n" ∷ []))
         (seen (E.told report.old) (E.faults report.old)) (seen (E.told report.new) (E.faults report.new))) }
-    ensures front { OnErr result (GainsFront (concat (codes "wasm refused: " ∷ outsiders.beyond_name row ∷ codes " " ∷ decimal value ∷ codes "\n" ∷ []))
+    ensures front { OnErr result (GainsFront (concat (codes "wasm refused: " ∷ names.beyond_name row ∷ codes " " ∷ decimal value ∷ codes "\n" ∷ []))
         (seen (E.told report.old) (E.faults report.old)) (seen (E.told report.new) (E.faults report.new))) }
 {
     let mut digits = Buffer::new();
