@@ -530,6 +530,9 @@ def gate_over_changes(case):
     case.write("HANDLES", FILES["HANDLES"])
     ended = case.gate(HOME="/dev/null")
     case.same("the gate", (ended.status, ended.output), (0, "the program isn't kept for bin/bridge\n"))
+    case.command("chmod", "#!/bin/sh\nexit 0\n")
+    ended = case.gate()
+    case.same("the gate", (ended.status, ended.output), (0, "the program isn't kept for bin/bridge\n"))
     case.same("programs kept", case.kept(), [])
     case.is_clean()
 

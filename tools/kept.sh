@@ -33,7 +33,7 @@ kept_folder() {
 private_folder() {
   local folder=$temporary/bridge-$EUID
   mkdir -m 700 "$folder" 2>/dev/null
-  if [ -L "$folder" ] || [ ! -O "$folder" ] || [ "$(stat -c %F:%a "$folder")" != directory:700 ]; then
+  if [ ! -O "$folder" ] || [ "$(stat -c %F:%a "$folder")" != directory:700 ]; then
     failed "there is no HOME, and $folder isn't a folder of this user alone, where the program could be kept" || return
   fi
   echo "$folder"
@@ -47,7 +47,7 @@ needed() {
       for (i = 1; i <= n; i++) {
         printf "%s", lines[todo[i]]
         split(uses[todo[i]], names, " ")
-        for (k in names) if (names[k] in uses && !(names[k] in met)) { met[names[k]]; todo[++n] = names[k] }
+        for (k in names) if (!(names[k] in met)) { met[names[k]]; todo[++n] = names[k] }
       } }' "$1/crates.txt" 2>/dev/null | LC_ALL=C sort
 }
 

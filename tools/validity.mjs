@@ -8,7 +8,7 @@ import { tmpdir } from "node:os";
 import { dirname, join } from "node:path";
 import { fileURLToPath } from "node:url";
 
-const [program, seedText = "1", countText = "100"] = process.argv.slice(2);
+const [program, seedText = "1", countText = "200"] = process.argv.slice(2);
 const count = Number(countText);
 const LEAST_TAKEN = 0.05; // of the altered modules
 const LEAST_REFUSED = 0.25;
