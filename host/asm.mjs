@@ -74,7 +74,7 @@ export class Memory {
   }
 }
 
-// ---- names, as crates/sem_laws/specs/Names.antt spells them
+// ---- names, as crates/session_lang/specs/Names.antt spells them
 
 /** Whether a name may stand in asm.js as it is. */
 const isPlain = (name) => /^[A-Za-z_$][\w$]*$/.test(name) && name !== "__proto__";

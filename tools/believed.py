@@ -1,11 +1,12 @@
 #!/usr/bin/env python3
-"""Which files the contract of the call `bridge` rests on, against the list in docs/BELIEVE.md.
+"""Which files the contracts of the calls that README claims something of rest on, against the list in docs/BELIEVE.md.
 
     tools/believed.py            exits with 1 where the list lacks a file or has one too many, and names them
     tools/believed.py --write    takes stale lines out of docs/BELIEVE.md and puts missing ones in
     tools/believed.py --names    prints each file with the names that count in it
 
-A definition counts where its name stands in the contract, or in a definition that counts. Names are matched as words, so the
+A definition counts where its name stands in such a contract, or in a definition that counts. It is refused where it stands
+neither in a crate of definitions (X_lang, X_lang_CHAPTER) nor in one of the few that OTHERS names. Names are matched as words, so the
 list may hold a definition too many, where a variable has the name of one. Enums, structs and traits that code declares count
 with the file that declares them, and so do the types in them; the standard library of Rattle is left out.
 """
@@ -20,8 +21,28 @@ from pathlib import Path
 ROOT = Path(__file__).resolve().parent.parent
 CRATES = ROOT / "crates"
 TABLE = ROOT / "docs" / "BELIEVE.md"
-TOP = CRATES / "bridge_cmd" / "src" / "top.rt"
-CALL = "bridge"
+
+# The calls, each with its file and the clauses that README doesn't claim: they say that the code equals a plain function.
+CALLS = [
+    ("bridge_cmd/src/top.rt", "bridge", ()),
+    ("bridge_cmd/src/composed.rt", "round_trips", ()),
+    ("asm2wasm/src/validated.rt", "translate", ("exact",)),
+    ("wasm2js/src/checking.rt", "translate", ("exact",)),
+    ("asm_run/src/session.rt", "run", ()),
+    ("wasm_run/src/instance.rt", "run", ("typed",)),
+]
+
+# Crates without `_lang` in their names that hold definitions, and why.
+OTHERS = {
+    "sem_words": "words and JavaScript values, with the code that equals them",
+    "asm_types": "the types of asm.js, with the code that equals them",
+    "bridge_io": "the traits Files and Sink",
+    "asm_tree": "what a tree of the code says",
+    "wasm_tree": "what a tree of the code says",
+    "heap_views": "what a heap of the code holds",
+    "session_replies": "what is seen of a session, as the code holds it",
+}
+IS_LANG = re.compile(r"\w+_lang(?:_\w+)?")
 
 MODIFIERS = r"(?:(?:pub|abbrev|unfoldable|opaque|lemma) )*"
 DEFINITION = re.compile(rf"{MODIFIERS}([^\s:({{]+)(?: \{{[^}}]*\}})* :")
@@ -216,9 +237,11 @@ def rust_types(path):
 
 
 def types_in(path):
-    """The types of the fields of what a file of code declares."""
+    """The types of the public fields of what a file of code declares; of others a clause sees a model."""
     text = path.read_text(encoding="utf8")
-    declared = re.findall(r"^pub (?:enum|struct) [^;]*?^}", text, re.M)
+    declared = re.findall(r"^pub enum [^;]*?^}", text, re.M)
+    for struct in re.findall(r"^pub struct [^;]*?^}", text, re.M):
+        declared += re.findall(r"^    pub .*", struct, re.M)
     return {word for part in declared for word in re.findall(r"(?:: |[(<])(\w+)", part)}
 
 
@@ -259,24 +282,45 @@ def definition_in(path, pattern, end):
     return text[begin : text.index(end, begin)]
 
 
-def roots_of_contract():
-    """What the contract of the call cites, and the traits and types in its heading."""
-    contract = definition_in(TOP, rf"^pub fn {CALL}\b", "\n{\n")
-    names, modules = imports_of(TOP.read_text(encoding="utf8").splitlines())
-    roots = [resolve(*target) for target in cited_by(contract, names, modules, ()) if target[0]]
-    for name, source in rust_types(TOP).items():
-        if not re.search(rf"\b{name}\b", contract):
+def heading_of(path, call):
+    """The heading of a call with its clauses."""
+    text = path.read_text(encoding="utf8")
+    begin = re.search(rf"^( *)pub fn {call}\b", text, re.M)
+    return text[begin.start() : text.index(f"\n{begin.group(1)}{{\n", begin.start())]
+
+
+def without_clauses(heading, names):
+    """The heading without the clauses of these names."""
+    for name in names:
+        heading = re.sub(rf"^ *ensures {name} \{{.*\n?", "", heading, flags=re.M)
+    return heading
+
+
+def citations_of(text, path):
+    """The definitions that a text of a file of code cites."""
+    names, modules = imports_of(path.read_text(encoding="utf8").splitlines())
+    return [resolve(*target) for target in cited_by(text, names, modules, ()) if target[0]]
+
+
+def roots_of_contract(path, call, left_out):
+    """What the contract of the call cites, and the traits and enums in its heading; of a struct its contract cites a view."""
+    contract = without_clauses(heading_of(path, call), left_out)
+    roots = citations_of(contract, path)
+    for name, source in rust_types(path).items():
+        if not re.search(rf"\b{name}\b", contract) or not re.search(rf"^pub (?:trait|enum) {name}\b", source.read_text(encoding="utf8"), re.M):
             continue
         roots.append((source, None))
         trait = re.search(rf"^pub trait {name}\b", source.read_text(encoding="utf8"), re.M)
         if trait:
-            clauses = definition_in(source, rf"^pub trait {name}\b", "\n}\n")
-            names_there, modules_there = imports_of(source.read_text(encoding="utf8").splitlines())
-            roots += [resolve(*target) for target in cited_by(clauses, names_there, modules_there, ()) if target[0]]
+            roots += citations_of(definition_in(source, rf"^pub trait {name}\b", "\n}\n"), source)
     return [root for root in roots if root]
 
 
 # ---- the list
+
+
+def crate_of(name):
+    return name.split("/")[1]
 
 
 def title_of(path):
@@ -303,7 +347,7 @@ def main():
     parser.add_argument("--names", action="store_true", help="print each file with the names that count in it")
     options = parser.parse_args()
 
-    counted = closure(roots_of_contract())
+    counted = closure([root for file, call, left_out in CALLS for root in roots_of_contract(CRATES / file, call, left_out)])
     wanted = {str(path.relative_to(ROOT)): names for path, names in counted.items()}
     if options.names:
         for name in sorted(wanted):
@@ -318,10 +362,13 @@ def main():
         return 0
     twice = sorted({name for name in listed if listed.count(name) > 1})
     unsaid = [ROW.match(line).group(1) for line in lines if ROW.match(line) and line.endswith(f"| {UNKNOWN} |")]
+    strange = sorted(name for name in wanted if not IS_LANG.fullmatch(crate_of(name)) and crate_of(name) not in OTHERS)
+    for name in strange:
+        print(f"{name}: to be believed, and in no crate of definitions", file=sys.stderr)
     for what, names in (("missing in", missing), ("stale in", stale), ("twice in", twice), ("without its source in", unsaid)):
         for name in names:
             print(f"{name}: {what} docs/BELIEVE.md", file=sys.stderr)
-    return 1 if missing or stale or twice or unsaid else 0
+    return 1 if missing or stale or twice or unsaid or strange else 0
 
 
 if __name__ == "__main__":

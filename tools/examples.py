@@ -1,5 +1,6 @@
 #!/usr/bin/env python3
-"""Runs the commands of examples/commands.txt and of the recipes in docs/USAGE.md, and compares what each prints, and its exit status, with what stands below it.
+"""Runs the commands of README.md, examples/commands.txt and docs/USAGE.md, each file's in a folder of its own, and compares what each prints,
+and its exit status, with what stands below it.
 
     tools/examples.py PROGRAM
 
@@ -13,6 +14,8 @@ import sys
 import tempfile
 
 TOP = pathlib.Path(__file__).resolve().parent.parent
+# Each file, and where in a checkout its commands are run.
+SOURCES = {"README.md": ".", "examples/commands.txt": "examples", "docs/USAGE.md": "."}
 TOOLS = ("node", "clang", "wasm-ld", "wasm-opt")
 
 
@@ -72,17 +75,22 @@ def tried(source, folder, program):
     return sum(command not in over for command, _ in rows), list(over.values()), wrong
 
 
-def main():
-    if len(sys.argv) != 2:
-        sys.exit(__doc__)
-    program = pathlib.Path(sys.argv[1]).resolve()
+def tried_apart(source, program):
+    """The same in a copy of the examples, where bin/bridge is the program."""
     with tempfile.TemporaryDirectory() as name:
         room = pathlib.Path(name)
         for part in ("examples", "host"):
             shutil.copytree(TOP / part, room / part)
         (room / "bin").mkdir()
         (room / "bin" / "bridge").symlink_to(program)
-        counts = [tried("examples/commands.txt", room / "examples", program), tried("docs/USAGE.md", room, program)]
+        return tried(source, room / SOURCES[source], program)
+
+
+def main():
+    if len(sys.argv) != 2:
+        sys.exit(__doc__)
+    program = pathlib.Path(sys.argv[1]).resolve()
+    counts = [tried_apart(source, program) for source in SOURCES]
     run, wrong = sum(count[0] for count in counts), sum(count[2] for count in counts)
     skipped = [tool for _, tools, _ in counts for tool in tools]
     for tool in sorted(set(skipped)):

@@ -61,8 +61,11 @@ COMMANDS = [
     "run-asm sum.js sum.txt",
     "run-asm usual.js usual.txt",
     *(f"{command} wide.wasm" for command in ("check-wasm", "show", "wasm2js")),
+    *(f"{command} usual.wasm" for command in ("check-wasm", "show", "wasm2js")),
     "run-wasm wide.wasm wide.txt",
     "run-wasm usual.wasm usual.txt",
+    "gen 1",
+    "gen 2",
 ]
 
 

@@ -7,17 +7,18 @@ use Rattle.heap_lang.specs.Numbers.{IsBytes}
 use Rattle.sem_words.specs.declared.word.Bin.TheVariants as bins
 use Rattle.sem_words.specs.declared.word.TrapKind.TheVariants as kinds
 use Rattle.sem_words.specs.declared.js_value.JsOp.TheVariants.{Div}
-use Rattle.sem_laws.specs.Script.{WritePlain, ReplyLinePlain, ScriptPlain}
+use Rattle.session_lang.specs.Script.{WritePlain, ReplyLinePlain, ScriptPlain}
 use Rattle.wasm_lang.specs.Instructions.{plain, const32, local_get, bin32, end_mark}
 use Rattle.wasm_lang.specs.Modules.{ElementSegment, WasmModule}
 use Rattle.asm_lang.specs.Modules.{binary, returns, var, Table, Module}
 use Rattle.asm_lang_valid.specs.LimitRows.{foreign_calls}
-use Rattle.asm2wasm_lang.specs.Allowed.{replied_writes, AreBytes, WritesBytes}
+use Rattle.session_lang.specs.Fits.{writes_of}
+use Rattle.session_lang.specs.Written.{AreBytes, WritesBytes}
 use Rattle.asm2wasm_lang.specs.Calling.{exactly}
 use Rattle.asm2wasm_lang.specs.Tables.{entries_of, bases_of}
-use Rattle.asm2wasm_code.specs.Modules.{translation}
-use Rattle.asm2wasm_code.specs.Pieces.{a, b, f, r, t, x, y, signed, function, module_of, called, calls_alone, tabled, continuing}
-use Rattle.asm2wasm.specs.Standing.{NeverTraps, HasFunctions, tables_for, segments_for, HasTables}
+use Rattle.asm2wasm_translation.specs.Modules.{translation}
+use Rattle.asm2wasm_translation.specs.Pieces.{a, b, f, r, t, x, y, signed, function, module_of, called, calls_alone, tabled, continuing}
+use Rattle.asm2wasm_lang.specs.Parts.{NeverTraps, HasFunctions, tables_for, segments_for, HasTables}
 
 -- ---- two tables, after one foreign function
 
@@ -73,11 +74,5 @@ unguarded = record (translation quotient 4096) {
 abbrev by_zero : ScriptPlain
 by_zero = calls_alone (called (pos 7 ∷ pos 0 ∷ []) 1 ∷ [])
 
-writes_nothing : WritesBytes by_zero
-writes_nothing = record {
-  before = All-nil (λ (w : WritePlain). IsBytes w.bytes);
-  replied = All-nil (λ (r : ReplyLinePlain). AreBytes (replied_writes r.reply));
-}
-
 unguarded_traps : NeverTraps quotient 4096 unguarded → ⊥
-unguarded_traps never = never by_zero writes_nothing refl 10 kinds.ZeroDivisor refl
+unguarded_traps never = never by_zero refl 10 kinds.ZeroDivisor refl

@@ -9,8 +9,8 @@ use Rattle.asm_lang.specs.Modules.{Module}
 use Rattle.asm_lang_valid.specs.Typing.{Scope}
 use Rattle.asm_tree.specs.declared.tree.Function.{Function}
 use Rattle.asm_tree.specs.Views.{function_view}
-use Rattle.asm2wasm_code.specs.Numbers.{first_scratch}
-use Rattle.asm2wasm_code.specs.Bodies.{function_code}
+use Rattle.asm2wasm_translation.specs.Numbers.{first_scratch}
+use Rattle.asm2wasm_translation.specs.Bodies.{function_code}
 use Rattle.asm2wasm_emit_switches.specs.Reach.{farthest, ReachIsFarthest}
 use Rattle.asm2wasm.specs.Narrow.{IsNarrowFunction, AreNarrow}
 

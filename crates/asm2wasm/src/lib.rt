@@ -6,5 +6,7 @@ mod standing;
 mod translating;
 mod validated;
 
-pub use translating::translate;
-pub use validated::translate_valid;
+pub use asm2wasm_sections::{is_heap_len, pages_for};
+pub use asm2wasm_tables::TablePlan;
+pub use translating::translate_module;
+pub use validated::translate;

@@ -4,21 +4,22 @@ ghost use Rattle.asm_lang.specs.Heights.{IsWellFormed};
 ghost use Rattle.asm_lang.specs.Modules.{Module};
 ghost use Rattle.asm_lang_valid.specs.Refusal.{IsAccepted};
 ghost use Rattle.asm2wasm_lang.specs.Heaps.{is_heap_length};
-ghost use Rattle.asm2wasm_code.specs.Modules.{translation};
-ghost use Rattle.asm2wasm_laws_writable.specs.Parts.{IsOfShortText};
-ghost use Rattle.asm2wasm.specs.Standing.{StandsFor};
+ghost use Rattle.asm2wasm_translation.specs.Modules.{translation};
+ghost use Rattle.asm2wasm_lang.specs.Parts.{StandsFor};
 
-/// The translation of an accepted module that a short text says stands for it.
+/// The translation of an accepted module that a text says stands for it.
 pub(crate) fn translation_stands()
-    ensures { (m : Module) (size : ℕ) → IsAccepted m → IsWellFormed m → IsOfShortText m → is_heap_length size ≡ true → StandsFor m size (translation m size) }
+    ensures { (m : Module) (size : ℕ) → IsAccepted m → IsWellFormed m → is_heap_length size ≡ true → StandsFor m size (translation m size) }
 {
-    asm2wasm_laws_sessions::translations();
-    asm2wasm_laws_sessions::sessions();
-    asm2wasm_laws_modules::limits();
-    asm2wasm_laws_modules::functions();
-    asm2wasm_laws_modules::calls();
+    asm2wasm_laws_simulation::sessions_laws::translations();
+    asm2wasm_laws_simulation::sessions_laws::sessions();
+    asm2wasm_laws_acceptance::limits();
+    asm2wasm_laws_acceptance::functions();
+    asm2wasm_laws_acceptance::calls();
     asm2wasm_laws_writable::shapes();
     asm2wasm_laws_writable::rooms();
+    asm2wasm_laws_acceptance::exports_laws::one_export();
+    asm2wasm_laws_profile::profile();
     wasm_laws_write::writable();
     asm2wasm_lang::tables_end_to_end();
 }

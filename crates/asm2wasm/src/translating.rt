@@ -4,17 +4,19 @@ ghost use Rattle.sem_words.specs.Lists.{list_items};
 ghost use Rattle.wasm_tree.specs.Views.{type_of, import_of, global_of, export_of, element_of, module_of};
 ghost use Rattle.wasm_lang.specs.Limits.{IsWithinReader};
 ghost use Rattle.wasm_lang.specs.Shape.{IsShaped, IsWritable};
+ghost use Rattle.wasm_lang_valid.specs.Profile.{IsInProfile};
 ghost use Rattle.asm_tree.specs.Views.{module_view};
 ghost use Rattle.asm_lang_valid.specs.Scope.{signature_of};
 ghost use Rattle.asm2wasm_lang.specs.Allowed.{IsAllowed, IsBounded};
 ghost use Rattle.asm2wasm_lang.specs.Heaps.{is_heap_length};
 ghost use Rattle.asm2wasm_lang.specs.Calling.{exports_given};
-ghost use Rattle.asm2wasm_code.specs.Numbers.{signatures, type_number, int_variables};
-ghost use Rattle.asm2wasm_code.specs.Modules.{type_for, imports_of, table_for, global_for, elements_for, translation};
-ghost use Rattle.asm2wasm_laws_writable.specs.Parts.{IsOfShortText};
+ghost use Rattle.asm2wasm_translation.specs.Numbers.{signatures, type_number, int_variables};
+ghost use Rattle.asm2wasm_translation.specs.Modules.{type_for, imports_of, table_for, global_for, elements_for, translation};
+ghost use Rattle.asm2wasm_lang.specs.Small.{IsSmall};
+ghost use Rattle.asm2wasm_lang.specs.Short.{IsOfShortText};
 ghost use Rattle.asm2wasm_sections.specs.Few.{FewTypes, FewFunctions, FewEntries, FewGlobals};
 ghost use Rattle.asm2wasm.specs.Narrow.{AreNarrow};
-ghost use Rattle.asm2wasm.specs.Standing.{NeverTraps, HasFunctions, HasTables};
+ghost use Rattle.asm2wasm_lang.specs.Parts.{NeverTraps, HasFunctions, HasTables};
 
 use crate::bodies::bodies;
 use crate::standing::translation_stands;
@@ -43,24 +45,24 @@ struct Middle<'a> {
     elements: List<Element>,
 }
 
-/// The module of WebAssembly for an accepted module of asm.js, which a short text says, with a heap of so many bytes.
+/// The module of WebAssembly for an accepted module of asm.js with a heap of so many bytes, as a tree.
 ///
-/// It is valid, called as asked, and shows what the text shows, at a bounded pace. Its sessions never trap; it can be
-/// written, and a reader takes it.
-pub fn translate<'a>(
+/// It is valid, called as asked, and shows what the text shows, at a bounded pace. Its sessions never trap. A reader takes
+/// it; where the text is short, it can be written, and where the text is small, translated back.
+pub fn translate_module<'a>(
     alloc: Global,
     checked: &'a Checked,
     heap: u32,
 ) -> Result<Module<'a>, AllocError>
     requires length { is_heap_length heap ≡ true }
-    requires short { IsOfShortText (module_view checked.now) }
     ensures exact { IfOk result (λ w. module_of w ≡ translation (module_view checked.now) heap) }
     ensures allowed { IfOk result (λ w. IsAllowed (module_view checked.now) heap (module_of w)) }
     ensures bounded { IfOk result (λ w. IsBounded (module_view checked.now) heap (module_of w)) }
     ensures never_traps { IfOk result (λ w. NeverTraps (module_view checked.now) heap (module_of w)) }
     ensures within { IfOk result (λ w. IsWithinReader (module_of w)) }
     ensures shaped { IfOk result (λ w. IsShaped (module_of w)) }
-    ensures writable { IfOk result (λ w. IsWritable (module_of w)) }
+    ensures writable { IfOk result (λ w. IsOfShortText (module_view checked.now) → IsWritable (module_of w)) }
+    ensures profile { IfOk result (λ w. IsSmall (module_view checked.now) → IsInProfile (module_of w)) }
     ensures functions { IfOk result (λ w. HasFunctions (module_view checked.now) heap (module_of w)) }
     ensures tables { IfOk result (λ w. HasTables (module_view checked.now) (module_of w)) }
 {
@@ -77,7 +79,6 @@ fn translated<'a>(
     heap: u32,
 ) -> Result<Module<'a>, AllocError>
     requires length { is_heap_length heap ≡ true }
-    requires short { IsOfShortText (module_view numbers.now) }
     ensures { IfOk result (λ w. module_of w ≡ translation (module_view numbers.now) heap) }
 {
     numbers_are_few();

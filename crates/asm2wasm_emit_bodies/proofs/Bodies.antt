@@ -8,8 +8,8 @@ use Rattle.asm_tree.specs.declared.tree.Stmt.{Stmt as CodeStmt}
 use Rattle.asm_tree.specs.declared.tree.Local.{Local}
 use Rattle.asm_tree.specs.declared.tree.Param.{Param}
 use Rattle.asm_tree.specs.Views.{stmt_view, stmts_view, init_view, local_view, param_view}
-use Rattle.asm2wasm_code.specs.Values.{plains}
-use Rattle.asm2wasm_code.specs.Bodies as code
+use Rattle.asm2wasm_translation.specs.Values.{plains}
+use Rattle.asm2wasm_translation.specs.Bodies as code
 use Rattle.asm2wasm_numbers.specs.Functions.{Within, scope_said}
 use Rattle.asm2wasm_emit_values.specs.declared.context.Context.{Context}
 use Rattle.asm2wasm_emit_values.specs.Contexts.{scope_in}

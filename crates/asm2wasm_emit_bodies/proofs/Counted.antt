@@ -3,7 +3,7 @@ use Rattle.std.proofs.Common.{◌≡◌, suc, ◌<◌, ◌≤◌, true, false, L
 use Rattle.std.proofs.lemmas.Bool.Decides.{nat_tests}
 use Rattle.asm_tree.specs.declared.tree.Clause.{Clause}
 use Rattle.asm_tree.specs.Views.{clauses_view}
-use Rattle.asm2wasm_code.specs.Bodies.{clauses_count, is_short, most_blocks}
+use Rattle.asm2wasm_translation.specs.Bodies.{clauses_count, is_short, most_blocks}
 
 pub count_is : (ks : List Clause) → clauses_count (clauses_view ks) ≡ length ks
 count_is [] = refl

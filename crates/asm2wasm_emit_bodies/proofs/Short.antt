@@ -6,12 +6,12 @@ use Rattle.wasm_lang.specs.Instructions.{Instruction, end_mark}
 use Rattle.wasm_lang_exec.specs.Code.{Trees, ε, ◌▹◌, block}
 use Rattle.wasm_laws_trees.specs.Spelled.{flat}
 use Rattle.wasm_laws_write.specs.Lengths.{IsNarrow}
-use Rattle.wasm_laws_bytes.specs.Each.{EachIn}
+use Rattle.wasm_laws_write.specs.Each.{EachIn}
 use Rattle.asm_lang.specs.Modules.{Clauses, no_clauses, clauses}
 use Rattle.asm_lang_valid.specs.Typing.{Scope}
 use Rattle.asm_tree.specs.declared.tree.Clause.{Clause}
 use Rattle.asm_tree.specs.Views.{stmts_view, clauses_view}
-use Rattle.asm2wasm_code.specs.Bodies as code
+use Rattle.asm2wasm_translation.specs.Bodies as code
 use Rattle.asm2wasm_emit_switches.proofs.CaseValues.{clauses_put}
 use Rattle.asm2wasm_emit_bodies.specs.Forms.{clauses_spelled, few_code}
 use Rattle.asm2wasm_emit_bodies.proofs.Counted.{count_is}

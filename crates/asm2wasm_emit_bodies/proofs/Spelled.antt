@@ -8,17 +8,17 @@ use Rattle.wasm_lang.specs.Instructions.{Instruction, end_mark}
 use Rattle.wasm_lang_exec.specs.Code.{Trees, ε, ◌▹◌, ◌⊕◌, block, loop, if_block}
 use Rattle.wasm_laws_trees.specs.Spelled.{flat}
 use Rattle.wasm_laws_write.specs.Lengths.{IsNarrow}
-use Rattle.wasm_laws_bytes.specs.Each.{EachIn}
+use Rattle.wasm_laws_write.specs.Each.{EachIn}
 use Rattle.wasm_lang.specs.Instructions.{local_set}
 use Rattle.asm_lang.specs.Modules.{Expr, Stmt, returns, switches, Clauses}
 use Rattle.asm_lang_exec.specs.Meaning.{before_default}
 use Rattle.asm_tree.specs.declared.tree.Stmt.{Stmt as CodeStmt}
 use Rattle.asm_tree.specs.Views.{stmts_view}
-use Rattle.asm2wasm_code.specs.Values.{plains, number, one, value_code}
+use Rattle.asm2wasm_translation.specs.Values.{plains, number, one, value_code}
 use Rattle.asm2wasm_emit_bodies.specs.Forms.{return_code, few_code, many_code, switch_code}
 use Rattle.asm2wasm_emit_pieces.proofs.Parts.{second_part}
 use Rattle.asm_lang_valid.specs.Typing.{Scope}
-use Rattle.asm2wasm_code.specs.Bodies as code
+use Rattle.asm2wasm_translation.specs.Bodies as code
 
 -- one of so many
 pub one_of : {A : Type 0} (x : A) (a b : List A) (n m : ℕ) → n ≡ suc m → b ≡ a ++ x ∷ [] → a ++ replicate n x ≡ b ++ replicate m x

@@ -12,7 +12,7 @@ use Rattle.asm_lang_valid.specs.Rows.{stmt_count, stmts_count, clauses_count as 
 use Rattle.asm_tree.specs.declared.tree.Stmt.{Stmt as CodeStmt}
 use Rattle.asm_tree.specs.declared.tree.Clause.{Clause}
 use Rattle.asm_tree.specs.Views.{texts_view, stmt_view, stmts_view, clauses_view}
-use Rattle.asm2wasm_code.specs.Bodies as code
+use Rattle.asm2wasm_translation.specs.Bodies as code
 use Rattle.asm2wasm_emit_switches.specs.declared.labels.Open.TheVariants as opens
 use Rattle.asm2wasm_emit_switches.specs.declared.labels.Labels.{Labels}
 use Rattle.asm2wasm_emit_switches.specs.declared.labels.Labels.TheVariants as variants

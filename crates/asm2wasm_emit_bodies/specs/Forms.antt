@@ -5,8 +5,8 @@ use Rattle.wasm_lang_exec.specs.Code.{Trees, ε, ◌▹◌, ◌⊕◌, block, if
 use Rattle.wasm_laws_trees.specs.Spelled.{flat}
 use Rattle.asm_lang.specs.Modules.{Expr, Stmt, Stmts, Clauses, no_clauses, clauses}
 use Rattle.asm_lang_valid.specs.Typing.{Scope}
-use Rattle.asm2wasm_code.specs.Values.{one, value_code}
-use Rattle.asm2wasm_code.specs.Bodies as code
+use Rattle.asm2wasm_translation.specs.Values.{one, value_code}
+use Rattle.asm2wasm_translation.specs.Bodies as code
 
 module _ (size : ℕ) (c : Scope) where
   abbrev pub return_code : Option Expr → Trees

@@ -4,9 +4,9 @@ ghost use Rattle.wasm_lang.specs.Instructions as instructions;
 ghost use Rattle.wasm_lang.specs.Instructions.{end_mark};
 ghost use Rattle.wasm_laws_trees.specs.Spelled.{flat};
 ghost use Rattle.wasm_laws_write.specs.Lengths.{IsNarrow};
-ghost use Rattle.wasm_laws_bytes.specs.Each.{EachIn};
+ghost use Rattle.wasm_laws_write.specs.Each.{EachIn};
 ghost use Rattle.asm_tree.specs.Views.{expr_view, expr_option};
-ghost use Rattle.asm2wasm_code.specs.Bodies as code;
+ghost use Rattle.asm2wasm_translation.specs.Bodies as code;
 ghost use Rattle.asm2wasm_emit_values.specs.Contexts.{scope_in};
 ghost use Rattle.asm2wasm_emit_bodies.specs.Forms.{return_code, subject_code};
 

@@ -2,11 +2,11 @@
 ghost use Rattle.std.specs.Prelude.{◌≡◌, ℕ, ◌+◌, ◌<◌, ◌^◌, [], ◌++◌, OnOk, IfOk, map, option_copied};
 ghost use Rattle.wasm_laws_trees.specs.Spelled.{flat};
 ghost use Rattle.wasm_laws_write.specs.Lengths.{IsNarrow};
-ghost use Rattle.wasm_laws_bytes.specs.Each.{EachIn};
+ghost use Rattle.wasm_laws_write.specs.Each.{EachIn};
 ghost use Rattle.asm_tree.specs.Views.{expr_option, init_view, local_view, stmt_view, stmts_view};
 ghost use Rattle.asm_lang_valid.specs.Typing.{Scope};
-ghost use Rattle.asm2wasm_code.specs.Values as values;
-ghost use Rattle.asm2wasm_code.specs.Bodies as code;
+ghost use Rattle.asm2wasm_translation.specs.Values as values;
+ghost use Rattle.asm2wasm_translation.specs.Bodies as code;
 ghost use Rattle.asm2wasm_numbers.specs.Functions.{scope_said};
 ghost use Rattle.asm2wasm_emit_values.specs.Contexts.{scope_in};
 ghost use Rattle.asm2wasm_emit_bodies.specs.Forms.{last_form};

@@ -1,7 +1,7 @@
 -- What holds of each instruction of a piece after another holds of each of both.
 use Rattle.wasm_lang.specs.Instructions.{Instruction}
 use Rattle.wasm_lang_exec.specs.Code.{unreachable, block, loop, if_block, br, br_if, br_table, return, call, call_indirect, plain, Trees, ε, ◌▹◌, ◌⊕◌}
-use Rattle.wasm_laws_bytes.specs.Each.{EachIn}
+use Rattle.wasm_laws_write.specs.Each.{EachIn}
 
 module _ (P : Instruction → Type 0) where
   pub first_part : (a b : Trees) → EachIn P (a ⊕ b) → EachIn P a

@@ -3,8 +3,8 @@ ghost use Rattle.std.specs.Prelude.{◌≡◌, ◌<◌, ◌^◌, [], ◌∷◌, 
 ghost use Rattle.wasm_lang.specs.Instructions.{plain, local_get, bin32};
 ghost use Rattle.wasm_laws_trees.specs.Spelled.{flat};
 ghost use Rattle.wasm_laws_write.specs.Lengths.{IsNarrow};
-ghost use Rattle.wasm_laws_bytes.specs.Each.{EachIn};
-ghost use Rattle.asm2wasm_code.specs.Values as code;
+ghost use Rattle.wasm_laws_write.specs.Each.{EachIn};
+ghost use Rattle.asm2wasm_translation.specs.Values as code;
 
 use crate::output::Output;
 use sem_words::{Bin, Rel};

@@ -2,7 +2,7 @@
 ghost use Rattle.std.specs.Prelude.{◌≡◌, ◌++◌, OnOk};
 ghost use Rattle.wasm_laws_trees.specs.Spelled.{flat};
 ghost use Rattle.wasm_lang.specs.Instructions.{bin32};
-ghost use Rattle.asm2wasm_code.specs.Values as code;
+ghost use Rattle.asm2wasm_translation.specs.Values as code;
 
 use crate::output::Output;
 use sem_words::{Bin, JsUnary};

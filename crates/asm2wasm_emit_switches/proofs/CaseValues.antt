@@ -10,7 +10,7 @@ use Rattle.asm_tree.specs.declared.tree.Clause.{Clause}
 use Rattle.asm_tree.specs.Views.{ClauseView, stmts_view, clause_view, clauses_view}
 use Rattle.asm_tree.proofs.Views.{clause_view-is}
 use Rattle.asm_lang_valid.specs.Typing.{values}
-use Rattle.asm2wasm_code.specs.Bodies.{lesser, greater, least, greatest, low, span}
+use Rattle.asm2wasm_translation.specs.Bodies.{lesser, greater, least, greatest, low, span}
 use Rattle.asm2wasm_emit_switches.specs.declared.range.CaseRange.{CaseRange}
 use Rattle.asm2wasm_emit_switches.specs.Cases.{value_before, high, range_of, IsWithin}
 

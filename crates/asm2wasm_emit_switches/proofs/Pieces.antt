@@ -11,11 +11,11 @@ use Rattle.wasm_lang_exec.specs.Code.{Trees, ε, ◌▹◌, ◌⊕◌, block, lo
 use Rattle.wasm_laws_trees.specs.Spelled.{flat}
 use Rattle.wasm_laws_trees.proofs.Joined.{flat_joins}
 use Rattle.wasm_laws_write.specs.Lengths.{IsNarrow}
-use Rattle.wasm_laws_bytes.specs.Each.{EachIn}
+use Rattle.wasm_laws_write.specs.Each.{EachIn}
 use Rattle.asm_lang.specs.Modules.{Stmts, Clauses, clauses}
 use Rattle.asm_tree.specs.declared.tree.Clause.{Clause}
 use Rattle.asm_tree.specs.Views.{stmts_view, clauses_view}
-use Rattle.asm2wasm_code.specs.Bodies.{is_dense, case_branches, table_branch, dispatch, case_numbers}
+use Rattle.asm2wasm_translation.specs.Bodies.{is_dense, case_branches, table_branch, dispatch, case_numbers}
 use Rattle.asm2wasm_emit_pieces.proofs.Parts.{first_part, second_part}
 use Rattle.asm2wasm_emit_switches.specs.Cases.{one_clause, tests_for}
 use Rattle.asm2wasm_emit_switches.proofs.CaseValues.{clauses_put}

@@ -2,7 +2,7 @@
 use Rattle.std.proofs.Common.{◌≡◌, ℕ, zero, suc, ◌+◌, Bool, true, false, List, [], ◌++◌, Option, Some, None, refl, sym, ap, ◌∙◌, arith, zero-add}
 use Rattle.std.specs.Prelude.{replicate, if◌then◌else◌}
 use Rattle.std.specs.Borrow.{Bor}
-use Rattle.asm2wasm_code.specs.Bodies as code
+use Rattle.asm2wasm_translation.specs.Bodies as code
 use Rattle.asm2wasm_emit_switches.specs.declared.labels.Branch.{Branch}
 use Rattle.asm2wasm_emit_switches.specs.declared.labels.Branch.TheVariants.{Break, Continue}
 use Rattle.asm2wasm_emit_switches.specs.declared.labels.Open.{Open}

@@ -9,7 +9,7 @@ use Rattle.asm_tree.specs.declared.tree.Clause.{Clause}
 use Rattle.asm_tree.specs.Views.{stmts_view, clauses_view}
 use Rattle.asm_lang_valid.specs.Typing.{values}
 use Rattle.asm_lang_exec.specs.Meaning.{is_case, before_case, before_default, has_case, passed_over}
-use Rattle.asm2wasm_code.specs.Bodies.{targets, low}
+use Rattle.asm2wasm_translation.specs.Bodies.{targets, low}
 use Rattle.asm2wasm_emit_switches.specs.Cases.{targets_from, with_target, IsWithin}
 use Rattle.asm2wasm_emit_switches.proofs.CaseValues.{IsFrom, clauses_put, value_from}
 

@@ -3,7 +3,7 @@ use Rattle.std.specs.Prelude.{ℕ, zero, suc, ◌+◌, ◌<◌, List, [], ◌∷
 use Rattle.wasm_lang_exec.specs.Code.{Trees, ε, ◌▹◌, ◌⊕◌, br}
 use Rattle.asm_lang.specs.Modules.{no_stmts, Clauses, no_clauses, clauses}
 use Rattle.asm_lang_exec.specs.Meaning.{before_case, before_default, has_case}
-use Rattle.asm2wasm_code.specs.Bodies as code
+use Rattle.asm2wasm_translation.specs.Bodies as code
 use Rattle.asm2wasm_emit_switches.specs.declared.range.CaseRange.{CaseRange}
 
 abbrev pub value_before : Option ℤ → List ℤ → List ℤ

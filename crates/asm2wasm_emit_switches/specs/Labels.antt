@@ -1,7 +1,7 @@
 -- The labels that are open, in runs: as the plain list of them.
 use Rattle.std.specs.Prelude.{ℕ, Bool, false, List, [], ◌∷◌, ◌++◌, Option, Some, None, replicate}
 use Rattle.asm_tree.specs.Views.{texts_view}
-use Rattle.asm2wasm_code.specs.Bodies as code
+use Rattle.asm2wasm_translation.specs.Bodies as code
 use Rattle.asm2wasm_emit_switches.specs.declared.labels.Branch.{Branch}
 use Rattle.asm2wasm_emit_switches.specs.declared.labels.Branch.TheVariants.{Break, Continue}
 use Rattle.asm2wasm_emit_switches.specs.declared.labels.Open.{Open}

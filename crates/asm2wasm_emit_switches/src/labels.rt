@@ -2,7 +2,7 @@
 ghost use Rattle.std.specs.Prelude.{◌≡◌, ◌<◌, ◌^◌};
 ghost use Rattle.asm_tree.specs.Views.{text_option, texts_view};
 ghost use Rattle.asm_lang_valid.specs.Scope as scope;
-ghost use Rattle.asm2wasm_code.specs.Bodies as code;
+ghost use Rattle.asm2wasm_translation.specs.Bodies as code;
 ghost use Rattle.asm2wasm_emit_switches.specs.Labels.{run_length, is_met, labels_view, meant};
 
 use sem_words::Text;

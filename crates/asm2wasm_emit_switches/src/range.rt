@@ -2,7 +2,7 @@
 ghost use Rattle.std.specs.Prelude.{◌≡◌, ◌<◌, ◌≤◌, ◌^◌, List, ℤ, length};
 ghost use Rattle.asm_tree.specs.Views.{clauses_view};
 ghost use Rattle.asm_lang_valid.specs.Typing as typing;
-ghost use Rattle.asm2wasm_code.specs.Bodies as code;
+ghost use Rattle.asm2wasm_translation.specs.Bodies as code;
 ghost use Rattle.asm2wasm_emit_switches.specs.Cases.{value_before, range_of};
 
 use asm_tree::Clause;

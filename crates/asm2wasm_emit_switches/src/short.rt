@@ -2,10 +2,10 @@
 ghost use Rattle.std.specs.Prelude.{◌≡◌, ◌<◌, ◌^◌, ◌++◌, true, OnOk, length};
 ghost use Rattle.wasm_laws_trees.specs.Spelled.{flat};
 ghost use Rattle.wasm_laws_write.specs.Lengths.{IsNarrow};
-ghost use Rattle.wasm_laws_bytes.specs.Each.{EachIn};
+ghost use Rattle.wasm_laws_write.specs.Each.{EachIn};
 ghost use Rattle.asm_tree.specs.Views.{clauses_view};
 ghost use Rattle.asm_lang_valid.specs.Typing as typing;
-ghost use Rattle.asm2wasm_code.specs.Bodies as code;
+ghost use Rattle.asm2wasm_translation.specs.Bodies as code;
 ghost use Rattle.asm2wasm_emit_switches.specs.Cases.{one_clause, tests_for};
 
 use crate::range::CaseRange;

@@ -3,7 +3,7 @@ ghost use Rattle.std.specs.Prelude.{◌≡◌, ◌<◌, ◌≤◌, ◌^◌, true
 ghost use Rattle.asm_tree.specs.Views.{clauses_view};
 ghost use Rattle.asm_lang_valid.specs.Typing as typing;
 ghost use Rattle.asm_lang_exec.specs.Meaning as meaning;
-ghost use Rattle.asm2wasm_code.specs.Bodies as code;
+ghost use Rattle.asm2wasm_translation.specs.Bodies as code;
 ghost use Rattle.asm2wasm_emit_switches.specs.Cases.{with_target, IsWithin};
 
 use crate::range::CaseRange;

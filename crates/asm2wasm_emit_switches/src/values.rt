@@ -4,7 +4,7 @@ ghost use Rattle.sem_words.specs.Words as words;
 ghost use Rattle.sem_words.specs.declared.word.Rel.TheVariants as rels;
 ghost use Rattle.wasm_lang.specs.Instructions.{local_get, rel32};
 ghost use Rattle.wasm_laws_trees.specs.Spelled.{flat};
-ghost use Rattle.asm2wasm_code.specs.Values as code;
+ghost use Rattle.asm2wasm_translation.specs.Values as code;
 
 use asm2wasm_emit_pieces::Output;
 use sem_words::Rel;

@@ -6,13 +6,13 @@ use Rattle.wasm_lang_exec.specs.Code.{Trees, ε, ◌⊕◌}
 use Rattle.wasm_laws_trees.specs.Spelled.{flat}
 use Rattle.wasm_laws_trees.proofs.Joined.{flat_joins}
 use Rattle.wasm_laws_write.specs.Lengths.{IsNarrow}
-use Rattle.wasm_laws_bytes.specs.Each.{EachIn}
+use Rattle.wasm_laws_write.specs.Each.{EachIn}
 use Rattle.asm_tree.specs.declared.tree.Expr.{Expr as CodeExpr}
 use Rattle.asm_tree.specs.declared.tree.Link.{Link as CodeLink}
 use Rattle.asm_tree.specs.Views.{LinkView, expr_view, exprs_view, links_view}
 use Rattle.asm_tree.proofs.Views.{link_view-is}
 use Rattle.asm_lang_valid.specs.Typing.{Scope}
-use Rattle.asm2wasm_code.specs.Values.{one, link_operator, expr_code, arguments_code, links_code, comma_code}
+use Rattle.asm2wasm_translation.specs.Values.{one, link_operator, expr_code, arguments_code, links_code, comma_code}
 use Rattle.asm2wasm_emit_pieces.proofs.Parts.{first_part, second_part}
 
 -- ---- what a pass over items keeps

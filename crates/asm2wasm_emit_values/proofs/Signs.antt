@@ -6,7 +6,7 @@ use Rattle.asm_lang_valid.specs.Typing.{is_literal}
 use Rattle.asm_tree.specs.declared.tree.Expr.{Expr as CodeExpr}
 use Rattle.asm_tree.specs.Views.{expr_view, exprs_view}
 use Rattle.asm_validate_limits.specs.Places.{literal_of}
-use Rattle.asm2wasm_code.specs.Values.{is_unsigned, last_unsigned}
+use Rattle.asm2wasm_translation.specs.Values.{is_unsigned, last_unsigned}
 
 pub no_literal_no_zero : (e : Expr) → literal_of e ≡ None → false ≡ is_literal 0 e
 no_literal_no_zero (lit v) h = cc

@@ -5,10 +5,10 @@ use Rattle.wasm_lang.specs.Instructions.{Instruction, drop_operand}
 use Rattle.wasm_lang_exec.specs.Code.{Trees, ε, ◌▹◌, ◌⊕◌}
 use Rattle.wasm_laws_trees.specs.Spelled.{flat}
 use Rattle.wasm_laws_write.specs.Lengths.{IsNarrow}
-use Rattle.wasm_laws_bytes.specs.Each.{EachIn}
+use Rattle.wasm_laws_write.specs.Each.{EachIn}
 use Rattle.asm_lang.specs.Modules.{Expr}
 use Rattle.asm_lang_valid.specs.Typing.{Scope}
-use Rattle.asm2wasm_code.specs.Values.{one, finished, expr_code}
+use Rattle.asm2wasm_translation.specs.Values.{one, finished, expr_code}
 use Rattle.asm2wasm_emit_pieces.proofs.Joined.{joined}
 use Rattle.asm2wasm_emit_pieces.proofs.Parts.{first_part}
 

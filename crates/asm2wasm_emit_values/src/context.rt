@@ -5,7 +5,7 @@ ghost use Rattle.asm_tree.specs.Views.{module_view};
 ghost use Rattle.asm_lang_valid.specs.Typing.{named};
 ghost use Rattle.asm_names.specs.Meanings.{meaning_view};
 ghost use Rattle.asm_names.specs.Members.{IsNumbered};
-ghost use Rattle.asm2wasm_code.specs.Numbers.{place_of, first_scratch};
+ghost use Rattle.asm2wasm_translation.specs.Numbers.{place_of, first_scratch};
 ghost use Rattle.asm2wasm_numbers.specs.Places.{place_seen};
 ghost use Rattle.asm2wasm_emit_values.specs.Contexts.{scope_in};
 

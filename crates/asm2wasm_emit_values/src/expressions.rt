@@ -3,10 +3,10 @@ ghost use Rattle.std.specs.Prelude.{◌≡◌, ◌++◌, true, false, OnOk};
 ghost use Rattle.sem_words.specs.Lists.{text_bytes};
 ghost use Rattle.wasm_laws_trees.specs.Spelled.{flat};
 ghost use Rattle.wasm_laws_write.specs.Lengths.{IsNarrow};
-ghost use Rattle.wasm_laws_bytes.specs.Each.{EachIn};
+ghost use Rattle.wasm_laws_write.specs.Each.{EachIn};
 ghost use Rattle.asm_lang.specs.Modules as form;
 ghost use Rattle.asm_tree.specs.Views.{expr_view, exprs_view, links_view};
-ghost use Rattle.asm2wasm_code.specs.Values.{expr_code, arguments_code, links_code, comma_code};
+ghost use Rattle.asm2wasm_translation.specs.Values.{expr_code, arguments_code, links_code, comma_code};
 ghost use Rattle.asm2wasm_emit_values.specs.Contexts.{scope_in};
 
 use crate::context::Context;

@@ -2,7 +2,7 @@
 ghost use Rattle.std.specs.Prelude.{◌≡◌};
 ghost use Rattle.asm_tree.specs.Views.{expr_view};
 ghost use Rattle.asm_lang_valid.specs.Typing as typing;
-ghost use Rattle.asm2wasm_code.specs.Values as code;
+ghost use Rattle.asm2wasm_translation.specs.Values as code;
 
 use asm_tree::Expr;
 use sem_words::JsOp;

@@ -5,9 +5,9 @@ ghost use Rattle.sem_words.specs.Words.{word_of};
 ghost use Rattle.wasm_lang_exec.specs.Code.{ε, ◌▹◌, unreachable};
 ghost use Rattle.wasm_laws_trees.specs.Spelled.{flat};
 ghost use Rattle.wasm_laws_write.specs.Lengths.{IsNarrow};
-ghost use Rattle.wasm_laws_bytes.specs.Each.{EachIn};
-ghost use Rattle.asm2wasm_code.specs.Numbers.{place_of};
-ghost use Rattle.asm2wasm_code.specs.Values as code;
+ghost use Rattle.wasm_laws_write.specs.Each.{EachIn};
+ghost use Rattle.asm2wasm_translation.specs.Numbers.{place_of};
+ghost use Rattle.asm2wasm_translation.specs.Values as code;
 ghost use Rattle.asm2wasm_emit_values.specs.Contexts.{scope_in};
 
 use crate::context::Context;

@@ -5,10 +5,10 @@ ghost use Rattle.wasm_lang.specs.Instructions.{local_get, local_set};
 ghost use Rattle.wasm_lang_exec.specs.Code.{◌⊕◌};
 ghost use Rattle.wasm_laws_trees.specs.Spelled.{flat};
 ghost use Rattle.wasm_laws_write.specs.Lengths.{IsNarrow};
-ghost use Rattle.wasm_laws_bytes.specs.Each.{EachIn};
+ghost use Rattle.wasm_laws_write.specs.Each.{EachIn};
 ghost use Rattle.asm_lang_valid.specs.Typing.{named};
-ghost use Rattle.asm2wasm_code.specs.Numbers.{base_of};
-ghost use Rattle.asm2wasm_code.specs.Values as code;
+ghost use Rattle.asm2wasm_translation.specs.Numbers.{base_of};
+ghost use Rattle.asm2wasm_translation.specs.Values as code;
 ghost use Rattle.asm2wasm_emit_values.specs.Contexts.{scope_in};
 
 use crate::context::Context;

@@ -1,10 +1,9 @@
 -- Which modules of WebAssembly may stand for one of asm.js, how far apart their budgets lie, and which bytes are written of one.
-use Rattle.std.specs.Prelude.{◌≡◌, ℕ, ◌+◌, ◌*◌, ◌≤◌, List, [], ◌∷◌, length, max, Option, Some, None, All}
-use Rattle.heap_lang.specs.Numbers.{IsBytes}
-use Rattle.sem_laws.specs.Script.{WritePlain, ReplyPlain, give, throw, ReplyLinePlain, ScriptPlain}
-use Rattle.sem_laws.specs.Observation.{ObservationPlain, running}
-use Rattle.sem_laws.specs.Simulation.{Session, Comparison, SourceIsBelow, TargetIsBelow, Sim}
-use Rattle.sem_laws.specs.CallingForms.{script_to_wasm, comparison_to_wasm}
+use Rattle.std.specs.Prelude.{◌≡◌, ◌≢◌, ℕ, ◌+◌, ◌*◌, ◌≤◌, List, [], ◌∷◌, length, max, Option, Some, None}
+use Rattle.session_lang.specs.Script.{ScriptPlain}
+use Rattle.session_lang.specs.Observation.{ObservationPlain, running}
+use Rattle.session_lang.specs.Simulation.{Session, Comparison, SourceIsBelow, TargetIsBelow, Sim}
+use Rattle.session_lang.specs.CallingForms.{script_to_wasm, comparison_to_wasm}
 use Rattle.wasm_lang.specs.Modules.{WasmModule}
 use Rattle.wasm_lang.specs.Grammar.{IsModuleBytes}
 use Rattle.wasm_lang_valid.specs.Validity.{IsValidModule}
@@ -12,14 +11,14 @@ use Rattle.wasm_lang_exec.specs.Session.{first_memory, wasm}
 use Rattle.wasm_lang_exec.specs.Fits as machine
 use Rattle.asm_lang.specs.Modules.{Function, Module}
 use Rattle.asm_lang_valid.specs.Rows.{function_count}
-use Rattle.asm_laws_counts.specs.Counts.{body_clauses}
+use Rattle.asm2wasm_lang.specs.Counts.{body_clauses}
 use Rattle.asm_lang_exec.specs.Session.{asm}
 use Rattle.asm_lang_exec.specs.Fits.{misfit}
 use Rattle.asm2wasm_lang.specs.Calling.{IsCalledAs}
 
 -- ---- sessions
 
--- a session that goes wrong shows nothing; none of an accepted module with a script that fits does
+-- a session that goes wrong shows nothing
 abbrev pub or_nothing : Option ObservationPlain → ObservationPlain
 or_nothing None = running []
 or_nothing (Some seen) = seen
@@ -31,30 +30,20 @@ source_session m size s n = or_nothing (asm m size s n)
 abbrev pub target_session : WasmModule → ScriptPlain → Session
 target_session w s n = wasm w (script_to_wasm s) n
 
--- what a script writes are bytes, as in each script that is read from a text
-abbrev pub replied_writes : ReplyPlain → List WritePlain
-replied_writes (give word writes) = writes
-replied_writes throw = []
-
-abbrev pub AreBytes : List WritePlain → Type 0
-AreBytes ws = All (λ (w : WritePlain). IsBytes w.bytes) ws
-
-pub record WritesBytes (s : ScriptPlain) : Type 0 where
-  pub before : AreBytes s.writes
-  pub replied : All (λ (r : ReplyLinePlain). AreBytes (replied_writes r.reply)) s.replies
-
 -- foreign names are compared as imports, and the memory past the heap with what it was
 abbrev pub comparison : WasmModule → ScriptPlain → Comparison
 comparison w s = comparison_to_wasm (first_memory w (script_to_wasm s))
 
 -- ---- what may be written
 
--- it is valid and called as asked; each script that fits the one fits the other, and the two sessions show the same
+-- It is valid and called as asked. Each script that fits the one fits the other; then the session of the text never goes wrong, and the
+-- two sessions show the same.
 pub record IsAllowed (m : Module) (size : ℕ) (w : WasmModule) : Type 0 where
   pub valid : IsValidModule w
   pub called : IsCalledAs m size w
   pub fits : (s : ScriptPlain) → misfit m size s ≡ None → machine.misfit w (script_to_wasm s) ≡ None
-  pub simulates : (s : ScriptPlain) → WritesBytes s → misfit m size s ≡ None → Sim (comparison w s) (source_session m size s) (target_session w s)
+  pub never_wrong : (s : ScriptPlain) → misfit m size s ≡ None → (units : ℕ) → asm m size s units ≢ None
+  pub simulates : (s : ScriptPlain) → misfit m size s ≡ None → Sim (comparison w s) (source_session m size s) (target_session w s)
 
 -- the bytes spell the module, and no spelling of it is shorter
 pub record IsShortest (bytes : List ℕ) (w : WasmModule) : Type 0 where
@@ -74,5 +63,5 @@ enough_for m s units = 64 * (most_nodes m.functions + 1) * (units + length s.cal
 
 -- a unit is worth no fewer than one reduction, and no more than a number that the largest function gives
 pub record IsBounded (m : Module) (size : ℕ) (w : WasmModule) : Type 0 where
-  pub no_fewer : (s : ScriptPlain) → WritesBytes s → misfit m size s ≡ None → (n : ℕ) → TargetIsBelow (comparison w s) (target_session w s n) (source_session m size s n)
-  pub no_more : (s : ScriptPlain) → WritesBytes s → misfit m size s ≡ None → (n : ℕ) → SourceIsBelow (comparison w s) (source_session m size s n) (target_session w s (enough_for m s n))
+  pub no_fewer : (s : ScriptPlain) → misfit m size s ≡ None → (n : ℕ) → TargetIsBelow (comparison w s) (target_session w s n) (source_session m size s n)
+  pub no_more : (s : ScriptPlain) → misfit m size s ≡ None → (n : ℕ) → SourceIsBelow (comparison w s) (source_session m size s n) (target_session w s (enough_for m s n))

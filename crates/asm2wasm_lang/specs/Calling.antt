@@ -1,6 +1,6 @@
 -- How a module of WebAssembly that stands for one of asm.js is called, and what it asks of its host: ints are i32, foreign members
 -- are imports of the module `env`, a heap is its memory `env` `memory`, and exports keep their keys.
-use Rattle.std.specs.Prelude.{◌≡◌, ℕ, ◌+◌, Bool, false, List, [], ◌∷◌, ◌++◌, length, map, replicate, Option, Some, None, codes, slice_get, if◌then◌else◌}
+use Rattle.std.specs.Prelude.{◌≡◌, ℕ, ◌+◌, Bool, false, List, [], ◌∷◌, ◌++◌, length, map, All, replicate, Option, Some, None, codes, slice_get, if◌then◌else◌}
 use Rattle.wasm_lang.specs.declared.types.ValType.TheVariants.{I32}
 use Rattle.wasm_lang.specs.declared.types.GlobalType.{GlobalType}
 use Rattle.wasm_lang.specs.declared.types.Limits.{Limits}
@@ -8,7 +8,9 @@ use Rattle.wasm_lang.specs.declared.types.ImportKind.{ImportKind}
 use Rattle.wasm_lang.specs.declared.types.ImportKind.TheVariants as imports
 use Rattle.wasm_lang.specs.declared.types.ExportKind.TheVariants as exports
 use Rattle.wasm_lang.specs.Modules.{FunctionType, Imported, Exported, WasmModule}
-use Rattle.asm_lang.specs.Modules.{Module}
+use Rattle.wasm_lang_valid.specs.ModuleRules.{type_of_function}
+use Rattle.asm_lang.specs.Modules.{Function, Module}
+use Rattle.asm_lang_valid.specs.Scope.{signature_of}
 use Rattle.asm_lang_valid.specs.LimitRows.{ForeignCall, foreign_calls}
 use Rattle.asm_lang_valid.specs.Refusal as text
 use Rattle.asm_lang_valid.specs.Refusal.{foreign_globals, has_heap, exported_from}
@@ -75,6 +77,12 @@ memories_asked m size = if has_heap m then from_env (codes "memory") (exactly (p
 abbrev pub exports_given : Module → List Exported
 exports_given m = map (λ (e : text.Exported). record { name = e.key; kind = exports.Func (length (foreign_calls m) + e.function) }) (exported_from m m.exports)
 
+-- function n takes as many ints as that of the text has parameters, and gives one where that has a result
+abbrev pub IsTypedAs : Module → WasmModule → ℕ → Type 0
+IsTypedAs m w n =
+    (f : Function) → slice_get m.functions n ≡ Some f
+    → type_of_function w (length (foreign_calls m) + n) ≡ Some (int_type (length f.params) (signature_of f).result)
+
 -- the module of WebAssembly is called as this one with a heap of this length is, and nothing else is imported or exported
 pub record IsCalledAs (m : Module) (size : ℕ) (w : WasmModule) : Type 0 where
   pub functions : of_kind (function_of w) w.imports ≡ functions_asked m
@@ -82,6 +90,7 @@ pub record IsCalledAs (m : Module) (size : ℕ) (w : WasmModule) : Type 0 where
   pub memories : of_kind memory_of w.imports ≡ memories_asked m size
   pub tables : of_kind table_of w.imports ≡ []
   pub exported : w.exports ≡ exports_given m
+  pub typed : All (λ (e : text.Exported). IsTypedAs m w e.function) (exported_from m m.exports)
   -- all bytes are the host's, and nothing runs before the first call
   pub no_memory : w.memories ≡ []
   pub no_bytes : w.segments ≡ []

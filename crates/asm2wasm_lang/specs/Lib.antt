@@ -1,4 +1,10 @@
+pub mod Counts
 pub mod Heaps
 pub mod Tables
 pub mod Calling
 pub mod Allowed
+pub mod Names
+pub mod Short
+pub mod Small
+pub mod Alone
+pub mod Parts

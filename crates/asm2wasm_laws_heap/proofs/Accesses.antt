@@ -13,7 +13,7 @@ use Rattle.asm_lang_valid.specs.declared.meaning.Element.{Element}
 use Rattle.asm_lang_valid.specs.declared.meaning.Element.TheVariants.{Int8, Uint8, Int16, Uint16, Int32, Uint32}
 use Rattle.asm_lang_valid.specs.Scope.{shift_of}
 use Rattle.asm_lang_exec.specs.Values.{kind_of, element_value}
-use Rattle.asm2wasm_code.specs.Values.{is_signed_element, access}
+use Rattle.asm2wasm_translation.specs.Values.{is_signed_element, access}
 use Rattle.asm2wasm_laws_heap.specs.Guards.{is_within, stored_memory, word_or_zero, loaded_word, is_index, StoresAreGuarded, LoadsAreGuarded}
 use Rattle.asm2wasm_laws_heap.proofs.Places.{Places, places_of, has_size, word_is, negative_is}
 

@@ -4,7 +4,7 @@ use Rattle.std.proofs.lemmas.List.Elements.{recursion_from_All}
 use Rattle.std.specs.List.{AllByRecursion}
 use Rattle.heap_lang.specs.Heap.{with_run}
 use Rattle.heap_lang.proofs.RunLemmas.{with_run-append, length-with_run}
-use Rattle.sem_laws.specs.Script.{WritePlain}
+use Rattle.session_lang.specs.Script.{WritePlain}
 use Rattle.wasm_lang_exec.specs.Store.{written}
 use Rattle.asm_lang_exec.specs.Values.{with_writes}
 use Rattle.asm2wasm_laws_heap.specs.Guards.{WritesStayInFront}

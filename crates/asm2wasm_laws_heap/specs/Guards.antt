@@ -5,7 +5,7 @@ use Rattle.sem_words.specs.Words.{word_of}
 use Rattle.sem_words.specs.JsValues.{to_uint32_of}
 use Rattle.heap_lang.specs.Heap.{IsHeapLength, load, store, load_bytes, store_bytes}
 use Rattle.heap_lang.specs.Numbers.{IsBytes}
-use Rattle.sem_laws.specs.Script.{WritePlain}
+use Rattle.session_lang.specs.Script.{WritePlain}
 use Rattle.wasm_lang.specs.declared.types.MemOp.{MemOp}
 use Rattle.wasm_lang_exec.specs.Store.{written}
 use Rattle.wasm_lang_exec.specs.Plain.{loaded_number}
@@ -13,7 +13,7 @@ use Rattle.asm_types.specs.Values.{is_between, least}
 use Rattle.asm_lang_valid.specs.declared.meaning.Element.{Element}
 use Rattle.asm_lang_valid.specs.Scope.{shift_of}
 use Rattle.asm_lang_exec.specs.Values.{kind_of, element_value, with_writes}
-use Rattle.asm2wasm_code.specs.Values.{is_signed_element, access}
+use Rattle.asm2wasm_translation.specs.Values.{is_signed_element, access}
 
 -- the index is one of an element of 2 ^ k bytes in a heap of this length
 abbrev pub is_within : (k size index : ℕ) → Bool

@@ -12,22 +12,22 @@ use Rattle.wasm_lang_valid.specs.State.{at_start}
 use Rattle.wasm_lang_valid.specs.Validity.{own_type, body_context}
 use Rattle.wasm_laws_trees.specs.Spelled.{flat, closed, reach}
 use Rattle.wasm_laws_trees.specs.Laws.{SizeBoundsLength, LevelsAreKept}
-use Rattle.wasm_laws_bytes.specs.Each.{EachIn}
-use Rattle.wasm_laws_bytes.proofs.Spelled.{each_closed}
+use Rattle.wasm_laws_write.specs.Each.{EachIn}
+use Rattle.wasm_laws_write.proofs.Spelled.{each_closed}
 use Rattle.asm_lang.specs.Heights.{stmts_height, function_height}
 use Rattle.asm_lang.specs.Modules.{Stmt, block, if_only, if_else, while_loop, do_while, for_loop, labelled, switches, Stmts, no_stmts, stmts, Function, Module}
 use Rattle.asm_lang_valid.specs.Rows.{function_count}
 use Rattle.asm_lang_valid.specs.Typed.{scope_of}
-use Rattle.asm_laws_counts.specs.Counts.{stmt_clauses, body_clauses}
-use Rattle.asm2wasm_code.specs.Numbers.{first_scratch}
-use Rattle.asm2wasm_code.specs.Bodies.{function_code}
-use Rattle.asm2wasm_code.specs.Modules.{body_for, translation}
+use Rattle.asm2wasm_lang.specs.Counts.{stmt_clauses, body_clauses}
+use Rattle.asm2wasm_translation.specs.Numbers.{first_scratch}
+use Rattle.asm2wasm_translation.specs.Bodies.{function_code}
+use Rattle.asm2wasm_translation.specs.Modules.{body_for, translation}
 use Rattle.asm2wasm_laws_typed.specs.Labels.{HaveJoinedLabels}
 use Rattle.asm2wasm_laws_typed.proofs.SmallBodies.{functions_are_small}
 use Rattle.asm2wasm_laws_typed.proofs.ReachBodies.{functions_reach}
-use Rattle.asm2wasm_laws_modules.specs.Laws.{room_of}
-use Rattle.asm2wasm_laws_modules.proofs.Contexts.{own_type_is}
-use Rattle.asm2wasm_laws_profile.specs.Small.{HasNoSwitch, HaveNoSwitch}
+use Rattle.asm2wasm_laws_acceptance.specs.Laws.{room_of}
+use Rattle.asm2wasm_laws_acceptance.proofs.Contexts.{own_type_is}
+use Rattle.asm2wasm_lang.specs.Small.{HasNoSwitch, HaveNoSwitch}
 use Rattle.asm2wasm_laws_profile.specs.Light.{IsLight}
 use Rattle.asm2wasm_laws_profile.proofs.Peak.{peak_is_below_length}
 use Rattle.asm2wasm_laws_profile.proofs.Flat.{functions_are_flat}

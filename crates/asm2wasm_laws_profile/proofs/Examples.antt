@@ -3,8 +3,8 @@ use Rattle.std.proofs.Common.{◌≡◌, ◌≤◌, false, refl, arith}
 use Rattle.std.proofs.lemmas.List.Elements.{All-from_recursion, recursion_from_All}
 use Rattle.asm_lang.specs.Modules.{Variable, Function, Module}
 use Rattle.asm_lang_valid.specs.Rows.{function_count}
-use Rattle.asm2wasm_code.specs.Pieces.{continuing, small_elements, switching, few_cases, tabled}
-use Rattle.asm2wasm_laws_profile.specs.Small.{is_foreign_member, HaveNoSwitch, IsSmall}
+use Rattle.asm2wasm_translation.specs.Pieces.{continuing, small_elements, switching, few_cases, tabled}
+use Rattle.asm2wasm_lang.specs.Small.{is_foreign_member, HaveNoSwitch, IsSmall}
 
 abbrev HasNone : Function → Type 0
 HasNone f = HaveNoSwitch f.body

@@ -8,11 +8,11 @@ use Rattle.asm_lang.specs.Heights.{option_height, stmt_heights, stmts_height}
 use Rattle.asm_lang.specs.Modules as text
 use Rattle.asm_lang.specs.Modules.{Expr, Stmt, if_only, if_else, returns, while_loop, do_while, for_loop, breaks, continues, labelled, switches, empty, Stmts, no_stmts, stmts, Variable}
 use Rattle.asm_lang_valid.specs.Typing.{Scope}
-use Rattle.asm2wasm_code.specs.Values.{plains, one, expr_code}
-use Rattle.asm2wasm_code.specs.Bodies.{Label, plainly, named_end, again, loop_code, do_code, part_code, test_code, stmt_code, stmts_code, literal_word, first_value, locals_code, last_code, body_code, in_body}
+use Rattle.asm2wasm_translation.specs.Values.{plains, one, expr_code}
+use Rattle.asm2wasm_translation.specs.Bodies.{Label, plainly, named_end, again, loop_code, do_code, part_code, test_code, stmt_code, stmts_code, literal_word, first_value, locals_code, last_code, body_code, in_body}
 use Rattle.asm2wasm_laws_typed.specs.Labels.{is_labelled, HasJoinedLabels, HaveJoinedLabels}
 use Rattle.asm2wasm_laws_typed.proofs.FlatValues.{plains_levels, value_levels}
-use Rattle.asm2wasm_laws_profile.specs.Small.{HasNoSwitch, HaveNoSwitch}
+use Rattle.asm2wasm_lang.specs.Small.{HasNoSwitch, HaveNoSwitch}
 use Rattle.asm2wasm_laws_profile.specs.Laws.{FunctionsAreFlat}
 
 -- ---- loops

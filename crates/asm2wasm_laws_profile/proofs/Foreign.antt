@@ -18,7 +18,7 @@ use Rattle.asm_lang_valid.specs.Refusal.{with_global, global_imports}
 use Rattle.asm2wasm_laws_within.specs.Uses.{AllUses}
 use Rattle.asm2wasm_laws_within.proofs.Marks.{uses_join, distinct_all}
 use Rattle.asm2wasm_laws_within.proofs.Names.{Plainly, named_holds}
-use Rattle.asm2wasm_laws_profile.specs.Small.{is_foreign_member}
+use Rattle.asm2wasm_lang.specs.Small.{is_foreign_member}
 use Rattle.asm2wasm_laws_profile.specs.Laws.{NothingIsForeign}
 
 -- ---- no name means a foreign function

@@ -6,14 +6,14 @@ use Rattle.wasm_lang.specs.Instructions.{eqz32, local_set}
 use Rattle.wasm_lang_exec.specs.Code.{Trees, ε, ◌▹◌, ◌⊕◌, block, if_block, br, br_if, return}
 use Rattle.asm_lang.specs.Modules as text
 use Rattle.asm_lang.specs.Modules.{Expr, Stmt, if_only, if_else, returns, while_loop, do_while, for_loop, breaks, continues, labelled, switches, empty, Stmts, no_stmts, stmts, Clauses, no_clauses, clauses, Variable, Function, Module}
-use Rattle.wasm_laws_bytes.specs.Each.{EachIn}
+use Rattle.wasm_laws_write.specs.Each.{EachIn}
 use Rattle.asm_lang_valid.specs.Scope.{Meaning, nothing, an_int, an_outside, a_foreign, a_builtin, a_view, a_function, a_table, a_parameter}
 use Rattle.asm_lang_valid.specs.Typed.{scope_of}
 use Rattle.asm_lang_valid.specs.Typing.{Scope, named, values}
 use Rattle.asm_lang_exec.specs.Meaning.{before_default}
-use Rattle.asm2wasm_code.specs.Values.{number, plains, one, expr_code}
-use Rattle.asm2wasm_code.specs.Bodies.{Label, plainly, breakable, named_end, again, loop_code, do_code, clauses_count, is_short, is_dense, table_branch, case_branches, dispatch, case_numbers, first_clause, all_further, part_code, test_code, value_local, number_local, stmt_code, stmts_code, short_code, long_code, literal_word, first_value, locals_code, last_code, body_code, function_code, in_body}
-use Rattle.asm2wasm_laws_modules.proofs.Names.{of_module, table_stands}
+use Rattle.asm2wasm_translation.specs.Values.{number, plains, one, expr_code}
+use Rattle.asm2wasm_translation.specs.Bodies.{Label, plainly, breakable, named_end, again, loop_code, do_code, clauses_count, is_short, is_dense, table_branch, case_branches, dispatch, case_numbers, first_clause, all_further, part_code, test_code, value_local, number_local, stmt_code, stmts_code, short_code, long_code, literal_word, first_value, locals_code, last_code, body_code, function_code, in_body}
+use Rattle.asm2wasm_laws_acceptance.proofs.Names.{of_module, table_stands}
 use Rattle.asm2wasm_laws_profile.specs.Light.{IsLight}
 use Rattle.asm2wasm_laws_profile.specs.Laws.{FunctionsAreLight}
 use Rattle.asm2wasm_laws_profile.proofs.LightValues.{Light, joined, either_light, plains_or_none, NoTable, value_light}

@@ -22,13 +22,13 @@ use Rattle.asm_lang_valid.specs.Rows.{function_count}
 use Rattle.asm_lang_valid.specs.Scope.{Signature, signature_of}
 use Rattle.asm2wasm_lang.specs.Heaps.{is_heap_length, pages_for}
 use Rattle.asm2wasm_lang.specs.Calling.{exactly}
-use Rattle.asm2wasm_code.specs.Numbers.{is_variable, int_variables, asked_signature, is_known, each_once, signatures}
-use Rattle.asm2wasm_code.specs.Modules.{type_for, from_env, imported_function, imported_global, imported_memory, global_for, table_for, elements_for, translation}
+use Rattle.asm2wasm_translation.specs.Numbers.{is_variable, int_variables, asked_signature, is_known, each_once, signatures}
+use Rattle.asm2wasm_translation.specs.Modules.{type_for, from_env, imported_function, imported_global, imported_memory, global_for, table_for, elements_for, translation}
 use Rattle.asm2wasm_laws_typed.specs.Labels.{HaveJoinedLabels}
 use Rattle.asm2wasm_laws_typed.proofs.Said.{labels_are_joined}
-use Rattle.asm2wasm_laws_modules.proofs.Imports.{functions_are_counted}
-use Rattle.asm2wasm_laws_modules.proofs.Valid.{translation_is_valid}
-use Rattle.asm2wasm_laws_profile.specs.Small.{HaveNoSwitch, IsSmall}
+use Rattle.asm2wasm_laws_acceptance.proofs.Imports.{functions_are_counted}
+use Rattle.asm2wasm_laws_acceptance.proofs.Valid.{translation_is_valid}
+use Rattle.asm2wasm_lang.specs.Small.{HaveNoSwitch, IsSmall}
 use Rattle.asm2wasm_laws_profile.specs.Laws.{TranslationIsInProfile}
 use Rattle.asm2wasm_laws_profile.proofs.LightBodies.{functions_are_light}
 use Rattle.asm2wasm_laws_profile.proofs.Foreign.{nothing_is_foreign}

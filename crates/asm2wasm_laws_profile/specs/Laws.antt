@@ -7,7 +7,7 @@ use Rattle.wasm_lang_valid.specs.Profile.{IsInProfile}
 use Rattle.wasm_lang_valid.specs.State.{Level}
 use Rattle.wasm_lang_valid.specs.Typing.{Context}
 use Rattle.wasm_laws_trees.specs.Spelled.{tree_levels}
-use Rattle.wasm_laws_bytes.specs.Each.{EachIn}
+use Rattle.wasm_laws_write.specs.Each.{EachIn}
 use Rattle.asm_lang.specs.Heights.{stmts_height, IsWellFormed}
 use Rattle.asm_lang.specs.Modules.{Variable, Function, Module}
 use Rattle.asm_lang_valid.specs.LimitRows.{foreign_calls}
@@ -15,10 +15,10 @@ use Rattle.asm_lang_valid.specs.Refusal.{foreign_globals, IsAccepted}
 use Rattle.asm_lang_valid.specs.Typed.{scope_of}
 use Rattle.asm_lang_valid.specs.Typing.{Scope}
 use Rattle.asm2wasm_lang.specs.Heaps.{is_heap_length}
-use Rattle.asm2wasm_code.specs.Bodies.{function_code}
-use Rattle.asm2wasm_code.specs.Modules.{translation}
+use Rattle.asm2wasm_translation.specs.Bodies.{function_code}
+use Rattle.asm2wasm_translation.specs.Modules.{translation}
 use Rattle.asm2wasm_laws_typed.specs.Labels.{HaveJoinedLabels}
-use Rattle.asm2wasm_laws_profile.specs.Small.{is_foreign_member, HaveNoSwitch, IsSmall}
+use Rattle.asm2wasm_lang.specs.Small.{is_foreign_member, HaveNoSwitch, IsSmall}
 use Rattle.asm2wasm_laws_profile.specs.Light.{IsLight}
 
 -- ---- operands

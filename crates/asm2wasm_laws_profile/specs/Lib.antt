@@ -1,3 +1,2 @@
-pub mod Small
 pub mod Light
 pub mod Laws

@@ -1,8 +1,8 @@
 //! The translation of a small module of asm.js is a module that the translator from WebAssembly takes.
 #![tactic(auto)]
 
-ghost use Rattle.asm2wasm_code.specs.Pieces.{continuing, small_elements, switching, few_cases, tabled};
-ghost use Rattle.asm2wasm_laws_profile.specs.Small.{IsSmall};
+ghost use Rattle.asm2wasm_translation.specs.Pieces.{continuing, small_elements, switching, few_cases, tabled};
+ghost use Rattle.asm2wasm_lang.specs.Small.{IsSmall};
 ghost use Rattle.asm2wasm_laws_profile.specs.Laws.{PeakIsBelowLength, FunctionsAreFlat, FunctionsAreLight, NothingIsForeign, TranslationIsInProfile};
 
 /// Each instruction leaves at most one operand more than stood before it.

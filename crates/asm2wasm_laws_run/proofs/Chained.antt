@@ -12,7 +12,7 @@ use Rattle.wasm_laws_drive.specs.Equations.{then_on}
 use Rattle.wasm_laws_drive.proofs.Sequences.{sequence}
 use Rattle.asm_lang.specs.Modules.{Param, Variable, Function}
 use Rattle.asm_lang_exec.specs.Runs.{Binding, Place, Run, Part, after}
-use Rattle.asm2wasm_code.specs.Numbers.{local_names, first_scratch}
+use Rattle.asm2wasm_translation.specs.Numbers.{local_names, first_scratch}
 use Rattle.asm2wasm_laws_run.specs.Sim.{Steps, Ends, Shows, Sim, Keeps}
 use Rattle.asm2wasm_laws_run.specs.State.{Fixed, words, names, store_of, run_from}
 use Rattle.asm2wasm_laws_run.proofs.Simulated.{sim_same, sim_bind}

@@ -17,7 +17,7 @@ use Rattle.wasm_laws_drive.specs.Drive.{drive}
 use Rattle.asm_lang_valid.specs.declared.meaning.Element.{Element}
 use Rattle.asm_lang_valid.specs.declared.meaning.Element.TheVariants.{Int8, Uint8, Int16, Uint16, Int32, Uint32}
 use Rattle.asm_lang_valid.specs.Scope.{shift_of, a_view}
-use Rattle.asm2wasm_code.specs.Values.{plains, one, number, scaled, access, store_code}
+use Rattle.asm2wasm_translation.specs.Values.{plains, one, number, scaled, access, store_code}
 use Rattle.asm2wasm_laws_run.specs.Straight.{reached, on_from, effects, paid}
 use Rattle.asm2wasm_laws_heap.specs.Guards.{stored_memory}
 use Rattle.asm2wasm_laws_run.specs.Laws.{store_cost, StoresGuarded}

@@ -1,7 +1,7 @@
 -- How simulations are put together. Neither language is known here.
 use Rattle.std.proofs.Common.{◌≡◌, ℕ, suc, ◌+◌, ◌*◌, ◌≤◌, List, map, ap, ◌∙◌, subst, arith}
-use Rattle.sem_laws.specs.Observation.{EventPlain}
-use Rattle.sem_laws.specs.CallingForms.{event_to_wasm}
+use Rattle.session_lang.specs.Observation.{EventPlain}
+use Rattle.session_lang.specs.CallingForms.{event_to_wasm}
 use Rattle.wasm_laws_drive.specs.Drive.{Outcome, Ended}
 use Rattle.asm_lang_exec.specs.Runs.{Place, Run, goes, stops, spent, wrong, Part, after}
 use Rattle.asm2wasm_laws_run.specs.Sim.{Steps, Comes, Halts, Ends, Shows, Sim, Keeps}

@@ -26,8 +26,8 @@ use Rattle.asm_lang_valid.specs.Scope.{shift_of, a_view}
 use Rattle.asm_lang_exec.specs.Runs.{Place, Part, and_then}
 use Rattle.asm_lang_exec.specs.Session.{heap_length}
 use Rattle.asm_lang_exec.specs.Values.{kind_of, write_element}
-use Rattle.asm2wasm_code.specs.Numbers.{first_scratch}
-use Rattle.asm2wasm_code.specs.Values.{one, store_code}
+use Rattle.asm2wasm_translation.specs.Numbers.{first_scratch}
+use Rattle.asm2wasm_translation.specs.Values.{one, store_code}
 use Rattle.asm2wasm_laws_heap.specs.Guards.{is_within, stored_memory, is_index}
 use Rattle.asm2wasm_laws_heap.proofs.Accesses.{stores_are_guarded}
 use Rattle.asm2wasm_laws_run.specs.Sim.{Steps, Shows, Sim}

@@ -12,7 +12,7 @@ use Rattle.wasm_lang_exec.specs.Reductions.{Code, arity_of, choose}
 use Rattle.wasm_laws_drive.specs.Drive.{Outcome, at, drive, onward}
 use Rattle.wasm_laws_drive.specs.Equations.{is_constant, after, at_label}
 use Rattle.wasm_laws_drive.proofs.Instructions.{no_code, narrow_constant, wide_constant, plain_instruction, if_chooses}
-use Rattle.asm2wasm_code.specs.Values.{plains}
+use Rattle.asm2wasm_translation.specs.Values.{plains}
 use Rattle.asm2wasm_laws_run.specs.Straight.{Reached, reached, on_from, effects, paid}
 use Rattle.asm2wasm_laws_run.specs.Laws.{RunsStraight, RunsChoice}
 

@@ -18,8 +18,8 @@ use Rattle.asm_lang.specs.Modules.{Function, Module}
 use Rattle.asm_lang_valid.specs.Refusal.{has_heap}
 use Rattle.asm_lang_exec.specs.Runs.{Place, Part, and_then}
 use Rattle.asm_lang_exec.specs.Values.{write_element}
-use Rattle.asm2wasm_code.specs.Numbers.{first_scratch}
-use Rattle.asm2wasm_code.specs.Values.{plains, one, store_code}
+use Rattle.asm2wasm_translation.specs.Numbers.{first_scratch}
+use Rattle.asm2wasm_translation.specs.Values.{plains, one, store_code}
 use Rattle.asm2wasm_laws_heap.specs.Guards.{is_within, stored_memory}
 use Rattle.asm2wasm_laws_run.specs.Sim.{Sim}
 use Rattle.asm2wasm_laws_run.specs.Straight.{Reached, effects, paid}

@@ -1,8 +1,8 @@
 -- When the reductions of translated code show what a run of a part of asm.js shows, and how many there are. A unit of asm.js is worth
 -- no fewer than one reduction, and no more than `worth`.
 use Rattle.std.specs.Prelude.{◌≡◌, ℕ, ◌+◌, ◌*◌, ◌≤◌, List, map}
-use Rattle.sem_laws.specs.Observation.{EventPlain, EndPlain}
-use Rattle.sem_laws.specs.CallingForms.{event_to_wasm}
+use Rattle.session_lang.specs.Observation.{EventPlain, EndPlain}
+use Rattle.session_lang.specs.CallingForms.{event_to_wasm}
 use Rattle.wasm_lang_exec.specs.Store.{Store}
 use Rattle.wasm_laws_drive.specs.Drive.{Outcome, Ended, Spent}
 use Rattle.asm_lang_exec.specs.Runs.{Place, Run, goes, stops, spent, wrong}

@@ -7,9 +7,9 @@ use Rattle.sem_words.specs.declared.js_value.JsValue.{JsValue}
 use Rattle.sem_words.specs.declared.js_value.JsValue.TheVariants.{Whole}
 use Rattle.sem_words.specs.JsValues.{to_uint32_of}
 use Rattle.heap_lang.specs.Numbers.{IsBytes}
-use Rattle.sem_laws.specs.Script.{WritePlain, ReplyPlain}
-use Rattle.sem_laws.specs.Observation.{EndPlain, trapped}
-use Rattle.sem_laws.specs.CallingForms.{event_to_wasm, end_to_wasm}
+use Rattle.session_lang.specs.Script.{WritePlain, ReplyPlain}
+use Rattle.session_lang.specs.Observation.{EndPlain, trapped}
+use Rattle.session_lang.specs.CallingForms.{event_to_wasm, end_to_wasm}
 use Rattle.wasm_lang.specs.Modules.{WasmModule}
 use Rattle.wasm_lang_exec.specs.Code.{Trees}
 use Rattle.wasm_lang_exec.specs.Store.{Store}
@@ -18,8 +18,8 @@ use Rattle.wasm_laws_drive.specs.Drive.{Next, at, drive}
 use Rattle.asm_lang.specs.Modules.{Function, Module}
 use Rattle.asm_lang_exec.specs.Runs.{Binding, Place}
 use Rattle.asm_lang_exec.specs.Session.{heap_length}
-use Rattle.asm2wasm_lang.specs.Allowed.{replied_writes}
-use Rattle.asm2wasm_code.specs.Numbers.{local_names, global_names}
+use Rattle.session_lang.specs.Fits.{writes_of}
+use Rattle.asm2wasm_translation.specs.Numbers.{local_names, global_names}
 use Rattle.asm2wasm_laws_heap.specs.Guards.{is_index}
 use Rattle.asm2wasm_laws_run.specs.Sim.{Steps}
 
@@ -49,7 +49,7 @@ pub record Holds (m : Module) (size : ℕ) (f : Function) (p : Place) : Type 0 w
   pub globals : names p.globals ≡ global_names m
   pub heap : length p.heap ≡ heap_length m size
   pub bytes : IsBytes p.heap
-  pub replies : All (λ (r : ReplyPlain). All (Stays (heap_length m size)) (replied_writes r)) p.replies.left
+  pub replies : All (λ (r : ReplyPlain). All (Stays (heap_length m size)) (writes_of r)) p.replies.left
 
 -- ---- ends
 

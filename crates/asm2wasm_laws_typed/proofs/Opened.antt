@@ -7,7 +7,7 @@ use Rattle.wasm_lang_valid.specs.Typing.{Context, inside}
 use Rattle.asm_lang_valid.specs.Scope.{is_in}
 use Rattle.asm_lang_valid.specs.Typing as around
 use Rattle.asm_lang_valid.specs.Typing.{Scope, Around, at_top, in_a_loop, in_a_switch, has_label, has_loop, labels_in}
-use Rattle.asm2wasm_code.specs.Bodies.{Label, plainly, breakable, named_end, is_turn_of, break_label, continue_label, in_body}
+use Rattle.asm2wasm_translation.specs.Bodies.{Label, plainly, breakable, named_end, is_turn_of, break_label, continue_label, in_body}
 use Rattle.asm2wasm_laws_typed.specs.Opened.{open_labels, IsPlaced, Covers}
 use Rattle.asm2wasm_laws_typed.proofs.TypedPieces.{inside_context}
 

@@ -10,9 +10,9 @@ use Rattle.asm_lang.specs.Modules as text
 use Rattle.asm_lang.specs.Modules.{Expr, Stmt, if_only, if_else, returns, while_loop, do_while, for_loop, breaks, continues, labelled, switches, empty, Stmts, no_stmts, stmts, Clauses, no_clauses, clauses, Variable}
 use Rattle.asm_lang_valid.specs.Typing.{Scope, values}
 use Rattle.asm_lang_exec.specs.Meaning.{before_default}
-use Rattle.asm2wasm_code.specs.Numbers.{first_scratch}
-use Rattle.asm2wasm_code.specs.Values.{number, plains, one, expr_code}
-use Rattle.asm2wasm_code.specs.Bodies.{Label, plainly, breakable, named_end, again, loop_code, do_code, clauses_count, is_short, is_dense, table_branch, case_branches, dispatch, case_numbers, first_clause, all_further, part_code, test_code, value_local, number_local, stmt_code, stmts_code, short_code, long_code, literal_word, first_value, locals_code, last_code, body_code, in_body}
+use Rattle.asm2wasm_translation.specs.Numbers.{first_scratch}
+use Rattle.asm2wasm_translation.specs.Values.{number, plains, one, expr_code}
+use Rattle.asm2wasm_translation.specs.Bodies.{Label, plainly, breakable, named_end, again, loop_code, do_code, clauses_count, is_short, is_dense, table_branch, case_branches, dispatch, case_numbers, first_clause, all_further, part_code, test_code, value_local, number_local, stmt_code, stmts_code, short_code, long_code, literal_word, first_value, locals_code, last_code, body_code, in_body}
 use Rattle.asm2wasm_laws_typed.specs.Laws.{StatementsReach, FunctionsReach}
 use Rattle.asm2wasm_laws_typed.proofs.ReachValues.{value_reach}
 

@@ -19,8 +19,8 @@ use Rattle.asm_lang_valid.specs.declared.meaning.Builtin.TheVariants.{Imul, Clz3
 use Rattle.asm_lang_valid.specs.Scope.{shift_of, Meaning, a_foreign, a_builtin, a_view, a_function, a_table}
 use Rattle.asm_lang_valid.specs.Typing.{Scope, named, exprs_length, or_zero}
 use Rattle.asm_lang_valid.specs.Refusal.{foreign_globals}
-use Rattle.asm2wasm_code.specs.Numbers.{VariablePlace, a_local, a_global, nowhere, slot_of, local_names, place_among, place_of, first_scratch, base_of}
-use Rattle.asm2wasm_code.specs.Values.{plains, one, get_code, put_code, quotient, operator, before_operand, after_operand, scaled, load_code, store_code, stored_code, callee_code, dropped, from_base, entry_code, finished, access, is_signed_element, is_unsigned, link_operator, scratch, expr_code, arguments_code, links_code, comma_code}
+use Rattle.asm2wasm_translation.specs.Numbers.{VariablePlace, a_local, a_global, nowhere, slot_of, local_names, place_among, place_of, first_scratch, base_of}
+use Rattle.asm2wasm_translation.specs.Values.{plains, one, get_code, put_code, quotient, operator, before_operand, after_operand, scaled, load_code, store_code, stored_code, callee_code, dropped, from_base, entry_code, finished, access, is_signed_element, is_unsigned, link_operator, scratch, expr_code, arguments_code, links_code, comma_code}
 use Rattle.asm2wasm_laws_typed.specs.Laws.{ExpressionsReach}
 
 -- ---- pieces

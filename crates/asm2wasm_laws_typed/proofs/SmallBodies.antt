@@ -12,10 +12,10 @@ use Rattle.asm_lang.specs.Modules.{Expr, Stmt, if_only, if_else, returns, while_
 use Rattle.asm_lang_valid.specs.Rows.{option_count, stmt_count, stmts_count, clauses_count}
 use Rattle.asm_lang_valid.specs.Typing.{Scope, values}
 use Rattle.asm_lang_exec.specs.Meaning.{before_default}
-use Rattle.asm_laws_counts.specs.Counts.{stmt_clauses, body_clauses, switch_clauses}
-use Rattle.asm2wasm_code.specs.Values.{number, plains, one, expr_code}
-use Rattle.asm2wasm_code.specs.Bodies as code
-use Rattle.asm2wasm_code.specs.Bodies.{Label, plainly, breakable, named_end, again, loop_code, do_code, is_short, is_dense, low, span, targets, case_branches, table_branch, dispatch, case_numbers, first_clause, all_further, part_code, test_code, value_local, number_local, stmt_code, stmts_code, short_code, long_code, literal_word, first_value, locals_code, last_code, body_code, in_body}
+use Rattle.asm2wasm_lang.specs.Counts.{stmt_clauses, body_clauses, switch_clauses}
+use Rattle.asm2wasm_translation.specs.Values.{number, plains, one, expr_code}
+use Rattle.asm2wasm_translation.specs.Bodies as code
+use Rattle.asm2wasm_translation.specs.Bodies.{Label, plainly, breakable, named_end, again, loop_code, do_code, is_short, is_dense, low, span, targets, case_branches, table_branch, dispatch, case_numbers, first_clause, all_further, part_code, test_code, value_local, number_local, stmt_code, stmts_code, short_code, long_code, literal_word, first_value, locals_code, last_code, body_code, in_body}
 use Rattle.asm2wasm_laws_typed.specs.Laws.{StatementsAreSmall, FunctionsAreSmall}
 use Rattle.asm2wasm_laws_typed.proofs.SmallValues.{value_small, else_small, either_small}
 

@@ -20,7 +20,7 @@ use Rattle.asm_lang_valid.specs.declared.meaning.Element.{Element}
 use Rattle.asm_lang_valid.specs.declared.meaning.Element.TheVariants.{Int8, Uint8, Int16, Uint16, Int32, Uint32}
 use Rattle.asm_lang_valid.specs.Scope.{shift_of}
 use Rattle.asm2wasm_lang.specs.Calling.{int_type}
-use Rattle.asm2wasm_code.specs.Values.{access}
+use Rattle.asm2wasm_translation.specs.Values.{access}
 use Rattle.asm2wasm_laws_typed.specs.Laws.{given}
 use Rattle.asm2wasm_laws_typed.specs.Contexts.{variable_int}
 

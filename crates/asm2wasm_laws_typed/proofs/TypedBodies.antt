@@ -20,8 +20,8 @@ use Rattle.asm_lang_valid.specs.Scope.{is_in, gives_value, last_gives_value}
 use Rattle.asm_lang_valid.specs.Rows.{need, expr_count, option_count, stmt_count, stmts_count}
 use Rattle.asm_lang_valid.specs.LimitRows.{rows_of, most_clauses, clauses_length, expr_marks, part_marks, option_marks, stmt_marks, stmts_marks, clauses_marks}
 use Rattle.asm_lang_valid.specs.Typing.{Scope, Around, at_top, in_a_loop, in_a_switch, is_loop, has_loop, new_labels, under_labels, typed_below, type_of, condition_fits, part_fits, cases_fit, result_of, typed, all_typed, clauses_typed}
-use Rattle.asm2wasm_code.specs.Values.{number, plains, one, expr_code}
-use Rattle.asm2wasm_code.specs.Bodies.{Label, plainly, breakable, named_end, next_turn, again, in_body, break_label, continue_label, loop_code, do_code, clauses_count, is_short, dispatch, case_numbers, first_clause, all_further, part_code, test_code, value_local, number_local, stmt_code, stmts_code, short_code, long_code, literal_word, first_value, locals_code, last_code, body_code}
+use Rattle.asm2wasm_translation.specs.Values.{number, plains, one, expr_code}
+use Rattle.asm2wasm_translation.specs.Bodies.{Label, plainly, breakable, named_end, next_turn, again, in_body, break_label, continue_label, loop_code, do_code, clauses_count, is_short, dispatch, case_numbers, first_clause, all_further, part_code, test_code, value_local, number_local, stmt_code, stmts_code, short_code, long_code, literal_word, first_value, locals_code, last_code, body_code}
 use Rattle.asm_lang_exec.specs.Meaning.{before_default}
 use Rattle.asm2wasm_laws_typed.specs.Contexts.{IsContextOf, AreListed}
 use Rattle.asm2wasm_laws_typed.specs.Opened.{returned, IsPlaced, Covers}

@@ -25,9 +25,9 @@ use Rattle.asm_lang_valid.specs.LimitRows.{callee_marks, a_use, rows_of, most_pa
 use Rattle.asm_lang_valid.specs.declared.rule.Rule.TheVariants.{PastLimit}
 use Rattle.asm_lang_valid.specs.Rows.{need}
 use Rattle.asm_lang_valid.specs.Typing.{Scope, named, matches, builtin_arguments, builtin_type, builtin_call, callee_fits, table_fits}
-use Rattle.asm2wasm_code.specs.Numbers.{VariablePlace, a_local, a_global, nowhere, own_number, import_number}
+use Rattle.asm2wasm_translation.specs.Numbers.{VariablePlace, a_local, a_global, nowhere, own_number, import_number}
 use Rattle.asm2wasm_lang.specs.Calling.{int_type}
-use Rattle.asm2wasm_code.specs.Values.{number, plains, one, get_code, put_code, guarded, quotient, operator, before_operand, after_operand, scaled, from_base, load_code, store_code, stored_code, callee_code, builtin_code, dropped, entry_code, finished, access, is_signed_element}
+use Rattle.asm2wasm_translation.specs.Values.{number, plains, one, get_code, put_code, guarded, quotient, operator, before_operand, after_operand, scaled, from_base, load_code, store_code, stored_code, callee_code, builtin_code, dropped, entry_code, finished, access, is_signed_element}
 use Rattle.asm2wasm_laws_typed.specs.Contexts.{IsContextOf, AreListed, variable_int}
 use Rattle.asm2wasm_laws_typed.specs.Laws.{given}
 use Rattle.asm2wasm_laws_typed.proofs.Steps.{const_step, bin_step, rel_step, un_step, eqz_step, drop_step, get_step, set_step, tee_step, global_get_step, global_set_step, stop_step, load_step, store_step, ints, call_step, entry_step}

@@ -13,8 +13,8 @@ use Rattle.wasm_laws_trees.proofs.Joined.{types_join}
 use Rattle.asm_lang.specs.Modules.{Clauses, no_clauses, clauses}
 use Rattle.asm_lang_valid.specs.Typing.{values}
 use Rattle.asm_lang_exec.specs.Meaning.{is_case, has_case, before_case, before_default, passed_over}
-use Rattle.asm2wasm_code.specs.Values.{plains, number}
-use Rattle.asm2wasm_code.specs.Bodies.{clauses_count, is_dense, low, span, targets, case_branches, table_branch, dispatch, case_numbers, first_clause}
+use Rattle.asm2wasm_translation.specs.Values.{plains, number}
+use Rattle.asm2wasm_translation.specs.Bodies.{clauses_count, is_dense, low, span, targets, case_branches, table_branch, dispatch, case_numbers, first_clause}
 use Rattle.asm2wasm_laws_typed.proofs.Steps.{const_step, bin_step, rel_step, get_step, set_step}
 
 -- ---- branches to labels that carry nothing

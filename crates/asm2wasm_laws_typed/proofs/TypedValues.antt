@@ -19,8 +19,8 @@ use Rattle.asm_lang_valid.specs.Rows.{expr_count}
 use Rattle.asm_lang_valid.specs.LimitRows.{expr_marks, exprs_marks, links_marks, comma_marks, call_marks, callee_marks, effect_marks}
 use Rattle.asm_lang_valid.specs.Refusal.{foreign_globals}
 use Rattle.asm_lang_valid.specs.Typing.{Scope, named, typed_below, is_int, index_fits, operated, exprs_length, is_call, or_zero, callee_fits, table_fits, mask_fits, builtin_call, builtin_type, type_of, all_below, links_fit, call_fits, last_type, effect_fits}
-use Rattle.asm2wasm_code.specs.Numbers.{a_global, slot_of, global_names, local_names, place_among, place_of, base_of}
-use Rattle.asm2wasm_code.specs.Values.{plains, one, get_code, put_code, operator, before_operand, after_operand, from_base, load_code, store_code, stored_code, callee_code, dropped, entry_code, is_unsigned, link_operator, scratch, expr_code, arguments_code, links_code, comma_code, void_code}
+use Rattle.asm2wasm_translation.specs.Numbers.{a_global, slot_of, global_names, local_names, place_among, place_of, base_of}
+use Rattle.asm2wasm_translation.specs.Values.{plains, one, get_code, put_code, operator, before_operand, after_operand, from_base, load_code, store_code, stored_code, callee_code, dropped, entry_code, is_unsigned, link_operator, scratch, expr_code, arguments_code, links_code, comma_code, void_code}
 use Rattle.asm2wasm_laws_typed.specs.Contexts.{IsContextOf, AreListed, variable_int}
 use Rattle.asm2wasm_laws_typed.specs.Laws.{given, ValuesAreTyped, CallsAreTyped, EffectsAreTyped}
 use Rattle.asm2wasm_laws_typed.proofs.ReachValues.{slot_below}

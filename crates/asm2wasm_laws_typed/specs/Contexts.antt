@@ -9,8 +9,8 @@ use Rattle.asm_lang_valid.specs.Scope.{a_view, a_function, a_table, Signature, s
 use Rattle.asm_lang_valid.specs.LimitRows.{ForeignCall, Mark, a_row, a_use, is_among, foreign_calls}
 use Rattle.asm_lang_valid.specs.Refusal.{foreign_globals}
 use Rattle.asm_lang_valid.specs.Typing.{Scope, named}
-use Rattle.asm2wasm_code.specs.Numbers.{global_names, own_number, import_number, asked_signature, table_type}
-use Rattle.asm2wasm_code.specs.Modules.{type_for}
+use Rattle.asm2wasm_translation.specs.Numbers.{global_names, own_number, import_number, asked_signature, table_type}
+use Rattle.asm2wasm_translation.specs.Modules.{type_for}
 
 abbrev pub variable_int : GlobalType
 variable_int = record { kind = I32; mutable = true }

@@ -13,10 +13,10 @@ use Rattle.asm_lang_valid.specs.Typed.{scope_of}
 use Rattle.asm_lang_valid.specs.Rows.{expr_count, stmt_count, function_count}
 use Rattle.asm_lang_valid.specs.LimitRows.{expr_marks, call_marks, effect_marks, stmt_marks, stmts_marks}
 use Rattle.asm_lang_valid.specs.Typing.{Scope, Around, at_top, is_loop, type_of, call_fits, effect_fits, typed, all_typed}
-use Rattle.asm_laws_counts.specs.Counts.{stmt_clauses, body_clauses}
-use Rattle.asm2wasm_code.specs.Numbers.{first_scratch}
-use Rattle.asm2wasm_code.specs.Values.{expr_code, void_code}
-use Rattle.asm2wasm_code.specs.Bodies.{Label, stmt_code, function_code}
+use Rattle.asm2wasm_lang.specs.Counts.{stmt_clauses, body_clauses}
+use Rattle.asm2wasm_translation.specs.Numbers.{first_scratch}
+use Rattle.asm2wasm_translation.specs.Values.{expr_code, void_code}
+use Rattle.asm2wasm_translation.specs.Bodies.{Label, stmt_code, function_code}
 use Rattle.asm2wasm_laws_typed.specs.Contexts.{IsContextOf, AreListed}
 use Rattle.asm2wasm_laws_typed.specs.Opened.{returned, IsPlaced, Covers}
 use Rattle.asm2wasm_laws_typed.specs.Labels.{HasJoinedLabels, HaveJoinedLabels}

@@ -5,7 +5,7 @@ use Rattle.wasm_lang.specs.declared.types.ValType.TheVariants.{I32}
 use Rattle.wasm_lang_valid.specs.Typing.{Context}
 use Rattle.asm_lang_valid.specs.Scope.{is_in}
 use Rattle.asm_lang_valid.specs.Typing.{Scope, Around, has_label, has_loop, result_of}
-use Rattle.asm2wasm_code.specs.Bodies.{Label, break_label, continue_label}
+use Rattle.asm2wasm_translation.specs.Bodies.{Label, break_label, continue_label}
 use Rattle.asm2wasm_laws_typed.specs.Contexts.{IsContextOf}
 
 -- the result of a function is an int, if there is one

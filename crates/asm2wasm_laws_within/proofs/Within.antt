@@ -223,6 +223,9 @@ parts_of m h =
     let b = rows_split functions tables a.1 in
     record { whole = whole; globals = a.0; functions = b.0; tables = b.1 }
 
+pub functions_meet_no_row : (m : Module) → IsAccepted m → NoRows (functions_marks m 0 (functions_at m) m.functions)
+functions_meet_no_row m h = (parts_of m h).functions
+
 short_names : (m : Module) → IsAccepted m → (f : Function) (n : List ℕ) → ForeignIsShort (named (scope_of m f) n)
 short_names m h f n =
     let globals = (globals_within m m.globals 0 1 (omega arith) (parts_of m h).globals).1 in

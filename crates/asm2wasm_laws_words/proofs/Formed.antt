@@ -15,7 +15,7 @@ use Rattle.asm_lang.specs.Modules.{Expr, lit, decimal, var, index, call, table_c
 use Rattle.asm_lang_valid.specs.declared.meaning.Builtin.TheVariants.{Imul, Clz32}
 use Rattle.asm_lang_valid.specs.Scope.{Meaning, a_builtin}
 use Rattle.asm_lang_valid.specs.Typing.{Scope, named, literal_type, is_int, index_fits, operated, or_zero, is_call, exprs_length, all_below, builtin_call, call_fits, type_of, last_type}
-use Rattle.asm2wasm_code.specs.Values.{is_unsigned, last_unsigned}
+use Rattle.asm2wasm_translation.specs.Values.{is_unsigned, last_unsigned}
 use Rattle.asm2wasm_laws_words.specs.Laws.{is_unsigned_type, FormSaysType, AlikeByOne}
 
 from_if : (b : Bool) (o : Option ValueType) (t : ValueType) → (if b then o else None) ≡ Some t → o ≡ Some t

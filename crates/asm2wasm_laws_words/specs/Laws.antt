@@ -19,7 +19,7 @@ use Rattle.asm_types.specs.Rows.{accepts, alike, are_below}
 use Rattle.asm_types.specs.Values.{fits_of}
 use Rattle.asm_lang.specs.Modules.{Expr}
 use Rattle.asm_lang_valid.specs.Typing.{Scope, type_of}
-use Rattle.asm2wasm_code.specs.Values.{is_unsigned}
+use Rattle.asm2wasm_translation.specs.Values.{is_unsigned}
 
 -- ---- operators whose code is one instruction
 

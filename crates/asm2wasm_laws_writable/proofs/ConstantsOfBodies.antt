@@ -1,4 +1,4 @@
--- Constants of the code of statements and functions are words, where a body has fewer than 2 ^ 32 clauses.
+-- Constants of the code of statements and functions are words, where no switch has many clauses.
 use Rattle.std.proofs.Common.{ℕ, suc, ◌+◌, ◌^◌, ◌<◌, ◌≤◌, true, false, List, [], ◌∷◌, ◌++◌, length, Option, Some, None, arith}
 use Rattle.std.specs.Prelude.{if◌then◌else◌, ◌==◌, replicate}
 use Rattle.sem_words.proofs.WordLaws.{word_of-IsWord}
@@ -9,17 +9,13 @@ use Rattle.asm_lang.specs.Modules as text
 use Rattle.asm_lang.specs.Modules.{Expr, Stmt, if_only, if_else, returns, while_loop, do_while, for_loop, breaks, continues, labelled, switches, empty, Stmts, no_stmts, stmts, Clauses, no_clauses, clauses, Variable}
 use Rattle.asm_lang_valid.specs.Typing.{Scope, values}
 use Rattle.asm_lang_exec.specs.Meaning.{before_default}
-use Rattle.asm_laws_counts.specs.Counts.{stmt_clauses, body_clauses, switch_clauses}
-use Rattle.asm2wasm_code.specs.Numbers.{base_of}
-use Rattle.asm2wasm_code.specs.Values.{number, plains, one, expr_code}
-use Rattle.asm2wasm_code.specs.Bodies.{Label, plainly, breakable, named_end, again, loop_code, do_code, clauses_count, is_short, is_dense, low, table_branch, case_branches, dispatch, case_numbers, first_clause, all_further, part_code, test_code, value_local, number_local, stmt_code, stmts_code, short_code, long_code, literal_word, first_value, locals_code, last_code, body_code, function_code, in_body}
+use Rattle.asm2wasm_translation.specs.Numbers.{base_of}
+use Rattle.asm2wasm_translation.specs.Values.{number, plains, one, expr_code}
+use Rattle.asm2wasm_translation.specs.Bodies.{Label, plainly, breakable, named_end, again, loop_code, do_code, clauses_count, is_short, is_dense, low, table_branch, case_branches, dispatch, case_numbers, first_clause, all_further, part_code, test_code, value_local, number_local, stmt_code, stmts_code, short_code, long_code, literal_word, first_value, locals_code, last_code, body_code, function_code, in_body}
+use Rattle.asm2wasm_laws_writable.specs.Parts.{HasFewClauses, HaveFewClauses, EachHasFewClauses}
 use Rattle.asm2wasm_laws_writable.proofs.ConstantsOfValues.{Fit, joined, either_fit, plains_or_none, value_fit}
 
 -- ---- switches
-
-count_low : (cs : Clauses) → clauses_count cs ≤ switch_clauses cs
-count_low no_clauses = omega arith
-count_low (clauses v ss cs) = omega (arith, count_low cs)
 
 default_low : (cs : Clauses) → before_default cs ≤ clauses_count cs
 default_low no_clauses = omega arith
@@ -76,7 +72,7 @@ module _ (heap : ℕ) (c : Scope) (short : heap < 2 ^ 32) (bases : (n : List ℕ
   test_fit (Some e) = joined (expr_code heap c true 0 e) (one eqz32 ⊕ (br_if 1 ▹ ε)) (expr_fit e) (tt, (tt, tt))
 
   mutual
-    stmt_fit : (ls : List Label) (own : List (List ℕ)) (s : Stmt) → stmt_clauses s < 2 ^ 32 → Fit (stmt_code heap c ls own s)
+    stmt_fit : (ls : List Label) (own : List (List ℕ)) (s : Stmt) → HasFewClauses s → Fit (stmt_code heap c ls own s)
     stmt_fit ls own (text.block ss) few = stmts_fit ls ss few
     stmt_fit ls own (text.plain e) few = effect_fit e
     stmt_fit ls own empty few = tt
@@ -84,7 +80,7 @@ module _ (heap : ℕ) (c : Scope) (short : heap < 2 ^ 32) (bases : (n : List ℕ
         joined (expr_code heap c true 0 e) (if_block None (stmt_code heap c (plainly ∷ ls) [] s) ε ▹ ε) (expr_fit e) (tt, stmt_fit (plainly ∷ ls) [] s few, tt, tt)
     stmt_fit ls own (if_else e s r) few =
         joined (expr_code heap c true 0 e) (if_block None (stmt_code heap c (plainly ∷ ls) [] s) (stmt_code heap c (plainly ∷ ls) [] r) ▹ ε) (expr_fit e)
-        (tt, stmt_fit (plainly ∷ ls) [] s (omega (arith, few)), stmt_fit (plainly ∷ ls) [] r (omega (arith, few)), tt)
+        (tt, stmt_fit (plainly ∷ ls) [] s few.0, stmt_fit (plainly ∷ ls) [] r few.1, tt)
     stmt_fit ls own (returns None) few = (tt, tt)
     stmt_fit ls own (returns (Some e)) few = joined (expr_code heap c true 0 e) (return ▹ ε) (expr_fit e) (tt, tt)
     stmt_fit ls own (while_loop e s) few =
@@ -100,43 +96,43 @@ module _ (heap : ℕ) (c : Scope) (short : heap < 2 ^ 32) (bases : (n : List ℕ
     stmt_fit ls own (switches e cs) few =
         let t = value_local heap c in
         let k = number_local heap c in
-        let count = count_low cs in
+        let count = few.0 in
         let brief = block None (short_code heap c ls (dispatch t cs) cs) ▹ ε in
         let many = first_clause t k cs ⊕ (block None (long_code heap c ls 0 cs) ▹ ε) in
-        let is_brief : Fit brief = (tt, short_fit ls (dispatch t cs) cs few (dispatch_fit t cs), tt) in
+        let is_brief : Fit brief = (tt, short_fit ls (dispatch t cs) cs few.1 (dispatch_fit t cs), tt) in
         let is_many =
-        joined (first_clause t k cs) (block None (long_code heap c ls 0 cs) ▹ ε) (first_fit t k cs (omega (arith, few, count))) (tt, long_fit ls 0 cs (omega (arith, few)), tt)
+        joined (first_clause t k cs) (block None (long_code heap c ls 0 cs) ▹ ε) (first_fit t k cs (omega (arith, count))) (tt, long_fit ls 0 cs (omega (arith, count)) few.1, tt)
         in
         joined (expr_code heap c true 0 e) (one (local_set t) ⊕ (if is_short cs then brief else many)) (expr_fit e) (tt, either_fit (is_short cs) brief many is_brief is_many)
 
-    stmts_fit : (ls : List Label) (ss : Stmts) → body_clauses ss < 2 ^ 32 → Fit (stmts_code heap c ls ss)
+    stmts_fit : (ls : List Label) (ss : Stmts) → HaveFewClauses ss → Fit (stmts_code heap c ls ss)
     stmts_fit ls no_stmts few = tt
-    stmts_fit ls (stmts s ss) few = joined (stmt_code heap c ls [] s) (stmts_code heap c ls ss) (stmt_fit ls [] s (omega (arith, few))) (stmts_fit ls ss (omega (arith, few)))
+    stmts_fit ls (stmts s ss) few = joined (stmt_code heap c ls [] s) (stmts_code heap c ls ss) (stmt_fit ls [] s few.0) (stmts_fit ls ss few.1)
 
-    short_fit : (ls : List Label) (inside : Trees) (cs : Clauses) → switch_clauses cs < 2 ^ 32 → Fit inside → Fit (short_code heap c ls inside cs)
+    short_fit : (ls : List Label) (inside : Trees) (cs : Clauses) → EachHasFewClauses cs → Fit inside → Fit (short_code heap c ls inside cs)
     short_fit ls inside no_clauses few h = h
     short_fit ls inside (clauses v ss cs) few h =
         let under = replicate (clauses_count cs) plainly ++ breakable ∷ ls in
-        short_fit ls (block None inside ▹ stmts_code heap c under ss) cs (omega (arith, few)) (tt, h, stmts_fit under ss (omega (arith, few)))
+        short_fit ls (block None inside ▹ stmts_code heap c under ss) cs few.1 (tt, h, stmts_fit under ss few.0)
 
-    long_fit : (ls : List Label) (j : ℕ) (cs : Clauses) → j + switch_clauses cs < 2 ^ 32 → Fit (long_code heap c ls j cs)
-    long_fit ls j no_clauses few = tt
-    long_fit ls j (clauses v ss cs) few =
+    long_fit : (ls : List Label) (j : ℕ) (cs : Clauses) → j + clauses_count cs < 2 ^ 32 → EachHasFewClauses cs → Fit (long_code heap c ls j cs)
+    long_fit ls j no_clauses low few = tt
+    long_fit ls j (clauses v ss cs) low few =
         let k = number_local heap c in
-        let clause = joined (stmts_code heap c (plainly ∷ breakable ∷ ls) ss) (all_further k) (stmts_fit (plainly ∷ breakable ∷ ls) ss (omega (arith, few))) (omega arith, (tt, tt)) in
-        (tt, (omega (arith, few), (tt, (tt, clause, tt, long_fit ls (suc j) cs (omega (arith, few))))))
+        let clause = joined (stmts_code heap c (plainly ∷ breakable ∷ ls) ss) (all_further k) (stmts_fit (plainly ∷ breakable ∷ ls) ss few.0) (omega arith, (tt, tt)) in
+        (tt, (omega (arith, low), (tt, (tt, clause, tt, long_fit ls (suc j) cs (omega (arith, low)) few.1))))
 
   -- ---- functions
 
-  last_fit : (s : Stmt) → stmt_clauses s < 2 ^ 32 → Fit (last_code heap c s)
+  last_fit : (s : Stmt) → HasFewClauses s → Fit (last_code heap c s)
   last_fit (returns (Some e)) few = expr_fit e
   last_fit s few = stmt_fit [] [] s few
 
-  statements_fit : (ss : Stmts) → body_clauses ss < 2 ^ 32 → Fit (body_code heap c ss)
+  statements_fit : (ss : Stmts) → HaveFewClauses ss → Fit (body_code heap c ss)
   statements_fit no_stmts few = tt
-  statements_fit (stmts s no_stmts) few = last_fit s (omega (arith, few))
+  statements_fit (stmts s no_stmts) few = last_fit s few.0
   statements_fit (stmts s (stmts r rs)) few =
-      joined (stmt_code heap c [] [] s) (body_code heap c (stmts r rs)) (stmt_fit [] [] s (omega (arith, few))) (statements_fit (stmts r rs) (omega (arith, few)))
+      joined (stmt_code heap c [] [] s) (body_code heap c (stmts r rs)) (stmt_fit [] [] s few.0) (statements_fit (stmts r rs) few.1)
 
   literal_low : (i : Init) → literal_word heap c i < 2 ^ 32
   literal_low (an_int z) = word_of-IsWord 32 z
@@ -153,7 +149,7 @@ module _ (heap : ℕ) (c : Scope) (short : heap < 2 ^ 32) (bases : (n : List ℕ
       let word = literal_word heap c v.init in
       joined (plains (first_value heap c i word)) (locals_code heap c (suc i) vs) (plains_or_none (word == 0) (number word ∷ local_set i ∷ []) (literal_low v.init, (tt, tt))) (locals_fit (suc i) vs)
 
-  pub function_fit : body_clauses c.within.body < 2 ^ 32 → Fit (function_code heap c)
+  pub function_fit : HaveFewClauses c.within.body → Fit (function_code heap c)
   function_fit few =
       let i = length c.within.params in
       joined (locals_code heap c i c.within.locals) (body_code heap c c.within.body) (locals_fit i c.within.locals) (statements_fit c.within.body few)

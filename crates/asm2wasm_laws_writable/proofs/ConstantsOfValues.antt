@@ -13,16 +13,16 @@ use Rattle.wasm_lang.specs.declared.types.ValType.TheVariants.{I32}
 use Rattle.wasm_lang.specs.Instructions as instructions
 use Rattle.wasm_lang.specs.Instructions.{Plain, bin32, local_get, local_set, drop_operand}
 use Rattle.wasm_lang_exec.specs.Code.{Trees, ε, ◌▹◌, ◌⊕◌, if_block}
-use Rattle.wasm_laws_bytes.specs.Each.{EachIn}
-use Rattle.wasm_laws_bytes.proofs.Spelled.{each_joins}
+use Rattle.wasm_laws_write.specs.Each.{EachIn}
+use Rattle.wasm_laws_write.proofs.Spelled.{each_joins}
 use Rattle.asm_lang.specs.Modules.{Expr, lit, decimal, var, index, call, table_call, assign, store, unary, binary, chain, cond, comma, Exprs, no_exprs, exprs, Links, no_links, links}
 use Rattle.asm_lang_valid.specs.declared.meaning.Element.{Element}
 use Rattle.asm_lang_valid.specs.declared.meaning.Element.TheVariants.{Int8, Uint8, Int16, Uint16, Int32, Uint32}
 use Rattle.asm_lang_valid.specs.declared.meaning.Builtin.TheVariants.{Imul, Clz32}
 use Rattle.asm_lang_valid.specs.Scope.{shift_of, Meaning, a_foreign, a_builtin, a_view, a_function, a_table}
 use Rattle.asm_lang_valid.specs.Typing.{Scope, named, exprs_length, or_zero}
-use Rattle.asm2wasm_code.specs.Numbers.{VariablePlace, a_local, a_global, nowhere, place_of, base_of}
-use Rattle.asm2wasm_code.specs.Values.{number, plains, one, get_code, put_code, guarded, quotient, operator, before_operand, after_operand, scaled, load_code, store_code, stored_code, callee_code, dropped, from_base, entry_code, finished, access, is_signed_element, is_unsigned, link_operator, scratch, expr_code, arguments_code, links_code, comma_code}
+use Rattle.asm2wasm_translation.specs.Numbers.{VariablePlace, a_local, a_global, nowhere, place_of, base_of}
+use Rattle.asm2wasm_translation.specs.Values.{number, plains, one, get_code, put_code, guarded, quotient, operator, before_operand, after_operand, scaled, load_code, store_code, stored_code, callee_code, dropped, from_base, entry_code, finished, access, is_signed_element, is_unsigned, link_operator, scratch, expr_code, arguments_code, links_code, comma_code}
 use Rattle.asm2wasm_laws_writable.specs.Parts.{ConstantFits}
 
 -- ---- pieces

@@ -2,6 +2,7 @@ pub mod Lists
 pub mod Named
 pub mod ConstantsOfValues
 pub mod ConstantsOfBodies
+pub mod Clauses
 pub mod Constants
 pub mod Narrow
 pub mod Properties
@@ -10,3 +11,7 @@ pub mod Numbers
 pub mod Short
 pub mod Sections
 pub mod Said
+pub mod OpcodesOfValues
+pub mod OpcodesOfBodies
+pub mod OpcodesOfGlobals
+pub mod Ascii

@@ -16,8 +16,7 @@ use Rattle.wasm_lang_valid.specs.declared.rule.Rule.{Rule}
 use Rattle.wasm_lang_valid.specs.declared.rule.Rule.TheVariants.{NoType, NoFunction, NoTable, NoLocal, NoGlobal, NoLabel, Alignment}
 use Rattle.wasm_lang_valid.specs.Typing as machine
 use Rattle.wasm_lang_valid.specs.Typing.{Context, Shape, Fixed, Leaves, shape, plain_shape, plain_late, call_shape, found, onward, unless, all_labels, listed, inside, natural}
-use Rattle.wasm_lang_exec.specs.Code.{unreachable, block, loop, if_block, br, br_if, br_table, return, call, call_indirect, plain, Trees, ε, ◌▹◌}
-use Rattle.wasm_laws_trees.specs.Spelled.{size, else_size}
+use Rattle.wasm_lang_exec.specs.Code.{unreachable, block, loop, if_block, br, br_if, br_table, return, call, call_indirect, plain, ε, ◌▹◌}
 use Rattle.asm2wasm_laws_writable.specs.Parts.{PlainNamesBelow, HasAtMost}
 use Rattle.asm2wasm_laws_writable.specs.Laws.{TypedNamesAreBelow}
 
@@ -109,24 +108,18 @@ plain_below n c p s most h l = tt
 inside_too : (n : ℕ) (r : Option ValType) (c : Context) → HasAtMost n c → HasAtMost n (inside r c)
 inside_too n r c most = record { types = most.types; functions = most.functions; globals = most.globals; locals = most.locals }
 
--- the size of what is left, and the labels that are open there
-arm_size : (second : Trees) → size second ≤ else_size second (size second)
-arm_size ε = omega arith
-arm_size (x ▹ xs) = omega arith
-
 pub typed_names_are_below : TypedNamesAreBelow
 typed_names_are_below n c ε before after most room t = tt
 typed_names_are_below n c (block r body ▹ code) before after most room t =
     (tt, typed_names_are_below n (inside r c) body [] (listed r) (inside_too n r c most) (omega (arith, room)) t.0, typed_names_are_below n c code (listed r ++ before) after most (omega (arith, room)) t.1)
 typed_names_are_below n c (loop r body ▹ code) before after most room t =
     (tt, typed_names_are_below n (inside None c) body [] (listed r) (inside_too n None c most) (omega (arith, room)) t.0, typed_names_are_below n c code (listed r ++ before) after most (omega (arith, room)) t.1)
-typed_names_are_below n c (if_block r first second ▹ code) before after most room t =
-    let arm = arm_size second in (
-      tt,
-      typed_names_are_below n (inside r c) first [] (listed r) (inside_too n r c most) (omega (arith, room)) t.2,
-      typed_names_are_below n (inside r c) second [] (listed r) (inside_too n r c most) (omega (arith, room, arm)) t.3,
-      typed_names_are_below n c code (listed r ++ t.0) after most (omega (arith, room)) t.4,
-    )
+typed_names_are_below n c (if_block r first second ▹ code) before after most room t = (
+  tt,
+  typed_names_are_below n (inside r c) first [] (listed r) (inside_too n r c most) (omega (arith, room)) t.2,
+  typed_names_are_below n (inside r c) second [] (listed r) (inside_too n r c most) (omega (arith, room)) t.3,
+  typed_names_are_below n c code (listed r ++ t.0) after most (omega (arith, room)) t.4,
+)
 typed_names_are_below n c (unreachable ▹ code) before after most room t = (tt, typed_names_are_below n c code (t.gives ++ t.below) after most (omega (arith, room)) t.goes_on)
 typed_names_are_below n c (br l ▹ code) before after most room t =
     let within = found_within NoLabel c.labels l (λ label. Leaves (listed label)) t.form t.has_form in

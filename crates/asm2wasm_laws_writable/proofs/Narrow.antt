@@ -16,27 +16,26 @@ use Rattle.wasm_lang_exec.specs.Code.{unreachable, block, loop, if_block, br, br
 use Rattle.wasm_laws_sound.specs.Trees.{IsTyped}
 use Rattle.wasm_laws_sound.specs.Laws.{in_body}
 use Rattle.wasm_laws_sound.proofs.Nesting.{tree_is_typed}
-use Rattle.wasm_laws_trees.specs.Spelled.{closed}
+use Rattle.wasm_laws_trees.specs.Spelled.{closed, tree_levels}
 use Rattle.wasm_laws_trees.specs.Laws.{IsReadAgain, LevelsAreKept}
 use Rattle.wasm_laws_write.specs.Lengths.{PlainIsNarrow, IsNarrow}
-use Rattle.wasm_laws_bytes.specs.Each.{EachIn}
+use Rattle.wasm_laws_write.specs.Each.{EachIn}
 use Rattle.asm_lang.specs.Modules.{Function, Module}
 use Rattle.asm_lang_valid.specs.Rows.{function_count, functions_count}
 use Rattle.asm_lang_valid.specs.Scope.{signature_of}
 use Rattle.asm_lang_valid.specs.Typed.{scope_of}
 use Rattle.asm_lang_valid.specs.Refusal.{foreign_globals, IsAccepted}
-use Rattle.asm_laws_counts.specs.Counts.{body_clauses, functions_clauses}
+use Rattle.asm2wasm_lang.specs.Counts.{body_clauses, functions_clauses}
 use Rattle.asm2wasm_lang.specs.Calling.{constant_int}
-use Rattle.asm2wasm_code.specs.Numbers.{type_number, signatures}
-use Rattle.asm2wasm_code.specs.Modules.{type_for, body_for, translation}
-use Rattle.asm2wasm_code.specs.Bodies.{function_code}
-use Rattle.asm2wasm_laws_typed.proofs.SmallBodies.{functions_are_small}
+use Rattle.asm2wasm_translation.specs.Numbers.{type_number, signatures}
+use Rattle.asm2wasm_translation.specs.Modules.{type_for, body_for, translation}
+use Rattle.asm2wasm_translation.specs.Bodies.{function_code}
 use Rattle.asm2wasm_laws_within.specs.Within.{FunctionIsWithin}
 use Rattle.asm2wasm_laws_within.proofs.Within.{accepted_are_within}
-use Rattle.asm2wasm_laws_modules.proofs.Lists.{all_at}
-use Rattle.asm2wasm_laws_modules.proofs.Imports.{functions_are_counted}
-use Rattle.asm2wasm_laws_modules.proofs.Contexts.{imported_are, own_type_is, body_is_valid}
-use Rattle.asm2wasm_laws_modules.proofs.Readable.{translation_is_within}
+use Rattle.asm2wasm_laws_acceptance.proofs.Lists.{all_at}
+use Rattle.asm2wasm_laws_acceptance.proofs.Imports.{functions_are_counted}
+use Rattle.asm2wasm_laws_acceptance.proofs.Contexts.{imported_are, own_type_is, body_is_valid}
+use Rattle.asm2wasm_laws_acceptance.proofs.Readable.{translation_is_within}
 use Rattle.asm2wasm_laws_writable.specs.Parts.{PlainNamesBelow, NamesBelow, HasAtMost, PlainConstantFits, ConstantFits}
 use Rattle.asm2wasm_laws_writable.specs.Laws.{FunctionsAreNarrow}
 use Rattle.asm2wasm_laws_writable.proofs.Lists.{from_places}
@@ -81,7 +80,7 @@ instruction_narrow (flat.call f) a b = a
 instruction_narrow (flat.call_indirect t) a b = a
 instruction_narrow i a b = tt
 
--- ---- functions of a short text
+-- ---- functions of few nodes
 
 abbrev pub HasFewNodes : Function → Type 0
 HasFewNodes f = function_count f + body_clauses f.body ≤ 2 ^ 25
@@ -106,6 +105,18 @@ module _ (m : Module) (heap : ℕ) where
   all_few_locals within =
       let w = translation m heap in
       few_locals m.functions (recursion_from_All (λ (f : ℕ × FunctionBody). reader.params_of w.types f.0 + length f.1.locals ≤ reader.most_locals) (zip w.functions w.bodies) within.locals)
+
+  abbrev HasFewLevels : Function → Type 0
+  HasFewLevels f = tree_levels (function_code heap (scope_of m f)) ≤ 300000
+
+  few_levels : LevelsAreKept → (fs : List Function) → AllByRecursion (λ (b : FunctionBody). reader.levels b.code ≤ 300000) (map (body_for m heap) fs) → AllByRecursion HasFewLevels fs
+  few_levels kept [] a = tt
+  few_levels kept (f ∷ fs) a = ((let here = a.0 in let same = kept (function_code heap (scope_of m f)) in omega (arith, here, same)), few_levels kept fs a.1)
+
+  all_few_levels : LevelsAreKept → reader.IsWithinReader (translation m heap) → AllByRecursion HasFewLevels m.functions
+  all_few_levels kept within =
+      let w = translation m heap in
+      few_levels kept m.functions (recursion_from_All (λ (b : FunctionBody). reader.levels b.code ≤ reader.most_levels) w.bodies within.body_levels)
 
   few_functions : IsAccepted m → length (function_types (translation m heap)) ≤ 75000
   few_functions ok =
@@ -136,7 +147,7 @@ module _ (m : Module) (heap : ℕ) where
 -- ---- functions
 
 pub functions_are_narrow : IsReadAgain → LevelsAreKept → PagesAreFew → PagesHold → FunctionsAreNarrow
-functions_are_narrow again kept few hold m heap ok formed short h = from_places (λ (f : Function). EachIn IsNarrow (function_code heap (scope_of m f))) m.functions narrow
+functions_are_narrow again kept few hold m heap ok formed h = from_places (λ (f : Function). EachIn IsNarrow (function_code heap (scope_of m f))) m.functions narrow
   where
     within : reader.IsWithinReader (translation m heap)
     within = translation_is_within kept m heap ok formed
@@ -165,8 +176,7 @@ functions_are_narrow again kept few hold m heap ok formed short h = from_places 
     narrow i f is =
         let base = body_context (translation m heap) i (body_for m heap f) in
         let code = function_code heap (scope_of m f) in
-        let small = functions_are_small heap (scope_of m f) in
-        let nodes = all_at HasFewNodes m.functions i f (few_nodes m.functions short.nodes) is in
-        let named = typed_names_are_below (2 ^ 32) (in_body base) code [] (listed base.returns) (most i f is) (omega (arith, small, nodes)) (is_typed i f is) in
-        let constants = all_at (λ (f : Function). EachIn ConstantFits (function_code heap (scope_of m f))) m.functions i f (constants_fit few hold m heap ok short h) is in
+        let flat = all_at (HasFewLevels m heap) m.functions i f (all_few_levels m heap kept within) is in
+        let named = typed_names_are_below (2 ^ 32) (in_body base) code [] (listed base.returns) (most i f is) (omega (arith, flat)) (is_typed i f is) in
+        let constants = all_at (λ (f : Function). EachIn ConstantFits (function_code heap (scope_of m f))) m.functions i f (constants_fit few hold m heap ok formed h) is in
         each_both (NamesBelow (2 ^ 32)) ConstantFits IsNarrow instruction_narrow code named constants

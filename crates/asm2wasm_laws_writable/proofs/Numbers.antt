@@ -13,8 +13,8 @@ use Rattle.wasm_laws_trees.specs.Laws.{IsReadAgain, LevelsAreKept}
 use Rattle.wasm_laws_write.specs.Fits.{FitsU32, InstructionFits, LimitsFit, ImportFits, ExportFits, ElementFits, SegmentFits, BodyFits}
 use Rattle.wasm_laws_write.specs.Lengths.{IsNarrow}
 use Rattle.wasm_laws_write.proofs.Short.{narrow_fit}
-use Rattle.wasm_laws_bytes.specs.Each.{EachIn}
-use Rattle.wasm_laws_bytes.proofs.Spelled.{narrow_trees_fit}
+use Rattle.wasm_laws_write.specs.Each.{EachIn}
+use Rattle.wasm_laws_write.proofs.Spelled.{narrow_trees_fit}
 use Rattle.asm_lang.specs.Trees.{Init, number, decimal, foreign_int, foreign_double, member, math, view}
 use Rattle.asm_lang.specs.Modules.{Variable, Function, Table, Export, Exports, one, many, Module}
 use Rattle.asm_lang_valid.specs.Scope.{Signature, signature_of}
@@ -25,12 +25,12 @@ use Rattle.asm_lang_valid.specs.Refusal.{foreign_globals, has_heap, IsAccepted, 
 use Rattle.asm2wasm_lang.specs.Heaps.{pages_for}
 use Rattle.asm2wasm_lang.specs.Calling.{exactly}
 use Rattle.asm2wasm_lang.specs.Tables.{members_of, entries_from, entries_of}
-use Rattle.asm2wasm_code.specs.Numbers.{slot_of, int_variables, asked_signature, is_signature, place_of_type, signatures, type_number}
-use Rattle.asm2wasm_code.specs.Modules.{type_for, from_env, imported_function, imported_global, or_zero, first_value, global_for, table_for, elements_for, body_for, translation}
-use Rattle.asm2wasm_code.specs.Bodies.{function_code}
+use Rattle.asm2wasm_translation.specs.Numbers.{slot_of, int_variables, asked_signature, is_signature, place_of_type, signatures, type_number}
+use Rattle.asm2wasm_translation.specs.Modules.{type_for, from_env, imported_function, imported_global, or_zero, first_value, global_for, table_for, elements_for, body_for, translation}
+use Rattle.asm2wasm_translation.specs.Bodies.{function_code}
 use Rattle.asm2wasm_laws_within.specs.Within.{members}
 use Rattle.asm2wasm_laws_within.proofs.Within.{accepted_are_within}
-use Rattle.asm2wasm_laws_modules.proofs.Readable.{translation_is_within}
+use Rattle.asm2wasm_laws_acceptance.proofs.Readable.{translation_is_within}
 use Rattle.asm2wasm_laws_writable.specs.Laws.{TranslationsNumbersFit}
 use Rattle.asm2wasm_laws_writable.proofs.Lists.{both_all}
 use Rattle.asm2wasm_laws_writable.proofs.Constants.{PagesAreFew, PagesHold}
@@ -191,7 +191,7 @@ bodies_fit m heap (f ∷ fs) a b =
     (record { locals = omega (arith, few); code = narrow_trees_fit (function_code heap (scope_of m f)) b.0 }, bodies_fit m heap fs a.1 b.1)
 
 pub numbers_fit_in_translations : IsReadAgain → LevelsAreKept → PagesAreFew → PagesHold → TranslationsNumbersFit
-numbers_fit_in_translations again kept few hold m heap ok formed short h =
+numbers_fit_in_translations again kept few hold m heap ok formed h =
     let w = translation m heap in
     let within = translation_is_within kept m heap ok formed in
     let types = within.types in
@@ -204,6 +204,6 @@ numbers_fit_in_translations again kept few hold m heap ok formed short h =
       exports = All-from_recursion (λ (e : Exported). ExportFits e.kind) w.exports (exports_fit m ok m.exports);
       start = tt;
       elements = All-from_recursion ElementFits w.elements (elements_fit m ok m.tables);
-      bodies = All-from_recursion BodyFits w.bodies (bodies_fit m heap m.functions (all_few_locals m heap within) (functions_are_narrow again kept few hold m heap ok formed short h));
+      bodies = All-from_recursion BodyFits w.bodies (bodies_fit m heap m.functions (all_few_locals m heap within) (functions_are_narrow again kept few hold m heap ok formed h));
       segments = All-from_recursion SegmentFits [] tt;
     }

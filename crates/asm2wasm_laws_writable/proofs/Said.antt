@@ -11,14 +11,14 @@ use Rattle.asm_lang.specs.Lexemes.{lexeme_of, lexemes_of}
 use Rattle.asm_lang.specs.Modules.{Module, module_of, module_places}
 use Rattle.asm_lang.specs.Heights.{IsWellFormed}
 use Rattle.asm_lang.specs.Texts.{SaysModule}
-use Rattle.asm_lang_valid.specs.Rows.{functions_count, exports_count, module_count}
+use Rattle.asm_lang_valid.specs.Rows.{module_count}
 use Rattle.asm_lang_valid.proofs.Places.{module_counted}
-use Rattle.asm_laws_counts.specs.Counts.{functions_clauses, module_clauses}
-use Rattle.asm_laws_counts.proofs.Modules.{module_size}
-use Rattle.asm_laws_counts.proofs.Names.{names_within}
-use Rattle.asm2wasm_laws_writable.specs.Parts.{IsOfShortText}
+use Rattle.asm2wasm_lang.specs.Counts.{module_clauses}
+use Rattle.asm2wasm_laws_counts.proofs.Modules.{module_size}
+use Rattle.asm2wasm_laws_counts.proofs.Names.{names_within}
+use Rattle.asm2wasm_lang.specs.Short.{IsOfShortText}
 use Rattle.asm2wasm_laws_writable.specs.Laws.{ShortTextsAreShort, TranslationIsWritable}
-use Rattle.asm2wasm_code.specs.Modules.{translation}
+use Rattle.asm2wasm_translation.specs.Modules.{translation}
 use Rattle.asm2wasm_laws_writable.proofs.Constants.{PagesAreFew, PagesHold}
 use Rattle.asm2wasm_laws_writable.proofs.Shaped.{translation_is_shaped}
 use Rattle.asm2wasm_laws_writable.proofs.Numbers.{numbers_fit_in_translations}
@@ -41,12 +41,8 @@ few_tokens (token_first {bs = bs} {t = t} e j) a =
 
 -- ---- nodes
 
-record HasFew (m : Module) : Type 0 where
-  nodes : functions_count m.functions + functions_clauses m.functions ≤ 2 ^ 25
-  exports : exports_count m.exports ≤ 2 ^ 25
-
-has_few : (m : Module) (places tokens bytes : ℕ) → places + module_clauses m ≤ 2 * tokens → places ≡ module_count m → tokens ≤ bytes → bytes ≤ 16777216 → HasFew m
-has_few m places tokens bytes size counted few short = record { nodes = omega (arith, size, counted, few, short); exports = omega (arith, size, counted, few, short) }
+few_nodes : (m : Module) (places tokens bytes : ℕ) → places + module_clauses m ≤ 2 * tokens → places ≡ module_count m → tokens ≤ bytes → bytes ≤ 16777216 → module_count m + module_clauses m ≤ 2 ^ 25
+few_nodes m places tokens bytes size counted few short = omega (arith, size, counted, few, short)
 
 pub short_texts_are_short : ShortTextsAreShort
 short_texts_are_short text m accepted short =
@@ -54,8 +50,8 @@ short_texts_are_short text m accepted short =
     let tokens : length (lexemes_of said.tokens) ≡ length said.tokens = length-map said.tokens lexeme_of in
     let few = few_tokens (joined_of said.is_reading) (forms_of said.is_reading) in
     let names = names_within text said.tokens said.tree said.is_reading said.is_module in
-    let counts = has_few (module_of said.tree) (length (module_places said.tree)) (length (lexemes_of said.tokens)) (length text) (module_size said.is_module) (module_counted said.tree) (omega (arith, tokens, few)) short in
-    subst IsOfShortText said.is_this (record { nodes = counts.nodes; exports = counts.exports; names = omega (arith, names, short) })
+    let nodes = few_nodes (module_of said.tree) (length (module_places said.tree)) (length (lexemes_of said.tokens)) (length text) (module_size said.is_module) (module_counted said.tree) (omega (arith, tokens, few)) short in
+    subst IsOfShortText said.is_this (record { nodes = nodes; names = omega (arith, names, short) })
 
 -- ---- the whole
 
@@ -73,5 +69,5 @@ pub translation_is_writable : IsReadAgain → IsWellNested → LevelsAreKept →
 translation_is_writable again nested kept few hold text m heap accepted length_of h =
     let formed = well_formed text m accepted.places accepted.says in
     let short = short_texts_are_short text m accepted length_of in
-    fitting_are_writable (translation m heap) (translation_is_shaped nested m heap formed) (numbers_fit_in_translations again kept few hold m heap accepted.accepted formed short h)
+    fitting_are_writable (translation m heap) (translation_is_shaped nested m heap formed) (numbers_fit_in_translations again kept few hold m heap accepted.accepted formed h)
     (sections_fit_in_translations again kept few hold m heap accepted.accepted formed short h)

@@ -15,8 +15,8 @@ use Rattle.wasm_laws_trees.specs.Laws.{IsReadAgain, LevelsAreKept}
 use Rattle.wasm_laws_write.specs.Fits.{FitsU32, ExportFits}
 use Rattle.wasm_laws_write.specs.Lengths.{IsNarrow, total}
 use Rattle.wasm_laws_write.proofs.Short.{parts_are_short, bodies_are_short, imports_are_short, exports_are_short}
-use Rattle.wasm_laws_bytes.specs.Each.{EachIn}
-use Rattle.wasm_laws_bytes.proofs.Spelled.{trees_are_short}
+use Rattle.wasm_laws_write.specs.Each.{EachIn}
+use Rattle.wasm_laws_write.proofs.Spelled.{trees_are_short}
 use Rattle.asm_lang.specs.Modules.{Function, Export, Exports, one, many, Module}
 use Rattle.asm_lang_valid.specs.Rows.{function_count, functions_count, exports_count}
 use Rattle.asm_lang_valid.specs.Scope.{signature_of}
@@ -24,18 +24,18 @@ use Rattle.asm_lang_valid.specs.Typed.{scope_of}
 use Rattle.asm_lang_valid.specs.LimitRows.{ForeignCall, foreign_calls}
 use Rattle.asm_lang_valid.specs.Refusal as text
 use Rattle.asm_lang_valid.specs.Refusal.{foreign_globals, has_heap, IsAccepted, exported_from}
-use Rattle.asm_laws_counts.specs.Counts.{body_clauses, functions_clauses}
-use Rattle.asm_laws_counts.specs.Names.{module_names}
+use Rattle.asm2wasm_lang.specs.Counts.{body_clauses, functions_clauses}
+use Rattle.asm2wasm_lang.specs.Names.{module_names}
 use Rattle.asm2wasm_lang.specs.Heaps.{pages_for}
 use Rattle.asm2wasm_lang.specs.Calling.{exactly}
-use Rattle.asm2wasm_code.specs.Numbers.{int_variables, asked_signature, signatures, type_number}
-use Rattle.asm2wasm_code.specs.Modules.{type_for, from_env, imported_function, imported_global, body_for, translation}
-use Rattle.asm2wasm_code.specs.Bodies.{function_code}
+use Rattle.asm2wasm_translation.specs.Numbers.{int_variables, asked_signature, signatures, type_number}
+use Rattle.asm2wasm_translation.specs.Modules.{type_for, from_env, imported_function, imported_global, body_for, translation}
+use Rattle.asm2wasm_translation.specs.Bodies.{function_code}
 use Rattle.asm2wasm_laws_typed.proofs.SmallBodies.{functions_are_small}
 use Rattle.asm2wasm_laws_within.specs.Within.{CallIsWithin}
 use Rattle.asm2wasm_laws_within.proofs.Within.{accepted_are_within}
-use Rattle.asm2wasm_laws_modules.specs.Laws.{room_of}
-use Rattle.asm2wasm_laws_modules.proofs.Readable.{translation_is_within}
+use Rattle.asm2wasm_laws_acceptance.specs.Laws.{room_of}
+use Rattle.asm2wasm_laws_acceptance.proofs.Readable.{translation_is_within}
 use Rattle.asm2wasm_laws_writable.specs.Laws.{TranslationsSectionsFit}
 use Rattle.asm2wasm_laws_writable.proofs.Lists.{total_joins}
 use Rattle.asm2wasm_laws_writable.proofs.Constants.{PagesAreFew, PagesHold}
@@ -185,6 +185,7 @@ sections_fit_in_translations again kept few hold m heap ok formed short h =
     let within = translation_is_within kept m heap ok formed in
     let types = within.types in
     let names = names_short m short.names in
+    let nodes = short.nodes in
     let functions = (accepted_are_within m ok).functions in
     let count : length w.functions ≡ length m.functions = length-map m.functions (λ f. type_number m (signature_of f)) in
     let globals = within.globals in
@@ -195,8 +196,8 @@ sections_fit_in_translations again kept few hold m heap ok formed short h =
       tables = tables_vector_fits m ok m.tables;
       memories = no_items_fit limits;
       globals = globals_vector_fits m ok (int_variables m.globals) (omega (arith, globals));
-      exports = exports_vector_fits m ok short.exports names.keys;
+      exports = exports_vector_fits m ok (omega (arith, nodes)) names.keys;
       elements = elements_vector_fits m ok m.tables;
-      bodies = bodies_vector_fits m heap m.functions functions short.nodes (all_few_locals m heap within) (functions_are_narrow again kept few hold m heap ok formed short h);
+      bodies = bodies_vector_fits m heap m.functions functions (omega (arith, nodes)) (all_few_locals m heap within) (functions_are_narrow again kept few hold m heap ok formed h);
       segments = no_items_fit segment;
     }

@@ -13,7 +13,7 @@ use Rattle.wasm_lang.specs.Modules.{Imported, Exported, GlobalEntry, ElementSegm
 use Rattle.wasm_lang.specs.Opcodes.{form_at}
 use Rattle.wasm_lang.specs.Shape.{HasOpcode, IsShapedCode}
 use Rattle.wasm_laws_trees.specs.Laws.{IsWellNested}
-use Rattle.wasm_laws_bytes.proofs.Spelled.{trees_are_shaped}
+use Rattle.wasm_laws_write.proofs.Spelled.{trees_are_shaped}
 use Rattle.asm_lang.specs.Lexemes.{is_word}
 use Rattle.asm_lang.specs.Trees.{Init, number, decimal, foreign_int, foreign_double, member, math, view}
 use Rattle.asm_lang.specs.Modules.{Variable, Function, Table, Export, Exports, one, many, Module}
@@ -26,13 +26,13 @@ use Rattle.asm_laws_print.specs.Fitting.{IsProperty, FitsInit, FitsGlobal, FitsE
 use Rattle.asm_laws_print.proofs.Printed.{well_formed_fits}
 use Rattle.asm2wasm_lang.specs.Heaps.{pages_for}
 use Rattle.asm2wasm_lang.specs.Calling.{exactly}
-use Rattle.asm2wasm_code.specs.Numbers.{int_variables, type_number}
-use Rattle.asm2wasm_code.specs.Modules.{from_env, imported_function, imported_global, first_value, global_for, elements_for, body_for, translation}
-use Rattle.asm2wasm_code.specs.Bodies.{function_code}
-use Rattle.asm2wasm_laws_written.proofs.Ascii.{all_low, properties_are_utf8}
-use Rattle.asm2wasm_laws_written.proofs.OpcodesOfBodies.{functions_have_opcodes}
-use Rattle.asm2wasm_laws_written.proofs.OpcodesOfGlobals.{first_values_have_opcodes}
-use Rattle.asm2wasm_laws_written.proofs.OpcodesOfValues.{number_opcode}
+use Rattle.asm2wasm_translation.specs.Numbers.{int_variables, type_number}
+use Rattle.asm2wasm_translation.specs.Modules.{from_env, imported_function, imported_global, first_value, global_for, elements_for, body_for, translation}
+use Rattle.asm2wasm_translation.specs.Bodies.{function_code}
+use Rattle.asm2wasm_laws_writable.proofs.Ascii.{all_low, properties_are_utf8}
+use Rattle.asm2wasm_laws_writable.proofs.OpcodesOfBodies.{functions_have_opcodes}
+use Rattle.asm2wasm_laws_writable.proofs.OpcodesOfGlobals.{first_values_have_opcodes}
+use Rattle.asm2wasm_laws_writable.proofs.OpcodesOfValues.{number_opcode}
 use Rattle.asm2wasm_laws_writable.specs.Laws.{TranslationIsShaped}
 use Rattle.asm2wasm_laws_writable.proofs.Lists.{both_all}
 use Rattle.asm2wasm_laws_writable.proofs.Properties.{calls_are_properties}

@@ -18,7 +18,7 @@ use Rattle.asm_lang_valid.specs.LimitRows.{foreign_calls}
 use Rattle.asm_lang_valid.specs.Refusal.{IsAccepted}
 use Rattle.asm2wasm_lang.specs.Calling.{exactly}
 use Rattle.asm2wasm_lang.specs.Tables.{entries_of}
-use Rattle.asm2wasm_code.specs.Modules.{type_for, first_value, global_for, table_for, elements_for}
+use Rattle.asm2wasm_translation.specs.Modules.{type_for, first_value, global_for, table_for, elements_for}
 use Rattle.asm2wasm_laws_writable.proofs.Lists.{total_most}
 use Rattle.asm2wasm_laws_writable.proofs.Numbers.{few_entries, first_narrow, elements_numbers_fit}
 

@@ -6,36 +6,41 @@ use Rattle.wasm_lang.specs.Shape.{IsShaped, IsWritable}
 use Rattle.wasm_lang_valid.specs.Typing.{Context}
 use Rattle.wasm_lang_exec.specs.Code.{Trees}
 use Rattle.wasm_laws_sound.specs.Trees.{IsTyped}
-use Rattle.wasm_laws_trees.specs.Spelled.{size}
+use Rattle.wasm_laws_trees.specs.Spelled.{tree_levels}
 use Rattle.wasm_laws_write.specs.Fits.{NumbersFit, SectionsFit}
 use Rattle.wasm_laws_write.specs.Lengths.{IsNarrow}
-use Rattle.wasm_laws_bytes.specs.Each.{EachIn}
+use Rattle.wasm_laws_write.specs.Each.{EachIn}
 use Rattle.asm_lang.specs.Heights.{IsWellFormed}
 use Rattle.asm_lang.specs.Modules.{Function, Module}
 use Rattle.asm_lang_valid.specs.Refusal.{IsAccepted}
 use Rattle.asm_lang_valid.specs.Texts.{IsAcceptedText}
 use Rattle.asm_lang_valid.specs.Typed.{scope_of}
 use Rattle.asm2wasm_lang.specs.Heaps.{is_heap_length}
-use Rattle.asm2wasm_code.specs.Bodies.{function_code}
-use Rattle.asm2wasm_code.specs.Modules.{translation}
-use Rattle.asm2wasm_laws_writable.specs.Parts.{NamesBelow, HasAtMost, ConstantFits, IsOfShortText}
+use Rattle.asm2wasm_translation.specs.Bodies.{function_code}
+use Rattle.asm2wasm_translation.specs.Modules.{translation}
+use Rattle.asm2wasm_lang.specs.Short.{IsOfShortText}
+use Rattle.asm2wasm_laws_writable.specs.Parts.{NamesBelow, HasAtMost, ConstantFits, HaveFewClauses}
 
 -- ---- code
 
 -- typed code names what its context has, and labels that are open round it or in it
 abbrev pub TypedNamesAreBelow : Type 0
 TypedNamesAreBelow =
-    (n : ℕ) (c : Context) (code : Trees) (before after : List ValType) → HasAtMost n c → length c.labels + size code ≤ n → IsTyped c code before after → EachIn (NamesBelow n) code
+    (n : ℕ) (c : Context) (code : Trees) (before after : List ValType) → HasAtMost n c → length c.labels + tree_levels code ≤ n → IsTyped c code before after → EachIn (NamesBelow n) code
+
+-- no switch has many clauses
+abbrev pub ClausesAreFew : Type 0
+ClausesAreFew = (m : Module) → IsAccepted m → IsWellFormed m → AllByRecursion (λ (f : Function). HaveFewClauses f.body) m.functions
 
 -- literals, lengths of views, numbers of clauses and bases of tables are words, where the heap has `heap` bytes
 abbrev pub ConstantsFit : Type 0
 ConstantsFit =
-    (m : Module) (heap : ℕ) → IsAccepted m → IsOfShortText m → is_heap_length heap ≡ true
+    (m : Module) (heap : ℕ) → IsAccepted m → IsWellFormed m → is_heap_length heap ≡ true
     → AllByRecursion (λ (f : Function). EachIn ConstantFits (function_code heap (scope_of m f))) m.functions
 
 abbrev pub FunctionsAreNarrow : Type 0
 FunctionsAreNarrow =
-    (m : Module) (heap : ℕ) → IsAccepted m → IsWellFormed m → IsOfShortText m → is_heap_length heap ≡ true
+    (m : Module) (heap : ℕ) → IsAccepted m → IsWellFormed m → is_heap_length heap ≡ true
     → AllByRecursion (λ (f : Function). EachIn IsNarrow (function_code heap (scope_of m f))) m.functions
 
 -- ---- modules
@@ -45,7 +50,7 @@ abbrev pub TranslationIsShaped : Type 0
 TranslationIsShaped = (m : Module) (heap : ℕ) → IsWellFormed m → IsShaped (translation m heap)
 
 abbrev pub TranslationsNumbersFit : Type 0
-TranslationsNumbersFit = (m : Module) (heap : ℕ) → IsAccepted m → IsWellFormed m → IsOfShortText m → is_heap_length heap ≡ true → NumbersFit (translation m heap)
+TranslationsNumbersFit = (m : Module) (heap : ℕ) → IsAccepted m → IsWellFormed m → is_heap_length heap ≡ true → NumbersFit (translation m heap)
 
 abbrev pub TranslationsSectionsFit : Type 0
 TranslationsSectionsFit = (m : Module) (heap : ℕ) → IsAccepted m → IsWellFormed m → IsOfShortText m → is_heap_length heap ≡ true → SectionsFit (translation m heap)

@@ -1,13 +1,11 @@
--- What keeps the numbers of an instruction small, and what a short text leaves of a module.
-use Rattle.std.specs.Prelude.{ℕ, ◌+◌, ◌^◌, ◌<◌, ◌≤◌, length, All}
-use Rattle.std.specs.List.{concat}
+-- What keeps the numbers of an instruction small.
+use Rattle.std.specs.Prelude.{ℕ, suc, ◌^◌, ◌<◌, ◌≤◌, length, All}
 use Rattle.wasm_lang.specs.Instructions.{Plain, local_get, local_set, local_tee, global_get, global_set, load, store, const32, const64, Instruction, br, br_if, br_table, call, call_indirect, plain}
 use Rattle.wasm_lang_valid.specs.Typing.{Context}
 use Rattle.wasm_laws_write.specs.Fits.{FitsU32}
-use Rattle.asm_lang.specs.Modules.{Module}
-use Rattle.asm_lang_valid.specs.Rows.{functions_count, exports_count}
-use Rattle.asm_laws_counts.specs.Counts.{functions_clauses}
-use Rattle.asm_laws_counts.specs.Names.{module_names}
+use Rattle.asm_lang.specs.Modules.{Stmt, block, if_only, if_else, while_loop, do_while, for_loop, labelled, switches, Stmts, no_stmts, stmts, Clauses, no_clauses, clauses}
+use Rattle.asm_lang_valid.specs.LimitRows.{most_clauses}
+use Rattle.asm2wasm_translation.specs.Bodies.{clauses_count}
 
 -- ---- what an instruction names, a local, a global, a function, a type or a label, has a number below n, and an alignment is small
 
@@ -50,9 +48,25 @@ abbrev pub ConstantFits : Instruction → Type 0
 ConstantFits (plain p) = PlainConstantFits p
 ConstantFits i = Unit {0}
 
--- ---- a module that a text of at most 16,777,216 bytes says: its nodes, the clauses of its switches, and its names
+-- ---- switches, none with more clauses than the limit and a default
 
-pub record IsOfShortText (m : Module) : Type 0 where
-  pub nodes : functions_count m.functions + functions_clauses m.functions ≤ 2 ^ 25
-  pub exports : exports_count m.exports ≤ 2 ^ 25
-  pub names : length (concat (module_names m)) ≤ 2 ^ 24
+abbrev mutual
+  pub HasFewClauses : Stmt → Type 0
+  HasFewClauses (block ss) = HaveFewClauses ss
+  HasFewClauses (if_only e s) = HasFewClauses s
+  HasFewClauses (if_else e s r) = HasFewClauses s × HasFewClauses r
+  HasFewClauses (while_loop e s) = HasFewClauses s
+  HasFewClauses (do_while s e) = HasFewClauses s
+  HasFewClauses (for_loop x y z s) = HasFewClauses s
+  HasFewClauses (labelled ns s) = HasFewClauses s
+  HasFewClauses (switches e cs) = (clauses_count cs ≤ suc most_clauses) × EachHasFewClauses cs
+  HasFewClauses _ = Unit {0}
+
+  pub HaveFewClauses : Stmts → Type 0
+  HaveFewClauses no_stmts = Unit {0}
+  HaveFewClauses (stmts s ss) = HasFewClauses s × HaveFewClauses ss
+
+  -- in each clause
+  pub EachHasFewClauses : Clauses → Type 0
+  EachHasFewClauses no_clauses = Unit {0}
+  EachHasFewClauses (clauses v ss cs) = HaveFewClauses ss × EachHasFewClauses cs

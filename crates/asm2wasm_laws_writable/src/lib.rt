@@ -2,11 +2,14 @@
 //! shaped, its numbers have the bits that they need, and its sections are short enough.
 #![tactic(auto)]
 
-ghost use Rattle.asm2wasm_laws_writable.specs.Laws.{TypedNamesAreBelow, ConstantsFit, FunctionsAreNarrow, TranslationIsShaped, TranslationsNumbersFit, TranslationsSectionsFit, ShortTextsAreShort, TranslationIsWritable};
+pub mod opcodes_laws;
+
+ghost use Rattle.asm2wasm_laws_writable.specs.Laws.{TypedNamesAreBelow, ClausesAreFew, ConstantsFit, FunctionsAreNarrow, TranslationIsShaped, TranslationsNumbersFit, TranslationsSectionsFit, ShortTextsAreShort, TranslationIsWritable};
 
 /// The numbers of an instruction of a body are small.
 pub fn code()
     ensures typed { TypedNamesAreBelow }
+    ensures clauses { ClausesAreFew }
     ensures constants { ConstantsFit }
     ensures narrow { FunctionsAreNarrow }
 {

@@ -2,7 +2,7 @@
 use Rattle.std.proofs.Common.{◌≡◌, ℕ, suc, Bool, true, false, List, [], ◌∷◌, Option, Some, None, refl, ap, ◌∙◌}
 use Rattle.std.specs.Prelude.{if◌then◌else◌, option_map, bytes_eq}
 use Rattle.asm_lang.specs.Modules.{Table}
-use Rattle.asm2wasm_code.specs.Numbers.{slot_of, base_among}
+use Rattle.asm2wasm_translation.specs.Numbers.{slot_of, base_among}
 use Rattle.asm2wasm_numbers.specs.Declarations.{table_names}
 use Rattle.asm2wasm_numbers.specs.Places.{base_or_zero}
 

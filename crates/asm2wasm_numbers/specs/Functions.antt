@@ -7,7 +7,7 @@ use Rattle.asm_lang_valid.specs.Typing.{Scope as PlainScope}
 use Rattle.asm_lang_valid.specs.Typed.{scope_of}
 use Rattle.asm_names.specs.declared.scope.Scope.{Scope}
 use Rattle.asm_names.specs.Scopes.{scope_view, IsCompleteScope}
-use Rattle.asm2wasm_code.specs.Numbers.{local_names}
+use Rattle.asm2wasm_translation.specs.Numbers.{local_names}
 
 -- a module, and the function whose body it is
 pub record Within : Type 0 where

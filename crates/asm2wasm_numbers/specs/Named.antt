@@ -2,8 +2,8 @@
 use Rattle.std.specs.Prelude.{◌≡◌}
 use Rattle.asm_lang.specs.Modules.{Module}
 use Rattle.asm_lang_valid.specs.Refusal.{foreign_globals}
-use Rattle.asm2wasm_code.specs.Numbers.{global_names}
-use Rattle.link_tables.specs.Names.{function_names}
+use Rattle.asm2wasm_translation.specs.Numbers.{global_names}
+use Rattle.asm2wasm_tables.specs.Names.{function_names}
 use Rattle.asm2wasm_numbers.specs.declared.names.ModuleNames.{ModuleNames}
 use Rattle.asm2wasm_numbers.specs.Declarations.{table_names}
 

@@ -6,7 +6,7 @@ use Rattle.asm_tree.specs.Views.{module_view}
 use Rattle.asm_names.specs.declared.environment.Environment.{Environment}
 use Rattle.asm_names.specs.Environments.{IsComplete}
 use Rattle.asm2wasm_lang.specs.Tables.{bases_of, entries_of}
-use Rattle.link_tables.specs.declared.plan.TablePlan.{TablePlan}
+use Rattle.asm2wasm_tables.specs.declared.plan.TablePlan.{TablePlan}
 use Rattle.asm2wasm_numbers.specs.declared.names.ModuleNames.{ModuleNames}
 use Rattle.asm2wasm_numbers.specs.declared.signatures.ModuleTypes.{ModuleTypes}
 use Rattle.asm2wasm_numbers.specs.Named.{IsNamed}

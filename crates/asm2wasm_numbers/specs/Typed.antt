@@ -3,7 +3,7 @@ use Rattle.std.specs.Prelude.{◌≡◌, map}
 use Rattle.asm_lang.specs.Modules.{Module}
 use Rattle.asm_lang_valid.specs.LimitRows.{foreign_calls}
 use Rattle.asm_validate_limits.specs.Called.{foreign_view, EachIsFirst}
-use Rattle.asm2wasm_code.specs.Numbers.{signatures}
+use Rattle.asm2wasm_translation.specs.Numbers.{signatures}
 use Rattle.asm2wasm_numbers.specs.declared.signatures.ModuleTypes.{ModuleTypes}
 use Rattle.asm2wasm_numbers.specs.Signatures.{said}
 

@@ -4,7 +4,7 @@ ghost use Rattle.sem_words.specs.Lists.{text_bytes};
 ghost use Rattle.asm_lang_valid.specs.Typing.{named};
 ghost use Rattle.asm_names.specs.Meanings.{meaning_view};
 ghost use Rattle.asm_names.specs.Members.{IsNumbered};
-ghost use Rattle.asm2wasm_code.specs.Numbers as code;
+ghost use Rattle.asm2wasm_translation.specs.Numbers as code;
 ghost use Rattle.asm2wasm_numbers.specs.Places.{place_seen};
 ghost use Rattle.asm2wasm_numbers.specs.Functions.{scope_said};
 
@@ -13,7 +13,7 @@ use crate::names::local_slots;
 use crate::place::Place;
 use asm_names::{Meaning, Scope};
 use asm_tree::Function;
-use link_tables::Slots;
+use asm2wasm_tables::Slots;
 use sem_words::Text;
 use std::alloc::{AllocError, Global};
 use std::marker::Model;

@@ -2,7 +2,7 @@
 ghost use Rattle.std.specs.Prelude.{◌≡◌, ◌++◌, [], ◌∷◌, List, IfOk, map};
 ghost use Rattle.asm_tree.specs.Views.{module_view, function_view};
 ghost use Rattle.asm_lang_valid.specs.Scope as scopes;
-ghost use Rattle.asm2wasm_code.specs.Numbers.{each_once, place_of_type};
+ghost use Rattle.asm2wasm_translation.specs.Numbers.{each_once, place_of_type};
 ghost use Rattle.asm2wasm_numbers.specs.Typed.{IsTyped};
 ghost use Rattle.asm2wasm_numbers.specs.Signatures.{asked, signature_said, said};
 

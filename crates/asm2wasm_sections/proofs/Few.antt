@@ -9,7 +9,7 @@ use Rattle.asm_lang_valid.specs.Refusal.{function_number}
 use Rattle.asm2wasm_laws_within.specs.Within.{members}
 use Rattle.asm2wasm_laws_within.proofs.Within.{accepted_are_within}
 use Rattle.asm2wasm_lang.specs.Tables.{members_of, entries_from}
-use Rattle.asm2wasm_code.specs.Numbers.{asked_signature, is_signature, is_known, each_once, signatures, place_of_type}
+use Rattle.asm2wasm_translation.specs.Numbers.{asked_signature, is_signature, is_known, each_once, signatures, place_of_type}
 use Rattle.asm2wasm_sections.specs.Few.{AcceptedHaveFewTypes, AcceptedHaveFewFunctions, AcceptedHaveFewEntries, AcceptedHaveFewGlobals}
 
 -- ---- types

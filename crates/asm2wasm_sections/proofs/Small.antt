@@ -10,7 +10,7 @@ use Rattle.asm_lang_valid.specs.Refusal.{function_number, exported, exported_fro
 use Rattle.asm_validate_facts.specs.declared.exports.ExportOf.{ExportOf}
 use Rattle.asm_validate_facts.specs.Numbers.{export_said}
 use Rattle.asm2wasm_lang.specs.Tables.{members_of, entries_from}
-use Rattle.asm2wasm_code.specs.Numbers.{slot_of}
+use Rattle.asm2wasm_translation.specs.Numbers.{slot_of}
 
 pub lower : {a b c : ℕ} → a < b → b < c → a < c
 lower h k = omega arith

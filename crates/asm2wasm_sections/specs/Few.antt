@@ -5,7 +5,7 @@ use Rattle.asm_lang_valid.specs.Scope.{Signature}
 use Rattle.asm_lang_valid.specs.LimitRows.{foreign_calls}
 use Rattle.asm_lang_valid.specs.Refusal.{IsAccepted, foreign_globals}
 use Rattle.asm2wasm_lang.specs.Tables.{entries_of}
-use Rattle.asm2wasm_code.specs.Numbers.{type_number}
+use Rattle.asm2wasm_translation.specs.Numbers.{type_number}
 
 -- each type's number
 abbrev pub FewTypes : Module → Type 0

@@ -4,7 +4,7 @@ ghost use Rattle.sem_words.specs.Lists.{list_items};
 ghost use Rattle.wasm_tree.specs.Views.{element_of};
 ghost use Rattle.asm_tree.specs.Views.{module_view};
 ghost use Rattle.asm_lang_valid.specs.LimitRows.{foreign_calls};
-ghost use Rattle.asm2wasm_code.specs.Modules.{table_for, elements_for};
+ghost use Rattle.asm2wasm_translation.specs.Modules.{table_for, elements_for};
 ghost use Rattle.asm2wasm_sections.specs.Few.{FewFunctions, FewEntries};
 ghost use Rattle.asm2wasm_sections.specs.Parts.{element_for};
 

@@ -7,9 +7,10 @@ ghost use Rattle.asm_tree.specs.Views.{module_view, texts_view};
 ghost use Rattle.asm_validate_limits.specs.Called.{foreign_view};
 ghost use Rattle.asm2wasm_lang.specs.Heaps.{is_heap_length, pages_for};
 ghost use Rattle.asm2wasm_lang.specs.Calling.{exactly};
-ghost use Rattle.asm2wasm_code.specs.Modules.{imports_of, imported_function, imported_global, from_env};
+ghost use Rattle.asm2wasm_translation.specs.Modules.{imports_of, imported_function, imported_global, from_env};
 ghost use Rattle.asm2wasm_sections.specs.Few.{FewTypes};
 
+use crate::heaps::pages_for;
 use asm_validate::ForeignCall;
 use asm2wasm_numbers::ModuleNumbers;
 use sem_words::{List, Text};
@@ -91,14 +92,6 @@ fn memory(heap: u32) -> Import<'static>
             max: Some(pages),
         }),
     }
-}
-
-// The least number of pages of 65,536 bytes that hold a heap.
-fn pages_for(heap: u32) -> u32
-    requires { is_heap_length heap ≡ true }
-    ensures { result ≡ pages_for heap }
-{
-    heap.div_ceil(65_536)
 }
 
 fn from_env<'a>(name: &'a [u8], kind: ImportKind) -> Import<'a>

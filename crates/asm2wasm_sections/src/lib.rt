@@ -4,6 +4,7 @@
 
 mod entries;
 mod exporting;
+mod heaps;
 mod importing;
 pub mod laws;
 mod signing;
@@ -12,6 +13,7 @@ mod variables;
 
 pub use entries::{elements, tables};
 pub use exporting::exports;
+pub use heaps::{is_heap_len, pages_for};
 pub use importing::imports;
 pub use signing::functions;
 pub use typing::types;

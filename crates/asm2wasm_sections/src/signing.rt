@@ -3,7 +3,7 @@ ghost use Rattle.std.specs.Prelude.{◌≡◌, map, IfOk};
 ghost use Rattle.sem_words.specs.Lists.{list_items};
 ghost use Rattle.asm_tree.specs.Views.{module_view, function_view};
 ghost use Rattle.asm_lang_valid.specs.Scope.{signature_of};
-ghost use Rattle.asm2wasm_code.specs.Numbers.{type_number};
+ghost use Rattle.asm2wasm_translation.specs.Numbers.{type_number};
 ghost use Rattle.asm2wasm_sections.specs.Few.{FewTypes};
 
 use asm_tree::Function;

@@ -3,7 +3,7 @@ ghost use Rattle.std.specs.Prelude.{◌≡◌, [], ◌∷◌, map, IfOk, if◌th
 ghost use Rattle.sem_words.specs.Lists.{list_items};
 ghost use Rattle.wasm_lang.specs.declared.types.ValType.TheVariants.{I32};
 ghost use Rattle.wasm_tree.specs.Views.{type_of};
-ghost use Rattle.asm2wasm_code.specs.Modules.{type_for};
+ghost use Rattle.asm2wasm_translation.specs.Modules.{type_for};
 ghost use Rattle.asm2wasm_numbers.specs.Signatures.{signature_said};
 
 use asm2wasm_numbers::Signature;

@@ -6,8 +6,8 @@ ghost use Rattle.asm_tree.specs.Views.{module_view, global_view, init_view};
 ghost use Rattle.sem_words.specs.Words.{word_of};
 ghost use Rattle.asm2wasm_sections.specs.Few.{FewGlobals};
 ghost use Rattle.asm_lang_valid.specs.Refusal.{foreign_globals};
-ghost use Rattle.asm2wasm_code.specs.Numbers.{slot_of, is_variable, int_variables};
-ghost use Rattle.asm2wasm_code.specs.Modules.{or_zero, first_value, global_for};
+ghost use Rattle.asm2wasm_translation.specs.Numbers.{slot_of, is_variable, int_variables};
+ghost use Rattle.asm2wasm_translation.specs.Modules.{or_zero, first_value, global_for};
 
 use asm_tree::{Global_, Init};
 use asm2wasm_numbers::ModuleNumbers;

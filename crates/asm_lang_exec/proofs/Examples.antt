@@ -6,8 +6,8 @@ use Rattle.sem_words.specs.Words as words
 use Rattle.heap_lang.specs.Heap as heaps
 use Rattle.sem_words.specs.declared.js_value.JsOp.TheVariants.{Mul, Div, Or, And, Lt, Sar}
 use Rattle.sem_words.specs.declared.js_value.JsUnary.TheVariants.{Neg, BitNot, Not}
-use Rattle.sem_laws.specs.Script.{CallPlain, ReplyPlain, ReplyLinePlain, ScriptPlain, give, throw}
-use Rattle.sem_laws.specs.Observation.{import_called, call_gave, call_returned, done, stopped, no_reply, ObservationPlain, running, ended}
+use Rattle.session_lang.specs.Script.{CallPlain, ReplyPlain, ReplyLinePlain, ScriptPlain, give, throw}
+use Rattle.session_lang.specs.Observation.{import_called, call_gave, call_returned, done, stopped, no_reply, ObservationPlain, running, ended}
 use Rattle.asm_lang.specs.Trees.{Init, number, decimal, foreign_int, member, math, view}
 use Rattle.asm_lang.specs.Modules.{Expr, lit, var, index, call, table_call, assign, store, unary, binary, chain, cond, comma, no_exprs, exprs, no_links, links, Stmt, block, plain, if_only, if_else, returns, while_loop, do_while, for_loop, breaks, continues, labelled, switches, Stmts, no_stmts, stmts, no_clauses, clauses, Variable, Param, Function, Table, many, Module}
 use Rattle.asm_lang_valid.specs.Refusal.{refusal}
@@ -393,6 +393,9 @@ the_global_is_missing = refl
 
 bytes_pass_the_end : misfit outside 8 (record (once (pos 1 ∷ [])) { writes = record { at = 7; bytes = 1 ∷ 2 ∷ []; line = 5 } ∷ [] }) ≡ Some 5
 bytes_pass_the_end = refl
+
+what_is_written_are_bytes : misfit outside 8 (record (once (pos 1 ∷ [])) { writes = record { at = 0; bytes = 1 ∷ 256 ∷ []; line = 5 } ∷ [] }) ≡ Some 5
+what_is_written_are_bytes = refl
 
 without_a_heap_no_byte_fits : misfit sum 8 (record (script [] []) { writes = record { at = 0; bytes = 1 ∷ []; line = 5 } ∷ [] }) ≡ Some 5
 without_a_heap_no_byte_fits = refl

@@ -4,9 +4,9 @@ use Rattle.std.specs.Prelude.{if◌then◌else◌}
 use Rattle.sem_words.specs.declared.js_value.JsValue.{JsValue}
 use Rattle.sem_words.specs.declared.js_value.JsValue.TheVariants.{Whole}
 use Rattle.asm_types.specs.declared.value_type.ValueType.{ValueType}
-use Rattle.sem_laws.specs.Imports.{ImportAnswer, goes_on, ends}
-use Rattle.sem_laws.specs.Observation.{EventPlain, IsPrefix}
-use Rattle.sem_laws.proofs.BelowLaws.{prefix_same, prefix_trans}
+use Rattle.session_lang.specs.Imports.{ImportAnswer, goes_on, ends}
+use Rattle.session_lang.specs.Observation.{EventPlain, IsPrefix}
+use Rattle.session_lang.proofs.BelowLaws.{prefix_same, prefix_trans}
 use Rattle.asm_lang_valid.specs.Scope.{Meaning, a_view}
 use Rattle.asm_lang_exec.specs.Runs.{Binding, Place, Run, goes, stops, spent, wrong, Part, after, and_then, gives, goes_wrong, defined, paid, pay, read, written, write, back_to, with_locals, add_event}
 use Rattle.asm_lang_exec.specs.Values.{read_element, write_element, answered, call_import}

@@ -5,9 +5,9 @@ use Rattle.sem_words.specs.declared.js_value.JsValue.{JsValue}
 use Rattle.sem_words.specs.declared.js_value.JsValue.TheVariants.{Whole, Undef, Bool as Boolean}
 use Rattle.sem_words.specs.JsValues.{truthy_of}
 use Rattle.sem_words.specs.JsOperators.{js_binary_of, js_unary_of}
-use Rattle.sem_laws.specs.Script.{CallPlain, ScriptPlain}
-use Rattle.sem_laws.proofs.BelowLaws.{below_is_reflexive}
-use Rattle.sem_laws.specs.Observation.{EventPlain, running, ended, done, ObservationPlain, IsBelow}
+use Rattle.session_lang.specs.Script.{CallPlain, ScriptPlain}
+use Rattle.session_lang.proofs.BelowLaws.{below_is_reflexive}
+use Rattle.session_lang.specs.Observation.{EventPlain, running, ended, done, ObservationPlain, IsBelow}
 use Rattle.asm_lang.specs.Modules.{Expr, lit, decimal, var, index, call, table_call, assign, store, unary, binary, chain, cond, comma, Exprs, no_exprs, exprs, Links, no_links, links, Stmt, block, plain, empty, if_only, if_else, returns, while_loop, do_while, for_loop, breaks, continues, labelled, switches, Stmts, no_stmts, stmts, Clauses, no_clauses, clauses, Function, Module}
 use Rattle.asm_lang_valid.specs.Scope.{Meaning, nothing, an_int, an_outside, a_foreign, a_builtin, a_view, a_function, a_table, a_parameter}
 use Rattle.asm_lang_valid.specs.Typing.{Scope, named, type_of}

@@ -1,3 +1,4 @@
 pub mod Examples
 pub mod Grown
 pub mod Growth
+pub mod Written

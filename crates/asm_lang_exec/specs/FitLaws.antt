@@ -1,7 +1,8 @@
 -- What a misfit is, of each part of a script by itself.
 use Rattle.std.specs.Prelude.{◌≡◌, ◌⊎◌, ℕ, Some, None}
-use Rattle.sem_laws.specs.Script.{ScriptPlain}
-use Rattle.script_fits.specs.FitLaws as parts
+use Rattle.session_lang.specs.Script.{ScriptPlain}
+use Rattle.session_lang.specs.FitLaws as parts
+use Rattle.session_lang.specs.Written.{WritesBytes}
 use Rattle.asm_lang.specs.Modules.{Module}
 use Rattle.asm_lang_exec.specs.Fits.{tests, misfit}
 
@@ -25,3 +26,6 @@ WhatFitsHasNoMisfit = (m : Module) (size : ℕ) (s : ScriptPlain) → Fits m siz
 
 abbrev pub MisfitIsFirst : Type 0
 MisfitIsFirst = (m : Module) (size : ℕ) (s : ScriptPlain) (line : ℕ) → misfit m size s ≡ Some line → IsFirstUnfit m size s line ⊎ ((line ≡ 0) × HasMissing m size s)
+
+abbrev pub WhatFitsWritesBytes : Type 0
+WhatFitsWritesBytes = (m : Module) (size : ℕ) (s : ScriptPlain) → misfit m size s ≡ None → WritesBytes s

@@ -1,9 +1,9 @@
 -- Which scripts fit a module of asm.js with a heap of some length, and the line of the first part of a script that doesn't.
 use Rattle.std.specs.Prelude.{ℕ, ◌+◌, ◌-◌, ◌^◌, Bool, false, not, ◌&&◌, List, length, Option, Some, None, ℤ, pos, negsuc, int_le, int_lt, nat_le, ◌==◌}
 use Rattle.std.specs.List.{list_all}
-use Rattle.sem_laws.specs.Script.{GlobalPlain, WritePlain, CallPlain, ReplyPlain, ScriptPlain}
-use Rattle.script_fits.specs.Fits as parts
-use Rattle.script_fits.specs.Fits.{Tests, is_given, writes_of}
+use Rattle.session_lang.specs.Script.{GlobalPlain, WritePlain, CallPlain, ReplyPlain, ScriptPlain}
+use Rattle.session_lang.specs.Fits as parts
+use Rattle.session_lang.specs.Fits.{Tests, is_given, writes_of, are_bytes}
 use Rattle.asm_lang.specs.Modules.{Function, Module}
 use Rattle.asm_lang_valid.specs.Scope.{is_in}
 use Rattle.asm_lang_valid.specs.Refusal.{foreign_globals, has_heap}
@@ -23,7 +23,7 @@ fits_global m before g = is_in g.name (foreign_globals m) && in_range g.value &&
 
 -- bytes are put into the heap; a module without one has none at all
 abbrev pub fits_write : Module → ℕ → WritePlain → Bool
-fits_write m size w = has_heap m && nat_le (w.at + length w.bytes) size
+fits_write m size w = are_bytes w.bytes && (has_heap m && nat_le (w.at + length w.bytes) size)
 
 abbrev pub fits_reply : Module → ℕ → ReplyPlain → Bool
 fits_reply m size r = list_all (fits_write m size) (writes_of r)

@@ -1,7 +1,7 @@
 -- What more units, and a larger bound on the depth of calls and on a loop's turns, change.
 use Rattle.std.specs.Prelude.{◌≡◌, ℕ, ◌≤◌, Bool, Some}
-use Rattle.sem_laws.specs.Script.{ScriptPlain}
-use Rattle.sem_laws.specs.Observation.{ObservationPlain, IsBelow}
+use Rattle.session_lang.specs.Script.{ScriptPlain}
+use Rattle.session_lang.specs.Observation.{ObservationPlain, IsBelow}
 use Rattle.asm_lang.specs.Modules.{Module}
 use Rattle.asm_lang_exec.specs.Session.{observed_within, asm, checked_asm}
 

@@ -1,8 +1,8 @@
 -- Where a session of asm.js stands, and what a part of a program makes of it.
 use Rattle.std.specs.Prelude.{ℕ, zero, suc, List, [], ◌∷◌, ◌++◌, Option, Some, None, bytes_eq, if◌then◌else◌}
 use Rattle.sem_words.specs.declared.js_value.JsValue.{JsValue}
-use Rattle.sem_laws.specs.Imports.{Replies}
-use Rattle.sem_laws.specs.Observation.{EventPlain, EndPlain}
+use Rattle.session_lang.specs.Imports.{Replies}
+use Rattle.session_lang.specs.Observation.{EventPlain, EndPlain}
 
 -- a variable and its value
 pub record Binding : Type 0 where

@@ -4,9 +4,9 @@ use Rattle.sem_words.specs.declared.js_value.JsValue.{JsValue}
 use Rattle.sem_words.specs.declared.js_value.JsValue.TheVariants.{Whole}
 use Rattle.sem_words.specs.JsOperators.{signed_value}
 use Rattle.sem_words.specs.Words.{word_of}
-use Rattle.sem_laws.specs.Script.{GlobalPlain, CallPlain, ScriptPlain}
-use Rattle.sem_laws.specs.Imports.{first_replies}
-use Rattle.sem_laws.specs.Observation.{EventPlain, call_gave, call_returned, done, ObservationPlain, running, ended}
+use Rattle.session_lang.specs.Script.{GlobalPlain, CallPlain, ScriptPlain}
+use Rattle.session_lang.specs.Imports.{first_replies}
+use Rattle.session_lang.specs.Observation.{EventPlain, call_gave, call_returned, done, ObservationPlain, running, ended}
 use Rattle.asm_lang.specs.Trees.{Init, number, foreign_int}
 use Rattle.asm_lang.specs.Modules.{Variable, Function, Module}
 use Rattle.asm_lang_valid.specs.Scope.{signature_of}

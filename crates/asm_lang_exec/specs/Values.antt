@@ -9,8 +9,8 @@ use Rattle.sem_words.specs.JsOperators.{signed_value, js_imul_of, js_clz32_of}
 use Rattle.heap_lang.specs.declared.kind.ViewKind.{ViewKind}
 use Rattle.heap_lang.specs.declared.kind.ViewKind.TheVariants.{I8, U8, I16, U16, I32, U32}
 use Rattle.heap_lang.specs.Heap.{load, store, with_run}
-use Rattle.sem_laws.specs.Script.{WritePlain}
-use Rattle.sem_laws.specs.Imports.{low_word, ImportAnswer, goes_on, ends, answer_import}
+use Rattle.session_lang.specs.Script.{WritePlain}
+use Rattle.session_lang.specs.Imports.{low_word, ImportAnswer, goes_on, ends, answer_import}
 use Rattle.asm_lang.specs.Modules.{Function, Module}
 use Rattle.asm_lang_valid.specs.declared.meaning.Element.{Element}
 use Rattle.asm_lang_valid.specs.declared.meaning.Element.TheVariants.{Int8, Uint8, Int16, Uint16, Int32, Uint32}

@@ -1,7 +1,7 @@
 -- A construct that is given what comes after it does what the construct does, and then that.
 use Rattle.std.specs.Prelude.{◌≡◌, ℕ, ◌≤◌, Bool, List, [], Option, false}
 use Rattle.sem_words.specs.declared.js_value.JsValue.{JsValue}
-use Rattle.sem_laws.specs.Script.{CallPlain}
+use Rattle.session_lang.specs.Script.{CallPlain}
 use Rattle.asm_lang.specs.Modules.{Expr, Stmt, Function, Module}
 use Rattle.asm_lang_valid.specs.Typing.{Scope}
 use Rattle.asm_lang_exec.specs.Runs.{Place, Part, and_then}

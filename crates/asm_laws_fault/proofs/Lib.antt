@@ -4,3 +4,4 @@ pub mod Same
 pub mod Outcomes
 mod Causes
 pub mod Told
+pub mod Refusal

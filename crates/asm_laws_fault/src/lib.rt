@@ -1,6 +1,8 @@
 //! asm.js: tokens or a text are a module within the limit on the height, or have one fault, of one kind and at one place.
 #![tactic(auto)]
 
+pub mod refusal_laws;
+
 ghost use Rattle.std.specs.Prelude.{◌≡◌, ◌≤◌, ℕ, List};
 ghost use Rattle.asm_lang.specs.Lexemes.{Lexeme};
 ghost use Rattle.asm_lang.specs.Trees.{ModuleTree};

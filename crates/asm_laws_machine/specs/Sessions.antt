@@ -1,7 +1,7 @@
 -- A call of the script as a machine that begins with the body of the function.
 use Rattle.std.specs.Prelude.{◌≡◌, ℕ, ◌≤◌, List, [], ◌∷◌}
 use Rattle.sem_words.specs.declared.js_value.JsValue.{JsValue}
-use Rattle.sem_laws.specs.Script.{ScriptPlain}
+use Rattle.session_lang.specs.Script.{ScriptPlain}
 use Rattle.asm_lang.specs.Modules.{Function, Module}
 use Rattle.asm_lang_exec.specs.Runs.{Binding, Place, Part, and_then, gives, defined, pay, back_to}
 use Rattle.asm_lang_exec.specs.Meaning.{Completion, normal, first_locals, function_end}

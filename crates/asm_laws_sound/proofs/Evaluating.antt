@@ -19,7 +19,7 @@ use Rattle.asm_lang_valid.specs.declared.meaning.Element.{Element}
 use Rattle.asm_lang_valid.specs.Scope.{Meaning, nothing, an_int, an_outside, a_foreign, a_builtin, a_view, a_function, a_table, a_parameter}
 use Rattle.asm_lang_valid.specs.Typing.{Scope, named, is_literal, links_length, most_operators, typed_below, is_int, index_fits, operated, exprs_length, is_call, or_zero, builtin_call, callee_fits, table_fits, mask_fits, type_of, all_below, links_fit, call_fits, last_type}
 use Rattle.asm_lang_valid.specs.Typed.{scope_of, function_typed}
-use Rattle.sem_laws.specs.Imports.{ImportAnswer, goes_on, ends}
+use Rattle.session_lang.specs.Imports.{ImportAnswer, goes_on, ends}
 use Rattle.asm_lang_exec.specs.Runs.{Binding, Place, Part, and_then, defined, read, write, written, value_in, either_value}
 use Rattle.asm_lang_exec.specs.Values.{Calls, read_element, write_element, answered, call_import, call_named, entry_of}
 use Rattle.asm_lang_exec.specs.Meaning.{eval, eval_all, eval_links, eval_last}

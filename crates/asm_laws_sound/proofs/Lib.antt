@@ -5,3 +5,5 @@ pub mod Expressions
 pub mod Evaluating
 pub mod Executing
 pub mod Sessions
+pub mod Uses
+pub mod Narrow

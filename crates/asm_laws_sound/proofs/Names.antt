@@ -16,7 +16,7 @@ use Rattle.asm_types.specs.declared.value_type.ValueType.TheVariants.{Fixnum, Si
 use Rattle.asm_types.specs.Rows.{row}
 use Rattle.asm_types.specs.Values.{fits_of}
 use Rattle.asm_types.proofs.Sound.{from_row, wider, to_uint32_lt}
-use Rattle.sem_laws.specs.Script.{ScriptPlain}
+use Rattle.session_lang.specs.Script.{ScriptPlain}
 use Rattle.asm_lang.specs.Trees.{Init, number, decimal, foreign_int, foreign_double, member, math, view}
 use Rattle.asm_lang.specs.Modules.{Variable, Param, Function, Table, Module}
 use Rattle.asm_lang_valid.specs.declared.meaning.Element.{Element}

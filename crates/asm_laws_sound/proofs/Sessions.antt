@@ -3,8 +3,8 @@ use Rattle.std.proofs.Common.{◌≡◌, ℕ, suc, Bool, true, false, List, [], 
 use Rattle.std.proofs.lemmas.Bool.{and_parts, eqb-true}
 use Rattle.std.specs.Prelude.{map}
 use Rattle.sem_words.specs.declared.js_value.JsValue.TheVariants.{Whole}
-use Rattle.sem_laws.specs.Script.{CallPlain, ScriptPlain}
-use Rattle.sem_laws.specs.Observation.{ObservationPlain}
+use Rattle.session_lang.specs.Script.{CallPlain, ScriptPlain}
+use Rattle.session_lang.specs.Observation.{ObservationPlain}
 use Rattle.asm_lang.specs.Modules.{no_stmts, Function, Module}
 use Rattle.asm_lang_valid.specs.Refusal.{exported_from, IsAccepted}
 use Rattle.asm_lang_valid.specs.Typed.{function_typed}
@@ -12,8 +12,8 @@ use Rattle.asm_lang_exec.specs.Runs.{Binding, Run, goes, stops, spent, wrong}
 use Rattle.asm_lang_exec.specs.Values.{Calls}
 use Rattle.asm_lang_exec.specs.Meaning.{call_at}
 use Rattle.asm_lang_exec.specs.Session.{first_place, export_number, exported_function, result_event, host_call, host_calls, observed}
-use Rattle.script_fits.specs.FitLaws.{a_call}
-use Rattle.script_fits.proofs.Misfits.{no_misfit_fits}
+use Rattle.session_lang.specs.FitLaws.{a_call}
+use Rattle.session_lang.proofs.Misfits.{no_misfit_fits}
 use Rattle.asm_lang_exec.specs.Fits.{takes, fits_call, tests, misfit}
 use Rattle.asm_lang_exec.proofs.Growth.{sessions_grow}
 use Rattle.asm_laws_sound.specs.Laws.{AcceptedNeverGoWrong, ChecksChangeNothing, AcceptedSessionsGrow}

@@ -1,7 +1,7 @@
 -- What a session of an accepted module never does.
 use Rattle.std.specs.Prelude.{◌≡◌, ℕ, suc, Some, None}
-use Rattle.sem_laws.specs.Script.{ScriptPlain}
-use Rattle.sem_laws.specs.Observation.{ObservationPlain, IsBelow}
+use Rattle.session_lang.specs.Script.{ScriptPlain}
+use Rattle.session_lang.specs.Observation.{ObservationPlain, IsBelow}
 use Rattle.asm_lang.specs.Modules.{Module}
 use Rattle.asm_lang_valid.specs.Refusal.{IsAccepted}
 use Rattle.asm_lang_exec.specs.Session.{asm, checked_asm}

@@ -2,3 +2,5 @@
 #![tactic(auto)]
 
 pub mod laws;
+pub mod narrow_laws;
+pub mod uses_laws;

@@ -3,8 +3,8 @@ use Rattle.std.proofs.Common.{◌≡◌, ℕ, zero, suc, ◌+◌, ◌<◌, Bool,
 use Rattle.std.proofs.lemmas.Slice.Eq.{bytes_eq-Decides}
 use Rattle.std.specs.Borrow.{Bor}
 use Rattle.std.specs.Prelude.{bytes_eq, slice_get, option_map, if◌then◌else◌}
-use Rattle.sem_laws.specs.declared.script.CallLine.{CallLine}
-use Rattle.sem_laws.specs.Views.{call_of}
+use Rattle.session_lang.specs.declared.script.CallLine.{CallLine}
+use Rattle.session_lang.specs.Views.{call_of}
 use Rattle.asm_lang.specs.Modules.{Module, Export, Exports, one, many}
 use Rattle.asm_tree.specs.declared.tree.Function.{Function as CodeFunction}
 use Rattle.asm_lang_valid.specs.declared.rule.Met.{Met}

@@ -6,12 +6,12 @@ use Rattle.std.proofs.lemmas.List.Elements.{All-nil, All-cons}
 use Rattle.std.specs.Prelude.{ℤ, pos, negsuc, All, slice_get, unsigned_abs, int_le, int_lt, ◌==◌}
 use Rattle.std.specs.List.{list_all}
 use Rattle.sem_words.specs.Lists.{list_items}
-use Rattle.sem_laws.specs.Script.{CallPlain, ScriptPlain}
-use Rattle.sem_laws.specs.Observation.{ObservationPlain}
-use Rattle.sem_laws.specs.Views.{call_of, script_of}
-use Rattle.sem_laws.specs.declared.script.CallLine.{CallLine}
-use Rattle.sem_laws.specs.declared.script.Script.{Script}
-use Rattle.script_seen.specs.declared.seen.Seen.{Seen}
+use Rattle.session_lang.specs.Script.{CallPlain, ScriptPlain}
+use Rattle.session_lang.specs.Observation.{ObservationPlain}
+use Rattle.session_lang.specs.Views.{call_of, script_of}
+use Rattle.session_lang.specs.declared.script.CallLine.{CallLine}
+use Rattle.session_lang.specs.declared.script.Script.{Script}
+use Rattle.session_replies.specs.declared.seen.Seen.{Seen}
 use Rattle.asm_lang.specs.Modules.{Function, Module}
 use Rattle.asm_tree.specs.declared.tree.Module.{Module as Tree}
 use Rattle.asm_tree.specs.Views.{module_view}
@@ -19,8 +19,8 @@ use Rattle.asm_lang_valid.specs.Refusal.{IsAccepted}
 use Rattle.asm_names.specs.declared.environment.Environment.{Environment}
 use Rattle.asm_lang_exec.specs.Runs.{Place}
 use Rattle.asm_lang_exec.specs.Session.{exported_function, first_place, asm}
-use Rattle.script_fits.specs.FitLaws.{a_call}
-use Rattle.script_fits.proofs.Misfits.{no_misfit_fits}
+use Rattle.session_lang.specs.FitLaws.{a_call}
+use Rattle.session_lang.proofs.Misfits.{no_misfit_fits}
 use Rattle.asm_lang_exec.specs.Fits.{in_range, takes, fits_call, tests, misfit}
 use Rattle.asm_laws_machine.specs.Literals.{IsSmall, SmallModule}
 use Rattle.asm_laws_machine.specs.AcceptedLaws.{AcceptedAreSmall}

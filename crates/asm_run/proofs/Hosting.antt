@@ -4,12 +4,12 @@ use Rattle.std.proofs.lemmas.List.Elements.{All-weaker}
 use Rattle.std.specs.Prelude.{slice_get, option_and_then}
 use Rattle.sem_words.specs.declared.js_value.JsValue.{JsValue}
 use Rattle.sem_words.specs.declared.js_value.JsValue.TheVariants.{Whole}
-use Rattle.sem_laws.specs.Script.{CallPlain}
-use Rattle.sem_laws.specs.Observation.{EventPlain, running, ended}
-use Rattle.sem_laws.specs.Views.{end_of}
-use Rattle.script_seen.specs.Views.{seen_of}
-use Rattle.sem_laws.specs.declared.observation.End.{End}
-use Rattle.script_seen.specs.declared.seen.Seen.{Seen}
+use Rattle.session_lang.specs.Script.{CallPlain}
+use Rattle.session_lang.specs.Observation.{EventPlain, running, ended}
+use Rattle.session_lang.specs.Views.{end_of}
+use Rattle.session_replies.specs.Views.{seen_of}
+use Rattle.session_lang.specs.declared.observation.End.{End}
+use Rattle.session_replies.specs.declared.seen.Seen.{Seen}
 use Rattle.asm_lang.specs.Trees.{Init, number, decimal, foreign_int, foreign_double, member, math, view}
 use Rattle.asm_lang.specs.Modules.{Variable, Function, Module}
 use Rattle.asm_lang_valid.specs.Refusal.{exported_from}

@@ -1,12 +1,12 @@
 -- A session is what its calls come to.
 use Rattle.std.proofs.Common.{◌≡◌, ℕ, ◌≤◌, ◌<◌, ◌+◌, List, [], ◌∷◌, Option, Some, None, sym, ap, ◌∙◌, subst, arith, map, length, drop, get_or}
 use Rattle.std.proofs.lemmas.List.{at_drop_more, at_drop_all}
-use Rattle.sem_laws.specs.Script.{CallPlain}
-use Rattle.sem_laws.specs.Observation.{ObservationPlain, done, ended}
-use Rattle.sem_laws.specs.Views.{call_of}
-use Rattle.script_seen.specs.Views.{seen_of}
-use Rattle.sem_laws.specs.declared.script.CallLine.{CallLine}
-use Rattle.script_seen.specs.declared.seen.Seen.{Seen}
+use Rattle.session_lang.specs.Script.{CallPlain}
+use Rattle.session_lang.specs.Observation.{ObservationPlain, done, ended}
+use Rattle.session_lang.specs.Views.{call_of}
+use Rattle.session_replies.specs.Views.{seen_of}
+use Rattle.session_lang.specs.declared.script.CallLine.{CallLine}
+use Rattle.session_replies.specs.declared.seen.Seen.{Seen}
 use Rattle.asm_lang.specs.Modules.{Module}
 use Rattle.asm_lang_exec.specs.Runs.{Place, gives}
 use Rattle.asm_lang_exec.specs.Session.{first_place, observed}

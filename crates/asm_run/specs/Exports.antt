@@ -2,7 +2,7 @@
 use Rattle.std.specs.Prelude.{◌≡◌, ℕ, Bool, true, false, List, map, Option, Some, None, slice_get}
 use Rattle.std.specs.Borrow.{Bor}
 use Rattle.std.specs.Str.{bytes_eq}
-use Rattle.sem_laws.specs.Script.{CallPlain}
+use Rattle.session_lang.specs.Script.{CallPlain}
 use Rattle.asm_lang.specs.Modules.{Function, Module}
 use Rattle.asm_lang_valid.specs.Refusal.{Exported}
 use Rattle.asm_lang_exec.specs.Session.{exported_function}

@@ -1,8 +1,8 @@
 -- Lines of globals that fit.
 use Rattle.std.specs.Prelude.{ℕ, Bool, not, ◌&&◌, List}
-use Rattle.sem_laws.specs.Script.{GlobalPlain}
+use Rattle.session_lang.specs.Script.{GlobalPlain}
 use Rattle.asm_lang_valid.specs.Scope.{is_in}
-use Rattle.script_fits.specs.Fits.{is_given}
+use Rattle.session_lang.specs.Fits.{is_given}
 use Rattle.asm_lang_exec.specs.Fits.{in_range}
 
 -- a line fits imported globals of these names, after the lines before it

@@ -1,10 +1,10 @@
 -- What a call of the script comes to.
 use Rattle.std.specs.Prelude.{◌≡◌, ℕ, ◌≤◌, List, [], Option, Some, None}
 use Rattle.sem_words.specs.declared.js_value.JsValue.{JsValue}
-use Rattle.sem_laws.specs.Script.{CallPlain}
-use Rattle.sem_laws.specs.Observation.{ObservationPlain}
-use Rattle.script_seen.specs.declared.seen.Seen.{Seen}
-use Rattle.script_seen.specs.Views.{seen_of}
+use Rattle.session_lang.specs.Script.{CallPlain}
+use Rattle.session_lang.specs.Observation.{ObservationPlain}
+use Rattle.session_replies.specs.declared.seen.Seen.{Seen}
+use Rattle.session_replies.specs.Views.{seen_of}
 use Rattle.asm_lang.specs.Modules.{Function, Module}
 use Rattle.asm_lang_exec.specs.Runs.{Binding, Part, and_then, add_event}
 use Rattle.asm_lang_exec.specs.Session.{result_event, observed}

@@ -1,6 +1,6 @@
 -- What a session that was linked has.
 use Rattle.std.specs.Prelude.{◌≡◌, ℕ, [], None}
-use Rattle.sem_laws.specs.Script.{ScriptPlain}
+use Rattle.session_lang.specs.Script.{ScriptPlain}
 use Rattle.asm_tree.specs.declared.tree.Module.{Module as Tree}
 use Rattle.asm_tree.specs.Views.{module_view}
 use Rattle.asm_lang_valid.specs.Refusal.{IsAccepted}

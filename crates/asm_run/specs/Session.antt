@@ -1,9 +1,9 @@
 -- What a session comes to.
 use Rattle.std.specs.Prelude.{◌≡◌, ℕ, List, [], All, Option}
 use Rattle.sem_words.specs.Lists.{list_items}
-use Rattle.sem_laws.specs.declared.script.CallLine.{CallLine}
-use Rattle.script_seen.specs.declared.seen.Seen.{Seen}
-use Rattle.sem_laws.specs.Script.{CallPlain, ScriptPlain}
+use Rattle.session_lang.specs.declared.script.CallLine.{CallLine}
+use Rattle.session_replies.specs.declared.seen.Seen.{Seen}
+use Rattle.session_lang.specs.Script.{CallPlain, ScriptPlain}
 use Rattle.asm_lang.specs.Modules.{Module}
 use Rattle.asm_lang_exec.specs.Session.{first_place, asm}
 use Rattle.asm_run_state.specs.declared.world.World.{World}

@@ -2,10 +2,10 @@
 
 ghost use Rattle.std.specs.Prelude.{◌≡◌, Some, map};
 ghost use Rattle.std.specs.List.{list_all};
-ghost use Rattle.sem_laws.specs.Script.{CallPlain};
-ghost use Rattle.sem_laws.specs.Views.{call_of};
+ghost use Rattle.session_lang.specs.Script.{CallPlain};
+ghost use Rattle.session_lang.specs.Views.{call_of};
 ghost use Rattle.asm_tree.specs.Views.{function_view, module_view};
-ghost use Rattle.script_fits.specs.Fits as parts;
+ghost use Rattle.session_lang.specs.Fits as parts;
 ghost use Rattle.asm_lang_exec.specs.Fits;
 ghost use Rattle.asm_lang_exec.specs.Session.{exported_function};
 ghost use Rattle.asm_run.specs.Exports.{callees_of, callees_said, function_seen};
@@ -13,8 +13,7 @@ ghost use Rattle.asm_run.specs.Exports.{callees_of, callees_said, function_seen}
 use crate::ranges::in_range;
 use asm_tree::Function;
 use asm_validate::Checked;
-use script_fits::lesser;
-use sem_laws::CallLine;
+use session_lang::{CallLine, lesser};
 
 fn are_in_range(args: &[i128]) -> bool
     ensures { result ≡ list_all Fits.in_range args.now }
@@ -41,7 +40,7 @@ fn fits_call(checked: &Checked, callee: Option<&Function>, call: &CallLine) -> b
 }
 
 /// The first line of a call that doesn't fit, by the functions that the calls name.
-#[tactic(auto, using(script_fits::proofs::FirstLines::earlier_lesser, script_fits::proofs::FirstLines::earlier_none))]
+#[tactic(auto, using(session_lang::proofs::FirstLines::earlier_lesser, session_lang::proofs::FirstLines::earlier_none))]
 pub fn first_call(
     checked: &Checked,
     callees: &[Option<&Function>],

@@ -1,7 +1,7 @@
 // The functions that the script's calls name.
 ghost use Rattle.std.specs.Prelude.{◌≡◌, IfOk, map, option_and_then, slice_get};
 ghost use Rattle.std.specs.Option.{option_map};
-ghost use Rattle.sem_laws.specs.Views.{call_of};
+ghost use Rattle.session_lang.specs.Views.{call_of};
 ghost use Rattle.asm_tree.specs.Views.{function_view, module_view};
 ghost use Rattle.asm_lang_valid.specs.Refusal.{Exported, exported_from};
 ghost use Rattle.asm_lang_exec.specs.Session as session;
@@ -13,7 +13,7 @@ use asm_run_state::Layout;
 use asm_tree::Function;
 use asm_validate::Checked;
 use asm_validate_facts::ExportOf;
-use sem_laws::CallLine;
+use session_lang::CallLine;
 use std::alloc::{AllocError, Global};
 use std::marker::Model;
 

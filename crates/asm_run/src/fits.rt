@@ -1,10 +1,10 @@
 //! Which scripts fit.
 
 ghost use Rattle.std.specs.Prelude.{◌≡◌, None, Some, IfOk, MatchResult};
-ghost use Rattle.sem_laws.specs.Views.{script_of};
+ghost use Rattle.session_lang.specs.Views.{script_of};
 ghost use Rattle.asm_tree.specs.Views.{module_view};
 ghost use Rattle.asm_lang_valid.specs.Refusal.{foreign_globals};
-ghost use Rattle.script_fits.specs.Fits.{least, unfit_lines};
+ghost use Rattle.session_lang.specs.Fits.{least, unfit_lines};
 ghost use Rattle.asm_lang_exec.specs.Fits.{tests, misfit};
 ghost use Rattle.asm_run.specs.Exports.{callees_of, callees_said};
 
@@ -15,9 +15,8 @@ use crate::writes::{first_reply, first_write};
 use asm_run_state::Layout;
 use asm_tree::Function;
 use asm_validate::Checked;
-use script_fits::earlier;
 use script_lines::Lines;
-use sem_laws::{Misfit, Script};
+use session_lang::{Misfit, Script, earlier};
 use std::alloc::{AllocError, Global};
 
 // The first line that doesn't fit.

@@ -1,21 +1,20 @@
 // The values of imported globals.
 
 ghost use Rattle.std.specs.Prelude.{◌≡◌, [], IfOk, take};
-ghost use Rattle.sem_laws.specs.Views.{global_of};
+ghost use Rattle.session_lang.specs.Views.{global_of};
 ghost use Rattle.asm_tree.specs.Views.{module_view, texts_view};
 ghost use Rattle.asm_lang_valid.specs.Refusal.{foreign_globals};
 ghost use Rattle.asm_lang_valid.specs.Scope.{is_in};
-ghost use Rattle.script_fits.specs.Fits as parts;
+ghost use Rattle.session_lang.specs.Fits as parts;
 ghost use Rattle.asm_run_state.specs.Variables.{names_in};
 ghost use Rattle.asm_run.specs.Globals.{fits_line};
 
 use crate::ranges::in_range;
 use asm_run_state::Layout;
 use asm_validate::Checked;
-use script_fits::lesser;
 use script_lines::Lines;
-use sem_laws::GlobalLine;
 use sem_words::Text;
+use session_lang::{GlobalLine, lesser};
 use std::alloc::{AllocError, Global};
 
 /// The names of the imported globals, each found by a map.
@@ -57,7 +56,7 @@ fn fits_global(imported: &Layout<'_>, lines: &Lines<'_>, place: usize, line: &Gl
 }
 
 /// The first line of a global that doesn't fit.
-#[tactic(auto, using(script_fits::proofs::FirstLines::earlier_none))]
+#[tactic(auto, using(session_lang::proofs::FirstLines::earlier_none))]
 pub fn first_global(imported: &Layout<'_>, lines: &Lines<'_>) -> Option<u64>
     ensures { result ≡ parts.least (parts.global_lines (fits_line imported.now) [] lines.now) }
 {

@@ -2,7 +2,7 @@
 ghost use Rattle.std.specs.Prelude.{◌≡◌, All, IfOk, map};
 ghost use Rattle.sem_words.specs.declared.js_value.JsValue.TheVariants.{Whole};
 ghost use Rattle.sem_words.specs.Lists.{list_items};
-ghost use Rattle.sem_laws.specs.Views.{call_of};
+ghost use Rattle.session_lang.specs.Views.{call_of};
 ghost use Rattle.asm_tree.specs.Views.{module_view, function_view, stmts_view};
 ghost use Rattle.asm_names.specs.Environments.{IsComplete};
 ghost use Rattle.asm_laws_machine.specs.Literals.{IsSmall, SmallFunction, SmallModule, SmallStmts};
@@ -19,9 +19,9 @@ use asm_run_machine::{Ended, Machine};
 use asm_run_state::{World, first_locals, locals_layout, result_event};
 use asm_run_work::{Arguments, Completion, EndWork, Frame, Kept, Mode, Outcome, Stack, Work};
 use asm_tree::Function;
-use script_seen::Seen;
-use sem_laws::CallLine;
 use sem_words::JsValue;
+use session_lang::CallLine;
+use session_replies::Seen;
 use std::alloc::{AllocError, Global};
 
 /// What a call of the script comes to: the session goes on in a world, or this is seen of it, or it goes

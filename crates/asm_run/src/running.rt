@@ -1,6 +1,6 @@
 //! Runs the calls of a script.
 ghost use Rattle.std.specs.Prelude.{◌≡◌, IfOk, map};
-ghost use Rattle.sem_laws.specs.Views.{call_of};
+ghost use Rattle.session_lang.specs.Views.{call_of};
 ghost use Rattle.asm_tree.specs.Views.{module_view};
 ghost use Rattle.asm_names.specs.Environments.{IsComplete};
 ghost use Rattle.asm_laws_machine.specs.Literals.{SmallModule};
@@ -11,8 +11,8 @@ use crate::host_calls::{Hosted, host_call};
 use asm_names::Environment;
 use asm_run_state::World;
 use asm_tree::Function;
-use script_seen::Seen;
-use sem_laws::{CallLine, End};
+use session_lang::{CallLine, End};
+use session_replies::Seen;
 use std::alloc::{AllocError, Global};
 
 /// What is seen of the module where the script makes these calls, of these functions, in a world; None where the session goes

@@ -2,9 +2,9 @@
 
 ghost use Rattle.std.specs.Prelude.{◌≡◌, None, Some, IfOk};
 ghost use Rattle.heap_lang.specs.Heap.{IsHeapLength};
-ghost use Rattle.sem_laws.specs.Observation.{ObservationPlain};
-ghost use Rattle.sem_laws.specs.Views.{script_of};
-ghost use Rattle.script_seen.specs.Views.{seen_of};
+ghost use Rattle.session_lang.specs.Observation.{ObservationPlain};
+ghost use Rattle.session_lang.specs.Views.{script_of};
+ghost use Rattle.session_replies.specs.Views.{seen_of};
 ghost use Rattle.asm_tree.specs.Views.{module_view};
 ghost use Rattle.asm_lang_exec.specs.Session.{asm, checked_asm};
 ghost use Rattle.asm_lang_exec.specs.Fits.{misfit};
@@ -15,8 +15,8 @@ use asm_names::Environment;
 use asm_run_state::World;
 use asm_tree::Function;
 use asm_validate::Checked;
-use script_seen::Seen;
-use sem_laws::Script;
+use session_lang::Script;
+use session_replies::Seen;
 use std::alloc::{AllocError, Global};
 use std::marker::Model;
 
@@ -33,7 +33,7 @@ pub struct Session<'a> {
 
 impl<'a> Model for Session<'a> {
     ghost use Rattle.std.specs.Coded.{codes};
-    ghost use Rattle.sem_laws.specs.Views.{script_of};
+    ghost use Rattle.session_lang.specs.Views.{script_of};
     ghost use Rattle.asm_tree.specs.contracts.tree.Expr as exprs;
     ghost use Rattle.asm_tree.specs.contracts.tree.Stmt as stmts;
     ghost use Rattle.asm_tree.specs.Views.{module_view};

@@ -2,19 +2,19 @@
 
 ghost use Rattle.std.specs.Prelude.{◌≡◌, map};
 ghost use Rattle.std.specs.List.{list_all};
-ghost use Rattle.sem_laws.specs.Script.{WritePlain, ReplyLinePlain};
-ghost use Rattle.sem_laws.specs.Views.{write_of, reply_of, reply_line_of};
+ghost use Rattle.session_lang.specs.Script.{WritePlain, ReplyLinePlain};
+ghost use Rattle.session_lang.specs.Views.{write_of, reply_of, reply_line_of};
 ghost use Rattle.asm_tree.specs.Views.{module_view};
-ghost use Rattle.script_fits.specs.Fits as parts;
+ghost use Rattle.session_lang.specs.Fits as parts;
 ghost use Rattle.asm_lang_exec.specs.Fits;
 
 use asm_validate::Checked;
-use script_fits::lesser;
-use sem_laws::{Reply, ReplyLine, WriteLine};
+use session_lang::{Reply, ReplyLine, WriteLine, bytes_are, lesser};
 
 fn fits_write(checked: &Checked, heap_len: u32, write: &WriteLine) -> bool
     ensures { result ≡ Fits.fits_write (module_view checked.now) heap_len (write_of write.now) }
 {
+    bytes_are(write.bytes.as_bytes());
     let size = heap_len as u64;
     let len = write.bytes.as_bytes().len() as u64;
     checked.has_heap() && len <= size && write.at <= size - len
@@ -41,7 +41,7 @@ fn fits_reply(checked: &Checked, heap_len: u32, reply: &Reply) -> bool
 }
 
 /// The first line of bytes that don't lie in a heap of this length.
-#[tactic(auto, using(script_fits::proofs::FirstLines::earlier_lesser, script_fits::proofs::FirstLines::earlier_none))]
+#[tactic(auto, using(session_lang::proofs::FirstLines::earlier_lesser, session_lang::proofs::FirstLines::earlier_none))]
 pub fn first_write(checked: &Checked, heap_len: u32, writes: &[WriteLine]) -> Option<u64>
     ensures { result ≡ parts.least (parts.lines_of (Fits.fits_write (module_view checked.now) heap_len) (λ (w : WritePlain). w.line) (map write_of writes.now)) }
 {
@@ -55,7 +55,7 @@ pub fn first_write(checked: &Checked, heap_len: u32, writes: &[WriteLine]) -> Op
 }
 
 /// The first line of a reply with bytes that don't.
-#[tactic(auto, using(script_fits::proofs::FirstLines::earlier_lesser, script_fits::proofs::FirstLines::earlier_none))]
+#[tactic(auto, using(session_lang::proofs::FirstLines::earlier_lesser, session_lang::proofs::FirstLines::earlier_none))]
 pub fn first_reply(checked: &Checked, heap_len: u32, replies: &[ReplyLine]) -> Option<u64>
     ensures { result ≡ parts.least (parts.lines_of (λ (r : ReplyLinePlain). Fits.fits_reply (module_view checked.now) heap_len r.reply) (λ r. r.line) (map reply_line_of replies.now)) }
 {

@@ -1,6 +1,6 @@
 -- The machine in code, as a plain one.
 use Rattle.std.specs.Prelude.{List}
-use Rattle.sem_laws.specs.Views.{end_of}
+use Rattle.session_lang.specs.Views.{end_of}
 use Rattle.asm_lang.specs.Modules.{Function}
 use Rattle.asm_tree.specs.Views.{function_view}
 use Rattle.asm_lang_exec.specs.Runs.{Place, Run, goes, stops, spent, wrong}

@@ -1,6 +1,6 @@
 -- What a run of a function's body has reached, and what comes after it.
 use Rattle.std.specs.Prelude.{◌≡◌, ℕ, ◌<◌, ◌≤◌}
-use Rattle.sem_laws.specs.Views.{end_of}
+use Rattle.session_lang.specs.Views.{end_of}
 use Rattle.asm_lang.specs.Modules.{Module}
 use Rattle.asm_lang_exec.specs.Runs.{Run, stops, spent, wrong, Part}
 use Rattle.asm_lang_exec.specs.Meaning as plain

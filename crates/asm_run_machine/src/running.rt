@@ -12,8 +12,8 @@ use crate::machine::Machine;
 use asm_names::Environment;
 use asm_run_work::{Completion, Flow, Mode, Outcome, Work};
 use asm_tree::{Expr, Stmt};
-use sem_laws::End;
 use sem_words::Text;
+use session_lang::End;
 use std::alloc::{AllocError, Global};
 
 /// What a function's body comes to: it ends, or the session does, or a unit is due where none is left, or

@@ -1,7 +1,7 @@
 -- The values that a script gives rest on its lines of globals alone.
 use Rattle.std.proofs.Common.{◌≡◌, ℕ, Bool, true, false, List, [], ◌∷◌, Option, Some, None, bytes_eq, refl, ap, ◌∙◌}
 use Rattle.std.specs.Prelude.{ℤ, pos, if◌then◌else◌}
-use Rattle.sem_laws.specs.Script.{GlobalPlain, ScriptPlain}
+use Rattle.session_lang.specs.Script.{GlobalPlain, ScriptPlain}
 use Rattle.asm_lang.specs.Trees.{Init, number, decimal, foreign_int, foreign_double, member, math, view}
 use Rattle.asm_lang.specs.Modules.{Variable}
 use Rattle.script_lines.specs.GlobalLines.{given}

@@ -1,7 +1,7 @@
 -- What a call of an import comes to.
 use Rattle.sem_words.specs.declared.js_value.JsValue.{JsValue}
 use Rattle.sem_words.specs.JsValues.{IsValue}
-use Rattle.sem_laws.specs.Views.{end_of}
+use Rattle.session_lang.specs.Views.{end_of}
 use Rattle.asm_lang_exec.specs.Runs.{goes, stops, Part}
 use Rattle.asm_run_state.specs.declared.imports.Called.{Called}
 use Rattle.asm_run_state.specs.declared.imports.Called.TheVariants.{Goes, Stops}

@@ -1,7 +1,7 @@
 -- The module's variables before they have slots.
 use Rattle.std.specs.Prelude.{◌≡◌, List, [], All, length}
 use Rattle.sem_words.specs.JsValues.{IsValue}
-use Rattle.sem_laws.specs.Script.{GlobalPlain, ScriptPlain}
+use Rattle.session_lang.specs.Script.{GlobalPlain, ScriptPlain}
 use Rattle.asm_lang_exec.specs.Runs.{Binding}
 use Rattle.asm_run_state.specs.Variables.{names_in, bindings}
 use Rattle.asm_run_state.specs.declared.globals.Globals.{Globals}

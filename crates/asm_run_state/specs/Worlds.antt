@@ -1,9 +1,9 @@
 -- Where a session stands in code, as a place.
 use Rattle.std.specs.Prelude.{Bool, true, false, List, map}
 use Rattle.sem_words.specs.Lists.{list_items}
-use Rattle.sem_laws.specs.Views.{event_of}
+use Rattle.session_lang.specs.Views.{event_of}
 use Rattle.asm_lang_exec.specs.Runs.{Binding, Place, goes, spent, Part}
-use Rattle.script_replies.specs.Answers.{replies_of}
+use Rattle.session_replies.specs.Answers.{replies_of}
 use Rattle.asm_run_state.specs.Variables.{bindings}
 use Rattle.asm_run_state.specs.declared.world.World.{World}
 

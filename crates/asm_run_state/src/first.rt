@@ -2,7 +2,7 @@
 ghost use Rattle.std.specs.Prelude.{◌≡◌, [], IfOk};
 ghost use Rattle.std.specs.Str.{bytes_eq};
 ghost use Rattle.heap_lang.specs.Heap.{IsHeapLength};
-ghost use Rattle.sem_laws.specs.Views.{script_of};
+ghost use Rattle.session_lang.specs.Views.{script_of};
 ghost use Rattle.asm_lang.specs.Modules as plain;
 ghost use Rattle.asm_tree.specs.Views.{init_view, module_view};
 ghost use Rattle.asm_lang_valid.specs.Refusal as refusal;
@@ -16,9 +16,9 @@ use crate::world::World;
 use crate::{Layout, Values};
 use asm_tree::{Init, Module};
 use heap_views::Heap;
-use script_replies::{Replies, put_writes};
-use sem_laws::Script;
 use sem_words::List;
+use session_lang::Script;
+use session_replies::{Replies, put_writes};
 use std::alloc::{AllocError, Global};
 
 impl<'a> World<'a> {

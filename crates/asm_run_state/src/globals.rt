@@ -2,7 +2,7 @@
 ghost use Rattle.std.specs.Prelude.{◌≡◌, ◌++◌, ◌∷◌, [], All, map, IfOk, IfSome};
 ghost use Rattle.sem_words.specs.JsValues.{IsValue};
 ghost use Rattle.sem_words.specs.Words.{word_of};
-ghost use Rattle.sem_laws.specs.Views.{script_of};
+ghost use Rattle.session_lang.specs.Views.{script_of};
 ghost use Rattle.asm_lang.specs.Modules.{Variable};
 ghost use Rattle.asm_tree.specs.Views.{init_view, global_view};
 ghost use Rattle.asm_lang_exec.specs.Session as session;
@@ -14,8 +14,8 @@ ghost use Rattle.asm_run_state.specs.Literals.{IsSmall};
 use crate::callees::signed_value;
 use asm_tree::{Global_, Init};
 use script_lines::Lines;
-use sem_laws::Script;
 use sem_words::JsValue;
+use session_lang::Script;
 use std::alloc::{AllocError, Global};
 
 /// The names and the values of the module's variables, as many of both.

@@ -3,16 +3,16 @@ ghost use Rattle.std.specs.Prelude.{◌≡◌, All, map, IfOk};
 ghost use Rattle.sem_words.specs.Lists.{list_items};
 ghost use Rattle.sem_words.specs.JsValues.{IsValue};
 ghost use Rattle.sem_words.specs.JsOperators.{signed_value};
-ghost use Rattle.sem_laws.specs.Imports.{goes_on, low_word};
-ghost use Rattle.script_replies.specs.Answers.{replies_of, given_of};
+ghost use Rattle.session_lang.specs.Imports.{goes_on, low_word};
+ghost use Rattle.session_replies.specs.Answers.{replies_of, given_of};
 ghost use Rattle.asm_lang_exec.specs.Values.{word, answered, call_import};
 ghost use Rattle.asm_run_state.specs.Worlds.{Bindings, place_of};
 ghost use Rattle.asm_run_state.specs.Called.{called_of, KeepsValue};
 
 use crate::world::{World, push_event};
-use script_replies::{Answer, Given, put_writes};
-use sem_laws::End;
 use sem_words::{JsValue, List, Word, signed32, to_uint32};
+use session_lang::End;
+use session_replies::{Answer, Given, put_writes};
 use std::alloc::{AllocError, Global};
 
 /// What a call of an import comes to.

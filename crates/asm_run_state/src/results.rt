@@ -1,15 +1,15 @@
 //! What the host sees of a call of the script that comes back.
 ghost use Rattle.std.specs.Prelude.{◌≡◌};
 ghost use Rattle.sem_words.specs.JsValues.{IsValue};
-ghost use Rattle.sem_laws.specs.Views.{event_of};
+ghost use Rattle.session_lang.specs.Views.{event_of};
 ghost use Rattle.asm_tree.specs.Views.{function_view, stmt_view, stmts_view};
 ghost use Rattle.asm_lang_valid.specs.Scope as scopes;
 ghost use Rattle.asm_lang_valid.specs.Scope.{signature_of};
 ghost use Rattle.asm_lang_exec.specs.Session as session;
 
 use asm_tree::{Function, Stmt};
-use sem_laws::Event;
 use sem_words::{JsValue, Word, to_uint32};
+use session_lang::Event;
 
 /// Whether a function has a result: its last statement is a return with an expression.
 pub fn has_result(function: &Function) -> bool

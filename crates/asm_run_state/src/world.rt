@@ -1,19 +1,18 @@
 //! Where a session stands.
 ghost use Rattle.std.specs.Prelude.{◌≡◌, ◌++◌, map, OnOk, OnErr};
 ghost use Rattle.sem_words.specs.Lists.{list_items};
-ghost use Rattle.sem_laws.specs.Observation.{running, ended};
-ghost use Rattle.sem_laws.specs.Views.{event_of, end_of};
+ghost use Rattle.session_lang.specs.Observation.{running, ended};
+ghost use Rattle.session_lang.specs.Views.{event_of, end_of};
 ghost use Rattle.asm_lang_exec.specs.Runs.{goes, pay, add_event};
-ghost use Rattle.script_replies.specs.Answers.{events_of};
-ghost use Rattle.script_seen.specs.Views.{seen_of};
+ghost use Rattle.session_replies.specs.Answers.{events_of};
+ghost use Rattle.session_replies.specs.Views.{seen_of};
 ghost use Rattle.asm_run_state.specs.Worlds.{Bindings, place_of, paid_of};
 
 use crate::{Layout, Values};
 use heap_views::Heap;
-use script_replies::Replies;
-use script_seen::Seen;
-use sem_laws::{End, Event};
 use sem_words::List;
+use session_lang::{End, Event};
+use session_replies::{Replies, Seen};
 use std::alloc::AllocError;
 
 /// Everything that a session changes, but for the variables of the function that runs: the module's

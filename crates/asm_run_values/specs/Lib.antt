@@ -1,3 +1,4 @@
 pub mod Beyond
 pub mod Targets
 pub mod Values
+pub mod Seen

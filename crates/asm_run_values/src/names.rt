@@ -4,14 +4,14 @@ ghost use Rattle.sem_words.specs.Lists.{text_bytes};
 ghost use Rattle.asm_tree.specs.Views.{module_view};
 ghost use Rattle.asm_names.specs.Environments.{IsComplete};
 ghost use Rattle.asm_names.specs.Meanings.{meaning_view};
-ghost use Rattle.asm_run_tables.specs.Seen.{function_seen};
+ghost use Rattle.asm_run_values.specs.Seen.{function_seen};
 ghost use Rattle.asm_lang_exec.specs.Values.{entry_of};
 ghost use Rattle.asm_run_values.specs.Beyond.{beyond, viewed, called};
 ghost use Rattle.asm_run_values.specs.Targets.{target_view};
 
+use crate::entries::table_entry;
 use asm_lang_valid::{Builtin, Element};
 use asm_names::{Environment, Meaning};
-use asm_run_tables::table_entry;
 use asm_run_work::Frame;
 use asm_tree::Function;
 use sem_words::{JsValue, Text};

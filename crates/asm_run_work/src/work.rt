@@ -5,8 +5,8 @@ use crate::endings::Completion;
 use crate::frame::Frame;
 use crate::kept::{Arguments, Kept};
 use asm_tree::{Clause, Expr, Link, Stmt};
-use sem_laws::End;
 use sem_words::{JsOp, JsUnary, JsValue, Text};
+use session_lang::End;
 
 /// What takes arguments: what a name means, or the entry of a table at an index.
 #[derive(Clone, Copy)]

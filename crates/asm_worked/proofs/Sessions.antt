@@ -1,7 +1,7 @@
 -- The sessions in which bytes are read and written.
 use Rattle.std.specs.Prelude.{[], ◌∷◌, ◌++◌, replicate, codes, refl}
 use Rattle.heap_lang.specs.Heap as heaps
-use Rattle.sem_laws.specs.Observation.{done, ended}
+use Rattle.session_lang.specs.Observation.{done, ended}
 use Rattle.asm_worked.specs.Forms.{gave, imported}
 use Rattle.asm_worked.specs.Worked.{Shows}
 use Rattle.asm_worked.specs.Rows as rows

@@ -1,6 +1,6 @@
 -- Exports, and calls of them.
 use Rattle.std.specs.Prelude.{List, [], ◌∷◌, codes, pos}
-use Rattle.sem_laws.specs.Script.{CallPlain}
+use Rattle.session_lang.specs.Script.{CallPlain}
 use Rattle.asm_lang_valid.specs.Refusal.{Exported}
 use Rattle.asm_worked.specs.Forms.{called}
 

@@ -3,8 +3,8 @@ use Rattle.std.specs.Prelude.{ℕ, ℤ, pos, false, true, List, [], ◌∷◌, S
 use Rattle.sem_words.specs.declared.word.Word.{Word}
 use Rattle.sem_words.specs.declared.word.Word.TheVariants.{W32}
 use Rattle.sem_words.specs.declared.js_value.JsOp.TheVariants.{Or}
-use Rattle.sem_laws.specs.Script.{CallPlain, ReplyPlain, ReplyLinePlain, ScriptPlain}
-use Rattle.sem_laws.specs.Observation.{EventPlain, import_called, call_gave}
+use Rattle.session_lang.specs.Script.{CallPlain, ReplyPlain, ReplyLinePlain, ScriptPlain}
+use Rattle.session_lang.specs.Observation.{EventPlain, import_called, call_gave}
 use Rattle.asm_lang.specs.Trees.{Init, number, member, view}
 use Rattle.asm_lang.specs.Modules.{Expr, lit, var, assign, binary, chain, Exprs, no_exprs, exprs, no_links, links, Stmt, plain, returns, Stmts, no_stmts, stmts, Variable, Param, Function, Table, Exports, Module}
 

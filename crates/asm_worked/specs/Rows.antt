@@ -1,7 +1,7 @@
 -- The modules of the worked sessions, each with its text, and their scripts.
 use Rattle.std.specs.Prelude.{ℕ, pos, negsuc, List, [], ◌∷◌, Some, None, codes}
 use Rattle.sem_words.specs.declared.js_value.JsOp.TheVariants.{Div, And, Lt, Gt, Sar}
-use Rattle.sem_laws.specs.Script.{give, throw, ReplyPlain, ScriptPlain}
+use Rattle.session_lang.specs.Script.{give, throw, ReplyPlain, ScriptPlain}
 use Rattle.asm_lang.specs.Trees.{foreign_int}
 use Rattle.asm_lang.specs.Modules.{lit, var, index, call, table_call, assign, store, binary, comma, block, plain, if_only, returns, while_loop, breaks, continues, labelled, switches, no_clauses, clauses, one, many, Function, Module}
 use Rattle.asm_worked.specs.Forms.{int, signed, plus, minus, arguments, statements, sets, adds, answers, variable, view_variable, foreign_variable, function, module_of, called, replied, script}

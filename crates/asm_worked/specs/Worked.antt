@@ -1,7 +1,7 @@
 -- What is worked of a module: the text that says it, and sessions.
 use Rattle.std.specs.Prelude.{◌≡◌, ℕ, List, Some, None}
-use Rattle.sem_laws.specs.Script.{ScriptPlain}
-use Rattle.sem_laws.specs.Observation.{ObservationPlain}
+use Rattle.session_lang.specs.Script.{ScriptPlain}
+use Rattle.session_lang.specs.Observation.{ObservationPlain}
 use Rattle.asm_lang.specs.Modules.{Module}
 use Rattle.asm_lang.specs.Texts.{IsTextOf}
 use Rattle.asm_lang_valid.specs.Refusal.{IsAccepted}

@@ -1,7 +1,7 @@
 //! The rows. Each function does nothing, and its contract is what the check computes of a module.
 ghost use Rattle.std.specs.Prelude.{◌≡◌, ◌∷◌, ◌++◌, [], Some, None, pos, codes, replicate};
-ghost use Rattle.sem_laws.specs.Script.{give};
-ghost use Rattle.sem_laws.specs.Observation.{call_returned, done, stopped, no_reply, running, ended};
+ghost use Rattle.session_lang.specs.Script.{give};
+ghost use Rattle.session_lang.specs.Observation.{call_returned, done, stopped, no_reply, running, ended};
 ghost use Rattle.asm_lang_exec.specs.Fits.{misfit};
 ghost use Rattle.asm_worked.specs.Forms.{called, replied, script, gave, words, imported};
 ghost use Rattle.asm_worked.specs.Worked.{Says, Shows};

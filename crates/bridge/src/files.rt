@@ -77,8 +77,12 @@ pub struct SystemFiles<'a> {
 }
 
 impl<'a> SystemFiles<'a> {
-    /// The files that these words name.
-    pub fn new(rt: &'a HostRuntime, words: &'a [String]) -> Self {
+    /// The files that these words name. Nothing is counted yet.
+    pub fn new(rt: &'a HostRuntime, words: &'a [String]) -> Self
+        ensures faults { result.faults ≡ 0 }
+        ensures absences { result.absences ≡ 0 }
+        ensures given { result.given ≡ 0 }
+    {
         SystemFiles {
             rt,
             words,

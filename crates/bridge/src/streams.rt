@@ -1,5 +1,5 @@
 //! Standard output and standard error.
-ghost use Rattle.std.specs.Prelude.{◌≤◌, ◌<◌, length, None, IfSome};
+ghost use Rattle.std.specs.Prelude.{◌≡◌, ◌≤◌, ◌<◌, length, None, IfSome};
 ghost use Rattle.bridge_io.specs.Outside.{last_count};
 
 use bridge_io::{Failed, Sink};
@@ -14,7 +14,10 @@ pub struct Stream<P> {
 }
 
 impl<P: Print> Stream<P> {
-    pub fn new(stream: P) -> Self {
+    /// The stream, of which no write has failed yet.
+    pub fn new(stream: P) -> Self
+        ensures { result.faults ≡ 0 }
+    {
         Stream { stream, faults: 0 }
     }
 

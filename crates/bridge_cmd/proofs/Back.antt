@@ -8,11 +8,11 @@ use Rattle.asm_lang_valid.specs.Texts.{IsAcceptedText}
 use Rattle.wasm_lang.specs.Modules.{WasmModule}
 use Rattle.wasm_lang_valid.specs.Bytes.{IsTranslatable}
 use Rattle.wasm2js_lang.specs.Allowed.{IsAllowed}
-use Rattle.wasm2js_code.specs.Modules.{translated}
+use Rattle.wasm2js_translation.specs.Modules.{translated}
 use Rattle.wasm2js_laws_simulation.specs.WholeLaws.{SpelledAreAllowed, TrapsOfSpelledAreCalls}
 use Rattle.wasm2js_laws_simulation.specs.BoundedLaws.{SpelledAreBounded}
-use Rattle.bridge_cmd.specs.Command.{wasm_to_asm}
-use Rattle.bridge_cmd.specs.Job.{IsMade, translated_back}
+use Rattle.bridge_lang.specs.Command.{wasm_to_asm}
+use Rattle.bridge_lang.specs.Job.{IsMade, translated_back}
 
 abbrev pub SaysAgain : Type 0
 SaysAgain = (m : Module) → IsWellFormed m → (places : List ℕ) × SaysModule (canonical_text m) m places
@@ -27,5 +27,5 @@ module _ (allowed : SpelledAreAllowed) (traps : TrapsOfSpelledAreCalls) (bounded
   pub made : (file bytes output : List ℕ) (w : WasmModule) → IsTranslatable bytes w → output ≡ canonical_text (translated w) → IsMade (wasm_to_asm file) bytes output
   made file bytes output w t e =
       let a = allowed w (bytes, t.read.spelled) t.within in
-      translated_back w (translated w) t refl e (subst (λ text. IsAcceptedText text (translated w)) (sym e) (stands (translated w) w a)) a (traps w (bytes, t.read.spelled) t.within)
+      translated_back w (translated w) t e (subst (λ text. IsAcceptedText text (translated w)) (sym e) (stands (translated w) w a)) a (traps w (bytes, t.read.spelled) t.within)
       (bounded w (bytes, t.read.spelled) t.within)

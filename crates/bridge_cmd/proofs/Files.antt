@@ -4,12 +4,13 @@ use Rattle.std.specs.Prelude.{Option, Some, None, IsSomeAnd}
 use Rattle.bridge_io.specs.Outside.{Told, content_of}
 use Rattle.bridge_io.specs.declared.reading.GatherFault.{GatherFault}
 use Rattle.bridge_io.specs.declared.reading.GatherFault.TheVariants.{Read, Missing, TooLarge, Memory}
-use Rattle.bridge_cmd.specs.Answers.{MayAnswer, a_refusal, a_read_fault, no_memory}
-use Rattle.bridge_cmd.specs.Job.{Job, refused, written, file_limit, IsAbsent, Holds, IsTooLong, IsFileJob, absent, long, held}
-use Rattle.bridge_cmd.specs.Outcome.{EndsAs}
-use Rattle.bridge_cmd.specs.Refused.{status_of, reason_at}
-use Rattle.bridge_cmd.specs.declared.status.Status.{Status}
-use Rattle.bridge_cmd.specs.declared.status.Status.TheVariants.{Done}
+use Rattle.bridge_lang.specs.Answers.{MayAnswer, a_refusal, a_read_fault, no_memory}
+use Rattle.bridge_lang.specs.Job.{Job, refused, written, file_limit, IsAbsent, Holds, IsTooLong, IsFileJob, absent, long, held}
+use Rattle.bridge_lang.specs.Outcome.{EndsAs}
+use Rattle.bridge_lang.specs.Statuses.{status_of}
+use Rattle.bridge_cmd.specs.Refused.{reason_at}
+use Rattle.bridge_lang.specs.declared.status.Status.{Status}
+use Rattle.bridge_lang.specs.declared.status.Status.TheVariants.{Done}
 
 pub holds : (told : Option Told) (file text : List ℕ) → ((map : Told) → told ≡ Some map → content_of map file ≡ Some text) → Holds told file text
 holds None file text content = tt

@@ -4,7 +4,7 @@ use Rattle.std.specs.Prelude.{Option, Some, None, Result, Ok, Err, OnErr}
 use Rattle.std.proofs.lemmas.List.{length-append, take-append-le}
 use Rattle.std.proofs.Math.Seq.{take-append-add}
 use Rattle.bridge_io.specs.Outside.{Rose, appended}
-use Rattle.bridge_cmd.specs.Sinks.{Seen, Gains, GainsFront}
+use Rattle.bridge_lang.specs.Sinks.{Seen, Gains, GainsFront}
 
 -- what rose after a while in which it didn't fall rose over all
 pub rose_since : (old between new : ℕ) → old ≤ between → Rose between new → Rose old new

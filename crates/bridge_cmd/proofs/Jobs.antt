@@ -5,6 +5,10 @@ use Rattle.bridge_io.specs.Outside.{Told}
 use Rattle.cmd_check_asm.specs.declared.fault.CheckFault.{CheckFault as TextFault}
 use Rattle.cmd_check_asm.specs.declared.fault.CheckFault.TheVariants as text_faults
 use Rattle.cmd_check_asm.specs.Verdicts as texts
+use Rattle.bridge_lang.specs.declared.row.AsmRow.{AsmRow}
+use Rattle.wasm_lang.specs.declared.fault.Row.{Row}
+use Rattle.wasm_lang_valid.specs.declared.rule.Rule.{Rule}
+use Rattle.wasm_lang_valid.specs.declared.section.Section.{Section}
 use Rattle.wasm_lang.specs.Modules.{WasmModule}
 use Rattle.wasm_lang.proofs.ReadingLawsOne.{one_module}
 use Rattle.wasm_lang_valid.specs.declared.profile.Outside.{Outside}
@@ -15,26 +19,28 @@ use Rattle.cmd_check_wasm.specs.declared.fault.CheckFault.{CheckFault}
 use Rattle.cmd_check_wasm.specs.declared.fault.CheckFault.TheVariants as checks
 use Rattle.cmd_check_wasm.specs.Verdicts.{IsRefused}
 use Rattle.cmd_check_wasm.proofs.Once.{not_both, one_fault}
-use Rattle.cmd_run_wasm.specs.Modules.{IsRunnable, IsOutside, IsNotRun}
+use Rattle.bridge_lang.specs.WasmRuns.{IsRunnable, IsOutside}
+use Rattle.cmd_run_wasm.specs.Modules.{IsNotRun}
 use Rattle.cmd_run_wasm.specs.declared.fault.RunFault.{RunFault}
 use Rattle.cmd_run_wasm.specs.declared.fault.RunFault.TheVariants as run_faults
 use Rattle.script_read.specs.declared.fault.ScriptFault.{ScriptFault}
 use Rattle.script_read.specs.declared.fault.ScriptFault.TheVariants as script_faults
-use Rattle.bridge_words.specs.Answer.{Answers}
-use Rattle.bridge_words.specs.declared.fault.WordsFault.{WordsFault}
-use Rattle.bridge_words.specs.declared.fault.WordsFault.TheVariants as words_faults
-use Rattle.bridge_cmd.specs.declared.status.Status.TheVariants.{Usage}
+use Rattle.bridge_args.specs.Answer.{Answers}
+use Rattle.bridge_args.specs.declared.fault.WordsFault.{WordsFault}
+use Rattle.bridge_args.specs.declared.fault.WordsFault.TheVariants as words_faults
+use Rattle.bridge_lang.specs.declared.status.Status.TheVariants.{Usage}
 use Rattle.bridge_cmd.specs.Asking.{done_by, named_by}
 use Rattle.bridge_cmd.specs.declared.words.Making.TheVariants.{AsmToWasm, WasmToAsm, CheckAsm, CheckWasm, Show}
 use Rattle.bridge_cmd.specs.declared.words.Action.{Action}
 use Rattle.bridge_cmd.specs.declared.words.Action.TheVariants.{Make, Run}
-use Rattle.bridge_cmd.specs.Command.{Asked, Running, as_binary, run, on_files, asked, asm_js, web_assembly, begins_with_zero, language_of, read_as, file_of}
-use Rattle.bridge_cmd.specs.Answers.{IsAnswered, a_bar, want_of_memory, IsScriptAnswer, an_unfit_line, no_room, MayAnswer, a_refusal, a_read_fault, no_memory}
-use Rattle.bridge_cmd.specs.Job.{Job, refused, file_limit, Holds, IsFileJob, absent, long, held, IsBarred, not_accepted, not_valid, not_translated, outside, IsMade, translated, translated_back, text_counted, bytes_counted, printed, listed, IsPlayed, unfit, ran, IsModuleJob, barred, made, scripted, IsJob, no_command, commanded, generated}
-use Rattle.bridge_cmd.specs.Runs.{Runner, text_runner, binary_runner, IsRunner, a_text, a_binary, script_for, Prints}
-use Rattle.bridge_cmd.specs.Outcome.{EndsAs, IsCutShort, by_a_read, by_want, MayReport}
-use Rattle.bridge_cmd.specs.Reason.{Reason, read_fault, missing, too_large}
-use Rattle.bridge_cmd.specs.Refused.{status_of, reason_of_check, reason_of_text, reason_of_run, reason_of_script, reason_of_words}
+use Rattle.bridge_lang.specs.Command.{Asked, Running, as_binary, run, on_files, asked, asm_js, web_assembly, begins_with_zero, language_of, read_as, file_of}
+use Rattle.bridge_lang.specs.Answers.{IsAnswered, a_bar, want_of_memory, IsScriptAnswer, an_unfit_line, no_room, MayAnswer, a_refusal, a_read_fault, no_memory}
+use Rattle.bridge_lang.specs.Job.{Job, refused, file_limit, Holds, IsFileJob, absent, long, held, IsBarred, not_accepted, unreadable, invalid, not_translated, outside, IsMade, translated, translated_back, text_counted, bytes_counted, printed, listed, IsPlayed, unfit, ran, IsModuleJob, barred, made, scripted, IsJob, no_command, commanded, generated}
+use Rattle.bridge_lang.specs.Runs.{Runner, text_runner, binary_runner, IsRunner, a_text, a_binary, script_for, Prints}
+use Rattle.bridge_lang.specs.Outcome.{EndsAs, IsCutShort, by_a_read, by_want, MayReport}
+use Rattle.bridge_lang.specs.Reason.{Reason, read_fault, missing, too_large}
+use Rattle.bridge_lang.specs.Statuses.{status_of}
+use Rattle.bridge_cmd.specs.Refused.{reason_of_check, reason_of_text, reason_of_run, reason_of_script, reason_of_words}
 use Rattle.bridge_cmd.proofs.Files.{OneEnd, one_file_end}
 use Rattle.cmd_check_asm.proofs.Verdicts as laws
 use Rattle.asm_lang.specs.Modules.{Module}
@@ -62,40 +68,62 @@ one_beyond bytes r q x y =
 is_valid : (bytes : List ℕ) (m : WasmModule) → IsTranslatable bytes m → IsValidBytes bytes m
 is_valid bytes m t = record { read = t.read; valid = t.within.valid }
 
+text_clear : (row : AsmRow) (at : ℕ) → text_faults.Refused row at ≡ text_faults.Memory → ⊥
+text_clear row at e = absurd cc
+
+binary_clear : (row : Row) (at : ℕ) → checks.Binary row at ≡ checks.Memory → ⊥
+binary_clear row at e = absurd cc
+
+invalid_clear : (rule : Rule) (section : Section) (index instruction : ℕ) → checks.Invalid rule section index instruction ≡ checks.Memory → ⊥
+invalid_clear rule section index instruction e = absurd cc
+
 one_bar : (a : Asked) (bytes : List ℕ) (r q : Reason) → IsBarred a bytes r → IsBarred a bytes q → status_of r ≡ status_of q
-one_bar a bytes r q (not_accepted f x i) (not_accepted g y j) = ap (λ e. status_of (reason_of_text e)) (laws.one_fault bytes f g i j)
-one_bar a bytes r q (not_accepted f x i) (not_valid g y j n) = absurd cc
-one_bar a bytes r q (not_accepted f x i) (not_translated row o) = absurd cc
-one_bar a bytes r q (not_accepted f x i) (outside row o) = absurd cc
-one_bar a bytes r q (not_valid f x i n) (not_accepted g y j) = absurd cc
-one_bar a bytes r q (not_valid f x i n) (not_valid g y j n') = ap (λ e. status_of (reason_of_check e)) (one_fault bytes f g i j n n')
-one_bar a bytes r q (not_valid f x i n) (not_translated row o) = absurd (n (not_both bytes o.«module» f o.taken i))
-one_bar a bytes r q (not_translated row o) (not_accepted g y j) = absurd cc
-one_bar a bytes r q (not_translated row o) (not_valid g y j n) = absurd (n (not_both bytes o.«module» g o.taken j))
-one_bar a bytes r q (not_translated row o) (not_translated row' o') =
-    let e = one_beyond bytes row row' o o' in rw e refl
-one_bar a bytes r q (not_valid f x i n) (outside row o) = absurd (n (not_both bytes o.«module» f o.taken i))
-one_bar a bytes r q (outside row o) (not_accepted g y j) = absurd cc
-one_bar a bytes r q (outside row o) (not_valid g y j n) = absurd (n (not_both bytes o.«module» g o.taken j))
-one_bar a bytes r q (outside row o) (outside row' o') =
-    let e = one_row bytes row row' o o' in rw e refl
+one_bar a bytes r q (not_accepted row at x i) (not_accepted row' at' y j) = ap (λ e. status_of (reason_of_text e)) (laws.one_fault bytes (text_faults.Refused row at) (text_faults.Refused row' at') (i, text_clear row at) (j, text_clear row' at'))
+one_bar a bytes r q (not_accepted row at x i) (unreadable row' at' y j) = absurd cc
+one_bar a bytes r q (not_accepted row at x i) (invalid rule' section' index' instruction' y j) = absurd cc
+one_bar a bytes r q (not_accepted row at x i) (not_translated row' o') = absurd cc
+one_bar a bytes r q (not_accepted row at x i) (outside row' o') = absurd cc
+one_bar a bytes r q (unreadable row at x i) (not_accepted row' at' y j) = absurd cc
+one_bar a bytes r q (unreadable row at x i) (unreadable row' at' y j) = ap (λ e. status_of (reason_of_check e)) (one_fault bytes (checks.Binary row at) (checks.Binary row' at') i j (binary_clear row at) (binary_clear row' at'))
+one_bar a bytes r q (unreadable row at x i) (invalid rule' section' index' instruction' y j) = ap (λ e. status_of (reason_of_check e)) (one_fault bytes (checks.Binary row at) (checks.Invalid rule' section' index' instruction') i j (binary_clear row at) (invalid_clear rule' section' index' instruction'))
+one_bar a bytes r q (unreadable row at x i) (not_translated row' o') = absurd ((binary_clear row at) (not_both bytes o'.«module» (checks.Binary row at) o'.taken i))
+one_bar a bytes r q (unreadable row at x i) (outside row' o') = absurd ((binary_clear row at) (not_both bytes o'.«module» (checks.Binary row at) o'.taken i))
+one_bar a bytes r q (invalid rule section index instruction x i) (not_accepted row' at' y j) = absurd cc
+one_bar a bytes r q (invalid rule section index instruction x i) (unreadable row' at' y j) = ap (λ e. status_of (reason_of_check e)) (one_fault bytes (checks.Invalid rule section index instruction) (checks.Binary row' at') i j (invalid_clear rule section index instruction) (binary_clear row' at'))
+one_bar a bytes r q (invalid rule section index instruction x i) (invalid rule' section' index' instruction' y j) = ap (λ e. status_of (reason_of_check e)) (one_fault bytes (checks.Invalid rule section index instruction) (checks.Invalid rule' section' index' instruction') i j (invalid_clear rule section index instruction) (invalid_clear rule' section' index' instruction'))
+one_bar a bytes r q (invalid rule section index instruction x i) (not_translated row' o') = absurd ((invalid_clear rule section index instruction) (not_both bytes o'.«module» (checks.Invalid rule section index instruction) o'.taken i))
+one_bar a bytes r q (invalid rule section index instruction x i) (outside row' o') = absurd ((invalid_clear rule section index instruction) (not_both bytes o'.«module» (checks.Invalid rule section index instruction) o'.taken i))
+one_bar a bytes r q (not_translated row o) (not_accepted row' at' y j) = absurd cc
+one_bar a bytes r q (not_translated row o) (unreadable row' at' y j) = absurd ((binary_clear row' at') (not_both bytes o.«module» (checks.Binary row' at') o.taken j))
+one_bar a bytes r q (not_translated row o) (invalid rule' section' index' instruction' y j) = absurd ((invalid_clear rule' section' index' instruction') (not_both bytes o.«module» (checks.Invalid rule' section' index' instruction') o.taken j))
+one_bar a bytes r q (not_translated row o) (not_translated row' o') = let e = one_beyond bytes row row' o o' in rw e refl
+one_bar a bytes r q (outside row o) (not_accepted row' at' y j) = absurd cc
+one_bar a bytes r q (outside row o) (unreadable row' at' y j) = absurd ((binary_clear row' at') (not_both bytes o.«module» (checks.Binary row' at') o.taken j))
+one_bar a bytes r q (outside row o) (invalid rule' section' index' instruction' y j) = absurd ((invalid_clear rule' section' index' instruction') (not_both bytes o.«module» (checks.Invalid rule' section' index' instruction') o.taken j))
+one_bar a bytes r q (outside row o) (outside row' o') = let e = one_row bytes row row' o o' in rw e refl
 
 -- ---- a module that isn't taken makes nothing
 
 bar_makes_nothing : (a : Asked) (bytes output : List ℕ) (r : Reason) → IsBarred a bytes r → IsMade a bytes output → ⊥
-bar_makes_nothing a bytes output r (not_accepted f x i) (translated m w j k b l) = laws.not_faulty bytes m f j i
-bar_makes_nothing a bytes output r (not_accepted f x i) (translated_back w m j e o t b k d) = cc
-bar_makes_nothing a bytes output r (not_accepted f x i) (text_counted c) = laws.not_faulty bytes c.«module» f c.accepted i
-bar_makes_nothing a bytes output r (not_accepted f x i) (bytes_counted c) = cc
-bar_makes_nothing a bytes output r (not_accepted f x i) (printed m y j o) = laws.not_faulty bytes m f j i
-bar_makes_nothing a bytes output r (not_accepted f x i) (listed m y j o) = cc
-bar_makes_nothing a bytes output r (not_valid f x i n) (translated m w j k b l) = cc
-bar_makes_nothing a bytes output r (not_valid f x i n) (translated_back w m j e o t b k d) = n (not_both bytes w f (is_valid bytes w j) i)
-bar_makes_nothing a bytes output r (not_valid f x i n) (text_counted c) = cc
-bar_makes_nothing a bytes output r (not_valid f x i n) (bytes_counted c) = n (not_both bytes c.«module» f c.taken i)
-bar_makes_nothing a bytes output r (not_valid f x i n) (printed m y j o) = cc
-bar_makes_nothing a bytes output r (not_valid f x i n) (listed m y j o) = n (not_both bytes m f j i)
-bar_makes_nothing a bytes output r (not_translated row o) (translated_back w m j y e t b k d) =
+bar_makes_nothing a bytes output r (not_accepted row at x i) (translated m w j k b l) = laws.not_faulty bytes m (text_faults.Refused row at) j (i, text_clear row at)
+bar_makes_nothing a bytes output r (not_accepted row at x i) (translated_back w m j o t b k d) = cc
+bar_makes_nothing a bytes output r (not_accepted row at x i) (text_counted c) = laws.not_faulty bytes c.«module» (text_faults.Refused row at) c.accepted (i, text_clear row at)
+bar_makes_nothing a bytes output r (not_accepted row at x i) (bytes_counted c) = cc
+bar_makes_nothing a bytes output r (not_accepted row at x i) (printed m y j o) = laws.not_faulty bytes m (text_faults.Refused row at) j (i, text_clear row at)
+bar_makes_nothing a bytes output r (not_accepted row at x i) (listed m y j o) = cc
+bar_makes_nothing a bytes output r (unreadable row at x i) (translated m w j k b l) = cc
+bar_makes_nothing a bytes output r (unreadable row at x i) (translated_back w m j o t b k d) = (binary_clear row at) (not_both bytes w (checks.Binary row at) (is_valid bytes w j) i)
+bar_makes_nothing a bytes output r (unreadable row at x i) (text_counted c) = cc
+bar_makes_nothing a bytes output r (unreadable row at x i) (bytes_counted c) = (binary_clear row at) (not_both bytes c.«module» (checks.Binary row at) c.taken i)
+bar_makes_nothing a bytes output r (unreadable row at x i) (printed m y j o) = cc
+bar_makes_nothing a bytes output r (unreadable row at x i) (listed m y j o) = (binary_clear row at) (not_both bytes m (checks.Binary row at) j i)
+bar_makes_nothing a bytes output r (invalid rule section index instruction x i) (translated m w j k b l) = cc
+bar_makes_nothing a bytes output r (invalid rule section index instruction x i) (translated_back w m j o t b k d) = (invalid_clear rule section index instruction) (not_both bytes w (checks.Invalid rule section index instruction) (is_valid bytes w j) i)
+bar_makes_nothing a bytes output r (invalid rule section index instruction x i) (text_counted c) = cc
+bar_makes_nothing a bytes output r (invalid rule section index instruction x i) (bytes_counted c) = (invalid_clear rule section index instruction) (not_both bytes c.«module» (checks.Invalid rule section index instruction) c.taken i)
+bar_makes_nothing a bytes output r (invalid rule section index instruction x i) (printed m y j o) = cc
+bar_makes_nothing a bytes output r (invalid rule section index instruction x i) (listed m y j o) = (invalid_clear rule section index instruction) (not_both bytes m (checks.Invalid rule section index instruction) j i)
+bar_makes_nothing a bytes output r (not_translated row o) (translated_back w m j y t b k d) =
     let same = same_module bytes w o.«module» (is_valid bytes w j) o.taken in
     let f : Some row ≡ None = sym o.meets ∙ ap outside_profile same ∙ j.within.within in
     cc
@@ -103,10 +131,12 @@ bar_makes_nothing a bytes output r (outside row o) i = elim i [ ]
 
 bar_runs_nothing : (running : Running) (file script bytes : List ℕ) (steps : ℕ) (runner : Runner) (r : Reason)
     → IsBarred (run running file script steps) bytes r → IsRunner bytes running runner → ⊥
-bar_runs_nothing running file script bytes steps runner r (not_accepted f x j) (a_text m i) = laws.not_faulty bytes m f i j
-bar_runs_nothing running file script bytes steps runner r (not_accepted f x j) (a_binary m i) = cc
-bar_runs_nothing running file script bytes steps runner r (not_valid f x j n) (a_text m i) = cc
-bar_runs_nothing running file script bytes steps runner r (not_valid f x j n) (a_binary m i) = n (not_both bytes m f i.taken j)
+bar_runs_nothing running file script bytes steps runner r (not_accepted row at x j) (a_text m i) = laws.not_faulty bytes m (text_faults.Refused row at) i (j, text_clear row at)
+bar_runs_nothing running file script bytes steps runner r (not_accepted row at x j) (a_binary m i) = cc
+bar_runs_nothing running file script bytes steps runner r (unreadable row at x j) (a_text m i) = cc
+bar_runs_nothing running file script bytes steps runner r (unreadable row at x j) (a_binary m i) = (binary_clear row at) (not_both bytes m (checks.Binary row at) i.taken j)
+bar_runs_nothing running file script bytes steps runner r (invalid rule section index instruction x j) (a_text m i) = cc
+bar_runs_nothing running file script bytes steps runner r (invalid rule section index instruction x j) (a_binary m i) = (invalid_clear rule section index instruction) (not_both bytes m (checks.Invalid rule section index instruction) i.taken j)
 bar_runs_nothing running file script bytes steps runner r (outside row o) (a_binary m i) =
     let same = same_module bytes m o.«module» i.taken o.taken in
     let e : Some row ≡ None = sym o.meets ∙ ap not_runnable same ∙ i.runs in
@@ -180,18 +210,10 @@ tells_files (too_large b file) = true
 tells_files _ = false
 
 -- why a module isn't taken doesn't speak of files
-text_quiet : (fault : TextFault) → tells_files (reason_of_text fault) ≡ false
-text_quiet (text_faults.Refused row at) = refl
-text_quiet text_faults.Memory = refl
-
-check_quiet : (fault : CheckFault) → tells_files (reason_of_check fault) ≡ false
-check_quiet (checks.Binary row at) = refl
-check_quiet (checks.Invalid rule section index instruction) = refl
-check_quiet checks.Memory = refl
-
 pub answered_quietly : (a : Asked) (bytes : List ℕ) (r : Reason) → IsAnswered a bytes r → tells_files r ≡ false
-answered_quietly a bytes r (a_bar (not_accepted f x i)) = text_quiet f
-answered_quietly a bytes r (a_bar (not_valid f x i n)) = check_quiet f
+answered_quietly a bytes r (a_bar (not_accepted row at x i)) = refl
+answered_quietly a bytes r (a_bar (unreadable row at x i)) = refl
+answered_quietly a bytes r (a_bar (invalid rule section index instruction x i)) = refl
 answered_quietly a bytes r (a_bar (not_translated row o)) = refl
 answered_quietly a bytes r (a_bar (outside row o)) = refl
 answered_quietly a bytes r want_of_memory = refl
@@ -209,12 +231,12 @@ reads_module bytes is = rw is refl
 
 -- bytes that were checked
 pub text_answer : (a : Asked) (bytes : List ℕ) (fault : TextFault) → read_as a bytes ≡ asm_js → texts.IsRefusal bytes fault → IsAnswered a bytes (reason_of_text fault)
-text_answer a bytes (text_faults.Refused row at) x i = a_bar (not_accepted (text_faults.Refused row at) x (i, λ e. absurd cc))
+text_answer a bytes (text_faults.Refused row at) x i = a_bar (not_accepted row at x i)
 text_answer a bytes text_faults.Memory x i = want_of_memory
 
 pub check_answer : (a : Asked) (bytes : List ℕ) (fault : CheckFault) → read_as a bytes ≡ web_assembly → IsRefused bytes fault → IsAnswered a bytes (reason_of_check fault)
-check_answer a bytes (checks.Binary row at) x i = a_bar (not_valid (checks.Binary row at) x i (λ e. absurd cc))
-check_answer a bytes (checks.Invalid rule section index instruction) x i = a_bar (not_valid (checks.Invalid rule section index instruction) x i (λ e. absurd cc))
+check_answer a bytes (checks.Binary row at) x i = a_bar (unreadable row at x i)
+check_answer a bytes (checks.Invalid rule section index instruction) x i = a_bar (invalid rule section index instruction x i)
 check_answer a bytes checks.Memory x i = want_of_memory
 
 pub run_answer : (file script bytes : List ℕ) (steps : ℕ) (fault : RunFault) → IsNotRun bytes fault → IsAnswered (run as_binary file script steps) bytes (reason_of_run fault)
@@ -296,21 +318,13 @@ words_report words told words_faults.Memory is = no_memory
 
 -- ---- the usage is told of words alone
 
-text_usage : (fault : TextFault) → status_of (reason_of_text fault) ≡ Usage → ⊥
-text_usage (text_faults.Refused row at) is = cc
-text_usage text_faults.Memory is = cc
-
-check_usage : (fault : CheckFault) → status_of (reason_of_check fault) ≡ Usage → ⊥
-check_usage (checks.Binary row at) is = cc
-check_usage (checks.Invalid rule section index instruction) is = cc
-check_usage checks.Memory is = cc
-
 abbrev NoUsage : (Job → Type 0) → Type 0
 NoUsage Is = (r : Reason) → Is (refused r) → status_of r ≡ Usage → ⊥
 
 bar_usage : (a : Asked) (bytes : List ℕ) (r : Reason) → IsBarred a bytes r → status_of r ≡ Usage → ⊥
-bar_usage a bytes r (not_accepted f x i) is = text_usage f is
-bar_usage a bytes r (not_valid f x i n) is = check_usage f is
+bar_usage a bytes r (not_accepted row at x i) is = cc
+bar_usage a bytes r (unreadable row at x i) is = cc
+bar_usage a bytes r (invalid rule section index instruction x i) is = cc
 bar_usage a bytes r (not_translated row o) is = cc
 bar_usage a bytes r (outside row o) is = cc
 

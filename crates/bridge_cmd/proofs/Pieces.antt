@@ -3,7 +3,8 @@ use Rattle.std.proofs.Common.{◌≡◌, ℕ, ◌-◌, ◌≤◌, List, [], ◌�
 use Rattle.std.specs.List.{concat}
 use Rattle.std.specs.Borrow.{Bor}
 use Rattle.std.proofs.lemmas.List.{take_rest}
-use Rattle.bridge_cmd.specs.Sinks.{Seen, Gains, GainsFront, now_of}
+use Rattle.bridge_lang.specs.Sinks.{Seen, Gains, GainsFront}
+use Rattle.bridge_cmd.specs.Slices.{now_of}
 use Rattle.bridge_cmd.proofs.Gaining.{gains_then_front}
 
 first_piece : (pieces : List (Bor (List ℕ))) (d : Bor (List ℕ)) (first : List ℕ) → 1 ≤ length pieces → first ≡ (get_or pieces 0 d).now

@@ -7,11 +7,11 @@ use Rattle.asm_lang.specs.Modules.{Module}
 use Rattle.asm_lang_valid.specs.Texts.{IsAcceptedText}
 use Rattle.asm2wasm_lang.specs.Allowed as there
 use Rattle.wasm2js_lang.specs.Allowed as back
-use Rattle.wasm2js_laws_round_trip.specs.Laws.{RoundTripsSimulate}
+use Rattle.wasm2js_lang.specs.RoundTrips.{RoundTripsSimulate}
 use Rattle.cmd_check_asm.proofs.Verdicts as laws
-use Rattle.bridge_cmd.specs.Command.{asm_to_wasm, wasm_to_asm}
-use Rattle.bridge_cmd.specs.Job.{IsMade, translated, translated_back}
-use Rattle.bridge_cmd.specs.RoundTrips.{WrittenBackSimulate}
+use Rattle.bridge_lang.specs.Command.{asm_to_wasm, wasm_to_asm}
+use Rattle.bridge_lang.specs.Job.{IsMade, translated, translated_back}
+use Rattle.bridge_lang.specs.RoundTrips.{WrittenBackSimulate}
 
 -- the bytes are those of this module, which may be written for the text's
 there_is : (file text bytes : List ℕ) (heap : ℕ) (a : Module) (w : WasmModule) → IsMade (asm_to_wasm file heap) text bytes → IsAcceptedText text a → IsValidBytes bytes w
@@ -24,11 +24,11 @@ there_is file text bytes heap a w (translated m v i allowed bounded shortest) j 
 -- the text says this module, which may be written for the bytes'
 back_is : (middle bytes output : List ℕ) (b : Module) (w : WasmModule) → IsMade (wasm_to_asm middle) bytes output → IsValidBytes bytes w → IsAcceptedText output b
     → back.IsAllowed w b
-back_is middle bytes output b w (translated_back v n i e o says allowed traps bounded) k j =
+back_is middle bytes output b w (translated_back v n i o says allowed traps bounded) k j =
     let same : n ≡ b = laws.one_module output n b says j in
     let spelled : v ≡ w = one_module bytes v w i.read.spelled k.read.spelled in
     subst (λ x. back.IsAllowed x b) spelled (subst (back.IsAllowed v) same allowed)
 
 pub written_back_simulate : RoundTripsSimulate → WrittenBackSimulate
-written_back_simulate law file middle text bytes output heap one two a b w i k j s writes fits =
-    law a heap w b (there_is file text bytes heap a w one i k) (back_is middle bytes output b w two k j) s writes fits
+written_back_simulate law file middle text bytes output heap one two a b w i k j s fits =
+    law a heap w b (there_is file text bytes heap a w one i k) (back_is middle bytes output b w two k j) s fits

@@ -5,7 +5,7 @@ use Rattle.std.proofs.lemmas.List.Elements.{All-nil, All-cons}
 use Rattle.asm_lang.specs.Heights.{function_height, functions_height}
 use Rattle.asm_lang.specs.Modules.{Variable, Function}
 use Rattle.asm_lang_valid.specs.Rows.{function_count}
-use Rattle.asm2wasm_laws_profile.specs.Small.{is_foreign_member, HaveNoSwitch, IsSmall}
+use Rattle.asm2wasm_lang.specs.Small.{is_foreign_member, HaveNoSwitch, IsSmall}
 use Rattle.gen_laws.specs.Modules.{body_at, function_at, functions_from, the_view, recipe_module}
 
 low_function : (i : ℕ) → function_height (function_at i) ≤ 20

@@ -1,28 +1,25 @@
 -- The summary of what is made of a text of so many functions.
-use Rattle.std.proofs.Common.{◌≡◌, ◌≤◌, ℕ, true, List, [], length, refl, sym, ap, subst, ◌∙◌}
+use Rattle.std.proofs.Common.{◌≡◌, ◌≤◌, ℕ, true, List, [], length, refl, sym, subst}
 use Rattle.std.specs.Prelude.{None}
 use Rattle.wasm_lang.specs.Grammar.{IsModuleBytes}
 use Rattle.wasm_lang.specs.Modules.{WasmModule}
 use Rattle.wasm_lang.specs.Shape.{IsWritable}
 use Rattle.wasm_lang_valid.specs.Bytes.{IsTranslatable}
-use Rattle.wasm_lang_valid.specs.Profile.{outside_profile}
+use Rattle.wasm_lang_valid.specs.Profile.{outside_profile, IsInProfile}
 use Rattle.wasm_binary_write.specs.Spelling.{spelling}
-use Rattle.asm_lang.specs.Heights.{IsWellFormed}
 use Rattle.asm_lang.specs.Modules.{Module}
 use Rattle.asm_lang.specs.Printing.{canonical_text}
 use Rattle.asm_lang_valid.specs.Texts.{IsAcceptedText}
-use Rattle.asm_lang_valid.specs.Refusal.{IsAccepted}
-use Rattle.asm2wasm.specs.Standing.{StandsFor}
+use Rattle.asm2wasm_lang.specs.Parts.{StandsFor}
 use Rattle.asm2wasm_lang.specs.Heaps.{is_heap_length}
-use Rattle.asm2wasm_code.specs.Modules.{translation}
-use Rattle.asm2wasm_laws_profile.specs.Laws.{TranslationIsInProfile}
-use Rattle.asm2wasm_laws_profile.specs.Small.{IsSmall}
-use Rattle.wasm2js_code.specs.Modules.{translated as asm_js_for}
+use Rattle.asm2wasm_lang.specs.Small.{IsSmall}
+use Rattle.asm2wasm_lang.specs.Short.{IsOfShortText}
+use Rattle.wasm2js_translation.specs.Modules.{translated as asm_js_for}
 use Rattle.wasm2js_laws_simulation.specs.WholeLaws.{SpelledAreAllowed, TrapsOfSpelledAreCalls}
 use Rattle.wasm2js_laws_simulation.specs.BoundedLaws.{SpelledAreBounded}
 use Rattle.gen_lang.specs.Recipe.{recipe, recipe_heap, summary}
 use Rattle.gen_laws.specs.Modules.{recipe_module}
-use Rattle.bridge_cmd.specs.Job.{IsSummarized, translated}
+use Rattle.bridge_lang.specs.Job.{IsSummarized, translated}
 use Rattle.cmd_check_asm.specs.declared.fault.CheckFault.{CheckFault as TextFault}
 use Rattle.cmd_check_asm.specs.declared.fault.CheckFault.TheVariants as text_faults
 use Rattle.cmd_check_asm.specs.Verdicts as texts
@@ -39,16 +36,16 @@ abbrev pub IsShorter : Type 0
 IsShorter = (w : WasmModule) (bytes : List ℕ) → IsModuleBytes bytes w → length (spelling w) ≤ length bytes
 
 module _ (allowed : SpelledAreAllowed) (traps : TrapsOfSpelledAreCalls) (bounded : SpelledAreBounded) (again : SaysAgain) (spells : Spells) (shortest : IsShorter) where
-  translatable : (m : Module) (w : WasmModule) → StandsFor m recipe_heap w → outside_profile w ≡ None → IsTranslatable (spelling w) w
-  translatable m w s e = record { read = record { spelled = spells w s.writable; within = s.within }; within = record { valid = s.allowed.valid; within = e } }
+  translatable : (m : Module) (w : WasmModule) → StandsFor m recipe_heap w → IsWritable w → outside_profile w ≡ None → IsTranslatable (spelling w) w
+  translatable m w s writable e = record { read = record { spelled = spells w writable; within = s.within }; within = record { valid = s.allowed.valid; within = e } }
 
-  pub summed : (n : ℕ) (m : Module) (w : WasmModule) (output : List ℕ) → IsAcceptedText (recipe n) m → StandsFor m recipe_heap w → outside_profile w ≡ None
+  pub summed : (n : ℕ) (m : Module) (w : WasmModule) (output : List ℕ) → IsAcceptedText (recipe n) m → IsOfShortText m → StandsFor m recipe_heap w → outside_profile w ≡ None
       → output ≡ summary n (length (recipe n)) (length (spelling w)) (length (canonical_text (asm_js_for w))) → IsSummarized n output
-  summed n m w output accepted s e is = record {
+  summed n m w output accepted short s e is = record {
     bytes = spelling w;
     back = canonical_text (asm_js_for w);
-    there = translated m w accepted s.allowed s.bounded (record { spells = spells w s.writable; no_shorter = shortest w });
-    again = back.made allowed traps bounded again [] (spelling w) (canonical_text (asm_js_for w)) w (translatable m w s e) refl;
+    there = translated m w accepted s.allowed s.bounded (record { spells = spells w (s.writable short); no_shorter = shortest w });
+    again = back.made allowed traps bounded again [] (spelling w) (canonical_text (asm_js_for w)) w (translatable m w s (s.writable short) e) refl;
     summed = is;
   }
 
@@ -63,7 +60,5 @@ unfolding is_heap_length
 heap_is = refl
 
 -- what is made of the text's module can be translated back
-pub in_profile : TranslationIsInProfile → (n : ℕ) (m : Module) (w : WasmModule) → n ≤ 10000 → m ≡ recipe_module n → IsAccepted (recipe_module n) → IsWellFormed m → w ≡ translation m recipe_heap
-    → outside_profile w ≡ None
-in_profile law n m w few is accepted formed exact =
-    ap outside_profile exact ∙ (law m recipe_heap (subst IsAccepted (sym is) accepted) formed (subst IsSmall (sym is) (recipe_is_small n few)) heap_is).within
+pub in_profile : (n : ℕ) (m : Module) (w : WasmModule) → n ≤ 10000 → m ≡ recipe_module n → (IsSmall m → IsInProfile w) → outside_profile w ≡ None
+in_profile n m w few is profile = (profile (subst IsSmall (sym is) (recipe_is_small n few))).within

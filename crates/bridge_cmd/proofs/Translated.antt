@@ -8,12 +8,12 @@ use Rattle.asm_lang.specs.Heights.{IsWellFormed}
 use Rattle.asm_lang.specs.Modules.{Module}
 use Rattle.asm_lang_valid.specs.Texts.{IsAcceptedText}
 use Rattle.asm2wasm_lang.specs.Heaps.{is_heap_length}
-use Rattle.asm2wasm_code.specs.Modules.{translation}
-use Rattle.asm2wasm_laws_sessions.specs.Laws.{TranslationIsAllowed, TranslationIsBounded}
+use Rattle.asm2wasm_translation.specs.Modules.{translation}
+use Rattle.asm2wasm_laws_simulation.specs.Sessions.Laws.{TranslationIsAllowed, TranslationIsBounded}
 use Rattle.asm2wasm_laws_writable.specs.Laws.{TranslationIsWritable}
-use Rattle.bridge_words.specs.Number.{is_heap}
-use Rattle.bridge_cmd.specs.Command.{asm_to_wasm}
-use Rattle.bridge_cmd.specs.Job.{file_limit, IsMade, translated}
+use Rattle.bridge_lang.specs.Number.{is_heap}
+use Rattle.bridge_lang.specs.Command.{asm_to_wasm}
+use Rattle.bridge_lang.specs.Job.{file_limit, IsMade, translated}
 
 -- the lengths that the words may give are those that a module is translated for
 pub same_lengths : (n : ℕ) → is_heap n ≡ true → is_heap_length n ≡ true

@@ -1,7 +1,7 @@
 -- What the code's commands ask for.
 use Rattle.std.specs.Prelude.{ℕ, List, string_bytes}
-use Rattle.bridge_cmd.specs.Command as spec
-use Rattle.bridge_cmd.specs.Command.{Asked, Named}
+use Rattle.bridge_lang.specs.Command as spec
+use Rattle.bridge_lang.specs.Command.{Asked, Named}
 use Rattle.bridge_cmd.specs.declared.words.Making.{Making}
 use Rattle.bridge_cmd.specs.declared.words.Making.TheVariants.{AsmToWasm, WasmToAsm, CheckAsm, CheckWasm, Show}
 use Rattle.bridge_cmd.specs.declared.words.Running.{Running}

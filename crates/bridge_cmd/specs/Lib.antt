@@ -1,13 +1,5 @@
-pub mod Answers
 pub mod Asking
-pub mod Code
-pub mod Command
 pub mod Imported
-pub mod Job
-pub mod Outcome
-pub mod Reason
 pub mod Refused
-pub mod RoundTrips
 pub mod Runners
-pub mod Runs
-pub mod Sinks
+pub mod Slices

@@ -1,12 +1,12 @@
 -- What the code's refusals say, and the status of each.
 use Rattle.std.specs.Prelude.{ℕ, Bool, List, string_bytes}
-use Rattle.bridge_cmd.specs.Reason.{Reason, faulty_words, not_asm, not_a_binary, not_valid, not_run, bad_script, read_fault, missing, too_large, out_of_memory}
+use Rattle.bridge_lang.specs.Reason.{Reason, faulty_words, not_asm, not_a_binary, not_valid, not_run, bad_script, read_fault, missing, too_large, out_of_memory}
 use Rattle.bridge_cmd.specs.declared.refusal.Refusal.{Refusal}
 use Rattle.bridge_cmd.specs.declared.refusal.Refusal as refusal
-use Rattle.bridge_cmd.specs.declared.status.Status as status
-use Rattle.bridge_cmd.specs.declared.status.WasmFault as wasm
+use Rattle.bridge_lang.specs.declared.status.Status as status
+use Rattle.bridge_lang.specs.declared.status.WasmFault as wasm
 use Rattle.bridge_io.specs.declared.reading.GatherFault as gathering
-use Rattle.bridge_words.specs.declared.fault.WordsFault as words
+use Rattle.bridge_args.specs.declared.fault.WordsFault as words
 use Rattle.cmd_check_asm.specs.declared.fault.CheckFault as texts
 use Rattle.cmd_check_wasm.specs.declared.fault.CheckFault as checks
 use Rattle.cmd_run_wasm.specs.declared.fault.RunFault as runs
@@ -23,18 +23,6 @@ reason_of refusal.TheVariants.ReadFault = read_fault
 reason_of (refusal.TheVariants.Missing is_script name) = missing is_script (string_bytes name)
 reason_of (refusal.TheVariants.TooLarge is_script name) = too_large is_script (string_bytes name)
 reason_of refusal.TheVariants.OutOfMemory = out_of_memory
-
-abbrev pub status_of : Reason → status.Status
-status_of faulty_words = status.TheVariants.Usage
-status_of (not_asm row at) = status.TheVariants.AsmRefused row at
-status_of (not_a_binary row at) = status.TheVariants.WasmRefused (wasm.TheVariants.Binary row at)
-status_of (not_valid rule section index instruction) = status.TheVariants.WasmRefused (wasm.TheVariants.Invalid rule section index instruction)
-status_of (not_run row value) = status.TheVariants.WasmRefused (wasm.TheVariants.Outside row value)
-status_of (bad_script line) = status.TheVariants.ScriptRefused line
-status_of read_fault = status.TheVariants.ReadFault
-status_of (missing is_script file) = status.TheVariants.Missing is_script
-status_of (too_large is_script file) = status.TheVariants.TooLarge is_script
-status_of out_of_memory = status.TheVariants.Memory
 
 abbrev pub reason_at : gathering.GatherFault → Bool → List ℕ → Reason
 reason_at gathering.TheVariants.Read is_script file = read_fault

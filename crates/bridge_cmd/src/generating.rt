@@ -5,16 +5,16 @@ ghost use Rattle.asm_lang.specs.Printing.{canonical_text};
 ghost use Rattle.asm_lang_valid.specs.Texts.{IsAcceptedText};
 ghost use Rattle.wasm_lang_valid.specs.Profile.{outside_profile};
 ghost use Rattle.wasm_binary_write.specs.Spelling.{spelling};
-ghost use Rattle.wasm2js_code.specs.Modules.{translated as asm_js_for};
+ghost use Rattle.wasm2js_translation.specs.Modules.{translated as asm_js_for};
 ghost use Rattle.gen_lang.specs.Recipe as spec;
 ghost use Rattle.gen_laws.specs.Modules.{recipe_module};
-ghost use Rattle.bridge_cmd.specs.Job.{IsSummarized};
+ghost use Rattle.bridge_lang.specs.Job.{IsSummarized};
 
 use crate::making::text_of;
 use asm_text::printed_texts_are_read;
 use asm_validate::Checked;
-use asm2wasm::translate_valid;
-use bridge_words::FunctionCount;
+use asm2wasm::translate;
+use bridge_args::FunctionCount;
 use cmd_check_asm::{CheckFault, check_text};
 use cmd_gen::{Lengths, recipe, summary};
 use std::alloc::{AllocError, Global};
@@ -29,7 +29,6 @@ pub(crate) fn generated(alloc: Global, count: FunctionCount) -> Result<Vec<u8>, 
     ensures { IfOk result (λ output. IsSummarized count.functions output.items) }
 {
     gen_laws::recipes();
-    asm2wasm_laws_profile::profile();
     asm2wasm_laws_writable::texts();
     wasm2js_laws_simulation::whole_laws::spelled();
     wasm2js_laws_simulation::bounded_laws::spelled();
@@ -39,7 +38,7 @@ pub(crate) fn generated(alloc: Global, count: FunctionCount) -> Result<Vec<u8>, 
     let bytes = text.as_slice();
     let checked = accepted(alloc, bytes, count)?;
     let _home = checked.module();
-    let valid = translate_valid(alloc, &checked, HEAP)?;
+    let valid = translate(alloc, &checked, HEAP)?;
     let length = bytes.len();
     summed(alloc, count.functions, length, &valid)
 }

@@ -2,10 +2,10 @@
 ghost use Rattle.std.specs.Prelude.{◌≡◌, ◌≤◌, ◌⊎◌, IfOk, IfErr, None, Bool, false, map, string_bytes, length, ℕ, List};
 ghost use Rattle.bridge_io.specs.Outside.{Rose, RoseBy};
 ghost use Rattle.bridge_cmd.specs.Asking.{asked_by, done_by};
-ghost use Rattle.bridge_cmd.specs.Command as spec;
-ghost use Rattle.bridge_cmd.specs.Job.{file_limit, IsFileJob, IsJob, IsModuleJob, written};
-ghost use Rattle.bridge_cmd.specs.Answers.{MayAnswer};
-ghost use Rattle.bridge_cmd.specs.Reason.{faulty_words, read_fault, missing, too_large, out_of_memory};
+ghost use Rattle.bridge_lang.specs.Command as spec;
+ghost use Rattle.bridge_lang.specs.Job.{file_limit, IsFileJob, IsJob, IsModuleJob, written};
+ghost use Rattle.bridge_lang.specs.Answers.{MayAnswer};
+ghost use Rattle.bridge_lang.specs.Reason.{faulty_words, read_fault, missing, too_large, out_of_memory};
 ghost use Rattle.bridge_cmd.specs.Refused.{reason_of};
 
 use crate::generating::generated;

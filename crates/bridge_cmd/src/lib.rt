@@ -10,14 +10,13 @@ mod playing;
 mod refusal;
 mod report;
 mod runner;
-mod status;
 mod top;
 mod words;
 
 pub use asm_validate::Rule as AsmRule;
+pub use bridge_lang::{Status, WasmFault};
 pub use cmd_check_asm::{AsmRow, row_number as asm_row_number};
 pub use composed::round_trips;
-pub use status::{Status, WasmFault};
 pub use top::bridge;
 pub use wasm_lang::{Row, row_number};
 pub use wasm_validate::{Beyond, Rule, Section, beyond_number, rule_number, section_number};

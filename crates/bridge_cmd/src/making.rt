@@ -1,16 +1,15 @@
 //! Commands that read one file.
 ghost use Rattle.std.specs.Prelude.{◌≡◌, ◌≤◌, ℕ, true, false, None, List, length, IfOk, IfErr};
 ghost use Rattle.bridge_cmd.specs.Asking.{made_by};
-ghost use Rattle.bridge_cmd.specs.Command as spec;
+ghost use Rattle.bridge_lang.specs.Command as spec;
 ghost use Rattle.asm_tree.specs.Views.{module_view};
 ghost use Rattle.wasm_binary_write.specs.Spelling.{spelling};
-ghost use Rattle.asm2wasm_code.specs.Modules.{translation};
-ghost use Rattle.asm2wasm_laws_writable.specs.Parts.{IsOfShortText};
+ghost use Rattle.asm2wasm_translation.specs.Modules.{translation};
 ghost use Rattle.asm_lang.specs.Printing.{canonical_text};
 ghost use Rattle.wasm_lang_valid.specs.Profile.{outside_profile};
-ghost use Rattle.wasm2js_code.specs.Modules.{translated as asm_js_for};
-ghost use Rattle.bridge_cmd.specs.Job.{file_limit, IsMade};
-ghost use Rattle.bridge_cmd.specs.Answers.{IsAnswered};
+ghost use Rattle.wasm2js_translation.specs.Modules.{translated as asm_js_for};
+ghost use Rattle.bridge_lang.specs.Job.{file_limit, IsMade};
+ghost use Rattle.bridge_lang.specs.Answers.{IsAnswered};
 ghost use Rattle.bridge_cmd.specs.Refused.{reason_of};
 
 use crate::hashes::import_hashes;
@@ -19,8 +18,8 @@ use crate::words::Making;
 use asm_grammar_print::print;
 use asm_text::printed_texts_are_read;
 use asm_validate::Checked;
-use asm2wasm::translate;
-use bridge_words::HeapLength;
+use asm2wasm::translate_module;
+use bridge_args::HeapLength;
 use cmd_check_asm::check_text;
 use cmd_check_wasm::check_bytes;
 use shared_bytes::SharedBytes;
@@ -37,9 +36,8 @@ fn translated(alloc: Global, text: &[u8], heap: HeapLength) -> Result<SharedByte
     ensures made { (file : List ℕ) → IfOk result (λ output. IsMade (spec.asm_to_wasm file heap.bytes) text.now output) }
     ensures barred { (file : List ℕ) → IfErr result (λ refusal. IsAnswered (spec.asm_to_wasm file heap.bytes) text.now (reason_of refusal)) }
 {
-    asm2wasm_laws_writable::texts();
     asm2wasm_laws_writable::writable();
-    asm2wasm_laws_sessions::translations();
+    asm2wasm_laws_simulation::sessions_laws::translations();
     spelling_laws();
     let checked = match check_text(alloc, text) {
         Ok(checked) => checked,
@@ -57,10 +55,9 @@ fn translated(alloc: Global, text: &[u8], heap: HeapLength) -> Result<SharedByte
 
 // The shortest spelling of the translation.
 fn written(alloc: Global, checked: &Checked, heap: HeapLength) -> Result<SharedBytes, AllocError>
-    requires { IsOfShortText (module_view checked.now) }
     ensures { IfOk result (λ output. output ≡ spelling (translation (module_view checked.now) heap.bytes)) }
 {
-    let translation = translate(alloc, checked, heap.bytes)?;
+    let translation = translate_module(alloc, checked, heap.bytes)?;
     write_shared(alloc, &translation, import_hashes(checked.module()))
 }
 
@@ -94,7 +91,7 @@ pub(crate) fn text_of(alloc: Global, valid: &Valid<'_>) -> Result<Vec<u8>, Alloc
     requires { outside_profile valid.now ≡ None }
     ensures { IfOk result (λ output. output.items ≡ canonical_text (asm_js_for valid.now)) }
 {
-    let module = wasm2js::translate(alloc, valid)?;
+    let module = wasm2js::translate_module(alloc, valid)?;
     match print(alloc, &module) {
         Ok(output) => Ok(output),
         Err(_) => Err(AllocError),

@@ -1,11 +1,11 @@
 //! Commands that run a script.
 ghost use Rattle.std.specs.Prelude.{◌≡◌, ◌≤◌, ℕ, Bool, List, IfOk, IfErr, string_bytes};
 ghost use Rattle.bridge_io.specs.Outside.{Rose, RoseBy};
-ghost use Rattle.bridge_cmd.specs.Command as spec;
+ghost use Rattle.bridge_lang.specs.Command as spec;
 ghost use Rattle.bridge_cmd.specs.Asking.{run_as};
-ghost use Rattle.bridge_cmd.specs.Job.{IsModuleJob, written};
-ghost use Rattle.bridge_cmd.specs.Answers.{MayAnswer};
-ghost use Rattle.bridge_cmd.specs.Reason.{read_fault, missing, too_large};
+ghost use Rattle.bridge_lang.specs.Job.{IsModuleJob, written};
+ghost use Rattle.bridge_lang.specs.Answers.{MayAnswer};
+ghost use Rattle.bridge_lang.specs.Reason.{read_fault, missing, too_large};
 ghost use Rattle.bridge_cmd.specs.Refused.{reason_of};
 
 use crate::refusal::{Refusal, of_gathering};

@@ -1,11 +1,12 @@
 //! Why there is no output.
 ghost use Rattle.std.specs.Prelude.{◌≡◌, string_bytes};
-ghost use Rattle.bridge_cmd.specs.Reason.{not_run};
-ghost use Rattle.bridge_cmd.specs.Refused.{reason_of, reason_of_check, reason_of_text, reason_of_words, reason_of_run, reason_of_script, reason_at, status_of};
+ghost use Rattle.bridge_lang.specs.Reason.{not_run};
+ghost use Rattle.bridge_cmd.specs.Refused.{reason_of, reason_of_check, reason_of_text, reason_of_words, reason_of_run, reason_of_script, reason_at};
+ghost use Rattle.bridge_lang.specs.Statuses.{status_of};
 
-use crate::status::{Status, WasmFault};
+use bridge_args::WordsFault;
 use bridge_io::GatherFault;
-use bridge_words::WordsFault;
+use bridge_lang::{Status, WasmFault};
 use cmd_check_asm::AsmRow;
 use cmd_check_wasm::CheckFault;
 use cmd_run_wasm::RunFault;

@@ -1,14 +1,14 @@
 //! Writing the line of a refusal, in pieces that take no memory.
 ghost use Rattle.std.specs.Prelude.{ℕ, ◌≤◌, ◌∷◌, [], OnOk, OnErr, map, codes, decimal};
 ghost use Rattle.std.specs.List.{concat};
-ghost use Rattle.bridge_cmd.specs.Reason.{line_of};
-ghost use Rattle.cmd_check_asm.specs.Names as texts;
-ghost use Rattle.cmd_check_wasm.specs.Names as names;
-ghost use Rattle.cmd_run_wasm.specs.Names as outsiders;
+ghost use Rattle.bridge_lang.specs.Reason.{line_of};
+ghost use Rattle.bridge_lang.specs.AsmRows as texts;
+ghost use Rattle.bridge_lang.specs.WasmRows as names;
 ghost use Rattle.wasm_lang_valid.specs.Rules.{number};
 ghost use Rattle.wasm_lang_valid.specs.Validity.{id};
 ghost use Rattle.bridge_cmd.specs.Refused.{reason_of};
-ghost use Rattle.bridge_cmd.specs.Sinks.{seen, Gains, GainsFront, now_of};
+ghost use Rattle.bridge_lang.specs.Sinks.{seen, Gains, GainsFront};
+ghost use Rattle.bridge_cmd.specs.Slices.{now_of};
 
 use crate::refusal::Refusal;
 use bridge_io::{Failed, Sink, put_all};
@@ -156,9 +156,9 @@ fn put_outside<E: Sink>(report: &mut E, row: Beyond, value: u64) -> Result<(), F
 
     ensures takes { (n : ℕ) → E.takes report.new n }
     ensures never_falls { E.faults report.old ≤ E.faults report.new }
-    ensures whole { OnOk result (Gains (concat (codes "wasm refused: " ∷ outsiders.row_name row ∷ codes " " ∷ decimal value ∷ codes "\n" ∷ []))
+    ensures whole { OnOk result (Gains (concat (codes "wasm refused: " ∷ names.beyond_name row ∷ codes " " ∷ decimal value ∷ codes "\n" ∷ []))
         (seen (E.told report.old) (E.faults report.old)) (seen (E.told report.new) (E.faults report.new))) }
-    ensures front { OnErr result (GainsFront (concat (codes "wasm refused: " ∷ outsiders.row_name row ∷ codes " " ∷ decimal value ∷ codes "\n" ∷ []))
+    ensures front { OnErr result (GainsFront (concat (codes "wasm refused: " ∷ names.beyond_name row ∷ codes " " ∷ decimal value ∷ codes "\n" ∷ []))
         (seen (E.told report.old) (E.faults report.old)) (seen (E.told report.new) (E.faults report.new))) }
 {
     let mut digits = Buffer::new();

@@ -2,18 +2,18 @@
 ghost use Rattle.std.specs.Prelude.{◌≡◌, ℕ, List, None, IfOk, IfErr};
 ghost use Rattle.asm_tree.specs.Views.{module_view};
 ghost use Rattle.wasm_lang_valid.specs.Runnable.{not_runnable};
-ghost use Rattle.bridge_cmd.specs.Command as spec;
+ghost use Rattle.bridge_lang.specs.Command as spec;
 ghost use Rattle.bridge_cmd.specs.Asking.{run_as};
-ghost use Rattle.bridge_cmd.specs.Runs.{IsRunner, text_runner, binary_runner};
+ghost use Rattle.bridge_lang.specs.Runs.{IsRunner, text_runner, binary_runner};
 ghost use Rattle.bridge_cmd.specs.Runners.{runner_of};
-ghost use Rattle.bridge_cmd.specs.Job.{IsPlayed, written};
-ghost use Rattle.bridge_cmd.specs.Answers.{IsAnswered, IsScriptAnswer};
+ghost use Rattle.bridge_lang.specs.Job.{IsPlayed, written};
+ghost use Rattle.bridge_lang.specs.Answers.{IsAnswered, IsScriptAnswer};
 ghost use Rattle.bridge_cmd.specs.Refused.{reason_of};
 
 use crate::refusal::{Refusal, of_run, of_script, of_text};
 use crate::words::Running;
 use asm_validate::Checked;
-use bridge_words::HeapLength;
+use bridge_args::HeapLength;
 use cmd_check_asm::check_text;
 use cmd_run_wasm::runnable_module;
 use shared_bytes::SharedBytes;

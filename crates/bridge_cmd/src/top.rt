@@ -1,15 +1,15 @@
 //! The one call that does everything.
 ghost use Rattle.std.specs.Prelude.{◌≡◌, ◌≢◌, ◌⊎◌, ℕ, ◌≤◌, map, string_bytes, IsSome, None, Bool};
 ghost use Rattle.bridge_io.specs.Outside.{Rose, RoseBy};
-ghost use Rattle.bridge_cmd.specs.Command.{asked};
-ghost use Rattle.bridge_cmd.specs.Job.{Job, IsJob};
-ghost use Rattle.bridge_cmd.specs.Outcome.{EndsAs, IsCutShort, Writes, Refuses, OutputCut, ReportCut};
-ghost use Rattle.bridge_cmd.specs.Sinks.{seen};
+ghost use Rattle.bridge_lang.specs.Command.{asked};
+ghost use Rattle.bridge_lang.specs.Job.{Job, IsJob};
+ghost use Rattle.bridge_lang.specs.Outcome.{EndsAs, IsCutShort, Writes, Refuses, OutputCut, ReportCut};
+ghost use Rattle.bridge_lang.specs.Sinks.{seen};
 
 use crate::job::output_of;
 use crate::report::write_line;
-use crate::status::Status;
 use bridge_io::{Files, Sink};
+use bridge_lang::Status;
 use std::alloc::Global;
 
 /// Does what the words ask for, over files and two sinks.

@@ -1,10 +1,10 @@
 //! The commands, as the words name them.
 ghost use Rattle.std.specs.Prelude.{◌≡◌, map, string_bytes};
-ghost use Rattle.bridge_words.specs.Answer.{Answers};
-ghost use Rattle.bridge_cmd.specs.Command as spec;
+ghost use Rattle.bridge_args.specs.Answer.{Answers};
+ghost use Rattle.bridge_lang.specs.Command as spec;
 ghost use Rattle.bridge_cmd.specs.Asking.{named_by, made_by, run_as};
 
-use bridge_words::{FunctionCount, HeapLength, Job, WordsFault, read_words};
+use bridge_args::{FunctionCount, HeapLength, Job, WordsFault, read_words};
 use std::alloc::Global;
 
 /// What is made of a module's bytes alone.

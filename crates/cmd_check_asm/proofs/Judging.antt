@@ -8,7 +8,7 @@ use Rattle.asm_lang.specs.Modules.{Module, Export, Exports, one, many, module_of
 use Rattle.asm_lang.specs.Texts.{SaysModule}
 use Rattle.asm_lang.specs.Heights.{IsWellFormed}
 use Rattle.asm_laws_print.proofs.Printed.{text_fits, fits_well_formed}
-use Rattle.asm_laws_refusal.proofs.Within.{refused_within}
+use Rattle.asm_laws_fault.proofs.Refusal.Within.{refused_within}
 use Rattle.asm_tree.specs.declared.tree.Module.{Module as Tree}
 use Rattle.asm_tree.specs.Views.{module_view}
 use Rattle.asm_lang_valid.specs.declared.rule.Met.{Met}
@@ -22,7 +22,7 @@ use Rattle.asm_text.specs.Said.{IsAnswer}
 use Rattle.asm_validate_names.specs.declared.refusal.AsmRefusal.{AsmRefusal}
 use Rattle.asm_validate_names.specs.declared.refusal.AsmRefusal.TheVariants as refusals
 use Rattle.asm_validate.specs.Refusals.{IsRefused}
-use Rattle.cmd_check_asm.specs.declared.fault.AsmRow.TheVariants as rows
+use Rattle.bridge_lang.specs.declared.row.AsmRow.TheVariants as rows
 use Rattle.cmd_check_asm.specs.declared.fault.CheckFault.{CheckFault}
 use Rattle.cmd_check_asm.specs.declared.fault.CheckFault.TheVariants.{Refused, Memory}
 use Rattle.cmd_check_asm.specs.Refusals.{of_text, of_module, IsWithin}

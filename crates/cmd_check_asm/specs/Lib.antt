@@ -1,4 +1,3 @@
 pub mod Refusals
 pub mod Verdicts
-pub mod Names
 pub mod Judged

@@ -4,8 +4,9 @@ ghost use Rattle.std.specs.Prelude.{◌≡◌, length, IfOk, IfErr};
 ghost use Rattle.asm_tree.specs.Views.{module_view};
 ghost use Rattle.asm_lang_valid.specs.LimitRows.{foreign_calls};
 ghost use Rattle.asm_lang_valid.specs.Rows.{exports_count};
-ghost use Rattle.cmd_check_asm.specs.Verdicts as verdicts;
-ghost use Rattle.cmd_check_asm.specs.Verdicts.{IsCounted, IsRefusal};
+ghost use Rattle.bridge_lang.specs.AsmVerdicts as verdicts;
+ghost use Rattle.bridge_lang.specs.AsmVerdicts.{IsCounted};
+ghost use Rattle.cmd_check_asm.specs.Verdicts.{IsRefusal};
 
 use crate::checking::check_text;
 use crate::fault::CheckFault;

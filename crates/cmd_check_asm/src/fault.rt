@@ -4,25 +4,11 @@ ghost use Rattle.std.specs.Prelude.{◌≡◌, ◌<◌, length, slice_index};
 ghost use Rattle.cmd_check_asm.specs.Refusals.{IsWithin, of_text, of_module};
 ghost use Rattle.sem_words.specs.Lists.{list_items};
 
-use asm_lang_valid::Rule;
 use asm_text::TextFault;
 use asm_validate::AsmRefusal;
+use bridge_lang::AsmRow;
 use sem_words::List;
 use thiserror::Error;
-
-/// What of the format a text breaks.
-#[derive(Clone, Copy, PartialEq, Eq, Debug)]
-pub enum AsmRow {
-    NonAscii,
-    BadToken,
-    OpenComment,
-    LiteralForm,
-    Grammar,
-    NoUseAsm,
-    Height,
-    /// The text says a module, one of whose nodes breaks a rule.
-    Rule(Rule),
-}
 
 /// Why a text isn't taken: what it breaks, and the offset in bytes; or want of memory.
 #[derive(Clone, Copy, PartialEq, Eq, Debug, Error)]

@@ -7,8 +7,9 @@ mod fault;
 mod laws;
 mod names;
 
+pub use bridge_lang::AsmRow;
 pub use checking::check_text;
 pub use counting::{counts, counts_line};
-pub use fault::{AsmRow, CheckFault};
+pub use fault::CheckFault;
 pub use laws::one_verdict_of_a_text;
 pub use names::{row_name, row_number};

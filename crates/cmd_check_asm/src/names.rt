@@ -1,12 +1,12 @@
 //! The names of rows as they are printed.
 
 ghost use Rattle.std.specs.Prelude.{◌≡◌};
-ghost use Rattle.cmd_check_asm.specs.Names as names;
+ghost use Rattle.bridge_lang.specs.AsmRows as names;
 
-use crate::fault::AsmRow;
+use bridge_lang::AsmRow;
 
 /// What a text breaks, with its number.
-#[tactic(auto, unfolding(crate::specs::Names::row_name))]
+#[tactic(auto, unfolding(bridge_lang::specs::AsmRows::row_name))]
 pub fn row_name(row: AsmRow) -> &'static str
     ensures { result.now ≡ names.row_name row }
 {

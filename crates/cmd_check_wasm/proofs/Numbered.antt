@@ -4,7 +4,7 @@ use Rattle.std.specs.Prelude.{codes}
 use Rattle.std.specs.Fmt.{digits}
 use Rattle.wasm_lang.specs.declared.fault.Row.{Row}
 use Rattle.wasm_lang.specs.declared.fault.Row.TheVariants as rows
-use Rattle.cmd_check_wasm.specs.Names.{row_word, row_name}
+use Rattle.bridge_lang.specs.WasmRows.{row_word, row_name}
 
 abbrev pub written : Row → List ℕ
 written rows.Magic = codes "B1 Magic"

@@ -1,6 +1,7 @@
 //! The counts of a valid module.
 ghost use Rattle.std.specs.Prelude.{IfOk, IfErr};
-ghost use Rattle.cmd_check_wasm.specs.Verdicts.{IsCounted, IsRefused};
+ghost use Rattle.bridge_lang.specs.WasmVerdicts.{IsCounted};
+ghost use Rattle.cmd_check_wasm.specs.Verdicts.{IsRefused};
 
 use crate::checking::check_bytes;
 use crate::fault::CheckFault;

@@ -1,6 +1,6 @@
 //! Names of faults as they are printed.
 ghost use Rattle.std.specs.Prelude.{◌≡◌};
-ghost use Rattle.cmd_check_wasm.specs.Names as names;
+ghost use Rattle.bridge_lang.specs.WasmRows as names;
 
 use wasm_binary::Row;
 

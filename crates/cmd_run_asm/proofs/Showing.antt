@@ -1,12 +1,12 @@
 -- Equal sessions are seen alike.
 use Rattle.std.proofs.Common.{◌≡◌, ℕ, List, ap, sym, ◌∙◌}
 use Rattle.std.specs.Prelude.{Some}
-use Rattle.sem_laws.specs.Observation.{ObservationPlain}
-use Rattle.sem_laws.specs.Script.{ScriptPlain}
-use Rattle.script_print.specs.Texts.{observation_text}
+use Rattle.session_lang.specs.Observation.{ObservationPlain}
+use Rattle.session_lang.specs.Script.{ScriptPlain}
+use Rattle.script_lang.specs.Texts.{observation_text}
 use Rattle.asm_lang.specs.Modules.{Module}
 use Rattle.asm_lang_exec.specs.Session.{asm}
-use Rattle.cmd_run_asm.specs.Runs.{Shows}
+use Rattle.bridge_lang.specs.AsmRuns.{Shows}
 
 pub shows : {m n : Module} {a b : ℕ} {s t : ScriptPlain} {c d : ℕ} (output : List ℕ) (seen : ObservationPlain) → m ≡ n → a ≡ b → s ≡ t → c ≡ d
     → asm m a s c ≡ Some seen → output ≡ observation_text seen → Shows n b t d output

@@ -1,18 +1,19 @@
 //! A script on a module.
 ghost use Rattle.std.specs.Prelude.{◌≡◌, None, IfOk, MatchResult};
 ghost use Rattle.heap_lang.specs.Heap.{IsHeapLength};
-ghost use Rattle.sem_laws.specs.Views.{script_of};
+ghost use Rattle.session_lang.specs.Views.{script_of};
 ghost use Rattle.asm_tree.specs.Views.{module_view};
 ghost use Rattle.asm_lang_exec.specs.Fits.{misfit};
 ghost use Rattle.asm_run.specs.Exports.{callees_of, callees_said};
-ghost use Rattle.cmd_run_asm.specs.Runs.{Prints, Shows, IsScriptRefusal};
+ghost use Rattle.bridge_lang.specs.AsmRuns.{Prints, Shows};
+ghost use Rattle.cmd_run_asm.specs.Runs.{IsScriptRefusal};
 
 use asm_run::{Session, fits_asm};
 use asm_tree::Function;
 use asm_validate::Checked;
-use script_print::observation_text;
 use script_read::{ScriptFault, read_script};
-use sem_laws::Script;
+use session_lang::Script;
+use session_print::observation_text;
 use std::alloc::{AllocError, Global};
 
 /// What is printed of a run of the script's text with a heap of so many bytes and so many units. A refusal is the first line that

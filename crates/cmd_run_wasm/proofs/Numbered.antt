@@ -4,7 +4,7 @@ use Rattle.std.specs.Prelude.{codes}
 use Rattle.std.specs.Fmt.{digits}
 use Rattle.wasm_lang_valid.specs.declared.profile.Beyond.{Beyond}
 use Rattle.wasm_lang_valid.specs.declared.profile.Beyond.TheVariants as rows
-use Rattle.cmd_run_wasm.specs.Names.{row_word, row_name}
+use Rattle.bridge_lang.specs.WasmRows.{beyond_word, beyond_name}
 
 abbrev pub written : Beyond → List ℕ
 written rows.ImportedTable = codes "B14 ImportedTable"
@@ -18,8 +18,8 @@ written rows.MixedImport = codes "B22 MixedImport"
 written rows.Size = codes "B23 Size"
 written rows.WideMulDiv = codes "B24 WideMulDiv"
 
-is_written : (row : Beyond) → written row ≡ row_name row
-unfolding row_name row_word digits
+is_written : (row : Beyond) → written row ≡ beyond_name row
+unfolding beyond_name beyond_word digits
 is_written rows.ImportedTable = refl
 is_written rows.MutableImport = refl
 is_written rows.WideImport = refl
@@ -31,5 +31,5 @@ is_written rows.MixedImport = refl
 is_written rows.Size = refl
 is_written rows.WideMulDiv = refl
 
-pub writes : (row other : Beyond) → row ≡ other → written other ≡ row_name row
-writes row other e = is_written other ∙ ap row_name (sym e)
+pub writes : (row other : Beyond) → row ≡ other → written other ≡ beyond_name row
+writes row other e = is_written other ∙ ap beyond_name (sym e)

@@ -1,3 +1,2 @@
 pub mod Modules
-pub mod Names
 pub mod Runs

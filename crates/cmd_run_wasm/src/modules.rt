@@ -1,6 +1,7 @@
 //! Modules that are run.
 ghost use Rattle.std.specs.Prelude.{IfOk, IfErr};
-ghost use Rattle.cmd_run_wasm.specs.Modules.{IsRunnable, IsNotRun};
+ghost use Rattle.bridge_lang.specs.WasmRuns.{IsRunnable};
+ghost use Rattle.cmd_run_wasm.specs.Modules.{IsNotRun};
 
 use crate::fault::RunFault;
 use cmd_check_wasm::check_bytes;

@@ -1,12 +1,12 @@
 //! Names of what isn't run, as they are printed.
 ghost use Rattle.std.specs.Prelude.{◌≡◌};
-ghost use Rattle.cmd_run_wasm.specs.Names as names;
+ghost use Rattle.bridge_lang.specs.WasmRows as names;
 
 use wasm_validate::Beyond;
 
 /// Why a valid module isn't taken, with its number.
 pub fn outside_name(row: Beyond) -> &'static str
-    ensures { result.now ≡ names.row_name row }
+    ensures { result.now ≡ names.beyond_name row }
 {
     match row {
         Beyond::ImportedTable => "B14 ImportedTable",

@@ -1,16 +1,17 @@
 //! A script on a module.
 ghost use Rattle.std.specs.Prelude.{◌≡◌, None, IfOk, MatchResult};
-ghost use Rattle.sem_laws.specs.Views.{script_of};
-ghost use Rattle.script_print.specs.Texts as spec;
+ghost use Rattle.session_lang.specs.Views.{script_of};
+ghost use Rattle.script_lang.specs.Texts as spec;
 ghost use Rattle.wasm_lang_exec.specs.Fits.{misfit};
 ghost use Rattle.wasm_lang_exec.specs.Session.{wasm};
 ghost use Rattle.wasm_lang_valid.specs.Runnable.{not_runnable};
 ghost use Rattle.wasm_run.specs.Exports.{callees_of};
-ghost use Rattle.cmd_run_wasm.specs.Runs.{Prints, IsScriptRefusal};
+ghost use Rattle.bridge_lang.specs.WasmRuns.{Prints};
+ghost use Rattle.cmd_run_wasm.specs.Runs.{IsScriptRefusal};
 
-use script_print::observation_text;
 use script_read::{ScriptFault, read_script};
-use sem_laws::Script;
+use session_lang::Script;
+use session_print::observation_text;
 use std::alloc::{AllocError, Global};
 use wasm_run::{Instance, fits_wasm};
 use wasm_validate::Valid;

@@ -4,13 +4,13 @@ use Rattle.std.proofs.lemmas.Bool.Decides.{nat_tests}
 use Rattle.std.proofs.lemmas.List.{at_drop_more}
 use Rattle.std.specs.Prelude.{ℤ, if◌then◌else◌, ◌&&◌, option_map, is_some, nat_eq, nat_lt}
 use Rattle.sem_words.specs.Lists.{text_bytes}
-use Rattle.sem_laws.specs.declared.script.GlobalLine.{GlobalLine}
-use Rattle.sem_laws.specs.Script.{GlobalPlain}
-use Rattle.sem_laws.specs.Views.{global_of}
-use Rattle.script_fits.specs.Fits.{is_given, unless, global_lines, lesser, least}
-use Rattle.script_fits.specs.Earlier.{earlier}
+use Rattle.session_lang.specs.declared.script.GlobalLine.{GlobalLine}
+use Rattle.session_lang.specs.Script.{GlobalPlain}
+use Rattle.session_lang.specs.Views.{global_of}
+use Rattle.session_lang.specs.Fits.{is_given, unless, global_lines, lesser, least}
+use Rattle.session_lang.specs.Earlier.{earlier}
 use Rattle.script_lines.specs.GlobalLines.{given, line_named}
-use Rattle.script_fits.proofs.FirstLines.{earlier_lesser}
+use Rattle.session_lang.proofs.FirstLines.{earlier_lesser}
 
 equal_either_way : (x y : ℕ) → nat_eq x y ≡ nat_eq y x
 equal_either_way x y = grind (arith, nat_tests)

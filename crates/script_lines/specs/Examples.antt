@@ -1,6 +1,6 @@
 -- Worked examples that the check computes.
 use Rattle.std.specs.Prelude.{◌≡◌, List, [], ◌∷◌, Some, None, pos, codes, refl}
-use Rattle.sem_laws.specs.Script.{GlobalPlain}
+use Rattle.session_lang.specs.Script.{GlobalPlain}
 use Rattle.script_lines.specs.GlobalLines.{given, line_named}
 
 -- two lines of one name, and one of another between them

@@ -3,7 +3,7 @@ use Rattle.std.specs.Prelude.{ℕ, suc, ℤ, List, [], ◌∷◌, Option, Some, 
 use Rattle.std.specs.Borrow.{Bor}
 use Rattle.std.specs.Str.{bytes_eq}
 use Rattle.indexmap.specs.IndexMap.{IndexMap, get_by}
-use Rattle.sem_laws.specs.Script.{GlobalPlain}
+use Rattle.session_lang.specs.Script.{GlobalPlain}
 
 -- the value that the lines give to a name
 abbrev pub given : List GlobalPlain → List ℕ → Option ℤ

@@ -3,15 +3,15 @@
 ghost use Rattle.std.specs.Prelude.{◌≡◌, ℕ, List, Some, IfOk, map, take, if◌then◌else◌};
 ghost use Rattle.std.specs.Str.{bytes_eq};
 ghost use Rattle.sem_words.specs.Lists.{text_bytes};
-ghost use Rattle.sem_laws.specs.Views.{global_of};
-ghost use Rattle.script_fits.specs.Fits as parts;
+ghost use Rattle.session_lang.specs.Views.{global_of};
+ghost use Rattle.session_lang.specs.Fits as parts;
 ghost use Rattle.script_lines.specs.GlobalLines as by_name;
 ghost use Rattle.script_lines.specs.GlobalLines.{found, line_named};
 
 use indexmap::IndexMap;
 use key_hashes::{KeyHashes, Seed};
-use sem_laws::GlobalLine;
 use sem_words::Text;
+use session_lang::GlobalLine;
 use std::alloc::{AllocError, Global};
 use std::marker::Model;
 
@@ -25,8 +25,8 @@ pub struct Lines<'a> {
 
 impl<'a> Model for Lines<'a> {
     ghost use Rattle.std.specs.Prelude.{◌≡◌, ℕ, List, map};
-    ghost use Rattle.sem_laws.specs.Script.{GlobalPlain};
-    ghost use Rattle.sem_laws.specs.Views.{global_of};
+    ghost use Rattle.session_lang.specs.Script.{GlobalPlain};
+    ghost use Rattle.session_lang.specs.Views.{global_of};
     ghost use Rattle.script_lines.specs.GlobalLines.{found, line_named};
 
     ghost Value = { List GlobalPlain };

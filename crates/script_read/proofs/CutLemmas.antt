@@ -4,7 +4,7 @@ use Rattle.std.specs.List.{slice_split, onto_first}
 use Rattle.std.proofs.lemmas.Bool.{false_from_ne_true}
 use Rattle.std.proofs.lemmas.List.{take_all, length-drop}
 use Rattle.memchr.specs.Find.{Nowhere, NoneBefore, Passes}
-use Rattle.script_read.specs.Lines.{is_line_feed, is_blank, without_return, without_ends, without_empty, lines_of, words_of}
+use Rattle.script_lang.specs.Lines.{is_line_feed, is_blank, without_return, without_ends, without_empty, lines_of, words_of}
 use Rattle.script_read.specs.Cuts.{with_word}
 
 -- no byte passes before the place

@@ -1,11 +1,11 @@
 -- What the definition says of texts that are written out.
 use Rattle.std.proofs.Common.{◌≡◌, refl, [], ◌∷◌, Some, None, Ok, Err, codes, pos, negsuc, ◌^◌, ◌-◌}
 use Rattle.hex.proofs.OnLiterals.{hex_on_literals}
-use Rattle.sem_laws.specs.Script.{give, throw}
-use Rattle.script_read.specs.Numbers.{number_of, place_of}
-use Rattle.script_read.specs.Names.{name_of, bytes_of}
-use Rattle.script_read.specs.Lines.{lines_of, words_of}
-use Rattle.script_read.specs.Reading.{said_script}
+use Rattle.session_lang.specs.Script.{give, throw}
+use Rattle.script_lang.specs.Numbers.{number_of, place_of}
+use Rattle.script_lang.specs.Names.{name_of, bytes_of}
+use Rattle.script_lang.specs.Lines.{lines_of, words_of}
+use Rattle.script_lang.specs.Reading.{said_script}
 
 -- ---- lines and words
 

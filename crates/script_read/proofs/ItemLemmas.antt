@@ -3,7 +3,7 @@ use Rattle.std.proofs.Common.{◌≡◌, ◌≢◌, ◌<◌, ◌+◌, ℕ, zero,
 use Rattle.std.proofs.lemmas.Bool.{false_from_ne_true}
 use Rattle.memchr.specs.Find.{Nowhere, NoneBefore, Passes, is_byte}
 use Rattle.script_read.specs.Lined.{texts_of}
-use Rattle.script_read.specs.Items.{global_line, heap_line, all_of, at_equals, write_word, write_at}
+use Rattle.script_lang.specs.Items.{global_line, heap_line, all_of, at_equals, write_word, write_at}
 use Rattle.script_read.proofs.CutLemmas.{rest_all}
 
 pub not_two_global : (line : ℕ) (ws : List (Bor (List ℕ))) → length ws ≢ 2 → None ≡ global_line line (texts_of ws)

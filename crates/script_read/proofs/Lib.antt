@@ -3,3 +3,4 @@ pub mod CutLemmas
 pub mod NumberLemmas
 pub mod ItemLemmas
 pub mod ReadingLemmas
+pub mod Bytes

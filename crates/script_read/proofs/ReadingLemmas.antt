@@ -4,18 +4,18 @@ use Rattle.std.specs.Prelude.{MatchResult}
 use Rattle.std.proofs.lemmas.List.{append-nil, map_push}
 use Rattle.sem_words.specs.Lists.{list_items}
 use Rattle.sem_words.specs.declared.list.List.{List as Listed}
-use Rattle.sem_laws.specs.declared.script.Script.{Script}
-use Rattle.sem_laws.specs.declared.script.GlobalLine.{GlobalLine}
-use Rattle.sem_laws.specs.declared.script.WriteLine.{WriteLine}
-use Rattle.sem_laws.specs.declared.script.CallLine.{CallLine}
-use Rattle.sem_laws.specs.declared.script.ReplyLine.{ReplyLine}
-use Rattle.sem_laws.specs.Views.{script_of, global_of, write_of, call_of, reply_line_of}
-use Rattle.sem_laws.specs.Script.{ScriptPlain}
+use Rattle.session_lang.specs.declared.script.Script.{Script}
+use Rattle.session_lang.specs.declared.script.GlobalLine.{GlobalLine}
+use Rattle.session_lang.specs.declared.script.WriteLine.{WriteLine}
+use Rattle.session_lang.specs.declared.script.CallLine.{CallLine}
+use Rattle.session_lang.specs.declared.script.ReplyLine.{ReplyLine}
+use Rattle.session_lang.specs.Views.{script_of, global_of, write_of, call_of, reply_line_of}
+use Rattle.session_lang.specs.Script.{ScriptPlain}
 use Rattle.script_read.specs.declared.fault.ScriptFault.{ScriptFault}
 use Rattle.script_read.specs.declared.fault.ScriptFault.TheVariants.{Refused, Memory}
-use Rattle.script_read.specs.Lines.{lines_of, words_of, is_passed_over}
-use Rattle.script_read.specs.Items.{Item, a_global, a_write, a_call, a_reply, item_of}
-use Rattle.script_read.specs.Reading.{said_script, items_of, then_items, collected, if_all}
+use Rattle.script_lang.specs.Lines.{lines_of, words_of, is_passed_over}
+use Rattle.script_lang.specs.Items.{Item, a_global, a_write, a_call, a_reply, item_of}
+use Rattle.script_lang.specs.Reading.{said_script, items_of, then_items, collected, if_all}
 use Rattle.script_read.specs.Collecting.{no_script, with_item, with_item_of, after_line, joined, put_before, IsRefusal}
 
 before_all : (r : Result (List Item) ℕ) → if_all r ≡ put_before no_script r

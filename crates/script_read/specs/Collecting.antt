@@ -1,11 +1,11 @@
 -- A script as far as it is read, before what is still to come.
 use Rattle.std.specs.Prelude.{ℕ, List, [], ◌∷◌, ◌++◌, Option, Some, None, Result, Ok, Err, ◌≡◌, if◌then◌else◌}
-use Rattle.sem_laws.specs.Script.{ScriptPlain}
+use Rattle.session_lang.specs.Script.{ScriptPlain}
 use Rattle.script_read.specs.declared.fault.ScriptFault.{ScriptFault}
 use Rattle.script_read.specs.declared.fault.ScriptFault.TheVariants.{Refused, Memory}
-use Rattle.script_read.specs.Lines.{is_passed_over}
-use Rattle.script_read.specs.Items.{Item, a_global, a_write, a_call, a_reply, item_of}
-use Rattle.script_read.specs.Reading.{collected}
+use Rattle.script_lang.specs.Lines.{is_passed_over}
+use Rattle.script_lang.specs.Items.{Item, a_global, a_write, a_call, a_reply, item_of}
+use Rattle.script_lang.specs.Reading.{collected}
 
 abbrev pub no_script : ScriptPlain
 no_script = record { globals = []; writes = []; calls = []; replies = [] }

@@ -1,7 +1,7 @@
 -- What is left of a text after a cut.
 use Rattle.std.specs.Prelude.{ℕ, suc, List, [], ◌∷◌, length, Option, Some, None, option_map}
 use Rattle.std.specs.Borrow.{Bor}
-use Rattle.script_read.specs.Lines.{lines_of, words_of}
+use Rattle.script_lang.specs.Lines.{lines_of, words_of}
 
 abbrev pub rest_of : Option (Bor (List ℕ)) → Option (List ℕ)
 rest_of = option_map (λ s. s.now)

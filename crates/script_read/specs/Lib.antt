@@ -1,8 +1,3 @@
-pub mod Lines
-pub mod Numbers
-pub mod Names
-pub mod Items
-pub mod Reading
 pub mod Cuts
 pub mod Views
 pub mod Lined

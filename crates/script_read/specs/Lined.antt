@@ -1,10 +1,10 @@
 -- What the code's values of lines say.
 use Rattle.std.specs.Prelude.{ℕ, List, map}
 use Rattle.std.specs.Borrow.{Bor}
-use Rattle.sem_laws.specs.Views.{global_of, write_of, call_of, reply_line_of}
+use Rattle.session_lang.specs.Views.{global_of, write_of, call_of, reply_line_of}
 use Rattle.script_read.specs.declared.items.Item.{Item as LineItem}
 use Rattle.script_read.specs.declared.items.Item.TheVariants as items
-use Rattle.script_read.specs.Items.{Item, a_global, a_write, a_call, a_reply}
+use Rattle.script_lang.specs.Items.{Item, a_global, a_write, a_call, a_reply}
 
 abbrev pub item_view : LineItem → Item
 item_view (items.Global g) = a_global (global_of g)

@@ -1,8 +1,8 @@
 //! Lines and words.
 
 ghost use Rattle.std.specs.Prelude.{◌≡◌, ◌<◌, ◌≤◌, ◌∷◌, length, map, IfOk, IfSome};
-ghost use Rattle.script_read.specs.Lines as spec;
-ghost use Rattle.script_read.specs.Lines.{lines_of, words_of};
+ghost use Rattle.script_lang.specs.Lines as spec;
+ghost use Rattle.script_lang.specs.Lines.{lines_of, words_of};
 ghost use Rattle.script_read.specs.Cuts.{rest_of, lines_after, words_after, with_word, length_left};
 
 use memchr::{memchr, memchr2};

@@ -2,16 +2,16 @@
 
 ghost use Rattle.std.specs.Prelude.{◌≡◌, ◌≢◌, ◌++◌, ◌∷◌, [], length, map, option_map, IfOk, MatchOption};
 ghost use Rattle.sem_words.specs.Lists.{list_items};
-ghost use Rattle.sem_laws.specs.Views.{write_of};
-ghost use Rattle.script_read.specs.Items as spec;
-ghost use Rattle.script_read.specs.Numbers.{number_of};
+ghost use Rattle.session_lang.specs.Views.{write_of};
+ghost use Rattle.script_lang.specs.Items as spec;
+ghost use Rattle.script_lang.specs.Numbers.{number_of};
 ghost use Rattle.script_read.specs.Lined.{item_view, texts_of};
 
 use crate::names::{bytes, name};
 use crate::numbers::{number, place, word};
 use memchr::memchr;
-use sem_laws::{CallLine, GlobalLine, Reply, ReplyLine, WriteLine};
 use sem_words::List;
+use session_lang::{CallLine, GlobalLine, Reply, ReplyLine, WriteLine};
 use std::alloc::{AllocError, Global};
 
 /// What a line gives to the script.

@@ -1,6 +1,7 @@
 //! Scripts as texts: which values, heap bytes, calls and replies the lines of a script say.
 #![tactic(auto)]
 
+pub mod bytes_laws;
 mod cuts;
 mod fault;
 mod items;

@@ -3,7 +3,7 @@
 ghost use Rattle.std.specs.Prelude.{◌≡◌, option_map, IfOk};
 ghost use Rattle.std.specs.List.{list_all};
 ghost use Rattle.sem_words.specs.Lists.{text_bytes};
-ghost use Rattle.script_read.specs.Names as spec;
+ghost use Rattle.script_lang.specs.Names as spec;
 
 use hex::FromHexError;
 use sem_words::Text;

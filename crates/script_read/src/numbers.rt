@@ -2,7 +2,7 @@
 
 ghost use Rattle.std.specs.Prelude.{◌≡◌};
 ghost use Rattle.sem_words.specs.Words.{word_of};
-ghost use Rattle.script_read.specs.Numbers as spec;
+ghost use Rattle.script_lang.specs.Numbers as spec;
 ghost use Rattle.script_read.specs.Views.{kept_below, digits_below, with_digit};
 
 // The number with one more digit, where it is below 2 ^ 64.

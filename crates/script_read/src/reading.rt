@@ -1,19 +1,19 @@
 //! Whole scripts.
 
 ghost use Rattle.std.specs.Prelude.{◌≡◌, Ok, IfOk, MatchResult};
-ghost use Rattle.sem_laws.specs.Views.{script_of};
-ghost use Rattle.script_read.specs.Lines as spec;
-ghost use Rattle.script_read.specs.Lines.{words_of};
+ghost use Rattle.session_lang.specs.Views.{script_of};
+ghost use Rattle.script_lang.specs.Lines as spec;
+ghost use Rattle.script_lang.specs.Lines.{words_of};
 ghost use Rattle.script_read.specs.Lined.{item_view, texts_of};
-ghost use Rattle.script_read.specs.Reading.{said_script};
+ghost use Rattle.script_lang.specs.Reading.{said_script};
 ghost use Rattle.script_read.specs.Collecting as collecting;
 ghost use Rattle.script_read.specs.Collecting.{no_script, after_line, IsRefusal};
 
 use crate::cuts;
 use crate::fault::ScriptFault;
 use crate::items::{Item, pushed, read_item};
-use sem_laws::Script;
 use sem_words::List;
+use session_lang::Script;
 use std::alloc::{AllocError, Global};
 
 fn empty_script(alloc: Global) -> Script

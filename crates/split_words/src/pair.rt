@@ -1,6 +1,6 @@
 //! Where the words of values stand.
 ghost use Rattle.std.specs.Prelude.{◌≡◌};
-ghost use Rattle.wasm2js_code.specs.Pairs as pairs;
+ghost use Rattle.wasm2js_translation.specs.Pairs as pairs;
 ghost use Rattle.split_words.specs.Views.{pair_view};
 
 use wasm2js_nodes::{Name, Numbered};

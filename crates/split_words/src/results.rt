@@ -1,15 +1,19 @@
 //! Operators whose result has 64 bits.
-ghost use Rattle.std.specs.Prelude.{◌≡◌, [], ◌∷◌, ◌++◌, IfOk};
+ghost use Rattle.std.specs.Prelude.{◌≡◌, false, true, [], ◌∷◌, ◌++◌, IfOk};
 ghost use Rattle.sem_words.specs.declared.word.Un.TheVariants as uns;
-ghost use Rattle.wasm2js_words.specs.Names as names;
-ghost use Rattle.wasm2js_words.specs.Words as words;
-ghost use Rattle.wasm2js_words.specs.Words.{simple_statements};
-ghost use Rattle.wasm2js_code.specs.Pairs as pairs;
-ghost use Rattle.wasm2js_code.specs.Wide as wide;
+ghost use Rattle.wasm_lang_valid.specs.Measures.{is_mul_div};
+ghost use Rattle.wasm2js_lang.specs.SplitWords.{ComputesBinary, ComputesUnary, ComputesExtension, Gains};
+ghost use Rattle.wasm2js_translation.specs.Names as names;
+ghost use Rattle.wasm2js_translation.specs.Words as words;
+ghost use Rattle.wasm2js_translation.specs.Words.{simple_statements};
+ghost use Rattle.wasm2js_translation.specs.Pairs as pairs;
+ghost use Rattle.wasm2js_translation.specs.Wide as wide;
+ghost use Rattle.wasm2js_translation.specs.Helpers.{wide_helpers};
 ghost use Rattle.wasm2js_nodes.specs.Names.{name_view, fixed_view};
 ghost use Rattle.wasm2js_build.specs.Views.{bit_view, term_view};
 ghost use Rattle.wasm2js_build.specs.Blocks.{statements_of};
-ghost use Rattle.split_words.specs.Views.{pair_view};
+ghost use Rattle.wasm2js_laws_wide.specs.Laws.{is_extension};
+ghost use Rattle.split_words.specs.Views.{pair_view, halves_of};
 
 use crate::pair::Pair;
 use sem_words::{Bin, Un};
@@ -29,14 +33,38 @@ pub fn moved(block: &mut Block, kind: ValType, from: Pair, to: Pair) -> Result<(
     }
 }
 
-/// A product, a quotient and a remainder have no statement: they aren't made of words of 32 bits here.
+/// A product, a quotient and a remainder aren't made of words of 32 bits here.
 pub fn wide_binary(block: &mut Block, op: Bin, a: Pair, b: Pair, to: Pair) -> Result<(), AllocError>
+    requires translated { is_mul_div op ≡ false }
+    ensures statements { IfOk result (λ _. statements_of block.new ≡ statements_of block.old ++ simple_statements (wide.wide_binary op (pair_view a) (pair_view b) (pair_view to))) }
+    ensures computes { IfOk result (λ _. Gains (statements_of block.old) (statements_of block.new) (λ ss. ComputesBinary wide_helpers ss op (halves_of a) (halves_of b) (halves_of to))) }
+{
+    put_binary(block, op, a, b, to)
+}
+
+pub fn wide_unary(block: &mut Block, op: Un, a: Pair, to: Pair) -> Result<(), AllocError>
+    ensures statements { IfOk result (λ _. statements_of block.new ≡ statements_of block.old ++ simple_statements (wide.wide_unary op (pair_view a) (pair_view to))) }
+    ensures computes { IfOk result (λ _. Gains (statements_of block.old) (statements_of block.new) (λ ss. ComputesUnary wide_helpers ss op (halves_of a) (halves_of to))) }
+{
+    put_unary(block, op, a, to)
+}
+
+/// The low bits, of which there are 8, 16 or 32, extended with their sign.
+pub fn wide_extend(block: &mut Block, bits: u32, a: Pair, to: Pair) -> Result<(), AllocError>
+    ensures statements { IfOk result (λ _. statements_of block.new ≡ statements_of block.old ++ simple_statements (wide.wide_extend bits (pair_view a) (pair_view to))) }
+    ensures computes { is_extension bits ≡ true → IfOk result (λ _. Gains (statements_of block.old) (statements_of block.new) (λ ss. ComputesExtension wide_helpers ss bits (halves_of a) (halves_of to))) }
+{
+    put_wide_extended(block, bits, a, to)
+}
+
+fn put_binary(block: &mut Block, op: Bin, a: Pair, b: Pair, to: Pair) -> Result<(), AllocError>
+    requires { is_mul_div op ≡ false }
     ensures { IfOk result (λ _. statements_of block.new ≡ statements_of block.old ++ simple_statements (wide.wide_binary op (pair_view a) (pair_view b) (pair_view to))) }
 {
     match op {
         Bin::Add => sum(block, a, b, to),
         Bin::Sub => difference(block, a, b, to),
-        Bin::Mul | Bin::DivS | Bin::DivU | Bin::RemS | Bin::RemU => Ok(()),
+        Bin::Mul | Bin::DivS | Bin::DivU | Bin::RemS | Bin::RemU => unreachable!(),
         Bin::And => bits(block, BitOp::And, a, b, to),
         Bin::Or => bits(block, BitOp::Or, a, b, to),
         Bin::Xor => bits(block, BitOp::Xor, a, b, to),
@@ -48,7 +76,7 @@ pub fn wide_binary(block: &mut Block, op: Bin, a: Pair, b: Pair, to: Pair) -> Re
     }
 }
 
-pub fn wide_unary(block: &mut Block, op: Un, a: Pair, to: Pair) -> Result<(), AllocError>
+fn put_unary(block: &mut Block, op: Un, a: Pair, to: Pair) -> Result<(), AllocError>
     ensures { IfOk result (λ _. statements_of block.new ≡ statements_of block.old ++ simple_statements (wide.wide_unary op (pair_view a) (pair_view to))) }
 {
     match op {
@@ -58,8 +86,7 @@ pub fn wide_unary(block: &mut Block, op: Un, a: Pair, to: Pair) -> Result<(), Al
     }
 }
 
-/// The low bits, of which there are 8, 16 or 32, extended with their sign.
-pub fn wide_extend(block: &mut Block, bits: u32, a: Pair, to: Pair) -> Result<(), AllocError>
+fn put_wide_extended(block: &mut Block, bits: u32, a: Pair, to: Pair) -> Result<(), AllocError>
     ensures { IfOk result (λ _. statements_of block.new ≡ statements_of block.old ++ simple_statements (wide.wide_extend bits (pair_view a) (pair_view to))) }
 {
     if bits == 32 {

@@ -1,13 +1,16 @@
 //! Operators whose result is a truth value.
 ghost use Rattle.std.specs.Prelude.{◌≡◌, [], ◌∷◌, ◌++◌, IfOk};
 ghost use Rattle.sem_words.specs.declared.word.Rel.TheVariants as rels;
-ghost use Rattle.wasm2js_words.specs.Words as words;
-ghost use Rattle.wasm2js_words.specs.Words.{simple_statements};
-ghost use Rattle.wasm2js_code.specs.Wide as wide;
+ghost use Rattle.wasm2js_lang.specs.SplitWords.{ComputesRelation, ComputesZero, Gains};
+ghost use Rattle.wasm2js_translation.specs.Names.{spelled};
+ghost use Rattle.wasm2js_translation.specs.Words as words;
+ghost use Rattle.wasm2js_translation.specs.Words.{simple_statements};
+ghost use Rattle.wasm2js_translation.specs.Wide as wide;
+ghost use Rattle.wasm2js_translation.specs.Helpers.{wide_helpers};
 ghost use Rattle.wasm2js_nodes.specs.Names.{name_view};
 ghost use Rattle.wasm2js_build.specs.Views.{relation_view};
 ghost use Rattle.wasm2js_build.specs.Blocks.{statements_of};
-ghost use Rattle.split_words.specs.Views.{pair_view};
+ghost use Rattle.split_words.specs.Views.{pair_view, halves_of};
 
 use crate::pair::Pair;
 use sem_words::Rel;
@@ -22,6 +25,21 @@ pub fn wide_compare(
     b: Pair,
     to: Name,
 ) -> Result<(), AllocError>
+    ensures statements { IfOk result (λ _. statements_of block.new ≡ statements_of block.old ++ simple_statements (wide.wide_compare op (pair_view a) (pair_view b) (name_view to))) }
+    ensures computes { IfOk result (λ _. Gains (statements_of block.old) (statements_of block.new) (λ ss. ComputesRelation wide_helpers ss op (halves_of a) (halves_of b) (spelled (name_view to)))) }
+{
+    put_relation(block, op, a, b, to)
+}
+
+/// Whether both words are 0.
+pub fn wide_zero(block: &mut Block, a: Pair, to: Name) -> Result<(), AllocError>
+    ensures statements { IfOk result (λ _. statements_of block.new ≡ statements_of block.old ++ simple_statements (words.put (name_view to) (wide.is_wide_zero (pair_view a)) ∷ [])) }
+    ensures computes { IfOk result (λ _. Gains (statements_of block.old) (statements_of block.new) (λ ss. ComputesZero wide_helpers ss (halves_of a) (spelled (name_view to)))) }
+{
+    put_zero_test(block, a, to)
+}
+
+fn put_relation(block: &mut Block, op: Rel, a: Pair, b: Pair, to: Name) -> Result<(), AllocError>
     ensures { IfOk result (λ _. statements_of block.new ≡ statements_of block.old ++ simple_statements (wide.wide_compare op (pair_view a) (pair_view b) (name_view to))) }
 {
     match op {
@@ -38,8 +56,7 @@ pub fn wide_compare(
     }
 }
 
-/// Whether both words are 0.
-pub fn wide_zero(block: &mut Block, a: Pair, to: Name) -> Result<(), AllocError>
+fn put_zero_test(block: &mut Block, a: Pair, to: Name) -> Result<(), AllocError>
     ensures { IfOk result (λ _. statements_of block.new ≡ statements_of block.old ++ simple_statements (words.put (name_view to) (wide.is_wide_zero (pair_view a)) ∷ [])) }
 {
     let (low, high) = (Term::read(a.low), Term::read(a.high));

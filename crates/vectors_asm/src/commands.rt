@@ -48,7 +48,7 @@ type Row = (&'static [&'static str], u8, &'static [u8], &'static [u8]);
 
 const USAGE: &[u8] = b"usage: bridge COMMAND [--heap N] [--steps N] [FILE] [SCRIPT]\n";
 
-static ROWS: [Row; 41] = [
+static ROWS: [Row; 44] = [
     (&[], 1, b"", USAGE),
     (&["fly", "add.js"], 1, b"", USAGE),
     (&["asm2wasm"], 1, b"", USAGE),
@@ -56,6 +56,8 @@ static ROWS: [Row; 41] = [
     (&["asm2wasm", "-add.js"], 1, b"", USAGE),
     (&["asm2wasm", "--steps", "5", "add.js"], 1, b"", USAGE),
     (&["asm2wasm", "--heap", "5", "add.js"], 1, b"", USAGE),
+    (&["asm2wasm", "--heap", "5000", "x"], 1, b"", USAGE),
+    (&["check-asm", "--steps", "1", "x"], 1, b"", USAGE),
     (
         &["asm2wasm", "--heap=4096", "--heap=4096", "add.js"],
         1,
@@ -71,6 +73,7 @@ static ROWS: [Row; 41] = [
         USAGE,
     ),
     (&["gen"], 1, b"", USAGE),
+    (&["gen", "0"], 1, b"", USAGE),
     (&["gen", "010"], 1, b"", USAGE),
     (&["gen", "10001"], 1, b"", USAGE),
     (&["gen", "2", "--heap", "65536"], 1, b"", USAGE),

@@ -23,6 +23,8 @@ mod modules;
 #[cfg(test)]
 mod program;
 #[cfg(test)]
+mod recipes;
+#[cfg(test)]
 mod rows;
 #[cfg(test)]
 mod translations;

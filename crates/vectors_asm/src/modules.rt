@@ -8,6 +8,14 @@ pub(crate) const ADDING: &[u8] =
 pub(crate) const MULTIPLYING: &[u8] =
     b"\0asm\x01\0\0\0\x01\x07\x01`\x02~~\x01~\x03\x02\x01\0\x07\x05\x01\x01m\0\0\x0a\x09\x01\x07\0 \0 \x01~\x0b";
 
+/// It exports `z`, the number of leading zeros of a number of 64 bits.
+pub(crate) const COUNTING: &[u8] =
+    b"\0asm\x01\0\0\0\x01\x06\x01`\x01~\x01~\x03\x02\x01\0\x07\x05\x01\x01z\0\0\x0a\x07\x01\x05\0 \0y\x0b";
+
+/// It exports `b`, whether a number of 64 bits is below another one, both without a sign.
+pub(crate) const COMPARING: &[u8] =
+    b"\0asm\x01\0\0\0\x01\x07\x01`\x02~~\x01\x7f\x03\x02\x01\0\x07\x05\x01\x01b\0\0\x0a\x09\x01\x07\0 \0 \x01T\x0b";
+
 /// It exports `l`, a load of 32 bits from one page that begins with five bytes of data.
 pub(crate) const LOADING: &[u8] =
     b"\0asm\x01\0\0\0\x01\x06\x01`\x01\x7f\x01\x7f\x03\x02\x01\0\x05\x03\x01\0\x01\x07\x05\x01\x01l\0\0\x0a\x09\x01\x07\0 \0(\x02\0\x0b\x0b\x0b\x01\0A\0\x0b\x05\x01\x02\x03\x04\x05";

@@ -174,3 +174,22 @@ pub(crate) fn ends(
     }
     Ok(())
 }
+
+/// The call ends with the status 0, and what it writes to its output begins with this.
+pub(crate) fn begins(
+    rt: &impl Abort,
+    alloc: Global,
+    words: &[&str],
+    module: &[u8],
+    script: &[u8],
+    front: &[u8],
+) -> Result<(), Fail> {
+    let Ok(ending) = call(alloc, words, module, script) else {
+        return Err(Fail::new("out of memory"));
+    };
+    assert!(rt;
+        ending.code() == 0 && ending.output().starts_with(front),
+        "{words:?}"
+    );
+    Ok(())
+}

@@ -2,8 +2,8 @@
 use asm_run::{Session, fits_asm};
 use asm_validate::Checked;
 use cmd_check_asm::check_text;
-use sem_laws::{CallLine, End, Event, Observation, Reply, ReplyLine, Script};
 use sem_words::{List, Text, Word};
+use session_lang::{CallLine, End, Event, Observation, Reply, ReplyLine, Script};
 use std::alloc::{AllocError, Global};
 use std::test::Fail;
 

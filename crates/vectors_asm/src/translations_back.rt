@@ -1,17 +1,19 @@
 //! Sessions of WebAssembly, by the texts of asm.js that their modules are translated to.
 use crate::binaries::EMPTY;
 use crate::modules::{
-    ADDING, BLOCKS, EXTENDING, EXTENDING_WIDE, GLOBAL, IMPORTING, LOADING, LOOPING, MANY_PAGES,
-    MULTIPLYING, MUTABLE_IMPORT, PADDED, PAGES, POLYMORPHIC, ROTATING, STORING, TABLE,
-    TABLE_IMPORT,
+    ADDING, BLOCKS, COMPARING, COUNTING, EXTENDING, EXTENDING_WIDE, GLOBAL, IMPORTING, LOADING,
+    LOOPING, MANY_PAGES, MULTIPLYING, MUTABLE_IMPORT, PADDED, PAGES, POLYMORPHIC, ROTATING,
+    STORING, TABLE, TABLE_IMPORT,
 };
 use crate::program::{Row, code_of, done, ends, with_options};
+use cmd_check_wasm::check_bytes;
 use std::alloc::Global;
 use std::process::Abort;
 use std::test::Fail;
+use wasm2js::{profile, translate};
 
 // The scripts are in the calling form of the translation, and what is printed is what node prints of the texts.
-static ROWS: [Row; 24] = [
+static ROWS: [Row; 26] = [
     Row {
         name: "a module without parts",
         module: EMPTY,
@@ -32,6 +34,20 @@ static ROWS: [Row; 24] = [
         options: &[],
         script: b"call $init\ncall m 4294967295 0 4294967295 0\ncall $hi",
         printed: b"returned\nresult -2\nresult 1\nend done\n",
+    },
+    Row {
+        name: "leading zeros of 64 bits",
+        module: COUNTING,
+        options: &[],
+        script: b"call $init\ncall z 1 0\ncall $hi",
+        printed: b"returned\nresult 63\nresult 0\nend done\n",
+    },
+    Row {
+        name: "comparisons that the low words decide, and the high words",
+        module: COMPARING,
+        options: &[],
+        script: b"call $init\ncall b 1 0 2 0\ncall b 0 1 4294967295 0",
+        printed: b"returned\nresult 1\nresult 0\nend done\n",
     },
     Row {
         name: "a load near the end, and one past it",
@@ -121,8 +137,8 @@ static ROWS: [Row; 24] = [
         name: "signs of 32 bits",
         module: EXTENDING_WIDE,
         options: &[],
-        script: b"call $init\ncall e 4294967295 0\ncall $hi\ncall e 0 1\ncall $hi",
-        printed: b"returned\nresult -1\nresult -1\nresult 0\nresult 0\nend done\n",
+        script: b"call $init\ncall e 4294967295 0\ncall $hi\ncall e 0 1\ncall $hi\ncall e 2147483648 0\ncall $hi",
+        printed: b"returned\nresult -1\nresult -1\nresult 0\nresult 0\nresult -2147483648\nresult -1\nend done\n",
     },
     Row {
         name: "a copy to the next byte",
@@ -224,5 +240,57 @@ fn modules_beyond_the_profile_are_refused(rt: HostRuntime) -> Result<(), Fail> {
     for row in &REFUSED {
         ends(&rt, rt.alloc(), &["wasm2js", "m"], row.0, b"", 3, row.1)?;
     }
+    Ok(())
+}
+
+/// Whether a line of the text begins with the front, and has the word in it.
+fn has_line(text: &[u8], front: &[u8], word: &[u8]) -> bool {
+    let mut is_start = true;
+    let mut is_inside = false;
+    for at in 0..text.len() {
+        let rest = &text[at..];
+        if is_start {
+            is_inside = rest.starts_with(front);
+        }
+        if is_inside && rest.starts_with(word) {
+            return true;
+        }
+        is_start = text[at] == b'\n';
+    }
+    false
+}
+
+/// A function of the module calls a helper, which stands in the text beside it.
+#[test]
+fn a_rotation_is_a_call_of_a_helper(rt: HostRuntime) -> Result<(), Fail> {
+    let Some(text) = done(rt.alloc(), &["wasm2js", "m"], ROTATING) else {
+        return Err(Fail::new("no text"));
+    };
+    let text = text.output();
+    assert!(rt;
+        has_line(text, b"function f", b"$rotl(") && has_line(text, b"function $rotl(", b"return")
+    );
+    Ok(())
+}
+
+/// How many functions the accepted module has that stands for the one that the bytes spell; none where there is none.
+fn functions_of(alloc: Global, bytes: &[u8]) -> usize {
+    let Ok(valid) = check_bytes(alloc, bytes) else {
+        return 0;
+    };
+    match profile(&valid) {
+        Ok(()) => {}
+        Err(_) => return 0,
+    }
+    match translate(alloc, &valid) {
+        Ok(checked) => checked.module().functions.len(),
+        Err(_) => 0,
+    }
+}
+
+/// A function, the helpers, `$init` and `$hi`.
+#[test]
+fn a_translation_is_given_as_an_accepted_module(rt: HostRuntime) -> Result<(), Fail> {
+    assert!(rt; functions_of(rt.alloc(), ADDING) > 3);
     Ok(())
 }

@@ -1,6 +1,6 @@
 //! Worked rows.
 use asm_names::Environment;
-use asm_run_tables::table_entry;
+use asm_run_values::table_entry;
 use asm_text::read;
 use asm_tree::Function;
 use sem_words::JsValue;

@@ -1,6 +1,6 @@
 //! Words and their jobs.
 
-use bridge_words::read_words;
+use bridge_args::read_words;
 use std::alloc::Global;
 use std::process::Abort;
 

@@ -1,8 +1,8 @@
 //! Worked rows: names, and the split of a script.
 use crate::rows::same_bytes;
 use script_read::read_script;
-use sem_laws::{CallLine, CallShape, export_name, import_name, split_script};
 use sem_words::{List, Text};
+use session_lang::{CallLine, CallShape, export_name, import_name, split_script};
 use std::alloc::AllocError;
 use std::test::Fail;
 

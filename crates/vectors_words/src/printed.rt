@@ -2,10 +2,10 @@
 ghost use Rattle.heap_lang.specs.Heap.{IsHeapLength};
 
 use heap_views::Heap;
-use script_print::observation_text;
-use script_seen::Seen;
-use sem_laws::{End, Event};
 use sem_words::{List, Text, TrapKind, Word};
+use session_lang::{End, Event};
+use session_print::observation_text;
+use session_replies::Seen;
 use std::alloc::{AllocError, Global};
 use std::test::Fail;
 

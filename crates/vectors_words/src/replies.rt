@@ -2,9 +2,9 @@
 use crate::rows::same_bytes;
 use heap_views::Heap;
 use script_read::{ScriptFault, read_script};
-use script_replies::{Answer, Replies, put_writes};
-use sem_laws::{End, Event, Script, WriteLine};
 use sem_words::{List, Text, Word};
+use session_lang::{End, Event, Script, WriteLine};
+use session_replies::{Answer, Replies, put_writes};
 use std::alloc::{AllocError, Global};
 use std::test::Fail;
 

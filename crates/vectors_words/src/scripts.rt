@@ -1,6 +1,6 @@
 //! Scripts that are written out.
 use script_read::{ScriptFault, read_script};
-use sem_laws::{CallLine, Reply, ReplyLine, Script, WriteLine};
+use session_lang::{CallLine, Reply, ReplyLine, Script, WriteLine};
 use std::test::Fail;
 
 fn is_write(write: &WriteLine, at: u64, bytes: &[u8], line: u64) -> bool {

@@ -5,8 +5,8 @@ use Rattle.std.proofs.lemmas.List.{append_assoc}
 use Rattle.asm_lang.specs.Modules.{Variable, Function, Table, Exports, many, Module}
 use Rattle.wasm_lang.specs.Modules.{WasmModule}
 use Rattle.wasm_lang_exec.specs.Reductions.{callees}
-use Rattle.wasm2js_code.specs.Modules.{helpers, functions_from, init_function, high_function, functions_of, stdlib_name, foreign_name, heap_name, variables_of, exports_of, translated}
-use Rattle.wasm2js_code.specs.Tables.{stubs, tables_for}
+use Rattle.wasm2js_translation.specs.Modules.{helpers, functions_from, init_function, high_function, functions_of, stdlib_name, foreign_name, heap_name, variables_of, exports_of, translated}
+use Rattle.wasm2js_translation.specs.Tables.{stubs, tables_for}
 use Rattle.wasm2js.specs.Parts.{first_functions, last_functions}
 
 in_turn : (old a b mid new : List Function) → mid ≡ old ++ a → new ≡ mid ++ b → new ≡ old ++ (a ++ b)

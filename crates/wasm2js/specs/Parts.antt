@@ -3,8 +3,8 @@ use Rattle.std.specs.Prelude.{List, [], ◌∷◌, ◌++◌}
 use Rattle.asm_lang.specs.Modules.{Function}
 use Rattle.wasm_lang.specs.Modules.{WasmModule}
 use Rattle.wasm_lang_exec.specs.Reductions.{callees}
-use Rattle.wasm2js_code.specs.Modules.{helpers, functions_from, init_function, high_function}
-use Rattle.wasm2js_code.specs.Tables.{stubs}
+use Rattle.wasm2js_translation.specs.Modules.{helpers, functions_from, init_function, high_function}
+use Rattle.wasm2js_translation.specs.Tables.{stubs}
 
 -- the helpers, and what stands for the source's functions
 unfoldable pub first_functions : WasmModule → List Function

@@ -1,8 +1,12 @@
 //! The translation of valid modules of WebAssembly to modules of asm.js.
 #![tactic(auto)]
 
+mod checking;
 mod memory;
 mod properties;
 mod translating;
 
-pub use translating::translate;
+pub use checking::translate;
+pub use translating::translate_module;
+pub use wasm_profile::{heap_for, profile};
+pub use wasm2js_tables::{Cell, MaskedTable, masked};

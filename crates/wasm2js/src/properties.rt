@@ -1,6 +1,6 @@
 //! What every translated module has.
 ghost use Rattle.std.specs.Prelude.{◌≡◌, None};
-ghost use Rattle.sem_laws.specs.Script.{ScriptPlain};
+ghost use Rattle.session_lang.specs.Script.{ScriptPlain};
 ghost use Rattle.asm_lang.specs.Heights.{IsWellFormed};
 ghost use Rattle.asm_lang_valid.specs.Refusal.{IsAccepted};
 ghost use Rattle.asm_lang_exec.specs.Fits.{misfit};
@@ -9,20 +9,22 @@ ghost use Rattle.wasm_lang_exec.specs.Fits as machine;
 ghost use Rattle.wasm2js_lang.specs.Heaps.{heap_bytes};
 ghost use Rattle.wasm2js_lang.specs.Calling.{IsCalledAs};
 ghost use Rattle.wasm2js_lang.specs.Allowed.{IsAllowed, IsBounded, TrapsAreCalls, script_for};
-ghost use Rattle.wasm2js_lang_parts.specs.Functions.{HasFunctions};
-ghost use Rattle.wasm2js_lang_parts.specs.Imports.{HasImports};
-ghost use Rattle.wasm2js_lang_parts.specs.Tables.{HasTables};
-ghost use Rattle.wasm2js_code.specs.Modules.{translated};
+ghost use Rattle.wasm2js_lang.specs.Helpers.{HasHelpers};
+ghost use Rattle.wasm2js_lang.specs.Parts.Functions.{HasFunctions};
+ghost use Rattle.wasm2js_lang.specs.Parts.Imports.{HasImports};
+ghost use Rattle.wasm2js_lang.specs.Parts.Tables.{HasTables};
+ghost use Rattle.wasm2js_translation.specs.Modules.{translated};
 
 use wasm_validate::Valid;
 use wasm2js_laws_acceptance::accepted_laws::acceptance;
 use wasm2js_laws_acceptance::called_laws::calling;
-use wasm2js_laws_parts::parts;
+use wasm2js_laws_acceptance::parts_laws::parts;
 use wasm2js_source::source;
 
 /// What a module is translated to is accepted and well formed, is called as asked, and takes each script of its source; its
 /// sessions show what those of the source show, where those trap it calls the trap import,
-/// and a reduction is worth at most 256 units. Its functions, tables and imports are those that are asked for.
+/// and a reduction is worth at most 256 units. Its functions, tables and imports are those that are asked for,
+/// and it has the helpers for words of 64 bits.
 pub(crate) fn properties(valid: &Valid<'_>)
     requires { outside_profile valid.now ≡ None }
     ensures accepted { IsAccepted (translated valid.now) }
@@ -35,11 +37,13 @@ pub(crate) fn properties(valid: &Valid<'_>)
     ensures functions { HasFunctions valid.now (translated valid.now) }
     ensures tables { HasTables valid.now (translated valid.now) }
     ensures imports { HasImports valid.now (translated valid.now) }
+    ensures helpers { HasHelpers valid.now (translated valid.now) }
 {
     acceptance();
     calling();
     parts();
     wasm2js_laws_simulation::whole_laws::translations();
     wasm2js_laws_simulation::bounded_laws::translations();
+    wasm2js_laws_simulation::helping_laws::wide_helpers();
     source(valid);
 }

@@ -1,7 +1,7 @@
 //! The whole module.
 ghost use Rattle.std.specs.Prelude.{◌≡◌, ◌∷◌, ◌++◌, [], None, Some, map, IfOk};
 ghost use Rattle.sem_words.specs.Lists.{list_items};
-ghost use Rattle.sem_laws.specs.Script.{ScriptPlain};
+ghost use Rattle.session_lang.specs.Script.{ScriptPlain};
 ghost use Rattle.asm_lang.specs.Heights.{IsWellFormed};
 ghost use Rattle.asm_lang_valid.specs.Refusal.{IsAccepted};
 ghost use Rattle.asm_lang_exec.specs.Fits.{misfit};
@@ -11,11 +11,12 @@ ghost use Rattle.wasm_lang_exec.specs.Fits as machine;
 ghost use Rattle.wasm2js_lang.specs.Heaps.{heap_bytes};
 ghost use Rattle.wasm2js_lang.specs.Calling.{IsCalledAs};
 ghost use Rattle.wasm2js_lang.specs.Allowed.{IsAllowed, IsBounded, TrapsAreCalls, script_for};
+ghost use Rattle.wasm2js_lang.specs.Helpers.{HasHelpers};
 ghost use Rattle.wasm2js_lang.specs.Tables as plain;
-ghost use Rattle.wasm2js_lang_parts.specs.Functions.{HasFunctions};
-ghost use Rattle.wasm2js_lang_parts.specs.Imports.{HasImports};
-ghost use Rattle.wasm2js_lang_parts.specs.Tables.{HasTables};
-ghost use Rattle.wasm2js_code.specs.Modules as code;
+ghost use Rattle.wasm2js_lang.specs.Parts.Functions.{HasFunctions};
+ghost use Rattle.wasm2js_lang.specs.Parts.Imports.{HasImports};
+ghost use Rattle.wasm2js_lang.specs.Parts.Tables.{HasTables};
+ghost use Rattle.wasm2js_translation.specs.Modules as code;
 ghost use Rattle.wasm2js_tables.specs.Views.{masked_view};
 ghost use Rattle.wasm2js.specs.Parts.{first_functions, last_functions};
 
@@ -31,10 +32,11 @@ use wasm2js_sections::{exports, high_function, init_function, variables};
 use wasm2js_stubs::{push_stubs, tables};
 use wasm2js_tables::{MaskedTable, masked};
 
-/// The module of asm.js for a valid module of WebAssembly that can be translated: it is accepted, some text says it, it is
+/// The tree of a module of asm.js for a valid module of WebAssembly that can be translated: it is accepted, some text says it, it is
 /// called as asked, and it takes each script that its source takes. With each of them the two show the same, and it calls the
-/// trap import exactly where its source traps. It has the functions, tables and imports that its source asks for, and no others.
-pub fn translate(alloc: Global, valid: &Valid<'_>) -> Result<Module, AllocError>
+/// trap import exactly where its source traps. It has the functions, tables and imports that its source asks for, and no others,
+/// and the helpers for words of 64 bits, by name and by what they do.
+pub fn translate_module(alloc: Global, valid: &Valid<'_>) -> Result<Module, AllocError>
     requires { outside_profile valid.now ≡ None }
     ensures exact { IfOk result (λ m. module_view m ≡ code.translated valid.now) }
     ensures accepted { IfOk result (λ m. IsAccepted (module_view m)) }
@@ -47,6 +49,7 @@ pub fn translate(alloc: Global, valid: &Valid<'_>) -> Result<Module, AllocError>
     ensures functions { IfOk result (λ m. HasFunctions valid.now (module_view m)) }
     ensures tables { IfOk result (λ m. HasTables valid.now (module_view m)) }
     ensures imports { IfOk result (λ m. HasImports valid.now (module_view m)) }
+    ensures helpers { IfOk result (λ m. HasHelpers valid.now (module_view m)) }
 {
     properties(valid);
     exactly(alloc, valid)

@@ -1,7 +1,7 @@
 -- Statements of actions one after another.
 use Rattle.std.proofs.Common.{◌≡◌, List, [], ◌∷◌, ◌++◌, refl, ap}
-use Rattle.wasm2js_words.specs.Words.{Simple, Action, statement, statements, simple_statement, simple_statements}
-use Rattle.wasm2js_code.specs.Pairs.{simples}
+use Rattle.wasm2js_translation.specs.Words.{Simple, Action, statement, statements, simple_statement, simple_statements}
+use Rattle.wasm2js_translation.specs.Pairs.{simples}
 
 pub statements-joined : (xs ys : List Action) → statements (xs ++ ys) ≡ statements xs ++ statements ys
 statements-joined [] ys = refl

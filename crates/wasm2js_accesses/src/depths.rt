@@ -1,7 +1,7 @@
 //! The variables of operands.
 ghost use Rattle.std.specs.Prelude.{◌≡◌};
-ghost use Rattle.wasm2js_code.specs.Pairs as pairs;
-ghost use Rattle.wasm2js_code.specs.Actions as code;
+ghost use Rattle.wasm2js_translation.specs.Pairs as pairs;
+ghost use Rattle.wasm2js_translation.specs.Actions as code;
 ghost use Rattle.wasm2js_nodes.specs.Names.{name_view};
 
 use split_words::operand_pair;

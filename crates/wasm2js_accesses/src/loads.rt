@@ -1,10 +1,10 @@
 //! Loads.
 ghost use Rattle.std.specs.Prelude.{◌≡◌, ◌+◌, ◌<◌, ◌^◌, [], ◌∷◌, ◌++◌, ◌==◌, if◌then◌else◌, false, IfOk};
-ghost use Rattle.wasm2js_words.specs.Names as names;
-ghost use Rattle.wasm2js_words.specs.Words as words;
-ghost use Rattle.wasm2js_words.specs.Words.{simple_statements, statements};
-ghost use Rattle.wasm2js_code.specs.Pairs as pairs;
-ghost use Rattle.wasm2js_code.specs.Actions as code;
+ghost use Rattle.wasm2js_translation.specs.Names as names;
+ghost use Rattle.wasm2js_translation.specs.Words as words;
+ghost use Rattle.wasm2js_translation.specs.Words.{simple_statements, statements};
+ghost use Rattle.wasm2js_translation.specs.Pairs as pairs;
+ghost use Rattle.wasm2js_translation.specs.Actions as code;
 ghost use Rattle.wasm2js_nodes.specs.Names.{name_view};
 ghost use Rattle.wasm2js_build.specs.Views.{term_view};
 ghost use Rattle.wasm2js_build.specs.Blocks.{statements_of};

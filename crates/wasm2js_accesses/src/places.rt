@@ -1,8 +1,8 @@
 //! Places in the memory.
 ghost use Rattle.std.specs.Prelude.{◌≡◌, ◌<◌, ◌^◌, [], ◌∷◌, ◌++◌, ◌==◌, if◌then◌else◌, IfOk};
 ghost use Rattle.asm_lang.specs.Modules as text;
-ghost use Rattle.wasm2js_words.specs.Words.{both, conjunction, expr, signed_number, stmts_in};
-ghost use Rattle.wasm2js_code.specs.Pairs as pairs;
+ghost use Rattle.wasm2js_translation.specs.Words.{both, conjunction, expr, signed_number, stmts_in};
+ghost use Rattle.wasm2js_translation.specs.Pairs as pairs;
 ghost use Rattle.wasm2js_build.specs.Views.{term_view};
 ghost use Rattle.wasm2js_build.specs.Blocks.{statements_of};
 

@@ -6,8 +6,8 @@ use Rattle.wasm_lang.specs.declared.types.GlobalType.{GlobalType}
 use Rattle.wasm_lang.specs.Instructions as flat
 use Rattle.wasm_lang.specs.Instructions.{Instruction, Plain, nop, drop_operand, select, local_get, local_set, local_tee, global_get, global_set, load, store, memory_size, memory_copy, memory_fill, const32, const64, eqz32, eqz64, rel32, rel64, un32, un64, bin32, bin64, wrap, extend_s, extend_u, sign_extend}
 use Rattle.wasm_lang_valid.specs.Typing.{Context}
-use Rattle.wasm2js_code.specs.Pairs.{simples, local_pair, global_pair, operand_pair}
-use Rattle.wasm2js_code.specs.Actions.{actions, under, moved_if, kind_in}
+use Rattle.wasm2js_translation.specs.Pairs.{simples, local_pair, global_pair, operand_pair}
+use Rattle.wasm2js_translation.specs.Actions.{actions, under, moved_if, kind_in}
 use Rattle.wasm2js_actions.specs.Scopes.{instruction_actions}
 
 pub same_actions : (bytes : ℕ) (c d : Context) (p : Plain) (b : ℕ) (s : List ValType) → c.locals ≡ d.locals → c.globals ≡ d.globals → actions bytes c p b s ≡ actions bytes d p b s

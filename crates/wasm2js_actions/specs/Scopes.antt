@@ -3,8 +3,8 @@ use Rattle.std.specs.Prelude.{◌≡◌, ℕ, false, List, [], None}
 use Rattle.wasm_lang.specs.declared.types.ValType.{ValType}
 use Rattle.wasm_lang.specs.Instructions.{Instruction, plain}
 use Rattle.wasm_lang_valid.specs.Typing.{Context}
-use Rattle.wasm2js_words.specs.Words.{Action}
-use Rattle.wasm2js_code.specs.Actions.{actions}
+use Rattle.wasm2js_translation.specs.Words.{Action}
+use Rattle.wasm2js_translation.specs.Actions.{actions}
 use Rattle.wasm2js_actions.specs.declared.plain.InstructionScope.{InstructionScope}
 
 -- a context has the types of these locals and globals

@@ -1,6 +1,6 @@
 //! Where the operands of an instruction stand.
 ghost use Rattle.std.specs.Prelude.{◌≡◌, ◌+◌, ◌<◌, ◌^◌, length, reverse, slice_get};
-ghost use Rattle.wasm2js_code.specs.Actions as code;
+ghost use Rattle.wasm2js_translation.specs.Actions as code;
 
 use wasm_lang::ValType;
 

@@ -2,11 +2,11 @@
 ghost use Rattle.std.specs.Prelude.{◌≡◌, [], ◌∷◌, ◌++◌, true, IfOk};
 ghost use Rattle.sem_words.specs.declared.word.Un.TheVariants as uns;
 ghost use Rattle.sem_words.specs.Words.{signed_of};
-ghost use Rattle.sem_laws.specs.Imports.{low_word, high_word};
-ghost use Rattle.wasm2js_words.specs.Words as words;
-ghost use Rattle.wasm2js_words.specs.Words.{simple_statements};
-ghost use Rattle.wasm2js_code.specs.Pairs as pairs;
-ghost use Rattle.wasm2js_code.specs.Actions as code;
+ghost use Rattle.session_lang.specs.Imports.{low_word, high_word};
+ghost use Rattle.wasm2js_translation.specs.Words as words;
+ghost use Rattle.wasm2js_translation.specs.Words.{simple_statements};
+ghost use Rattle.wasm2js_translation.specs.Pairs as pairs;
+ghost use Rattle.wasm2js_translation.specs.Actions as code;
 ghost use Rattle.wasm2js_nodes.specs.Names.{name_view, fixed_view};
 ghost use Rattle.wasm2js_build.specs.Views.{bit_view, relation_view, term_view};
 ghost use Rattle.wasm2js_build.specs.Blocks.{statements_of};

@@ -1,13 +1,14 @@
 //! Instructions by the numbers of their operands, of which the deepest stands above d others.
-ghost use Rattle.std.specs.Prelude.{◌≡◌, ◌+◌, ◌<◌, ◌^◌, ◌/◌, [], ◌∷◌, ◌++◌, true, IfOk};
+ghost use Rattle.std.specs.Prelude.{◌≡◌, ◌+◌, ◌<◌, ◌^◌, ◌/◌, [], ◌∷◌, ◌++◌, true, false, IfOk};
 ghost use Rattle.sem_words.specs.Words.{signed_of};
-ghost use Rattle.sem_laws.specs.Imports.{low_word, high_word};
+ghost use Rattle.session_lang.specs.Imports.{low_word, high_word};
+ghost use Rattle.wasm_lang_valid.specs.Measures.{is_mul_div};
 ghost use Rattle.wasm_lang_exec.specs.Store.{page};
-ghost use Rattle.wasm2js_words.specs.Words as words;
-ghost use Rattle.wasm2js_words.specs.Words.{simple_statements};
-ghost use Rattle.wasm2js_code.specs.Pairs as pairs;
-ghost use Rattle.wasm2js_code.specs.Wide as wide;
-ghost use Rattle.wasm2js_code.specs.Actions as code;
+ghost use Rattle.wasm2js_translation.specs.Words as words;
+ghost use Rattle.wasm2js_translation.specs.Words.{simple_statements};
+ghost use Rattle.wasm2js_translation.specs.Pairs as pairs;
+ghost use Rattle.wasm2js_translation.specs.Wide as wide;
+ghost use Rattle.wasm2js_translation.specs.Actions as code;
 ghost use Rattle.wasm2js_build.specs.Blocks.{statements_of};
 
 use crate::numeric::{
@@ -46,7 +47,8 @@ pub fn zero_at(block: &mut Block, d: u64) -> Result<(), AllocError>
 }
 
 pub fn wide_binary_at(block: &mut Block, op: Bin, d: u64) -> Result<(), AllocError>
-    requires { d + 1 < 2 ^ 64 }
+    requires there { d + 1 < 2 ^ 64 }
+    requires translated { is_mul_div op ≡ false }
     ensures { IfOk result (λ _. statements_of block.new ≡ statements_of block.old ++ simple_statements (wide.wide_binary op (pairs.operand_pair d) (pairs.operand_pair (d + 1)) (pairs.operand_pair d))) }
 {
     wide_binary(

@@ -1,8 +1,9 @@
 //! Each instruction.
-ghost use Rattle.std.specs.Prelude.{◌≡◌, ◌+◌, ◌<◌, ◌^◌, ◌++◌, length, reverse, IfOk};
+ghost use Rattle.std.specs.Prelude.{◌≡◌, ◌+◌, ◌<◌, ◌^◌, ◌++◌, false, length, reverse, IfOk};
+ghost use Rattle.wasm_lang_valid.specs.Measures.{is_wide_mul_div};
 ghost use Rattle.wasm_lang_valid.specs.Typing.{Context};
 ghost use Rattle.wasm_tree.specs.Views.{instr_of};
-ghost use Rattle.wasm2js_words.specs.Words.{statements};
+ghost use Rattle.wasm2js_translation.specs.Words.{statements};
 ghost use Rattle.wasm2js_build.specs.Blocks.{statements_of};
 ghost use Rattle.wasm2js_actions.specs.Scopes.{Suits, instruction_actions, least_context};
 
@@ -29,7 +30,7 @@ pub struct InstructionScope<'a> {
     pub globals: &'a [GlobalType],
 }
 
-/// The statements of one plain instruction; any other one has none. So many operands lie below those of the innermost block, whose types
+/// The statements of one plain instruction, which no product, quotient or remainder of words of 64 bits is; any other one has none. So many operands lie below those of the innermost block, whose types
 /// are the stack, the top last.
 pub fn instruction(
     alloc: Global,
@@ -39,7 +40,8 @@ pub fn instruction(
     below: u64,
     stack: &[ValType],
 ) -> Result<(), AllocError>
-    requires { below + length stack.now + 2 < 2 ^ 64 }
+    requires room { below + length stack.now + 2 < 2 ^ 64 }
+    requires translated { is_wide_mul_div (instr_of instr.now) ≡ false }
     ensures { (c : Context) → Suits scope.now c → IfOk result (λ _. statements_of block.new ≡ statements_of block.old ++ statements (instruction_actions scope.now.bytes c (instr_of instr.now) below (reverse stack.now))) }
 {
     plain_instruction(alloc, block, scope, instr, below, stack)
@@ -55,7 +57,8 @@ fn plain_instruction(
     below: u64,
     stack: &[ValType],
 ) -> Result<(), AllocError>
-    requires { below + length stack.now + 2 < 2 ^ 64 }
+    requires room { below + length stack.now + 2 < 2 ^ 64 }
+    requires translated { is_wide_mul_div (instr_of instr.now) ≡ false }
     ensures { IfOk result (λ _. statements_of block.new ≡ statements_of block.old ++ statements (instruction_actions scope.now.bytes (least_context scope.now) (instr_of instr.now) below (reverse stack.now))) }
 {
     let d0 = under(0, below, stack);

@@ -10,11 +10,11 @@ use Rattle.wasm_run_flat.specs.Jumps.{past_end, other_arm}
 use Rattle.wasm_run_flat.specs.Places.{code_at}
 use Rattle.wasm_run_flat.specs.declared.target.Target.TheVariants.{Past, Again}
 use Rattle.wasm_run_flat.proofs.Standing.{block_opens, loop_opens, first_arm_opens, second_arm_opens}
-use Rattle.wasm_laws_flat.proofs.Past.{past_block, past_loop, past_if}
+use Rattle.wasm_run_flat.proofs.Past.{past_block, past_loop, past_if}
 use Rattle.asm_lang.specs.Modules.{Stmt, breaks, if_else}
-use Rattle.wasm2js_code.specs.Helpers.{block_of}
-use Rattle.wasm2js_code.specs.Actions.{under}
-use Rattle.wasm2js_code.specs.Bodies.{Aim, past, again, stmts_of, comes_to_end, labels_round, under_label, endless, signed_word}
+use Rattle.wasm2js_translation.specs.Helpers.{block_of}
+use Rattle.wasm2js_translation.specs.Actions.{under}
+use Rattle.wasm2js_translation.specs.Bodies.{Aim, past, again, stmts_of, comes_to_end, labels_round, under_label, endless, signed_word}
 use Rattle.wasm2js_bodies.specs.Walks.{IsInside, size, GoesOn, IsOver}
 use Rattle.wasm2js_bodies.proofs.Steps.{goes_on}
 
@@ -22,16 +22,16 @@ use Rattle.wasm2js_bodies.proofs.Steps.{goes_on}
 
 module _ (body : List Instruction) (at : ℕ) (r : Option ValType) (s : IsInside body at) where
   pub inside_block : slice_get body at ≡ Some (flat.block r) → IsInside body (at + 1)
-  inside_block here = record { targets = Past (past_end body at) ∷ s.targets; stands = (block_opens body at s.targets r s.stands here).stands }
+  inside_block here = record { targets = Past (past_end body at) ∷ s.targets; stands = (block_opens body at s.targets r s.stands here).stands; translated = s.translated }
 
   pub inside_loop : slice_get body at ≡ Some (flat.loop r) → IsInside body (at + 1)
-  inside_loop here = record { targets = Again at ∷ s.targets; stands = (loop_opens body at s.targets r s.stands here).stands }
+  inside_loop here = record { targets = Again at ∷ s.targets; stands = (loop_opens body at s.targets r s.stands here).stands; translated = s.translated }
 
   pub inside_first : slice_get body at ≡ Some (flat.if_block r) → IsInside body (at + 1)
-  inside_first here = record { targets = Past (past_end body at) ∷ s.targets; stands = (first_arm_opens body at s.targets r s.stands here).stands }
+  inside_first here = record { targets = Past (past_end body at) ∷ s.targets; stands = (first_arm_opens body at s.targets r s.stands here).stands; translated = s.translated }
 
   pub inside_second : slice_get body at ≡ Some (flat.if_block r) → IsInside body (other_arm body at)
-  inside_second here = record { targets = Past (past_end body at) ∷ s.targets; stands = (second_arm_opens body at s.targets r s.stands here).stands }
+  inside_second here = record { targets = Past (past_end body at) ∷ s.targets; stands = (second_arm_opens body at s.targets r s.stands here).stands; translated = s.translated }
 
   pub block_smaller : slice_get body at ≡ Some (flat.block r) → size (code_at body (at + 1)) < size (code_at body at)
   block_smaller here =
@@ -70,7 +70,7 @@ module _ (bytes cells : ℕ) (c : Context) (body : List Instruction) (at : ℕ) 
       let is : inner ≡ stmts_of bytes cells c code (past d r ∷ ls) d [] = o.statements ∙ ap (λ (m : ℕ). stmts_of bytes cells c code (past m r ∷ ls) m []) base in
       subst (λ (vs : List ValType). GoesOn bytes cells c body at (past_end body at) ls b ts vs before after) (sym gives)
       (goes_on bytes cells c body at ls b ts before after (under_label (labels_round ls) (block_of (stmts_of bytes cells c code (past d r ∷ ls) d [])) ∷ [])
-      (listed r ++ ts) (past_end body at) s.targets (block r code) (past_block body at s.targets r s.stands here)
+      (listed r ++ ts) (past_end body at) s.targets (block r code) (past_block body at s.targets r s.stands here) s.translated
       (made ∙ ap (λ (ss : List Stmt). before ++ under_label (labels_round ls) (block_of ss) ∷ []) is)
       (λ is. refl) (λ is. refl))
 
@@ -85,7 +85,7 @@ module _ (bytes cells : ℕ) (c : Context) (body : List Instruction) (at : ℕ) 
       subst (λ (vs : List ValType). GoesOn bytes cells c body at (past_end body at) ls b ts vs before after) (sym gives)
       (goes_on bytes cells c body at ls b ts before after
       (under_label (labels_round ls) (endless (stmts_of bytes cells c code (again d ∷ ls) d [] ++ (if comes_to_end code then breaks None ∷ [] else []))) ∷ [])
-      (listed r ++ ts) (past_end body at) s.targets (loop r code) (past_loop body at s.targets r s.stands here)
+      (listed r ++ ts) (past_end body at) s.targets (loop r code) (past_loop body at s.targets r s.stands here) s.translated
       (made ∙ ap (λ (ss : List Stmt). before ++ under_label (labels_round ls) (endless (ss ++ (if reached then breaks None ∷ [] else []))) ∷ []) is
       ∙ ap (λ (e : Bool). before ++ under_label (labels_round ls) (endless (stmts_of bytes cells c code (again d ∷ ls) d [] ++ (if e then breaks None ∷ [] else []))) ∷ []) o.ending)
       (λ is. refl) (λ is. refl))
@@ -104,7 +104,7 @@ module _ (bytes cells : ℕ) (c : Context) (body : List Instruction) (at : ℕ) 
       subst (λ (vs : List ValType). GoesOn bytes cells c body at (past_end body at) ls b ts vs before after) (sym gives)
       (goes_on bytes cells c body at ls b ts before after
       (under_label (labels_round ls) (if_else (signed_word d) (block_of (stmts_of bytes cells c code (past d r ∷ ls) d [])) (block_of (stmts_of bytes cells c more (past d r ∷ ls) d []))) ∷ [])
-      (listed r ++ drop 1 ts) (past_end body at) s.targets (if_block r code more) (past_if body at s.targets r s.stands here)
+      (listed r ++ drop 1 ts) (past_end body at) s.targets (if_block r code more) (past_if body at s.targets r s.stands here) s.translated
       (made ∙ ap (λ (m : ℕ). before ++ under_label (labels_round ls) (if_else (signed_word m) (block_of inner) (block_of other)) ∷ []) base
       ∙ ap (λ (ss : List Stmt). before ++ under_label (labels_round ls) (if_else (signed_word d) (block_of ss) (block_of other)) ∷ []) is
       ∙ ap (λ (ss : List Stmt). before ++ under_label (labels_round ls) (if_else (signed_word d) (block_of (stmts_of bytes cells c code (past d r ∷ ls) d [])) (block_of ss)) ∷ []) are)

@@ -7,8 +7,8 @@ use Rattle.wasm_lang.specs.Instructions.{Instruction}
 use Rattle.wasm_lang_valid.specs.Typing.{Context, listed}
 use Rattle.wasm_run_flat.specs.Jumps.{past_end, other_arm}
 use Rattle.asm_lang.specs.Modules.{Stmt, breaks, if_else}
-use Rattle.wasm2js_code.specs.Helpers.{block_of}
-use Rattle.wasm2js_code.specs.Bodies.{Aim, past, again, labels_round, under_label, endless, signed_word}
+use Rattle.wasm2js_translation.specs.Helpers.{block_of}
+use Rattle.wasm2js_translation.specs.Bodies.{Aim, past, again, labels_round, under_label, endless, signed_word}
 use Rattle.wasm2js_operands.specs.Operands.{over}
 use Rattle.wasm2js_bodies.specs.Walks.{IsInside, GoesOn, IsOver}
 use Rattle.wasm2js_bodies.proofs.Blocks.{block_step, loop_step, if_step}

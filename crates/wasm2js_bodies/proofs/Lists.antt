@@ -4,7 +4,7 @@ use Rattle.std.specs.Prelude.{map, reverse}
 use Rattle.std.proofs.lemmas.List.{length-reverse, reverse-append}
 use Rattle.std.proofs.Math.ListN.{drop_of_length-le}
 use Rattle.wasm_lang.specs.declared.types.ValType.{ValType}
-use Rattle.wasm2js_code.specs.Actions.{under}
+use Rattle.wasm2js_translation.specs.Actions.{under}
 use Rattle.wasm2js_operands.specs.Operands.{over, IsKept}
 
 -- ---- operands

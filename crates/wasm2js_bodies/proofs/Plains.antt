@@ -1,20 +1,31 @@
 -- Plain instructions, and forms of types.
-use Rattle.std.proofs.Common.{◌≡◌, ℕ, ◌+◌, true, List, ◌++◌, Some, refl}
+use Rattle.std.proofs.Common.{◌≡◌, ℕ, zero, suc, ◌+◌, Bool, true, false, ◌||◌, List, [], ◌∷◌, ◌++◌, Some, refl, subst}
 use Rattle.std.specs.Prelude.{slice_get}
 use Rattle.wasm_lang.specs.declared.types.ValType.{ValType}
 use Rattle.wasm_lang.specs.Instructions as flat
 use Rattle.wasm_lang.specs.Instructions.{Instruction}
+use Rattle.wasm_lang_valid.specs.Measures.{is_wide_mul_div, has_mul_div}
 use Rattle.wasm_lang_valid.specs.Typing.{Context}
 use Rattle.wasm_lang_exec.specs.Code.{plain}
 use Rattle.asm_lang.specs.Modules.{Stmt}
-use Rattle.wasm2js_words.specs.Words.{statements}
-use Rattle.wasm2js_code.specs.Actions.{actions}
-use Rattle.wasm2js_code.specs.Bodies.{Aim, after_plain}
+use Rattle.wasm2js_translation.specs.Words.{statements}
+use Rattle.wasm2js_translation.specs.Actions.{actions}
+use Rattle.wasm2js_translation.specs.Bodies.{Aim, after_plain}
 use Rattle.wasm2js_actions.specs.Scopes.{instruction_actions}
 use Rattle.wasm2js_operands.specs.Scopes.{after}
 use Rattle.wasm2js_bodies.specs.Kinds.{is_plain}
 use Rattle.wasm2js_bodies.specs.Walks.{IsInside, GoesOn}
 use Rattle.wasm2js_bodies.proofs.Steps.{single_step}
+
+either_false : (a b : Bool) → (a || b) ≡ false → (a ≡ false) × (b ≡ false)
+either_false true b h = absurd (cc h)
+either_false false b h = (refl, h)
+
+-- each instruction of a body that has no other ones is translated
+pub is_translated : (body : List Instruction) (at : ℕ) (i : Instruction) → has_mul_div body ≡ false → slice_get body at ≡ Some i → is_wide_mul_div i ≡ false
+is_translated [] at i h here = absurd (cc here)
+is_translated (j ∷ js) zero i h here = let same : j ≡ i = cc here in subst (λ i. is_wide_mul_div i ≡ false) same (either_false (is_wide_mul_div j) (has_mul_div js) h).0
+is_translated (j ∷ js) (suc at) i h here = is_translated js at i (either_false (is_wide_mul_div j) (has_mul_div js) h).1 here
 
 pub plain_step : (bytes cells : ℕ) (c : Context) (body : List Instruction) (at place : ℕ) (ls : List Aim) (b : ℕ) (ts us : List ValType) (before made : List Stmt) (i : Instruction)
     → is_plain i ≡ true → IsInside body at → slice_get body at ≡ Some i → place ≡ at + 1

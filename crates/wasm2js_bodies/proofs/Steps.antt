@@ -4,6 +4,7 @@ use Rattle.std.specs.Prelude.{slice_get}
 use Rattle.wasm_lang.specs.declared.types.ValType.{ValType}
 use Rattle.wasm_lang.specs.Instructions as flat
 use Rattle.wasm_lang.specs.Instructions.{Instruction}
+use Rattle.wasm_lang_valid.specs.Measures.{has_mul_div}
 use Rattle.wasm_lang_valid.specs.Typing.{Context}
 use Rattle.wasm_lang_exec.specs.Code.{Tree, unreachable, block, loop, if_block, br, br_if, br_table, return, call, call_indirect, plain, Trees, ε, ◌▹◌}
 use Rattle.wasm_run_flat.specs.Places.{code_at, Stands}
@@ -12,7 +13,7 @@ use Rattle.wasm_run_flat.specs.Laws.{IsNext}
 use Rattle.wasm_run_flat.specs.declared.target.Target.{Target}
 use Rattle.wasm_run_flat.proofs.Standing.{single_goes_on, end_leaves, else_leaves, last_ends, else_stands_inside}
 use Rattle.asm_lang.specs.Modules.{Stmt}
-use Rattle.wasm2js_code.specs.Bodies.{Aim, stmts_of, comes_to_end}
+use Rattle.wasm2js_translation.specs.Bodies.{Aim, stmts_of, comes_to_end}
 use Rattle.wasm2js_bodies.specs.Walks.{IsInside, size, GoesOn, IsOver}
 
 pub falls : (x : Tree) (is : Trees) → size is < size (x ▹ is)
@@ -30,11 +31,11 @@ falls (plain p) is = omega arith
 
 module _ (bytes cells : ℕ) (c : Context) (body : List Instruction) (at : ℕ) (ls : List Aim) (b : ℕ) (ts : List ValType) (before after head : List Stmt) where
   -- what follows the instruction stands at `place`
-  pub goes_on : (us : List ValType) (place : ℕ) (targets : List Target) (x : Tree) → IsNext body at place targets x → after ≡ before ++ head
+  pub goes_on : (us : List ValType) (place : ℕ) (targets : List Target) (x : Tree) → IsNext body at place targets x → has_mul_div body ≡ false → after ≡ before ++ head
       → ((is : Trees) → stmts_of bytes cells c (x ▹ is) ls b ts ≡ head ++ stmts_of bytes cells c is ls b us)
       → ((is : Trees) → comes_to_end (x ▹ is) ≡ comes_to_end is)
       → GoesOn bytes cells c body at place ls b ts us before after
-  goes_on us place targets x n made first last =
+  goes_on us place targets x n translated made first last =
       let rest = code_at body place in
       let all : stmts_of bytes cells c (code_at body at) ls b ts ≡ head ++ stmts_of bytes cells c rest ls b us =
       ap (λ (is : Trees). stmts_of bytes cells c is ls b ts) n.code ∙ first rest in
@@ -44,7 +45,7 @@ module _ (bytes cells : ℕ) (c : Context) (body : List Instruction) (at : ℕ) 
             ∙ append_assoc before head (stmts_of bytes cells c rest ls b us)
             ∙ ap (λ (ss : List Stmt). before ++ ss) (sym all);
         ending = sym (ap comes_to_end n.code ∙ last rest);
-        inside = record { targets = targets; stands = n.stands };
+        inside = record { targets = targets; stands = n.stands; translated = translated };
         smaller = subst (λ (is : Trees). size rest < size is) (sym n.code) (falls x rest);
       }
 
@@ -56,7 +57,7 @@ module _ (bytes cells : ℕ) (c : Context) (body : List Instruction) (at : ℕ) 
   single_step place us vs i x s here same next made gives first last =
       subst (λ (q : ℕ). GoesOn bytes cells c body at q ls b ts us before after) (sym next)
       (subst (λ (ws : List ValType). GoesOn bytes cells c body at (at + 1) ls b ts ws before after) (sym gives)
-      (goes_on vs (at + 1) s.targets x (single_goes_on body at s.targets i x s.stands here same) made first last))
+      (goes_on vs (at + 1) s.targets x (single_goes_on body at s.targets i x s.stands here same) s.translated made first last))
 
   -- what follows the instruction isn't reached
   pub last_step : (i : Instruction) (x : Tree) → IsInside body at → slice_get body at ≡ Some i → single i ≡ Some x → after ≡ before ++ head

@@ -1,20 +1,21 @@
 -- The whole body.
-use Rattle.std.proofs.Common.{◌≡◌, ℕ, List, [], ◌∷◌, ◌++◌, Option, Some, None, refl, ap, ◌∙◌}
+use Rattle.std.proofs.Common.{◌≡◌, ℕ, false, List, [], ◌∷◌, ◌++◌, Option, Some, None, refl, ap, ◌∙◌}
 use Rattle.std.specs.Prelude.{IsSome}
 use Rattle.wasm_lang.specs.Instructions.{Instruction}
+use Rattle.wasm_lang_valid.specs.Measures.{has_mul_div}
 use Rattle.wasm_lang_valid.specs.Typing.{Context}
 use Rattle.wasm_lang_exec.specs.Code.{Trees, tree_of}
 use Rattle.wasm_run_flat.proofs.Standing.{tree_stands}
 use Rattle.asm_lang.specs.Modules.{Stmt}
-use Rattle.wasm2js_code.specs.Bodies.{out, stmts_of, closing, body_stmts}
+use Rattle.wasm2js_translation.specs.Bodies.{out, stmts_of, closing, body_stmts}
 use Rattle.wasm2js_bodies.specs.Walks.{IsInside}
 
-inside_if : (body : List Instruction) (found : Option Trees) → tree_of body ≡ found → IsSome found → IsInside body 0
-inside_if body None is some = cc
-inside_if body (Some tree) is some = record { targets = []; stands = (tree_stands body tree is).stands }
+inside_if : (body : List Instruction) (found : Option Trees) → has_mul_div body ≡ false → tree_of body ≡ found → IsSome found → IsInside body 0
+inside_if body None translated is some = cc
+inside_if body (Some tree) translated is some = record { targets = []; stands = (tree_stands body tree is).stands; translated = translated }
 
-pub begins_inside : (body : List Instruction) → IsSome (tree_of body) → IsInside body 0
-begins_inside body some = inside_if body (tree_of body) refl some
+pub begins_inside : (body : List Instruction) → IsSome (tree_of body) → has_mul_div body ≡ false → IsInside body 0
+begins_inside body some translated = inside_if body (tree_of body) translated refl some
 
 pub closed : (bytes cells : ℕ) (c : Context) (code tree : Trees) (none made all : List Stmt) → code ≡ tree → none ≡ []
     → made ≡ none ++ stmts_of bytes cells c code (out c.returns ∷ []) 0 [] → all ≡ made ++ closing bytes cells c c.returns

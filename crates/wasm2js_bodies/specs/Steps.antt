@@ -3,7 +3,7 @@ use Rattle.std.specs.Prelude.{ℕ, Bool, List}
 use Rattle.wasm_lang.specs.declared.types.ValType.{ValType}
 use Rattle.wasm_lang.specs.Instructions.{Instruction}
 use Rattle.asm_lang.specs.Modules.{Stmt}
-use Rattle.wasm2js_code.specs.Bodies.{Aim}
+use Rattle.wasm2js_translation.specs.Bodies.{Aim}
 use Rattle.wasm2js_operands.specs.Scopes.{context_in}
 use Rattle.wasm2js_bodies.specs.Walks.{GoesOn, IsOver}
 use Rattle.wasm2js_bodies.specs.declared.singles.Walk.{Walk}

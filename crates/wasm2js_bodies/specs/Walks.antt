@@ -1,18 +1,20 @@
 -- What one step of a walk over a flat body does.
-use Rattle.std.specs.Prelude.{◌≡◌, ◌<◌, ◌+◌, ◌++◌, ℕ, suc, Bool, List}
+use Rattle.std.specs.Prelude.{◌≡◌, ◌<◌, ◌+◌, ◌++◌, ℕ, suc, Bool, false, List}
 use Rattle.wasm_lang.specs.declared.types.ValType.{ValType}
 use Rattle.wasm_lang.specs.Instructions.{Instruction}
+use Rattle.wasm_lang_valid.specs.Measures.{has_mul_div}
 use Rattle.wasm_lang_valid.specs.Typing.{Context}
 use Rattle.wasm_lang_exec.specs.Code.{Trees, ε, ◌▹◌, block, loop, if_block}
 use Rattle.wasm_run_flat.specs.Places.{code_at, Stands}
 use Rattle.wasm_run_flat.specs.declared.target.Target.{Target}
 use Rattle.asm_lang.specs.Modules.{Stmt}
-use Rattle.wasm2js_code.specs.Bodies.{Aim, stmts_of, comes_to_end}
+use Rattle.wasm2js_translation.specs.Bodies.{Aim, stmts_of, comes_to_end}
 
--- code stands there, whatever blocks it stands in
+-- code stands there, whatever blocks it stands in, in a body whose instructions are translated
 pub record IsInside (body : List Instruction) (at : ℕ) : Type 0 where
   pub targets : List Target
   pub stands : Stands body at targets
+  pub translated : has_mul_div body ≡ false
 
 -- how many instructions
 abbrev pub size : Trees → ℕ

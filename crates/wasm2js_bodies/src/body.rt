@@ -1,8 +1,9 @@
 //! The whole body of a function.
-ghost use Rattle.std.specs.Prelude.{◌≡◌, ◌∷◌, [], ◌++◌, Some, IsSome, IfOk};
+ghost use Rattle.std.specs.Prelude.{◌≡◌, ◌∷◌, [], ◌++◌, false, Some, IsSome, IfOk};
+ghost use Rattle.wasm_lang_valid.specs.Measures.{has_mul_div};
 ghost use Rattle.wasm_lang_exec.specs.Code.{Trees, tree_of};
 ghost use Rattle.wasm_run_flat.specs.Places.{code_at};
-ghost use Rattle.wasm2js_code.specs.Bodies as bodies;
+ghost use Rattle.wasm2js_translation.specs.Bodies as bodies;
 ghost use Rattle.wasm2js_build.specs.Blocks.{statements_of};
 ghost use Rattle.wasm2js_operands.specs.Scopes.{context_in};
 ghost use Rattle.wasm2js_bodies.specs.Walks.{IsInside};
@@ -31,14 +32,15 @@ fn put_all(walk: &Walk<'_>, body: &Body, block: &mut Block) -> Result<(), AllocE
     Ok(())
 }
 
-/// The statements of the body of a function, which is an expression: its blocks are closed and it ends with its own end.
+/// The statements of the body of a function, which is an expression without products, quotients and remainders of words of 64 bits: its blocks are closed and it ends with its own end.
 pub fn body_statements(
     alloc: Global,
     sizes: Sizes,
     scope: &BodyScope<'_>,
     body: &Body,
 ) -> Result<Block, AllocError>
-    requires { IsSome (tree_of body.now) }
+    requires expression { IsSome (tree_of body.now) }
+    requires translated { has_mul_div body.now ≡ false }
     ensures { (tree : Trees) → tree_of body.now ≡ Some tree → IfOk result (λ block. statements_of block ≡ bodies.body_stmts sizes.bytes sizes.cells (context_in scope.now) tree) }
 {
     let walk = Walk {

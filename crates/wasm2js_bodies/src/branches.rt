@@ -1,9 +1,9 @@
 //! Branches and returns, with the operands of the innermost block.
 ghost use Rattle.std.specs.Prelude.{◌≡◌, ◌≤◌, ◌∷◌, [], ◌++◌, drop, vec_len, IfOk};
 ghost use Rattle.asm_lang.specs.Modules as plain;
-ghost use Rattle.wasm2js_code.specs.Actions as actions;
-ghost use Rattle.wasm2js_code.specs.Bodies as bodies;
-ghost use Rattle.wasm2js_code.specs.Helpers as helpers;
+ghost use Rattle.wasm2js_translation.specs.Actions as actions;
+ghost use Rattle.wasm2js_translation.specs.Bodies as bodies;
+ghost use Rattle.wasm2js_translation.specs.Helpers as helpers;
 ghost use Rattle.wasm2js_build.specs.Blocks.{statements_of};
 ghost use Rattle.wasm2js_jumps.specs.Aims.{aims_view};
 ghost use Rattle.wasm2js_operands.specs.Operands.{over, IsKept};

@@ -2,8 +2,8 @@
 ghost use Rattle.std.specs.Prelude.{◌≡◌, ◌≤◌, ◌∷◌, [], ◌++◌, ℕ, None, vec_len, IfOk, if◌then◌else◌};
 ghost use Rattle.asm_lang.specs.Modules as plain;
 ghost use Rattle.wasm_lang_valid.specs.Typing.{Context, listed};
-ghost use Rattle.wasm2js_code.specs.Bodies as bodies;
-ghost use Rattle.wasm2js_code.specs.Helpers as helpers;
+ghost use Rattle.wasm2js_translation.specs.Bodies as bodies;
+ghost use Rattle.wasm2js_translation.specs.Helpers as helpers;
 ghost use Rattle.wasm2js_build.specs.Blocks.{statements_of};
 ghost use Rattle.wasm2js_jumps.specs.Aims.{aim_view, aims_view};
 ghost use Rattle.wasm2js_operands.specs.Operands.{over, IsKept};

@@ -1,9 +1,10 @@
 //! The steps of a walk over a body, one instruction that opens no block each.
-ghost use Rattle.std.specs.Prelude.{◌≡◌, ◌≤◌, ◌+◌, ◌++◌, ◌⊎◌, ℕ, true, Some, List, slice_get, vec_len, IfOk};
+ghost use Rattle.std.specs.Prelude.{◌≡◌, ◌≤◌, ◌+◌, ◌++◌, ◌⊎◌, ℕ, true, false, Some, List, slice_get, vec_len, IfOk};
 ghost use Rattle.wasm_lang.specs.Instructions as flat;
+ghost use Rattle.wasm_lang_valid.specs.Measures.{is_wide_mul_div};
 ghost use Rattle.wasm_tree.specs.Views.{instr_of};
-ghost use Rattle.wasm2js_words.specs.Words as words;
-ghost use Rattle.wasm2js_code.specs.Bodies as bodies;
+ghost use Rattle.wasm2js_translation.specs.Words as words;
+ghost use Rattle.wasm2js_translation.specs.Bodies as bodies;
 ghost use Rattle.wasm2js_actions.specs.Scopes.{instruction_actions};
 ghost use Rattle.wasm2js_build.specs.Blocks.{statements_of};
 ghost use Rattle.wasm2js_jumps.specs.Aims.{aims_view};
@@ -56,7 +57,8 @@ fn put_instruction(
     instr: &Instr,
     block: &mut Block,
 ) -> Result<(), AllocError>
-    requires { base ≤ vec_len types.now }
+    requires there { base ≤ vec_len types.now }
+    requires translated { is_wide_mul_div (instr_of instr.now) ≡ false }
     ensures { IfOk result (λ _. statements_of block.new ≡ statements_of block.old ++ words.statements (instruction_actions walk.now.sizes.bytes (context_in walk.now.scope.now) (instr_of instr.now) base (over base types.now.items))) }
 {
     let scope = InstructionScope {

@@ -1,6 +1,6 @@
 -- How many terms a term is made of.
 use Rattle.std.proofs.Common.{ℕ, ◌+◌}
-use Rattle.wasm2js_words.specs.Words.{Term, Summands, read, number, both, flip, sum, product, zeros, compare, choose, byte, whole, no_more, further}
+use Rattle.wasm2js_translation.specs.Words.{Term, Summands, read, number, both, flip, sum, product, zeros, compare, choose, byte, whole, no_more, further}
 
 abbrev mutual
   pub size : Term → ℕ

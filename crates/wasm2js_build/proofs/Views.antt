@@ -2,8 +2,8 @@
 use Rattle.std.proofs.Common.{◌≡◌, Bool, false, sym, ap, ◌∙◌}
 use Rattle.std.specs.Prelude.{ℤ}
 use Rattle.std.specs.Borrow.{Bor}
-use Rattle.wasm2js_words.specs.Words as words
-use Rattle.wasm2js_words.specs.Words.{read, number, both, flip, sum, product, zeros, compare, choose, byte, whole, no_more, further}
+use Rattle.wasm2js_translation.specs.Words as words
+use Rattle.wasm2js_translation.specs.Words.{read, number, both, flip, sum, product, zeros, compare, choose, byte, whole, no_more, further}
 use Rattle.wasm2js_nodes.specs.declared.names.Name.{Name}
 use Rattle.wasm2js_build.specs.declared.terms.BitOp.{BitOp}
 use Rattle.wasm2js_build.specs.declared.terms.Relation.{Relation}

@@ -1,7 +1,7 @@
 -- What terms of the code say, as plain data.
 use Rattle.std.specs.Prelude.{false, List, map}
-use Rattle.wasm2js_words.specs.Words as words
-use Rattle.wasm2js_words.specs.Words.{no_more, further}
+use Rattle.wasm2js_translation.specs.Words as words
+use Rattle.wasm2js_translation.specs.Words.{no_more, further}
 use Rattle.wasm2js_nodes.specs.Names.{name_view}
 use Rattle.wasm2js_build.specs.declared.terms.BitOp.{BitOp}
 use Rattle.wasm2js_build.specs.declared.terms.BitOp.TheVariants as bits

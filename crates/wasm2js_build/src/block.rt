@@ -3,10 +3,10 @@ ghost use Rattle.std.specs.Prelude.{◌≡◌, [], ◌∷◌, ◌++◌, List, ma
 ghost use Rattle.sem_words.specs.Lists.{list_items};
 ghost use Rattle.asm_lang.specs.Modules as plain;
 ghost use Rattle.asm_tree.specs.Views.{expr_view, stmt_view, function_view};
-ghost use Rattle.wasm2js_words.specs.Names as names;
-ghost use Rattle.wasm2js_words.specs.Words as words;
-ghost use Rattle.wasm2js_words.specs.Words.{simple_statement, signed_number, expr as expr_for, int_of, stmts_in};
-ghost use Rattle.wasm2js_code.specs.Helpers as helpers;
+ghost use Rattle.wasm2js_translation.specs.Names as names;
+ghost use Rattle.wasm2js_translation.specs.Words as words;
+ghost use Rattle.wasm2js_translation.specs.Words.{simple_statement, signed_number, expr as expr_for, int_of, stmts_in};
+ghost use Rattle.wasm2js_translation.specs.Helpers as helpers;
 ghost use Rattle.wasm2js_nodes.specs.Names.{name_view, fixed_view};
 ghost use Rattle.wasm2js_build.specs.Views.{term_view, terms_view};
 ghost use Rattle.wasm2js_build.specs.Blocks.{statements_of};

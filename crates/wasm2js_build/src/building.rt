@@ -3,9 +3,9 @@ ghost use Rattle.std.specs.Prelude.{◌≡◌, true, false, IfOk};
 ghost use Rattle.sem_words.specs.Lists.{list_items};
 ghost use Rattle.asm_lang.specs.Modules as plain;
 ghost use Rattle.asm_tree.specs.Views.{expr_view, exprs_view, links_view};
-ghost use Rattle.wasm2js_words.specs.Names as plain_names;
-ghost use Rattle.wasm2js_words.specs.Names.{spelled};
-ghost use Rattle.wasm2js_words.specs.Words.{bit_operator, relation_operator, as_number, as_int, byte_view, name_of, indexed, arguments, expr as expr_for, int_of};
+ghost use Rattle.wasm2js_translation.specs.Names as plain_names;
+ghost use Rattle.wasm2js_translation.specs.Names.{spelled};
+ghost use Rattle.wasm2js_translation.specs.Words.{bit_operator, relation_operator, as_number, as_int, byte_view, name_of, indexed, arguments, expr as expr_for, int_of};
 ghost use Rattle.wasm2js_nodes.specs.Names.{name_view};
 ghost use Rattle.wasm2js_build.specs.Views.{bit_view, relation_view, term_view, terms_view};
 

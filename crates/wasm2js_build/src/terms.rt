@@ -1,8 +1,8 @@
 //! Terms over words of 32 bits, which stand on the machine's stack while a statement is built, and take no memory.
 ghost use Rattle.std.specs.Prelude.{◌≡◌, true, false};
-ghost use Rattle.wasm2js_words.specs.Words as words;
-ghost use Rattle.wasm2js_words.specs.Words.{no_more, further};
-ghost use Rattle.wasm2js_code.specs.Pairs as pairs;
+ghost use Rattle.wasm2js_translation.specs.Words as words;
+ghost use Rattle.wasm2js_translation.specs.Words.{no_more, further};
+ghost use Rattle.wasm2js_translation.specs.Pairs as pairs;
 ghost use Rattle.wasm2js_nodes.specs.Names.{name_view};
 ghost use Rattle.wasm2js_build.specs.Views.{bit_view, relation_view, term_view};
 

@@ -14,7 +14,7 @@ use Rattle.wasm_lang_valid.proofs.Main.{one_longer}
 use Rattle.wasm_lang_valid.specs.Measures.{same_type}
 use Rattle.wasm_validate_bodies.specs.Calls.{form}
 use Rattle.wasm_validate_bodies.proofs.Forms.{form_same, bool, type_is, type_self}
-use Rattle.wasm2js_code.specs.Bodies.{form_number}
+use Rattle.wasm2js_translation.specs.Bodies.{form_number}
 use Rattle.wasm2js_operands.specs.Forms.{form_numbers}
 
 -- ---- the map

@@ -6,12 +6,12 @@ use Rattle.std.specs.Prelude.{slice_get, option_map}
 use Rattle.wasm_lang.specs.declared.types.ImportKind.{ImportKind}
 use Rattle.wasm_lang.specs.declared.types.ImportKind.TheVariants as imports
 use Rattle.wasm_lang.specs.Modules.{FunctionType, Imported, FunctionBody, WasmModule}
-use Rattle.sem_laws.specs.Names.{import_name}
+use Rattle.session_lang.specs.Names.{import_name}
 use Rattle.wasm_lang_valid.specs.ModuleRules.{function_of, imported_functions, function_types}
 use Rattle.wasm_lang_exec.specs.Code.{tree_of}
 use Rattle.wasm_lang_exec.specs.Reductions.{Callee, an_import, if_function, imported_callee, imported_callees, own_callee, own_callees, callees}
 use Rattle.asm_lang.specs.Modules as text
-use Rattle.wasm2js_code.specs.Modules.{function_for, functions_from}
+use Rattle.wasm2js_translation.specs.Modules.{function_for, functions_from}
 use Rattle.wasm2js_functions.specs.Listing.{wrapper_for, wrappers_from, own_at, own_from}
 
 module _ (m : WasmModule) where

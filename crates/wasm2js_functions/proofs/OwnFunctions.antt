@@ -10,12 +10,12 @@ use Rattle.wasm_lang_valid.specs.Typing.{Context, result_of}
 use Rattle.wasm_lang_exec.specs.Code.{Trees, tree_of}
 use Rattle.wasm_lang_exec.specs.Reductions.{own_callee}
 use Rattle.asm_lang.specs.Modules as text
-use Rattle.wasm2js_words.specs.Names.{numbered, function}
-use Rattle.wasm2js_code.specs.Bodies.{body_stmts}
-use Rattle.wasm2js_code.specs.Helpers.{function_of}
-use Rattle.wasm2js_code.specs.Rooms.{body_room, declared_names}
-use Rattle.wasm2js_code.specs.Tables.{cell_count}
-use Rattle.wasm2js_code.specs.Modules.{param_names, context_of, own_function, function_for}
+use Rattle.wasm2js_translation.specs.Names.{numbered, function}
+use Rattle.wasm2js_translation.specs.Bodies.{body_stmts}
+use Rattle.wasm2js_translation.specs.Helpers.{function_of}
+use Rattle.wasm2js_translation.specs.Rooms.{body_room, declared_names}
+use Rattle.wasm2js_translation.specs.Tables.{cell_count}
+use Rattle.wasm2js_translation.specs.Modules.{param_names, context_of, own_function, function_for}
 use Rattle.wasm2js_functions.specs.Listing.{own_at}
 
 -- a context with these parts

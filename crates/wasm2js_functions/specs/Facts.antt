@@ -3,7 +3,7 @@ use Rattle.std.specs.Prelude.{◌≡◌, length}
 use Rattle.wasm_lang.specs.Modules.{WasmModule}
 use Rattle.wasm_lang_valid.specs.ModuleRules as rules
 use Rattle.wasm_lang_valid.specs.Profile.{memory_bytes}
-use Rattle.wasm2js_code.specs.Tables.{cell_count}
+use Rattle.wasm2js_translation.specs.Tables.{cell_count}
 use Rattle.wasm2js_operands.specs.Forms.{form_numbers}
 use Rattle.wasm2js_functions.specs.declared.facts.Facts.{Facts}
 

@@ -4,7 +4,7 @@ use Rattle.wasm_lang.specs.Modules.{FunctionType, FunctionBody, WasmModule}
 use Rattle.wasm_lang_exec.specs.Code.{tree_of}
 use Rattle.wasm_lang_exec.specs.Reductions.{own_callee}
 use Rattle.asm_lang.specs.Modules as text
-use Rattle.wasm2js_code.specs.Modules.{wrapper, function_for}
+use Rattle.wasm2js_translation.specs.Modules.{wrapper, function_for}
 
 abbrev pub wrapper_for : (k : ℕ) → Option FunctionType → List text.Function
 wrapper_for k None = []

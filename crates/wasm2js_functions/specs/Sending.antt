@@ -1,8 +1,8 @@
 -- What is sent of a variable: a signed number.
 use Rattle.asm_lang.specs.Modules.{Expr}
-use Rattle.wasm2js_words.specs.Names.{Name}
-use Rattle.wasm2js_words.specs.Words.{signed_number}
-use Rattle.wasm2js_code.specs.Bodies.{word_in}
+use Rattle.wasm2js_translation.specs.Names.{Name}
+use Rattle.wasm2js_translation.specs.Words.{signed_number}
+use Rattle.wasm2js_translation.specs.Bodies.{word_in}
 
 abbrev pub sent_word : Name → Expr
 sent_word n = signed_number (word_in n)

@@ -3,7 +3,7 @@ ghost use Rattle.std.specs.Prelude.{◌≡◌, ◌++◌, map, IfOk};
 ghost use Rattle.wasm_tree.specs.Views.{import_of, global_of, module_of};
 ghost use Rattle.wasm_lang_valid.specs.ModuleRules as rules;
 ghost use Rattle.wasm_lang_valid.specs.Profile as profile;
-ghost use Rattle.wasm2js_code.specs.Tables.{cell_count};
+ghost use Rattle.wasm2js_translation.specs.Tables.{cell_count};
 ghost use Rattle.wasm2js_functions.specs.Facts.{FactsOf};
 
 use crate::forms::forms_of;

@@ -1,11 +1,12 @@
 //! The list of functions.
-ghost use Rattle.std.specs.Prelude.{◌≡◌, ◌++◌, ◌∷◌, [], map, slice_get, IfOk};
+ghost use Rattle.std.specs.Prelude.{◌≡◌, ◌++◌, ◌∷◌, [], None, map, slice_get, IfOk};
 ghost use Rattle.sem_words.specs.Lists.{list_items};
 ghost use Rattle.asm_tree.specs.Views.{function_view};
 ghost use Rattle.wasm_tree.specs.Views.{module_of};
+ghost use Rattle.wasm_lang_valid.specs.Measures.{measures_of};
 ghost use Rattle.wasm_lang_valid.specs.Validity.{IsValidModule};
 ghost use Rattle.wasm_lang_exec.specs.Reductions.{callees};
-ghost use Rattle.wasm2js_code.specs.Modules as modules;
+ghost use Rattle.wasm2js_translation.specs.Modules as modules;
 ghost use Rattle.wasm2js_functions.specs.Facts.{FactsOf};
 ghost use Rattle.wasm2js_functions.specs.Listing.{wrapper_for, wrappers_from, own_at, own_from};
 
@@ -71,6 +72,7 @@ fn push_own(
 ) -> Result<(), AllocError>
     requires valid { IsValidModule (module_of «module».now) }
     requires facts { FactsOf facts.now (module_of «module».now) }
+    requires translated { (measures_of (module_of «module».now)).mul_div ≡ None }
     ensures { IfOk result (λ _. let m = module_of «module».now in map function_view (list_items functions.new) ≡ map function_view (list_items functions.old) ++ own_at m number (slice_get m.functions place) (slice_get m.bodies place)) }
 {
     let Some(type_number) = module.functions.get(place) else {
@@ -96,6 +98,7 @@ fn push_all_own(
 ) -> Result<(), AllocError>
     requires valid { IsValidModule (module_of «module».now) }
     requires facts { FactsOf facts.now (module_of «module».now) }
+    requires translated { (measures_of (module_of «module».now)).mul_div ≡ None }
     ensures { IfOk result (λ _. let m = module_of «module».now in map function_view (list_items functions.new) ≡ map function_view (list_items functions.old) ++ own_from m facts.now.imported m.functions m.bodies) }
 {
     for number in facts.imported..facts.functions.len() {
@@ -105,12 +108,13 @@ fn push_all_own(
     Ok(())
 }
 
-/// The functions of a valid module, the imported ones first.
+/// The functions of a valid module without products, quotients and remainders of words of 64 bits, the imported ones first.
 pub fn push_functions(
     alloc: Global,
     valid: &Valid<'_>,
     functions: &mut List<Function>,
 ) -> Result<(), AllocError>
+    requires { (measures_of valid.now).mul_div ≡ None }
     ensures { IfOk result (λ _. map function_view (list_items functions.new) ≡ map function_view (list_items functions.old) ++ modules.functions_from valid.now 0 (callees valid.now)) }
 {
     let module = valid.module();

@@ -1,14 +1,15 @@
 //! The functions that the module defines.
-ghost use Rattle.std.specs.Prelude.{◌≡◌, drop, length, Some, IsSome, IfOk};
+ghost use Rattle.std.specs.Prelude.{◌≡◌, false, drop, length, Some, IsSome, IfOk};
 ghost use Rattle.asm_tree.specs.Views.{function_view};
 ghost use Rattle.wasm_tree.specs.Views.{body_of, module_of, type_of};
+ghost use Rattle.wasm_lang_valid.specs.Measures.{has_mul_div};
 ghost use Rattle.wasm_lang_exec.specs.Code.{Trees, tree_of};
-ghost use Rattle.wasm2js_code.specs.Bodies.{body_stmts};
-ghost use Rattle.wasm2js_code.specs.Helpers.{function_of};
-ghost use Rattle.wasm2js_code.specs.Modules as modules;
-ghost use Rattle.wasm2js_code.specs.Rooms as rooms;
-ghost use Rattle.wasm2js_words.specs.Names as names;
-ghost use Rattle.wasm2js_words.specs.Names.{numbered};
+ghost use Rattle.wasm2js_translation.specs.Bodies.{body_stmts};
+ghost use Rattle.wasm2js_translation.specs.Helpers.{function_of};
+ghost use Rattle.wasm2js_translation.specs.Modules as modules;
+ghost use Rattle.wasm2js_translation.specs.Rooms as rooms;
+ghost use Rattle.wasm2js_translation.specs.Names as names;
+ghost use Rattle.wasm2js_translation.specs.Names.{numbered};
 ghost use Rattle.wasm2js_operands.specs.Scopes.{context_in};
 ghost use Rattle.wasm2js_functions.specs.Facts.{FactsOf};
 
@@ -34,7 +35,8 @@ fn function_in(
     params: &[ValType],
     body: &Body,
 ) -> Result<Function, AllocError>
-    requires { IsSome (tree_of body.now) }
+    requires expression { IsSome (tree_of body.now) }
+    requires translated { has_mul_div body.now ≡ false }
     ensures { IfOk result (λ f. (tree : Trees) → tree_of body.now ≡ Some tree
         → function_view f ≡ function_of (numbered names.function number) (modules.param_names 0 params.now) (rooms.declared_names (rooms.body_room (context_in scope.now) tree) (length params.now) (drop (length params.now) scope.now.locals.now)) (body_stmts sizes.bytes sizes.cells (context_in scope.now) tree)) }
 {
@@ -62,6 +64,7 @@ pub fn own_function(
 ) -> Result<Function, AllocError>
     requires facts { FactsOf facts.now (module_of «module».now) }
     requires expression { IsSome (tree_of (body_of body.now).code) }
+    requires translated { has_mul_div (body_of body.now).code ≡ false }
     ensures { IfOk result (λ f. (tree : Trees) → tree_of (body_of body.now).code ≡ Some tree → function_view f ≡ modules.own_function (module_of «module».now) number (type_of function_type.now) (body_of body.now).locals tree) }
 {
     let params = function_type.params.as_slice();

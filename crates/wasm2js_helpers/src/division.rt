@@ -3,9 +3,9 @@ ghost use Rattle.std.specs.Prelude.{◌≡◌, ◌++◌, ◌∷◌, [], List, ma
 ghost use Rattle.sem_words.specs.Lists.{list_items};
 ghost use Rattle.asm_lang.specs.Modules as plain;
 ghost use Rattle.asm_tree.specs.Views.{expr_view, stmt_view, function_view};
-ghost use Rattle.wasm2js_words.specs.Names as names;
-ghost use Rattle.wasm2js_words.specs.Words as words;
-ghost use Rattle.wasm2js_code.specs.Helpers as helpers;
+ghost use Rattle.wasm2js_translation.specs.Names as names;
+ghost use Rattle.wasm2js_translation.specs.Words as words;
+ghost use Rattle.wasm2js_translation.specs.Helpers as helpers;
 ghost use Rattle.wasm2js_helpers.specs.Pieces.{divide_signed_function, divide_function, remainder_signed_function, remainder_function};
 ghost use Rattle.wasm2js_nodes.specs.Names.{fixed_view};
 ghost use Rattle.wasm2js_build.specs.Blocks.{statements_of};

@@ -6,8 +6,8 @@ use Rattle.std.proofs.Math.Nat.{min-le_right, min-le_left, div-mul-le_self}
 use Rattle.sem_words.specs.Words.{signed_of}
 use Rattle.asm_lang.specs.Modules.{Expr, Stmt, switches, no_clauses, clauses}
 use Rattle.asm_tree.specs.Views.{clauses_in}
-use Rattle.wasm2js_words.specs.Words.{stmts_in}
-use Rattle.wasm2js_code.specs.Bodies.{cases, switches_from, by_index}
+use Rattle.wasm2js_translation.specs.Words.{stmts_in}
+use Rattle.wasm2js_translation.specs.Bodies.{cases, switches_from, by_index}
 use Rattle.wasm2js_jumps.specs.Clauses.{clause_for, case_list}
 
 pub cases_alone : (to : ℕ → List Stmt) (i : ℕ) (ks : List ℕ) → clauses_in (case_list to i ks) ≡ cases to i ks no_clauses

@@ -1,7 +1,7 @@
 -- What the branches of a body do, as plain data.
 use Rattle.std.specs.Prelude.{List, map, reverse}
-use Rattle.wasm2js_code.specs.Bodies as bodies
-use Rattle.wasm2js_code.specs.Bodies.{past, again, out}
+use Rattle.wasm2js_translation.specs.Bodies as bodies
+use Rattle.wasm2js_translation.specs.Bodies.{past, again, out}
 use Rattle.wasm2js_jumps.specs.declared.aims.Aim.{Aim}
 use Rattle.wasm2js_jumps.specs.declared.aims.Aim.TheVariants.{Past, Again, Out}
 

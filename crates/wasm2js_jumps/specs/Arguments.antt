@@ -3,8 +3,8 @@ use Rattle.std.specs.Prelude.{ℕ, suc, List, [], ◌∷◌, ◌++◌}
 use Rattle.wasm_lang.specs.declared.types.ValType.{ValType}
 use Rattle.wasm_lang.specs.declared.types.ValType.TheVariants.{I32, I64}
 use Rattle.asm_lang.specs.Modules.{Expr}
-use Rattle.wasm2js_code.specs.Pairs.{operand_pair}
-use Rattle.wasm2js_code.specs.Bodies.{word_in}
+use Rattle.wasm2js_translation.specs.Pairs.{operand_pair}
+use Rattle.wasm2js_translation.specs.Bodies.{word_in}
 
 -- the words of the operand of number d
 abbrev pub words_at : ℕ → ValType → List Expr

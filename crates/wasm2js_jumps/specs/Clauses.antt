@@ -3,7 +3,7 @@ use Rattle.std.specs.Prelude.{ℕ, suc, List, [], ◌∷◌, Option, Some, ℤ}
 use Rattle.sem_words.specs.Words.{signed_of}
 use Rattle.asm_lang.specs.Modules.{Stmt}
 use Rattle.asm_tree.specs.Views.{ClauseView}
-use Rattle.wasm2js_words.specs.Words.{stmts_in}
+use Rattle.wasm2js_translation.specs.Words.{stmts_in}
 
 abbrev pub clause_for : Option ℤ → List Stmt → ClauseView
 clause_for value body = record { value = value; body = stmts_in body }

@@ -1,7 +1,7 @@
 //! What branches do.
 ghost use Rattle.std.specs.Prelude.{◌≡◌, suc, drop, option_map, slice_get};
-ghost use Rattle.wasm2js_words.specs.Names.{numbered, label as label_kind};
-ghost use Rattle.wasm2js_code.specs.Bodies.{labels_round};
+ghost use Rattle.wasm2js_translation.specs.Names.{numbered, label as label_kind};
+ghost use Rattle.wasm2js_translation.specs.Bodies.{labels_round};
 ghost use Rattle.wasm2js_nodes.specs.Names.{name_view};
 ghost use Rattle.wasm2js_jumps.specs.Aims.{aim_view, aims_view};
 

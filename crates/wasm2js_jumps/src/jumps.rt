@@ -1,10 +1,10 @@
 //! Branches and returns.
 ghost use Rattle.std.specs.Prelude.{◌≡◌, ◌∷◌, [], ◌++◌, Some, slice_get, option_map, IfOk};
 ghost use Rattle.asm_lang.specs.Modules as plain;
-ghost use Rattle.wasm2js_code.specs.Bodies as bodies;
-ghost use Rattle.wasm2js_code.specs.Pairs.{moved, operand_pair};
-ghost use Rattle.wasm2js_words.specs.Names.{numbered, spelled};
-ghost use Rattle.wasm2js_words.specs.Words.{simple_statement, simple_statements, put, read};
+ghost use Rattle.wasm2js_translation.specs.Bodies as bodies;
+ghost use Rattle.wasm2js_translation.specs.Pairs.{moved, operand_pair};
+ghost use Rattle.wasm2js_translation.specs.Names.{numbered, spelled};
+ghost use Rattle.wasm2js_translation.specs.Words.{simple_statement, simple_statements, put, read};
 ghost use Rattle.wasm2js_nodes.specs.Names.{name_view, numbered_view};
 ghost use Rattle.wasm2js_build.specs.Blocks.{statements_of};
 ghost use Rattle.wasm2js_jumps.specs.Aims.{aim_view, aims_view};

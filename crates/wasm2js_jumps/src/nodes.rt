@@ -4,9 +4,9 @@ ghost use Rattle.sem_words.specs.Lists.{list_items};
 ghost use Rattle.sem_words.specs.declared.js_value.JsOp.TheVariants.{And};
 ghost use Rattle.asm_lang.specs.Modules as plain;
 ghost use Rattle.asm_tree.specs.Views.{expr_view, exprs_view, stmt_view, clauses_view};
-ghost use Rattle.wasm2js_words.specs.Names.{spelled};
-ghost use Rattle.wasm2js_code.specs.Helpers as helpers;
-ghost use Rattle.wasm2js_code.specs.Bodies as bodies;
+ghost use Rattle.wasm2js_translation.specs.Names.{spelled};
+ghost use Rattle.wasm2js_translation.specs.Helpers as helpers;
+ghost use Rattle.wasm2js_translation.specs.Bodies as bodies;
 ghost use Rattle.wasm2js_nodes.specs.Names.{name_view};
 ghost use Rattle.wasm2js_build.specs.Blocks.{statements_of};
 

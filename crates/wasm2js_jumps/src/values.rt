@@ -1,9 +1,9 @@
 //! Operands and results as they are read and given.
 ghost use Rattle.std.specs.Prelude.{◌≡◌, ◌∷◌, [], ◌++◌, IfOk};
 ghost use Rattle.asm_tree.specs.Views.{expr_view};
-ghost use Rattle.wasm2js_code.specs.Bodies as bodies;
-ghost use Rattle.wasm2js_code.specs.Pairs.{operand_pair};
-ghost use Rattle.wasm2js_words.specs.Words as words;
+ghost use Rattle.wasm2js_translation.specs.Bodies as bodies;
+ghost use Rattle.wasm2js_translation.specs.Pairs.{operand_pair};
+ghost use Rattle.wasm2js_translation.specs.Words as words;
 ghost use Rattle.wasm2js_build.specs.Blocks.{statements_of};
 
 use asm_tree::Expr;

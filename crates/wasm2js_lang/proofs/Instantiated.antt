@@ -75,5 +75,5 @@ same_length w h = own_length w.tables ∙ sym (ap (λ o. or_zero (or_else o (own
 pub entries_are_the_table : EntriesAreTheTable
 entries_are_the_table w s within =
     let rows = within_rows w within.within in
-    same_entries w w.segments w.elements 0 (first_store w s) (fine w within) rows.no_import
+    same_entries w w.segments w.elements 0 (first_store w s) (fine w within.valid) rows.no_import
     ∙ ap (λ k. with_elements w.elements (replicate k None)) (same_length w rows.no_table)

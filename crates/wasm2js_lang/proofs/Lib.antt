@@ -3,3 +3,4 @@ pub mod Lengths
 pub mod Masked
 pub mod Padded
 mod Traps
+mod Refused

@@ -16,7 +16,8 @@ use Rattle.wasm_lang_valid.specs.declared.section.Section.TheVariants as section
 use Rattle.wasm_lang_valid.specs.Measures.{measures_of}
 use Rattle.wasm_lang_valid.specs.ModuleRules.{meets, at, is_table, function_types, global_types, init_rule, element_rule, are_functions, is_end}
 use Rattle.wasm_lang_valid.specs.Runnable.{is_mutable, first_import, above, most_pages_to_run, pages, row_or}
-use Rattle.wasm_lang_valid.specs.Profile.{where_so, or_zero, wide_import, is_global_offset, constant_offset, passes, offset_from_import, segment_outside, table_length, memory_bytes, most_levels, too_many, params_past, names_past, size_past, most_functions, most_globals, most_slots, most_entries, most_cells, doubled, padded, outside_profile, IsInProfile}
+use Rattle.wasm_lang_valid.specs.Profile.{where_so, or_zero, wide_import, is_global_offset, constant_offset, passes, offset_from_import, segment_outside, table_length, memory_bytes, most_levels, too_many, params_past, names_past, size_past, most_functions, most_globals, most_slots, most_entries, most_cells, doubled, padded, outside_profile}
+use Rattle.wasm_lang_valid.specs.Validity.{IsValidModule}
 use Rattle.wasm_lang_exec.specs.Session.{replaced}
 use Rattle.wasm2js_lang.specs.Tables.{empty, cell, with_elements, entries_of}
 use Rattle.wasm2js_lang.specs.Laws.{CellsArePadded}
@@ -158,8 +159,8 @@ all_alike zero i x h = absurd (omega (arith, h))
 all_alike (suc n) zero x h = refl
 all_alike (suc n) (suc i) x h = all_alike n i x (omega (arith, h))
 
-pub fine : (w : WasmModule) → IsInProfile w → (i : ℕ) (e : ElementSegment) → slice_get w.elements i ≡ Some e → element_rule w e ≡ None
-fine w profile i e h = ap (λ o. at o (element_rule w)) (sym h) ∙ profile.valid sections.Elements i (within w.elements i e h)
+pub fine : (w : WasmModule) → IsValidModule w → (i : ℕ) (e : ElementSegment) → slice_get w.elements i ≡ Some e → element_rule w e ≡ None
+fine w valid i e h = ap (λ o. at o (element_rule w)) (sym h) ∙ valid sections.Elements i (within w.elements i e h)
   where
     within : {A : Type 0} → (xs : List A) (i : ℕ) (x : A) → slice_get xs i ≡ Some x → i < length xs
     within [] i x h = cc h
@@ -170,7 +171,7 @@ pub cells_are_padded : CellsArePadded
 cells_are_padded w t profile =
     let rows = within_rows w profile.within in
     let room = table_length w in
-    let entries = entries_kept w (memory_bytes w) w.segments w.elements room 0 (replicate room None) (length-replicate room None) (fine w profile) rows.no_import rows.all_inside in
+    let entries = entries_kept w (memory_bytes w) w.segments w.elements room 0 (replicate room None) (length-replicate room None) (fine w profile.valid) rows.no_import rows.all_inside in
     let front = length-map (entries_of w) (cell w t) ∙ entries in
     let enough = is_padded room (few_entries w rows.small) in
     record {

@@ -3,9 +3,9 @@ use Rattle.std.proofs.Common.{◌≡◌, ℕ, List, [], ◌∷◌, Option, Some,
 use Rattle.std.specs.List.{flat_map}
 use Rattle.sem_words.specs.declared.word.Word.{Word}
 use Rattle.sem_words.specs.declared.word.Word.TheVariants.{W32, W64}
-use Rattle.sem_laws.specs.Observation.{EndPlain, done, stopped, no_reply, trapped, trap_name, as_stop, ObservationPlain}
-use Rattle.sem_laws.specs.Simulation.{Session, IsSameAs, SourceBelowFrom, TargetBelowFrom, Sim}
-use Rattle.sem_laws.specs.CallingForms.{split_word, split_end, comparison_to_asm}
+use Rattle.session_lang.specs.Observation.{EndPlain, done, stopped, no_reply, trapped, trap_name, as_stop, ObservationPlain}
+use Rattle.session_lang.specs.Simulation.{Session, IsSameAs, SourceBelowFrom, TargetBelowFrom, Sim}
+use Rattle.session_lang.specs.CallingForms.{split_word, split_end, comparison_to_asm}
 use Rattle.wasm_lang.specs.Modules.{WasmModule}
 use Rattle.asm_lang.specs.Modules.{Module}
 use Rattle.wasm2js_lang.specs.Allowed.{comparison, source_session, target_session, IsAllowed, EndsInTrap, TrapsAreCalls}
@@ -78,6 +78,6 @@ module _ (first : List ℕ) (source target : Session) (sim : Sim (comparison_to_
 
 pub traps_are_calls : (w : WasmModule) (a : Module) → IsAllowed w a → TrapsAreCalls w a
 traps_are_calls w a allowed = record {
-  called = λ s bytes fits kind n h. called (comparison w a s).first_heap (source_session w s) (target_session w a s) (allowed.simulates s bytes fits) kind n h;
-  no_other = λ s bytes fits kind m h. no_other (comparison w a s).first_heap (source_session w s) (target_session w a s) (allowed.simulates s bytes fits) kind m h;
+  called = λ s fits kind n h. called (comparison w a s).first_heap (source_session w s) (target_session w a s) (allowed.simulates s fits) kind n h;
+  no_other = λ s fits kind m h. no_other (comparison w a s).first_heap (source_session w s) (target_session w a s) (allowed.simulates s fits) kind m h;
 }

@@ -2,10 +2,10 @@
 -- imports have the names of the other language, and a memory is a heap.
 use Rattle.std.specs.Prelude.{◌≡◌, ℕ, ◌+◌, Bool, true, false, List, [], ◌∷◌, map, Option, Some, None, codes, slice_get, option_map, if◌then◌else◌}
 use Rattle.std.specs.List.{AllByRecursion, flat_map, list_any}
-use Rattle.sem_laws.specs.Imports.{high_name}
-use Rattle.sem_laws.specs.Observation.{trap_name}
-use Rattle.sem_laws.specs.Names.{import_name, export_name}
-use Rattle.sem_laws.specs.CallingForms.{ShapePlain}
+use Rattle.session_lang.specs.Imports.{high_name}
+use Rattle.session_lang.specs.Observation.{trap_name}
+use Rattle.session_lang.specs.Names.{import_name, export_name}
+use Rattle.session_lang.specs.CallingForms.{ShapePlain}
 use Rattle.wasm_lang.specs.declared.types.ValType.{ValType}
 use Rattle.wasm_lang.specs.declared.types.ValType.TheVariants.{I32, I64}
 use Rattle.wasm_lang.specs.declared.types.ImportKind.{ImportKind}

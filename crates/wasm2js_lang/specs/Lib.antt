@@ -2,5 +2,9 @@ pub mod Heaps
 pub mod Tables
 pub mod Calling
 pub mod Allowed
-pub mod Laws
+pub mod Helpers
 pub mod Worked
+pub mod SplitWords
+pub mod Laws
+pub mod Parts
+pub mod RoundTrips

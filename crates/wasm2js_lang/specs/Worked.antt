@@ -1,17 +1,20 @@
--- A small module of WebAssembly, what is asked of one of asm.js that stands for it, and one that is called so.
+-- Small modules of WebAssembly, what is asked of those of asm.js that stand for them, and some of asm.js that are, or aren't, what is asked.
 use Rattle.std.specs.Prelude.{ℕ, true, false, List, [], ◌∷◌, Some, None, ℤ, pos, negsuc, codes, map}
-use Rattle.sem_laws.specs.Script.{CallPlain, ScriptPlain}
-use Rattle.sem_laws.specs.CallingForms.{ShapePlain}
+use Rattle.session_lang.specs.Script.{CallPlain, ScriptPlain}
+use Rattle.session_lang.specs.CallingForms.{ShapePlain}
 use Rattle.wasm_lang.specs.declared.types.ValType.{ValType}
 use Rattle.wasm_lang.specs.declared.types.ValType.TheVariants.{I32, I64}
 use Rattle.wasm_lang.specs.declared.types.ImportKind.TheVariants as imports
 use Rattle.wasm_lang.specs.declared.types.ExportKind.TheVariants as exports
-use Rattle.wasm_lang.specs.Instructions.{plain, const32, local_get, call_indirect, end_mark}
+use Rattle.sem_words.specs.declared.word.Bin.TheVariants.{Rotl}
+use Rattle.sem_words.specs.Words.{rotl_of}
+use Rattle.wasm_lang.specs.Instructions.{plain, const32, local_get, bin64, call_indirect, end_mark}
 use Rattle.wasm_lang.specs.Modules.{FunctionType, WasmModule}
-use Rattle.asm_lang.specs.Trees.{member}
+use Rattle.asm_lang.specs.Trees.{number, member}
 use Rattle.asm_lang.specs.Modules.{lit, Stmts, no_stmts, stmts, returns, Variable, Param, Function, Export, many, Module}
 use Rattle.wasm2js_lang.specs.Tables.{a_function, empty, other, MaskedTable}
 use Rattle.wasm2js_lang.specs.Calling.{Entry, entry}
+use Rattle.wasm2js_lang.specs.Helpers.{Helper, turning}
 
 abbrev pub type : List ValType → List ValType → FunctionType
 type params results = record { params = params; results = results }
@@ -83,24 +86,55 @@ parameter name = record { name = name; double = false }
 abbrev pub taking : List ℕ → List (List ℕ) → Stmts → Function
 taking name params body = record { name = name; params = map parameter params; locals = []; body = body }
 
--- `return 0;`
-abbrev pub gives_zero : Stmts
-gives_zero = stmts (returns (Some (lit (pos 0)))) no_stmts
+-- `return n;`
+abbrev pub giving : ℕ → Stmts
+giving n = stmts (returns (Some (lit (pos n)))) no_stmts
 
 abbrev pub exported_as : List ℕ → List ℕ → Export
 exported_as key function = record { key = key; function = function }
 
-abbrev pub small_text : Module
-small_text = record {
+-- .. where `$hi` gives this before any result of 64 bits
+abbrev pub small_text : (high : ℕ) → Module
+small_text high = record {
   name = None;
   params = codes "stdlib" ∷ codes "foreign" ∷ codes "heap" ∷ [];
   globals = foreign_function (codes "$trap") (codes "$trap") ∷ foreign_function (codes "$high") (codes "$high") ∷ foreign_function (codes "i0") (codes "p") ∷ [];
   functions =
-      taking (codes "f2") (codes "x0" ∷ codes "X0" ∷ codes "x1" ∷ []) gives_zero
-      ∷ taking (codes "f3") (codes "x0" ∷ []) gives_zero
+      taking (codes "f2") (codes "x0" ∷ codes "X0" ∷ codes "x1" ∷ []) (giving 0)
+      ∷ taking (codes "f3") (codes "x0" ∷ []) (giving 0)
       ∷ taking (codes "$init") [] no_stmts
-      ∷ taking (codes "$hi") [] gives_zero
+      ∷ taking (codes "$hi") [] (giving high)
       ∷ [];
   tables = [];
   exports = many (exported_as (codes "$init") (codes "$init") ∷ exported_as (codes "$hi") (codes "$hi") ∷ exported_as (codes "$x612d62") (codes "f2") ∷ exported_as (codes "c") (codes "f3") ∷ []);
+}
+
+-- ---- a rotation of 64 bits, and a module of asm.js with a helper for it that has this body
+
+abbrev pub rotating : WasmModule
+rotating = record {
+  types = type (I64 ∷ I64 ∷ []) (I64 ∷ []) ∷ [];
+  imports = [];
+  functions = 0 ∷ [];
+  tables = [];
+  memories = [];
+  globals = [];
+  exports = [];
+  start = None;
+  elements = [];
+  bodies = record { locals = []; code = plain (local_get 0) ∷ plain (local_get 1) ∷ plain (bin64 Rotl) ∷ end_mark ∷ [] } ∷ [];
+  segments = [];
+}
+
+abbrev pub rotation : Helper
+rotation = turning (codes "$rotl") rotl_of
+
+abbrev pub with_rotation : Stmts → Module
+with_rotation body = record {
+  name = None;
+  params = [];
+  globals = record { name = codes "$q"; init = number (pos 0) } ∷ [];
+  functions = taking (codes "$rotl") (codes "x0" ∷ codes "x1" ∷ codes "x2" ∷ []) body ∷ [];
+  tables = [];
+  exports = many [];
 }

@@ -1,6 +1,8 @@
 //! From WebAssembly to asm.js: what may be written for a module, said without any translation.
 #![tactic(auto)]
 
+pub mod parts;
+
 ghost use Rattle.std.specs.Prelude.{◌≡◌, ◌≤◌, ◌*◌, ◌∷◌, [], ℕ, true, codes};
 ghost use Rattle.wasm_lang.specs.Modules.{WasmModule};
 ghost use Rattle.wasm_lang_exec.specs.Store.{page};
@@ -10,7 +12,7 @@ ghost use Rattle.wasm2js_lang.specs.Heaps.{heap_for};
 ghost use Rattle.wasm2js_lang.specs.Tables.{masked};
 ghost use Rattle.wasm2js_lang.specs.Calling.{shapes_of, entries_asked, functions_asked, IsCalledAs};
 ghost use Rattle.wasm2js_lang.specs.Allowed.{script_for, IsAllowed, TrapsAreCalls};
-ghost use Rattle.wasm2js_lang.specs.Laws.{CalledTypesHaveTables, CellsAreOfEntries, CellsArePadded, EntriesAreTheTable};
+ghost use Rattle.wasm2js_lang.specs.Laws.{CalledTypesHaveTables, CellsAreOfEntries, CellsArePadded, EntriesAreTheTable, HighWordsBeginAsZero, EmptyHelpersAreRefused, IdleHelpersAreRefused};
 ghost use Rattle.wasm2js_lang.specs.Worked.{small, small_tables, small_shapes, small_entries, small_script, small_split, small_text};
 
 /// The heap of so many pages is the shortest that holds them.
@@ -46,5 +48,17 @@ pub fn small_module()
     ensures entries { entries_asked small ≡ small_entries }
     ensures functions { functions_asked small ≡ codes "p" ∷ [] }
     ensures script { script_for small small_script ≡ small_split }
-    ensures called { IsCalledAs small small_text }
+    ensures called { IsCalledAs small (small_text 0) }
+    ensures otherwise { IsCalledAs small (small_text 7) }
+{}
+
+/// A text whose `$hi` gives 7 before any result of 64 bits isn't allowed, though it is called as asked.
+pub fn early_high_word()
+    ensures { HighWordsBeginAsZero }
+{}
+
+/// A text whose rotation of 64 bits has no body, or gives 0, doesn't have the helpers.
+pub fn idle_rotation()
+    ensures empty { EmptyHelpersAreRefused }
+    ensures idle { IdleHelpersAreRefused }
 {}

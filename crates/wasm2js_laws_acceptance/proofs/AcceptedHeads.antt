@@ -9,9 +9,9 @@ use Rattle.std.proofs.lemmas.Int.{ints}
 use Rattle.std.proofs.lemmas.List.Elements.{recursion_from_All}
 use Rattle.sem_words.specs.Words.{signed_of}
 use Rattle.sem_words.proofs.WordLaws.{signed_of-fits_32}
-use Rattle.sem_laws.specs.Imports.{low_word, high_word}
-use Rattle.sem_laws.specs.Names.{import_name, export_name}
-use Rattle.sem_laws.proofs.NameLaws.{names_are_plain}
+use Rattle.session_lang.specs.Imports.{low_word, high_word}
+use Rattle.session_lang.specs.Names.{import_name, export_name}
+use Rattle.session_lang.proofs.NameLaws.{names_are_plain}
 use Rattle.wasm_lang.specs.declared.types.ImportKind.{ImportKind}
 use Rattle.wasm_lang.specs.declared.types.ImportKind.TheVariants as imports
 use Rattle.wasm_lang.specs.declared.types.ExportKind.{ExportKind}
@@ -27,10 +27,10 @@ use Rattle.asm_lang.specs.Modules.{Variable, Export, Module}
 use Rattle.asm_laws_print.specs.Fitting.{IsProperty, FitsNumber, FitsGlobal, FitsExport}
 use Rattle.asm_lang_valid.specs.Scope.{is_stdlib}
 use Rattle.asm_lang_valid.specs.Typed.{literal_fits, is_constant, member_fits, globals_typed}
-use Rattle.wasm2js_words.specs.Names as names
-use Rattle.wasm2js_words.specs.Names.{Name, numbered, fixed, global_low, global_high, foreign, function, init, last_high}
-use Rattle.wasm2js_laws_words.proofs.FineExprs.{is_identifier}
-use Rattle.wasm2js_code.specs.Modules.{foreign_name, view_variables, fixed_variables, foreign_variables, word_variable, given_variable, imported_variables, first_values, own_variables, global_variables, variables_of, export_for, exports_of, translated}
+use Rattle.wasm2js_translation.specs.Names as names
+use Rattle.wasm2js_translation.specs.Names.{Name, numbered, fixed, global_low, global_high, foreign, function, init, last_high}
+use Rattle.wasm2js_laws_terms.proofs.FineExprs.{is_identifier}
+use Rattle.wasm2js_translation.specs.Modules.{foreign_name, view_variables, fixed_variables, foreign_variables, word_variable, given_variable, imported_variables, first_values, own_variables, global_variables, variables_of, export_for, exports_of, translated}
 use Rattle.wasm2js_laws_typed.proofs.Facts.{signed_literal, low_fits, high_fits}
 use Rattle.wasm2js_laws_scripts.proofs.Names.{utf8_bytes}
 use Rattle.wasm2js_laws_acceptance.specs.FunctionsFunctions.{HasWord}

@@ -3,7 +3,7 @@ use Rattle.std.proofs.Common.{◌≡◌, ℕ, Bool, true, false, ◌&&◌, List,
 use Rattle.std.specs.Prelude.{bytes_eq, codes, not, nat_le, ◌==◌, ◌||◌, if◌then◌else◌}
 use Rattle.std.specs.List.{list_all}
 use Rattle.std.proofs.lemmas.Bool.{and_parts, and_from}
-use Rattle.sem_laws.specs.Names.{is_name_start, is_name_part, is_plain_name}
+use Rattle.session_lang.specs.Names.{is_name_start, is_name_part, is_plain_name}
 use Rattle.asm_lang_tokens.specs.Bytes.{begins_name, is_name_byte}
 use Rattle.asm_lang_tokens.specs.Forms.{name, kind_of, is_name, is_number, number, number_value, is_decimal, decimal, is_quoted, quoted, punctuator}
 use Rattle.asm_lang.specs.Lexemes.{identifier, Entry, class_in, reserved_words, class_of, is_word}

@@ -11,11 +11,11 @@ use Rattle.asm_laws_print.specs.Fitting.{AreNames, some_names, FitsTable}
 use Rattle.asm_lang_valid.specs.Scope.{Signature, module_meaning, function_signature}
 use Rattle.asm_lang_valid.specs.Typing.{same}
 use Rattle.asm_lang_valid.specs.Typed.{is_power_of_two, same_signature, all_alike, alike, table_typed, tables_typed}
-use Rattle.wasm2js_words.specs.Names.{numbered, table, spelled}
-use Rattle.wasm2js_laws_words.proofs.FineExprs.{is_identifier}
-use Rattle.wasm2js_laws_words.proofs.FineActions.{equal_self, same_self}
-use Rattle.wasm2js_code.specs.Modules.{translated}
-use Rattle.wasm2js_code.specs.Tables.{Cell, MaskedTable, masked, cell_count, cell_name, stub_of, table_for, tables_for}
+use Rattle.wasm2js_translation.specs.Names.{numbered, table, spelled}
+use Rattle.wasm2js_laws_terms.proofs.FineExprs.{is_identifier}
+use Rattle.wasm2js_laws_terms.proofs.FineActions.{equal_self, same_self}
+use Rattle.wasm2js_translation.specs.Modules.{translated}
+use Rattle.wasm2js_translation.specs.Tables.{Cell, MaskedTable, masked, cell_count, cell_name, stub_of, table_for, tables_for}
 use Rattle.wasm2js_laws_acceptance.proofs.ProvidedSizes.{some_cells}
 use Rattle.wasm2js_laws_acceptance.proofs.ProvidedTables.{members_are_alike}
 

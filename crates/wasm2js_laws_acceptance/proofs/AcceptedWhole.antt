@@ -15,9 +15,9 @@ use Rattle.asm_lang_valid.specs.LimitRows.{limit_rows}
 use Rattle.asm_lang_valid.specs.Refusal.{IsAccepted}
 use Rattle.asm_lang_valid.specs.Typed.{globals_typed, functions_typed, tables_typed, module_typed}
 use Rattle.asm_lang_valid.proofs.Agree.{iff, module_agrees}
-use Rattle.wasm2js_words.specs.Names.{fixed, init}
-use Rattle.wasm2js_code.specs.Modules.{segment_stmts, start_stmts, functions_of, variables_of, exports_of, translated}
-use Rattle.wasm2js_code.specs.Tables.{tables_for}
+use Rattle.wasm2js_translation.specs.Names.{fixed, init}
+use Rattle.wasm2js_translation.specs.Modules.{segment_stmts, start_stmts, functions_of, variables_of, exports_of, translated}
+use Rattle.wasm2js_translation.specs.Tables.{tables_for}
 use Rattle.wasm2js_laws_acceptance.proofs.ProvidedFunctions.{functions_are_provided}
 use Rattle.wasm2js_laws_acceptance.proofs.ProvidedWhole.{modules_provide}
 use Rattle.wasm2js_laws_acceptance.proofs.NamesWhole.{names_have_no_rows}

@@ -3,7 +3,7 @@ use Rattle.std.proofs.Common.{◌≡◌, ℕ, ◌+◌, Bool, true, false, not, L
 use Rattle.std.specs.Prelude.{slice_get, option_map, take, drop, codes}
 use Rattle.std.specs.List.{AllByRecursion, flat_map}
 use Rattle.std.proofs.lemmas.Option.{slice_get_within}
-use Rattle.sem_laws.specs.Names.{export_name}
+use Rattle.session_lang.specs.Names.{export_name}
 use Rattle.wasm_lang.specs.declared.types.ValType.{ValType}
 use Rattle.wasm_lang.specs.declared.types.ValType.TheVariants.{I32, I64}
 use Rattle.wasm_lang.specs.declared.types.ExportKind.{ExportKind}
@@ -22,9 +22,9 @@ use Rattle.asm_lang.specs.Modules.{Function, Export, Module}
 use Rattle.asm_lang_valid.specs.Scope.{Signature, signature_of, a_function, module_meaning}
 use Rattle.asm_lang_valid.specs.Refusal.{exported}
 use Rattle.wasm2js_lang.specs.Calling.{Callable, typed_as, exported_kind, Entry, words, has_result, entry_of, entries_asked, entry_at, entries_given}
-use Rattle.wasm2js_words.specs.Names.{numbered, function, fixed, init, last_high, spelled}
-use Rattle.wasm2js_code.specs.Modules.{set_bytes, set_words, set_run, to_word, segment_stmts, start_stmts, functions_from, init_function, high_function, helpers, export_for, translated}
-use Rattle.wasm2js_code.specs.Tables.{words_of, stubs}
+use Rattle.wasm2js_translation.specs.Names.{numbered, function, fixed, init, last_high, spelled}
+use Rattle.wasm2js_translation.specs.Modules.{set_bytes, set_words, set_run, to_word, segment_stmts, start_stmts, functions_from, init_function, high_function, helpers, export_for, translated}
+use Rattle.wasm2js_translation.specs.Tables.{words_of, stubs}
 use Rattle.wasm2js_laws_scopes.specs.Provided.{signature, signature_for}
 use Rattle.wasm2js_laws_acceptance.proofs.ProvidedEntries.{in_right}
 use Rattle.wasm2js_laws_acceptance.proofs.ProvidedFound.{function_found}

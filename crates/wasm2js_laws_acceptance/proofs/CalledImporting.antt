@@ -3,9 +3,9 @@ use Rattle.std.proofs.Common.{◌≡◌, ℕ, zero, suc, Bool, true, false, ◌|
 use Rattle.std.specs.Prelude.{slice_get, option_map, bytes_eq, if◌then◌else◌}
 use Rattle.std.specs.List.{AllByRecursion, flat_map}
 use Rattle.std.proofs.lemmas.List.{append_assoc, append-nil}
-use Rattle.sem_laws.specs.Imports.{high_name}
-use Rattle.sem_laws.specs.Observation.{trap_name}
-use Rattle.sem_laws.specs.Names.{import_name}
+use Rattle.session_lang.specs.Imports.{high_name}
+use Rattle.session_lang.specs.Observation.{trap_name}
+use Rattle.session_lang.specs.Names.{import_name}
 use Rattle.wasm_lang.specs.declared.types.ImportKind.{ImportKind}
 use Rattle.wasm_lang.specs.declared.types.ImportKind.TheVariants as imports
 use Rattle.wasm_lang.specs.Instructions.{Instruction, plain, const32, const64, global_get}
@@ -22,8 +22,8 @@ use Rattle.asm_lang_valid.specs.Scope.{is_foreign, init_meaning, a_foreign, an_o
 use Rattle.asm_lang_valid.specs.Refusal as text
 use Rattle.asm_lang_valid.specs.Refusal.{is_view, any_view, has_heap, with_global, foreign_globals}
 use Rattle.wasm2js_lang.specs.Calling.{if_function, functions_asked, globals_asked, function_member, foreign_functions, double_member, foreign_doubles, AreAmong}
-use Rattle.wasm2js_words.specs.Names.{Name, numbered, global_low}
-use Rattle.wasm2js_code.specs.Modules.{foreign_name, view_variables, fixed_variables, foreign_variables, given_variable, imported_variables, first_values, own_variables, global_variables, variables_of, translated}
+use Rattle.wasm2js_translation.specs.Names.{Name, numbered, global_low}
+use Rattle.wasm2js_translation.specs.Modules.{foreign_name, view_variables, fixed_variables, foreign_variables, given_variable, imported_variables, first_values, own_variables, global_variables, variables_of, translated}
 use Rattle.wasm2js_laws_acceptance.proofs.ProvidedEntries.{is_itself}
 use Rattle.wasm2js_laws_acceptance.proofs.ProvidedForeign.{HasType, type_there, is_less, imports_typed}
 use Rattle.wasm2js_laws_acceptance.proofs.NamesFresh.{all_join}

@@ -1,5 +1,5 @@
 -- A translated module is called as asked, so scripts fit it.
-use Rattle.wasm2js_code.specs.Modules.{translated}
+use Rattle.wasm2js_translation.specs.Modules.{translated}
 use Rattle.wasm2js_laws_scripts.proofs.Fitting.{scripts_fit}
 use Rattle.wasm2js_laws_scripts.proofs.Names.{shaped_exports_are_bytes}
 use Rattle.wasm2js_laws_acceptance.specs.CalledLaws.{TranslationsAreCalled, TranslationsFit}

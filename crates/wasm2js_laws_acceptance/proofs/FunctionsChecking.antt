@@ -20,15 +20,15 @@ use Rattle.asm_lang_valid.specs.Rows.{expr_count, stmt_count}
 use Rattle.asm_lang_valid.specs.LimitRows.{expr_marks}
 use Rattle.asm_lang_valid.specs.Typing.{Scope, Around, at_top, named, in_a_loop, literal_type, result_of, type_of, is_call}
 use Rattle.asm_lang_valid.specs.Typed.{scope_of}
-use Rattle.wasm2js_words.specs.Names.{Name, spelled}
-use Rattle.wasm2js_words.specs.Words.{Term, read, number, both, flip, sum, product, zeros, compare, choose, byte, whole, Summands, no_more, further, put, guard, write_byte, write_whole, expr, int_of, as_number, signed_number, simple_statement, trap_call, stmts_in}
-use Rattle.wasm2js_laws_words.specs.Sound.{IsInt, IsSound, AreSound, summands_length, some_summands, term_depth}
-use Rattle.wasm2js_laws_words.specs.Laws.{IsFineExpr, IsFine}
-use Rattle.wasm2js_laws_words.proofs.FineExprs.{is_typed_below, signed_fine, plain_fine}
-use Rattle.wasm2js_laws_words.proofs.FineTerms.{term_fine}
-use Rattle.wasm2js_laws_words.proofs.FineActions.{both_true, no_marks, both_marks, simple_fine, trap_fine}
-use Rattle.wasm2js_code.specs.Helpers.{zero_variable, function_of, block_of, when, repeat, gives, sets, first, second, spare}
-use Rattle.wasm2js_code.specs.Modules.{translated}
+use Rattle.wasm2js_translation.specs.Names.{Name, spelled}
+use Rattle.wasm2js_translation.specs.Words.{Term, read, number, both, flip, sum, product, zeros, compare, choose, byte, whole, Summands, no_more, further, put, guard, write_byte, write_whole, expr, int_of, as_number, signed_number, simple_statement, trap_call, stmts_in}
+use Rattle.wasm2js_laws_terms.specs.Sound.{IsInt, IsSound, AreSound, summands_length, some_summands, term_depth}
+use Rattle.wasm2js_laws_terms.specs.Laws.{IsFineExpr, IsFine}
+use Rattle.wasm2js_laws_terms.proofs.FineExprs.{is_typed_below, signed_fine, plain_fine}
+use Rattle.wasm2js_laws_terms.proofs.FineTerms.{term_fine}
+use Rattle.wasm2js_laws_terms.proofs.FineActions.{both_true, no_marks, both_marks, simple_fine, trap_fine}
+use Rattle.wasm2js_translation.specs.Helpers.{zero_variable, function_of, block_of, when, repeat, gives, sets, first, second, spare}
+use Rattle.wasm2js_translation.specs.Modules.{translated}
 use Rattle.wasm2js_laws_scopes.specs.Laws.{is_own}
 use Rattle.wasm2js_laws_scopes.specs.Provided.{AreInts, HasFixed, HasMemory}
 use Rattle.wasm2js_laws_scopes.proofs.Among.{Among, past_params, param_found, local_found}

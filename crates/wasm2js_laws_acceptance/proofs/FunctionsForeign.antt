@@ -5,7 +5,7 @@ use Rattle.std.specs.List.{AllByRecursion, list_all}
 use Rattle.std.proofs.lemmas.Bool.Decides.{nat_tests}
 use Rattle.std.proofs.lemmas.List.{append_assoc}
 use Rattle.std.proofs.lemmas.Option.{slice_get_within, slice_get-get_or}
-use Rattle.sem_laws.specs.Names.{import_name}
+use Rattle.session_lang.specs.Names.{import_name}
 use Rattle.wasm_lang.specs.declared.types.ImportKind.{ImportKind}
 use Rattle.wasm_lang.specs.declared.types.ImportKind.TheVariants as imports
 use Rattle.wasm_lang.specs.Modules.{FunctionType, Imported, FunctionBody, WasmModule}
@@ -20,12 +20,12 @@ use Rattle.asm_lang_valid.specs.Scope as scopes
 use Rattle.asm_lang_valid.specs.Scope.{is_in, Meaning, a_parameter, a_foreign, init_meaning, among_globals, among_functions, among_tables}
 use Rattle.asm_lang_valid.specs.Typing.{named}
 use Rattle.asm_lang_valid.specs.Typed.{scope_of}
-use Rattle.wasm2js_words.specs.Names as names
-use Rattle.wasm2js_words.specs.Names.{Name, Fixed, numbered, foreign, fixed, word, spelled}
-use Rattle.wasm2js_words.proofs.Spelling.{spellings_are_usable}
-use Rattle.wasm2js_code.specs.Helpers.{function_of}
-use Rattle.wasm2js_code.specs.Modules.{functions_of, stdlib_name, foreign_name, heap_name, view_variables, fixed_variables, foreign_variables, global_variables, variables_of, translated}
-use Rattle.wasm2js_code.specs.Tables.{tables_for}
+use Rattle.wasm2js_translation.specs.Names as names
+use Rattle.wasm2js_translation.specs.Names.{Name, Fixed, numbered, foreign, fixed, word, spelled}
+use Rattle.wasm2js_translation.proofs.Spelling.{spellings_are_usable}
+use Rattle.wasm2js_translation.specs.Helpers.{function_of}
+use Rattle.wasm2js_translation.specs.Modules.{functions_of, stdlib_name, foreign_name, heap_name, view_variables, fixed_variables, foreign_variables, global_variables, variables_of, translated}
+use Rattle.wasm2js_translation.specs.Tables.{tables_for}
 use Rattle.wasm2js_laws_scopes.specs.Laws.{is_own}
 use Rattle.wasm2js_laws_scopes.proofs.Among.{same_spelling, other_spelling}
 use Rattle.wasm2js_laws_scopes.proofs.Declared.{module_names_are_seen}

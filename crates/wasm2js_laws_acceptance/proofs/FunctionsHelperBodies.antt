@@ -9,13 +9,13 @@ use Rattle.wasm_lang_valid.specs.ModuleRules.{has_memory}
 use Rattle.wasm_lang_valid.specs.Profile.{or_zero, memory_bytes}
 use Rattle.wasm_lang_valid.specs.Runnable.{above, most_pages_to_run, pages}
 use Rattle.asm_lang.specs.Modules.{Function}
-use Rattle.wasm2js_words.specs.Names as names
-use Rattle.wasm2js_words.specs.Names.{fixed}
-use Rattle.wasm2js_words.specs.Words.{Term, conjunction, disjunction, shift_left, shift_right_signed, shift_right, equal, less, at_most, greater, both, read, number, zeros, compare, byte, whole}
-use Rattle.wasm2js_code.specs.Pairs.{literal, plus, minus, sign_of, funnel_left, funnel_right}
-use Rattle.wasm2js_code.specs.Actions.{low_ones, place}
-use Rattle.wasm2js_code.specs.Helpers.{argument, own, first, second, third, spare, one_argument, two_arguments, three_arguments, is_far, shift_left_function, shift_right_signed_function, shift_right_function, rotate_left_function, leading_zeros_function, trailing_zeros_function, set_bits_function, wide_helpers, division_helpers, word_at, access_helpers, is_whole, four_times, copy_function, fill_function, memory_helpers}
-use Rattle.wasm2js_code.specs.Modules.{helpers, translated}
+use Rattle.wasm2js_translation.specs.Names as names
+use Rattle.wasm2js_translation.specs.Names.{fixed}
+use Rattle.wasm2js_translation.specs.Words.{Term, conjunction, disjunction, shift_left, shift_right_signed, shift_right, equal, less, at_most, greater, both, read, number, zeros, compare, byte, whole}
+use Rattle.wasm2js_translation.specs.Pairs.{literal, plus, minus, sign_of, funnel_left, funnel_right}
+use Rattle.wasm2js_translation.specs.Actions.{low_ones, place}
+use Rattle.wasm2js_translation.specs.Helpers.{argument, own, first, second, third, spare, one_argument, two_arguments, three_arguments, is_far, shift_left_function, shift_right_signed_function, shift_right_function, rotate_left_function, leading_zeros_function, trailing_zeros_function, set_bits_function, wide_helpers, division_helpers, word_at, access_helpers, is_whole, four_times, copy_function, fill_function, memory_helpers}
+use Rattle.wasm2js_translation.specs.Modules.{helpers, translated}
 use Rattle.wasm2js_laws_acceptance.specs.FunctionsFunctions.{IsFineFunction, of_trap, IsSource}
 use Rattle.wasm2js_laws_acceptance.specs.FunctionsLaws.{HelpersAreFine}
 use Rattle.wasm2js_laws_acceptance.proofs.FunctionsLimited.{at_most as no_more, limited}

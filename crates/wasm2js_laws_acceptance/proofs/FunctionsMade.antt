@@ -9,11 +9,11 @@ use Rattle.asm_lang_valid.specs.Typing.{at_top, all_typed}
 use Rattle.asm_lang_valid.specs.Typed.{scope_of, locals_typed}
 use Rattle.asm_lang_valid.specs.LimitRows as limits
 use Rattle.asm_lang_valid.specs.LimitRows.{ForeignCall, Mark, a_row, a_use, stmts_marks}
-use Rattle.wasm2js_words.specs.Names.{Name}
-use Rattle.wasm2js_words.specs.Words.{stmts_in}
-use Rattle.wasm2js_laws_words.specs.Laws.{IsTrapUse, AreFine}
-use Rattle.wasm2js_laws_words.proofs.FineExprs.{is_identifier}
-use Rattle.wasm2js_code.specs.Helpers.{int_param, zero_variable, function_of}
+use Rattle.wasm2js_translation.specs.Names.{Name}
+use Rattle.wasm2js_translation.specs.Words.{stmts_in}
+use Rattle.wasm2js_laws_terms.specs.Laws.{IsTrapUse, AreFine}
+use Rattle.wasm2js_laws_terms.proofs.FineExprs.{is_identifier}
+use Rattle.wasm2js_translation.specs.Helpers.{int_param, zero_variable, function_of}
 use Rattle.wasm2js_laws_acceptance.specs.FunctionsFunctions.{IsUse, of_trap, IsFineFunction}
 
 -- ---- variables

@@ -20,12 +20,12 @@ use Rattle.asm_lang.specs.Modules.{Function}
 use Rattle.asm_lang_valid.specs.Typing as target
 use Rattle.asm_lang_valid.specs.Typing.{Scope, Around, at_top}
 use Rattle.asm_lang_valid.specs.Typed.{scope_of}
-use Rattle.wasm2js_words.specs.Names.{numbered, function}
-use Rattle.wasm2js_code.specs.Actions.{under}
-use Rattle.wasm2js_code.specs.Bodies.{out, leave_with, stmts_of, closing, body_stmts}
-use Rattle.wasm2js_code.specs.Modules.{param_names, context_of, own_function, translated}
-use Rattle.wasm2js_code.specs.Rooms.{Room, here, room_of, body_room, local_names, operand_names, declared_names}
-use Rattle.wasm2js_code.specs.Tables.{cell_count}
+use Rattle.wasm2js_translation.specs.Names.{numbered, function}
+use Rattle.wasm2js_translation.specs.Actions.{under}
+use Rattle.wasm2js_translation.specs.Bodies.{out, leave_with, stmts_of, closing, body_stmts}
+use Rattle.wasm2js_translation.specs.Modules.{param_names, context_of, own_function, translated}
+use Rattle.wasm2js_translation.specs.Rooms.{Room, here, room_of, body_room, local_names, operand_names, declared_names}
+use Rattle.wasm2js_translation.specs.Tables.{cell_count}
 use Rattle.wasm2js_laws_scopes.specs.Provided.{HasRoom}
 use Rattle.wasm2js_laws_scopes.proofs.Declared.{room_is_declared}
 use Rattle.wasm2js_laws_typed.specs.Constructs.{AllFine}

@@ -5,10 +5,10 @@ use Rattle.asm_types.specs.declared.value_type.ValueType.TheVariants.{Fixnum, Si
 use Rattle.asm_lang.specs.Modules.{Expr, returns}
 use Rattle.asm_lang_valid.specs.Typing.{Scope, Around, result_of}
 use Rattle.asm_lang_valid.specs.LimitRows.{ForeignCall, Mark, expr_marks}
-use Rattle.wasm2js_words.specs.Words.{natural}
-use Rattle.wasm2js_laws_words.specs.Laws.{IsFineExpr, IsFine}
-use Rattle.wasm2js_laws_words.proofs.FineExprs.{is_typed_below}
-use Rattle.wasm2js_laws_words.proofs.FineActions.{both_true, no_marks}
+use Rattle.wasm2js_translation.specs.Words.{natural}
+use Rattle.wasm2js_laws_terms.specs.Laws.{IsFineExpr, IsFine}
+use Rattle.wasm2js_laws_terms.proofs.FineExprs.{is_typed_below}
+use Rattle.wasm2js_laws_terms.proofs.FineActions.{both_true, no_marks}
 use Rattle.wasm2js_laws_acceptance.specs.FunctionsFunctions.{IsUse}
 
 -- ---- returns

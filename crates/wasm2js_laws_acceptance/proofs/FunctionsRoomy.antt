@@ -15,11 +15,11 @@ use Rattle.wasm_lang_valid.specs.Typing.{Context, Shape, Fixed, Leaves, AnyOne, 
 use Rattle.wasm_lang_exec.specs.Code.{unreachable, block, loop, if_block, br, br_if, br_table, return, call, call_indirect, plain, Trees, ε, ◌▹◌}
 use Rattle.wasm_laws_sound.specs.Trees.{IsTyped}
 use Rattle.wasm_laws_widths.specs.Depth.{in_further, depth}
-use Rattle.wasm2js_code.specs.Pairs.{Pair, names_of, local_pair, operand_pair}
-use Rattle.wasm2js_code.specs.Actions.{under}
-use Rattle.wasm2js_code.specs.Bodies.{after_form, after_plain, types_after_call}
-use Rattle.wasm2js_code.specs.Modules.{param_names}
-use Rattle.wasm2js_code.specs.Rooms.{wide_from, room_of, local_names, operand_names}
+use Rattle.wasm2js_translation.specs.Pairs.{Pair, names_of, local_pair, operand_pair}
+use Rattle.wasm2js_translation.specs.Actions.{under}
+use Rattle.wasm2js_translation.specs.Bodies.{after_form, after_plain, types_after_call}
+use Rattle.wasm2js_translation.specs.Modules.{param_names}
+use Rattle.wasm2js_translation.specs.Rooms.{wide_from, room_of, local_names, operand_names}
 use Rattle.wasm2js_laws_typed.proofs.SoundPlain.{of_fixed, under_none}
 use Rattle.wasm2js_laws_typed.proofs.TypedShapes.{same_shape, GoesOn, plain_goes_on, plain_after}
 

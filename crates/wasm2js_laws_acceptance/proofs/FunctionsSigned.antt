@@ -8,9 +8,9 @@ use Rattle.wasm_lang_valid.specs.Typing.{Context, listed, result_of as type_resu
 use Rattle.wasm_lang_exec.specs.Code.{unreachable, block, loop, if_block, br, br_if, br_table, return, call, call_indirect, plain, Trees, ε, ◌▹◌}
 use Rattle.asm_lang.specs.Modules.{Expr, Stmt, returns}
 use Rattle.asm_lang_valid.specs.Scope.{gives_value, last_gives_value}
-use Rattle.wasm2js_words.specs.Words.{Simple, put, ask, tell, guard, stop, write_byte, write_whole, Action, simply, either, simple_statement, statements, stmts_in}
-use Rattle.wasm2js_code.specs.Actions.{actions}
-use Rattle.wasm2js_code.specs.Bodies.{out, signed_word, leave_with, jump, switches_from, answered, call_stmts, indirect_stmts, types_after_call, after_plain, stmts_of, closing, body_stmts}
+use Rattle.wasm2js_translation.specs.Words.{Simple, put, ask, tell, guard, stop, write_byte, write_whole, Action, simply, either, simple_statement, statements, stmts_in}
+use Rattle.wasm2js_translation.specs.Actions.{actions}
+use Rattle.wasm2js_translation.specs.Bodies.{out, signed_word, leave_with, jump, switches_from, answered, call_stmts, indirect_stmts, types_after_call, after_plain, stmts_of, closing, body_stmts}
 
 -- ---- the last statement
 

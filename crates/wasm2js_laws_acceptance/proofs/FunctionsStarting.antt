@@ -27,12 +27,12 @@ use Rattle.asm_lang_valid.specs.declared.meaning.Element.TheVariants.{Uint8, Int
 use Rattle.asm_lang_valid.specs.Scope.{a_view, shift_of, Signature, last_gives_value}
 use Rattle.asm_lang_valid.specs.Typing.{Scope, Around, at_top, named, literal_type, index_fits, type_of as expr_type}
 use Rattle.asm_lang_valid.specs.Typed.{scope_of}
-use Rattle.wasm2js_words.specs.Names.{Fixed, numbered, function, fixed, init, view_of_bytes, view_of_words}
-use Rattle.wasm2js_words.specs.Words.{name_of}
-use Rattle.wasm2js_laws_words.specs.Laws.{IsFineExpr, IsFine}
-use Rattle.wasm2js_laws_words.proofs.FineExprs.{is_identifier, is_typed_below, intish, literal_fine}
-use Rattle.wasm2js_laws_words.proofs.FineActions.{both_true, no_marks}
-use Rattle.wasm2js_code.specs.Modules.{set_byte, set_word, set_bytes, set_words, to_word, set_run, segment_stmts, start_stmts, init_function, translated}
+use Rattle.wasm2js_translation.specs.Names.{Fixed, numbered, function, fixed, init, view_of_bytes, view_of_words}
+use Rattle.wasm2js_translation.specs.Words.{name_of}
+use Rattle.wasm2js_laws_terms.specs.Laws.{IsFineExpr, IsFine}
+use Rattle.wasm2js_laws_terms.proofs.FineExprs.{is_identifier, is_typed_below, intish, literal_fine}
+use Rattle.wasm2js_laws_terms.proofs.FineActions.{both_true, no_marks}
+use Rattle.wasm2js_translation.specs.Modules.{set_byte, set_word, set_bytes, set_words, to_word, set_run, segment_stmts, start_stmts, init_function, translated}
 use Rattle.wasm2js_laws_scopes.specs.Provided.{HasMemory, IsFunction, signature_for}
 use Rattle.wasm2js_laws_scopes.proofs.HeadNames.{memories_are_provided}
 use Rattle.wasm2js_laws_typed.specs.Constructs.{AllFine}

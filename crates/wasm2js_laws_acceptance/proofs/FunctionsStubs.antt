@@ -7,13 +7,13 @@ use Rattle.wasm_lang.specs.Modules.{WasmModule}
 use Rattle.asm_lang.specs.Modules.{Stmt, Function, returns}
 use Rattle.asm_lang_valid.specs.Typing.{Scope, at_top}
 use Rattle.asm_lang_valid.specs.Typed.{scope_of}
-use Rattle.wasm2js_words.specs.Names.{Name, numbered, fixed, last_high}
-use Rattle.wasm2js_words.specs.Words.{natural, signed_number, trap_call}
-use Rattle.wasm2js_laws_words.proofs.FineExprs.{intish, variable_fine, signed_fine}
-use Rattle.wasm2js_laws_words.proofs.FineActions.{trap_fine}
-use Rattle.wasm2js_code.specs.Bodies.{word_in, high_result}
-use Rattle.wasm2js_code.specs.Helpers.{argument, function_of}
-use Rattle.wasm2js_code.specs.Modules.{high_function, translated}
+use Rattle.wasm2js_translation.specs.Names.{Name, numbered, fixed, last_high}
+use Rattle.wasm2js_translation.specs.Words.{natural, signed_number, trap_call}
+use Rattle.wasm2js_laws_terms.proofs.FineExprs.{intish, variable_fine, signed_fine}
+use Rattle.wasm2js_laws_terms.proofs.FineActions.{trap_fine}
+use Rattle.wasm2js_translation.specs.Bodies.{word_in, high_result}
+use Rattle.wasm2js_translation.specs.Helpers.{argument, function_of}
+use Rattle.wasm2js_translation.specs.Modules.{high_function, translated}
 use Rattle.wasm2js_laws_scopes.specs.Laws.{is_own}
 use Rattle.wasm2js_laws_scopes.specs.Provided.{HasFixed}
 use Rattle.wasm2js_laws_scopes.proofs.HeadNames.{heads_are_provided}

@@ -14,10 +14,10 @@ use Rattle.asm_lang_valid.specs.LimitRows as limits
 use Rattle.asm_lang_valid.specs.LimitRows.{ForeignCall, Mark, a_row, a_use, stmts_marks}
 use Rattle.asm_lang_valid.specs.Typing.{same}
 use Rattle.asm_lang_valid.specs.Typed.{scope_of, functions_typed}
-use Rattle.wasm2js_words.specs.Names.{no_entry, other_entry}
-use Rattle.wasm2js_laws_words.specs.Laws.{trap_use}
-use Rattle.wasm2js_code.specs.Modules.{functions_from, function_for, init_function, high_function, helpers, functions_of, translated}
-use Rattle.wasm2js_code.specs.Tables.{MaskedTable, masked, is_needed, is_empty, is_other, stub_function, stubs_for, stubs}
+use Rattle.wasm2js_translation.specs.Names.{no_entry, other_entry}
+use Rattle.wasm2js_laws_terms.specs.Laws.{trap_use}
+use Rattle.wasm2js_translation.specs.Modules.{functions_from, function_for, init_function, high_function, helpers, functions_of, translated}
+use Rattle.wasm2js_translation.specs.Tables.{MaskedTable, masked, is_needed, is_empty, is_other, stub_function, stubs_for, stubs}
 use Rattle.wasm2js_laws_acceptance.specs.FunctionsFunctions.{IsUse, of_trap, high_use, import_use, of_import, import_uses, uses_of, most_height, IsFineFunction, IsSource}
 use Rattle.wasm2js_laws_acceptance.specs.FunctionsLaws.{AreProvided, FunctionsAreFine}
 use Rattle.wasm2js_laws_acceptance.proofs.FunctionsOwnFunctions.{own_functions_are_fine}

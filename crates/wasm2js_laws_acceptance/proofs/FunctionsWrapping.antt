@@ -23,18 +23,18 @@ use Rattle.asm_lang_valid.specs.LimitRows as limits
 use Rattle.asm_lang_valid.specs.LimitRows.{ForeignCall, expr_marks, exprs_marks, call_marks, stmt_marks, stmts_marks}
 use Rattle.asm_lang_valid.specs.Typing.{Scope, at_top, named, typed_below, is_call, type_of, all_below, exprs_length, call_fits, result_of, all_typed}
 use Rattle.asm_lang_valid.specs.Typed.{scope_of}
-use Rattle.wasm2js_words.specs.Names as names
-use Rattle.wasm2js_words.specs.Names.{Name, numbered, function, foreign, fixed, spelled}
-use Rattle.wasm2js_words.specs.Words.{signed_number, put_in, name_of, stmts_in}
-use Rattle.wasm2js_laws_words.specs.Sound.{IsInt}
-use Rattle.wasm2js_laws_words.specs.Laws.{IsFineExpr}
-use Rattle.wasm2js_laws_words.proofs.FineExprs.{is_identifier, intish, variable_fine, signed_fine}
-use Rattle.wasm2js_laws_words.proofs.FineActions.{both_true, assigned, equal_self, same_self}
-use Rattle.wasm2js_code.specs.Actions.{low}
-use Rattle.wasm2js_code.specs.Bodies.{word_in, signed_word, high_result}
-use Rattle.wasm2js_code.specs.Helpers.{function_of}
-use Rattle.wasm2js_code.specs.Modules.{param_names, sent, wrapper_body, wrapper_locals, translated}
-use Rattle.wasm2js_code.specs.Tables.{words_of}
+use Rattle.wasm2js_translation.specs.Names as names
+use Rattle.wasm2js_translation.specs.Names.{Name, numbered, function, foreign, fixed, spelled}
+use Rattle.wasm2js_translation.specs.Words.{signed_number, put_in, name_of, stmts_in}
+use Rattle.wasm2js_laws_terms.specs.Sound.{IsInt}
+use Rattle.wasm2js_laws_terms.specs.Laws.{IsFineExpr}
+use Rattle.wasm2js_laws_terms.proofs.FineExprs.{is_identifier, intish, variable_fine, signed_fine}
+use Rattle.wasm2js_laws_terms.proofs.FineActions.{both_true, assigned, equal_self, same_self}
+use Rattle.wasm2js_translation.specs.Actions.{low}
+use Rattle.wasm2js_translation.specs.Bodies.{word_in, signed_word, high_result}
+use Rattle.wasm2js_translation.specs.Helpers.{function_of}
+use Rattle.wasm2js_translation.specs.Modules.{param_names, sent, wrapper_body, wrapper_locals, translated}
+use Rattle.wasm2js_translation.specs.Tables.{words_of}
 use Rattle.wasm2js_laws_scopes.specs.Laws.{is_own}
 use Rattle.wasm2js_laws_scopes.specs.Provided.{AreInts, HasFixed}
 use Rattle.wasm2js_laws_scopes.proofs.Declared.{variables_are_own}

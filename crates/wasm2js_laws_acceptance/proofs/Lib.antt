@@ -44,3 +44,4 @@ pub mod CalledNumbers
 pub mod CalledExporting
 pub mod CalledImporting
 pub mod CalledWhole
+pub mod Parts

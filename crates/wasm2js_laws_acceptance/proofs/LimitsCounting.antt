@@ -12,10 +12,10 @@ use Rattle.wasm_lang_valid.specs.Profile.{memory_bytes}
 use Rattle.wasm_lang_exec.specs.Fits.{GlobalImport, global_imports}
 use Rattle.wasm_lang_exec.specs.Reductions.{Callee, an_import, a_function, if_function, imported_callee, imported_callees, own_callees, callees}
 use Rattle.asm_lang.specs.Modules.{Function}
-use Rattle.wasm2js_code.specs.Helpers.{wide_helpers, division_helpers, memory_helpers}
-use Rattle.wasm2js_code.specs.Modules.{function_for, functions_from, init_function, high_function, helpers, functions_of, view_variables, fixed_variables, foreign_variables, imported_variables, first_values, own_variables, global_variables, variables_of}
-use Rattle.wasm2js_code.specs.Tables.{MaskedTable, masked, is_needed, is_empty, is_other, stub_function, stubs_for, stubs}
-use Rattle.wasm2js_words.specs.Names.{no_entry, other_entry}
+use Rattle.wasm2js_translation.specs.Helpers.{wide_helpers, division_helpers, memory_helpers}
+use Rattle.wasm2js_translation.specs.Modules.{function_for, functions_from, init_function, high_function, helpers, functions_of, view_variables, fixed_variables, foreign_variables, imported_variables, first_values, own_variables, global_variables, variables_of}
+use Rattle.wasm2js_translation.specs.Tables.{MaskedTable, masked, is_needed, is_empty, is_other, stub_function, stubs_for, stubs}
+use Rattle.wasm2js_translation.specs.Names.{no_entry, other_entry}
 use Rattle.wasm2js_laws_acceptance.specs.FunctionsFunctions.{import_uses, uses_of}
 use Rattle.wasm2js_laws_acceptance.proofs.FunctionsLimited.{IsLimited}
 

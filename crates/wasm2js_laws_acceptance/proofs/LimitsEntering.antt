@@ -12,10 +12,10 @@ use Rattle.wasm_lang.specs.Modules.{FunctionType, WasmModule}
 use Rattle.wasm_lang_valid.specs.Typing.{same}
 use Rattle.wasm_lang_valid.specs.Measures.{called_types, same_type, is_among, distinct}
 use Rattle.asm_lang.specs.Modules.{Table}
-use Rattle.wasm2js_words.specs.Names.{spelled}
+use Rattle.wasm2js_translation.specs.Names.{spelled}
 use Rattle.wasm2js_lang.specs.Tables.{MaskedTable, cells_of, masked_from, masked}
 use Rattle.wasm2js_lang.proofs.Padded.{cells_are_padded}
-use Rattle.wasm2js_code.specs.Tables.{cell_name, stub_of, cell_count, table_for, tables_for}
+use Rattle.wasm2js_translation.specs.Tables.{cell_name, stub_of, cell_count, table_for, tables_for}
 use Rattle.wasm2js_laws_acceptance.proofs.ProvidedSizes.{few_cells}
 use Rattle.wasm2js_laws_acceptance.proofs.ProvidedTables.{type_is}
 use Rattle.wasm2js_laws_acceptance.proofs.ProvidedWithin.{rows_are_within}

@@ -9,9 +9,9 @@ use Rattle.asm_lang_valid.specs.declared.rule.Rule.{Rule}
 use Rattle.asm_lang_valid.specs.declared.rule.Rule.TheVariants.{PastLimit}
 use Rattle.asm_lang_valid.specs.Rows.{need, body_at, function_count, functions_at, tables_at}
 use Rattle.asm_lang_valid.specs.LimitRows.{ForeignCall, Mark, a_row, a_use, rows_of, is_same, is_among, rows_after, counted, member_length, globals_marks, names_marks, function_marks, functions_marks, tables_marks, marks, most_functions, most_globals, most_foreign_calls}
-use Rattle.wasm2js_laws_words.proofs.FineActions.{equal_self, same_self}
-use Rattle.wasm2js_code.specs.Modules.{functions_of, variables_of, translated}
-use Rattle.wasm2js_code.specs.Tables.{tables_for}
+use Rattle.wasm2js_laws_terms.proofs.FineActions.{equal_self, same_self}
+use Rattle.wasm2js_translation.specs.Modules.{functions_of, variables_of, translated}
+use Rattle.wasm2js_translation.specs.Tables.{tables_for}
 use Rattle.wasm2js_laws_acceptance.specs.FunctionsFunctions.{IsUse, IsFineFunction, uses_of}
 use Rattle.wasm2js_laws_acceptance.proofs.FunctionsLimited.{limited}
 use Rattle.wasm2js_laws_acceptance.proofs.FunctionsReturning.{uses_join}

@@ -3,7 +3,7 @@ use Rattle.std.proofs.Common.{◌≡◌, ℕ, zero, suc, ◌+◌, ◌*◌, ◌�
 use Rattle.std.specs.Prelude.{codes, bytes_eq, slice_get, nat_eq, nat_lt, option_map, if◌then◌else◌}
 use Rattle.std.specs.List.{AllByRecursion, starts_with}
 use Rattle.hex.specs.Hex.{encode_with, encode_lower}
-use Rattle.sem_laws.specs.Names.{is_plain_name, import_name}
+use Rattle.session_lang.specs.Names.{is_plain_name, import_name}
 use Rattle.wasm_lang.specs.declared.types.ImportKind.{ImportKind}
 use Rattle.wasm_lang.specs.declared.types.ImportKind.TheVariants as imports
 use Rattle.wasm_lang.specs.Instructions.{Instruction, plain, const32, const64, global_get}
@@ -16,8 +16,8 @@ use Rattle.wasm_lang_exec.specs.Reductions.{Callee, an_import, a_function, if_fu
 use Rattle.asm_lang.specs.Modules.{Variable, Module}
 use Rattle.asm_lang_valid.specs.Scope.{is_foreign}
 use Rattle.asm_lang_valid.specs.LimitRows.{member_length}
-use Rattle.wasm2js_words.specs.Names.{Name, numbered, global_low}
-use Rattle.wasm2js_code.specs.Modules.{foreign_name, view_variables, fixed_variables, foreign_variables, given_variable, imported_variables, first_values, own_variables, global_variables, variables_of, translated}
+use Rattle.wasm2js_translation.specs.Names.{Name, numbered, global_low}
+use Rattle.wasm2js_translation.specs.Modules.{foreign_name, view_variables, fixed_variables, foreign_variables, given_variable, imported_variables, first_values, own_variables, global_variables, variables_of, translated}
 use Rattle.wasm2js_laws_acceptance.proofs.FunctionsLimited.{where_none, at_most, limited}
 use Rattle.wasm2js_laws_acceptance.specs.LimitsLaws.{NamesAreShort}
 

@@ -9,9 +9,9 @@ use Rattle.asm_lang_valid.specs.Rows.{need}
 use Rattle.asm_lang_valid.specs.Scope.{is_in}
 use Rattle.asm_lang_valid.specs.NameRows.{is_forbidden, declares, global_texts, function_texts}
 use Rattle.wasm_lang.specs.Modules.{WasmModule}
-use Rattle.wasm2js_words.specs.Names.{Name, spelled, Rises}
-use Rattle.wasm2js_words.proofs.Spelling.{spellings_are_usable, rising_names_are_new}
-use Rattle.wasm2js_code.specs.Modules.{stdlib_name, foreign_name, heap_name, translated}
+use Rattle.wasm2js_translation.specs.Names.{Name, spelled, Rises}
+use Rattle.wasm2js_translation.proofs.Spelling.{spellings_are_usable, rising_names_are_new}
+use Rattle.wasm2js_translation.specs.Modules.{stdlib_name, foreign_name, heap_name, translated}
 use Rattle.wasm2js_lang.specs.Tables.{masked}
 use Rattle.wasm2js_laws_acceptance.proofs.ProvidedDeclared.{spellings, table_texts, global_names, function_names, table_names, declared_names, declared_names_rise, globals_are_named, functions_are_named, tables_are_named}
 use Rattle.wasm2js_laws_acceptance.proofs.ProvidedFound.{no_parameter}

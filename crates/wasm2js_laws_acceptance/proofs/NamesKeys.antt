@@ -9,8 +9,8 @@ use Rattle.std.proofs.lemmas.Bool.Decides.{nat_tests}
 use Rattle.std.proofs.lemmas.List.{append_assoc, map-append}
 use Rattle.std.proofs.lemmas.Option.{slice_get_within}
 use Rattle.hex.specs.Hex.{IsBytes}
-use Rattle.sem_laws.specs.Names.{is_plain_name, is_name_part, starts_as_name, export_name}
-use Rattle.sem_laws.proofs.NameLaws.{different_exports_have_different_names, names_are_plain, fixed_names_are_kept}
+use Rattle.session_lang.specs.Names.{is_plain_name, is_name_part, starts_as_name, export_name}
+use Rattle.session_lang.proofs.NameLaws.{different_exports_have_different_names, names_are_plain, fixed_names_are_kept}
 use Rattle.wasm_lang.specs.declared.types.ImportKind.{ImportKind}
 use Rattle.wasm_lang.specs.declared.types.ImportKind.TheVariants as imports
 use Rattle.wasm_lang.specs.declared.types.ExportKind.{ExportKind}
@@ -30,9 +30,9 @@ use Rattle.asm_lang_valid.specs.Rows.{need, exports_at}
 use Rattle.asm_lang_valid.specs.Scope.{is_in, module_meaning}
 use Rattle.asm_lang_valid.specs.NameRows as rows
 use Rattle.asm_lang_valid.specs.NameRows.{is_forbidden_key, declares_key, function_uses, keys_names}
-use Rattle.wasm2js_words.specs.Names.{numbered, function, fixed, init, last_high, spelled}
-use Rattle.wasm2js_code.specs.Modules.{functions_from, init_function, high_function, helpers, export_for, exports_of, translated}
-use Rattle.wasm2js_code.specs.Tables.{stubs}
+use Rattle.wasm2js_translation.specs.Names.{numbered, function, fixed, init, last_high, spelled}
+use Rattle.wasm2js_translation.specs.Modules.{functions_from, init_function, high_function, helpers, export_for, exports_of, translated}
+use Rattle.wasm2js_translation.specs.Tables.{stubs}
 use Rattle.wasm2js_laws_scripts.proofs.Names.{shaped_exports_are_bytes}
 use Rattle.wasm2js_laws_acceptance.proofs.ProvidedEntries.{are_apart, in_right}
 use Rattle.wasm2js_laws_acceptance.proofs.ProvidedFound.{function_found}

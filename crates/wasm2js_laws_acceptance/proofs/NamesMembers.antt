@@ -8,7 +8,7 @@ use Rattle.asm_lang_valid.specs.Rows.{need, tables_at}
 use Rattle.asm_lang_valid.specs.Scope as scopes
 use Rattle.asm_lang_valid.specs.Scope.{Meaning, Signature, function_signature, module_meaning}
 use Rattle.asm_lang_valid.specs.NameRows.{global_texts, function_texts, declares, is_declared, is_function, all_known, all_functions, function_uses, tables_names}
-use Rattle.wasm2js_code.specs.Modules.{translated}
+use Rattle.wasm2js_translation.specs.Modules.{translated}
 use Rattle.wasm2js_laws_acceptance.proofs.ProvidedDeclared.{table_texts}
 use Rattle.wasm2js_laws_acceptance.proofs.ProvidedTables.{members_are_alike}
 use Rattle.wasm2js_laws_acceptance.specs.NamesLaws.{TablesHaveNoRows}

@@ -14,15 +14,15 @@ use Rattle.asm_lang.specs.Modules.{Variable, Param, Function, Module}
 use Rattle.asm_lang_valid.specs.Rows.{body_at, function_count}
 use Rattle.asm_lang_valid.specs.Scope.{is_in}
 use Rattle.asm_lang_valid.specs.NameRows.{global_texts, declares, params_names, locals_names, param_texts, function_names, functions_names}
-use Rattle.wasm2js_words.specs.Names.{Name, spelled, Rises}
+use Rattle.wasm2js_translation.specs.Names.{Name, spelled, Rises}
 use Rattle.wasm2js_lang.specs.Tables.{MaskedTable, masked}
-use Rattle.wasm2js_code.specs.Helpers.{int_param, zero_variable, argument, own, one_argument, two_arguments, three_arguments, wide_helpers, division_helpers, memory_helpers}
-use Rattle.wasm2js_code.specs.Modules.{param_names, context_of, wrapper_locals, function_for, functions_from, init_function, high_function, helpers, functions_of, translated}
-use Rattle.wasm2js_code.specs.Pairs.{local_pair, operand_pair, names_of}
-use Rattle.wasm2js_code.specs.Rooms.{Room, body_room, local_names, operand_names, declared_names}
-use Rattle.wasm2js_code.specs.Tables.{is_empty, is_other, is_needed, stub_numbers, stubs_for, stubs}
-use Rattle.asm_laws_uses.specs.Laws.{BodyUsesNames}
-use Rattle.asm_laws_uses.proofs.Uses.{functions_use_names}
+use Rattle.wasm2js_translation.specs.Helpers.{int_param, zero_variable, argument, own, one_argument, two_arguments, three_arguments, wide_helpers, division_helpers, memory_helpers}
+use Rattle.wasm2js_translation.specs.Modules.{param_names, context_of, wrapper_locals, function_for, functions_from, init_function, high_function, helpers, functions_of, translated}
+use Rattle.wasm2js_translation.specs.Pairs.{local_pair, operand_pair, names_of}
+use Rattle.wasm2js_translation.specs.Rooms.{Room, body_room, local_names, operand_names, declared_names}
+use Rattle.wasm2js_translation.specs.Tables.{is_empty, is_other, is_needed, stub_numbers, stubs_for, stubs}
+use Rattle.asm_laws_sound.specs.UsesLaws.{BodyUsesNames}
+use Rattle.asm_laws_sound.proofs.Uses.{functions_use_names}
 use Rattle.wasm2js_laws_acceptance.proofs.ProvidedDeclared.{spellings, texts_of, variable_texts}
 use Rattle.wasm2js_laws_acceptance.proofs.ProvidedOrder.{Places, places_from, Reaches, places_join, first_group, last_group}
 use Rattle.wasm2js_laws_acceptance.specs.NamesLaws.{FunctionsHaveNoRows}

@@ -5,8 +5,8 @@ use Rattle.std.specs.List.{AllByRecursion}
 use Rattle.std.specs.Str.{IsUtf8}
 use Rattle.std.proofs.lemmas.List.{append_assoc}
 use Rattle.hex.specs.Hex.{IsBytes}
-use Rattle.sem_laws.specs.Names.{import_name}
-use Rattle.sem_laws.proofs.NameLaws.{different_imports_have_different_names, names_are_plain, fixed_names_are_kept}
+use Rattle.session_lang.specs.Names.{import_name}
+use Rattle.session_lang.proofs.NameLaws.{different_imports_have_different_names, names_are_plain, fixed_names_are_kept}
 use Rattle.wasm_lang.specs.declared.types.ImportKind.{ImportKind}
 use Rattle.wasm_lang.specs.declared.types.ImportKind.TheVariants as imports
 use Rattle.wasm_lang.specs.Instructions.{Instruction, plain, const32, const64, global_get}
@@ -23,8 +23,8 @@ use Rattle.asm_lang_valid.specs.declared.rule.Rule.TheVariants.{NameTaken, Forbi
 use Rattle.asm_lang_valid.specs.Rows.{need}
 use Rattle.asm_lang_valid.specs.Scope.{is_in}
 use Rattle.asm_lang_valid.specs.NameRows.{is_forbidden, is_forbidden_key, Imports, added, with_import, clashes, has_forbidden_member, init_rows, global_names, globals_names}
-use Rattle.wasm2js_words.specs.Names.{Name, numbered, global_low}
-use Rattle.wasm2js_code.specs.Modules.{view_variables, fixed_variables, foreign_variables, given_variable, imported_variables, first_values, own_variables, global_variables, variables_of, translated}
+use Rattle.wasm2js_translation.specs.Names.{Name, numbered, global_low}
+use Rattle.wasm2js_translation.specs.Modules.{view_variables, fixed_variables, foreign_variables, given_variable, imported_variables, first_values, own_variables, global_variables, variables_of, translated}
 use Rattle.wasm2js_laws_scripts.proofs.Names.{utf8_bytes}
 use Rattle.wasm2js_laws_acceptance.proofs.ProvidedDeclared.{variable_texts}
 use Rattle.wasm2js_laws_acceptance.proofs.ProvidedEntries.{are_apart, In}

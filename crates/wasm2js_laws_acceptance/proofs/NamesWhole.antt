@@ -2,7 +2,7 @@
 use Rattle.std.proofs.Common.{◌++◌}
 use Rattle.asm_lang_valid.specs.NameRows.{globals_names, functions_names, tables_names, exports_names, global_texts, function_texts}
 use Rattle.asm_lang_valid.specs.Rows.{functions_at, tables_at, exports_at}
-use Rattle.wasm2js_code.specs.Modules.{translated}
+use Rattle.wasm2js_translation.specs.Modules.{translated}
 use Rattle.wasm2js_laws_acceptance.specs.NamesLaws.{no_imports, NamesHaveNoRows}
 use Rattle.wasm2js_laws_acceptance.proofs.NamesFresh.{none_join}
 use Rattle.wasm2js_laws_acceptance.proofs.NamesOwn.{functions_have_no_rows}

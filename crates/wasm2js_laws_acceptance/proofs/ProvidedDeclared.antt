@@ -11,12 +11,12 @@ use Rattle.wasm_lang_exec.specs.Reductions.{Callee, an_import, a_function, calle
 use Rattle.wasm_lang_exec.specs.Fits.{GlobalImport, global_imports}
 use Rattle.asm_lang.specs.Modules.{Variable, Function, Table}
 use Rattle.asm_lang_valid.specs.NameRows.{global_texts, function_texts}
-use Rattle.wasm2js_words.specs.Names as names
-use Rattle.wasm2js_words.specs.Names.{Name, numbered, fixed, spelled, Rises}
+use Rattle.wasm2js_translation.specs.Names as names
+use Rattle.wasm2js_translation.specs.Names.{Name, numbered, fixed, spelled, Rises}
 use Rattle.wasm2js_lang.specs.Tables.{MaskedTable, masked_from, masked, cells_of}
-use Rattle.wasm2js_code.specs.Helpers.{wide_helpers, division_helpers, memory_helpers}
-use Rattle.wasm2js_code.specs.Modules.{function_for, functions_from, init_function, high_function, helpers, view_variables, fixed_variables, foreign_variables, given_variable, imported_variables, first_values, own_variables, global_variables, translated}
-use Rattle.wasm2js_code.specs.Tables.{is_empty, is_other, is_needed, stub_numbers, stubs_for, stubs, table_for}
+use Rattle.wasm2js_translation.specs.Helpers.{wide_helpers, division_helpers, memory_helpers}
+use Rattle.wasm2js_translation.specs.Modules.{function_for, functions_from, init_function, high_function, helpers, view_variables, fixed_variables, foreign_variables, given_variable, imported_variables, first_values, own_variables, global_variables, translated}
+use Rattle.wasm2js_translation.specs.Tables.{is_empty, is_other, is_needed, stub_numbers, stubs_for, stubs, table_for}
 use Rattle.wasm2js_laws_acceptance.proofs.ProvidedOrder.{Places, places_from, Reaches, places_join, group_before, first_group, last_group}
 use Rattle.wasm2js_laws_acceptance.proofs.ProvidedEntries.{Entry, entries, variable_entry, function_entry, table_entry}
 

@@ -4,8 +4,8 @@ use Rattle.std.specs.Prelude.{bytes_eq, if◌then◌else◌}
 use Rattle.std.proofs.lemmas.Slice.Eq.{bytes_eq-Decides}
 use Rattle.asm_lang.specs.Modules.{Variable, Function, Table, Module}
 use Rattle.asm_lang_valid.specs.Scope.{Meaning, nothing, a_function, a_table, init_meaning, among_globals, among_functions, among_tables, is_in, module_meaning, a_parameter}
-use Rattle.wasm2js_words.specs.Names.{Name, Rank, IsBefore, rank, spelled, RisesFrom, Rises}
-use Rattle.wasm2js_words.proofs.Spelling.{spellings_differ}
+use Rattle.wasm2js_translation.specs.Names.{Name, Rank, IsBefore, rank, spelled, RisesFrom, Rises}
+use Rattle.wasm2js_translation.proofs.Spelling.{spellings_differ}
 
 pub record Entry : Type 0 where
   pub name : List ℕ

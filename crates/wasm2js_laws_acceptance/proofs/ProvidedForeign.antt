@@ -3,7 +3,7 @@ use Rattle.std.proofs.Common.{◌≡◌, ℕ, zero, suc, ◌+◌, ◌<◌, Bool,
 use Rattle.std.specs.Prelude.{slice_get, nat_lt, option_map, take, if◌then◌else◌}
 use Rattle.std.proofs.lemmas.Bool.Decides.{nat_tests}
 use Rattle.std.proofs.lemmas.Option.{slice_get_within}
-use Rattle.sem_laws.specs.Names.{import_name}
+use Rattle.session_lang.specs.Names.{import_name}
 use Rattle.wasm_lang.specs.declared.types.ImportKind.{ImportKind}
 use Rattle.wasm_lang.specs.declared.types.ImportKind.TheVariants as imports
 use Rattle.wasm_lang.specs.Modules.{FunctionType, Imported, FunctionBody, WasmModule}
@@ -17,8 +17,8 @@ use Rattle.wasm_lang_exec.specs.Reductions.{Callee, an_import, a_function, if_fu
 use Rattle.asm_lang.specs.Trees.{member}
 use Rattle.asm_lang.specs.Modules.{Variable}
 use Rattle.asm_lang_valid.specs.Scope as scopes
-use Rattle.wasm2js_words.specs.Names.{numbered, foreign, fixed, high, word}
-use Rattle.wasm2js_code.specs.Modules.{foreign_name, view_variables, fixed_variables, foreign_variables, global_variables, variable, variables_of}
+use Rattle.wasm2js_translation.specs.Names.{numbered, foreign, fixed, high, word}
+use Rattle.wasm2js_translation.specs.Modules.{foreign_name, view_variables, fixed_variables, foreign_variables, global_variables, variable, variables_of}
 use Rattle.wasm2js_laws_acceptance.specs.ProvidedLaws.{ForeignAreProvided, HighIsForeign}
 use Rattle.wasm2js_laws_acceptance.proofs.ProvidedEntries.{In, in_left, in_right}
 use Rattle.wasm2js_laws_acceptance.proofs.ProvidedFound.{variable_found, is_seen}

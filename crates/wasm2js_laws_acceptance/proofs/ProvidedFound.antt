@@ -7,11 +7,11 @@ use Rattle.asm_lang.specs.Modules.{Stmt, Variable, Function, Table}
 use Rattle.asm_lang_valid.specs.Scope.{init_meaning, a_function, a_table, is_in, module_meaning, Meaning}
 use Rattle.asm_lang_valid.specs.Typing.{named}
 use Rattle.asm_lang_valid.specs.Typed.{scope_of}
-use Rattle.wasm2js_words.specs.Names.{Name, spelled}
-use Rattle.wasm2js_words.proofs.Spelling.{spellings_are_usable}
-use Rattle.wasm2js_code.specs.Helpers.{function_of}
-use Rattle.wasm2js_code.specs.Modules.{stdlib_name, foreign_name, heap_name, variables_of, functions_of, translated}
-use Rattle.wasm2js_code.specs.Tables.{tables_for}
+use Rattle.wasm2js_translation.specs.Names.{Name, spelled}
+use Rattle.wasm2js_translation.proofs.Spelling.{spellings_are_usable}
+use Rattle.wasm2js_translation.specs.Helpers.{function_of}
+use Rattle.wasm2js_translation.specs.Modules.{stdlib_name, foreign_name, heap_name, variables_of, functions_of, translated}
+use Rattle.wasm2js_translation.specs.Tables.{tables_for}
 use Rattle.wasm2js_laws_scopes.specs.Laws.{is_own}
 use Rattle.wasm2js_laws_scopes.proofs.Declared.{module_names_are_seen}
 use Rattle.wasm2js_laws_acceptance.proofs.ProvidedEntries.{Entry, variable_entry, function_entry, table_entry, entries, entry_means, In, in_left, in_right, in_map}

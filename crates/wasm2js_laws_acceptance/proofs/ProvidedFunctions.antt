@@ -15,14 +15,14 @@ use Rattle.wasm_laws_sound.proofs.Functions.{typed_functions}
 use Rattle.asm_lang.specs.Modules.{Expr, Stmt, Function}
 use Rattle.asm_lang_valid.specs.Scope as scopes
 use Rattle.asm_lang_valid.specs.Scope.{gives_value, last_gives_value, signature_of}
-use Rattle.wasm2js_words.specs.Names as names
-use Rattle.wasm2js_words.specs.Names.{numbered, spelled}
-use Rattle.wasm2js_words.specs.Words.{Action, simply, either, Simple, put, ask, tell, guard, stop, write_byte, write_whole, stmts_in, statement, statements, simple_statement}
-use Rattle.wasm2js_code.specs.Actions.{under, actions}
-use Rattle.wasm2js_code.specs.Bodies.{out, leave_with, jump, switches_from, most_cases, answered, call_stmts, indirect_stmts, after_plain, types_after_call, stmts_of, closing, body_stmts}
-use Rattle.wasm2js_code.specs.Helpers.{int_param}
-use Rattle.wasm2js_code.specs.Modules.{param_names, context_of, own_function, wrapper_body, wrapper, function_for, functions_from, init_function, high_function, helpers, functions_of, translated}
-use Rattle.wasm2js_code.specs.Tables.{words_of, cell_count, stubs}
+use Rattle.wasm2js_translation.specs.Names as names
+use Rattle.wasm2js_translation.specs.Names.{numbered, spelled}
+use Rattle.wasm2js_translation.specs.Words.{Action, simply, either, Simple, put, ask, tell, guard, stop, write_byte, write_whole, stmts_in, statement, statements, simple_statement}
+use Rattle.wasm2js_translation.specs.Actions.{under, actions}
+use Rattle.wasm2js_translation.specs.Bodies.{out, leave_with, jump, switches_from, most_cases, answered, call_stmts, indirect_stmts, after_plain, types_after_call, stmts_of, closing, body_stmts}
+use Rattle.wasm2js_translation.specs.Helpers.{int_param}
+use Rattle.wasm2js_translation.specs.Modules.{param_names, context_of, own_function, wrapper_body, wrapper, function_for, functions_from, init_function, high_function, helpers, functions_of, translated}
+use Rattle.wasm2js_translation.specs.Tables.{words_of, cell_count, stubs}
 use Rattle.wasm2js_laws_scopes.specs.Provided.{signature, signature_for}
 use Rattle.wasm2js_laws_acceptance.specs.ProvidedLaws.{FunctionsAreProvided}
 use Rattle.wasm2js_laws_acceptance.proofs.ProvidedEntries.{In, in_left, in_right}

@@ -22,10 +22,10 @@ use Rattle.wasm_lang_exec.specs.Fits.{GlobalImport, with_import, global_imports}
 use Rattle.asm_lang.specs.Modules.{Stmt, Variable, Module}
 use Rattle.asm_lang_valid.specs.Scope.{an_int, init_meaning}
 use Rattle.asm_lang_valid.specs.Typed.{scope_of}
-use Rattle.wasm2js_words.specs.Names.{Name, numbered, global_low, spelled}
-use Rattle.wasm2js_code.specs.Pairs.{global_pair, names_of}
-use Rattle.wasm2js_code.specs.Helpers.{function_of}
-use Rattle.wasm2js_code.specs.Modules.{fixed_variables, view_variables, foreign_variables, given_variable, word_variable, imported_variables, first_values, own_variables, global_variables, variables_of, translated}
+use Rattle.wasm2js_translation.specs.Names.{Name, numbered, global_low, spelled}
+use Rattle.wasm2js_translation.specs.Pairs.{global_pair, names_of}
+use Rattle.wasm2js_translation.specs.Helpers.{function_of}
+use Rattle.wasm2js_translation.specs.Modules.{fixed_variables, view_variables, foreign_variables, given_variable, word_variable, imported_variables, first_values, own_variables, global_variables, variables_of, translated}
 use Rattle.wasm2js_laws_scopes.specs.Provided.{AreInts}
 use Rattle.wasm2js_laws_scopes.specs.Laws.{is_own}
 use Rattle.wasm2js_laws_acceptance.specs.ProvidedLaws.{GlobalsAreProvided}

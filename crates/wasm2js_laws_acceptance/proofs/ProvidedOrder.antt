@@ -1,6 +1,6 @@
 -- Lists of names whose ranks rise, group by group.
 use Rattle.std.proofs.Common.{◌≡◌, ◌∙◌, ℕ, suc, ◌<◌, ◌≤◌, List, [], ◌∷◌, ◌++◌, inl, inr, sym, arith}
-use Rattle.wasm2js_words.specs.Names.{Name, Rank, rank, RisesFrom, Rises}
+use Rattle.wasm2js_translation.specs.Names.{Name, Rank, rank, RisesFrom, Rises}
 
 -- names of one group, from a place on, each further on than the one before it
 abbrev pub Places : (group place : ℕ) → List Name → Type 0

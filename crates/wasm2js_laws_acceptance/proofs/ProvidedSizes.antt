@@ -5,7 +5,7 @@ use Rattle.std.proofs.lemmas.Bool.Decides.{nat_tests}
 use Rattle.wasm_lang.specs.Modules.{WasmModule}
 use Rattle.wasm_lang_valid.specs.Profile.{doubled, table_length}
 use Rattle.wasm2js_lang.proofs.Padded.{few_entries}
-use Rattle.wasm2js_code.specs.Tables.{cell_count}
+use Rattle.wasm2js_translation.specs.Tables.{cell_count}
 use Rattle.wasm2js_laws_acceptance.proofs.ProvidedWithin.{AreWithin}
 
 some_doubled : (turns power n : ℕ) → 0 < power → 0 < doubled turns power n

@@ -20,16 +20,16 @@ use Rattle.asm_lang.specs.Modules.{returns, Function, Table}
 use Rattle.asm_lang_valid.specs.Scope as scopes
 use Rattle.asm_lang_valid.specs.Scope.{module_meaning, signature_of, function_signature, first_member, last_gives_value, Signature}
 use Rattle.asm_lang_valid.specs.Typed.{scope_of}
-use Rattle.wasm2js_words.specs.Names as names
-use Rattle.wasm2js_words.specs.Names.{Name, Numbered, numbered, spelled}
-use Rattle.wasm2js_words.specs.Words.{natural, trap_call, stmts_in}
+use Rattle.wasm2js_translation.specs.Names as names
+use Rattle.wasm2js_translation.specs.Names.{Name, Numbered, numbered, spelled}
+use Rattle.wasm2js_translation.specs.Words.{natural, trap_call, stmts_in}
 use Rattle.wasm2js_lang.specs.Tables.{Cell, a_function, empty, other, MaskedTable, entries_of, has_form, cell, cells_of, masked_from, masked}
 use Rattle.wasm2js_lang.proofs.Masked.{called_types_have_tables}
 use Rattle.wasm2js_lang.proofs.Padded.{cells_are_padded}
-use Rattle.wasm2js_code.specs.Bodies.{form_number}
-use Rattle.wasm2js_code.specs.Helpers.{argument, int_param, function_of}
-use Rattle.wasm2js_code.specs.Modules.{functions_from, init_function, high_function, helpers, functions_of, translated}
-use Rattle.wasm2js_code.specs.Tables.{cell_count, words_of, result_mark, stub_number, stub_of, cell_name, table_for, tables_for, stub_function, is_empty, is_other, is_needed, stubs_for, stubs}
+use Rattle.wasm2js_translation.specs.Bodies.{form_number}
+use Rattle.wasm2js_translation.specs.Helpers.{argument, int_param, function_of}
+use Rattle.wasm2js_translation.specs.Modules.{functions_from, init_function, high_function, helpers, functions_of, translated}
+use Rattle.wasm2js_translation.specs.Tables.{cell_count, words_of, result_mark, stub_number, stub_of, cell_name, table_for, tables_for, stub_function, is_empty, is_other, is_needed, stubs_for, stubs}
 use Rattle.wasm2js_laws_scopes.specs.Provided.{signature, signature_for, IsTable}
 use Rattle.wasm2js_laws_acceptance.specs.ProvidedLaws.{TablesAreProvided, MembersAreAlike}
 use Rattle.wasm2js_laws_acceptance.proofs.ProvidedEntries.{In, in_left, in_right, in_map}

@@ -5,11 +5,11 @@ use Rattle.wasm_lang.specs.declared.types.ValType.{ValType}
 use Rattle.wasm_lang.specs.Modules.{FunctionType, WasmModule}
 use Rattle.wasm_lang_valid.specs.ModuleRules.{function_types, type_of_function}
 use Rattle.wasm_lang_valid.specs.Typing.{type_of}
-use Rattle.wasm2js_words.specs.Names.{numbered, function}
-use Rattle.wasm2js_code.specs.Bodies.{body_stmts}
-use Rattle.wasm2js_code.specs.Modules.{param_names, context_of}
-use Rattle.wasm2js_code.specs.Rooms.{body_room, declared_names}
-use Rattle.wasm2js_code.specs.Tables.{cell_count}
+use Rattle.wasm2js_translation.specs.Names.{numbered, function}
+use Rattle.wasm2js_translation.specs.Bodies.{body_stmts}
+use Rattle.wasm2js_translation.specs.Modules.{param_names, context_of}
+use Rattle.wasm2js_translation.specs.Rooms.{body_room, declared_names}
+use Rattle.wasm2js_translation.specs.Tables.{cell_count}
 use Rattle.wasm_lang_valid.specs.Profile.{memory_bytes}
 use Rattle.wasm2js_laws_scopes.proofs.Declared.{variables_are_own}
 use Rattle.wasm2js_laws_scopes.proofs.HeadNames.{heads_are_provided, memories_are_provided}

@@ -6,7 +6,7 @@ use Rattle.wasm_lang_valid.specs.Profile.{IsInProfile}
 use Rattle.asm_lang.specs.Heights.{IsWellFormed}
 use Rattle.asm_lang_valid.specs.Refusal.{IsAccepted}
 use Rattle.asm_lang_valid.specs.Typed.{module_typed}
-use Rattle.wasm2js_code.specs.Modules.{translated}
+use Rattle.wasm2js_translation.specs.Modules.{translated}
 use Rattle.wasm2js_laws_acceptance.specs.FunctionsFunctions.{HasWord, IsSource}
 
 -- constants that globals begin with are words of their widths

@@ -1,6 +1,6 @@
 -- How translated modules are called.
 use Rattle.std.specs.Prelude.{◌≡◌, None}
-use Rattle.sem_laws.specs.Script.{ScriptPlain}
+use Rattle.session_lang.specs.Script.{ScriptPlain}
 use Rattle.wasm_lang.specs.Modules.{WasmModule}
 use Rattle.wasm_lang.specs.Shape.{IsShaped}
 use Rattle.wasm_lang_valid.specs.Profile.{IsInProfile}
@@ -9,7 +9,7 @@ use Rattle.asm_lang_exec.specs.Fits.{misfit}
 use Rattle.wasm2js_lang.specs.Heaps.{heap_bytes}
 use Rattle.wasm2js_lang.specs.Calling.{IsCalledAs}
 use Rattle.wasm2js_lang.specs.Allowed.{script_for}
-use Rattle.wasm2js_code.specs.Modules.{translated}
+use Rattle.wasm2js_translation.specs.Modules.{translated}
 
 abbrev pub TranslationsAreCalled : Type 0
 TranslationsAreCalled = (w : WasmModule) → IsInProfile w → IsShaped w → IsCalledAs w (translated w)

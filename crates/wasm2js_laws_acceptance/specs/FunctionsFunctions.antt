@@ -15,10 +15,10 @@ use Rattle.asm_laws_print.specs.Fitting.{FitsFunction}
 use Rattle.asm_lang_valid.specs.Typed.{scope_of, function_typed, functions_typed}
 use Rattle.asm_lang_valid.specs.LimitRows as limits
 use Rattle.asm_lang_valid.specs.LimitRows.{ForeignCall, Mark, a_row, a_use, stmts_marks}
-use Rattle.wasm2js_words.specs.Names.{high}
-use Rattle.wasm2js_words.specs.Words.{name_of}
-use Rattle.wasm2js_laws_words.specs.Laws.{trap_use}
-use Rattle.wasm2js_code.specs.Tables.{words_of}
+use Rattle.wasm2js_translation.specs.Names.{high}
+use Rattle.wasm2js_translation.specs.Words.{name_of}
+use Rattle.wasm2js_laws_terms.specs.Laws.{trap_use}
+use Rattle.wasm2js_translation.specs.Tables.{words_of}
 
 -- ---- foreign calls
 

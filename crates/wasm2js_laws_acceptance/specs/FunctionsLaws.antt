@@ -9,9 +9,9 @@ use Rattle.wasm_lang_exec.specs.Code.{Trees}
 use Rattle.wasm_lang_exec.specs.Reductions.{an_import, a_function, callees}
 use Rattle.asm_lang.specs.Modules.{Function}
 use Rattle.asm_lang_valid.specs.Typed.{scope_of}
-use Rattle.wasm2js_words.specs.Names.{Numbered, numbered, function}
-use Rattle.wasm2js_code.specs.Modules.{context_of, own_function, wrapper, init_function, high_function, helpers, translated}
-use Rattle.wasm2js_code.specs.Tables.{cell_count, stub_function}
+use Rattle.wasm2js_translation.specs.Names.{Numbered, numbered, function}
+use Rattle.wasm2js_translation.specs.Modules.{context_of, own_function, wrapper, init_function, high_function, helpers, translated}
+use Rattle.wasm2js_translation.specs.Tables.{cell_count, stub_function}
 use Rattle.wasm2js_laws_scopes.specs.Provided.{Provides, IsFunction, signature_for}
 use Rattle.wasm2js_laws_acceptance.specs.FunctionsFunctions.{of_trap, of_import, uses_of, IsFineFunction, AreFineFunctions, is_called, IsSource}
 

@@ -5,3 +5,4 @@ pub mod LimitsLaws
 pub mod NamesLaws
 pub mod AcceptedLaws
 pub mod CalledLaws
+pub mod PartsLaws

@@ -4,8 +4,8 @@ use Rattle.std.specs.List.{AllByRecursion}
 use Rattle.wasm_lang.specs.Modules.{WasmModule}
 use Rattle.asm_lang.specs.Modules.{Table}
 use Rattle.asm_lang_valid.specs.LimitRows.{most_functions, most_globals, most_foreign_calls, most_members, most_entries, longest_name, member_length, limit_rows}
-use Rattle.wasm2js_code.specs.Modules.{functions_of, variables_of, translated}
-use Rattle.wasm2js_code.specs.Tables.{tables_for}
+use Rattle.wasm2js_translation.specs.Modules.{functions_of, variables_of, translated}
+use Rattle.wasm2js_translation.specs.Tables.{tables_for}
 use Rattle.wasm2js_laws_acceptance.specs.FunctionsFunctions.{uses_of, AreFineFunctions, IsSource}
 
 -- the members of all tables together

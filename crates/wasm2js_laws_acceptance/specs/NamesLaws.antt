@@ -7,7 +7,7 @@ use Rattle.asm_lang.specs.Modules.{Module}
 use Rattle.asm_lang_valid.specs.NameRows.{Imports, globals_names, functions_names, tables_names, exports_names, name_rows, global_texts, function_texts}
 use Rattle.asm_lang_valid.specs.Rows.{functions_at, tables_at, exports_at}
 use Rattle.asm_lang_valid.specs.Typed.{functions_typed}
-use Rattle.wasm2js_code.specs.Modules.{translated}
+use Rattle.wasm2js_translation.specs.Modules.{translated}
 
 -- ---- part by part: the rows of names are none
 

@@ -14,13 +14,13 @@ use Rattle.asm_lang.specs.Modules.{Stmt, Table}
 use Rattle.asm_lang_valid.specs.Scope.{Signature, a_foreign, module_meaning, function_signature}
 use Rattle.asm_lang_valid.specs.Typed.{scope_of}
 use Rattle.asm_lang_valid.specs.Typing.{named}
-use Rattle.wasm2js_words.specs.Names.{Name, numbered, function, foreign, table, high, spelled}
-use Rattle.wasm2js_words.specs.Words.{name_of}
-use Rattle.wasm2js_code.specs.Bodies.{form_number}
-use Rattle.wasm2js_code.specs.Helpers.{function_of}
-use Rattle.wasm2js_code.specs.Modules.{context_of, own_function, translated}
-use Rattle.wasm2js_code.specs.Pairs.{global_pair, names_of}
-use Rattle.wasm2js_code.specs.Tables.{cell_count}
+use Rattle.wasm2js_translation.specs.Names.{Name, numbered, function, foreign, table, high, spelled}
+use Rattle.wasm2js_translation.specs.Words.{name_of}
+use Rattle.wasm2js_translation.specs.Bodies.{form_number}
+use Rattle.wasm2js_translation.specs.Helpers.{function_of}
+use Rattle.wasm2js_translation.specs.Modules.{context_of, own_function, translated}
+use Rattle.wasm2js_translation.specs.Pairs.{global_pair, names_of}
+use Rattle.wasm2js_translation.specs.Tables.{cell_count}
 use Rattle.wasm2js_laws_scopes.specs.Provided.{AreInts, IsFunction, IsTable, Provides, signature_for}
 use Rattle.wasm2js_laws_scopes.specs.Laws.{is_own}
 

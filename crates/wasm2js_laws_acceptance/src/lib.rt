@@ -6,4 +6,5 @@ pub mod called_laws;
 pub mod functions_laws;
 pub mod limits_laws;
 pub mod names_laws;
+pub mod parts_laws;
 pub mod provided_laws;

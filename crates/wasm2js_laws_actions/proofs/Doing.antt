@@ -11,7 +11,7 @@ use Rattle.asm_lang_valid.specs.Scope.{is_in}
 use Rattle.asm_lang_exec.specs.Runs as runs
 use Rattle.asm_lang_exec.specs.Runs.{Place, Run, spent, wrong, Part, after, value_in, written, write}
 use Rattle.asm_lang_exec.specs.Meaning.{Completion, normal, unless_left}
-use Rattle.wasm2js_words.specs.Names.{Name, spelled}
+use Rattle.wasm2js_translation.specs.Names.{Name, spelled}
 use Rattle.wasm2js_laws_places.specs.Straight.{Words, with_word, Outcome, goes, stops, then_do, units_after}
 use Rattle.wasm2js_laws_places.specs.Places.{is_own, variables, word_bound, word_at, names_in, AreApart, IsHeap}
 use Rattle.wasm2js_laws_places.specs.Helped.{IsOn, IsShort, Does}

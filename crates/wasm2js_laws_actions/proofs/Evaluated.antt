@@ -24,9 +24,9 @@ use Rattle.asm_lang_valid.specs.Typing.{Scope, named}
 use Rattle.asm_lang_exec.specs.Runs.{Place, Run, wrong, Part, after, and_then, defined}
 use Rattle.asm_lang_exec.specs.Values.{Calls, call_named, read_element, element_value, kind_of}
 use Rattle.asm_lang_exec.specs.Meaning.{eval, eval_all, eval_links, link_operator}
-use Rattle.wasm2js_words.specs.Names.{view_of_words, imul, clz32}
-use Rattle.wasm2js_words.specs.Words.{called, Relation, Term, read, number, both, flip, sum, product, zeros, compare, choose, byte, whole, Summands, no_more, further, as_int, as_number, signed_number, relation_operator, bit_operator, indexed, name_of, byte_view, expr, summands, int_of, arguments}
-use Rattle.wasm2js_laws_words.specs.Sound.{IsSound, AreSound, AllSound, byte_element}
+use Rattle.wasm2js_translation.specs.Names.{view_of_words, imul, clz32}
+use Rattle.wasm2js_translation.specs.Words.{called, Relation, Term, read, number, both, flip, sum, product, zeros, compare, choose, byte, whole, Summands, no_more, further, as_int, as_number, signed_number, relation_operator, bit_operator, indexed, name_of, byte_view, expr, summands, int_of, arguments}
+use Rattle.wasm2js_laws_terms.specs.Sound.{IsSound, AreSound, AllSound, byte_element}
 use Rattle.wasm2js_laws_places.specs.Straight.{value, summed, values, bits_of, relation_of, truth, added, byte_kind, index_at, element_word}
 use Rattle.wasm2js_laws_places.specs.Places.{word_at, AreApart}
 use Rattle.wasm2js_laws_actions.specs.Reads.{Reads, ReadsAll}
@@ -92,7 +92,7 @@ module _ (calls : Calls) (c : Scope) where
       read_then (λ r. P (after r next)) x p (ev e p) (λ v. and_then (ev (lit (pos k))) (λ w. defined (js_binary_of Sar v w))) w h
       (λ v a. subst (λ y. P (next y p)) (sym (ap (λ j. Whole (int_shr (signed_of 32 (to_uint32_of v)) j)) is ∙ ap (λ n. Whole (int_shr (signed_of 32 n) k)) a)) f)
 
-  compared : (signed : Bool) (r : Relation) (a b : Expr) (x y : ℕ) (p : Place) → Reads x p (ev a p) → Reads y p (ev b p)
+  pub compared : (signed : Bool) (r : Relation) (a b : Expr) (x y : ℕ) (p : Place) → Reads x p (ev a p) → Reads y p (ev b p)
       → Reads (truth (rel_of 32 (relation_of signed r) x y)) p (ev (binary (relation_operator r) (as_number signed a) (as_number signed b)) p)
   compared signed r a b x y p h k =
       let z : ℕ = truth (rel_of 32 (relation_of signed r) x y) in
@@ -100,7 +100,7 @@ module _ (calls : Calls) (c : Scope) where
       (λ f. number_then signed b y p (Reads z p) (λ w. defined (js_binary_of (relation_operator r) (number_value signed x) w)) tt k
       (λ g. compared_read signed r x y p f g))
 
-  chosen : (t a b : Expr) (x y z : ℕ) (p : Place) → Reads x p (ev t p) → Reads y p (ev a p) → Reads z p (ev b p) → Reads (if x == 0 then z else y) p (ev (cond (signed_number t) a b) p)
+  pub chosen : (t a b : Expr) (x y z : ℕ) (p : Place) → Reads x p (ev t p) → Reads y p (ev a p) → Reads z p (ev b p) → Reads (if x == 0 then z else y) p (ev (cond (signed_number t) a b) p)
   chosen t a b x y z p h k l =
       number_then true t x p (Reads (if x == 0 then z else y) p) (λ v. if truthy_of v then ev a else ev b) tt h
       (λ f. subst (λ c. Reads (if x == 0 then z else y) p ((if c then ev a else ev b) p)) (sym (is_true x f)) (pick (x == 0)))
@@ -138,7 +138,7 @@ module _ (calls : Calls) (c : Scope) where
       (one_more x [] p (ev a p) (eval_all false calls c no_exprs) h (refl, refl))
       (λ vs e. subst (λ m. Reads (leading_zeros_of 32 x) p (call_named calls m vs p)) (sym is) (zeros_called x calls vs p e))
 
-  as_int_read : (t : Term) (e : Expr) (x : ℕ) (p : Place) → Reads x p (ev e p) → Reads x p (ev (as_int t e) p)
+  pub as_int_read : (t : Term) (e : Expr) (x : ℕ) (p : Place) → Reads x p (ev e p) → Reads x p (ev (as_int t e) p)
   as_int_read (read n) e x p h = h
   as_int_read (number z) e x p h = h
   as_int_read (both op a b) e x p h = h

@@ -9,8 +9,8 @@ use Rattle.asm_lang_exec.specs.Runs.{Place, Part}
 use Rattle.asm_lang_exec.specs.Values.{Calls}
 use Rattle.asm_lang_exec.specs.Meaning.{Completion, exec, exec_all}
 use Rattle.asm_laws_continuation.proofs.Following.{statements_follow}
-use Rattle.wasm2js_words.specs.Words.{Term, Simple, Action, simply, either, expr, branch, simple_statement, simple_statements, statement, statements, stmts_in}
-use Rattle.wasm2js_laws_words.specs.Sound.{AreSoundSimple, IsSoundAction, AreSoundActions}
+use Rattle.wasm2js_translation.specs.Words.{Term, Simple, Action, simply, either, expr, branch, simple_statement, simple_statements, statement, statements, stmts_in}
+use Rattle.wasm2js_laws_terms.specs.Sound.{AreSoundSimple, IsSoundAction, AreSoundActions}
 use Rattle.wasm2js_laws_places.specs.Straight.{value, Helping, AskHelpers, ActionAsks, ActionsAsk, Outcome, run_simple, run_simples, run_action, run_actions, simple_units, simples_units, action_units, actions_units}
 use Rattle.wasm2js_laws_places.specs.Places.{word_at, AreApart, IsHeap}
 use Rattle.wasm2js_laws_places.specs.Helped.{Does, AreHelpers}

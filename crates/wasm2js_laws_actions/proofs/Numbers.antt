@@ -16,7 +16,7 @@ use Rattle.sem_words.proofs.WordLaws.{bin_of-IsWord, un_of-le, word_of-add, word
 use Rattle.asm_types.proofs.Sound.{to_uint32_lt}
 use Rattle.asm_lang_exec.specs.Runs.{Place, defined}
 use Rattle.asm_lang_exec.specs.Meaning.{link_operator}
-use Rattle.wasm2js_words.specs.Words.{BitOp, conjunction, disjunction, exclusion, shift_left, shift_right_signed, shift_right, Relation, equal, unequal, less, at_most, greater, at_least, bit_operator, relation_operator}
+use Rattle.wasm2js_translation.specs.Words.{BitOp, conjunction, disjunction, exclusion, shift_left, shift_right_signed, shift_right, Relation, equal, unequal, less, at_most, greater, at_least, bit_operator, relation_operator}
 use Rattle.wasm2js_laws_places.specs.Straight.{bits_of, relation_of, truth, added}
 use Rattle.wasm2js_laws_actions.specs.Reads.{Reads, Finds}
 

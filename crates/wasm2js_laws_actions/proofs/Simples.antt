@@ -14,7 +14,7 @@ use Rattle.sem_words.proofs.WordLaws.{word_of-signed_of_32}
 use Rattle.heap_lang.specs.declared.kind.ViewKind.{ViewKind}
 use Rattle.heap_lang.specs.declared.kind.ViewKind.TheVariants.{U8, I32}
 use Rattle.heap_lang.specs.Heap.{store}
-use Rattle.sem_laws.specs.Observation.{stopped, trap_name}
+use Rattle.session_lang.specs.Observation.{stopped, trap_name}
 use Rattle.asm_lang.specs.Modules.{Expr, lit, Stmt, plain}
 use Rattle.asm_lang.specs.Modules as text
 use Rattle.asm_lang_valid.specs.declared.meaning.Element.{Element}
@@ -25,9 +25,9 @@ use Rattle.asm_lang_exec.specs.Runs as runs
 use Rattle.asm_lang_exec.specs.Runs.{Place, Run, spent, wrong, Part, after, and_then, defined, write}
 use Rattle.asm_lang_exec.specs.Values.{Calls, call_named, write_element, kind_of}
 use Rattle.asm_lang_exec.specs.Meaning.{eval, eval_all, Completion, normal, exec}
-use Rattle.wasm2js_words.specs.Names.{Name, Fixed, trap, view_of_bytes, view_of_words, spelled}
-use Rattle.wasm2js_words.specs.Words.{Term, Simple, put, ask, tell, guard, stop, write_byte, write_whole, name_of, natural, indexed, expr, int_of, arguments, put_in, trap_call, simple_statement}
-use Rattle.wasm2js_laws_words.specs.Sound.{IsSound, AllSound, IsHelper, HasTrap, IsSoundSimple}
+use Rattle.wasm2js_translation.specs.Names.{Name, Fixed, trap, view_of_bytes, view_of_words, spelled}
+use Rattle.wasm2js_translation.specs.Words.{Term, Simple, put, ask, tell, guard, stop, write_byte, write_whole, name_of, natural, indexed, expr, int_of, arguments, put_in, trap_call, simple_statement}
+use Rattle.wasm2js_laws_terms.specs.Sound.{IsSound, AllSound, IsHelper, HasTrap, IsSoundSimple}
 use Rattle.wasm2js_laws_places.specs.Straight.{Words, with_word, value, values, index_at, is_helper, AsksHelpers, Answer, gives, traps, Helping, with_high, Outcome, goes, stops, asked, told, run_simple, simple_units}
 use Rattle.wasm2js_laws_places.specs.Places.{word_at, AreApart, IsHeap}
 use Rattle.wasm2js_laws_places.specs.Helped.{IsOn, Does, Helps, AreHelpers}

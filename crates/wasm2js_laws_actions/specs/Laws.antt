@@ -6,8 +6,8 @@ use Rattle.asm_lang_exec.specs.Values.{Calls}
 use Rattle.asm_lang_exec.specs.Meaning.{eval, eval_all, exec_all, Completion}
 use Rattle.asm_laws_continuation.specs.Following.{CallsBefore, exec_all_to}
 use Rattle.asm_laws_continuation.specs.Laws.{AllFollow}
-use Rattle.wasm2js_words.specs.Words.{Term, Action, expr, int_of, arguments, statements, stmts_in}
-use Rattle.wasm2js_laws_words.specs.Sound.{IsSound, AllSound, AreSoundActions}
+use Rattle.wasm2js_translation.specs.Words.{Term, Action, expr, int_of, arguments, statements, stmts_in}
+use Rattle.wasm2js_laws_terms.specs.Sound.{IsSound, AllSound, AreSoundActions}
 use Rattle.wasm2js_laws_places.specs.Straight.{value, values, Helping, ActionsAsk, run_actions, actions_units}
 use Rattle.wasm2js_laws_places.specs.Places.{word_at, AreApart, IsHeap}
 use Rattle.wasm2js_laws_places.specs.Helped.{Does, AreHelpers}

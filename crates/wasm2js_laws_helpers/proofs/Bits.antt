@@ -17,10 +17,10 @@ use Rattle.asm_lang_exec.specs.Runs as runs
 use Rattle.asm_lang_exec.specs.Runs.{Binding, binding, Place, Run, goes, stops, spent, wrong, Part, after, and_then, defined, paid, with_locals, back_to, write}
 use Rattle.asm_lang_exec.specs.Values.{Calls}
 use Rattle.asm_lang_exec.specs.Meaning.{eval, Completion, normal, broken, continued, returned, unless_left, loop_end, unless_ended, turns, exec, exec_all, first_locals, function_end, call_at}
-use Rattle.wasm2js_words.specs.Names.{spelled}
-use Rattle.wasm2js_words.specs.Words.{Term, read, conjunction, shift_right, both, int_of}
-use Rattle.wasm2js_code.specs.Pairs.{literal, plus}
-use Rattle.wasm2js_code.specs.Helpers.{sets, gives, argument, own, block_of, first, set_bits_function}
+use Rattle.wasm2js_translation.specs.Names.{spelled}
+use Rattle.wasm2js_translation.specs.Words.{Term, read, conjunction, shift_right, both, int_of}
+use Rattle.wasm2js_translation.specs.Pairs.{literal, plus}
+use Rattle.wasm2js_translation.specs.Helpers.{sets, gives, argument, own, block_of, first, set_bits_function}
 use Rattle.wasm2js_laws_places.specs.Straight as straight
 use Rattle.wasm2js_laws_places.specs.Places.{word_at, names_in, IsHeap}
 use Rattle.wasm2js_laws_places.specs.Helped.{Helps}
@@ -29,7 +29,7 @@ use Rattle.wasm2js_laws_actions.proofs.Reading.{read_then}
 use Rattle.wasm2js_laws_numbers.proofs.Counted.{set_bits_step}
 use Rattle.wasm2js_laws_helpers.specs.Answers.{length_of}
 use Rattle.wasm2js_laws_helpers.specs.Laws.{SetBitsHelp, FewUnits}
-use Rattle.wasm2js_laws_helpers.proofs.Called.{Returns, placed, called, words_after}
+use Rattle.wasm2js_laws_helpers.proofs.Called.{Returns, placed, CallGives, call_helps, called}
 use Rattle.wasm2js_laws_helpers.proofs.Computed.{int_read, given}
 use Rattle.wasm2js_laws_helpers.proofs.Turned.{marked_word}
 use Rattle.wasm2js_laws_helpers.proofs.Bodies.{run}
@@ -65,7 +65,7 @@ word_is j y s a b e f g = omega arith
 -- ---- what the loop comes to
 
 -- a value of this word is returned after so many units, and nothing else has changed but locals
-abbrev Pops : ℕ → (cost : ℕ) → Place → Run Completion → Type 0
+abbrev pub Pops : ℕ → (cost : ℕ) → Place → Run Completion → Type 0
 Pops w cost p (goes (returned v) q) = (to_uint32_of v ≡ w) × (q.units + cost ≡ p.units) × (q.heap ≡ p.heap) × (q.events ≡ p.events) × (q.replies ≡ p.replies) × (q.globals ≡ p.globals)
 Pops w cost p (goes normal q) = ⊥
 Pops w cost p (goes (broken n) q) = ⊥
@@ -92,7 +92,7 @@ no_more w x n p before (stops y q) e k = absurd k
 no_more w x n p before (spent q) e k = absurd k
 no_more w x n p before wrong e k = tt
 
-abbrev pop_locals : (a s : JsValue) → List Binding
+abbrev pub pop_locals : (a s : JsValue) → List Binding
 pop_locals a s = binding (spelled (argument 0)) a ∷ binding (spelled (own 0)) s ∷ []
 
 abbrev count : Term
@@ -181,36 +181,24 @@ module _ (calls : Calls) (c : Scope) (bound : ℕ) (p : Place) where
 
 -- ---- the call
 
-module _ (m : Module) (bytes : ℕ) (v : JsValue) where
-  abbrev result : ℕ
+module _ (m : Module) (v : JsValue) where
+  abbrev pub result : ℕ
   result = set_bits_of 32 (to_uint32_of v)
 
-  abbrev turns_made : ℕ
+  abbrev pub turns_made : ℕ
   turns_made = suc (length_of 32 (to_uint32_of v))
 
-  ended : (p : Place) (n : ℕ) (locals : List Binding) → IsHeap bytes p.heap → p.units ≡ suc n → (r : Run Completion) → Pops result turns_made (placed p n locals) r
-      → Helps bytes (straight.gives result None p.heap) (suc turns_made) p (after (after r (λ d. function_end d)) (back_to p.locals))
-  ended p n locals heap e (goes (returned y) q) k = (
-    k.0,
-    record {
-      has_words = words_after None p (record q { locals = p.locals }) refl k.5;
-      has_heap = k.2;
-      is_heap = heap;
-      left = let u = k.1 in omega (arith, u, e);
-      locals = refl;
-      globals = ap names_in k.5;
-      events = k.3;
-      replies = k.4;
-    },
-  )
-  ended p n locals heap e (goes normal q) k = absurd k
-  ended p n locals heap e (goes (broken x) q) k = absurd k
-  ended p n locals heap e (goes (continued x) q) k = absurd k
-  ended p n locals heap e (stops x q) k = absurd k
-  ended p n locals heap e (spent q) k = let u = k.0 in record { few = omega (arith, u, e); events = k.1 }
-  ended p n locals heap e wrong k = tt
+  ended : (p : Place) (n : ℕ) (locals : List Binding) → p.units ≡ suc n → (r : Run Completion) → Pops result turns_made (placed p n locals) r
+      → CallGives result None (suc turns_made) p (after (after r (λ d. function_end d)) (back_to p.locals))
+  ended p n locals e (goes (returned y) q) k = (k.0, record { left = let u = k.1 in omega (arith, u, e); heap = k.2; events = k.3; replies = k.4; locals = refl; globals = k.5 })
+  ended p n locals e (goes normal q) k = absurd k
+  ended p n locals e (goes (broken x) q) k = absurd k
+  ended p n locals e (goes (continued x) q) k = absurd k
+  ended p n locals e (stops x q) k = absurd k
+  ended p n locals e (spent q) k = let u = k.0 in record { few = omega (arith, u, e); events = k.1 }
+  ended p n locals e wrong k = tt
 
-  body : (d n : ℕ) (p : Place) → n ≤ d → Pops result turns_made (placed p n (pop_locals (signed_value (to_uint32_of v)) (Whole (pos 0))))
+  pub body : (d n : ℕ) (p : Place) → n ≤ d → Pops result turns_made (placed p n (pop_locals (signed_value (to_uint32_of v)) (Whole (pos 0))))
       (exec_all false (call_at false m d) (scope_of m set_bits_function) d set_bits_function.body (placed p n (pop_locals (signed_value (to_uint32_of v)) (Whole (pos 0)))))
   body d n p le =
       let a = signed_value (to_uint32_of v) in
@@ -225,29 +213,32 @@ module _ (m : Module) (bytes : ℕ) (v : JsValue) where
       zero_add : (x : ℕ) → 0 + x ≡ x
       zero_add x = omega arith
 
-  called_once : (bound : ℕ) (p : Place) → IsHeap bytes p.heap → p.units ≤ bound
-      → Helps bytes (straight.gives result None p.heap) (2 + length_of 32 (to_uint32_of v)) p (call_at false m bound set_bits_function (v ∷ []) p)
-  called_once bound p heap le =
-      subst (λ cost. Helps bytes (straight.gives result None p.heap) cost p (call_at false m bound set_bits_function (v ∷ []) p)) (two (length_of 32 (to_uint32_of v))) (at bound le)
+  call_pops : (bound : ℕ) (p : Place) → p.units ≤ bound → CallGives result None (2 + length_of 32 (to_uint32_of v)) p (call_at false m bound set_bits_function (v ∷ []) p)
+  call_pops bound p le = subst (λ cost. CallGives result None cost p (call_at false m bound set_bits_function (v ∷ []) p)) (two (length_of 32 (to_uint32_of v))) (at bound le)
     where
       two : (x : ℕ) → suc (suc x) ≡ 2 + x
       two x = omega arith
 
       by : (d u : ℕ) → p.units ≡ u → p.units ≤ suc d
-          → Helps bytes (straight.gives result None p.heap) (suc turns_made) p
+          → CallGives result None (suc turns_made) p
           (after (paid u p) (λ _. and_then (defined (first_locals set_bits_function (v ∷ []))) (λ locals. with_locals locals (and_then (exec_all false (call_at false m d) (scope_of m set_bits_function) d set_bits_function.body) (λ d. function_end d)))))
       by d zero e le = record { few = omega arith; events = refl }
       by d (suc n) e le =
-          ended p n (pop_locals (signed_value (to_uint32_of v)) (Whole (pos 0))) heap e
+          ended p n (pop_locals (signed_value (to_uint32_of v)) (Whole (pos 0))) e
           (exec_all false (call_at false m d) (scope_of m set_bits_function) d set_bits_function.body (placed p n (pop_locals (signed_value (to_uint32_of v)) (Whole (pos 0))))) (body d n p (omega arith))
 
-      at : (bound : ℕ) → p.units ≤ bound → Helps bytes (straight.gives result None p.heap) (suc turns_made) p (call_at false m bound set_bits_function (v ∷ []) p)
+      at : (bound : ℕ) → p.units ≤ bound → CallGives result None (suc turns_made) p (call_at false m bound set_bits_function (v ∷ []) p)
       at zero le = record { few = omega arith; events = refl }
       at (suc d) le = by d p.units refl le
 
+pub set_bits_give : (m : Module) (bound : ℕ) (v : JsValue) (p : Place) → p.units ≤ bound
+    → CallGives (set_bits_of 32 (to_uint32_of v)) None (2 + length_of 32 (to_uint32_of v)) p (call_at false m bound set_bits_function (v ∷ []) p)
+set_bits_give m bound v p le = call_pops m v bound p le
+
 pub set_bits_help : SetBitsHelp
 set_bits_help m bound bytes [] p heap le = called m set_bits_function bytes [] 0 None bound p heap le (λ d n locals is. absurd (cc is))
-set_bits_help m bound bytes (v ∷ []) p heap le = called_once m bytes v bound p heap le
+set_bits_help m bound bytes (v ∷ []) p heap le =
+    call_helps bytes (set_bits_of 32 (to_uint32_of v)) None (2 + length_of 32 (to_uint32_of v)) p heap (call_at false m bound set_bits_function (v ∷ []) p) (set_bits_give m bound v p le)
 set_bits_help m bound bytes (v ∷ w ∷ more) p heap le = called m set_bits_function bytes (v ∷ w ∷ more) 0 None bound p heap le (λ d n locals is. absurd (cc is))
 
 long_at_most : (k a : ℕ) → length_of k a ≤ k

@@ -6,16 +6,16 @@ use Rattle.std.proofs.lemmas.Nat.{and_le_r}
 use Rattle.sem_words.specs.declared.js_value.JsValue.{JsValue}
 use Rattle.sem_words.specs.JsValues.{to_uint32_of, truthy_of}
 use Rattle.sem_words.specs.JsOperators.{signed_value}
-use Rattle.sem_laws.specs.Imports.{low_word, high_word}
+use Rattle.session_lang.specs.Imports.{low_word, high_word}
 use Rattle.asm_lang.specs.Modules.{Stmt}
 use Rattle.asm_lang_valid.specs.Typing.{Scope}
 use Rattle.asm_lang_exec.specs.Runs as runs
 use Rattle.asm_lang_exec.specs.Runs.{Binding, Place, Run, goes, stops, spent, wrong, Part, after, value_in, with_value, write}
 use Rattle.asm_lang_exec.specs.Values.{Calls}
 use Rattle.asm_lang_exec.specs.Meaning.{eval, Completion, normal, broken, continued, returned, unless_left, exec_all}
-use Rattle.wasm2js_words.specs.Names.{spare_high}
-use Rattle.wasm2js_words.specs.Words.{Term, name_of, int_of, stmts_in}
-use Rattle.wasm2js_code.specs.Helpers.{sets, spare, when}
+use Rattle.wasm2js_translation.specs.Names.{spare_high}
+use Rattle.wasm2js_translation.specs.Words.{Term, name_of, int_of, stmts_in}
+use Rattle.wasm2js_translation.specs.Helpers.{sets, spare, when}
 use Rattle.wasm2js_laws_places.specs.Straight.{Words, value}
 use Rattle.wasm2js_laws_actions.proofs.Numbers.{is_true}
 use Rattle.wasm2js_laws_actions.proofs.Reading.{read_then}

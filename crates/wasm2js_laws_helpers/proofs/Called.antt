@@ -1,16 +1,16 @@
 -- A call of a function that gives a word and perhaps sets `$q`.
-use Rattle.std.proofs.Common.{◌≡◌, ℕ, zero, suc, ◌≤◌, Bool, true, false, List, Option, Some, None, refl, ap, ◌∙◌, arith}
+use Rattle.std.proofs.Common.{◌≡◌, ℕ, zero, suc, ◌+◌, ◌≤◌, Bool, true, false, List, Option, Some, None, refl, ap, ◌∙◌, arith}
 use Rattle.sem_words.specs.declared.js_value.JsValue.{JsValue}
 use Rattle.sem_words.specs.JsValues.{to_uint32_of}
 use Rattle.asm_lang.specs.Modules.{Function, Module}
 use Rattle.asm_lang_valid.specs.Typed.{scope_of}
 use Rattle.asm_lang_exec.specs.Runs.{Binding, Place, Run, goes, stops, spent, wrong, after, and_then, defined, paid, value_in, with_value, with_locals, back_to}
 use Rattle.asm_lang_exec.specs.Meaning.{Completion, normal, broken, continued, returned, exec_all, first_locals, function_end, call_at}
-use Rattle.wasm2js_words.specs.Names.{Name, fixed, spare_high, spelled}
-use Rattle.wasm2js_words.specs.Words.{name_of}
+use Rattle.wasm2js_translation.specs.Names.{Name, fixed, spare_high, spelled}
+use Rattle.wasm2js_translation.specs.Words.{name_of}
 use Rattle.wasm2js_laws_places.specs.Straight.{gives, with_word, with_high}
 use Rattle.wasm2js_laws_places.specs.Places.{is_own, variables, word_bound, word_at, names_in, IsHeap}
-use Rattle.wasm2js_laws_places.specs.Helped.{Helps}
+use Rattle.wasm2js_laws_places.specs.Helped.{IsShort, Helps}
 use Rattle.wasm2js_laws_actions.proofs.Variables.{names_stay, outer_set}
 
 -- `$q` was set to a value of this word
@@ -64,42 +64,79 @@ names_after : (h : Option ℕ) (before after : List Binding) → HasHigh h befor
 names_after None before after f = ap names_in f
 names_after (Some x) before after f = ap names_in f.is ∙ names_stay (name_of spare_high) f.value before
 
-module _ (m : Module) (g : Function) (bytes : ℕ) (vs : List JsValue) (w : ℕ) (h : Option ℕ) where
-  ended : (p : Place) (n : ℕ) (locals : List Binding) → IsHeap bytes p.heap → p.units ≡ suc n → (r : Run Completion) → Returns w h (placed p n locals) r
-      → Helps bytes (gives w h p.heap) 1 p (after (after r (λ d. function_end d)) (back_to p.locals))
-  ended p n locals heap e (goes (returned v) q) k = (
+-- a call gives a value of this word for so many units, and nothing else has changed but perhaps `$q`
+pub record IsCalled (high : Option ℕ) (units : ℕ) (p q : Place) : Type 0 where
+  pub left : q.units + units ≡ p.units
+  pub heap : q.heap ≡ p.heap
+  pub events : q.events ≡ p.events
+  pub replies : q.replies ≡ p.replies
+  pub locals : q.locals ≡ p.locals
+  pub globals : HasHigh high p.globals q.globals
+
+abbrev pub CallGives : ℕ → Option ℕ → (units : ℕ) → Place → Run JsValue → Type 0
+CallGives w h units p (goes v q) = (to_uint32_of v ≡ w) × IsCalled h units p q
+CallGives w h units p (stops e q) = ⊥
+CallGives w h units p (spent q) = IsShort units p q
+CallGives w h units p wrong = Unit {0}
+
+-- so it helps
+pub call_helps : (bytes w : ℕ) (h : Option ℕ) (units : ℕ) (p : Place) → IsHeap bytes p.heap → (r : Run JsValue) → CallGives w h units p r → Helps bytes (gives w h p.heap) units p r
+call_helps bytes w h units p heap (goes v q) k = (
+  k.0,
+  record {
+    has_words = words_after h p q k.1.locals k.1.globals;
+    has_heap = k.1.heap;
+    is_heap = heap;
+    left = k.1.left;
+    locals = ap names_in k.1.locals;
+    globals = names_after h p.globals q.globals k.1.globals;
+    events = k.1.events;
+    replies = k.1.replies;
+  },
+)
+call_helps bytes w h units p heap (stops e q) k = absurd k
+call_helps bytes w h units p heap (spent q) k = k
+call_helps bytes w h units p heap wrong k = tt
+
+module _ (m : Module) (g : Function) (vs : List JsValue) (w : ℕ) (h : Option ℕ) where
+  ended : (p : Place) (n : ℕ) (locals : List Binding) → p.units ≡ suc n → (r : Run Completion) → Returns w h (placed p n locals) r
+      → CallGives w h 1 p (after (after r (λ d. function_end d)) (back_to p.locals))
+  ended p n locals e (goes (returned v) q) k = (
     k.0,
     record {
-      has_words = words_after h p (record q { locals = p.locals }) refl k.1.globals;
-      has_heap = k.1.heap;
-      is_heap = heap;
       left = let u = k.1.units in omega (arith, u, e);
-      locals = refl;
-      globals = names_after h p.globals q.globals k.1.globals;
+      heap = k.1.heap;
       events = k.1.events;
       replies = k.1.replies;
+      locals = refl;
+      globals = k.1.globals;
     },
   )
-  ended p n locals heap e (goes normal q) k = absurd k
-  ended p n locals heap e (goes (broken x) q) k = absurd k
-  ended p n locals heap e (goes (continued x) q) k = absurd k
-  ended p n locals heap e (stops x q) k = absurd k
-  ended p n locals heap e (spent q) k = absurd k
-  ended p n locals heap e wrong k = tt
+  ended p n locals e (goes normal q) k = absurd k
+  ended p n locals e (goes (broken x) q) k = absurd k
+  ended p n locals e (goes (continued x) q) k = absurd k
+  ended p n locals e (stops x q) k = absurd k
+  ended p n locals e (spent q) k = absurd k
+  ended p n locals e wrong k = tt
 
-  pub called : (bound : ℕ) (p : Place) → IsHeap bytes p.heap → p.units ≤ bound
+  pub call_gives : (bound : ℕ) (p : Place) → p.units ≤ bound
       → ((d n : ℕ) (locals : List Binding) → first_locals g vs ≡ Some locals → Returns w h (placed p n locals) (exec_all false (call_at false m d) (scope_of m g) d g.body (placed p n locals)))
-      → Helps bytes (gives w h p.heap) 1 p (call_at false m bound g vs p)
-  called zero p heap le body = record { few = omega arith; events = refl }
-  called (suc d) p heap le body = by p.units refl
+      → CallGives w h 1 p (call_at false m bound g vs p)
+  call_gives zero p le body = record { few = omega arith; events = refl }
+  call_gives (suc d) p le body = by p.units refl
     where
       with_them : (n : ℕ) → p.units ≡ suc n → (o : Option (List Binding)) → first_locals g vs ≡ o
-          → Helps bytes (gives w h p.heap) 1 p (after (defined o (record p { units = n })) (λ locals. with_locals locals (and_then (exec_all false (call_at false m d) (scope_of m g) d g.body) (λ d. function_end d))))
+          → CallGives w h 1 p (after (defined o (record p { units = n })) (λ locals. with_locals locals (and_then (exec_all false (call_at false m d) (scope_of m g) d g.body) (λ d. function_end d))))
       with_them n e None is = tt
-      with_them n e (Some locals) is = ended p n locals heap e (exec_all false (call_at false m d) (scope_of m g) d g.body (placed p n locals)) (body d n locals is)
+      with_them n e (Some locals) is = ended p n locals e (exec_all false (call_at false m d) (scope_of m g) d g.body (placed p n locals)) (body d n locals is)
 
       by : (u : ℕ) → p.units ≡ u
-          → Helps bytes (gives w h p.heap) 1 p
+          → CallGives w h 1 p
           (after (paid u p) (λ _. and_then (defined (first_locals g vs)) (λ locals. with_locals locals (and_then (exec_all false (call_at false m d) (scope_of m g) d g.body) (λ d. function_end d)))))
       by zero e = record { few = omega (arith, e); events = refl }
       by (suc n) e = with_them n e (first_locals g vs) refl
+
+pub called : (m : Module) (g : Function) (bytes : ℕ) (vs : List JsValue) (w : ℕ) (h : Option ℕ) (bound : ℕ) (p : Place) → IsHeap bytes p.heap → p.units ≤ bound
+    → ((d n : ℕ) (locals : List Binding) → first_locals g vs ≡ Some locals → Returns w h (placed p n locals) (exec_all false (call_at false m d) (scope_of m g) d g.body (placed p n locals)))
+    → Helps bytes (gives w h p.heap) 1 p (call_at false m bound g vs p)
+called m g bytes vs w h bound p heap le body = call_helps bytes w h 1 p heap (call_at false m bound g vs p) (call_gives m g vs w h bound p le body)

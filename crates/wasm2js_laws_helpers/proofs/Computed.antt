@@ -15,10 +15,10 @@ use Rattle.asm_lang_exec.specs.Runs as runs
 use Rattle.asm_lang_exec.specs.Runs.{Place, Run, wrong, Part, after, and_then, defined}
 use Rattle.asm_lang_exec.specs.Values.{Calls, call_named}
 use Rattle.asm_lang_exec.specs.Meaning.{eval, eval_all, eval_links, link_operator, returned, unless_left, exec_all}
-use Rattle.wasm2js_words.specs.Names.{clz32, spelled}
-use Rattle.wasm2js_words.specs.Words.{called, Term, read, number, both, flip, sum, product, zeros, compare, choose, byte, whole, Summands, no_more, further, as_int, bit_operator, name_of, expr, summands, int_of, stmts_in, signed_number, byte_view}
-use Rattle.wasm2js_code.specs.Helpers.{gives}
-use Rattle.wasm2js_laws_words.specs.Sound.{byte_element}
+use Rattle.wasm2js_translation.specs.Names.{clz32, spelled}
+use Rattle.wasm2js_translation.specs.Words.{called, Term, read, number, both, flip, sum, product, zeros, compare, choose, byte, whole, Summands, no_more, further, as_int, bit_operator, name_of, expr, summands, int_of, stmts_in, signed_number, byte_view}
+use Rattle.wasm2js_translation.specs.Helpers.{gives}
+use Rattle.wasm2js_laws_terms.specs.Sound.{byte_element}
 use Rattle.wasm2js_laws_places.specs.Straight.{Words, value, summed, bits_of, added}
 use Rattle.wasm2js_laws_actions.specs.Reads.{Reads}
 use Rattle.wasm2js_laws_actions.proofs.Numbers.{bits_read, links_read, zeros_read, flipped}

@@ -12,7 +12,7 @@ use Rattle.sem_words.specs.declared.js_value.JsOp.TheVariants.{Eq, Div, Rem}
 use Rattle.sem_words.specs.JsValues.{truthy_of}
 use Rattle.sem_words.specs.JsOperators.{is_zero, are_alike, js_binary_of}
 use Rattle.sem_words.specs.Words.{word_of, signed_of}
-use Rattle.sem_laws.specs.Observation.{trap_name}
+use Rattle.session_lang.specs.Observation.{trap_name}
 use Rattle.asm_lang.specs.Modules.{Expr, Stmt, Function, Module, lit, binary}
 use Rattle.asm_lang_valid.specs.Scope.{a_foreign}
 use Rattle.asm_lang_valid.specs.Typing.{Scope, named}
@@ -20,8 +20,8 @@ use Rattle.asm_lang_exec.specs.Runs as runs
 use Rattle.asm_lang_exec.specs.Runs.{Binding, Place, Run, goes, stops, spent, wrong, after, and_then, defined, back_to}
 use Rattle.asm_lang_exec.specs.Values.{Calls}
 use Rattle.asm_lang_exec.specs.Meaning.{eval, Completion, normal, broken, continued, returned, unless_left, exec, function_end}
-use Rattle.wasm2js_words.specs.Names.{trap}
-use Rattle.wasm2js_words.specs.Words.{name_of, signed_number, trap_call}
+use Rattle.wasm2js_translation.specs.Names.{trap}
+use Rattle.wasm2js_translation.specs.Words.{name_of, signed_number, trap_call}
 use Rattle.wasm2js_laws_places.specs.Straight as straight
 use Rattle.wasm2js_laws_places.specs.Places.{IsHeap}
 use Rattle.wasm2js_laws_places.specs.Helped.{Helps}
@@ -34,8 +34,8 @@ use Rattle.std.proofs.Math.Nat.{div-le_self, mod-le}
 use Rattle.sem_words.specs.declared.js_value.JsOp.TheVariants.{And}
 use Rattle.sem_words.specs.JsOperators.{quotient_of, remainder_of}
 use Rattle.asm_lang.specs.Modules.{returns}
-use Rattle.wasm2js_words.specs.Words.{as_number, expr}
-use Rattle.wasm2js_code.specs.Helpers.{first, second, divisor_test, overflow_test}
+use Rattle.wasm2js_translation.specs.Words.{as_number, expr}
+use Rattle.wasm2js_translation.specs.Helpers.{first, second, divisor_test, overflow_test}
 use Rattle.wasm2js_laws_helpers.proofs.Quotients.{quotient_word, remainder_word, divides}
 use Rattle.wasm2js_laws_helpers.proofs.Trapped.{Comes, nothing_wrong, equal_then, zero_divisor, overflows}
 use Rattle.wasm2js_laws_helpers.proofs.Bodies.{run}

@@ -12,7 +12,7 @@ use Rattle.asm_lang.specs.Modules.{Function, Module, binary}
 use Rattle.asm_lang_valid.specs.Typed.{scope_of}
 use Rattle.asm_lang_exec.specs.Runs.{Binding, Place, spent, wrong, after, and_then, defined, paid, with_locals}
 use Rattle.asm_lang_exec.specs.Meaning.{exec_all, first_locals, function_end, call_at}
-use Rattle.wasm2js_words.specs.Words.{signed_number}
+use Rattle.wasm2js_translation.specs.Words.{signed_number}
 use Rattle.wasm2js_laws_places.specs.Places.{IsHeap}
 use Rattle.wasm2js_laws_places.specs.Helped.{Helps}
 use Rattle.wasm2js_laws_helpers.specs.Answers.{checked}
@@ -21,8 +21,8 @@ use Rattle.sem_words.specs.declared.word.Bin.{Bin}
 use Rattle.sem_words.specs.declared.word.Bin.TheVariants as bins
 use Rattle.sem_words.specs.Words.{bin_of}
 use Rattle.asm_lang.specs.Modules.{returns}
-use Rattle.wasm2js_words.specs.Words.{as_number, expr}
-use Rattle.wasm2js_code.specs.Helpers.{first, second, overflow_test}
+use Rattle.wasm2js_translation.specs.Words.{as_number, expr}
+use Rattle.wasm2js_translation.specs.Helpers.{first, second, overflow_test}
 use Rattle.wasm2js_laws_helpers.specs.Answers.{divided}
 use Rattle.wasm2js_laws_helpers.specs.Laws.{HelpsAtOnce, HasTrap, divide_signed_function, divide_function, remainder_signed_function, remainder_function, DivideSignedHelps, DivideHelps, RemainderSignedHelps, RemainderHelps}
 use Rattle.wasm2js_laws_helpers.proofs.Trapped.{Comes}

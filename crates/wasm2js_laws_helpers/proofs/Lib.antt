@@ -9,3 +9,4 @@ pub mod Quotients
 pub mod Trapped
 pub mod Divided
 pub mod Divisions
+pub mod Access

@@ -7,24 +7,24 @@ use Rattle.sem_words.specs.JsValues.{to_uint32_of}
 use Rattle.sem_words.specs.JsOperators.{signed_value}
 use Rattle.sem_words.specs.Words.{shl_of, shr_u_of, rotl_of}
 use Rattle.asm_types.proofs.Sound.{to_uint32_lt}
-use Rattle.sem_laws.specs.Imports.{low_word, high_word}
+use Rattle.session_lang.specs.Imports.{low_word, high_word}
 use Rattle.asm_lang.specs.Modules.{Stmt, Module}
 use Rattle.asm_lang_valid.specs.Typing.{Scope}
 use Rattle.asm_lang_valid.specs.Typed.{scope_of}
 use Rattle.asm_lang_exec.specs.Runs.{Binding, binding, Place, Run, goes, stops, spent, wrong, after}
 use Rattle.asm_lang_exec.specs.Values.{Calls}
 use Rattle.asm_lang_exec.specs.Meaning.{Completion, normal, broken, continued, returned, unless_left, exec_all, first_locals, call_at}
-use Rattle.wasm2js_words.specs.Names.{spelled}
-use Rattle.wasm2js_words.specs.Words.{read}
-use Rattle.wasm2js_code.specs.Pairs.{funnel_left}
-use Rattle.wasm2js_code.specs.Helpers.{sets, gives, spare, when, argument, own, is_far, first, second, third, rotate_left_function}
+use Rattle.wasm2js_translation.specs.Names.{spelled}
+use Rattle.wasm2js_translation.specs.Words.{read}
+use Rattle.wasm2js_translation.specs.Pairs.{funnel_left}
+use Rattle.wasm2js_translation.specs.Helpers.{sets, gives, spare, when, argument, own, is_far, first, second, third, rotate_left_function}
 use Rattle.wasm2js_laws_places.specs.Places.{word_at}
 use Rattle.wasm2js_laws_numbers.specs.Laws as numbers
 use Rattle.wasm2js_laws_numbers.proofs.Shifted.{rotations_left}
 use Rattle.wasm2js_laws_helpers.specs.Laws.{RotateLeftHelps}
 use Rattle.wasm2js_laws_helpers.proofs.Called.{Returns, placed}
 use Rattle.wasm2js_laws_helpers.proofs.Computed.{given}
-use Rattle.wasm2js_laws_helpers.proofs.Turned.{split_of, sum_small, whole, returned_words, locals_of, Body, helps_by}
+use Rattle.wasm2js_laws_helpers.proofs.Turned.{split_of, sum_small, whole, returned_words, locals_of, GivesTwo, Body, gives_by, helps_by}
 use Rattle.wasm2js_laws_helpers.proofs.Bodies.{run, set_then, when_then, far_truth}
 
 -- what is known of a body from a place with other variables
@@ -37,7 +37,7 @@ other_locals w h p locals (stops e q) k = absurd k
 other_locals w h p locals (spent q) k = absurd k
 other_locals w h p locals wrong k = tt
 
-abbrev four_locals : (s a b n : JsValue) → List Binding
+abbrev pub four_locals : (s a b n : JsValue) → List Binding
 four_locals s a b n = binding (spelled (argument 0)) a ∷ binding (spelled (argument 1)) b ∷ binding (spelled (argument 2)) n ∷ binding (spelled (own 0)) s ∷ []
 
 abbrev exchange : List Stmt
@@ -77,7 +77,7 @@ module _ (calls : Calls) (c : Scope) (turns : ℕ) (p : Place) (units : ℕ) whe
         (other_locals across (Some straight) here (four_locals a b a n) (run calls c turns funnels (placed p units (four_locals a b a n))) (funnelled a b a n)))
         (λ e. subst (λ t. Rotates t (run calls c turns funnels here)) (sym (sym (far_truth (to_uint32_of n)) ∙ e)) (funnelled s a b n))
 
-first_rotate : (m : Module) (vs : List JsValue) → first_locals rotate_left_function vs ≡ locals_of m rotate_left_function rotl_of (four_locals (Whole (pos 0))) vs
+pub first_rotate : (m : Module) (vs : List JsValue) → first_locals rotate_left_function vs ≡ locals_of m rotate_left_function rotl_of (four_locals (Whole (pos 0))) vs
 first_rotate m [] = refl
 first_rotate m (v ∷ []) = refl
 first_rotate m (v ∷ w ∷ []) = refl
@@ -87,7 +87,7 @@ first_rotate m (v ∷ w ∷ u ∷ x ∷ more) = refl
 both_small : (a x n : ℕ) → a < 2 ^ 32 → x < 2 ^ 32 → (numbers.funnel_left x a n < 2 ^ 32) × (numbers.funnel_left a x n < 2 ^ 32)
 both_small a x n p q = (sum_small (shl_of 32 x n) (shr_u_of 32 (shr_u_of 32 a 1) (numbers.flipped n)), sum_small (shl_of 32 a n) (shr_u_of 32 (shr_u_of 32 x 1) (numbers.flipped n)))
 
-rotate_body : (m : Module) → Body m rotate_left_function rotl_of (four_locals (Whole (pos 0)))
+pub rotate_body : (m : Module) → Body m rotate_left_function rotl_of (four_locals (Whole (pos 0)))
 rotate_body m v w u p d n locals is =
     subst (λ locals. Returns (low_word (whole rotl_of v w u)) (Some (high_word (whole rotl_of v w u))) (placed p n locals)
     (exec_all false (call_at false m d) (scope_of m rotate_left_function) d rotate_left_function.body (placed p n locals)))
@@ -106,6 +106,9 @@ rotate_body m v w u p d n locals is =
 
     k : JsValue
     k = signed_value (to_uint32_of u)
+
+pub rotate_left_gives : (m : Module) → GivesTwo m rotate_left_function rotl_of
+rotate_left_gives m = gives_by m rotate_left_function rotl_of (four_locals (Whole (pos 0))) (first_rotate m) (rotate_body m)
 
 pub rotate_left_helps : RotateLeftHelps
 rotate_left_helps m = helps_by m rotate_left_function rotl_of (four_locals (Whole (pos 0))) (first_rotate m) (rotate_body m)

@@ -12,15 +12,15 @@ use Rattle.sem_words.specs.declared.js_value.JsOp.TheVariants.{Eq}
 use Rattle.sem_words.specs.JsValues.{to_uint32_of}
 use Rattle.sem_words.specs.JsOperators.{is_zero, are_alike, js_binary_of, signed_value}
 use Rattle.sem_words.specs.Words.{word_of, signed_of, trap_code}
-use Rattle.sem_laws.specs.Observation.{stopped, trap_name}
+use Rattle.session_lang.specs.Observation.{stopped, trap_name}
 use Rattle.asm_lang.specs.Modules.{Expr, Stmt, lit, binary}
 use Rattle.asm_lang_valid.specs.Scope.{a_foreign}
 use Rattle.asm_lang_valid.specs.Typing.{Scope, named}
 use Rattle.asm_lang_exec.specs.Runs.{Place, Run, goes, stops, wrong, Part, after, and_then, defined}
 use Rattle.asm_lang_exec.specs.Values.{Calls}
 use Rattle.asm_lang_exec.specs.Meaning.{eval, Completion, returned, unless_left, exec, exec_all}
-use Rattle.wasm2js_words.specs.Names.{trap}
-use Rattle.wasm2js_words.specs.Words.{name_of, signed_number, trap_call, stmts_in}
+use Rattle.wasm2js_translation.specs.Names.{trap}
+use Rattle.wasm2js_translation.specs.Words.{name_of, signed_number, trap_call, stmts_in}
 use Rattle.wasm2js_laws_actions.specs.Reads.{Reads, Finds}
 use Rattle.wasm2js_laws_actions.proofs.Numbers.{number_value}
 use Rattle.wasm2js_laws_actions.proofs.Reading.{found_then}

@@ -1,5 +1,5 @@
 -- Shifts and rotations of words of 64 bits.
-use Rattle.std.proofs.Common.{◌≡◌, ℕ, ◌+◌, ◌*◌, ◌%◌, ◌^◌, ◌<◌, Bool, false, List, [], ◌∷◌, Option, Some, None, refl, sym, ap, ◌∙◌, subst, arith}
+use Rattle.std.proofs.Common.{◌≡◌, ℕ, ◌+◌, ◌*◌, ◌%◌, ◌^◌, ◌<◌, ◌≤◌, Bool, false, List, [], ◌∷◌, Option, Some, None, refl, sym, ap, ◌∙◌, subst, arith}
 use Rattle.std.specs.Prelude.{if◌then◌else◌, bit_and}
 use Rattle.std.specs.Int.{int_shr}
 use Rattle.std.proofs.lemmas.Nat.{shr_le, mod_below, pow_pos}
@@ -9,17 +9,17 @@ use Rattle.sem_words.specs.JsOperators.{signed_value}
 use Rattle.sem_words.specs.Words.{add_of, signed_of, shl_of, shr_u_of, shr_s_of}
 use Rattle.sem_words.proofs.WordLaws.{word_of-signed_of_32, word_of-IsWord}
 use Rattle.asm_types.proofs.Sound.{to_uint32_lt}
-use Rattle.sem_laws.specs.Imports.{low_word, high_word}
+use Rattle.session_lang.specs.Imports.{low_word, high_word}
 use Rattle.asm_lang.specs.Modules.{Function, Module}
 use Rattle.asm_lang_valid.specs.Typing.{Scope}
 use Rattle.asm_lang_valid.specs.Typed.{scope_of}
 use Rattle.asm_lang_exec.specs.Runs.{Binding, binding, Place, Run, after}
 use Rattle.asm_lang_exec.specs.Values.{Calls}
 use Rattle.asm_lang_exec.specs.Meaning.{Completion, unless_left, exec_all, first_locals, call_at}
-use Rattle.wasm2js_words.specs.Names.{spelled}
-use Rattle.wasm2js_words.specs.Words.{Term, shift_left, shift_right, shift_right_signed, both}
-use Rattle.wasm2js_code.specs.Pairs.{literal, sign_of, funnel_left, funnel_right}
-use Rattle.wasm2js_code.specs.Helpers.{sets, gives, spare, when, argument, is_far, first, second, third, shift_left_function, shift_right_signed_function, shift_right_function}
+use Rattle.wasm2js_translation.specs.Names.{spelled}
+use Rattle.wasm2js_translation.specs.Words.{Term, shift_left, shift_right, shift_right_signed, both}
+use Rattle.wasm2js_translation.specs.Pairs.{literal, sign_of, funnel_left, funnel_right}
+use Rattle.wasm2js_translation.specs.Helpers.{sets, gives, spare, when, argument, is_far, first, second, third, shift_left_function, shift_right_signed_function, shift_right_function}
 use Rattle.wasm2js_laws_places.specs.Straight.{value}
 use Rattle.wasm2js_laws_places.specs.Places.{word_at}
 use Rattle.wasm2js_laws_numbers.specs.Laws as numbers
@@ -28,7 +28,7 @@ use Rattle.wasm2js_laws_numbers.proofs.Shifted.{shifts_left, shifts_right}
 use Rattle.wasm2js_laws_numbers.proofs.Signed.{shifts_right_signed}
 use Rattle.wasm2js_laws_helpers.specs.Answers.{turned}
 use Rattle.wasm2js_laws_helpers.specs.Laws.{HelpsAtOnce, ShiftLeftHelps, ShiftRightSignedHelps, ShiftRightHelps}
-use Rattle.wasm2js_laws_helpers.proofs.Called.{Returns, placed, called}
+use Rattle.wasm2js_laws_helpers.proofs.Called.{Returns, placed, CallGives, call_helps, call_gives, called}
 use Rattle.wasm2js_laws_helpers.proofs.Computed.{Known, given}
 use Rattle.wasm2js_laws_helpers.proofs.Bodies.{Split, split, left, run, set_then, when_then, far_truth}
 
@@ -122,6 +122,12 @@ marked_locals v w u = three_locals (signed_value (to_uint32_of v)) (signed_value
 pub the_locals : (a b : List Binding) → Some a ≡ Some b → a ≡ b
 the_locals a b e = cc e
 
+-- a call with three arguments gives both words, for one unit
+abbrev pub GivesTwo : Module → Function → (ℕ → ℕ → ℕ → ℕ) → Type 0
+GivesTwo m g op =
+    (bound : ℕ) (v w u : JsValue) (p : Place) → p.units ≤ bound
+    → CallGives (low_word (whole op v w u)) (Some (high_word (whole op v w u))) 1 p (call_at false m bound g (v ∷ w ∷ u ∷ []) p)
+
 -- a function with three arguments, by its body at the marked ones
 module _ (m : Module) (g : Function) (op : ℕ → ℕ → ℕ → ℕ) (locals_for : JsValue → JsValue → JsValue → List Binding) where
   abbrev pub locals_of : List JsValue → Option (List Binding)
@@ -133,25 +139,29 @@ module _ (m : Module) (g : Function) (op : ℕ → ℕ → ℕ → ℕ) (locals_
       (v w u : JsValue) (p : Place) (d n : ℕ) (locals : List Binding) → locals ≡ locals_for (signed_value (to_uint32_of v)) (signed_value (to_uint32_of w)) (signed_value (to_uint32_of u))
       → Returns (low_word (whole op v w u)) (Some (high_word (whole op v w u))) (placed p n locals) (exec_all false (call_at false m d) (scope_of m g) d g.body (placed p n locals))
 
+  pub gives_by : ((vs : List JsValue) → first_locals g vs ≡ locals_of vs) → Body → GivesTwo m g op
+  gives_by first body bound v w u p le =
+      call_gives m g (v ∷ w ∷ u ∷ []) (low_word (whole op v w u)) (Some (high_word (whole op v w u))) bound p le
+      (λ d n locals is. body v w u p d n locals (the_locals locals _ (sym is ∙ first (v ∷ w ∷ u ∷ []))))
+
   pub helps_by : ((vs : List JsValue) → first_locals g vs ≡ locals_of vs) → Body → HelpsAtOnce m g (turned op)
   helps_by first body bound bytes [] p heap le = called m g bytes [] 0 None bound p heap le (λ d n locals is. let e = first [] in absurd (cc (is, e)))
   helps_by first body bound bytes (v ∷ []) p heap le = called m g bytes (v ∷ []) 0 None bound p heap le (λ d n locals is. let e = first (v ∷ []) in absurd (cc (is, e)))
   helps_by first body bound bytes (v ∷ w ∷ []) p heap le = called m g bytes (v ∷ w ∷ []) 0 None bound p heap le (λ d n locals is. let e = first (v ∷ w ∷ []) in absurd (cc (is, e)))
   helps_by first body bound bytes (v ∷ w ∷ u ∷ []) p heap le =
-      called m g bytes (v ∷ w ∷ u ∷ []) (low_word (whole op v w u)) (Some (high_word (whole op v w u))) bound p heap le
-      (λ d n locals is. body v w u p d n locals (the_locals locals _ (sym is ∙ first (v ∷ w ∷ u ∷ []))))
+      call_helps bytes (low_word (whole op v w u)) (Some (high_word (whole op v w u))) 1 p heap (call_at false m bound g (v ∷ w ∷ u ∷ []) p) (gives_by first body bound v w u p le)
   helps_by first body bound bytes (v ∷ w ∷ u ∷ x ∷ more) p heap le = called m g bytes (v ∷ w ∷ u ∷ x ∷ more) 0 None bound p heap le (λ d n locals is. let e = first (v ∷ w ∷ u ∷ x ∷ more) in absurd (cc (is, e)))
 
 -- ---- shifts
 
-first_shift_left : (m : Module) (vs : List JsValue) → first_locals shift_left_function vs ≡ locals_of m shift_left_function shl_of three_locals vs
+pub first_shift_left : (m : Module) (vs : List JsValue) → first_locals shift_left_function vs ≡ locals_of m shift_left_function shl_of three_locals vs
 first_shift_left m [] = refl
 first_shift_left m (v ∷ []) = refl
 first_shift_left m (v ∷ w ∷ []) = refl
 first_shift_left m (v ∷ w ∷ u ∷ []) = refl
 first_shift_left m (v ∷ w ∷ u ∷ x ∷ more) = refl
 
-shift_left_body : (m : Module) → Body m shift_left_function shl_of three_locals
+pub shift_left_body : (m : Module) → Body m shift_left_function shl_of three_locals
 shift_left_body m v w u p d n locals is =
     subst (λ locals. Returns (low_word (whole shl_of v w u)) (Some (high_word (whole shl_of v w u))) (placed p n locals) (exec_all false (call_at false m d) (scope_of m shift_left_function) d shift_left_function.body (placed p n locals)))
     (sym is)
@@ -171,17 +181,20 @@ shift_left_body m v w u p d n locals is =
     k : JsValue
     k = signed_value (to_uint32_of u)
 
+pub shift_left_gives : (m : Module) → GivesTwo m shift_left_function shl_of
+shift_left_gives m = gives_by m shift_left_function shl_of three_locals (first_shift_left m) (shift_left_body m)
+
 pub shift_left_helps : ShiftLeftHelps
 shift_left_helps m = helps_by m shift_left_function shl_of three_locals (first_shift_left m) (shift_left_body m)
 
-first_shift_right_signed : (m : Module) (vs : List JsValue) → first_locals shift_right_signed_function vs ≡ locals_of m shift_right_signed_function shr_s_of three_locals vs
+pub first_shift_right_signed : (m : Module) (vs : List JsValue) → first_locals shift_right_signed_function vs ≡ locals_of m shift_right_signed_function shr_s_of three_locals vs
 first_shift_right_signed m [] = refl
 first_shift_right_signed m (v ∷ []) = refl
 first_shift_right_signed m (v ∷ w ∷ []) = refl
 first_shift_right_signed m (v ∷ w ∷ u ∷ []) = refl
 first_shift_right_signed m (v ∷ w ∷ u ∷ x ∷ more) = refl
 
-shift_right_signed_body : (m : Module) → Body m shift_right_signed_function shr_s_of three_locals
+pub shift_right_signed_body : (m : Module) → Body m shift_right_signed_function shr_s_of three_locals
 shift_right_signed_body m v w u p d n locals is =
     subst (λ locals. Returns (low_word (whole shr_s_of v w u)) (Some (high_word (whole shr_s_of v w u))) (placed p n locals) (exec_all false (call_at false m d) (scope_of m shift_right_signed_function) d shift_right_signed_function.body (placed p n locals)))
     (sym is)
@@ -201,17 +214,20 @@ shift_right_signed_body m v w u p d n locals is =
     k : JsValue
     k = signed_value (to_uint32_of u)
 
+pub shift_right_signed_gives : (m : Module) → GivesTwo m shift_right_signed_function shr_s_of
+shift_right_signed_gives m = gives_by m shift_right_signed_function shr_s_of three_locals (first_shift_right_signed m) (shift_right_signed_body m)
+
 pub shift_right_signed_helps : ShiftRightSignedHelps
 shift_right_signed_helps m = helps_by m shift_right_signed_function shr_s_of three_locals (first_shift_right_signed m) (shift_right_signed_body m)
 
-first_shift_right : (m : Module) (vs : List JsValue) → first_locals shift_right_function vs ≡ locals_of m shift_right_function shr_u_of three_locals vs
+pub first_shift_right : (m : Module) (vs : List JsValue) → first_locals shift_right_function vs ≡ locals_of m shift_right_function shr_u_of three_locals vs
 first_shift_right m [] = refl
 first_shift_right m (v ∷ []) = refl
 first_shift_right m (v ∷ w ∷ []) = refl
 first_shift_right m (v ∷ w ∷ u ∷ []) = refl
 first_shift_right m (v ∷ w ∷ u ∷ x ∷ more) = refl
 
-shift_right_body : (m : Module) → Body m shift_right_function shr_u_of three_locals
+pub shift_right_body : (m : Module) → Body m shift_right_function shr_u_of three_locals
 shift_right_body m v w u p d n locals is =
     subst (λ locals. Returns (low_word (whole shr_u_of v w u)) (Some (high_word (whole shr_u_of v w u))) (placed p n locals) (exec_all false (call_at false m d) (scope_of m shift_right_function) d shift_right_function.body (placed p n locals)))
     (sym is)
@@ -230,6 +246,9 @@ shift_right_body m v w u p d n locals is =
 
     k : JsValue
     k = signed_value (to_uint32_of u)
+
+pub shift_right_gives : (m : Module) → GivesTwo m shift_right_function shr_u_of
+shift_right_gives m = gives_by m shift_right_function shr_u_of three_locals (first_shift_right m) (shift_right_body m)
 
 pub shift_right_helps : ShiftRightHelps
 shift_right_helps m = helps_by m shift_right_function shr_u_of three_locals (first_shift_right m) (shift_right_body m)

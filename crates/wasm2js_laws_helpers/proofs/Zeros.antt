@@ -12,11 +12,11 @@ use Rattle.asm_lang.specs.Modules.{Stmt, Function, Module}
 use Rattle.asm_lang_valid.specs.Typed.{scope_of}
 use Rattle.asm_lang_exec.specs.Runs.{Binding, binding, Place, after}
 use Rattle.asm_lang_exec.specs.Meaning.{unless_left, exec_all, first_locals, call_at}
-use Rattle.wasm2js_words.specs.Names.{spelled}
-use Rattle.wasm2js_words.specs.Words.{Term, zeros}
-use Rattle.wasm2js_code.specs.Pairs.{literal, plus, minus}
-use Rattle.wasm2js_code.specs.Actions.{low_ones}
-use Rattle.wasm2js_code.specs.Helpers.{gives, argument, first, second, leading_zeros_function, trailing_zeros_function}
+use Rattle.wasm2js_translation.specs.Names.{spelled}
+use Rattle.wasm2js_translation.specs.Words.{Term, zeros}
+use Rattle.wasm2js_translation.specs.Pairs.{literal, plus, minus}
+use Rattle.wasm2js_translation.specs.Actions.{low_ones}
+use Rattle.wasm2js_translation.specs.Helpers.{gives, argument, first, second, leading_zeros_function, trailing_zeros_function}
 use Rattle.wasm2js_laws_places.specs.Places.{word_at}
 use Rattle.wasm2js_laws_actions.proofs.Numbers.{is_true}
 use Rattle.wasm2js_laws_numbers.specs.Laws as numbers
@@ -24,7 +24,7 @@ use Rattle.wasm2js_laws_numbers.specs.Laws.{joined}
 use Rattle.wasm2js_laws_numbers.proofs.Counted.{leading_zeros, trailing_zeros, narrow_trailing_zeros}
 use Rattle.wasm2js_laws_helpers.specs.Answers.{counted}
 use Rattle.wasm2js_laws_helpers.specs.Laws.{HelpsAtOnce, HasZeros, LeadingZerosHelp, TrailingZerosHelp}
-use Rattle.wasm2js_laws_helpers.proofs.Called.{Returns, placed, called}
+use Rattle.wasm2js_laws_helpers.proofs.Called.{Returns, placed, CallGives, call_helps, call_gives, called}
 use Rattle.wasm2js_laws_helpers.proofs.Computed.{given}
 use Rattle.wasm2js_laws_helpers.proofs.Turned.{marked_word, the_locals}
 use Rattle.wasm2js_laws_helpers.proofs.Bodies.{left, run, when_then}
@@ -33,23 +33,33 @@ use Rattle.wasm2js_laws_helpers.proofs.Bodies.{left, run, when_then}
 abbrev pub two_locals : (a b : JsValue) → List Binding
 two_locals a b = binding (spelled (argument 0)) a ∷ binding (spelled (argument 1)) b ∷ []
 
+-- a call with two arguments gives a word, for one unit
+abbrev pub GivesOne : Module → Function → (ℕ → ℕ → ℕ) → Type 0
+GivesOne m g op =
+    (bound : ℕ) (v w : JsValue) (p : Place) → p.units ≤ bound
+    → CallGives (op 64 (joined (to_uint32_of v) (to_uint32_of w))) None 1 p (call_at false m bound g (v ∷ w ∷ []) p)
+
 -- a function with two arguments, by its body at the marked ones
 module _ (m : Module) (g : Function) (op : ℕ → ℕ → ℕ) where
-  abbrev locals_of : List JsValue → Option (List Binding)
+  abbrev pub locals_of : List JsValue → Option (List Binding)
   locals_of (v ∷ w ∷ []) = Some (two_locals (signed_value (to_uint32_of v)) (signed_value (to_uint32_of w)))
   locals_of _ = None
 
-  abbrev Body : Type 0
+  abbrev pub Body : Type 0
   Body =
       (v w : JsValue) (p : Place) (d n : ℕ) (locals : List Binding) → locals ≡ two_locals (signed_value (to_uint32_of v)) (signed_value (to_uint32_of w))
       → Returns (op 64 (joined (to_uint32_of v) (to_uint32_of w))) None (placed p n locals) (exec_all false (call_at false m d) (scope_of m g) d g.body (placed p n locals))
+
+  gives_by : ((vs : List JsValue) → first_locals g vs ≡ locals_of vs) → Body → GivesOne m g op
+  gives_by first body bound v w p le =
+      call_gives m g (v ∷ w ∷ []) (op 64 (joined (to_uint32_of v) (to_uint32_of w))) None bound p le
+      (λ d n locals is. body v w p d n locals (the_locals locals _ (sym is ∙ first (v ∷ w ∷ []))))
 
   helps_by : ((vs : List JsValue) → first_locals g vs ≡ locals_of vs) → Body → HelpsAtOnce m g (counted op)
   helps_by first body bound bytes [] p heap le = called m g bytes [] 0 None bound p heap le (λ d n locals is. let e = first [] in absurd (cc (is, e)))
   helps_by first body bound bytes (v ∷ []) p heap le = called m g bytes (v ∷ []) 0 None bound p heap le (λ d n locals is. let e = first (v ∷ []) in absurd (cc (is, e)))
   helps_by first body bound bytes (v ∷ w ∷ []) p heap le =
-      called m g bytes (v ∷ w ∷ []) (op 64 (joined (to_uint32_of v) (to_uint32_of w))) None bound p heap le
-      (λ d n locals is. body v w p d n locals (the_locals locals _ (sym is ∙ first (v ∷ w ∷ []))))
+      call_helps bytes (op 64 (joined (to_uint32_of v) (to_uint32_of w))) None 1 p heap (call_at false m bound g (v ∷ w ∷ []) p) (gives_by first body bound v w p le)
   helps_by first body bound bytes (v ∷ w ∷ u ∷ more) p heap le = called m g bytes (v ∷ w ∷ u ∷ more) 0 None bound p heap le (λ d n locals is. let e = first (v ∷ w ∷ u ∷ more) in absurd (cc (is, e)))
 
 not_zero : (t s : Bool) → s ≡ not t → s ≡ true → t ≡ false
@@ -69,7 +79,7 @@ none v e = is_zero (to_uint32_of v == 0) _ (is_true (to_uint32_of v) (to_uint32_
 
 -- ---- leading zeros
 
-first_leading : (m : Module) (vs : List JsValue) → first_locals leading_zeros_function vs ≡ locals_of m leading_zeros_function leading_zeros_of vs
+pub first_leading : (m : Module) (vs : List JsValue) → first_locals leading_zeros_function vs ≡ locals_of m leading_zeros_function leading_zeros_of vs
 first_leading m [] = refl
 first_leading m (v ∷ []) = refl
 first_leading m (v ∷ w ∷ []) = refl
@@ -78,7 +88,7 @@ first_leading m (v ∷ w ∷ u ∷ more) = refl
 small_sum : (n : ℕ) → n ≤ 32 → add_of 32 32 n ≡ 32 + n
 small_sum n h = omega arith
 
-leading_body : (m : Module) → HasZeros m → Body m leading_zeros_function leading_zeros_of
+pub leading_body : (m : Module) → HasZeros m → Body m leading_zeros_function leading_zeros_of
 leading_body m has v w p d n locals is =
     subst (λ locals. Returns (leading_zeros_of 64 (joined (to_uint32_of v) (to_uint32_of w))) None (placed p n locals)
     (exec_all false (call_at false m d) (scope_of m leading_zeros_function) d leading_zeros_function.body (placed p n locals))) (sym is)
@@ -112,12 +122,15 @@ leading_body m has v w p d n locals is =
         ap (λ x. add_of 32 32 (leading_zeros_of 32 x)) (marked_word v) ∙ small_sum (leading_zeros_of 32 (to_uint32_of v)) (un_of-le 32 uns.Clz (to_uint32_of v) (to_uint32_lt v))
         ∙ sym (law ∙ ap (λ t. if t then 32 + leading_zeros_of 32 (to_uint32_of v) else leading_zeros_of 32 (to_uint32_of w)) (none w e))
 
+pub leading_zeros_give : (m : Module) → HasZeros m → GivesOne m leading_zeros_function leading_zeros_of
+leading_zeros_give m has = gives_by m leading_zeros_function leading_zeros_of (first_leading m) (leading_body m has)
+
 pub leading_zeros_help : LeadingZerosHelp
 leading_zeros_help m has = helps_by m leading_zeros_function leading_zeros_of (first_leading m) (leading_body m has)
 
 -- ---- trailing zeros
 
-first_trailing : (m : Module) (vs : List JsValue) → first_locals trailing_zeros_function vs ≡ locals_of m trailing_zeros_function trailing_zeros_of vs
+pub first_trailing : (m : Module) (vs : List JsValue) → first_locals trailing_zeros_function vs ≡ locals_of m trailing_zeros_function trailing_zeros_of vs
 first_trailing m [] = refl
 first_trailing m (v ∷ []) = refl
 first_trailing m (v ∷ w ∷ []) = refl
@@ -133,7 +146,7 @@ less_64 l t h = omega arith
 abbrev trailing_term : ℕ → Term → Term
 trailing_term k t = minus (literal k) (zeros (low_ones t))
 
-trailing_body : (m : Module) → HasZeros m → Body m trailing_zeros_function trailing_zeros_of
+pub trailing_body : (m : Module) → HasZeros m → Body m trailing_zeros_function trailing_zeros_of
 trailing_body m has v w p d n locals is =
     subst (λ locals. Returns (trailing_zeros_of 64 (joined (to_uint32_of v) (to_uint32_of w))) None (placed p n locals)
     (exec_all false (call_at false m d) (scope_of m trailing_zeros_function) d trailing_zeros_function.body (placed p n locals))) (sym is)
@@ -169,6 +182,9 @@ trailing_body m has v w p d n locals is =
     high e =
         ap (λ x. sub_of 32 64 (leading_zeros_of 32 (numbers.low_ones x))) (marked_word w) ∙ less_64 _ _ (narrow_trailing_zeros (to_uint32_of w) (to_uint32_lt w))
         ∙ sym (law ∙ ap (λ t. if t then 32 + trailing_zeros_of 32 (to_uint32_of w) else trailing_zeros_of 32 (to_uint32_of v)) (none v e))
+
+pub trailing_zeros_give : (m : Module) → HasZeros m → GivesOne m trailing_zeros_function trailing_zeros_of
+trailing_zeros_give m has = gives_by m trailing_zeros_function trailing_zeros_of (first_trailing m) (trailing_body m has)
 
 pub trailing_zeros_help : TrailingZerosHelp
 trailing_zeros_help m has = helps_by m trailing_zeros_function trailing_zeros_of (first_trailing m) (trailing_body m has)

@@ -3,7 +3,7 @@ use Rattle.std.specs.Prelude.{ℕ, zero, suc, ◌+◌, ◌/◌, List, [], ◌∷
 use Rattle.sem_words.specs.declared.word.Bin.{Bin}
 use Rattle.sem_words.specs.declared.word.TrapKind.{TrapKind}
 use Rattle.sem_words.specs.Words.{set_bits_of, bin_of, trap_code}
-use Rattle.sem_laws.specs.Imports.{low_word, high_word}
+use Rattle.session_lang.specs.Imports.{low_word, high_word}
 use Rattle.wasm2js_laws_places.specs.Straight.{Answer, gives, traps}
 use Rattle.wasm2js_laws_numbers.specs.Laws.{joined}
 

@@ -5,16 +5,16 @@ use Rattle.sem_words.specs.JsValues.{to_uint32_of}
 use Rattle.sem_words.specs.Words.{shl_of, shr_s_of, shr_u_of, rotl_of, leading_zeros_of, trailing_zeros_of}
 use Rattle.sem_words.specs.declared.word.Bin.TheVariants as bins
 use Rattle.sem_words.specs.declared.js_value.JsOp.TheVariants.{Div, Rem}
-use Rattle.sem_laws.specs.Observation.{trap_name}
+use Rattle.session_lang.specs.Observation.{trap_name}
 use Rattle.asm_lang.specs.Modules.{Function, Module}
 use Rattle.asm_lang_valid.specs.declared.meaning.Builtin.TheVariants.{Clz32}
 use Rattle.asm_lang_valid.specs.Scope.{a_builtin, a_foreign, module_meaning}
 use Rattle.asm_lang_exec.specs.Runs.{Place}
 use Rattle.asm_lang_exec.specs.Meaning.{call_at}
-use Rattle.wasm2js_words.specs.Names as names
-use Rattle.wasm2js_words.specs.Names.{clz32, trap, fixed}
-use Rattle.wasm2js_words.specs.Words.{name_of}
-use Rattle.wasm2js_code.specs.Helpers.{function_of, two_arguments, divisor_test, overflow_test, signed_result, plain_result, shift_left_function, shift_right_signed_function, shift_right_function, rotate_left_function, leading_zeros_function, trailing_zeros_function, set_bits_function}
+use Rattle.wasm2js_translation.specs.Names as names
+use Rattle.wasm2js_translation.specs.Names.{clz32, trap, fixed}
+use Rattle.wasm2js_translation.specs.Words.{name_of}
+use Rattle.wasm2js_translation.specs.Helpers.{function_of, two_arguments, divisor_test, overflow_test, signed_result, plain_result, shift_left_function, shift_right_signed_function, shift_right_function, rotate_left_function, leading_zeros_function, trailing_zeros_function, set_bits_function}
 use Rattle.wasm2js_laws_places.specs.Straight.{Answer}
 use Rattle.wasm2js_laws_places.specs.Places.{IsHeap}
 use Rattle.wasm2js_laws_places.specs.Helped.{Helps}

@@ -1,6 +1,8 @@
 //! The helper functions of what WebAssembly is translated to do what their operators mean.
 #![tactic(auto)]
 
+pub mod access_laws;
+
 ghost use Rattle.wasm2js_laws_helpers.specs.Laws.{ShiftLeftHelps, ShiftRightSignedHelps, ShiftRightHelps, RotateLeftHelps, LeadingZerosHelp, TrailingZerosHelp, SetBitsHelp, FewUnits, DivideSignedHelps, DivideHelps, RemainderSignedHelps, RemainderHelps};
 
 /// Shifts and rotations of words of 64 bits.

@@ -3,7 +3,7 @@ use Rattle.std.specs.Prelude.{◌≡◌, ℕ, ◌+◌, ◌<◌, ◌≤◌, List,
 use Rattle.sem_words.specs.declared.word.Word.TheVariants.{W32}
 use Rattle.sem_words.specs.declared.js_value.JsValue.{JsValue}
 use Rattle.sem_words.specs.JsValues.{to_uint32_of}
-use Rattle.sem_laws.specs.Observation.{EndPlain, stopped, trap_name}
+use Rattle.session_lang.specs.Observation.{EndPlain, stopped, trap_name}
 use Rattle.asm_lang.specs.Modules.{Function}
 use Rattle.asm_lang_valid.specs.Scope.{a_function}
 use Rattle.asm_lang_valid.specs.Typing.{Scope, named}
@@ -11,8 +11,8 @@ use Rattle.asm_lang_exec.specs.Runs as runs
 use Rattle.asm_lang_exec.specs.Runs.{Place, Run, spent, wrong}
 use Rattle.asm_lang_exec.specs.Values.{Calls}
 use Rattle.asm_lang_exec.specs.Meaning.{Completion, normal}
-use Rattle.wasm2js_words.specs.Names.{Fixed}
-use Rattle.wasm2js_words.specs.Words.{name_of}
+use Rattle.wasm2js_translation.specs.Names.{Fixed}
+use Rattle.wasm2js_translation.specs.Words.{name_of}
 use Rattle.wasm2js_laws_places.specs.Straight.{Words, Answer, gives, traps, Helping, with_high, is_helper, Outcome, goes, stops}
 use Rattle.wasm2js_laws_places.specs.Places.{word_at, names_in, IsHeap}
 

@@ -2,3 +2,5 @@ pub mod Straight
 pub mod Places
 pub mod Helped
 pub mod Worked
+pub mod Following
+pub mod PaceLaws

@@ -6,16 +6,16 @@ use Rattle.sem_words.specs.declared.word.Word.TheVariants.{W32, W64}
 use Rattle.sem_words.specs.declared.js_value.JsValue.{JsValue}
 use Rattle.sem_words.specs.JsValues.{to_uint32_of}
 use Rattle.heap_lang.specs.Numbers.{IsBytes}
-use Rattle.sem_laws.specs.Script.{WritePlain, ReplyPlain, give, throw}
-use Rattle.sem_laws.specs.Imports.{Replies}
-use Rattle.sem_laws.specs.Observation.{EventPlain}
+use Rattle.session_lang.specs.Script.{WritePlain, ReplyPlain, give, throw}
+use Rattle.session_lang.specs.Imports.{Replies}
+use Rattle.session_lang.specs.Observation.{EventPlain}
 use Rattle.wasm_lang.specs.declared.types.ValType.{ValType}
 use Rattle.wasm_lang.specs.declared.types.ValType.TheVariants.{I32, I64}
 use Rattle.wasm_lang_exec.specs.Store.{Store}
 use Rattle.asm_lang_valid.specs.Scope.{is_in}
 use Rattle.asm_lang_exec.specs.Runs.{Binding, Place, value_in}
-use Rattle.wasm2js_words.specs.Names.{Name, numbered, local_low, local_high, operand_low, operand_high, spelled}
-use Rattle.wasm2js_code.specs.Pairs.{Pair, local_pair, operand_pair, global_pair}
+use Rattle.wasm2js_translation.specs.Names.{Name, numbered, local_low, local_high, operand_low, operand_high, spelled}
+use Rattle.wasm2js_translation.specs.Pairs.{Pair, local_pair, operand_pair, global_pair}
 use Rattle.wasm2js_laws_places.specs.Straight.{Words}
 
 -- ---- words of a place

@@ -7,8 +7,8 @@ use Rattle.sem_words.specs.Words.{word_of, signed_of, add_of, sub_of, mul_of, sh
 use Rattle.heap_lang.specs.declared.kind.ViewKind.{ViewKind}
 use Rattle.heap_lang.specs.declared.kind.ViewKind.TheVariants.{I8, U8, I32}
 use Rattle.heap_lang.specs.Heap.{load, store}
-use Rattle.wasm2js_words.specs.Names.{Fixed, Name, numbered, fixed, letter, fixed_rank, spare_high, init, last_high}
-use Rattle.wasm2js_words.specs.Words.{BitOp, conjunction, disjunction, exclusion, shift_left, shift_right_signed, shift_right, Relation, equal, unequal, less, at_most, greater, at_least, Term, read, number, both, flip, sum, product, zeros, compare, choose, byte, whole, Summands, no_more, further, Simple, put, ask, tell, guard, stop, write_byte, write_whole, Action, simply, either}
+use Rattle.wasm2js_translation.specs.Names.{Fixed, Name, numbered, fixed, letter, fixed_rank, spare_high, init, last_high}
+use Rattle.wasm2js_translation.specs.Words.{BitOp, conjunction, disjunction, exclusion, shift_left, shift_right_signed, shift_right, Relation, equal, unequal, less, at_most, greater, at_least, Term, read, number, both, flip, sum, product, zeros, compare, choose, byte, whole, Summands, no_more, further, Simple, put, ask, tell, guard, stop, write_byte, write_whole, Action, simply, either}
 
 -- ---- words of variables
 

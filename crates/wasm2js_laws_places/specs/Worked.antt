@@ -1,10 +1,10 @@
 -- Straight code that is worked out: sums of two words, and loads from a memory of eight bytes.
 use Rattle.std.specs.Prelude.{ℕ, false, List, [], ◌∷◌, None}
 use Rattle.wasm_lang.specs.declared.types.MemOp.{MemOp}
-use Rattle.wasm2js_words.specs.Names.{numbered, operand_low, operand_high}
-use Rattle.wasm2js_code.specs.Pairs.{operand_pair, simples}
-use Rattle.wasm2js_code.specs.Wide.{wide_sum}
-use Rattle.wasm2js_code.specs.Actions.{load_code}
+use Rattle.wasm2js_translation.specs.Names.{numbered, operand_low, operand_high}
+use Rattle.wasm2js_translation.specs.Pairs.{operand_pair, simples}
+use Rattle.wasm2js_translation.specs.Wide.{wide_sum}
+use Rattle.wasm2js_translation.specs.Actions.{load_code}
 use Rattle.wasm2js_laws_places.specs.Straight.{Words, with_word, gives, Helping, Outcome, goes, stops, run_actions}
 
 -- each helper gives 77, for three units

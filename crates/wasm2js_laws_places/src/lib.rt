@@ -1,6 +1,8 @@
 //! From WebAssembly to asm.js: which state of WebAssembly a place of asm.js stands for, and what straight code does without asm.js.
 #![tactic(auto)]
 
+pub mod pace_laws;
+
 ghost use Rattle.std.specs.Prelude.{◌≡◌, ◌∷◌, []};
 ghost use Rattle.wasm2js_laws_places.specs.Straight.{stops};
 ghost use Rattle.wasm2js_laws_places.specs.Worked.{seen_words, added_up, loaded_at, a_heap};

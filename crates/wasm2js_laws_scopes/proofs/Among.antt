@@ -5,9 +5,9 @@ use Rattle.std.specs.List.{list_all}
 use Rattle.std.proofs.lemmas.Bool.{and_parts}
 use Rattle.std.proofs.lemmas.Slice.Eq.{bytes_eq-Decides}
 use Rattle.asm_lang_valid.specs.Scope.{Meaning, an_int, among_params, among_locals}
-use Rattle.wasm2js_words.specs.Names.{Name, spelled}
-use Rattle.wasm2js_words.proofs.Spelling.{spellings_differ}
-use Rattle.wasm2js_code.specs.Helpers.{int_param, zero_variable}
+use Rattle.wasm2js_translation.specs.Names.{Name, spelled}
+use Rattle.wasm2js_translation.proofs.Spelling.{spellings_differ}
+use Rattle.wasm2js_translation.specs.Helpers.{int_param, zero_variable}
 use Rattle.wasm2js_laws_scopes.specs.Laws.{is_own}
 
 abbrev pub Among : Name → List Name → Type 0

@@ -10,12 +10,12 @@ use Rattle.asm_lang.specs.Modules.{Stmt, Module}
 use Rattle.asm_lang_valid.specs.Scope.{among_locals, module_meaning}
 use Rattle.asm_lang_valid.specs.Typing.{named}
 use Rattle.asm_lang_valid.specs.Typed.{scope_of}
-use Rattle.wasm2js_words.specs.Names.{Name, spelled}
-use Rattle.wasm2js_laws_words.specs.Sound.{IsInt}
-use Rattle.wasm2js_code.specs.Pairs.{local_pair, operand_pair, names_of}
-use Rattle.wasm2js_code.specs.Helpers.{zero_variable, function_of}
-use Rattle.wasm2js_code.specs.Modules.{param_names}
-use Rattle.wasm2js_code.specs.Rooms.{local_names, operand_names, declared_names}
+use Rattle.wasm2js_translation.specs.Names.{Name, spelled}
+use Rattle.wasm2js_laws_terms.specs.Sound.{IsInt}
+use Rattle.wasm2js_translation.specs.Pairs.{local_pair, operand_pair, names_of}
+use Rattle.wasm2js_translation.specs.Helpers.{zero_variable, function_of}
+use Rattle.wasm2js_translation.specs.Modules.{param_names}
+use Rattle.wasm2js_translation.specs.Rooms.{local_names, operand_names, declared_names}
 use Rattle.wasm2js_laws_scopes.specs.Provided.{AreInts, IsNamed}
 use Rattle.wasm2js_laws_scopes.specs.Laws.{is_own, RoomIsDeclared, ModuleNamesAreSeen, VariablesAreOwn}
 use Rattle.wasm2js_laws_scopes.proofs.Among.{Among, in_left, in_right, AllAmong, all_left, all_right, all_themselves, past_params, param_found, local_found, no_param, no_local}

@@ -16,12 +16,12 @@ use Rattle.asm_lang_valid.specs.Scope as scopes
 use Rattle.asm_lang_valid.specs.Scope.{is_in, Meaning, a_parameter, an_int, a_foreign, a_builtin, a_view, init_meaning, among_globals, among_functions, among_tables}
 use Rattle.asm_lang_valid.specs.Typing.{named}
 use Rattle.asm_lang_valid.specs.Typed.{scope_of}
-use Rattle.wasm2js_words.specs.Names as names
-use Rattle.wasm2js_words.specs.Names.{Name, Fixed, numbered, fixed, word, spelled}
-use Rattle.wasm2js_words.proofs.Spelling.{spellings_are_usable}
-use Rattle.wasm2js_code.specs.Helpers.{function_of, wide_helpers, division_helpers, memory_helpers}
-use Rattle.wasm2js_code.specs.Modules.{functions_from, init_function, high_function, helpers, functions_of, stdlib_name, foreign_name, heap_name, view_variables, fixed_variables, foreign_variables, given_variable, imported_variables, first_values, own_variables, global_variables, variables_of, translated}
-use Rattle.wasm2js_code.specs.Tables.{stubs, tables_for}
+use Rattle.wasm2js_translation.specs.Names as names
+use Rattle.wasm2js_translation.specs.Names.{Name, Fixed, numbered, fixed, word, spelled}
+use Rattle.wasm2js_translation.proofs.Spelling.{spellings_are_usable}
+use Rattle.wasm2js_translation.specs.Helpers.{function_of, wide_helpers, division_helpers, memory_helpers}
+use Rattle.wasm2js_translation.specs.Modules.{functions_from, init_function, high_function, helpers, functions_of, stdlib_name, foreign_name, heap_name, view_variables, fixed_variables, foreign_variables, given_variable, imported_variables, first_values, own_variables, global_variables, variables_of, translated}
+use Rattle.wasm2js_translation.specs.Tables.{stubs, tables_for}
 use Rattle.wasm2js_laws_scopes.specs.Provided.{HasFixed, HasMemory}
 use Rattle.wasm2js_laws_scopes.specs.Laws.{is_own, HeadIsProvided, MemoryIsProvided}
 use Rattle.wasm2js_laws_scopes.proofs.Among.{other_spelling}

@@ -4,10 +4,10 @@ use Rattle.std.specs.Prelude.{if◌then◌else◌}
 use Rattle.sem_words.specs.declared.js_value.JsOp.TheVariants.{Div, Rem}
 use Rattle.asm_lang.specs.Modules.{Variable, Function, Module}
 use Rattle.asm_lang_valid.specs.Scope.{Meaning, a_function, among_globals, among_functions, Signature, signature_of}
-use Rattle.wasm2js_words.specs.Names as names
-use Rattle.wasm2js_words.specs.Names.{Fixed, fixed, word}
-use Rattle.wasm2js_code.specs.Helpers.{function_of, one_argument, two_arguments, three_arguments, second, third, spare, gives, sets, shift_left_function, shift_right_signed_function, shift_right_function, rotate_left_function, leading_zeros_function, trailing_zeros_function, set_bits_function, wide_helpers, divisor_test, overflow_test, signed_result, plain_result, division_helpers, word_at, write_word, copy_function, fill_function, memory_helpers}
-use Rattle.wasm2js_code.specs.Modules.{view_variables, fixed_variables}
+use Rattle.wasm2js_translation.specs.Names as names
+use Rattle.wasm2js_translation.specs.Names.{Fixed, fixed, word}
+use Rattle.wasm2js_translation.specs.Helpers.{function_of, one_argument, two_arguments, three_arguments, second, third, spare, gives, sets, shift_left_function, shift_right_signed_function, shift_right_function, rotate_left_function, leading_zeros_function, trailing_zeros_function, set_bits_function, wide_helpers, divisor_test, overflow_test, signed_result, plain_result, division_helpers, word_at, write_word, copy_function, fill_function, memory_helpers}
+use Rattle.wasm2js_translation.specs.Modules.{view_variables, fixed_variables}
 use Rattle.wasm2js_laws_scopes.specs.Provided.{wide_helper, memory_helper}
 
 abbrev pub any_helper : Fixed → Bool

@@ -9,10 +9,10 @@ use Rattle.asm_lang.specs.Modules.{Stmt, Module}
 use Rattle.asm_lang_valid.specs.Scope.{module_meaning}
 use Rattle.asm_lang_valid.specs.Typing.{named}
 use Rattle.asm_lang_valid.specs.Typed.{scope_of}
-use Rattle.wasm2js_words.specs.Names.{Numbered, local_low, local_high, operand_low, operand_high, Name, numbered, fixed, spelled}
-use Rattle.wasm2js_code.specs.Helpers.{function_of}
-use Rattle.wasm2js_code.specs.Modules.{param_names, translated}
-use Rattle.wasm2js_code.specs.Rooms.{Room, declared_names}
+use Rattle.wasm2js_translation.specs.Names.{Numbered, local_low, local_high, operand_low, operand_high, Name, numbered, fixed, spelled}
+use Rattle.wasm2js_translation.specs.Helpers.{function_of}
+use Rattle.wasm2js_translation.specs.Modules.{param_names, translated}
+use Rattle.wasm2js_translation.specs.Rooms.{Room, declared_names}
 use Rattle.wasm2js_laws_scopes.specs.Provided.{HasRoom, HasFixed, HasMemory}
 
 -- The variables that are declared for a room are ints, as are those of the source's parameters.

@@ -10,14 +10,14 @@ use Rattle.asm_lang_valid.specs.declared.meaning.Builtin.TheVariants.{Imul, Clz3
 use Rattle.asm_lang_valid.specs.declared.meaning.Element.TheVariants.{Int8, Uint8, Int32}
 use Rattle.asm_lang_valid.specs.Scope.{a_builtin, a_function, a_table, Signature, signature_of, first_member}
 use Rattle.asm_lang_valid.specs.Typing.{Scope, named}
-use Rattle.wasm2js_words.specs.Names as names
-use Rattle.wasm2js_words.specs.Names.{Name, Fixed, numbered, fixed, spelled}
-use Rattle.wasm2js_words.specs.Words.{name_of}
-use Rattle.wasm2js_laws_words.specs.Sound.{IsInt, IsView, IsHelper, HasTrap}
-use Rattle.wasm2js_code.specs.Pairs.{local_pair, operand_pair, global_pair, names_of}
-use Rattle.wasm2js_code.specs.Rooms.{Room}
-use Rattle.wasm2js_code.specs.Tables.{words_of}
-use Rattle.wasm2js_code.specs.Bodies.{form_number}
+use Rattle.wasm2js_translation.specs.Names as names
+use Rattle.wasm2js_translation.specs.Names.{Name, Fixed, numbered, fixed, spelled}
+use Rattle.wasm2js_translation.specs.Words.{name_of}
+use Rattle.wasm2js_laws_terms.specs.Sound.{IsInt, IsView, IsHelper, HasTrap}
+use Rattle.wasm2js_translation.specs.Pairs.{local_pair, operand_pair, global_pair, names_of}
+use Rattle.wasm2js_translation.specs.Rooms.{Room}
+use Rattle.wasm2js_translation.specs.Tables.{words_of}
+use Rattle.wasm2js_translation.specs.Bodies.{form_number}
 
 abbrev pub signature : (params : ℕ) (result : Bool) → Signature
 signature n r = record { params = n; result = r }

@@ -6,10 +6,10 @@ use Rattle.std.proofs.lemmas.Bool.{and_parts, and_from}
 use Rattle.std.proofs.lemmas.Bool.Decides.{nat_tests}
 use Rattle.std.proofs.lemmas.Slice.Eq.{bytes_eq-Decides}
 use Rattle.hex.specs.Hex.{IsBytes}
-use Rattle.sem_laws.specs.Imports.{low_word, high_word}
-use Rattle.sem_laws.specs.Names.{export_name}
-use Rattle.sem_laws.specs.CallingForms.{shape_of_name, to_word64, split_args}
-use Rattle.sem_laws.proofs.NameLaws.{different_exports_have_different_names, fixed_names_are_kept}
+use Rattle.session_lang.specs.Imports.{low_word, high_word}
+use Rattle.session_lang.specs.Names.{export_name}
+use Rattle.session_lang.specs.CallingForms.{shape_of_name, to_word64, split_args}
+use Rattle.session_lang.proofs.NameLaws.{different_exports_have_different_names, fixed_names_are_kept}
 use Rattle.wasm_lang.specs.declared.types.ValType.{ValType}
 use Rattle.wasm_lang.specs.declared.types.ValType.TheVariants.{I32, I64}
 use Rattle.wasm_lang.specs.declared.types.ExportKind.{ExportKind}

@@ -4,12 +4,12 @@ use Rattle.std.specs.Prelude.{ℤ, slice_get, if◌then◌else◌, ◌&&◌, ◌
 use Rattle.std.specs.List.{AllByRecursion, list_all, flat_map}
 use Rattle.std.proofs.lemmas.Bool.{and_parts, and_from}
 use Rattle.std.proofs.lemmas.Bool.Decides.{nat_tests}
-use Rattle.sem_laws.specs.Script.{GlobalPlain, WritePlain, CallPlain, ReplyPlain, ScriptPlain}
-use Rattle.sem_laws.specs.Names.{export_name}
-use Rattle.sem_laws.specs.CallingForms.{split_args, init_call, hi_call, split_call_by, split_call}
-use Rattle.script_fits.specs.Fits.{is_given, writes_of}
-use Rattle.script_fits.specs.FitLaws.{IsUnfit, a_global, a_write, a_call, a_reply, Fits}
-use Rattle.script_fits.proofs.Misfits.{no_misfit_fits, what_fits_has_no_misfit}
+use Rattle.session_lang.specs.Script.{GlobalPlain, WritePlain, CallPlain, ReplyPlain, ScriptPlain}
+use Rattle.session_lang.specs.Names.{export_name}
+use Rattle.session_lang.specs.CallingForms.{split_args, init_call, hi_call, split_call_by, split_call}
+use Rattle.session_lang.specs.Fits.{is_given, writes_of, are_bytes}
+use Rattle.session_lang.specs.FitLaws.{IsUnfit, a_global, a_write, a_call, a_reply, Fits}
+use Rattle.session_lang.proofs.Misfits.{no_misfit_fits, what_fits_has_no_misfit}
 use Rattle.wasm_lang.specs.declared.types.ValType.{ValType}
 use Rattle.wasm_lang.specs.declared.types.ValType.TheVariants.{I32, I64}
 use Rattle.wasm_lang.specs.declared.types.Limits.{Limits}
@@ -188,8 +188,10 @@ module _ (w : WasmModule) (a : Module) (called : IsCalledAs w a) where
 
   lies : (x : WritePlain) (n : ℕ) → pages w ≡ Some n → machine.lies_in (Some n) x ≡ true → source.fits_write a (heap_bytes w) x ≡ true
   lies x n is h =
-      and_from (has_heap a) (nat_le (x.at + length x.bytes) (heap_bytes w)) (called.heap ∙ memory_is_there w n is)
-      (ap (λ size. nat_le (x.at + length x.bytes) size) (heap_is_for w n is) ∙ in_heap n (x.at + length x.bytes) h)
+      let p = and_parts (are_bytes x.bytes) (nat_le (x.at + length x.bytes) (n * page)) h in
+      and_from (are_bytes x.bytes) (has_heap a && nat_le (x.at + length x.bytes) (heap_bytes w)) p.0
+      (and_from (has_heap a) (nat_le (x.at + length x.bytes) (heap_bytes w)) (called.heap ∙ memory_is_there w n is)
+      (ap (λ size. nat_le (x.at + length x.bytes) size) (heap_is_for w n is) ∙ in_heap n (x.at + length x.bytes) p.1))
 
   lies_by : (x : WritePlain) (o : Option ℕ) → pages w ≡ o → machine.lies_in o x ≡ true → source.fits_write a (heap_bytes w) x ≡ true
   lies_by x None is h = cc h

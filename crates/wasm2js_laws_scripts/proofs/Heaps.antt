@@ -2,14 +2,16 @@
 use Rattle.std.proofs.Common.{◌≡◌, ℕ, ◌+◌, ◌-◌, ◌*◌, ◌≤◌, true, List, [], ◌∷◌, ◌++◌, length, take, replicate, Option, Some, None, refl, sym, ap, ◌∙◌, subst, arith}
 use Rattle.std.specs.Prelude.{slice_get, if◌then◌else◌, nat_le}
 use Rattle.std.specs.List.{AllByRecursion}
+use Rattle.std.proofs.lemmas.Bool.{and_parts}
 use Rattle.std.proofs.lemmas.Bool.Decides.{nat_tests}
 use Rattle.std.proofs.lemmas.List.{length-replicate, replicate-append-replicate}
 use Rattle.std.proofs.Math.Seq.{take-append_seam}
-use Rattle.sem_laws.specs.Script.{WritePlain, ScriptPlain}
+use Rattle.session_lang.specs.Script.{WritePlain, ScriptPlain}
 use Rattle.heap_lang.specs.Heap.{with_run}
 use Rattle.heap_lang.proofs.RunLemmas.{length-with_run, with_run-append}
-use Rattle.script_fits.specs.FitLaws.{a_write, Fits}
-use Rattle.script_fits.proofs.Misfits.{no_misfit_fits}
+use Rattle.session_lang.specs.Fits.{are_bytes}
+use Rattle.session_lang.specs.FitLaws.{a_write, Fits}
+use Rattle.session_lang.proofs.Misfits.{no_misfit_fits}
 use Rattle.wasm_lang.specs.Modules.{WasmModule}
 use Rattle.wasm_lang_valid.specs.Runnable.{imported_pages, pages}
 use Rattle.wasm_lang_exec.specs.Store.{page, written}
@@ -60,7 +62,7 @@ module _ (w : WasmModule) (s : ScriptPlain) (fits : Fits (machine.tests w) s) wh
       by (Some k) e h =
           let there = imported_are_pages w k e in
           let same : k ≡ n = cc (there, is) in
-          subst (λ k. x.at + length x.bytes ≤ k * page) same (test (x.at + length x.bytes) (k * page) h)
+          subst (λ k. x.at + length x.bytes ≤ k * page) same (test (x.at + length x.bytes) (k * page) (and_parts (are_bytes x.bytes) (nat_le (x.at + length x.bytes) (k * page)) h).1)
 
   module _ (a : Module) (called : IsCalledAs w a) where
     with_memory : (n : ℕ) → pages w ≡ Some n → take (length (first_memory w s)) (first_heap a (heap_bytes w) (script_for w s)) ≡ first_memory w s

@@ -11,16 +11,16 @@ use Rattle.sem_words.specs.JsValues.{to_uint32_of}
 use Rattle.asm_lang.specs.Modules.{exprs}
 use Rattle.asm_lang_exec.specs.Runs.{Place, Part, read}
 use Rattle.asm_laws_continuation.specs.Following.{eval_all_to}
-use Rattle.wasm2js_words.specs.Names.{numbered, operand_low, operand_high, spelled}
-use Rattle.wasm2js_code.specs.Pairs.{operand_pair}
-use Rattle.wasm2js_code.specs.Actions.{under}
-use Rattle.wasm2js_code.specs.Bodies.{word_in, arguments_from}
-use Rattle.wasm2js_laws_pace.specs.Following.{Rest}
+use Rattle.wasm2js_translation.specs.Names.{numbered, operand_low, operand_high, spelled}
+use Rattle.wasm2js_translation.specs.Pairs.{operand_pair}
+use Rattle.wasm2js_translation.specs.Actions.{under}
+use Rattle.wasm2js_translation.specs.Bodies.{word_in, arguments_from}
+use Rattle.wasm2js_laws_places.specs.Following.{Rest}
 use Rattle.wasm2js_laws_places.specs.Straight.{Words}
 use Rattle.wasm2js_laws_places.specs.Places.{value_at, word_at, AreApart, operands}
 use Rattle.wasm2js_laws_actions.proofs.Reading.{read_then}
 use Rattle.wasm2js_laws_actions.proofs.Variables.{variable_read}
-use Rattle.wasm2js_laws_kept.specs.ControlControl.{Function, IsFollowed}
+use Rattle.wasm2js_laws_preservation.specs.ControlControl.{Function, IsFollowed}
 use Rattle.wasm2js_laws_simulation.specs.CallsCalled.{Passes}
 
 -- ---- on the side of WebAssembly

@@ -13,7 +13,7 @@ use Rattle.wasm_lang_valid.specs.Validity.{IsValidModule}
 use Rattle.wasm_lang_exec.specs.Code.{Trees, tree_of}
 use Rattle.wasm_lang_exec.specs.Reductions.{Callee, an_import, a_function, type_of, if_function, imported_callee, imported_callees, own_callee, own_callees, callees, callee_at, found, same_types, same_type, of_type}
 use Rattle.wasm_laws_sound.proofs.Functions.{typed_functions}
-use Rattle.sem_laws.specs.Names.{import_name}
+use Rattle.session_lang.specs.Names.{import_name}
 use Rattle.wasm2js_lang.specs.Tables.{has_form}
 
 -- ---- equal types

@@ -3,7 +3,7 @@ use Rattle.std.proofs.Common.{◌≡◌, ℕ, ◌+◌, ◌≤◌, List, [], ◌+
 use Rattle.std.specs.Prelude.{reverse, slice_get}
 use Rattle.sem_words.specs.declared.word.Word.{Word}
 use Rattle.sem_words.specs.declared.js_value.JsValue.{JsValue}
-use Rattle.sem_laws.specs.Observation.{EventPlain}
+use Rattle.session_lang.specs.Observation.{EventPlain}
 use Rattle.wasm_lang.specs.declared.types.ValType.{ValType}
 use Rattle.wasm_lang.specs.Modules.{FunctionType}
 use Rattle.wasm_lang_valid.specs.declared.rule.Rule.{Rule}
@@ -18,17 +18,17 @@ use Rattle.asm_lang_valid.specs.Typing.{named}
 use Rattle.asm_lang_exec.specs.Runs.{Place, Part}
 use Rattle.asm_lang_exec.specs.Meaning.{Completion}
 use Rattle.asm_laws_continuation.specs.Following.{call_named_to, eval_to, exec_all_to, unless_left_to}
-use Rattle.wasm2js_words.specs.Names.{numbered, function, spelled}
-use Rattle.wasm2js_words.specs.Words.{stmts_in}
-use Rattle.wasm2js_code.specs.Bodies.{Aim, arguments_from, call_of, call_stmts, types_after_call, stmts_of}
-use Rattle.wasm2js_code.specs.Rooms.{here, room_of}
+use Rattle.wasm2js_translation.specs.Names.{numbered, function, spelled}
+use Rattle.wasm2js_translation.specs.Words.{stmts_in}
+use Rattle.wasm2js_translation.specs.Bodies.{Aim, arguments_from, call_of, call_stmts, types_after_call, stmts_of}
+use Rattle.wasm2js_translation.specs.Rooms.{here, room_of}
 use Rattle.wasm2js_laws_scopes.specs.Provided.{IsFunction, signature_for}
-use Rattle.wasm2js_laws_pace.specs.Following.{Rest}
+use Rattle.wasm2js_laws_places.specs.Following.{Rest}
 use Rattle.wasm2js_laws_places.specs.Straight.{Words}
 use Rattle.wasm2js_laws_places.specs.Places.{word_at, operands, locals_of, Stays}
-use Rattle.wasm2js_laws_kept.specs.ControlControl.{Function, IsFair, Inside, state_at, code_sight, IsFollowed, statements_to, MayStand, under_aims, IsKept}
+use Rattle.wasm2js_laws_preservation.specs.ControlControl.{Function, IsFair, Inside, state_at, code_sight, IsFollowed, statements_to, MayStand, under_aims, IsKept}
 use Rattle.wasm2js_laws_typed.proofs.RoomParts.{right_room}
-use Rattle.wasm2js_laws_kept.proofs.ControlStepping.{appended, no_step}
+use Rattle.wasm2js_laws_preservation.proofs.ControlStepping.{appended, no_step}
 use Rattle.wasm2js_laws_simulation.specs.CallsCalled.{seen_with, call_then, CallsFollow}
 use Rattle.wasm2js_laws_simulation.specs.CallsLaws.{IsWithin, CallsAreKept}
 use Rattle.wasm2js_laws_simulation.proofs.CallsArguments.{passed_from, operands_taken, stay_below, arguments_then}

@@ -15,7 +15,7 @@ use Rattle.wasm_lang_valid.specs.Profile.{doubled, padded, table_length, IsInPro
 use Rattle.wasm2js_lang.specs.Tables.{Cell, empty, cell, entries_of, cells_of}
 use Rattle.wasm2js_lang.proofs.Masked.{cells_are_of_entries}
 use Rattle.wasm2js_lang.proofs.Padded.{cells_are_padded}
-use Rattle.wasm2js_code.specs.Tables.{cell_count}
+use Rattle.wasm2js_translation.specs.Tables.{cell_count}
 use Rattle.wasm2js_laws_acceptance.proofs.ProvidedSizes.{few_cells}
 use Rattle.wasm2js_laws_acceptance.proofs.ProvidedWithin.{rows_are_within}
 

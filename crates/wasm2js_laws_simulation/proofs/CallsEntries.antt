@@ -12,7 +12,7 @@ use Rattle.sem_words.specs.declared.js_value.JsValue.TheVariants.{Whole}
 use Rattle.sem_words.specs.declared.js_value.JsOp.TheVariants.{And}
 use Rattle.sem_words.specs.JsValues.{to_uint32_of}
 use Rattle.sem_words.specs.JsOperators.{js_binary_of, signed_value}
-use Rattle.sem_laws.specs.Observation.{EventPlain, trapped}
+use Rattle.session_lang.specs.Observation.{EventPlain, trapped}
 use Rattle.wasm_lang.specs.declared.types.ValType.{ValType}
 use Rattle.wasm_lang.specs.declared.types.ValType.TheVariants.{I32}
 use Rattle.wasm_lang.specs.Modules.{FunctionType}
@@ -37,31 +37,31 @@ use Rattle.asm_lang_exec.specs.Runs.{Place, Part, and_then, defined, read}
 use Rattle.asm_lang_exec.specs.Values.{function_of, entry_of}
 use Rattle.asm_lang_exec.specs.Meaning.{Completion, normal}
 use Rattle.asm_laws_continuation.specs.Following.{eval_all_to, exec_to, exec_all_to, unless_left_to}
-use Rattle.wasm2js_words.specs.Names as names
-use Rattle.wasm2js_words.specs.Names.{numbered, operand_low, spelled}
-use Rattle.wasm2js_words.specs.Words as words
-use Rattle.wasm2js_words.specs.Words.{natural, guard, simple_statement, trap_call, stmts_in}
+use Rattle.wasm2js_translation.specs.Names as names
+use Rattle.wasm2js_translation.specs.Names.{numbered, operand_low, spelled}
+use Rattle.wasm2js_translation.specs.Words as words
+use Rattle.wasm2js_translation.specs.Words.{natural, guard, simple_statement, trap_call, stmts_in}
 use Rattle.wasm2js_lang.specs.Tables as tables
 use Rattle.wasm2js_lang.specs.Tables.{Cell, empty, other, cells_of, entries_of, has_form, masked}
 use Rattle.wasm2js_lang.specs.Laws.{HasTable}
 use Rattle.wasm2js_lang.proofs.Masked.{called_types_have_tables}
-use Rattle.wasm2js_code.specs.Actions.{low}
-use Rattle.wasm2js_code.specs.Bodies.{Aim, word_in, answered, arguments_from, form_number, table_call_of, indirect_stmts, types_after_call, stmts_of}
-use Rattle.wasm2js_code.specs.Modules.{translated}
-use Rattle.wasm2js_code.specs.Rooms.{here, room_of}
-use Rattle.wasm2js_code.specs.Tables.{cell_count, stub_number, stub_of, cell_name, table_for}
+use Rattle.wasm2js_translation.specs.Actions.{low}
+use Rattle.wasm2js_translation.specs.Bodies.{Aim, word_in, answered, arguments_from, form_number, table_call_of, indirect_stmts, types_after_call, stmts_of}
+use Rattle.wasm2js_translation.specs.Modules.{translated}
+use Rattle.wasm2js_translation.specs.Rooms.{here, room_of}
+use Rattle.wasm2js_translation.specs.Tables.{cell_count, stub_number, stub_of, cell_name, table_for}
 use Rattle.wasm2js_laws_acceptance.proofs.ProvidedEntries.{In, in_map}
 use Rattle.wasm2js_laws_acceptance.proofs.ProvidedFound.{table_found}
 use Rattle.wasm2js_laws_acceptance.proofs.ProvidedSizes.{some_cells}
 use Rattle.wasm2js_laws_acceptance.proofs.ProvidedTables.{type_is, least_is, masked_as}
-use Rattle.wasm2js_laws_pace.specs.Following.{Rest}
+use Rattle.wasm2js_laws_places.specs.Following.{Rest}
 use Rattle.wasm2js_laws_places.specs.Straight.{Words}
 use Rattle.wasm2js_laws_places.specs.Places.{word_at, operands, locals_of, store_of, Stays}
 use Rattle.wasm2js_laws_actions.proofs.Reading.{read_then}
 use Rattle.wasm2js_laws_actions.proofs.Variables.{variable_read}
-use Rattle.wasm2js_laws_kept.specs.ControlControl.{Function, IsFair, Inside, state_at, code_sight, IsFollowed, statements_to, MayStand, under_aims, IsKept}
+use Rattle.wasm2js_laws_preservation.specs.ControlControl.{Function, IsFair, Inside, state_at, code_sight, IsFollowed, statements_to, MayStand, under_aims, IsKept}
 use Rattle.wasm2js_laws_typed.proofs.RoomParts.{right_room}
-use Rattle.wasm2js_laws_kept.proofs.ControlStepping.{appended, no_step}
+use Rattle.wasm2js_laws_preservation.proofs.ControlStepping.{appended, no_step}
 use Rattle.wasm2js_laws_simulation.specs.CallsCalled.{Passes, seen_with, call_then, CallsFollow}
 use Rattle.wasm2js_laws_simulation.specs.CallsLaws.{IsWithin, IndirectCallsAreKept}
 use Rattle.wasm2js_laws_simulation.proofs.CallsArguments.{passed_from, operands_taken, stay_below, arguments_then}

@@ -9,23 +9,23 @@ use Rattle.sem_words.specs.declared.js_value.JsOp.TheVariants.{Shr, Gt}
 use Rattle.sem_words.specs.JsValues.{to_uint32_of, truthy_of}
 use Rattle.sem_words.specs.JsOperators.{js_binary_of, unsigned_value}
 use Rattle.sem_words.specs.Words.{trap_code}
-use Rattle.sem_laws.specs.Observation.{EventPlain, trapped, stopped, trap_name, ended}
-use Rattle.sem_laws.specs.Simulation.{IsSameAs}
+use Rattle.session_lang.specs.Observation.{EventPlain, trapped, stopped, trap_name, ended}
+use Rattle.session_lang.specs.Simulation.{IsSameAs}
 use Rattle.asm_lang_exec.specs.Runs.{Place, Part, and_then, defined, read}
 use Rattle.asm_lang_exec.specs.Meaning.{Completion, normal}
 use Rattle.asm_laws_continuation.specs.Following.{call_named_to, exec_to}
 use Rattle.wasm_laws_drive.specs.Drive.{Ended}
-use Rattle.wasm2js_words.specs.Names.{Name, spelled}
-use Rattle.wasm2js_words.specs.Words as text
-use Rattle.wasm2js_words.specs.Words.{guard, simple_statement, trap_call}
-use Rattle.wasm2js_laws_words.specs.Sound.{HasTrap}
-use Rattle.wasm2js_laws_pace.specs.Following.{Rest}
+use Rattle.wasm2js_translation.specs.Names.{Name, spelled}
+use Rattle.wasm2js_translation.specs.Words as text
+use Rattle.wasm2js_translation.specs.Words.{guard, simple_statement, trap_call}
+use Rattle.wasm2js_laws_terms.specs.Sound.{HasTrap}
+use Rattle.wasm2js_laws_places.specs.Following.{Rest}
 use Rattle.wasm2js_laws_places.specs.Places.{word_at, AreApart, store_of}
 use Rattle.wasm2js_laws_actions.proofs.Numbers.{bound_found, whole_quotient}
 use Rattle.wasm2js_laws_actions.proofs.Reading.{read_then, found_then}
 use Rattle.wasm2js_laws_actions.proofs.Variables.{variable_read}
-use Rattle.wasm2js_laws_kept.specs.ControlControl.{Function, IsFair, Inside, IsFollowed}
-use Rattle.wasm2js_laws_kept.proofs.InstructionsEnding.{trap_same}
+use Rattle.wasm2js_laws_preservation.specs.ControlControl.{Function, IsFair, Inside, IsFollowed}
+use Rattle.wasm2js_laws_preservation.proofs.InstructionsEnding.{trap_same}
 
 -- ---- the trap of this number, at p
 

@@ -10,7 +10,7 @@ use Rattle.sem_words.specs.declared.js_value.JsOp.TheVariants.{Or}
 use Rattle.sem_words.specs.JsValues.{to_uint32_of}
 use Rattle.sem_words.specs.JsOperators.{js_binary_of, signed_value}
 use Rattle.sem_words.proofs.WordLaws.{word_of-signed_of_32}
-use Rattle.sem_laws.specs.Observation.{EventPlain}
+use Rattle.session_lang.specs.Observation.{EventPlain}
 use Rattle.wasm_lang.specs.declared.types.ValType.{ValType}
 use Rattle.wasm_lang.specs.declared.types.ValType.TheVariants.{I32, I64}
 use Rattle.wasm_lang_valid.specs.Typing.{listed}
@@ -21,23 +21,23 @@ use Rattle.asm_lang.specs.Modules.{Expr}
 use Rattle.asm_lang_exec.specs.Runs.{Place, Run, goes, stops, spent, wrong, Part, after, and_then, defined, value_in, write}
 use Rattle.asm_lang_exec.specs.Meaning.{Completion, normal}
 use Rattle.asm_laws_continuation.specs.Following.{eval_to, exec_all_to, unless_left_to}
-use Rattle.wasm2js_words.specs.Names.{Name, numbered, local_low, local_high, operand_low, operand_high, fixed, result_high, spelled}
-use Rattle.wasm2js_words.specs.Words.{put_in, stmts_in}
-use Rattle.wasm2js_code.specs.Pairs.{operand_pair}
-use Rattle.wasm2js_code.specs.Actions.{low}
-use Rattle.wasm2js_code.specs.Bodies.{Aim, word_in, high_result, answered}
-use Rattle.wasm2js_laws_pace.specs.Following.{Rest}
+use Rattle.wasm2js_translation.specs.Names.{Name, numbered, local_low, local_high, operand_low, operand_high, fixed, result_high, spelled}
+use Rattle.wasm2js_translation.specs.Words.{put_in, stmts_in}
+use Rattle.wasm2js_translation.specs.Pairs.{operand_pair}
+use Rattle.wasm2js_translation.specs.Actions.{low}
+use Rattle.wasm2js_translation.specs.Bodies.{Aim, word_in, high_result, answered}
+use Rattle.wasm2js_laws_places.specs.Following.{Rest}
 use Rattle.wasm2js_laws_places.specs.Straight.{Words, with_word}
 use Rattle.wasm2js_laws_places.specs.Places.{word_bound, word_at, names_in, AreApart, operands, locals_from, locals_of, store_of, IsHeap, World, Stays}
 use Rattle.wasm2js_laws_places.specs.Helped.{IsOn}
 use Rattle.wasm2js_laws_actions.proofs.Numbers.{small}
 use Rattle.wasm2js_laws_actions.proofs.Doing.{Leaves, write_leaves, still_on, apart_kept}
-use Rattle.wasm2js_laws_kept.specs.ControlControl.{Function, Match, IsFair, Inside, code_sight, IsFollowed, statements_to, IsKept}
-use Rattle.wasm2js_laws_kept.proofs.ControlStepping.{stays_on, no_step}
-use Rattle.wasm2js_laws_kept.proofs.ControlLabels.{operands_stay}
-use Rattle.wasm2js_laws_kept.proofs.InstructionsEnding.{counts_alike}
-use Rattle.wasm2js_laws_kept.proofs.InstructionsComputing.{inside_on}
-use Rattle.wasm2js_laws_kept.proofs.BranchesMoved.{Agrees, agrees_on, agrees_with, state_agrees, operand_agrees, high_agrees, itself, not_below, move_then}
+use Rattle.wasm2js_laws_preservation.specs.ControlControl.{Function, Match, IsFair, Inside, code_sight, IsFollowed, statements_to, IsKept}
+use Rattle.wasm2js_laws_preservation.proofs.ControlStepping.{stays_on, no_step}
+use Rattle.wasm2js_laws_preservation.proofs.ControlLabels.{operands_stay}
+use Rattle.wasm2js_laws_preservation.proofs.InstructionsEnding.{counts_alike}
+use Rattle.wasm2js_laws_preservation.proofs.InstructionsComputing.{inside_on}
+use Rattle.wasm2js_laws_preservation.proofs.BranchesMoved.{Agrees, agrees_on, agrees_with, state_agrees, operand_agrees, high_agrees, itself, not_below, move_then}
 use Rattle.wasm2js_laws_simulation.specs.CallsCalled.{given_back, seen_with}
 
 pub signed_word : (v : JsValue) → to_uint32_of (signed_value (bit_or (to_uint32_of v) 0)) ≡ to_uint32_of v

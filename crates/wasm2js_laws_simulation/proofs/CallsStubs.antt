@@ -11,8 +11,8 @@ use Rattle.sem_words.specs.declared.js_value.JsValue.{JsValue}
 use Rattle.sem_words.specs.declared.js_value.JsValue.TheVariants.{Whole}
 use Rattle.sem_words.specs.JsValues.{to_uint32_of}
 use Rattle.sem_words.specs.Words.{trap_code}
-use Rattle.sem_laws.specs.Observation.{EventPlain, trapped, stopped, trap_name, ended}
-use Rattle.sem_laws.specs.Simulation.{IsSameAs}
+use Rattle.session_lang.specs.Observation.{EventPlain, trapped, stopped, trap_name, ended}
+use Rattle.session_lang.specs.Simulation.{IsSameAs}
 use Rattle.wasm_lang.specs.declared.types.ValType.{ValType}
 use Rattle.wasm_lang.specs.declared.types.ValType.TheVariants.{I32, I64}
 use Rattle.wasm_lang.specs.Modules.{FunctionType, WasmModule}
@@ -26,25 +26,25 @@ use Rattle.asm_lang_valid.specs.Typed.{scope_of}
 use Rattle.asm_lang_exec.specs.Runs.{Binding, Place, spent, Part, and_then, defined, paid, back_to}
 use Rattle.asm_lang_exec.specs.Meaning.{first_locals, function_end}
 use Rattle.asm_laws_continuation.specs.Following.{call_named_to, call_at_to, exec_all_to, with_locals_to}
-use Rattle.wasm2js_words.specs.Names as names
-use Rattle.wasm2js_words.specs.Names.{Numbered, numbered, spelled}
-use Rattle.wasm2js_words.specs.Words.{natural, trap_call, stmts_in}
+use Rattle.wasm2js_translation.specs.Names as names
+use Rattle.wasm2js_translation.specs.Names.{Numbered, numbered, spelled}
+use Rattle.wasm2js_translation.specs.Words.{natural, trap_call, stmts_in}
 use Rattle.wasm2js_lang.specs.Tables.{Cell, empty, other, cells_of, masked}
-use Rattle.wasm2js_code.specs.Helpers.{argument}
-use Rattle.wasm2js_code.specs.Modules.{functions_from, init_function, high_function, helpers, functions_of, translated}
-use Rattle.wasm2js_code.specs.Tables.{words_of, result_mark, stub_number, stub_of, cell_name, stub_function, is_empty, is_other, is_needed, stubs_for, stubs}
+use Rattle.wasm2js_translation.specs.Helpers.{argument}
+use Rattle.wasm2js_translation.specs.Modules.{functions_from, init_function, high_function, helpers, functions_of, translated}
+use Rattle.wasm2js_translation.specs.Tables.{words_of, result_mark, stub_number, stub_of, cell_name, stub_function, is_empty, is_other, is_needed, stubs_for, stubs}
 use Rattle.wasm2js_laws_scopes.specs.Laws.{is_own}
 use Rattle.wasm2js_laws_scopes.proofs.HeadNames.{heads_are_provided}
 use Rattle.wasm2js_laws_acceptance.proofs.ProvidedEntries.{In, in_left, in_right}
 use Rattle.wasm2js_laws_acceptance.proofs.ProvidedFound.{function_found}
 use Rattle.wasm2js_laws_acceptance.proofs.ProvidedTables.{masked_as}
 use Rattle.wasm2js_laws_acceptance.proofs.ProvidedWithin.{rows_are_within, few_params}
-use Rattle.wasm2js_laws_pace.specs.Following.{Rest}
-use Rattle.wasm2js_laws_pace.proofs.Paced.{stands_still}
+use Rattle.wasm2js_laws_places.specs.Following.{Rest}
+use Rattle.wasm2js_laws_places.proofs.Paced.{stands_still}
 use Rattle.wasm2js_laws_places.specs.Places.{store_of}
-use Rattle.wasm2js_laws_kept.specs.ControlControl.{Function, IsFair, Inside, state_at, IsFollowed}
-use Rattle.wasm2js_laws_kept.proofs.ControlStepping.{stands}
-use Rattle.wasm2js_laws_kept.proofs.InstructionsEnding.{trap_same}
+use Rattle.wasm2js_laws_preservation.specs.ControlControl.{Function, IsFair, Inside, state_at, IsFollowed}
+use Rattle.wasm2js_laws_preservation.proofs.ControlStepping.{stands}
+use Rattle.wasm2js_laws_preservation.proofs.InstructionsEnding.{trap_same}
 use Rattle.wasm2js_laws_simulation.specs.CallsLaws.{IsWithin}
 
 -- ---- they are functions of the module

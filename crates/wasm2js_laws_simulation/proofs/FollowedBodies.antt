@@ -5,12 +5,12 @@ use Rattle.wasm_lang.specs.Modules.{FunctionType}
 use Rattle.wasm_lang_exec.specs.Code.{Trees}
 use Rattle.asm_lang_valid.specs.Typed.{scope_of}
 use Rattle.asm_lang_exec.specs.Meaning.{call_at}
-use Rattle.wasm2js_code.specs.Modules.{own_function, translated}
+use Rattle.wasm2js_translation.specs.Modules.{own_function, translated}
 use Rattle.wasm2js_laws_places.specs.Helped.{AreHelpers}
-use Rattle.wasm2js_laws_kept.specs.ControlControl.{Function}
-use Rattle.wasm2js_laws_kept.specs.OccurringLaws.{AccessIsKept}
-use Rattle.wasm2js_laws_kept.proofs.OccurringPlain.{implied}
-use Rattle.wasm2js_laws_kept.specs.MemoryLaws.{moves_run}
+use Rattle.wasm2js_laws_preservation.specs.ControlControl.{Function}
+use Rattle.wasm2js_laws_preservation.specs.OccurringLaws.{AccessIsKept}
+use Rattle.wasm2js_laws_preservation.proofs.OccurringPlain.{implied}
+use Rattle.wasm2js_laws_preservation.specs.MemoryLaws.{moves_run}
 use Rattle.wasm2js_laws_simulation.specs.HelpingHelping.{helping}
 use Rattle.wasm2js_laws_simulation.specs.HelpingStanding.{StandsFor, IsCompared}
 use Rattle.wasm2js_laws_simulation.proofs.HelpingUsual.{words_are_usual}

@@ -1,19 +1,19 @@
 -- What holds of the host, as it is asked of a session that is settled.
 use Rattle.std.proofs.Common.{◌≡◌, ℕ, ◌+◌, ◌≤◌, true, false, sym, ap, subst, arith}
-use Rattle.sem_laws.specs.Observation.{trapped, stopped, no_reply, as_stop}
-use Rattle.sem_laws.specs.Simulation.{Comparison}
-use Rattle.sem_laws.specs.Laws.{KeepsOrder}
-use Rattle.sem_laws.proofs.Forms.{calling_forms_keep_order}
+use Rattle.session_lang.specs.Observation.{trapped, stopped, no_reply, as_stop}
+use Rattle.session_lang.specs.Simulation.{Comparison}
+use Rattle.session_lang.specs.Laws.{KeepsOrder}
+use Rattle.session_lang.proofs.Forms.{calling_forms_keep_order}
 use Rattle.wasm_lang.specs.Modules.{WasmModule}
 use Rattle.wasm_lang_valid.specs.Profile.{memory_bytes}
 use Rattle.wasm2js_lang.specs.Allowed.{has_block_operations}
-use Rattle.wasm2js_laws_kept.specs.ControlControl.{Function}
+use Rattle.wasm2js_laws_preservation.specs.ControlControl.{Function}
 use Rattle.wasm2js_laws_simulation.specs.FramesFrames.{IsSettled}
 use Rattle.wasm2js_laws_simulation.specs.ImportsLaws.{IsSplit}
 use Rattle.wasm2js_laws_simulation.specs.HostHosts.{IsHosted}
 use Rattle.wasm2js_laws_simulation.specs.CallsCalled.{CallsFollow}
-use Rattle.wasm2js_laws_kept.proofs.OccurringPlain.{implied, every}
-use Rattle.wasm2js_laws_kept.specs.MemoryLaws.{moves_run}
+use Rattle.wasm2js_laws_preservation.proofs.OccurringPlain.{implied, every}
+use Rattle.wasm2js_laws_preservation.specs.MemoryLaws.{moves_run}
 use Rattle.wasm2js_laws_simulation.specs.FollowedLaws.{PaysForMoves, HostedCallsAreFollowed, UnmovedCallsAreFollowed}
 use Rattle.wasm2js_laws_simulation.proofs.FollowedMoves.{body_moves_none}
 use Rattle.wasm2js_laws_simulation.proofs.FollowedBodies.{settled_calls_follow}

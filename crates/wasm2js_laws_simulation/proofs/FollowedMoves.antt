@@ -10,9 +10,9 @@ use Rattle.wasm_lang_exec.specs.Code.{Trees}
 use Rattle.wasm_lang_exec.specs.Reductions.{a_function, callees, callee_at}
 use Rattle.wasm2js_lang.specs.Allowed.{is_block_operation, has_block_operations}
 use Rattle.wasm2js_laws_acceptance.proofs.FunctionsFound.{found_own}
-use Rattle.wasm2js_laws_kept.specs.OccurringLaws.{AllPlain, IsNone}
-use Rattle.wasm2js_laws_kept.proofs.OccurringNested.{none_in_trees}
-use Rattle.wasm2js_laws_kept.specs.MemoryLaws.{moves_run}
+use Rattle.wasm2js_laws_preservation.specs.OccurringLaws.{AllPlain, IsNone}
+use Rattle.wasm2js_laws_preservation.proofs.OccurringNested.{none_in_trees}
+use Rattle.wasm2js_laws_preservation.specs.MemoryLaws.{moves_run}
 use Rattle.wasm2js_laws_simulation.proofs.FramesHelped.{found_some}
 
 plain_moves_none : (p : Plain) → is_block_operation (flat.plain p) ≡ false → moves_run p ≡ false

@@ -2,7 +2,7 @@
 use Rattle.std.proofs.Common.{◌≡◌, ℕ, zero, suc, List, ◌++◌, Some, refl, sym, ap, ◌∙◌, subst, arith}
 use Rattle.std.specs.Prelude.{reverse}
 use Rattle.sem_words.specs.declared.word.Word.{Word}
-use Rattle.sem_laws.specs.Observation.{EventPlain}
+use Rattle.session_lang.specs.Observation.{EventPlain}
 use Rattle.wasm_lang.specs.Modules.{FunctionType}
 use Rattle.wasm_lang_exec.specs.Code.{Trees}
 use Rattle.wasm_lang_exec.specs.Reductions.{Callee, an_import, a_function, callee_at, type_of}
@@ -14,14 +14,14 @@ use Rattle.asm_lang_valid.specs.Scope as scopes
 use Rattle.asm_lang_valid.specs.Scope.{module_meaning}
 use Rattle.asm_lang_exec.specs.Runs.{Place}
 use Rattle.asm_laws_continuation.specs.Following.{call_at_to}
-use Rattle.wasm2js_words.specs.Names.{numbered, function, spelled}
-use Rattle.wasm2js_code.specs.Modules.{own_function, wrapper, translated}
+use Rattle.wasm2js_translation.specs.Names.{numbered, function, spelled}
+use Rattle.wasm2js_translation.specs.Modules.{own_function, wrapper, translated}
 use Rattle.wasm2js_laws_acceptance.proofs.ProvidedFound.{function_found}
 use Rattle.wasm2js_laws_acceptance.proofs.ProvidedFunctions.{function_there}
-use Rattle.wasm2js_laws_pace.specs.Following.{Stands}
-use Rattle.wasm2js_laws_pace.proofs.Paced.{stands_still}
+use Rattle.wasm2js_laws_places.specs.Following.{Stands}
+use Rattle.wasm2js_laws_places.proofs.Paced.{stands_still}
 use Rattle.wasm2js_laws_places.specs.Places.{store_of, World}
-use Rattle.wasm2js_laws_kept.specs.ControlControl.{Function, Match, IsFollowed}
+use Rattle.wasm2js_laws_preservation.specs.ControlControl.{Function, Match, IsFollowed}
 use Rattle.wasm2js_laws_simulation.specs.CallsCalled.{seen_with, call_then, IsCallFollowed, CallsFollow}
 use Rattle.wasm2js_laws_simulation.specs.FramesFrames.{at_depth, IsSettled, AreHelped, AccessesAreKept, ImportsFollow}
 use Rattle.wasm2js_laws_simulation.specs.FramesLaws.{FunctionsFollow}

@@ -7,8 +7,8 @@ use Rattle.std.proofs.lemmas.List.{map-append, reverse-reverse, length-reverse}
 use Rattle.std.proofs.lemmas.Slice.Eq.{bytes_eq-Decides}
 use Rattle.sem_words.specs.declared.word.Word.{Word}
 use Rattle.sem_words.specs.declared.js_value.JsValue.{JsValue}
-use Rattle.sem_laws.specs.Observation.{EventPlain}
-use Rattle.sem_laws.proofs.BelowLaws.{prefix_same}
+use Rattle.session_lang.specs.Observation.{EventPlain}
+use Rattle.session_lang.proofs.BelowLaws.{prefix_same}
 use Rattle.wasm_lang.specs.declared.types.ValType.{ValType}
 use Rattle.wasm_lang.specs.Modules.{FunctionType, WasmModule}
 use Rattle.wasm_lang_valid.specs.ModuleRules.{function_types, type_of_function}
@@ -29,24 +29,24 @@ use Rattle.asm_lang_valid.specs.Typed.{scope_of}
 use Rattle.asm_lang_exec.specs.Runs.{Binding, Place, Part, and_then, defined, paid}
 use Rattle.asm_lang_exec.specs.Meaning.{Completion, first_locals, function_end}
 use Rattle.asm_laws_continuation.specs.Following.{call_at_to, exec_all_to, with_locals_to}
-use Rattle.wasm2js_words.specs.Names.{Name, numbered, local_low, local_high, operand_low, operand_high, global_low, global_high, function, foreign, table, no_entry, other_entry, label, fixed, spelled}
-use Rattle.wasm2js_words.specs.Words.{stmts_in}
-use Rattle.wasm2js_words.proofs.Spelling.{spellings_differ}
-use Rattle.wasm2js_code.specs.Bodies.{out, closing, body_stmts, stmts_of, comes_to_end}
-use Rattle.wasm2js_code.specs.Modules.{param_names, context_of, own_function, translated}
-use Rattle.wasm2js_code.specs.Rooms.{here, room_of, body_room, declared_names}
-use Rattle.wasm2js_code.specs.Tables.{cell_count}
+use Rattle.wasm2js_translation.specs.Names.{Name, numbered, local_low, local_high, operand_low, operand_high, global_low, global_high, function, foreign, table, no_entry, other_entry, label, fixed, spelled}
+use Rattle.wasm2js_translation.specs.Words.{stmts_in}
+use Rattle.wasm2js_translation.proofs.Spelling.{spellings_differ}
+use Rattle.wasm2js_translation.specs.Bodies.{out, closing, body_stmts, stmts_of, comes_to_end}
+use Rattle.wasm2js_translation.specs.Modules.{param_names, context_of, own_function, translated}
+use Rattle.wasm2js_translation.specs.Rooms.{here, room_of, body_room, declared_names}
+use Rattle.wasm2js_translation.specs.Tables.{cell_count}
 use Rattle.wasm2js_laws_scopes.specs.Laws as scopes
 use Rattle.wasm2js_laws_scopes.proofs.Declared.{room_is_declared, module_names_are_seen, variables_are_own}
 use Rattle.wasm2js_laws_acceptance.proofs.FunctionsRoomy.{two, wide_low, narrow}
-use Rattle.wasm2js_laws_pace.specs.Following.{Rest, Stands}
-use Rattle.wasm2js_laws_pace.proofs.Paced.{steps_are_paid, stands_still}
+use Rattle.wasm2js_laws_places.specs.Following.{Rest, Stands}
+use Rattle.wasm2js_laws_places.proofs.Paced.{steps_are_paid, stands_still}
 use Rattle.wasm2js_laws_places.specs.Places.{is_own, word_at, names_in, AreApart, locals_of, store_of, World}
-use Rattle.wasm2js_laws_kept.specs.ControlControl.{Function, Match, Inside, MayStand, code_sight, IsFollowed, statements_to, IsKept}
+use Rattle.wasm2js_laws_preservation.specs.ControlControl.{Function, Match, Inside, MayStand, code_sight, IsFollowed, statements_to, IsKept}
 use Rattle.wasm2js_laws_typed.proofs.RoomParts.{right_room}
-use Rattle.wasm2js_laws_kept.proofs.ControlStepping.{appended, stays_itself}
-use Rattle.wasm2js_laws_kept.specs.ComputedLaws.{IsHelped}
-use Rattle.wasm2js_laws_kept.proofs.OccurringKept.{occurring_are_kept}
+use Rattle.wasm2js_laws_preservation.proofs.ControlStepping.{appended, stays_itself}
+use Rattle.wasm2js_laws_preservation.specs.ComputedLaws.{IsHelped}
+use Rattle.wasm2js_laws_preservation.proofs.OccurringKept.{occurring_are_kept}
 use Rattle.wasm2js_laws_simulation.specs.CallsCalled.{Passes, seen_with, call_then, IsReturn, IsCallFollowed, CallsFollow}
 use Rattle.wasm2js_laws_simulation.specs.CallsLaws.{IsWithin}
 use Rattle.wasm2js_laws_simulation.proofs.CallsCalling.{calls_are_kept}

@@ -8,8 +8,8 @@ use Rattle.wasm_lang_exec.specs.Reductions.{Callee, a_function, callees, callee_
 use Rattle.asm_lang_exec.specs.Meaning.{call_at}
 use Rattle.asm_laws_continuation.proofs.Following.{calls_follow}
 use Rattle.std.specs.Prelude.{slice_get}
-use Rattle.wasm2js_code.specs.Modules.{context_of, own_function, translated}
-use Rattle.wasm2js_code.specs.Tables.{cell_count}
+use Rattle.wasm2js_translation.specs.Modules.{context_of, own_function, translated}
+use Rattle.wasm2js_translation.specs.Tables.{cell_count}
 use Rattle.wasm2js_laws_scopes.specs.Provided.{Provides}
 use Rattle.wasm2js_laws_acceptance.specs.ProvidedLaws.{is_called}
 use Rattle.wasm2js_laws_acceptance.proofs.ProvidedWhole.{modules_provide}
@@ -18,7 +18,7 @@ use Rattle.wasm2js_laws_acceptance.specs.FunctionsFunctions.{IsSource}
 use Rattle.wasm2js_laws_acceptance.proofs.FunctionsFound.{found_own}
 use Rattle.wasm2js_laws_acceptance.proofs.FunctionsFormed.{body_is_formed}
 use Rattle.wasm2js_laws_acceptance.proofs.FunctionsLimited.{limited}
-use Rattle.wasm2js_laws_kept.specs.ControlControl.{Function, IsFair}
+use Rattle.wasm2js_laws_preservation.specs.ControlControl.{Function, IsFair}
 use Rattle.wasm2js_laws_simulation.specs.FramesFrames.{in_body, IsSettled}
 use Rattle.wasm2js_laws_simulation.specs.FramesLaws.{BodiesAreHelped}
 use Rattle.asm_lang_valid.specs.Typed.{scope_of}

@@ -4,7 +4,7 @@ use Rattle.std.specs.Prelude.{slice_get}
 use Rattle.sem_words.specs.declared.word.Word.{Word}
 use Rattle.sem_words.specs.declared.js_value.JsValue.{JsValue}
 use Rattle.sem_words.specs.declared.js_value.JsValue.TheVariants.{Undef}
-use Rattle.sem_laws.specs.Observation.{EventPlain}
+use Rattle.session_lang.specs.Observation.{EventPlain}
 use Rattle.wasm_lang.specs.declared.types.ValType.{ValType}
 use Rattle.wasm_lang.specs.declared.types.ValType.TheVariants.{I32, I64}
 use Rattle.wasm_lang_valid.specs.Typing.{listed}
@@ -18,17 +18,17 @@ use Rattle.wasm_laws_drive.proofs.Stepping.{end_of_frame, branch_out_of_frame, r
 use Rattle.asm_lang_exec.specs.Runs.{Place, Part, and_then, back_to}
 use Rattle.asm_lang_exec.specs.Meaning.{Completion, broken, continued, returned, function_end}
 use Rattle.asm_laws_continuation.specs.Following.{exec_all_to, unless_left_to}
-use Rattle.wasm2js_words.specs.Names.{numbered, global_low, global_high}
-use Rattle.wasm2js_words.specs.Words.{stmts_in}
-use Rattle.wasm2js_code.specs.Bodies.{past, again, out, label_of, closing}
-use Rattle.wasm2js_laws_pace.specs.Following.{Rest}
-use Rattle.wasm2js_laws_pace.proofs.Paced.{same_is_followed}
+use Rattle.wasm2js_translation.specs.Names.{numbered, global_low, global_high}
+use Rattle.wasm2js_translation.specs.Words.{stmts_in}
+use Rattle.wasm2js_translation.specs.Bodies.{past, again, out, label_of, closing}
+use Rattle.wasm2js_laws_places.specs.Following.{Rest}
+use Rattle.wasm2js_laws_places.proofs.Paced.{same_is_followed}
 use Rattle.wasm2js_laws_places.specs.Straight.{Words}
 use Rattle.wasm2js_laws_places.specs.Places.{word_at, operands, globals_from, globals_of, Setting, store_of, World, Stays}
-use Rattle.wasm2js_laws_kept.specs.ControlControl.{Function, IsFair, Match, Inside, state_at, sight, code_sight, IsFollowed, AreNested, Gives, Exits}
-use Rattle.wasm2js_laws_kept.proofs.ControlStepping.{free_step, no_step}
-use Rattle.wasm2js_laws_kept.proofs.InstructionsEnding.{counts_alike}
-use Rattle.wasm2js_laws_kept.proofs.BranchesJumps.{leave_followed}
+use Rattle.wasm2js_laws_preservation.specs.ControlControl.{Function, IsFair, Match, Inside, state_at, sight, code_sight, IsFollowed, AreNested, Gives, Exits}
+use Rattle.wasm2js_laws_preservation.proofs.ControlStepping.{free_step, no_step}
+use Rattle.wasm2js_laws_preservation.proofs.InstructionsEnding.{counts_alike}
+use Rattle.wasm2js_laws_preservation.proofs.BranchesJumps.{leave_followed}
 use Rattle.wasm2js_laws_simulation.specs.CallsCalled.{given_back, seen_with, IsReturn}
 
 -- ---- places that differ in the variables of a function alone

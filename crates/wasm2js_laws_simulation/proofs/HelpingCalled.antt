@@ -11,11 +11,11 @@ use Rattle.asm_lang_valid.specs.declared.meaning.Element.TheVariants.{Int8, Uint
 use Rattle.asm_lang_valid.specs.Scope.{a_view, a_function, module_meaning}
 use Rattle.asm_lang_exec.specs.Runs.{Place}
 use Rattle.asm_lang_exec.specs.Meaning.{call_at}
-use Rattle.wasm2js_words.specs.Names as names
-use Rattle.wasm2js_words.specs.Names.{Fixed, fixed}
-use Rattle.wasm2js_words.specs.Words.{name_of}
-use Rattle.wasm2js_code.specs.Helpers.{shift_left_function, shift_right_signed_function, shift_right_function, rotate_left_function, leading_zeros_function, trailing_zeros_function, set_bits_function, copy_function, fill_function}
-use Rattle.wasm2js_code.specs.Modules.{translated}
+use Rattle.wasm2js_translation.specs.Names as names
+use Rattle.wasm2js_translation.specs.Names.{Fixed, fixed}
+use Rattle.wasm2js_translation.specs.Words.{name_of}
+use Rattle.wasm2js_translation.specs.Helpers.{shift_left_function, shift_right_signed_function, shift_right_function, rotate_left_function, leading_zeros_function, trailing_zeros_function, set_bits_function, copy_function, fill_function}
+use Rattle.wasm2js_translation.specs.Modules.{translated}
 use Rattle.wasm2js_laws_places.specs.Straight.{is_helper}
 use Rattle.wasm2js_laws_places.specs.Places.{IsHeap}
 use Rattle.wasm2js_laws_places.specs.Helped.{Helps}
@@ -25,13 +25,13 @@ use Rattle.wasm2js_laws_helpers.proofs.Rotated.{rotate_left_helps}
 use Rattle.wasm2js_laws_helpers.proofs.Zeros.{leading_zeros_help, trailing_zeros_help}
 use Rattle.wasm2js_laws_helpers.proofs.Bits.{set_bits_help}
 use Rattle.wasm2js_laws_helpers.proofs.Divisions.{divide_signed_helps, divide_helps, remainder_signed_helps, remainder_helps}
-use Rattle.wasm2js_laws_access.specs.Laws.{HasBytes, load_32_function, load_64_function}
-use Rattle.wasm2js_laws_access.proofs.Loaded.{load_word_helps, load_words_help}
-use Rattle.wasm2js_laws_kept.specs.StoresLaws.{store_32_function, store_64_function}
-use Rattle.wasm2js_laws_kept.proofs.StoresStored.{store_word_helps, store_words_help}
-use Rattle.wasm2js_laws_kept.specs.RunsLaws.{HasViews}
-use Rattle.wasm2js_laws_kept.proofs.RunsFilling.{fill_helps}
-use Rattle.wasm2js_laws_kept.proofs.RunsCopying.{copy_helps}
+use Rattle.wasm2js_laws_helpers.specs.Access.Laws.{HasBytes, load_32_function, load_64_function}
+use Rattle.wasm2js_laws_helpers.proofs.Access.Loaded.{load_word_helps, load_words_help}
+use Rattle.wasm2js_laws_preservation.specs.StoresLaws.{store_32_function, store_64_function}
+use Rattle.wasm2js_laws_preservation.proofs.StoresStored.{store_word_helps, store_words_help}
+use Rattle.wasm2js_laws_preservation.specs.RunsLaws.{HasViews}
+use Rattle.wasm2js_laws_preservation.proofs.RunsFilling.{fill_helps}
+use Rattle.wasm2js_laws_preservation.proofs.RunsCopying.{copy_helps}
 use Rattle.wasm2js_laws_simulation.specs.HelpingHelping.{helper_answer, helper_cost, on_memory, fixed_meaning}
 use Rattle.wasm2js_laws_simulation.specs.HelpingLaws.{HelpersHelp}
 use Rattle.wasm2js_laws_simulation.proofs.HelpingNamed.{fixed_names_mean}

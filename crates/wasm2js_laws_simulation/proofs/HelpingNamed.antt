@@ -10,21 +10,21 @@ use Rattle.wasm_lang_valid.specs.Profile.{memory_bytes}
 use Rattle.wasm_lang_exec.specs.Reductions.{Callee, callees}
 use Rattle.asm_lang.specs.Modules.{Variable, Function, Table}
 use Rattle.asm_lang_valid.specs.Scope.{Meaning, nothing, a_parameter, a_function, a_table, init_meaning, among_globals, among_functions, among_tables, module_meaning}
-use Rattle.wasm2js_words.specs.Names as names
-use Rattle.wasm2js_words.specs.Names.{Name, Fixed, numbered, fixed, word, spelled}
-use Rattle.wasm2js_words.proofs.Spelling.{spellings_differ}
-use Rattle.wasm2js_words.specs.Words.{name_of}
+use Rattle.wasm2js_translation.specs.Names as names
+use Rattle.wasm2js_translation.specs.Names.{Name, Fixed, numbered, fixed, word, spelled}
+use Rattle.wasm2js_translation.proofs.Spelling.{spellings_differ}
+use Rattle.wasm2js_translation.specs.Words.{name_of}
 use Rattle.wasm2js_lang.specs.Tables.{MaskedTable, masked}
-use Rattle.wasm2js_code.specs.Helpers.{wide_helpers, division_helpers, memory_helpers, shift_left_function, shift_right_signed_function, shift_right_function, rotate_left_function, leading_zeros_function, trailing_zeros_function, set_bits_function, copy_function, fill_function}
-use Rattle.wasm2js_code.specs.Modules.{functions_from, init_function, high_function, helpers, functions_of, view_variables, fixed_variables, foreign_variables, global_variables, variables_of, translated}
-use Rattle.wasm2js_code.specs.Tables.{is_empty, is_other, is_needed, stub_numbers, stubs, tables_for}
+use Rattle.wasm2js_translation.specs.Helpers.{wide_helpers, division_helpers, memory_helpers, shift_left_function, shift_right_signed_function, shift_right_function, rotate_left_function, leading_zeros_function, trailing_zeros_function, set_bits_function, copy_function, fill_function}
+use Rattle.wasm2js_translation.specs.Modules.{functions_from, init_function, high_function, helpers, functions_of, view_variables, fixed_variables, foreign_variables, global_variables, variables_of, translated}
+use Rattle.wasm2js_translation.specs.Tables.{is_empty, is_other, is_needed, stub_numbers, stubs, tables_for}
 use Rattle.wasm2js_laws_helpers.specs.Laws.{divide_signed_function, divide_function, remainder_signed_function, remainder_function}
-use Rattle.wasm2js_laws_access.specs.Laws.{load_32_function, load_64_function}
+use Rattle.wasm2js_laws_helpers.specs.Access.Laws.{load_32_function, load_64_function}
 use Rattle.wasm2js_laws_acceptance.proofs.ProvidedEntries.{In, in_left, in_right, are_apart}
 use Rattle.wasm2js_laws_acceptance.proofs.ProvidedDeclared.{texts_of, table_texts, spellings, helper_names, callee_names, callees_names, only, stub_names, last_names, table_names, function_names, functions_are_named, tables_are_named}
 use Rattle.wasm2js_laws_acceptance.proofs.ProvidedFound.{no_parameter, variable_found, function_found}
 use Rattle.wasm2js_laws_scopes.proofs.HeadNames.{missed, numbered_others}
-use Rattle.wasm2js_laws_kept.specs.StoresLaws.{store_32_function, store_64_function}
+use Rattle.wasm2js_laws_preservation.specs.StoresLaws.{store_32_function, store_64_function}
 use Rattle.wasm2js_laws_simulation.specs.HelpingHelping.{on_memory, fixed_meaning}
 use Rattle.wasm2js_laws_simulation.specs.HelpingLaws.{FixedNamesMean}
 

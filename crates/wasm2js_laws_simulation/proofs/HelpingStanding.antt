@@ -11,21 +11,21 @@ use Rattle.asm_lang_valid.specs.Typed.{scope_of}
 use Rattle.asm_lang_exec.specs.Meaning.{call_at}
 use Rattle.asm_laws_continuation.specs.Laws.{AllFollow}
 use Rattle.asm_laws_continuation.proofs.Following.{calls_follow}
-use Rattle.wasm2js_words.specs.Names.{numbered, function}
-use Rattle.wasm2js_code.specs.Bodies.{body_stmts}
-use Rattle.wasm2js_code.specs.Modules.{param_names, context_of, own_function, translated}
-use Rattle.wasm2js_code.specs.Rooms.{body_room, declared_names}
-use Rattle.wasm2js_code.specs.Tables.{cell_count}
+use Rattle.wasm2js_translation.specs.Names.{numbered, function}
+use Rattle.wasm2js_translation.specs.Bodies.{body_stmts}
+use Rattle.wasm2js_translation.specs.Modules.{param_names, context_of, own_function, translated}
+use Rattle.wasm2js_translation.specs.Rooms.{body_room, declared_names}
+use Rattle.wasm2js_translation.specs.Tables.{cell_count}
 use Rattle.wasm2js_laws_scopes.specs.Provided.{Provides}
 use Rattle.wasm2js_laws_scopes.proofs.Declared.{module_names_are_seen, variables_are_own}
 use Rattle.wasm2js_laws_acceptance.specs.ProvidedLaws.{is_called}
 use Rattle.wasm2js_laws_acceptance.proofs.ProvidedWhole.{modules_provide}
 use Rattle.wasm2js_laws_places.specs.Helped.{AreHelpers}
-use Rattle.wasm2js_laws_kept.specs.ControlControl.{Function, IsFair}
-use Rattle.wasm2js_laws_kept.specs.InstructionsPlain.{Supports}
-use Rattle.wasm2js_laws_kept.specs.ComputedLaws.{IsHelped}
-use Rattle.wasm2js_laws_kept.specs.MemoryLaws.{AreOnMemory}
-use Rattle.wasm2js_laws_kept.proofs.MemoryAccessed.{accesses_are_kept}
+use Rattle.wasm2js_laws_preservation.specs.ControlControl.{Function, IsFair}
+use Rattle.wasm2js_laws_preservation.specs.InstructionsPlain.{Supports}
+use Rattle.wasm2js_laws_preservation.specs.ComputedLaws.{IsHelped}
+use Rattle.wasm2js_laws_preservation.specs.MemoryLaws.{AreOnMemory}
+use Rattle.wasm2js_laws_preservation.proofs.MemoryAccessed.{accesses_are_kept}
 use Rattle.wasm2js_laws_simulation.specs.HelpingHelping.{helping}
 use Rattle.wasm2js_laws_simulation.specs.HelpingLaws.{SeesNames, BodiesHelp}
 use Rattle.wasm2js_laws_simulation.specs.HelpingStanding.{StandsFor, IsCompared, HelpersStand, HelpersSupport, FunctionsAreHelped, AccessesAreKept}

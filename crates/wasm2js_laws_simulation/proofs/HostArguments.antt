@@ -5,8 +5,8 @@ use Rattle.std.proofs.lemmas.Bool.{and_parts}
 use Rattle.sem_words.specs.declared.word.Word.TheVariants.{W32, W64}
 use Rattle.sem_words.specs.declared.js_value.JsValue.TheVariants.{Whole}
 use Rattle.sem_words.specs.Words.{word_of}
-use Rattle.sem_laws.specs.Imports.{low_word, high_word}
-use Rattle.sem_laws.specs.CallingForms.{to_word64, split_args}
+use Rattle.session_lang.specs.Imports.{low_word, high_word}
+use Rattle.session_lang.specs.CallingForms.{to_word64, split_args}
 use Rattle.wasm_lang.specs.declared.types.ValType.{ValType}
 use Rattle.wasm_lang.specs.declared.types.ValType.TheVariants.{I32, I64}
 use Rattle.wasm_lang_exec.specs.Session.{words_for}

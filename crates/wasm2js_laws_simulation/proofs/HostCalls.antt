@@ -9,14 +9,14 @@ use Rattle.sem_words.specs.declared.js_value.JsValue.{JsValue}
 use Rattle.sem_words.specs.declared.js_value.JsValue.TheVariants.{Whole}
 use Rattle.sem_words.specs.JsValues.{to_uint32_of}
 use Rattle.asm_types.proofs.Sound.{to_uint32_lt}
-use Rattle.sem_laws.specs.Script.{CallPlain, ScriptPlain}
-use Rattle.sem_laws.specs.Imports.{low_word, high_word}
-use Rattle.sem_laws.specs.Observation.{EventPlain, call_gave, call_returned, EndPlain, ObservationPlain, running, IsPrefix}
-use Rattle.sem_laws.proofs.BelowLaws.{prefix_trans}
-use Rattle.sem_laws.specs.Simulation.{Comparison, HeapsAgree, TargetIsBelow}
-use Rattle.sem_laws.specs.CallingForms.{ShapePlain, hi_call, split_args, split_call_by, split_call, split_event, without_init}
-use Rattle.sem_laws.specs.Laws.{KeepsOrder}
-use Rattle.sem_laws.proofs.Forms.{calling_forms_keep_order}
+use Rattle.session_lang.specs.Script.{CallPlain, ScriptPlain}
+use Rattle.session_lang.specs.Imports.{low_word, high_word}
+use Rattle.session_lang.specs.Observation.{EventPlain, call_gave, call_returned, EndPlain, ObservationPlain, running, IsPrefix}
+use Rattle.session_lang.proofs.BelowLaws.{prefix_trans}
+use Rattle.session_lang.specs.Simulation.{Comparison, HeapsAgree, TargetIsBelow}
+use Rattle.session_lang.specs.CallingForms.{ShapePlain, hi_call, split_args, split_call_by, split_call, split_event, without_init}
+use Rattle.session_lang.specs.Laws.{KeepsOrder}
+use Rattle.session_lang.proofs.Forms.{calling_forms_keep_order}
 use Rattle.wasm_lang.specs.declared.types.ValType.{ValType}
 use Rattle.wasm_lang.specs.declared.types.ValType.TheVariants.{I32, I64}
 use Rattle.wasm_lang.specs.Modules.{FunctionType, WasmModule}
@@ -41,19 +41,19 @@ use Rattle.asm_lang_exec.specs.Runs.{Place, Part, gives, and_then, defined, add_
 use Rattle.asm_lang_exec.specs.Values.{word}
 use Rattle.asm_lang_exec.specs.Session.{first_heap, result_event}
 use Rattle.asm_laws_continuation.specs.Following.{CallsBefore, call_at_to, host_calls_to}
-use Rattle.wasm2js_words.specs.Names.{fixed, result_high, spelled}
+use Rattle.wasm2js_translation.specs.Names.{fixed, result_high, spelled}
 use Rattle.wasm2js_lang.specs.Calling.{is_wide, shape, shapes_of}
 use Rattle.wasm2js_lang.specs.Heaps.{heap_bytes}
 use Rattle.wasm2js_lang.specs.Allowed.{script_for, comparison}
-use Rattle.wasm2js_code.specs.Modules.{high_function, translated}
+use Rattle.wasm2js_translation.specs.Modules.{high_function, translated}
 use Rattle.wasm2js_laws_scripts.proofs.Calls.{callable, shapes_are_found}
 use Rattle.wasm2js_laws_scripts.proofs.Names.{shaped_exports_are_bytes}
 use Rattle.wasm2js_laws_acceptance.proofs.ProvidedFunctions.{IsDeclared, function_declared}
 use Rattle.wasm2js_laws_acceptance.specs.FunctionsFunctions.{IsSource}
-use Rattle.wasm2js_laws_pace.specs.Following.{Rest, Follows}
-use Rattle.wasm2js_laws_pace.proofs.Paced.{same_is_followed}
+use Rattle.wasm2js_laws_places.specs.Following.{Rest, Follows}
+use Rattle.wasm2js_laws_places.proofs.Paced.{same_is_followed}
 use Rattle.wasm2js_laws_places.specs.Places.{word_at, Setting, store_of, World}
-use Rattle.wasm2js_laws_kept.specs.ControlControl.{Function}
+use Rattle.wasm2js_laws_preservation.specs.ControlControl.{Function}
 use Rattle.wasm2js_laws_simulation.specs.CallsCalled.{given_back, seen_with, call_then, IsReturn}
 use Rattle.wasm2js_laws_simulation.specs.HostHosts.{Phase, calling, Matches, setting_of, host, IsHosted, HostedCallsFollow}
 use Rattle.wasm2js_laws_simulation.specs.HostLaws.{CallsOfHostFollow, HostCallsFollow}

@@ -5,8 +5,8 @@ use Rattle.std.specs.List.{flat_map}
 use Rattle.std.proofs.lemmas.List.Concat.{flat_map-append}
 use Rattle.sem_words.specs.declared.word.Word.{Word}
 use Rattle.sem_words.specs.declared.word.Word.TheVariants.{W32, W64}
-use Rattle.sem_laws.specs.Observation.{EventPlain, import_called, call_gave, call_returned}
-use Rattle.sem_laws.specs.CallingForms.{split_word, split_event, without_init}
+use Rattle.session_lang.specs.Observation.{EventPlain, import_called, call_gave, call_returned}
+use Rattle.session_lang.specs.CallingForms.{split_word, split_event, without_init}
 use Rattle.wasm2js_laws_simulation.specs.HostHosts.{starting, calling, Phase, has_return, no_match, Matches}
 
 -- ---- nothing goes over to what matches nothing

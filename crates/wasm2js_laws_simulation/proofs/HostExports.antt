@@ -4,8 +4,8 @@ use Rattle.std.specs.Prelude.{slice_get, option_and_then, if◌then◌else◌, b
 use Rattle.std.specs.List.{AllByRecursion, flat_map}
 use Rattle.std.proofs.lemmas.Slice.Eq.{bytes_eq-Decides}
 use Rattle.hex.specs.Hex.{IsBytes}
-use Rattle.sem_laws.specs.Names.{export_name}
-use Rattle.sem_laws.proofs.NameLaws.{different_exports_have_different_names, fixed_names_are_kept}
+use Rattle.session_lang.specs.Names.{export_name}
+use Rattle.session_lang.proofs.NameLaws.{different_exports_have_different_names, fixed_names_are_kept}
 use Rattle.wasm_lang.specs.declared.types.ExportKind.{ExportKind}
 use Rattle.wasm_lang.specs.declared.types.ExportKind.TheVariants as exports
 use Rattle.wasm_lang.specs.Modules.{Exported, WasmModule}
@@ -19,9 +19,9 @@ use Rattle.asm_lang_valid.specs.Scope.{Meaning, a_function, an_outside, a_builti
 use Rattle.asm_lang_valid.specs.Refusal as text
 use Rattle.asm_lang_valid.specs.Refusal.{function_number, exported}
 use Rattle.asm_lang_exec.specs.Session.{export_number, exported_function}
-use Rattle.wasm2js_words.specs.Names.{Name, numbered, fixed, function, init, last_high, spelled}
-use Rattle.wasm2js_code.specs.Modules.{init_function, high_function, functions_from, helpers, functions_of, export_for, exports_of, translated}
-use Rattle.wasm2js_code.specs.Tables.{stubs}
+use Rattle.wasm2js_translation.specs.Names.{Name, numbered, fixed, function, init, last_high, spelled}
+use Rattle.wasm2js_translation.specs.Modules.{init_function, high_function, functions_from, helpers, functions_of, export_for, exports_of, translated}
+use Rattle.wasm2js_translation.specs.Tables.{stubs}
 use Rattle.wasm2js_laws_acceptance.proofs.ProvidedEntries.{in_right}
 use Rattle.wasm2js_laws_acceptance.proofs.ProvidedFound.{function_found}
 use Rattle.wasm2js_laws_scripts.specs.Laws.{ExportsAreBytes}

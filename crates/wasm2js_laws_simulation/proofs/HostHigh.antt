@@ -7,20 +7,20 @@ use Rattle.sem_words.specs.declared.js_value.JsValue.TheVariants.{Whole}
 use Rattle.sem_words.specs.declared.js_value.JsOp.TheVariants.{Or}
 use Rattle.sem_words.specs.JsValues.{to_uint32_of}
 use Rattle.sem_words.specs.JsOperators.{js_binary_of, signed_value}
-use Rattle.sem_laws.specs.Observation.{EventPlain, running}
-use Rattle.sem_laws.specs.Simulation.{Comparison, TargetIsBelow}
-use Rattle.sem_laws.specs.Laws.{KeepsOrder}
+use Rattle.session_lang.specs.Observation.{EventPlain, running}
+use Rattle.session_lang.specs.Simulation.{Comparison, TargetIsBelow}
+use Rattle.session_lang.specs.Laws.{KeepsOrder}
 use Rattle.wasm_lang.specs.Modules.{WasmModule}
 use Rattle.asm_lang_valid.specs.Scope.{is_in}
 use Rattle.asm_lang_valid.specs.Typed.{scope_of}
 use Rattle.asm_lang_exec.specs.Runs.{Place, Part, spent, and_then, defined, paid, read, back_to}
 use Rattle.asm_lang_exec.specs.Meaning.{returned, first_locals, function_end}
 use Rattle.asm_laws_continuation.specs.Following.{call_at_to, exec_all_to, with_locals_to}
-use Rattle.wasm2js_words.specs.Names.{Name, fixed, result_high, spelled}
-use Rattle.wasm2js_code.specs.Bodies.{high_result}
-use Rattle.wasm2js_code.specs.Modules.{high_function, translated}
-use Rattle.wasm2js_laws_pace.specs.Following.{Rest, Follows}
-use Rattle.wasm2js_laws_pace.proofs.Paced.{free_units, unpaid_stops}
+use Rattle.wasm2js_translation.specs.Names.{Name, fixed, result_high, spelled}
+use Rattle.wasm2js_translation.specs.Bodies.{high_result}
+use Rattle.wasm2js_translation.specs.Modules.{high_function, translated}
+use Rattle.wasm2js_laws_places.specs.Following.{Rest, Follows}
+use Rattle.wasm2js_laws_places.proofs.Paced.{free_units, unpaid_stops}
 use Rattle.wasm2js_laws_places.specs.Places.{is_own, word_at, names_in, AreApart}
 use Rattle.wasm2js_laws_actions.proofs.Reading.{read_then}
 use Rattle.wasm2js_laws_actions.proofs.Variables.{variable_read}

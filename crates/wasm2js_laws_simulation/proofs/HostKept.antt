@@ -2,9 +2,9 @@
 use Rattle.std.proofs.Common.{◌≡◌, ℕ, Bool, true, false, List, [], ◌∷◌, ◌++◌, Option, Some, None, refl, ap, ◌∙◌}
 use Rattle.std.specs.Prelude.{reverse}
 use Rattle.std.proofs.Math.Path.{fun_ext}
-use Rattle.sem_laws.specs.Script.{CallPlain}
-use Rattle.sem_laws.specs.Observation.{EventPlain, ObservationPlain, IsPrefix}
-use Rattle.sem_laws.proofs.BelowLaws.{prefix_trans}
+use Rattle.session_lang.specs.Script.{CallPlain}
+use Rattle.session_lang.specs.Observation.{EventPlain, ObservationPlain, IsPrefix}
+use Rattle.session_lang.proofs.BelowLaws.{prefix_trans}
 use Rattle.wasm_lang.specs.Modules.{WasmModule}
 use Rattle.wasm_lang_exec.specs.Code.{call, ε, ◌▹◌}
 use Rattle.wasm_lang_exec.specs.Store.{Store}
@@ -12,7 +12,7 @@ use Rattle.wasm_lang_exec.specs.Reductions.{Reduct, to, is_values, branches, ret
 use Rattle.wasm_lang_exec.specs.Session.{with_none, result_event, with_event, function_named, arguments_for, after_call, one_call, calls_seen}
 use Rattle.wasm_laws_drive.proofs.Events.{same_events}
 use Rattle.asm_lang_exec.specs.Runs.{Place, value_in}
-use Rattle.wasm2js_words.specs.Names.{Name, spelled}
+use Rattle.wasm2js_translation.specs.Names.{Name, spelled}
 use Rattle.wasm2js_laws_places.specs.Places.{is_own, variables, word_bound, word_at, Setting, store_with, store_of}
 
 -- ---- with no reduction left

@@ -4,7 +4,7 @@ use Rattle.std.specs.Prelude.{bytes_eq, ◌||◌}
 use Rattle.std.specs.List.{AllByRecursion}
 use Rattle.std.proofs.lemmas.Slice.Eq.{bytes_eq-Decides}
 use Rattle.sem_words.specs.declared.js_value.JsValue.{JsValue}
-use Rattle.sem_laws.specs.Script.{ScriptPlain}
+use Rattle.session_lang.specs.Script.{ScriptPlain}
 use Rattle.wasm_lang.specs.Instructions.{Instruction, plain, const32, const64, global_get}
 use Rattle.wasm_lang.specs.Modules.{GlobalEntry, WasmModule}
 use Rattle.wasm_lang_valid.specs.ModuleRules.{has_memory}
@@ -13,9 +13,9 @@ use Rattle.wasm_lang_exec.specs.Reductions.{Callee, an_import, a_function, calle
 use Rattle.asm_lang.specs.Modules.{Variable}
 use Rattle.asm_lang_valid.specs.Scope.{is_in}
 use Rattle.asm_lang_exec.specs.Session.{global_value, with_binding, first_globals}
-use Rattle.wasm2js_words.specs.Names.{Name, spelled}
-use Rattle.wasm2js_words.proofs.Spelling.{spellings_differ}
-use Rattle.wasm2js_code.specs.Modules.{variables_of}
+use Rattle.wasm2js_translation.specs.Names.{Name, spelled}
+use Rattle.wasm2js_translation.proofs.Spelling.{spellings_differ}
+use Rattle.wasm2js_translation.specs.Modules.{variables_of}
 use Rattle.wasm2js_laws_acceptance.proofs.ProvidedDeclared.{variable_texts, spellings, head_names, foreign_names, imported_names, first_names, own_names, global_names, globals_are_named}
 use Rattle.wasm2js_laws_places.specs.Places.{is_own, names_in}
 

@@ -1,11 +1,11 @@
 -- What follows from further on follows from an earlier place with as many units, and with more units that no reduction pays for.
 use Rattle.std.proofs.Common.{◌≡◌, ℕ, ◌≤◌, List, arith}
-use Rattle.sem_laws.specs.Observation.{EventPlain, IsPrefix}
-use Rattle.sem_laws.proofs.BelowLaws.{prefix_trans}
-use Rattle.sem_laws.specs.Simulation.{Comparison}
-use Rattle.sem_laws.specs.Laws.{KeepsOrder}
+use Rattle.session_lang.specs.Observation.{EventPlain, IsPrefix}
+use Rattle.session_lang.proofs.BelowLaws.{prefix_trans}
+use Rattle.session_lang.specs.Simulation.{Comparison}
+use Rattle.session_lang.specs.Laws.{KeepsOrder}
 use Rattle.asm_lang_exec.specs.Runs.{Place, Run, goes, stops, spent, wrong}
-use Rattle.wasm2js_laws_pace.specs.Following.{Rest, Lower, reached, before, Follows}
+use Rattle.wasm2js_laws_places.specs.Following.{Rest, Lower, reached, before, Follows}
 
 module _ (by : Comparison) (keeps : KeepsOrder by) (c y z : ℕ) (p q : Place) (r : Rest) (le : y ≤ z) (same : p.units ≡ q.units) (more : IsPrefix p.events q.events) where
   lower_still : (later : List EventPlain) → Lower by c y q.units r q.events later → Lower by c z p.units r p.events later

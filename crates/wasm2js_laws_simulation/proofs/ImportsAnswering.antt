@@ -7,17 +7,17 @@ use Rattle.heap_lang.specs.Heap.{with_run}
 use Rattle.heap_lang.proofs.RunLemmas.{length-with_run, IsBytes-with_run, with_run-append}
 use Rattle.sem_words.specs.declared.word.Word.{Word}
 use Rattle.sem_words.specs.declared.word.Word.TheVariants.{W32}
-use Rattle.sem_laws.specs.Observation.{import_called, stopped, no_reply, trap_name}
-use Rattle.sem_laws.specs.Imports.{low_word, high_word, high_name, Replies, ImportAnswer, goes_on, ends, take_reply, answer_import}
-use Rattle.sem_laws.specs.Script.{WritePlain, ReplyPlain, give, throw}
-use Rattle.sem_laws.specs.CallingForms.{split_word}
+use Rattle.session_lang.specs.Observation.{import_called, stopped, no_reply, trap_name}
+use Rattle.session_lang.specs.Imports.{low_word, high_word, high_name, Replies, ImportAnswer, goes_on, ends, take_reply, answer_import}
+use Rattle.session_lang.specs.Script.{WritePlain, ReplyPlain, give, throw}
+use Rattle.session_lang.specs.CallingForms.{split_word}
 use Rattle.wasm_lang.specs.declared.types.ValType.{ValType}
 use Rattle.wasm_lang.specs.declared.types.ValType.TheVariants.{I32, I64}
 use Rattle.wasm_lang_exec.specs.Store.{written}
 use Rattle.asm_lang_exec.specs.Values.{with_writes}
-use Rattle.wasm2js_words.specs.Names.{Name}
-use Rattle.wasm2js_code.specs.Pairs.{local_pair}
-use Rattle.wasm2js_code.specs.Modules.{param_names}
+use Rattle.wasm2js_translation.specs.Names.{Name}
+use Rattle.wasm2js_translation.specs.Pairs.{local_pair}
+use Rattle.wasm2js_translation.specs.Modules.{param_names}
 use Rattle.wasm2js_laws_places.specs.Straight.{Words}
 use Rattle.wasm2js_laws_places.specs.Places.{locals_from, IsHeap, IsWritable}
 

@@ -2,11 +2,11 @@
 use Rattle.std.proofs.Common.{zero, suc, ◌++◌, refl, arith}
 use Rattle.std.specs.Prelude.{reverse}
 use Rattle.std.proofs.lemmas.Slice.Eq.{bytes_eq-Decides}
-use Rattle.sem_laws.specs.Imports.{high_name}
+use Rattle.session_lang.specs.Imports.{high_name}
 use Rattle.wasm_lang_exec.specs.Reductions.{an_import}
 use Rattle.wasm_laws_sound.proofs.Functions.{is_named, type_results}
 use Rattle.wasm2js_laws_acceptance.proofs.ProvidedWithin.{rows_are_within}
-use Rattle.wasm2js_laws_pace.proofs.Paced.{stands_still}
+use Rattle.wasm2js_laws_places.proofs.Paced.{stands_still}
 use Rattle.wasm2js_laws_simulation.specs.CallsCalled.{seen_with, call_then}
 use Rattle.wasm2js_laws_simulation.proofs.CallsCallees.{callee_typed}
 use Rattle.wasm2js_laws_simulation.proofs.FramesDepths.{call_stands, functions_follow}

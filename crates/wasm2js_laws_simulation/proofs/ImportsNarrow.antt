@@ -6,8 +6,8 @@ use Rattle.std.specs.Cmp.Lexicographic.{pointwise}
 use Rattle.std.proofs.lemmas.Bool.{and_parts}
 use Rattle.std.proofs.lemmas.Slice.Eq.{bytes_eq-Decides}
 use Rattle.hex.specs.Hex.{encode_lower}
-use Rattle.sem_laws.specs.Names.{import_name, is_plain_name}
-use Rattle.sem_laws.specs.Imports.{high_name}
+use Rattle.session_lang.specs.Names.{import_name, is_plain_name}
+use Rattle.session_lang.specs.Imports.{high_name}
 use Rattle.wasm_lang.specs.declared.types.ValType.TheVariants.{I64}
 use Rattle.wasm_lang.specs.declared.types.ImportKind.{ImportKind}
 use Rattle.wasm_lang.specs.declared.types.ImportKind.TheVariants as imports

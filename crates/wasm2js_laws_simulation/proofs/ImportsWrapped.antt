@@ -13,11 +13,11 @@ use Rattle.sem_words.specs.declared.js_value.JsOp.TheVariants.{Or}
 use Rattle.sem_words.specs.JsValues.{to_uint32_of}
 use Rattle.sem_words.specs.JsOperators.{js_binary_of, signed_value}
 use Rattle.sem_words.proofs.WordLaws.{word_of-signed_of_32}
-use Rattle.sem_laws.specs.Observation.{EventPlain, import_called, EndPlain, stopped, no_reply, as_stop, ended}
-use Rattle.sem_laws.specs.Simulation.{HeapsAgree, IsSameAs}
-use Rattle.sem_laws.specs.Imports.{low_word, high_word, high_name, Replies, ImportAnswer, goes_on, ends, answer_import}
-use Rattle.sem_laws.specs.Script.{WritePlain, ReplyPlain, give}
-use Rattle.sem_laws.specs.CallingForms.{split_word}
+use Rattle.session_lang.specs.Observation.{EventPlain, import_called, EndPlain, stopped, no_reply, as_stop, ended}
+use Rattle.session_lang.specs.Simulation.{HeapsAgree, IsSameAs}
+use Rattle.session_lang.specs.Imports.{low_word, high_word, high_name, Replies, ImportAnswer, goes_on, ends, answer_import}
+use Rattle.session_lang.specs.Script.{WritePlain, ReplyPlain, give}
+use Rattle.session_lang.specs.CallingForms.{split_word}
 use Rattle.wasm_lang.specs.declared.types.ValType.{ValType}
 use Rattle.wasm_lang.specs.declared.types.ValType.TheVariants.{I32, I64}
 use Rattle.wasm_lang.specs.Modules.{FunctionType}
@@ -39,25 +39,25 @@ use Rattle.asm_lang_exec.specs.Runs.{Binding, Place, Part, after, and_then, defi
 use Rattle.asm_lang_exec.specs.Values.{word, with_writes, answered}
 use Rattle.asm_lang_exec.specs.Meaning.{Completion, normal, returned, first_locals, function_end}
 use Rattle.asm_laws_continuation.specs.Following.{CallsBefore, call_named_to, call_at_to, eval_to, eval_all_to, exec_all_to, with_locals_to}
-use Rattle.wasm2js_words.specs.Names as names
-use Rattle.wasm2js_words.specs.Names.{Name, numbered, operand_low, global_low, global_high, fixed, result_high, spelled}
-use Rattle.wasm2js_words.specs.Words.{name_of, signed_number, put_in, stmts_in}
-use Rattle.wasm2js_code.specs.Actions.{low}
-use Rattle.wasm2js_code.specs.Bodies.{signed_word, high_result}
-use Rattle.wasm2js_code.specs.Modules.{param_names, sent, wrapper_body, wrapper_locals, wrapper, translated}
+use Rattle.wasm2js_translation.specs.Names as names
+use Rattle.wasm2js_translation.specs.Names.{Name, numbered, operand_low, global_low, global_high, fixed, result_high, spelled}
+use Rattle.wasm2js_translation.specs.Words.{name_of, signed_number, put_in, stmts_in}
+use Rattle.wasm2js_translation.specs.Actions.{low}
+use Rattle.wasm2js_translation.specs.Bodies.{signed_word, high_result}
+use Rattle.wasm2js_translation.specs.Modules.{param_names, sent, wrapper_body, wrapper_locals, wrapper, translated}
 use Rattle.wasm2js_laws_scopes.specs.Laws as scopes
 use Rattle.wasm2js_laws_scopes.proofs.Declared.{variables_are_own}
 use Rattle.wasm2js_laws_acceptance.proofs.ProvidedForeign.{foreign_are_provided, high_is_foreign}
-use Rattle.wasm2js_laws_pace.specs.Following.{Rest, Stands}
-use Rattle.wasm2js_laws_pace.proofs.Paced.{steps_are_paid, stands_still}
+use Rattle.wasm2js_laws_places.specs.Following.{Rest, Stands}
+use Rattle.wasm2js_laws_places.proofs.Paced.{steps_are_paid, stands_still}
 use Rattle.wasm2js_laws_places.specs.Straight.{Words, with_word}
 use Rattle.wasm2js_laws_places.specs.Places.{is_own, word_at, names_in, AreApart, locals_from, globals_from, globals_of, store_of, IsHeap, IsReply, World}
 use Rattle.wasm2js_laws_places.specs.Helped.{IsOn}
 use Rattle.wasm2js_laws_actions.proofs.Reading.{read_then}
 use Rattle.wasm2js_laws_actions.proofs.Variables.{variable_read}
 use Rattle.wasm2js_laws_actions.proofs.Doing.{apart_kept}
-use Rattle.wasm2js_laws_kept.specs.ControlControl.{Function, Match, IsFollowed}
-use Rattle.wasm2js_laws_kept.proofs.InstructionsEnding.{are_words}
+use Rattle.wasm2js_laws_preservation.specs.ControlControl.{Function, Match, IsFollowed}
+use Rattle.wasm2js_laws_preservation.proofs.InstructionsEnding.{are_words}
 use Rattle.wasm2js_laws_simulation.specs.CallsCalled.{Passes, given_back, seen_with, call_then, IsReturn, IsCallFollowed}
 use Rattle.wasm2js_laws_simulation.proofs.CallsReturned.{signed_word as word_signed, write_then}
 use Rattle.wasm2js_laws_simulation.specs.FramesFrames.{at_depth, IsSettled}

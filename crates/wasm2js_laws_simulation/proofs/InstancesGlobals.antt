@@ -16,9 +16,9 @@ use Rattle.sem_words.specs.JsValues.{to_uint32_of}
 use Rattle.sem_words.specs.JsOperators.{signed_value}
 use Rattle.sem_words.specs.Words.{word_of, signed_of}
 use Rattle.sem_words.proofs.WordLaws.{word_of-IsWord, word_of-signed_of_32}
-use Rattle.sem_laws.specs.Imports.{low_word, high_word}
-use Rattle.sem_laws.specs.Script.{GlobalPlain, ScriptPlain}
-use Rattle.sem_laws.specs.Names.{import_name}
+use Rattle.session_lang.specs.Imports.{low_word, high_word}
+use Rattle.session_lang.specs.Script.{GlobalPlain, ScriptPlain}
+use Rattle.session_lang.specs.Names.{import_name}
 use Rattle.wasm_lang.specs.declared.types.ValType.{ValType}
 use Rattle.wasm_lang.specs.declared.types.ValType.TheVariants.{I32, I64}
 use Rattle.wasm_lang.specs.declared.types.GlobalType.{GlobalType}
@@ -39,9 +39,9 @@ use Rattle.wasm_lang_exec.specs.Fits.{GlobalImport, with_import, global_imports}
 use Rattle.asm_lang.specs.Modules.{Variable}
 use Rattle.asm_lang_exec.specs.Runs.{Binding, binding, value_in}
 use Rattle.asm_lang_exec.specs.Session.{given_value, first_globals}
-use Rattle.wasm2js_words.specs.Names.{Name, numbered, fixed, spare_high, result_high, global_low, global_high, spelled}
+use Rattle.wasm2js_translation.specs.Names.{Name, numbered, fixed, spare_high, result_high, global_low, global_high, spelled}
 use Rattle.wasm2js_lang.specs.Allowed.{script_for}
-use Rattle.wasm2js_code.specs.Modules.{view_variables, fixed_variables, foreign_variables, given_variable, imported_variables, first_values, own_variables, global_variables, variables_of}
+use Rattle.wasm2js_translation.specs.Modules.{view_variables, fixed_variables, foreign_variables, given_variable, imported_variables, first_values, own_variables, global_variables, variables_of}
 use Rattle.wasm2js_laws_acceptance.proofs.ProvidedWithin.{rows_are_within}
 use Rattle.wasm2js_laws_acceptance.specs.FunctionsFunctions.{HasWord, IsSource}
 use Rattle.wasm2js_laws_acceptance.specs.AcceptedLaws.{HaveFirstWords}

@@ -8,7 +8,7 @@ use Rattle.std.proofs.lemmas.List.{length-replicate}
 use Rattle.sem_words.specs.declared.word.Word.{Word}
 use Rattle.heap_lang.specs.Heap.{with_run}
 use Rattle.heap_lang.proofs.RunLemmas.{is_inside_within}
-use Rattle.sem_laws.specs.Script.{ScriptPlain}
+use Rattle.session_lang.specs.Script.{ScriptPlain}
 use Rattle.wasm_lang.specs.declared.types.ValType.TheVariants.{I32}
 use Rattle.wasm_lang.specs.declared.types.Limits.{Limits}
 use Rattle.wasm_lang.specs.declared.types.ImportKind.{ImportKind}
@@ -113,4 +113,4 @@ entries_fit_first w s within =
     let same : session.table_length w.tables ≡ profile.table_length w =
     own_length w.tables ∙ sym (ap (λ o. or_zero (or_else o (own_entries w.tables))) (none_imported 0 w.imports rows.no_table))
     in
-    entries_fit_in w (first_store w s) (profile.table_length w) 0 0 w.elements (length-replicate (session.table_length w.tables) None ∙ same) (fine w within) rows.no_import (profile.memory_bytes w) rows.all_inside
+    entries_fit_in w (first_store w s) (profile.table_length w) 0 0 w.elements (length-replicate (session.table_length w.tables) None ∙ same) (fine w within.valid) rows.no_import (profile.memory_bytes w) rows.all_inside

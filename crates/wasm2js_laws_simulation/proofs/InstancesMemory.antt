@@ -10,9 +10,10 @@ use Rattle.std.proofs.Math.Seq.{take-append_seam, drop-append_seam}
 use Rattle.heap_lang.specs.Numbers.{IsBytes}
 use Rattle.heap_lang.specs.Heap.{with_run}
 use Rattle.heap_lang.proofs.RunLemmas.{length-with_run, with_run-append, IsBytes-with_run}
-use Rattle.sem_laws.specs.Script.{WritePlain, ReplyPlain, give, throw, ReplyLinePlain, ScriptPlain}
-use Rattle.script_fits.specs.FitLaws.{a_reply, Fits}
-use Rattle.script_fits.proofs.Misfits.{no_misfit_fits}
+use Rattle.session_lang.specs.Script.{WritePlain, ReplyPlain, give, throw, ReplyLinePlain, ScriptPlain}
+use Rattle.session_lang.specs.Fits.{are_bytes}
+use Rattle.session_lang.specs.FitLaws.{a_reply, Fits}
+use Rattle.session_lang.proofs.Misfits.{no_misfit_fits}
 use Rattle.wasm_lang.specs.Modules.{DataSegment, WasmModule}
 use Rattle.wasm_lang_valid.specs.Runnable.{pages}
 use Rattle.wasm_lang_valid.specs.Profile.{or_zero, constant_offset, memory_bytes}
@@ -24,12 +25,14 @@ use Rattle.asm_lang_valid.specs.Refusal.{has_heap}
 use Rattle.asm_lang_exec.specs.Values.{with_writes}
 use Rattle.asm_lang_exec.specs.Session.{heap_length, first_heap}
 use Rattle.asm2wasm_lang.specs.Heaps.{is_heap_length}
-use Rattle.asm2wasm_lang.specs.Allowed.{AreBytes, replied_writes, WritesBytes}
+use Rattle.session_lang.specs.Fits.{writes_of}
+use Rattle.session_lang.specs.Written.{AreBytes, WritesBytes}
+use Rattle.wasm_lang_exec.proofs.Written.{fitting_writes}
 use Rattle.wasm2js_lang.specs.Heaps.{heap_for, heap_bytes}
 use Rattle.wasm2js_lang.specs.Calling.{IsCalledAs}
 use Rattle.wasm2js_lang.specs.Allowed.{script_for}
 use Rattle.wasm2js_lang.proofs.Lengths.{holds, no_shorter}
-use Rattle.wasm2js_code.specs.Modules.{translated}
+use Rattle.wasm2js_translation.specs.Modules.{translated}
 use Rattle.wasm2js_laws_scripts.proofs.Fitting.{holds_or, all_from_places, memory_is_there}
 use Rattle.wasm2js_laws_scripts.proofs.Heaps.{heaps_begin}
 use Rattle.wasm2js_laws_acceptance.proofs.ProvidedWithin.{rows_are_within, few_bytes}
@@ -81,7 +84,10 @@ longest : is_heap_length (2 ^ 28) ≡ true
 unfolding is_heap_length
 longest = refl
 
-module _ (w : WasmModule) (source : IsSource w) (called : IsCalledAs w (translated w)) (s : ScriptPlain) (bytes : WritesBytes s) (fit : machine.misfit w s ≡ None) where
+module _ (w : WasmModule) (source : IsSource w) (called : IsCalledAs w (translated w)) (s : ScriptPlain) (fit : machine.misfit w s ≡ None) where
+  bytes : WritesBytes s
+  bytes = fitting_writes w s fit
+
   abbrev pub heap : List ℕ
   heap = first_heap (translated w) (heap_bytes w) (script_for w s)
 
@@ -170,7 +176,7 @@ module _ (w : WasmModule) (source : IsSource w) (called : IsCalledAs w (translat
 
   one_lies : (o : Option ℕ) (x : WritePlain) → lies_in o x ≡ true → x.at + length x.bytes ≤ or_zero o * 65536
   one_lies None x h = cc h
-  one_lies (Some n) x h = test_le (x.at + length x.bytes) (n * page) h
+  one_lies (Some n) x h = test_le (x.at + length x.bytes) (n * page) (and_parts (are_bytes x.bytes) (nat_le (x.at + length x.bytes) (n * page)) h).1
 
   all_writable : (ws : List WritePlain) → list_all (lies_in (pages w)) ws ≡ true → AllByRecursion (λ (x : WritePlain). IsBytes x.bytes) ws → AllByRecursion (IsWritable (memory_bytes w)) ws
   all_writable [] h k = tt
@@ -178,11 +184,11 @@ module _ (w : WasmModule) (source : IsSource w) (called : IsCalledAs w (translat
       let p = and_parts (lies_in (pages w) x) (list_all (lies_in (pages w)) ws) h in
       ((one_lies (pages w) x p.0, k.0), all_writable ws p.1 k.1)
 
-  reply_is : (r : ReplyPlain) → machine.fits_reply w r ≡ true → AreBytes (replied_writes r) → IsReply (memory_bytes w) r
+  reply_is : (r : ReplyPlain) → machine.fits_reply w r ≡ true → AreBytes (writes_of r) → IsReply (memory_bytes w) r
   reply_is (give word writes) h k = all_writable writes h (recursion_from_All (λ (x : WritePlain). IsBytes x.bytes) writes k)
   reply_is throw h k = tt
 
-  all_replies : (rs : List ReplyLinePlain) → AllByRecursion (λ (r : ReplyLinePlain). machine.fits_reply w r.reply ≡ true) rs → AllByRecursion (λ (r : ReplyLinePlain). AreBytes (replied_writes r.reply)) rs
+  all_replies : (rs : List ReplyLinePlain) → AllByRecursion (λ (r : ReplyLinePlain). machine.fits_reply w r.reply ≡ true) rs → AllByRecursion (λ (r : ReplyLinePlain). AreBytes (writes_of r.reply)) rs
       → AllByRecursion (IsReply (memory_bytes w)) (map (λ (r : ReplyLinePlain). r.reply) rs)
   all_replies [] h k = tt
   all_replies (r ∷ rs) h k = (reply_is r.reply h.0 k.0, all_replies rs h.1 k.1)
@@ -191,4 +197,4 @@ module _ (w : WasmModule) (source : IsSource w) (called : IsCalledAs w (translat
   replies_are =
       all_replies s.replies
       (all_from_places (λ (r : ReplyLinePlain). machine.fits_reply w r.reply ≡ true) s.replies (λ i r e. holds_or (machine.fits_reply w r.reply) (λ h. fits.all_fit r.line (a_reply i r e h))))
-      (recursion_from_All (λ (r : ReplyLinePlain). AreBytes (replied_writes r.reply)) s.replies bytes.replied)
+      (recursion_from_All (λ (r : ReplyLinePlain). AreBytes (writes_of r.reply)) s.replies bytes.replied)

@@ -37,6 +37,9 @@ pub mod InstancesMemory
 pub mod InstancesInstance
 pub mod InstancesGlobals
 pub mod InstancesHeld
+pub mod StartHigh
 pub mod SessionsWhole
+mod HelpersCalled
+mod HelpersWhole
 mod WholeWhole
 mod BoundedWhole

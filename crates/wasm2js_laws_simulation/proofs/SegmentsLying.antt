@@ -13,8 +13,8 @@ use Rattle.wasm_lang_valid.specs.Profile.{or_zero, is_global_offset, constant_of
 use Rattle.wasm_laws_sound.proofs.Functions.{meets_none, meets_rest}
 use Rattle.asm_lang_valid.specs.Typing.{Scope}
 use Rattle.asm_lang_valid.specs.Typed.{scope_of}
-use Rattle.wasm2js_words.specs.Names.{fixed, init}
-use Rattle.wasm2js_code.specs.Modules.{segment_stmts, start_stmts, init_function, translated}
+use Rattle.wasm2js_translation.specs.Names.{fixed, init}
+use Rattle.wasm2js_translation.specs.Modules.{segment_stmts, start_stmts, init_function, translated}
 use Rattle.wasm2js_lang.proofs.Padded.{within_rows, where_none, is_constant}
 use Rattle.wasm2js_laws_scopes.specs.Provided.{HasMemory}
 use Rattle.wasm2js_laws_scopes.proofs.HeadNames.{memories_are_provided}

@@ -22,8 +22,8 @@ use Rattle.asm_lang_exec.specs.Runs.{Place, Part, and_then}
 use Rattle.asm_lang_exec.specs.Values.{write_element}
 use Rattle.asm_lang_exec.specs.Meaning.{Completion, normal}
 use Rattle.asm_laws_continuation.specs.Following.{CallsBefore, exec_all_to}
-use Rattle.wasm2js_words.specs.Words.{stmts_in}
-use Rattle.wasm2js_code.specs.Modules.{set_byte, set_word, set_bytes, set_words, to_word, set_run, segment_stmts}
+use Rattle.wasm2js_translation.specs.Words.{stmts_in}
+use Rattle.wasm2js_translation.specs.Modules.{set_byte, set_word, set_bytes, set_words, to_word, set_run, segment_stmts}
 use Rattle.wasm2js_laws_scopes.specs.Provided.{HasMemory}
 use Rattle.wasm2js_laws_simulation.specs.SegmentsLaws.{with_segments, SegmentsAreStored}
 use Rattle.wasm2js_laws_simulation.proofs.SegmentsLying.{IsLying, init_scope, all_lie}

@@ -5,12 +5,12 @@ use Rattle.std.specs.List.{flat_map}
 use Rattle.std.proofs.lemmas.Bool.{and_parts}
 use Rattle.sem_words.specs.declared.js_value.JsValue.{JsValue}
 use Rattle.sem_words.specs.declared.js_value.JsValue.TheVariants.{Undef}
-use Rattle.sem_laws.specs.Script.{CallPlain, ScriptPlain}
-use Rattle.sem_laws.specs.Observation.{EventPlain, call_gave, call_returned, ObservationPlain}
-use Rattle.sem_laws.proofs.BelowLaws.{prefix_same}
-use Rattle.sem_laws.specs.Simulation.{Comparison}
-use Rattle.sem_laws.specs.CallingForms.{split_call}
-use Rattle.sem_laws.specs.Laws.{KeepsOrder}
+use Rattle.session_lang.specs.Script.{CallPlain, ScriptPlain}
+use Rattle.session_lang.specs.Observation.{EventPlain, call_gave, call_returned, ObservationPlain}
+use Rattle.session_lang.proofs.BelowLaws.{prefix_same}
+use Rattle.session_lang.specs.Simulation.{Comparison}
+use Rattle.session_lang.specs.CallingForms.{split_call}
+use Rattle.session_lang.specs.Laws.{KeepsOrder}
 use Rattle.wasm_lang.specs.declared.types.ValType.{ValType}
 use Rattle.wasm_lang.specs.Modules.{FunctionType, WasmModule}
 use Rattle.wasm_lang_valid.specs.declared.section.Section.TheVariants as sections
@@ -32,20 +32,20 @@ use Rattle.asm_lang_exec.specs.Values.{word}
 use Rattle.asm_lang_exec.specs.Meaning.{Completion, normal, function_end}
 use Rattle.asm_lang_exec.specs.Session.{result_event}
 use Rattle.asm_laws_continuation.specs.Following.{call_named_to, exec_all_to, unless_left_to, call_at_to, host_calls_to}
-use Rattle.wasm2js_words.specs.Names.{numbered, function, fixed, init}
-use Rattle.wasm2js_words.specs.Words.{stmts_in}
+use Rattle.wasm2js_translation.specs.Names.{numbered, function, fixed, init}
+use Rattle.wasm2js_translation.specs.Words.{stmts_in}
 use Rattle.wasm2js_lang.specs.Calling.{shapes_of, IsCalledAs}
 use Rattle.wasm2js_lang.specs.Allowed.{script_for, source_session, comparison}
-use Rattle.wasm2js_code.specs.Modules.{segment_stmts, start_stmts, init_function, translated}
+use Rattle.wasm2js_translation.specs.Modules.{segment_stmts, start_stmts, init_function, translated}
 use Rattle.wasm2js_laws_scripts.proofs.Calls.{IsExported, exported_as_asked}
 use Rattle.wasm2js_laws_acceptance.proofs.ProvidedFunctions.{IsDeclared, function_declared}
 use Rattle.wasm2js_laws_acceptance.proofs.ProvidedFound.{is_seen}
 use Rattle.wasm2js_laws_acceptance.specs.FunctionsFunctions.{IsSource}
-use Rattle.wasm2js_laws_pace.specs.Following.{Rest, Follows}
-use Rattle.wasm2js_laws_pace.proofs.Paced.{same_is_followed, free_units, unpaid_stops, steps_are_paid}
+use Rattle.wasm2js_laws_places.specs.Following.{Rest, Follows}
+use Rattle.wasm2js_laws_places.proofs.Paced.{same_is_followed, free_units, unpaid_stops, steps_are_paid}
 use Rattle.wasm2js_laws_places.specs.Places.{Setting, store_of, World}
-use Rattle.wasm2js_laws_kept.specs.ControlControl.{Function}
-use Rattle.wasm2js_laws_kept.proofs.ControlStepping.{appended}
+use Rattle.wasm2js_laws_preservation.specs.ControlControl.{Function}
+use Rattle.wasm2js_laws_preservation.proofs.ControlStepping.{appended}
 use Rattle.wasm2js_laws_simulation.specs.CallsCalled.{given_back, seen_with, call_then, Passes, IsReturn}
 use Rattle.wasm2js_laws_simulation.specs.HostHosts.{starting, Matches, setting_of, host, HostedCallsFollow}
 use Rattle.wasm2js_laws_simulation.specs.HostLaws.{CallsOfHostFollow}

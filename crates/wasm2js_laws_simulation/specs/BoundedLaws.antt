@@ -4,7 +4,7 @@ use Rattle.wasm_lang.specs.Modules.{WasmModule}
 use Rattle.wasm_lang.specs.Shape.{IsWritable}
 use Rattle.wasm_lang_valid.specs.Profile.{IsInProfile}
 use Rattle.wasm2js_lang.specs.Allowed.{has_block_operations, IsBounded}
-use Rattle.wasm2js_code.specs.Modules.{translated}
+use Rattle.wasm2js_translation.specs.Modules.{translated}
 use Rattle.wasm2js_laws_acceptance.specs.FunctionsFunctions.{IsSource}
 use Rattle.wasm2js_laws_acceptance.specs.AcceptedLaws.{HaveFirstWords}
 use Rattle.wasm2js_laws_simulation.specs.SessionsLaws.{IsReady}

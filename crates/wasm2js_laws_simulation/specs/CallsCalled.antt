@@ -4,7 +4,7 @@ use Rattle.sem_words.specs.declared.word.Word.{Word}
 use Rattle.sem_words.specs.declared.word.Word.TheVariants.{W32, W64}
 use Rattle.sem_words.specs.declared.js_value.JsValue.{JsValue}
 use Rattle.sem_words.specs.JsValues.{to_uint32_of}
-use Rattle.sem_laws.specs.Observation.{EventPlain}
+use Rattle.session_lang.specs.Observation.{EventPlain}
 use Rattle.wasm_lang.specs.declared.types.ValType.{ValType}
 use Rattle.wasm_lang.specs.declared.types.ValType.TheVariants.{I32, I64}
 use Rattle.wasm_lang.specs.Modules.{FunctionType}
@@ -18,10 +18,10 @@ use Rattle.wasm_laws_drive.specs.Contexts.{Surrounding, closed}
 use Rattle.asm_lang.specs.Modules as text
 use Rattle.asm_lang_valid.specs.Scope.{a_function, module_meaning}
 use Rattle.asm_lang_exec.specs.Runs.{Place, Part}
-use Rattle.wasm2js_words.specs.Names.{numbered, function, fixed, result_high, spelled}
-use Rattle.wasm2js_laws_pace.specs.Following.{Rest}
+use Rattle.wasm2js_translation.specs.Names.{numbered, function, fixed, result_high, spelled}
+use Rattle.wasm2js_laws_places.specs.Following.{Rest}
 use Rattle.wasm2js_laws_places.specs.Places.{word_at, store_of, World}
-use Rattle.wasm2js_laws_kept.specs.ControlControl.{Function, Match, IsFollowed}
+use Rattle.wasm2js_laws_preservation.specs.ControlControl.{Function, Match, IsFollowed}
 
 -- ---- values between two functions
 

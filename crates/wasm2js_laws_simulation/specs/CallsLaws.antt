@@ -9,14 +9,14 @@ use Rattle.wasm_lang_exec.specs.Code.{call, call_indirect}
 use Rattle.asm_lang_valid.specs.Scope.{module_meaning}
 use Rattle.asm_lang_valid.specs.Typing.{named}
 use Rattle.asm_laws_continuation.specs.Following.{call_at_to}
-use Rattle.wasm2js_words.specs.Names.{Name, spelled}
+use Rattle.wasm2js_translation.specs.Names.{Name, spelled}
 use Rattle.wasm2js_lang.specs.Tables.{entries_of}
-use Rattle.wasm2js_code.specs.Modules.{translated}
-use Rattle.wasm2js_code.specs.Tables.{cell_count}
+use Rattle.wasm2js_translation.specs.Modules.{translated}
+use Rattle.wasm2js_translation.specs.Tables.{cell_count}
 use Rattle.wasm2js_laws_scopes.specs.Laws.{is_own}
 use Rattle.wasm2js_laws_acceptance.specs.ProvidedLaws.{is_called}
-use Rattle.wasm2js_laws_kept.specs.ControlControl.{Function, IsFair}
-use Rattle.wasm2js_laws_kept.specs.ControlLaws.{IsKeptFirst}
+use Rattle.wasm2js_laws_preservation.specs.ControlControl.{Function, IsFair}
+use Rattle.wasm2js_laws_preservation.specs.ControlLaws.{IsKeptFirst}
 use Rattle.wasm2js_laws_simulation.specs.CallsCalled.{CallsFollow}
 
 -- The function is one of what its module is translated to, and its calls are that module's. Its names hide none of the module's, and

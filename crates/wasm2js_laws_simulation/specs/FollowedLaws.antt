@@ -7,10 +7,10 @@ use Rattle.wasm_lang_exec.specs.Code.{Trees}
 use Rattle.wasm_lang_exec.specs.Reductions.{a_function, callee_at}
 use Rattle.asm_laws_continuation.specs.Following.{call_at_to}
 use Rattle.wasm2js_lang.specs.Allowed.{has_block_operations}
-use Rattle.wasm2js_code.specs.Modules.{translated}
-use Rattle.wasm2js_laws_kept.specs.ControlControl.{Function}
-use Rattle.wasm2js_laws_kept.specs.OccurringLaws.{AllPlain}
-use Rattle.wasm2js_laws_kept.specs.MemoryLaws.{moves_run}
+use Rattle.wasm2js_translation.specs.Modules.{translated}
+use Rattle.wasm2js_laws_preservation.specs.ControlControl.{Function}
+use Rattle.wasm2js_laws_preservation.specs.OccurringLaws.{AllPlain}
+use Rattle.wasm2js_laws_preservation.specs.MemoryLaws.{moves_run}
 use Rattle.wasm2js_laws_simulation.specs.CallsCalled.{CallsFollow}
 use Rattle.wasm2js_laws_simulation.specs.FramesFrames.{IsSettled}
 use Rattle.wasm2js_laws_simulation.specs.ImportsLaws.{IsSplit}

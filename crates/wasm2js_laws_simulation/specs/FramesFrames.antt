@@ -3,8 +3,8 @@ use Rattle.std.specs.Prelude.{◌≡◌, ℕ, ◌≤◌, true, false, List, [], 
 use Rattle.sem_words.specs.declared.word.Word.TheVariants.{W32}
 use Rattle.sem_words.specs.declared.word.TrapKind.{TrapKind}
 use Rattle.sem_words.specs.Words.{trap_code}
-use Rattle.sem_laws.specs.Observation.{EventPlain, EndPlain, trapped, stopped, trap_name, as_stop}
-use Rattle.sem_laws.specs.Laws.{KeepsOrder}
+use Rattle.session_lang.specs.Observation.{EventPlain, EndPlain, trapped, stopped, trap_name, as_stop}
+use Rattle.session_lang.specs.Laws.{KeepsOrder}
 use Rattle.wasm_lang.specs.declared.types.ValType.{ValType}
 use Rattle.wasm_lang.specs.declared.types.GlobalType.{GlobalType}
 use Rattle.wasm_lang.specs.Modules.{FunctionType}
@@ -19,19 +19,19 @@ use Rattle.asm_lang_valid.specs.Scope.{is_in}
 use Rattle.asm_lang_valid.specs.Typed.{scope_of}
 use Rattle.asm_lang_exec.specs.Meaning.{call_at}
 use Rattle.asm_laws_continuation.specs.Following.{call_at_to}
-use Rattle.wasm2js_words.specs.Names.{Name, spelled}
+use Rattle.wasm2js_translation.specs.Names.{Name, spelled}
 use Rattle.wasm2js_lang.specs.Tables.{entries_of}
-use Rattle.wasm2js_code.specs.Modules.{param_names, context_of, own_function, wrapper, init_function, translated}
-use Rattle.wasm2js_code.specs.Rooms.{body_room, declared_names}
-use Rattle.wasm2js_code.specs.Tables.{cell_count}
+use Rattle.wasm2js_translation.specs.Modules.{param_names, context_of, own_function, wrapper, init_function, translated}
+use Rattle.wasm2js_translation.specs.Rooms.{body_room, declared_names}
+use Rattle.wasm2js_translation.specs.Tables.{cell_count}
 use Rattle.wasm2js_laws_acceptance.specs.ProvidedLaws.{is_called}
 use Rattle.wasm2js_laws_acceptance.specs.FunctionsFunctions.{IsSource}
 use Rattle.wasm2js_laws_places.specs.Straight.{Helping}
 use Rattle.wasm2js_laws_places.specs.Places.{is_own}
 use Rattle.wasm2js_laws_places.specs.Helped.{AreHelpers}
-use Rattle.wasm2js_laws_kept.specs.ControlControl.{Function, Match}
-use Rattle.wasm2js_laws_kept.specs.InstructionsPlain.{AreUsual}
-use Rattle.wasm2js_laws_kept.specs.OccurringLaws.{AllPlain, AccessIsKept}
+use Rattle.wasm2js_laws_preservation.specs.ControlControl.{Function, Match}
+use Rattle.wasm2js_laws_preservation.specs.InstructionsPlain.{AreUsual}
+use Rattle.wasm2js_laws_preservation.specs.OccurringLaws.{AllPlain, AccessIsKept}
 use Rattle.wasm2js_laws_simulation.specs.CallsCalled.{IsCallFollowed}
 
 -- a caller, of which only the module and the depth count

@@ -5,9 +5,9 @@ use Rattle.wasm_lang.specs.Modules.{FunctionType}
 use Rattle.wasm_lang_exec.specs.Code.{Trees}
 use Rattle.wasm_lang_exec.specs.Reductions.{a_function, callee_at}
 use Rattle.asm_laws_continuation.specs.Following.{call_at_to}
-use Rattle.wasm2js_code.specs.Modules.{translated}
-use Rattle.wasm2js_laws_kept.specs.ControlControl.{Function}
-use Rattle.wasm2js_laws_kept.specs.ComputedLaws.{IsHelped}
+use Rattle.wasm2js_translation.specs.Modules.{translated}
+use Rattle.wasm2js_laws_preservation.specs.ControlControl.{Function}
+use Rattle.wasm2js_laws_preservation.specs.ComputedLaws.{IsHelped}
 use Rattle.wasm2js_laws_simulation.specs.CallsCalled.{CallsFollow}
 use Rattle.wasm2js_laws_simulation.specs.FramesFrames.{in_body, IsSettled, AreHelped, AccessesAreKept, ImportsFollow}
 

@@ -8,18 +8,18 @@ use Rattle.wasm_lang_valid.specs.Profile.{memory_bytes}
 use Rattle.asm_lang_valid.specs.declared.meaning.Builtin.TheVariants.{Imul, Clz32}
 use Rattle.asm_lang_valid.specs.declared.meaning.Element.TheVariants.{Int8, Uint8, Int32}
 use Rattle.asm_lang_valid.specs.Scope.{Meaning, nothing, an_int, a_foreign, a_builtin, a_view, a_function}
-use Rattle.wasm2js_words.specs.Names as names
-use Rattle.wasm2js_words.specs.Names.{Fixed, word}
-use Rattle.wasm2js_code.specs.Helpers.{shift_left_function, shift_right_signed_function, shift_right_function, rotate_left_function, leading_zeros_function, trailing_zeros_function, set_bits_function, copy_function, fill_function}
-use Rattle.wasm2js_code.specs.Modules.{init_function, high_function}
+use Rattle.wasm2js_translation.specs.Names as names
+use Rattle.wasm2js_translation.specs.Names.{Fixed, word}
+use Rattle.wasm2js_translation.specs.Helpers.{shift_left_function, shift_right_signed_function, shift_right_function, rotate_left_function, leading_zeros_function, trailing_zeros_function, set_bits_function, copy_function, fill_function}
+use Rattle.wasm2js_translation.specs.Modules.{init_function, high_function}
 use Rattle.wasm2js_laws_places.specs.Straight.{Answer, Helping}
 use Rattle.wasm2js_laws_helpers.specs.Answers.{one_word, turned, counted, divided, set_bits_answer, set_bits_units}
 use Rattle.wasm2js_laws_helpers.specs.Laws.{divide_signed_function, divide_function, remainder_signed_function, remainder_function}
-use Rattle.wasm2js_laws_access.specs.Answers.{loaded_word, loaded_words}
-use Rattle.wasm2js_laws_access.specs.Laws.{load_32_function, load_64_function}
-use Rattle.wasm2js_laws_kept.specs.StoresAnswers.{stored_word, stored_words}
-use Rattle.wasm2js_laws_kept.specs.StoresLaws.{store_32_function, store_64_function}
-use Rattle.wasm2js_laws_kept.specs.RunsAnswers.{filled_run, fill_units, copied_run, copy_units}
+use Rattle.wasm2js_laws_helpers.specs.Access.Answers.{loaded_word, loaded_words}
+use Rattle.wasm2js_laws_helpers.specs.Access.Laws.{load_32_function, load_64_function}
+use Rattle.wasm2js_laws_preservation.specs.StoresAnswers.{stored_word, stored_words}
+use Rattle.wasm2js_laws_preservation.specs.StoresLaws.{store_32_function, store_64_function}
+use Rattle.wasm2js_laws_preservation.specs.RunsAnswers.{filled_run, fill_units, copied_run, copy_units}
 
 -- ---- what each does, in a memory of so many bytes
 

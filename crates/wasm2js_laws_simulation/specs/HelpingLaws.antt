@@ -8,12 +8,12 @@ use Rattle.asm_lang_valid.specs.Scope.{module_meaning}
 use Rattle.asm_lang_valid.specs.Typing.{Scope, named}
 use Rattle.asm_lang_valid.specs.Typed.{scope_of}
 use Rattle.asm_lang_exec.specs.Meaning.{call_at}
-use Rattle.wasm2js_words.specs.Names.{Name, Fixed, spelled}
-use Rattle.wasm2js_words.specs.Words.{name_of}
-use Rattle.wasm2js_code.specs.Modules.{own_function, translated}
+use Rattle.wasm2js_translation.specs.Names.{Name, Fixed, spelled}
+use Rattle.wasm2js_translation.specs.Words.{name_of}
+use Rattle.wasm2js_translation.specs.Modules.{own_function, translated}
 use Rattle.wasm2js_laws_scopes.specs.Laws.{is_own}
 use Rattle.wasm2js_laws_places.specs.Helped.{AreHelpers}
-use Rattle.wasm2js_laws_kept.specs.InstructionsPlain.{AreUsual}
+use Rattle.wasm2js_laws_preservation.specs.InstructionsPlain.{AreUsual}
 use Rattle.wasm2js_laws_simulation.specs.HelpingHelping.{helping, fixed_meaning}
 
 -- those on words do what their operators do

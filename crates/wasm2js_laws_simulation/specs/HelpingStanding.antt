@@ -3,8 +3,8 @@ use Rattle.std.specs.Prelude.{◌≡◌, ℕ, ◌+◌, ◌≤◌, true, false, L
 use Rattle.sem_words.specs.declared.word.Word.TheVariants.{W32}
 use Rattle.sem_words.specs.declared.word.TrapKind.{TrapKind}
 use Rattle.sem_words.specs.Words.{trap_code}
-use Rattle.sem_laws.specs.Observation.{EventPlain, EndPlain, trapped, stopped, trap_name, as_stop}
-use Rattle.sem_laws.specs.Laws.{KeepsOrder}
+use Rattle.session_lang.specs.Observation.{EventPlain, EndPlain, trapped, stopped, trap_name, as_stop}
+use Rattle.session_lang.specs.Laws.{KeepsOrder}
 use Rattle.wasm_lang.specs.declared.types.ValType.{ValType}
 use Rattle.wasm_lang.specs.declared.types.GlobalType.{GlobalType}
 use Rattle.wasm_lang.specs.Instructions.{Plain}
@@ -19,15 +19,15 @@ use Rattle.wasm_laws_drive.specs.Drive.{Ended, Spent}
 use Rattle.asm_lang_valid.specs.Typed.{scope_of}
 use Rattle.asm_lang_exec.specs.Meaning.{call_at}
 use Rattle.asm_laws_continuation.specs.Following.{call_at_to}
-use Rattle.wasm2js_code.specs.Modules.{context_of, own_function, translated}
-use Rattle.wasm2js_code.specs.Tables.{cell_count}
+use Rattle.wasm2js_translation.specs.Modules.{context_of, own_function, translated}
+use Rattle.wasm2js_translation.specs.Tables.{cell_count}
 use Rattle.wasm2js_laws_acceptance.specs.ProvidedLaws.{is_called}
 use Rattle.wasm2js_laws_places.specs.Helped.{AreHelpers}
-use Rattle.wasm2js_laws_kept.specs.ControlControl.{Function, Match}
-use Rattle.wasm2js_laws_kept.specs.ControlLaws.{IsKeptFirst}
-use Rattle.wasm2js_laws_kept.specs.InstructionsPlain.{Supports}
-use Rattle.wasm2js_laws_kept.specs.ComputedLaws.{accesses_memory, IsHelped}
-use Rattle.wasm2js_laws_kept.specs.MemoryLaws.{moves_run}
+use Rattle.wasm2js_laws_preservation.specs.ControlControl.{Function, Match}
+use Rattle.wasm2js_laws_preservation.specs.ControlLaws.{IsKeptFirst}
+use Rattle.wasm2js_laws_preservation.specs.InstructionsPlain.{Supports}
+use Rattle.wasm2js_laws_preservation.specs.ComputedLaws.{accesses_memory, IsHelped}
+use Rattle.wasm2js_laws_preservation.specs.MemoryLaws.{moves_run}
 use Rattle.wasm2js_laws_simulation.specs.HelpingHelping.{helping}
 
 -- It is what function k of the source is translated to, which has this type, these further locals and this code, and its calls are its module's.

@@ -3,9 +3,9 @@ use Rattle.std.specs.Prelude.{◌≡◌, ℕ, ◌≤◌, Bool, true, false, List
 use Rattle.std.specs.List.{flat_map, list_any}
 use Rattle.sem_words.specs.declared.word.Word.{Word}
 use Rattle.sem_words.specs.declared.word.Word.TheVariants.{W64}
-use Rattle.sem_laws.specs.Script.{ScriptPlain}
-use Rattle.sem_laws.specs.Observation.{EventPlain, import_called, call_gave, call_returned, EndPlain, ObservationPlain}
-use Rattle.sem_laws.specs.CallingForms.{split_word, split_event, without_init, comparison_to_asm}
+use Rattle.session_lang.specs.Script.{ScriptPlain}
+use Rattle.session_lang.specs.Observation.{EventPlain, import_called, call_gave, call_returned, EndPlain, ObservationPlain}
+use Rattle.session_lang.specs.CallingForms.{split_word, split_event, without_init, comparison_to_asm}
 use Rattle.wasm_lang.specs.declared.types.GlobalType.{GlobalType}
 use Rattle.wasm_lang.specs.Modules.{WasmModule}
 use Rattle.wasm_lang_valid.specs.ModuleRules.{global_types}
@@ -17,16 +17,16 @@ use Rattle.asm_lang_valid.specs.Scope.{is_in}
 use Rattle.asm_lang_valid.specs.Typed.{scope_of}
 use Rattle.asm_lang_exec.specs.Session.{first_globals, first_heap}
 use Rattle.asm_laws_continuation.specs.Following.{call_at_to}
-use Rattle.wasm2js_words.specs.Names.{Name, spelled}
+use Rattle.wasm2js_translation.specs.Names.{Name, spelled}
 use Rattle.wasm2js_lang.specs.Tables.{entries_of}
 use Rattle.wasm2js_lang.specs.Heaps.{heap_bytes}
 use Rattle.wasm2js_lang.specs.Allowed.{script_for, comparison}
-use Rattle.wasm2js_code.specs.Modules.{context_of, init_function, translated}
-use Rattle.wasm2js_code.specs.Tables.{cell_count}
+use Rattle.wasm2js_translation.specs.Modules.{context_of, init_function, translated}
+use Rattle.wasm2js_translation.specs.Tables.{cell_count}
 use Rattle.wasm2js_laws_acceptance.specs.ProvidedLaws.{is_called}
 use Rattle.wasm2js_laws_acceptance.specs.FunctionsFunctions.{IsSource}
 use Rattle.wasm2js_laws_places.specs.Places.{is_own, names_in, Setting}
-use Rattle.wasm2js_laws_kept.specs.ControlControl.{Function, Match}
+use Rattle.wasm2js_laws_preservation.specs.ControlControl.{Function, Match}
 use Rattle.wasm2js_laws_simulation.specs.CallsCalled.{CallsFollow}
 
 -- ---- events in the two parts of a session: until `$init` is back, and from then on

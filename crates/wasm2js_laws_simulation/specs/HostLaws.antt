@@ -1,9 +1,9 @@
 -- Calls of the host follow, where calls do.
 use Rattle.std.specs.Prelude.{◌≡◌, ℕ, ◌≤◌, true, List, [], length}
 use Rattle.std.specs.List.{AllByRecursion, flat_map}
-use Rattle.sem_laws.specs.Script.{CallPlain, ScriptPlain}
-use Rattle.sem_laws.specs.Observation.{EventPlain}
-use Rattle.sem_laws.specs.CallingForms.{split_call}
+use Rattle.session_lang.specs.Script.{CallPlain, ScriptPlain}
+use Rattle.session_lang.specs.Observation.{EventPlain}
+use Rattle.session_lang.specs.CallingForms.{split_call}
 use Rattle.wasm_lang.specs.Modules.{WasmModule}
 use Rattle.wasm_lang_exec.specs.Session.{calls_seen}
 use Rattle.wasm_lang_exec.specs.Fits.{fits_call}
@@ -11,9 +11,9 @@ use Rattle.asm_lang_exec.specs.Runs.{Place, gives}
 use Rattle.asm_laws_continuation.specs.Following.{call_at_to, host_calls_to}
 use Rattle.wasm2js_lang.specs.Calling.{shapes_of}
 use Rattle.wasm2js_lang.specs.Allowed.{comparison}
-use Rattle.wasm2js_code.specs.Modules.{translated}
+use Rattle.wasm2js_translation.specs.Modules.{translated}
 use Rattle.wasm2js_laws_acceptance.specs.FunctionsFunctions.{IsSource}
-use Rattle.wasm2js_laws_pace.specs.Following.{Follows}
+use Rattle.wasm2js_laws_places.specs.Following.{Follows}
 use Rattle.wasm2js_laws_places.specs.Places.{store_of, World}
 use Rattle.wasm2js_laws_simulation.specs.HostHosts.{calling, Matches, setting_of, HostedCallsFollow}
 

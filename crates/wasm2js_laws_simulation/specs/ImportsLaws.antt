@@ -2,11 +2,11 @@
 use Rattle.std.specs.Prelude.{◌≡◌, ℕ, List, [], ◌∷◌, ◌++◌}
 use Rattle.std.specs.List.{flat_map}
 use Rattle.sem_words.specs.declared.word.Word.{Word}
-use Rattle.sem_laws.specs.Observation.{EventPlain, import_called, stopped, no_reply}
-use Rattle.sem_laws.specs.CallingForms.{split_word}
+use Rattle.session_lang.specs.Observation.{EventPlain, import_called, stopped, no_reply}
+use Rattle.session_lang.specs.CallingForms.{split_word}
 use Rattle.asm_laws_continuation.specs.Following.{call_at_to}
-use Rattle.wasm2js_code.specs.Modules.{translated}
-use Rattle.wasm2js_laws_kept.specs.ControlControl.{Function, Match}
+use Rattle.wasm2js_translation.specs.Modules.{translated}
+use Rattle.wasm2js_laws_preservation.specs.ControlControl.{Function, Match}
 use Rattle.wasm2js_laws_simulation.specs.CallsCalled.{CallsFollow}
 use Rattle.wasm2js_laws_simulation.specs.FramesFrames.{IsSettled, AreHelped, AccessesAreKept, ImportsFollow}
 

@@ -1,14 +1,13 @@
 -- The place where a session begins in asm.js and the store where it begins in WebAssembly.
 use Rattle.std.specs.Prelude.{◌≡◌, map, None}
-use Rattle.sem_laws.specs.Script.{ScriptPlain}
+use Rattle.session_lang.specs.Script.{ScriptPlain}
 use Rattle.wasm_lang.specs.declared.types.GlobalType.{GlobalType}
 use Rattle.wasm_lang.specs.Modules.{WasmModule}
 use Rattle.wasm_lang_valid.specs.ModuleRules.{global_types}
 use Rattle.wasm_lang_exec.specs.Session.{first_globals}
 use Rattle.wasm_lang_exec.specs.Fits.{misfit}
-use Rattle.asm2wasm_lang.specs.Allowed.{WritesBytes}
 use Rattle.wasm2js_lang.specs.Calling.{IsCalledAs}
-use Rattle.wasm2js_code.specs.Modules.{translated}
+use Rattle.wasm2js_translation.specs.Modules.{translated}
 use Rattle.wasm2js_laws_acceptance.specs.FunctionsFunctions.{IsSource}
 use Rattle.wasm2js_laws_acceptance.specs.AcceptedLaws.{HaveFirstWords}
 use Rattle.wasm2js_laws_places.specs.Places.{word_at, globals_of}
@@ -23,4 +22,4 @@ GlobalsBegin = (w : WasmModule) → IsSource w → HaveFirstWords w → (s : Scr
 
 -- after the segments the place stands for the store after instantiation
 abbrev pub StoresAreHeld : Type 0
-StoresAreHeld = (w : WasmModule) → IsSource w → HaveFirstWords w → IsCalledAs w (translated w) → (s : ScriptPlain) → WritesBytes s → misfit w s ≡ None → IsStored w s
+StoresAreHeld = (w : WasmModule) → IsSource w → HaveFirstWords w → IsCalledAs w (translated w) → (s : ScriptPlain) → misfit w s ≡ None → IsStored w s

@@ -6,6 +6,7 @@ pub mod ImportsLaws
 pub mod HelpingHelping
 pub mod HelpingLaws
 pub mod HelpingStanding
+pub mod HelpersLaws
 pub mod HostHosts
 pub mod HostLaws
 pub mod FollowedLaws

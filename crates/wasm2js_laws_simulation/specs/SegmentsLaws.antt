@@ -8,8 +8,8 @@ use Rattle.asm_lang_valid.specs.Typed.{scope_of}
 use Rattle.asm_lang_exec.specs.Runs.{Place, Part}
 use Rattle.asm_lang_exec.specs.Meaning.{Completion, normal}
 use Rattle.asm_laws_continuation.specs.Following.{CallsBefore, exec_all_to}
-use Rattle.wasm2js_words.specs.Words.{stmts_in}
-use Rattle.wasm2js_code.specs.Modules.{segment_stmts, init_function, translated}
+use Rattle.wasm2js_translation.specs.Words.{stmts_in}
+use Rattle.wasm2js_translation.specs.Modules.{segment_stmts, init_function, translated}
 use Rattle.wasm2js_laws_acceptance.specs.FunctionsFunctions.{IsSource}
 
 -- a heap with the bytes of segments that lie at constant places

@@ -1,7 +1,7 @@
 -- A session of asm.js begins as that of WebAssembly does: `$init` stores the segments and calls the start function.
 use Rattle.std.specs.Prelude.{◌≡◌, ℕ, ◌+◌, ◌≤◌, true, ◌&&◌, List, [], length}
 use Rattle.std.specs.List.{flat_map}
-use Rattle.sem_laws.specs.Script.{ScriptPlain}
+use Rattle.session_lang.specs.Script.{ScriptPlain}
 use Rattle.wasm_lang.specs.Modules.{WasmModule}
 use Rattle.wasm_lang_exec.specs.Session.{first_store, entries_fit, bytes_fit, with_entries, with_bytes}
 use Rattle.asm_lang_valid.specs.Typed.{scope_of}
@@ -9,13 +9,13 @@ use Rattle.asm_lang_exec.specs.Runs.{Place, Part, gives}
 use Rattle.asm_lang_exec.specs.Meaning.{Completion, normal}
 use Rattle.asm_lang_exec.specs.Session.{first_place}
 use Rattle.asm_laws_continuation.specs.Following.{CallsBefore, exec_all_to, call_at_to, host_calls_to}
-use Rattle.wasm2js_words.specs.Words.{stmts_in}
+use Rattle.wasm2js_translation.specs.Words.{stmts_in}
 use Rattle.wasm2js_lang.specs.Heaps.{heap_bytes}
 use Rattle.wasm2js_lang.specs.Calling.{IsCalledAs}
 use Rattle.wasm2js_lang.specs.Allowed.{script_for, source_session, comparison}
-use Rattle.wasm2js_code.specs.Modules.{segment_stmts, init_function, translated}
+use Rattle.wasm2js_translation.specs.Modules.{segment_stmts, init_function, translated}
 use Rattle.wasm2js_laws_acceptance.specs.FunctionsFunctions.{IsSource}
-use Rattle.wasm2js_laws_pace.specs.Following.{Follows}
+use Rattle.wasm2js_laws_places.specs.Following.{Follows}
 use Rattle.wasm2js_laws_places.specs.Places.{store_of, World}
 use Rattle.wasm2js_laws_simulation.specs.HostHosts.{starting, Matches, setting_of, HostedCallsFollow}
 use Rattle.wasm2js_laws_simulation.specs.HostLaws.{CallsOfHostFollow}

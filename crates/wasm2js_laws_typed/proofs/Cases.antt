@@ -6,7 +6,7 @@ use Rattle.std.proofs.lemmas.Int.{ints}
 use Rattle.sem_words.specs.Words.{signed_of}
 use Rattle.asm_lang.specs.Modules.{Stmt, Clauses}
 use Rattle.asm_lang_valid.specs.Typing.{values, is_value, distinct, in_range, near, close_together}
-use Rattle.wasm2js_code.specs.Bodies.{cases}
+use Rattle.wasm2js_translation.specs.Bodies.{cases}
 
 abbrev pub lows : (i n : ℕ) → List ℤ
 lows i zero = []

@@ -6,15 +6,15 @@ use Rattle.std.proofs.lemmas.Bool.Decides.{nat_tests}
 use Rattle.std.proofs.lemmas.Int.{ints}
 use Rattle.sem_words.specs.Words.{signed_of}
 use Rattle.sem_words.proofs.WordLaws.{signed_of-fits_32}
-use Rattle.sem_laws.specs.Imports.{low_word, high_word}
+use Rattle.session_lang.specs.Imports.{low_word, high_word}
 use Rattle.asm_lang_valid.specs.Typing.{Scope, literal_type}
 use Rattle.wasm_lang.specs.declared.types.ValType.{ValType}
 use Rattle.wasm_lang.specs.declared.types.ValType.TheVariants.{I32, I64}
 use Rattle.wasm_lang_valid.specs.Typing.{Context}
-use Rattle.wasm2js_laws_words.specs.Sound.{IsInt}
+use Rattle.wasm2js_laws_terms.specs.Sound.{IsInt}
 use Rattle.wasm2js_laws_scopes.specs.Provided.{HasRoom, AreInts}
-use Rattle.wasm2js_code.specs.Pairs.{operand_pair, names_of}
-use Rattle.wasm2js_code.specs.Rooms.{here}
+use Rattle.wasm2js_translation.specs.Pairs.{operand_pair, names_of}
+use Rattle.wasm2js_translation.specs.Rooms.{here}
 
 -- ---- literals
 

@@ -4,15 +4,15 @@ use Rattle.asm_lang.specs.Modules.{Stmt}
 use Rattle.asm_lang_valid.specs.Rows.{expr_count, stmt_count}
 use Rattle.asm_lang_valid.specs.LimitRows.{expr_marks}
 use Rattle.asm_lang_valid.specs.Typing.{Scope, Around, in_a_loop, has_label}
-use Rattle.wasm2js_words.specs.Names.{numbered, label}
-use Rattle.wasm2js_laws_words.specs.Sound.{IsInt}
-use Rattle.wasm2js_laws_words.specs.Laws.{IsFineExpr, IsFine, AreFine}
-use Rattle.wasm2js_laws_words.proofs.FineExprs.{is_identifier, intish, signed_int, is_typed_below, variable_fine, signed_fine}
-use Rattle.wasm2js_laws_words.proofs.FineActions.{no_marks, both_marks, both_true, none_fine, one_more_fine}
+use Rattle.wasm2js_translation.specs.Names.{numbered, label}
+use Rattle.wasm2js_laws_terms.specs.Sound.{IsInt}
+use Rattle.wasm2js_laws_terms.specs.Laws.{IsFineExpr, IsFine, AreFine}
+use Rattle.wasm2js_laws_terms.proofs.FineExprs.{is_identifier, intish, signed_int, is_typed_below, variable_fine, signed_fine}
+use Rattle.wasm2js_laws_terms.proofs.FineActions.{no_marks, both_marks, both_true, none_fine, one_more_fine}
 use Rattle.asm_types.specs.declared.value_type.ValueType.TheVariants.{Signed, Int}
-use Rattle.wasm2js_code.specs.Actions.{low}
-use Rattle.wasm2js_code.specs.Bodies.{label_name, signed_word}
-use Rattle.wasm2js_code.specs.Helpers.{block_of}
+use Rattle.wasm2js_translation.specs.Actions.{low}
+use Rattle.wasm2js_translation.specs.Bodies.{label_name, signed_word}
+use Rattle.wasm2js_translation.specs.Helpers.{block_of}
 use Rattle.wasm2js_laws_typed.specs.Constructs.{AllFine, with_label, BlocksAreFine, LoopsAreFine, ArmsAreFine, TestsAreFine}
 
 -- ---- lists of statements

@@ -16,13 +16,13 @@ use Rattle.wasm_laws_sound.specs.Trees.{IsTyped}
 use Rattle.wasm_laws_trees.specs.Spelled.{tree_levels}
 use Rattle.asm_lang.specs.Modules.{breaks}
 use Rattle.asm_lang_valid.specs.Typing.{Scope, Around, result_of, in_a_loop, in_a_switch, has_label}
-use Rattle.wasm2js_words.specs.Words.{Action, simply, stop, statements}
-use Rattle.wasm2js_laws_words.specs.Sound.{AreSoundActions, action_depth, actions_depth}
-use Rattle.wasm2js_laws_words.proofs.FineActions.{action_fine}
+use Rattle.wasm2js_translation.specs.Words.{Action, simply, stop, statements}
+use Rattle.wasm2js_laws_terms.specs.Sound.{AreSoundActions, action_depth, actions_depth}
+use Rattle.wasm2js_laws_terms.proofs.FineActions.{action_fine}
 use Rattle.wasm2js_laws_scopes.specs.Provided.{Provides, HasRoom}
-use Rattle.wasm2js_code.specs.Actions.{under, actions}
-use Rattle.wasm2js_code.specs.Bodies.{Aim, past, again, out, labels_round, label_name, leave_with, jump, after_plain, comes_to_end, leaves, types_after_call, call_stmts, indirect_stmts, stmts_of}
-use Rattle.wasm2js_code.specs.Rooms.{here, local_named, room_of, with_room}
+use Rattle.wasm2js_translation.specs.Actions.{under, actions}
+use Rattle.wasm2js_translation.specs.Bodies.{Aim, past, again, out, labels_round, label_name, leave_with, jump, after_plain, comes_to_end, leaves, types_after_call, call_stmts, indirect_stmts, stmts_of}
+use Rattle.wasm2js_translation.specs.Rooms.{here, local_named, room_of, with_room}
 use Rattle.wasm2js_laws_typed.specs.Constructs.{AllFine, EachFine, with_label, AreAims, labels_for}
 use Rattle.wasm2js_laws_typed.specs.Bodies.{IsFormedCode, CodeIsFine}
 use Rattle.wasm2js_laws_typed.proofs.SoundPlain.{plain_is_sound, of_fixed}

@@ -17,18 +17,18 @@ use Rattle.asm_lang_valid.specs.Scope.{Signature, last_gives_value}
 use Rattle.asm_lang_valid.specs.Rows.{expr_count}
 use Rattle.asm_lang_valid.specs.Typing.{Scope, Around, is_call, call_fits, type_of, exprs_length}
 use Rattle.asm_lang_valid.specs.LimitRows.{call_marks}
-use Rattle.wasm2js_words.specs.Names.{Name, numbered, function, table, spelled}
-use Rattle.wasm2js_words.specs.Words.{conjunction, read, put, guard, natural, signed_number, put_in}
-use Rattle.wasm2js_laws_words.specs.Sound.{IsInt}
-use Rattle.wasm2js_laws_words.specs.Laws.{IsFineExpr, IsFine}
-use Rattle.wasm2js_laws_words.proofs.FineExprs.{is_identifier, intish, variable_fine, literal_fine, bits_fine, AreFineExprs, no_exprs_fine, exprs_fine}
-use Rattle.wasm2js_laws_words.proofs.FineActions.{no_marks, assigned, equal_self, same_self, simple_fine}
+use Rattle.wasm2js_translation.specs.Names.{Name, numbered, function, table, spelled}
+use Rattle.wasm2js_translation.specs.Words.{conjunction, read, put, guard, natural, signed_number, put_in}
+use Rattle.wasm2js_laws_terms.specs.Sound.{IsInt}
+use Rattle.wasm2js_laws_terms.specs.Laws.{IsFineExpr, IsFine}
+use Rattle.wasm2js_laws_terms.proofs.FineExprs.{is_identifier, intish, variable_fine, literal_fine, bits_fine, AreFineExprs, no_exprs_fine, exprs_fine}
+use Rattle.wasm2js_laws_terms.proofs.FineActions.{no_marks, assigned, equal_self, same_self, simple_fine}
 use Rattle.wasm2js_laws_scopes.specs.Provided.{HasFixed, HasRoom, IsFunction, IsTable, signature_for}
-use Rattle.wasm2js_code.specs.Pairs.{operand_pair}
-use Rattle.wasm2js_code.specs.Actions.{under, low}
-use Rattle.wasm2js_code.specs.Bodies.{high_result, word_in, arguments_from, answered, call_of, form_number}
-use Rattle.wasm2js_code.specs.Rooms.{here, wide_from}
-use Rattle.wasm2js_code.specs.Tables.{words_of}
+use Rattle.wasm2js_translation.specs.Pairs.{operand_pair}
+use Rattle.wasm2js_translation.specs.Actions.{under, low}
+use Rattle.wasm2js_translation.specs.Bodies.{high_result, word_in, arguments_from, answered, call_of, form_number}
+use Rattle.wasm2js_translation.specs.Rooms.{here, wide_from}
+use Rattle.wasm2js_translation.specs.Tables.{words_of}
 use Rattle.wasm2js_laws_typed.specs.Constructs.{AllFine, CallsAreFine, EntryCallsAreFine}
 use Rattle.wasm2js_laws_typed.proofs.Facts.{plain_literal, first_low, first_high}
 use Rattle.wasm2js_laws_typed.proofs.FineBlocks.{is_higher}

@@ -7,18 +7,18 @@ use Rattle.wasm_lang_valid.specs.Typing.{Context, listed}
 use Rattle.asm_lang.specs.Modules.{Stmt, returns, breaks}
 use Rattle.asm_lang_valid.specs.LimitRows.{expr_marks}
 use Rattle.asm_lang_valid.specs.Typing.{Scope, Around, result_of, has_label, has_loop}
-use Rattle.wasm2js_words.specs.Names.{numbered, label}
-use Rattle.wasm2js_words.specs.Words.{read, put, simple_statements}
-use Rattle.wasm2js_laws_words.specs.Sound.{IsInt, AreSoundSimple}
-use Rattle.wasm2js_laws_words.specs.Laws.{IsFine}
-use Rattle.wasm2js_laws_words.proofs.FineExprs.{is_identifier, is_typed_below}
-use Rattle.wasm2js_laws_words.proofs.FineActions.{simple_fine, both_true, no_marks}
+use Rattle.wasm2js_translation.specs.Names.{numbered, label}
+use Rattle.wasm2js_translation.specs.Words.{read, put, simple_statements}
+use Rattle.wasm2js_laws_terms.specs.Sound.{IsInt, AreSoundSimple}
+use Rattle.wasm2js_laws_terms.specs.Laws.{IsFine}
+use Rattle.wasm2js_laws_terms.proofs.FineExprs.{is_identifier, is_typed_below}
+use Rattle.wasm2js_laws_terms.proofs.FineActions.{simple_fine, both_true, no_marks}
 use Rattle.wasm2js_laws_scopes.specs.Provided.{HasFixed, HasRoom}
 use Rattle.wasm2js_laws_scopes.proofs.Among.{same_spelling, other_spelling}
-use Rattle.wasm2js_code.specs.Pairs.{operand_pair, moved}
-use Rattle.wasm2js_code.specs.Actions.{under, low}
-use Rattle.wasm2js_code.specs.Bodies.{Aim, past, again, out, labels_round, label_name, label_of, signed_word, high_result, leave_with, carried, branch, jump}
-use Rattle.wasm2js_code.specs.Rooms.{here}
+use Rattle.wasm2js_translation.specs.Pairs.{operand_pair, moved}
+use Rattle.wasm2js_translation.specs.Actions.{under, low}
+use Rattle.wasm2js_translation.specs.Bodies.{Aim, past, again, out, labels_round, label_name, label_of, signed_word, high_result, leave_with, carried, branch, jump}
+use Rattle.wasm2js_translation.specs.Rooms.{here}
 use Rattle.wasm2js_laws_typed.specs.Constructs.{AllFine, labels_for, AreAims, LabelsAreNew, ReturnsAreFine, JumpsAreFine}
 use Rattle.wasm2js_laws_typed.proofs.Facts.{first_low, first_high, first_words}
 use Rattle.wasm2js_laws_typed.proofs.SoundCode.{moved_sound}

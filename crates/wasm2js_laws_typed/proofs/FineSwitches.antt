@@ -14,13 +14,13 @@ use Rattle.asm_lang_valid.specs.Rows.{need, expr_count, stmts_count}
 use Rattle.asm_lang_valid.specs.declared.rule.Rule.TheVariants.{PastLimit}
 use Rattle.asm_lang_valid.specs.Typing.{Scope, Around, in_a_switch, values, cases_fit, distinct, in_range, close_together, clauses_typed}
 use Rattle.asm_lang_valid.specs.LimitRows.{clauses_length, clauses_marks, expr_marks, most_clauses, rows_of}
-use Rattle.wasm2js_words.specs.Words.{stmts_in}
-use Rattle.wasm2js_laws_words.specs.Sound.{IsInt}
-use Rattle.wasm2js_laws_words.specs.Laws.{IsTrapUse, IsFine}
-use Rattle.wasm2js_laws_words.proofs.FineExprs.{is_typed_below}
-use Rattle.wasm2js_laws_words.proofs.FineActions.{no_marks, both_marks, both_true}
-use Rattle.wasm2js_code.specs.Actions.{low}
-use Rattle.wasm2js_code.specs.Bodies.{signed_word, cases, switches_from}
+use Rattle.wasm2js_translation.specs.Words.{stmts_in}
+use Rattle.wasm2js_laws_terms.specs.Sound.{IsInt}
+use Rattle.wasm2js_laws_terms.specs.Laws.{IsTrapUse, IsFine}
+use Rattle.wasm2js_laws_terms.proofs.FineExprs.{is_typed_below}
+use Rattle.wasm2js_laws_terms.proofs.FineActions.{no_marks, both_marks, both_true}
+use Rattle.wasm2js_translation.specs.Actions.{low}
+use Rattle.wasm2js_translation.specs.Bodies.{signed_word, cases, switches_from}
 use Rattle.wasm2js_laws_typed.specs.Constructs.{AllFine, EachFine, SwitchesAreFine}
 use Rattle.wasm2js_laws_typed.proofs.Cases.{lows, highs, low_values, high_values, low_distinct, high_distinct, low_range, high_range, low_close, high_close}
 use Rattle.wasm2js_laws_typed.proofs.FineBlocks.{together, word_signed}

@@ -7,8 +7,8 @@ use Rattle.wasm_lang_valid.specs.Typing.{Context}
 use Rattle.wasm_lang_exec.specs.Code.{unreachable, block, loop, if_block, br, br_if, br_table, return, call, call_indirect, plain, Trees, ε, ◌▹◌}
 use Rattle.asm_lang_valid.specs.Typing.{Scope}
 use Rattle.wasm2js_laws_scopes.specs.Provided.{HasRoom, IsNamed}
-use Rattle.wasm2js_code.specs.Bodies.{after_plain}
-use Rattle.wasm2js_code.specs.Rooms.{Room, with_room, here, local_named, room_of}
+use Rattle.wasm2js_translation.specs.Bodies.{after_plain}
+use Rattle.wasm2js_translation.specs.Rooms.{Room, with_room, here, local_named, room_of}
 
 named_left : (x : ℕ) (xs ys : List ℕ) → IsNamed x xs → IsNamed x (xs ++ ys)
 named_left x [] ys h = absurd (cc h)

@@ -11,12 +11,12 @@ use Rattle.wasm_lang.specs.declared.types.ValType.{ValType}
 use Rattle.wasm_lang.specs.declared.types.ValType.TheVariants.{I32, I64}
 use Rattle.wasm_lang.specs.declared.types.MemOp.{MemOp}
 use Rattle.wasm_lang.specs.Instructions.{nop, drop_operand, select, local_get, local_set, local_tee, global_get, global_set, load, store, memory_size, memory_copy, memory_fill, const32, const64, eqz32, eqz64, rel32, rel64, un32, un64, bin32, bin64, wrap, extend_s, extend_u, sign_extend}
-use Rattle.wasm2js_words.specs.Names.{Name}
-use Rattle.wasm2js_words.specs.Words.{read, put, Action}
-use Rattle.wasm2js_laws_words.specs.Sound.{term_depth, actions_depth}
-use Rattle.wasm2js_code.specs.Pairs.{Pair, operand_pair, local_pair, global_pair, simples, literal, sign_of}
-use Rattle.wasm2js_code.specs.Actions.{under, low, narrow_binary, narrow_unary, narrow_relation, selected, moved_if, kind_in, place, guarded, load_word, load_high, load_code, store_word, store_code, sign_extended}
-use Rattle.wasm2js_code.specs.Wide.{wide_binary, wide_unary, wide_relation}
+use Rattle.wasm2js_translation.specs.Names.{Name}
+use Rattle.wasm2js_translation.specs.Words.{read, put, Action}
+use Rattle.wasm2js_laws_terms.specs.Sound.{term_depth, actions_depth}
+use Rattle.wasm2js_translation.specs.Pairs.{Pair, operand_pair, local_pair, global_pair, simples, literal, sign_of}
+use Rattle.wasm2js_translation.specs.Actions.{under, low, narrow_binary, narrow_unary, narrow_relation, selected, moved_if, kind_in, place, guarded, load_word, load_high, load_code, store_word, store_code, sign_extended}
+use Rattle.wasm2js_translation.specs.Wide.{wide_binary, wide_unary, wide_relation}
 use Rattle.wasm2js_laws_typed.specs.Laws.{PlainIsShallow}
 
 -- ---- lists

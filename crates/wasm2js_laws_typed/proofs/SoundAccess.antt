@@ -3,13 +3,13 @@ use Rattle.std.proofs.Common.{◌≡◌, ℕ, ◌+◌, ◌^◌, ◌<◌, ◌≤�
 use Rattle.std.specs.Prelude.{nat_lt, ◌==◌, if◌then◌else◌}
 use Rattle.wasm_lang.specs.declared.types.MemOp.{MemOp}
 use Rattle.asm_lang_valid.specs.Typing.{Scope}
-use Rattle.wasm2js_words.specs.Names as names
-use Rattle.wasm2js_words.specs.Names.{Name, fixed, spare_high}
-use Rattle.wasm2js_words.specs.Words.{read, both, shift_right, put, ask, tell, byte, whole, write_byte, write_whole, Action}
-use Rattle.wasm2js_laws_words.specs.Sound.{IsInt, IsSound, AreSoundActions}
+use Rattle.wasm2js_translation.specs.Names as names
+use Rattle.wasm2js_translation.specs.Names.{Name, fixed, spare_high}
+use Rattle.wasm2js_translation.specs.Words.{read, both, shift_right, put, ask, tell, byte, whole, write_byte, write_whole, Action}
+use Rattle.wasm2js_laws_terms.specs.Sound.{IsInt, IsSound, AreSoundActions}
 use Rattle.wasm2js_laws_scopes.specs.Provided.{signature, HasFixed, HasMemory}
-use Rattle.wasm2js_code.specs.Pairs.{Pair, literal, sign_of}
-use Rattle.wasm2js_code.specs.Actions.{place, half, load_word, load_high, load_code, store_word, store_code}
+use Rattle.wasm2js_translation.specs.Pairs.{Pair, literal, sign_of}
+use Rattle.wasm2js_translation.specs.Actions.{place, half, load_word, load_high, load_code, store_word, store_code}
 use Rattle.wasm2js_laws_typed.specs.Laws.{is_loaded, is_stored}
 use Rattle.wasm2js_laws_typed.proofs.SoundCode.{all_simple, join_sound, place_sound, guarded_sound, byte_sound, half_sound, apart_sound, last_is}
 

@@ -11,14 +11,14 @@ use Rattle.sem_words.specs.declared.word.Rel.TheVariants as rels
 use Rattle.wasm_lang.specs.declared.types.ValType.{ValType}
 use Rattle.wasm_lang.specs.declared.types.ValType.TheVariants.{I32, I64}
 use Rattle.asm_lang_valid.specs.Typing.{Scope}
-use Rattle.wasm2js_words.specs.Names as names
-use Rattle.wasm2js_words.specs.Names.{Name, Fixed}
-use Rattle.wasm2js_words.specs.Words.{read, Term, Simple, put, stop, guard, byte, Action, simply}
-use Rattle.wasm2js_laws_words.specs.Sound.{IsInt, IsHelper, IsSound, AreSoundSimple, AreSoundActions}
+use Rattle.wasm2js_translation.specs.Names as names
+use Rattle.wasm2js_translation.specs.Names.{Name, Fixed}
+use Rattle.wasm2js_translation.specs.Words.{read, Term, Simple, put, stop, guard, byte, Action, simply}
+use Rattle.wasm2js_laws_terms.specs.Sound.{IsInt, IsHelper, IsSound, AreSoundSimple, AreSoundActions}
 use Rattle.wasm2js_laws_scopes.specs.Provided.{signature, AreInts, HasFixed, HasMemory}
-use Rattle.wasm2js_code.specs.Pairs.{Pair, names_of, simples, moved, literal, plus, minus, sign_of}
-use Rattle.wasm2js_code.specs.Actions.{narrow_binary, narrow_unary, narrow_relation, selected, moved_if, place, guarded, by_place, half, sign_extended}
-use Rattle.wasm2js_code.specs.Wide.{wide_binary, wide_unary, wide_relation, wide_extend, wide_turn}
+use Rattle.wasm2js_translation.specs.Pairs.{Pair, names_of, simples, moved, literal, plus, minus, sign_of}
+use Rattle.wasm2js_translation.specs.Actions.{narrow_binary, narrow_unary, narrow_relation, selected, moved_if, place, guarded, by_place, half, sign_extended}
+use Rattle.wasm2js_translation.specs.Wide.{wide_binary, wide_unary, wide_relation, wide_extend, wide_turn}
 use Rattle.wasm2js_laws_typed.proofs.Facts.{plain_literal}
 
 module _ (s : Scope) where

@@ -2,7 +2,7 @@
 use Rattle.std.proofs.Common.{◌≡◌, ℕ, ◌+◌, ◌/◌, ◌^◌, ◌<◌, ◌≤◌, Bool, true, false, List, [], ◌∷◌, ◌++◌, length, drop, Option, Some, None, Result, Ok, refl, sym, ap, subst, arith}
 use Rattle.std.specs.Prelude.{slice_get, ◌==◌}
 use Rattle.std.proofs.lemmas.Bool.Decides.{nat_tests}
-use Rattle.sem_laws.specs.Imports.{low_word, high_word}
+use Rattle.session_lang.specs.Imports.{low_word, high_word}
 use Rattle.wasm_lang.specs.declared.types.ValType.{ValType}
 use Rattle.wasm_lang.specs.declared.types.ValType.TheVariants.{I32, I64}
 use Rattle.wasm_lang.specs.declared.types.GlobalType.{GlobalType}
@@ -13,13 +13,13 @@ use Rattle.wasm_lang_valid.specs.declared.rule.Rule.{Rule}
 use Rattle.wasm_lang_valid.specs.declared.rule.Rule.TheVariants.{NoMemory, NoGlobal, NoLocal}
 use Rattle.wasm_lang_valid.specs.Typing.{Context, Shape, Fixed, TwoAlike, Acts, fixed, two_alike, found, unless, kind_of, plain_shape}
 use Rattle.asm_lang_valid.specs.Typing.{Scope}
-use Rattle.wasm2js_words.specs.Names as names
-use Rattle.wasm2js_laws_words.specs.Sound.{IsInt, AllSound, AreSoundSimple, AreSoundActions}
+use Rattle.wasm2js_translation.specs.Names as names
+use Rattle.wasm2js_laws_terms.specs.Sound.{IsInt, AllSound, AreSoundSimple, AreSoundActions}
 use Rattle.wasm2js_laws_scopes.specs.Provided.{signature, AreInts, HasRoom, IsNamed, Provides}
-use Rattle.wasm2js_code.specs.Pairs.{names_of, local_pair, operand_pair, global_pair}
-use Rattle.wasm2js_code.specs.Actions.{under, low, three, selected, kind_in, narrow_unary, narrow_binary, sign_extended, actions}
-use Rattle.wasm2js_code.specs.Wide.{wide_binary, wide_unary}
-use Rattle.wasm2js_code.specs.Rooms.{here, local_named}
+use Rattle.wasm2js_translation.specs.Pairs.{names_of, local_pair, operand_pair, global_pair}
+use Rattle.wasm2js_translation.specs.Actions.{under, low, three, selected, kind_in, narrow_unary, narrow_binary, sign_extended, actions}
+use Rattle.wasm2js_translation.specs.Wide.{wide_binary, wide_unary}
+use Rattle.wasm2js_translation.specs.Rooms.{here, local_named}
 use Rattle.wasm2js_laws_typed.specs.Laws.{IsFormed, PlainIsSound}
 use Rattle.wasm2js_laws_typed.proofs.Facts.{plain_literal, signed_literal, low_fits, high_fits, first_low, second_low, top_of_two, third_low, middle_of_three, top_of_three, first_high, second_high, top_high_of_two, first_words}
 use Rattle.wasm2js_laws_typed.proofs.SoundCode.{all_simple, moved_if_sound, selected_sound, narrow_binary_sound, narrow_unary_sound, narrow_relation_sound, wide_binary_sound, wide_unary_sound, wide_relation_sound, narrow_extended_sound, wide_extended_sound}

@@ -8,7 +8,7 @@ use Rattle.wasm_lang.specs.Instructions.{Plain, nop, drop_operand, select, local
 use Rattle.wasm_lang_valid.specs.declared.rule.Rule.{Rule}
 use Rattle.wasm_lang_valid.specs.declared.rule.Rule.TheVariants.{NoLabel}
 use Rattle.wasm_lang_valid.specs.Typing.{Context, Shape, Leaves, Acts, fixed, leaves, any_one, two_alike, found, unless, listed, plain_shape}
-use Rattle.wasm2js_code.specs.Bodies.{after_shape, after_form, after_plain}
+use Rattle.wasm2js_translation.specs.Bodies.{after_shape, after_form, after_plain}
 
 pub same_shape : (c : Context) (labels : List (Option ValType)) (p : Plain) → plain_shape (record c { labels = labels }) p ≡ plain_shape c p
 same_shape c labels nop = refl

@@ -8,8 +8,8 @@ use Rattle.wasm_laws_sound.specs.Trees.{IsTyped}
 use Rattle.wasm_laws_trees.specs.Spelled.{tree_levels}
 use Rattle.asm_lang_valid.specs.Typing.{Scope, Around, result_of}
 use Rattle.wasm2js_laws_scopes.specs.Provided.{Provides, HasRoom}
-use Rattle.wasm2js_code.specs.Bodies.{Aim, stmts_of}
-use Rattle.wasm2js_code.specs.Rooms.{room_of}
+use Rattle.wasm2js_translation.specs.Bodies.{Aim, stmts_of}
+use Rattle.wasm2js_translation.specs.Rooms.{room_of}
 use Rattle.wasm2js_laws_typed.specs.Laws.{IsFormed}
 use Rattle.wasm2js_laws_typed.specs.Constructs.{AllFine, AreAims, labels_for}
 

@@ -6,14 +6,14 @@ use Rattle.wasm_lang.specs.Modules.{FunctionType}
 use Rattle.wasm_lang_valid.specs.Typing.{Context, listed, result_of as type_result}
 use Rattle.asm_lang.specs.Modules.{Stmt, if_only, if_else}
 use Rattle.asm_lang_valid.specs.Typing.{Scope, Label, Around, result_of, in_a_loop, in_a_switch, has_label}
-use Rattle.wasm2js_words.specs.Names.{numbered, function, table}
-use Rattle.wasm2js_laws_words.specs.Sound.{IsInt}
-use Rattle.wasm2js_laws_words.specs.Laws.{IsFine}
+use Rattle.wasm2js_translation.specs.Names.{numbered, function, table}
+use Rattle.wasm2js_laws_terms.specs.Sound.{IsInt}
+use Rattle.wasm2js_laws_terms.specs.Laws.{IsFine}
 use Rattle.wasm2js_laws_scopes.specs.Provided.{HasFixed, HasRoom, IsFunction, IsTable, signature_for}
-use Rattle.wasm2js_code.specs.Actions.{under, low}
-use Rattle.wasm2js_code.specs.Bodies.{Aim, past, again, out, labels_round, label_name, signed_word, under_label, endless, leave_with, jump, call_stmts, form_number, indirect_stmts, by_index}
-use Rattle.wasm2js_code.specs.Helpers.{block_of}
-use Rattle.wasm2js_code.specs.Rooms.{here}
+use Rattle.wasm2js_translation.specs.Actions.{under, low}
+use Rattle.wasm2js_translation.specs.Bodies.{Aim, past, again, out, labels_round, label_name, signed_word, under_label, endless, leave_with, jump, call_stmts, form_number, indirect_stmts, by_index}
+use Rattle.wasm2js_translation.specs.Helpers.{block_of}
+use Rattle.wasm2js_translation.specs.Rooms.{here}
 
 -- each of these statements, no higher than so much
 abbrev pub AllFine : Scope → Around → (height : ℕ) → List Stmt → Type 0

@@ -6,10 +6,10 @@ use Rattle.wasm_lang.specs.Modules.{FunctionType}
 use Rattle.wasm_lang_valid.specs.Measures.{is_mul_div}
 use Rattle.wasm_lang_valid.specs.Typing.{Context, Shape, Acts, plain_shape}
 use Rattle.asm_lang_valid.specs.Typing.{Scope}
-use Rattle.wasm2js_laws_words.specs.Sound.{AreSoundActions, actions_depth}
+use Rattle.wasm2js_laws_terms.specs.Sound.{AreSoundActions, actions_depth}
 use Rattle.wasm2js_laws_scopes.specs.Provided.{Provides, HasRoom}
-use Rattle.wasm2js_code.specs.Actions.{actions}
-use Rattle.wasm2js_code.specs.Rooms.{here, local_named}
+use Rattle.wasm2js_translation.specs.Actions.{actions}
+use Rattle.wasm2js_translation.specs.Rooms.{here, local_named}
 
 -- the bytes of loads and stores, and the bits that are extended with their sign
 

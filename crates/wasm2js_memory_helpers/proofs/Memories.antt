@@ -4,8 +4,8 @@ use Rattle.std.specs.Prelude.{if◌then◌else◌}
 use Rattle.wasm_lang.specs.Modules.{WasmModule}
 use Rattle.wasm_lang_valid.specs.ModuleRules.{has_memory}
 use Rattle.wasm_lang_valid.specs.Profile.{memory_bytes}
-use Rattle.wasm2js_code.specs.Helpers.{wide_helpers, division_helpers, memory_helpers}
-use Rattle.wasm2js_code.specs.Modules.{helpers}
+use Rattle.wasm2js_translation.specs.Helpers.{wide_helpers, division_helpers, memory_helpers}
+use Rattle.wasm2js_translation.specs.Modules.{helpers}
 use Rattle.wasm2js_memory_helpers.specs.Helpers.{memory_helpers_if, helpers_with, memory_of}
 
 by_memory : (b : Bool) (n : ℕ) → memory_helpers_if (if b then Some n else None) ≡ (if b then memory_helpers n else [])

@@ -1,6 +1,6 @@
 -- Words of four bytes, whose parts are given by equations.
 use Rattle.std.proofs.Common.{◌≡◌, false, ap, ◌∙◌}
-use Rattle.wasm2js_words.specs.Words.{Term, byte}
+use Rattle.wasm2js_translation.specs.Words.{Term, byte}
 use Rattle.wasm2js_memory_helpers.specs.Pieces.{bytes_together, word_of}
 
 pub same_word : (a b c d first second third fourth : Term) → first ≡ byte false a → second ≡ byte false b → third ≡ byte false c → fourth ≡ byte false d

@@ -4,7 +4,7 @@ use Rattle.wasm_lang.specs.Modules.{WasmModule}
 use Rattle.wasm_lang_valid.specs.ModuleRules.{has_memory}
 use Rattle.wasm_lang_valid.specs.Profile.{memory_bytes}
 use Rattle.asm_lang.specs.Modules.{Function}
-use Rattle.wasm2js_code.specs.Helpers.{wide_helpers, division_helpers, memory_helpers}
+use Rattle.wasm2js_translation.specs.Helpers.{wide_helpers, division_helpers, memory_helpers}
 
 -- those of a memory of so many bytes, where there is one
 abbrev pub memory_helpers_if : Option ℕ → List Function

@@ -2,9 +2,9 @@
 ghost use Rattle.std.specs.Prelude.{◌≡◌, true, false, ◌++◌, ◌∷◌, [], IfOk};
 ghost use Rattle.asm_lang.specs.Modules as plain;
 ghost use Rattle.asm_tree.specs.Views.{function_view};
-ghost use Rattle.wasm2js_words.specs.Words.{int_of, disjunction, both, compare, at_most, greater, read, number, whole, byte, write_whole, write_byte, simple_statement};
-ghost use Rattle.wasm2js_code.specs.Pairs.{plus, minus, literal};
-ghost use Rattle.wasm2js_code.specs.Helpers as helpers;
+ghost use Rattle.wasm2js_translation.specs.Words.{int_of, disjunction, both, compare, at_most, greater, read, number, whole, byte, write_whole, write_byte, simple_statement};
+ghost use Rattle.wasm2js_translation.specs.Pairs.{plus, minus, literal};
+ghost use Rattle.wasm2js_translation.specs.Helpers as helpers;
 ghost use Rattle.wasm2js_nodes.specs.Names.{name_view};
 ghost use Rattle.wasm2js_build.specs.Views.{term_view};
 ghost use Rattle.wasm2js_build.specs.Blocks.{statements_of};

@@ -1,9 +1,9 @@
 //! Runs of bytes that are all alike.
 ghost use Rattle.std.specs.Prelude.{◌≡◌, ◌++◌, ◌∷◌, [], IfOk};
 ghost use Rattle.asm_tree.specs.Views.{function_view};
-ghost use Rattle.wasm2js_words.specs.Words.{read, write_whole, write_byte, simple_statement};
-ghost use Rattle.wasm2js_code.specs.Pairs.{plus};
-ghost use Rattle.wasm2js_code.specs.Helpers as helpers;
+ghost use Rattle.wasm2js_translation.specs.Words.{read, write_whole, write_byte, simple_statement};
+ghost use Rattle.wasm2js_translation.specs.Pairs.{plus};
+ghost use Rattle.wasm2js_translation.specs.Helpers as helpers;
 ghost use Rattle.wasm2js_build.specs.Blocks.{statements_of};
 
 use crate::runs::{each_byte, each_word, test_length, test_start, when_whole};

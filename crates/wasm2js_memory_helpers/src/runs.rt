@@ -1,9 +1,9 @@
 //! Runs of bytes in the memory: their tests and their loops.
 ghost use Rattle.std.specs.Prelude.{◌≡◌, ◌++◌, ◌∷◌, [], IfOk};
-ghost use Rattle.wasm2js_words.specs.Words.{read, number};
-ghost use Rattle.wasm2js_code.specs.Pairs.{plus};
+ghost use Rattle.wasm2js_translation.specs.Words.{read, number};
+ghost use Rattle.wasm2js_translation.specs.Pairs.{plus};
 ghost use Rattle.wasm2js_memory_helpers.specs.Pieces.{words_while, bytes_while};
-ghost use Rattle.wasm2js_code.specs.Helpers as helpers;
+ghost use Rattle.wasm2js_translation.specs.Helpers as helpers;
 ghost use Rattle.wasm2js_nodes.specs.Names.{name_view};
 ghost use Rattle.wasm2js_build.specs.Views.{term_view};
 ghost use Rattle.wasm2js_build.specs.Blocks.{statements_of};

@@ -2,9 +2,9 @@
 ghost use Rattle.std.specs.Prelude.{◌≡◌, ◌++◌, List, map, IfOk};
 ghost use Rattle.sem_words.specs.Lists.{list_items};
 ghost use Rattle.asm_tree.specs.Views.{function_view};
-ghost use Rattle.wasm2js_code.specs.Helpers as pieces;
+ghost use Rattle.wasm2js_translation.specs.Helpers as pieces;
 ghost use Rattle.wasm_lang.specs.Modules.{WasmModule};
-ghost use Rattle.wasm2js_code.specs.Modules.{helpers};
+ghost use Rattle.wasm2js_translation.specs.Modules.{helpers};
 ghost use Rattle.wasm2js_memory_helpers.specs.Helpers.{memory_helpers_if, helpers_with, memory_of};
 
 use crate::access::access_helpers;

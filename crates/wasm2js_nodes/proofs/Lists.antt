@@ -8,7 +8,7 @@ use Rattle.asm_tree.specs.declared.tree.Stmt.TheVariants as code_stmts
 use Rattle.asm_tree.specs.Views as views
 use Rattle.asm_tree.specs.Views.{stmt_view}
 use Rattle.asm_tree.proofs.Views.{stmt_view-Block}
-use Rattle.wasm2js_words.specs.Words.{stmts_in}
+use Rattle.wasm2js_translation.specs.Words.{stmts_in}
 
 -- both list the statements
 pub stmts_are : (ss : List Stmt) → views.stmts_in ss ≡ stmts_in ss

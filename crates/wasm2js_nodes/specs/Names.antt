@@ -1,6 +1,6 @@
 -- What names of the code say, as plain data.
-use Rattle.wasm2js_words.specs.Names as plain
-use Rattle.wasm2js_words.specs.Names.{numbered, fixed}
+use Rattle.wasm2js_translation.specs.Names as plain
+use Rattle.wasm2js_translation.specs.Names.{numbered, fixed}
 use Rattle.wasm2js_nodes.specs.declared.names.Numbered.{Numbered}
 use Rattle.wasm2js_nodes.specs.declared.names.Numbered.TheVariants as kinds
 use Rattle.wasm2js_nodes.specs.declared.names.Fixed.{Fixed}

@@ -4,8 +4,8 @@ ghost use Rattle.sem_words.specs.Lists.{list_items};
 ghost use Rattle.asm_lang.specs.Modules as plain;
 ghost use Rattle.asm_tree.specs.Views.{expr_view, exprs_view, links_view, stmt_view};
 ghost use Rattle.sem_words.specs.declared.js_value.JsUnary.TheVariants as js_unary;
-ghost use Rattle.wasm2js_words.specs.Names.{spelled};
-ghost use Rattle.wasm2js_words.specs.Words as words;
+ghost use Rattle.wasm2js_translation.specs.Names.{spelled};
+ghost use Rattle.wasm2js_translation.specs.Words as words;
 ghost use Rattle.wasm2js_nodes.specs.Names.{name_view};
 
 use crate::names::{Fixed, Name};

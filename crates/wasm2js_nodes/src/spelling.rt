@@ -1,8 +1,8 @@
 //! How names are spelled.
 ghost use Rattle.std.specs.Prelude.{◌≡◌, ◌∷◌, IfOk};
 ghost use Rattle.sem_words.specs.Lists.{text_bytes};
-ghost use Rattle.wasm2js_words.specs.Names as plain;
-ghost use Rattle.wasm2js_words.specs.Names.{spelled, numeral};
+ghost use Rattle.wasm2js_translation.specs.Names as plain;
+ghost use Rattle.wasm2js_translation.specs.Names.{spelled, numeral};
 ghost use Rattle.wasm2js_nodes.specs.Names.{numbered_view, fixed_view, name_view};
 
 use crate::names::{Fixed, Name, Numbered};

@@ -3,8 +3,8 @@ ghost use Rattle.std.specs.Prelude.{◌≡◌, [], ◌∷◌, ◌++◌, List, ma
 ghost use Rattle.sem_words.specs.Lists.{list_items};
 ghost use Rattle.asm_lang.specs.Modules as plain;
 ghost use Rattle.asm_tree.specs.Views.{expr_view, stmt_view, param_view, local_view};
-ghost use Rattle.wasm2js_words.specs.Words.{stmts_in, signed_number};
-ghost use Rattle.wasm2js_code.specs.Helpers as helpers;
+ghost use Rattle.wasm2js_translation.specs.Words.{stmts_in, signed_number};
+ghost use Rattle.wasm2js_translation.specs.Helpers as helpers;
 ghost use Rattle.wasm2js_nodes.specs.Names.{name_view};
 
 use crate::names::Name;

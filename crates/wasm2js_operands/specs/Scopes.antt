@@ -4,7 +4,7 @@ use Rattle.wasm_lang_valid.specs.Typing.{Context}
 use Rattle.wasm_lang.specs.Instructions.{Instruction, plain}
 use Rattle.wasm_lang.specs.declared.types.ValType.{ValType}
 use Rattle.wasm_tree.specs.Views.{type_of}
-use Rattle.wasm2js_code.specs.Bodies as bodies
+use Rattle.wasm2js_translation.specs.Bodies as bodies
 use Rattle.wasm2js_operands.specs.declared.scope.BodyScope.{BodyScope}
 
 abbrev pub context_in : BodyScope → Context

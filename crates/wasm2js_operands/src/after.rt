@@ -3,7 +3,7 @@ ghost use Rattle.std.specs.Prelude.{◌≡◌, ◌≤◌, Some, None, List, vec_
 ghost use Rattle.wasm_lang.specs.declared.types.ValType.{ValType};
 ghost use Rattle.wasm_tree.specs.Views.{instr_of, type_of};
 ghost use Rattle.wasm_lang_valid.specs.Typing as typing;
-ghost use Rattle.wasm2js_code.specs.Bodies as bodies;
+ghost use Rattle.wasm2js_translation.specs.Bodies as bodies;
 ghost use Rattle.wasm2js_operands.specs.Operands.{over, IsKept};
 ghost use Rattle.wasm2js_operands.specs.Effects.{effect_on, gives_local, gives_global};
 ghost use Rattle.wasm2js_operands.specs.Scopes.{context_in, after};

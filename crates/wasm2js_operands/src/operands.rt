@@ -1,7 +1,7 @@
 //! Operands that are taken and given.
 ghost use Rattle.std.specs.Prelude.{◌≡◌, ◌≤◌, ◌∷◌, ◌++◌, drop, vec_len, IfOk};
 ghost use Rattle.wasm_lang_valid.specs.Typing.{listed};
-ghost use Rattle.wasm2js_code.specs.Actions as actions;
+ghost use Rattle.wasm2js_translation.specs.Actions as actions;
 ghost use Rattle.wasm2js_operands.specs.Operands.{over, IsKept};
 
 use std::alloc::AllocError;

@@ -29,7 +29,7 @@ pub struct BodyScope<'a> {
 impl<'a> BodyScope<'a> {
     ghost use Rattle.std.specs.Prelude.{◌<◌, length, option_map, option_copied, slice_get, Some};
     ghost use Rattle.wasm_lang_valid.specs.Typing as typing;
-    ghost use Rattle.wasm2js_code.specs.Bodies.{form_number};
+    ghost use Rattle.wasm2js_translation.specs.Bodies.{form_number};
     ghost use Rattle.wasm2js_operands.specs.Scopes.{context_in};
 
     /// A type of the module.

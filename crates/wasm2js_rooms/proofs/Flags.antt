@@ -4,9 +4,9 @@ use Rattle.std.specs.Prelude.{◌==◌, slice_index_or, if◌then◌else◌}
 use Rattle.std.specs.List.{list_any, flat_map, range_with_len}
 use Rattle.std.proofs.lemmas.List.Concat.{flat_map-append}
 use Rattle.wasm_lang.specs.declared.types.ValType.{ValType}
-use Rattle.wasm2js_words.specs.Names.{Name}
-use Rattle.wasm2js_code.specs.Pairs.{local_pair, names_of}
-use Rattle.wasm2js_code.specs.Rooms.{Room, local_names, operand_names, declared_names}
+use Rattle.wasm2js_translation.specs.Names.{Name}
+use Rattle.wasm2js_translation.specs.Pairs.{local_pair, names_of}
+use Rattle.wasm2js_translation.specs.Rooms.{Room, local_names, operand_names, declared_names}
 use Rattle.wasm2js_rooms.specs.Sights.{Sight, sight, seen, IsWithin}
 use Rattle.wasm2js_rooms.specs.declared.room.Room.{Room as Seen}
 use Rattle.wasm2js_rooms.specs.Flags.{flagged_names}

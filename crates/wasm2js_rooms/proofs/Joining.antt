@@ -4,7 +4,7 @@ use Rattle.std.proofs.Math.Bool.{or_assoc}
 use Rattle.std.proofs.lemmas.List.Folds.{list_any-append}
 use Rattle.wasm_lang.specs.Instructions.{Instruction}
 use Rattle.wasm_lang_valid.specs.Typing.{Context}
-use Rattle.wasm2js_code.specs.Rooms.{Room, with_room}
+use Rattle.wasm2js_translation.specs.Rooms.{Room, with_room}
 use Rattle.wasm2js_rooms.specs.Sights.{Sight, joined, is_this, sight}
 use Rattle.wasm2js_rooms.specs.Places.{Spot, room_at, rooms_at}
 

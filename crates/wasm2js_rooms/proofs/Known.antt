@@ -8,8 +8,8 @@ use Rattle.wasm_lang.specs.Instructions.{Instruction, Plain}
 use Rattle.wasm_lang.specs.Modules.{FunctionType}
 use Rattle.wasm_lang_valid.specs.declared.rule.Rule.{Rule}
 use Rattle.wasm_lang_valid.specs.Typing.{Context, Shape, Fixed, Leaves, AnyOne, TwoAlike, plain_shape, listed, result_of, type_of, found, unless}
-use Rattle.wasm2js_code.specs.Bodies.{after_form, types_after_call}
-use Rattle.wasm2js_code.specs.Rooms.{wide_from}
+use Rattle.wasm2js_translation.specs.Bodies.{after_form, types_after_call}
+use Rattle.wasm2js_translation.specs.Rooms.{wide_from}
 use Rattle.wasm2js_rooms.specs.Places.{Spot, next_spots, AreKnown}
 
 wide_low : (b : ℕ) (ts : List ValType) → wide_from b ts ≤ b + length ts

@@ -4,7 +4,7 @@ use Rattle.std.specs.Prelude.{vec_len, ◌==◌, slice_index_or, option_to_list}
 use Rattle.std.specs.List.{list_any}
 use Rattle.std.proofs.lemmas.List.{length-reverse}
 use Rattle.wasm_lang.specs.declared.types.ValType.{ValType}
-use Rattle.wasm2js_code.specs.Rooms.{wide_from, here}
+use Rattle.wasm2js_translation.specs.Rooms.{wide_from, here}
 use Rattle.wasm2js_operands.specs.Operands.{over}
 use Rattle.wasm2js_rooms.specs.Sights.{joined, is_this, sight, seen, IsWithin}
 use Rattle.wasm2js_rooms.specs.declared.room.Room.{Room}

@@ -11,9 +11,9 @@ use Rattle.wasm_run_flat.specs.Reading.{single}
 use Rattle.wasm_run_flat.specs.Jumps.{past_end, other_arm}
 use Rattle.wasm_run_flat.specs.Places.{code_at}
 use Rattle.wasm_run_flat.proofs.Standing as standing
-use Rattle.wasm_laws_flat.proofs.Past.{past_block, past_loop, past_if}
-use Rattle.wasm2js_code.specs.Bodies.{after_plain, types_after_call}
-use Rattle.wasm2js_code.specs.Rooms.{with_room, here, room_of}
+use Rattle.wasm_run_flat.proofs.Past.{past_block, past_loop, past_if}
+use Rattle.wasm2js_translation.specs.Bodies.{after_plain, types_after_call}
+use Rattle.wasm2js_translation.specs.Rooms.{with_room, here, room_of}
 use Rattle.wasm2js_rooms.specs.Sights.{joined, sight}
 use Rattle.wasm2js_rooms.specs.Places.{Spot, goes_on, block_spots, arm_spots, after_condition, next_spots, locals_in, room_at, rooms_at, size, tree_size, work, IsPlace, ArePlaces}
 use Rattle.wasm2js_rooms.proofs.Joining.{none, with_both, one_room, two_rooms, three_rooms}

@@ -7,7 +7,7 @@ use Rattle.wasm_lang_valid.specs.Typing.{Context, listed}
 use Rattle.wasm_lang_exec.specs.Code.{Trees, tree_of}
 use Rattle.wasm_run_flat.specs.Places.{code_at}
 use Rattle.wasm_run_flat.proofs.Standing.{tree_stands}
-use Rattle.wasm2js_code.specs.Rooms.{here, room_of, body_room, wide_from}
+use Rattle.wasm2js_translation.specs.Rooms.{here, room_of, body_room, wide_from}
 use Rattle.wasm2js_operands.specs.Operands.{over, IsKept}
 use Rattle.wasm2js_rooms.specs.Sights.{Sight, joined, sight, seen, IsWithin}
 use Rattle.wasm2js_rooms.specs.declared.room.Room.{Room as Seen}

@@ -8,8 +8,8 @@ use Rattle.wasm_lang_exec.specs.Code.{Tree, block, loop, if_block, Trees, Îµ, â—
 use Rattle.wasm_run_flat.specs.declared.target.Target.{Target}
 use Rattle.wasm_run_flat.specs.Jumps.{past_end, other_arm}
 use Rattle.wasm_run_flat.specs.Places.{code_at, Stands}
-use Rattle.wasm2js_code.specs.Bodies.{after_plain, types_after_call}
-use Rattle.wasm2js_code.specs.Rooms.{Room, with_room, local_named, here, room_of, wide_from}
+use Rattle.wasm2js_translation.specs.Bodies.{after_plain, types_after_call}
+use Rattle.wasm2js_translation.specs.Rooms.{Room, with_room, local_named, here, room_of, wide_from}
 use Rattle.wasm2js_operands.specs.Operands.{over}
 use Rattle.wasm2js_rooms.specs.Sights.{Sight, joined, sight, seen, IsWithin}
 use Rattle.wasm2js_rooms.specs.declared.walk.Place.{Place}

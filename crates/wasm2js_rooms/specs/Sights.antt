@@ -1,7 +1,7 @@
 -- What a room shows: its heights, and whether it names a local. Rooms that show the same for each local declare the same.
 use Rattle.std.specs.Prelude.{ℕ, ◌<◌, max, Bool, false, ◌||◌, ◌==◌, List, Option, Some, None, slice_index_or}
 use Rattle.std.specs.List.{list_any}
-use Rattle.wasm2js_code.specs.Rooms as rooms
+use Rattle.wasm2js_translation.specs.Rooms as rooms
 use Rattle.wasm2js_rooms.specs.declared.room.Room.{Room}
 
 pub record Sight : Type 0 where

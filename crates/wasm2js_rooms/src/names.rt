@@ -2,9 +2,9 @@
 ghost use Rattle.std.specs.Prelude.{◌≡◌, ◌++◌, ◌∷◌, [], map, drop, length, vec_len, true, Some, is_some, if◌then◌else◌, IfOk};
 ghost use Rattle.std.specs.List.{flat_map, range_with_len};
 ghost use Rattle.wasm_lang_exec.specs.Code.{Trees, tree_of};
-ghost use Rattle.wasm2js_code.specs.Pairs.{names_of, local_pair};
-ghost use Rattle.wasm2js_code.specs.Rooms as rooms;
-ghost use Rattle.wasm2js_code.specs.Modules as modules;
+ghost use Rattle.wasm2js_translation.specs.Pairs.{names_of, local_pair};
+ghost use Rattle.wasm2js_translation.specs.Rooms as rooms;
+ghost use Rattle.wasm2js_translation.specs.Modules as modules;
 ghost use Rattle.wasm2js_operands.specs.Scopes.{context_in};
 ghost use Rattle.wasm2js_nodes.specs.Names.{name_view};
 ghost use Rattle.wasm2js_rooms.specs.Flags.{flagged_names};

@@ -2,7 +2,7 @@
 ghost use Rattle.std.specs.Prelude.{◌≡◌, ◌≤◌, ◌<◌, ◌==◌, ◌||◌, ℕ, [], false, Option, drop, max, vec_len, option_to_list, slice_index_or, IfOk};
 ghost use Rattle.std.specs.List.{list_any};
 ghost use Rattle.wasm_lang_valid.specs.Typing.{listed};
-ghost use Rattle.wasm2js_code.specs.Rooms as rooms;
+ghost use Rattle.wasm2js_translation.specs.Rooms as rooms;
 ghost use Rattle.wasm2js_operands.specs.Operands.{over};
 ghost use Rattle.wasm2js_rooms.specs.Sights.{joined, sight, seen, IsWithin};
 

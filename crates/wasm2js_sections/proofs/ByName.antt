@@ -10,8 +10,8 @@ use Rattle.wasm_lang.specs.Modules.{GlobalEntry}
 use Rattle.wasm_tree.specs.declared.module.GlobalDef.{GlobalDef}
 use Rattle.wasm_tree.specs.Views.{global_of}
 use Rattle.wasm_lang_exec.specs.Fits.{GlobalImport}
-use Rattle.wasm2js_words.specs.Names.{Name, numbered, global_low}
-use Rattle.wasm2js_code.specs.Modules.{given_variable, imported_variables, first_values, own_variables}
+use Rattle.wasm2js_translation.specs.Names.{Name, numbered, global_low}
+use Rattle.wasm2js_translation.specs.Modules.{given_variable, imported_variables, first_values, own_variables}
 use Rattle.wasm2js_sections.specs.Parts.{by_name, given_of}
 
 imported_by_name : (k : ℕ) (gs : List GlobalImport) → imported_variables k (map by_name gs) ≡ imported_variables k gs

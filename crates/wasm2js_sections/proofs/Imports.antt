@@ -3,7 +3,7 @@ use Rattle.std.proofs.Common.{◌≡◌, ℕ, suc, ◌<◌, true, false, Bool, L
 use Rattle.std.proofs.lemmas.Bool.Decides.{nat_tests}
 use Rattle.std.proofs.lemmas.Option.{slice_get_within, slice_get-get_or}
 use Rattle.std.specs.Prelude.{slice_get, option_map}
-use Rattle.sem_laws.specs.Names.{import_name}
+use Rattle.session_lang.specs.Names.{import_name}
 use Rattle.wasm_lang.specs.declared.types.ImportKind.{ImportKind}
 use Rattle.wasm_lang.specs.declared.types.ImportKind.TheVariants as imports
 use Rattle.wasm_lang.specs.Modules.{FunctionType, Imported, FunctionBody, WasmModule}
@@ -14,7 +14,7 @@ use Rattle.wasm_lang_valid.specs.ModuleRules.{meets, is_type, import_rule, item_
 use Rattle.wasm_lang_valid.specs.Validity.{no_type, IsValidModule}
 use Rattle.wasm_lang_exec.specs.Code.{Trees, tree_of}
 use Rattle.wasm_lang_exec.specs.Reductions.{Callee, an_import, if_function, imported_callee, imported_callees, own_callee, own_callees, callees}
-use Rattle.wasm2js_code.specs.Modules.{foreign_variables}
+use Rattle.wasm2js_translation.specs.Modules.{foreign_variables}
 use Rattle.wasm2js_sections.specs.Parts.{import_variable, import_variables}
 
 -- the module has a type of this number

@@ -1,7 +1,7 @@
 -- Statements that set words, one step after another.
 use Rattle.std.proofs.Common.{◌≡◌, ℕ, ◌+◌, ◌≤◌, List, [], ◌∷◌, length, take, drop, refl, sym, ap, ◌∙◌, arith}
 use Rattle.std.proofs.lemmas.List.{drop-drop, length-drop}
-use Rattle.wasm2js_code.specs.Modules.{set_word, set_words}
+use Rattle.wasm2js_translation.specs.Modules.{set_word, set_words}
 
 word_first : (at : ℕ) (bytes : List ℕ) → 4 ≤ length bytes → set_words at bytes ≡ set_word at (take 4 bytes) ∷ set_words (at + 4) (drop 4 bytes)
 word_first at [] h = absurd (omega arith)

@@ -2,15 +2,15 @@
 use Rattle.std.specs.Prelude.{ℕ, suc, List, [], ◌∷◌}
 use Rattle.sem_words.specs.Lists.{text_bytes}
 use Rattle.sem_words.specs.declared.text.Text.{Text}
-use Rattle.sem_laws.specs.Names.{import_name}
+use Rattle.session_lang.specs.Names.{import_name}
 use Rattle.wasm_lang.specs.declared.types.ValType.TheVariants.{I32}
 use Rattle.wasm_lang.specs.Modules.{Imported}
 use Rattle.wasm_lang_exec.specs.Reductions.{if_function}
 use Rattle.wasm_lang_exec.specs.Fits.{GlobalImport}
 use Rattle.asm_lang.specs.Trees.{member}
 use Rattle.asm_lang.specs.Modules.{Variable}
-use Rattle.wasm2js_words.specs.Names.{numbered, foreign}
-use Rattle.wasm2js_code.specs.Modules.{foreign_name, variable}
+use Rattle.wasm2js_translation.specs.Names.{numbered, foreign}
+use Rattle.wasm2js_translation.specs.Modules.{foreign_name, variable}
 
 abbrev pub import_variable : (k : ℕ) → Imported → Variable
 import_variable k i = variable (numbered foreign k) (member foreign_name (import_name i.module_name i.name))

@@ -4,7 +4,7 @@ ghost use Rattle.sem_words.specs.Lists.{list_items};
 ghost use Rattle.wasm_tree.specs.Views.{global_of, import_of, module_of};
 ghost use Rattle.wasm_lang_valid.specs.ModuleRules as rules;
 ghost use Rattle.asm_tree.specs.Views.{global_view};
-ghost use Rattle.wasm2js_code.specs.Modules as modules;
+ghost use Rattle.wasm2js_translation.specs.Modules as modules;
 ghost use Rattle.wasm2js_sections.specs.Parts.{import_variables, given_of};
 
 use crate::declaring::{add_fixed, add_views};

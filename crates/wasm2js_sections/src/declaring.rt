@@ -2,10 +2,10 @@
 ghost use Rattle.std.specs.Prelude.{◌≡◌, ◌++◌, List, map, IfOk};
 ghost use Rattle.asm_lang.specs.Trees as trees;
 ghost use Rattle.asm_tree.specs.Views.{global_view, init_view};
-ghost use Rattle.wasm2js_words.specs.Names.{fixed};
-ghost use Rattle.wasm2js_code.specs.Helpers.{zero_variable};
-ghost use Rattle.wasm2js_code.specs.Modules as modules;
-ghost use Rattle.wasm2js_code.specs.Modules.{stdlib_name, foreign_name, heap_name};
+ghost use Rattle.wasm2js_translation.specs.Names.{fixed};
+ghost use Rattle.wasm2js_translation.specs.Helpers.{zero_variable};
+ghost use Rattle.wasm2js_translation.specs.Modules as modules;
+ghost use Rattle.wasm2js_translation.specs.Modules.{stdlib_name, foreign_name, heap_name};
 ghost use Rattle.wasm2js_nodes.specs.Names.{name_view, fixed_view};
 
 use asm_tree::{Global_, Init};

@@ -5,14 +5,14 @@ ghost use Rattle.wasm_lang.specs.Modules.{Exported};
 ghost use Rattle.wasm_tree.specs.Views.{bytes_of, export_of};
 ghost use Rattle.asm_lang.specs.Modules.{many};
 ghost use Rattle.asm_tree.specs.Views.{export_view, exports_view};
-ghost use Rattle.wasm2js_words.specs.Names.{fixed, init, last_high};
-ghost use Rattle.wasm2js_code.specs.Modules as modules;
-ghost use Rattle.wasm2js_code.specs.Modules.{exports_of};
+ghost use Rattle.wasm2js_translation.specs.Names.{fixed, init, last_high};
+ghost use Rattle.wasm2js_translation.specs.Modules as modules;
+ghost use Rattle.wasm2js_translation.specs.Modules.{exports_of};
 ghost use Rattle.wasm2js_nodes.specs.Names.{name_view};
 
 use asm_tree::{Export, Exports};
-use sem_laws::export_name;
 use sem_words::{List, Text};
+use session_lang::export_name;
 use std::alloc::{AllocError, Global};
 use wasm_tree::{ExportKind, WasmExport};
 use wasm_validate::Valid;

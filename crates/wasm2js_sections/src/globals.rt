@@ -1,11 +1,11 @@
 //! Variables that hold globals of the source's own.
 ghost use Rattle.std.specs.Prelude.{◌≡◌, ◌+◌, ◌<◌, ◌^◌, ◌++◌, ◌∷◌, [], List, map, slice_get, length, IfOk};
-ghost use Rattle.sem_laws.specs.Imports.{low_word, high_word};
+ghost use Rattle.session_lang.specs.Imports.{low_word, high_word};
 ghost use Rattle.wasm_tree.specs.Views.{instr_of, global_of};
 ghost use Rattle.asm_tree.specs.Views.{global_view};
-ghost use Rattle.wasm2js_words.specs.Names as names_of;
-ghost use Rattle.wasm2js_words.specs.Names.{numbered};
-ghost use Rattle.wasm2js_code.specs.Modules as modules;
+ghost use Rattle.wasm2js_translation.specs.Names as names_of;
+ghost use Rattle.wasm2js_translation.specs.Names.{numbered};
+ghost use Rattle.wasm2js_translation.specs.Modules as modules;
 ghost use Rattle.wasm2js_nodes.specs.Names.{name_view};
 ghost use Rattle.wasm2js_sections.specs.Parts.{given_of};
 

@@ -4,13 +4,13 @@ ghost use Rattle.wasm_lang.specs.Modules.{Imported};
 ghost use Rattle.wasm_tree.specs.Views.{import_of};
 ghost use Rattle.wasm_lang_exec.specs.Fits.{global_imports};
 ghost use Rattle.asm_tree.specs.Views.{global_view};
-ghost use Rattle.wasm2js_code.specs.Modules as modules;
+ghost use Rattle.wasm2js_translation.specs.Modules as modules;
 ghost use Rattle.wasm2js_sections.specs.Parts.{import_variable, import_variables, given_of, by_name};
 
 use crate::declaring::{foreign, given};
 use asm_tree::Global_;
-use sem_laws::import_name;
 use sem_words::Text;
+use session_lang::import_name;
 use std::alloc::{AllocError, Global};
 use wasm_tree::{Import, ImportKind};
 use wasm2js_nodes::{Name, Numbered};

@@ -2,9 +2,9 @@
 ghost use Rattle.std.specs.Prelude.{◌≡◌, [], Some, IfOk};
 ghost use Rattle.asm_lang.specs.Modules.{returns};
 ghost use Rattle.asm_tree.specs.Views.{stmt_view, function_view};
-ghost use Rattle.wasm2js_words.specs.Words.{signed_number};
-ghost use Rattle.wasm2js_code.specs.Bodies.{word_in, high_result};
-ghost use Rattle.wasm2js_code.specs.Modules as modules;
+ghost use Rattle.wasm2js_translation.specs.Words.{signed_number};
+ghost use Rattle.wasm2js_translation.specs.Bodies.{word_in, high_result};
+ghost use Rattle.wasm2js_translation.specs.Modules as modules;
 
 use asm_tree::{Function, Stmt};
 use std::alloc::{AllocError, Global};

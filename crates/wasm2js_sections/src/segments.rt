@@ -3,8 +3,8 @@ ghost use Rattle.std.specs.Prelude.{◌≡◌, ◌+◌, ◌<◌, ◌^◌, ◌++�
 ghost use Rattle.heap_lang.specs.Numbers.{little_endian};
 ghost use Rattle.asm_lang.specs.Modules as plain;
 ghost use Rattle.asm_tree.specs.Views.{stmt_view};
-ghost use Rattle.wasm2js_words.specs.Words as words;
-ghost use Rattle.wasm2js_code.specs.Modules as modules;
+ghost use Rattle.wasm2js_translation.specs.Words as words;
+ghost use Rattle.wasm2js_translation.specs.Modules as modules;
 ghost use Rattle.wasm2js_nodes.specs.Names.{fixed_view};
 ghost use Rattle.wasm2js_build.specs.Blocks.{statements_of};
 

@@ -4,7 +4,7 @@ ghost use Rattle.std.specs.List.{flat_map};
 ghost use Rattle.wasm_tree.specs.Views.{instr_of, segment_of};
 ghost use Rattle.wasm_lang_valid.specs.Profile.{constant_offset, or_zero};
 ghost use Rattle.asm_tree.specs.Views.{function_view};
-ghost use Rattle.wasm2js_code.specs.Modules as modules;
+ghost use Rattle.wasm2js_translation.specs.Modules as modules;
 ghost use Rattle.wasm2js_build.specs.Blocks.{statements_of};
 
 use crate::segments::set_run;

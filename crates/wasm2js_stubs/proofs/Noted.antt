@@ -6,7 +6,7 @@ use Rattle.std.specs.Option.{option_map}
 use Rattle.std.proofs.lemmas.Bool.Decides.{nat_tests, eqb_tells}
 use Rattle.wasm_lang.specs.Modules.{WasmModule}
 use Rattle.wasm2js_lang.specs.Tables.{masked}
-use Rattle.wasm2js_code.specs.Tables.{stubs}
+use Rattle.wasm2js_translation.specs.Tables.{stubs}
 use Rattle.wasm2js_stubs.specs.declared.needs.Needed.{Needed}
 use Rattle.wasm2js_stubs.specs.Needs.{joined, joined_where, needs_at, AreNeeds, functions_at, functions_from}
 

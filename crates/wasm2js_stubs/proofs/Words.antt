@@ -9,7 +9,7 @@ use Rattle.wasm_tree.specs.declared.module.FuncType.{FuncType}
 use Rattle.wasm_tree.specs.Views.{type_of}
 use Rattle.wasm_lang.specs.declared.types.ValType.{ValType}
 use Rattle.wasm_lang.specs.declared.types.ValType.TheVariants.{I32, I64}
-use Rattle.wasm2js_code.specs.Tables.{words_of}
+use Rattle.wasm2js_translation.specs.Tables.{words_of}
 
 one_first : (t : ValType) (ts : List ValType) → words_of (t ∷ ts) ≡ words_of (t ∷ []) + words_of ts
 one_first I32 ts = refl

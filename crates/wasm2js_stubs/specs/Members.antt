@@ -2,9 +2,9 @@
 use Rattle.std.specs.Prelude.{ℕ, List, map}
 use Rattle.wasm_lang.specs.Modules.{FunctionType}
 use Rattle.asm_lang.specs.Modules.{Table}
-use Rattle.wasm2js_words.specs.Names.{numbered, table, spelled}
+use Rattle.wasm2js_translation.specs.Names.{numbered, table, spelled}
 use Rattle.wasm2js_lang.specs.Tables.{MaskedTable}
-use Rattle.wasm2js_code.specs.Tables.{cell_name}
+use Rattle.wasm2js_translation.specs.Tables.{cell_name}
 use Rattle.wasm2js_stubs.specs.Needs.{stub_in}
 
 -- of types with this stub

@@ -3,9 +3,9 @@ use Rattle.std.specs.Prelude.{◌≡◌, ℕ, ◌+◌, ◌<◌, Bool, false, ◌
 use Rattle.std.specs.List.{list_any}
 use Rattle.wasm_lang.specs.Modules.{FunctionType}
 use Rattle.asm_lang.specs.Modules.{Function}
-use Rattle.wasm2js_words.specs.Names.{no_entry, other_entry}
+use Rattle.wasm2js_translation.specs.Names.{no_entry, other_entry}
 use Rattle.wasm2js_lang.specs.Tables.{Cell, MaskedTable}
-use Rattle.wasm2js_code.specs.Tables.{stub_number, stub_function, is_empty, is_other}
+use Rattle.wasm2js_translation.specs.Tables.{stub_number, stub_function, is_empty, is_other}
 use Rattle.wasm2js_stubs.specs.declared.needs.Needed.{Needed}
 
 abbrev pub nothing : Needed

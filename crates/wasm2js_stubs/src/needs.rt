@@ -3,7 +3,7 @@ ghost use Rattle.std.specs.Prelude.{◌≡◌, ℕ, ◌==◌, ◌||◌, length, 
 ghost use Rattle.std.specs.List.{list_any};
 ghost use Rattle.std.specs.Option.{option_map};
 ghost use Rattle.wasm_tree.specs.Views.{type_of};
-ghost use Rattle.wasm2js_code.specs.Tables;
+ghost use Rattle.wasm2js_translation.specs.Tables;
 ghost use Rattle.wasm2js_tables.specs.Views.{cell_view, masked_view};
 ghost use Rattle.wasm2js_stubs.specs.Few.{TakeFew};
 ghost use Rattle.wasm2js_stubs.specs.Needs.{joined, joined_where, nothing, needs_of, AreNeeds};

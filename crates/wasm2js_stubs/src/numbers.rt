@@ -1,7 +1,7 @@
 //! The numbers of stubs, by how many words a type takes and whether it has a result.
 ghost use Rattle.std.specs.Prelude.{◌≡◌, ◌≤◌, ◌+◌, [], ◌∷◌, length, map, slice_get, Some};
 ghost use Rattle.wasm_tree.specs.Views.{type_of};
-ghost use Rattle.wasm2js_code.specs.Tables;
+ghost use Rattle.wasm2js_translation.specs.Tables;
 ghost use Rattle.wasm2js_stubs.specs.Few.{TakeFew};
 
 use wasm_lang::ValType;

@@ -1,4 +1,4 @@
--- The elements of a module in the profile lie inside its table.
+-- Elements at constant places of which none lies outside the table lie inside.
 use Rattle.std.proofs.Common.{◌≡◌, ℕ, zero, suc, ◌+◌, ◌≤◌, Bool, true, false, List, [], ◌∷◌, length, Option, Some, None, refl, subst, arith}
 use Rattle.std.specs.Prelude.{slice_get, nat_lt}
 use Rattle.std.proofs.lemmas.Bool.Decides.{nat_tests}
@@ -6,8 +6,8 @@ use Rattle.wasm_lang.specs.declared.types.ValType.TheVariants.{I32}
 use Rattle.wasm_lang.specs.Modules.{ElementSegment, DataSegment, WasmModule}
 use Rattle.wasm_lang_valid.specs.ModuleRules.{init_rule, element_rule, are_functions}
 use Rattle.wasm_lang_valid.specs.Validity.{IsValidModule}
-use Rattle.wasm_lang_valid.specs.Profile.{where_so, or_zero, is_global_offset, constant_offset, passes, offset_from_import, segment_outside, table_length, memory_bytes, outside_profile}
-use Rattle.wasm2js_lang.proofs.Padded.{within_rows, is_constant, meets_last, fine}
+use Rattle.wasm_lang_valid.specs.Profile.{where_so, or_zero, is_global_offset, constant_offset, passes, offset_from_import, segment_outside, table_length, memory_bytes}
+use Rattle.wasm2js_lang.proofs.Padded.{is_constant, meets_last, fine}
 use Rattle.wasm2js_tables.specs.Inside.{AreInside}
 
 apart : (b : Bool) (n : ℕ) (o : Option ℕ) → where_so b n o ≡ None → (b ≡ false) × (o ≡ None)
@@ -45,7 +45,6 @@ module _ (w : WasmModule) (room bytes : ℕ) (segments : List DataSegment) where
       let o = apart (passes (constant_offset s.offset) (length s.functions) room) n (segment_outside room bytes (n + 1) es segments) within in
       all_inside es (n + 1) (λ i e h. fine (suc i) e h) g.1 o.1 i e h
 
-pub elements_inside : (w : WasmModule) → IsValidModule w → outside_profile w ≡ None → AreInside (table_length w) w.elements
-elements_inside w valid within =
-    let rows = within_rows w within in
-    all_inside w (table_length w) (memory_bytes w) w.segments w.elements 0 (fine w (record { valid = valid; within = within })) rows.no_import rows.all_inside
+pub elements_inside : (w : WasmModule) → IsValidModule w → offset_from_import 0 w.elements w.segments ≡ None
+    → segment_outside (table_length w) (memory_bytes w) 0 w.elements w.segments ≡ None → AreInside (table_length w) w.elements
+elements_inside w valid constant within = all_inside w (table_length w) (memory_bytes w) w.segments w.elements 0 (fine w valid) constant within

@@ -4,7 +4,10 @@ ghost use Rattle.std.specs.Prelude.{◌≡◌, map, not, IfOk, None};
 ghost use Rattle.sem_words.specs.Lists.{list_items};
 ghost use Rattle.wasm_tree.specs.Views.{type_of};
 ghost use Rattle.wasm_lang_valid.specs.Measures.{called_types};
-ghost use Rattle.wasm_lang_valid.specs.Profile.{outside_profile};
+ghost use Rattle.wasm_lang_valid.specs.ModuleRules.{is_table};
+ghost use Rattle.wasm_lang_valid.specs.Profile;
+ghost use Rattle.wasm_lang_valid.specs.Profile.{offset_from_import, segment_outside};
+ghost use Rattle.wasm_lang_valid.specs.Runnable.{first_import};
 ghost use Rattle.wasm_validate_bodies.specs.Calls.{holds, IsCalled, IsNoted};
 ghost use Rattle.wasm2js_lang.specs.Tables;
 ghost use Rattle.wasm2js_tables.specs.Forms.{IsOneMore, IsWanted, table_of};
@@ -22,9 +25,11 @@ use wasm_validate::Valid;
 use wasm_validate_bodies::{Called, form_of};
 
 /// The tables that stand for the one of a module, each under the least number of a type of its form, in the order
-/// of these numbers.
+/// of these numbers. The table is the module's own, and its elements lie inside it at constant places.
 pub fn masked(alloc: Global, valid: &Valid<'_>) -> Result<List<MaskedTable>, AllocError>
-    requires { outside_profile valid.now ≡ None }
+    requires own { first_import is_table 0 valid.now.imports ≡ None }
+    requires constant { offset_from_import 0 valid.now.elements valid.now.segments ≡ None }
+    requires inside { segment_outside (Profile.table_length valid.now) (Profile.memory_bytes valid.now) 0 valid.now.elements valid.now.segments ≡ None }
     ensures { IfOk result (λ tables. map masked_view (list_items tables) ≡ Tables.masked valid.now) }
 {
     let module = valid.module();

@@ -10,8 +10,8 @@ use Rattle.wasm_lang.specs.declared.types.ExportKind.TheVariants as exports
 use Rattle.wasm_lang.specs.declared.types.ImportKind.TheVariants as imports
 use Rattle.wasm_lang.specs.Instructions.{Instruction, plain, local_get, local_set, bin32, const32, block, loop, if_block, end_mark, br, br_if, call, select, unreachable, return}
 use Rattle.wasm_lang.specs.Modules.{WasmModule}
-use Rattle.sem_laws.specs.Script.{ScriptPlain, give}
-use Rattle.sem_laws.specs.Observation.{import_called, call_gave, call_returned, done, no_reply, trapped, running, ended}
+use Rattle.session_lang.specs.Script.{ScriptPlain, give}
+use Rattle.session_lang.specs.Observation.{import_called, call_gave, call_returned, done, no_reply, trapped, running, ended}
 use Rattle.wasm_lang_exec.specs.Session.{wasm}
 
 abbrev f : List ℕ

@@ -6,7 +6,7 @@ use Rattle.wasm_lang.specs.declared.types.ExportKind.TheVariants as exports
 use Rattle.wasm_lang.specs.declared.types.ImportKind.TheVariants as imports
 use Rattle.wasm_lang.specs.Instructions.{end_mark}
 use Rattle.wasm_lang.specs.Modules.{WasmModule}
-use Rattle.sem_laws.specs.Script.{GlobalPlain, WritePlain, CallPlain, give, throw, ReplyLinePlain, ScriptPlain}
+use Rattle.session_lang.specs.Script.{GlobalPlain, WritePlain, CallPlain, give, throw, ReplyLinePlain, ScriptPlain}
 use Rattle.wasm_lang_exec.specs.Fits.{misfit}
 
 -- it imports from env the globals low, of 32 bits, and wide, of 64, and a memory of one page; f takes a word of each width
@@ -97,6 +97,13 @@ past_the_memory = refl
 
 reply_past_the_memory : misfit imports_all (record fitting { replies = reply 5 (write 5 65536 (1 ∷ []) ∷ []) ∷ [] }) ≡ Some 5
 reply_past_the_memory = refl
+
+-- what is written are bytes
+no_byte : misfit imports_all (record fitting { writes = write 3 65534 (1 ∷ 256 ∷ []) ∷ [] }) ≡ Some 3
+no_byte = refl
+
+no_byte_in_a_reply : misfit imports_all (record fitting { replies = reply 5 (write 5 0 (256 ∷ []) ∷ []) ∷ [] }) ≡ Some 5
+no_byte_in_a_reply = refl
 
 -- a memory of the module's own takes a reply's bytes, but no bytes of the host before the session
 own_memory_and_heap : misfit own_memory (record fitting { globals = []; calls = [] }) ≡ Some 3

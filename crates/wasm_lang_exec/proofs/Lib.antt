@@ -1,2 +1,3 @@
 pub mod Examples
 pub mod FittingExamples
+pub mod Written

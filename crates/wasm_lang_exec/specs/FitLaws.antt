@@ -1,7 +1,8 @@
 -- What a misfit is, of each part of a script by itself.
 use Rattle.std.specs.Prelude.{◌≡◌, ◌⊎◌, ℕ, Some, None}
-use Rattle.sem_laws.specs.Script.{ScriptPlain}
-use Rattle.script_fits.specs.FitLaws as parts
+use Rattle.session_lang.specs.Script.{ScriptPlain}
+use Rattle.session_lang.specs.FitLaws as parts
+use Rattle.session_lang.specs.Written.{WritesBytes}
 use Rattle.wasm_lang.specs.Modules.{WasmModule}
 use Rattle.wasm_lang_exec.specs.Fits.{tests, misfit}
 
@@ -25,3 +26,6 @@ WhatFitsHasNoMisfit = (m : WasmModule) (s : ScriptPlain) → Fits m s → misfit
 
 abbrev pub MisfitIsFirst : Type 0
 MisfitIsFirst = (m : WasmModule) (s : ScriptPlain) (line : ℕ) → misfit m s ≡ Some line → IsFirstUnfit m s line ⊎ ((line ≡ 0) × HasMissing m s)
+
+abbrev pub WhatFitsWritesBytes : Type 0
+WhatFitsWritesBytes = (m : WasmModule) (s : ScriptPlain) → misfit m s ≡ None → WritesBytes s

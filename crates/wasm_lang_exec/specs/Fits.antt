@@ -1,10 +1,10 @@
 -- Which scripts fit a module of WebAssembly, and the line of the first part of a script that doesn't.
 use Rattle.std.specs.Prelude.{ℕ, ◌+◌, ◌-◌, ◌*◌, ◌^◌, Bool, true, false, not, ◌&&◌, List, [], ◌∷◌, length, map, Option, Some, None, ℤ, pos, negsuc, int_le, int_lt, nat_le, bytes_eq, if◌then◌else◌}
 use Rattle.std.specs.List.{list_all, list_any}
-use Rattle.sem_laws.specs.Script.{GlobalPlain, WritePlain, CallPlain, ReplyPlain, ScriptPlain}
-use Rattle.sem_laws.specs.Names.{import_name}
-use Rattle.script_fits.specs.Fits as parts
-use Rattle.script_fits.specs.Fits.{Tests, is_given, writes_of}
+use Rattle.session_lang.specs.Script.{GlobalPlain, WritePlain, CallPlain, ReplyPlain, ScriptPlain}
+use Rattle.session_lang.specs.Names.{import_name}
+use Rattle.session_lang.specs.Fits as parts
+use Rattle.session_lang.specs.Fits.{Tests, is_given, writes_of, are_bytes}
 use Rattle.wasm_lang.specs.declared.types.ValType.{ValType}
 use Rattle.wasm_lang.specs.declared.types.ValType.TheVariants.{I32, I64}
 use Rattle.wasm_lang.specs.declared.types.ImportKind.{ImportKind}
@@ -62,7 +62,7 @@ fits_global m before g = let gs = global_imports m.imports in is_imported gs g.n
 -- they lie in a memory of so many pages
 abbrev pub lies_in : Option ℕ → WritePlain → Bool
 lies_in None w = false
-lies_in (Some n) w = nat_le (w.at + length w.bytes) (n * page)
+lies_in (Some n) w = are_bytes w.bytes && nat_le (w.at + length w.bytes) (n * page)
 
 -- bytes are put into an imported memory
 abbrev pub fits_write : WasmModule → WritePlain → Bool

@@ -5,15 +5,15 @@ use Rattle.std.specs.Prelude.{ℕ, zero, suc, List, [], ◌∷◌, ◌++◌, len
 use Rattle.sem_words.specs.declared.word.Word.{Word}
 use Rattle.sem_words.specs.declared.word.Word.TheVariants.{W32, W64}
 use Rattle.sem_words.specs.declared.word.TrapKind.TheVariants as kinds
-use Rattle.sem_laws.specs.Observation.{EndPlain, trapped}
-use Rattle.sem_laws.specs.Imports.{ImportAnswer, goes_on, ends, answer_import}
+use Rattle.session_lang.specs.Observation.{EndPlain, trapped}
+use Rattle.session_lang.specs.Imports.{ImportAnswer, goes_on, ends, answer_import}
 use Rattle.wasm_lang.specs.declared.types.ValType.{ValType}
 use Rattle.wasm_lang.specs.declared.types.ImportKind.{ImportKind}
 use Rattle.wasm_lang.specs.declared.types.ImportKind.TheVariants as imports
 use Rattle.wasm_lang.specs.Instructions.{const32, const64}
 use Rattle.wasm_lang.specs.Modules.{FunctionType, Imported, FunctionBody, WasmModule}
 use Rattle.wasm_lang_valid.specs.Typing.{same}
-use Rattle.sem_laws.specs.Names.{import_name}
+use Rattle.session_lang.specs.Names.{import_name}
 use Rattle.wasm_lang_exec.specs.Code.{unreachable, block, loop, if_block, br, br_if, br_table, return, call, call_indirect, plain, Trees, ε, ◌▹◌, ◌⊕◌, tree_of}
 use Rattle.wasm_lang_exec.specs.Store.{Store, word_of_type, zeros_of, written}
 use Rattle.wasm_lang_exec.specs.Plain.{Effect, goes, traps, sticks, do_plain}

@@ -5,10 +5,10 @@ use Rattle.sem_words.specs.declared.word.Word.{Word}
 use Rattle.sem_words.specs.declared.word.Word.TheVariants.{W32, W64}
 use Rattle.sem_words.specs.declared.word.TrapKind.TheVariants as kinds
 use Rattle.sem_words.specs.Words.{word_of}
-use Rattle.sem_laws.specs.Script.{GlobalPlain, CallPlain, ScriptPlain}
-use Rattle.sem_laws.specs.Imports.{first_replies}
-use Rattle.sem_laws.specs.Names.{import_name}
-use Rattle.sem_laws.specs.Observation.{EventPlain, call_gave, call_returned, EndPlain, done, trapped, ObservationPlain, running, ended}
+use Rattle.session_lang.specs.Script.{GlobalPlain, CallPlain, ScriptPlain}
+use Rattle.session_lang.specs.Imports.{first_replies}
+use Rattle.session_lang.specs.Names.{import_name}
+use Rattle.session_lang.specs.Observation.{EventPlain, call_gave, call_returned, EndPlain, done, trapped, ObservationPlain, running, ended}
 use Rattle.heap_lang.specs.Heap.{is_inside, with_run}
 use Rattle.wasm_lang.specs.declared.types.ValType.{ValType}
 use Rattle.wasm_lang.specs.declared.types.ValType.TheVariants.{I32, I64}

@@ -5,9 +5,9 @@ use Rattle.sem_words.specs.declared.word.Word.TheVariants.{W32, W64}
 use Rattle.wasm_lang.specs.declared.types.ValType.{ValType}
 use Rattle.wasm_lang.specs.declared.types.ValType.TheVariants.{I32, I64}
 use Rattle.heap_lang.specs.Heap.{with_run}
-use Rattle.sem_laws.specs.Script.{WritePlain}
-use Rattle.sem_laws.specs.Observation.{EventPlain}
-use Rattle.sem_laws.specs.Imports.{Replies}
+use Rattle.session_lang.specs.Script.{WritePlain}
+use Rattle.session_lang.specs.Observation.{EventPlain}
+use Rattle.session_lang.specs.Imports.{Replies}
 
 -- a module without a memory has no bytes, and one without a table no entries; an entry may be empty
 pub record Store : Type 0 where

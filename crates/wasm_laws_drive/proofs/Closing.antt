@@ -1,7 +1,7 @@
 -- Surroundings go round what is driven, and keep what goes no further.
 use Rattle.std.proofs.Common.{◌≡◌, ℕ, zero, suc, List, [], ◌∷◌, Some, None, refl, ap, ◌∙◌}
 use Rattle.sem_words.specs.declared.word.Word.TheVariants.{W32, W64}
-use Rattle.sem_laws.specs.Observation.{trapped}
+use Rattle.session_lang.specs.Observation.{trapped}
 use Rattle.wasm_lang.specs.Modules.{WasmModule}
 use Rattle.wasm_lang_exec.specs.Plain.{goes, traps, sticks}
 use Rattle.wasm_lang_exec.specs.Reductions.{Label, Frame}

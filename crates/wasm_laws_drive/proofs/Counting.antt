@@ -2,8 +2,8 @@
 use Rattle.std.proofs.Common.{◌≡◌, ℕ, zero, suc, ◌+◌, List, [], refl, ap, ◌∙◌, subst, arith}
 use Rattle.std.specs.Prelude.{reverse}
 use Rattle.sem_words.specs.declared.word.Word.{Word}
-use Rattle.sem_laws.specs.Observation.{IsPrefix}
-use Rattle.sem_laws.proofs.BelowLaws.{prefix_trans}
+use Rattle.session_lang.specs.Observation.{IsPrefix}
+use Rattle.session_lang.proofs.BelowLaws.{prefix_trans}
 use Rattle.wasm_lang.specs.Modules.{WasmModule}
 use Rattle.wasm_lang_exec.specs.Code.{call, ε, ◌▹◌}
 use Rattle.wasm_lang_exec.specs.Store.{Store}

@@ -6,9 +6,9 @@ use Rattle.sem_words.specs.declared.word.Word.TheVariants.{W32, W64}
 use Rattle.sem_words.specs.declared.word.TrapKind.{TrapKind}
 use Rattle.sem_words.specs.declared.word.TrapKind.TheVariants as kinds
 use Rattle.sem_words.specs.Words.{bin_of, un_of, rel_of, extend_of}
-use Rattle.sem_laws.specs.Observation.{trapped, IsPrefix}
-use Rattle.sem_laws.specs.Imports.{ImportAnswer, goes_on, ends, answer_import}
-use Rattle.sem_laws.proofs.BelowLaws.{prefix_same}
+use Rattle.session_lang.specs.Observation.{trapped, IsPrefix}
+use Rattle.session_lang.specs.Imports.{ImportAnswer, goes_on, ends, answer_import}
+use Rattle.session_lang.proofs.BelowLaws.{prefix_same}
 use Rattle.wasm_lang.specs.declared.types.ValType.{ValType}
 use Rattle.wasm_lang.specs.declared.types.MemOp.{MemOp}
 use Rattle.wasm_lang.specs.Instructions.{Plain, nop, drop_operand, select, local_get, local_set, local_tee, global_get, global_set, load, store, memory_size, memory_copy, memory_fill, const32, const64, eqz32, eqz64, rel32, rel64, un32, un64, bin32, bin64, wrap, extend_s, extend_u, sign_extend}

@@ -4,8 +4,8 @@ use Rattle.std.specs.Prelude.{length, reverse, slice_get, if◌then◌else◌}
 use Rattle.sem_words.specs.declared.word.Word.{Word}
 use Rattle.sem_words.specs.declared.word.Word.TheVariants.{W32, W64}
 use Rattle.sem_words.specs.declared.word.TrapKind.TheVariants as kinds
-use Rattle.sem_laws.specs.Observation.{trapped}
-use Rattle.sem_laws.specs.Imports.{ImportAnswer, goes_on, ends, answer_import}
+use Rattle.session_lang.specs.Observation.{trapped}
+use Rattle.session_lang.specs.Imports.{ImportAnswer, goes_on, ends, answer_import}
 use Rattle.wasm_lang.specs.declared.types.ValType.{ValType}
 use Rattle.wasm_lang.specs.Instructions.{Plain, const32, const64}
 use Rattle.wasm_lang.specs.Modules.{WasmModule}

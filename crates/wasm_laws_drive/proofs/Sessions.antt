@@ -3,9 +3,9 @@ use Rattle.std.proofs.Common.{◌≡◌, ℕ, zero, suc, ◌+◌, ◌-◌, List,
 use Rattle.std.proofs.lemmas.Option.{none-some}
 use Rattle.std.specs.Prelude.{ℤ, reverse, ◌&&◌}
 use Rattle.sem_words.specs.declared.word.Word.{Word}
-use Rattle.sem_laws.specs.Script.{CallPlain, ScriptPlain}
-use Rattle.sem_laws.specs.Observation.{EventPlain, EndPlain, ObservationPlain, IsPrefix, IsBelow}
-use Rattle.sem_laws.proofs.BelowLaws.{below_is_reflexive, prefix_trans}
+use Rattle.session_lang.specs.Script.{CallPlain, ScriptPlain}
+use Rattle.session_lang.specs.Observation.{EventPlain, EndPlain, ObservationPlain, IsPrefix, IsBelow}
+use Rattle.session_lang.proofs.BelowLaws.{below_is_reflexive, prefix_trans}
 use Rattle.wasm_lang.specs.Modules.{WasmModule}
 use Rattle.wasm_lang_exec.specs.Code.{call, ε, ◌▹◌}
 use Rattle.wasm_lang_exec.specs.Store.{Store}

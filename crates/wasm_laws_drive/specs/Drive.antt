@@ -2,7 +2,7 @@
 -- branch or a return, the session has ended, nothing can be reduced, or the reductions are used up.
 use Rattle.std.specs.Prelude.{ℕ, zero, suc, List}
 use Rattle.sem_words.specs.declared.word.Word.{Word}
-use Rattle.sem_laws.specs.Observation.{EndPlain}
+use Rattle.session_lang.specs.Observation.{EndPlain}
 use Rattle.wasm_lang.specs.Modules.{WasmModule}
 use Rattle.wasm_lang_exec.specs.Code.{Trees}
 use Rattle.wasm_lang_exec.specs.Store.{Store}

@@ -3,8 +3,8 @@ use Rattle.std.specs.Prelude.{ℕ, zero, suc, List, [], ◌∷◌, ◌++◌, len
 use Rattle.sem_words.specs.declared.word.Word.{Word}
 use Rattle.sem_words.specs.declared.word.Word.TheVariants.{W32}
 use Rattle.sem_words.specs.declared.word.TrapKind.TheVariants as kinds
-use Rattle.sem_laws.specs.Observation.{trapped}
-use Rattle.sem_laws.specs.Imports.{Given, ImportAnswer, goes_on, ends, answer_import}
+use Rattle.session_lang.specs.Observation.{trapped}
+use Rattle.session_lang.specs.Imports.{Given, ImportAnswer, goes_on, ends, answer_import}
 use Rattle.wasm_lang.specs.declared.types.ValType.{ValType}
 use Rattle.wasm_lang.specs.Instructions.{Plain, const32, const64}
 use Rattle.wasm_lang.specs.Modules.{WasmModule}

@@ -3,9 +3,9 @@ use Rattle.std.specs.Prelude.{◌≡◌, ℕ, ◌+◌, ◌<◌, ◌≤◌, false
 use Rattle.sem_words.specs.declared.word.Word.{Word}
 use Rattle.sem_words.specs.declared.word.Word.TheVariants.{W32, W64}
 use Rattle.sem_words.specs.declared.word.TrapKind.TheVariants as kinds
-use Rattle.sem_laws.specs.Script.{ScriptPlain}
-use Rattle.sem_laws.specs.Observation.{EventPlain, EndPlain, trapped, IsPrefix, IsBelow}
-use Rattle.sem_laws.specs.Simulation.{IsMonotone}
+use Rattle.session_lang.specs.Script.{ScriptPlain}
+use Rattle.session_lang.specs.Observation.{EventPlain, EndPlain, trapped, IsPrefix, IsBelow}
+use Rattle.session_lang.specs.Simulation.{IsMonotone}
 use Rattle.wasm_lang.specs.declared.types.ValType.{ValType}
 use Rattle.wasm_lang.specs.Instructions.{Plain, const32, const64}
 use Rattle.wasm_lang.specs.Modules.{WasmModule}

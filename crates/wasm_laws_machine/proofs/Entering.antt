@@ -5,8 +5,8 @@ use Rattle.std.proofs.lemmas.List.{reverse-reverse}
 use Rattle.sem_words.specs.declared.word.Word.{Word}
 use Rattle.sem_words.specs.declared.word.Word.TheVariants.{W32, W64}
 use Rattle.sem_words.specs.declared.word.TrapKind.TheVariants as kinds
-use Rattle.sem_laws.specs.Observation.{EndPlain, trapped}
-use Rattle.sem_laws.specs.Imports.{Given, ImportAnswer, goes_on, ends, answer_import}
+use Rattle.session_lang.specs.Observation.{EndPlain, trapped}
+use Rattle.session_lang.specs.Imports.{Given, ImportAnswer, goes_on, ends, answer_import}
 use Rattle.wasm_lang.specs.declared.types.ValType.{ValType}
 use Rattle.wasm_lang.specs.Instructions.{Instruction}
 use Rattle.wasm_lang.specs.Modules.{FunctionType, WasmModule}

@@ -4,7 +4,7 @@ use Rattle.sem_words.specs.declared.word.Word.{Word}
 use Rattle.sem_words.specs.declared.word.Word.TheVariants.{W32, W64}
 use Rattle.sem_words.specs.declared.word.TrapKind.{TrapKind}
 use Rattle.sem_words.specs.declared.word.TrapKind.TheVariants as kinds
-use Rattle.sem_laws.specs.Observation.{trapped}
+use Rattle.session_lang.specs.Observation.{trapped}
 use Rattle.wasm_lang.specs.Instructions.{Instruction, Plain, const32, const64}
 use Rattle.wasm_lang.specs.Modules.{WasmModule}
 use Rattle.wasm_lang_exec.specs.Code.{plain, unreachable, Tree, ◌▹◌}

@@ -2,7 +2,7 @@
 use Rattle.std.proofs.Common.{ℕ, zero, suc, List, [], ◌∷◌, None, refl, arith}
 use Rattle.std.specs.Prelude.{pos, codes}
 use Rattle.sem_words.specs.declared.word.Bin.TheVariants.{Add}
-use Rattle.sem_laws.specs.Script.{ScriptPlain}
+use Rattle.session_lang.specs.Script.{ScriptPlain}
 use Rattle.wasm_lang.specs.declared.types.ValType.TheVariants.{I32}
 use Rattle.wasm_lang.specs.declared.types.ExportKind.TheVariants as exports
 use Rattle.wasm_lang.specs.Instructions.{Instruction, plain, local_get, bin32, end_mark}
@@ -11,8 +11,8 @@ use Rattle.wasm_lang_valid.specs.declared.section.Section.TheVariants as section
 use Rattle.wasm_lang_valid.specs.Typing.{typed_empty, typed_plain, fixed}
 use Rattle.wasm_lang_valid.specs.Validity.{IsValidModule}
 use Rattle.wasm_lang_exec.specs.Fits.{tests}
-use Rattle.script_fits.proofs.Misfits.{no_misfit_fits}
-use Rattle.wasm_laws_sound.specs.Places.{place, GoesOn}
+use Rattle.session_lang.proofs.Misfits.{no_misfit_fits}
+use Rattle.wasm_lang_exec.specs.Places.{place, GoesOn}
 use Rattle.wasm_laws_sound.specs.Laws.{IsWhole}
 use Rattle.wasm_laws_sound.proofs.Sessions.{sessions_go_on}
 

@@ -3,7 +3,7 @@ use Rattle.std.proofs.Common.{◌≡◌, ℕ, zero, suc, List, [], Option, None,
 use Rattle.std.proofs.lemmas.List.{append-nil}
 use Rattle.std.specs.Prelude.{reverse}
 use Rattle.sem_words.specs.declared.word.Word.{Word}
-use Rattle.sem_laws.specs.Imports.{ImportAnswer, goes_on, ends, answer_import}
+use Rattle.session_lang.specs.Imports.{ImportAnswer, goes_on, ends, answer_import}
 use Rattle.wasm_lang.specs.declared.types.ValType.{ValType}
 use Rattle.wasm_lang.specs.Modules.{FunctionType, WasmModule}
 use Rattle.wasm_lang_valid.specs.declared.rule.Rule.TheVariants.{NoFunction}
@@ -15,7 +15,8 @@ use Rattle.wasm_lang_exec.specs.Reductions.{Callee, an_import, a_function, calle
 use Rattle.wasm_laws_drive.specs.Drive.{halted, driven, drive}
 use Rattle.wasm_laws_sound.specs.Configurations.{HaveTypes, IsTypedStore, IsTypedConfig, IsTypedReduct, AreTypedFunctions}
 use Rattle.wasm_laws_sound.specs.Outcomes.{IsCalledOutcome}
-use Rattle.wasm_laws_sound.specs.Places.{Place, Follows, place_now, place_after, place_in_call, place_of_call, IsReduction, GoesOn, IsTypedPlace}
+use Rattle.wasm_lang_exec.specs.Places.{Place, Follows, place_now, place_after, place_in_call, place_of_call, IsReduction, GoesOn}
+use Rattle.wasm_laws_sound.specs.TypedPlaces.{IsTypedPlace}
 use Rattle.wasm_laws_sound.specs.Laws.{HostCallsAreTyped}
 use Rattle.wasm_laws_sound.proofs.Values.{have_reverse}
 use Rattle.wasm_laws_sound.proofs.Reducing.{reduce_typed}

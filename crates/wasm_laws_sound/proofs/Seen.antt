@@ -2,14 +2,14 @@
 use Rattle.std.proofs.Common.{◌≡◌, ℕ, zero, suc, List, [], ◌∷◌, Option, None, Some, Bool, true, false, ◌&&◌, ℤ, refl, ◌∙◌}
 use Rattle.std.specs.Prelude.{reverse}
 use Rattle.sem_words.specs.declared.word.Word.{Word}
-use Rattle.sem_laws.specs.Script.{CallPlain, ScriptPlain}
-use Rattle.sem_laws.specs.Observation.{ObservationPlain}
+use Rattle.session_lang.specs.Script.{CallPlain, ScriptPlain}
+use Rattle.session_lang.specs.Observation.{ObservationPlain}
 use Rattle.wasm_lang.specs.Modules.{WasmModule}
 use Rattle.wasm_lang_exec.specs.Code.{call, ε, ◌▹◌}
 use Rattle.wasm_lang_exec.specs.Store.{Store}
 use Rattle.wasm_lang_exec.specs.Reductions.{callee_at, Config, Code, Reduct, to, is_values, branches, returns, stops, is_stuck, reduce}
 use Rattle.wasm_lang_exec.specs.Session.{Run, finished, spent, over, with_none, with_one, run, run_call, seen_running, seen_end, result_event, with_event, function_named, arguments_for, after_call, one_call, calls_seen, after_start, started, instantiated, with_entries, with_bytes, entries_fit, bytes_fit, first_store}
-use Rattle.wasm_laws_sound.specs.Places.{Place, seen, Follows, place_now, place_after, place_in_call, place_of_one, place_in_calls, place_of_start, place_of_instance}
+use Rattle.wasm_lang_exec.specs.Places.{Place, seen, Follows, place_now, place_after, place_in_call, place_of_one, place_in_calls, place_of_start, place_of_instance}
 use Rattle.wasm_laws_sound.specs.Laws.{PlacesAreSeen}
 
 -- what is seen after a run, by what is seen where it came back

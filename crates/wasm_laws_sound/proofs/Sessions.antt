@@ -4,8 +4,8 @@ use Rattle.std.proofs.lemmas.List.{map-append, length-replicate}
 use Rattle.std.proofs.lemmas.Option.{slice_get-map, slice_get_within}
 use Rattle.std.specs.Prelude.{slice_get, option_map, bytes_eq, if◌then◌else◌}
 use Rattle.sem_words.specs.declared.word.Word.{Word}
-use Rattle.sem_laws.specs.Names.{import_name}
-use Rattle.sem_laws.specs.Script.{GlobalPlain, CallPlain, ScriptPlain}
+use Rattle.session_lang.specs.Names.{import_name}
+use Rattle.session_lang.specs.Script.{GlobalPlain, CallPlain, ScriptPlain}
 use Rattle.wasm_lang.specs.declared.types.ValType.{ValType}
 use Rattle.wasm_lang.specs.declared.types.ValType.TheVariants.{I32, I64}
 use Rattle.wasm_lang.specs.declared.types.GlobalType.{GlobalType}
@@ -27,9 +27,9 @@ use Rattle.wasm_lang_exec.specs.Reductions.{callee_at}
 use Rattle.wasm_lang_exec.specs.Session.{bytes_in, word_for, given_value, if_global, imported_globals, some_or_zero, value_of, table_length, first_globals, first_store, replaced, offset_of, entries_fit, bytes_fit, with_entries, with_bytes, result_event, with_event, function_named, words_for, arguments_for}
 use Rattle.wasm_lang_exec.specs.Fits.{in_range, takes_arguments, takes, type_at, fits_call}
 use Rattle.wasm_lang_exec.specs.FitLaws.{Fits}
-use Rattle.script_fits.specs.FitLaws.{a_call}
+use Rattle.session_lang.specs.FitLaws.{a_call}
 use Rattle.wasm_laws_sound.specs.Configurations.{HasType, HaveTypes, kinds, AreEntries, IsTypedStore, AreTypedFunctions}
-use Rattle.wasm_laws_sound.specs.Places.{Place, place_of_call, place_of_one, place_in_calls, place_of_start, place_of_instance, place}
+use Rattle.wasm_lang_exec.specs.Places.{Place, place_of_call, place_of_one, place_in_calls, place_of_start, place_of_instance, place}
 use Rattle.wasm_laws_sound.specs.Laws.{IsWhole, SessionsGoOn, PlacesAreTyped}
 use Rattle.wasm_laws_sound.proofs.Values.{word_has_type, have_at, have_both, length-written}
 use Rattle.wasm_laws_sound.proofs.Reducing.{same_is, both_true}

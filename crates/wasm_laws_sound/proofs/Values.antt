@@ -5,7 +5,7 @@ use Rattle.std.proofs.lemmas.Grind.{reverse_onto}
 use Rattle.sem_words.specs.declared.word.Word.{Word}
 use Rattle.wasm_lang.specs.declared.types.ValType.{ValType}
 use Rattle.wasm_lang.specs.declared.types.ValType.TheVariants.{I32, I64}
-use Rattle.sem_laws.specs.Script.{WritePlain}
+use Rattle.session_lang.specs.Script.{WritePlain}
 use Rattle.heap_lang.specs.Heap.{with_run}
 use Rattle.heap_lang.proofs.RunLemmas.{length-with_run}
 use Rattle.wasm_lang_exec.specs.Store.{word_of_type, zeros_of, written}

@@ -1,7 +1,7 @@
 -- Valid WebAssembly never gets stuck.
 use Rattle.std.specs.Prelude.{◌≡◌, ℕ, List, [], ◌∷◌, ◌++◌, length, reverse, Option, Some, Ok}
 use Rattle.sem_words.specs.declared.word.Word.{Word}
-use Rattle.sem_laws.specs.Script.{ScriptPlain}
+use Rattle.session_lang.specs.Script.{ScriptPlain}
 use Rattle.wasm_lang.specs.declared.types.ValType.{ValType}
 use Rattle.wasm_lang.specs.Instructions.{Plain, Instruction}
 use Rattle.wasm_lang.specs.Modules.{FunctionType, WasmModule}
@@ -19,7 +19,8 @@ use Rattle.wasm_laws_drive.specs.Drive.{drive}
 use Rattle.wasm_laws_sound.specs.Trees.{IsTyped}
 use Rattle.wasm_laws_sound.specs.Configurations.{HaveTypes, IsTypedStore, within, IsTypedEffect, IsTypedConfig, IsTypedReduct, AreTypedFunctions}
 use Rattle.wasm_laws_sound.specs.Outcomes.{IsTypedOutcome, IsCalledOutcome}
-use Rattle.wasm_laws_sound.specs.Places.{place, seen, GoesOn, IsTypedPlace}
+use Rattle.wasm_lang_exec.specs.Places.{place, seen, GoesOn}
+use Rattle.wasm_laws_sound.specs.TypedPlaces.{IsTypedPlace}
 
 -- ---- code
 

@@ -1,5 +1,5 @@
 pub mod Trees
 pub mod Configurations
 pub mod Outcomes
-pub mod Places
+pub mod TypedPlaces
 pub mod Laws

@@ -3,3 +3,4 @@ pub mod Parts
 pub mod Written
 pub mod Modules
 pub mod Short
+pub mod Spelled

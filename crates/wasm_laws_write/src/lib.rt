@@ -1,6 +1,8 @@
 //! Which modules the binary format of WebAssembly can spell, and in how many bytes at most.
 #![tactic(auto)]
 
+pub mod trees_laws;
+
 ghost use Rattle.std.specs.Prelude.{ℕ};
 ghost use Rattle.wasm_lang.specs.declared.types.Limits.{Limits};
 ghost use Rattle.wasm_lang.specs.Modules.{FunctionType, Imported, GlobalEntry, Exported, ElementSegment, FunctionBody};

@@ -7,7 +7,7 @@ use Rattle.wasm_lang.specs.declared.types.ImportKind.TheVariants as imports
 use Rattle.wasm_lang.specs.declared.types.ExportKind.TheVariants as exports
 use Rattle.wasm_lang.specs.Instructions.{plain, local_get, bin64, end_mark}
 use Rattle.wasm_lang.specs.Modules.{WasmModule}
-use Rattle.wasm_listing.specs.Listing.{type_text, listing}
+use Rattle.bridge_lang.specs.Listing.{type_text, listing}
 
 nothing_for_nothing : type_text (record { params = []; results = [] }) ≡ codes "() -"
 nothing_for_nothing = refl

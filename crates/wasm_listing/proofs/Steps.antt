@@ -9,7 +9,7 @@ use Rattle.wasm_tree.specs.declared.module.Import.{Import}
 use Rattle.wasm_tree.specs.declared.module.Body.{Body}
 use Rattle.wasm_tree.specs.Views.{import_of, body_of}
 use Rattle.wasm_lang_valid.specs.ModuleRules.{function_of, imported_functions}
-use Rattle.wasm_listing.specs.Listing.{type_name, others_text, import_lines_of, number_after, import_lines, function_line, function_lines}
+use Rattle.bridge_lang.specs.Listing.{type_name, others_text, import_lines_of, number_after, import_lines, function_line, function_lines}
 
 -- ---- types
 

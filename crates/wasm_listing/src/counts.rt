@@ -2,7 +2,7 @@
 
 ghost use Rattle.std.specs.Prelude.{◌≡◌, IfOk};
 ghost use Rattle.wasm_tree.specs.Views.{module_of};
-ghost use Rattle.wasm_listing.specs.Listing as spec;
+ghost use Rattle.bridge_lang.specs.Listing as spec;
 
 use itoa::Buffer;
 use std::alloc::{AllocError, Global};

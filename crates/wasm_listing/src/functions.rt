@@ -3,12 +3,12 @@
 ghost use Rattle.std.specs.Prelude.{◌≡◌, ◌+◌, ◌<◌, ◌≤◌, ◌^◌, ◌++◌, length, map, IfOk, OnOk};
 ghost use Rattle.wasm_tree.specs.Views.{body_of, code_of, import_of, module_of, type_of};
 ghost use Rattle.wasm_lang_valid.specs.ModuleRules.{imported_functions};
-ghost use Rattle.wasm_listing.specs.Listing as spec;
+ghost use Rattle.bridge_lang.specs.Listing as spec;
 
 use crate::counts::counts_line;
 use crate::types::push_numbered;
 use itoa::Buffer;
-use sem_laws::import_name;
+use session_lang::import_name;
 use std::alloc::{AllocError, Global};
 use wasm_tree::{Body, Code, FuncType, Import, ImportKind, Module};
 

@@ -2,7 +2,7 @@
 
 ghost use Rattle.std.specs.Prelude.{◌≡◌, ◌++◌, map, slice_get, MatchOption, OnOk};
 ghost use Rattle.wasm_tree.specs.Views.{type_of};
-ghost use Rattle.wasm_listing.specs.Listing as spec;
+ghost use Rattle.bridge_lang.specs.Listing as spec;
 
 use std::alloc::AllocError;
 use wasm_tree::{FuncType, ValType};

@@ -1,7 +1,7 @@
 -- The function that a call names is among those of all calls.
 use Rattle.std.proofs.Common.{◌≡◌, ℕ, zero, suc, ◌<◌, List, [], ◌∷◌, length, map, get_or, Option, None, slice_index_or, sym, ap, ◌∙◌, arith}
-use Rattle.sem_laws.specs.declared.script.CallLine.{CallLine}
-use Rattle.sem_laws.specs.Views.{call_of}
+use Rattle.session_lang.specs.declared.script.CallLine.{CallLine}
+use Rattle.session_lang.specs.Views.{call_of}
 use Rattle.wasm_lang.specs.Modules.{WasmModule}
 use Rattle.wasm_lang_exec.specs.Session.{function_named}
 use Rattle.wasm_run.specs.Exports.{callees_of}

@@ -2,7 +2,7 @@
 use Rattle.std.proofs.Common.{◌≡◌, ℕ, zero, suc, ◌+◌, ◌<◌, List, [], ◌∷◌, ◌++◌, length, take, get_or, reverse, refl, sym, ap, ◌∙◌}
 use Rattle.std.proofs.lemmas.List.{reverse-append, take_more}
 use Rattle.sem_words.specs.declared.word.Word.{Word}
-use Rattle.sem_laws.specs.Script.{ScriptPlain}
+use Rattle.session_lang.specs.Script.{ScriptPlain}
 use Rattle.wasm_lang.specs.Modules.{WasmModule}
 use Rattle.wasm_lang_exec.specs.Session.{first_store, wasm}
 use Rattle.wasm_run.specs.Runs.{begun}

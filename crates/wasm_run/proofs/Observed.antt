@@ -1,10 +1,10 @@
 -- What is seen of a session with an end, or without one.
 use Rattle.std.proofs.Common.{◌≡◌, Option, Some, None, refl}
 use Rattle.std.specs.Prelude.{option_map}
-use Rattle.sem_laws.specs.declared.observation.End.{End}
-use Rattle.sem_laws.specs.Observation.{ObservationPlain}
-use Rattle.sem_laws.specs.Views.{end_of}
-use Rattle.script_seen.specs.Views.{heap_at}
+use Rattle.session_lang.specs.declared.observation.End.{End}
+use Rattle.session_lang.specs.Observation.{ObservationPlain}
+use Rattle.session_lang.specs.Views.{end_of}
+use Rattle.session_replies.specs.Views.{heap_at}
 use Rattle.wasm_lang_exec.specs.Store.{Store}
 use Rattle.wasm_run.specs.Runs.{seen_as}
 

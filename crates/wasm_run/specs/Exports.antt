@@ -1,7 +1,7 @@
 -- What is found under the names of exports.
 use Rattle.std.specs.Prelude.{◌≡◌, ℕ, suc, Bool, true, false, List, [], ◌∷◌, map, Option, Some, None, option_map, slice_get, if◌then◌else◌}
 use Rattle.std.specs.Str.{bytes_eq}
-use Rattle.sem_laws.specs.Script.{CallPlain}
+use Rattle.session_lang.specs.Script.{CallPlain}
 use Rattle.wasm_lang.specs.Modules.{Exported, WasmModule}
 use Rattle.wasm_lang_exec.specs.Session.{function_named}
 

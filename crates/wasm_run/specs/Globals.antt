@@ -1,10 +1,10 @@
 -- What is found under the names of globals.
 use Rattle.std.specs.Prelude.{ℕ, Bool, not, ◌&&◌, List, [], ◌∷◌, Option, Some, None, if◌then◌else◌}
 use Rattle.std.specs.Str.{bytes_eq}
-use Rattle.sem_laws.specs.Script.{GlobalPlain}
+use Rattle.session_lang.specs.Script.{GlobalPlain}
 use Rattle.wasm_lang.specs.declared.types.ValType.{ValType}
 use Rattle.wasm_lang.specs.declared.types.ValType.TheVariants.{I32, I64}
-use Rattle.script_fits.specs.Fits.{is_given}
+use Rattle.session_lang.specs.Fits.{is_given}
 use Rattle.wasm_lang_exec.specs.Fits.{GlobalImport, is_imported, has_range}
 
 -- the narrower of a type and another, where there is another

@@ -1,7 +1,7 @@
 -- What an instance stands for.
 use Rattle.std.specs.Prelude.{◌≡◌, ℕ, List, [], Option, None}
-use Rattle.sem_laws.specs.Script.{ScriptPlain}
-use Rattle.sem_laws.specs.Imports.{first_replies}
+use Rattle.session_lang.specs.Script.{ScriptPlain}
+use Rattle.session_lang.specs.Imports.{first_replies}
 use Rattle.wasm_lang.specs.Modules.{WasmModule}
 use Rattle.wasm_lang_exec.specs.Session.{first_store}
 use Rattle.wasm_lang_exec.specs.Fits.{misfit}

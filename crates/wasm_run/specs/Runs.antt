@@ -1,9 +1,9 @@
 -- What is seen of a session, by what its parts come to.
 use Rattle.std.specs.Prelude.{ℕ, zero, suc, ◌&&◌, Option, Some, None}
-use Rattle.sem_laws.specs.declared.observation.End.{End}
-use Rattle.sem_laws.specs.Observation.{ObservationPlain}
-use Rattle.sem_laws.specs.Script.{ScriptPlain}
-use Rattle.sem_laws.specs.Views.{end_of}
+use Rattle.session_lang.specs.declared.observation.End.{End}
+use Rattle.session_lang.specs.Observation.{ObservationPlain}
+use Rattle.session_lang.specs.Script.{ScriptPlain}
+use Rattle.session_lang.specs.Views.{end_of}
 use Rattle.wasm_lang.specs.Modules.{WasmModule}
 use Rattle.wasm_lang_exec.specs.Session.{seen_running, seen_end, instantiated, entries_fit, bytes_fit}
 use Rattle.wasm_lang_exec.specs.Store.{Store}

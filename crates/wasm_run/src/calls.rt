@@ -1,17 +1,16 @@
 // The calls of a script.
 
 ghost use Rattle.std.specs.Prelude.{◌≡◌, None, Some, map, MatchOption};
-ghost use Rattle.sem_laws.specs.Script.{CallPlain};
-ghost use Rattle.sem_laws.specs.Views.{call_of};
-ghost use Rattle.script_fits.specs.Fits as parts;
+ghost use Rattle.session_lang.specs.Script.{CallPlain};
+ghost use Rattle.session_lang.specs.Views.{call_of};
+ghost use Rattle.session_lang.specs.Fits as parts;
 ghost use Rattle.wasm_lang_exec.specs.Fits;
 ghost use Rattle.wasm_lang_exec.specs.Session.{function_named};
 ghost use Rattle.wasm_run.specs.Exports.{callees_of};
 ghost use Rattle.wasm_run.specs.Forms.{after_argument};
 
 use crate::ranges::in_range;
-use script_fits::lesser;
-use sem_laws::CallLine;
+use session_lang::{CallLine, lesser};
 use wasm_lang::ValType;
 use wasm_validate::Valid;
 
@@ -65,7 +64,7 @@ fn fits_call(valid: &Valid<'_>, callee: Option<u32>, call: &CallLine) -> bool
 }
 
 /// The first line of a call that doesn't fit, by the functions that the calls name.
-#[tactic(auto, using(script_fits::proofs::FirstLines::earlier_lesser, script_fits::proofs::FirstLines::earlier_none))]
+#[tactic(auto, using(session_lang::proofs::FirstLines::earlier_lesser, session_lang::proofs::FirstLines::earlier_none))]
 pub fn first_call(valid: &Valid<'_>, functions: &[Option<u32>], calls: &[CallLine]) -> Option<u64>
     requires { functions.now ≡ callees_of valid.now (map call_of calls.now) }
     ensures { result ≡ parts.least (parts.lines_of (Fits.fits_call valid.now) (λ (c : CallPlain). c.line) (map call_of calls.now)) }

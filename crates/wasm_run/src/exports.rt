@@ -2,7 +2,7 @@
 
 ghost use Rattle.std.specs.Prelude.{◌≡◌, ℕ, List, Some, IfOk, IfSome, map, if◌then◌else◌};
 ghost use Rattle.std.specs.Str.{bytes_eq};
-ghost use Rattle.sem_laws.specs.Views.{call_of};
+ghost use Rattle.session_lang.specs.Views.{call_of};
 ghost use Rattle.script_lines.specs.GlobalLines.{found};
 ghost use Rattle.wasm_tree.specs.Views.{bytes_of, export_of};
 ghost use Rattle.wasm_lang_exec.specs.Session as session;
@@ -10,7 +10,7 @@ ghost use Rattle.wasm_run.specs.Exports.{EachIsFirst, callees_of, is_named_at, p
 
 use indexmap::IndexMap;
 use key_hashes::{KeyHashes, Seed};
-use sem_laws::CallLine;
+use session_lang::CallLine;
 use std::alloc::{AllocError, Global};
 use std::marker::Model;
 use wasm_lang::ExportKind;

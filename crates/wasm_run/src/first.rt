@@ -2,9 +2,9 @@
 
 ghost use Rattle.std.specs.Prelude.{◌≡◌, ◌*◌, ◌++◌, [], None, map, replicate, IfOk, OnOk};
 ghost use Rattle.heap_lang.specs.Heap.{IsHeapLength};
-ghost use Rattle.sem_laws.specs.Imports.{first_replies};
-ghost use Rattle.sem_laws.specs.Names as names;
-ghost use Rattle.sem_laws.specs.Views.{script_of};
+ghost use Rattle.session_lang.specs.Imports.{first_replies};
+ghost use Rattle.session_lang.specs.Names as names;
+ghost use Rattle.session_lang.specs.Views.{script_of};
 ghost use Rattle.wasm_tree.specs.Views.{bytes_of, import_of, module_of};
 ghost use Rattle.wasm_lang_valid.specs.Runnable.{not_runnable, pages};
 ghost use Rattle.wasm_lang_exec.specs.Session as session;
@@ -15,9 +15,9 @@ use crate::words::word_for;
 use crate::writes::memory_pages;
 use heap_views::Heap;
 use script_lines::Lines;
-use script_replies::put_writes;
-use sem_laws::{Script, import_name};
 use sem_words::Word;
+use session_lang::{Script, import_name};
+use session_replies::put_writes;
 use std::alloc::{AllocError, Global};
 use wasm_lang::{ImportKind, ValType};
 use wasm_run_operands::State;

@@ -1,9 +1,9 @@
 // Which scripts fit.
 
 ghost use Rattle.std.specs.Prelude.{◌≡◌, None, Some, IfOk, MatchResult};
-ghost use Rattle.sem_laws.specs.Script.{WritePlain, CallPlain, ReplyLinePlain};
-ghost use Rattle.sem_laws.specs.Views.{script_of};
-ghost use Rattle.script_fits.specs.Fits.{least, lines_of, unfit_lines};
+ghost use Rattle.session_lang.specs.Script.{WritePlain, CallPlain, ReplyLinePlain};
+ghost use Rattle.session_lang.specs.Views.{script_of};
+ghost use Rattle.session_lang.specs.Fits.{least, lines_of, unfit_lines};
 ghost use Rattle.wasm_lang_exec.specs.Fits;
 ghost use Rattle.wasm_lang_exec.specs.Fits.{global_imports, tests, misfit};
 ghost use Rattle.wasm_run.specs.Exports.{callees_of};
@@ -13,9 +13,8 @@ use crate::exports::callees;
 use crate::globals::first_global;
 use crate::imported::{Imported, imported_globals};
 use crate::writes::{first_reply, first_write, imported_pages, memory_pages};
-use script_fits::earlier;
 use script_lines::Lines;
-use sem_laws::{Misfit, Script};
+use session_lang::{Misfit, Script, earlier};
 use std::alloc::{AllocError, Global};
 use wasm_validate::Valid;
 

@@ -1,14 +1,13 @@
 // Lines of globals that don't fit.
 
 ghost use Rattle.std.specs.Prelude.{◌≡◌, [], take};
-ghost use Rattle.sem_laws.specs.Views.{global_of};
-ghost use Rattle.script_fits.specs.Fits as parts;
+ghost use Rattle.session_lang.specs.Views.{global_of};
+ghost use Rattle.session_lang.specs.Fits as parts;
 ghost use Rattle.wasm_run.specs.Globals.{fits_line};
 
 use crate::imported::Imported;
-use script_fits::lesser;
 use script_lines::Lines;
-use sem_laws::GlobalLine;
+use session_lang::{GlobalLine, lesser};
 
 // Whether a line names an imported global, with a value in its range, and no line before this place does.
 fn fits_global(imported: &Imported<'_>, lines: &Lines<'_>, place: usize, line: &GlobalLine) -> bool
@@ -19,7 +18,7 @@ fn fits_global(imported: &Imported<'_>, lines: &Lines<'_>, place: usize, line: &
 }
 
 /// The first line of a global that doesn't fit.
-#[tactic(auto, using(script_fits::proofs::FirstLines::earlier_none))]
+#[tactic(auto, using(session_lang::proofs::FirstLines::earlier_none))]
 pub fn first_global(imported: &Imported<'_>, lines: &Lines<'_>) -> Option<u64>
     ensures { result ≡ parts.least (parts.global_lines (fits_line imported.now) [] lines.now) }
 {

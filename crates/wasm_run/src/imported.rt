@@ -4,7 +4,7 @@ ghost use Rattle.std.specs.Prelude.{◌≡◌, ℕ, List, [], ◌++◌, ◌∷�
 ghost use Rattle.std.specs.Str.{bytes_eq};
 ghost use Rattle.sem_words.specs.Lists.{text_bytes};
 ghost use Rattle.wasm_tree.specs.Views.{import_of};
-ghost use Rattle.script_fits.specs.Fits as parts;
+ghost use Rattle.session_lang.specs.Fits as parts;
 ghost use Rattle.script_lines.specs.GlobalLines.{found};
 ghost use Rattle.wasm_lang_exec.specs.Fits;
 ghost use Rattle.wasm_lang_exec.specs.Fits.{global_imports, global_names};
@@ -15,8 +15,8 @@ use crate::ranges::in_range;
 use indexmap::IndexMap;
 use key_hashes::{KeyHashes, Seed};
 use script_lines::Lines;
-use sem_laws::import_name;
 use sem_words::Text;
+use session_lang::import_name;
 use std::alloc::{AllocError, Global};
 use std::marker::Model;
 use wasm_lang::{ImportKind, ValType};

@@ -1,8 +1,8 @@
 // Instances of modules.
 
 ghost use Rattle.std.specs.Prelude.{◌≡◌, None, IfOk};
-ghost use Rattle.sem_laws.specs.Views.{script_of};
-ghost use Rattle.script_seen.specs.Views.{seen_of};
+ghost use Rattle.session_lang.specs.Views.{script_of};
+ghost use Rattle.session_replies.specs.Views.{seen_of};
 ghost use Rattle.wasm_lang.specs.Shape.{IsShaped};
 ghost use Rattle.wasm_tree.specs.Views.{module_of};
 ghost use Rattle.wasm_lang_valid.specs.Runnable.{not_runnable};
@@ -10,17 +10,17 @@ ghost use Rattle.wasm_lang_valid.specs.Validity.{IsValidModule};
 ghost use Rattle.wasm_lang_exec.specs.Session.{wasm};
 ghost use Rattle.wasm_lang_exec.specs.Fits.{misfit};
 ghost use Rattle.wasm_laws_sound.specs.Laws.{IsWhole};
-ghost use Rattle.wasm_laws_sound.specs.Places.{GoesOn, IsTypedPlace, place, seen};
+ghost use Rattle.wasm_lang_exec.specs.Places.{GoesOn, place, seen};
+ghost use Rattle.wasm_laws_sound.specs.TypedPlaces.{IsTypedPlace};
 ghost use Rattle.wasm_run_frames.specs.Views.{machine_of};
 ghost use Rattle.wasm_run.specs.Exports.{callees_of};
 ghost use Rattle.wasm_run.specs.Runs.{seen_as};
 
 use crate::first::first_state;
 use crate::session::run_session;
-use script_replies::Replies;
-use script_seen::Seen;
-use sem_laws::{End, Script};
 use sem_words::List;
+use session_lang::{End, Script};
+use session_replies::{Replies, Seen};
 use std::alloc::{AllocError, Global};
 use std::marker::Model;
 use wasm_lang_exec::fitting_laws;
@@ -45,7 +45,7 @@ pub struct Instance<'a> {
 }
 
 impl<'a> Model for Instance<'a> {
-    ghost use Rattle.sem_laws.specs.Views.{script_of};
+    ghost use Rattle.session_lang.specs.Views.{script_of};
     ghost use Rattle.wasm_tree.specs.Views.{module_of};
     ghost use Rattle.wasm_run.specs.Instances.{InstancePlain, IsInstance};
 

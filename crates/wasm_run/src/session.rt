@@ -1,8 +1,8 @@
 // The start function and the script's calls, one after the other.
 
 ghost use Rattle.std.specs.Prelude.{◌≡◌, ◌++◌, [], ℕ, map, reverse, IfOk, OnOk};
-ghost use Rattle.sem_laws.specs.Observation.{ObservationPlain};
-ghost use Rattle.sem_laws.specs.Views.{call_of, script_of};
+ghost use Rattle.session_lang.specs.Observation.{ObservationPlain};
+ghost use Rattle.session_lang.specs.Views.{call_of, script_of};
 ghost use Rattle.wasm_tree.specs.Views.{module_of};
 ghost use Rattle.wasm_lang_exec.specs.Session as session;
 ghost use Rattle.wasm_lang_exec.specs.Store.{Store};
@@ -12,8 +12,8 @@ ghost use Rattle.wasm_run.specs.Exports.{callees_of};
 ghost use Rattle.wasm_run.specs.Runs.{after_ran, begun, seen_as};
 
 use crate::words::arguments_for;
-use sem_laws::{CallLine, End, Event, Script};
 use sem_words::{TrapKind, Word};
+use session_lang::{CallLine, End, Event, Script};
 use std::alloc::{AllocError, Global};
 use wasm_run_frames::Machine;
 use wasm_run_machine::{Function, Ran, call_host};

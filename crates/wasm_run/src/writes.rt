@@ -2,15 +2,14 @@
 
 ghost use Rattle.std.specs.Prelude.{◌≡◌, ◌*◌, map};
 ghost use Rattle.std.specs.List.{list_all};
-ghost use Rattle.sem_laws.specs.Script.{WritePlain, ReplyLinePlain};
-ghost use Rattle.sem_laws.specs.Views.{write_of, reply_of, reply_line_of};
+ghost use Rattle.session_lang.specs.Script.{WritePlain, ReplyLinePlain};
+ghost use Rattle.session_lang.specs.Views.{write_of, reply_of, reply_line_of};
 ghost use Rattle.wasm_tree.specs.Views.{import_of, module_of};
 ghost use Rattle.wasm_lang_valid.specs.Runnable;
-ghost use Rattle.script_fits.specs.Fits as parts;
+ghost use Rattle.session_lang.specs.Fits as parts;
 ghost use Rattle.wasm_lang_exec.specs.Fits;
 
-use script_fits::lesser;
-use sem_laws::{Reply, ReplyLine, WriteLine};
+use session_lang::{Reply, ReplyLine, WriteLine, bytes_are, lesser};
 use wasm_lang::ImportKind;
 use wasm_tree::{Import, Module};
 
@@ -45,6 +44,7 @@ fn lies_in(pages: Option<u32>, write: &WriteLine) -> bool
     let Some(pages) = pages else {
         return false;
     };
+    bytes_are(write.bytes.as_bytes());
     let size = pages as u64 * 65536;
     let len = write.bytes.as_bytes().len() as u64;
     len <= size && write.at <= size - len
@@ -71,7 +71,7 @@ fn reply_lies_in(pages: Option<u32>, reply: &Reply) -> bool
 }
 
 /// The first line of bytes that don't lie in a memory of so many pages.
-#[tactic(auto, using(script_fits::proofs::FirstLines::earlier_lesser, script_fits::proofs::FirstLines::earlier_none))]
+#[tactic(auto, using(session_lang::proofs::FirstLines::earlier_lesser, session_lang::proofs::FirstLines::earlier_none))]
 pub fn first_write(pages: Option<u32>, writes: &[WriteLine]) -> Option<u64>
     ensures { result ≡ parts.least (parts.lines_of (Fits.lies_in pages) (λ (w : WritePlain). w.line) (map write_of writes.now)) }
 {
@@ -85,7 +85,7 @@ pub fn first_write(pages: Option<u32>, writes: &[WriteLine]) -> Option<u64>
 }
 
 /// The first line of a reply with bytes that don't.
-#[tactic(auto, using(script_fits::proofs::FirstLines::earlier_lesser, script_fits::proofs::FirstLines::earlier_none))]
+#[tactic(auto, using(session_lang::proofs::FirstLines::earlier_lesser, session_lang::proofs::FirstLines::earlier_none))]
 pub fn first_reply(pages: Option<u32>, replies: &[ReplyLine]) -> Option<u64>
     ensures { result ≡ parts.least (parts.lines_of (λ (r : ReplyLinePlain). list_all (Fits.lies_in pages) (parts.writes_of r.reply)) (λ r. r.line) (map reply_line_of replies.now)) }
 {

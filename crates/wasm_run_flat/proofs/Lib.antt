@@ -3,3 +3,4 @@ pub mod Leading
 pub mod Lists
 pub mod Reading
 pub mod Standing
+pub mod Past

@@ -5,6 +5,7 @@
 
 mod body;
 pub mod laws;
+pub mod past_laws;
 mod target;
 
 pub use body::Body;

@@ -2,7 +2,7 @@
 use Rattle.std.specs.Prelude.{◌≡◌, ℕ, suc, List, [], ◌∷◌, Some, slice_get}
 use Rattle.wasm_lang.specs.Instructions.{Instruction}
 use Rattle.wasm_lang.specs.Modules.{WasmModule}
-use Rattle.sem_laws.specs.Views.{end_of}
+use Rattle.session_lang.specs.Views.{end_of}
 use Rattle.wasm_laws_drive.specs.Drive.{Outcome, Ended, Stuck}
 use Rattle.wasm_run_flat.specs.declared.target.Target.{Target}
 use Rattle.wasm_run_flat.specs.Laws.{IsLeft, IsDone}

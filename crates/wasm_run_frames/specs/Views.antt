@@ -1,8 +1,8 @@
 -- What the machine stands for as plain values.
 use Rattle.std.specs.Prelude.{List, map, reverse}
 use Rattle.sem_words.specs.Lists.{list_items}
-use Rattle.sem_laws.specs.Views.{event_of}
-use Rattle.script_replies.specs.Answers.{replies_of}
+use Rattle.session_lang.specs.Views.{event_of}
+use Rattle.session_replies.specs.Answers.{replies_of}
 use Rattle.wasm_run_operands.specs.Effects.{store_of}
 use Rattle.wasm_laws_machine.specs.Machine.{LabelPlain, FramePlain, EnclosingPlain, of_label, of_frame, MachinePlain}
 use Rattle.wasm_run_frames.specs.declared.machine.Label.{Label}

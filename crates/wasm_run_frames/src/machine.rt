@@ -1,8 +1,8 @@
 //! The machine.
 
-use script_replies::Replies;
-use sem_laws::{End, Event};
 use sem_words::{List, Word};
+use session_lang::{End, Event};
+use session_replies::Replies;
 use wasm_run_flat::Target;
 use wasm_run_operands::{Operands, State};
 

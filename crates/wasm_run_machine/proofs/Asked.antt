@@ -2,10 +2,10 @@
 use Rattle.std.proofs.Common.{◌≡◌, ℕ, List, [], ◌∷◌, ◌++◌, Some, length, reverse, refl, sym, ap, subst, ◌∙◌}
 use Rattle.std.proofs.lemmas.List.{reverse-reverse}
 use Rattle.sem_words.specs.declared.word.Word.{Word}
-use Rattle.sem_laws.specs.Observation.{EndPlain}
-use Rattle.sem_laws.specs.Script.{WritePlain}
-use Rattle.sem_laws.specs.Imports.{Given, goes_on, ends, answer_import}
-use Rattle.script_replies.specs.Puts.{after_puts}
+use Rattle.session_lang.specs.Observation.{EndPlain}
+use Rattle.session_lang.specs.Script.{WritePlain}
+use Rattle.session_lang.specs.Imports.{Given, goes_on, ends, answer_import}
+use Rattle.session_replies.specs.Puts.{after_puts}
 use Rattle.heap_lang.specs.Heap.{with_run}
 use Rattle.wasm_lang.specs.declared.types.ValType.{ValType}
 use Rattle.wasm_lang.specs.Instructions.{Instruction}

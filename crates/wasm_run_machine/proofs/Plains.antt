@@ -4,7 +4,7 @@ use Rattle.std.proofs.Math.Seq.{take-append_seam}
 use Rattle.std.specs.Prelude.{slice_get}
 use Rattle.sem_words.specs.declared.word.Word.{Word}
 use Rattle.sem_words.specs.declared.word.TrapKind.{TrapKind}
-use Rattle.sem_laws.specs.Observation.{trapped}
+use Rattle.session_lang.specs.Observation.{trapped}
 use Rattle.wasm_lang.specs.Instructions as flat
 use Rattle.wasm_lang.specs.Instructions.{Instruction, Plain, const32, const64}
 use Rattle.wasm_lang.specs.Modules.{WasmModule}

@@ -1,7 +1,7 @@
 -- What the call of an import comes to, when its arguments were taken.
 use Rattle.std.specs.Prelude.{◌≡◌, ℕ, List}
 use Rattle.sem_words.specs.declared.word.Word.{Word}
-use Rattle.sem_laws.specs.Imports.{answer_import}
+use Rattle.session_lang.specs.Imports.{answer_import}
 use Rattle.wasm_lang.specs.declared.types.ValType.{ValType}
 use Rattle.wasm_lang.specs.Instructions.{Instruction}
 use Rattle.wasm_lang.specs.Modules.{WasmModule}

@@ -1,6 +1,6 @@
 -- What a run of a host's call promises.
 use Rattle.std.specs.Prelude.{◌≡◌}
-use Rattle.sem_laws.specs.Views.{end_of}
+use Rattle.session_lang.specs.Views.{end_of}
 use Rattle.wasm_lang_exec.specs.Session as session
 use Rattle.wasm_lang_exec.specs.Session.{finished, spent, over}
 use Rattle.wasm_laws_drive.specs.Drive.{Outcome, Next, Ended}

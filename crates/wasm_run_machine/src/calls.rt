@@ -1,8 +1,8 @@
 //! Calls.
 ghost use Rattle.std.specs.Prelude.{◌≡◌, ℕ, ◌++◌, IfOk, OnOk, map, slice_get};
 ghost use Rattle.sem_words.specs.Lists.{text_bytes};
-ghost use Rattle.sem_laws.specs.Views.{write_of};
-ghost use Rattle.script_replies.specs.Answers.{events_of};
+ghost use Rattle.session_lang.specs.Views.{write_of};
+ghost use Rattle.session_replies.specs.Answers.{events_of};
 ghost use Rattle.wasm_lang.specs.Modules.{WasmModule};
 ghost use Rattle.wasm_tree.specs.Views.{module_of};
 ghost use Rattle.wasm_lang_exec.specs.Store.{written};
@@ -16,9 +16,9 @@ ghost use Rattle.wasm_run_machine.specs.Asking.{Asks, Bodies};
 
 use crate::functions::{Callee, Function, function_at};
 use crate::types::is_same_type;
-use script_replies::{Answer, Given, put_writes};
-use sem_laws::End;
 use sem_words::{List, Text, TrapKind, Word};
+use session_lang::End;
+use session_replies::{Answer, Given, put_writes};
 use std::alloc::{AllocError, Global};
 use wasm_lang::ValType;
 use wasm_run_frames::{Flow, Machine, enter_function};

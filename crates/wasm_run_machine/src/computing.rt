@@ -10,8 +10,8 @@ ghost use Rattle.wasm_run_frames.specs.Views.{machine_of};
 ghost use Rattle.wasm_run_machine.specs.Kinds.{constant_in, is_free, is_paid_plain};
 ghost use Rattle.wasm_run_machine.specs.Doing.{DoesIn};
 
-use sem_laws::End;
 use sem_words::Word;
+use session_lang::End;
 use std::alloc::AllocError;
 use wasm_run_flat::Body;
 use wasm_run_frames::{Flow, Machine};

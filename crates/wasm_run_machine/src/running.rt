@@ -13,7 +13,7 @@ ghost use Rattle.wasm_run_machine.specs.Runs.{CameTo, RanAs};
 
 use crate::steps::step;
 use crate::{Callee, Function, call, function_at, push_constants};
-use sem_laws::End;
+use session_lang::End;
 use std::alloc::{AllocError, Global};
 use std::mem;
 use wasm_run_flat::Body;

@@ -12,8 +12,8 @@ use crate::{
     Function, Kind, branch_always, branch_by_table, branch_if, call, end, end_arm, has_type,
     kind_of, leave, open_block, open_if, open_loop, plain,
 };
-use sem_laws::End;
 use sem_words::TrapKind;
+use session_lang::End;
 use std::alloc::{AllocError, Global};
 use wasm_run_flat::Body;
 use wasm_run_frames::{Flow, Machine};

@@ -1,8 +1,8 @@
 -- What the values of this crate stand for, and which forms instructions have.
 use Rattle.std.specs.Prelude.{◌≡◌, ℕ, ◌*◌, ◌<◌, ◌≤◌, Bool, true, List, if◌then◌else◌}
 use Rattle.sem_words.specs.declared.word.Word.{Word}
-use Rattle.sem_laws.specs.Observation.{EventPlain}
-use Rattle.sem_laws.specs.Imports.{Replies}
+use Rattle.session_lang.specs.Observation.{EventPlain}
+use Rattle.session_lang.specs.Imports.{Replies}
 use Rattle.heap_lang.specs.Heap.{IsWordSize}
 use Rattle.wasm_lang.specs.declared.types.MemOp.{MemOp}
 use Rattle.wasm_lang_exec.specs.Store.{Store}

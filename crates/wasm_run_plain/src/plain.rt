@@ -1,7 +1,7 @@
 //! Each plain instruction.
 ghost use Rattle.std.specs.Prelude.{◌≡◌, List, IfOk};
-ghost use Rattle.sem_laws.specs.Observation.{EventPlain};
-ghost use Rattle.sem_laws.specs.Imports.{Replies};
+ghost use Rattle.session_lang.specs.Observation.{EventPlain};
+ghost use Rattle.session_lang.specs.Imports.{Replies};
 ghost use Rattle.wasm_tree.specs.Views.{instr_of};
 ghost use Rattle.wasm_run_operands.specs.Effects.{Keeps, effect_of, store_of};
 ghost use Rattle.wasm_run_plain.specs.Forms.{IsForm, instruction_effect};

@@ -1,8 +1,8 @@
 //! Bytes that are put into the memory.
 ghost use Rattle.std.specs.Prelude.{◌≡◌, ◌∷◌, [], List, map};
 ghost use Rattle.heap_lang.specs.Heap.{with_run};
-ghost use Rattle.sem_laws.specs.Observation.{EventPlain};
-ghost use Rattle.sem_laws.specs.Imports.{Replies};
+ghost use Rattle.session_lang.specs.Observation.{EventPlain};
+ghost use Rattle.session_lang.specs.Imports.{Replies};
 ghost use Rattle.wasm_tree.specs.Views.{segment_of};
 ghost use Rattle.wasm_lang_exec.specs.Session as session;
 ghost use Rattle.wasm_run_operands.specs.Effects.{store_of};
@@ -38,7 +38,7 @@ pub fn bytes_fit(state: &State, segments: &[Segment<'_>]) -> bool
 }
 
 // A place of 2^32 or more is past the end of every memory.
-#[tactic(auto, using(script_replies::proofs::Far::far_write))]
+#[tactic(auto, using(session_replies::proofs::Far::far_write))]
 fn put_run(memory: &mut Heap, place: u64, bytes: &[u8])
     ensures { memory.new ≡ with_run place bytes.now memory.old }
 {

@@ -1,7 +1,7 @@
 //! Functions that are put into the table.
 ghost use Rattle.std.specs.Prelude.{◌≡◌, ◌≤◌, ◌+◌, ◌∷◌, [], true, Some, List, length, map};
-ghost use Rattle.sem_laws.specs.Observation.{EventPlain};
-ghost use Rattle.sem_laws.specs.Imports.{Replies};
+ghost use Rattle.session_lang.specs.Observation.{EventPlain};
+ghost use Rattle.session_lang.specs.Imports.{Replies};
 ghost use Rattle.wasm_tree.specs.Views.{element_of};
 ghost use Rattle.wasm_lang_exec.specs.Session as session;
 ghost use Rattle.wasm_run_operands.specs.Effects.{store_of};

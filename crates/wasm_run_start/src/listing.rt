@@ -9,7 +9,7 @@ ghost use Rattle.wasm_lang_exec.specs.Reductions.{imported_callees, own_callees}
 ghost use Rattle.wasm_run_machine.specs.Functions.{AreFunctions, AllHaveForms};
 ghost use Rattle.wasm_run_start.specs.Listing.{HasType, HaveTypes, AreReady, own_of};
 
-use sem_laws::import_name;
+use session_lang::import_name;
 use std::alloc::{AllocError, Global};
 use wasm_lang::ImportKind;
 use wasm_run_flat::Body;

@@ -3,14 +3,14 @@ use Rattle.std.proofs.Common.{◌≡◌, ℕ, List, [], ◌∷◌, Ok, refl}
 use Rattle.std.specs.Prelude.{ℤ, pos, negsuc, codes}
 use Rattle.std.specs.Fmt.{digits}
 use Rattle.sem_words.specs.declared.word.Bin.TheVariants.{Add, DivS}
-use Rattle.sem_laws.specs.Script.{CallPlain, ScriptPlain}
-use Rattle.script_read.specs.Reading.{said_script}
+use Rattle.session_lang.specs.Script.{CallPlain, ScriptPlain}
+use Rattle.script_lang.specs.Reading.{said_script}
 use Rattle.script_read.specs.declared.fault.ScriptFault.TheVariants as scripts
-use Rattle.script_print.specs.Texts.{observation_text}
+use Rattle.script_lang.specs.Texts.{observation_text}
 use Rattle.wasm_lang_exec.specs.Session.{wasm}
-use Rattle.cmd_check_wasm.specs.Verdicts.{IsCounted}
-use Rattle.cmd_run_wasm.specs.Modules.{IsRunnable}
-use Rattle.cmd_run_wasm.specs.Runs.{script_for}
+use Rattle.bridge_lang.specs.WasmVerdicts.{IsCounted}
+use Rattle.bridge_lang.specs.WasmRuns.{IsRunnable}
+use Rattle.bridge_lang.specs.WasmRuns.{script_for}
 use Rattle.wasm_worked.specs.Played.{IsPlayed, IsUnplayed}
 use Rattle.wasm_worked.specs.Rows as rows
 use Rattle.wasm_worked.proofs.Modules.{operating, sum_is_valid, quotient_is_valid}

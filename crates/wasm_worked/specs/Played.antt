@@ -2,8 +2,9 @@
 use Rattle.std.specs.Prelude.{ℕ, List}
 use Rattle.script_read.specs.declared.fault.ScriptFault.{ScriptFault}
 use Rattle.wasm_lang.specs.Modules.{WasmModule}
-use Rattle.cmd_run_wasm.specs.Modules.{IsRunnable}
-use Rattle.cmd_run_wasm.specs.Runs.{Prints, IsScriptRefusal}
+use Rattle.bridge_lang.specs.WasmRuns.{IsRunnable}
+use Rattle.bridge_lang.specs.WasmRuns.{Prints}
+use Rattle.cmd_run_wasm.specs.Runs.{IsScriptRefusal}
 
 -- the bytes spell a module that is run, and the output is printed of the script's run on it
 pub record IsPlayed (bytes text : List ℕ) (steps : ℕ) (output : List ℕ) : Type 0 where

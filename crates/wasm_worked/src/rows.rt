@@ -5,7 +5,8 @@ ghost use Rattle.wasm_lang.specs.declared.fault.Row.TheVariants as bytes;
 ghost use Rattle.wasm_lang_valid.specs.declared.rule.Rule.TheVariants as rules;
 ghost use Rattle.wasm_lang_valid.specs.declared.section.Section.TheVariants as sections;
 ghost use Rattle.cmd_check_wasm.specs.declared.fault.CheckFault.TheVariants as checks;
-ghost use Rattle.cmd_check_wasm.specs.Verdicts.{IsCounted, IsRefused};
+ghost use Rattle.bridge_lang.specs.WasmVerdicts.{IsCounted};
+ghost use Rattle.cmd_check_wasm.specs.Verdicts.{IsRefused};
 ghost use Rattle.wasm_worked.specs.Played.{IsPlayed, IsUnplayed};
 ghost use Rattle.wasm_worked.specs.Rows as rows;
 

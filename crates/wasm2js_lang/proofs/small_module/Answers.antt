@@ -13,3 +13,7 @@ returns-clause-script c = refl
 pub returns-clause-called : goal.returns-clause-called
 unfolding encode_with
 returns-clause-called c = record { exported = refl; functions = (refl, tt); no_other_functions = (refl, (refl, (refl, tt))); globals = tt; no_other_globals = tt; no_doubles = refl; heap = refl }
+
+pub returns-clause-otherwise : goal.returns-clause-otherwise
+unfolding encode_with
+returns-clause-otherwise c = record { exported = refl; functions = (refl, tt); no_other_functions = (refl, (refl, (refl, tt))); globals = tt; no_other_globals = tt; no_doubles = refl; heap = refl }

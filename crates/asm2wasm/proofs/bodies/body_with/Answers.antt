@@ -1,7 +1,7 @@
 use Rattle.std.proofs.Common.{◌-◌, max, length, map, ◌∙◌, ap}
 use Rattle.sem_words.specs.Lists.{list_items}
 use Rattle.wasm_tree.specs.Views.{instr_of, locals_in}
-use Rattle.asm2wasm_code.specs.Numbers.{first_scratch}
+use Rattle.asm2wasm_translation.specs.Numbers.{first_scratch}
 use Rattle.asm2wasm_numbers.specs.Functions.{scope_said}
 use Rattle.asm2wasm_emit_switches.specs.Reach.{farthest}
 use Rattle.asm2wasm.proofs.Whole.{body_is}

@@ -20,4 +20,4 @@ pub made-requires-clause-narrow : goal.made-requires-clause-narrow
 made-requires-clause-narrow c = c.code.ensures.narrow (module_view c.args.numbers.now) c.args.heap
     (subst (λ t. IsAccepted (module_view t)) c.checked.ensures c.module-home.ensures.accepted)
     (subst (λ t. IsWellFormed (module_view t)) c.checked.ensures c.module-home.ensures.well_formed)
-    c.requires.short c.requires.length
+    c.requires.length

@@ -3,7 +3,7 @@ use Rattle.wasm_lang.specs.Instructions.{eqz32}
 use Rattle.wasm_lang_exec.specs.Code.{ε, ◌▹◌, ◌⊕◌, br_if}
 use Rattle.wasm_laws_write.specs.Lengths.{IsNarrow}
 use Rattle.asm_tree.specs.Views.{expr_view}
-use Rattle.asm2wasm_code.specs.Values.{one, value_code}
+use Rattle.asm2wasm_translation.specs.Values.{one, value_code}
 use Rattle.asm2wasm_emit_pieces.proofs.Parts.{first_part}
 use Rattle.asm2wasm_emit_pieces.proofs.Joined.{joined}
 use Rattle.asm2wasm_emit_values.specs.Contexts.{scope_in}

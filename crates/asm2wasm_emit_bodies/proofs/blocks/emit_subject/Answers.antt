@@ -3,8 +3,8 @@ use Rattle.std.proofs.lemmas.Result.{on_ok_weaker}
 use Rattle.wasm_lang.specs.Instructions.{local_set, plain}
 use Rattle.wasm_laws_write.specs.Lengths.{IsNarrow}
 use Rattle.asm_tree.specs.Views.{expr_view}
-use Rattle.asm2wasm_code.specs.Values.{one, value_code}
-use Rattle.asm2wasm_code.specs.Bodies.{value_local}
+use Rattle.asm2wasm_translation.specs.Values.{one, value_code}
+use Rattle.asm2wasm_translation.specs.Bodies.{value_local}
 use Rattle.asm2wasm_emit_pieces.proofs.Parts.{first_part, second_part}
 use Rattle.asm2wasm_emit_pieces.proofs.Joined.{joined}
 use Rattle.asm2wasm_emit_values.specs.Contexts.{scope_in}

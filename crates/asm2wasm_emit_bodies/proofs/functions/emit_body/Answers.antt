@@ -2,7 +2,7 @@ use Rattle.std.proofs.Common.{◌++◌, sym, ap, ◌∙◌}
 use Rattle.std.proofs.lemmas.Result.{on_ok_weaker}
 use Rattle.wasm_laws_trees.specs.Spelled.{flat}
 use Rattle.asm_tree.specs.Views.{stmt_view, stmts_view}
-use Rattle.asm2wasm_code.specs.Bodies.{stmts_code, last_code, body_code}
+use Rattle.asm2wasm_translation.specs.Bodies.{stmts_code, last_code, body_code}
 use Rattle.asm2wasm_emit_pieces.proofs.Joined.{joined}
 use Rattle.asm2wasm_emit_switches.specs.Labels.{labels_view}
 use Rattle.asm2wasm_emit_switches.specs.declared.labels.Labels.TheVariants.{Nothing}

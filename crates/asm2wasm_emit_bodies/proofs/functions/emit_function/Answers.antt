@@ -3,7 +3,7 @@ use Rattle.sem_words.specs.Lists.{list_items}
 use Rattle.wasm_laws_trees.specs.Spelled.{flat}
 use Rattle.asm_tree.specs.declared.tree.Function.{Function}
 use Rattle.asm_tree.specs.Views.{local_view, stmts_view}
-use Rattle.asm2wasm_code.specs.Bodies.{function_code, locals_code, body_code}
+use Rattle.asm2wasm_translation.specs.Bodies.{function_code, locals_code, body_code}
 use Rattle.asm2wasm_numbers.specs.Functions.{scope_said}
 use Rattle.asm2wasm_emit_pieces.proofs.Joined.{joined}
 use Rattle.asm2wasm_emit_switches.proofs.Pieces.{first_narrow, rest_narrow}

@@ -3,9 +3,9 @@ use Rattle.std.specs.Prelude.{OnOk}
 use Rattle.wasm_lang_exec.specs.Code.{Trees}
 use Rattle.wasm_laws_trees.specs.Spelled.{flat}
 use Rattle.wasm_laws_write.specs.Lengths.{IsNarrow}
-use Rattle.wasm_laws_bytes.specs.Each.{EachIn}
+use Rattle.wasm_laws_write.specs.Each.{EachIn}
 use Rattle.asm_tree.specs.Views.{stmt_view}
-use Rattle.asm2wasm_code.specs.Bodies.{stmt_code}
+use Rattle.asm2wasm_translation.specs.Bodies.{stmt_code}
 use Rattle.asm2wasm_emit_switches.proofs.Runs.{labels_view-Nothing}
 use Rattle.asm2wasm_emit_values.specs.Contexts.{scope_in}
 use Rattle.asm2wasm_emit_bodies.proofs.Spelled.{under}

@@ -1,10 +1,10 @@
 use Rattle.std.proofs.Common.{◌+◌, ◌++◌, ℕ, map, drop, sym, ap, subst, ◌∙◌}
 use Rattle.wasm_laws_trees.specs.Spelled.{flat}
 use Rattle.wasm_laws_write.specs.Lengths.{IsNarrow}
-use Rattle.wasm_laws_bytes.specs.Each.{EachIn}
+use Rattle.wasm_laws_write.specs.Each.{EachIn}
 use Rattle.asm_tree.specs.Views.{init_view, local_view}
-use Rattle.asm2wasm_code.specs.Values.{plains}
-use Rattle.asm2wasm_code.specs.Bodies.{first_value, literal_word, locals_code}
+use Rattle.asm2wasm_translation.specs.Values.{plains}
+use Rattle.asm2wasm_translation.specs.Bodies.{first_value, literal_word, locals_code}
 use Rattle.asm2wasm_emit_switches.proofs.Pieces.{turned, first_narrow, rest_narrow}
 use Rattle.asm2wasm_emit_values.specs.Contexts.{scope_in}
 use Rattle.asm2wasm_emit_bodies.proofs.Bodies.{locals_turn}

@@ -1,9 +1,9 @@
 use Rattle.std.proofs.Common.{◌≡◌, ◌+◌, ◌++◌, map, drop}
 use Rattle.wasm_laws_trees.specs.Spelled.{flat}
 use Rattle.wasm_laws_write.specs.Lengths.{IsNarrow}
-use Rattle.wasm_laws_bytes.specs.Each.{EachIn}
+use Rattle.wasm_laws_write.specs.Each.{EachIn}
 use Rattle.asm_tree.specs.Views.{local_view}
-use Rattle.asm2wasm_code.specs.Bodies.{locals_code}
+use Rattle.asm2wasm_translation.specs.Bodies.{locals_code}
 use Rattle.asm2wasm_emit_values.specs.Contexts.{scope_in}
 use Rattle.asm2wasm_emit_bodies.proofs.functions.emit_locals.Given as goal
 

@@ -6,12 +6,12 @@ use Rattle.wasm_lang.specs.Instructions as instructions
 use Rattle.wasm_lang_exec.specs.Code.{Trees, ε, ◌▹◌, ◌⊕◌, block, if_block, br_if}
 use Rattle.wasm_laws_trees.specs.Spelled.{flat}
 use Rattle.wasm_laws_write.specs.Lengths.{IsNarrow}
-use Rattle.wasm_laws_bytes.specs.Each.{EachIn}
+use Rattle.wasm_laws_write.specs.Each.{EachIn}
 use Rattle.asm_tree.specs.declared.tree.Stmt.{Stmt}
 use Rattle.asm_tree.specs.Views.{texts_view, expr_view, expr_option, stmt_view, stmts_view, clauses_view}
 use Rattle.asm_lang_valid.specs.Rows.{stmt_count, stmts_count}
-use Rattle.asm2wasm_code.specs.Values.{value_code}
-use Rattle.asm2wasm_code.specs.Bodies.{plainly, breakable, named_end, in_body, again, test_code, part_code, stmt_code, stmts_code, long_code, is_short, dispatch, first_clause, reached, all_further, value_local, number_local}
+use Rattle.asm2wasm_translation.specs.Values.{value_code}
+use Rattle.asm2wasm_translation.specs.Bodies.{plainly, breakable, named_end, in_body, again, test_code, part_code, stmt_code, stmts_code, long_code, is_short, dispatch, first_clause, reached, all_further, value_local, number_local}
 use Rattle.asm2wasm_emit_pieces.proofs.Parts.{first_part, second_part}
 use Rattle.asm2wasm_emit_pieces.proofs.Joined.{joined}
 use Rattle.asm2wasm_emit_pieces.proofs.Endings.{arms}

@@ -2,10 +2,10 @@ use Rattle.std.proofs.Common.{◌≡◌, ◌+◌, ◌*◌, ◌≤◌, ◌++◌, 
 use Rattle.wasm_lang_exec.specs.Code.{ε}
 use Rattle.wasm_laws_trees.specs.Spelled.{flat}
 use Rattle.wasm_laws_write.specs.Lengths.{IsNarrow}
-use Rattle.wasm_laws_bytes.specs.Each.{EachIn}
+use Rattle.wasm_laws_write.specs.Each.{EachIn}
 use Rattle.asm_tree.specs.Views.{stmt_view, stmts_view, clauses_view}
 use Rattle.asm_lang_valid.specs.Rows.{stmt_count, stmts_count, clauses_count}
-use Rattle.asm2wasm_code.specs.Bodies.{stmts_code, short_code, long_code}
+use Rattle.asm2wasm_translation.specs.Bodies.{stmts_code, short_code, long_code}
 use Rattle.asm2wasm_emit_switches.specs.Labels.{labels_view}
 use Rattle.asm2wasm_emit_values.specs.Contexts.{scope_in}
 use Rattle.asm2wasm_emit_bodies.specs.Forms.{clauses_spelled}

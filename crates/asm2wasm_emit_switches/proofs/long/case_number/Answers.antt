@@ -7,8 +7,8 @@ use Rattle.sem_words.specs.declared.word.Rel.TheVariants as rels
 use Rattle.wasm_lang.specs.Instructions.{local_get, local_set, rel32}
 use Rattle.wasm_lang_exec.specs.Code.{ε, ◌▹◌, ◌⊕◌, br_if}
 use Rattle.wasm_laws_trees.specs.Spelled.{flat}
-use Rattle.asm2wasm_code.specs.Values.{plains, number}
-use Rattle.asm2wasm_code.specs.Bodies.{case_numbers}
+use Rattle.asm2wasm_translation.specs.Values.{plains, number}
+use Rattle.asm2wasm_translation.specs.Bodies.{case_numbers}
 use Rattle.asm2wasm_emit_pieces.proofs.Joined.{joined}
 use Rattle.asm2wasm_emit_switches.specs.Cases.{one_clause}
 use Rattle.asm2wasm_emit_switches.proofs.long.case_number.Goals as goal

@@ -6,8 +6,8 @@ use Rattle.wasm_laws_trees.specs.Spelled.{flat}
 use Rattle.wasm_laws_write.specs.Lengths.{IsNarrow}
 use Rattle.asm_tree.specs.Views.{clauses_view}
 use Rattle.asm_lang_exec.specs.Meaning.{before_default}
-use Rattle.asm2wasm_code.specs.Values.{plains, number}
-use Rattle.asm2wasm_code.specs.Bodies.{case_numbers}
+use Rattle.asm2wasm_translation.specs.Values.{plains, number}
+use Rattle.asm2wasm_translation.specs.Bodies.{case_numbers}
 use Rattle.asm2wasm_emit_pieces.proofs.Parts.{first_part, second_part}
 use Rattle.asm2wasm_emit_pieces.proofs.Joined.{joined}
 use Rattle.asm2wasm_emit_switches.proofs.Pieces.{block_round}

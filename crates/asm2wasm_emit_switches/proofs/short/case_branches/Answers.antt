@@ -1,7 +1,7 @@
 use Rattle.std.proofs.Common.{◌+◌, ◌++◌, drop}
 use Rattle.wasm_laws_trees.specs.Spelled.{flat}
 use Rattle.asm_tree.specs.Views.{clauses_view}
-use Rattle.asm2wasm_code.specs.Bodies.{case_branches}
+use Rattle.asm2wasm_translation.specs.Bodies.{case_branches}
 use Rattle.asm2wasm_emit_switches.specs.Cases.{one_clause}
 use Rattle.asm2wasm_emit_switches.proofs.Pieces.{turned, first_narrow, rest_narrow, branches_turn}
 use Rattle.asm2wasm_emit_switches.proofs.short.case_branches.Goals as goal

@@ -1,9 +1,9 @@
 use Rattle.std.proofs.Common.{◌≡◌, ◌++◌, drop}
 use Rattle.wasm_laws_trees.specs.Spelled.{flat}
 use Rattle.wasm_laws_write.specs.Lengths.{IsNarrow}
-use Rattle.wasm_laws_bytes.specs.Each.{EachIn}
+use Rattle.wasm_laws_write.specs.Each.{EachIn}
 use Rattle.asm_tree.specs.Views.{clauses_view}
-use Rattle.asm2wasm_code.specs.Bodies as code
+use Rattle.asm2wasm_translation.specs.Bodies as code
 use Rattle.asm2wasm_emit_switches.proofs.short.case_branches.Given as goal
 
 abbrev pub invariant-loop-i : goal.invariant-loop-i

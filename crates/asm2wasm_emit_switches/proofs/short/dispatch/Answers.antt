@@ -2,7 +2,7 @@ use Rattle.wasm_lang_exec.specs.Code.{ε, ◌▹◌, br}
 use Rattle.asm_tree.specs.Views.{clauses_view}
 use Rattle.asm_lang_valid.specs.Typing.{values}
 use Rattle.asm_lang_exec.specs.Meaning.{before_default}
-use Rattle.asm2wasm_code.specs.Bodies.{case_branches, dispatch}
+use Rattle.asm2wasm_translation.specs.Bodies.{case_branches, dispatch}
 use Rattle.asm2wasm_emit_switches.proofs.Pieces.{first_narrow, dispatched}
 use Rattle.asm2wasm_emit_switches.proofs.short.dispatch.Goals as goal
 

@@ -4,7 +4,7 @@ use Rattle.wasm_lang.specs.Instructions as instructions
 use Rattle.wasm_lang_exec.specs.Code.{ε, ◌▹◌, br}
 use Rattle.asm_tree.specs.Views.{clauses_view}
 use Rattle.asm_lang_exec.specs.Meaning.{before_default}
-use Rattle.asm2wasm_code.specs.Bodies.{case_branches}
+use Rattle.asm2wasm_translation.specs.Bodies.{case_branches}
 use Rattle.asm2wasm_emit_pieces.proofs.Joined.{joined}
 use Rattle.asm2wasm_emit_switches.proofs.short.tests.Goals as goal
 

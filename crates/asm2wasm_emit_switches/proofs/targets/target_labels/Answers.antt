@@ -5,7 +5,7 @@ use Rattle.asm_tree.specs.declared.tree.Clause.{Clause}
 use Rattle.asm_tree.specs.Views.{clauses_view}
 use Rattle.asm_lang_valid.specs.Typing.{values}
 use Rattle.asm_lang_exec.specs.Meaning.{before_default}
-use Rattle.asm2wasm_code.specs.Bodies.{low, span}
+use Rattle.asm2wasm_translation.specs.Bodies.{low, span}
 use Rattle.asm2wasm_emit_switches.specs.declared.range.CaseRange.{CaseRange}
 use Rattle.asm2wasm_emit_switches.specs.Cases.{with_target, targets_from}
 use Rattle.asm2wasm_emit_switches.proofs.CaseValues.{value_within}

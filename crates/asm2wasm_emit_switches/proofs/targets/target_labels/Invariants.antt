@@ -2,7 +2,7 @@ use Rattle.std.proofs.Common.{◌≡◌, ◌≤◌, suc, length, drop}
 use Rattle.asm_tree.specs.Views.{clauses_view}
 use Rattle.asm_lang_valid.specs.Typing as typing
 use Rattle.asm_lang_exec.specs.Meaning as meaning
-use Rattle.asm2wasm_code.specs.Bodies as code
+use Rattle.asm2wasm_translation.specs.Bodies as code
 use Rattle.asm2wasm_emit_switches.specs.Cases.{targets_from}
 use Rattle.asm2wasm_emit_switches.proofs.targets.target_labels.Given as goal
 

@@ -10,14 +10,14 @@ use Rattle.wasm_lang.specs.declared.types.ValType.TheVariants.{I32}
 use Rattle.wasm_lang_exec.specs.Code.{Trees, ε, ◌▹◌, ◌⊕◌, if_block}
 use Rattle.wasm_laws_trees.specs.Spelled.{flat}
 use Rattle.wasm_laws_write.specs.Lengths.{IsNarrow}
-use Rattle.wasm_laws_bytes.specs.Each.{EachIn}
+use Rattle.wasm_laws_write.specs.Each.{EachIn}
 use Rattle.asm_tree.specs.Views.{expr_view, exprs_view, links_view}
 use Rattle.asm_lang_valid.specs.Rows.{expr_count}
 use Rattle.asm_lang_valid.specs.Typing.{named, or_zero, exprs_length}
 use Rattle.asm_validate_limits.proofs.Shapes.{lit_is, decimal_is, var_is, index_is, assign_is, unary_is, call_is, comma_is, table_call_is, store_is, binary_is, chain_is, cond_is}
 use Rattle.asm_validate_limits.proofs.Parts.{arguments_length, nodes_left, operands_left}
-use Rattle.asm2wasm_code.specs.Numbers.{place_of, base_of}
-use Rattle.asm2wasm_code.specs.Values.{one, plains, number, link_operator, finished, put_code, before_operand, after_operand, operator, is_unsigned, load_code, store_code, stored_code, callee_code, dropped, from_base, entry_code, scratch, expr_code, arguments_code, links_code, comma_code}
+use Rattle.asm2wasm_translation.specs.Numbers.{place_of, base_of}
+use Rattle.asm2wasm_translation.specs.Values.{one, plains, number, link_operator, finished, put_code, before_operand, after_operand, operator, is_unsigned, load_code, store_code, stored_code, callee_code, dropped, from_base, entry_code, scratch, expr_code, arguments_code, links_code, comma_code}
 use Rattle.asm2wasm_emit_pieces.proofs.Joined.{joined}
 use Rattle.asm2wasm_emit_pieces.proofs.Parts.{first_part, second_part}
 use Rattle.asm2wasm_emit_pieces.proofs.Endings.{arms}

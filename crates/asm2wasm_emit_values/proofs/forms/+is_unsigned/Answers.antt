@@ -1,6 +1,6 @@
 use Rattle.std.proofs.Common.{ap, sym, ◌∙◌}
 use Rattle.asm_validate_limits.proofs.Shapes.{comma_is}
-use Rattle.asm2wasm_code.specs.Values.{is_unsigned}
+use Rattle.asm2wasm_translation.specs.Values.{is_unsigned}
 use Rattle.asm2wasm_emit_values.proofs.Signs.{of_last, of_none}
 use Rattle.asm2wasm_emit_values.proofs.forms.+is_unsigned.Goals as goal
 

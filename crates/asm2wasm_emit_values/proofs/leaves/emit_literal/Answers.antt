@@ -3,7 +3,7 @@ use Rattle.std.proofs.Common.{FitsSigned, rules, ◌≡◌, ◌++◌, ap, ◌∙
 use Rattle.std.proofs.lemmas.Int.{to_z-of_z}
 use Rattle.sem_words.specs.Words.{word_of}
 use Rattle.wasm_laws_trees.specs.Spelled.{flat}
-use Rattle.asm2wasm_code.specs.Values.{one, number}
+use Rattle.asm2wasm_translation.specs.Values.{one, number}
 use Rattle.asm2wasm_emit_values.proofs.Steps.{finished_last}
 use Rattle.asm2wasm_emit_values.proofs.leaves.emit_literal.Goals as goal
 

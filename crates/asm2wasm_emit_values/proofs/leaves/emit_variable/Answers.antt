@@ -1,6 +1,6 @@
 use Rattle.sem_words.specs.Lists.{text_bytes}
-use Rattle.asm2wasm_code.specs.Numbers.{place_of}
-use Rattle.asm2wasm_code.specs.Values.{get_code}
+use Rattle.asm2wasm_translation.specs.Numbers.{place_of}
+use Rattle.asm2wasm_translation.specs.Values.{get_code}
 use Rattle.asm2wasm_emit_values.specs.Contexts.{scope_in}
 use Rattle.asm2wasm_emit_values.proofs.Steps.{value_part, finished_last}
 use Rattle.asm2wasm_emit_values.proofs.leaves.emit_variable.Goals as goal

@@ -1,6 +1,6 @@
 use Rattle.std.proofs.Common.{◌≡◌, ◌++◌, List, map, drop}
 use Rattle.asm_lang_valid.specs.Scope as scopes
-use Rattle.asm2wasm_code.specs.Numbers.{each_once}
+use Rattle.asm2wasm_translation.specs.Numbers.{each_once}
 use Rattle.asm2wasm_numbers.specs.Signatures.{asked, said}
 use Rattle.asm2wasm_numbers.proofs.signatures.add_calls.Given as goal
 

@@ -1,7 +1,7 @@
 use Rattle.std.proofs.Common.{◌≡◌, ◌++◌, List, map, drop}
 use Rattle.asm_lang_valid.specs.Scope as scopes
 use Rattle.asm_tree.specs.Views.{function_view}
-use Rattle.asm2wasm_code.specs.Numbers.{each_once}
+use Rattle.asm2wasm_translation.specs.Numbers.{each_once}
 use Rattle.asm2wasm_numbers.specs.Signatures.{said}
 use Rattle.asm2wasm_numbers.proofs.signatures.add_functions.Given as goal
 

@@ -2,7 +2,7 @@ use Rattle.std.proofs.Common.{◌≡◌, ◌++◌, map, drop}
 use Rattle.wasm_tree.specs.Views.{import_of}
 use Rattle.asm_tree.specs.Views.{module_view}
 use Rattle.asm_validate_limits.specs.Called.{foreign_view}
-use Rattle.asm2wasm_code.specs.Modules.{imported_function}
+use Rattle.asm2wasm_translation.specs.Modules.{imported_function}
 use Rattle.asm2wasm_sections.proofs.importing.put_functions.Given as goal
 
 abbrev pub invariant-loop-call : goal.invariant-loop-call

@@ -1,6 +1,6 @@
 use Rattle.std.proofs.Common.{◌≡◌, ◌++◌, map, drop}
 use Rattle.wasm_tree.specs.Views.{type_of}
-use Rattle.asm2wasm_code.specs.Modules.{type_for}
+use Rattle.asm2wasm_translation.specs.Modules.{type_for}
 use Rattle.asm2wasm_numbers.specs.Signatures.{signature_said}
 use Rattle.asm2wasm_sections.proofs.typing.types.Given as goal
 

@@ -1,8 +1,8 @@
 use Rattle.std.proofs.Common.{◌≡◌, ◌++◌, map, drop}
 use Rattle.wasm_tree.specs.Views.{global_of}
 use Rattle.asm_tree.specs.Views.{module_view, global_view}
-use Rattle.asm2wasm_code.specs.Numbers.{int_variables}
-use Rattle.asm2wasm_code.specs.Modules.{global_for}
+use Rattle.asm2wasm_translation.specs.Numbers.{int_variables}
+use Rattle.asm2wasm_translation.specs.Modules.{global_for}
 use Rattle.asm2wasm_sections.proofs.variables.globals.Given as goal
 
 abbrev pub invariant-loop-global : goal.invariant-loop-global

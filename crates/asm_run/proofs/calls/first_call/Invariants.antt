@@ -1,10 +1,10 @@
 use Rattle.std.proofs.Common.{◌≡◌, drop, map}
-use Rattle.sem_laws.specs.Script.{CallPlain}
-use Rattle.sem_laws.specs.Views.{call_of}
+use Rattle.session_lang.specs.Script.{CallPlain}
+use Rattle.session_lang.specs.Views.{call_of}
 use Rattle.asm_tree.specs.Views.{module_view}
-use Rattle.script_fits.specs.Fits.{lines_of, least}
+use Rattle.session_lang.specs.Fits.{lines_of, least}
 use Rattle.asm_lang_exec.specs.Fits.{fits_call}
-use Rattle.script_fits.specs.Earlier.{earlier}
+use Rattle.session_lang.specs.Earlier.{earlier}
 use Rattle.asm_run.proofs.calls.first_call.Given as goal
 
 abbrev pub invariant-loop-i : goal.invariant-loop-i

@@ -1,5 +1,5 @@
 use Rattle.std.proofs.Common.{◌≡◌, take, map}
-use Rattle.sem_laws.specs.Views.{call_of}
+use Rattle.session_lang.specs.Views.{call_of}
 use Rattle.asm_tree.specs.Views.{module_view}
 use Rattle.asm_lang_valid.specs.Refusal.{exported_from}
 use Rattle.asm_run.specs.Exports.{callees_of, callees_said}

@@ -1,11 +1,11 @@
 use Rattle.std.proofs.Common.{◌≡◌, ℕ, List, [], ap, ◌∙◌}
-use Rattle.sem_laws.specs.Script.{GlobalPlain}
-use Rattle.sem_laws.specs.Views.{script_of}
+use Rattle.session_lang.specs.Script.{GlobalPlain}
+use Rattle.session_lang.specs.Views.{script_of}
 use Rattle.asm_lang_valid.specs.Refusal.{foreign_globals}
 use Rattle.asm_tree.specs.Views.{module_view}
-use Rattle.script_fits.specs.Fits.{global_lines, least}
+use Rattle.session_lang.specs.Fits.{global_lines, least}
 use Rattle.asm_lang_exec.specs.Fits.{fits_global, tests}
-use Rattle.script_fits.proofs.Parts.{four}
+use Rattle.session_lang.proofs.Parts.{four}
 use Rattle.asm_run.specs.Globals.{fits_line}
 use Rattle.asm_run.proofs.fits.first_unfit.Goals as goal
 

@@ -1,9 +1,9 @@
 use Rattle.std.proofs.Common.{ap, sym, ◌∙◌}
-use Rattle.sem_laws.specs.Views.{script_of}
+use Rattle.session_lang.specs.Views.{script_of}
 use Rattle.asm_tree.specs.Views.{module_view}
-use Rattle.script_fits.specs.Fits.{are_given, missing_line}
+use Rattle.session_lang.specs.Fits.{are_given, missing_line}
 use Rattle.asm_lang_exec.specs.Fits.{tests}
-use Rattle.script_fits.proofs.Parts.{misfit_some, misfit_none}
+use Rattle.session_lang.proofs.Parts.{misfit_some, misfit_none}
 use Rattle.asm_run.proofs.fits.fits_by.Goals as goal
 
 pub returns-in-Some : goal.returns-in-Some

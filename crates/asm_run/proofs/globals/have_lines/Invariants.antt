@@ -1,6 +1,6 @@
 use Rattle.std.proofs.Common.{◌≡◌, drop}
 use Rattle.asm_tree.specs.Views.{texts_view}
-use Rattle.script_fits.specs.Fits.{are_given}
+use Rattle.session_lang.specs.Fits.{are_given}
 use Rattle.asm_run.proofs.globals.have_lines.Given as goal
 
 abbrev pub invariant-loop-name : goal.invariant-loop-name

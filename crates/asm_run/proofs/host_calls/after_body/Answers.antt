@@ -1,5 +1,5 @@
 use Rattle.std.proofs.Common.{[], ap, ◌∙◌}
-use Rattle.sem_laws.specs.Views.{event_of}
+use Rattle.session_lang.specs.Views.{event_of}
 use Rattle.asm_tree.specs.Views.{function_view}
 use Rattle.asm_lang_exec.specs.Session.{result_event}
 use Rattle.asm_run.proofs.Hosting.{came_back, added_units, stopped, unpaid}

@@ -1,6 +1,6 @@
 use Rattle.std.proofs.Common.{map, sym, ap, ◌∙◌}
 use Rattle.sem_words.specs.declared.js_value.JsValue.TheVariants.{Whole}
-use Rattle.sem_laws.specs.Views.{call_of}
+use Rattle.session_lang.specs.Views.{call_of}
 use Rattle.asm_tree.specs.Views.{module_view, function_view}
 use Rattle.asm_run.specs.Exports.{function_seen}
 use Rattle.asm_run.proofs.Hosting.{unknown, known, exported_small}

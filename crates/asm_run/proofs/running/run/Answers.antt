@@ -1,5 +1,5 @@
 use Rattle.std.proofs.Common.{[], Some, map, ◌∙◌}
-use Rattle.sem_laws.specs.Views.{call_of}
+use Rattle.session_lang.specs.Views.{call_of}
 use Rattle.asm_tree.specs.Views.{module_view}
 use Rattle.asm_run.proofs.Exported.{callee_at}
 use Rattle.asm_run.proofs.Whole.{is_session, all_made, ends_here, wrong_here, goes_on, units_on}

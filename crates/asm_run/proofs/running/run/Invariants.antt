@@ -1,5 +1,5 @@
 use Rattle.std.proofs.Common.{◌≡◌, ◌≤◌, drop, map}
-use Rattle.sem_laws.specs.Views.{call_of}
+use Rattle.session_lang.specs.Views.{call_of}
 use Rattle.asm_tree.specs.Views.{module_view}
 use Rattle.asm_run.proofs.Whole.{calls_from}
 use Rattle.asm_run.proofs.running.run.Given as goal

@@ -1,10 +1,10 @@
 use Rattle.std.proofs.Common.{◌≡◌, drop, map}
-use Rattle.sem_laws.specs.Script.{ReplyLinePlain}
-use Rattle.sem_laws.specs.Views.{reply_line_of}
+use Rattle.session_lang.specs.Script.{ReplyLinePlain}
+use Rattle.session_lang.specs.Views.{reply_line_of}
 use Rattle.asm_tree.specs.Views.{module_view}
-use Rattle.script_fits.specs.Fits.{lines_of, least}
+use Rattle.session_lang.specs.Fits.{lines_of, least}
 use Rattle.asm_lang_exec.specs.Fits.{fits_reply}
-use Rattle.script_fits.specs.Earlier.{earlier}
+use Rattle.session_lang.specs.Earlier.{earlier}
 use Rattle.asm_run.proofs.writes.first_reply.Given as goal
 
 abbrev pub invariant-loop-line : goal.invariant-loop-line

@@ -1,6 +1,6 @@
 use Rattle.std.proofs.Common.{◌≡◌, drop, map}
 use Rattle.std.specs.List.{list_all}
-use Rattle.sem_laws.specs.Views.{write_of}
+use Rattle.session_lang.specs.Views.{write_of}
 use Rattle.asm_tree.specs.Views.{module_view}
 use Rattle.asm_lang_exec.specs.Fits.{fits_write}
 use Rattle.asm_run.proofs.writes.fit_writes.Given as goal

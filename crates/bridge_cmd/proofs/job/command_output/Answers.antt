@@ -1,6 +1,6 @@
 use Rattle.std.proofs.Common.{false, string_bytes, ap, Err}
 use Rattle.std.proofs.lemmas.Result.{IfOk-weaker, IfErr-weaker}
-use Rattle.bridge_cmd.specs.Job.{held}
+use Rattle.bridge_lang.specs.Job.{held}
 use Rattle.bridge_cmd.proofs.Files.{holds, not_gathered_by_name}
 use Rattle.bridge_cmd.proofs.Jobs.{file_done, of_held}
 use Rattle.bridge_cmd.proofs.job.command_output.Goals as goal

@@ -1,6 +1,6 @@
 use Rattle.std.proofs.Common.{[]}
 use Rattle.std.proofs.lemmas.Result.{IfOk-weaker, IfErr-weaker}
-use Rattle.bridge_cmd.specs.Job.{made}
+use Rattle.bridge_lang.specs.Job.{made}
 use Rattle.bridge_cmd.proofs.Jobs.{module_answered, answered_quietly, quiet_read_fault, quiet_missing, quiet_too_large}
 use Rattle.bridge_cmd.proofs.job.module_output.Goals as goal
 

@@ -1,7 +1,7 @@
 use Rattle.std.proofs.lemmas.Result.{IfOk-weaker, IfErr-weaker}
-use Rattle.bridge_cmd.specs.Answers.{no_memory}
+use Rattle.bridge_lang.specs.Answers.{no_memory}
 use Rattle.bridge_cmd.specs.Asking.{asked_by}
-use Rattle.bridge_cmd.specs.Job.{commanded, generated}
+use Rattle.bridge_lang.specs.Job.{commanded, generated}
 use Rattle.bridge_cmd.proofs.Jobs.{words_report, of_command}
 use Rattle.bridge_cmd.proofs.job.output_of.Goals as goal
 

@@ -1,6 +1,6 @@
 use Rattle.std.proofs.Common.{refl}
-use Rattle.bridge_cmd.specs.Command.{check_wasm}
-use Rattle.bridge_cmd.specs.Job.{bytes_counted}
+use Rattle.bridge_lang.specs.Command.{check_wasm}
+use Rattle.bridge_lang.specs.Job.{bytes_counted}
 use Rattle.bridge_cmd.proofs.Jobs.{check_answer}
 use Rattle.bridge_cmd.proofs.making.bytes_counts.Goals as goal
 

@@ -1,8 +1,8 @@
 use Rattle.std.proofs.Common.{◌∙◌, ap}
-use Rattle.wasm_listing.specs.Listing.{listing}
-use Rattle.bridge_cmd.specs.Answers.{want_of_memory}
-use Rattle.bridge_cmd.specs.Command.{show}
-use Rattle.bridge_cmd.specs.Job.{listed}
+use Rattle.bridge_lang.specs.Listing.{listing}
+use Rattle.bridge_lang.specs.Answers.{want_of_memory}
+use Rattle.bridge_lang.specs.Command.{show}
+use Rattle.bridge_lang.specs.Job.{listed}
 use Rattle.bridge_cmd.proofs.Jobs.{reads_module, check_answer}
 use Rattle.bridge_cmd.proofs.making.listed.Goals as goal
 

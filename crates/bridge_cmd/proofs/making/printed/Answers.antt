@@ -1,9 +1,9 @@
 use Rattle.std.proofs.Common.{◌∙◌, ap}
 use Rattle.asm_lang.specs.Printing.{canonical_text}
 use Rattle.asm_tree.specs.Views.{module_view}
-use Rattle.bridge_cmd.specs.Answers.{want_of_memory}
-use Rattle.bridge_cmd.specs.Command.{show}
-use Rattle.bridge_cmd.specs.Job.{printed}
+use Rattle.bridge_lang.specs.Answers.{want_of_memory}
+use Rattle.bridge_lang.specs.Command.{show}
+use Rattle.bridge_lang.specs.Job.{printed}
 use Rattle.bridge_cmd.proofs.Jobs.{reads_text, text_answer}
 use Rattle.bridge_cmd.proofs.making.printed.Goals as goal
 

@@ -1,6 +1,6 @@
 use Rattle.std.proofs.Common.{refl}
-use Rattle.bridge_cmd.specs.Command.{check_asm}
-use Rattle.bridge_cmd.specs.Job.{text_counted}
+use Rattle.bridge_lang.specs.Command.{check_asm}
+use Rattle.bridge_lang.specs.Job.{text_counted}
 use Rattle.bridge_cmd.proofs.Jobs.{text_answer}
 use Rattle.bridge_cmd.proofs.making.text_counts.Goals as goal
 

@@ -1,7 +1,7 @@
 use Rattle.std.proofs.Common.{refl}
 use Rattle.asm_tree.specs.Views.{module_view}
-use Rattle.bridge_cmd.specs.Command.{asm_to_wasm}
-use Rattle.bridge_cmd.specs.Answers.{want_of_memory}
+use Rattle.bridge_lang.specs.Command.{asm_to_wasm}
+use Rattle.bridge_lang.specs.Answers.{want_of_memory}
 use Rattle.bridge_cmd.proofs.Jobs.{text_answer}
 use Rattle.bridge_cmd.proofs.Translated.{made}
 use Rattle.bridge_cmd.proofs.making.translated.Goals as goal
@@ -9,9 +9,6 @@ use Rattle.bridge_cmd.proofs.making.translated.Goals as goal
 pub returns-in-Err-clause-barred : goal.returns-in-Err-clause-barred
 returns-in-Err-clause-barred c = λ file.
     rw c.of_text.ensures (text_answer (asm_to_wasm file c.args.heap.bytes) c.args.text.now c.in-Err.fault refl c.in-Err.ensures.refused)
-
-pub written-output-requires : goal.written-output-requires
-written-output-requires c = c.texts.ensures c.args.text.now (module_view c.in-Ok.checked) c.in-Ok.ensures.accepted c.requires
 
 pub returns-in-Ok-output-clause-made : goal.returns-in-Ok-output-clause-made
 returns-in-Ok-output-clause-made c = λ file.

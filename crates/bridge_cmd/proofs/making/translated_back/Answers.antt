@@ -1,7 +1,7 @@
 use Rattle.std.proofs.Common.{refl}
-use Rattle.bridge_cmd.specs.Answers.{a_bar, want_of_memory}
-use Rattle.bridge_cmd.specs.Command.{wasm_to_asm}
-use Rattle.bridge_cmd.specs.Job.{not_translated}
+use Rattle.bridge_lang.specs.Answers.{a_bar, want_of_memory}
+use Rattle.bridge_lang.specs.Command.{wasm_to_asm}
+use Rattle.bridge_lang.specs.Job.{not_translated}
 use Rattle.bridge_cmd.proofs.Back.{made}
 use Rattle.bridge_cmd.proofs.Jobs.{check_answer}
 use Rattle.bridge_cmd.proofs.making.translated_back.Goals as goal

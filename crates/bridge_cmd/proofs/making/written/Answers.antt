@@ -1,5 +1,5 @@
 use Rattle.bridge_cmd.proofs.Translated.{same_lengths}
 use Rattle.bridge_cmd.proofs.making.written.Goals as goal
 
-pub translate-requires-clause-length : goal.translate-requires-clause-length
-translate-requires-clause-length c = same_lengths c.args.heap.bytes c.args.heap.allowed
+pub translate_module-requires : goal.translate_module-requires
+translate_module-requires c = record { length = same_lengths c.args.heap.bytes c.args.heap.allowed }

@@ -1,8 +1,8 @@
 use Rattle.std.proofs.Common.{true, [], ap, Err, string_bytes}
 use Rattle.std.proofs.lemmas.Result.{IfOk-weaker, IfErr-weaker}
-use Rattle.bridge_cmd.specs.Command.{run}
+use Rattle.bridge_lang.specs.Command.{run}
 use Rattle.bridge_cmd.specs.Asking.{run_as}
-use Rattle.bridge_cmd.specs.Job.{held, scripted}
+use Rattle.bridge_lang.specs.Job.{held, scripted}
 use Rattle.bridge_cmd.specs.Runners.{runner_of}
 use Rattle.bridge_cmd.proofs.Files.{holds, not_gathered}
 use Rattle.bridge_cmd.proofs.Jobs.{module_answered, answered_quietly, script_may, script_quiet, quiet_read_fault, quiet_missing, quiet_too_large, of_held, of_script_file}

@@ -1,4 +1,4 @@
-use Rattle.bridge_cmd.specs.Sinks.{seen}
+use Rattle.bridge_lang.specs.Sinks.{seen}
 use Rattle.bridge_cmd.proofs.Gaining.{on_err}
 use Rattle.bridge_cmd.proofs.Pieces.{cut_in_the_rest}
 use Rattle.bridge_cmd.proofs.report.+put_pieces.Goals as goal

@@ -1,4 +1,4 @@
-use Rattle.bridge_cmd.specs.Job.{ran}
+use Rattle.bridge_lang.specs.Job.{ran}
 use Rattle.bridge_cmd.proofs.Jobs.{binary_script_answer}
 use Rattle.bridge_cmd.proofs.runner.binary_played.Goals as goal
 

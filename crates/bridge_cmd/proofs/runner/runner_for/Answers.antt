@@ -1,7 +1,7 @@
 use Rattle.std.proofs.Common.{refl}
 use Rattle.asm_tree.specs.Views.{module_view}
-use Rattle.bridge_cmd.specs.Command.{run, as_text}
-use Rattle.bridge_cmd.specs.Runs.{a_text, a_binary}
+use Rattle.bridge_lang.specs.Command.{run, as_text}
+use Rattle.bridge_lang.specs.Runs.{a_text, a_binary}
 use Rattle.bridge_cmd.proofs.Jobs.{text_answer, run_answer}
 use Rattle.bridge_cmd.proofs.runner.runner_for.Goals as goal
 

@@ -1,5 +1,5 @@
 use Rattle.asm_tree.specs.Views.{module_view}
-use Rattle.bridge_cmd.specs.Job.{ran}
+use Rattle.bridge_lang.specs.Job.{ran}
 use Rattle.bridge_cmd.proofs.Jobs.{text_script_answer}
 use Rattle.bridge_cmd.proofs.runner.text_played.Goals as goal
 

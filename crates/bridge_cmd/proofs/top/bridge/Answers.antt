@@ -1,7 +1,7 @@
 use Rattle.std.proofs.Common.{inl, inr, ◌∙◌, sym, ap}
-use Rattle.bridge_cmd.specs.Job.{written}
-use Rattle.bridge_cmd.specs.Outcome.{by_a_write}
-use Rattle.bridge_cmd.specs.Refused.{status_of}
+use Rattle.bridge_lang.specs.Job.{written}
+use Rattle.bridge_lang.specs.Outcome.{by_a_write}
+use Rattle.bridge_lang.specs.Statuses.{status_of}
 use Rattle.bridge_cmd.proofs.Jobs.{one_end, reported_exactly, usage_words}
 use Rattle.bridge_cmd.proofs.top.bridge.Goals as goal
 

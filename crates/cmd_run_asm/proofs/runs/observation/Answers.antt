@@ -1,6 +1,6 @@
 use Rattle.std.proofs.Common.{ap}
 use Rattle.std.proofs.lemmas.Result.{IfOk-weaker}
-use Rattle.script_seen.specs.Views.{seen_of}
+use Rattle.session_replies.specs.Views.{seen_of}
 use Rattle.asm_tree.specs.Views.{module_view}
 use Rattle.cmd_run_asm.proofs.Showing.{shows}
 use Rattle.cmd_run_asm.proofs.runs.observation.Goals as goal

@@ -2,7 +2,7 @@ use Rattle.std.proofs.Common.{◌-◌, sym, ap, ◌∙◌, arith}
 use Rattle.std.specs.Prelude.{Some, if◌then◌else◌}
 use Rattle.std.specs.Str.{bytes_eq}
 use Rattle.sem_words.specs.Lists.{text_bytes}
-use Rattle.sem_laws.specs.declared.script.GlobalLine.{GlobalLine}
+use Rattle.session_lang.specs.declared.script.GlobalLine.{GlobalLine}
 use Rattle.script_lines.specs.GlobalLines.{found}
 use Rattle.script_lines.proofs.GlobalLines.{line_put}
 use Rattle.script_lines.proofs.global_lines.places_of.Goals as goal

@@ -1,6 +1,6 @@
 use Rattle.std.proofs.Common.{◌≡◌, ◌≤◌, ◌+◌, ℕ, List, length, drop, map}
 use Rattle.std.specs.Prelude.{option_map}
-use Rattle.sem_laws.specs.Views.{global_of}
+use Rattle.session_lang.specs.Views.{global_of}
 use Rattle.script_lines.specs.GlobalLines.{found, line_named}
 use Rattle.script_lines.proofs.global_lines.places_of.Given as goal
 

@@ -1,5 +1,5 @@
 use Rattle.std.proofs.Common.{◌≡◌, ◌++◌, map}
-use Rattle.script_read.specs.Lines.{words_of}
+use Rattle.script_lang.specs.Lines.{words_of}
 use Rattle.script_read.specs.Cuts.{rest_of, words_after, length_left}
 use Rattle.script_read.proofs.cuts.words.Given as goal
 

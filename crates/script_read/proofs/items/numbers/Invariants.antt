@@ -1,7 +1,7 @@
 use Rattle.std.proofs.Common.{◌≡◌, drop}
 use Rattle.sem_words.specs.Lists.{list_items}
-use Rattle.script_read.specs.Numbers.{number_of}
-use Rattle.script_read.specs.Items.{all_of}
+use Rattle.script_lang.specs.Numbers.{number_of}
+use Rattle.script_lang.specs.Items.{all_of}
 use Rattle.script_read.specs.Lined.{texts_of}
 use Rattle.script_read.proofs.ItemLemmas.{before_all}
 use Rattle.script_read.proofs.items.numbers.Given as goal

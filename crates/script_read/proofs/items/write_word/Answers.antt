@@ -1,6 +1,6 @@
 use Rattle.std.proofs.Common.{◌≡◌, subst, Option, option_map, IfOk}
-use Rattle.sem_laws.specs.Script.{WritePlain}
-use Rattle.sem_laws.specs.Views.{write_of}
+use Rattle.session_lang.specs.Script.{WritePlain}
+use Rattle.session_lang.specs.Views.{write_of}
 use Rattle.script_read.proofs.ItemLemmas.{write_at_equals, no_equals}
 use Rattle.script_read.proofs.items.write_word.Goals as goal
 

@@ -1,7 +1,7 @@
 use Rattle.std.proofs.Common.{◌≡◌, drop, map}
 use Rattle.sem_words.specs.Lists.{list_items}
-use Rattle.sem_laws.specs.Views.{write_of}
-use Rattle.script_read.specs.Items.{all_of, write_word}
+use Rattle.session_lang.specs.Views.{write_of}
+use Rattle.script_lang.specs.Items.{all_of, write_word}
 use Rattle.script_read.specs.Lined.{texts_of}
 use Rattle.script_read.proofs.ItemLemmas.{before_all}
 use Rattle.script_read.proofs.items.writes.Given as goal

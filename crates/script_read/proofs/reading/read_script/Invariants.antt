@@ -1,7 +1,7 @@
 use Rattle.std.proofs.Common.{◌≡◌, ◌≤◌, ◌+◌, length}
-use Rattle.sem_laws.specs.Views.{script_of}
+use Rattle.session_lang.specs.Views.{script_of}
 use Rattle.script_read.specs.Cuts.{rest_of, lines_after, length_left}
-use Rattle.script_read.specs.Reading.{said_script, items_of}
+use Rattle.script_lang.specs.Reading.{said_script, items_of}
 use Rattle.script_read.specs.Collecting.{put_before}
 use Rattle.script_read.proofs.reading.read_script.Given as goal
 

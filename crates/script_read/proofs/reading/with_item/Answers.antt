@@ -1,5 +1,5 @@
 use Rattle.std.proofs.Common.{◌∙◌, sym, ap}
-use Rattle.sem_laws.specs.Views.{script_of}
+use Rattle.session_lang.specs.Views.{script_of}
 use Rattle.script_read.specs.Lined.{item_view}
 use Rattle.script_read.specs.Collecting.{with_item}
 use Rattle.script_read.proofs.ReadingLemmas.{global_pushed, write_pushed, call_pushed, reply_pushed}

@@ -30,3 +30,6 @@ returns-clause-tables c = c.parts.ensures.tables c.args.valid.now (in_profile c.
 
 pub returns-clause-imports : goal.returns-clause-imports
 returns-clause-imports c = c.parts.ensures.imports c.args.valid.now (in_profile c.args.valid.now c.source.ensures.source)
+
+pub returns-clause-helpers : goal.returns-clause-helpers
+returns-clause-helpers c = c.wide_helpers.ensures c.args.valid.now c.source.ensures.source c.source.ensures.first

@@ -2,7 +2,7 @@ use Rattle.std.proofs.Common.{List, ◌++◌, sym, ap, ◌∙◌}
 use Rattle.std.proofs.lemmas.Result.{IfOk-weaker}
 use Rattle.wasm_tree.specs.Views.{instr_of}
 use Rattle.std.specs.Prelude.{reverse}
-use Rattle.wasm2js_words.specs.Words.{Action, statements}
+use Rattle.wasm2js_translation.specs.Words.{Action, statements}
 use Rattle.wasm2js_build.specs.Blocks.{statements_of}
 use Rattle.wasm2js_actions.specs.Scopes.{least_context}
 use Rattle.wasm2js_actions.proofs.Contexts.{same_instruction}

@@ -6,7 +6,7 @@ use Rattle.wasm2js_bodies.proofs.Whole.{begins_inside, closed}
 use Rattle.wasm2js_bodies.proofs.body.body_statements.Goals as goal
 
 pub put_all-requires : goal.put_all-requires
-put_all-requires c = begins_inside c.args.body.now c.requires
+put_all-requires c = begins_inside c.args.body.now c.requires.expression c.requires.translated
 
 pub returns : goal.returns
 returns c = λ tree is.

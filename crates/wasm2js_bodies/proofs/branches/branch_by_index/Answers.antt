@@ -1,7 +1,7 @@
 use Rattle.std.proofs.Common.{ℕ, ◌++◌, drop, ap, ◌∙◌}
 use Rattle.std.specs.Prelude.{slice_get}
-use Rattle.wasm2js_code.specs.Actions.{under}
-use Rattle.wasm2js_code.specs.Bodies.{branch, label_of, by_index, signed_word}
+use Rattle.wasm2js_translation.specs.Actions.{under}
+use Rattle.wasm2js_translation.specs.Bodies.{branch, label_of, by_index, signed_word}
 use Rattle.wasm2js_build.specs.Blocks.{statements_of}
 use Rattle.wasm2js_jumps.specs.Aims.{aims_view}
 use Rattle.wasm2js_operands.specs.Operands.{over}

@@ -1,7 +1,7 @@
 use Rattle.std.proofs.Common.{refl}
 use Rattle.wasm_lang.specs.Instructions as flat
 use Rattle.wasm_lang_exec.specs.Code.{br}
-use Rattle.wasm2js_code.specs.Bodies.{jump}
+use Rattle.wasm2js_translation.specs.Bodies.{jump}
 use Rattle.wasm2js_build.specs.Blocks.{statements_of}
 use Rattle.wasm2js_jumps.specs.Aims.{aims_view}
 use Rattle.wasm2js_operands.specs.Operands.{over}

@@ -1,8 +1,8 @@
 use Rattle.std.proofs.Common.{drop, refl}
 use Rattle.wasm_lang.specs.Instructions as flat
 use Rattle.wasm_lang_exec.specs.Code.{br_table}
-use Rattle.wasm2js_code.specs.Actions.{under}
-use Rattle.wasm2js_code.specs.Bodies.{jump, by_index, signed_word}
+use Rattle.wasm2js_translation.specs.Actions.{under}
+use Rattle.wasm2js_translation.specs.Bodies.{jump, by_index, signed_word}
 use Rattle.wasm2js_build.specs.Blocks.{statements_of}
 use Rattle.wasm2js_jumps.specs.Aims.{aims_view}
 use Rattle.wasm2js_operands.specs.Operands.{over}

@@ -2,9 +2,9 @@ use Rattle.std.proofs.Common.{[], ◌∷◌, drop, refl}
 use Rattle.wasm_lang.specs.Instructions as flat
 use Rattle.wasm_lang_exec.specs.Code.{br_if}
 use Rattle.asm_lang.specs.Modules.{if_only}
-use Rattle.wasm2js_code.specs.Actions.{under}
-use Rattle.wasm2js_code.specs.Bodies.{jump, signed_word}
-use Rattle.wasm2js_code.specs.Helpers.{block_of}
+use Rattle.wasm2js_translation.specs.Actions.{under}
+use Rattle.wasm2js_translation.specs.Bodies.{jump, signed_word}
+use Rattle.wasm2js_translation.specs.Helpers.{block_of}
 use Rattle.wasm2js_build.specs.Blocks.{statements_of}
 use Rattle.wasm2js_jumps.specs.Aims.{aims_view}
 use Rattle.wasm2js_operands.specs.Operands.{over}

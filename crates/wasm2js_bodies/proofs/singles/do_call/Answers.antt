@@ -2,7 +2,7 @@ use Rattle.std.proofs.Common.{refl}
 use Rattle.wasm_lang.specs.Instructions as flat
 use Rattle.wasm_lang_valid.specs.Typing.{type_of}
 use Rattle.wasm_lang_exec.specs.Code.{call}
-use Rattle.wasm2js_code.specs.Bodies.{call_stmts, types_after_call}
+use Rattle.wasm2js_translation.specs.Bodies.{call_stmts, types_after_call}
 use Rattle.wasm2js_build.specs.Blocks.{statements_of}
 use Rattle.wasm2js_operands.specs.Operands.{over}
 use Rattle.wasm2js_operands.specs.Scopes.{context_in}

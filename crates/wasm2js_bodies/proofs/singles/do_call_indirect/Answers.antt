@@ -2,7 +2,7 @@ use Rattle.std.proofs.Common.{drop, refl}
 use Rattle.std.specs.Prelude.{slice_get}
 use Rattle.wasm_lang.specs.Instructions as flat
 use Rattle.wasm_lang_exec.specs.Code.{call_indirect}
-use Rattle.wasm2js_code.specs.Bodies.{indirect_stmts, types_after_call}
+use Rattle.wasm2js_translation.specs.Bodies.{indirect_stmts, types_after_call}
 use Rattle.wasm2js_build.specs.Blocks.{statements_of}
 use Rattle.wasm2js_operands.specs.Operands.{over}
 use Rattle.wasm2js_operands.specs.Scopes.{context_in}

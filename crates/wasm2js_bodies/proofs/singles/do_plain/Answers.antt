@@ -2,8 +2,11 @@ use Rattle.wasm_tree.specs.Views.{instr_of}
 use Rattle.wasm2js_build.specs.Blocks.{statements_of}
 use Rattle.wasm2js_operands.specs.Operands.{over}
 use Rattle.wasm2js_operands.specs.Scopes.{context_in}
-use Rattle.wasm2js_bodies.proofs.Plains.{plain_step}
+use Rattle.wasm2js_bodies.proofs.Plains.{is_translated, plain_step}
 use Rattle.wasm2js_bodies.proofs.singles.do_plain.Goals as goal
+
+pub put_instruction-requires-clause-translated : goal.put_instruction-requires-clause-translated
+put_instruction-requires-clause-translated c = is_translated c.args.body.now c.args.at (instr_of c.args.instr.now) c.requires.inside.translated c.requires.here
 
 pub returns-clause-step : goal.returns-clause-step
 returns-clause-step c = λ ls.

@@ -1,7 +1,7 @@
 use Rattle.std.proofs.Common.{[], ◌∷◌, refl}
 use Rattle.wasm_lang.specs.Instructions as flat
 use Rattle.wasm_lang_exec.specs.Code.{unreachable}
-use Rattle.wasm2js_words.specs.Words.{trap_call}
+use Rattle.wasm2js_translation.specs.Words.{trap_call}
 use Rattle.wasm2js_build.specs.Blocks.{statements_of}
 use Rattle.wasm2js_operands.specs.Scopes.{context_in}
 use Rattle.wasm2js_bodies.proofs.Steps.{last_step}

@@ -2,7 +2,7 @@ use Rattle.std.proofs.Common.{◌≡◌, drop, [], ◌++◌, map, sym, ap, ◌�
 use Rattle.std.proofs.Math.ListN.{drop_of_length-le}
 use Rattle.sem_words.specs.Lists.{list_items}
 use Rattle.asm_tree.specs.Views.{expr_view, exprs_in}
-use Rattle.wasm2js_words.specs.Words.{int_of}
+use Rattle.wasm2js_translation.specs.Words.{int_of}
 use Rattle.wasm2js_build.specs.Views.{terms_view}
 use Rattle.wasm2js_build.proofs.Lists.{arguments_are}
 use Rattle.wasm2js_build.proofs.building.argument_list.Goals as goal

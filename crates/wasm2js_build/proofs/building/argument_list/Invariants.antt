@@ -1,7 +1,7 @@
 use Rattle.std.proofs.Common.{◌≡◌, ◌++◌, drop, map}
 use Rattle.sem_words.specs.Lists.{list_items}
 use Rattle.asm_tree.specs.Views.{expr_view}
-use Rattle.wasm2js_words.specs.Words.{int_of}
+use Rattle.wasm2js_translation.specs.Words.{int_of}
 use Rattle.wasm2js_build.specs.Views.{terms_view}
 use Rattle.wasm2js_build.proofs.building.argument_list.Given as goal
 

@@ -1,6 +1,6 @@
 use Rattle.std.proofs.Common.{◌+◌, ◌++◌, map, drop, sym, ap, ◌∙◌}
 use Rattle.wasm_tree.specs.Views.{type_of}
-use Rattle.wasm2js_code.specs.Bodies.{form_number}
+use Rattle.wasm2js_translation.specs.Bodies.{form_number}
 use Rattle.wasm2js_functions.specs.Forms.{number_in}
 use Rattle.wasm2js_functions.proofs.Firsts.{all_noted, one_form}
 use Rattle.wasm2js_functions.proofs.forms.forms_of.Goals as goal

@@ -1,7 +1,7 @@
 use Rattle.std.proofs.Common.{◌≡◌, ◌++◌, map, take, drop}
 use Rattle.wasm_lang.specs.Modules.{FunctionType}
 use Rattle.wasm_tree.specs.Views.{type_of}
-use Rattle.wasm2js_code.specs.Bodies.{form_number}
+use Rattle.wasm2js_translation.specs.Bodies.{form_number}
 use Rattle.wasm2js_operands.specs.Forms.{form_numbers}
 use Rattle.wasm2js_functions.specs.Forms.{number_in}
 use Rattle.wasm2js_functions.proofs.Firsts.{first_in}

@@ -4,7 +4,7 @@ use Rattle.asm_tree.specs.Views.{function_view}
 use Rattle.wasm_lang.specs.Modules.{WasmModule}
 use Rattle.wasm_lang_exec.specs.Reductions.{callees}
 use Rattle.wasm_tree.specs.Views.{module_of}
-use Rattle.wasm2js_code.specs.Modules.{functions_from}
+use Rattle.wasm2js_translation.specs.Modules.{functions_from}
 use Rattle.wasm2js_functions.proofs.Lists.{whole_list}
 use Rattle.wasm2js_functions.proofs.listing.push_functions.Goals as goal
 

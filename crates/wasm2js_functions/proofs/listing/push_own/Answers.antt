@@ -1,8 +1,9 @@
-use Rattle.std.proofs.Common.{map, sym}
+use Rattle.std.proofs.Common.{length, map, sym}
 use Rattle.sem_words.specs.Lists.{list_items}
 use Rattle.asm_tree.specs.Views.{function_view}
+use Rattle.wasm_lang_valid.specs.ModuleRules.{imported_functions}
 use Rattle.wasm_tree.specs.Views.{body_of, module_of, type_of}
-use Rattle.wasm2js_functions.proofs.Bodies.{is_tree, some_tree}
+use Rattle.wasm2js_functions.proofs.Bodies.{is_tree, some_tree, translated_there}
 use Rattle.wasm2js_functions.proofs.OwnFunctions.{no_body_there, no_type_there, own_there}
 use Rattle.wasm2js_functions.proofs.Viewed.{viewed, not_viewed}
 use Rattle.wasm2js_functions.proofs.listing.push_own.Goals as goal
@@ -25,6 +26,12 @@ own_function-requires-clause-expression c =
     let m = module_of c.args.«module».now in
     let b = body_of c.in-Some-get.body.now in
     some_tree b (is_tree m c.requires.valid c.args.place b (viewed body_of (list_items c.args.«module».now.bodies) c.args.place c.in-Some-get.body.now c.in-Some-get.ensures.value))
+
+pub own_function-requires-clause-translated : goal.own_function-requires-clause-translated
+own_function-requires-clause-translated c =
+    let m = module_of c.args.«module».now in
+    translated_there m.bodies (length (imported_functions m.imports)) c.args.place (body_of c.in-Some-get.body.now) c.requires.translated
+    (viewed body_of (list_items c.args.«module».now.bodies) c.args.place c.in-Some-get.body.now c.in-Some-get.ensures.value)
 
 pub returns : goal.returns
 returns c =

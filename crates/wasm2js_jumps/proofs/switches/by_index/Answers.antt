@@ -1,6 +1,6 @@
 use Rattle.std.proofs.Common.{◌≡◌, ◌+◌, ◌-◌, ◌*◌, ◌/◌, ◌++◌, length, refl, arith}
 use Rattle.std.proofs.Math.Nat.{div-mul-le_self}
-use Rattle.wasm2js_code.specs.Bodies as bodies
+use Rattle.wasm2js_translation.specs.Bodies as bodies
 use Rattle.wasm2js_build.specs.Blocks.{statements_of}
 use Rattle.wasm2js_jumps.specs.Jumps.{jump_to}
 use Rattle.wasm2js_jumps.proofs.IndexLemmas.{part_ends, turn_starts, switch_after, near_length, if_ok_weaker, switches_done}

@@ -1,5 +1,5 @@
 use Rattle.std.proofs.Common.{◌≡◌, ◌+◌, ◌-◌, ◌*◌, ◌/◌, ◌++◌, length, drop}
-use Rattle.wasm2js_code.specs.Bodies as bodies
+use Rattle.wasm2js_translation.specs.Bodies as bodies
 use Rattle.wasm2js_build.specs.Blocks.{statements_of}
 use Rattle.wasm2js_jumps.specs.Jumps.{jump_to}
 use Rattle.wasm2js_jumps.proofs.switches.by_index.Given as goal

@@ -2,7 +2,7 @@ use Rattle.std.proofs.Common.{[], ◌∷◌, ◌++◌, map}
 use Rattle.std.proofs.lemmas.Result.{IfOk-equal}
 use Rattle.sem_words.specs.Lists.{list_items}
 use Rattle.asm_tree.specs.Views.{function_view}
-use Rattle.wasm2js_code.specs.Helpers as helpers
+use Rattle.wasm2js_translation.specs.Helpers as helpers
 use Rattle.wasm2js_memory_helpers.specs.Pieces.{load_32_function, load_64_function, store_32_function, store_64_function}
 use Rattle.wasm2js_memory_helpers.proofs.Added.{two_first, two_after}
 use Rattle.wasm2js_memory_helpers.proofs.access.access_helpers.Goals as goal

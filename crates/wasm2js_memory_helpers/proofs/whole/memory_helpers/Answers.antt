@@ -2,7 +2,7 @@ use Rattle.std.proofs.Common.{[], ◌∷◌, ◌++◌, map}
 use Rattle.std.proofs.lemmas.Result.{IfOk-equal}
 use Rattle.sem_words.specs.Lists.{list_items}
 use Rattle.asm_tree.specs.Views.{function_view}
-use Rattle.wasm2js_code.specs.Helpers as helpers
+use Rattle.wasm2js_translation.specs.Helpers as helpers
 use Rattle.wasm2js_memory_helpers.proofs.Added.{two_after}
 use Rattle.wasm2js_memory_helpers.proofs.whole.memory_helpers.Goals as goal
 

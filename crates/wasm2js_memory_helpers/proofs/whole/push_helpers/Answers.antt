@@ -3,7 +3,7 @@ use Rattle.std.proofs.lemmas.Result.{IfOk-weaker}
 use Rattle.sem_words.specs.Lists.{list_items}
 use Rattle.wasm_lang.specs.Modules.{WasmModule}
 use Rattle.asm_tree.specs.Views.{function_view}
-use Rattle.wasm2js_code.specs.Modules.{helpers}
+use Rattle.wasm2js_translation.specs.Modules.{helpers}
 use Rattle.wasm2js_memory_helpers.specs.Helpers.{helpers_with, memory_of}
 use Rattle.wasm2js_memory_helpers.proofs.Memories.{helpers_are}
 use Rattle.wasm2js_memory_helpers.proofs.whole.push_helpers.Goals as goal

@@ -1,7 +1,7 @@
 use Rattle.std.proofs.Common.{◌≡◌, ◌++◌, drop, map}
 use Rattle.sem_words.specs.Lists.{list_items}
 use Rattle.asm_tree.specs.Views.{local_view}
-use Rattle.wasm2js_code.specs.Helpers as helpers
+use Rattle.wasm2js_translation.specs.Helpers as helpers
 use Rattle.wasm2js_nodes.specs.Names.{name_view}
 use Rattle.wasm2js_nodes.proofs.statements.locals_of.Given as goal
 

@@ -1,6 +1,6 @@
 use Rattle.std.proofs.Common.{◌++◌, map, drop, ap, ◌∙◌}
 use Rattle.std.specs.List.{flat_map, range_with_len}
-use Rattle.wasm2js_code.specs.Rooms.{body_room, operand_names}
+use Rattle.wasm2js_translation.specs.Rooms.{body_room, operand_names}
 use Rattle.wasm2js_operands.specs.Scopes.{context_in}
 use Rattle.wasm2js_nodes.specs.Names.{name_view}
 use Rattle.wasm2js_rooms.specs.Flags.{flagged_names}

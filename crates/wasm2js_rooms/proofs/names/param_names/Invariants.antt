@@ -1,5 +1,5 @@
 use Rattle.std.proofs.Common.{◌≡◌, ◌++◌, map, drop}
-use Rattle.wasm2js_code.specs.Modules.{param_names}
+use Rattle.wasm2js_translation.specs.Modules.{param_names}
 use Rattle.wasm2js_nodes.specs.Names.{name_view}
 use Rattle.wasm2js_rooms.proofs.names.param_names.Given as goal
 

@@ -1,7 +1,7 @@
 use Rattle.std.proofs.Common.{◌+◌, [], ◌++◌, get_or, map, drop, ap, sym, ◌∙◌}
 use Rattle.std.specs.Prelude.{if◌then◌else◌}
 use Rattle.wasm_lang.specs.declared.types.ValType.TheVariants.{I32}
-use Rattle.wasm2js_code.specs.Pairs.{local_pair, names_of}
+use Rattle.wasm2js_translation.specs.Pairs.{local_pair, names_of}
 use Rattle.wasm2js_nodes.specs.Names.{name_view}
 use Rattle.wasm2js_rooms.specs.Flags.{flagged_names}
 use Rattle.wasm2js_rooms.proofs.Flags.{next_flagged, one_more}

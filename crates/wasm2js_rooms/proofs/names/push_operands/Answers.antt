@@ -1,6 +1,6 @@
 use Rattle.std.proofs.Common.{◌++◌, map, sym, ap, ◌∙◌, append_assoc}
 use Rattle.std.specs.List.{flat_map, range_with_len}
-use Rattle.wasm2js_code.specs.Rooms.{operand_names}
+use Rattle.wasm2js_translation.specs.Rooms.{operand_names}
 use Rattle.wasm2js_nodes.specs.Names.{name_view}
 use Rattle.wasm2js_rooms.proofs.Flags.{flat_more}
 use Rattle.wasm2js_rooms.proofs.names.push_operands.Goals as goal

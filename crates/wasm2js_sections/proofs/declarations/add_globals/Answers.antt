@@ -2,7 +2,7 @@ use Rattle.std.proofs.Common.{◌≡◌, ◌++◌, map, length, ap, ◌∙◌}
 use Rattle.wasm_tree.specs.Views.{global_of, import_of, module_of}
 use Rattle.wasm_lang_exec.specs.Fits.{global_imports}
 use Rattle.asm_tree.specs.Views.{global_view}
-use Rattle.wasm2js_code.specs.Modules.{imported_variables, own_variables}
+use Rattle.wasm2js_translation.specs.Modules.{imported_variables, own_variables}
 use Rattle.wasm2js_sections.specs.Parts.{by_name, given_of}
 use Rattle.wasm2js_sections.proofs.ByName.{variables_by_name}
 use Rattle.wasm2js_sections.proofs.declarations.add_globals.Goals as goal

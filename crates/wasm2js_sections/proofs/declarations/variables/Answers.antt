@@ -5,7 +5,7 @@ use Rattle.wasm_lang_valid.specs.ModuleRules.{has_memory}
 use Rattle.wasm_tree.specs.Views.{module_of}
 use Rattle.asm_tree.specs.Views.{global_view}
 use Rattle.asm_lang.specs.Modules.{Variable}
-use Rattle.wasm2js_code.specs.Modules.{view_variables, fixed_variables, global_variables}
+use Rattle.wasm2js_translation.specs.Modules.{view_variables, fixed_variables, global_variables}
 use Rattle.wasm2js_sections.specs.Parts.{import_variables}
 use Rattle.wasm2js_sections.proofs.Imports.{foreign_are}
 use Rattle.wasm2js_sections.proofs.declarations.variables.Goals as goal

@@ -3,7 +3,7 @@ use Rattle.std.specs.List.{flat_map}
 use Rattle.wasm_lang.specs.Modules.{Exported}
 use Rattle.wasm_tree.specs.Views.{export_of}
 use Rattle.asm_tree.specs.Views.{export_view}
-use Rattle.wasm2js_code.specs.Modules.{export_for}
+use Rattle.wasm2js_translation.specs.Modules.{export_for}
 use Rattle.wasm2js_sections.proofs.exporting.add_exports.Given as goal
 
 abbrev pub invariant-loop-source : goal.invariant-loop-source

@@ -1,7 +1,7 @@
 use Rattle.std.proofs.Common.{◌≡◌, ◌+◌, ◌++◌, map, drop, sym, ap, ◌∙◌, append_assoc}
 use Rattle.wasm_tree.specs.Views.{global_of}
 use Rattle.asm_tree.specs.Views.{global_view}
-use Rattle.wasm2js_code.specs.Modules.{first_values, own_variables}
+use Rattle.wasm2js_translation.specs.Modules.{first_values, own_variables}
 use Rattle.wasm2js_sections.specs.Parts.{given_of}
 use Rattle.wasm2js_sections.proofs.ByName.{own_more}
 use Rattle.wasm2js_sections.proofs.globals.add_own.Goals as goal

@@ -1,6 +1,6 @@
 use Rattle.std.proofs.Common.{◌≡◌, ◌++◌, map, drop}
 use Rattle.asm_tree.specs.Views.{global_view}
-use Rattle.wasm2js_code.specs.Modules.{imported_variables}
+use Rattle.wasm2js_translation.specs.Modules.{imported_variables}
 use Rattle.wasm2js_sections.specs.Parts.{given_of}
 use Rattle.wasm2js_sections.proofs.importing.add_imported.Given as goal
 

@@ -1,6 +1,6 @@
 use Rattle.std.proofs.Common.{◌≡◌, ◌+◌, ◌++◌, drop}
 use Rattle.wasm2js_build.specs.Blocks.{statements_of}
-use Rattle.wasm2js_code.specs.Modules.{set_bytes}
+use Rattle.wasm2js_translation.specs.Modules.{set_bytes}
 use Rattle.wasm2js_sections.proofs.segments.set_bytes.Given as goal
 
 abbrev pub invariant-loop-i : goal.invariant-loop-i

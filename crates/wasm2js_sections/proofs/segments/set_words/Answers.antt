@@ -1,6 +1,6 @@
 use Rattle.std.proofs.Common.{◌≡◌, ◌+◌, ◌-◌, ◌≤◌, [], ◌∷◌, ◌++◌, length, take, drop, sym, ap, ◌∙◌, append_assoc, arith}
 use Rattle.wasm2js_build.specs.Blocks.{statements_of}
-use Rattle.wasm2js_code.specs.Modules.{set_word, set_words}
+use Rattle.wasm2js_translation.specs.Modules.{set_word, set_words}
 use Rattle.wasm2js_sections.proofs.Runs.{words_more}
 use Rattle.wasm2js_sections.proofs.segments.set_words.Goals as goal
 

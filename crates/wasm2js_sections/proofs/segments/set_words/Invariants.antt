@@ -1,6 +1,6 @@
 use Rattle.std.proofs.Common.{◌≡◌, ◌+◌, ◌-◌, ◌≤◌, ◌++◌, length, drop}
 use Rattle.wasm2js_build.specs.Blocks.{statements_of}
-use Rattle.wasm2js_code.specs.Modules.{set_words}
+use Rattle.wasm2js_translation.specs.Modules.{set_words}
 use Rattle.wasm2js_sections.proofs.segments.set_words.Given as goal
 
 abbrev pub invariant-loop-done : goal.invariant-loop-done

@@ -2,7 +2,7 @@ use Rattle.std.proofs.Common.{◌≡◌, ◌++◌, map, drop}
 use Rattle.std.specs.List.{flat_map}
 use Rattle.wasm_tree.specs.Views.{segment_of}
 use Rattle.wasm2js_build.specs.Blocks.{statements_of}
-use Rattle.wasm2js_code.specs.Modules.{segment_stmts}
+use Rattle.wasm2js_translation.specs.Modules.{segment_stmts}
 use Rattle.wasm2js_sections.proofs.starting.set_segments.Given as goal
 
 abbrev pub invariant-loop-segment : goal.invariant-loop-segment

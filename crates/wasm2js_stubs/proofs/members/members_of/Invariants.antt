@@ -1,7 +1,7 @@
 use Rattle.std.proofs.Common.{◌≡◌, ◌++◌, drop, map}
 use Rattle.sem_words.specs.Lists.{list_items, text_bytes}
-use Rattle.wasm2js_words.specs.Names.{spelled}
-use Rattle.wasm2js_code.specs.Tables
+use Rattle.wasm2js_translation.specs.Names.{spelled}
+use Rattle.wasm2js_translation.specs.Tables
 use Rattle.wasm2js_tables.specs.Views.{cell_view}
 use Rattle.wasm2js_stubs.proofs.members.members_of.Given as goal
 

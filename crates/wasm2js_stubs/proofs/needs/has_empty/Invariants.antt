@@ -1,6 +1,6 @@
 use Rattle.std.proofs.Common.{◌≡◌, drop, map}
 use Rattle.std.specs.List.{list_any}
-use Rattle.wasm2js_code.specs.Tables
+use Rattle.wasm2js_translation.specs.Tables
 use Rattle.wasm2js_tables.specs.Views.{cell_view}
 use Rattle.wasm2js_stubs.proofs.needs.has_empty.Given as goal
 

@@ -1,6 +1,6 @@
 use Rattle.std.proofs.Common.{sym, ap, ◌∙◌}
 use Rattle.wasm_tree.specs.Views.{type_of}
-use Rattle.wasm2js_code.specs.Tables
+use Rattle.wasm2js_translation.specs.Tables
 use Rattle.wasm2js_stubs.proofs.Words.{type_found, type_missing}
 use Rattle.wasm2js_stubs.proofs.numbers.stub_of.Goals as goal
 

@@ -1,5 +1,5 @@
 use Rattle.std.proofs.Common.{◌≡◌, ◌+◌, ◌*◌, ◌≤◌, drop}
-use Rattle.wasm2js_code.specs.Tables as plain
+use Rattle.wasm2js_translation.specs.Tables as plain
 use Rattle.wasm2js_stubs.proofs.numbers.words_of.Given as goal
 
 abbrev pub invariant-loop-param : goal.invariant-loop-param

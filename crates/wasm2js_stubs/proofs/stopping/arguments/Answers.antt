@@ -1,7 +1,7 @@
 use Rattle.std.proofs.Common.{◌++◌, [], ◌∷◌, map, sym, ap, ◌∙◌, arith}
 use Rattle.std.proofs.lemmas.List.{map-append}
 use Rattle.std.proofs.lemmas.List.FromFn.{map-range_with_len_more}
-use Rattle.wasm2js_code.specs.Helpers as helpers
+use Rattle.wasm2js_translation.specs.Helpers as helpers
 use Rattle.wasm2js_nodes.specs.Names.{name_view}
 use Rattle.wasm2js_stubs.proofs.stopping.arguments.Goals as goal
 

@@ -1,6 +1,6 @@
 use Rattle.std.proofs.Common.{◌≡◌, map}
 use Rattle.std.specs.List.{range_with_len}
-use Rattle.wasm2js_code.specs.Helpers as helpers
+use Rattle.wasm2js_translation.specs.Helpers as helpers
 use Rattle.wasm2js_nodes.specs.Names.{name_view}
 use Rattle.wasm2js_stubs.proofs.stopping.arguments.Given as goal
 

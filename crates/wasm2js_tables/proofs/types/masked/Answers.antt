@@ -7,4 +7,4 @@ use Rattle.wasm2js_tables.proofs.types.masked.Goals as goal
 pub entries_of-requires : goal.entries_of-requires
 entries_of-requires c =
     let e = c.module-module.ensures in
-    subst (λ m. AreInside (table_length m) m.elements) (sym e.given) (elements_inside c.args.valid.now e.valid c.requires)
+    subst (λ m. AreInside (table_length m) m.elements) (sym e.given) (elements_inside c.args.valid.now e.valid c.requires.constant c.requires.inside)

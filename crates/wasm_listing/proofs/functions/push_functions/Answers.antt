@@ -2,7 +2,7 @@ use Rattle.std.proofs.Common.{◌≡◌, ◌∙◌, ◌≤◌, ℕ, ◌+◌, min
 use Rattle.wasm_lang.specs.Modules.{FunctionType}
 use Rattle.wasm_tree.specs.declared.module.Body.{Body}
 use Rattle.wasm_tree.specs.Views.{body_of, type_of}
-use Rattle.wasm_listing.specs.Listing.{function_lines}
+use Rattle.bridge_lang.specs.Listing.{function_lines}
 use Rattle.wasm_listing.proofs.Steps.{no_functions_left}
 use Rattle.wasm_listing.proofs.functions.push_functions.Goals as goal
 

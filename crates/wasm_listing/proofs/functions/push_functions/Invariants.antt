@@ -1,6 +1,6 @@
 use Rattle.std.proofs.Common.{◌≡◌, ◌+◌, ◌++◌, drop, map}
 use Rattle.wasm_tree.specs.Views.{body_of, type_of}
-use Rattle.wasm_listing.specs.Listing.{function_lines}
+use Rattle.bridge_lang.specs.Listing.{function_lines}
 use Rattle.wasm_listing.proofs.functions.push_functions.Given as goal
 
 -- with the lines that are still to come these are all lines

@@ -1,7 +1,7 @@
 use Rattle.std.proofs.Common.{◌≡◌, ◌≤◌, ◌+◌, ◌++◌, drop, map, length}
 use Rattle.wasm_tree.specs.Views.{import_of, type_of}
 use Rattle.wasm_lang_valid.specs.ModuleRules.{imported_functions}
-use Rattle.wasm_listing.specs.Listing.{import_lines}
+use Rattle.bridge_lang.specs.Listing.{import_lines}
 use Rattle.wasm_listing.proofs.functions.push_imports.Given as goal
 
 -- with the lines that are still to come these are all lines

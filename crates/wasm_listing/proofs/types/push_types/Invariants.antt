@@ -1,5 +1,5 @@
 use Rattle.std.proofs.Common.{◌≡◌, ◌++◌, take}
-use Rattle.wasm_listing.specs.Listing.{others_text}
+use Rattle.bridge_lang.specs.Listing.{others_text}
 use Rattle.wasm_listing.proofs.types.push_types.Given as goal
 
 abbrev pub invariant-loop-kind : goal.invariant-loop-kind

@@ -1,5 +1,5 @@
 use Rattle.std.proofs.Common.{◌≡◌, take, map}
-use Rattle.sem_laws.specs.Views.{call_of}
+use Rattle.session_lang.specs.Views.{call_of}
 use Rattle.wasm_run.specs.Exports.{callees_of}
 use Rattle.wasm_run.proofs.exports.callees.Given as goal
 

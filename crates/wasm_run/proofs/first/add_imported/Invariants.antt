@@ -1,5 +1,5 @@
 use Rattle.std.proofs.Common.{◌≡◌, ◌++◌, drop, map}
-use Rattle.sem_laws.specs.Views.{script_of}
+use Rattle.session_lang.specs.Views.{script_of}
 use Rattle.wasm_tree.specs.Views.{import_of}
 use Rattle.wasm_lang_exec.specs.Session.{imported_globals}
 use Rattle.wasm_run.proofs.first.add_imported.Given as goal

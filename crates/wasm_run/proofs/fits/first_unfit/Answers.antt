@@ -1,9 +1,9 @@
 use Rattle.std.proofs.Common.{◌≡◌, List, [], ap, ◌∙◌}
-use Rattle.sem_laws.specs.Script.{GlobalPlain}
-use Rattle.sem_laws.specs.Views.{script_of}
-use Rattle.script_fits.specs.Fits.{global_lines, least}
+use Rattle.session_lang.specs.Script.{GlobalPlain}
+use Rattle.session_lang.specs.Views.{script_of}
+use Rattle.session_lang.specs.Fits.{global_lines, least}
 use Rattle.wasm_lang_exec.specs.Fits.{GlobalImport, fits_global, global_imports, tests}
-use Rattle.script_fits.proofs.Parts.{four}
+use Rattle.session_lang.proofs.Parts.{four}
 use Rattle.wasm_run.specs.Globals.{fits_line}
 use Rattle.wasm_run.proofs.fits.first_unfit.Goals as goal
 

@@ -1,10 +1,10 @@
 use Rattle.std.proofs.Common.{◌≡◌, List, Bool, ap, sym, ◌∙◌}
-use Rattle.sem_laws.specs.Script.{GlobalPlain, ScriptPlain}
-use Rattle.sem_laws.specs.Views.{script_of}
-use Rattle.script_fits.specs.Fits.{are_given, missing_line}
+use Rattle.session_lang.specs.Script.{GlobalPlain, ScriptPlain}
+use Rattle.session_lang.specs.Views.{script_of}
+use Rattle.session_lang.specs.Fits.{are_given, missing_line}
 use Rattle.wasm_lang.specs.Modules.{WasmModule}
 use Rattle.wasm_lang_exec.specs.Fits.{GlobalImport, global_imports, global_names, tests}
-use Rattle.script_fits.proofs.Parts.{misfit_some, misfit_none}
+use Rattle.session_lang.proofs.Parts.{misfit_some, misfit_none}
 use Rattle.wasm_run.proofs.fits.fits_by.Goals as goal
 
 -- whether all are given, of the module's globals and the script's lines

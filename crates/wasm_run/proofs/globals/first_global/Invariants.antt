@@ -1,7 +1,7 @@
 use Rattle.std.proofs.Common.{◌≡◌, [], take, drop, map}
-use Rattle.sem_laws.specs.Views.{global_of}
-use Rattle.script_fits.specs.Fits.{global_lines, least}
-use Rattle.script_fits.specs.Earlier.{earlier}
+use Rattle.session_lang.specs.Views.{global_of}
+use Rattle.session_lang.specs.Fits.{global_lines, least}
+use Rattle.session_lang.specs.Earlier.{earlier}
 use Rattle.wasm_run.specs.Globals.{fits_line}
 use Rattle.wasm_run.proofs.globals.first_global.Given as goal
 

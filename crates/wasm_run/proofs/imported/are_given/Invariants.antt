@@ -1,5 +1,5 @@
 use Rattle.std.proofs.Common.{◌≡◌, drop, map}
-use Rattle.script_fits.specs.Fits.{are_given}
+use Rattle.session_lang.specs.Fits.{are_given}
 use Rattle.wasm_lang_exec.specs.Fits.{global_names}
 use Rattle.wasm_run.specs.GlobalViews.{imported_of}
 use Rattle.wasm_run.proofs.imported.are_given.Given as goal

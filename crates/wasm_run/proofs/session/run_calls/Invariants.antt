@@ -1,5 +1,5 @@
 use Rattle.std.proofs.Common.{◌≡◌, drop, map}
-use Rattle.sem_laws.specs.Views.{call_of}
+use Rattle.session_lang.specs.Views.{call_of}
 use Rattle.wasm_tree.specs.Views.{module_of}
 use Rattle.wasm_lang_exec.specs.Session.{calls_seen}
 use Rattle.wasm_run_frames.specs.Views.{machine_of}

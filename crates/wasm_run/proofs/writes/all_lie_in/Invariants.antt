@@ -1,6 +1,6 @@
 use Rattle.std.proofs.Common.{◌≡◌, drop, map}
 use Rattle.std.specs.List.{list_all}
-use Rattle.sem_laws.specs.Views.{write_of}
+use Rattle.session_lang.specs.Views.{write_of}
 use Rattle.wasm_lang_exec.specs.Fits.{lies_in}
 use Rattle.wasm_run.proofs.writes.all_lie_in.Given as goal
 

@@ -1,10 +1,10 @@
 use Rattle.std.proofs.Common.{◌≡◌, drop, map}
 use Rattle.std.specs.List.{list_all}
-use Rattle.sem_laws.specs.Script.{ReplyLinePlain}
-use Rattle.sem_laws.specs.Views.{reply_line_of}
-use Rattle.script_fits.specs.Fits.{writes_of, lines_of, least}
+use Rattle.session_lang.specs.Script.{ReplyLinePlain}
+use Rattle.session_lang.specs.Views.{reply_line_of}
+use Rattle.session_lang.specs.Fits.{writes_of, lines_of, least}
 use Rattle.wasm_lang_exec.specs.Fits.{lies_in}
-use Rattle.script_fits.specs.Earlier.{earlier}
+use Rattle.session_lang.specs.Earlier.{earlier}
 use Rattle.wasm_run.proofs.writes.first_reply.Given as goal
 
 abbrev pub invariant-loop-line : goal.invariant-loop-line

@@ -1,9 +1,9 @@
 use Rattle.std.proofs.Common.{◌≡◌, drop, map}
-use Rattle.sem_laws.specs.Script.{WritePlain}
-use Rattle.sem_laws.specs.Views.{write_of}
-use Rattle.script_fits.specs.Fits.{lines_of, least}
+use Rattle.session_lang.specs.Script.{WritePlain}
+use Rattle.session_lang.specs.Views.{write_of}
+use Rattle.session_lang.specs.Fits.{lines_of, least}
 use Rattle.wasm_lang_exec.specs.Fits.{lies_in}
-use Rattle.script_fits.specs.Earlier.{earlier}
+use Rattle.session_lang.specs.Earlier.{earlier}
 use Rattle.wasm_run.proofs.writes.first_write.Given as goal
 
 abbrev pub invariant-loop-write : goal.invariant-loop-write

@@ -1,8 +1,8 @@
 use Rattle.std.proofs.Common.{◌≡◌, ◌++◌, List, length, take, drop, map, ap, ◌∙◌, arith}
 use Rattle.sem_words.specs.declared.word.Word.{Word}
 use Rattle.sem_words.specs.Lists.{list_items}
-use Rattle.sem_laws.specs.Views.{event_of}
-use Rattle.script_replies.specs.Answers.{replies_of}
+use Rattle.session_lang.specs.Views.{event_of}
+use Rattle.session_replies.specs.Answers.{replies_of}
 use Rattle.wasm_lang_exec.specs.Plain.{goes}
 use Rattle.wasm_run_operands.specs.Effects.{store_of}
 use Rattle.wasm_run_plain.specs.Forms.{instruction_effect}

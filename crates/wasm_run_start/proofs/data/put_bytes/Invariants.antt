@@ -1,6 +1,6 @@
 use Rattle.std.proofs.Common.{◌≡◌, List, drop, map}
-use Rattle.sem_laws.specs.Observation.{EventPlain}
-use Rattle.sem_laws.specs.Imports.{Replies}
+use Rattle.session_lang.specs.Observation.{EventPlain}
+use Rattle.session_lang.specs.Imports.{Replies}
 use Rattle.wasm_tree.specs.Views.{segment_of}
 use Rattle.wasm_lang_exec.specs.Session.{with_bytes}
 use Rattle.wasm_run_operands.specs.Effects.{store_of}

@@ -1,5 +1,5 @@
 use Rattle.std.proofs.Common.{◌+◌, [], true, List, drop, map, sym, ap, ◌∙◌}
-use Rattle.sem_laws.specs.Imports.{Replies}
+use Rattle.session_lang.specs.Imports.{Replies}
 use Rattle.wasm_tree.specs.declared.module.Element.{Element}
 use Rattle.wasm_tree.specs.Views.{element_of}
 use Rattle.wasm_lang_exec.specs.Store.{Store}

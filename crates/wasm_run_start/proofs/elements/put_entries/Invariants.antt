@@ -1,6 +1,6 @@
 use Rattle.std.proofs.Common.{◌≡◌, true, List, drop, map}
-use Rattle.sem_laws.specs.Observation.{EventPlain}
-use Rattle.sem_laws.specs.Imports.{Replies}
+use Rattle.session_lang.specs.Observation.{EventPlain}
+use Rattle.session_lang.specs.Imports.{Replies}
 use Rattle.wasm_tree.specs.Views.{element_of}
 use Rattle.wasm_lang_exec.specs.Session.{entries_fit, with_entries}
 use Rattle.wasm_run_operands.specs.Effects.{store_of}

@@ -1,5 +1,5 @@
 use Rattle.std.proofs.Common.{ap, ◌∙◌}
-use Rattle.sem_laws.specs.Names.{import_name}
+use Rattle.session_lang.specs.Names.{import_name}
 use Rattle.wasm_tree.specs.Views.{bytes_of, import_of}
 use Rattle.wasm_run_start.proofs.Parts.{adds_import}
 use Rattle.wasm_run_start.proofs.listing.add_import.Goals as goal

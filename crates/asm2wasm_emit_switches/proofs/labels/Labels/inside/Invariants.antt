@@ -1,6 +1,6 @@
 use Rattle.std.proofs.Common.{◌≡◌, ◌+◌}
 use Rattle.asm_tree.specs.Views.{text_option}
-use Rattle.asm2wasm_code.specs.Bodies as code
+use Rattle.asm2wasm_translation.specs.Bodies as code
 use Rattle.asm2wasm_emit_switches.specs.Labels.{labels_view, meant}
 use Rattle.asm2wasm_emit_switches.proofs.labels.Labels.inside.Given as goal
 

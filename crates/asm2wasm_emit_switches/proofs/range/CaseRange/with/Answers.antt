@@ -1,7 +1,7 @@
 use Rattle.std.proofs.Common.{◌≡◌, ◌+◌, ◌<◌, sym, ap, ◌∙◌, arith, rules, w64, FitsSigned, to_z, of_z}
 use Rattle.std.proofs.lemmas.Int.{to_z-of_z}
 use Rattle.std.specs.Prelude.{ℤ, Option}
-use Rattle.asm2wasm_code.specs.Bodies.{lesser, greater}
+use Rattle.asm2wasm_translation.specs.Bodies.{lesser, greater}
 use Rattle.asm2wasm_emit_switches.specs.declared.range.CaseRange.{CaseRange}
 use Rattle.asm2wasm_emit_switches.specs.Cases.{value_before, range_of}
 use Rattle.asm2wasm_emit_switches.proofs.CaseValues.{range_more}

@@ -4,8 +4,8 @@ use Rattle.asm_tree.specs.declared.tree.Function.{Function}
 use Rattle.asm_tree.specs.declared.tree.Global_.{Global_}
 use Rattle.asm_tree.specs.declared.tree.Table.{Table}
 use Rattle.asm_tree.specs.Views.{module_view, function_view, global_view, table_view}
-use Rattle.asm2wasm_code.specs.Numbers.{global_names, int_variables}
-use Rattle.link_tables.specs.Names.{function_names}
+use Rattle.asm2wasm_translation.specs.Numbers.{global_names, int_variables}
+use Rattle.asm2wasm_tables.specs.Names.{function_names}
 use Rattle.asm2wasm_numbers.specs.Declarations.{table_names, variable_names}
 use Rattle.asm2wasm_numbers.proofs.names.ModuleNames.new.Goals as goal
 

@@ -6,7 +6,7 @@ use Rattle.asm_lang_valid.specs.LimitRows.{ForeignCall}
 use Rattle.asm_lang_valid.specs.Scope.{signature_of}
 use Rattle.asm_validate_limits.specs.declared.calls.ForeignCall.{ForeignCall as CodeCall}
 use Rattle.asm_validate_limits.specs.Called.{foreign_view, EachIsFirst}
-use Rattle.asm2wasm_code.specs.Numbers.{each_once, asked_signature}
+use Rattle.asm2wasm_translation.specs.Numbers.{each_once, asked_signature}
 use Rattle.asm2wasm_numbers.specs.Signatures.{asked}
 use Rattle.asm2wasm_numbers.proofs.Types.{asked_are}
 use Rattle.asm2wasm_numbers.proofs.signatures.ModuleTypes.new.Goals as goal

@@ -2,8 +2,8 @@ use Rattle.std.proofs.Common.{List, [], map, sym, ap, ◌∙◌}
 use Rattle.asm_tree.specs.declared.tree.Module.{Module as Tree}
 use Rattle.asm_tree.specs.Views.{module_view}
 use Rattle.asm_lang_exec.specs.Session.{asm}
-use Rattle.sem_laws.specs.declared.script.CallLine.{CallLine}
-use Rattle.sem_laws.specs.Views.{call_of, script_of}
+use Rattle.session_lang.specs.declared.script.CallLine.{CallLine}
+use Rattle.session_lang.specs.Views.{call_of, script_of}
 use Rattle.asm_run.specs.Exports.{callees_of, callees_said}
 use Rattle.asm_run.specs.Hosted.{seen_option}
 use Rattle.asm_run.proofs.Fitting.{accepted_here, fits_here, small_home, small_calls, means, not_none}

@@ -1,5 +1,5 @@
 use Rattle.std.proofs.Common.{◌≤◌, ◌<◌, length, drop, sym, subst, arith}
-use Rattle.wasm2js_code.specs.Rooms.{wide_from}
+use Rattle.wasm2js_translation.specs.Rooms.{wide_from}
 use Rattle.wasm_tree.specs.Views.{instr_of}
 use Rattle.wasm_run_flat.proofs.Standing.{stands_inside}
 use Rattle.wasm2js_operands.specs.Scopes.{context_in}

@@ -1,0 +1,15 @@
+pub mod Lists
+pub mod Types
+pub mod Imports
+pub mod Called
+pub mod Names
+pub mod Contexts
+pub mod Callees
+pub mod Made
+pub mod Accepted
+pub mod Valid
+pub mod Readable
+pub mod Bytes
+pub mod Fitting
+pub mod Running
+pub mod Exports

@@ -1,0 +1,2 @@
+-- Modules with one function as their one export.
+pub mod Laws

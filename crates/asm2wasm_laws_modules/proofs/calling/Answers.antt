@@ -1,5 +1,0 @@
-use Rattle.asm2wasm_laws_modules.proofs.Called.{translation_is_called}
-use Rattle.asm2wasm_laws_modules.proofs.calling.Goals as goal
-
-pub returns : goal.returns
-returns c = translation_is_called

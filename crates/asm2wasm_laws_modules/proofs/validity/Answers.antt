@@ -1,5 +1,0 @@
-use Rattle.asm2wasm_laws_modules.proofs.Valid.{translation_is_valid}
-use Rattle.asm2wasm_laws_modules.proofs.validity.Goals as goal
-
-pub returns : goal.returns
-returns c = translation_is_valid c.heap_lengths.ensures.few

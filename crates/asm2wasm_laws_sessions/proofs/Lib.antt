@@ -1,5 +1,0 @@
-pub mod Called
-pub mod Begun
-pub mod Named
-pub mod Matched
-pub mod Whole

@@ -1,5 +1,0 @@
-use Rattle.asm2wasm_laws_values.proofs.Entries.{all_calls_are_kept}
-use Rattle.asm2wasm_laws_values.proofs.calls.Goals as goal
-
-pub returns : goal.returns
-returns c = all_calls_are_kept

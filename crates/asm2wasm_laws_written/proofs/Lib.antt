@@ -1,4 +1,0 @@
-pub mod OpcodesOfValues
-pub mod OpcodesOfBodies
-pub mod OpcodesOfGlobals
-pub mod Ascii

@@ -1,5 +1,0 @@
-use Rattle.asm2wasm_laws_written.proofs.Ascii.{properties_are_utf8}
-use Rattle.asm2wasm_laws_written.proofs.names.Goals as goal
-
-pub returns : goal.returns
-returns c = properties_are_utf8

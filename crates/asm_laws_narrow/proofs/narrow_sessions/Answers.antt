@@ -1,8 +1,0 @@
-use Rattle.asm_laws_narrow.proofs.Narrow.{sights_are_narrow, sessions_are_narrow}
-use Rattle.asm_laws_narrow.proofs.narrow_sessions.Goals as goal
-
-pub returns-clause-sights : goal.returns-clause-sights
-returns-clause-sights c = sights_are_narrow
-
-pub returns-clause-sessions : goal.returns-clause-sessions
-returns-clause-sessions c = sessions_are_narrow

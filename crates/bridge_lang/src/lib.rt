@@ -1,0 +1,8 @@
+//! What the words of a command line ask for, what each command may write, and why it is refused.
+#![tactic(auto)]
+
+mod row;
+mod status;
+
+pub use row::AsmRow;
+pub use status::{Status, WasmFault};

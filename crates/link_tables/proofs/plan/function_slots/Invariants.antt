@@ -1,7 +1,0 @@
-use Rattle.std.proofs.Common.{◌≡◌, ◌++◌, map, drop}
-use Rattle.asm_tree.specs.Views.{function_view}
-use Rattle.link_tables.specs.Names.{names_in, function_names}
-use Rattle.link_tables.proofs.plan.function_slots.Given as goal
-
-abbrev pub invariant-loop-function : goal.invariant-loop-function
-invariant-loop-function l = names_in l.names.items ++ function_names (map function_view (drop l.function-index l.functions)) ≡ function_names (map function_view l.functions)

@@ -1,3 +1,0 @@
-mod Hex
-mod Lines
-mod Examples

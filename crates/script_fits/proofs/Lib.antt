@@ -1,4 +1,0 @@
-pub mod UnfitLines
-pub mod Misfits
-pub mod FirstLines
-pub mod Parts

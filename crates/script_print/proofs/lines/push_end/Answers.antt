@@ -1,9 +1,0 @@
-use Rattle.std.proofs.Common.{◌≡◌, ◌++◌, OnOk, sym, subst}
-use Rattle.sem_laws.specs.declared.observation.End.{End}
-use Rattle.sem_laws.specs.Views.{end_of}
-use Rattle.script_print.specs.Texts.{end_line}
-use Rattle.script_print.proofs.lines.push_end.Goals as goal
-
-pub returns-in-NoReply : goal.returns-in-NoReply
-returns-in-NoReply c =
-    subst (λ (e : End). OnOk c.push_call-in-NoReply.result (c.push_call-in-NoReply.new.out.items ≡ c.args.out.now.items ++ end_line (end_of e))) (sym c.in-NoReply.is) c.push_call-in-NoReply.ensures

@@ -1,6 +1,0 @@
-use Rattle.std.proofs.Common.{◌≡◌, take, map}
-use Rattle.sem_laws.specs.Views.{event_of}
-use Rattle.sem_laws.proofs.comparing.is_front.Given as goal
-
-abbrev pub invariant-loop-i : goal.invariant-loop-i
-invariant-loop-i l = take l.i (map event_of l.front) ≡ take l.i (map event_of l.whole)

@@ -1,5 +1,0 @@
-use Rattle.sem_laws.proofs.Sides.{comparisons_go_with_below}
-use Rattle.sem_laws.proofs.laws.comparisons_go_with_below.Goals as goal
-
-pub returns : goal.returns
-returns c = comparisons_go_with_below

@@ -1,6 +1,0 @@
-use Rattle.std.proofs.Common.{◌≡◌, take, map}
-use Rattle.sem_laws.specs.Views.{reply_line_of}
-use Rattle.sem_laws.proofs.splitting.copy_replies.Given as goal
-
-abbrev pub invariant-loop-reply : goal.invariant-loop-reply
-invariant-loop-reply l = map reply_line_of l.copies.items ≡ map reply_line_of (take l.reply-index l.replies)

@@ -1,6 +1,0 @@
-use Rattle.std.proofs.Common.{◌≡◌, take, map}
-use Rattle.sem_laws.specs.Views.{write_of}
-use Rattle.sem_laws.proofs.splitting.copy_writes.Given as goal
-
-abbrev pub invariant-loop-write : goal.invariant-loop-write
-invariant-loop-write l = map write_of l.copies.items ≡ map write_of (take l.write-index l.writes)

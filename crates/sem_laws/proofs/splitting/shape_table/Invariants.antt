@@ -1,7 +1,0 @@
-use Rattle.std.proofs.Common.{drop, map}
-use Rattle.sem_laws.specs.ShapeTable.{HasShapes}
-use Rattle.sem_laws.specs.Views.{shape_of}
-use Rattle.sem_laws.proofs.splitting.shape_table.Given as goal
-
-abbrev pub invariant-loop-i : goal.invariant-loop-i
-invariant-loop-i l = HasShapes l.table (map shape_of (drop l.i l.shapes))

@@ -1,9 +1,0 @@
-pub mod Script
-pub mod Observation
-pub mod Imports
-pub mod Names
-pub mod Simulation
-pub mod CallingForms
-pub mod Views
-pub mod ShapeTable
-pub mod Laws

@@ -1,0 +1,13 @@
+pub mod Examples
+pub mod Fronts
+pub mod BelowLaws
+pub mod Sides
+pub mod Runs
+pub mod Composing
+pub mod Forms
+pub mod NameLaws
+pub mod UnfitLines
+pub mod Misfits
+pub mod FirstLines
+pub mod Parts
+pub mod Written

@@ -1,0 +1,13 @@
+pub mod Script
+pub mod Observation
+pub mod Imports
+pub mod Names
+pub mod Simulation
+pub mod CallingForms
+pub mod Views
+pub mod ShapeTable
+pub mod Laws
+pub mod Fits
+pub mod FitLaws
+pub mod Earlier
+pub mod Written

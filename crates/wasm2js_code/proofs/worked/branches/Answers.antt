@@ -1,5 +1,0 @@
-use Rattle.wasm2js_code.proofs.Sessions.{many_labels_are_alike}
-use Rattle.wasm2js_code.proofs.worked.branches.Goals as goal
-
-pub returns-clause-many_labels : goal.returns-clause-many_labels
-returns-clause-many_labels c = many_labels_are_alike

@@ -1,0 +1,93 @@
+-- The functions of a module of asm.js that stands for one of WebAssembly, and those that it exports.
+use Rattle.std.specs.Prelude.{◌≡◌, ◌⊎◌, ℕ, ◌+◌, ◌-◌, true, false, List, [], ◌∷◌, ◌++◌, length, map, Some, slice_get, option_map, codes, pos, if◌then◌else◌}
+use Rattle.std.specs.List.{AllByRecursion, flat_map}
+use Rattle.sem_words.specs.declared.word.TrapKind.TheVariants.{TableEntry, OtherType}
+use Rattle.sem_words.specs.Words.{trap_code}
+use Rattle.session_lang.specs.Names.{export_name}
+use Rattle.session_lang.specs.Observation.{trap_name}
+use Rattle.wasm_lang.specs.declared.types.ExportKind.{ExportKind}
+use Rattle.wasm_lang.specs.declared.types.ExportKind.TheVariants as exports
+use Rattle.wasm_lang.specs.Modules.{FunctionType, Exported as Export, WasmModule}
+use Rattle.wasm_lang_valid.specs.ModuleRules.{function_types, has_memory}
+use Rattle.asm_lang.specs.Modules.{lit, call, no_exprs, exprs, Stmt, plain, Stmts, stmts, Function, Table, Module}
+use Rattle.asm_lang_valid.specs.Refusal.{Exported, exported_from}
+use Rattle.asm_lang_valid.specs.Scope.{Signature, signature_of, a_foreign, meaning, is_in}
+use Rattle.wasm2js_lang.specs.Calling.{Entry, entry, words, has_result}
+
+-- ---- helpers, by their names: how many ints each takes, and whether it gives one
+
+-- shifts, a rotation and counts of bits of 64-bit words; quotients and remainders of 32-bit words
+abbrev pub word_helpers : List Entry
+word_helpers =
+    entry (codes "$shl") 3 true ∷ entry (codes "$shrs") 3 true ∷ entry (codes "$shru") 3 true ∷ entry (codes "$rotl") 3 true
+    ∷ entry (codes "$clz") 2 true ∷ entry (codes "$ctz") 2 true ∷ entry (codes "$pop") 1 true
+    ∷ entry (codes "$divs") 2 true ∷ entry (codes "$divu") 2 true ∷ entry (codes "$rems") 2 true ∷ entry (codes "$remu") 2 true ∷ []
+
+-- words at any place of the memory, read and written; runs of bytes
+abbrev pub memory_helpers : List Entry
+memory_helpers =
+    entry (codes "$load32") 1 true ∷ entry (codes "$load64") 1 true ∷ entry (codes "$store32") 2 false ∷ entry (codes "$store64") 3 false
+    ∷ entry (codes "$copy") 3 false ∷ entry (codes "$fill") 3 false ∷ []
+
+abbrev pub helpers_asked : WasmModule → List Entry
+helpers_asked w = word_helpers ++ (if has_memory w then memory_helpers else [])
+
+-- ---- functions of the source: the imported ones first, as WebAssembly numbers them, and all after the helpers
+
+-- each word of 64 bits is two ints
+abbrev pub signature_asked : FunctionType → Signature
+signature_asked t = record { params = words t.params; result = has_result t.results }
+
+-- where function k of the source stands
+abbrev pub place_of : WasmModule → (k : ℕ) → ℕ
+place_of w k = length (helpers_asked w) + k
+
+-- ---- functions that trap: they stand in tables where a call finds no function of its type
+
+-- `$trap(kind);`
+abbrev pub trap_call : (kind : ℕ) → Stmt
+trap_call kind = plain (call trap_name (exprs (lit (pos kind)) no_exprs))
+
+-- what the function does first is a call of the trap import with this number
+pub record Traps (a : Module) (kind : ℕ) (f : Function) : Type 0 where
+  pub more : Stmts
+  pub first : f.body ≡ stmts (trap_call kind) more
+  pub of_host : meaning a f trap_name ≡ a_foreign trap_name
+
+-- a function that is a member of a table, and traps as a call of an empty entry does, or of an entry of another type
+pub record IsStub (a : Module) (f : Function) : Type 0 where
+  pub table : Table
+  pub place : ℕ
+  pub is_table : slice_get a.tables place ≡ Some table
+  pub is_member : is_in f.name table.members ≡ true
+  pub traps : Traps a (trap_code TableEntry) f ⊎ Traps a (trap_code OtherType) f
+
+-- ---- exports: the first begins a session, and the second gives the high word of the last 64-bit result
+
+abbrev pub exported_kind : WasmModule → (key : List ℕ) → ExportKind → List Exported
+exported_kind w key (exports.Func f) = record { key = key; function = place_of w f } ∷ []
+exported_kind w key _ = []
+
+-- with the number of each one's function
+abbrev pub exports_asked : WasmModule → Module → List Exported
+exports_asked w a =
+    record { key = codes "$init"; function = length a.functions - 2 }
+    ∷ record { key = codes "$hi"; function = length a.functions - 1 }
+    ∷ flat_map (λ (e : Export). exported_kind w (export_name e.name) e.kind) w.exports
+
+-- ---- the functions, in order, and no other
+
+abbrev pub as_entry : Function → Entry
+as_entry f = record { key = f.name; signature = signature_of f }
+
+pub record HasFunctions (w : WasmModule) (a : Module) : Type 0 where
+  pub helpers : List Function
+  pub source : List Function
+  pub stubs : List Function
+  pub last : List Function
+  pub all : a.functions ≡ helpers ++ source ++ stubs ++ last
+  pub are_helpers : map as_entry helpers ≡ helpers_asked w
+  pub are_source : map (λ f. Some (signature_of f)) source ≡ map (λ t. option_map signature_asked (slice_get w.types t)) (function_types w)
+  pub are_stubs : AllByRecursion (IsStub a) stubs
+  pub are_last : map as_entry last ≡ entry (codes "$init") 0 false ∷ entry (codes "$hi") 0 true ∷ []
+  pub exported : exported_from a a.exports ≡ exports_asked w a

@@ -1,0 +1,3 @@
+-- The helpers that read the memory.
+pub mod Loaded
+pub mod Bytes

@@ -1,0 +1,3 @@
+-- The helpers that read the memory.
+pub mod Answers
+pub mod Laws

@@ -1,5 +1,0 @@
-use Rattle.wasm2js_laws_kept.proofs.ControlKept.{code_is_kept}
-use Rattle.wasm2js_laws_kept.proofs.control_laws.control.Goals as goal
-
-pub returns : goal.returns
-returns c = code_is_kept

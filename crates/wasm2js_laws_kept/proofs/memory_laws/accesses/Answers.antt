@@ -1,5 +1,0 @@
-use Rattle.wasm2js_laws_kept.proofs.MemoryAccessed.{accesses_are_kept}
-use Rattle.wasm2js_laws_kept.proofs.memory_laws.accesses.Goals as goal
-
-pub returns : goal.returns
-returns c = accesses_are_kept

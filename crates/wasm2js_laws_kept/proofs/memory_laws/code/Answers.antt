@@ -1,5 +1,0 @@
-use Rattle.wasm2js_laws_kept.proofs.MemoryAccessed.{all_code_is_kept}
-use Rattle.wasm2js_laws_kept.proofs.memory_laws.code.Goals as goal
-
-pub returns : goal.returns
-returns c = all_code_is_kept

@@ -1,5 +1,0 @@
-use Rattle.wasm2js_laws_kept.proofs.OccurringKept.{occurring_are_kept}
-use Rattle.wasm2js_laws_kept.proofs.occurring_laws.occurring.Goals as goal
-
-pub returns : goal.returns
-returns c = occurring_are_kept

@@ -1,5 +1,0 @@
-use Rattle.wasm2js_laws_kept.proofs.SwitchesTabled.{indexed_branches_are_kept}
-use Rattle.wasm2js_laws_kept.proofs.switches_laws.switches.Goals as goal
-
-pub returns : goal.returns
-returns c = indexed_branches_are_kept

@@ -1,5 +1,0 @@
-use Rattle.wasm2js_laws_kept.proofs.WideExtending.{constant_is}
-use Rattle.wasm2js_laws_kept.proofs.wide_laws.constants.Goals as goal
-
-pub returns : goal.returns
-returns c = constant_is

@@ -1,8 +1,0 @@
-pub mod Lists
-pub mod Stand
-pub mod Exporting
-pub mod Stubs
-pub mod Powers
-pub mod Tabling
-pub mod Importing
-pub mod Whole

@@ -1,9 +1,0 @@
-//! From asm.js to WebAssembly and back: the two translations compose.
-#![tactic(auto)]
-
-ghost use Rattle.wasm2js_laws_round_trip.specs.Laws.{RoundTripsSimulate};
-
-/// Whatever may be written for a module of asm.js as WebAssembly, and for that as asm.js, simulates the module.
-pub fn round_trips()
-    ensures { RoundTripsSimulate }
-{}

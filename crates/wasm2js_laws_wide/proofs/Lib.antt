@@ -1,0 +1,10 @@
+pub mod Looked
+pub mod Steps
+pub mod Standing
+pub mod Named
+pub mod Sums
+pub mod Turns
+pub mod Counts
+pub mod Extended
+pub mod Compared
+pub mod Each

@@ -1,0 +1,3 @@
+mod Sessions
+pub mod Joined
+pub mod Spelling

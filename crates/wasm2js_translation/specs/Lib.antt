@@ -1,0 +1,15 @@
+pub mod Pairs
+pub mod Wide
+pub mod Actions
+pub mod Helpers
+pub mod Bodies
+pub mod Rooms
+pub mod Tables
+pub mod Modules
+pub mod Pieces
+pub mod Programs
+pub mod Sessions
+pub mod Worked
+pub mod TermsLaws
+pub mod Names
+pub mod Words

@@ -1,0 +1,149 @@
+//! Worked code and sessions. Each function does nothing, and its contract is what the check computes of small modules.
+ghost use Rattle.std.specs.Prelude.{◌≡◌, ◌∷◌, [], pos, negsuc, Some, codes};
+ghost use Rattle.sem_words.specs.declared.word.Word.TheVariants.{W32};
+ghost use Rattle.session_lang.specs.Observation.{done, stopped, running, ended, call_returned, call_gave, import_called};
+ghost use Rattle.wasm2js_translation.specs.Pieces.{loading, storing, choosing, adding, tabled};
+ghost use Rattle.wasm2js_translation.specs.Programs.{adding_shape, adding_script, no_shape, starting, starting_script, asking, asking_shape, asking_script, copying, copying_script, narrow, narrow_script, dividing, by_zero_script, overflow_script, wide, wide_shape, wide_script};
+ghost use Rattle.wasm2js_translation.specs.Sessions.{variables, variables_shape, variables_script, turning, turning_script, branching, branching_script, trapping, trapping_script, calling, calling_shapes, calling_script, entry_script, entry_shape, remembering, memory_shape, memory_script};
+ghost use Rattle.wasm2js_translation.specs.Worked.{text_of, tables_of, variables_of, exports_of, target_seen, events_at, first_bytes, IsAlike};
+
+/// The four bytes from 3 past the address lie in a page where the address is at most 65529; they are
+/// read as a word where its place is a multiple of four.
+pub fn a_guarded_load()
+    ensures { text_of loading (codes "f0") ≡ codes "function f0(x0){x0=x0|0;var s0=0;s0=x0;if(s0>>>0>65529)$trap(2);if((s0+3|0)&3|0){s0=$load32(s0+3|0)|0;}else{s0=$w[s0+3>>2]|0;}return s0|0;}" }
+{}
+
+/// Both words of a store of 64 bits are written after one test of all eight bytes.
+pub fn an_unaligned_store()
+    ensures { text_of storing (codes "f0") ≡ codes "function f0(x0,x1,X1){x0=x0|0;x1=x1|0;X1=X1|0;var s0=0;var S0=0;var s1=0;var S1=0;s0=x0;s1=x1;S1=X1;if(s0>>>0>65528)$trap(2);if(s0&3|0){$store64(s0,s1,S1);}else{$w[s0>>2]=s1;$w[s0+4>>2]=S1;}}" }
+{}
+
+/// A branch by an index, to the inner block, whose result stands where it has to, and to the outer one,
+/// to which it is moved.
+pub fn a_branch_by_an_index()
+    ensures { text_of choosing (codes "f0") ≡ codes "function f0(x0){x0=x0|0;var s0=0;var s1=0;var s2=0;L0:{s0=7;L1:{s1=10;s2=x0;switch(s2|0){case 0:break L1;case 1:s0=s1;break L0;default:break L1;}}s0=s0+s1|0;s0=20;}return s0|0;}" }
+{}
+
+/// A sum of words of 64 bits with its carry; the high word of the result is left in `$h`.
+pub fn a_wide_sum()
+    ensures { text_of adding (codes "f0") ≡ codes "function f0(x0,X0,x1,X1){x0=x0|0;X0=X0|0;x1=x1|0;X1=X1|0;var s0=0;var S0=0;var s1=0;var S1=0;s0=x0;S0=X0;s1=x1;S1=X1;s0=s0+s1|0;S0=S0+S1+(s0>>>0<s1>>>0)|0;$h=S0;return s0|0;}" }
+{}
+
+/// Calls of an entry: types of one form share a table, an entry of another type and one that isn't there
+/// have functions that trap.
+pub fn a_call_of_an_entry()
+    ensures wide { text_of tabled (codes "f2") ≡ codes "function f2(x0){x0=x0|0;var s0=0;var S0=0;var s1=0;s0=5;s1=x0;if(s1>>>0>3)$trap(5);s0=t0[s1&3](s0)|0;S0=$h;$h=S0;return s0|0;}" }
+    ensures no_result { text_of tabled (codes "f3") ≡ codes "function f3(x0){x0=x0|0;var s0=0;var s1=0;s0=6;s1=x0;if(s1>>>0>3)$trap(5);t1[s1&3](s0);}" }
+    ensures tables { tables_of tabled ≡ codes "var t0=[f0,o3,e3,e3];\nvar t1=[o2,f1,e2,e2];\n" }
+    ensures no_entry { text_of tabled (codes "e3") ≡ codes "function e3(x0){x0=x0|0;$trap(5);return 0;}" }
+    ensures other_entry { text_of tabled (codes "o2") ≡ codes "function o2(x0){x0=x0|0;$trap(6);}" }
+{}
+
+/// Helpers: words of 64 bits as two words, a quotient with its traps, a load at any place, a copy and a
+/// fill of a page.
+pub fn helpers()
+    ensures shift { text_of loading (codes "$shl") ≡ codes "function $shl(x0,x1,x2){x0=x0|0;x1=x1|0;x2=x2|0;if(x2&32){$q=x0<<x2;return 0|0;}$q=(x1<<x2)+(x0>>>1>>>~x2)|0;return x0<<x2|0;}" }
+    ensures rotation { text_of loading (codes "$rotl") ≡ codes "function $rotl(x0,x1,x2){x0=x0|0;x1=x1|0;x2=x2|0;var s0=0;if(x2&32){s0=x0;x0=x1;x1=s0;}$q=(x1<<x2)+(x0>>>1>>>~x2)|0;return(x0<<x2)+(x1>>>1>>>~x2)|0;}" }
+    ensures zeros { text_of loading (codes "$ctz") ≡ codes "function $ctz(x0,x1){x0=x0|0;x1=x1|0;if(x0){return 32-$clz32(~x0&(x0-1|0))|0;}return 64-$clz32(~x1&(x1-1|0))|0;}" }
+    ensures bits { text_of loading (codes "$pop") ≡ codes "function $pop(x0){x0=x0|0;var s0=0;while(x0){s0=s0+(x0&1)|0;x0=x0>>>1;}return s0|0;}" }
+    ensures quotient { text_of loading (codes "$divs") ≡ codes "function $divs(x0,x1){x0=x0|0;x1=x1|0;if((x1|0)==(0|0))$trap(3);if((x0|0)==(-2147483648|0)&(x1|0)==(-1|0))$trap(4);return(x0|0)/(x1|0)|0;}" }
+    ensures load { text_of loading (codes "$load64") ≡ codes "function $load64(x0){x0=x0|0;$q=($u8[x0+4>>0]|0)+(($u8[x0+5>>0]|0)<<8)+(($u8[x0+6>>0]|0)<<16)+(($u8[x0+7>>0]|0)<<24)|0;return($u8[x0>>0]|0)+(($u8[x0+1>>0]|0)<<8)+(($u8[x0+2>>0]|0)<<16)+(($u8[x0+3>>0]|0)<<24)|0;}" }
+    ensures copy { text_of loading (codes "$copy") ≡ codes "function $copy(x0,x1,x2){x0=x0|0;x1=x1|0;x2=x2|0;var s0=0;if(x2>>>0>65536)$trap(2);if(x0>>>0>65536-x2>>>0)$trap(2);if(x1>>>0>65536-x2>>>0)$trap(2);if(x0>>>0<=x1>>>0){if(((x0|x1)&3|0)==(0|0)){while((s0|0)<=(x2-4|0)){$w[x0+s0>>2]=$w[x1+s0>>2]|0;s0=s0+4|0;}}while((s0|0)<(x2|0)){$u8[x0+s0>>0]=$u8[x1+s0>>0]|0;s0=s0+1|0;}}else{if(((x0|x1|x2)&3|0)==(0|0)){while((x2|0)>(0|0)){x2=x2-4|0;$w[x0+x2>>2]=$w[x1+x2>>2]|0;}}else{while((x2|0)>(0|0)){x2=x2-1|0;$u8[x0+x2>>0]=$u8[x1+x2>>0]|0;}}}}" }
+    ensures fill { text_of loading (codes "$fill") ≡ codes "function $fill(x0,x1,x2){x0=x0|0;x1=x1|0;x2=x2|0;var s0=0;var s1=0;if(x2>>>0>65536)$trap(2);if(x0>>>0>65536-x2>>>0)$trap(2);if((x0&3|0)==(0|0)){s1=$imul(x1&255,16843009);while((s0|0)<=(x2-4|0)){$w[x0+s0>>2]=s1;s0=s0+4|0;}}while((s0|0)<(x2|0)){$u8[x0+s0>>0]=x1;s0=s0+1|0;}}" }
+{}
+
+/// The declarations of a module with imports, globals of both types and no memory, and of one with a
+/// memory; its segment, by words where it can be; the function that calls an import; exports.
+pub fn declarations()
+    ensures variables { variables_of variables ≡ codes "var $imul=stdlib.Math.imul;\nvar $clz32=stdlib.Math.clz32;\nvar $trap=foreign.$trap;\nvar $high=foreign.$high;\nvar $q=0;\nvar $h=0;\nvar i0=foreign.p;\nvar i1=foreign.q;\nvar g0=foreign.base|0;\nvar g1=foreign.base|0;\nvar g2=-2147483648;\nvar G2=256;\n" }
+    ensures views { variables_of loading ≡ codes "var $u8=new stdlib.Uint8Array(heap);\nvar $i8=new stdlib.Int8Array(heap);\nvar $w=new stdlib.Int32Array(heap);\nvar $imul=stdlib.Math.imul;\nvar $clz32=stdlib.Math.clz32;\nvar $trap=foreign.$trap;\nvar $high=foreign.$high;\nvar $q=0;\nvar $h=0;\n" }
+    ensures segment { text_of remembering (codes "$init") ≡ codes "function $init(){$u8[6]=1;$u8[7]=2;$w[2]=100992003;$u8[12]=255;$u8[13]=8;}" }
+    ensures start { text_of starting (codes "$init") ≡ codes "function $init(){f1();}" }
+    ensures narrow_import { text_of starting (codes "f0") ≡ codes "function f0(x0){x0=x0|0;i0(x0|0);}" }
+    ensures wide_import { text_of asking (codes "f0") ≡ codes "function f0(){var s0=0;s0=i0()|0;$h=$high()|0;return s0|0;}" }
+    ensures exports { exports_of calling ≡ codes "return{$init:$init,$hi:$hi,f:f1,$x7020616761696e:f0};" }
+{}
+
+/// 4294967295 + 4294967295 is 8589934590. `$init`, the function and `$hi` take a unit each, and the high
+/// word is shown by the last one.
+pub fn a_session_of_a_wide_sum()
+    ensures alike { IsAlike adding adding_shape adding_script 100 100 }
+    ensures at_0 { target_seen adding adding_shape adding_script 0 ≡ Some (running []) }
+    ensures at_1 { target_seen adding adding_shape adding_script 1 ≡ Some (running (call_returned ∷ [])) }
+    ensures at_2 { target_seen adding adding_shape adding_script 2 ≡ Some (running (call_returned ∷ call_gave (W32 4294967294) ∷ [])) }
+    ensures at_3 { target_seen adding adding_shape adding_script 3 ≡ Some (ended (call_returned ∷ call_gave (W32 4294967294) ∷ call_gave (W32 1) ∷ []) done []) }
+{}
+
+/// A start function that calls an import, and then traps: all of it in the call of `$init`.
+pub fn a_session_of_a_start_function()
+    ensures alike { IsAlike starting no_shape starting_script 100 100 }
+    ensures at_2 { target_seen starting no_shape starting_script 2 ≡ Some (running []) }
+    ensures at_3 { target_seen starting no_shape starting_script 3 ≡ Some (ended (import_called (codes "p") (W32 9 ∷ []) ∷ []) (stopped (codes "$trap") (W32 1 ∷ [])) []) }
+{}
+
+/// Operators on words of 32 bits; and the quotients that trap.
+pub fn narrow_operators()
+    ensures all { IsAlike narrow no_shape narrow_script 2000 1000 }
+    ensures by_zero { IsAlike dividing no_shape by_zero_script 100 100 }
+    ensures overflow { IsAlike dividing no_shape overflow_script 100 100 }
+{}
+
+/// Operators on words of 64 bits.
+pub fn wide_operators()
+    ensures { IsAlike wide wide_shape wide_script 2000 2000 }
+{}
+
+/// Locals, globals and choices of both types.
+pub fn variables_of_both_types()
+    ensures { IsAlike variables variables_shape variables_script 200 200 }
+{}
+
+/// Loops, ifs, branches by an index to blocks and to a loop, and branches out of the function.
+pub fn branches()
+    ensures turns { IsAlike turning no_shape turning_script 1000 1000 }
+    ensures many_labels { IsAlike branching no_shape branching_script 200 200 }
+{}
+
+/// Calls of a function and of an import with words of both types; the import is exported under a name
+/// that asm.js can't spell.
+pub fn calls()
+    ensures { IsAlike calling calling_shapes calling_script 300 300 }
+{}
+
+/// A module that imports `$trap` and `$high` itself.
+pub fn own_traps()
+    ensures { IsAlike trapping no_shape trapping_script 100 100 }
+{}
+
+/// Entries of a table: one of the right type, one of another type, one that isn't there, one past the
+/// table, and one past all tables.
+pub fn entries()
+    ensures right { IsAlike tabled entry_shape (entry_script (pos 0)) 100 100 }
+    ensures other { IsAlike tabled entry_shape (entry_script (pos 1)) 100 100 }
+    ensures empty { IsAlike tabled entry_shape (entry_script (pos 2)) 100 100 }
+    ensures past { IsAlike tabled entry_shape (entry_script (pos 3)) 100 100 }
+    ensures far { IsAlike tabled entry_shape (entry_script (negsuc 0)) 100 100 }
+{}
+
+/// A reply of 64 bits whose high word is asked for, and the bytes that it writes: 5 * 2^32 + 7, and -56
+/// of two bytes. What the import does itself takes no unit.
+pub fn a_reply_with_byte_writes()
+    ensures alike { IsAlike asking asking_shape asking_script 100 100 }
+    ensures at_2 { events_at asking asking_shape asking_script 2 ≡ Some (call_returned ∷ []) }
+    ensures at_3 { events_at asking asking_shape asking_script 3 ≡ Some (call_returned ∷ import_called (codes "p") [] ∷ call_gave (W32 4294967247) ∷ []) }
+    ensures at_4 { events_at asking asking_shape asking_script 4 ≡ Some (call_returned ∷ import_called (codes "p") [] ∷ call_gave (W32 4294967247) ∷ call_gave (W32 4) ∷ []) }
+{}
+
+/// A copy to one byte further takes a unit for each byte, from the last one on, and one more; a copy that
+/// passes the end of the memory traps.
+pub fn copies()
+    ensures alike { IsAlike copying no_shape copying_script 100 100 }
+    ensures before_the_last_turn { events_at copying no_shape copying_script 8 ≡ Some (call_returned ∷ []) }
+    ensures after_it { events_at copying no_shape copying_script 9 ≡ Some (call_returned ∷ call_returned ∷ []) }
+    ensures at_the_end { first_bytes 8 copying no_shape copying_script 11 ≡ Some (1 ∷ 1 ∷ 2 ∷ 3 ∷ 4 ∷ 5 ∷ 0 ∷ 0 ∷ []) }
+{}
+
+/// Stores and loads of all forms at places of both kinds, a fill, and a store that passes the end.
+pub fn stores_and_loads()
+    ensures { IsAlike remembering memory_shape memory_script 500 500 }
+{}
