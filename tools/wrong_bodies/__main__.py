@@ -1,10 +1,11 @@
 #!/usr/bin/env python3
-"""python3 tools/wrong_bodies [NAME ..] [--list] [--applies] [--jobs N] [--in FOLDER]
+"""python3 tools/wrong_bodies [NAME ..] [--list] [--applies]
 
 Tries wrong bodies of the program, each of which gives another meaning to what was asked for, on a copy of the repository: each must be refused,
-and by the clause that its file names. --list tells them and tries none; --applies says only whether each can still be put into the sources;
---jobs N tries those of N crates at a time; --in FOLDER makes the copy there and keeps it, so that a later run begins with what this one built.
-The status is 1 where one isn't refused, is refused by another clause, or can't be tried.
+and by the clause that its file names. --list tells them and tries none; --applies says only whether each can still be put into the sources.
+They are tried by one `rt ci` of their crates, as must-fail edits of the copy: what earlier runs on this machine proved of the same files, and the
+wrong bodies that they tried, are taken from what the kit keeps. The status is 1 where one isn't refused, is refused by another clause, or can't
+be tried.
 
 NAME.edit in this folder is one wrong body, with lines that begin with
 
@@ -17,8 +18,6 @@ NAME.edit in this folder is one wrong body, with lines that begin with
     edit:     in place of these and of `crate:`, an edit of crates/*/must-fail
 """
 import argparse
-import concurrent.futures
-import contextlib
 import pathlib
 import re
 import shutil
@@ -96,11 +95,8 @@ class WrongBody:
 
 
 def copy_of_sources(folder):
-    """What the prover reads: no edit, and nothing that it made but what an earlier copy there has."""
-    for part in folder.glob("crates/*/*"):
-        if part.is_dir() and part.name != "out":
-            shutil.rmtree(part)
-    shutil.copytree(ROOT / "crates", folder / "crates", ignore=shutil.ignore_patterns("out", "must-fail"), dirs_exist_ok=True)
+    """What the prover reads: no edit, and nothing that it made."""
+    shutil.copytree(ROOT / "crates", folder / "crates", ignore=shutil.ignore_patterns("out", "must-fail"))
     for name in ("crates.txt", "HANDLES"):
         shutil.copy(ROOT / name, folder / name)
     return folder
@@ -127,15 +123,17 @@ def verdict(body, said):
     return False, f"{by} by {body.refused_by()}"
 
 
-def try_by_proof(folder, crate, bodies):
-    """The verdicts on the wrong bodies of a crate."""
-    edits = folder / "crates" / crate / "must-fail"
-    edits.mkdir()
+def try_by_proof(folder, bodies):
+    """The verdicts on wrong bodies that clauses are to refuse."""
     for body in bodies:
+        edits = folder / "crates" / body.crate / "must-fail"
+        edits.mkdir(exist_ok=True)
         (edits / f"{body.name}.edit").write_text("".join(f"{key}: {text}\n" for key, text in body.edit))
-    ran = subprocess.run(["rt", "must-fail", crate], cwd=folder, stdin=subprocess.DEVNULL, stdout=subprocess.PIPE, stderr=subprocess.STDOUT, text=True)
+    ran = subprocess.run(
+        ["rt", "ci", *sorted({it.crate for it in bodies})], cwd=folder, stdin=subprocess.DEVNULL, stdout=subprocess.PIPE, stderr=subprocess.STDOUT, text=True
+    )
     for body in bodies:
-        said = re.search(rf"^rt: must-fail {crate}/{body.name}\.edit: (.*)$", ran.stdout, re.M)
+        said = re.search(rf"^rt: must-fail {body.crate}/{body.name}\.edit: (.*)$", ran.stdout, re.M)
         yield body, *(verdict(body, said[1]) if said else (False, f"not tried: {ran.stdout.strip()[-600:]}"))
 
 
@@ -177,12 +175,6 @@ def try_by_test(body):
     return True, f"refused by the test {test} of {crate}"
 
 
-def tried(folder, crate, bodies):
-    by_proof = [it for it in bodies if it.clauses]
-    found = list(try_by_proof(folder, crate, by_proof)) if by_proof else []
-    return found + [(it, *try_by_test(it)) for it in bodies if it.test]
-
-
 def wrong_bodies(names):
     paths = sorted(HERE.glob("*.edit"))
     unknown = set(names) - {it.stem for it in paths}
@@ -191,17 +183,15 @@ def wrong_bodies(names):
     return [WrongBody(it) for it in paths if not names or it.stem in names]
 
 
-def try_all(bodies, jobs, place):
-    """How many aren't refused as they are to be."""
-    crates = {it.crate: [other for other in bodies if other.crate == it.crate] for it in bodies}
-    failed = 0
-    with contextlib.ExitStack() as rooms, concurrent.futures.ThreadPoolExecutor(jobs) as pool:
-        folder = copy_of_sources(place or pathlib.Path(rooms.enter_context(tempfile.TemporaryDirectory(prefix="wrong-bodies-"))))
-        for found in concurrent.futures.as_completed([pool.submit(tried, folder, *it) for it in crates.items()]):
-            for body, is_well, said in found.result():
-                print(f"{body.name}: {said}", flush=True)
-                failed += not is_well
-    return failed
+def verdicts(bodies):
+    """Whether each wrong body is refused as it is to be, and what to print of it."""
+    by_proof = [it for it in bodies if it.clauses]
+    if by_proof:
+        with tempfile.TemporaryDirectory(prefix="wrong-bodies-") as room:
+            yield from try_by_proof(copy_of_sources(pathlib.Path(room)), by_proof)
+    for body in bodies:
+        if body.test:
+            yield body, *try_by_test(body)
 
 
 def main():
@@ -209,8 +199,6 @@ def main():
     words.add_argument("names", nargs="*")
     words.add_argument("--list", action="store_true")
     words.add_argument("--applies", action="store_true")
-    words.add_argument("--jobs", type=int, default=1)
-    words.add_argument("--in", type=pathlib.Path, dest="place")
     words = words.parse_args()
     try:
         bodies = wrong_bodies(words.names)
@@ -220,15 +208,16 @@ def main():
             return 0
         for body in bodies:
             body.changed()
-        if words.place and (words.place / ".git").exists():
-            raise Unusable(f"{words.place} is a checkout, whose files a copy would replace")
     except Unusable as why:
         print(f"wrong_bodies: {why}")
         return 1
     if words.applies:
         print(f"wrong_bodies: {len(bodies)} can be tried")
         return 0
-    failed = try_all(bodies, words.jobs, words.place)
+    failed = 0
+    for body, is_well, said in verdicts(bodies):
+        print(f"{body.name}: {said}", flush=True)
+        failed += not is_well
     print(f"wrong_bodies: {len(bodies) - failed} of {len(bodies)} are refused as they are to be")
     return 1 if failed else 0
 

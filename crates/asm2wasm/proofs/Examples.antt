@@ -1,23 +1,23 @@
 -- The table of a small module with two tables, and modules that don't stand for their text: one whose segment has the functions of a table in
--- another order, one without a function, and one that divides without a guard.
-use Rattle.std.proofs.Common.{◌≡◌, ℕ, ◌+◌, List, [], ◌∷◌, length, map, Some, refl, ap}
+-- another order, one without a function, one that divides without a guard, and one that traps by a byte past the heap.
+use Rattle.std.proofs.Common.{◌≡◌, ℕ, ◌+◌, false, List, [], ◌∷◌, length, map, Some, None, refl, ap}
 use Rattle.std.specs.Prelude.{pos}
-use Rattle.std.proofs.lemmas.List.Elements.{All-nil}
-use Rattle.heap_lang.specs.Numbers.{IsBytes}
+use Rattle.heap_lang.specs.Heap.{load_bytes, run_at, with_run}
 use Rattle.sem_words.specs.declared.word.Bin.TheVariants as bins
 use Rattle.sem_words.specs.declared.word.TrapKind.TheVariants as kinds
 use Rattle.sem_words.specs.declared.js_value.JsOp.TheVariants.{Div}
-use Rattle.session_lang.specs.Script.{WritePlain, ReplyLinePlain, ScriptPlain}
-use Rattle.wasm_lang.specs.Instructions.{plain, const32, local_get, bin32, end_mark}
+use Rattle.session_lang.specs.Script.{ScriptPlain}
+use Rattle.wasm_lang.specs.Instructions.{plain, const32, local_get, bin32, load, if_block, unreachable, end_mark}
 use Rattle.wasm_lang.specs.Modules.{ElementSegment, WasmModule}
 use Rattle.asm_lang.specs.Modules.{binary, returns, var, Table, Module}
+use Rattle.asm_lang_valid.specs.declared.meaning.Element.TheVariants.{Uint8}
 use Rattle.asm_lang_valid.specs.LimitRows.{foreign_calls}
-use Rattle.session_lang.specs.Fits.{writes_of}
-use Rattle.session_lang.specs.Written.{AreBytes, WritesBytes}
+use Rattle.asm_lang_exec.specs.Fits.{misfit}
 use Rattle.asm2wasm_lang.specs.Calling.{exactly}
 use Rattle.asm2wasm_lang.specs.Tables.{entries_of, bases_of}
 use Rattle.asm2wasm_translation.specs.Modules.{translation}
-use Rattle.asm2wasm_translation.specs.Pieces.{a, b, f, r, t, x, y, signed, function, module_of, called, calls_alone, tabled, continuing}
+use Rattle.asm2wasm_translation.specs.Values.{access}
+use Rattle.asm2wasm_translation.specs.Pieces.{a, b, f, r, t, x, y, int, signed, function, module_of, alone, called, calls_alone, tabled, continuing}
 use Rattle.asm2wasm_lang.specs.Parts.{NeverTraps, HasFunctions, tables_for, segments_for, HasTables}
 
 -- ---- two tables, after one foreign function
@@ -74,5 +74,31 @@ unguarded = record (translation quotient 4096) {
 abbrev by_zero : ScriptPlain
 by_zero = calls_alone (called (pos 7 ∷ pos 0 ∷ []) 1 ∷ [])
 
-unguarded_traps : NeverTraps quotient 4096 unguarded → ⊥
+unguarded_traps : NeverTraps unguarded → ⊥
 unguarded_traps never = never by_zero refl 10 kinds.ZeroDivisor refl
+
+-- ---- a byte past the heap
+
+-- `return 0`, in a module with a heap
+abbrev still : Module
+still = alone [] [] (returns (Some (int 0)) ∷ [])
+
+-- it traps where the first byte past the heap isn't 0
+abbrev peeking : WasmModule
+peeking = record (translation still 4096) {
+  bodies = record {
+    locals = [];
+    code = plain (const32 4096) ∷ plain (load (access Uint8 false) 0 0) ∷ if_block None ∷ unreachable ∷ end_mark ∷ plain (const32 0) ∷ end_mark ∷ [];
+  } ∷ [];
+}
+
+-- it fits the module, whose memory is a page, and not the text
+abbrev beyond : ScriptPlain
+beyond = record (calls_alone (called [] 2 ∷ [])) { writes = record { at = 4096; bytes = 1 ∷ []; line = 1 } ∷ [] }
+
+beyond_fits_no_text : misfit still 4096 beyond ≡ Some 1
+beyond_fits_no_text = refl
+
+peeking_traps : NeverTraps peeking → ⊥
+unfolding load_bytes run_at with_run
+peeking_traps never = never beyond refl 10 kinds.Unreachable refl

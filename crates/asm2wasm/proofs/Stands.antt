@@ -31,7 +31,7 @@ use Rattle.asm2wasm_lang.specs.Parts.{NeverTraps, HasFunctions, tables_for, segm
 
 -- ---- traps
 
-never_traps : SessionsNeverTrap → (m : Module) (size : ℕ) → IsAccepted m → IsWellFormed m → is_heap_length size ≡ true → NeverTraps m size (translation m size)
+never_traps : SessionsNeverTrap → (m : Module) (size : ℕ) → IsAccepted m → IsWellFormed m → is_heap_length size ≡ true → NeverTraps (translation m size)
 never_traps no_traps m size accepted formed h = λ s fits n kind is. no_traps m size s accepted formed h fits n (trapped kind) is
 
 -- ---- functions

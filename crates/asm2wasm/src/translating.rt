@@ -58,7 +58,7 @@ pub fn translate_module<'a>(
     ensures exact { IfOk result (λ w. module_of w ≡ translation (module_view checked.now) heap) }
     ensures allowed { IfOk result (λ w. IsAllowed (module_view checked.now) heap (module_of w)) }
     ensures bounded { IfOk result (λ w. IsBounded (module_view checked.now) heap (module_of w)) }
-    ensures never_traps { IfOk result (λ w. NeverTraps (module_view checked.now) heap (module_of w)) }
+    ensures never_traps { IfOk result (λ w. NeverTraps (module_of w)) }
     ensures within { IfOk result (λ w. IsWithinReader (module_of w)) }
     ensures shaped { IfOk result (λ w. IsShaped (module_of w)) }
     ensures writable { IfOk result (λ w. IsOfShortText (module_view checked.now) → IsWritable (module_of w)) }

@@ -36,7 +36,7 @@ pub fn translate<'a>(
     ensures stands { IfOk result (λ valid. StandsFor (module_view checked.now) heap valid) }
     ensures allowed { IfOk result (λ valid. IsAllowed (module_view checked.now) heap valid) }
     ensures bounded { IfOk result (λ valid. IsBounded (module_view checked.now) heap valid) }
-    ensures never_traps { IfOk result (λ valid. NeverTraps (module_view checked.now) heap valid) }
+    ensures never_traps { IfOk result (λ valid. NeverTraps valid) }
     ensures within { IfOk result (λ valid. IsWithinReader valid) }
     ensures writable { IfOk result (λ valid. IsOfShortText (module_view checked.now) → IsWritable valid) }
     ensures profile { IfOk result (λ valid. IsSmall (module_view checked.now) → IsInProfile valid) }

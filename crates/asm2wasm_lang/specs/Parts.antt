@@ -11,21 +11,21 @@ use Rattle.wasm_lang.specs.Modules.{ElementSegment, WasmModule}
 use Rattle.wasm_lang.specs.Shape.{IsShaped, IsWritable}
 use Rattle.wasm_lang_valid.specs.ModuleRules.{imported_functions}
 use Rattle.wasm_lang_valid.specs.Profile.{IsInProfile}
-use Rattle.wasm_lang_exec.specs.Session.{first_store, entries_fit, with_entries}
+use Rattle.wasm_lang_exec.specs.Session.{first_store, entries_fit, with_entries, wasm}
+use Rattle.wasm_lang_exec.specs.Fits.{misfit}
 use Rattle.asm_lang.specs.Modules.{Function, Table, Module}
 use Rattle.asm_lang_valid.specs.LimitRows.{foreign_calls}
 use Rattle.asm_lang_valid.specs.Refusal.{function_number}
-use Rattle.asm_lang_exec.specs.Fits.{misfit}
-use Rattle.asm2wasm_lang.specs.Allowed.{target_session, IsAllowed, IsBounded}
+use Rattle.asm2wasm_lang.specs.Allowed.{IsAllowed, IsBounded}
 use Rattle.asm2wasm_lang.specs.Calling.{exactly}
 use Rattle.asm2wasm_lang.specs.Tables.{entries_of, bases_of}
 use Rattle.asm2wasm_lang.specs.Alone.{exporting, exporting_number}
 use Rattle.asm2wasm_lang.specs.Small.{IsSmall}
 use Rattle.asm2wasm_lang.specs.Short.{IsOfShortText}
 
--- no session of a script that fits the text ends with a trap
-abbrev pub NeverTraps : Module → ℕ → WasmModule → Type 0
-NeverTraps m size w = (s : ScriptPlain) → misfit m size s ≡ None → (n : ℕ) (kind : TrapKind) → (target_session w s n).end ≢ Some (trapped kind)
+-- no session of a script that fits the module ends with a trap, also where the script fits no text, since it writes past the heap
+abbrev pub NeverTraps : WasmModule → Type 0
+NeverTraps w = (s : ScriptPlain) → misfit w s ≡ None → (n : ℕ) (kind : TrapKind) → (wasm w s n).end ≢ Some (trapped kind)
 
 -- ---- functions
 
@@ -63,7 +63,7 @@ pub record HasTables (m : Module) (w : WasmModule) : Type 0 where
 pub record StandsFor (m : Module) (size : ℕ) (w : WasmModule) : Type 0 where
   pub allowed : IsAllowed m size w
   pub bounded : IsBounded m size w
-  pub never_traps : NeverTraps m size w
+  pub never_traps : NeverTraps w
   pub within : IsWithinReader w
   pub shaped : IsShaped w
   pub writable : IsOfShortText m → IsWritable w

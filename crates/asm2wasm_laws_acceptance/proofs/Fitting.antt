@@ -39,11 +39,11 @@ use Rattle.asm2wasm_laws_acceptance.specs.Laws.{ScriptsFit}
 use Rattle.asm2wasm_laws_acceptance.proofs.Imports.{functions_have_types}
 use Rattle.asm2wasm_laws_acceptance.proofs.Bytes.{all_low, imported_bytes}
 
-or_first : (a b : Bool) → a ≡ true → (a || b) ≡ true
+pub or_first : (a b : Bool) → a ≡ true → (a || b) ≡ true
 or_first true b h = refl
 or_first false b h = absurd (cc h)
 
-or_second : (a b : Bool) → b ≡ true → (a || b) ≡ true
+pub or_second : (a b : Bool) → b ≡ true → (a || b) ≡ true
 or_second true b h = refl
 or_second false b h = h
 
@@ -53,13 +53,13 @@ itself n = (bytes_eq-Decides n n).1 refl
 -- ---- what is imported
 
 module _ (m : Module) (size : ℕ) where
-  abbrev w : WasmModule
+  abbrev pub w : WasmModule
   w = translation m size
 
-  abbrev memories : Bool → List Imported
+  abbrev pub memories : Bool → List Imported
   memories b = if b then from_env (codes "memory") (imports.Memory (exactly (pages_for size))) ∷ [] else []
 
-  abbrev asked : List ℕ → GlobalImport
+  abbrev pub asked : List ℕ → GlobalImport
   asked name = record { name = foreign_import name; type = I32 }
 
   no_globals : (b : Bool) → machine.global_imports (memories b) ≡ []
@@ -74,10 +74,10 @@ module _ (m : Module) (size : ℕ) where
   globals_past [] rest = refl
   globals_past (f ∷ fs) rest = globals_past fs rest
 
-  globals_are : machine.global_imports w.imports ≡ map asked (foreign_globals m)
+  pub globals_are : machine.global_imports w.imports ≡ map asked (foreign_globals m)
   globals_are = globals_past (foreign_calls m) (map imported_global (foreign_globals m) ++ memories (has_heap m)) ∙ globals_asked (foreign_globals m)
 
-  abbrev pages_by : Bool → Option ℕ
+  abbrev pub pages_by : Bool → Option ℕ
   pages_by b = if b then Some (pages_for size) else None
 
   pages_past : (fs : List ForeignCall) (rest : List Imported) → machine_pages.imported_pages (map (imported_function m) fs ++ rest) ≡ machine_pages.imported_pages rest
@@ -92,7 +92,7 @@ module _ (m : Module) (size : ℕ) where
   pages_of true = refl
   pages_of false = refl
 
-  imported_pages_are : machine_pages.imported_pages w.imports ≡ pages_by (has_heap m)
+  pub imported_pages_are : machine_pages.imported_pages w.imports ≡ pages_by (has_heap m)
   imported_pages_are =
       pages_past (foreign_calls m) (map imported_global (foreign_globals m) ++ memories (has_heap m)) ∙ pages_after (foreign_globals m) (memories (has_heap m)) ∙ pages_of (has_heap m)
 
@@ -139,13 +139,13 @@ module _ (m : Module) (size : ℕ) where
       let parts = and_parts (source.in_range z) (list_all source.in_range zs) h in
       and_from (machine.in_range I32 z) (machine.takes_arguments (replicate (length zs) I32) zs) parts.0 (arguments_fit zs parts.1)
 
-  abbrev given : text.Exported → Exported
+  abbrev pub given : text.Exported → Exported
   given e = record { name = e.key; kind = exports.Func (length (foreign_calls m) + e.function) }
 
-  abbrev number_after : ℕ → ℕ
+  abbrev pub number_after : ℕ → ℕ
   number_after k = length (foreign_calls m) + k
 
-  number_is : (es : List text.Exported) (key : List ℕ) → machine_session.function_named (map given es) key ≡ option_map number_after (export_number es key)
+  pub number_is : (es : List text.Exported) (key : List ℕ) → machine_session.function_named (map given es) key ≡ option_map number_after (export_number es key)
   number_is [] key = refl
   number_is (e ∷ es) key = by (bytes_eq e.key key) (number_is es key)
     where
@@ -189,7 +189,7 @@ module _ (m : Module) (size : ℕ) where
       by true rest = and_from (machine.in_range I32 z) (machine.has_range (map asked gs) n z) h rest
       by false rest = rest
 
-given_kept : (gs : List GlobalPlain) (n : List ℕ) → is_given gs n ≡ true → is_given (map global_to_wasm gs) (foreign_import n) ≡ true
+pub given_kept : (gs : List GlobalPlain) (n : List ℕ) → is_given gs n ≡ true → is_given (map global_to_wasm gs) (foreign_import n) ≡ true
 given_kept [] n h = absurd (cc h)
 given_kept (g ∷ gs) n h = by (bytes_eq n g.name) refl (given_kept gs n) h
   where
@@ -200,10 +200,10 @@ given_kept (g ∷ gs) n h = by (bytes_eq n g.name) refl (given_kept gs n) h
         ((bytes_eq-Decides (foreign_import n) (foreign_import g.name)).1 (ap foreign_import ((bytes_eq-Decides n g.name).0 e)))
     by false e rest h = or_second (bytes_eq (foreign_import n) (foreign_import g.name)) (is_given (map global_to_wasm gs) (foreign_import n)) (rest h)
 
-env_bytes : IsBytes (codes "env")
+pub env_bytes : IsBytes (codes "env")
 env_bytes = all_low (codes "env") (omega arith, (omega arith, (omega arith, tt)))
 
-given_back : (gs : List GlobalPlain) (n : List ℕ) → AllByRecursion (λ (g : GlobalPlain). IsBytes g.name) gs → IsBytes n → is_given (map global_to_wasm gs) (foreign_import n) ≡ true → is_given gs n ≡ true
+pub given_back : (gs : List GlobalPlain) (n : List ℕ) → AllByRecursion (λ (g : GlobalPlain). IsBytes g.name) gs → IsBytes n → is_given (map global_to_wasm gs) (foreign_import n) ≡ true → is_given gs n ≡ true
 given_back [] n all bytes h = absurd (cc h)
 given_back (g ∷ gs) n all bytes h = by (bytes_eq (foreign_import n) (foreign_import g.name)) refl (given_back gs n all.1 bytes) h
   where
@@ -223,27 +223,27 @@ not_given gs n all bytes h = by (is_given (map global_to_wasm gs) (foreign_impor
 
 -- ---- a whole script
 
-all_from_places : {A : Type 0} → (P : A → Type 0) (xs : List A) → ((i : ℕ) (x : A) → slice_get xs i ≡ Some x → P x) → AllByRecursion P xs
+pub all_from_places : {A : Type 0} → (P : A → Type 0) (xs : List A) → ((i : ℕ) (x : A) → slice_get xs i ≡ Some x → P x) → AllByRecursion P xs
 all_from_places P [] h = tt
 all_from_places P (x ∷ xs) h = (h 0 x refl, all_from_places P xs (λ i y e. h (suc i) y e))
 
-all_taken : {A : Type 0} → (P : A → Type 0) (xs : List A) (i : ℕ) → AllByRecursion P xs → AllByRecursion P (take i xs)
+pub all_taken : {A : Type 0} → (P : A → Type 0) (xs : List A) (i : ℕ) → AllByRecursion P xs → AllByRecursion P (take i xs)
 all_taken P [] zero all = tt
 all_taken P [] (suc i) all = tt
 all_taken P (x ∷ xs) zero all = tt
 all_taken P (x ∷ xs) (suc i) all = (all.0, all_taken P xs i all.1)
 
 -- what a mapped list has at a place
-mapped_at : {A B : Type 0} → (f : A → B) (xs : List A) (i : ℕ) (y : B) → slice_get (map f xs) i ≡ Some y → (x : A) × (slice_get xs i ≡ Some x) × (y ≡ f x)
+pub mapped_at : {A B : Type 0} → (f : A → B) (xs : List A) (i : ℕ) (y : B) → slice_get (map f xs) i ≡ Some y → (x : A) × (slice_get xs i ≡ Some x) × (y ≡ f x)
 mapped_at f [] i y h = absurd (cc h)
 mapped_at f (x ∷ xs) zero y h = let same : f x ≡ y = cc h in (x, refl, sym same)
 mapped_at f (x ∷ xs) (suc i) y h = mapped_at f xs i y h
 
-holds_or : (b : Bool) → (b ≡ false → ⊥) → b ≡ true
+pub holds_or : (b : Bool) → (b ≡ false → ⊥) → b ≡ true
 holds_or true h = refl
 holds_or false h = absurd (h refl)
 
-clash : {b : Bool} → b ≡ true → b ≡ false → ⊥
+pub clash : {b : Bool} → b ≡ true → b ≡ false → ⊥
 clash t f = cc (t, f)
 
 module _ (m : Module) (size : ℕ) (hold : size ≤ pages_for size * page) (bytes : (n : List ℕ) → is_in n (foreign_globals m) ≡ true → IsBytes n) (s : ScriptPlain) (fits : Fits (source.tests m size) s) where

@@ -11,5 +11,6 @@ pub mod Valid
 pub mod Readable
 pub mod Bytes
 pub mod Fitting
+pub mod Fitted
 pub mod Running
 pub mod Exports

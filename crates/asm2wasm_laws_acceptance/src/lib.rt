@@ -5,6 +5,7 @@
 pub mod exports_laws;
 
 ghost use Rattle.asm2wasm_laws_acceptance.specs.Laws.{FunctionsAreCounted, FunctionsAreAsMany, FunctionsHaveTypes, ImportsHaveTypes, ContextsAreKnown, BodiesAreValid, TranslationIsCalled, FunctionsAreCalled, ImportsAreCalled, TablesAreFilled, CallsAreMade, TranslationIsValid, TranslationIsWithin, TranslationIsRunnable, ScriptsFit};
+ghost use Rattle.asm2wasm_laws_acceptance.specs.Scripts.{ScriptsFitBack};
 
 /// Functions, by number.
 pub fn functions()
@@ -57,9 +58,11 @@ pub fn runnable()
     asm2wasm_lang::heap_lengths();
 }
 
-/// A script that fits the text fits the module.
+/// A script that fits the text fits the module. One that fits the module fits the text, with the names of the text and with the part
+/// of each byte write that lies in the heap.
 pub fn scripts()
-    ensures { ScriptsFit }
+    ensures there { ScriptsFit }
+    ensures back { ScriptsFitBack }
 {
     asm2wasm_lang::heap_lengths();
     asm_laws_print::well_formed_modules();

@@ -1,6 +1,6 @@
 -- A heap at the front of a memory: elements are read and written under a guard that compares their index, as a word, with the number of
 -- elements in the heap, whatever more the memory has.
-use Rattle.std.specs.Prelude.{◌≡◌, ℕ, ◌+◌, ◌*◌, ◌/◌, ◌^◌, ◌≤◌, Bool, true, false, List, ◌++◌, length, All, Option, Some, None, ℤ, pos, nat_lt}
+use Rattle.std.specs.Prelude.{◌≡◌, ℕ, ◌+◌, ◌-◌, ◌*◌, ◌/◌, ◌^◌, ◌≤◌, min, Bool, true, false, List, ◌++◌, length, take, drop, map, All, Option, Some, None, ℤ, pos, nat_lt}
 use Rattle.sem_words.specs.Words.{word_of}
 use Rattle.sem_words.specs.JsValues.{to_uint32_of}
 use Rattle.heap_lang.specs.Heap.{IsHeapLength, load, store, load_bytes, store_bytes}
@@ -57,3 +57,16 @@ abbrev pub WritesStayInFront : Type 0
 WritesStayInFront =
     (ws : List WritePlain) (heap past : List ℕ) → All (λ (w : WritePlain). w.at + length w.bytes ≤ length heap) ws
     → written ws (heap ++ past) ≡ with_writes ws heap ++ past
+
+-- the part of a byte write that lies in a heap of this length, and the part past it, by its place there
+abbrev pub part_in : ℕ → WritePlain → WritePlain
+part_in size w = record w { at = min w.at size; bytes = take (size - w.at) w.bytes }
+
+abbrev pub part_past : ℕ → WritePlain → WritePlain
+part_past size w = record w { at = w.at - size; bytes = drop (size - w.at) w.bytes }
+
+-- .. that a host makes anywhere in the memory, in the heap and past it
+abbrev pub WritesHaveTwoParts : Type 0
+WritesHaveTwoParts =
+    (ws : List WritePlain) (heap past : List ℕ) → All (λ (w : WritePlain). w.at + length w.bytes ≤ length heap + length past) ws
+    → written ws (heap ++ past) ≡ with_writes (map (part_in (length heap)) ws) heap ++ with_writes (map (part_past (length heap)) ws) past

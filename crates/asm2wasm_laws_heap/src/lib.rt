@@ -1,7 +1,7 @@
 //! A heap of asm.js at the front of a memory of WebAssembly: guarded loads and stores, and byte writes.
 #![tactic(auto)]
 
-ghost use Rattle.asm2wasm_laws_heap.specs.Guards.{StoresAreGuarded, LoadsAreGuarded, GuardedBytesAreThere, WritesStayInFront};
+ghost use Rattle.asm2wasm_laws_heap.specs.Guards.{StoresAreGuarded, LoadsAreGuarded, GuardedBytesAreThere, WritesStayInFront, WritesHaveTwoParts};
 
 /// A guarded access of the memory is the access of the heap, at each index that is a 32-bit number.
 pub fn guarded_accesses()
@@ -10,7 +10,8 @@ pub fn guarded_accesses()
     ensures there { GuardedBytesAreThere }
 {}
 
-/// Byte writes inside the heap leave what is past it as it is.
+/// Byte writes inside the heap leave what is past it as it is. Those that reach past it are writes of both parts, each by itself.
 pub fn byte_writes()
-    ensures { WritesStayInFront }
+    ensures in_front { WritesStayInFront }
+    ensures anywhere { WritesHaveTwoParts }
 {}

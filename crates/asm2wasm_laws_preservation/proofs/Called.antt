@@ -171,7 +171,7 @@ module _ (s : Surroundings) (limit d : ℕ) where
         → Keeps s limit d (waits ∷ []) has_then on_then whole (and_then part go)
     keeps_waiting k l = record { by = begins }
       where
-        begins : (p : Place) (scratch stack : List Word) → Holds s.home s.heap s.within p → length scratch ≡ s.scratch → p.units ≤ limit
+        begins : (p : Place) (scratch stack : List Word) → Holds s.fixed s.home s.heap s.within p → length scratch ≡ s.scratch → p.units ≤ limit
             → Sim s.worth (EndsAlike s.fixed s.home s.heap) (Shown s d has_then on_then scratch stack) (size whole) p.units (run_from s.target s.fixed (waits ∷ stack) whole scratch p) (and_then part go p)
         begins p scratch stack h many few =
             let both = sizes_add code (one (local_get x) ⊕ more) in

@@ -59,7 +59,7 @@ module _ (s : Surroundings) (limit d : ℕ) where
     inside : (arm : Trees) (part : Part A) → choose c first second ≡ arm → 2 + size arm ≤ size whole → Keeps s limit d [] has on arm part → Keeps s limit d (W32 c ∷ []) has on whole part
     inside arm part is few_more k = record { by = begins }
       where
-        begins : (p : Place) (scratch stack : List Word) → Holds s.home s.heap s.within p → length scratch ≡ s.scratch → p.units ≤ limit
+        begins : (p : Place) (scratch stack : List Word) → Holds s.fixed s.home s.heap s.within p → length scratch ≡ s.scratch → p.units ≤ limit
             → Sim s.worth (EndsAlike s.fixed s.home s.heap) (Shown s d has on scratch stack) (size whole) p.units (run_from s.target s.fixed (W32 c ∷ stack) whole scratch p) (part p)
         begins p scratch stack h many few =
             sim_more s.worth ends A shows (1 + (size arm + 1)) (size whole) p.units entered (part p) (omega (arith, few_more))

@@ -44,7 +44,7 @@ module _ (s : Surroundings) (limit d : ℕ) (enough : d + 2 ≤ s.scratch) where
       → Keeps s limit d (word w ∷ word v ∷ []) AnyValue a_value (translated.guarded x y op) (gives z)
   keeps_guarded op v w z e = keeps_guarding s limit d (word w ∷ word v ∷ []) (Some I32) (local_set y ∷ local_set x ∷ local_get y ∷ []) (on_both op) (number 0 ∷ []) (gives z) does
     where
-      does : (p : Place) (scratch stack : List Word) → Holds s.home s.heap s.within p → length scratch ≡ s.scratch
+      does : (p : Place) (scratch stack : List Word) → Holds s.fixed s.home s.heap s.within p → length scratch ≡ s.scratch
           → Guarding s limit d (word w ∷ word v ∷ []) (local_set y ∷ local_set x ∷ local_get y ∷ []) (on_both op) (number 0 ∷ []) (gives z) p scratch stack
       does p scratch stack h many =
           let room : d + 2 ≤ length scratch = omega (arith, enough, many) in record {
@@ -86,7 +86,7 @@ module _ (s : Surroundings) (limit d : ℕ) (enough : d + 2 ≤ s.scratch) where
       → Keeps s limit d (word w ∷ word v ∷ []) AnyValue a_value (translated.signed_quotient x y) (gives z)
   keeps_signed v w z e = keeps_guarding s limit d (word w ∷ word v ∷ []) (Some I32) quotient_guard (on_both bins.DivS) (on_both bins.Mul) (gives z) does
     where
-      does : (p : Place) (scratch stack : List Word) → Holds s.home s.heap s.within p → length scratch ≡ s.scratch
+      does : (p : Place) (scratch stack : List Word) → Holds s.fixed s.home s.heap s.within p → length scratch ≡ s.scratch
           → Guarding s limit d (word w ∷ word v ∷ []) quotient_guard (on_both bins.DivS) (on_both bins.Mul) (gives z) p scratch stack
       does p scratch stack h many =
           let room : d + 2 ≤ length scratch = omega (arith, enough, many) in record {

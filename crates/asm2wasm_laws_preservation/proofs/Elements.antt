@@ -68,7 +68,7 @@ module _ (s : Surroundings) (limit d : ℕ) (some : d + 1 ≤ s.scratch) (v : El
   small : s.heap < 2 ^ 32
   small = let most = long.1 in omega (arith, most)
 
-  heap_is : (p : Place) → Holds s.home s.heap s.within p → length p.heap ≡ s.heap
+  heap_is : (p : Place) → Holds s.fixed s.home s.heap s.within p → length p.heap ≡ s.heap
   heap_is p h = h.heap ∙ ap (λ (h : Bool). if h then s.heap else 0) has
 
   -- ---- loads
@@ -86,7 +86,7 @@ module _ (s : Surroundings) (limit d : ℕ) (some : d + 1 ≤ s.scratch) (v : El
       i : ℕ
       i = word_of 32 z
 
-      does : (p : Place) (scratch stack : List Word) → Holds s.home s.heap s.within p → length scratch ≡ s.scratch
+      does : (p : Place) (scratch stack : List Word) → Holds s.fixed s.home s.heap s.within p → length scratch ≡ s.scratch
           → Guarding s limit d (W32 (word_of 32 z) ∷ []) (within s.heap k x) arm (number 0 ∷ []) (read_element (a_view v) (Whole z)) p scratch stack
       does p scratch stack h many =
           let old = there s limit d p scratch h scratch d (omega (arith, some, many)) in
@@ -105,15 +105,18 @@ module _ (s : Surroundings) (limit d : ℕ) (some : d + 1 ≤ s.scratch) (v : El
           ls : List Word
           ls = words p.locals ++ slice_set scratch d (W32 i)
 
+          past : List ℕ
+          past = s.fixed.past p.replies.left
+
           memory : List ℕ
-          memory = p.heap ++ s.fixed.past
+          memory = p.heap ++ past
 
           value : (b : Bool) → is_within k s.heap i ≡ b → loaded_word op k i b memory ≡ to_uint32_of (element_value (load (kind_of v) z p.heap))
           value b is =
               let same = heap_is p h in
               ap (λ b. loaded_word op k i b memory) (sym is)
               ∙ ap (λ n. loaded_word op k i (is_within k n i) memory) (sym same)
-              ∙ loads_are_guarded v z p.heap s.fixed.past (subst IsHeapLength (sym same) long) h.bytes in_range
+              ∙ loads_are_guarded v z p.heap past (subst IsHeapLength (sym same) long) h.bytes in_range
 
           by : (b : Bool) → is_within k s.heap i ≡ b
               → effects (choose (flag b) arm (number 0 ∷ [])) [] ls (store_of s.fixed p) ≡ Some (reached (W32 (to_uint32_of (element_value (load (kind_of v) z p.heap))) ∷ []) ls (store_of s.fixed p))
@@ -121,7 +124,7 @@ module _ (s : Surroundings) (limit d : ℕ) (some : d + 1 ≤ s.scratch) (v : El
           by true is =
               let st = store_of s.fixed p in
               let at_x = got s limit d p scratch h scratch d (W32 i) (omega (arith, some, many)) in
-              let there = bytes_are_there k i p.heap s.fixed.past (few_shifts v) (ap (λ n. is_within k n i) (heap_is p h) ∙ is) in
+              let there = bytes_are_there k i p.heap past (few_shifts v) (ap (λ n. is_within k n i) (heap_is p h) ∙ is) in
               let n = little_endian (take (2 ^ k) (drop (i * 2 ^ k) memory)) in
               let bytes : load_bytes (i * 2 ^ k) (2 ^ k) memory ≡ Some n = load_bytes_within (i * 2 ^ k) (2 ^ k) memory there in
               let none : i * 2 ^ k + 0 ≡ i * 2 ^ k = omega arith in
@@ -171,7 +174,7 @@ module _ (s : Surroundings) (limit d : ℕ) (some : d + 1 ≤ s.scratch) (v : El
       n : ℕ
       n = to_uint32_of e
 
-      begins : (p : Place) (scratch stack : List Word) → Holds s.home s.heap s.within p → length scratch ≡ s.scratch → p.units ≤ limit
+      begins : (p : Place) (scratch stack : List Word) → Holds s.fixed s.home s.heap s.within p → length scratch ≡ s.scratch → p.units ≤ limit
           → Sim s.worth (EndsAlike s.fixed s.home s.heap) (Shown s d AnyValue (result wanted) scratch stack) (size (whole wanted)) p.units
           (run_from s.target s.fixed (word e ∷ W32 (word_of 32 z) ∷ stack) (whole wanted) scratch p) (write_element (a_view v) (Whole z) e p)
       begins p scratch stack h many few_units =
@@ -222,11 +225,12 @@ module _ (s : Surroundings) (limit d : ℕ) (some : d + 1 ≤ s.scratch) (v : El
               let same = heap_is p h in
               let old_x = there s limit d p scratch h scratch d (omega (arith, room)) in
               let old_y = there s limit d p scratch h scratch (suc d) (omega (arith, room)) in
-              let joined = length-append p.heap s.fixed.past in
-              let fits : s.heap ≤ length (p.heap ++ s.fixed.past) = omega (arith, same, joined) in
-              let memory : stored_memory k i n inside (p.heap ++ s.fixed.past) ≡ store (kind_of v) z n p.heap ++ s.fixed.past
-              = ap (λ size. stored_memory k i n (is_within k size i) (p.heap ++ s.fixed.past)) (sym same) ∙ stores_are_guarded v z n p.heap s.fixed.past (subst IsHeapLength (sym same) long) in_range in
-              let st = put_memory (stored_memory k i n inside (p.heap ++ s.fixed.past)) (store_of s.fixed p) in
+              let past = s.fixed.past p.replies.left in
+              let joined = length-append p.heap past in
+              let fits : s.heap ≤ length (p.heap ++ past) = omega (arith, same, joined) in
+              let memory : stored_memory k i n inside (p.heap ++ past) ≡ store (kind_of v) z n p.heap ++ past
+              = ap (λ size. stored_memory k i n (is_within k size i) (p.heap ++ past)) (sym same) ∙ stores_are_guarded v z n p.heap past (subst IsHeapLength (sym same) long) in_range in
+              let st = put_memory (stored_memory k i n inside (p.heap ++ past)) (store_of s.fixed p) in
               let counted : cost + j ≡ store_cost k inside + (paid (left_after wanted) + j) = omega arith in
               let end = all_locals s limit d p scratch h after in
               ap r counted

@@ -2,10 +2,10 @@
 use Rattle.std.proofs.Common.{◌≡◌, ℕ, suc, ◌+◌, ◌^◌, ◌<◌, ◌≤◌, Bool, true, false, List, [], ◌∷◌, ◌++◌, length, map, replicate, Some, refl, sym, ap, ◌∙◌, subst, arith}
 use Rattle.std.specs.Prelude.{codes, if◌then◌else◌}
 use Rattle.std.specs.Str.{bytes_eq}
-use Rattle.std.specs.List.{All, AllByRecursion}
+use Rattle.std.specs.List.{AllByRecursion}
 use Rattle.std.proofs.lemmas.Slice.Eq.{bytes_eq-Decides}
 use Rattle.std.proofs.lemmas.List.{map-append, reverse-reverse, length-reverse, length-map, length-replicate}
-use Rattle.std.proofs.lemmas.List.Elements.{All-from_recursion, recursion_from_All}
+use Rattle.std.proofs.lemmas.List.Elements.{recursion_from_All}
 use Rattle.sem_words.specs.declared.word.Word.{Word}
 use Rattle.sem_words.specs.declared.word.Word.TheVariants.{W32}
 use Rattle.sem_words.specs.declared.js_value.JsValue.{JsValue}
@@ -32,12 +32,10 @@ use Rattle.asm_lang_valid.specs.LimitRows.{ForeignCall}
 use Rattle.asm_lang_exec.specs.Runs.{Place}
 use Rattle.asm_lang_exec.specs.Session.{heap_length}
 use Rattle.asm_lang_exec.specs.Values.{with_writes, answered, call_import}
-use Rattle.session_lang.specs.Fits.{writes_of}
 use Rattle.asm2wasm_lang.specs.Calling.{int_type}
 use Rattle.asm2wasm_translation.specs.Numbers.{import_number}
-use Rattle.asm2wasm_laws_heap.proofs.Writes.{writes_stay_in_front}
 use Rattle.asm2wasm_laws_run.specs.Sim.{Sim, Steps}
-use Rattle.asm2wasm_laws_run.specs.State.{words, store_of, Stays, Holds, IsNoTrap, EndsAlike, AnyValue, run_from}
+use Rattle.asm2wasm_laws_run.specs.State.{Fixed, words, store_of, Stays, AreAnswered, Holds, IsNoTrap, EndsAlike, AnyValue, run_from}
 use Rattle.asm2wasm_laws_run.proofs.Simulated.{comes_in, sim_in}
 use Rattle.asm2wasm_laws_preservation.specs.Kept.{word, values, result, Surroundings, Shown, Keeps}
 
@@ -56,34 +54,40 @@ values_length vs = length-reverse (map word vs) ∙ length-map vs word
 
 -- ---- byte writes
 
-heap_stays : (n : ℕ) (ws : List WritePlain) (heap : List ℕ) → AllByRecursion (Stays n) ws → length (with_writes ws heap) ≡ length heap
-heap_stays n [] heap all = refl
-heap_stays n (w ∷ ws) heap all = heap_stays n ws (with_run w.at w.bytes heap) all.1 ∙ length-with_run w.at w.bytes heap
+pub heap_stays : (ws : List WritePlain) (heap : List ℕ) → length (with_writes ws heap) ≡ length heap
+heap_stays [] heap = refl
+heap_stays (w ∷ ws) heap = heap_stays ws (with_run w.at w.bytes heap) ∙ length-with_run w.at w.bytes heap
 
-bytes_stay : (n : ℕ) (ws : List WritePlain) (heap : List ℕ) → AllByRecursion (Stays n) ws → IsBytes heap → IsBytes (with_writes ws heap)
+pub bytes_stay : (n : ℕ) (ws : List WritePlain) (heap : List ℕ) → AllByRecursion (Stays n) ws → IsBytes heap → IsBytes (with_writes ws heap)
 bytes_stay n [] heap all h = h
 bytes_stay n (w ∷ ws) heap all h = bytes_stay n ws (with_run w.at w.bytes heap) all.1 (IsBytes-with_run w.at w.bytes heap all.0.bytes h)
 
-within_all : (n : ℕ) (ws : List WritePlain) → AllByRecursion (Stays n) ws → AllByRecursion (λ (w : WritePlain). w.at + length w.bytes ≤ n) ws
-within_all n [] all = tt
-within_all n (w ∷ ws) all = (all.0.within, within_all n ws all.1)
-
 -- ---- answers
 
--- the same one under the name of the import; a reply's writes stay in the heap
-abbrev Alike : ℕ → ImportAnswer → ImportAnswer → Type 0
-Alike n (ends e) a = (a ≡ ends (end_to_wasm e)) × IsNoTrap e
-Alike n (goes_on g) a =
-    (a ≡ goes_on (record { word = g.word; writes = g.writes; events = map event_to_wasm g.events; replies = g.replies }))
-    × AllByRecursion (Stays n) g.writes × All (λ (r : ReplyPlain). All (Stays n) (writes_of r)) g.replies.left
+-- the caller goes on in both languages; what the machine's byte writes leave past the heap is what is said of the replies that are then left
+record GoesAlike (x : Fixed) (n : ℕ) (left : List ReplyPlain) (g : Given) (a : ImportAnswer) : Type 0 where
+  writes : List WritePlain
+  is : a ≡ goes_on (record { word = g.word; writes = writes; events = map event_to_wasm g.events; replies = record { left = x.replied g.replies.left; last = g.replies.last } })
+  stay : AllByRecursion (Stays n) g.writes
+  memory : (heap : List ℕ) → length heap ≡ n → written writes (heap ++ x.past left) ≡ with_writes g.writes heap ++ x.past g.replies.left
+  answered : AreAnswered x n g.replies.left
 
-abbrev Replied : ℕ → ReplyPlain → Type 0
-Replied n r = All (Stays n) (writes_of r)
+-- the same one under the name of the import
+abbrev Alike : Fixed → ℕ → List ReplyPlain → ImportAnswer → ImportAnswer → Type 0
+Alike x n left (ends e) a = (a ≡ ends (end_to_wasm e)) × IsNoTrap e
+Alike x n left (goes_on g) a = GoesAlike x n left g a
 
-taken_alike : (n : ℕ) (name : List ℕ) (args : List Word) (left : List ReplyPlain) → AllByRecursion (Replied n) left → Alike n (take_reply name args left) (take_reply (foreign_import name) args left)
-taken_alike n name args [] all = (refl, tt)
-taken_alike n name args (throw ∷ left) all = (refl, tt)
-taken_alike n name args (give w ws ∷ left) all = (refl, recursion_from_All (Stays n) ws all.0, All-from_recursion (Replied n) left all.1)
+taken_alike : (x : Fixed) (n : ℕ) (name : List ℕ) (args : List Word) (left : List ReplyPlain) → AreAnswered x n left
+    → Alike x n left (take_reply name args left) (take_reply (foreign_import name) args (x.replied left))
+taken_alike x n name args [] all = (ap (take_reply (foreign_import name) args) all, tt)
+taken_alike x n name args (throw ∷ left) all = (ap (take_reply (foreign_import name) args) all.1, tt)
+taken_alike x n name args (give w ws ∷ left) all = record {
+  writes = all.0.writes;
+  is = ap (take_reply (foreign_import name) args) all.0.reply;
+  stay = recursion_from_All (Stays n) ws all.0.stay;
+  memory = all.0.memory;
+  answered = all.1;
+}
 
 -- the answer, by whether the name is one of the fixed ones
 abbrev answer_by : List ℕ → List Word → Replies → Bool → Bool → ImportAnswer
@@ -92,11 +96,14 @@ answer_by name args replies is_trap is_high =
     else if is_high then goes_on (record { word = high_word replies.last; writes = []; events = []; replies = replies })
     else take_reply name args replies.left
 
-by_alike : (n : ℕ) (name : List ℕ) (args : List Word) (replies : Replies) (is_trap is_high : Bool) → All (Replied n) replies.left
-    → Alike n (answer_by name args replies is_trap is_high) (answer_by (foreign_import name) args replies is_trap is_high)
-by_alike n name args replies true is_high all = (refl, tt)
-by_alike n name args replies false true all = (refl, tt, all)
-by_alike n name args replies false false all = taken_alike n name args replies.left (recursion_from_All (Replied n) replies.left all)
+abbrev replied : Fixed → Replies → Replies
+replied x r = record { left = x.replied r.left; last = r.last }
+
+by_alike : (x : Fixed) (n : ℕ) (name : List ℕ) (args : List Word) (r : Replies) (is_trap is_high : Bool) → AreAnswered x n r.left
+    → Alike x n r.left (answer_by name args r is_trap is_high) (answer_by (foreign_import name) args (replied x r) is_trap is_high)
+by_alike x n name args r true is_high all = (refl, tt)
+by_alike x n name args r false true all = record { writes = []; is = refl; stay = tt; memory = λ heap long. refl; answered = all }
+by_alike x n name args r false false all = taken_alike x n name args r.left all
 
 same_test : (name fixed : List ℕ) → foreign_import fixed ≡ fixed → (foreign_import name ≡ fixed → name ≡ fixed) → bytes_eq (foreign_import name) fixed ≡ bytes_eq name fixed
 same_test name fixed keeps back = by (bytes_eq name fixed) (bytes_eq (foreign_import name) fixed) refl refl
@@ -113,13 +120,14 @@ same_test name fixed keeps back = by (bytes_eq name fixed) (bytes_eq (foreign_im
         let test = (bytes_eq-Decides name fixed).1 is in
         absurd (cc (e, test))
 
-answers_alike : (n : ℕ) (name : List ℕ) (args : List Word) (replies : Replies) → All (Replied n) replies.left → Alike n (answer_import name args replies) (answer_import (foreign_import name) args replies)
-answers_alike n name args replies all =
+answers_alike : (x : Fixed) (n : ℕ) (name : List ℕ) (args : List Word) (r : Replies) → AreAnswered x n r.left
+    → Alike x n r.left (answer_import name args r) (answer_import (foreign_import name) args (replied x r))
+answers_alike x n name args r all =
     let is_trap = same_test name trap_name refl (λ e. (fixed_names_are_kept.trap (codes "env") name e).1) in
     let is_high = same_test name high_name refl (λ e. (fixed_names_are_kept.high (codes "env") name e).1) in
-    subst (Alike n (answer_import name args replies))
-    (sym (ap (λ b. answer_by (foreign_import name) args replies b (bytes_eq (foreign_import name) high_name)) is_trap ∙ ap (answer_by (foreign_import name) args replies (bytes_eq name trap_name)) is_high))
-    (by_alike n name args replies (bytes_eq name trap_name) (bytes_eq name high_name) all)
+    subst (Alike x n r.left (answer_import name args r))
+    (sym (ap (λ b. answer_by (foreign_import name) args (replied x r) b (bytes_eq (foreign_import name) high_name)) is_trap ∙ ap (answer_by (foreign_import name) args (replied x r) (bytes_eq name trap_name)) is_high))
+    (by_alike x n name args r (bytes_eq name trap_name) (bytes_eq name high_name) all)
 
 -- ---- the call
 
@@ -145,10 +153,10 @@ module _ (s : Surroundings) (limit d : ℕ) (name : List ℕ) (wanted : Bool) (v
       → Keeps s limit d (values vs) AnyValue (result wanted) code (call_import name vs)
   keeps_foreign callee = record { by = begins }
     where
-      begins : (p : Place) (scratch stack : List Word) → Holds s.home s.heap s.within p → length scratch ≡ s.scratch → p.units ≤ limit
+      begins : (p : Place) (scratch stack : List Word) → Holds s.fixed s.home s.heap s.within p → length scratch ≡ s.scratch → p.units ≤ limit
           → Sim s.worth (EndsAlike s.fixed s.home s.heap) (Shown s d AnyValue (result wanted) scratch stack) 1 p.units (run_from s.target s.fixed (values vs ++ stack) code scratch p) (call_import name vs p)
       begins p scratch stack h many few =
-          answers (answer_import name (map word vs) p.replies) (answer_import (foreign_import name) (map word vs) p.replies) (answers_alike (heap_length s.home s.heap) name (map word vs) p.replies h.replies) calls
+          answers (answer_import name (map word vs) p.replies) (answer_import (foreign_import name) (map word vs) st.replies) (answers_alike s.fixed n name (map word vs) p.replies h.replies) calls
         where
           r : Steps
           r = run_from s.target s.fixed (values vs ++ stack) code scratch p
@@ -159,7 +167,10 @@ module _ (s : Surroundings) (limit d : ℕ) (name : List ℕ) (wanted : Bool) (v
           st : Store
           st = store_of s.fixed p
 
-          calls : (k : ℕ) → r (1 + k) ≡ wasm.after_import s.target (answer_import (foreign_import name) (map word vs) p.replies) results ε (at stack ls st k)
+          n : ℕ
+          n = heap_length s.home s.heap
+
+          calls : (k : ℕ) → r (1 + k) ≡ wasm.after_import s.target (answer_import (foreign_import name) (map word vs) st.replies) results ε (at stack ls st k)
           calls k =
               let e : 1 + k ≡ suc k = omega arith in
               let count : length (replicate (length vs) I32) ≡ length (values vs) = length-replicate (length vs) I32 ∙ sym (values_length vs) in
@@ -170,9 +181,9 @@ module _ (s : Surroundings) (limit d : ℕ) (name : List ℕ) (wanted : Bool) (v
               ∙ ap (λ n. wasm.entered s.target c (top_of n (values vs ++ stack)) ε (at (below_top n (values vs ++ stack)) ls st k)) count
               ∙ ap (λ o. wasm.entered s.target c o ε (at (below_top (length (values vs)) (values vs ++ stack)) ls st k)) (top_is (values vs) stack)
               ∙ ap (λ below. wasm.entered s.target c (Some (values vs)) ε (at below ls st k)) (below_is (values vs) stack)
-              ∙ ap (λ args. wasm.after_import s.target (answer_import (foreign_import name) args p.replies) results ε (at stack ls st k)) (reverse-reverse (map word vs))
+              ∙ ap (λ args. wasm.after_import s.target (answer_import (foreign_import name) args st.replies) results ε (at stack ls st k)) (reverse-reverse (map word vs))
 
-          answers : (a a' : ImportAnswer) → Alike (heap_length s.home s.heap) a a' → ((k : ℕ) → r (1 + k) ≡ wasm.after_import s.target a' results ε (at stack ls st k))
+          answers : (a a' : ImportAnswer) → Alike s.fixed n p.replies.left a a' → ((k : ℕ) → r (1 + k) ≡ wasm.after_import s.target a' results ε (at stack ls st k))
               → Sim s.worth (EndsAlike s.fixed s.home s.heap) (Shown s d AnyValue (result wanted) scratch stack) 1 p.units r (answered a p)
           answers (ends e) a' alike run = (
             end_to_wasm e,
@@ -185,22 +196,19 @@ module _ (s : Surroundings) (limit d : ℕ) (name : List ℕ) (wanted : Bool) (v
               sim_in s.worth (EndsAlike s.fixed s.home s.heap) JsValue (Shown s d AnyValue (result wanted) scratch stack) 1 value to r (λ k. Next (at (result wanted value ++ stack) ls (store_of s.fixed to) k))
               (record {
                 is = tt;
-                holds = record { locals = h.locals; globals = h.globals; heap = stays ∙ h.heap; bytes = bytes_stay n g.writes p.heap alike.1 h.bytes; replies = alike.2 };
+                holds = record { locals = h.locals; globals = h.globals; heap = stays ∙ h.heap; bytes = bytes_stay n g.writes p.heap alike.stay h.bytes; replies = alike.answered };
                 scratch_then = scratch;
                 as_many = refl;
                 kept = refl;
                 shown = λ k. refl;
               })
-              (λ k. run k ∙ ap (λ a. wasm.after_import s.target a results ε (at stack ls st k)) alike.0
+              (λ k. run k ∙ ap (λ a. wasm.after_import s.target a results ε (at stack ls st k)) alike.is
               ∙ no_code s.target (at (result_word results g.word ++ stack) ls (wasm.answered g' st) k)
               ∙ ap (λ ws. Next (at (ws ++ stack) ls (wasm.answered g' st) k)) (left_words wanted g.word)
               ∙ ap (λ st. Next (at (result wanted value ++ stack) ls st k)) same)
             where
-              n : ℕ
-              n = heap_length s.home s.heap
-
               g' : Given
-              g' = record { word = g.word; writes = g.writes; events = map event_to_wasm g.events; replies = g.replies }
+              g' = record { word = g.word; writes = alike.writes; events = map event_to_wasm g.events; replies = replied s.fixed g.replies }
 
               value : JsValue
               value = signed_value (low_word g.word)
@@ -209,14 +217,10 @@ module _ (s : Surroundings) (limit d : ℕ) (name : List ℕ) (wanted : Bool) (v
               to = record p { heap = with_writes g.writes p.heap; replies = g.replies; events = p.events ++ g.events }
 
               stays : length (with_writes g.writes p.heap) ≡ length p.heap
-              stays = heap_stays n g.writes p.heap alike.1
-
-              memory : written g.writes (p.heap ++ s.fixed.past) ≡ with_writes g.writes p.heap ++ s.fixed.past
-              memory =
-                  writes_stay_in_front g.writes p.heap s.fixed.past
-                  (subst (λ n. All (λ (w : WritePlain). w.at + length w.bytes ≤ n) g.writes) (sym h.heap) (All-from_recursion (λ (w : WritePlain). w.at + length w.bytes ≤ n) g.writes (within_all n g.writes alike.1)))
+              stays = heap_stays g.writes p.heap
 
               same : wasm.answered g' st ≡ store_of s.fixed to
               same =
-                  ap (λ m. record { memory = m; globals = st.globals; table = st.table; events = map event_to_wasm p.events ++ map event_to_wasm g.events; replies = g.replies }) memory
-                  ∙ ap (λ es. record { memory = with_writes g.writes p.heap ++ s.fixed.past; globals = st.globals; table = st.table; events = es; replies = g.replies }) (sym (map-append event_to_wasm p.events g.events))
+                  let replies = replied s.fixed g.replies in
+                  ap (λ m. record { memory = m; globals = st.globals; table = st.table; events = map event_to_wasm p.events ++ map event_to_wasm g.events; replies = replies }) (alike.memory p.heap h.heap)
+                  ∙ ap (λ es. record { memory = with_writes g.writes p.heap ++ s.fixed.past g.replies.left; globals = st.globals; table = st.table; events = es; replies = replies }) (sym (map-append event_to_wasm p.events g.events))

@@ -45,7 +45,7 @@ module _ (s : Surroundings) (limit : ℕ) where
       → Keeps s limit d from has_then on_then (first ⊕ more) (and_then part go)
   keeps_then {A} {B} d from has on has_then on_then first more part go f g = record { by = begins }
     where
-      begins : (p : Place) (scratch stack : List Word) → Holds s.home s.heap s.within p → length scratch ≡ s.scratch → p.units ≤ limit
+      begins : (p : Place) (scratch stack : List Word) → Holds s.fixed s.home s.heap s.within p → length scratch ≡ s.scratch → p.units ≤ limit
           → Sim s.worth ends (Shown s d has_then on_then scratch stack) (size (first ⊕ more)) p.units (run_from s.target s.fixed (from ++ stack) (first ⊕ more) scratch p) (and_then part go p)
       begins p scratch stack h many few =
           subst (λ z. Sim s.worth ends (Shown s d has_then on_then scratch stack) z p.units (run_from s.target s.fixed (from ++ stack) (first ⊕ more) scratch p) (and_then part go p)) (sym (sizes_add first more))
@@ -177,13 +177,13 @@ module _ (s : Surroundings) (limit : ℕ) where
 
   -- those that change the place and the stack alone
   pub keeps_plains : {A : Type 0} (d : ℕ) (from : List Word) (has : A → Type 0) (on : A → List Word) (ps : List Plain) (a : A) (to : Place → Place)
-      → has a → ((p : Place) → (to p).units ≡ p.units) → ((p : Place) → Holds s.home s.heap s.within p → Holds s.home s.heap s.within (to p))
-      → ((p : Place) (scratch stack : List Word) → Holds s.home s.heap s.within p
+      → has a → ((p : Place) → (to p).units ≡ p.units) → ((p : Place) → Holds s.fixed s.home s.heap s.within p → Holds s.fixed s.home s.heap s.within (to p))
+      → ((p : Place) (scratch stack : List Word) → Holds s.fixed s.home s.heap s.within p
       → effects ps (from ++ stack) (words p.locals ++ scratch) (store_of s.fixed p) ≡ Some (reached (on a ++ stack) (words (to p).locals ++ scratch) (store_of s.fixed (to p))))
       → Keeps s limit d from has on (plains ps) (λ p. goes a (to p))
   keeps_plains {A} d from has on ps a to is same holds does = record { by = begins }
     where
-      begins : (p : Place) (scratch stack : List Word) → Holds s.home s.heap s.within p → length scratch ≡ s.scratch → p.units ≤ limit
+      begins : (p : Place) (scratch stack : List Word) → Holds s.fixed s.home s.heap s.within p → length scratch ≡ s.scratch → p.units ≤ limit
           → Sim s.worth ends (Shown s d has on scratch stack) (size (plains ps)) p.units (run_from s.target s.fixed (from ++ stack) (plains ps) scratch p) (goes a (to p))
       begins p scratch stack h many few =
           let r = run_from s.target s.fixed (from ++ stack) (plains ps) scratch p in

@@ -49,7 +49,7 @@ module _ (s : Surroundings) (limit d : ℕ) where
     pub does : effects (choose flag first second) [] (words p.locals ++ scratch_then) (store_of s.fixed p) ≡ Some (reached (a_value value) (words p.locals ++ scratch_then) (store_of s.fixed p))
 
   pub keeps_guarding : (from : List Word) (r : Option ValType) (guard first second : List Plain) (part : Part JsValue)
-      → ((p : Place) (scratch stack : List Word) → Holds s.home s.heap s.within p → length scratch ≡ s.scratch → Guarding from guard first second part p scratch stack)
+      → ((p : Place) (scratch stack : List Word) → Holds s.fixed s.home s.heap s.within p → length scratch ≡ s.scratch → Guarding from guard first second part p scratch stack)
       → Keeps s limit d from AnyValue a_value (plains guard ⊕ (if_block r (plains first) (plains second) ▹ ε)) part
   keeps_guarding from r guard first second part f = record { by = begins }
     where
@@ -59,7 +59,7 @@ module _ (s : Surroundings) (limit d : ℕ) where
       ends : Ends
       ends = EndsAlike s.fixed s.home s.heap
 
-      begins : (p : Place) (scratch stack : List Word) → Holds s.home s.heap s.within p → length scratch ≡ s.scratch → p.units ≤ limit
+      begins : (p : Place) (scratch stack : List Word) → Holds s.fixed s.home s.heap s.within p → length scratch ≡ s.scratch → p.units ≤ limit
           → Sim s.worth ends (Shown s d AnyValue a_value scratch stack) (size code) p.units (run_from s.target s.fixed (from ++ stack) code scratch p) (part p)
       begins p scratch stack h many few =
           let x = f p scratch stack h many in
@@ -90,7 +90,7 @@ module _ (s : Surroundings) (limit d : ℕ) where
   abbrev pub scratch_y : ℕ
   scratch_y = first_scratch s.within + suc d
 
-  module _ (p : Place) (scratch : List Word) (h : Holds s.home s.heap s.within p) where
+  module _ (p : Place) (scratch : List Word) (h : Holds s.fixed s.home s.heap s.within p) where
     abbrev pub all_locals : List Word → List Word
     all_locals sc = words p.locals ++ sc
 

@@ -84,15 +84,15 @@ module _ (s : Surroundings) (limit d : ℕ) where
     pub to : Place
     pub is : part p ≡ goes value to
     pub units : to.units ≡ p.units
-    pub holds : Holds s.home s.heap s.within to
+    pub holds : Holds s.fixed s.home s.heap s.within to
     pub effect : effects ps (from ++ stack) (words p.locals ++ scratch) (store_of s.fixed p) ≡ Some (reached (on value ++ stack) (words to.locals ++ scratch) (store_of s.fixed to))
 
   pub keeps_doing : (from : List Word) (on : JsValue → List Word) (ps : List Plain) (part : Part JsValue)
-      → ((p : Place) (scratch stack : List Word) → Holds s.home s.heap s.within p → Does from on ps part p scratch stack)
+      → ((p : Place) (scratch stack : List Word) → Holds s.fixed s.home s.heap s.within p → Does from on ps part p scratch stack)
       → Keeps s limit d from AnyValue on (plains ps) part
   keeps_doing from on ps part does = record { by = begins }
     where
-      begins : (p : Place) (scratch stack : List Word) → Holds s.home s.heap s.within p → length scratch ≡ s.scratch → p.units ≤ limit
+      begins : (p : Place) (scratch stack : List Word) → Holds s.fixed s.home s.heap s.within p → length scratch ≡ s.scratch → p.units ≤ limit
           → Sim s.worth (EndsAlike s.fixed s.home s.heap) (Shown s d AnyValue on scratch stack) (size (plains ps)) p.units (run_from s.target s.fixed (from ++ stack) (plains ps) scratch p) (part p)
       begins p scratch stack h many few =
           let x = does p scratch stack h in
@@ -113,10 +113,10 @@ module _ (s : Surroundings) (limit d : ℕ) where
     abbrev imported : ℕ
     imported = length (foreign_globals s.home)
 
-    local_says : (p : Place) (o : Option ℕ) → Holds s.home s.heap s.within p → slot_of (local_names s.within) n ≡ o → SlotSays p.locals n o
+    local_says : (p : Place) (o : Option ℕ) → Holds s.fixed s.home s.heap s.within p → slot_of (local_names s.within) n ≡ o → SlotSays p.locals n o
     local_says p o h e = subst (SlotSays p.locals n) (ap (λ ns. slot_of ns n) h.locals ∙ e) (slot_says p.locals n)
 
-    global_says : (p : Place) (o : Option ℕ) → Holds s.home s.heap s.within p → slot_of (global_names s.home) n ≡ o → SlotSays p.globals n o
+    global_says : (p : Place) (o : Option ℕ) → Holds s.fixed s.home s.heap s.within p → slot_of (global_names s.home) n ≡ o → SlotSays p.globals n o
     global_says p o h e = subst (SlotSays p.globals n) (ap (λ ns. slot_of ns n) h.globals ∙ e) (slot_says p.globals n)
 
     global_found : (p : Place) (j : ℕ) (v : Word) → slice_get (words p.globals) j ≡ Some v → slice_get (s.fixed.given ++ words p.globals) (imported + j) ≡ Some v
@@ -131,7 +131,7 @@ module _ (s : Surroundings) (limit d : ℕ) where
         → Keeps s limit d [] AnyValue a_value (get_code (place_among imported l g)) (read n)
     read_at (Some i) g e e' = keeps_doing [] a_value (local_get i ∷ []) (read n) does
       where
-        does : (p : Place) (scratch stack : List Word) → Holds s.home s.heap s.within p → Does [] a_value (local_get i ∷ []) (read n) p scratch stack
+        does : (p : Place) (scratch stack : List Word) → Holds s.fixed s.home s.heap s.within p → Does [] a_value (local_get i ∷ []) (read n) p scratch stack
         does p scratch stack h = let x = local_says p (Some i) h e in record {
           value = x.value;
           to = p;
@@ -142,7 +142,7 @@ module _ (s : Surroundings) (limit d : ℕ) where
         }
     read_at None (Some j) e e' = keeps_doing [] a_value (global_get (imported + j) ∷ []) (read n) does
       where
-        does : (p : Place) (scratch stack : List Word) → Holds s.home s.heap s.within p → Does [] a_value (global_get (imported + j) ∷ []) (read n) p scratch stack
+        does : (p : Place) (scratch stack : List Word) → Holds s.fixed s.home s.heap s.within p → Does [] a_value (global_get (imported + j) ∷ []) (read n) p scratch stack
         does p scratch stack h = let y = local_says p None h e in let x = global_says p (Some j) h e' in record {
           value = x.value;
           to = p;
@@ -170,10 +170,10 @@ module _ (s : Surroundings) (limit d : ℕ) where
       abbrev global_to : Place → Place
       global_to p = record p { globals = with_value n v p.globals }
 
-      local_holds : (p : Place) → Holds s.home s.heap s.within p → Holds s.home s.heap s.within (local_to p)
+      local_holds : (p : Place) → Holds s.fixed s.home s.heap s.within p → Holds s.fixed s.home s.heap s.within (local_to p)
       local_holds p h = record { locals = names_stay n v p.locals ∙ h.locals; globals = h.globals; heap = h.heap; bytes = h.bytes; replies = h.replies }
 
-      global_holds : (p : Place) → Holds s.home s.heap s.within p → Holds s.home s.heap s.within (global_to p)
+      global_holds : (p : Place) → Holds s.fixed s.home s.heap s.within p → Holds s.fixed s.home s.heap s.within (global_to p)
       global_holds p h = record { locals = h.locals; globals = names_stay n v p.globals ∙ h.globals; heap = h.heap; bytes = h.bytes; replies = h.replies }
 
       set_local : (p : Place) (scratch : List Word) (i : ℕ) → Slot p.locals n i → slice_set (words p.locals ++ scratch) i (word v) ≡ words (with_value n v p.locals) ++ scratch

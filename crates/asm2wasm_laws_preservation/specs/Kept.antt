@@ -55,7 +55,7 @@ pub record Surroundings : Type 0 where
 -- a result with this property has come: its words are over the stack, and the scratch locals below depth d are as they were
 pub record Shown {A : Type 0} (s : Surroundings) (d : ℕ) (has : A → Type 0) (on : A → List Word) (scratch stack : List Word) (a : A) (p : Place) (later : Steps) : Type 0 where
   pub is : has a
-  pub holds : Holds s.home s.heap s.within p
+  pub holds : Holds s.fixed s.home s.heap s.within p
   pub scratch_then : List Word
   pub as_many : length scratch_then ≡ length scratch
   pub kept : take d scratch_then ≡ take d scratch
@@ -63,5 +63,5 @@ pub record Shown {A : Type 0} (s : Surroundings) (d : ℕ) (has : A → Type 0) 
 
 -- code that finds these words on the stack keeps a part, where no more units are left than the limit
 pub record Keeps {A : Type 0} (s : Surroundings) (limit d : ℕ) (from : List Word) (has : A → Type 0) (on : A → List Word) (code : Trees) (part : Part A) : Type 0 where
-  pub by : (p : Place) (scratch stack : List Word) → Holds s.home s.heap s.within p → length scratch ≡ s.scratch → p.units ≤ limit
+  pub by : (p : Place) (scratch stack : List Word) → Holds s.fixed s.home s.heap s.within p → length scratch ≡ s.scratch → p.units ≤ limit
       → Sim s.worth (EndsAlike s.fixed s.home s.heap) (Shown s d has on scratch stack) (size code) p.units (run_from s.target s.fixed (from ++ stack) code scratch p) (part p)

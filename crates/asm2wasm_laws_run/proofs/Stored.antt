@@ -68,7 +68,7 @@ module _ (w : WasmModule) (x : Fixed) (worth : ℕ) (m : Module) (size : ℕ) (f
   abbrev scratch_after : ℤ → JsValue → List Word → List Word
   scratch_after z e sc = slice_set (slice_set sc (suc d) (W32 (to_uint32_of e))) d (W32 (word_of 32 z))
 
-  holds_after : (z : ℤ) (e : JsValue) (q : Place) → Holds m size f q → Holds m size f (written z e q)
+  holds_after : (z : ℤ) (e : JsValue) (q : Place) → Holds x m size f q → Holds x m size f (written z e q)
   holds_after z e q h = record {
     locals = h.locals;
     globals = h.globals;
@@ -78,7 +78,7 @@ module _ (w : WasmModule) (x : Fixed) (worth : ℕ) (m : Module) (size : ℕ) (f
   }
 
   -- both operands are on the stack
-  steps : (z : ℤ) (e : JsValue) (q : Place) (sc stack : List Word) → Holds m size f q → d + 2 ≤ length sc → is_index z ≡ true → (k : ℕ)
+  steps : (z : ℤ) (e : JsValue) (q : Place) (sc stack : List Word) → Holds x m size f q → d + 2 ≤ length sc → is_index z ≡ true → (k : ℕ)
       → drive w (store_cost (shift_of v) (is_within (shift_of v) size (word_of 32 z)) + 1 + k) (Code (W32 (to_uint32_of e) ∷ W32 (word_of 32 z) ∷ stack) last) (words q.locals ++ sc) (store_of x q)
       ≡ Next (at (W32 (to_uint32_of e) ∷ stack) (words (written z e q).locals ++ scratch_after z e sc) (store_of x (written z e q)) k)
   steps z e q sc stack h enough in_range k =
@@ -86,6 +86,7 @@ module _ (w : WasmModule) (x : Fixed) (worth : ℕ) (m : Module) (size : ℕ) (f
       let n = to_uint32_of e in
       let inside = is_within (shift_of v) size i in
       let l = words q.locals in
+      let past = x.past q.replies.left in
       let count : length l ≡ first_scratch f = locals_length f q.locals h.locals in
       let heap : length q.heap ≡ size = h.heap ∙ size_is in
       let (old_a, has_a) = is_there sc d (omega (arith, enough)) in
@@ -93,19 +94,19 @@ module _ (w : WasmModule) (x : Fixed) (worth : ℕ) (m : Module) (size : ℕ) (f
       let at_a : slice_get (l ++ sc) a ≡ Some old_a = ap (λ n. slice_get (l ++ sc) (n + d)) (sym count) ∙ get_past l sc d ∙ has_a in
       let at_b : slice_get (l ++ sc) b ≡ Some old_b = ap (λ n. slice_get (l ++ sc) (n + suc d)) (sym count) ∙ get_past l sc (suc d) ∙ has_b in
       let differ : a ≡ b → ⊥ = λ e. absurd (omega (arith, e)) in
-      let joined = length-append q.heap x.past in
+      let joined = length-append q.heap past in
       let most = long.1 in
       let small : size < 2 ^ 32 = omega (arith, most) in
-      let fits : size ≤ length (q.heap ++ x.past) = omega (arith, joined, heap) in
-      let memory : stored_memory (shift_of v) i n inside (q.heap ++ x.past) ≡ store (kind_of v) z n q.heap ++ x.past
-      = ap (λ size. stored_memory (shift_of v) i n (is_within (shift_of v) size i) (q.heap ++ x.past)) (sym heap)
-      ∙ stores_are_guarded v z n q.heap x.past (subst IsHeapLength (sym heap) long) in_range in
+      let fits : size ≤ length (q.heap ++ past) = omega (arith, joined, heap) in
+      let memory : stored_memory (shift_of v) i n inside (q.heap ++ past) ≡ store (kind_of v) z n q.heap ++ past
+      = ap (λ size. stored_memory (shift_of v) i n (is_within (shift_of v) size i) (q.heap ++ past)) (sym heap)
+      ∙ stores_are_guarded v z n q.heap past (subst IsHeapLength (sym heap) long) in_range in
       let set_b : slice_set (l ++ sc) b (W32 n) ≡ l ++ slice_set sc (suc d) (W32 n) = ap (λ c. slice_set (l ++ sc) (c + suc d) (W32 n)) (sym count) ∙ set_past l sc (suc d) (W32 n) in
       let set_both : slice_set (slice_set (l ++ sc) b (W32 n)) a (W32 i) ≡ l ++ scratch_after z e sc
       = ap (λ l. slice_set l a (W32 i)) set_b ∙ ap (λ c. slice_set (l ++ slice_set sc (suc d) (W32 n)) (c + d) (W32 i)) (sym count) ∙ set_past l (slice_set sc (suc d) (W32 n)) d (W32 i) in
       let after = slice_set (slice_set (l ++ sc) b (W32 n)) a (W32 i) in
       let value : slice_get after b ≡ Some (W32 n) = get_other (slice_set (l ++ sc) b (W32 n)) a b (W32 i) (λ e. differ (sym e)) ∙ get_same (l ++ sc) b old_b (W32 n) at_b in
-      let s = put_memory (stored_memory (shift_of v) i n inside (q.heap ++ x.past)) (store_of x q) in
+      let s = put_memory (stored_memory (shift_of v) i n inside (q.heap ++ past)) (store_of x q) in
       let counted : store_cost (shift_of v) inside + 1 + k ≡ store_cost (shift_of v) inside + (1 + k) = omega arith in
       ap (λ c. drive w c (Code (W32 n ∷ W32 i ∷ stack) last) (l ++ sc) (store_of x q)) counted
       ∙ stores_guarded w v size a b i n old_a old_b stack (l ++ sc) (store_of x q) (one (local_get b)) (1 + k) small fits differ at_a at_b
@@ -115,7 +116,7 @@ module _ (w : WasmModule) (x : Fixed) (worth : ℕ) (m : Module) (size : ℕ) (f
       ∙ ap (λ memory. Next (at (W32 n ∷ stack) (l ++ scratch_after z e sc) (put_memory memory (store_of x q)) k)) memory
 
   -- .. of a simulation
-  write_shown : (z : ℤ) (e : JsValue) (q : Place) (scratch sc stack : List Word) → Holds m size f q → length sc ≡ length scratch → take d sc ≡ take d scratch → d + 2 ≤ length scratch → is_index z ≡ true
+  write_shown : (z : ℤ) (e : JsValue) (q : Place) (scratch sc stack : List Word) → Holds x m size f q → length sc ≡ length scratch → take d sc ≡ take d scratch → d + 2 ≤ length scratch → is_index z ≡ true
       → Sim worth (EndsAlike x m size) (ShowsValue x m size f AnyValue d scratch stack) 10 q.units
       (run_from w x (W32 (to_uint32_of e) ∷ W32 (word_of 32 z) ∷ stack) last sc q) (write_element (a_view v) (Whole z) e q)
   write_shown z e q scratch sc stack h many kept enough in_range =

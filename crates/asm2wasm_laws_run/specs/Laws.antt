@@ -63,7 +63,7 @@ StoresGuarded =
 -- code shows what a part does that gives a value with this property, in so many reductions that no unit pays for
 abbrev pub ShowsPart : WasmModule → Fixed → (worth : ℕ) → Module → (size : ℕ) → Function → (d more : ℕ) → (JsValue → Type 0) → Trees → Part JsValue → Type 0
 ShowsPart w x worth m size f d more has code part =
-    (p : Place) (scratch stack : List Word) → Holds m size f p → d + 2 ≤ length scratch
+    (p : Place) (scratch stack : List Word) → Holds x m size f p → d + 2 ≤ length scratch
     → Sim worth (EndsAlike x m size) (ShowsValue x m size f has d scratch stack) more p.units (run_from w x stack code scratch p) (part p)
 
 -- where index and value are shown, so is the store of the one under the other: both wait on the stack, also where the value is a store

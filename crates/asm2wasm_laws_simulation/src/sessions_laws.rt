@@ -3,13 +3,14 @@
 
 ghost use Rattle.asm2wasm_laws_simulation.specs.Sessions.Laws.{SessionsAreMatched, SessionsNeverTrap, TranslationIsAllowed, TranslationIsBounded};
 
-/// Each number of units has one of reductions by which both sessions show the same, and no session of
-/// the translation ends with a trap.
+/// Each number of units has one of reductions by which both sessions show the same. No session of the translation ends with a trap,
+/// whichever script fits it.
 pub fn sessions()
     ensures matched { SessionsAreMatched }
     ensures no_traps { SessionsNeverTrap }
 {
     asm2wasm_laws_acceptance::calls();
+    asm2wasm_laws_acceptance::scripts();
     asm2wasm_lang::heap_lengths();
     asm_laws_print::well_formed_modules();
     crate::functions_laws::functions();

@@ -14,8 +14,8 @@ use Rattle.asm_lang.specs.Texts.{SaysModule}
 use Rattle.asm_lang_valid.specs.Rows.{module_count}
 use Rattle.asm_lang_valid.proofs.Places.{module_counted}
 use Rattle.asm2wasm_lang.specs.Counts.{module_clauses}
-use Rattle.asm2wasm_laws_counts.proofs.Modules.{module_size}
-use Rattle.asm2wasm_laws_counts.proofs.Names.{names_within}
+use Rattle.asm2wasm_laws_writable.proofs.Counts.Modules.{module_size}
+use Rattle.asm2wasm_laws_writable.proofs.Counts.Names.{names_within}
 use Rattle.asm2wasm_lang.specs.Short.{IsOfShortText}
 use Rattle.asm2wasm_laws_writable.specs.Laws.{ShortTextsAreShort, TranslationIsWritable}
 use Rattle.asm2wasm_translation.specs.Modules.{translation}

@@ -2,6 +2,7 @@
 //! shaped, its numbers have the bits that they need, and its sections are short enough.
 #![tactic(auto)]
 
+pub mod counts_laws;
 pub mod opcodes_laws;
 
 ghost use Rattle.asm2wasm_laws_writable.specs.Laws.{TypedNamesAreBelow, ClausesAreFew, ConstantsFit, FunctionsAreNarrow, TranslationIsShaped, TranslationsNumbersFit, TranslationsSectionsFit, ShortTextsAreShort, TranslationIsWritable};

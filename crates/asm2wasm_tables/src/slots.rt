@@ -5,8 +5,7 @@ ghost use Rattle.asm2wasm_translation.specs.Numbers.{slot_of};
 ghost use Rattle.asm2wasm_tables.specs.Names.{names_in, found, slot_or_length};
 
 use indexmap::IndexMap;
-use key_hashes::{KeyHashes, hashes_of};
-use name_keys::NameKey;
+use key_hashes::{KeyHashes, NameKey, hashes_of};
 use std::alloc::{AllocError, Global};
 use std::marker::Model;
 

@@ -13,8 +13,7 @@ use crate::init::init_meaning;
 use crate::meaning::Meaning;
 use asm_tree::{Function, Global_, Module, Table};
 use indexmap::IndexMap;
-use key_hashes::KeyHashes;
-use name_keys::NameKey;
+use key_hashes::{KeyHashes, NameKey};
 use sem_words::Text;
 use std::alloc::AllocError;
 

@@ -15,8 +15,7 @@ use crate::imports::imports_of;
 use crate::meaning::Meaning;
 use asm_tree::Module;
 use indexmap::IndexMap;
-use key_hashes::KeyHashes;
-use name_keys::NameKey;
+use key_hashes::{KeyHashes, NameKey};
 use std::alloc::{AllocError, Global};
 
 /// The names of a module with their meanings. Of declarations with one name the first counts.

@@ -8,8 +8,7 @@ ghost use Rattle.asm_names.specs.Members.{first_import, member_name, number_in};
 
 use asm_tree::{Global_, Init, Module};
 use indexmap::IndexMap;
-use key_hashes::KeyHashes;
-use name_keys::NameKey;
+use key_hashes::{KeyHashes, NameKey};
 use std::alloc::{AllocError, Global};
 
 /// For each member that the module imports, the number of the first declaration that imports one of its name.

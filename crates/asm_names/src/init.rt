@@ -15,8 +15,7 @@ use crate::words::is_word;
 use asm_lang_valid::{Builtin, Element};
 use asm_tree::{Init, Module};
 use indexmap::IndexMap;
-use key_hashes::KeyHashes;
-use name_keys::NameKey;
+use key_hashes::{KeyHashes, NameKey};
 use sem_words::Text;
 
 /// What a global variable with this declaration means.

@@ -13,7 +13,7 @@ mod scope;
 mod words;
 
 pub use environment::Environment;
-pub use hashes::function_hashes;
+pub use hashes::{function_hashes, module_hashes};
 pub use init::{is_foreign, is_heap, is_stdlib};
 pub use meaning::{Meaning, Member};
 pub use scope::Scope;

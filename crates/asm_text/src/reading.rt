@@ -73,10 +73,10 @@ pub fn read(alloc: Global, source: &[u8]) -> Result<Parsed, TextFault>
 }
 
 /// The module read from its canonical text, with the places of its nodes there. A well-formed module comes back as it was.
-pub fn reprinted(alloc: Global, module: &Module) -> Result<Parsed, TextFault>
-    ensures { IsWellFormed (module_view «module».now) → IsAgain (module_view «module».now) result }
+pub fn reprinted(alloc: Global, home: &Module) -> Result<Parsed, TextFault>
+    ensures { IsWellFormed (module_view home.now) → IsAgain (module_view home.now) result }
 {
-    match print(alloc, module) {
+    match print(alloc, home) {
         Ok(text) => read(alloc, text.as_slice()),
         Err(_) => Err(TextFault::Memory),
     }

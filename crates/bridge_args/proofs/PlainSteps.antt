@@ -7,7 +7,7 @@ use Rattle.clap.specs.Faults.{turn_fault, walk_fault}
 use Rattle.clap.proofs.WalkLemmas.{both as and-true}
 use Rattle.clap.proofs.OnLiterals.{clap_on_literals}
 use Rattle.bridge_lang.specs.App.{bridge_app}
-use Rattle.bridge_lang.specs.Words.{given_in, job_in, job_named, job_of, unless_faulty}
+use Rattle.bridge_lang.specs.Words.{given_in, asked_in, asked_by, asked, unless_faulty}
 use Rattle.bridge_args.proofs.PlainWords.{shape, is_plain, row, operand_rows, after_name, after_operand, name_step, first_step, next_step, name_fault, first_fault, next_fault, end_fault, level, faults_are, rows_are_read, not_hyphen}
 
 record Walked (name : Text) (done : List Text) (last : Text) (rest : List Text) : Type 0 where
@@ -111,21 +111,21 @@ unfolding bridge_app clap_on_literals
 word_end name [] v = (refl, refl)
 word_end name (x ∷ xs) v = (refl, refl)
 
-given_steps : (name : Text) (all : List Text) (v : Text) → job_in (steps_rows name all v) ≡ job_named name (record { operands = all; heap = None; steps = Some v })
-unfolding job_in given_in
+given_steps : (name : Text) (all : List Text) (v : Text) → asked_in (steps_rows name all v) ≡ asked_by name (record { operands = all; heap = None; steps = Some v })
+unfolding asked_in given_in
 given_steps name [] v = refl
 given_steps name (x ∷ xs) v = refl
 
 abbrev start : Walk
 start = walk_from nothing_held
 
--- the job, from where the walk stands after the words `tail` that follow the operands
+-- what is asked for, from where the walk stands after the words `tail` that follow the operands
 ends_in : (program name o : Text) (os tail : List Text) (v : Text) (r : Walked name [] o os) (end : Walk) → is_plain name ≡ true → is_plain o ≡ true
     → walk_fault shape [] (after_operand name r.front r.final) tail ≡ []
     → fold (walked shape.rules []) (after_operand name r.front r.final) tail ≡ end
     → (end_fault end.held ≡ []) × (finished shape.rules end.held ≡ steps_rows name (r.front ++ r.final ∷ []) v)
-    → job_of (program ∷ name ∷ o ∷ (os ++ tail)) ≡ job_named name (record { operands = o ∷ os; heap = None; steps = Some v })
-unfolding job_of walk_fault
+    → asked (program ∷ name ∷ o ∷ (os ++ tail)) ≡ asked_by name (record { operands = o ∷ os; heap = None; steps = Some v })
+unfolding asked walk_fault
 ends_in program name o os tail v r end h ho none stands ends =
     let one = name_step name h in
     let two = first_step name o ho in
@@ -139,11 +139,11 @@ ends_in program name o os tail v r end h ho none stands ends =
     ap (λ (s : Walk). walk_fault shape [] s (o ∷ (os ++ tail))) one ∙ ap₂ or_else (first_fault name o ho) past_two in
     let faults = level (name ∷ (o ∷ (os ++ tail))) end.held (ap₂ or_else (name_fault name h) past_one) (ap (λ (s : Walk). s.held) at) ends.0 in
     let rows = ap (λ (s : Walk). finished shape.rules s.held) at ∙ ends.1 ∙ ap (λ (l : List Text). steps_rows name l v) r.all in
-    ap₂ unless_faulty (faults_are program (name ∷ (o ∷ (os ++ tail))) ∙ faults) (ap job_in (rows_are_read program (name ∷ (o ∷ (os ++ tail))) ∙ rows))
+    ap₂ unless_faulty (faults_are program (name ∷ (o ∷ (os ++ tail))) ∙ faults) (ap asked_in (rows_are_read program (name ∷ (o ∷ (os ++ tail))) ∙ rows))
     ∙ given_steps name (o ∷ os) v
 
 pub steps_by_equals : (program name o : Text) (os : List Text) (v : Text) → is_plain name ≡ true → is_plain o ≡ true → list_all is_plain os ≡ true
-    → job_of (program ∷ name ∷ o ∷ (os ++ (codes "--steps=" ++ v) ∷ [])) ≡ job_named name (record { operands = o ∷ os; heap = None; steps = Some v })
+    → asked (program ∷ name ∷ o ∷ (os ++ (codes "--steps=" ++ v) ∷ [])) ≡ asked_by name (record { operands = o ∷ os; heap = None; steps = Some v })
 unfolding walk_fault
 steps_by_equals program name o os v h ho hs =
     let r = walked_on name [] o os hs in
@@ -151,7 +151,7 @@ steps_by_equals program name o os v h ho hs =
     (ap₂ or_else (equals_fault name r.front r.final v) refl) (equals_step name r.front r.final v) (equals_end name (r.front ++ r.final ∷ []) v)
 
 pub steps_by_word : (program name o : Text) (os : List Text) (v : Text) → is_plain name ≡ true → is_plain o ≡ true → list_all is_plain os ≡ true → is_plain v ≡ true
-    → job_of (program ∷ name ∷ o ∷ (os ++ codes "--steps" ∷ v ∷ [])) ≡ job_named name (record { operands = o ∷ os; heap = None; steps = Some v })
+    → asked (program ∷ name ∷ o ∷ (os ++ codes "--steps" ∷ v ∷ [])) ≡ asked_by name (record { operands = o ∷ os; heap = None; steps = Some v })
 unfolding walk_fault
 steps_by_word program name o os v h ho hs hv =
     let r = walked_on name [] o os hs in

@@ -11,7 +11,7 @@ use Rattle.clap.specs.declared.parser.matches.ValueSource.TheVariants.{CommandLi
 use Rattle.clap.proofs.WalkLemmas.{both as and-true}
 use Rattle.clap.proofs.OnLiterals.{clap_on_literals}
 use Rattle.clap.proofs.FaultLemmas.{leaf_fault}
-use Rattle.bridge_lang.specs.Words.{given_in, job_in, job_named, job_of, unless_faulty}
+use Rattle.bridge_lang.specs.Words.{given_in, asked_in, asked_by, asked, unless_faulty}
 use Rattle.bridge_lang.specs.App.{bridge_app, faults_of, rows_read}
 
 abbrev pub shape : Shape
@@ -190,17 +190,17 @@ pub rows_are_read : (program : Text) (words : List Text)
 unfolding rows_read bridge_app
 rows_are_read program words = refl
 
-given_plain : (name : Text) (operands : List Text) → job_in (row (codes "command") (name ∷ []) ∷ operand_rows operands)
-    ≡ job_named name (record { operands = operands; heap = None; steps = None })
-unfolding job_in given_in
+given_plain : (name : Text) (operands : List Text) → asked_in (row (codes "command") (name ∷ []) ∷ operand_rows operands)
+    ≡ asked_by name (record { operands = operands; heap = None; steps = None })
+unfolding asked_in given_in
 given_plain name [] = refl
 given_plain name (o ∷ os) = refl
 
--- the job of words of which none begins with a hyphen
-pub plain_job : (program name : Text) (operands : List Text) → is_plain name ≡ true → list_all is_plain operands ≡ true
-    → job_of (program ∷ name ∷ operands) ≡ job_named name (record { operands = operands; heap = None; steps = None })
-unfolding job_of
-plain_job program name operands h hs =
+-- what words ask for of which none begins with a hyphen
+pub plain_asked : (program name : Text) (operands : List Text) → is_plain name ≡ true → list_all is_plain operands ≡ true
+    → asked (program ∷ name ∷ operands) ≡ asked_by name (record { operands = operands; heap = None; steps = None })
+unfolding asked
+plain_asked program name operands h hs =
     let r = plain_read name operands h hs in
-    ap₂ unless_faulty (faults_are program (name ∷ operands) ∙ r.faults) (ap job_in (rows_are_read program (name ∷ operands) ∙ r.rows_are))
+    ap₂ unless_faulty (faults_are program (name ∷ operands) ∙ r.faults) (ap asked_in (rows_are_read program (name ∷ operands) ∙ r.rows_are))
     ∙ given_plain name operands

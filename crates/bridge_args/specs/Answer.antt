@@ -2,12 +2,15 @@
 use Rattle.std.specs.Prelude.{◌≡◌, ℕ, List, Option, Some, None, Result, Ok, Err, map, option_map}
 use Rattle.std.specs.Prelude.{string_bytes}
 use Rattle.std.specs.Borrow.{Bor}
-use Rattle.bridge_lang.specs.Words.{GivenTexts, texts_or_none, JobRead, check_asm, check_wasm, asm_to_wasm, wasm_to_asm}
-use Rattle.bridge_lang.specs.Words.{run_asm, run_wasm, show, gen}
+use Rattle.bridge_lang.specs.Words.{GivenTexts, texts_or_none}
+use Rattle.bridge_lang.specs.Command as spec
 use Rattle.bridge_args.specs.declared.command.Given.{Given}
-use Rattle.bridge_args.specs.declared.job.Job.{Job}
-use Rattle.bridge_args.specs.declared.job.Job.TheVariants.{CheckAsm, CheckWasm, AsmToWasm, WasmToAsm}
-use Rattle.bridge_args.specs.declared.job.Job.TheVariants.{RunAsm, RunWasm, Show, Gen}
+use Rattle.bridge_args.specs.declared.asked.Running.{Running}
+use Rattle.bridge_args.specs.declared.asked.Running.TheVariants.{Text, Binary}
+use Rattle.bridge_args.specs.declared.asked.Action.{Action}
+use Rattle.bridge_args.specs.declared.asked.Action.TheVariants.{Make, Translate, Run}
+use Rattle.bridge_args.specs.declared.asked.Asked.{Asked}
+use Rattle.bridge_args.specs.declared.asked.Asked.TheVariants.{OnFile, Gen}
 use Rattle.bridge_args.specs.declared.fault.WordsFault.{WordsFault}
 use Rattle.bridge_args.specs.declared.fault.WordsFault.TheVariants.{Usage, Memory}
 
@@ -24,16 +27,18 @@ given_texts g = record {
   steps = text_of g.steps;
 }
 
-abbrev pub job_read : Job → JobRead
-job_read (CheckAsm file) = check_asm (string_bytes file)
-job_read (CheckWasm file) = check_wasm (string_bytes file)
-job_read (AsmToWasm file heap) = asm_to_wasm (string_bytes file) heap.bytes
-job_read (WasmToAsm file) = wasm_to_asm (string_bytes file)
-job_read (RunAsm file script heap steps) =
-    run_asm (string_bytes file) (string_bytes script) heap.bytes steps
-job_read (RunWasm file script steps) = run_wasm (string_bytes file) (string_bytes script) steps
-job_read (Show file) = show (string_bytes file)
-job_read (Gen count) = gen count.functions
+abbrev pub running_view : Running → spec.Running
+running_view (Text heap) = spec.as_text heap.bytes
+running_view Binary = spec.as_binary
+
+abbrev pub action_view : Action → spec.Action
+action_view (Make making) = spec.make making
+action_view (Translate heap) = spec.translate heap.bytes
+action_view (Run running script steps) = spec.run (running_view running) (string_bytes script) steps
+
+abbrev pub asked_view : Asked → spec.Asked
+asked_view (OnFile action file) = spec.on_file (action_view action) (string_bytes file)
+asked_view (Gen count) = spec.gen count.functions
 
 -- `Ok` comes only of what is read, `Usage` only where nothing is, and `Memory` at any words
 abbrev pub Answers : {T X : Type 0} → (T → X) → Option X → Result T WordsFault → Type 0

@@ -1,8 +1,8 @@
-//! Why words are no job.
+//! Why words ask for nothing.
 
 use thiserror::Error;
 
-/// Why the words are no job.
+/// Why the words ask for nothing.
 #[derive(Clone, Copy, Debug, PartialEq, Eq, Error)]
 pub enum WordsFault {
     /// The words aren't of the usage.

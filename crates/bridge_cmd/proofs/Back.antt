@@ -11,8 +11,9 @@ use Rattle.wasm2js_lang.specs.Allowed.{IsAllowed}
 use Rattle.wasm2js_translation.specs.Modules.{translated}
 use Rattle.wasm2js_laws_simulation.specs.WholeLaws.{SpelledAreAllowed, TrapsOfSpelledAreCalls}
 use Rattle.wasm2js_laws_simulation.specs.BoundedLaws.{SpelledAreBounded}
-use Rattle.bridge_lang.specs.Command.{wasm_to_asm}
-use Rattle.bridge_lang.specs.Job.{IsMade, translated_back}
+use Rattle.bridge_lang.specs.declared.making.Making.TheVariants.{WasmToAsm}
+use Rattle.bridge_lang.specs.Command.{make}
+use Rattle.bridge_lang.specs.Job.{IsMade, of_binary}
 
 abbrev pub SaysAgain : Type 0
 SaysAgain = (m : Module) → IsWellFormed m → (places : List ℕ) × SaysModule (canonical_text m) m places
@@ -24,8 +25,15 @@ module _ (allowed : SpelledAreAllowed) (traps : TrapsOfSpelledAreCalls) (bounded
       let says = again m a.well_formed in
       record { places = says.0; says = says.1; accepted = a.accepted }
 
-  pub made : (file bytes output : List ℕ) (w : WasmModule) → IsTranslatable bytes w → output ≡ canonical_text (translated w) → IsMade (wasm_to_asm file) bytes output
-  made file bytes output w t e =
+  pub made : (bytes output : List ℕ) (w : WasmModule) → IsTranslatable bytes w → output ≡ canonical_text (translated w) → IsMade (make WasmToAsm) bytes output
+  made bytes output w t e =
       let a = allowed w (bytes, t.read.spelled) t.within in
-      translated_back w (translated w) t e (subst (λ text. IsAcceptedText text (translated w)) (sym e) (stands (translated w) w a)) a (traps w (bytes, t.read.spelled) t.within)
-      (bounded w (bytes, t.read.spelled) t.within)
+      of_binary w refl (record { read = t.read; valid = t.within.valid }) (record {
+        within = t.within.within;
+        «module» = translated w;
+        printed = e;
+        accepted = subst (λ text. IsAcceptedText text (translated w)) (sym e) (stands (translated w) w a);
+        allowed = a;
+        traps = traps w (bytes, t.read.spelled) t.within;
+        bounded = bounded w (bytes, t.read.spelled) t.within;
+      })

@@ -86,11 +86,3 @@ not_gathered told b file OfBytes Read x l = a_read_fault
 not_gathered told b file OfBytes Missing x l = a_refusal (absent (is_absent told file (λ map e. x map e refl)))
 not_gathered told b file OfBytes TooLarge x l = a_refusal (long (is_too_long told file (λ map e. l map e refl)))
 not_gathered told b file OfBytes Memory x l = no_memory
-
--- the same by another term for its name
-pub not_gathered_by_name : (told : Option Told) (b : Bool) (file name : List ℕ) (OfBytes : List ℕ → Job → Type 0) (fault : GatherFault) → file ≡ name
-    → ((map : Told) → told ≡ Some map → fault ≡ Missing → content_of map file ≡ None)
-    → ((map : Told) → told ≡ Some map → fault ≡ TooLarge → (text : List ℕ) × (content_of map file ≡ Some text) × (file_limit < length text))
-    → MayAnswer (IsFileJob told b file OfBytes) (reason_at fault b name)
-not_gathered_by_name told b file name OfBytes fault same x l =
-    subst (λ (n : List ℕ). MayAnswer (IsFileJob told b file OfBytes) (reason_at fault b n)) same (not_gathered told b file OfBytes fault x l)

@@ -14,7 +14,7 @@ use Rattle.wasm_lang.proofs.ReadingLawsOne.{one_module}
 use Rattle.wasm_lang_valid.specs.declared.profile.Outside.{Outside}
 use Rattle.wasm_lang_valid.specs.Profile.{outside_profile}
 use Rattle.wasm_lang_valid.specs.Runnable.{not_runnable}
-use Rattle.wasm_lang_valid.specs.Bytes.{IsValidBytes, IsTranslatable, IsBeyond}
+use Rattle.wasm_lang_valid.specs.Bytes.{IsValidBytes, IsBeyond}
 use Rattle.cmd_check_wasm.specs.declared.fault.CheckFault.{CheckFault}
 use Rattle.cmd_check_wasm.specs.declared.fault.CheckFault.TheVariants as checks
 use Rattle.cmd_check_wasm.specs.Verdicts.{IsRefused}
@@ -25,17 +25,15 @@ use Rattle.cmd_run_wasm.specs.declared.fault.RunFault.{RunFault}
 use Rattle.cmd_run_wasm.specs.declared.fault.RunFault.TheVariants as run_faults
 use Rattle.script_read.specs.declared.fault.ScriptFault.{ScriptFault}
 use Rattle.script_read.specs.declared.fault.ScriptFault.TheVariants as script_faults
-use Rattle.bridge_args.specs.Answer.{Answers}
 use Rattle.bridge_args.specs.declared.fault.WordsFault.{WordsFault}
 use Rattle.bridge_args.specs.declared.fault.WordsFault.TheVariants as words_faults
 use Rattle.bridge_lang.specs.declared.status.Status.TheVariants.{Usage}
-use Rattle.bridge_cmd.specs.Asking.{done_by, named_by}
-use Rattle.bridge_cmd.specs.declared.words.Making.TheVariants.{AsmToWasm, WasmToAsm, CheckAsm, CheckWasm, Show}
-use Rattle.bridge_cmd.specs.declared.words.Action.{Action}
-use Rattle.bridge_cmd.specs.declared.words.Action.TheVariants.{Make, Run}
-use Rattle.bridge_lang.specs.Command.{Asked, Running, as_binary, run, on_files, asked, asm_js, web_assembly, begins_with_zero, language_of, read_as, file_of}
+use Rattle.bridge_args.specs.Answer.{Answers, asked_view}
+use Rattle.bridge_lang.specs.declared.making.Making.TheVariants.{WasmToAsm}
+use Rattle.bridge_lang.specs.Command.{Action, make, Running, as_binary, run, on_file, asm_js, web_assembly, begins_with_zero, language_of}
+use Rattle.bridge_lang.specs.Words.{asked}
 use Rattle.bridge_lang.specs.Answers.{IsAnswered, a_bar, want_of_memory, IsScriptAnswer, an_unfit_line, no_room, MayAnswer, a_refusal, a_read_fault, no_memory}
-use Rattle.bridge_lang.specs.Job.{Job, refused, file_limit, Holds, IsFileJob, absent, long, held, IsBarred, not_accepted, unreadable, invalid, not_translated, outside, IsMade, translated, translated_back, text_counted, bytes_counted, printed, listed, IsPlayed, unfit, ran, IsModuleJob, barred, made, scripted, IsJob, no_command, commanded, generated}
+use Rattle.bridge_lang.specs.Job.{Job, refused, file_limit, Holds, IsFileJob, absent, long, held, read_as, IsBarred, not_accepted, unreadable, invalid, not_translated, outside, IsMade, of_text, of_binary, IsPlayed, unfit, ran, IsModuleJob, barred, made, scripted, IsJob, no_command, commanded, generated}
 use Rattle.bridge_lang.specs.Runs.{Runner, text_runner, binary_runner, IsRunner, a_text, a_binary, script_for, Prints}
 use Rattle.bridge_lang.specs.Outcome.{EndsAs, IsCutShort, by_a_read, by_want, MayReport}
 use Rattle.bridge_lang.specs.Reason.{Reason, read_fault, missing, too_large}
@@ -64,10 +62,6 @@ one_beyond bytes r q x y =
     let e : Some r ≡ Some q = sym x.meets ∙ sym (ap outside_profile same) ∙ y.meets in
     cc
 
--- what can be translated is valid
-is_valid : (bytes : List ℕ) (m : WasmModule) → IsTranslatable bytes m → IsValidBytes bytes m
-is_valid bytes m t = record { read = t.read; valid = t.within.valid }
-
 text_clear : (row : AsmRow) (at : ℕ) → text_faults.Refused row at ≡ text_faults.Memory → ⊥
 text_clear row at e = absurd cc
 
@@ -77,7 +71,7 @@ binary_clear row at e = absurd cc
 invalid_clear : (rule : Rule) (section : Section) (index instruction : ℕ) → checks.Invalid rule section index instruction ≡ checks.Memory → ⊥
 invalid_clear rule section index instruction e = absurd cc
 
-one_bar : (a : Asked) (bytes : List ℕ) (r q : Reason) → IsBarred a bytes r → IsBarred a bytes q → status_of r ≡ status_of q
+one_bar : (a : Action) (bytes : List ℕ) (r q : Reason) → IsBarred a bytes r → IsBarred a bytes q → status_of r ≡ status_of q
 one_bar a bytes r q (not_accepted row at x i) (not_accepted row' at' y j) = ap (λ e. status_of (reason_of_text e)) (laws.one_fault bytes (text_faults.Refused row at) (text_faults.Refused row' at') (i, text_clear row at) (j, text_clear row' at'))
 one_bar a bytes r q (not_accepted row at x i) (unreadable row' at' y j) = absurd cc
 one_bar a bytes r q (not_accepted row at x i) (invalid rule' section' index' instruction' y j) = absurd cc
@@ -104,40 +98,36 @@ one_bar a bytes r q (outside row o) (outside row' o') = let e = one_row bytes ro
 
 -- ---- a module that isn't taken makes nothing
 
-bar_makes_nothing : (a : Asked) (bytes output : List ℕ) (r : Reason) → IsBarred a bytes r → IsMade a bytes output → ⊥
-bar_makes_nothing a bytes output r (not_accepted row at x i) (translated m w j k b l) = laws.not_faulty bytes m (text_faults.Refused row at) j (i, text_clear row at)
-bar_makes_nothing a bytes output r (not_accepted row at x i) (translated_back w m j o t b k d) = cc
-bar_makes_nothing a bytes output r (not_accepted row at x i) (text_counted c) = laws.not_faulty bytes c.«module» (text_faults.Refused row at) c.accepted (i, text_clear row at)
-bar_makes_nothing a bytes output r (not_accepted row at x i) (bytes_counted c) = cc
-bar_makes_nothing a bytes output r (not_accepted row at x i) (printed m y j o) = laws.not_faulty bytes m (text_faults.Refused row at) j (i, text_clear row at)
-bar_makes_nothing a bytes output r (not_accepted row at x i) (listed m y j o) = cc
-bar_makes_nothing a bytes output r (unreadable row at x i) (translated m w j k b l) = cc
-bar_makes_nothing a bytes output r (unreadable row at x i) (translated_back w m j o t b k d) = (binary_clear row at) (not_both bytes w (checks.Binary row at) (is_valid bytes w j) i)
-bar_makes_nothing a bytes output r (unreadable row at x i) (text_counted c) = cc
-bar_makes_nothing a bytes output r (unreadable row at x i) (bytes_counted c) = (binary_clear row at) (not_both bytes c.«module» (checks.Binary row at) c.taken i)
-bar_makes_nothing a bytes output r (unreadable row at x i) (printed m y j o) = cc
-bar_makes_nothing a bytes output r (unreadable row at x i) (listed m y j o) = (binary_clear row at) (not_both bytes m (checks.Binary row at) j i)
-bar_makes_nothing a bytes output r (invalid rule section index instruction x i) (translated m w j k b l) = cc
-bar_makes_nothing a bytes output r (invalid rule section index instruction x i) (translated_back w m j o t b k d) = (invalid_clear rule section index instruction) (not_both bytes w (checks.Invalid rule section index instruction) (is_valid bytes w j) i)
-bar_makes_nothing a bytes output r (invalid rule section index instruction x i) (text_counted c) = cc
-bar_makes_nothing a bytes output r (invalid rule section index instruction x i) (bytes_counted c) = (invalid_clear rule section index instruction) (not_both bytes c.«module» (checks.Invalid rule section index instruction) c.taken i)
-bar_makes_nothing a bytes output r (invalid rule section index instruction x i) (printed m y j o) = cc
-bar_makes_nothing a bytes output r (invalid rule section index instruction x i) (listed m y j o) = (invalid_clear rule section index instruction) (not_both bytes m (checks.Invalid rule section index instruction) j i)
-bar_makes_nothing a bytes output r (not_translated row o) (translated_back w m j y t b k d) =
-    let same = same_module bytes w o.«module» (is_valid bytes w j) o.taken in
-    let f : Some row ≡ None = sym o.meets ∙ ap outside_profile same ∙ j.within.within in
+bar_makes_nothing : (a : Action) (bytes output : List ℕ) (r : Reason) → IsBarred a bytes r → IsMade a bytes output → ⊥
+bar_makes_nothing a bytes output r (not_accepted row at x i) (of_text m y j o) = laws.not_faulty bytes m (text_faults.Refused row at) j (i, text_clear row at)
+bar_makes_nothing a bytes output r (not_accepted row at x i) (of_binary w y j o) = cc
+bar_makes_nothing a bytes output r (unreadable row at x i) (of_text m y j o) = cc
+bar_makes_nothing a bytes output r (unreadable row at x i) (of_binary w y j o) = (binary_clear row at) (not_both bytes w (checks.Binary row at) j i)
+bar_makes_nothing a bytes output r (invalid rule section index instruction x i) (of_text m y j o) = cc
+bar_makes_nothing a bytes output r (invalid rule section index instruction x i) (of_binary w y j o) =
+    (invalid_clear rule section index instruction) (not_both bytes w (checks.Invalid rule section index instruction) j i)
+bar_makes_nothing a bytes output r (not_translated row i) (of_text m y j o) = absurd o
+bar_makes_nothing a bytes output r (not_translated row i) (of_binary w y j o) =
+    let same = same_module bytes w i.«module» j i.taken in
+    let f : Some row ≡ None = sym i.meets ∙ ap outside_profile same ∙ o.within in
     cc
-bar_makes_nothing a bytes output r (outside row o) i = elim i [ ]
+bar_makes_nothing a bytes output r (outside row i) (of_text m y j o) = absurd o
+bar_makes_nothing a bytes output r (outside row i) (of_binary w y j o) = absurd o
 
-bar_runs_nothing : (running : Running) (file script bytes : List ℕ) (steps : ℕ) (runner : Runner) (r : Reason)
-    → IsBarred (run running file script steps) bytes r → IsRunner bytes running runner → ⊥
-bar_runs_nothing running file script bytes steps runner r (not_accepted row at x j) (a_text m i) = laws.not_faulty bytes m (text_faults.Refused row at) i (j, text_clear row at)
-bar_runs_nothing running file script bytes steps runner r (not_accepted row at x j) (a_binary m i) = cc
-bar_runs_nothing running file script bytes steps runner r (unreadable row at x j) (a_text m i) = cc
-bar_runs_nothing running file script bytes steps runner r (unreadable row at x j) (a_binary m i) = (binary_clear row at) (not_both bytes m (checks.Binary row at) i.taken j)
-bar_runs_nothing running file script bytes steps runner r (invalid rule section index instruction x j) (a_text m i) = cc
-bar_runs_nothing running file script bytes steps runner r (invalid rule section index instruction x j) (a_binary m i) = (invalid_clear rule section index instruction) (not_both bytes m (checks.Invalid rule section index instruction) i.taken j)
-bar_runs_nothing running file script bytes steps runner r (outside row o) (a_binary m i) =
+-- a run makes nothing but what is seen of it
+run_makes_nothing : (running : Running) (script bytes output : List ℕ) (steps : ℕ) → IsMade (run running script steps) bytes output → ⊥
+run_makes_nothing running script bytes output steps (of_text m y j o) = absurd o
+run_makes_nothing running script bytes output steps (of_binary w y j o) = absurd o
+
+bar_runs_nothing : (running : Running) (script bytes : List ℕ) (steps : ℕ) (runner : Runner) (r : Reason)
+    → IsBarred (run running script steps) bytes r → IsRunner bytes running runner → ⊥
+bar_runs_nothing running script bytes steps runner r (not_accepted row at x j) (a_text m i) = laws.not_faulty bytes m (text_faults.Refused row at) i (j, text_clear row at)
+bar_runs_nothing running script bytes steps runner r (not_accepted row at x j) (a_binary m i) = cc
+bar_runs_nothing running script bytes steps runner r (unreadable row at x j) (a_text m i) = cc
+bar_runs_nothing running script bytes steps runner r (unreadable row at x j) (a_binary m i) = (binary_clear row at) (not_both bytes m (checks.Binary row at) i.taken j)
+bar_runs_nothing running script bytes steps runner r (invalid rule section index instruction x j) (a_text m i) = cc
+bar_runs_nothing running script bytes steps runner r (invalid rule section index instruction x j) (a_binary m i) = (invalid_clear rule section index instruction) (not_both bytes m (checks.Invalid rule section index instruction) i.taken j)
+bar_runs_nothing running script bytes steps runner r (outside row o) (a_binary m i) =
     let same = same_module bytes m o.«module» i.taken o.taken in
     let e : Some row ≡ None = sym o.meets ∙ ap not_runnable same ∙ i.runs in
     cc
@@ -163,17 +153,19 @@ one_played_end r steps script j k (ran p) (ran q) = refl
 
 -- ---- the whole
 
-one_module_end : (map : Told) (a : Asked) (bytes : List ℕ) → OneEnd (IsModuleJob (Some map) a bytes)
+one_module_end : (map : Told) (a : Action) (bytes : List ℕ) → OneEnd (IsModuleJob (Some map) a bytes)
 one_module_end map a bytes j k (barred {reason = r} x) (barred {reason = q} y) = one_bar a bytes r q x y
 one_module_end map a bytes j k (barred {reason = r} x) (made {output = output} y) = absurd (bar_makes_nothing a bytes output r x y)
-one_module_end map a bytes j k (barred {reason = r} x) (scripted {running = running} {file = file} {script = script} {steps = steps} runner i of) =
-    absurd (bar_runs_nothing running file script bytes steps runner r x i)
+one_module_end map a bytes j k (barred {reason = r} x) (scripted {running = running} {script = script} {steps = steps} runner i of) =
+    absurd (bar_runs_nothing running script bytes steps runner r x i)
 one_module_end map a bytes j k (made {output = output} x) (barred {reason = r} y) = absurd (bar_makes_nothing a bytes output r y x)
 one_module_end map a bytes j k (made x) (made y) = refl
-one_module_end map a bytes j k (made x) (scripted runner i of) = elim x [ ]
-one_module_end map a bytes j k (scripted runner i of) (made y) = elim y [ ]
-one_module_end map a bytes j k (scripted {running = running} {file = file} {script = script} {steps = steps} runner i of) (barred {reason = r} y) =
-    absurd (bar_runs_nothing running file script bytes steps runner r y i)
+one_module_end map a bytes j k (made {output = output} x) (scripted {running = running} {script = script} {steps = steps} runner i of) =
+    absurd (run_makes_nothing running script bytes output steps x)
+one_module_end map a bytes j k (scripted {running = running} {script = script} {steps = steps} runner i of) (made {output = output} y) =
+    absurd (run_makes_nothing running script bytes output steps y)
+one_module_end map a bytes j k (scripted {running = running} {script = script} {steps = steps} runner i of) (barred {reason = r} y) =
+    absurd (bar_runs_nothing running script bytes steps runner r y i)
 one_module_end map a bytes j k (scripted {running = running} {script = script} {steps = steps} runner i of) (scripted runner' i' of') =
     let same = one_runner running bytes runner runner' i i' in
     one_file_end map true script (IsPlayed runner steps) (one_played_end runner steps) j k of (subst (λ r. IsFileJob (Some map) true script (IsPlayed r steps) k) same of')
@@ -182,17 +174,18 @@ one_module_end map a bytes j k (scripted {running = running} {script = script} {
 pub one_end : (words : List (List ℕ)) (told : Option Told) → IsSome told → OneEnd (IsJob words told)
 one_end words None some j k x y = absurd cc
 one_end words (Some map) some j k (no_command e) (no_command e') = refl
-one_end words (Some map) some j k (no_command e) (commanded a n x) = absurd cc
-one_end words (Some map) some j k (commanded a n x) (no_command e) = absurd cc
+one_end words (Some map) some j k (no_command e) (commanded a file n x) = absurd cc
+one_end words (Some map) some j k (commanded a file n x) (no_command e) = absurd cc
 one_end words (Some map) some j k (no_command e) (generated n named y) = absurd cc
-one_end words (Some map) some j k (commanded a n x) (generated m named y) = absurd cc
+one_end words (Some map) some j k (commanded a file n x) (generated m named y) = absurd cc
 one_end words (Some map) some j k (generated n named x) (no_command e) = absurd cc
-one_end words (Some map) some j k (generated n named x) (commanded a m y) = absurd cc
+one_end words (Some map) some j k (generated n named x) (commanded a file m y) = absurd cc
 one_end words (Some map) some j k (generated n named x) (generated m named' y) = refl
-one_end words (Some map) some j k (commanded a n x) (commanded b n' y) =
+one_end words (Some map) some j k (commanded a file n x) (commanded b other n' y) =
     let same : b ≡ a = cc in
-    one_file_end map false (file_of a) (IsModuleJob (Some map) a) (one_module_end map a) j k x
-    (subst (λ c. IsFileJob (Some map) false (file_of c) (IsModuleJob (Some map) c) k) same y)
+    let same_file : other ≡ file = cc in
+    one_file_end map false file (IsModuleJob (Some map) a) (one_module_end map a) j k x
+    (subst (λ f. IsFileJob (Some map) false f (IsModuleJob (Some map) a) k) same_file (subst (λ c. IsFileJob (Some map) false other (IsModuleJob (Some map) c) k) same y))
 
 -- what is reported is the job's refusal, or the end is cut short
 pub reported_exactly : (words : List (List ℕ)) (told : Option Told) (reason : Reason) → MayReport words told reason
@@ -210,7 +203,7 @@ tells_files (too_large b file) = true
 tells_files _ = false
 
 -- why a module isn't taken doesn't speak of files
-pub answered_quietly : (a : Asked) (bytes : List ℕ) (r : Reason) → IsAnswered a bytes r → tells_files r ≡ false
+pub answered_quietly : (a : Action) (bytes : List ℕ) (r : Reason) → IsAnswered a bytes r → tells_files r ≡ false
 answered_quietly a bytes r (a_bar (not_accepted row at x i)) = refl
 answered_quietly a bytes r (a_bar (unreadable row at x i)) = refl
 answered_quietly a bytes r (a_bar (invalid rule section index instruction x i)) = refl
@@ -218,7 +211,7 @@ answered_quietly a bytes r (a_bar (not_translated row o)) = refl
 answered_quietly a bytes r (a_bar (outside row o)) = refl
 answered_quietly a bytes r want_of_memory = refl
 
-pub module_answered : (told : Option Told) (a : Asked) (bytes : List ℕ) (r : Reason) → IsAnswered a bytes r → MayAnswer (IsModuleJob told a bytes) r
+pub module_answered : (told : Option Told) (a : Action) (bytes : List ℕ) (r : Reason) → IsAnswered a bytes r → MayAnswer (IsModuleJob told a bytes) r
 module_answered told a bytes r (a_bar x) = a_refusal (barred x)
 module_answered told a bytes r want_of_memory = no_memory
 
@@ -230,18 +223,18 @@ pub reads_module : (bytes : List ℕ) → begins_with_zero bytes ≡ true → la
 reads_module bytes is = rw is refl
 
 -- bytes that were checked
-pub text_answer : (a : Asked) (bytes : List ℕ) (fault : TextFault) → read_as a bytes ≡ asm_js → texts.IsRefusal bytes fault → IsAnswered a bytes (reason_of_text fault)
+pub text_answer : (a : Action) (bytes : List ℕ) (fault : TextFault) → read_as a bytes ≡ asm_js → texts.IsRefusal bytes fault → IsAnswered a bytes (reason_of_text fault)
 text_answer a bytes (text_faults.Refused row at) x i = a_bar (not_accepted row at x i)
 text_answer a bytes text_faults.Memory x i = want_of_memory
 
-pub check_answer : (a : Asked) (bytes : List ℕ) (fault : CheckFault) → read_as a bytes ≡ web_assembly → IsRefused bytes fault → IsAnswered a bytes (reason_of_check fault)
+pub check_answer : (a : Action) (bytes : List ℕ) (fault : CheckFault) → read_as a bytes ≡ web_assembly → IsRefused bytes fault → IsAnswered a bytes (reason_of_check fault)
 check_answer a bytes (checks.Binary row at) x i = a_bar (unreadable row at x i)
 check_answer a bytes (checks.Invalid rule section index instruction) x i = a_bar (invalid rule section index instruction x i)
 check_answer a bytes checks.Memory x i = want_of_memory
 
-pub run_answer : (file script bytes : List ℕ) (steps : ℕ) (fault : RunFault) → IsNotRun bytes fault → IsAnswered (run as_binary file script steps) bytes (reason_of_run fault)
-run_answer file script bytes steps (run_faults.Check fault) i = check_answer (run as_binary file script steps) bytes fault refl i
-run_answer file script bytes steps (run_faults.Outside row) i = a_bar (outside row i)
+pub run_answer : (script bytes : List ℕ) (steps : ℕ) (fault : RunFault) → IsNotRun bytes fault → IsAnswered (run as_binary script steps) bytes (reason_of_run fault)
+run_answer script bytes steps (run_faults.Check fault) i = check_answer (run as_binary script steps) bytes fault refl i
+run_answer script bytes steps (run_faults.Outside row) i = a_bar (outside row i)
 
 pub text_script_answer : (m : Module) (heap steps : ℕ) (script : List ℕ) (fault : ScriptFault) → text_runs.IsScriptRefusal m heap script fault
     → IsScriptAnswer (text_runner m heap) steps script (reason_of_script fault)
@@ -290,29 +283,20 @@ of_held told b file bytes OfBytes r h w (a_refusal x) = a_refusal (held bytes h 
 of_held told b file bytes OfBytes r h w a_read_fault = a_read_fault
 of_held told b file bytes OfBytes r h w no_memory = no_memory
 
-pub of_script_file : (told : Option Told) (running : Running) (file script bytes : List ℕ) (steps : ℕ) (runner : Runner) (r : Reason) → IsRunner bytes running runner
-    → MayAnswer (IsFileJob told true script (IsPlayed runner steps)) r → MayAnswer (IsModuleJob told (run running file script steps) bytes) r
-of_script_file told running file script bytes steps runner r i (a_refusal x) = a_refusal (scripted runner i x)
-of_script_file told running file script bytes steps runner r i a_read_fault = a_read_fault
-of_script_file told running file script bytes steps runner r i no_memory = no_memory
+pub of_script_file : (told : Option Told) (running : Running) (script bytes : List ℕ) (steps : ℕ) (runner : Runner) (r : Reason) → IsRunner bytes running runner
+    → MayAnswer (IsFileJob told true script (IsPlayed runner steps)) r → MayAnswer (IsModuleJob told (run running script steps) bytes) r
+of_script_file told running script bytes steps runner r i (a_refusal x) = a_refusal (scripted runner i x)
+of_script_file told running script bytes steps runner r i a_read_fault = a_read_fault
+of_script_file told running script bytes steps runner r i no_memory = no_memory
 
-pub of_command : (words : List (List ℕ)) (told : Option Told) (a : Asked) (r : Reason) → asked words ≡ Some (on_files a)
-    → MayAnswer (IsFileJob told false (file_of a) (IsModuleJob told a)) r → MayReport words told r
-of_command words told a r n (a_refusal x) = a_refusal (commanded a n x)
-of_command words told a r n a_read_fault = a_read_fault
-of_command words told a r n no_memory = no_memory
-
--- an action's file is that of its module
-pub file_done : (action : Action) (file : List ℕ) → file_of (done_by action file) ≡ file
-file_done (Make (AsmToWasm heap)) file = refl
-file_done (Make CheckAsm) file = refl
-file_done (Make WasmToAsm) file = refl
-file_done (Make CheckWasm) file = refl
-file_done (Make Show) file = refl
-file_done (Run running script steps) file = refl
+pub of_command : (words : List (List ℕ)) (told : Option Told) (a : Action) (file : List ℕ) (r : Reason) → asked words ≡ Some (on_file a file)
+    → MayAnswer (IsFileJob told false file (IsModuleJob told a)) r → MayReport words told r
+of_command words told a file r n (a_refusal x) = a_refusal (commanded a file n x)
+of_command words told a file r n a_read_fault = a_read_fault
+of_command words told a file r n no_memory = no_memory
 
 -- words that name no command may be told, and want of memory
-pub words_report : (words : List (List ℕ)) (told : Option Told) (fault : WordsFault) → Answers named_by (asked words) (Err fault) → MayReport words told (reason_of_words fault)
+pub words_report : (words : List (List ℕ)) (told : Option Told) (fault : WordsFault) → Answers asked_view (asked words) (Err fault) → MayReport words told (reason_of_words fault)
 words_report words told words_faults.Usage is = a_refusal (no_command is)
 words_report words told words_faults.Memory is = no_memory
 
@@ -321,7 +305,7 @@ words_report words told words_faults.Memory is = no_memory
 abbrev NoUsage : (Job → Type 0) → Type 0
 NoUsage Is = (r : Reason) → Is (refused r) → status_of r ≡ Usage → ⊥
 
-bar_usage : (a : Asked) (bytes : List ℕ) (r : Reason) → IsBarred a bytes r → status_of r ≡ Usage → ⊥
+bar_usage : (a : Action) (bytes : List ℕ) (r : Reason) → IsBarred a bytes r → status_of r ≡ Usage → ⊥
 bar_usage a bytes r (not_accepted row at x i) is = cc
 bar_usage a bytes r (unreadable row at x i) is = cc
 bar_usage a bytes r (invalid rule section index instruction x i) is = cc
@@ -336,13 +320,13 @@ file_usage told b file OfBytes never r (held bytes h w x) is = never bytes r x i
 played_usage : (runner : Runner) (steps : ℕ) (script : List ℕ) → NoUsage (IsPlayed runner steps script)
 played_usage runner steps script r (unfit line x) is = cc
 
-module_usage : (told : Option Told) (a : Asked) (bytes : List ℕ) → NoUsage (IsModuleJob told a bytes)
+module_usage : (told : Option Told) (a : Action) (bytes : List ℕ) → NoUsage (IsModuleJob told a bytes)
 module_usage told a bytes r (barred x) is = bar_usage a bytes r x is
 module_usage told a bytes r (scripted {script = script} {steps = steps} runner i x) is = file_usage told true script (IsPlayed runner steps) (played_usage runner steps) r x is
 
 job_usage : (words : List (List ℕ)) (told : Option Told) (r : Reason) → IsJob words told (refused r) → status_of r ≡ Usage → asked words ≡ None
 job_usage words told r (no_command e) is = e
-job_usage words told r (commanded a n x) is = absurd (file_usage told false (file_of a) (IsModuleJob told a) (module_usage told a) r x is)
+job_usage words told r (commanded a file n x) is = absurd (file_usage told false file (IsModuleJob told a) (module_usage told a) r x is)
 
 pub usage_words : (words : List (List ℕ)) (told : Option Told) (reason : Reason) → MayReport words told reason → status_of reason ≡ Usage → asked words ≡ None
 usage_words words told reason (a_refusal job) is = job_usage words told reason job is

@@ -19,7 +19,7 @@ use Rattle.wasm2js_laws_simulation.specs.WholeLaws.{SpelledAreAllowed, TrapsOfSp
 use Rattle.wasm2js_laws_simulation.specs.BoundedLaws.{SpelledAreBounded}
 use Rattle.gen_lang.specs.Recipe.{recipe, recipe_heap, summary}
 use Rattle.gen_laws.specs.Modules.{recipe_module}
-use Rattle.bridge_lang.specs.Job.{IsSummarized, translated}
+use Rattle.bridge_lang.specs.Job.{IsSummarized, of_text}
 use Rattle.cmd_check_asm.specs.declared.fault.CheckFault.{CheckFault as TextFault}
 use Rattle.cmd_check_asm.specs.declared.fault.CheckFault.TheVariants as text_faults
 use Rattle.cmd_check_asm.specs.Verdicts as texts
@@ -44,8 +44,13 @@ module _ (allowed : SpelledAreAllowed) (traps : TrapsOfSpelledAreCalls) (bounded
   summed n m w output accepted short s e is = record {
     bytes = spelling w;
     back = canonical_text (asm_js_for w);
-    there = translated m w accepted s.allowed s.bounded (record { spells = spells w (s.writable short); no_shorter = shortest w });
-    again = back.made allowed traps bounded again [] (spelling w) (canonical_text (asm_js_for w)) w (translatable m w s (s.writable short) e) refl;
+    there = of_text m refl accepted (record {
+      «module» = w;
+      allowed = s.allowed;
+      bounded = s.bounded;
+      shortest = record { spells = spells w (s.writable short); no_shorter = shortest w };
+    });
+    again = back.made allowed traps bounded again (spelling w) (canonical_text (asm_js_for w)) w (translatable m w s (s.writable short) e) refl;
     summed = is;
   }
 

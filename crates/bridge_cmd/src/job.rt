@@ -1,18 +1,18 @@
 //! From the words to the output.
 ghost use Rattle.std.specs.Prelude.{◌≡◌, ◌≤◌, ◌⊎◌, IfOk, IfErr, None, Bool, false, map, string_bytes, length, ℕ, List};
 ghost use Rattle.bridge_io.specs.Outside.{Rose, RoseBy};
-ghost use Rattle.bridge_cmd.specs.Asking.{asked_by, done_by};
-ghost use Rattle.bridge_lang.specs.Command as spec;
+ghost use Rattle.bridge_args.specs.Answer.{action_view};
+ghost use Rattle.bridge_lang.specs.Words.{asked};
 ghost use Rattle.bridge_lang.specs.Job.{file_limit, IsFileJob, IsJob, IsModuleJob, written};
 ghost use Rattle.bridge_lang.specs.Answers.{MayAnswer};
 ghost use Rattle.bridge_lang.specs.Reason.{faulty_words, read_fault, missing, too_large, out_of_memory};
 ghost use Rattle.bridge_cmd.specs.Refused.{reason_of};
 
 use crate::generating::generated;
-use crate::making::made;
+use crate::making::{made, translated};
 use crate::playing::{FILE_LIMIT, script_run};
 use crate::refusal::{Refusal, of_gathering, of_words};
-use crate::words::{Action, Command, Wanted, asked};
+use bridge_args::{Action, Asked, read_words};
 use bridge_io::{Files, gather};
 use shared_bytes::SharedBytes;
 use std::alloc::Global;
@@ -29,14 +29,15 @@ fn module_output<F: Files>(
     ensures faults { F.faults files.old ≤ F.faults files.new }
     ensures absences { F.absences files.old ≤ F.absences files.new }
     ensures given { F.given files.old ≤ F.given files.new }
-    ensures written { (file : List ℕ) → IfOk result (λ output. IsModuleJob (F.told files.old) (done_by action file) bytes.now (written output)) }
-    ensures refused { (file : List ℕ) → IfErr result (λ refusal. MayAnswer (IsModuleJob (F.told files.old) (done_by action file) bytes.now) (reason_of refusal)) }
+    ensures written { IfOk result (λ output. IsModuleJob (F.told files.old) (action_view action) bytes.now (written output)) }
+    ensures refused { IfErr result (λ refusal. MayAnswer (IsModuleJob (F.told files.old) (action_view action) bytes.now) (reason_of refusal)) }
     ensures read_fault { IfErr result (λ refusal. reason_of refusal ≡ read_fault → Rose (F.faults files.old) (F.faults files.new)) }
     ensures missing { IfErr result (λ refusal. (is_script : Bool) (file : List ℕ) → reason_of refusal ≡ missing is_script file → Rose (F.absences files.old) (F.absences files.new)) }
     ensures too_large { IfErr result (λ refusal. (is_script : Bool) (file : List ℕ) → reason_of refusal ≡ too_large is_script file → RoseBy 16777217 (F.given files.old) (F.given files.new)) }
 {
     match action {
         Action::Make(making) => made(alloc, making, bytes),
+        Action::Translate(heap) => translated(alloc, bytes, heap),
         Action::Run {
             running,
             script,
@@ -45,23 +46,23 @@ fn module_output<F: Files>(
     }
 }
 
-/// What a command makes of its files.
+/// What a command makes of its module's file.
 fn command_output<F: Files>(
     alloc: Global,
-    command: Command,
+    action: Action,
+    file: String,
     files: &mut F,
 ) -> Result<SharedBytes, Refusal>
     ensures told { F.told files.new ≡ F.told files.old }
     ensures faults { F.faults files.old ≤ F.faults files.new }
     ensures absences { F.absences files.old ≤ F.absences files.new }
     ensures given { F.given files.old ≤ F.given files.new }
-    ensures written { IfOk result (λ output. IsFileJob (F.told files.old) false (spec.file_of (asked_by command)) (IsModuleJob (F.told files.old) (asked_by command)) (written output)) }
-    ensures refused { IfErr result (λ refusal. MayAnswer (IsFileJob (F.told files.old) false (spec.file_of (asked_by command)) (IsModuleJob (F.told files.old) (asked_by command))) (reason_of refusal)) }
+    ensures written { IfOk result (λ output. IsFileJob (F.told files.old) false (string_bytes file) (IsModuleJob (F.told files.old) (action_view action)) (written output)) }
+    ensures refused { IfErr result (λ refusal. MayAnswer (IsFileJob (F.told files.old) false (string_bytes file) (IsModuleJob (F.told files.old) (action_view action))) (reason_of refusal)) }
     ensures read_fault { IfErr result (λ refusal. reason_of refusal ≡ read_fault → Rose (F.faults files.old) (F.faults files.new)) }
     ensures missing { IfErr result (λ refusal. (is_script : Bool) (file : List ℕ) → reason_of refusal ≡ missing is_script file → Rose (F.absences files.old) (F.absences files.new)) }
     ensures too_large { IfErr result (λ refusal. (is_script : Bool) (file : List ℕ) → reason_of refusal ≡ too_large is_script file → RoseBy 16777217 (F.given files.old) (F.given files.new)) }
 {
-    let Command { file, action } = command;
     match gather(alloc, files, file.as_str(), FILE_LIMIT) {
         Ok(bytes) => module_output(alloc, action, bytes.as_slice(), files),
         Err(fault) => Err(of_gathering(fault, false, file)),
@@ -80,14 +81,14 @@ pub(crate) fn output_of<F: Files>(
     ensures given { F.given files.old ≤ F.given files.new }
     ensures written { IfOk result (λ output. IsJob (map string_bytes words.now) (F.told files.old) (written output)) }
     ensures refused { IfErr result (λ refusal. MayAnswer (IsJob (map string_bytes words.now) (F.told files.old)) (reason_of refusal)) }
-    ensures faulty_words { spec.asked (map string_bytes words.now) ≡ None → IfErr result (λ refusal. (reason_of refusal ≡ faulty_words) ⊎ (reason_of refusal ≡ out_of_memory)) }
+    ensures faulty_words { asked (map string_bytes words.now) ≡ None → IfErr result (λ refusal. (reason_of refusal ≡ faulty_words) ⊎ (reason_of refusal ≡ out_of_memory)) }
     ensures read_fault { IfErr result (λ refusal. reason_of refusal ≡ read_fault → Rose (F.faults files.old) (F.faults files.new)) }
     ensures missing { IfErr result (λ refusal. (is_script : Bool) (file : List ℕ) → reason_of refusal ≡ missing is_script file → Rose (F.absences files.old) (F.absences files.new)) }
     ensures too_large { IfErr result (λ refusal. (is_script : Bool) (file : List ℕ) → reason_of refusal ≡ too_large is_script file → RoseBy 16777217 (F.given files.old) (F.given files.new)) }
 {
-    match asked(alloc, words) {
-        Ok(Wanted::OnFiles(command)) => command_output(alloc, command, files),
-        Ok(Wanted::Gen(count)) => match generated(alloc, count) {
+    match read_words(alloc, words) {
+        Ok(Asked::OnFile { action, file }) => command_output(alloc, action, file, files),
+        Ok(Asked::Gen(count)) => match generated(alloc, count) {
             Ok(output) => Ok(SharedBytes::from_vec(alloc, output)),
             Err(_) => Err(Refusal::OutOfMemory),
         },

@@ -3,7 +3,6 @@
 
 mod composed;
 mod generating;
-mod hashes;
 mod job;
 mod making;
 mod playing;
@@ -11,7 +10,6 @@ mod refusal;
 mod report;
 mod runner;
 mod top;
-mod words;
 
 pub use asm_validate::Rule as AsmRule;
 pub use bridge_lang::{Status, WasmFault};

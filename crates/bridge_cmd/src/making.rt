@@ -1,7 +1,7 @@
 //! Commands that read one file.
-ghost use Rattle.std.specs.Prelude.{◌≡◌, ◌≤◌, ℕ, true, false, None, List, length, IfOk, IfErr};
-ghost use Rattle.bridge_cmd.specs.Asking.{made_by};
+ghost use Rattle.std.specs.Prelude.{◌≡◌, ◌≤◌, true, false, None, length, IfOk, IfErr};
 ghost use Rattle.bridge_lang.specs.Command as spec;
+ghost use Rattle.bridge_lang.specs.declared.making.Making.TheVariants.{CheckAsm, CheckWasm, WasmToAsm, WasmToWat, Show};
 ghost use Rattle.asm_tree.specs.Views.{module_view};
 ghost use Rattle.wasm_binary_write.specs.Spelling.{spelling};
 ghost use Rattle.asm2wasm_translation.specs.Modules.{translation};
@@ -12,14 +12,14 @@ ghost use Rattle.bridge_lang.specs.Job.{file_limit, IsMade};
 ghost use Rattle.bridge_lang.specs.Answers.{IsAnswered};
 ghost use Rattle.bridge_cmd.specs.Refused.{reason_of};
 
-use crate::hashes::import_hashes;
 use crate::refusal::{Refusal, of_check, of_outside, of_text};
-use crate::words::Making;
 use asm_grammar_print::print;
+use asm_names::module_hashes;
 use asm_text::printed_texts_are_read;
 use asm_validate::Checked;
 use asm2wasm::translate_module;
 use bridge_args::HeapLength;
+use bridge_lang::Making;
 use cmd_check_asm::check_text;
 use cmd_check_wasm::check_bytes;
 use shared_bytes::SharedBytes;
@@ -31,10 +31,14 @@ use wasm_profile::profile;
 use wasm_validate::Valid;
 
 /// The bytes of a module of WebAssembly for an accepted module of asm.js with a heap of this length.
-fn translated(alloc: Global, text: &[u8], heap: HeapLength) -> Result<SharedBytes, Refusal>
+pub(crate) fn translated(
+    alloc: Global,
+    text: &[u8],
+    heap: HeapLength,
+) -> Result<SharedBytes, Refusal>
     requires { length text.now ≤ file_limit }
-    ensures made { (file : List ℕ) → IfOk result (λ output. IsMade (spec.asm_to_wasm file heap.bytes) text.now output) }
-    ensures barred { (file : List ℕ) → IfErr result (λ refusal. IsAnswered (spec.asm_to_wasm file heap.bytes) text.now (reason_of refusal)) }
+    ensures made { IfOk result (λ output. IsMade (spec.translate heap.bytes) text.now output) }
+    ensures barred { IfErr result (λ refusal. IsAnswered (spec.translate heap.bytes) text.now (reason_of refusal)) }
 {
     asm2wasm_laws_writable::writable();
     asm2wasm_laws_simulation::sessions_laws::translations();
@@ -58,13 +62,13 @@ fn written(alloc: Global, checked: &Checked, heap: HeapLength) -> Result<SharedB
     ensures { IfOk result (λ output. output ≡ spelling (translation (module_view checked.now) heap.bytes)) }
 {
     let translation = translate_module(alloc, checked, heap.bytes)?;
-    write_shared(alloc, &translation, import_hashes(checked.module()))
+    write_shared(alloc, &translation, module_hashes(checked.module()))
 }
 
 /// The canonical text of asm.js for a module of WebAssembly that can be translated.
 fn translated_back(alloc: Global, bytes: &[u8]) -> Result<SharedBytes, Refusal>
-    ensures made { (file : List ℕ) → IfOk result (λ output. IsMade (spec.wasm_to_asm file) bytes.now output) }
-    ensures barred { (file : List ℕ) → IfErr result (λ refusal. IsAnswered (spec.wasm_to_asm file) bytes.now (reason_of refusal)) }
+    ensures made { IfOk result (λ output. IsMade (spec.make WasmToAsm) bytes.now output) }
+    ensures barred { IfErr result (λ refusal. IsAnswered (spec.make WasmToAsm) bytes.now (reason_of refusal)) }
 {
     wasm2js_laws_simulation::whole_laws::spelled();
     wasm2js_laws_simulation::bounded_laws::spelled();
@@ -98,10 +102,27 @@ pub(crate) fn text_of(alloc: Global, valid: &Valid<'_>) -> Result<Vec<u8>, Alloc
     }
 }
 
+/// The canonical text of WebAssembly for a valid module.
+fn worded(alloc: Global, bytes: &[u8]) -> Result<SharedBytes, Refusal>
+    ensures made { IfOk result (λ output. IsMade (spec.make WasmToWat) bytes.now output) }
+    ensures barred { IfErr result (λ refusal. IsAnswered (spec.make WasmToWat) bytes.now (reason_of refusal)) }
+{
+    let valid = match check_bytes(alloc, bytes) {
+        Ok(valid) => valid,
+        Err(fault) => return Err(of_check(fault)),
+    };
+    let output = wat_print::write(alloc, &valid);
+    mem::forget(valid);
+    match output {
+        Ok(output) => Ok(SharedBytes::from_vec(alloc, output)),
+        Err(_) => Err(Refusal::OutOfMemory),
+    }
+}
+
 /// The counts line of an accepted module of asm.js.
 fn text_counts(alloc: Global, text: &[u8]) -> Result<SharedBytes, Refusal>
-    ensures made { (file : List ℕ) → IfOk result (λ output. IsMade (spec.check_asm file) text.now output) }
-    ensures barred { (file : List ℕ) → IfErr result (λ refusal. IsAnswered (spec.check_asm file) text.now (reason_of refusal)) }
+    ensures made { IfOk result (λ output. IsMade (spec.make CheckAsm) text.now output) }
+    ensures barred { IfErr result (λ refusal. IsAnswered (spec.make CheckAsm) text.now (reason_of refusal)) }
 {
     match cmd_check_asm::counts(alloc, text) {
         Ok(line) => Ok(SharedBytes::from_vec(alloc, line)),
@@ -111,8 +132,8 @@ fn text_counts(alloc: Global, text: &[u8]) -> Result<SharedBytes, Refusal>
 
 /// The counts line of a valid module of WebAssembly.
 fn bytes_counts(alloc: Global, bytes: &[u8]) -> Result<SharedBytes, Refusal>
-    ensures made { (file : List ℕ) → IfOk result (λ output. IsMade (spec.check_wasm file) bytes.now output) }
-    ensures barred { (file : List ℕ) → IfErr result (λ refusal. IsAnswered (spec.check_wasm file) bytes.now (reason_of refusal)) }
+    ensures made { IfOk result (λ output. IsMade (spec.make CheckWasm) bytes.now output) }
+    ensures barred { IfErr result (λ refusal. IsAnswered (spec.make CheckWasm) bytes.now (reason_of refusal)) }
 {
     match cmd_check_wasm::counts(alloc, bytes) {
         Ok(line) => Ok(SharedBytes::from_vec(alloc, line)),
@@ -122,8 +143,8 @@ fn bytes_counts(alloc: Global, bytes: &[u8]) -> Result<SharedBytes, Refusal>
 
 /// The canonical text of an accepted module of asm.js.
 fn printed(alloc: Global, text: &[u8]) -> Result<SharedBytes, Refusal>
-    ensures made { (file : List ℕ) → spec.begins_with_zero text.now ≡ false → IfOk result (λ output. IsMade (spec.show file) text.now output) }
-    ensures barred { (file : List ℕ) → spec.begins_with_zero text.now ≡ false → IfErr result (λ refusal. IsAnswered (spec.show file) text.now (reason_of refusal)) }
+    ensures made { spec.begins_with_zero text.now ≡ false → IfOk result (λ output. IsMade (spec.make Show) text.now output) }
+    ensures barred { spec.begins_with_zero text.now ≡ false → IfErr result (λ refusal. IsAnswered (spec.make Show) text.now (reason_of refusal)) }
 {
     let checked = match check_text(alloc, text) {
         Ok(checked) => checked,
@@ -139,8 +160,8 @@ fn printed(alloc: Global, text: &[u8]) -> Result<SharedBytes, Refusal>
 
 /// The listing of a valid module of WebAssembly.
 fn listed(alloc: Global, bytes: &[u8]) -> Result<SharedBytes, Refusal>
-    ensures made { (file : List ℕ) → spec.begins_with_zero bytes.now ≡ true → IfOk result (λ output. IsMade (spec.show file) bytes.now output) }
-    ensures barred { (file : List ℕ) → spec.begins_with_zero bytes.now ≡ true → IfErr result (λ refusal. IsAnswered (spec.show file) bytes.now (reason_of refusal)) }
+    ensures made { spec.begins_with_zero bytes.now ≡ true → IfOk result (λ output. IsMade (spec.make Show) bytes.now output) }
+    ensures barred { spec.begins_with_zero bytes.now ≡ true → IfErr result (λ refusal. IsAnswered (spec.make Show) bytes.now (reason_of refusal)) }
 {
     let valid = match check_bytes(alloc, bytes) {
         Ok(valid) => valid,
@@ -163,8 +184,8 @@ fn begins_with_zero(bytes: &[u8]) -> bool
 
 /// What a module of either language is shown as.
 fn shown(alloc: Global, bytes: &[u8]) -> Result<SharedBytes, Refusal>
-    ensures made { (file : List ℕ) → IfOk result (λ output. IsMade (spec.show file) bytes.now output) }
-    ensures barred { (file : List ℕ) → IfErr result (λ refusal. IsAnswered (spec.show file) bytes.now (reason_of refusal)) }
+    ensures made { IfOk result (λ output. IsMade (spec.make Show) bytes.now output) }
+    ensures barred { IfErr result (λ refusal. IsAnswered (spec.make Show) bytes.now (reason_of refusal)) }
 {
     if begins_with_zero(bytes) {
         listed(alloc, bytes)
@@ -175,13 +196,12 @@ fn shown(alloc: Global, bytes: &[u8]) -> Result<SharedBytes, Refusal>
 
 /// What is made of a module's bytes.
 pub(crate) fn made(alloc: Global, making: Making, bytes: &[u8]) -> Result<SharedBytes, Refusal>
-    requires { length bytes.now ≤ file_limit }
-    ensures made { (file : List ℕ) → IfOk result (λ output. IsMade (made_by making file) bytes.now output) }
-    ensures barred { (file : List ℕ) → IfErr result (λ refusal. IsAnswered (made_by making file) bytes.now (reason_of refusal)) }
+    ensures made { IfOk result (λ output. IsMade (spec.make making) bytes.now output) }
+    ensures barred { IfErr result (λ refusal. IsAnswered (spec.make making) bytes.now (reason_of refusal)) }
 {
     match making {
-        Making::AsmToWasm(heap) => translated(alloc, bytes, heap),
         Making::WasmToAsm => translated_back(alloc, bytes),
+        Making::WasmToWat => worded(alloc, bytes),
         Making::CheckAsm => text_counts(alloc, bytes),
         Making::CheckWasm => bytes_counts(alloc, bytes),
         Making::Show => shown(alloc, bytes),

@@ -2,7 +2,7 @@
 ghost use Rattle.std.specs.Prelude.{◌≡◌, ◌≤◌, ℕ, Bool, List, IfOk, IfErr, string_bytes};
 ghost use Rattle.bridge_io.specs.Outside.{Rose, RoseBy};
 ghost use Rattle.bridge_lang.specs.Command as spec;
-ghost use Rattle.bridge_cmd.specs.Asking.{run_as};
+ghost use Rattle.bridge_args.specs.Answer.{running_view};
 ghost use Rattle.bridge_lang.specs.Job.{IsModuleJob, written};
 ghost use Rattle.bridge_lang.specs.Answers.{MayAnswer};
 ghost use Rattle.bridge_lang.specs.Reason.{read_fault, missing, too_large};
@@ -10,7 +10,7 @@ ghost use Rattle.bridge_cmd.specs.Refused.{reason_of};
 
 use crate::refusal::{Refusal, of_gathering};
 use crate::runner::{played, runner_for};
-use crate::words::Running;
+use bridge_args::Running;
 use bridge_io::{Files, gather};
 use shared_bytes::SharedBytes;
 use std::alloc::Global;
@@ -32,8 +32,8 @@ pub(crate) fn script_run<F: Files>(
     ensures faults { F.faults files.old ≤ F.faults files.new }
     ensures absences { F.absences files.old ≤ F.absences files.new }
     ensures given { F.given files.old ≤ F.given files.new }
-    ensures written { (file : List ℕ) → IfOk result (λ output. IsModuleJob (F.told files.old) (spec.run (run_as running) file (string_bytes script) steps) bytes.now (written output)) }
-    ensures refused { (file : List ℕ) → IfErr result (λ refusal. MayAnswer (IsModuleJob (F.told files.old) (spec.run (run_as running) file (string_bytes script) steps) bytes.now) (reason_of refusal)) }
+    ensures written { IfOk result (λ output. IsModuleJob (F.told files.old) (spec.run (running_view running) (string_bytes script) steps) bytes.now (written output)) }
+    ensures refused { IfErr result (λ refusal. MayAnswer (IsModuleJob (F.told files.old) (spec.run (running_view running) (string_bytes script) steps) bytes.now) (reason_of refusal)) }
     ensures read_fault { IfErr result (λ refusal. reason_of refusal ≡ read_fault → Rose (F.faults files.old) (F.faults files.new)) }
     ensures missing { IfErr result (λ refusal. (is_script : Bool) (file : List ℕ) → reason_of refusal ≡ missing is_script file → Rose (F.absences files.old) (F.absences files.new)) }
     ensures too_large { IfErr result (λ refusal. (is_script : Bool) (file : List ℕ) → reason_of refusal ≡ too_large is_script file → RoseBy 16777217 (F.given files.old) (F.given files.new)) }

@@ -3,7 +3,7 @@ ghost use Rattle.std.specs.Prelude.{◌≡◌, ℕ, List, None, IfOk, IfErr};
 ghost use Rattle.asm_tree.specs.Views.{module_view};
 ghost use Rattle.wasm_lang_valid.specs.Runnable.{not_runnable};
 ghost use Rattle.bridge_lang.specs.Command as spec;
-ghost use Rattle.bridge_cmd.specs.Asking.{run_as};
+ghost use Rattle.bridge_args.specs.Answer.{running_view};
 ghost use Rattle.bridge_lang.specs.Runs.{IsRunner, text_runner, binary_runner};
 ghost use Rattle.bridge_cmd.specs.Runners.{runner_of};
 ghost use Rattle.bridge_lang.specs.Job.{IsPlayed, written};
@@ -11,9 +11,8 @@ ghost use Rattle.bridge_lang.specs.Answers.{IsAnswered, IsScriptAnswer};
 ghost use Rattle.bridge_cmd.specs.Refused.{reason_of};
 
 use crate::refusal::{Refusal, of_run, of_script, of_text};
-use crate::words::Running;
 use asm_validate::Checked;
-use bridge_args::HeapLength;
+use bridge_args::{HeapLength, Running};
 use cmd_check_asm::check_text;
 use cmd_run_wasm::runnable_module;
 use shared_bytes::SharedBytes;
@@ -33,8 +32,8 @@ pub(crate) fn runner_for<'a>(
     running: Running,
     bytes: &'a [u8],
 ) -> Result<Runner<'a>, Refusal>
-    ensures runs { IfOk result (λ runner. IsRunner bytes.now (run_as running) (runner_of runner)) }
-    ensures barred { (file script : List ℕ) (steps : ℕ) → IfErr result (λ refusal. IsAnswered (spec.run (run_as running) file script steps) bytes.now (reason_of refusal)) }
+    ensures runs { IfOk result (λ runner. IsRunner bytes.now (running_view running) (runner_of runner)) }
+    ensures barred { (script : List ℕ) (steps : ℕ) → IfErr result (λ refusal. IsAnswered (spec.run (running_view running) script steps) bytes.now (reason_of refusal)) }
 {
     match running {
         Running::Text(heap) => match check_text(alloc, bytes) {

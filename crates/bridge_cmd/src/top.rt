@@ -1,7 +1,7 @@
 //! The one call that does everything.
 ghost use Rattle.std.specs.Prelude.{◌≡◌, ◌≢◌, ◌⊎◌, ℕ, ◌≤◌, map, string_bytes, IsSome, None, Bool};
 ghost use Rattle.bridge_io.specs.Outside.{Rose, RoseBy};
-ghost use Rattle.bridge_lang.specs.Command.{asked};
+ghost use Rattle.bridge_lang.specs.Words.{asked};
 ghost use Rattle.bridge_lang.specs.Job.{Job, IsJob};
 ghost use Rattle.bridge_lang.specs.Outcome.{EndsAs, IsCutShort, Writes, Refuses, OutputCut, ReportCut};
 ghost use Rattle.bridge_lang.specs.Sinks.{seen};

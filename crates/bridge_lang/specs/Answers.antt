@@ -1,12 +1,12 @@
 -- What may be answered in place of an output.
 use Rattle.std.specs.Prelude.{ℕ, List}
-use Rattle.bridge_lang.specs.Command.{Asked}
+use Rattle.bridge_lang.specs.Command.{Action}
 use Rattle.bridge_lang.specs.Job.{Job, refused, IsBarred, IsPlayed}
 use Rattle.bridge_lang.specs.Runs.{Runner}
 use Rattle.bridge_lang.specs.Reason.{Reason, read_fault, out_of_memory}
 
 -- why a command doesn't take its module, or want of memory
-pub data IsAnswered (a : Asked) (bytes : List ℕ) : Reason → Type 0 where
+pub data IsAnswered (a : Action) (bytes : List ℕ) : Reason → Type 0 where
   a_bar : {reason : Reason} → IsBarred a bytes reason → IsAnswered a bytes reason
   want_of_memory : IsAnswered a bytes out_of_memory
 

@@ -5,8 +5,7 @@ use Rattle.bridge_io.specs.Outside.{Told, content_of}
 use Rattle.asm_lang.specs.Modules.{Module}
 use Rattle.asm_lang.specs.Printing.{canonical_text}
 use Rattle.asm_lang_valid.specs.Texts.{IsAcceptedText}
-use Rattle.bridge_lang.specs.AsmVerdicts.{IsRefusedText}
-use Rattle.bridge_lang.specs.AsmVerdicts as texts
+use Rattle.bridge_lang.specs.AsmVerdicts.{counts_line as text_counts_line, IsRefusedText}
 use Rattle.bridge_lang.specs.declared.row.AsmRow.{AsmRow}
 use Rattle.wasm_lang.specs.Modules.{WasmModule}
 use Rattle.wasm_lang.specs.declared.fault.Row.{Row}
@@ -14,14 +13,18 @@ use Rattle.wasm_lang.specs.Bytes.{IsFirstFault}
 use Rattle.wasm_lang_valid.specs.declared.profile.Outside.{Outside}
 use Rattle.wasm_lang_valid.specs.declared.rule.Rule.{Rule}
 use Rattle.wasm_lang_valid.specs.declared.section.Section.{Section}
-use Rattle.wasm_lang_valid.specs.Bytes.{IsValidBytes, IsInvalidBytes, IsTranslatable, IsBeyond}
-use Rattle.bridge_lang.specs.WasmVerdicts.{IsCounted}
-use Rattle.bridge_lang.specs.Listing.{listing}
+use Rattle.wasm_lang_valid.specs.Bytes.{IsValidBytes, IsInvalidBytes, IsBeyond}
+use Rattle.wasm_lang_valid.specs.Profile.{outside_profile}
+use Rattle.bridge_lang.specs.Listing.{counts_line, listing}
+use Rattle.wat_lang.specs.Printing.{canonical}
 use Rattle.bridge_lang.specs.WasmRuns.{IsOutside}
 use Rattle.asm2wasm_lang.specs.Allowed.{IsAllowed, IsBounded, IsShortest}
 use Rattle.wasm2js_lang.specs.Allowed.{IsAllowed as IsAllowedAsm, IsBounded as IsBoundedAsm, TrapsAreCalls}
 use Rattle.gen_lang.specs.Recipe.{recipe, recipe_heap, summary}
-use Rattle.bridge_lang.specs.Command.{Asked, asm_to_wasm, wasm_to_asm, check_asm, check_wasm, show, Running, as_binary, run, on_files, gen, file_of, asked, asm_js, web_assembly, language_of, read_as}
+use Rattle.bridge_lang.specs.declared.making.Making.{Making}
+use Rattle.bridge_lang.specs.declared.making.Making.TheVariants.{CheckAsm, CheckWasm, WasmToAsm, WasmToWat, Show}
+use Rattle.bridge_lang.specs.Command.{Running, as_text, as_binary, Action, make, translate, run, on_file, gen, Language, asm_js, web_assembly, language_of}
+use Rattle.bridge_lang.specs.Words.{asked}
 use Rattle.bridge_lang.specs.Reason.{Reason, faulty_words, not_asm, not_a_binary, not_valid, not_run, bad_script, missing, too_large}
 use Rattle.bridge_lang.specs.Runs.{Runner, IsRunner, script_for, Prints}
 
@@ -55,27 +58,65 @@ pub data IsFileJob (told : Option Told) (is_script : Bool) (file : List ℕ) (Of
 
 -- ---- modules
 
+-- the language in which the module's bytes are read
+abbrev pub read_by : Making → List ℕ → Language
+read_by CheckAsm bytes = asm_js
+read_by CheckWasm bytes = web_assembly
+read_by WasmToAsm bytes = web_assembly
+read_by WasmToWat bytes = web_assembly
+read_by Show bytes = language_of bytes
+
+abbrev pub read_as : Action → List ℕ → Language
+read_as (make making) bytes = read_by making bytes
+read_as (translate heap) bytes = asm_js
+read_as (run (as_text heap) script steps) bytes = asm_js
+read_as (run as_binary script steps) bytes = web_assembly
+
 -- why a command doesn't take its module's bytes
-pub data IsBarred : Asked → List ℕ → Reason → Type 0 where
-  not_accepted : {a : Asked} {bytes : List ℕ} (row : AsmRow) (at : ℕ) → read_as a bytes ≡ asm_js → IsRefusedText bytes row at → IsBarred a bytes (not_asm row at)
-  unreadable : {a : Asked} {bytes : List ℕ} (row : Row) (at : ℕ) → read_as a bytes ≡ web_assembly → IsFirstFault bytes row at → IsBarred a bytes (not_a_binary row at)
-  invalid : {a : Asked} {bytes : List ℕ} (rule : Rule) (section : Section) (index instruction : ℕ) → read_as a bytes ≡ web_assembly
+pub data IsBarred : Action → List ℕ → Reason → Type 0 where
+  not_accepted : {a : Action} {bytes : List ℕ} (row : AsmRow) (at : ℕ) → read_as a bytes ≡ asm_js → IsRefusedText bytes row at → IsBarred a bytes (not_asm row at)
+  unreadable : {a : Action} {bytes : List ℕ} (row : Row) (at : ℕ) → read_as a bytes ≡ web_assembly → IsFirstFault bytes row at → IsBarred a bytes (not_a_binary row at)
+  invalid : {a : Action} {bytes : List ℕ} (rule : Rule) (section : Section) (index instruction : ℕ) → read_as a bytes ≡ web_assembly
       → IsInvalidBytes bytes rule section index instruction → IsBarred a bytes (not_valid rule section index instruction)
-  not_translated : {file bytes : List ℕ} (row : Outside) → IsBeyond bytes row → IsBarred (wasm_to_asm file) bytes (not_run row.row row.value)
-  outside : {file script bytes : List ℕ} {steps : ℕ} (row : Outside) → IsOutside bytes row → IsBarred (run as_binary file script steps) bytes (not_run row.row row.value)
+  not_translated : {bytes : List ℕ} (row : Outside) → IsBeyond bytes row → IsBarred (make WasmToAsm) bytes (not_run row.row row.value)
+  outside : {script bytes : List ℕ} {steps : ℕ} (row : Outside) → IsOutside bytes row → IsBarred (run as_binary script steps) bytes (not_run row.row row.value)
+
+-- the shortest spelling of a module of WebAssembly that may be written for this one, with a heap of so many bytes
+pub record IsTranslated (m : Module) (heap : ℕ) (output : List ℕ) : Type 0 where
+  pub «module» : WasmModule
+  pub allowed : IsAllowed m heap «module»
+  pub bounded : IsBounded m heap «module»
+  pub shortest : IsShortest output «module»
+
+-- the canonical text of a module of asm.js that may be written for this one, which can be translated
+pub record IsTranslatedBack (w : WasmModule) (output : List ℕ) : Type 0 where
+  pub within : outside_profile w ≡ None
+  pub «module» : Module
+  pub printed : output ≡ canonical_text «module»
+  pub accepted : IsAcceptedText output «module»
+  pub allowed : IsAllowedAsm w «module»
+  pub traps : TrapsAreCalls w «module»
+  pub bounded : IsBoundedAsm w «module»
+
+-- what is made of an accepted module of asm.js
+abbrev pub IsMadeOfText : Action → Module → (output : List ℕ) → Type 0
+IsMadeOfText (make CheckAsm) m output = output ≡ text_counts_line m
+IsMadeOfText (make Show) m output = output ≡ canonical_text m
+IsMadeOfText (translate heap) m output = IsTranslated m heap output
+IsMadeOfText _ m output = ⊥
+
+-- .. and of a valid module of WebAssembly
+abbrev pub IsMadeOfBinary : Action → WasmModule → (output : List ℕ) → Type 0
+IsMadeOfBinary (make CheckWasm) w output = output ≡ counts_line w
+IsMadeOfBinary (make WasmToAsm) w output = IsTranslatedBack w output
+IsMadeOfBinary (make WasmToWat) w output = output ≡ canonical w
+IsMadeOfBinary (make Show) w output = output ≡ listing w
+IsMadeOfBinary _ w output = ⊥
 
 -- what a command without a script makes of its module's bytes
-pub data IsMade : Asked → List ℕ → List ℕ → Type 0 where
-  translated : {file bytes output : List ℕ} {heap : ℕ} (m : Module) (w : WasmModule) → IsAcceptedText bytes m → IsAllowed m heap w → IsBounded m heap w → IsShortest output w
-      → IsMade (asm_to_wasm file heap) bytes output
-  translated_back : {file bytes output : List ℕ} (w : WasmModule) (a : Module) → IsTranslatable bytes w → output ≡ canonical_text a → IsAcceptedText output a
-      → IsAllowedAsm w a → TrapsAreCalls w a → IsBoundedAsm w a → IsMade (wasm_to_asm file) bytes output
-  text_counted : {file bytes output : List ℕ} → texts.IsCounted bytes output → IsMade (check_asm file) bytes output
-  bytes_counted : {file bytes output : List ℕ} → IsCounted bytes output → IsMade (check_wasm file) bytes output
-  printed : {file bytes output : List ℕ} (m : Module) → language_of bytes ≡ asm_js → IsAcceptedText bytes m → output ≡ canonical_text m
-      → IsMade (show file) bytes output
-  listed : {file bytes output : List ℕ} (m : WasmModule) → language_of bytes ≡ web_assembly → IsValidBytes bytes m → output ≡ listing m
-      → IsMade (show file) bytes output
+pub data IsMade (a : Action) (bytes output : List ℕ) : Type 0 where
+  of_text : (m : Module) → read_as a bytes ≡ asm_js → IsAcceptedText bytes m → IsMadeOfText a m output → IsMade a bytes output
+  of_binary : (w : WasmModule) → read_as a bytes ≡ web_assembly → IsValidBytes bytes w → IsMadeOfBinary a w output → IsMade a bytes output
 
 -- what a run makes of the script's bytes
 pub data IsPlayed (runner : Runner) (steps : ℕ) (script : List ℕ) : Job → Type 0 where
@@ -88,19 +129,19 @@ pub data IsPlayed (runner : Runner) (steps : ℕ) (script : List ℕ) : Job → 
 pub record IsSummarized (n : ℕ) (output : List ℕ) : Type 0 where
   pub bytes : List ℕ
   pub back : List ℕ
-  pub there : IsMade (asm_to_wasm [] recipe_heap) (recipe n) bytes
-  pub again : IsMade (wasm_to_asm []) bytes back
+  pub there : IsMade (translate recipe_heap) (recipe n) bytes
+  pub again : IsMade (make WasmToAsm) bytes back
   pub summed : output ≡ summary n (length (recipe n)) (length bytes) (length back)
 
 -- ---- the whole
 
-pub data IsModuleJob (told : Option Told) : Asked → List ℕ → Job → Type 0 where
-  barred : {a : Asked} {bytes : List ℕ} {reason : Reason} → IsBarred a bytes reason → IsModuleJob told a bytes (refused reason)
-  made : {a : Asked} {bytes output : List ℕ} → IsMade a bytes output → IsModuleJob told a bytes (written output)
-  scripted : {running : Running} {file script bytes : List ℕ} {steps : ℕ} {job : Job} (runner : Runner) → IsRunner bytes running runner
-      → IsFileJob told true script (IsPlayed runner steps) job → IsModuleJob told (run running file script steps) bytes job
+pub data IsModuleJob (told : Option Told) : Action → List ℕ → Job → Type 0 where
+  barred : {a : Action} {bytes : List ℕ} {reason : Reason} → IsBarred a bytes reason → IsModuleJob told a bytes (refused reason)
+  made : {a : Action} {bytes output : List ℕ} → IsMade a bytes output → IsModuleJob told a bytes (written output)
+  scripted : {running : Running} {script bytes : List ℕ} {steps : ℕ} {job : Job} (runner : Runner) → IsRunner bytes running runner
+      → IsFileJob told true script (IsPlayed runner steps) job → IsModuleJob told (run running script steps) bytes job
 
 pub data IsJob (words : List (List ℕ)) (told : Option Told) : Job → Type 0 where
   no_command : asked words ≡ None → IsJob words told (refused faulty_words)
-  commanded : {job : Job} (a : Asked) → asked words ≡ Some (on_files a) → IsFileJob told false (file_of a) (IsModuleJob told a) job → IsJob words told job
+  commanded : {job : Job} (a : Action) (file : List ℕ) → asked words ≡ Some (on_file a file) → IsFileJob told false file (IsModuleJob told a) job → IsJob words told job
   generated : {output : List ℕ} (n : ℕ) → asked words ≡ Some (gen n) → IsSummarized n output → IsJob words told (written output)

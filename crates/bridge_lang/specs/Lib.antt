@@ -1,7 +1,7 @@
 pub mod Number
 pub mod App
-pub mod Words
 pub mod Command
+pub mod Words
 pub mod Listing
 pub mod AsmRows
 pub mod WasmRows

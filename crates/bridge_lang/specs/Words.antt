@@ -6,17 +6,19 @@ use Rattle.clap.specs.Kinds.{Kinds}
 use Rattle.clap.specs.Walk.{Row, Text, all_of, first_of}
 use Rattle.bridge_lang.specs.App.{faults_of, rows_read}
 use Rattle.bridge_lang.specs.Number.{is_gen_count, is_heap, is_steps, kept, number_of, number_or}
+use Rattle.bridge_lang.specs.declared.making.Making.{Making}
+use Rattle.bridge_lang.specs.declared.making.Making.TheVariants.{CheckAsm, CheckWasm, WasmToAsm, WasmToWat, Show}
+use Rattle.bridge_lang.specs.Command.{as_text, as_binary, make, translate, run, Asked, on_file, gen}
 
--- a job, as texts and numbers
-pub data JobRead : Type 0 where
-  check_asm : Text → JobRead
-  check_wasm : Text → JobRead
-  asm_to_wasm : Text → ℕ → JobRead
-  wasm_to_asm : Text → JobRead
-  run_asm : Text → Text → ℕ → ℕ → JobRead
-  run_wasm : Text → Text → ℕ → JobRead
-  show : Text → JobRead
-  gen : ℕ → JobRead
+-- the commands that take one file and no option
+unfoldable pub making_named : Text → Option Making
+making_named name =
+    if bytes_eq name (codes "check-asm") then Some CheckAsm
+    else (if bytes_eq name (codes "check-wasm") then Some CheckWasm
+    else (if bytes_eq name (codes "wasm2js") then Some WasmToAsm
+    else (if bytes_eq name (codes "wasm2wat") then Some WasmToWat
+    else (if bytes_eq name (codes "show") then Some Show
+    else None))))
 
 -- what follows the command's name
 pub record GivenTexts : Type 0 where
@@ -47,35 +49,34 @@ heap_of g = number_or 65536 is_heap g.heap
 unfoldable pub steps_of : GivenTexts → Option ℕ
 steps_of g = number_or 1000000 is_steps g.steps
 
-abbrev pub asm_to_wasm_of : GivenTexts → Option JobRead
-asm_to_wasm_of g = without_option g.steps (option_and_then (λ file.
-    option_map (λ heap. asm_to_wasm file heap) (heap_of g)) (only g.operands))
+abbrev pub making_of : Text → GivenTexts → Option Asked
+making_of name g = option_and_then (λ making. option_map (on_file (make making)) (lone_operand g)) (making_named name)
 
-abbrev pub run_asm_of : GivenTexts → Option JobRead
+abbrev pub asm_to_wasm_of : GivenTexts → Option Asked
+asm_to_wasm_of g = without_option g.steps (option_and_then (λ file.
+    option_map (λ heap. on_file (translate heap) file) (heap_of g)) (only g.operands))
+
+abbrev pub run_asm_of : GivenTexts → Option Asked
 run_asm_of g = option_and_then (λ files. option_and_then (λ heap.
-    option_map (λ steps. run_asm files.0 files.1 heap steps) (steps_of g)) (heap_of g))
+    option_map (λ steps. on_file (run (as_text heap) files.1 steps) files.0) (steps_of g)) (heap_of g))
     (only_two g.operands)
 
-abbrev pub run_wasm_of : GivenTexts → Option JobRead
+abbrev pub run_wasm_of : GivenTexts → Option Asked
 run_wasm_of g = without_option g.heap (option_and_then (λ files.
-    option_map (λ steps. run_wasm files.0 files.1 steps) (steps_of g)) (only_two g.operands))
+    option_map (λ steps. on_file (run as_binary files.1 steps) files.0) (steps_of g)) (only_two g.operands))
 
 -- a number, and no option
-abbrev pub gen_of : GivenTexts → Option JobRead
+abbrev pub gen_of : GivenTexts → Option Asked
 gen_of g = option_and_then (λ text. option_map gen (kept is_gen_count (number_of text))) (lone_operand g)
 
 -- the table
-unfoldable pub job_named : Text → GivenTexts → Option JobRead
-job_named name g =
-    if bytes_eq name (codes "check-asm") then option_map check_asm (lone_operand g)
-    else (if bytes_eq name (codes "check-wasm") then option_map check_wasm (lone_operand g)
-    else (if bytes_eq name (codes "asm2wasm") then asm_to_wasm_of g
-    else (if bytes_eq name (codes "wasm2js") then option_map wasm_to_asm (lone_operand g)
+unfoldable pub asked_by : Text → GivenTexts → Option Asked
+asked_by name g =
+    if bytes_eq name (codes "asm2wasm") then asm_to_wasm_of g
     else (if bytes_eq name (codes "run-asm") then run_asm_of g
     else (if bytes_eq name (codes "run-wasm") then run_wasm_of g
-    else (if bytes_eq name (codes "show") then option_map show (lone_operand g)
     else (if bytes_eq name (codes "gen") then gen_of g
-    else None)))))))
+    else making_of name g)))
 
 -- what `clap` read, as the command's name and what follows it
 abbrev pub texts_or_none : Option (List Text) → List Text
@@ -89,13 +90,13 @@ given_in rows = record {
   steps = first_of (codes "steps") rows;
 }
 
-unfoldable pub job_in : List Row → Option JobRead
-job_in rows = option_and_then (λ name. job_named name (given_in rows)) (first_of (codes "command") rows)
+unfoldable pub asked_in : List Row → Option Asked
+asked_in rows = option_and_then (λ name. asked_by name (given_in rows)) (first_of (codes "command") rows)
 
-abbrev pub unless_faulty : Kinds → Option JobRead → Option JobRead
-unless_faulty [] job = job
-unless_faulty (k ∷ ks) job = None
+abbrev pub unless_faulty : Kinds → Option Asked → Option Asked
+unless_faulty [] asked = asked
+unless_faulty (k ∷ ks) asked = None
 
--- the job that the words name, the program's name first
-unfoldable pub job_of : List Text → Option JobRead
-job_of words = unless_faulty (faults_of words) (job_in (rows_read words))
+-- what the words ask for, the program's name first
+unfoldable pub asked : List Text → Option Asked
+asked words = unless_faulty (faults_of words) (asked_in (rows_read words))

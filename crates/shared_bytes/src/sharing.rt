@@ -5,8 +5,7 @@ ghost use Rattle.shared_bytes.specs.Chunks.{chunk, AreHeld, Grows};
 
 use crate::bytes::SharedBytes;
 use indexmap::IndexMap;
-use key_hashes::KeyHashes;
-use name_keys::NameKey;
+use key_hashes::{KeyHashes, NameKey};
 use std::alloc::{AllocError, Global};
 use std::marker::Model;
 

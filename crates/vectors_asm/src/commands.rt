@@ -48,7 +48,7 @@ type Row = (&'static [&'static str], u8, &'static [u8], &'static [u8]);
 
 const USAGE: &[u8] = b"usage: bridge COMMAND [--heap N] [--steps N] [FILE] [SCRIPT]\n";
 
-static ROWS: [Row; 44] = [
+static ROWS: [Row; 48] = [
     (&[], 1, b"", USAGE),
     (&["fly", "add.js"], 1, b"", USAGE),
     (&["asm2wasm"], 1, b"", USAGE),
@@ -139,6 +139,25 @@ static ROWS: [Row; 44] = [
         b"function m(){\"use asm\";\nfunction f(a,b){a=a|0;b=b|0;return a+b|0;}\nreturn f;}\n",
         b"",
     ),
+    (
+        &["wasm2wat", "add.wasm"],
+        0,
+        b"(module\n(type (func (param i32 i32) (result i32)))\n(func (type 0)\nlocal.get 0\nlocal.get 1\ni32.add\n)\n(export \"f\" (func 0))\n)\n",
+        b"",
+    ),
+    (
+        &["wasm2wat", "cut.wasm"],
+        3,
+        b"",
+        b"wasm refused: B3 Truncated at 4\n",
+    ),
+    (
+        &["wasm2wat", "untyped.wasm"],
+        3,
+        b"",
+        b"wasm refused: B13 Invalid V1 at section 3 index 0 instruction 0\n",
+    ),
+    (&["wasm2wat", "--heap", "65536", "add.wasm"], 1, b"", USAGE),
     (
         &["show", "add.wasm"],
         0,

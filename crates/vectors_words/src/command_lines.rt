@@ -1,4 +1,4 @@
-//! Words and their jobs.
+//! Words, and what they ask for.
 
 use bridge_args::read_words;
 use std::alloc::Global;
@@ -33,19 +33,19 @@ fn all_show(rt: &impl Abort, alloc: Global, rows: &[Row]) {
 static ANYWHERE: [Row; 4] = [
     (
         &["bridge", "run-wasm", "a", "b", "--steps", "5"],
-        "Ok(RunWasm(\"a\", \"b\", 5))",
+        "Ok(OnFile { action: Run { running: Binary, script: \"b\", steps: 5 }, file: \"a\" })",
     ),
     (
         &["bridge", "run-wasm", "a", "b", "--steps=5"],
-        "Ok(RunWasm(\"a\", \"b\", 5))",
+        "Ok(OnFile { action: Run { running: Binary, script: \"b\", steps: 5 }, file: \"a\" })",
     ),
     (
         &["bridge", "--steps", "5", "run-wasm", "a", "b"],
-        "Ok(RunWasm(\"a\", \"b\", 5))",
+        "Ok(OnFile { action: Run { running: Binary, script: \"b\", steps: 5 }, file: \"a\" })",
     ),
     (
         &["bridge", "run-wasm", "a", "--steps=5", "b"],
-        "Ok(RunWasm(\"a\", \"b\", 5))",
+        "Ok(OnFile { action: Run { running: Binary, script: \"b\", steps: 5 }, file: \"a\" })",
     ),
 ];
 
@@ -57,15 +57,15 @@ fn options_stand_anywhere(rt: HostRuntime) {
 static DEFAULTS: [Row; 3] = [
     (
         &["bridge", "run-asm", "a", "b"],
-        "Ok(RunAsm(\"a\", \"b\", HeapLength { bytes: 65536 }, 1000000))",
+        "Ok(OnFile { action: Run { running: Text(HeapLength { bytes: 65536 }), script: \"b\", steps: 1000000 }, file: \"a\" })",
     ),
     (
         &["bridge", "show", "--", "--steps"],
-        "Ok(Show(\"--steps\"))",
+        "Ok(OnFile { action: Make(Show), file: \"--steps\" })",
     ),
     (
         &["bridge", "asm2wasm", "a", "--heap", "33554432"],
-        "Ok(AsmToWasm(\"a\", HeapLength { bytes: 33554432 }))",
+        "Ok(OnFile { action: Translate(HeapLength { bytes: 33554432 }), file: \"a\" })",
     ),
 ];
 

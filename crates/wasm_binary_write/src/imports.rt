@@ -42,30 +42,30 @@ fn push_imports<'a>(
 ) -> Result<(), AllocError>
     ensures { OnOk result (shared.new ≡ shared.old ++ vector imported (map import_of imports.now)) }
 {
-    let mut open = Vec::new(alloc);
-    push_unsigned(&mut open, imports.len())?;
+    let mut pending = Vec::new(alloc);
+    push_unsigned(&mut pending, imports.len())?;
     for import in imports {
-        push_import(alloc, shared, &mut open, import)?;
+        push_import(alloc, shared, &mut pending, import)?;
     }
-    shared.push(open)
+    shared.push(pending)
 }
 
-// Appends an import to what is open, which stands behind the shared bytes. A long name closes it.
+// Appends an import to what is pending, which stands behind the shared bytes. A long name closes it.
 fn push_import<'a>(
     alloc: Global,
     shared: &mut Sharing<'a>,
-    open: &mut Vec<u8>,
+    pending: &mut Vec<u8>,
     import: &'a Import<'_>,
 ) -> Result<(), AllocError>
-    ensures { OnOk result (shared.new ++ open.new.items ≡ (shared.old ++ open.old.items) ++ imported (import_of import.now)) }
+    ensures { OnOk result (shared.new ++ pending.new.items ≡ (shared.old ++ pending.old.items) ++ imported (import_of import.now)) }
 {
     let name = import.field.as_bytes();
     if name.len() < LONG {
-        return import.push_to(alloc, open);
+        return import.push_to(alloc, pending);
     }
-    push_sized(open, import.module.as_bytes())?;
-    push_unsigned(open, name.len())?;
-    shared.push(mem::replace(open, Vec::new(alloc)))?;
+    push_sized(pending, import.module.as_bytes())?;
+    push_unsigned(pending, name.len())?;
+    shared.push(mem::replace(pending, Vec::new(alloc)))?;
     shared.push_again(alloc, name)?;
-    import.kind.push_to(alloc, open)
+    import.kind.push_to(alloc, pending)
 }

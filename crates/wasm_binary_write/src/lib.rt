@@ -14,5 +14,6 @@ mod modules;
 mod spell;
 mod types;
 
+pub use instrs::push_instrs;
 pub use laws::spelling_laws;
 pub use modules::{write, write_shared};

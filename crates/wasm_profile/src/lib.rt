@@ -10,7 +10,9 @@ mod sizes;
 mod table;
 
 pub use heaps::heap_for;
-pub use memory::memory_bytes;
+pub use imports::{mutable_import, table_import};
+pub use memory::{large_memory, memory_bytes, memory_pages};
 pub use rows::profile;
+pub use segments::{offset_from_import, segment_outside};
 pub use table::{padded, table_length};
 pub use wasm_validate::{Beyond, Outside, Valid};

@@ -29,8 +29,8 @@ pub fn large_memory(module: &Module<'_>) -> Option<usize>
     }
 }
 
-// The pages of the memory.
-fn memory_pages(module: &Module<'_>) -> Option<u32>
+/// The pages of the memory.
+pub fn memory_pages(module: &Module<'_>) -> Option<u32>
     ensures { result ≡ pages (module_of «module».now) }
 {
     match imported_memory(module.imports.as_slice()) {

@@ -33,7 +33,7 @@ module _ (s : Surroundings) (limit : ℕ) where
       → Follows s limit (z1 + z2) (λ l st k. around (course l st k)) has_then on_then (and_then part go)
   follows_bind {A} {B} around z1 z2 course has on has_then on_then part go keeps f g = record { by = begins }
     where
-      begins : (p : Place) (scratch : List Word) → Holds s.home s.heap s.within p → length scratch ≡ s.scratch → p.units ≤ limit
+      begins : (p : Place) (scratch : List Word) → Holds s.fixed s.home s.heap s.within p → length scratch ≡ s.scratch → p.units ≤ limit
           → Sim s.worth ends (Arrived s has_then on_then scratch) (z1 + z2) p.units (λ k. around (course (words p.locals ++ scratch) (store_of s.fixed p) k)) (and_then part go p)
       begins p scratch h many few =
           sim_bind s.worth ends A B (Arrived s has on scratch) (Arrived s has_then on_then scratch) around z1 z2 p.units (course (words p.locals ++ scratch) (store_of s.fixed p)) (part p) go keeps (f.by p scratch h many few) next

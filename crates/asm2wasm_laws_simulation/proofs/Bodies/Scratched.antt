@@ -28,13 +28,13 @@ pub record Reaches (most : ℕ) (from to : ℕ → Outcome) : Type 0 where
   pub by : (k : ℕ) → from (cost + k) ≡ to k
 
 module _ (s : Surroundings) (limit i place : ℕ) (is : first_scratch s.within + i ≡ place) (free : i < s.scratch) where
-  pub there : (p : Place) (scratch : List Word) → Holds s.home s.heap s.within p → length scratch ≡ s.scratch → (old : Word) × (slice_get (words p.locals ++ scratch) place ≡ Some old)
+  pub there : (p : Place) (scratch : List Word) → Holds s.fixed s.home s.heap s.within p → length scratch ≡ s.scratch → (old : Word) × (slice_get (words p.locals ++ scratch) place ≡ Some old)
   there p scratch h many =
       let n = locals_length s.within p.locals h.locals in
       let x = is_there scratch i (omega (arith, free, many)) in
       (x.0, ap (slice_get (words p.locals ++ scratch)) (sym is) ∙ ap (λ n. slice_get (words p.locals ++ scratch) (n + i)) (sym n) ∙ get_past (words p.locals) scratch i ∙ x.1)
 
-  then_set : (p : Place) (scratch : List Word) (v : Word) → Holds s.home s.heap s.within p → slice_set (words p.locals ++ scratch) place v ≡ words p.locals ++ slice_set scratch i v
+  then_set : (p : Place) (scratch : List Word) (v : Word) → Holds s.fixed s.home s.heap s.within p → slice_set (words p.locals ++ scratch) place v ≡ words p.locals ++ slice_set scratch i v
   then_set p scratch v h =
       let n = locals_length s.within p.locals h.locals in
       ap (λ x. slice_set (words p.locals ++ scratch) x v) (sym is) ∙ ap (λ n. slice_set (words p.locals ++ scratch) (n + i) v) (sym n) ∙ set_past (words p.locals) scratch i v

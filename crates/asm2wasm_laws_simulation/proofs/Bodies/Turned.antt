@@ -56,7 +56,7 @@ module _ (s : Surroundings) (ls : List Label) (wanted : Bool) (inner : Trees) wh
       → Ends limit 0 entered (and_then pay (λ _. go))
   follows_turn limit z go enough f = record { by = λ p scratch h many few. by p scratch h many p.units refl few }
     where
-      by : (p : Place) (scratch : List Word) → Holds s.home s.heap s.within p → length scratch ≡ s.scratch → (u : ℕ) → p.units ≡ u → u ≤ limit
+      by : (p : Place) (scratch : List Word) → Holds s.fixed s.home s.heap s.within p → length scratch ≡ s.scratch → (u : ℕ) → p.units ≡ u → u ≤ limit
           → Sim s.worth (EndsAlike s.fixed s.home s.heap) (Arrived s Any (ends_as ls wanted) scratch) 0 u (entered (words p.locals ++ scratch) (store_of s.fixed p)) (after (paid u p) (λ _. go))
       by p scratch h many zero e few = record {
         cost = 0;

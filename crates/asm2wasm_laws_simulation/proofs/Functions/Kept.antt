@@ -120,7 +120,7 @@ module _ (s : Surroundings) (known : Known s) (bound n : ℕ) (g : Function) (is
     beginning_is = ap (λ ws. map word vs ++ ws) (zeros_split (max (first_scratch g) (reach code) - length g.params) (length g.locals) scratch_room (locals_split (length g.params) (length g.locals) (reach code)))
 
     -- from the caller's place p to a place in the function, with these variables
-    from_body : (p : Place) (variables : List Binding) → Holds s.home s.heap s.within p → Holds s.home s.heap g (record p { locals = variables }) → length scratch ≡ s.scratch → p.units ≤ bound
+    from_body : (p : Place) (variables : List Binding) → Holds s.fixed s.home s.heap s.within p → Holds s.fixed s.home s.heap g (record p { locals = variables }) → length scratch ≡ s.scratch → p.units ≤ bound
         → Sim s.worth ends shows (1 + size body) p.units (λ k. framed p (on_code s.target [] body (words variables ++ zeros scratch_room) (store_of s.fixed p) k)) (with_locals variables does p)
     from_body p variables h inner as_many few = subst (λ z. Sim s.worth ends shows z p.units run (with_locals variables does p)) none all
       where
@@ -184,7 +184,7 @@ module _ (s : Surroundings) (known : Known s) (bound n : ℕ) (g : Function) (is
         }
 
     -- a call pays its unit with the reduction that enters the frame
-    pub called : (p : Place) → Holds s.home s.heap s.within p → length scratch ≡ s.scratch → (u : ℕ) → p.units ≡ u → u ≤ suc bound
+    pub called : (p : Place) → Holds s.fixed s.home s.heap s.within p → length scratch ≡ s.scratch → (u : ℕ) → p.units ≡ u → u ≤ suc bound
         → Sim s.worth ends shows 1 u (run_from s.target s.fixed (values vs ++ stack) (call index ▹ ε) scratch p) (after (paid u p) (λ _. and_then (defined (first_locals g vs)) (λ locals. with_locals locals does)))
     called p h as_many zero e few = record {
       cost = 0;
@@ -205,8 +205,8 @@ module _ (s : Surroundings) (known : Known s) (bound n : ℕ) (g : Function) (is
         let pays = known.pay n g is in
         let joined = sizes_add setting body in
         let cheap = x.few in
-        let at_q : Holds s.home s.heap s.within q = record { locals = h.locals; globals = h.globals; heap = h.heap; bytes = h.bytes; replies = h.replies } in
-        let inner : Holds s.home s.heap g (record q { locals = b.variables }) = record { locals = b.names_are; globals = h.globals; heap = h.heap; bytes = h.bytes; replies = h.replies } in
+        let at_q : Holds s.fixed s.home s.heap s.within q = record { locals = h.locals; globals = h.globals; heap = h.heap; bytes = h.bytes; replies = h.replies } in
+        let inner : Holds s.fixed s.home s.heap g (record q { locals = b.variables }) = record { locals = b.names_are; globals = h.globals; heap = h.heap; bytes = h.bytes; replies = h.replies } in
         let does_it = from_body q b.variables at_q inner as_many (omega (arith, few)) in
         let whole = sim_after s.worth ends JsValue shows x.cost (1 + size body) u u entered later (with_locals b.variables does q) (comes_in s.worth x.cost u entered later (λ k. ap (framed p) (x.by k))) does_it in
         subst (λ o. Sim s.worth ends shows 1 (suc u) r (after (defined o q) (λ locals. with_locals locals does))) (sym b.is)

@@ -14,9 +14,8 @@ use Rattle.sem_words.specs.declared.word.Word.TheVariants.{W32}
 use Rattle.sem_words.specs.Words.{word_of, signed_of}
 use Rattle.sem_words.proofs.WordLaws.{word_of-IsWord, word_of-signed_of_32}
 use Rattle.heap_lang.specs.Numbers.{IsBytes}
-use Rattle.heap_lang.specs.Heap.{with_run}
-use Rattle.heap_lang.proofs.RunLemmas.{length-with_run, IsBytes-with_run}
 use Rattle.session_lang.specs.Script.{GlobalPlain, WritePlain, ReplyPlain, give, throw, ReplyLinePlain, ScriptPlain}
+use Rattle.session_lang.specs.Imports.{first_replies}
 use Rattle.session_lang.specs.CallingForms.{foreign_import, global_to_wasm, script_to_wasm}
 use Rattle.session_lang.proofs.NameLaws.{different_imports_have_different_names}
 use Rattle.session_lang.specs.Fits.{is_given, are_bytes}
@@ -44,7 +43,8 @@ use Rattle.session_lang.specs.Written.{WritesBytes}
 use Rattle.asm2wasm_translation.specs.Numbers.{slot_of, int_variables}
 use Rattle.asm2wasm_translation.specs.Modules.{from_env, imported_function, imported_global, imported_memory, or_zero, global_for, translation}
 use Rattle.asm2wasm_laws_heap.proofs.Writes.{writes_stay_in_front}
-use Rattle.asm2wasm_laws_run.specs.State.{words, names, store_of, Stays, Holds}
+use Rattle.asm2wasm_laws_run.specs.State.{Fixed, words, names, store_of, Stays, AreAnswered, Holds}
+use Rattle.asm2wasm_laws_preservation.proofs.Foreign.{heap_stays, bytes_stay}
 use Rattle.asm2wasm_laws_acceptance.specs.Laws.{table_entries}
 use Rattle.asm2wasm_laws_acceptance.proofs.Accepted.{IsImported, variables_imported}
 use Rattle.asm2wasm_laws_acceptance.proofs.Callees.{tables_are_filled}
@@ -86,20 +86,12 @@ module _ (m : Module) (size : ℕ) where
   all_stay [] h all = tt
   all_stay (x ∷ xs) h all = let p = and_parts (fits_write m size x) (list_all (fits_write m size) xs) h in (stays x p.0 all.0, all_stay xs p.1 all.1)
 
-  abbrev Replied : ReplyPlain → Type 0
+  abbrev pub Replied : ReplyPlain → Type 0
   Replied r = All (Stays long) (writes_of r)
 
   reply_stays : (r : ReplyPlain) → fits_reply m size r ≡ true → All (λ (x : WritePlain). IsBytes x.bytes) (writes_of r) → Replied r
   reply_stays (give word ws) h all = All-from_recursion (Stays long) ws (all_stay ws h (recursion_from_All (λ (x : WritePlain). IsBytes x.bytes) ws all))
   reply_stays throw h all = All-from_recursion (Stays long) [] tt
-
-length_stays : (ws : List WritePlain) (heap : List ℕ) → length (with_writes ws heap) ≡ length heap
-length_stays [] heap = refl
-length_stays (w ∷ ws) heap = length_stays ws (with_run w.at w.bytes heap) ∙ length-with_run w.at w.bytes heap
-
-bytes_stay : (n : ℕ) (ws : List WritePlain) (heap : List ℕ) → AllByRecursion (Stays n) ws → IsBytes heap → IsBytes (with_writes ws heap)
-bytes_stay n [] heap all h = h
-bytes_stay n (w ∷ ws) heap all h = bytes_stay n ws (with_run w.at w.bytes heap) all.1 (IsBytes-with_run w.at w.bytes heap all.0.bytes h)
 
 within_all : (n : ℕ) (ws : List WritePlain) → AllByRecursion (Stays n) ws → AllByRecursion (λ (w : WritePlain). w.at + length w.bytes ≤ n) ws
 within_all n [] all = tt
@@ -144,12 +136,10 @@ slot_there n (x ∷ xs) h = by (bytes_eq x n) refl (slot_there n xs) h
     by true e rest h = (0, refl, ap Some ((bytes_eq-Decides x n).0 e))
     by false e rest h = let (i, is, there) = rest h in (suc i, ap (option_map (λ i. suc i)) is, there)
 
-module _ (m : Module) (size : ℕ) (s : ScriptPlain) where
+-- the machine's script gives the same values
+module _ (m : Module) (size : ℕ) (s to : ScriptPlain) (same : to.globals ≡ map global_to_wasm s.globals) where
   abbrev w : WasmModule
   w = translation m size
-
-  abbrev to : ScriptPlain
-  to = script_to_wasm s
 
   abbrev asked : List ℕ → Word
   asked n = W32 (word_of 32 (source.given_value s.globals n))
@@ -158,7 +148,7 @@ module _ (m : Module) (size : ℕ) (s : ScriptPlain) where
   source_number n = signed_of 32 (word_of 32 (source.given_value s.globals n))
 
   abbrev given_of : List ℕ → Word
-  given_of n = machine.given_value (map global_to_wasm s.globals) (foreign_import n) I32
+  given_of n = machine.given_value to.globals (foreign_import n) I32
 
   no_globals : (b : Bool) → imported_globals to (if b then from_env (codes "memory") (imports.Memory (exactly (pages_for size))) ∷ [] else []) ≡ []
   no_globals true = refl
@@ -174,7 +164,7 @@ module _ (m : Module) (size : ℕ) (s : ScriptPlain) where
 
   all_given : (gs : List (List ℕ)) → AllByRecursion (λ (g : GlobalPlain). plain.IsBytes g.name) s.globals → AllByRecursion plain.IsBytes gs → map given_of gs ≡ map asked gs
   all_given [] all bytes = refl
-  all_given (g ∷ gs) all bytes = ap (λ v. v ∷ map given_of gs) (given_same env_bytes s.globals g all bytes.0) ∙ ap (λ ws. asked g ∷ ws) (all_given gs all bytes.1)
+  all_given (g ∷ gs) all bytes = ap (λ v. v ∷ map given_of gs) (ap (λ globals. machine.given_value globals (foreign_import g) I32) same ∙ given_same env_bytes s.globals g all bytes.0) ∙ ap (λ ws. asked g ∷ ws) (all_given gs all bytes.1)
 
   pub given_is : AllByRecursion (λ (g : GlobalPlain). plain.IsBytes g.name) s.globals → AllByRecursion plain.IsBytes (foreign_globals m) → imported_globals to w.imports ≡ map asked (foreign_globals m)
   given_is all bytes =
@@ -208,6 +198,11 @@ module _ (m : Module) (size : ℕ) (s : ScriptPlain) where
         by (math f p) h rest = rest
         by (view f p q) h rest = rest
 
+  globals_are : AllByRecursion (λ (g : GlobalPlain). plain.IsBytes g.name) s.globals → AllByRecursion plain.IsBytes (foreign_globals m)
+      → map (λ (g : GlobalEntry). value_of (imported_globals to w.imports) g.init) w.globals ≡ words (first_globals s m.globals)
+  globals_are all bytes = own_are (imported_globals to w.imports) (given_is all bytes) m.globals (variables_imported m)
+
+module _ (m : Module) (size : ℕ) (s : ScriptPlain) where
   names_are : (vs : List Variable) → names (first_globals s vs) ≡ map (λ (v : Variable). v.name) (int_variables vs)
   names_are [] = refl
   names_are (v ∷ vs) = by v.init (names_are vs)
@@ -228,7 +223,7 @@ module _ (m : Module) (size : ℕ) (s : ScriptPlain) where
   in_heap = heap_length m size
 
   pub heap_long : length (first_heap m size s) ≡ in_heap
-  heap_long = length_stays s.writes (replicate in_heap 0) ∙ length-replicate in_heap 0
+  heap_long = heap_stays s.writes (replicate in_heap 0) ∙ length-replicate in_heap 0
 
   -- what fits, part by part
   pub record FitsTo : Type 0 where
@@ -237,56 +232,97 @@ module _ (m : Module) (size : ℕ) (s : ScriptPlain) where
     pub named : AllByRecursion (λ (g : GlobalPlain). plain.IsBytes g.name) s.globals
     pub asks : AllByRecursion plain.IsBytes (foreign_globals m)
 
-  pub begins_holding : FitsTo → (units : ℕ) → Holds m size host (first_place m size s units)
-  begins_holding fits units = record {
+  pub begins_holding : (x : Fixed) → AreAnswered x in_heap (first_replies s).left → FitsTo → (units : ℕ) → Holds x m size host (first_place m size s units)
+  begins_holding x answered fits units = record {
     locals = refl;
     globals = names_are m.globals;
     heap = heap_long;
     bytes = bytes_stay in_heap s.writes (replicate in_heap 0) fits.writes (All-replicate (λ b. b < 256) in_heap 0 (omega arith));
-    replies = fits.replies;
+    replies = answered;
   }
 
   -- ---- the store
 
-  long_enough : size ≤ pages_for size * page → (b : Bool) → (if b then size else 0) ≤ bytes_in (if b then Some (pages_for size) else None)
-  long_enough hold true = hold
-  long_enough hold false = omega arith
-
-  past_it : size ≤ pages_for size * page → in_heap + (bytes_in (pages w) - in_heap) ≡ bytes_in (pages w)
-  past_it hold =
-      let fits : in_heap ≤ bytes_in (pages w) = subst (λ o. in_heap ≤ bytes_in o) (sym (pages_are m size)) (long_enough hold (has_heap m)) in
-      omega (arith, fits)
-
-  abbrev past : List ℕ
-  past = replicate (bytes_in (pages w) - in_heap) 0
-
-  pub memory_is : size ≤ pages_for size * page → FitsTo → first_memory w to ≡ first_heap m size s ++ past
-  memory_is hold fits =
-      ap (λ n. written s.writes (replicate n 0)) (sym (past_it hold)) ∙ ap (written s.writes) (sym (replicate-append-replicate in_heap (bytes_in (pages w) - in_heap) 0))
-      ∙ writes_stay_in_front s.writes (replicate in_heap 0) past
-      (subst (λ n. All (λ (x : WritePlain). x.at + length x.bytes ≤ n) s.writes) (sym (length-replicate in_heap 0)) (All-from_recursion (λ (x : WritePlain). x.at + length x.bytes ≤ in_heap) s.writes (within_all in_heap s.writes fits.writes)))
+  abbrev made : WasmModule
+  made = translation m size
 
   entries_keep : (es : List ElementSegment) (st : Store) → with_entries es st ≡ record st { table = (with_entries es st).table }
   entries_keep [] st = refl
   entries_keep (e ∷ es) st = entries_keep es (with_entries (e ∷ []) st)
 
-  globals_are : FitsTo → map (λ (g : GlobalEntry). value_of (imported_globals to w.imports) g.init) w.globals ≡ words (first_globals s m.globals)
-  globals_are fits = own_are (imported_globals to w.imports) (given_is fits.named fits.asks) m.globals (variables_imported m)
+  -- what the machine's script begins with, in the words of the text's
+  pub record Starts (to : ScriptPlain) (x : Fixed) : Type 0 where
+    pub globals : to.globals ≡ map global_to_wasm s.globals
+    pub calls : to.calls ≡ s.calls
+    pub memory : first_memory made to ≡ first_heap m size s ++ x.past (first_replies s).left
+    pub replies : (first_replies to).left ≡ x.replied (first_replies s).left
+    pub given : x.given ≡ imported_globals to made.imports
+    pub entries : x.entries ≡ table_entries m
+    pub answered : AreAnswered x in_heap (first_replies s).left
 
-  pub store_is : size ≤ pages_for size * page → FitsTo → (units : ℕ) → with_bytes w.segments (with_entries w.elements (first_store w to)) ≡ store_of (fixed_for m size s) (first_place m size s units)
-  store_is hold fits units =
-      let st = first_store w to in
-      let given = imported_globals to w.imports in
-      entries_keep w.elements st ∙ ap (λ t. record st { table = t }) (tables_are_filled m size to).1 ∙ ap (λ b. record st { table = table_entries m; memory = b }) (memory_is hold fits)
-      ∙ ap (λ ws. record st { table = table_entries m; memory = first_heap m size s ++ past; globals = given ++ ws }) (globals_are fits)
+  module _ (to : ScriptPlain) (x : Fixed) (starts : Starts to x) (fits : FitsTo) where
+    pub store_is : (units : ℕ) → with_bytes made.segments (with_entries made.elements (first_store made to)) ≡ store_of x (first_place m size s units)
+    store_is units =
+        let st = first_store made to in
+        let given = imported_globals to made.imports in
+        let past = x.past (first_replies s).left in
+        let first = words (first_globals s m.globals) in
+        entries_keep made.elements st ∙ ap (λ t. record st { table = t }) ((tables_are_filled m size to).1 ∙ sym starts.entries) ∙ ap (λ b. record st { table = x.entries; memory = b }) starts.memory
+        ∙ ap (λ ws. record st { table = x.entries; memory = first_heap m size s ++ past; globals = given ++ ws }) (globals_are m size s to starts.globals fits.named fits.asks)
+        ∙ ap (λ given. record st { table = x.entries; memory = first_heap m size s ++ past; globals = given ++ first }) (sym starts.given)
+        ∙ ap (λ left. record st { table = x.entries; memory = first_heap m size s ++ past; globals = x.given ++ first; replies = record { left = left; last = 0 } }) starts.replies
 
-  -- ---- the session
+    -- ---- the session
 
-  pub session_begins : size ≤ pages_for size * page → FitsTo → (units k : ℕ) → wasm w to (1 + k) ≡ calls_seen w s.calls k (store_of (fixed_for m size s) (first_place m size s units))
-  session_begins hold fits units k =
-      let st = first_store w to in
-      let one : 1 + k ≡ suc k = omega arith in
-      ap (wasm w to) one ∙ ap (λ b. instantiated (b && true) w to k st) (tables_are_filled m size to).0 ∙ ap (calls_seen w s.calls k) (store_is hold fits units)
+    pub session_begins : (units k : ℕ) → wasm made to (1 + k) ≡ calls_seen made s.calls k (store_of x (first_place m size s units))
+    session_begins units k =
+        let st = first_store made to in
+        let one : 1 + k ≡ suc k = omega arith in
+        ap (wasm made to) one ∙ ap (λ b. instantiated (b && true) made to k st) (tables_are_filled m size to).0 ∙ ap (λ cs. calls_seen made cs k (with_bytes made.segments (with_entries made.elements st))) starts.calls
+        ∙ ap (calls_seen made s.calls k) (store_is units)
+
+  -- ---- a script that fits the text
+
+  long_enough : size ≤ pages_for size * page → (b : Bool) → (if b then size else 0) ≤ bytes_in (if b then Some (pages_for size) else None)
+  long_enough hold true = hold
+  long_enough hold false = omega arith
+
+  pub past_it : size ≤ pages_for size * page → in_heap + (bytes_in (pages made) - in_heap) ≡ bytes_in (pages made)
+  past_it hold =
+      let fits : in_heap ≤ bytes_in (pages made) = subst (λ o. in_heap ≤ bytes_in o) (sym (pages_are m size)) (long_enough hold (has_heap m)) in
+      omega (arith, fits)
+
+  abbrev past : List ℕ
+  past = replicate (bytes_in (pages made) - in_heap) 0
+
+  stay_in_front : (ws : List WritePlain) (heap : List ℕ) → length heap ≡ in_heap → AllByRecursion (Stays in_heap) ws → written ws (heap ++ past) ≡ with_writes ws heap ++ past
+  stay_in_front ws heap long all =
+      writes_stay_in_front ws heap past
+      (subst (λ n. All (λ (x : WritePlain). x.at + length x.bytes ≤ n) ws) (sym long) (All-from_recursion (λ (x : WritePlain). x.at + length x.bytes ≤ in_heap) ws (within_all in_heap ws all)))
+
+  pub memory_is : size ≤ pages_for size * page → FitsTo → first_memory made (script_to_wasm s) ≡ first_heap m size s ++ past
+  memory_is hold fits =
+      ap (λ n. written s.writes (replicate n 0)) (sym (past_it hold)) ∙ ap (written s.writes) (sym (replicate-append-replicate in_heap (bytes_in (pages made) - in_heap) 0))
+      ∙ stay_in_front s.writes (replicate in_heap 0) (length-replicate in_heap 0) fits.writes
+
+  answers : (rs : List ReplyPlain) → AllByRecursion (Replied m size) rs → AreAnswered (fixed_for m size s) in_heap rs
+  answers [] all = refl
+  answers (throw ∷ rs) all = (rs, refl)
+  answers (give word ws ∷ rs) all = (
+    record { writes = ws; reply = refl; stay = all.0; memory = λ heap long. stay_in_front ws heap long (recursion_from_All (Stays in_heap) ws all.0) },
+    answers rs all.1,
+  )
+
+  pub starts_alike : size ≤ pages_for size * page → FitsTo → Starts (script_to_wasm s) (fixed_for m size s)
+  starts_alike hold fits = record {
+    globals = refl;
+    calls = refl;
+    memory = memory_is hold fits;
+    replies = refl;
+    given = refl;
+    entries = refl;
+    answered = answers (first_replies s).left (recursion_from_All (Replied m size) (first_replies s).left fits.replies);
+  }
 
   -- ---- from a script without a misfit
 

@@ -84,7 +84,7 @@ module _ (w : WasmModule) (x : Fixed) (worth : ℕ) (m : Module) (size : ℕ) wh
   abbrev seen_more : EventPlain → Place → Place
   seen_more e p = record p { events = p.events ++ e ∷ [] }
 
-  holds_more : (e : EventPlain) (p : Place) → Holds m size host p → Holds m size host (seen_more e p)
+  holds_more : (e : EventPlain) (p : Place) → Holds x m size host p → Holds x m size host (seen_more e p)
   holds_more e p h = record { locals = h.locals; globals = h.globals; heap = h.heap; bytes = h.bytes; replies = h.replies }
 
   -- the result's event is the same in both
@@ -101,7 +101,7 @@ module _ (w : WasmModule) (x : Fixed) (worth : ℕ) (m : Module) (size : ℕ) wh
 
     call_reached : (more n : ℕ) (r : Steps) (o : Run JsValue) → n ≤ limit
         → Sim worth (EndsAlike x m size) (Shown hosted 0 AnyValue (result wanted) [] []) 1 n r o
-        → ((q : Place) → Holds m size host q → q.units ≤ limit → Reached more q.units (λ k. next k (store_of x q)) (rest q))
+        → ((q : Place) → Holds x m size host q → q.units ≤ limit → Reached more q.units (λ k. next k (store_of x q)) (rest q))
         → Reached (1 + more) n (λ k. after_call (run_of (r k)) next) (after (after o (λ v. add_event (event v))) (λ u. rest))
     call_reached more n r (goes v q) le s go =
         let c = s.2 in
@@ -134,8 +134,8 @@ module _ (w : WasmModule) (x : Fixed) (worth : ℕ) (m : Module) (size : ℕ) wh
 
   module _ (limit : ℕ) (calls : Calls) (kept : OwnKept hosted limit calls) where
     -- a call, and then the others
-    first_reached : (c : CallPlain) (cs : List CallPlain) → NamesExport w m c → (p : Place) → Holds m size host p → p.units ≤ limit
-        → ((q : Place) → Holds m size host q → q.units ≤ limit → Reached (length cs) q.units (λ k. calls_seen w cs k (store_of x q)) (host_calls calls m cs q))
+    first_reached : (c : CallPlain) (cs : List CallPlain) → NamesExport w m c → (p : Place) → Holds x m size host p → p.units ≤ limit
+        → ((q : Place) → Holds x m size host q → q.units ≤ limit → Reached (length cs) q.units (λ k. calls_seen w cs k (store_of x q)) (host_calls calls m cs q))
         → Reached (length (c ∷ cs)) p.units (λ k. calls_seen w (c ∷ cs) k (store_of x p)) (host_calls calls m (c ∷ cs) p)
     first_reached c cs named p h le go = by (exported_function m c.name) named.exported
       where
@@ -182,7 +182,7 @@ module _ (w : WasmModule) (x : Fixed) (worth : ℕ) (m : Module) (size : ℕ) wh
             (λ k. let none : 0 + k ≡ k = omega arith in ap (λ k. calls_seen w (c ∷ cs) k (store_of x p)) none ∙ runs k)
             (subst (λ g. Reached (1 + length cs) p.units (λ k. after_call (run_of (r k)) next) (after (after (calls g vs p) (λ v. add_event (result_event g v))) (λ u. host_calls calls m cs))) same reached))
 
-    pub calls_reached : (cs : List CallPlain) → AllNameExports w m cs → (p : Place) → Holds m size host p → p.units ≤ limit
+    pub calls_reached : (cs : List CallPlain) → AllNameExports w m cs → (p : Place) → Holds x m size host p → p.units ≤ limit
         → Reached (length cs) p.units (λ k. calls_seen w cs k (store_of x p)) (host_calls calls m cs p)
     calls_reached [] named p h le = (h.heap, record { budget = 0; within = omega arith; by = refl })
     calls_reached (c ∷ cs) (named, all) p h le = first_reached c cs named p h le (λ q holds few. calls_reached cs all q holds few)

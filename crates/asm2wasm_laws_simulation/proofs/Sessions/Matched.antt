@@ -1,5 +1,5 @@
 -- Each number of units has one of reductions by which both sessions show the same; and the target's ends are no traps.
-use Rattle.std.proofs.Common.{◌≡◌, ℕ, ◌+◌, ◌-◌, ◌*◌, ◌≤◌, List, ◌++◌, length, map, drop, Some, refl, sym, ap, ◌∙◌, subst, arith}
+use Rattle.std.proofs.Common.{◌≡◌, ℕ, ◌+◌, ◌-◌, ◌*◌, ◌≤◌, List, ◌++◌, length, map, drop, replicate, Some, refl, sym, ap, ◌∙◌, subst, arith}
 use Rattle.std.specs.Prelude.{IsNone}
 use Rattle.std.proofs.Math.Seq.{take-append_seam, drop-append_seam}
 use Rattle.std.proofs.lemmas.Option.{none-some}
@@ -12,7 +12,8 @@ use Rattle.session_lang.proofs.Sides.{source_same, target_same}
 use Rattle.session_lang.proofs.BelowLaws.{prefix_same}
 use Rattle.wasm_lang.specs.Modules.{WasmModule}
 use Rattle.wasm_lang_exec.specs.Store.{page}
-use Rattle.wasm_lang_exec.specs.Session.{first_memory}
+use Rattle.wasm_lang_valid.specs.Runnable.{pages}
+use Rattle.wasm_lang_exec.specs.Session.{bytes_in, first_memory, wasm}
 use Rattle.wasm_laws_drive.proofs.Sessions.{ended_sessions_stay}
 use Rattle.asm_lang.specs.Modules.{Module}
 use Rattle.asm_lang_exec.specs.Runs.{Place, Run, goes, stops, spent, wrong}
@@ -20,7 +21,7 @@ use Rattle.asm_lang_exec.specs.Session.{heap_length, first_heap, observed}
 use Rattle.asm2wasm_lang.specs.Allowed.{or_nothing, target_session, comparison}
 use Rattle.asm2wasm_lang.specs.Heaps.{pages_for}
 use Rattle.asm2wasm_translation.specs.Modules.{translation}
-use Rattle.asm2wasm_laws_run.specs.State.{IsNoTrap}
+use Rattle.asm2wasm_laws_run.specs.State.{Fixed, IsNoTrap}
 use Rattle.asm2wasm_laws_simulation.specs.Sessions.Reached.{fixed_for, Reaches}
 use Rattle.asm2wasm_laws_simulation.proofs.Sessions.Begun.{FitsTo, heap_long, memory_is}
 
@@ -32,7 +33,7 @@ module _ (m : Module) (size : ℕ) (s : ScriptPlain) (hold : size ≤ pages_for 
   by = comparison w s
 
   abbrev past : List ℕ
-  past = (fixed_for m size s).past
+  past = replicate (bytes_in (pages w) - heap_length m size) 0
 
   -- ---- the same
 
@@ -85,7 +86,11 @@ module _ (m : Module) (size : ℕ) (s : ScriptPlain) (hold : size ≤ pages_for 
           }
       matched wrong seen right is r = absurd (none-some seen right)
 
-  -- ---- ends
+-- ---- ends
+
+module _ (w : WasmModule) (to : ScriptPlain) where
+  abbrev session : Session
+  session = wasm w to
 
   no_trap_goes_over : (e : EndPlain) → IsNoTrap e → IsNoTrap (end_to_wasm e)
   no_trap_goes_over done h = tt
@@ -94,23 +99,23 @@ module _ (m : Module) (size : ℕ) (s : ScriptPlain) (hold : size ≤ pages_for 
   no_trap_goes_over (trapped kind) h = absurd h
 
   -- two budgets at which the session has ended show one end
-  one_end : (n k : ℕ) (e e' : EndPlain) → (target n).end ≡ Some e → (target k).end ≡ Some e' → e' ≡ e
+  one_end : (n k : ℕ) (e e' : EndPlain) → (session n).end ≡ Some e → (session k).end ≡ Some e' → e' ≡ e
   one_end n k e e' h h' =
       let turned : n + k ≡ k + n = omega arith in
-      let same : target k ≡ target n =
-      sym (ended_sessions_stay w (script_to_wasm s) k n e' h') ∙ ap target (sym turned) ∙ ended_sessions_stay w (script_to_wasm s) n k e h
+      let same : session k ≡ session n =
+      sym (ended_sessions_stay w to k n e' h') ∙ ap session (sym turned) ∙ ended_sessions_stay w to n k e h
       in
       let both : Some e' ≡ Some e = sym h' ∙ ap (λ (x : ObservationPlain). x.end) same ∙ h in
       cc both
 
-  pub no_trap : (worth more n : ℕ) (o : Run (Unit {0})) (seen : ObservationPlain) → observed o ≡ Some seen → Reaches (fixed_for m size s) (heap_length m size) worth more n target o
-      → (e : EndPlain) → (target n).end ≡ Some e → IsNoTrap e
-  no_trap worth more n (goes u p) seen right r e h = subst IsNoTrap (one_end n r.1.budget e done h (ap (λ (x : ObservationPlain). x.end) r.1.by)) tt
-  no_trap worth more n (stops e' p) seen right r e h = subst IsNoTrap (one_end n r.2.budget e (end_to_wasm e') h (ap (λ (x : ObservationPlain). x.end) r.2.by)) (no_trap_goes_over e' r.0)
-  no_trap worth more n (spent p) seen right r e h =
+  pub no_trap : (x : Fixed) (long worth more n : ℕ) (o : Run (Unit {0})) (seen : ObservationPlain) → observed o ≡ Some seen → Reaches x long worth more n session o
+      → (e : EndPlain) → (session n).end ≡ Some e → IsNoTrap e
+  no_trap x long worth more n (goes u p) seen right r e h = subst IsNoTrap (one_end n r.1.budget e done h (ap (λ (x : ObservationPlain). x.end) r.1.by)) tt
+  no_trap x long worth more n (stops e' p) seen right r e h = subst IsNoTrap (one_end n r.2.budget e (end_to_wasm e') h (ap (λ (x : ObservationPlain). x.end) r.2.by)) (no_trap_goes_over e' r.0)
+  no_trap x long worth more n (spent p) seen right r e h =
       let budget = r.0.budget in
       let many = r.1 in
       let rest : n + (budget - n) ≡ budget = omega (arith, many) in
-      let same : target budget ≡ target n = ap target (sym rest) ∙ ended_sessions_stay w (script_to_wasm s) n (budget - n) e h in
+      let same : session budget ≡ session n = ap session (sym rest) ∙ ended_sessions_stay w to n (budget - n) e h in
       absurd (none-some e (sym (ap (λ (x : ObservationPlain). x.end) r.0.by) ∙ ap (λ (x : ObservationPlain). x.end) same ∙ h))
-  no_trap worth more n wrong seen right r e h = absurd (none-some seen right)
+  no_trap x long worth more n wrong seen right r e h = absurd (none-some seen right)

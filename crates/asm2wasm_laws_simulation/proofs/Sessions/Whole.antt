@@ -14,7 +14,7 @@ use Rattle.session_lang.specs.FitLaws.{Fits}
 use Rattle.session_lang.proofs.Misfits.{no_misfit_fits}
 use Rattle.wasm_lang.specs.Modules.{WasmModule}
 use Rattle.wasm_lang_exec.specs.Store.{page}
-use Rattle.wasm_lang_exec.specs.Session.{first_memory, calls_seen}
+use Rattle.wasm_lang_exec.specs.Session.{first_memory, calls_seen, wasm}
 use Rattle.wasm_laws_drive.proofs.Sessions.{sessions_are_monotone}
 use Rattle.asm_lang.specs.Heights.{IsWellFormed}
 use Rattle.asm_lang.specs.Modules.{Module}
@@ -30,17 +30,19 @@ use Rattle.session_lang.specs.Written.{WritesBytes}
 use Rattle.asm_lang_exec.proofs.Written.{fitting_writes}
 use Rattle.asm2wasm_lang.specs.Allowed.{or_nothing, source_session, target_session, comparison, most_nodes, enough_for}
 use Rattle.asm2wasm_translation.specs.Modules.{translation}
-use Rattle.asm2wasm_laws_run.specs.State.{IsNoTrap, store_of}
+use Rattle.asm2wasm_laws_run.specs.State.{Fixed, IsNoTrap, store_of}
 use Rattle.asm2wasm_laws_preservation.specs.Kept.{Surroundings}
 use Rattle.asm2wasm_laws_preservation.specs.Made.{OwnKept}
 use Rattle.asm2wasm_laws_preservation.specs.Laws.{AreAccepted}
 use Rattle.asm2wasm_laws_simulation.specs.Functions.Laws.{FunctionsAreKept, NodesPay}
 use Rattle.asm2wasm_laws_acceptance.specs.Laws.{FunctionsAreCalled, TranslationIsValid, TranslationIsCalled, ScriptsFit}
+use Rattle.asm2wasm_laws_acceptance.specs.Scripts.{text_script, ScriptsFitBack}
 use Rattle.asm2wasm_laws_acceptance.proofs.Bytes.{imported_bytes}
 use Rattle.asm2wasm_laws_simulation.specs.Sessions.Reached.{fixed_for, Reaches}
 use Rattle.asm2wasm_laws_simulation.specs.Sessions.Laws.{SessionsAreMatched, SessionsNeverTrap, TranslationIsAllowed, TranslationIsBounded}
 use Rattle.asm2wasm_laws_simulation.proofs.Sessions.Called.{hosted, calls_reached, reaches_after}
-use Rattle.asm2wasm_laws_simulation.proofs.Sessions.Begun.{FitsTo, fits_to, begins_holding, given_is, session_begins}
+use Rattle.asm2wasm_laws_simulation.proofs.Sessions.Begun.{FitsTo, Starts, fits_to, begins_holding, given_is, session_begins, past_it, starts_alike}
+use Rattle.asm2wasm_laws_simulation.proofs.Sessions.Anywhere.{fixed_anywhere, starts_anywhere}
 use Rattle.asm2wasm_laws_simulation.proofs.Sessions.Named.{all_name_exports}
 use Rattle.asm2wasm_laws_simulation.proofs.Sessions.Matched.{matched, no_trap}
 
@@ -66,29 +68,29 @@ module _ (called : FunctionsAreCalled) (hold : (size : ℕ) → size ≤ pages_f
     parts : FitsTo m size s
     parts = fits_to m size s fits bytes (imported_bytes m (formed_fits m formed))
 
-    abbrev around : Surroundings
-    around = hosted w (fixed_for m size s) (worth_of m) m size
-
-    are_accepted : AreAccepted around
-    are_accepted = record {
-      accepted = ok;
-      given = ap length (given_is m size s parts.named parts.asks) ∙ length-map (foreign_globals m) _;
-      heap_fits = λ h. of_heap size heap;
-    }
-
-    own_kept : (n : ℕ) → OwnKept around n (call_at true m n)
-    own_kept n = kept around n n (record { accepted = are_accepted; target = refl; entries = refl }) (pay around (omega arith)) (omega arith)
-
     abbrev run_of : ℕ → Run (Unit {0})
     run_of n = host_calls (call_at true m n) m s.calls (first_place m size s n)
 
-    reached : (n : ℕ) → Reaches (fixed_for m size s) (heap_length m size) (worth_of m) (1 + length s.calls) n (target_session w s) (run_of n)
-    reached n =
-        let x = fixed_for m size s in
-        reaches_after x (heap_length m size) (worth_of m) 1 (length s.calls) n n 1 0 (target_session w s) (λ k. calls_seen w s.calls k (store_of x (first_place m size s n))) (run_of n) (omega arith) (omega arith) (omega arith)
-        (session_begins m size s (hold size) parts n)
-        (calls_reached w x (worth_of m) m size n (call_at true m n) (own_kept n) s.calls (all_name_exports m size called s fits)
-        (first_place m size s n) (begins_holding m size s parts n) (omega arith))
+    module _ (to : ScriptPlain) (x : Fixed) (starts : Starts m size s to x) where
+      abbrev around : Surroundings
+      around = hosted w x (worth_of m) m size
+
+      are_accepted : AreAccepted around
+      are_accepted = record {
+        accepted = ok;
+        given = ap length (starts.given ∙ given_is m size s to starts.globals parts.named parts.asks) ∙ length-map (foreign_globals m) _;
+        heap_fits = λ h. of_heap size heap;
+      }
+
+      own_kept : (n : ℕ) → OwnKept around n (call_at true m n)
+      own_kept n = kept around n n (record { accepted = are_accepted; target = refl; entries = starts.entries }) (pay around (omega arith)) (omega arith)
+
+      reached : (n : ℕ) → Reaches x (heap_length m size) (worth_of m) (1 + length s.calls) n (wasm w to) (run_of n)
+      reached n =
+          reaches_after x (heap_length m size) (worth_of m) 1 (length s.calls) n n 1 0 (wasm w to) (λ k. calls_seen w s.calls k (store_of x (first_place m size s n))) (run_of n) (omega arith) (omega arith) (omega arith)
+          (session_begins m size s to x starts parts n)
+          (calls_reached w x (worth_of m) m size n (call_at true m n) (own_kept n) s.calls (all_name_exports m size called s fits)
+          (first_place m size s n) (begins_holding m size s x starts.answered parts n) (omega arith))
 
     seen : (n : ℕ) → (seen : ObservationPlain) × (observed (run_of n) ≡ Some seen)
     seen n = let there = accepted_never_go_wrong m size s n ok fit in (there.0, checks_change_nothing m size s n ok fit ∙ there.1)
@@ -100,12 +102,12 @@ module _ (called : FunctionsAreCalled) (hold : (size : ℕ) → size ≤ pages_f
     match n =
         let there = seen n in
         matched m size s (hold size) parts (source_session m size s) (worth_of m) (1 + length s.calls) (enough_for m s) n (enough (most_nodes m.functions) (length s.calls) n) (run_of n) there.0 there.1
-        (source_is n) (reached n)
+        (source_is n) (reached (script_to_wasm s) (fixed_for m size s) (starts_alike m size s (hold size) parts) n)
 
-    pub never_trap : (n : ℕ) (e : EndPlain) → (target_session w s n).end ≡ Some e → IsNoTrap e
-    never_trap n e h =
+    pub never_trap : (to : ScriptPlain) (x : Fixed) → Starts m size s to x → (n : ℕ) (e : EndPlain) → (wasm w to n).end ≡ Some e → IsNoTrap e
+    never_trap to x starts n e h =
         let there = seen n in
-        no_trap m size s (hold size) parts (worth_of m) (1 + length s.calls) n (run_of n) there.0 there.1 (reached n) e h
+        no_trap w to x (heap_length m size) (worth_of m) (1 + length s.calls) n (run_of n) there.0 there.1 (reached to x starts n) e h
 
     pub simulate : Sim (comparison w s) (source_session m size s) (target_session w s) × ((n : ℕ) → SourceIsBelow (comparison w s) (source_session m size s n) (target_session w s (enough_for m s n)))
         × ((n : ℕ) → TargetIsBelow (comparison w s) (target_session w s n) (source_session m size s n))
@@ -116,8 +118,11 @@ module _ (called : FunctionsAreCalled) (hold : (size : ℕ) → size ≤ pages_f
   pub sessions_are_matched : SessionsAreMatched
   sessions_are_matched m size s ok formed heap fit n = match m size s ok formed heap fit n
 
-  pub sessions_never_trap : SessionsNeverTrap
-  sessions_never_trap m size s ok formed heap fit n e h = never_trap m size s ok formed heap fit n e h
+  pub sessions_never_trap : ScriptsFitBack → SessionsNeverTrap
+  sessions_never_trap fit_back m size s ok formed heap fit n e h =
+      let back = fit_back m size s formed fit in
+      let there = text_script m size s in
+      never_trap m size there ok formed heap back.fits s (fixed_anywhere m size s) (starts_anywhere m size s (past_it m size there (hold size)) back (parts m size there ok formed heap back.fits)) n e h
 
   pub translation_is_bounded : TranslationIsBounded
   translation_is_bounded m size ok formed heap = record {

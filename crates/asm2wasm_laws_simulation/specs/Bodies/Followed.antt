@@ -25,14 +25,14 @@ on_code w values code locals st k = drive w k (Code values code) locals st
 -- a result with this property has come, and what comes of the code is what it leads to; each scratch local may have changed
 pub record Arrived {A : Type 0} (s : Surroundings) (has : A → Type 0) (on : A → Course) (scratch : List Word) (a : A) (p : Place) (later : Steps) : Type 0 where
   pub is : has a
-  pub holds : Holds s.home s.heap s.within p
+  pub holds : Holds s.fixed s.home s.heap s.within p
   pub scratch_then : List Word
   pub as_many : length scratch_then ≡ length scratch
   pub shown : (k : ℕ) → later k ≡ on a (words p.locals ++ scratch_then) (store_of s.fixed p) k
 
 -- code takes this course where a part is run, in so many reductions that no unit pays for
 pub record Follows {A : Type 0} (s : Surroundings) (limit more : ℕ) (course : Course) (has : A → Type 0) (on : A → Course) (part : Part A) : Type 0 where
-  pub by : (p : Place) (scratch : List Word) → Holds s.home s.heap s.within p → length scratch ≡ s.scratch → p.units ≤ limit
+  pub by : (p : Place) (scratch : List Word) → Holds s.fixed s.home s.heap s.within p → length scratch ≡ s.scratch → p.units ≤ limit
       → Sim s.worth (EndsAlike s.fixed s.home s.heap) (Arrived s has on scratch) more p.units (course (words p.locals ++ scratch) (store_of s.fixed p)) (part p)
 
 abbrev pub Any : {A : Type 0} → A → Type 0

@@ -18,10 +18,11 @@ use Rattle.asm2wasm_laws_acceptance.specs.Laws.{table_entries}
 abbrev pub host : Function
 host = record { name = []; params = []; locals = []; body = no_stmts }
 
--- what stays the same along the session of a script: the bytes past the heap, the imported values and the table's entries
+-- what no code changes along the session of a script that fits the text: the bytes past the heap are 0, and the machine's replies are those of the text
 abbrev pub fixed_for : Module → ℕ → ScriptPlain → Fixed
 fixed_for m size s = let w = translation m size in record {
-  past = replicate (bytes_in (pages w) - heap_length m size) 0;
+  past = λ rs. replicate (bytes_in (pages w) - heap_length m size) 0;
+  replied = λ rs. rs;
   given = imported_globals (script_to_wasm s) w.imports;
   entries = table_entries m;
 }
@@ -36,8 +37,8 @@ pub record Shows (worth more units : ℕ) (seen : ObservationPlain) (session : S
 module _ (x : Fixed) (long worth : ℕ) where
   -- what a run shows is shown, in no fewer reductions than units where these are used up; where it is wrong nothing is asked
   abbrev pub Reaches : (more units : ℕ) → Session → Run (Unit {0}) → Type 0
-  Reaches more units session (goes u p) = (length p.heap ≡ long) × Shows worth more units (ended (map event_to_wasm p.events) done (p.heap ++ x.past)) session
+  Reaches more units session (goes u p) = (length p.heap ≡ long) × Shows worth more units (ended (map event_to_wasm p.events) done (p.heap ++ x.past p.replies.left)) session
   Reaches more units session (stops e p) =
-      IsNoTrap e × (length p.heap ≡ long) × Shows worth more units (ended (map event_to_wasm p.events) (end_to_wasm e) (p.heap ++ x.past)) session
+      IsNoTrap e × (length p.heap ≡ long) × Shows worth more units (ended (map event_to_wasm p.events) (end_to_wasm e) (p.heap ++ x.past p.replies.left)) session
   Reaches more units session (spent p) = (h : Shows worth more units (running (map event_to_wasm p.events)) session) × (units ≤ h.budget)
   Reaches more units session wrong = Unit {0}

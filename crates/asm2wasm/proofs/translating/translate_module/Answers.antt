@@ -33,7 +33,7 @@ pub returns-clause-never_traps : goal.returns-clause-never_traps
 returns-clause-never_traps c =
     let m = module_view c.args.checked.now in
     let stands = c.translation_stands.ensures m c.args.heap c.module-home.ensures.accepted c.module-home.ensures.well_formed c.requires.length in
-    of_made module_of (translation m c.args.heap) (NeverTraps m c.args.heap) c.translated.result stands.never_traps
+    of_made module_of (translation m c.args.heap) NeverTraps c.translated.result stands.never_traps
     (subst (λ t. IfOk c.translated.result (λ w. module_of w ≡ translation (module_view t) c.args.heap)) c.in_ok-numbers.ensures c.translated.ensures)
 
 pub returns-clause-within : goal.returns-clause-within

@@ -45,7 +45,7 @@ pub returns-clause-never_traps : goal.returns-clause-never_traps
 returns-clause-never_traps c =
     let m = module_view c.args.checked.now in
     let stands = c.translation_stands.ensures m c.args.heap c.module-home.ensures.accepted c.module-home.ensures.well_formed c.requires.length in
-    of_made (λ v. v) (translation m c.args.heap) (NeverTraps m c.args.heap) c.validated.result stands.never_traps
+    of_made (λ v. v) (translation m c.args.heap) NeverTraps c.validated.result stands.never_traps
     (subst (λ w. IfOk c.validated.result (λ v. v ≡ w)) c.in_ok-made.ensures.exact c.validated.ensures)
 
 pub returns-clause-within : goal.returns-clause-within

@@ -9,4 +9,4 @@ returns-clause-matched c =
 pub returns-clause-no_traps : goal.returns-clause-no_traps
 returns-clause-no_traps c =
     sessions_never_trap c.calls.ensures.functions c.heap_lengths.ensures.hold c.heap_lengths.ensures.of_a_heap c.well_formed_modules.ensures.fits
-    c.functions.ensures.own c.worth.ensures
+    c.functions.ensures.own c.worth.ensures c.scripts.ensures.back

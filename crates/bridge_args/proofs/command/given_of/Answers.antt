@@ -1,4 +1,4 @@
-use Rattle.bridge_args.proofs.JobLemmas.{given_is}
+use Rattle.bridge_args.proofs.AskedLemmas.{given_is}
 use Rattle.clap.specs.Matches.{found_of}
 use Rattle.bridge_args.proofs.command.given_of.Goals as goal
 

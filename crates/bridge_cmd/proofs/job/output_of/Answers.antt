@@ -1,6 +1,7 @@
 use Rattle.std.proofs.lemmas.Result.{IfOk-weaker, IfErr-weaker}
 use Rattle.bridge_lang.specs.Answers.{no_memory}
-use Rattle.bridge_cmd.specs.Asking.{asked_by}
+use Rattle.std.proofs.Common.{string_bytes}
+use Rattle.bridge_args.specs.Answer.{action_view}
 use Rattle.bridge_lang.specs.Job.{commanded, generated}
 use Rattle.bridge_cmd.proofs.Jobs.{words_report, of_command}
 use Rattle.bridge_cmd.proofs.job.output_of.Goals as goal
@@ -8,15 +9,15 @@ use Rattle.bridge_cmd.proofs.job.output_of.Goals as goal
 pub returns-in-Err-clause-refused : goal.returns-in-Err-clause-refused
 returns-in-Err-clause-refused g c = rw c.of_words.ensures (words_report _ _ c.in-Err.fault c.in-Err.ensures)
 
-pub returns-in-Ok-OnFiles-clause-written : goal.returns-in-Ok-OnFiles-clause-written
-returns-in-Ok-OnFiles-clause-written g c =
-    let named = rw c.in-Ok-OnFiles.field-0-is at c.in-Ok-OnFiles.ensures in
-    IfOk-weaker c.command_output.result _ _ (λ output is. commanded (asked_by c.in-Ok-OnFiles.command) named is) c.command_output.ensures.written
+pub returns-in-Ok-OnFile-clause-written : goal.returns-in-Ok-OnFile-clause-written
+returns-in-Ok-OnFile-clause-written g c =
+    let named = rw c.in-Ok-OnFile.field-0-is at c.in-Ok-OnFile.ensures in
+    IfOk-weaker c.command_output.result _ _ (λ output is. commanded (action_view c.in-Ok-OnFile.action) (string_bytes c.in-Ok-OnFile.file) named is) c.command_output.ensures.written
 
-pub returns-in-Ok-OnFiles-clause-refused : goal.returns-in-Ok-OnFiles-clause-refused
-returns-in-Ok-OnFiles-clause-refused g c =
-    let named = rw c.in-Ok-OnFiles.field-0-is at c.in-Ok-OnFiles.ensures in
-    IfErr-weaker c.command_output.result _ _ (λ refusal may. of_command _ _ (asked_by c.in-Ok-OnFiles.command) _ named may) c.command_output.ensures.refused
+pub returns-in-Ok-OnFile-clause-refused : goal.returns-in-Ok-OnFile-clause-refused
+returns-in-Ok-OnFile-clause-refused g c =
+    let named = rw c.in-Ok-OnFile.field-0-is at c.in-Ok-OnFile.ensures in
+    IfErr-weaker c.command_output.result _ _ (λ refusal may. of_command _ _ (action_view c.in-Ok-OnFile.action) (string_bytes c.in-Ok-OnFile.file) _ named may) c.command_output.ensures.refused
 
 pub returns-in-Ok-clause-written : goal.returns-in-Ok-clause-written
 returns-in-Ok-clause-written g c =

@@ -1,0 +1,4 @@
+pub mod Distinct
+pub mod Free
+pub mod Given
+pub mod Ordered

@@ -1,0 +1,9 @@
+pub mod Operators
+pub mod Slots
+pub mod Machine
+pub mod Names
+pub mod Values
+pub mod Bodies
+pub mod Modules
+pub mod Sessions
+pub mod Worked

@@ -1,0 +1,4 @@
+pub mod Frames
+pub mod Bodies
+pub mod Hosts
+pub mod Laws

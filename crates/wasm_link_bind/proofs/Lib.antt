@@ -1,0 +1,11 @@
+pub mod Named
+pub mod Steps
+pub mod SameTypes
+pub mod Pigeons
+pub mod Counting
+pub mod Following
+pub mod Places
+pub mod Marked
+pub mod Members
+pub mod Sums
+pub mod Finals

@@ -1,0 +1,2 @@
+pub mod CodeAddresses
+pub mod Examples

@@ -1,0 +1,5 @@
+pub mod Numbers
+pub mod Code
+pub mod Linked
+pub mod Trees
+pub mod Laws

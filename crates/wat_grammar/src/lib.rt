@@ -1,0 +1,15 @@
+//! The text form of WebAssembly, its grammar: the names of instructions, the table of rules, and the stack of what may still come.
+#![tactic(auto)]
+
+mod atoms;
+mod form;
+mod names;
+mod parts;
+mod rules;
+mod sequences;
+mod stack;
+
+pub use form::Form;
+pub use names::form_named;
+pub use parts::{Lexeme, Mark};
+pub use stack::Stack;

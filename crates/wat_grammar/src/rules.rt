@@ -1,0 +1,417 @@
+//! The table of rules.
+
+ghost use Rattle.std.specs.Prelude.{[], ◌∷◌, ◌≡◌, map, option_and_then, option_map};
+ghost use Rattle.wat_lang.specs.declared.parts.Rule.TheVariants as rules;
+ghost use Rattle.wat_lang.specs.Grammar.{head_rows, instruction_rows, may_end, rows};
+ghost use Rattle.wat_lang.specs.Words.{form_named, instruction_names};
+ghost use Rattle.wat_grammar.specs.Views.{behind_form, class_of, form_of, next_in, next_instruction, next_of, row_of, rows_of};
+ghost use Rattle.wat_grammar.specs.Sequences.{sequence_of};
+
+use crate::form::Form;
+use crate::names::form_named;
+use crate::parts::{Lexeme, Mark, Next, Row, Want, meets};
+use crate::sequences::Sequence;
+use wat_lang::{FieldKind, Part, Rule, Space};
+
+/// The rows of a rule.
+#[derive(Clone, Copy)]
+pub enum Rows {
+    One(Row),
+    Table(&'static [Row]),
+    /// A row for each name of an instruction.
+    Instructions,
+}
+
+static FIELDS: [Row; 10] = [
+    Row {
+        want: Want::Word(b"type"),
+        mark: Mark::Field(FieldKind::Type),
+        next: Sequence::TypeField,
+    },
+    Row {
+        want: Want::Word(b"import"),
+        mark: Mark::Field(FieldKind::Import),
+        next: Sequence::ImportField,
+    },
+    Row {
+        want: Want::Word(b"func"),
+        mark: Mark::Field(FieldKind::Func),
+        next: Sequence::FuncField,
+    },
+    Row {
+        want: Want::Word(b"table"),
+        mark: Mark::Field(FieldKind::Table),
+        next: Sequence::Table,
+    },
+    Row {
+        want: Want::Word(b"memory"),
+        mark: Mark::Field(FieldKind::Memory),
+        next: Sequence::Memory,
+    },
+    Row {
+        want: Want::Word(b"global"),
+        mark: Mark::Field(FieldKind::Global),
+        next: Sequence::GlobalField,
+    },
+    Row {
+        want: Want::Word(b"export"),
+        mark: Mark::Field(FieldKind::Export),
+        next: Sequence::ExportField,
+    },
+    Row {
+        want: Want::Word(b"start"),
+        mark: Mark::Field(FieldKind::Start),
+        next: Sequence::UsesFunc,
+    },
+    Row {
+        want: Want::Word(b"elem"),
+        mark: Mark::Field(FieldKind::Elem),
+        next: Sequence::ElemField,
+    },
+    Row {
+        want: Want::Word(b"data"),
+        mark: Mark::Field(FieldKind::Data),
+        next: Sequence::DataField,
+    },
+];
+
+static DESCRIBED: [Row; 4] = [
+    Row {
+        want: Want::Word(b"func"),
+        mark: Mark::Described(Space::Func),
+        next: Sequence::DescribedFunc,
+    },
+    Row {
+        want: Want::Word(b"table"),
+        mark: Mark::Described(Space::Table),
+        next: Sequence::Table,
+    },
+    Row {
+        want: Want::Word(b"memory"),
+        mark: Mark::Described(Space::Memory),
+        next: Sequence::Memory,
+    },
+    Row {
+        want: Want::Word(b"global"),
+        mark: Mark::Described(Space::Global),
+        next: Sequence::DescribedGlobal,
+    },
+];
+
+static EXPORTED: [Row; 4] = [
+    Row {
+        want: Want::Word(b"func"),
+        mark: Mark::Exported(Space::Func),
+        next: Sequence::UsesFunc,
+    },
+    Row {
+        want: Want::Word(b"table"),
+        mark: Mark::Exported(Space::Table),
+        next: Sequence::UsesTable,
+    },
+    Row {
+        want: Want::Word(b"memory"),
+        mark: Mark::Exported(Space::Memory),
+        next: Sequence::UsesMemory,
+    },
+    Row {
+        want: Want::Word(b"global"),
+        mark: Mark::Exported(Space::Global),
+        next: Sequence::UsesGlobal,
+    },
+];
+
+static HEAD_WITH_LOCALS: [Row; 3] = [
+    Row {
+        want: Want::Word(b"param"),
+        mark: Mark::Nothing,
+        next: Sequence::HeadList(true, Part::Param),
+    },
+    Row {
+        want: Want::Word(b"result"),
+        mark: Mark::Nothing,
+        next: Sequence::HeadList(true, Part::Result),
+    },
+    Row {
+        want: Want::Word(b"local"),
+        mark: Mark::Nothing,
+        next: Sequence::HeadList(true, Part::Local),
+    },
+];
+
+static RESULTS_WITH_LOCALS: [Row; 2] = [
+    Row {
+        want: Want::Word(b"result"),
+        mark: Mark::Nothing,
+        next: Sequence::HeadList(true, Part::Result),
+    },
+    Row {
+        want: Want::Word(b"local"),
+        mark: Mark::Nothing,
+        next: Sequence::HeadList(true, Part::Local),
+    },
+];
+
+static HEAD: [Row; 2] = [
+    Row {
+        want: Want::Word(b"param"),
+        mark: Mark::Nothing,
+        next: Sequence::HeadList(false, Part::Param),
+    },
+    Row {
+        want: Want::Word(b"result"),
+        mark: Mark::Nothing,
+        next: Sequence::HeadList(false, Part::Result),
+    },
+];
+
+static PARAM_TYPES: [Row; 2] = [
+    Row {
+        want: Want::ValueType,
+        mark: Mark::Type(Part::Param),
+        next: Sequence::MoreTypes(Part::Param),
+    },
+    Row {
+        want: Want::Id,
+        mark: Mark::Binds(Space::Local),
+        next: Sequence::OneType(Part::Param),
+    },
+];
+
+static LOCAL_TYPES: [Row; 2] = [
+    Row {
+        want: Want::ValueType,
+        mark: Mark::Type(Part::Local),
+        next: Sequence::MoreTypes(Part::Local),
+    },
+    Row {
+        want: Want::Id,
+        mark: Mark::Binds(Space::Local),
+        next: Sequence::OneType(Part::Local),
+    },
+];
+
+static TABLE_END: [Row; 2] = [
+    Row {
+        want: Want::Number,
+        mark: Mark::Maximum,
+        next: Sequence::Funcref,
+    },
+    Row {
+        want: Want::Word(b"funcref"),
+        mark: Mark::Nothing,
+        next: Sequence::Empty,
+    },
+];
+
+static KIND: [Row; 2] = [
+    Row {
+        want: Want::ValueType,
+        mark: Mark::GlobalType,
+        next: Sequence::Empty,
+    },
+    Row {
+        want: Want::Open,
+        mark: Mark::Nothing,
+        next: Sequence::MutableType,
+    },
+];
+
+static CONSTANT: [Row; 3] = [
+    Row {
+        want: Want::Word(b"i32.const"),
+        mark: Mark::Instruction(Form::Const32),
+        next: Sequence::Constant32,
+    },
+    Row {
+        want: Want::Word(b"i64.const"),
+        mark: Mark::Instruction(Form::Const64),
+        next: Sequence::Constant64,
+    },
+    Row {
+        want: Want::Word(b"global.get"),
+        mark: Mark::Instruction(Form::GlobalGet),
+        next: Sequence::ConstantGlobal,
+    },
+];
+
+static ARMS: [Row; 2] = [
+    Row {
+        want: Want::Word(b"else"),
+        mark: Mark::Instruction(Form::Else),
+        next: Sequence::ElseArm,
+    },
+    Row {
+        want: Want::Word(b"end"),
+        mark: Mark::Instruction(Form::End),
+        next: Sequence::Empty,
+    },
+];
+
+fn one(want: Want, mark: Mark, next: Sequence) -> Rows
+    ensures { rows_of result ≡ row_of (record { want = want; mark = mark; next = next }) ∷ [] }
+{
+    Rows::One(Row { want, mark, next })
+}
+
+fn head_rows(locals: bool, part: Part) -> Rows
+    ensures { rows_of result ≡ head_rows locals part }
+{
+    match (locals, part) {
+        (true, Part::Param) => Rows::Table(&HEAD_WITH_LOCALS),
+        (true, Part::Result) => Rows::Table(&RESULTS_WITH_LOCALS),
+        (true, Part::Local) => {
+            one(
+                Want::Word(b"local"),
+                Mark::Nothing,
+                Sequence::HeadList(true, Part::Local),
+            )
+        }
+        (false, Part::Param) => Rows::Table(&HEAD),
+        (false, Part::Result) => {
+            one(
+                Want::Word(b"result"),
+                Mark::Nothing,
+                Sequence::HeadList(false, Part::Result),
+            )
+        }
+        (false, Part::Local) => Rows::Table(&[]),
+    }
+}
+
+#[tactic(auto, unfolding(wat_lang::specs::Grammar::rows))]
+fn type_rows(part: Part) -> Rows
+    ensures { rows_of result ≡ rows (rules.Types part) }
+{
+    match part {
+        Part::Param => Rows::Table(&PARAM_TYPES),
+        Part::Result => {
+            one(
+                Want::ValueType,
+                Mark::Type(Part::Result),
+                Sequence::MoreTypes(Part::Result),
+            )
+        }
+        Part::Local => Rows::Table(&LOCAL_TYPES),
+    }
+}
+
+/// What a rule may begin with.
+#[tactic(auto, unfolding(wat_lang::specs::Grammar::rows))]
+fn table(rule: Rule) -> Rows
+    ensures { rows_of result ≡ rows rule }
+{
+    match rule {
+        Rule::Grammar => one(Want::Open, Mark::Nothing, Sequence::Module),
+        Rule::Name => one(Want::Id, Mark::Nothing, Sequence::Empty),
+        Rule::Bound(space) => one(Want::Id, Mark::Binds(space), Sequence::Empty),
+        Rule::Fields => one(Want::Open, Mark::Nothing, Sequence::FieldAndMore),
+        Rule::Field => Rows::Table(&FIELDS),
+        Rule::Described => Rows::Table(&DESCRIBED),
+        Rule::Exported => Rows::Table(&EXPORTED),
+        Rule::Heads(locals, part) => one(Want::Open, Mark::Nothing, Sequence::Head(locals, part)),
+        Rule::Head(locals, part) => head_rows(locals, part),
+        Rule::Types(part) => type_rows(part),
+        Rule::More(part) => one(Want::ValueType, Mark::Type(part), Sequence::MoreTypes(part)),
+        Rule::TableEnd => Rows::Table(&TABLE_END),
+        Rule::Maximum => one(Want::Number, Mark::Maximum, Sequence::Empty),
+        Rule::Kind => Rows::Table(&KIND),
+        Rule::Constant => Rows::Table(&CONSTANT),
+        Rule::Functions => one(Want::Index, Mark::Uses(Space::Func), Sequence::Functions),
+        Rule::Labels => one(Want::Index, Mark::Uses(Space::Label), Sequence::Labels),
+        Rule::Strings => one(Want::Text, Mark::Bytes, Sequence::Strings),
+        Rule::FuncWord => one(Want::Word(b"func"), Mark::Nothing, Sequence::Empty),
+        Rule::Code => Rows::Instructions,
+        Rule::Label => one(Want::Id, Mark::Binds(Space::Label), Sequence::Empty),
+        Rule::BlockResult => one(Want::Open, Mark::Nothing, Sequence::ResultType),
+        Rule::Arms => Rows::Table(&ARMS),
+        Rule::Offset => one(Want::Offset, Mark::Offset, Sequence::Empty),
+        Rule::Align => one(Want::Align, Mark::Alignment, Sequence::Empty),
+    }
+}
+
+/// What follows the name of an instruction. None exactly for `else` and `end`.
+fn behind_name(form: Form) -> Option<Sequence>
+    ensures { option_map sequence_of result ≡ behind_form (form_of form) }
+{
+    Some(match form {
+        Form::Else | Form::End => return None,
+        Form::Block | Form::Loop => Sequence::Block,
+        Form::If => Sequence::If,
+        Form::Br | Form::BrIf => Sequence::Branch,
+        Form::BrTable => Sequence::BranchTable,
+        Form::Call => Sequence::Call,
+        Form::CallIndirect => Sequence::CallIndirect,
+        Form::LocalGet | Form::LocalSet | Form::LocalTee => Sequence::Local,
+        Form::GlobalGet | Form::GlobalSet => Sequence::Global,
+        Form::Load(_) | Form::Store(_) => Sequence::Access,
+        Form::Const32 => Sequence::Word32,
+        Form::Const64 => Sequence::Word64,
+        _ => Sequence::Code,
+    })
+}
+
+fn instruction(word: &[u8]) -> Option<Next>
+    ensures { option_map next_of result ≡ option_and_then next_instruction (form_named word.now) }
+{
+    let form = form_named(word)?;
+    let items = behind_name(form)?;
+    Some(Next {
+        mark: Mark::Instruction(form),
+        items,
+    })
+}
+
+fn row_that_begins(rows: &[Row], lexeme: Lexeme<'_>) -> Option<Next>
+    ensures { option_map next_of result ≡ next_in (map row_of rows.now) (class_of lexeme.entry) }
+{
+    for row in rows {
+        if meets(row.want, lexeme) {
+            return Some(Next {
+                mark: row.mark,
+                items: row.next,
+            });
+        }
+    }
+    None
+}
+
+#[tactic(auto, using(crate::proofs::Rows::named_row, crate::proofs::Rows::none_opens, crate::proofs::Rows::none_closes, crate::proofs::Rows::none_text))]
+fn instruction_or_none(lexeme: Lexeme<'_>) -> Option<Next>
+    ensures { option_map next_of result ≡ next_in (instruction_rows instruction_names) (class_of lexeme.entry) }
+{
+    match lexeme {
+        Lexeme::Atom(word) => instruction(word),
+        _ => None,
+    }
+}
+
+/// The mark of a token that begins a rule, and what follows it.
+pub fn pick(rule: Rule, lexeme: Lexeme<'_>) -> Option<Next>
+    ensures { option_map next_of result ≡ next_in (rows rule) (class_of lexeme.entry) }
+{
+    match table(rule) {
+        Rows::One(row) => row_that_begins(&[row], lexeme),
+        Rows::Table(rows) => row_that_begins(rows, lexeme),
+        Rows::Instructions => instruction_or_none(lexeme),
+    }
+}
+
+/// Whether a rule may stand for no token.
+#[tactic(auto, unfolding(wat_lang::specs::Grammar::may_end))]
+pub fn may_end(rule: Rule) -> bool
+    ensures { result ≡ may_end rule }
+{
+    !matches!(
+        rule,
+        Rule::Grammar
+            | Rule::Field
+            | Rule::Described
+            | Rule::Exported
+            | Rule::Head(_, _)
+            | Rule::TableEnd
+            | Rule::Kind
+            | Rule::Constant
+            | Rule::Arms
+    )
+}

@@ -1,0 +1,12 @@
+pub mod Tokens
+pub mod TokenExamples
+pub mod Numbers
+pub mod Words
+pub mod NumberExamples
+pub mod Printing
+pub mod PrintingExamples
+pub mod Grammar
+pub mod Names
+pub mod Modules
+pub mod Rows
+pub mod Texts

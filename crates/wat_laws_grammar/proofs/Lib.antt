@@ -1,0 +1,9 @@
+pub mod Apart
+pub mod Machine
+pub mod Ahead
+pub mod Ends
+pub mod First
+pub mod Readings
+pub mod Strings
+pub mod Verdicts
+pub mod Examples

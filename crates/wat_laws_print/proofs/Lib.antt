@@ -1,0 +1,5 @@
+pub mod Characters
+pub mod Joined
+pub mod Numerals
+pub mod Names
+pub mod Fits

@@ -1,0 +1,3 @@
+pub mod GoingOn
+pub mod ReadingOn
+pub mod Faults

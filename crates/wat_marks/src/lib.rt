@@ -1,0 +1,10 @@
+//! A text of WebAssembly as tokens with their marks: what each token is in the module.
+#![tactic(auto)]
+
+mod fault;
+mod outside;
+mod reading;
+mod tokens;
+
+pub use fault::WatFault;
+pub use reading::{MarkedToken, marks};

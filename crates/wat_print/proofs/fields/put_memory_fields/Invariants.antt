@@ -1,0 +1,8 @@
+use Rattle.std.proofs.Common.{◌≡◌, take}
+use Rattle.std.specs.List.{flat_map}
+use Rattle.wat_lang.specs.Printing.{memory_field}
+use Rattle.wat_print.specs.Put.{written, put}
+use Rattle.wat_print.proofs.fields.put_memory_fields.Given as goal
+
+abbrev pub invariant-loop-limits : goal.invariant-loop-limits
+invariant-loop-limits l = written l.out ≡ put (written l.initial.out) (flat_map memory_field (take l.limits-index l.memories))

@@ -1,0 +1,9 @@
+use Rattle.std.proofs.Common.{◌≡◌, take, map}
+use Rattle.std.specs.List.{flat_map}
+use Rattle.wasm_tree.specs.Views.{instr_of}
+use Rattle.wat_lang.specs.Printing.{folded_instruction}
+use Rattle.wat_print.specs.Put.{written, put}
+use Rattle.wat_print.proofs.instructions.put_folded.Given as goal
+
+abbrev pub invariant-loop-instr : goal.invariant-loop-instr
+invariant-loop-instr l = written l.out ≡ put (written l.initial.out) (flat_map folded_instruction (map instr_of (take l.instr-index l.code)))

@@ -1,0 +1,7 @@
+pub mod Ranges
+pub mod Pairs
+pub mod PieceSteps
+pub mod Fronts
+pub mod GoingOn
+pub mod Scalars
+pub mod Digits

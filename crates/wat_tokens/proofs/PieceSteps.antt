@@ -1,0 +1,144 @@
+-- Strings, piece by piece.
+use Rattle.std.proofs.Common.{◌≡◌, ℕ, zero, suc, ◌+◌, ◌<◌, ◌≤◌, Bool, true, false, List, [], ◌∷◌, ◌++◌, length, get_or, take, drop, Option, Some, None, refl, sym, ap, ◌∙◌, arith, append_assoc, append-nil, drop-cons}
+use Rattle.std.specs.Prelude.{option_map}
+use Rattle.std.proofs.lemmas.List.{take_more, length-drop, drop-drop}
+use Rattle.wat_lang.specs.Tokens.{Piece, quote, character, no_piece, piece_of, string_from, put_value}
+use Rattle.wat_tokens.specs.Closed.{value_in, value_of, IsClosed, IsClosedSomewhere, Passed, Scanned}
+
+pub skip : (n : ℕ) (bs : List ℕ) → string_from n bs ≡ string_from 0 (drop n bs)
+skip zero bs = refl
+skip (suc n) [] = refl
+skip (suc n) (b ∷ bs) = skip n bs
+
+put_twice : (a v : List ℕ) (x : Option (List ℕ × List ℕ)) → option_map (put_value a) (option_map (put_value v) x) ≡ option_map (put_value (a ++ v)) x
+put_twice a v None = refl
+put_twice a v (Some s) = let e : (a ++ v) ++ s.0 ≡ a ++ (v ++ s.0) = append_assoc a v s.0 in ap (λ (w : List ℕ). let o : Option (List ℕ × List ℕ) = Some (w, s.1) in o) (sym e)
+
+put_nothing : (x : Option (List ℕ × List ℕ)) → x ≡ option_map (put_value []) x
+put_nothing None = refl
+put_nothing (Some s) = refl
+
+abbrev step : List ℕ → Piece → Option (List ℕ × List ℕ)
+step bs p = elim p [ quote ↦ Some ([], bs) | character v n ↦ option_map (put_value v) (string_from n bs) | no_piece ↦ None ]
+
+step_eq : (b : ℕ) (bs v : List ℕ) (n : ℕ) → piece_of (b ∷ bs) ≡ character v n → string_from 0 (b ∷ bs) ≡ option_map (put_value v) (string_from n bs)
+step_eq b bs v n e = ap (step bs) e
+
+quote_eq : (b : ℕ) (bs : List ℕ) → piece_of (b ∷ bs) ≡ quote → string_from 0 (b ∷ bs) ≡ Some ([], bs)
+quote_eq b bs e = ap (step bs) e
+
+none_eq : (b : ℕ) (bs : List ℕ) → piece_of (b ∷ bs) ≡ no_piece → string_from 0 (b ∷ bs) ≡ None
+none_eq b bs e = ap (step bs) e
+
+one_front : (s : List ℕ) (n : ℕ) → n < length s → drop n s ≡ get_or s n 0 ∷ drop (n + 1) s
+one_front s n lt = let next : suc n ≡ n + 1 = omega arith in drop-cons s n 0 lt ∙ ap (λ j. get_or s n 0 ∷ drop j s) next
+
+-- a character, and what follows it
+character_at : (s v : List ℕ) (n m : ℕ) → n < length s → character v m ≡ piece_of (drop n s)
+    → string_from 0 (drop n s) ≡ option_map (put_value v) (string_from 0 (drop (n + (m + 1)) s))
+character_at s v n m lt e =
+    let here = one_front s n lt in
+    let places : (n + 1) + m ≡ n + (m + 1) = omega arith in
+    let later : drop m (drop (n + 1) s) ≡ drop (n + (m + 1)) s = drop-drop m (n + 1) s ∙ ap (λ j. drop j s) places in
+    ap (string_from 0) here ∙ (step_eq (get_or s n 0) (drop (n + 1) s) v m (sym (e ∙ ap piece_of here))
+    ∙ ap (λ x. option_map (put_value v) x) (skip m (drop (n + 1) s) ∙ ap (string_from 0) later))
+
+-- ---- from the first byte on
+
+pub start : (s : List ℕ) → Passed s 0 []
+start s = record { is = put_nothing (string_from 0 s); within = omega arith }
+
+pub passed_more : (s so_far v : List ℕ) (n m : ℕ) → Passed s n so_far → n < length s → character v m ≡ piece_of (drop n s) → m + 1 ≤ length (drop n s) → Passed s (n + (m + 1)) (so_far ++ v)
+passed_more s so_far v n m p lt e fits = record {
+  is = p.is ∙ (ap (λ x. option_map (put_value so_far) x) (character_at s v n m lt e) ∙ put_twice so_far v (string_from 0 (drop (n + (m + 1)) s)));
+  within = omega (arith, p.within, fits, length-drop n s);
+}
+
+pub scanned_start : (s : List ℕ) → Scanned s 0 true
+scanned_start s = ([], start s, λ e. refl)
+
+pub scanned_byte : (s : List ℕ) (n b : ℕ) (plain : Bool) → Scanned s n plain → n < length s → character (b ∷ []) 0 ≡ piece_of (drop n s) → drop n s ≡ b ∷ drop 1 (drop n s) → Scanned s (n + 1) plain
+scanned_byte s n b plain p lt e first =
+    let len : 1 ≤ length (drop n s) = omega (arith, length-drop n s) in
+    let same : get_or s n 0 ∷ drop (n + 1) s ≡ b ∷ drop 1 (drop n s) = sym (one_front s n lt) ∙ first in
+    let byte : get_or s n 0 ≡ b = cc in (
+      p.0 ++ b ∷ [],
+      passed_more s p.0 (b ∷ []) n 0 p.1 lt e len,
+      λ is. ap (λ (xs : List ℕ). xs ++ b ∷ []) (p.2 is) ∙ (ap (λ (c : ℕ). take n s ++ c ∷ []) (sym byte) ∙ sym (take_more s n 0 lt)),
+    )
+
+pub scanned_more : (s v : List ℕ) (n m : ℕ) (plain : Bool) → Scanned s n plain → n < length s → character v m ≡ piece_of (drop n s) → m + 1 ≤ length (drop n s) → Scanned s (n + (m + 1)) false
+scanned_more s v n m plain p lt e fits = (p.0 ++ v, passed_more s p.0 v n m p.1 lt e fits, λ is. absurd cc)
+
+-- ---- up to the last
+
+ends_with_quote : (s so_far : List ℕ) (n : ℕ) → Passed s n so_far → n < length s → quote ≡ piece_of (drop n s) → string_from 0 s ≡ Some (so_far, drop (n + 1) s)
+ends_with_quote s so_far n p lt e =
+    let here = one_front s n lt in
+    let last : string_from 0 (drop n s) ≡ Some ([], drop (n + 1) s) = ap (string_from 0) here ∙ quote_eq (get_or s n 0) (drop (n + 1) s) (sym (e ∙ ap piece_of here)) in
+    p.is ∙ (ap (λ x. option_map (put_value so_far) x) last ∙ ap (λ (w : List ℕ). let o : Option (List ℕ × List ℕ) = Some (w, drop (n + 1) s) in o) (append-nil so_far))
+
+pub closed : (s : List ℕ) (n : ℕ) (plain : Bool) → Scanned s n plain → n < length s → quote ≡ piece_of (drop n s) → IsClosed s n plain
+closed s n plain p lt e =
+    let found = ends_with_quote s p.0 n p.1 lt e in
+    let value : value_of s ≡ p.0 = ap value_in found in
+    record { is = found ∙ ap (λ (w : List ℕ). let o : Option (List ℕ × List ℕ) = Some (w, drop (n + 1) s) in o) (sym value); within = lt; plainly = λ is. value ∙ p.2 is }
+
+pub refused : (s so_far : List ℕ) (n : ℕ) → Passed s n so_far → n < length s → no_piece ≡ piece_of (drop n s) → string_from 0 s ≡ None
+refused s so_far n p lt e =
+    let here = one_front s n lt in
+    p.is ∙ ap (λ x. option_map (put_value so_far) x) (ap (string_from 0) here ∙ none_eq (get_or s n 0) (drop (n + 1) s) (sym (e ∙ ap piece_of here)))
+
+none_left : (s : List ℕ) (n : ℕ) → length s ≤ n → string_from 0 (drop n s) ≡ None
+none_left [] zero le = refl
+none_left [] (suc n) le = refl
+none_left (b ∷ s) zero le = absurd (omega arith)
+none_left (b ∷ s) (suc n) le = none_left s n (omega arith)
+
+pub at_the_end : (s so_far : List ℕ) (n : ℕ) → Passed s n so_far → length s ≤ n → string_from 0 s ≡ None
+at_the_end s so_far n p le = p.is ∙ ap (λ x. option_map (put_value so_far) x) (none_left s n le)
+
+-- ---- what a string stands for
+
+pub value_at_quote : (s so_far : List ℕ) (n : ℕ) → Passed s n so_far → n < length s → quote ≡ piece_of (drop n s) → so_far ≡ value_of s
+value_at_quote s so_far n p lt e = sym (ap value_in (ends_with_quote s so_far n p lt e))
+
+pub never_none : (s : List ℕ) → IsClosedSomewhere s → string_from 0 s ≡ None → ⊥
+never_none s c e = let nothing : Option (List ℕ × List ℕ) = None in let both : Some (value_of s, drop (c.0 + 1) s) ≡ nothing = sym c.2.is ∙ e in absurd cc
+
+pub lent_value : (s : List ℕ) (n : ℕ) (plain : Bool) → IsClosed s n plain → plain ≡ true → take n s ≡ value_of s
+lent_value s n plain c is = sym (c.plainly is)
+
+-- what follows a string isn't longer
+mapped : (v : List ℕ) (o : Option (List ℕ × List ℕ)) (x : List ℕ × List ℕ) → option_map (put_value v) o ≡ Some x → (y : List ℕ × List ℕ) × (o ≡ Some y) × (x.1 ≡ y.1)
+mapped v None x e = absurd cc
+mapped v (Some y) x e = let same : (v ++ y.0, y.1) ≡ x = cc in (y, refl, ap (λ (p : List ℕ × List ℕ). p.1) (sym same))
+
+pub rest_len : (n : ℕ) (bs : List ℕ) (x : List ℕ × List ℕ) → string_from n bs ≡ Some x → length x.1 ≤ length bs
+rest_len n [] x e = absurd cc
+rest_len (suc n) (b ∷ bs) x e = let le = rest_len n bs x e in omega (arith, le)
+rest_len zero (b ∷ bs) x e = by (λ m y. rest_len m bs y) (piece_of (b ∷ bs)) refl
+  where
+    by : ((m : ℕ) (y : List ℕ × List ℕ) → string_from m bs ≡ Some y → length y.1 ≤ length bs) → (p : Piece) → piece_of (b ∷ bs) ≡ p → length x.1 ≤ length (b ∷ bs)
+    by below quote q = let is : Some ([], bs) ≡ Some x = sym (quote_eq b bs q) ∙ e in let same : ([], bs) ≡ x = cc in let len : length bs ≡ length x.1 = ap (λ (p : List ℕ × List ℕ). length p.1) same in omega (arith, len)
+    by below (character v m) q =
+        let y = mapped v (string_from m bs) x (sym (step_eq b bs v m q) ∙ e) in
+        let le = below m y.0 y.1 in
+        let len = ap length y.2 in
+        omega (arith, le, len)
+    by below no_piece q = let is : None ≡ Some x = sym (none_eq b bs q) ∙ e in absurd cc
+
+-- ---- turns of the loops, where the bytes that are left are a slice
+
+pub byte_turn : (s t : List ℕ) (n b : ℕ) (plain : Bool) → Scanned s n plain → n < length s → t ≡ drop n s → character (b ∷ []) 0 ≡ piece_of t → t ≡ b ∷ drop 1 t → Scanned s (n + 1) plain
+byte_turn s t n b plain p lt is e first = scanned_byte s n b plain p lt (e ∙ ap piece_of is) (sym is ∙ (first ∙ ap (λ (u : List ℕ). b ∷ drop 1 u) is))
+
+pub more_turn : (s t v : List ℕ) (n m : ℕ) (plain : Bool) → Scanned s n plain → n < length s → t ≡ drop n s → character v m ≡ piece_of t → m + 1 ≤ length t → Scanned s (n + (m + 1)) false
+more_turn s t v n m plain p lt is e fits = scanned_more s v n m plain p lt (e ∙ ap piece_of is) (omega (arith, fits, ap length is))
+
+pub passed_turn : (s t so_far v : List ℕ) (n m : ℕ) → Passed s n so_far → n < length s → t ≡ drop n s → character v m ≡ piece_of t → m + 1 ≤ length t → Passed s (n + (m + 1)) (so_far ++ v)
+passed_turn s t so_far v n m p lt is e fits = passed_more s so_far v n m p lt (e ∙ ap piece_of is) (omega (arith, fits, ap length is))
+
+pub first_fits : (t : List ℕ) (b : ℕ) → t ≡ b ∷ drop 1 t → 1 ≤ length t
+first_fits [] b e = absurd cc
+first_fits (c ∷ t) b e = omega arith

@@ -1,0 +1,21 @@
+use Rattle.std.proofs.Common.{ap, ◌∙◌, arith}
+use Rattle.std.proofs.lemmas.List.{take_rest}
+use Rattle.wat_lang.specs.Tokens.{piece_of}
+use Rattle.wat_tokens.proofs.PieceSteps.{closed, byte_turn, more_turn}
+use Rattle.wat_tokens.proofs.strings.closing_quote.Goals as goal
+
+pub returns-in-Quote : goal.returns-in-Quote
+returns-in-Quote c =
+    closed c.args.s.now c.loop-n.n c.loop-n.plain c.loop-n.invariant c.loop-n-test.true (c.in-Quote.ensures.view ∙ ap piece_of (take_rest c.args.s.now c.loop-n.n))
+
+pub loop-n-preserved-in-Byte : goal.loop-n-preserved-in-Byte
+loop-n-preserved-in-Byte c =
+    byte_turn c.args.s.now _ c.loop-n.n c.in-Byte.field-0 c.loop-n.plain c.loop-n.invariant c.loop-n-test.true (take_rest c.args.s.now c.loop-n.n) c.in-Byte.ensures.view c.in-Byte.ensures.fits.1
+
+pub loop-n-preserved-in-Escape : goal.loop-n-preserved-in-Escape
+loop-n-preserved-in-Escape c =
+    more_turn c.args.s.now _ _ c.loop-n.n c.in-Escape.more c.loop-n.plain c.loop-n.invariant c.loop-n-test.true (take_rest c.args.s.now c.loop-n.n) c.in-Escape.ensures.view (omega (arith, c.in-Escape.ensures.fits))
+
+pub loop-n-preserved : goal.loop-n-preserved
+loop-n-preserved c =
+    more_turn c.args.s.now _ _ c.loop-n.n c.in-Scalar.more c.loop-n.plain c.loop-n.invariant c.loop-n-test.true (take_rest c.args.s.now c.loop-n.n) c.in-Scalar.ensures.view (omega (arith, c.in-Scalar.ensures.fits.0))

@@ -1,0 +1,29 @@
+-- What stands behind the opening quote of a string.
+use Rattle.std.specs.Prelude.{◌≡◌, ℕ, ◌+◌, ◌<◌, ◌≤◌, Bool, true, List, [], length, take, drop, Option, Some, None, option_map}
+use Rattle.wat_lang.specs.Tokens.{string_from, put_value}
+
+abbrev pub value_in : Option (List ℕ × List ℕ) → List ℕ
+value_in None = []
+value_in (Some s) = s.0
+
+-- what the string stands for
+abbrev pub value_of : List ℕ → List ℕ
+value_of bs = value_in (string_from 0 bs)
+
+-- so many bytes stand before the closing quote; where it is plain, each stands for itself
+pub record IsClosed (bs : List ℕ) (n : ℕ) (plain : Bool) : Type 0 where
+  pub is : string_from 0 bs ≡ Some (value_of bs, drop (n + 1) bs)
+  pub within : n < length bs
+  pub plainly : plain ≡ true → value_of bs ≡ take n bs
+
+abbrev pub IsClosedSomewhere : List ℕ → Type 0
+IsClosedSomewhere bs = (n : ℕ) × (plain : Bool) × IsClosed bs n plain
+
+-- the first n bytes stand for these
+pub record Passed (bs : List ℕ) (n : ℕ) (so_far : List ℕ) : Type 0 where
+  pub is : string_from 0 bs ≡ option_map (put_value so_far) (string_from 0 (drop n bs))
+  pub within : n ≤ length bs
+
+-- .. and where they are plain, each for itself
+abbrev pub Scanned : List ℕ → ℕ → Bool → Type 0
+Scanned bs n plain = (so_far : List ℕ) × Passed bs n so_far × (plain ≡ true → so_far ≡ take n bs)

@@ -1,0 +1,6 @@
+pub mod Fronts
+pub mod Closed
+pub mod Views
+pub mod Left
+pub mod Natural
+pub mod Numbers

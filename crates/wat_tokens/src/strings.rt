@@ -1,0 +1,121 @@
+//! Strings, which lend their bytes from the text.
+
+ghost use Rattle.std.specs.Prelude.{◌≡◌, ◌+◌, ◌++◌, true, None, IfOk, IfSome, MatchOption, OnOk, encode_utf8};
+ghost use Rattle.wat_lang.specs.Tokens as spec;
+ghost use Rattle.wat_tokens.specs.Closed.{IsClosed, IsClosedSomewhere, value_of};
+
+use crate::pieces::{Piece, piece_of};
+use std::alloc::{AllocError, Global};
+
+/// A string of a text.
+#[derive(Clone, Copy)]
+pub struct StringText<'a> {
+    /// What stands behind its opening quote, up to the end of the text.
+    behind: &'a [u8],
+    /// How many bytes stand before its closing quote.
+    len: usize,
+    /// Whether each byte stands for itself.
+    plain: bool,
+    ghost closed: { IsClosed behind.now len plain },
+}
+
+impl<'a> StringText<'a> {
+    ghost use Rattle.wat_tokens.specs.Views.{string_value};
+
+    /// The string, from behind its opening quote on.
+    pub(crate) fn new(behind: &'a [u8]) -> Option<StringText<'a>>
+        ensures { MatchOption result (spec.string_from 0 behind.now ≡ None) (λ s. s.behind.now ≡ behind.now) }
+    {
+        let (len, plain) = closing_quote(behind)?;
+        Some(StringText { behind, len, plain })
+    }
+
+    /// How many bytes it takes behind its opening quote, with its closing one.
+    pub(crate) fn len(self) -> usize
+        ensures { result ≡ self.entry.len + 1 }
+    {
+        self.len + 1
+    }
+
+    /// What it stands for, where each byte stands for itself.
+    pub fn lent(self) -> Option<&'a [u8]>
+        ensures { IfSome result (λ bytes. bytes.now ≡ string_value self.entry) }
+    {
+        if self.plain {
+            Some(&self.behind[..self.len])
+        } else {
+            None
+        }
+    }
+
+    /// What it stands for.
+    pub fn bytes(self, alloc: Global) -> Result<Vec<u8>, AllocError>
+        ensures { IfOk result (λ bytes. bytes.items ≡ string_value self.entry) }
+    {
+        decoded(alloc, self.behind)
+    }
+}
+
+/// How many bytes stand before the closing quote, and whether each stands for itself.
+fn closing_quote(s: &[u8]) -> Option<(usize, bool)>
+    ensures { MatchOption result (spec.string_from 0 s.now ≡ None) (λ x. IsClosed s.now x.0 x.1) }
+{
+    let mut n = 0;
+    let mut plain = true;
+    while n < s.len() {
+        match piece_of(&s[n..]) {
+            Piece::Quote => return Some((n, plain)),
+            Piece::Byte(_) => n += 1,
+            Piece::Escape(_, more) => {
+                plain = false;
+                n += more + 1;
+            }
+            Piece::Scalar(_, more) => {
+                plain = false;
+                n += more + 1;
+            }
+            Piece::Bad => return None,
+        }
+    }
+    None
+}
+
+/// What a string stands for, from behind its opening quote on.
+fn decoded(alloc: Global, s: &[u8]) -> Result<Vec<u8>, AllocError>
+    requires { IsClosedSomewhere s.now }
+    ensures { IfOk result (λ bytes. bytes.items ≡ value_of s.now) }
+{
+    let mut bytes = Vec::new(alloc);
+    let mut n = 0;
+    while n < s.len() {
+        match piece_of(&s[n..]) {
+            Piece::Byte(value) => {
+                bytes.push(value)?;
+                n += 1;
+            }
+            Piece::Escape(value, more) => {
+                bytes.push(value)?;
+                n += more + 1;
+            }
+            Piece::Scalar(c, more) => {
+                push_scalar(&mut bytes, c)?;
+                n += more + 1;
+            }
+            Piece::Quote => return Ok(bytes),
+            Piece::Bad => return Ok(bytes),
+        }
+    }
+    Ok(bytes)
+}
+
+/// Appends the UTF-8 of a scalar value.
+fn push_scalar(bytes: &mut Vec<u8>, c: u32) -> Result<(), AllocError>
+    requires { spec.is_scalar c ≡ true }
+    ensures { OnOk result (bytes.new.items ≡ bytes.old.items ++ encode_utf8 c) }
+{
+    let mut buffer = [0; 4];
+    match char::from_u32(c) {
+        Some(c) => bytes.extend_from_slice(c.encode_utf8(&mut buffer).as_bytes()),
+        None => Ok(()),
+    }
+}
