@@ -22,7 +22,8 @@ use Rattle.asm_lang_exec.specs.Session.{first_globals, heap_length, first_place}
 use Rattle.asm_lang_exec.specs.Fits.{fits_write, fits_call, fits_reply, tests, misfit}
 use Rattle.asm_lang_exec.proofs.Written.{fitting_writes}
 use Rattle.asm2wasm_translation.specs.Numbers.{int_variables}
-use Rattle.asm2wasm_laws_run.specs.State.{names, Stays, Holds}
+use Rattle.asm2wasm_laws_run.specs.State.{names, Stays}
+use Rattle.asm_run_laws.specs.Places.{Holds}
 use Rattle.asm_run_laws.specs.Hosts.{nothing}
 
 holds_or : (b : Bool) → (b ≡ false → ⊥) → b ≡ true

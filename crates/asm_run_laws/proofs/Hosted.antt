@@ -8,7 +8,7 @@ use Rattle.asm_lang.specs.Modules.{Function}
 use Rattle.asm_lang_valid.specs.Typed.{scope_of}
 use Rattle.asm_lang_exec.specs.Runs.{Binding, Place, Run, goes, stops, spent, wrong, after, and_then, defined, with_locals, back_to}
 use Rattle.asm_lang_exec.specs.Meaning.{Completion, normal, broken, continued, returned, exec_all, function_end, call_at}
-use Rattle.asm2wasm_laws_run.specs.State.{Holds}
+use Rattle.asm_run_laws.specs.Places.{Holds}
 use Rattle.asm_run_code.specs.declared.op.Op.{Op}
 use Rattle.asm_run_code.specs.declared.op.Op.TheVariants.{Number, Give}
 use Rattle.asm_run_code.specs.Slots.{get, put}

@@ -14,7 +14,7 @@ use Rattle.asm_lang_exec.specs.Meaning.{call_at}
 use Rattle.asm_lang_exec.specs.Session.{first_place, result_event, host_calls, observed}
 use Rattle.asm_lang_exec.specs.Fits.{takes, fits_call}
 use Rattle.asm_laws_sound.proofs.Sessions.{accepted_never_go_wrong, checks_change_nothing}
-use Rattle.asm2wasm_laws_run.specs.State.{Holds}
+use Rattle.asm_run_laws.specs.Places.{Holds}
 use Rattle.asm_run_code.specs.Machine.{State, Came, and_on, followed}
 use Rattle.asm_run_code.specs.Modules.{codes_of}
 use Rattle.asm_run_code.specs.Sessions.{begins, seen_of, seen_by, function_at, number_at, key_number, flat_calls, first_state}

@@ -7,7 +7,7 @@ use Rattle.session_lang.specs.Observation.{EndPlain}
 use Rattle.asm_lang.specs.Modules.{Function, Module}
 use Rattle.asm_lang_exec.specs.Runs.{Place, Run, goes, stops, spent, wrong, Part}
 use Rattle.asm_lang_exec.specs.Values.{Calls}
-use Rattle.asm2wasm_laws_run.specs.State.{Holds}
+use Rattle.asm_run_laws.specs.Places.{Holds}
 use Rattle.asm_run_code.specs.declared.op.Op.{Op}
 use Rattle.asm_run_code.specs.Slots.{get, put}
 use Rattle.asm_run_code.specs.Values.{Before}

@@ -4,7 +4,7 @@ use Rattle.sem_words.specs.declared.js_value.JsValue.{JsValue}
 use Rattle.session_lang.specs.Observation.{EndPlain}
 use Rattle.asm_lang.specs.Modules.{Function, no_stmts}
 use Rattle.asm_lang_exec.specs.Runs.{Place, Run, goes, stops, spent, wrong}
-use Rattle.asm2wasm_laws_run.specs.State.{Holds}
+use Rattle.asm_run_laws.specs.Places.{Holds}
 use Rattle.asm_run_code.specs.Machine.{Codes, State, Came, back, halts, unpaid, and_on, followed}
 use Rattle.asm_run_code.specs.Sessions.{words_of}
 use Rattle.asm_run_laws.specs.Frames.{Setting, word}

@@ -25,7 +25,7 @@ use Rattle.asm_lang_exec.specs.Session.{asm}
 use Rattle.asm_lang_exec.specs.Fits.{misfit}
 use Rattle.asm2wasm_laws_heap.specs.Guards.{is_index}
 use Rattle.asm2wasm_laws_words.specs.Laws.{is_unsigned_type}
-use Rattle.asm2wasm_laws_run.specs.State.{Holds}
+use Rattle.asm_run_laws.specs.Places.{Holds}
 use Rattle.asm_run_code.specs.Operators.{word_op, operator_of, link_operator}
 use Rattle.asm_run_code.specs.Machine.{State, element_word}
 use Rattle.asm_run_code.specs.Names.{first_free}
