@@ -1,0 +1,10 @@
+pub mod PlainMoves
+pub mod Steps
+pub mod Calls
+pub mod Frames
+pub mod Reducing
+pub mod Guards
+pub mod Configurations
+pub mod Globals
+pub mod Ranges
+pub mod Law
