@@ -1,0 +1,9 @@
+pub mod Lists
+pub mod Cuts
+pub mod Stacks
+pub mod Spelled
+pub mod Opcodes
+pub mod Shaped
+pub mod Counts
+pub mod Levels
+pub mod Within
