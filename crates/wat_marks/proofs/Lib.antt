@@ -1,3 +1,4 @@
 pub mod GoingOn
 pub mod ReadingOn
 pub mod Faults
+pub mod Fitting

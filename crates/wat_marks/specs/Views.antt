@@ -10,7 +10,7 @@ use Rattle.wat_grammar.specs.Views.{mark_of}
 use Rattle.wat_tokens.specs.Views.{token_of}
 use Rattle.wat_marks.specs.declared.fault.WatFault.{WatFault}
 use Rattle.wat_marks.specs.declared.fault.WatFault.TheVariants as faults
-use Rattle.wat_marks.specs.declared.reading.MarkedToken.{MarkedToken}
+use Rattle.wat_marks.specs.declared.marked.MarkedToken.{MarkedToken}
 
 abbrev pub marked_of : MarkedToken → grammar.Marked
 marked_of m = grammar.marked (mark_of m.mark) (token_of m.token)

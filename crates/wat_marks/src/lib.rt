@@ -2,9 +2,11 @@
 #![tactic(auto)]
 
 mod fault;
+mod marked;
 mod outside;
 mod reading;
 mod tokens;
 
 pub use fault::WatFault;
-pub use reading::{MarkedToken, marks};
+pub use marked::MarkedToken;
+pub use reading::marks;

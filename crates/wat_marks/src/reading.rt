@@ -1,4 +1,4 @@
-//! Tokens with their marks.
+//! The marks of the tokens of a text.
 
 ghost use Rattle.std.specs.Prelude.{◌≡◌, IfOk, IfErr, List, Some, map};
 ghost use Rattle.wat_lang.specs.declared.fault.Row.TheVariants as rows;
@@ -12,20 +12,14 @@ ghost use Rattle.wat_marks.specs.declared.fault.WatFault.TheVariants as faults;
 ghost use Rattle.wat_marks.specs.Views.{IsFaultOf, IsStuck, marked_of};
 
 use crate::fault::WatFault;
+use crate::marked::MarkedToken;
 use crate::outside::outside_at;
 use crate::tokens::all_tokens;
 use std::alloc::Global;
-use wat_grammar::{Lexeme, Mark, Stack};
+use wat_grammar::{Lexeme, Stack};
 use wat_lang::Row;
 use wat_laws_grammar::{derivations_are_runs, first_faults};
 use wat_tokens::{Class, Token};
-
-/// A token, and what it is in the module.
-#[derive(Clone, Copy)]
-pub struct MarkedToken<'a> {
-    pub mark: Mark,
-    pub token: Token<'a>,
-}
 
 fn lexeme_of<'a>(class: Class<'a>) -> Lexeme<'a>
     ensures { (is : List Item) → feed is (grammar.class_of result) ≡ feed is (class_of class.entry) }
@@ -53,10 +47,13 @@ fn read_marks<'a>(
     let mut marks = Vec::new(alloc);
     for token in tokens {
         match stack.feed(lexeme_of(token.class))? {
-            Some(mark) => marks.push(MarkedToken {
-                mark,
-                token: *token,
-            })?,
+            Some(mark) => {
+                let marked = MarkedToken {
+                    mark,
+                    token: *token,
+                };
+                marks.push(marked)?;
+            }
             None => return Err(broken(token.at)),
         }
     }
