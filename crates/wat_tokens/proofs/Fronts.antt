@@ -91,6 +91,6 @@ quoted bs n plain c =
 pub fits_behind : (p : Piece) (before b : ℕ) (bs : List ℕ) → Fits p (before + 1) bs → Fits p before (b ∷ bs)
 fits_behind pieces.Quote before b bs f = absurd (omega (arith, f.0))
 fits_behind (pieces.Byte v) before b bs f = absurd (omega (arith, f.0))
-fits_behind (pieces.Escape v n) before b bs f = omega (arith, f)
-fits_behind (pieces.Scalar c n) before b bs f = (omega (arith, f.0), f.1)
+fits_behind (pieces.Escape v n) before b bs f = (omega (arith, f.0), f.1)
+fits_behind (pieces.Scalar c n) before b bs f = (omega (arith, f.0), f.1, f.2)
 fits_behind pieces.Bad before b bs f = tt

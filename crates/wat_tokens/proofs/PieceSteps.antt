@@ -1,7 +1,8 @@
 -- Strings, piece by piece.
-use Rattle.std.proofs.Common.{◌≡◌, ℕ, zero, suc, ◌+◌, ◌<◌, ◌≤◌, Bool, true, false, List, [], ◌∷◌, ◌++◌, length, get_or, take, drop, Option, Some, None, refl, sym, ap, ◌∙◌, arith, append_assoc, append-nil, drop-cons}
-use Rattle.std.specs.Prelude.{option_map}
-use Rattle.std.proofs.lemmas.List.{take_more, length-drop, drop-drop}
+use Rattle.std.proofs.Common.{◌≡◌, ℕ, zero, suc, ◌+◌, ◌<◌, ◌≤◌, Bool, true, false, List, [], ◌∷◌, ◌++◌, length, get_or, take, drop, Option, Some, None, refl, sym, ap, ◌∙◌, arith, append_assoc, append-nil, drop-cons, length-append}
+use Rattle.std.specs.Prelude.{option_map, encode_utf8}
+use Rattle.std.proofs.lemmas.List.{take_more, length-drop, length-take-le, drop-drop}
+use Rattle.std.proofs.lemmas.Str.{length-encode, len_utf8_bounds}
 use Rattle.wat_lang.specs.Tokens.{Piece, quote, character, no_piece, piece_of, string_from, put_value}
 use Rattle.wat_tokens.specs.Closed.{value_in, value_of, IsClosed, IsClosedSomewhere, Passed, Scanned}
 
@@ -55,20 +56,35 @@ passed_more s so_far v n m p lt e fits = record {
 }
 
 pub scanned_start : (s : List ℕ) → Scanned s 0 true
-scanned_start s = ([], start s, λ e. refl)
+scanned_start s = record { so_far = []; passed = start s; no_more = omega arith; plainly = λ e. refl; escaped = λ is. absurd cc }
 
 pub scanned_byte : (s : List ℕ) (n b : ℕ) (plain : Bool) → Scanned s n plain → n < length s → character (b ∷ []) 0 ≡ piece_of (drop n s) → drop n s ≡ b ∷ drop 1 (drop n s) → Scanned s (n + 1) plain
 scanned_byte s n b plain p lt e first =
     let len : 1 ≤ length (drop n s) = omega (arith, length-drop n s) in
     let same : get_or s n 0 ∷ drop (n + 1) s ≡ b ∷ drop 1 (drop n s) = sym (one_front s n lt) ∙ first in
-    let byte : get_or s n 0 ≡ b = cc in (
-      p.0 ++ b ∷ [],
-      passed_more s p.0 (b ∷ []) n 0 p.1 lt e len,
-      λ is. ap (λ (xs : List ℕ). xs ++ b ∷ []) (p.2 is) ∙ (ap (λ (c : ℕ). take n s ++ c ∷ []) (sym byte) ∙ sym (take_more s n 0 lt)),
-    )
+    let byte : get_or s n 0 ≡ b = cc in
+    let no_more = p.no_more in
+    let one_more : length (p.so_far ++ b ∷ []) ≡ length p.so_far + 1 = length-append p.so_far (b ∷ []) in
+    record {
+      so_far = p.so_far ++ b ∷ [];
+      passed = passed_more s p.so_far (b ∷ []) n 0 p.passed lt e len;
+      no_more = omega (arith, no_more, one_more);
+      plainly = λ is. ap (λ (xs : List ℕ). xs ++ b ∷ []) (p.plainly is) ∙ (ap (λ (c : ℕ). take n s ++ c ∷ []) (sym byte) ∙ sym (take_more s n 0 lt));
+      escaped = λ is. let fewer = p.escaped is in omega (arith, fewer, one_more);
+    }
 
-pub scanned_more : (s v : List ℕ) (n m : ℕ) (plain : Bool) → Scanned s n plain → n < length s → character v m ≡ piece_of (drop n s) → m + 1 ≤ length (drop n s) → Scanned s (n + (m + 1)) false
-scanned_more s v n m plain p lt e fits = (p.0 ++ v, passed_more s p.0 v n m p.1 lt e fits, λ is. absurd cc)
+pub scanned_more : (s v : List ℕ) (n m : ℕ) (plain : Bool) → Scanned s n plain → n < length s → character v m ≡ piece_of (drop n s) → m + 1 ≤ length (drop n s) → length v ≤ m
+    → Scanned s (n + (m + 1)) false
+scanned_more s v n m plain p lt e fits few =
+    let no_more = p.no_more in
+    let more : length (p.so_far ++ v) ≡ length p.so_far + length v = length-append p.so_far v in
+    record {
+      so_far = p.so_far ++ v;
+      passed = passed_more s p.so_far v n m p.passed lt e fits;
+      no_more = omega (arith, no_more, more, few);
+      plainly = λ is. absurd cc;
+      escaped = λ is. omega (arith, no_more, more, few);
+    }
 
 -- ---- up to the last
 
@@ -80,9 +96,15 @@ ends_with_quote s so_far n p lt e =
 
 pub closed : (s : List ℕ) (n : ℕ) (plain : Bool) → Scanned s n plain → n < length s → quote ≡ piece_of (drop n s) → IsClosed s n plain
 closed s n plain p lt e =
-    let found = ends_with_quote s p.0 n p.1 lt e in
-    let value : value_of s ≡ p.0 = ap value_in found in
-    record { is = found ∙ ap (λ (w : List ℕ). let o : Option (List ℕ × List ℕ) = Some (w, drop (n + 1) s) in o) (sym value); within = lt; plainly = λ is. value ∙ p.2 is }
+    let found = ends_with_quote s p.so_far n p.passed lt e in
+    let value : value_of s ≡ p.so_far = ap value_in found in
+    let long : length (value_of s) ≡ length p.so_far = ap length value in
+    record {
+      is = found ∙ ap (λ (w : List ℕ). let o : Option (List ℕ × List ℕ) = Some (w, drop (n + 1) s) in o) (sym value);
+      within = lt;
+      plainly = λ is. value ∙ p.plainly is;
+      escaped = λ is. let fewer = p.escaped is in omega (arith, long, fewer);
+    }
 
 pub refused : (s so_far : List ℕ) (n : ℕ) → Passed s n so_far → n < length s → no_piece ≡ piece_of (drop n s) → string_from 0 s ≡ None
 refused s so_far n p lt e =
@@ -109,6 +131,14 @@ never_none s c e = let nothing : Option (List ℕ × List ℕ) = None in let bot
 pub lent_value : (s : List ℕ) (n : ℕ) (plain : Bool) → IsClosed s n plain → plain ≡ true → take n s ≡ value_of s
 lent_value s n plain c is = sym (c.plainly is)
 
+pub not_lent : (s : List ℕ) (n : ℕ) (plain : Bool) → IsClosed s n plain → plain ≡ false → value_of s ≡ take n s → ⊥
+not_lent s n plain c is e =
+    let fewer = c.escaped is in
+    let within = c.within in
+    let long : length (value_of s) ≡ length (take n s) = ap length e in
+    let whole : length (take n s) ≡ n = length-take-le n s (omega (arith, within)) in
+    absurd (omega (arith, fewer, long, whole))
+
 -- what follows a string isn't longer
 mapped : (v : List ℕ) (o : Option (List ℕ × List ℕ)) (x : List ℕ × List ℕ) → option_map (put_value v) o ≡ Some x → (y : List ℕ × List ℕ) × (o ≡ Some y) × (x.1 ≡ y.1)
 mapped v None x e = absurd cc
@@ -128,13 +158,18 @@ rest_len zero (b ∷ bs) x e = by (λ m y. rest_len m bs y) (piece_of (b ∷ bs)
         omega (arith, le, len)
     by below no_piece q = let is : None ≡ Some x = sym (none_eq b bs q) ∙ e in absurd cc
 
+-- the bytes of a scalar value are fewer than those that write it
+pub utf8_few : (c m : ℕ) → 3 < m → length (encode_utf8 c) ≤ m
+utf8_few c m lt = let most = (len_utf8_bounds c).1 in let long = length-encode c in omega (arith, lt, most, long)
+
 -- ---- turns of the loops, where the bytes that are left are a slice
 
 pub byte_turn : (s t : List ℕ) (n b : ℕ) (plain : Bool) → Scanned s n plain → n < length s → t ≡ drop n s → character (b ∷ []) 0 ≡ piece_of t → t ≡ b ∷ drop 1 t → Scanned s (n + 1) plain
 byte_turn s t n b plain p lt is e first = scanned_byte s n b plain p lt (e ∙ ap piece_of is) (sym is ∙ (first ∙ ap (λ (u : List ℕ). b ∷ drop 1 u) is))
 
-pub more_turn : (s t v : List ℕ) (n m : ℕ) (plain : Bool) → Scanned s n plain → n < length s → t ≡ drop n s → character v m ≡ piece_of t → m + 1 ≤ length t → Scanned s (n + (m + 1)) false
-more_turn s t v n m plain p lt is e fits = scanned_more s v n m plain p lt (e ∙ ap piece_of is) (omega (arith, fits, ap length is))
+pub more_turn : (s t v : List ℕ) (n m : ℕ) (plain : Bool) → Scanned s n plain → n < length s → t ≡ drop n s → character v m ≡ piece_of t → m + 1 ≤ length t → length v ≤ m
+    → Scanned s (n + (m + 1)) false
+more_turn s t v n m plain p lt is e fits few = scanned_more s v n m plain p lt (e ∙ ap piece_of is) (omega (arith, fits, ap length is)) few
 
 pub passed_turn : (s t so_far v : List ℕ) (n m : ℕ) → Passed s n so_far → n < length s → t ≡ drop n s → character v m ≡ piece_of t → m + 1 ≤ length t → Passed s (n + (m + 1)) (so_far ++ v)
 passed_turn s t so_far v n m p lt is e fits = passed_more s so_far v n m p lt (e ∙ ap piece_of is) (omega (arith, fits, ap length is))

@@ -30,6 +30,6 @@ piece_view pieces.Bad = spec.no_piece
 abbrev pub Fits : Piece → ℕ → List ℕ → Type 0
 Fits pieces.Quote before bs = (before ≡ 0) × (0 < length bs)
 Fits (pieces.Byte b) before bs = (before ≡ 0) × (bs ≡ b ∷ drop 1 bs)
-Fits (pieces.Escape v n) before bs = n + 1 ≤ before + length bs
-Fits (pieces.Scalar c n) before bs = (n + 1 ≤ before + length bs) × (is_scalar c ≡ true)
+Fits (pieces.Escape v n) before bs = (n + 1 ≤ before + length bs) × (0 < n)
+Fits (pieces.Scalar c n) before bs = (n + 1 ≤ before + length bs) × (is_scalar c ≡ true) × (3 < n)
 Fits pieces.Bad before bs = Unit {0}

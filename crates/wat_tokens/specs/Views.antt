@@ -1,5 +1,5 @@
 -- Tokens of the code as those of the text form.
-use Rattle.std.specs.Prelude.{ℕ, ◌<◌, ◌≤◌, List}
+use Rattle.std.specs.Prelude.{ℕ, ◌<◌, ◌≤◌, List, take}
 use Rattle.wat_lang.specs.Tokens as spec
 use Rattle.wat_tokens.specs.declared.strings.StringText.{StringText}
 use Rattle.wat_tokens.specs.declared.token.Class.{Class}
@@ -12,6 +12,10 @@ use Rattle.wat_tokens.specs.Closed.{value_of}
 -- what a string stands for
 abbrev pub string_value : StringText → List ℕ
 string_value s = value_of s.behind.now
+
+-- the bytes between its quotes
+abbrev pub between_quotes : StringText → List ℕ
+between_quotes s = take s.len s.behind.now
 
 abbrev pub class_of : Class → spec.Class
 class_of classes.Opens = spec.opens

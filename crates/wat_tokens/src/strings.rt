@@ -1,6 +1,6 @@
 //! Strings, which lend their bytes from the text.
 
-ghost use Rattle.std.specs.Prelude.{◌≡◌, ◌+◌, ◌++◌, true, None, IfOk, IfSome, MatchOption, OnOk, encode_utf8};
+ghost use Rattle.std.specs.Prelude.{◌≡◌, ◌+◌, ◌++◌, true, None, IfOk, MatchOption, OnOk, encode_utf8};
 ghost use Rattle.wat_lang.specs.Tokens as spec;
 ghost use Rattle.wat_tokens.specs.Closed.{IsClosed, IsClosedSomewhere, value_of};
 
@@ -20,7 +20,7 @@ pub struct StringText<'a> {
 }
 
 impl<'a> StringText<'a> {
-    ghost use Rattle.wat_tokens.specs.Views.{string_value};
+    ghost use Rattle.wat_tokens.specs.Views.{string_value, between_quotes};
 
     /// The string, from behind its opening quote on.
     pub(crate) fn new(behind: &'a [u8]) -> Option<StringText<'a>>
@@ -37,9 +37,9 @@ impl<'a> StringText<'a> {
         self.len + 1
     }
 
-    /// What it stands for, where each byte stands for itself.
+    /// What it stands for, where each byte between its quotes stands for itself.
     pub fn lent(self) -> Option<&'a [u8]>
-        ensures { IfSome result (λ bytes. bytes.now ≡ string_value self.entry) }
+        ensures { MatchOption result (string_value self.entry ≡ between_quotes self.entry → ⊥) (λ bytes. bytes.now ≡ string_value self.entry) }
     {
         if self.plain {
             Some(&self.behind[..self.len])

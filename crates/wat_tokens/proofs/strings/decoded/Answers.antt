@@ -16,7 +16,7 @@ pub loop-n-preserved-in-Escape : goal.loop-n-preserved-in-Escape
 loop-n-preserved-in-Escape c =
     let pushed : c.push-in-Escape.new.self.items ≡ c.loop-n.bytes.items ++ c.in-Escape.value ∷ [] = grind (arith, common_steps) in
     subst (Passed c.args.s.now (c.loop-n.n + (c.in-Escape.more + 1))) (sym pushed)
-    (passed_turn c.args.s.now _ c.loop-n.bytes.items (c.in-Escape.value ∷ []) c.loop-n.n c.in-Escape.more c.loop-n.invariant c.loop-n-test.true (take_rest c.args.s.now c.loop-n.n) c.in-Escape.ensures.view (omega (arith, c.in-Escape.ensures.fits)))
+    (passed_turn c.args.s.now _ c.loop-n.bytes.items (c.in-Escape.value ∷ []) c.loop-n.n c.in-Escape.more c.loop-n.invariant c.loop-n-test.true (take_rest c.args.s.now c.loop-n.n) c.in-Escape.ensures.view (omega (arith, c.in-Escape.ensures.fits.0)))
 
 pub loop-n-preserved : goal.loop-n-preserved
 loop-n-preserved c =
