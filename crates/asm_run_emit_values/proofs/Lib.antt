@@ -1,0 +1,9 @@
+pub mod Declarations
+pub mod Found
+pub mod Shapes
+pub mod Signs
+pub mod Reversed
+pub mod Codes
+pub mod Parts
+pub mod Made
+pub mod Turns

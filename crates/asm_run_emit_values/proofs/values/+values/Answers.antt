@@ -1,0 +1,512 @@
+-- What each function made is the code of its form.
+use mir.Syntax.{w128}
+use Rattle.std.proofs.lemmas.Int.{to_z-of_z}
+use Rattle.std.proofs.Common.{FitsSigned, rules, length, ◌≡◌, suc, ◌-◌, ◌<◌, ◌≤◌, ◌∷◌, Some, None, OnOk, sym, ap, subst, ◌∙◌, arith}
+use Rattle.sem_words.specs.Words.{word_of}
+use Rattle.sem_words.specs.Lists.{text_bytes}
+use Rattle.asm_lang.specs.Modules.{Expr}
+use Rattle.asm_tree.specs.declared.tree.Module.{Module as Tree}
+use Rattle.asm_tree.specs.Views.{module_view, expr_view, exprs_view, links_view}
+use Rattle.asm_lang_valid.specs.Refusal.{function_number}
+use Rattle.asm_run_emit_values.proofs.Shapes.{lit_is, decimal_is, var_is, index_is, assign_is, unary_is, call_is, comma_is, table_call_is, store_is, binary_is, chain_is, cond_is}
+use Rattle.asm_run_code.specs.declared.op.Op.{Op}
+use Rattle.asm_run_code.specs.declared.op.Op.TheVariants.{Number, Call, CallImport}
+use Rattle.asm_run_code.specs.Names.{view_kind, table_number, member_number, local, seat}
+use Rattle.asm_run_code.specs.Values.{into, linked, value}
+use Rattle.asm_run_emit_values.specs.Names.{scope_said}
+use Rattle.asm_run_emit_values.specs.Seats.{seat_view}
+use Rattle.asm_run_emit_values.specs.Pieces.{out_of_place, built_in}
+use Rattle.asm_lang_valid.specs.declared.meaning.Builtin.{Builtin}
+use Rattle.asm_run_emit_values.proofs.Turns.{arguments_begin, arguments_turn, arguments_end, links_begin, links_turn, links_end, parts_begin, parts_turn, parts_end}
+use Rattle.asm_run_emit_values.proofs.Found.{same_number}
+use Rattle.asm_run_emit_values.proofs.Codes.{told, lit_form, decimal_form, var_form, comma_form}
+use Rattle.asm_run_emit_values.proofs.Parts.{arguments_length, no_part, no_product, no_zeros, node_within, pair_within, first_within, operand_within}
+use Rattle.asm_lang_valid.specs.Rows.{expr_count}
+use Rattle.asm_run_emit_values.proofs.Made.{as_form, call_made, index_made, unary_made, test_made, zeros_made, product_made, entered, table_call_made, assign_local_made, assign_global_made, bare_made, binary_made, number_made, local_made, computed_made, store_local_made, store_number_made, store_computed_made, far_store_made, stays_made, moves_made, link_number_made, link_local_made, link_computed_made, cond_made}
+use Rattle.asm_run_emit_values.proofs.values.+values.Goals as goal
+
+pub emit_value-returns-in-Index : goal.emit_value-returns-in-Index
+emit_value-returns-in-Index t c =
+    as_form c.emit_index.result c.emit_index.new.output (scope_said c.args.names.now) c.args.wanted c.args.free c.args.output.now _ _ (index_is c.args.expr.now _ _ _ c.in-Index.is c.deref.ensures) c.emit_index.ensures
+
+pub emit_value-returns-in-TableCall : goal.emit_value-returns-in-TableCall
+emit_value-returns-in-TableCall t c =
+    as_form c.emit_table_call.result c.emit_table_call.new.output (scope_said c.args.names.now) c.args.wanted c.args.free c.args.output.now _ _ (table_call_is c.args.expr.now _ _ _ _ _ c.in-TableCall.is c.deref-in-TableCall.ensures c.as_slice-in-TableCall.ensures) c.emit_table_call.ensures
+
+pub emit_value-returns-in-Assign : goal.emit_value-returns-in-Assign
+emit_value-returns-in-Assign t c =
+    as_form c.emit_assign.result c.emit_assign.new.output (scope_said c.args.names.now) c.args.wanted c.args.free c.args.output.now _ _ (assign_is c.args.expr.now _ _ _ c.in-Assign.is c.deref-in-Assign.ensures) c.emit_assign.ensures
+
+pub emit_value-returns-in-Store : goal.emit_value-returns-in-Store
+emit_value-returns-in-Store t c =
+    as_form c.emit_store.result c.emit_store.new.output (scope_said c.args.names.now) c.args.wanted c.args.free c.args.output.now _ _ (store_is c.args.expr.now _ _ _ _ _ c.in-Store.is c.deref-in-Store.ensures c.deref-in-Store-2.ensures) c.emit_store.ensures
+
+pub emit_value-returns-in-Unary : goal.emit_value-returns-in-Unary
+emit_value-returns-in-Unary t c =
+    as_form c.emit_unary.result c.emit_unary.new.output (scope_said c.args.names.now) c.args.wanted c.args.free c.args.output.now _ _ (unary_is c.args.expr.now _ _ _ c.in-Unary.is c.deref-in-Unary.ensures) c.emit_unary.ensures
+
+pub emit_value-returns-in-Binary : goal.emit_value-returns-in-Binary
+emit_value-returns-in-Binary t c =
+    as_form c.emit_binary.result c.emit_binary.new.output (scope_said c.args.names.now) c.args.wanted c.args.free c.args.output.now _ _ (binary_is c.args.expr.now _ _ _ _ _ c.in-Binary.is c.deref-in-Binary.ensures c.deref-in-Binary-2.ensures) c.emit_binary.ensures
+
+pub emit_value-returns-in-Chain : goal.emit_value-returns-in-Chain
+emit_value-returns-in-Chain t c =
+    as_form c.emit_chain.result c.emit_chain.new.output (scope_said c.args.names.now) c.args.wanted c.args.free c.args.output.now _ _ (chain_is c.args.expr.now _ _ _ _ c.in-Chain.is c.deref-in-Chain.ensures c.as_slice-in-Chain.ensures) c.emit_chain.ensures
+
+pub emit_value-returns-in-Cond : goal.emit_value-returns-in-Cond
+emit_value-returns-in-Cond t c =
+    as_form c.emit_cond.result c.emit_cond.new.output (scope_said c.args.names.now) c.args.wanted c.args.free c.args.output.now _ _ (cond_is c.args.expr.now _ _ _ _ _ _ c.in-Cond.is c.deref-in-Cond.ensures c.deref-in-Cond-2.ensures c.deref-in-Cond-3.ensures) c.emit_cond.ensures
+
+pub emit_value-returns-in-Call : goal.emit_value-returns-in-Call
+emit_value-returns-in-Call t c =
+    as_form c.emit_call.result c.emit_call.new.output (scope_said c.args.names.now) c.args.wanted c.args.free c.args.output.now _ _ (call_is c.args.expr.now _ _ _ c.in-Call.is c.as_slice.ensures) (call_made c.emit_call.result c.emit_call.new.output (scope_said c.args.names.now) c.args.wanted c.args.free c.args.output.now _ _ c.emit_call.ensures)
+
+pub emit_value-returns-in-Comma : goal.emit_value-returns-in-Comma
+emit_value-returns-in-Comma t c =
+    as_form c.emit_parts.result c.emit_parts.new.output (scope_said c.args.names.now) c.args.wanted c.args.free c.args.output.now _ _ (comma_is c.args.expr.now _ _ c.in-Comma.is c.as_slice-in-Comma.ensures) (told c.emit_parts.result c.emit_parts.new.output _ _ (sym (comma_form (scope_said c.args.names.now) c.args.wanted c.args.free c.args.output.now (exprs_view c.as_slice-in-Comma.result.now))) c.emit_parts.ensures)
+
+pub emit_value-returns-in-Var : goal.emit_value-returns-in-Var
+emit_value-returns-in-Var t c =
+    as_form c.put_variable.result c.put_variable.new.output (scope_said c.args.names.now) c.args.wanted c.args.free c.args.output.now _ _ (var_is c.args.expr.now c.in-Var.name c.in-Var.is) (told c.put_variable.result c.put_variable.new.output _ _ (sym (var_form (scope_said c.args.names.now) c.args.wanted c.args.free c.args.output.now (text_bytes c.in-Var.name))) c.put_variable.ensures)
+
+pub emit_value-returns-in-Decimal : goal.emit_value-returns-in-Decimal
+emit_value-returns-in-Decimal t c =
+    sym (ap (λ (e : Expr). value (scope_said c.args.names.now) c.args.wanted c.args.free e c.args.output.now) (decimal_is c.args.expr.now c.in-Decimal.field-0 c.in-Decimal.is) ∙ decimal_form (scope_said c.args.names.now) c.args.wanted c.args.free c.args.output.now (text_bytes c.in-Decimal.field-0))
+
+pub emit_value-returns-in-Lit : goal.emit_value-returns-in-Lit
+emit_value-returns-in-Lit t c =
+    let fits : FitsSigned w128 c.in-Lit.z = search rules in
+    let put = subst (λ z. OnOk c.put_number.result (c.put_number.new.output ≡ Number (into c.args.wanted c.args.free) (word_of 32 z) ∷ c.args.output.now)) (to_z-of_z w128 c.in-Lit.z fits) c.put_number.ensures in
+    as_form c.put_number.result c.put_number.new.output (scope_said c.args.names.now) c.args.wanted c.args.free c.args.output.now _ _ (lit_is c.args.expr.now c.in-Lit.z c.in-Lit.is) (told c.put_number.result c.put_number.new.output _ _ (sym (lit_form (scope_said c.args.names.now) c.args.wanted c.args.free c.args.output.now c.in-Lit.z)) put)
+
+pub emit_index-returns : goal.emit_index-returns
+emit_index-returns t c =
+    index_made c.emit_operand.result c.emit_operand.new.output (scope_said c.args.names.now) c.args.wanted c.args.free c.args.output.now (text_bytes c.args.name.now) (expr_view c.args.index.now) c.kind_of-kind.result c.in_ok-place.place c.into-to.result c.into-at.result c.put.new.self (c.kind_of-kind.ensures ∙ ap view_kind c.meaning-meaning.ensures.known) c.in_ok-place.ensures c.into-to.ensures c.into-at.ensures c.in_ok-put.ensures c.emit_operand.ensures
+
+pub emit_unary-returns : goal.emit_unary-returns
+emit_unary-returns t c =
+    unary_made c.emit_operand.result c.emit_operand.new.output (scope_said c.args.names.now) c.args.wanted c.args.free c.args.output.now c.args.op (expr_view c.args.operand.now) c.in_ok-place.place c.into-to.result c.into-from.result c.put.new.self c.in_ok-place.ensures c.into-to.ensures c.into-from.ensures (c.in_ok-put.ensures ∙ ap (λ (x : Op). x ∷ c.args.output.now) c.prefixed.ensures) c.emit_operand.ensures
+
+pub emit_test-returns : goal.emit_test-returns
+emit_test-returns t c =
+    test_made c.emit_operand.result c.emit_operand.new.output (scope_said c.args.names.now) None c.args.free c.args.output.now (expr_view c.args.condition.now) c.args.at c.in_ok-place.place c.into-slot.result c.put.new.self c.in_ok-place.ensures c.into-slot.ensures c.in_ok-put.ensures c.emit_operand.ensures
+
+pub emit_zeros-returns-in_ok-put-in-Some : goal.emit_zeros-returns-in_ok-put-in-Some
+emit_zeros-returns-in_ok-put-in-Some t c =
+    zeros_made c.emit_operand.result c.emit_operand.new.output (scope_said c.args.names.now) None c.args.free c.args.output.now c.args.to c.args.all.now c.in-Some.operand.now c.in_ok-place-in-Some.place c.into-from.result c.put.new.self c.in-Some.ensures.value c.in_ok-place-in-Some.ensures c.into-from.ensures c.in_ok-put-in-Some.ensures c.emit_operand.ensures
+
+pub emit_product-returns : goal.emit_product-returns
+emit_product-returns t c =
+    product_made c.emit_combined.result c.emit_combined.new.output (scope_said c.args.names.now) None c.args.free c.args.output.now c.args.to c.args.all.now c.index-all-0.result c.index-all-1.result (omega arith) c.index-all-0.is c.index-all-1.is c.emit_combined.ensures
+
+pub emit_own_call-returns : goal.emit_own_call-returns
+emit_own_call-returns t c =
+    entered c.emit_arguments.result c.emit_arguments.new.output (scope_said c.args.names.now) c.args.wanted c.args.free c.args.output.now (exprs_view c.args.all.now) _ _ c.put_copy.new.output c.put.new.self (ap (λ f. Call f c.args.free) (c.in_ok-function.ensures ∙ c.function_number.ensures ∙ ap (λ (m : Tree). function_number (module_view m).functions (text_bytes c.args.name.now)) c.«module».ensures)) c.in_ok-put_copy.ensures c.in_ok-put.ensures c.emit_arguments.ensures
+
+pub emit_foreign_call-returns : goal.emit_foreign_call-returns
+emit_foreign_call-returns t c =
+    let member = c.in_ok-number.ensures ∙ sym c.requires.first.first ∙ same_number (scope_said c.args.names.now).home.globals (text_bytes c.args.member.name.now) in
+    let count = c.in_ok-count.ensures ∙ sym (arguments_length c.args.all.now) in
+    entered c.emit_arguments.result c.emit_arguments.new.output (scope_said c.args.names.now) c.args.wanted c.args.free c.args.output.now (exprs_view c.args.all.now) _ _ c.put_copy.new.output c.put.new.self (ap (λ m. CallImport m c.in_ok-count.count c.args.free) member ∙ ap (λ k. CallImport (member_number (scope_said c.args.names.now).home.globals (text_bytes c.args.member.name.now)) k c.args.free) count) c.in_ok-put_copy.ensures c.in_ok-put.ensures c.emit_arguments.ensures
+
+pub emit_table_call-returns : goal.emit_table_call-returns
+emit_table_call-returns t c =
+    table_call_made c.emit_value.result c.emit_value.new.output (scope_said c.args.names.now) c.args.wanted c.args.free c.args.output.now (text_bytes c.args.name.now) (expr_view c.args.index.now) (exprs_view c.args.all.now) c.in_ok-first.first c.in_ok-table.table c.put_copy.new.output c.put.new.self c.emit_arguments.new.output c.in_ok-first.ensures (c.in_ok-table.ensures ∙ c.table.ensures ∙ ap (λ (m : Tree). table_number (module_view m) (text_bytes c.args.name.now)) c.«module».ensures) c.in_ok-put_copy.ensures c.in_ok-put.ensures c.in_ok-emit_arguments.ensures c.emit_value.ensures
+
+pub emit_assign-returns-in_ok-put_copy-in-Some : goal.emit_assign-returns-in_ok-put_copy-in-Some
+emit_assign-returns-in_ok-put_copy-in-Some t c =
+    assign_local_made c.emit_value.result c.emit_value.new.output (scope_said c.args.names.now) c.args.wanted c.args.free c.args.output.now (text_bytes c.args.name.now) (expr_view c.args.value.now) c.in-Some.to c.put_copy.new.output (sym c.in-Some.is ∙ c.in_ok-slot.ensures) c.in_ok-put_copy-in-Some.ensures c.emit_value.ensures
+
+pub emit_assign-returns-in_ok-put-in-None : goal.emit_assign-returns-in_ok-put-in-None
+emit_assign-returns-in_ok-put-in-None t c =
+    assign_global_made c.emit_value-in-None.result c.emit_value-in-None.new.output (scope_said c.args.names.now) c.args.wanted c.args.free c.args.output.now (text_bytes c.args.name.now) (expr_view c.args.value.now) c.in_ok-global-in-None.global c.into-from.result c.put.new.self (sym c.in-None.is ∙ c.in_ok-slot.ensures) c.in_ok-global-in-None.ensures c.into-from.ensures c.in_ok-put-in-None.ensures c.emit_value-in-None.ensures
+
+pub emit_binary-returns-then-bare : goal.emit_binary-returns-then-bare
+emit_binary-returns-then-bare t c =
+    bare_made c.emit_value.result c.emit_value.new.output (scope_said c.args.names.now) c.args.wanted c.args.free c.args.output.now c.args.op (expr_view c.args.left.now) (expr_view c.args.right.now) (sym c.if-bare.true ∙ c.is_or_zero-bare.ensures) c.emit_value.ensures
+
+pub emit_binary-returns : goal.emit_binary-returns
+emit_binary-returns t c =
+    binary_made c.emit_combined.result c.emit_combined.new.output (scope_said c.args.names.now) c.args.wanted c.args.free c.args.output.now c.args.op (expr_view c.args.left.now) (expr_view c.args.right.now) c.operator_of-operator.result c.into-to.result (sym c.if-bare.false ∙ c.is_or_zero-bare.ensures) c.operator_of-operator.ensures c.into-to.ensures c.emit_combined.ensures
+
+pub emit_combined-returns-in_ok-put-in-Number : goal.emit_combined-returns-in_ok-put-in-Number
+emit_combined-returns-in_ok-put-in-Number t c =
+    number_made c.emit_operand.result c.emit_operand.new.output (seat (scope_said c.args.names.now) (expr_view c.args.right.now)) (local (scope_said c.args.names.now) (expr_view c.args.left.now)) c.args.operator c.args.to c.args.free (λ more. value (scope_said c.args.names.now) (Some c.args.free) c.args.free (expr_view c.args.left.now) more) (λ more. value (scope_said c.args.names.now) (Some (suc c.args.free)) (suc c.args.free) (expr_view c.args.right.now) more) c.args.output.now c.in-Number.word c.in_ok-place-in-Number.place c.into-at.result c.put.new.self (sym (ap seat_view c.in-Number.is) ∙ c.in_ok-seat.ensures) c.in_ok-place-in-Number.ensures c.into-at.ensures c.in_ok-put-in-Number.ensures c.emit_operand.ensures
+
+pub emit_combined-returns-in_ok-put-in-Local : goal.emit_combined-returns-in_ok-put-in-Local
+emit_combined-returns-in_ok-put-in-Local t c =
+    local_made c.emit_operand-in-Local.result c.emit_operand-in-Local.new.output (seat (scope_said c.args.names.now) (expr_view c.args.right.now)) (local (scope_said c.args.names.now) (expr_view c.args.left.now)) c.args.operator c.args.to c.args.free (λ more. value (scope_said c.args.names.now) (Some c.args.free) c.args.free (expr_view c.args.left.now) more) (λ more. value (scope_said c.args.names.now) (Some (suc c.args.free)) (suc c.args.free) (expr_view c.args.right.now) more) c.args.output.now c.in-Local.slot c.in_ok-place-in-Local.place c.into-at-in-Local.result c.put-in-Local.new.self (sym (ap seat_view c.in-Local.is) ∙ c.in_ok-seat.ensures) c.in_ok-place-in-Local.ensures c.into-at-in-Local.ensures c.in_ok-put-in-Local.ensures c.emit_operand-in-Local.ensures
+
+pub emit_combined-returns-in_ok-emit_value-in-Elsewhere : goal.emit_combined-returns-in_ok-emit_value-in-Elsewhere
+emit_combined-returns-in_ok-emit_value-in-Elsewhere t c =
+    computed_made c.emit_value-in-Elsewhere.result c.emit_value-in-Elsewhere.new.output (seat (scope_said c.args.names.now) (expr_view c.args.right.now)) (local (scope_said c.args.names.now) (expr_view c.args.left.now)) c.args.operator c.args.to c.args.free (λ more. value (scope_said c.args.names.now) (Some c.args.free) c.args.free (expr_view c.args.left.now) more) (λ s more. value (scope_said c.args.names.now) (Some s) s (expr_view c.args.right.now) more) c.args.output.now c.in_ok-second-in-Elsewhere.second c.put-in-Elsewhere.new.self c.emit_value.new.output (sym (ap seat_view c.in-Elsewhere.is) ∙ c.in_ok-seat.ensures) c.in_ok-second-in-Elsewhere.ensures c.in_ok-put-in-Elsewhere.ensures c.in_ok-emit_value-in-Elsewhere.ensures c.emit_value-in-Elsewhere.ensures
+
+pub emit_store-returns-in_ok-put-in-Local : goal.emit_store-returns-in_ok-put-in-Local
+emit_store-returns-in_ok-put-in-Local t c =
+    store_local_made c.emit_operand.result c.emit_operand.new.output (scope_said c.args.names.now) c.args.wanted c.args.free c.args.output.now (text_bytes c.args.name.now) (expr_view c.args.index.now) (expr_view c.args.value.now) c.kind_of-kind.result c.in-Local.from c.in_ok-place-in-Local.place c.into-at.result c.put_copy.new.output c.put.new.self (c.kind_of-kind.ensures ∙ ap view_kind c.meaning-meaning.ensures.known) (sym (ap seat_view c.in-Local.is) ∙ c.in_ok-seat.ensures) c.in_ok-place-in-Local.ensures c.into-at.ensures c.in_ok-put_copy-in-Local.ensures c.in_ok-put-in-Local.ensures c.emit_operand.ensures
+
+pub emit_store-returns-in-Number : goal.emit_store-returns-in-Number
+emit_store-returns-in-Number t c =
+    store_number_made c.emit_far_store.result c.emit_far_store.new.output (scope_said c.args.names.now) c.args.wanted c.args.free c.args.output.now (text_bytes c.args.name.now) (expr_view c.args.index.now) (expr_view c.args.value.now) c.kind_of-kind.result c.in-Number.field-0 (c.kind_of-kind.ensures ∙ ap view_kind c.meaning-meaning.ensures.known) (sym (ap seat_view c.in-Number.is) ∙ c.in_ok-seat.ensures) c.emit_far_store.ensures
+
+pub emit_store-returns-in-Elsewhere : goal.emit_store-returns-in-Elsewhere
+emit_store-returns-in-Elsewhere t c =
+    store_computed_made c.emit_far_store-in-Elsewhere.result c.emit_far_store-in-Elsewhere.new.output (scope_said c.args.names.now) c.args.wanted c.args.free c.args.output.now (text_bytes c.args.name.now) (expr_view c.args.index.now) (expr_view c.args.value.now) c.kind_of-kind.result (c.kind_of-kind.ensures ∙ ap view_kind c.meaning-meaning.ensures.known) (sym (ap seat_view c.in-Elsewhere.is) ∙ c.in_ok-seat.ensures) c.emit_far_store-in-Elsewhere.ensures
+
+pub emit_far_store-returns : goal.emit_far_store-returns
+emit_far_store-returns t c =
+    far_store_made c.emit_value-2.result c.emit_value-2.new.output (scope_said c.args.names.now) c.args.wanted c.args.free c.args.output.now (expr_view c.args.index.now) (expr_view c.args.value.now) c.args.kind c.in_ok-from.from c.put_copy.new.output c.put.new.self c.emit_value.new.output c.in_ok-from.ensures c.in_ok-put_copy.ensures c.in_ok-put.ensures c.in_ok-emit_value.ensures c.emit_value-2.ensures
+
+pub emit_chain-returns-in-Some : goal.emit_chain-returns-in-Some
+emit_chain-returns-in-Some t c =
+    stays_made c.emit_links.result c.emit_links.new.output (scope_said c.args.names.now) c.args.wanted c.args.free c.args.output.now (expr_view c.args.first.now) (links_view c.args.links.now) c.in-Some.slot (sym c.in-Some.is ∙ c.in_ok-place.ensures) c.emit_links.ensures
+
+pub emit_chain-returns-in_ok-emit_links-in-None : goal.emit_chain-returns-in_ok-emit_links-in-None
+emit_chain-returns-in_ok-emit_links-in-None t c =
+    moves_made c.emit_value.result c.emit_value.new.output (scope_said c.args.names.now) c.args.wanted c.args.free c.args.output.now (expr_view c.args.first.now) (links_view c.args.links.now) c.sum_slot-to.result c.emit_links-in-None.new.output (sym c.in-None.is ∙ c.in_ok-place.ensures) c.in_ok-emit_links-in-None.ensures c.sum_slot-to.ensures c.emit_value.ensures
+
+pub emit_link-returns-in-Number : goal.emit_link-returns-in-Number
+emit_link-returns-in-Number t c =
+    subst (λ f. OnOk c.put.result (c.put.new.self ≡ linked (seat (scope_said c.args.names.now) (expr_view c.args.link.now.operand)) f c.args.to c.args.left c.args.free (λ more. value (scope_said c.args.names.now) (Some (suc c.args.free)) (suc c.args.free) (expr_view c.args.link.now.operand) more) c.args.output.now)) c.link_operator-operator.ensures (link_number_made c.put.result c.put.new.self (seat (scope_said c.args.names.now) (expr_view c.args.link.now.operand)) c.link_operator-operator.result c.args.to c.args.left c.args.free (λ more. value (scope_said c.args.names.now) (Some (suc c.args.free)) (suc c.args.free) (expr_view c.args.link.now.operand) more) c.args.output.now c.in-Number.word (sym (ap seat_view c.in-Number.is) ∙ c.in_ok-seat.ensures) c.put.ensures)
+
+pub emit_link-returns-in-Local : goal.emit_link-returns-in-Local
+emit_link-returns-in-Local t c =
+    subst (λ f. OnOk c.put-in-Local.result (c.put-in-Local.new.self ≡ linked (seat (scope_said c.args.names.now) (expr_view c.args.link.now.operand)) f c.args.to c.args.left c.args.free (λ more. value (scope_said c.args.names.now) (Some (suc c.args.free)) (suc c.args.free) (expr_view c.args.link.now.operand) more) c.args.output.now)) c.link_operator-operator.ensures (link_local_made c.put-in-Local.result c.put-in-Local.new.self (seat (scope_said c.args.names.now) (expr_view c.args.link.now.operand)) c.link_operator-operator.result c.args.to c.args.left c.args.free (λ more. value (scope_said c.args.names.now) (Some (suc c.args.free)) (suc c.args.free) (expr_view c.args.link.now.operand) more) c.args.output.now c.in-Local.right (sym (ap seat_view c.in-Local.is) ∙ c.in_ok-seat.ensures) c.put-in-Local.ensures)
+
+pub emit_link-returns-in_ok-put-in-Elsewhere : goal.emit_link-returns-in_ok-put-in-Elsewhere
+emit_link-returns-in_ok-put-in-Elsewhere t c =
+    subst (λ f. OnOk c.emit_value.result (c.emit_value.new.output ≡ linked (seat (scope_said c.args.names.now) (expr_view c.args.link.now.operand)) f c.args.to c.args.left c.args.free (λ more. value (scope_said c.args.names.now) (Some (suc c.args.free)) (suc c.args.free) (expr_view c.args.link.now.operand) more) c.args.output.now)) c.link_operator-operator.ensures (link_computed_made c.emit_value.result c.emit_value.new.output (seat (scope_said c.args.names.now) (expr_view c.args.link.now.operand)) c.link_operator-operator.result c.args.to c.args.left c.args.free (λ s more. value (scope_said c.args.names.now) (Some s) s (expr_view c.args.link.now.operand) more) c.args.output.now c.in_ok-second-in-Elsewhere.second c.put-in-Elsewhere.new.self (sym (ap seat_view c.in-Elsewhere.is) ∙ c.in_ok-seat.ensures) c.in_ok-second-in-Elsewhere.ensures c.in_ok-put-in-Elsewhere.ensures c.emit_value.ensures)
+
+pub emit_cond-returns : goal.emit_cond-returns
+emit_cond-returns t c =
+    cond_made c.emit_test.result c.emit_test.new.output (scope_said c.args.names.now) c.args.wanted c.args.free c.args.output.now (expr_view c.args.condition.now) (expr_view c.args.yes.now) (expr_view c.args.no.now) c.in_ok-past.past c.in_ok-at.at c.emit_value.new.output c.put.new.self c.emit_value-2.new.output c.in_ok-past.ensures c.in_ok-emit_value.ensures c.in_ok-at.ensures c.in_ok-put.ensures c.in_ok-emit_value-2.ensures c.emit_test.ensures
+
+pub emit_arguments-loop-i-init : goal.emit_arguments-loop-i-init
+emit_arguments-loop-i-init t c = record { within = omega arith; made = arguments_begin (scope_said c.args.names.now) c.args.output.now c.args.free c.args.all.now }
+
+pub emit_arguments-loop-i-preserved : goal.emit_arguments-loop-i-preserved
+emit_arguments-loop-i-preserved t c = record {
+  within = omega arith;
+  made = arguments_turn (scope_said c.args.names.now) c.args.output.now c.args.free c.args.all.now c.loop-i.output c.emit_value.new.output (c.loop-i.i - 1) c.loop-i.i c.in_ok-slot.slot c.index-all-i.result (omega arith) (omega arith) c.index-all-i.is c.in_ok-slot.ensures c.loop-i.invariant.made c.in_ok-emit_value.ensures;
+}
+
+pub emit_arguments-returns : goal.emit_arguments-returns
+emit_arguments-returns t c = arguments_end (scope_said c.args.names.now) c.args.output.now c.args.free c.args.all.now c.loop-i.output c.loop-i.i (omega arith) c.loop-i.invariant.made
+
+pub emit_links-loop-i-init : goal.emit_links-loop-i-init
+emit_links-loop-i-init t c = record { within = omega arith; made = links_begin (scope_said c.args.names.now) c.args.wanted c.args.free c.args.output.now c.args.slot c.args.links.now }
+
+pub emit_links-loop-i-preserved : goal.emit_links-loop-i-preserved
+emit_links-loop-i-preserved t c = record {
+  within = omega arith;
+  made = links_turn (scope_said c.args.names.now) c.args.wanted c.args.free c.args.output.now c.args.slot c.args.links.now c.loop-i.output c.emit_link.new.output (c.loop-i.i - 1) c.loop-i.i c.sum_slot-to.result c.sum_before-left.result c.index-links-i.result (omega arith) (omega arith) c.index-links-i.is c.sum_slot-to.ensures c.sum_before-left.ensures c.loop-i.invariant.made c.in_ok-emit_link.ensures;
+}
+
+pub emit_links-returns : goal.emit_links-returns
+emit_links-returns t c = links_end (scope_said c.args.names.now) c.args.wanted c.args.free c.args.output.now c.args.slot c.args.links.now c.loop-i.output c.loop-i.i (omega arith) c.loop-i.invariant.made
+
+pub emit_parts-loop-i-init : goal.emit_parts-loop-i-init
+emit_parts-loop-i-init t c = record { within = omega arith; made = parts_begin (scope_said c.args.names.now) c.args.wanted c.args.free c.args.output.now c.args.parts.now c.emit_value.new.output (length c.args.parts.now - 1) c.index-parts-i.result (omega arith) c.index-parts-i.is c.in_ok-emit_value.ensures }
+
+pub emit_parts-loop-i-preserved : goal.emit_parts-loop-i-preserved
+emit_parts-loop-i-preserved t c = record {
+  within = omega arith;
+  made = parts_turn (scope_said c.args.names.now) c.args.wanted c.args.free c.args.output.now c.args.parts.now c.loop-i.output c.emit_value-in-loop-i.new.output (c.loop-i.i - 1) c.loop-i.i c.index-parts-i-in-loop-i.result (omega arith) (omega arith) c.index-parts-i-in-loop-i.is c.loop-i.invariant.made c.in_ok-emit_value-2.ensures;
+}
+
+pub emit_parts-returns : goal.emit_parts-returns
+emit_parts-returns t c = parts_end (scope_said c.args.names.now) c.args.wanted c.args.free c.args.output.now c.args.parts.now c.loop-i.output c.loop-i.i (omega arith) c.loop-i.invariant.made
+
+pub emit_value-emit_index-requires : goal.emit_value-emit_index-requires
+emit_value-emit_index-requires t c =
+    let d0 = c.decreases in
+    let k = ap expr_count (index_is c.args.expr.now _ _ _ c.in-Index.is c.deref.ensures) in
+    (omega arith, tt)
+
+pub emit_value-emit_table_call-requires : goal.emit_value-emit_table_call-requires
+emit_value-emit_table_call-requires t c =
+    let d0 = c.decreases in
+    let k = ap expr_count (table_call_is c.args.expr.now _ _ _ _ _ c.in-TableCall.is c.deref-in-TableCall.ensures c.as_slice-in-TableCall.ensures) in
+    (omega arith, tt)
+
+pub emit_value-emit_assign-requires : goal.emit_value-emit_assign-requires
+emit_value-emit_assign-requires t c =
+    let d0 = c.decreases in
+    let k = ap expr_count (assign_is c.args.expr.now _ _ _ c.in-Assign.is c.deref-in-Assign.ensures) in
+    (omega arith, tt)
+
+pub emit_value-emit_store-requires : goal.emit_value-emit_store-requires
+emit_value-emit_store-requires t c =
+    let d0 = c.decreases in
+    let k = ap expr_count (store_is c.args.expr.now _ _ _ _ _ c.in-Store.is c.deref-in-Store.ensures c.deref-in-Store-2.ensures) in
+    (omega arith, tt)
+
+pub emit_value-emit_unary-requires : goal.emit_value-emit_unary-requires
+emit_value-emit_unary-requires t c =
+    let d0 = c.decreases in
+    let k = ap expr_count (unary_is c.args.expr.now _ _ _ c.in-Unary.is c.deref-in-Unary.ensures) in
+    (omega arith, tt)
+
+pub emit_value-emit_binary-requires : goal.emit_value-emit_binary-requires
+emit_value-emit_binary-requires t c =
+    let d0 = c.decreases in
+    let k = ap expr_count (binary_is c.args.expr.now _ _ _ _ _ c.in-Binary.is c.deref-in-Binary.ensures c.deref-in-Binary-2.ensures) in
+    (omega arith, tt)
+
+pub emit_value-emit_chain-requires : goal.emit_value-emit_chain-requires
+emit_value-emit_chain-requires t c =
+    let d0 = c.decreases in
+    let k = ap expr_count (chain_is c.args.expr.now _ _ _ _ c.in-Chain.is c.deref-in-Chain.ensures c.as_slice-in-Chain.ensures) in
+    (omega arith, tt)
+
+pub emit_value-emit_cond-requires : goal.emit_value-emit_cond-requires
+emit_value-emit_cond-requires t c =
+    let d0 = c.decreases in
+    let k = ap expr_count (cond_is c.args.expr.now _ _ _ _ _ _ c.in-Cond.is c.deref-in-Cond.ensures c.deref-in-Cond-2.ensures c.deref-in-Cond-3.ensures) in
+    (omega arith, tt)
+
+pub emit_value-emit_call-requires : goal.emit_value-emit_call-requires
+emit_value-emit_call-requires t c =
+    let d0 = c.decreases in
+    let k = ap expr_count (call_is c.args.expr.now _ _ _ c.in-Call.is c.as_slice.ensures) in
+    (omega arith, tt)
+
+pub emit_value-emit_parts-requires : goal.emit_value-emit_parts-requires
+emit_value-emit_parts-requires t c =
+    let d0 = c.decreases in
+    let k = ap expr_count (comma_is c.args.expr.now _ _ c.in-Comma.is c.as_slice-in-Comma.ensures) in
+    (omega arith, tt)
+
+pub emit_assign-emit_value-requires : goal.emit_assign-emit_value-requires
+emit_assign-emit_value-requires t c =
+    let d0 = c.decreases in
+    (omega arith, tt)
+
+pub emit_assign-emit_value-requires-in-None : goal.emit_assign-emit_value-requires-in-None
+emit_assign-emit_value-requires-in-None t c =
+    let d0 = c.decreases in
+    (omega arith, tt)
+
+pub emit_binary-emit_value-requires : goal.emit_binary-emit_value-requires
+emit_binary-emit_value-requires t c =
+    let d0 = c.decreases in
+    (omega arith, tt)
+
+pub emit_binary-emit_combined-requires : goal.emit_binary-emit_combined-requires
+emit_binary-emit_combined-requires t c =
+    let d0 = c.decreases in
+    (omega arith, tt)
+
+pub emit_builtin-emit_product-requires : goal.emit_builtin-emit_product-requires
+emit_builtin-emit_product-requires t c =
+    let d0 = c.decreases in
+    (omega arith, tt)
+
+pub emit_builtin-emit_zeros-requires : goal.emit_builtin-emit_zeros-requires
+emit_builtin-emit_zeros-requires t c =
+    let d0 = c.decreases in
+    (omega arith, tt)
+
+pub emit_chain-emit_links-requires : goal.emit_chain-emit_links-requires
+emit_chain-emit_links-requires t c =
+    let d0 = c.decreases in
+    (omega arith, tt)
+
+pub emit_chain-emit_links-requires-in-None : goal.emit_chain-emit_links-requires-in-None
+emit_chain-emit_links-requires-in-None t c =
+    let d0 = c.decreases in
+    (omega arith, tt)
+
+pub emit_chain-emit_value-requires : goal.emit_chain-emit_value-requires
+emit_chain-emit_value-requires t c =
+    let d0 = c.decreases in
+    (omega arith, tt)
+
+pub emit_combined-emit_operand-requires : goal.emit_combined-emit_operand-requires
+emit_combined-emit_operand-requires t c =
+    let d0 = c.decreases in
+    (omega arith, tt)
+
+pub emit_combined-emit_operand-requires-in-Local : goal.emit_combined-emit_operand-requires-in-Local
+emit_combined-emit_operand-requires-in-Local t c =
+    let d0 = c.decreases in
+    (omega arith, tt)
+
+pub emit_combined-emit_value-requires : goal.emit_combined-emit_value-requires
+emit_combined-emit_value-requires t c =
+    let d0 = c.decreases in
+    (omega arith, tt)
+
+pub emit_combined-emit_value-requires-in-Elsewhere : goal.emit_combined-emit_value-requires-in-Elsewhere
+emit_combined-emit_value-requires-in-Elsewhere t c =
+    let d0 = c.decreases in
+    (omega arith, tt)
+
+pub emit_cond-emit_value-requires : goal.emit_cond-emit_value-requires
+emit_cond-emit_value-requires t c =
+    let d0 = c.decreases in
+    (omega arith, tt)
+
+pub emit_cond-emit_value-requires-2 : goal.emit_cond-emit_value-requires-2
+emit_cond-emit_value-requires-2 t c =
+    let d0 = c.decreases in
+    (omega arith, tt)
+
+pub emit_cond-emit_test-requires : goal.emit_cond-emit_test-requires
+emit_cond-emit_test-requires t c =
+    let d0 = c.decreases in
+    (omega arith, tt)
+
+pub emit_far_store-emit_value-requires : goal.emit_far_store-emit_value-requires
+emit_far_store-emit_value-requires t c =
+    let d0 = c.decreases in
+    (omega arith, tt)
+
+pub emit_far_store-emit_value-requires-2 : goal.emit_far_store-emit_value-requires-2
+emit_far_store-emit_value-requires-2 t c =
+    let d0 = c.decreases in
+    (omega arith, tt)
+
+pub emit_link-emit_value-requires : goal.emit_link-emit_value-requires
+emit_link-emit_value-requires t c =
+    let d0 = c.decreases in
+    (omega arith, tt)
+
+pub emit_operand-emit_value-requires : goal.emit_operand-emit_value-requires
+emit_operand-emit_value-requires t c =
+    let d0 = c.decreases in
+    (omega arith, tt)
+
+pub emit_own_call-emit_arguments-requires : goal.emit_own_call-emit_arguments-requires
+emit_own_call-emit_arguments-requires t c =
+    let d0 = c.decreases in
+    (omega arith, tt)
+
+pub emit_table_call-emit_arguments-requires : goal.emit_table_call-emit_arguments-requires
+emit_table_call-emit_arguments-requires t c =
+    let d0 = c.decreases in
+    (omega arith, tt)
+
+pub emit_table_call-emit_value-requires : goal.emit_table_call-emit_value-requires
+emit_table_call-emit_value-requires t c =
+    let d0 = c.decreases in
+    (omega arith, tt)
+
+pub emit_test-emit_operand-requires : goal.emit_test-emit_operand-requires
+emit_test-emit_operand-requires t c =
+    let d0 = c.decreases in
+    (omega arith, tt)
+
+pub emit_unary-emit_operand-requires : goal.emit_unary-emit_operand-requires
+emit_unary-emit_operand-requires t c =
+    let d0 = c.decreases in
+    (omega arith, tt)
+
+pub emit_index-emit_operand-requires : goal.emit_index-emit_operand-requires
+emit_index-emit_operand-requires t c =
+    let d0 = c.decreases in
+    (omega arith, tt)
+
+pub emit_store-emit_operand-requires : goal.emit_store-emit_operand-requires
+emit_store-emit_operand-requires t c =
+    let d0 = c.decreases in
+    (omega arith, tt)
+
+pub emit_store-emit_far_store-requires : goal.emit_store-emit_far_store-requires
+emit_store-emit_far_store-requires t c =
+    let d0 = c.decreases in
+    (omega arith, tt)
+
+pub emit_store-emit_far_store-requires-in-Elsewhere : goal.emit_store-emit_far_store-requires-in-Elsewhere
+emit_store-emit_far_store-requires-in-Elsewhere t c =
+    let d0 = c.decreases in
+    (omega arith, tt)
+
+pub emit_foreign_call-emit_arguments-requires : goal.emit_foreign_call-emit_arguments-requires
+emit_foreign_call-emit_arguments-requires t c =
+    let d0 = c.decreases in
+    (omega arith, tt)
+
+pub emit_call-emit_own_call-requires : goal.emit_call-emit_own_call-requires
+emit_call-emit_own_call-requires t c =
+    let d0 = c.decreases in
+    (omega arith, tt)
+
+pub emit_call-emit_builtin-requires : goal.emit_call-emit_builtin-requires
+emit_call-emit_builtin-requires t c =
+    let d0 = c.decreases in
+    (omega arith, tt)
+
+pub emit_call-emit_arguments-requires : goal.emit_call-emit_arguments-requires
+emit_call-emit_arguments-requires t c =
+    let d0 = c.decreases in
+    (omega arith, tt)
+
+pub emit_zeros-emit_operand-requires : goal.emit_zeros-emit_operand-requires
+emit_zeros-emit_operand-requires t c =
+    let d0 = c.decreases in
+    let k = first_within c.args.all.now c.in-Some.operand.now c.in-Some.ensures.value in
+    (omega arith, tt)
+
+pub emit_product-emit_combined-requires : goal.emit_product-emit_combined-requires
+emit_product-emit_combined-requires t c =
+    let d0 = c.decreases in
+    let two : 2 ≤ length c.args.all.now = omega arith in
+    let k = pair_within c.args.all.now c.index-all-0.result c.index-all-1.result two c.index-all-0.is c.index-all-1.is in
+    (omega arith, tt)
+
+pub emit_arguments-emit_value-requires : goal.emit_arguments-emit_value-requires
+emit_arguments-emit_value-requires t c =
+    let d0 = c.decreases in
+    let within : c.loop-i.i - 1 < length c.args.all.now = omega arith in
+    let k = node_within c.args.all.now (c.loop-i.i - 1) c.index-all-i.result within c.index-all-i.is in
+    (omega arith, tt)
+
+pub emit_links-emit_link-requires : goal.emit_links-emit_link-requires
+emit_links-emit_link-requires t c =
+    let d0 = c.decreases in
+    let within : c.loop-i.i - 1 < length c.args.links.now = omega arith in
+    let k = operand_within c.args.links.now (c.loop-i.i - 1) c.index-links-i.result within c.index-links-i.is in
+    (omega arith, tt)
+
+pub emit_parts-emit_value-requires : goal.emit_parts-emit_value-requires
+emit_parts-emit_value-requires t c =
+    let d0 = c.decreases in
+    let within : length c.args.parts.now - 1 < length c.args.parts.now = omega arith in
+    let k = node_within c.args.parts.now (length c.args.parts.now - 1) c.index-parts-i.result within c.index-parts-i.is in
+    (omega arith, tt)
+
+pub emit_parts-emit_value-requires-in-loop-i : goal.emit_parts-emit_value-requires-in-loop-i
+emit_parts-emit_value-requires-in-loop-i t c =
+    let d0 = c.decreases in
+    let within : c.loop-i.i - 1 < length c.args.parts.now = omega arith in
+    let k = node_within c.args.parts.now (c.loop-i.i - 1) c.index-parts-i-in-loop-i.result within c.index-parts-i-in-loop-i.is in
+    (omega arith, tt)
+
+pub emit_operand-returns-in-Some : goal.emit_operand-returns-in-Some
+emit_operand-returns-in-Some t c =
+    ap (λ p. out_of_place p (λ more. value (scope_said c.args.names.now) (Some c.args.free) c.args.free (expr_view c.args.operand.now) more) c.args.output.now) (sym c.in-Some.is)
+
+pub emit_operand-returns-in-None : goal.emit_operand-returns-in-None
+emit_operand-returns-in-None t c =
+    told c.emit_value.result c.emit_value.new.output _ _ (ap (λ p. out_of_place p (λ more. value (scope_said c.args.names.now) (Some c.args.free) c.args.free (expr_view c.args.operand.now) more) c.args.output.now) (sym c.in-None.is)) c.emit_value.ensures
+
+pub emit_builtin-returns-in-Imul : goal.emit_builtin-returns-in-Imul
+emit_builtin-returns-in-Imul t c =
+    told c.emit_product.result c.emit_product.new.output _ _ (ap (λ (b : Builtin). built_in (scope_said c.args.names.now) b c.args.to c.args.free (exprs_view c.args.all.now) c.args.output.now) (sym c.in-Imul.is)) c.emit_product.ensures
+
+pub emit_builtin-returns-in-Clz32 : goal.emit_builtin-returns-in-Clz32
+emit_builtin-returns-in-Clz32 t c =
+    told c.emit_zeros.result c.emit_zeros.new.output _ _ (ap (λ (b : Builtin). built_in (scope_said c.args.names.now) b c.args.to c.args.free (exprs_view c.args.all.now) c.args.output.now) (sym c.in-Clz32.is)) c.emit_zeros.ensures
+
+pub emit_parts-returns-then-count-eq0 : goal.emit_parts-returns-then-count-eq0
+emit_parts-returns-then-count-eq0 t c =
+    no_part (scope_said c.args.names.now) c.args.wanted c.args.free c.args.output.now c.args.parts.now (omega arith)
+
+pub emit_product-returns-then-all-lt2 : goal.emit_product-returns-then-all-lt2
+emit_product-returns-then-all-lt2 t c =
+    no_product (scope_said c.args.names.now) c.args.output.now c.args.to c.args.free c.args.all.now (omega arith)
+
+pub emit_zeros-returns-in-None : goal.emit_zeros-returns-in-None
+emit_zeros-returns-in-None t c =
+    no_zeros (scope_said c.args.names.now) c.args.output.now c.args.to c.args.free c.args.all.now c.in-None.ensures.value

@@ -1,0 +1,14 @@
+use Rattle.std.proofs.Common.{◌≡◌, ◌≤◌, ◌+◌, ℕ, List, length, drop}
+use Rattle.std.specs.Prelude.{option_map}
+use Rattle.asm2wasm_translation.specs.Numbers.{slot_of}
+use Rattle.name_slots.specs.Names.{names_in, found}
+use Rattle.name_slots.proofs.slots.slots_of.Given as goal
+
+abbrev pub invariant-loop-i : goal.invariant-loop-i
+invariant-loop-i l = record {
+  within : l.i ≤ length l.names;
+  put : (n : List ℕ) → found l.slots n ≡ option_map (λ k. l.i + k) (slot_of (names_in (drop l.i l.names)) n);
+}
+
+abbrev pub decreases-loop-i : goal.decreases-loop-i
+decreases-loop-i l = l.i
