@@ -1,0 +1,10 @@
+pub mod Runs
+pub mod Calls
+pub mod Starts
+pub mod Segments
+pub mod Tables
+pub mod FirstGlobals
+pub mod Instantiated
+pub mod LastFunction
+pub mod Shown
+pub mod Law
