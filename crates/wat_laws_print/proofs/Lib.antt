@@ -3,3 +3,4 @@ pub mod Joined
 pub mod Numerals
 pub mod Names
 pub mod Fits
+pub mod ReadNumbers

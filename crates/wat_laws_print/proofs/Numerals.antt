@@ -37,7 +37,7 @@ folds = record {
   more = λ n c cs k. ap (λ (v : ℕ). value_in 10 v cs) (ap (λ (v : ℕ). 10 * n + v) (digit_is c k) ∙ omega arith);
 }
 
-own : IsNumeralModel (λ ds. list_all is_digit ds ≡ true) (value_in 10 0)
+pub own : IsNumeralModel (λ ds. list_all is_digit ds ≡ true) (value_in 10 0)
 own = numerals_by_fold (λ ds. list_all is_digit ds ≡ true) tells (value_in 10) folds
 
 -- ---- atoms
@@ -81,7 +81,7 @@ small_atom : (z : ℤ) → IsSmall z → is_atom (signed_decimal z) ≡ true
 small_atom (pos n) s = decimal_atom n s
 small_atom (negsuc n) s = let more : suc n < 2 ^ 64 = omega (arith, s) in digits_all (suc n) more
 
-difference : (a b : ℕ) → a < b → pos a -ℤ pos b ≡ negsuc (b - a - 1)
+pub difference : (a b : ℕ) → a < b → pos a -ℤ pos b ≡ negsuc (b - a - 1)
 difference a b lt = grind (arith, ints)
 
 signed_small : (h f a : ℕ) → 0 < h → a < f → f ≤ 2 ^ 64 → IsSmall (if nat_lt a h then pos a else pos a -ℤ pos f)
