@@ -1,0 +1,4 @@
+pub mod TableStays
+pub mod Fine
+pub mod Steps
+pub mod Sessions
