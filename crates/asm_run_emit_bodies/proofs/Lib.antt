@@ -1,0 +1,8 @@
+pub mod Left
+pub mod Cases
+pub mod Shapes
+pub mod Forms
+pub mod Turns
+pub mod Mapped
+pub mod Made
+pub mod Whole

@@ -1,0 +1,9 @@
+//! The flat code of the statements, functions and modules of asm.js.
+#![tactic(auto)]
+
+mod around;
+mod modules;
+mod statements;
+mod switches;
+
+pub use modules::{Codes, Flat, codes_of};

@@ -1,0 +1,327 @@
+//! The code of statements, from its end.
+ghost use Rattle.std.specs.Prelude.{◌≡◌, [], ◌∷◌, OnOk, IfOk};
+ghost use Rattle.asm_lang.specs.Modules as form;
+ghost use Rattle.asm_tree.specs.Views.{texts_view, expr_view, expr_option, stmt_view, stmts_view, clauses_view};
+ghost use Rattle.asm_run_code.specs.declared.op.Op.TheVariants.{Go};
+ghost use Rattle.asm_run_code.specs.Bodies as code;
+ghost use Rattle.asm_run_code.specs.Bodies.{stmt, stmts_code, clauses_code};
+ghost use Rattle.asm_run_emit_values.specs.Names.{scope_said};
+ghost use Rattle.asm_run_emit_bodies.specs.Around.{around_view};
+
+use crate::around::{Around, Open};
+use crate::switches::{Starts, dispatch};
+use asm_run_code::Op;
+use asm_run_emit_values::{
+    FunctionNames, Output, emit_operand, emit_test, emit_value, into, local, next,
+};
+use asm_tree::{Clause, Expr, ForHead, Stmt};
+use sem_words::Text;
+use std::alloc::{AllocError, Global};
+
+/// The code of a statement before the code that is there. A loop has the labels of `own`. Slots from `free` on are free.
+#[cycle(statements)]
+pub fn emit_stmt<'l>(
+    names: &FunctionNames<'_, '_>,
+    output: &mut Output,
+    alloc: Global,
+    around: &'l Around<'l>,
+    own: &'l [Text],
+    free: u32,
+    statement: &'l Stmt,
+) -> Result<(), AllocError>
+    ensures { OnOk result (output.new ≡ stmt (scope_said names.now) (around_view around.now) (texts_view own.now) free (stmt_view statement.now) output.old) }
+{
+    match statement {
+        Stmt::Empty => Ok(()),
+        Stmt::Block(body) => emit_stmts(names, output, alloc, around, free, body.as_slice()),
+        Stmt::Plain(expr) => emit_value(names, output, None, free, expr),
+        Stmt::If(yes, no, condition) => match no {
+            None => emit_if(names, output, alloc, around, free, condition, yes),
+            Some(no) => emit_if_else(names, output, alloc, around, free, condition, yes, no),
+        },
+        Stmt::Return(value) => emit_return(names, output, free, value),
+        Stmt::While(condition, body) => {
+            emit_while(names, output, alloc, around, own, free, condition, body)
+        }
+        Stmt::DoWhile(body, condition) => {
+            emit_do(names, output, alloc, around, own, free, body, condition)
+        }
+        Stmt::For(head, body) => {
+            let head: &ForHead = head;
+            emit_for(names, output, alloc, around, own, free, head, body)
+        }
+        Stmt::Break(name) => put_go(output, around.break_address(name)),
+        Stmt::Continue(name) => put_go(output, around.continue_address(name)),
+        Stmt::Labelled(labels, body) => {
+            emit_labelled(names, output, alloc, around, labels.as_slice(), free, body)
+        }
+        Stmt::Switch(clauses, subject) => {
+            emit_switch(
+                names,
+                output,
+                alloc,
+                around,
+                free,
+                clauses.as_slice(),
+                subject,
+            )
+        }
+    }
+}
+
+#[cycle(statements)]
+fn emit_labelled<'l>(
+    names: &FunctionNames<'_, '_>,
+    output: &mut Output,
+    alloc: Global,
+    around: &'l Around<'l>,
+    labels: &'l [Text],
+    free: u32,
+    body: &'l Stmt,
+) -> Result<(), AllocError>
+    ensures { OnOk result (output.new ≡ stmt (scope_said names.now) (around_view around.now) [] free (form.labelled (texts_view labels.now) (stmt_view body.now)) output.old) }
+{
+    let past = output.address()?;
+    let inside = Around::Inside(Open::Named(labels, past), around);
+    emit_stmt(names, output, alloc, &inside, labels, free, body)
+}
+
+fn put_go(output: &mut Output, at: u32) -> Result<(), AllocError>
+    ensures { OnOk result (output.new ≡ Go at ∷ output.old) }
+{
+    output.put(Op::Go { at })
+}
+
+/// Statements one after another.
+#[cycle(statements)]
+pub fn emit_stmts<'l>(
+    names: &FunctionNames<'_, '_>,
+    output: &mut Output,
+    alloc: Global,
+    around: &'l Around<'l>,
+    free: u32,
+    body: &'l [Stmt],
+) -> Result<(), AllocError>
+    ensures { OnOk result (output.new ≡ stmts_code (scope_said names.now) (around_view around.now) free (stmts_view body.now) output.old) }
+{
+    let mut i = body.len();
+    while i > 0 {
+        i -= 1;
+        emit_stmt(names, output, alloc, around, &[], free, &body[i])?;
+    }
+    Ok(())
+}
+
+#[cycle(statements)]
+fn emit_if<'l>(
+    names: &FunctionNames<'_, '_>,
+    output: &mut Output,
+    alloc: Global,
+    around: &'l Around<'l>,
+    free: u32,
+    condition: &'l Expr,
+    yes: &'l Stmt,
+) -> Result<(), AllocError>
+    ensures { OnOk result (output.new ≡ stmt (scope_said names.now) (around_view around.now) [] free (form.if_only (expr_view condition.now) (stmt_view yes.now)) output.old) }
+{
+    let past = output.address()?;
+    emit_stmt(names, output, alloc, around, &[], free, yes)?;
+    emit_test(names, output, free, condition, past)
+}
+
+#[cycle(statements)]
+fn emit_if_else<'l>(
+    names: &FunctionNames<'_, '_>,
+    output: &mut Output,
+    alloc: Global,
+    around: &'l Around<'l>,
+    free: u32,
+    condition: &'l Expr,
+    yes: &'l Stmt,
+    no: &'l Stmt,
+) -> Result<(), AllocError>
+    ensures { OnOk result (output.new ≡ stmt (scope_said names.now) (around_view around.now) [] free (form.if_else (expr_view condition.now) (stmt_view yes.now) (stmt_view no.now)) output.old) }
+{
+    let past = output.address()?;
+    emit_stmt(names, output, alloc, around, &[], free, no)?;
+    let at = output.address()?;
+    output.put(Op::Go { at: past })?;
+    emit_stmt(names, output, alloc, around, &[], free, yes)?;
+    emit_test(names, output, free, condition, at)
+}
+
+fn emit_return(
+    names: &FunctionNames<'_, '_>,
+    output: &mut Output,
+    free: u32,
+    value: &Option<Expr>,
+) -> Result<(), AllocError>
+    ensures { OnOk result (output.new ≡ stmt (scope_said names.now) [] [] free (form.returns (expr_option value.now)) output.old) }
+{
+    match value {
+        None => {
+            output.put(Op::Give { from: free })?;
+            output.put(Op::Number { to: free, word: 0 })
+        }
+        Some(value) => {
+            let place = local(names, value)?;
+            let from = into(place, free);
+            output.put(Op::Give { from })?;
+            emit_operand(names, output, place, free, value)
+        }
+    }
+}
+
+#[cycle(statements)]
+fn emit_while<'l>(
+    names: &FunctionNames<'_, '_>,
+    output: &mut Output,
+    alloc: Global,
+    around: &'l Around<'l>,
+    own: &'l [Text],
+    free: u32,
+    condition: &'l Expr,
+    body: &'l Stmt,
+) -> Result<(), AllocError>
+    ensures { OnOk result (output.new ≡ stmt (scope_said names.now) (around_view around.now) (texts_view own.now) free (form.while_loop (expr_view condition.now) (stmt_view body.now)) output.old) }
+{
+    let past = output.address()?;
+    let inner = next(free)?;
+    output.put(Op::Again { slot: free })?;
+    let turn = output.address()?;
+    let inside = Around::Inside(Open::Loop(own, turn, past), around);
+    emit_stmt(names, output, alloc, &inside, &[], inner, body)?;
+    emit_test(names, output, inner, condition, past)?;
+    output.put(Op::Turn { to: free })
+}
+
+#[cycle(statements)]
+fn emit_do<'l>(
+    names: &FunctionNames<'_, '_>,
+    output: &mut Output,
+    alloc: Global,
+    around: &'l Around<'l>,
+    own: &'l [Text],
+    free: u32,
+    body: &'l Stmt,
+    condition: &'l Expr,
+) -> Result<(), AllocError>
+    ensures { OnOk result (output.new ≡ stmt (scope_said names.now) (around_view around.now) (texts_view own.now) free (form.do_while (stmt_view body.now) (expr_view condition.now)) output.old) }
+{
+    let past = output.address()?;
+    let inner = next(free)?;
+    output.put(Op::Again { slot: free })?;
+    emit_test(names, output, inner, condition, past)?;
+    let turn = output.address()?;
+    let inside = Around::Inside(Open::Loop(own, turn, past), around);
+    emit_stmt(names, output, alloc, &inside, &[], inner, body)?;
+    output.put(Op::Turn { to: free })
+}
+
+#[cycle(statements)]
+fn emit_for<'l>(
+    names: &FunctionNames<'_, '_>,
+    output: &mut Output,
+    alloc: Global,
+    around: &'l Around<'l>,
+    own: &'l [Text],
+    free: u32,
+    head: &'l ForHead,
+    body: &'l Stmt,
+) -> Result<(), AllocError>
+    ensures { OnOk result (output.new ≡ stmt (scope_said names.now) (around_view around.now) (texts_view own.now) free (form.for_loop (expr_option head.now.start) (expr_option head.now.condition) (expr_option head.now.step) (stmt_view body.now)) output.old) }
+{
+    let past = output.address()?;
+    let inner = next(free)?;
+    output.put(Op::Again { slot: free })?;
+    emit_part(names, output, inner, &head.step)?;
+    let turn = output.address()?;
+    let inside = Around::Inside(Open::Loop(own, turn, past), around);
+    emit_stmt(names, output, alloc, &inside, &[], inner, body)?;
+    emit_condition(names, output, inner, &head.condition, past)?;
+    output.put(Op::Turn { to: free })?;
+    emit_part(names, output, free, &head.start)
+}
+
+fn emit_part(
+    names: &FunctionNames<'_, '_>,
+    output: &mut Output,
+    free: u32,
+    part: &Option<Expr>,
+) -> Result<(), AllocError>
+    ensures { OnOk result (output.new ≡ code.part (scope_said names.now) free (expr_option part.now) output.old) }
+{
+    match part {
+        None => Ok(()),
+        Some(expr) => emit_value(names, output, None, free, expr),
+    }
+}
+
+fn emit_condition(
+    names: &FunctionNames<'_, '_>,
+    output: &mut Output,
+    free: u32,
+    condition: &Option<Expr>,
+    past: u32,
+) -> Result<(), AllocError>
+    ensures { OnOk result (output.new ≡ code.condition_if (scope_said names.now) free (expr_option condition.now) past output.old) }
+{
+    match condition {
+        None => Ok(()),
+        Some(expr) => emit_test(names, output, free, expr, past),
+    }
+}
+
+#[cycle(statements)]
+fn emit_switch<'l>(
+    names: &FunctionNames<'_, '_>,
+    output: &mut Output,
+    alloc: Global,
+    around: &'l Around<'l>,
+    free: u32,
+    clauses: &'l [Clause],
+    subject: &'l Expr,
+) -> Result<(), AllocError>
+    ensures { OnOk result (output.new ≡ stmt (scope_said names.now) (around_view around.now) [] free (form.switches (expr_view subject.now) (clauses_view clauses.now)) output.old) }
+{
+    let past = output.address()?;
+    let inside = Around::Inside(Open::Switch(past), around);
+    let starts = emit_clauses(names, output, alloc, &inside, free, clauses)?;
+    let place = local(names, subject)?;
+    let slot = into(place, free);
+    dispatch(output, alloc, clauses, &starts, slot)?;
+    emit_operand(names, output, place, free, subject)
+}
+
+// The clauses one after another, and their addresses.
+#[cycle(statements)]
+fn emit_clauses<'l>(
+    names: &FunctionNames<'_, '_>,
+    output: &mut Output,
+    alloc: Global,
+    around: &'l Around<'l>,
+    free: u32,
+    clauses: &'l [Clause],
+) -> Result<Starts, AllocError>
+    ensures code { OnOk result (output.new ≡ (clauses_code (scope_said names.now) (around_view around.now) free (clauses_view clauses.now) output.old).code) }
+    ensures starts { IfOk result (λ starts. starts ≡ (clauses_code (scope_said names.now) (around_view around.now) free (clauses_view clauses.now) output.old).starts) }
+{
+    let mut starts = Starts::new(alloc);
+    let past = output.address()?;
+    starts.put(past)?;
+    let mut i = clauses.len();
+    while i > 0 {
+        i -= 1;
+        emit_stmts(
+            names,
+            output,
+            alloc,
+            around,
+            free,
+            clauses[i].body.as_slice(),
+        )?;
+        let at = output.address()?;
+        starts.put(at)?;
+    }
+    Ok(starts)
+}
