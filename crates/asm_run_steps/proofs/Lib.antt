@@ -1,0 +1,5 @@
+pub mod Led
+pub mod Operations
+pub mod Arguments
+pub mod Callers
+pub mod Hosted

@@ -1,0 +1,4 @@
+pub mod Linked
+pub mod States
+pub mod Flows
+pub mod Runs
