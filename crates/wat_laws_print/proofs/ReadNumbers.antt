@@ -88,13 +88,13 @@ signed_read (negsuc n) s = let small : suc n < 2 ^ 64 = omega (arith, s) in ap (
 
 -- the signed reading of a word, where a half of all words has the number h
 module _ (h f a : ℕ) (half : f ≡ h + h) (some : 0 < h) (lt : a < f) where
-  abbrev reading : ℤ
+  abbrev pub reading : ℤ
   reading = if nat_lt a h then pos a else pos a -ℤ pos f
 
-  negative : nat_lt a h ≡ false → reading ≡ negsuc (f - a - 1)
+  pub negative : nat_lt a h ≡ false → reading ≡ negsuc (f - a - 1)
   negative e = second_is (nat_lt a h) (pos a) (pos a -ℤ pos f) e ∙ difference a f lt
 
-  positive : nat_lt a h ≡ true → reading ≡ pos a
+  pub positive : nat_lt a h ≡ true → reading ≡ pos a
   positive e = first_is (nat_lt a h) (pos a) (pos a -ℤ pos f) e
 
   reading_short : f ≤ 2 ^ 64 → IsShort reading

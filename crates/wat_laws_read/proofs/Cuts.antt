@@ -1,5 +1,5 @@
 -- The fields of a list of marks, and what holds of all parts of them.
-use Rattle.std.proofs.Common.{◌≡◌, ℕ, List, [], ◌∷◌, refl}
+use Rattle.std.proofs.Common.{◌≡◌, List, [], ◌∷◌, refl}
 use Rattle.std.specs.List.{AllByRecursion}
 use Rattle.wat_lang.specs.declared.parts.FieldKind.{FieldKind}
 use Rattle.wat_lang.specs.Grammar.{Mark, a_field, Marked}

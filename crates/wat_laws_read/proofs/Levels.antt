@@ -1,15 +1,15 @@
 -- Blocks that no row refuses stand open within the limit.
-use Rattle.std.proofs.Common.{◌≡◌, ℕ, ◌+◌, ◌-◌, ◌<◌, ◌≤◌, max, Bool, true, false, ◌&&◌, List, [], ◌∷◌, ◌++◌, length, drop, Some, None, refl, arith, length-drop}
+use Rattle.std.proofs.Common.{◌≡◌, ℕ, ◌+◌, ◌-◌, ◌≤◌, false, ◌&&◌, List, [], ◌∷◌, ◌++◌, length, None, arith, length-drop}
 use Rattle.std.specs.Prelude.{nat_le}
 use Rattle.std.proofs.lemmas.Bool.{leb-false}
-use Rattle.wasm_lang.specs.Instructions.{Instruction, unreachable, block, loop, if_block, else_mark, end_mark, br, br_if, br_table, return, call, call_indirect, plain}
+use Rattle.wasm_lang.specs.Instructions.{Instruction, block, loop, if_block, end_mark, plain}
 use Rattle.wasm_lang.specs.Limits.{most_levels, levels_from}
 use Rattle.wat_lang.specs.declared.parts.Space.{Space}
 use Rattle.wat_lang.specs.declared.parts.Space.TheVariants as spaces
 use Rattle.wat_lang.specs.declared.fault.Row.TheVariants as rows
 use Rattle.wat_lang.specs.Tokens.{Token}
 use Rattle.wat_lang.specs.Grammar.{Mark, binds, an_instruction, Marked, marked}
-use Rattle.wat_lang.specs.Names.{text_of, Names, labels_after}
+use Rattle.wat_lang.specs.Names.{Names, labels_after}
 use Rattle.wat_lang.specs.Modules.{instructions_in}
 use Rattle.wat_lang.specs.Rows.{where_holds, opens_block, is_unknown_use, use_rows}
 use Rattle.wat_laws_read.proofs.Lists.{empty_parts, not_held}

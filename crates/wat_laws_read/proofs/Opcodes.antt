@@ -1,5 +1,5 @@
 -- Each mark of an instruction has a form of the table of opcodes.
-use Rattle.std.proofs.Common.{◌≡◌, ℕ, Bool, true, false, List, [], ◌∷◌, ◌++◌, map, Option, Some, refl, sym, ap, subst, ◌∙◌}
+use Rattle.std.proofs.Common.{◌≡◌, ℕ, true, false, List, [], ◌∷◌, ◌++◌, map, Option, Some, refl, sym, ap, subst, ◌∙◌}
 use Rattle.std.specs.List.{AllByRecursion}
 use Rattle.wasm_lang.specs.Instructions.{Plain, nop, global_get, memory_fill, const32, const64, Instruction, else_mark, end_mark, plain}
 use Rattle.wasm_lang.specs.Opcodes.{opcodes, form_at, form_of, plain_form_of, IsOpcode}
@@ -10,7 +10,7 @@ use Rattle.wat_lang.specs.declared.parts.Rule.{Rule}
 use Rattle.wat_lang.specs.declared.parts.Rule.TheVariants as rules
 use Rattle.wat_lang.specs.Tokens.{Token}
 use Rattle.wat_lang.specs.Words.{name_of, named_forms, instruction_names}
-use Rattle.wat_lang.specs.Grammar.{Mark, an_instruction, a_field, Item, Row, rows, Marked, marked, Derives, all_done, one_token, goes_on, ends, IsGrammatical}
+use Rattle.wat_lang.specs.Grammar.{Mark, an_instruction, a_field, Item, Row, rows, Marked, Derives, all_done, one_token, goes_on, ends, IsGrammatical}
 use Rattle.wat_lang.specs.Names.{Names, labels_after}
 use Rattle.wat_lang.specs.Modules.{with_immediates, plain_with, immediates_in, instruction_at, instructions_in}
 use Rattle.wat_laws_read.proofs.Lists.{mapped, joined}

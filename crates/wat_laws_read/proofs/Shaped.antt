@@ -1,6 +1,6 @@
 -- The module that marks of the grammar say is shaped, where no row refuses them.
-use Rattle.std.proofs.Common.{◌≡◌, ℕ, Bool, true, false, ◌&&◌, not, cond, List, [], ◌∷◌, ◌++◌, map, length, Option, Some, None, refl, sym, ap, ◌∙◌, subst}
-use Rattle.std.specs.Prelude.{filter, find, flat_map}
+use Rattle.std.proofs.Common.{◌≡◌, ℕ, Bool, true, false, ◌&&◌, not, cond, List, [], ◌∷◌, ◌++◌, Some, None, refl, sym, ◌∙◌, subst}
+use Rattle.std.specs.Prelude.{filter, flat_map}
 use Rattle.std.specs.List.{AllByRecursion}
 use Rattle.std.specs.Str.{IsUtf8, is_utf8}
 use Rattle.std.proofs.lemmas.List.{length-map}
@@ -18,7 +18,7 @@ use Rattle.wat_lang.specs.Names.{text_of, all_with, first_with, Names, Field, fi
 use Rattle.wat_lang.specs.Modules.{is_module_name, is_field_name, is_export_name, instructions_in, code_in, string_in, function_type_in, parts_of, own_of, is_export, import_of, global_of, export_of, element_of, segment_of, body_of, module_of}
 use Rattle.wat_lang.specs.Rows.{where_holds, number_rows, utf8_rows, is_name, taken_rows, field_rows, order_rows, count_rows, entry_rows, rows_of}
 use Rattle.wat_lang.specs.Texts.{SaysModule}
-use Rattle.wat_laws_read.proofs.Lists.{empty_parts, each_empty, not_held, weaker, both, mapped, passing}
+use Rattle.wat_laws_read.proofs.Lists.{empty_parts, not_held, weaker, both, mapped, passing}
 use Rattle.wat_laws_read.proofs.Cuts.{parts_hold}
 use Rattle.wat_laws_read.proofs.Spelled.{IsNested, FieldHolds, fields_hold}
 use Rattle.wat_laws_read.proofs.Opcodes.{HasForm, marks_have_forms, code_has_opcodes}

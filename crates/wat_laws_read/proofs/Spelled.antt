@@ -1,5 +1,5 @@
 -- The instructions of each field of a module are nested, and an import or a table has the parts of its form.
-use Rattle.std.proofs.Common.{◌≡◌, ◌⊎◌, inl, inr, ℕ, Bool, true, false, List, [], ◌∷◌, ◌++◌, Option, Some, refl, sym, ap, ◌∙◌, subst, append-nil, append_assoc}
+use Rattle.std.proofs.Common.{◌≡◌, ◌⊎◌, inl, inr, ℕ, true, false, List, [], ◌∷◌, ◌++◌, Some, refl, sym, ap, ◌∙◌, subst, append-nil, append_assoc}
 use Rattle.std.specs.List.{AllByRecursion}
 use Rattle.wasm_lang.specs.Instructions.{Plain, nop, Instruction, unreachable, block, loop, if_block, else_mark, end_mark, br, br_if, br_table, return, call, call_indirect, plain, is_simple, Nested, empty, simple, in_block, in_loop, in_if, in_arms}
 use Rattle.wat_lang.specs.declared.parts.Space.{Space}
@@ -12,7 +12,7 @@ use Rattle.wat_lang.specs.declared.parts.Rule.TheVariants as rules
 use Rattle.wat_lang.specs.Tokens.{Token}
 use Rattle.wat_lang.specs.Words.{instruction_names}
 use Rattle.wat_lang.specs.Grammar.{Want, Mark, nothing, a_field, a_described, an_exported, binds, uses, a_type, a_global_type, a_maximum, a_minimum, some_bytes, an_offset, an_alignment, a_module_name, a_field_name, a_string, a_number, an_instruction, Item, token, rule, Row, opened, closed, plain_immediates, immediates, begins_instruction, instruction_row, rows, may_end, Marked, marked, Derives, all_done, one_token, goes_on, ends, IsGrammatical}
-use Rattle.wat_lang.specs.Names.{Names, Field, Cut, cut_at, cut, Entry, described, first_with, labels_after, fields_of}
+use Rattle.wat_lang.specs.Names.{Names, Field, Cut, cut, Entry, described, first_with, labels_after, fields_of}
 use Rattle.wat_lang.specs.Modules.{is_minimum, with_immediates, immediates_in, instructions_in}
 use Rattle.wat_laws_read.proofs.Lists.{always}
 use Rattle.wat_laws_read.proofs.Stacks.{each_row, each_instruction, PlacedBehind, Placed, placed_rows, placed_left}

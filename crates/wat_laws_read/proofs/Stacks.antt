@@ -1,7 +1,7 @@
 -- What may stand in a stack: fields stand at the end of a module's, and no token of one begins an instruction but an end.
 use Rattle.std.proofs.Common.{◌≡◌, ℕ, Bool, true, false, List, [], ◌∷◌, ◌++◌, refl, sym, ap, subst}
 use Rattle.std.specs.List.{AllByRecursion}
-use Rattle.wasm_lang.specs.Instructions.{Plain, nop, Instruction, block, loop, if_block, end_mark, plain}
+use Rattle.wasm_lang.specs.Instructions.{Plain, nop, Instruction, block, loop, end_mark, plain}
 use Rattle.wat_lang.specs.declared.parts.Part.TheVariants.{Param, Result, Local}
 use Rattle.wat_lang.specs.declared.parts.Rule.{Rule}
 use Rattle.wat_lang.specs.declared.parts.Rule.TheVariants as rules

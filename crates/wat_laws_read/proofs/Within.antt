@@ -1,14 +1,14 @@
 -- The module that marks of the grammar say is within the limits of a reader, where no row refuses them.
-use Rattle.std.proofs.Common.{◌≡◌, ℕ, zero, suc, ◌+◌, ◌<◌, ◌≤◌, Bool, true, false, ◌&&◌, not, cond, List, [], ◌∷◌, ◌++◌, map, length, Option, Some, None, refl, sym, ap, ◌∙◌, subst, arith}
+use Rattle.std.proofs.Common.{◌≡◌, ℕ, zero, suc, ◌+◌, ◌≤◌, Bool, true, false, ◌&&◌, not, cond, List, [], ◌∷◌, ◌++◌, map, length, Option, Some, refl, sym, ap, subst, arith}
 use Rattle.std.specs.Prelude.{filter, find, flat_map, nat_lt, option_and_then}
 use Rattle.std.specs.List.{AllByRecursion, zip}
-use Rattle.std.proofs.lemmas.Bool.{and_parts, ltb-false}
+use Rattle.std.proofs.lemmas.Bool.{ltb-false}
 use Rattle.std.proofs.lemmas.List.{length-map}
 use Rattle.std.proofs.lemmas.List.Elements.{All-from_recursion}
 use Rattle.wasm_lang.specs.declared.types.Limits.{Limits}
 use Rattle.wasm_lang.specs.declared.types.ImportKind.{ImportKind}
 use Rattle.wasm_lang.specs.Limits.{most_types, most_functions, most_params, most_locals, most_levels, most_globals, most_entries, levels, params_of, MayImport, IsWithinReader}
-use Rattle.wasm_lang.specs.Modules.{FunctionType, Imported, GlobalEntry, ElementSegment, DataSegment, FunctionBody, WasmModule}
+use Rattle.wasm_lang.specs.Modules.{FunctionType, GlobalEntry, ElementSegment, DataSegment, FunctionBody, WasmModule}
 use Rattle.wat_lang.specs.declared.parts.Space.{Space}
 use Rattle.wat_lang.specs.declared.parts.Space.TheVariants as spaces
 use Rattle.wat_lang.specs.declared.parts.Part.TheVariants.{Param, Local}
@@ -17,10 +17,10 @@ use Rattle.wat_lang.specs.declared.parts.FieldKind.TheVariants as kinds
 use Rattle.wat_lang.specs.declared.fault.Row.TheVariants as rows
 use Rattle.wat_lang.specs.Tokens.{Token}
 use Rattle.wat_lang.specs.Numbers.{number_of}
-use Rattle.wat_lang.specs.Grammar.{Mark, a_minimum, Marked, IsGrammatical}
-use Rattle.wat_lang.specs.Names.{text_of, type_of, all_with, first_with, types_part, Names, Field, fields_of, Entry, described, enters, is_import, names_of, types_in, types_of, signature_of, local_names, names_at}
-use Rattle.wat_lang.specs.Modules.{natural_or_0, is_minimum, limits_in, code_in, function_type_in, import_kind_in, parts_of, own_of, import_of, global_of, element_of, segment_of, body_of, module_of}
-use Rattle.wat_lang.specs.Rows.{where_holds, number_rows, utf8_rows, taken_rows, from_count, field_rows, head_rows, function_rows, locals_of, use_rows, order_rows, entries_in, entries_from, count_rows, is_table_minimum, entry_rows, rows_of}
+use Rattle.wat_lang.specs.Grammar.{Marked, IsGrammatical}
+use Rattle.wat_lang.specs.Names.{text_of, type_of, all_with, types_part, Names, Field, fields_of, described, enters, is_import, names_of, types_in, types_of, signature_of, local_names, names_at}
+use Rattle.wat_lang.specs.Modules.{natural_or_0, is_minimum, limits_in, code_in, function_type_in, own_of, import_of, global_of, element_of, segment_of, body_of, module_of}
+use Rattle.wat_lang.specs.Rows.{where_holds, number_rows, utf8_rows, taken_rows, from_count, field_rows, head_rows, locals_of, use_rows, order_rows, entries_in, entries_from, count_rows, is_table_minimum, entry_rows, rows_of}
 use Rattle.wat_lang.specs.Texts.{SaysModule}
 use Rattle.wat_laws_read.proofs.Lists.{empty_parts, each_empty, not_held, weaker, both, mapped, passing}
 use Rattle.wat_laws_read.proofs.Cuts.{parts_hold}
