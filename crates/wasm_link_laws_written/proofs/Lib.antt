@@ -1,0 +1,4 @@
+pub mod Lists
+pub mod Opcodes
+pub mod Expressions
+pub mod Parts
