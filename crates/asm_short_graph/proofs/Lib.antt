@@ -1,0 +1,5 @@
+pub mod Gathered
+pub mod Numbers
+pub mod Places
+pub mod Graph
+pub mod Staying

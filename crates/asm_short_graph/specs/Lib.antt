@@ -1,0 +1,4 @@
+pub mod Graphs
+pub mod Numbered
+pub mod Marks
+pub mod Picked
