@@ -4,10 +4,9 @@ use Rattle.std.proofs.lemmas.List.{at_drop_more, at_drop_all}
 use Rattle.sem_words.specs.Lists.{list_items}
 use Rattle.asm_lang_valid.specs.Typing.{Scope}
 use Rattle.asm_lang_valid.specs.Rows.{stmt_count, stmts_count, clauses_count}
-use Rattle.asm_lang.specs.Modules.{Stmts, Clauses, clauses}
 use Rattle.asm_tree.specs.declared.tree.Stmt.{Stmt as CodeStmt}
 use Rattle.asm_tree.specs.declared.tree.Clause.{Clause}
-use Rattle.asm_tree.specs.Views.{ClauseView, stmt_view, stmts_view, clause_view, clauses_view}
+use Rattle.asm_tree.specs.Views.{ClauseView, stmt_view, stmts_view, clauses_view}
 use Rattle.asm_tree.proofs.Views.{clause_view-is}
 use Rattle.switch_cases.proofs.CaseValues.{clauses_put}
 use Rattle.asm_run_code.specs.declared.op.Op.{Op}

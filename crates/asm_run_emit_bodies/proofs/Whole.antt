@@ -3,7 +3,7 @@ use Rattle.std.proofs.Common.{◌≡◌, ℕ, List, [], ◌∷◌, length, map, 
 use Rattle.std.proofs.lemmas.List.{length-map}
 use Rattle.sem_words.specs.Lists.{list_items}
 use Rattle.asm_lang.specs.Trees.{Init, number, decimal, foreign_int, foreign_double, member, math, view}
-use Rattle.asm_lang.specs.Modules.{Variable, Module}
+use Rattle.asm_lang.specs.Modules.{Variable}
 use Rattle.asm_lang_valid.specs.Typing.{Scope}
 use Rattle.asm_lang_valid.specs.Typed.{scope_of}
 use Rattle.asm_tree.specs.declared.tree.Stmt.{Stmt as CodeStmt}

@@ -1,5 +1,5 @@
 -- The code of a function, as the code holds it.
-use Rattle.std.specs.Prelude.{ℕ, List, [], ◌∷◌}
+use Rattle.std.specs.Prelude.{ℕ, List}
 use Rattle.sem_words.specs.Lists.{list_items}
 use Rattle.sem_words.specs.Words.{word_of}
 use Rattle.asm_lang.specs.Trees.{Init, number}

@@ -4,7 +4,6 @@ use Rattle.std.specs.Prelude.{if◌then◌else◌, ◌||◌, ℤ}
 use Rattle.sem_words.specs.declared.js_value.JsOp.{JsOp}
 use Rattle.sem_words.specs.declared.js_value.JsUnary.{JsUnary}
 use Rattle.sem_words.specs.Words.{word_of}
-use Rattle.heap_lang.specs.declared.kind.ViewKind.{ViewKind}
 use Rattle.asm_lang.specs.Modules.{Expr, lit, decimal, var, index, call, table_call, assign, store, unary, binary, chain, cond, comma, Exprs, Links}
 use Rattle.asm_lang_valid.specs.Typing.{Scope, named, or_zero}
 use Rattle.asm2wasm_translation.specs.Values.{is_unsigned}

@@ -4,7 +4,7 @@ use Rattle.std.specs.Prelude.{slice_get}
 use Rattle.std.proofs.lemmas.List.{at_drop_more, at_drop_all}
 use Rattle.asm_tree.specs.declared.tree.Expr.{Expr as CodeExpr}
 use Rattle.asm_tree.specs.declared.tree.Link.{Link as CodeLink}
-use Rattle.asm_tree.specs.Views.{LinkView, expr_view, exprs_view, link_view, links_view}
+use Rattle.asm_tree.specs.Views.{LinkView, expr_view, exprs_view, links_view}
 use Rattle.asm_tree.proofs.Views.{link_view-is}
 use Rattle.asm_lang_valid.specs.Rows.{expr_count, exprs_count, links_count}
 use Rattle.asm_lang_valid.specs.Typing.{Scope, exprs_length}

@@ -1,5 +1,4 @@
 -- Where an operand stands, as the code holds it.
-use Rattle.std.specs.Prelude.{ℕ}
 use Rattle.asm_run_code.specs.Names as code
 use Rattle.asm_run_emit_values.specs.declared.operands.Seat.{Seat}
 use Rattle.asm_run_emit_values.specs.declared.operands.Seat.TheVariants.{Number, Local, Elsewhere}

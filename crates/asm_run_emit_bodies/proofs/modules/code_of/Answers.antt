@@ -1,4 +1,4 @@
-use Rattle.std.proofs.Common.{sym, ap, ◌∙◌}
+use Rattle.std.proofs.Common.{◌∙◌}
 use Rattle.asm_run_emit_bodies.proofs.Whole.{flat_made}
 use Rattle.asm_run_emit_bodies.proofs.modules.code_of.Goals as goal
 

@@ -1,5 +1,5 @@
 -- What each function made is the code of its form.
-use Rattle.std.proofs.Common.{◌≡◌, ◌-◌, ◌<◌, ◌≤◌, length, List, [], ◌∷◌, sym, ap, ◌∙◌, arith}
+use Rattle.std.proofs.Common.{◌-◌, ◌<◌, length, List, [], ◌∷◌, sym, ap, ◌∙◌, arith}
 use Rattle.sem_words.specs.declared.text.Text.{Text}
 use Rattle.asm_lang.specs.Modules.{Stmt, labelled}
 use Rattle.asm_lang_valid.specs.Rows.{stmt_count, stmts_count}
