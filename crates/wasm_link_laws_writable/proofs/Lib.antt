@@ -1,0 +1,15 @@
+pub mod Each
+pub mod Values
+pub mod Facts
+pub mod Sums
+pub mod Typed
+pub mod Expressions
+pub mod Shaped
+pub mod Told
+pub mod Lengths
+pub mod Numbers
+pub mod MovedCode
+pub mod MovedBodies
+pub mod Entries
+pub mod Known
+pub mod Law
