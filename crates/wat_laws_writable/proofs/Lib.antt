@@ -1,0 +1,4 @@
+pub mod Weights
+pub mod Fits
+pub mod Sizes
+pub mod SaidModules
