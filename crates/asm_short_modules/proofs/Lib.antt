@@ -1,0 +1,4 @@
+pub mod Gathered
+pub mod Handed
+pub mod Leaving
+pub mod Whole

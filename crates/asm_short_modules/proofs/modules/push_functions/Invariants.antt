@@ -1,0 +1,9 @@
+use Rattle.std.proofs.Common.{◌≡◌, ◌++◌, map, take}
+use Rattle.sem_words.specs.Lists.{text_bytes}
+use Rattle.std.specs.Borrow.{Bor}
+use Rattle.asm_tree.specs.declared.tree.Function.{Function}
+use Rattle.asm_short_tree.specs.Looking.{names_in}
+use Rattle.asm_short_modules.proofs.modules.push_functions.Given as goal
+
+abbrev pub invariant-loop-function : goal.invariant-loop-function
+invariant-loop-function l = names_in l.names.items ≡ names_in l.initial.names.items ++ map (λ (x : Bor Function). text_bytes x.now.name) (take l.function-index l.functions)

@@ -1,0 +1,3 @@
+pub mod LeftModules
+pub mod NewDeclared
+pub mod Using
