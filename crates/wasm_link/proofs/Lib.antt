@@ -1,0 +1,5 @@
+pub mod Constants
+pub mod Parts
+pub mod Indirect
+pub mod Whole
+pub mod Stands
