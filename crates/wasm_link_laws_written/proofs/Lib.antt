@@ -1,4 +1,0 @@
-pub mod Lists
-pub mod Opcodes
-pub mod Expressions
-pub mod Parts
