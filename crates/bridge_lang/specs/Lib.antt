@@ -5,6 +5,7 @@ pub mod Words
 pub mod Listing
 pub mod AsmRows
 pub mod WasmRows
+pub mod LinkRows
 pub mod AsmVerdicts
 pub mod WasmVerdicts
 pub mod AsmRuns
