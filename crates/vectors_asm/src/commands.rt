@@ -48,7 +48,7 @@ type Row = (&'static [&'static str], u8, &'static [u8], &'static [u8]);
 
 const USAGE: &[u8] = b"usage: bridge COMMAND [--heap N] [--steps N] [FILE] [SCRIPT]\n";
 
-static ROWS: [Row; 48] = [
+static ROWS: [Row; 51] = [
     (&[], 1, b"", USAGE),
     (&["fly", "add.js"], 1, b"", USAGE),
     (&["asm2wasm"], 1, b"", USAGE),
@@ -158,6 +158,19 @@ static ROWS: [Row; 48] = [
         b"wasm refused: B13 Invalid V1 at section 3 index 0 instruction 0\n",
     ),
     (&["wasm2wat", "--heap", "65536", "add.wasm"], 1, b"", USAGE),
+    (
+        &["shorten", "add.js"],
+        0,
+        b"function m(){\"use asm\";\nfunction f(a,b){a=a|0;b=b|0;return a+b|0;}\nreturn f;}\n",
+        b"",
+    ),
+    (
+        &["shorten", "times.js"],
+        2,
+        b"",
+        b"asm.js refused: A14 Operand at 59\n",
+    ),
+    (&["shorten", "add.js", "f.txt"], 1, b"", USAGE),
     (
         &["show", "add.wasm"],
         0,
