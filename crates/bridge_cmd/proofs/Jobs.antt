@@ -19,6 +19,11 @@ use Rattle.cmd_check_wasm.specs.declared.fault.CheckFault.{CheckFault}
 use Rattle.cmd_check_wasm.specs.declared.fault.CheckFault.TheVariants as checks
 use Rattle.cmd_check_wasm.specs.Verdicts.{IsRefused}
 use Rattle.cmd_check_wasm.proofs.Once.{not_both, one_fault}
+use Rattle.cmd_wat2wasm.specs.declared.fault.CheckFault.{CheckFault as WatFault}
+use Rattle.cmd_wat2wasm.specs.declared.fault.CheckFault.TheVariants as wat_faults
+use Rattle.cmd_wat2wasm.specs.Verdicts as wats
+use Rattle.cmd_wat2wasm.proofs.Once.{one_refusal, not_both as said_once}
+use Rattle.bridge_lang.specs.WatVerdicts.{says_none, says_invalid}
 use Rattle.bridge_lang.specs.WasmRuns.{IsRunnable, IsOutside}
 use Rattle.cmd_run_wasm.specs.Modules.{IsNotRun}
 use Rattle.wasm_link_lang.specs.declared.rows.Refused.{Refused}
@@ -35,15 +40,15 @@ use Rattle.bridge_args.specs.declared.fault.WordsFault.TheVariants as words_faul
 use Rattle.bridge_lang.specs.declared.status.Status.TheVariants.{Usage}
 use Rattle.bridge_args.specs.Answer.{Answers, asked_view}
 use Rattle.bridge_lang.specs.declared.making.Making.TheVariants.{CheckWasm, WasmToAsm}
-use Rattle.bridge_lang.specs.Command.{Action, make, link, Running, as_binary, run, on_file, asm_js, web_assembly, begins_with_zero, language_of}
+use Rattle.bridge_lang.specs.Command.{Action, make, link, Running, as_binary, run, on_file, asm_js, web_assembly, wat, begins_with_zero, language_of}
 use Rattle.bridge_lang.specs.Words.{asked}
 use Rattle.bridge_lang.specs.Answers.{IsAnswered, a_bar, want_of_memory, IsScriptAnswer, an_unfit_line, no_room, MayAnswer, a_refusal, a_read_fault, no_memory}
-use Rattle.bridge_lang.specs.Job.{Job, refused, file_limit, Holds, IsFileJob, absent, long, held, read_as, IsBarred, not_accepted, unreadable, invalid, not_translated, outside, IsMade, of_text, of_binary, IsPlayed, unfit, ran, IsJoined, not_taken, apart, joined, IsModuleJob, barred, made, scripted, paired, IsJob, no_command, commanded, generated}
+use Rattle.bridge_lang.specs.Job.{Job, refused, file_limit, Holds, IsFileJob, absent, long, held, read_as, IsBarred, not_accepted, unreadable, invalid, unsaid, not_translated, outside, IsMade, of_text, of_binary, of_wat, IsPlayed, unfit, ran, IsJoined, not_taken, apart, joined, IsModuleJob, barred, made, scripted, paired, IsJob, no_command, commanded, generated}
 use Rattle.bridge_lang.specs.Runs.{Runner, text_runner, binary_runner, IsRunner, a_text, a_binary, script_for, Prints}
 use Rattle.bridge_lang.specs.Outcome.{EndsAs, IsCutShort, by_a_read, by_want, MayReport}
-use Rattle.bridge_lang.specs.Reason.{Reason, read_fault, missing, too_large}
+use Rattle.bridge_lang.specs.Reason.{Reason, not_wat, not_valid, read_fault, missing, too_large}
 use Rattle.bridge_lang.specs.Statuses.{status_of}
-use Rattle.bridge_cmd.specs.Refused.{reason_of_check, reason_of_text, reason_of_run, reason_of_script, reason_of_join, reason_of_words}
+use Rattle.bridge_cmd.specs.Refused.{reason_of_check, reason_of_text, reason_of_wat, reason_of_run, reason_of_script, reason_of_join, reason_of_words}
 use Rattle.bridge_cmd.proofs.Files.{OneEnd, one_file_end}
 use Rattle.cmd_check_asm.proofs.Verdicts as laws
 use Rattle.asm_lang.specs.Modules.{Module}
@@ -82,47 +87,67 @@ one_bar a bytes r q (not_accepted row at x i) (unreadable row' at' y j) = absurd
 one_bar a bytes r q (not_accepted row at x i) (invalid rule' section' index' instruction' y j) = absurd cc
 one_bar a bytes r q (not_accepted row at x i) (not_translated row' o') = absurd cc
 one_bar a bytes r q (not_accepted row at x i) (outside row' o') = absurd cc
+one_bar a bytes r q (not_accepted row at x i) (unsaid reason y j) = absurd cc
 one_bar a bytes r q (unreadable row at x i) (not_accepted row' at' y j) = absurd cc
 one_bar a bytes r q (unreadable row at x i) (unreadable row' at' y j) = ap (λ e. status_of (reason_of_check e)) (one_fault bytes (checks.Binary row at) (checks.Binary row' at') i j (binary_clear row at) (binary_clear row' at'))
 one_bar a bytes r q (unreadable row at x i) (invalid rule' section' index' instruction' y j) = ap (λ e. status_of (reason_of_check e)) (one_fault bytes (checks.Binary row at) (checks.Invalid rule' section' index' instruction') i j (binary_clear row at) (invalid_clear rule' section' index' instruction'))
 one_bar a bytes r q (unreadable row at x i) (not_translated row' o') = absurd ((binary_clear row at) (not_both bytes o'.«module» (checks.Binary row at) o'.taken i))
 one_bar a bytes r q (unreadable row at x i) (outside row' o') = absurd ((binary_clear row at) (not_both bytes o'.«module» (checks.Binary row at) o'.taken i))
+one_bar a bytes r q (unreadable row at x i) (unsaid reason y j) = absurd cc
 one_bar a bytes r q (invalid rule section index instruction x i) (not_accepted row' at' y j) = absurd cc
 one_bar a bytes r q (invalid rule section index instruction x i) (unreadable row' at' y j) = ap (λ e. status_of (reason_of_check e)) (one_fault bytes (checks.Invalid rule section index instruction) (checks.Binary row' at') i j (invalid_clear rule section index instruction) (binary_clear row' at'))
 one_bar a bytes r q (invalid rule section index instruction x i) (invalid rule' section' index' instruction' y j) = ap (λ e. status_of (reason_of_check e)) (one_fault bytes (checks.Invalid rule section index instruction) (checks.Invalid rule' section' index' instruction') i j (invalid_clear rule section index instruction) (invalid_clear rule' section' index' instruction'))
 one_bar a bytes r q (invalid rule section index instruction x i) (not_translated row' o') = absurd ((invalid_clear rule section index instruction) (not_both bytes o'.«module» (checks.Invalid rule section index instruction) o'.taken i))
 one_bar a bytes r q (invalid rule section index instruction x i) (outside row' o') = absurd ((invalid_clear rule section index instruction) (not_both bytes o'.«module» (checks.Invalid rule section index instruction) o'.taken i))
+one_bar a bytes r q (invalid rule section index instruction x i) (unsaid reason y j) = absurd cc
 one_bar a bytes r q (not_translated row o) (not_accepted row' at' y j) = absurd cc
 one_bar a bytes r q (not_translated row o) (unreadable row' at' y j) = absurd ((binary_clear row' at') (not_both bytes o.«module» (checks.Binary row' at') o.taken j))
 one_bar a bytes r q (not_translated row o) (invalid rule' section' index' instruction' y j) = absurd ((invalid_clear rule' section' index' instruction') (not_both bytes o.«module» (checks.Invalid rule' section' index' instruction') o.taken j))
 one_bar a bytes r q (not_translated row o) (not_translated row' o') = let e = one_beyond bytes row row' o o' in rw e refl
+one_bar a bytes r q (not_translated row o) (unsaid reason y j) = absurd cc
 one_bar a bytes r q (outside row o) (not_accepted row' at' y j) = absurd cc
 one_bar a bytes r q (outside row o) (unreadable row' at' y j) = absurd ((binary_clear row' at') (not_both bytes o.«module» (checks.Binary row' at') o.taken j))
 one_bar a bytes r q (outside row o) (invalid rule' section' index' instruction' y j) = absurd ((invalid_clear rule' section' index' instruction') (not_both bytes o.«module» (checks.Invalid rule' section' index' instruction') o.taken j))
 one_bar a bytes r q (outside row o) (outside row' o') = let e = one_row bytes row row' o o' in rw e refl
+one_bar a bytes r q (outside row o) (unsaid reason y j) = absurd cc
+one_bar a bytes r q (unsaid reason x i) (not_accepted row' at' y j) = absurd cc
+one_bar a bytes r q (unsaid reason x i) (unreadable row' at' y j) = absurd cc
+one_bar a bytes r q (unsaid reason x i) (invalid rule' section' index' instruction' y j) = absurd cc
+one_bar a bytes r q (unsaid reason x i) (not_translated row' o') = absurd cc
+one_bar a bytes r q (unsaid reason x i) (outside row' o') = absurd cc
+one_bar a bytes r q (unsaid reason x i) (unsaid reason' y j) = ap status_of (one_refusal bytes reason reason' i j)
 
 -- ---- a module that isn't taken makes nothing
 
 bar_makes_nothing : (a : Action) (bytes output : List ℕ) (r : Reason) → IsBarred a bytes r → IsMade a bytes output → ⊥
 bar_makes_nothing a bytes output r (not_accepted row at x i) (of_text m y j o) = laws.not_faulty bytes m (text_faults.Refused row at) j (i, text_clear row at)
 bar_makes_nothing a bytes output r (not_accepted row at x i) (of_binary w y j o) = cc
+bar_makes_nothing a bytes output r (not_accepted row at x i) (of_wat w y j o) = cc
 bar_makes_nothing a bytes output r (unreadable row at x i) (of_text m y j o) = cc
 bar_makes_nothing a bytes output r (unreadable row at x i) (of_binary w y j o) = (binary_clear row at) (not_both bytes w (checks.Binary row at) j i)
+bar_makes_nothing a bytes output r (unreadable row at x i) (of_wat w y j o) = cc
 bar_makes_nothing a bytes output r (invalid rule section index instruction x i) (of_text m y j o) = cc
 bar_makes_nothing a bytes output r (invalid rule section index instruction x i) (of_binary w y j o) =
     (invalid_clear rule section index instruction) (not_both bytes w (checks.Invalid rule section index instruction) j i)
+bar_makes_nothing a bytes output r (invalid rule section index instruction x i) (of_wat w y j o) = cc
+bar_makes_nothing a bytes output r (unsaid reason x i) (of_text m y j o) = cc
+bar_makes_nothing a bytes output r (unsaid reason x i) (of_binary w y j o) = cc
+bar_makes_nothing a bytes output r (unsaid reason x i) (of_wat w y j o) = said_once bytes w reason j i
 bar_makes_nothing a bytes output r (not_translated row i) (of_text m y j o) = absurd o
 bar_makes_nothing a bytes output r (not_translated row i) (of_binary w y j o) =
     let same = same_module bytes w i.«module» j i.taken in
     let f : Some row ≡ None = sym i.meets ∙ ap outside_profile same ∙ o.within in
     cc
+bar_makes_nothing a bytes output r (not_translated row i) (of_wat w y j o) = absurd cc
 bar_makes_nothing a bytes output r (outside row i) (of_text m y j o) = absurd o
 bar_makes_nothing a bytes output r (outside row i) (of_binary w y j o) = absurd o
+bar_makes_nothing a bytes output r (outside row i) (of_wat w y j o) = absurd o
 
 -- a run makes nothing but what is seen of it
 run_makes_nothing : (running : Running) (script bytes output : List ℕ) (steps : ℕ) → IsMade (run running script steps) bytes output → ⊥
 run_makes_nothing running script bytes output steps (of_text m y j o) = absurd o
 run_makes_nothing running script bytes output steps (of_binary w y j o) = absurd o
+run_makes_nothing running script bytes output steps (of_wat w y j o) = absurd o
 
 bar_runs_nothing : (running : Running) (script bytes : List ℕ) (steps : ℕ) (runner : Runner) (r : Reason)
     → IsBarred (run running script steps) bytes r → IsRunner bytes running runner → ⊥
@@ -132,6 +157,8 @@ bar_runs_nothing running script bytes steps runner r (unreadable row at x j) (a_
 bar_runs_nothing running script bytes steps runner r (unreadable row at x j) (a_binary m i) = (binary_clear row at) (not_both bytes m (checks.Binary row at) i.taken j)
 bar_runs_nothing running script bytes steps runner r (invalid rule section index instruction x j) (a_text m i) = cc
 bar_runs_nothing running script bytes steps runner r (invalid rule section index instruction x j) (a_binary m i) = (invalid_clear rule section index instruction) (not_both bytes m (checks.Invalid rule section index instruction) i.taken j)
+bar_runs_nothing running script bytes steps runner r (unsaid reason x j) (a_text m i) = cc
+bar_runs_nothing running script bytes steps runner r (unsaid reason x j) (a_binary m i) = cc
 bar_runs_nothing running script bytes steps runner r (outside row o) (a_binary m i) =
     let same = same_module bytes m o.«module» i.taken o.taken in
     let e : Some row ≡ None = sym o.meets ∙ ap not_runnable same ∙ i.runs in
@@ -142,16 +169,19 @@ bar_runs_nothing running script bytes steps runner r (outside row o) (a_binary m
 link_makes_nothing : (second bytes output : List ℕ) → IsMade (link second) bytes output → ⊥
 link_makes_nothing second bytes output (of_text m y j o) = absurd o
 link_makes_nothing second bytes output (of_binary w y j o) = absurd o
+link_makes_nothing second bytes output (of_wat w y j o) = absurd o
 
 bar_joins_nothing : (second bytes : List ℕ) (w : WasmModule) (r : Reason) → IsBarred (link second) bytes r → IsValidBytes bytes w → ⊥
 bar_joins_nothing second bytes w r (not_accepted row at x j) i = cc
 bar_joins_nothing second bytes w r (unreadable row at x j) i = (binary_clear row at) (not_both bytes w (checks.Binary row at) i j)
 bar_joins_nothing second bytes w r (invalid rule section index instruction x j) i = (invalid_clear rule section index instruction) (not_both bytes w (checks.Invalid rule section index instruction) i j)
+bar_joins_nothing second bytes w r (unsaid reason x j) i = cc
 
 bar_is_not_valid : (bytes : List ℕ) (w : WasmModule) (r : Reason) → IsBarred (make CheckWasm) bytes r → IsValidBytes bytes w → ⊥
 bar_is_not_valid bytes w r (not_accepted row at x j) i = cc
 bar_is_not_valid bytes w r (unreadable row at x j) i = (binary_clear row at) (not_both bytes w (checks.Binary row at) i j)
 bar_is_not_valid bytes w r (invalid rule section index instruction x j) i = (invalid_clear rule section index instruction) (not_both bytes w (checks.Invalid rule section index instruction) i j)
+bar_is_not_valid bytes w r (unsaid reason x j) i = cc
 
 same_refusal : (first : WasmModule) (bytes : List ℕ) (m n : WasmModule) → IsValidBytes bytes m → IsValidBytes bytes n → refusal (record { first = first; second = m }) ≡ refusal (record { first = first; second = n })
 same_refusal first bytes m n x y = ap (λ (s : WasmModule). refusal (record { first = first; second = s })) (sym (same_module bytes m n x y))
@@ -255,6 +285,8 @@ pub answered_quietly : (a : Action) (bytes : List ℕ) (r : Reason) → IsAnswer
 answered_quietly a bytes r (a_bar (not_accepted row at x i)) = refl
 answered_quietly a bytes r (a_bar (unreadable row at x i)) = refl
 answered_quietly a bytes r (a_bar (invalid rule section index instruction x i)) = refl
+answered_quietly a bytes r (a_bar (unsaid reason x (says_none row at i))) = refl
+answered_quietly a bytes r (a_bar (unsaid reason x (says_invalid m rule section index instruction says i))) = refl
 answered_quietly a bytes r (a_bar (not_translated row o)) = refl
 answered_quietly a bytes r (a_bar (outside row o)) = refl
 answered_quietly a bytes r want_of_memory = refl
@@ -279,6 +311,11 @@ pub check_answer : (a : Action) (bytes : List ℕ) (fault : CheckFault) → read
 check_answer a bytes (checks.Binary row at) x i = a_bar (unreadable row at x i)
 check_answer a bytes (checks.Invalid rule section index instruction) x i = a_bar (invalid rule section index instruction x i)
 check_answer a bytes checks.Memory x i = want_of_memory
+
+pub wat_answer : (a : Action) (text : List ℕ) (fault : WatFault) → read_as a text ≡ wat → wats.IsRefused text fault → IsAnswered a text (reason_of_wat fault)
+wat_answer a text (wat_faults.Unsaid row at) x i = a_bar (unsaid (not_wat row at) x i)
+wat_answer a text (wat_faults.Invalid rule section index instruction) x i = a_bar (unsaid (not_valid rule section index instruction) x i)
+wat_answer a text wat_faults.Memory x i = want_of_memory
 
 pub run_answer : (script bytes : List ℕ) (steps : ℕ) (fault : RunFault) → IsNotRun bytes fault → IsAnswered (run as_binary script steps) bytes (reason_of_run fault)
 run_answer script bytes steps (run_faults.Check fault) i = check_answer (run as_binary script steps) bytes fault refl i
@@ -378,6 +415,8 @@ bar_usage a bytes r (unreadable row at x i) is = cc
 bar_usage a bytes r (invalid rule section index instruction x i) is = cc
 bar_usage a bytes r (not_translated row o) is = cc
 bar_usage a bytes r (outside row o) is = cc
+bar_usage a bytes r (unsaid reason x (says_none row at i)) is = cc
+bar_usage a bytes r (unsaid reason x (says_invalid m rule section index instruction says i)) is = cc
 
 file_usage : (told : Option Told) (b : Bool) (file : List ℕ) (OfBytes : List ℕ → Job → Type 0) → ((bytes : List ℕ) → NoUsage (OfBytes bytes)) → NoUsage (IsFileJob told b file OfBytes)
 file_usage told b file OfBytes never r (absent x) is = cc

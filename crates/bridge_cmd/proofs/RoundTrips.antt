@@ -11,7 +11,7 @@ use Rattle.wasm2js_lang.specs.RoundTrips.{RoundTripsSimulate}
 use Rattle.cmd_check_asm.proofs.Verdicts as laws
 use Rattle.bridge_lang.specs.declared.making.Making.TheVariants.{WasmToAsm}
 use Rattle.bridge_lang.specs.Command.{make, translate}
-use Rattle.bridge_lang.specs.Job.{IsMade, of_text, of_binary}
+use Rattle.bridge_lang.specs.Job.{IsMade, of_text, of_binary, of_wat}
 use Rattle.bridge_lang.specs.RoundTrips.{WrittenBackSimulate}
 
 -- the bytes are those of this module, which may be written for the text's
@@ -22,6 +22,7 @@ there_is text bytes heap a w (of_text m reads i t) j k =
     let spelled : t.«module» ≡ w = one_module bytes t.«module» w t.shortest.spells k.read.spelled in
     subst (λ n. there.IsAllowed n heap w) same (subst (there.IsAllowed m heap) spelled t.allowed)
 there_is text bytes heap a w (of_binary v reads i t) j k = absurd t
+there_is text bytes heap a w (of_wat v reads i t) j k = absurd t
 
 -- the text says this module, which may be written for the bytes'
 back_is : (bytes output : List ℕ) (b : Module) (w : WasmModule) → IsMade (make WasmToAsm) bytes output → IsValidBytes bytes w → IsAcceptedText output b
@@ -31,6 +32,7 @@ back_is bytes output b w (of_binary v reads i t) k j =
     let spelled : v ≡ w = one_module bytes v w i.read.spelled k.read.spelled in
     subst (λ x. back.IsAllowed x b) spelled (subst (back.IsAllowed v) same t.allowed)
 back_is bytes output b w (of_text m reads i t) k j = absurd t
+back_is bytes output b w (of_wat v reads i t) k j = absurd cc
 
 pub written_back_simulate : RoundTripsSimulate → WrittenBackSimulate
 written_back_simulate law text bytes output heap one two a b w i k j s fits =

@@ -1,6 +1,6 @@
 -- What the code's refusals say, and the status of each.
 use Rattle.std.specs.Prelude.{ℕ, Bool, List, string_bytes}
-use Rattle.bridge_lang.specs.Reason.{Reason, faulty_words, not_asm, not_a_binary, not_valid, not_run, not_linked, bad_script, read_fault, missing, too_large, out_of_memory}
+use Rattle.bridge_lang.specs.Reason.{Reason, faulty_words, not_asm, not_a_binary, not_wat, not_valid, not_run, not_linked, bad_script, read_fault, missing, too_large, out_of_memory}
 use Rattle.bridge_cmd.specs.declared.refusal.Refusal.{Refusal}
 use Rattle.bridge_cmd.specs.declared.refusal.Refusal as refusal
 use Rattle.bridge_lang.specs.declared.status.Status as status
@@ -11,12 +11,14 @@ use Rattle.cmd_check_asm.specs.declared.fault.CheckFault as texts
 use Rattle.cmd_check_wasm.specs.declared.fault.CheckFault as checks
 use Rattle.cmd_run_wasm.specs.declared.fault.RunFault as runs
 use Rattle.cmd_link.specs.declared.fault.JoinFault as joins
+use Rattle.cmd_wat2wasm.specs.declared.fault.CheckFault as wats
 use Rattle.script_read.specs.declared.fault.ScriptFault as scripts
 
 abbrev pub reason_of : Refusal → Reason
 reason_of refusal.TheVariants.FaultyWords = faulty_words
 reason_of (refusal.TheVariants.NotAsm row at) = not_asm row at
 reason_of (refusal.TheVariants.NotABinary row at) = not_a_binary row at
+reason_of (refusal.TheVariants.NotWat row at) = not_wat row at
 reason_of (refusal.TheVariants.NotValid rule section index instruction) = not_valid rule section index instruction
 reason_of (refusal.TheVariants.NotRun row value) = not_run row value
 reason_of (refusal.TheVariants.NotLinked row second value) = not_linked row second value
@@ -40,6 +42,11 @@ abbrev pub reason_of_check : checks.CheckFault → Reason
 reason_of_check (checks.TheVariants.Binary row at) = not_a_binary row at
 reason_of_check (checks.TheVariants.Invalid rule section index instruction) = not_valid rule section index instruction
 reason_of_check checks.TheVariants.Memory = out_of_memory
+
+abbrev pub reason_of_wat : wats.CheckFault → Reason
+reason_of_wat (wats.TheVariants.Unsaid row at) = not_wat row at
+reason_of_wat (wats.TheVariants.Invalid rule section index instruction) = not_valid rule section index instruction
+reason_of_wat wats.TheVariants.Memory = out_of_memory
 
 abbrev pub reason_of_words : words.WordsFault → Reason
 reason_of_words words.TheVariants.Usage = faulty_words

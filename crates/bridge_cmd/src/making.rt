@@ -1,7 +1,7 @@
 //! Commands that read one file.
 ghost use Rattle.std.specs.Prelude.{◌≡◌, ◌≤◌, true, false, None, length, IfOk, IfErr};
 ghost use Rattle.bridge_lang.specs.Command as spec;
-ghost use Rattle.bridge_lang.specs.declared.making.Making.TheVariants.{CheckAsm, CheckWasm, WasmToAsm, WasmToWat, Shorten, Show};
+ghost use Rattle.bridge_lang.specs.declared.making.Making.TheVariants.{CheckAsm, CheckWasm, WasmToAsm, WasmToWat, WatToWasm, Shorten, Show};
 ghost use Rattle.asm_tree.specs.Views.{module_view};
 ghost use Rattle.wasm_binary_write.specs.Spelling.{spelling};
 ghost use Rattle.asm2wasm_translation.specs.Modules.{translation};
@@ -12,7 +12,7 @@ ghost use Rattle.bridge_lang.specs.Job.{file_limit, IsMade};
 ghost use Rattle.bridge_lang.specs.Answers.{IsAnswered};
 ghost use Rattle.bridge_cmd.specs.Refused.{reason_of};
 
-use crate::refusal::{Refusal, of_check, of_outside, of_text};
+use crate::refusal::{Refusal, of_check, of_outside, of_text, of_wat};
 use asm_grammar_print::print;
 use asm_names::module_hashes;
 use asm_text::printed_texts_are_read;
@@ -119,6 +119,18 @@ fn worded(alloc: Global, bytes: &[u8]) -> Result<SharedBytes, Refusal>
     }
 }
 
+/// The shortest spelling of the valid module that a text of WebAssembly says.
+fn assembled(alloc: Global, text: &[u8]) -> Result<SharedBytes, Refusal>
+    requires { length text.now ≤ file_limit }
+    ensures made { IfOk result (λ output. IsMade (spec.make WatToWasm) text.now output) }
+    ensures barred { IfErr result (λ refusal. IsAnswered (spec.make WatToWasm) text.now (reason_of refusal)) }
+{
+    match cmd_wat2wasm::spelled(alloc, text) {
+        Ok(bytes) => Ok(SharedBytes::from_vec(alloc, bytes)),
+        Err(fault) => Err(of_wat(fault)),
+    }
+}
+
 /// The counts line of an accepted module of asm.js.
 fn text_counts(alloc: Global, text: &[u8]) -> Result<SharedBytes, Refusal>
     ensures made { IfOk result (λ output. IsMade (spec.make CheckAsm) text.now output) }
@@ -207,12 +219,14 @@ fn shown(alloc: Global, bytes: &[u8]) -> Result<SharedBytes, Refusal>
 
 /// What is made of a module's bytes.
 pub(crate) fn made(alloc: Global, making: Making, bytes: &[u8]) -> Result<SharedBytes, Refusal>
+    requires { length bytes.now ≤ file_limit }
     ensures made { IfOk result (λ output. IsMade (spec.make making) bytes.now output) }
     ensures barred { IfErr result (λ refusal. IsAnswered (spec.make making) bytes.now (reason_of refusal)) }
 {
     match making {
         Making::WasmToAsm => translated_back(alloc, bytes),
         Making::WasmToWat => worded(alloc, bytes),
+        Making::WatToWasm => assembled(alloc, bytes),
         Making::Shorten => shortened(alloc, bytes),
         Making::CheckAsm => text_counts(alloc, bytes),
         Making::CheckWasm => bytes_counts(alloc, bytes),

@@ -1,7 +1,7 @@
 //! Why there is no output.
 ghost use Rattle.std.specs.Prelude.{◌≡◌, string_bytes};
 ghost use Rattle.bridge_lang.specs.Reason.{not_run};
-ghost use Rattle.bridge_cmd.specs.Refused.{reason_of, reason_of_check, reason_of_text, reason_of_words, reason_of_run, reason_of_script, reason_of_join, reason_at};
+ghost use Rattle.bridge_cmd.specs.Refused.{reason_of, reason_of_check, reason_of_text, reason_of_wat, reason_of_words, reason_of_run, reason_of_script, reason_of_join, reason_at};
 ghost use Rattle.bridge_lang.specs.Statuses.{status_of};
 
 use bridge_args::WordsFault;
@@ -14,6 +14,7 @@ use cmd_run_wasm::RunFault;
 use script_read::ScriptFault;
 use wasm_tree::Row;
 use wasm_validate::{Beyond, Outside, Rule, Section};
+use wat_lang::Row as WatRow;
 
 /// Why there is no output.
 #[derive(Drop)]
@@ -25,6 +26,10 @@ pub(crate) enum Refusal {
     },
     NotABinary {
         row: Row,
+        at: u64,
+    },
+    NotWat {
+        row: WatRow,
         at: u64,
     },
     NotValid {
@@ -64,6 +69,7 @@ impl Refusal {
                 row: *row,
                 at: *at,
             }),
+            Refusal::NotWat { row, at } => Status::WatRefused { row: *row, at: *at },
             Refusal::NotValid {
                 rule,
                 section,
@@ -132,6 +138,27 @@ pub(crate) fn of_text(fault: cmd_check_asm::CheckFault) -> Refusal
     match fault {
         cmd_check_asm::CheckFault::Refused { row, at } => Refusal::NotAsm { row, at },
         cmd_check_asm::CheckFault::Memory => Refusal::OutOfMemory,
+    }
+}
+
+/// Why a text says no valid module of WebAssembly.
+pub(crate) fn of_wat(fault: cmd_wat2wasm::CheckFault) -> Refusal
+    ensures { reason_of result ≡ reason_of_wat fault }
+{
+    match fault {
+        cmd_wat2wasm::CheckFault::Unsaid { row, at } => Refusal::NotWat { row, at },
+        cmd_wat2wasm::CheckFault::Invalid {
+            rule,
+            section,
+            index,
+            instruction,
+        } => Refusal::NotValid {
+            rule,
+            section,
+            index,
+            instruction,
+        },
+        cmd_wat2wasm::CheckFault::Memory => Refusal::OutOfMemory,
     }
 }
 

@@ -5,6 +5,7 @@ ghost use Rattle.bridge_lang.specs.Reason.{line_of};
 ghost use Rattle.bridge_lang.specs.AsmRows as texts;
 ghost use Rattle.bridge_lang.specs.WasmRows as names;
 ghost use Rattle.bridge_lang.specs.LinkRows as links;
+ghost use Rattle.bridge_lang.specs.WatRows as wat;
 ghost use Rattle.wasm_lang_valid.specs.Rules.{number};
 ghost use Rattle.wasm_lang_valid.specs.Validity.{id};
 ghost use Rattle.bridge_cmd.specs.Refused.{reason_of};
@@ -17,9 +18,11 @@ use cmd_check_asm::{AsmRow, row_name as asm_row_name};
 use cmd_check_wasm::{row_name, rule_number, section_number};
 use cmd_link::{LinkRow, link_row_name, side_name};
 use cmd_run_wasm::outside_name;
+use cmd_wat2wasm::row_name as wat_row_name;
 use itoa::Buffer;
 use wasm_tree::Row;
 use wasm_validate::{Beyond, Rule, Section};
+use wat_lang::Row as WatRow;
 
 /// Writes pieces, one after the other.
 fn put_pieces<E: Sink>(report: &mut E, pieces: &[&str]) -> Result<(), Failed>
@@ -63,6 +66,7 @@ pub(crate) fn write_line<E: Sink>(report: &mut E, refusal: &Refusal) -> Result<(
         ),
         Refusal::NotAsm { row, at } => put_text(report, *row, *at),
         Refusal::NotABinary { row, at } => put_binary(report, *row, *at),
+        Refusal::NotWat { row, at } => put_wat(report, *row, *at),
         Refusal::NotValid {
             rule,
             section,
@@ -112,6 +116,25 @@ fn put_binary<E: Sink>(report: &mut E, row: Row, at: u64) -> Result<(), Failed>
     let mut digits = Buffer::new();
     let at = digits.format(at);
     put_pieces(report, &["wasm refused: ", row_name(row), " at ", at, "\n"])
+}
+
+/// The line of a text that says no module of WebAssembly.
+fn put_wat<E: Sink>(report: &mut E, row: WatRow, at: u64) -> Result<(), Failed>
+    requires { (n : ℕ) → E.takes report.old n }
+
+    ensures takes { (n : ℕ) → E.takes report.new n }
+    ensures never_falls { E.faults report.old ≤ E.faults report.new }
+    ensures whole { OnOk result (Gains (concat (codes "wat refused: " ∷ wat.row_name row ∷ codes " at " ∷ decimal at ∷ codes "\n" ∷ []))
+        (seen (E.told report.old) (E.faults report.old)) (seen (E.told report.new) (E.faults report.new))) }
+    ensures front { OnErr result (GainsFront (concat (codes "wat refused: " ∷ wat.row_name row ∷ codes " at " ∷ decimal at ∷ codes "\n" ∷ []))
+        (seen (E.told report.old) (E.faults report.old)) (seen (E.told report.new) (E.faults report.new))) }
+{
+    let mut digits = Buffer::new();
+    let at = digits.format(at);
+    put_pieces(
+        report,
+        &["wat refused: ", wat_row_name(row), " at ", at, "\n"],
+    )
 }
 
 /// The line of a module that isn't valid.

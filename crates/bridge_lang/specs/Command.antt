@@ -26,6 +26,8 @@ pub data Asked : Type 0 where
 pub data Language : Type 0 where
   asm_js : Language
   web_assembly : Language
+  -- WebAssembly in its text form
+  wat : Language
 
 -- WebAssembly begins with a byte 0
 abbrev pub begins_with_zero : List ℕ → Bool

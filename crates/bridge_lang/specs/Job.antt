@@ -18,6 +18,7 @@ use Rattle.wasm_lang_valid.specs.Bytes.{IsValidBytes, IsInvalidBytes, IsBeyond}
 use Rattle.wasm_lang_valid.specs.Profile.{outside_profile}
 use Rattle.bridge_lang.specs.Listing.{counts_line, listing}
 use Rattle.wat_lang.specs.Printing.{canonical}
+use Rattle.bridge_lang.specs.WatVerdicts.{IsValidWat, IsWatRefusal}
 use Rattle.bridge_lang.specs.WasmRuns.{IsOutside}
 use Rattle.asm2wasm_lang.specs.Allowed.{IsAllowed, IsBounded, IsShortest}
 use Rattle.wasm2js_lang.specs.Allowed.{IsAllowed as IsAllowedAsm, IsBounded as IsBoundedAsm, TrapsAreCalls}
@@ -27,8 +28,8 @@ use Rattle.wasm_link_lang.specs.Refusal.{refusal}
 use Rattle.wasm_link_lang.specs.Allowed.{IsAllowed as IsAllowedFor, IsBounded as IsBoundedFor}
 use Rattle.gen_lang.specs.Recipe.{recipe, recipe_heap, summary}
 use Rattle.bridge_lang.specs.declared.making.Making.{Making}
-use Rattle.bridge_lang.specs.declared.making.Making.TheVariants.{CheckAsm, CheckWasm, WasmToAsm, WasmToWat, Shorten, Show}
-use Rattle.bridge_lang.specs.Command.{Running, as_text, as_binary, Action, make, translate, link, run, on_file, gen, Language, asm_js, web_assembly, language_of}
+use Rattle.bridge_lang.specs.declared.making.Making.TheVariants.{CheckAsm, CheckWasm, WasmToAsm, WasmToWat, WatToWasm, Shorten, Show}
+use Rattle.bridge_lang.specs.Command.{Running, as_text, as_binary, Action, make, translate, link, run, on_file, gen, Language, asm_js, web_assembly, wat, language_of}
 use Rattle.bridge_lang.specs.Words.{asked}
 use Rattle.bridge_lang.specs.Reason.{Reason, faulty_words, not_asm, not_a_binary, not_valid, not_run, not_linked, bad_script, missing, too_large}
 use Rattle.bridge_lang.specs.Runs.{Runner, IsRunner, script_for, Prints}
@@ -69,6 +70,7 @@ read_by CheckAsm bytes = asm_js
 read_by CheckWasm bytes = web_assembly
 read_by WasmToAsm bytes = web_assembly
 read_by WasmToWat bytes = web_assembly
+read_by WatToWasm bytes = wat
 read_by Shorten bytes = asm_js
 read_by Show bytes = language_of bytes
 
@@ -85,6 +87,7 @@ pub data IsBarred : Action → List ℕ → Reason → Type 0 where
   unreadable : {a : Action} {bytes : List ℕ} (row : Row) (at : ℕ) → read_as a bytes ≡ web_assembly → IsFirstFault bytes row at → IsBarred a bytes (not_a_binary row at)
   invalid : {a : Action} {bytes : List ℕ} (rule : Rule) (section : Section) (index instruction : ℕ) → read_as a bytes ≡ web_assembly
       → IsInvalidBytes bytes rule section index instruction → IsBarred a bytes (not_valid rule section index instruction)
+  unsaid : {a : Action} {bytes : List ℕ} (reason : Reason) → read_as a bytes ≡ wat → IsWatRefusal bytes reason → IsBarred a bytes reason
   not_translated : {bytes : List ℕ} (row : Outside) → IsBeyond bytes row → IsBarred (make WasmToAsm) bytes (not_run row.row row.value)
   outside : {script bytes : List ℕ} {steps : ℕ} (row : Outside) → IsOutside bytes row → IsBarred (run as_binary script steps) bytes (not_run row.row row.value)
 
@@ -118,6 +121,7 @@ abbrev pub IsMadeOfBinary : Action → WasmModule → (output : List ℕ) → Ty
 IsMadeOfBinary (make CheckWasm) w output = output ≡ counts_line w
 IsMadeOfBinary (make WasmToAsm) w output = IsTranslatedBack w output
 IsMadeOfBinary (make WasmToWat) w output = output ≡ canonical w
+IsMadeOfBinary (make WatToWasm) w output = IsShortest output w
 IsMadeOfBinary (make Show) w output = output ≡ listing w
 IsMadeOfBinary _ w output = ⊥
 
@@ -125,6 +129,7 @@ IsMadeOfBinary _ w output = ⊥
 pub data IsMade (a : Action) (bytes output : List ℕ) : Type 0 where
   of_text : (m : Module) → read_as a bytes ≡ asm_js → IsAcceptedText bytes m → IsMadeOfText a m output → IsMade a bytes output
   of_binary : (w : WasmModule) → read_as a bytes ≡ web_assembly → IsValidBytes bytes w → IsMadeOfBinary a w output → IsMade a bytes output
+  of_wat : (w : WasmModule) → read_as a bytes ≡ wat → IsValidWat bytes w → IsMadeOfBinary a w output → IsMade a bytes output
 
 -- what a run makes of the script's bytes
 pub data IsPlayed (runner : Runner) (steps : ℕ) (script : List ℕ) : Job → Type 0 where

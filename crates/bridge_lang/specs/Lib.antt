@@ -6,12 +6,14 @@ pub mod Listing
 pub mod AsmRows
 pub mod WasmRows
 pub mod LinkRows
+pub mod WatRows
 pub mod AsmVerdicts
 pub mod WasmVerdicts
 pub mod Shortening
 pub mod AsmRuns
 pub mod WasmRuns
 pub mod Reason
+pub mod WatVerdicts
 pub mod Statuses
 pub mod Runs
 pub mod Job

@@ -13,6 +13,8 @@ use Rattle.bridge_lang.specs.WasmRows.{row_name}
 use Rattle.bridge_lang.specs.WasmRows as outsiders
 use Rattle.bridge_lang.specs.LinkRows.{link_row_name, side_name}
 use Rattle.wasm_link_lang.specs.declared.rows.LinkRow.{LinkRow}
+use Rattle.wat_lang.specs.declared.fault.Row.{Row as WatRow}
+use Rattle.bridge_lang.specs.WatRows as wat
 
 pub data Reason : Type 0 where
   faulty_words : Reason
@@ -20,6 +22,8 @@ pub data Reason : Type 0 where
   not_asm : (row : AsmRow) (at : ℕ) → Reason
   -- the bytes aren't of the binary format: why, and the offset
   not_a_binary : (row : Row) (at : ℕ) → Reason
+  -- the text says no module of WebAssembly: why, and the offset
+  not_wat : (row : WatRow) (at : ℕ) → Reason
   -- the module isn't valid: the rule, the section, the item in it, and the instruction
   not_valid : (rule : Rule) (section : Section) (index instruction : ℕ) → Reason
   -- the module isn't run: why, and the number of an import, or a count
@@ -38,6 +42,7 @@ abbrev pub parts_of : Reason → List (List ℕ)
 parts_of faulty_words = codes "usage: bridge COMMAND [--heap N] [--steps N] [FILE] [SCRIPT]" ∷ []
 parts_of (not_asm row at) = codes "asm.js refused: " ∷ texts.row_name row ∷ codes " at " ∷ decimal at ∷ []
 parts_of (not_a_binary row at) = codes "wasm refused: " ∷ row_name row ∷ codes " at " ∷ decimal at ∷ []
+parts_of (not_wat row at) = codes "wat refused: " ∷ wat.row_name row ∷ codes " at " ∷ decimal at ∷ []
 parts_of (not_valid rule section index instruction) =
     codes "wasm refused: B13 Invalid V" ∷ decimal (number rule) ∷ codes " at section " ∷ decimal (id section)
     ∷ codes " index " ∷ decimal index ∷ codes " instruction " ∷ decimal instruction ∷ []

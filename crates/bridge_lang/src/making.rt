@@ -10,6 +10,7 @@ pub enum Making {
     CheckWasm,
     WasmToAsm,
     WasmToWat,
+    WatToWasm,
     Shorten,
     Show,
 }
@@ -25,6 +26,7 @@ impl Making {
             "check-wasm" => Some(Making::CheckWasm),
             "wasm2js" => Some(Making::WasmToAsm),
             "wasm2wat" => Some(Making::WasmToWat),
+            "wat2wasm" => Some(Making::WatToWasm),
             "shorten" => Some(Making::Shorten),
             "show" => Some(Making::Show),
             _ => None,

@@ -6,6 +6,7 @@ use crate::row::AsmRow;
 use wasm_lang::Row;
 use wasm_lang_valid::{Beyond, Rule, Section};
 use wasm_link_lang::LinkRow;
+use wat_lang::Row as WatRow;
 
 /// Why the bytes are no WebAssembly module that the command takes.
 #[derive(Clone, Copy, Debug, PartialEq, Eq)]
@@ -61,6 +62,8 @@ pub enum Status {
     },
     /// Memory ran out.
     Memory,
+    /// The text says no module of WebAssembly: why, and the offset in bytes.
+    WatRefused { row: WatRow, at: u64 },
     /// The two modules aren't linked: why, whether it is for the second's sake, and the number of a row, a minimum, an export, an
     /// import, a sum or a function.
     LinkRefused {
@@ -71,7 +74,7 @@ pub enum Status {
 }
 
 impl Status {
-    /// The exit status of the process, 0 to 9 or 11.
+    /// The exit status of the process, 0 to 11.
     pub fn code(&self) -> u8
         ensures { result ≡ code_of self.now }
     {
@@ -86,6 +89,7 @@ impl Status {
             Status::Missing { .. } => 7,
             Status::TooLarge { .. } => 8,
             Status::Memory => 9,
+            Status::WatRefused { .. } => 10,
             Status::LinkRefused { .. } => 11,
         }
     }
