@@ -1,0 +1,4 @@
+pub mod Fields
+pub mod Same
+pub mod Said
+pub mod Exported

@@ -1,0 +1,19 @@
+use Rattle.std.proofs.Common.{◌≡◌, List, map, refl, arith}
+use Rattle.wat_lang.specs.Rows as spec
+use Rattle.wat_marks.specs.declared.marked.MarkedToken.{MarkedToken}
+use Rattle.wat_marks.specs.Views.{marked_of}
+use Rattle.wat_read_tokens.specs.Marks.{marks_of}
+use Rattle.wat_read_rows.proofs.Joins.{noted, noted_all, chosen_front}
+use Rattle.wat_read_rows.proofs.numbers.number_rows.Goals as goal
+
+pub loop-token-preserved : goal.loop-token-preserved
+loop-token-preserved c =
+    let read : List MarkedToken → List spec.Refusal = λ ts. spec.number_rows (marks_of ts) in
+    let t = c.token-item.result in
+    noted read read c.args.marks.now c.loop-token.token-index t c.loop-token.least _ _ _ c.loop-token-test.true c.token-item.is
+    (λ ts. refl) c.note.ensures c.loop-token.invariant
+
+pub returns : goal.returns
+returns c =
+    let read : List MarkedToken → List spec.Refusal = λ ts. spec.number_rows (marks_of ts) in
+    noted_all read c.args.marks.now c.loop-token.token-index c.loop-token.least _ (omega (arith, c.loop-token-test.false)) refl c.loop-token.invariant

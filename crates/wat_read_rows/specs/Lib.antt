@@ -1,0 +1,4 @@
+pub mod Joined
+pub mod Seen
+pub mod Single
+pub mod Heads
