@@ -4,13 +4,12 @@ use Rattle.std.proofs.lemmas.List.{take_all, take_more}
 use Rattle.std.proofs.lemmas.Bool.{false≢true}
 use Rattle.std.proofs.lemmas.Slice.Eq.{bytes_eq-Decides}
 use Rattle.std.specs.Prelude.{IfSome, option_map, option_and_then, if◌then◌else◌}
+use Rattle.std.specs.Cmp.Lexicographic.{nat_list_eq_equiv}
 use Rattle.std.specs.Str.{bytes_eq}
 use Rattle.indexmap.specs.IndexMap.{IndexMap}
 use Rattle.wat_lang.specs.Names.{Names, is_named, place_of_id}
 use Rattle.wat_read_labels.specs.declared.labels.Level.{Level}
-use Rattle.wat_read_names.specs.Named.{name_of, found}
-use Rattle.wat_read_labels.specs.Levels.{level_name, names_of, level_of, AreHidden, level_known, Knows}
-use Rattle.wat_read_names.proofs.Places.{same_bytes}
+use Rattle.wat_read_labels.specs.Levels.{level_name, names_of, level_of, AreHidden, found, level_known, Knows}
 
 pub levels_count : (ls : List Level) → length (names_of ls) ≡ length ls
 levels_count ls = length-map (reverse ls) level_name ∙ length-reverse ls
@@ -68,8 +67,11 @@ opened_plain ls new l known h none put few =
       are_few = (let e = length-append ls (l ∷ []) in omega arith);
     })
 
+same_bytes : (a b : List ℕ) → bytes_eq a b ≡ bytes_eq b a
+same_bytes a b = nat_list_eq_equiv.symm a b
+
 -- what a map has under an id, where one id has another level
-known_put : {S : Type 0} (old new : IndexMap (List ℕ) (Option ℕ) S) (name id : List ℕ) (v : Option ℕ) → found new id ≡ (if bytes_eq name id then Some v else found old id)
+pub known_put : {S : Type 0} (old new : IndexMap (List ℕ) (Option ℕ) S) (name id : List ℕ) (v : Option ℕ) → found new id ≡ (if bytes_eq name id then Some v else found old id)
     → level_known new id ≡ (if bytes_eq id name then v else level_known old id)
 known_put old new name id v e =
     ap (λ (o : Option (Option ℕ)). option_and_then (λ (l : Option ℕ). l) o) (e ∙ ap (λ (b : Bool). if b then Some v else found old id) (same_bytes name id))

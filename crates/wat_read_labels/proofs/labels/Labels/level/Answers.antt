@@ -1,6 +1,6 @@
 use Rattle.std.proofs.Common.{ℕ, ap, ◌∙◌}
 use Rattle.std.specs.Prelude.{Option, option_and_then}
-use Rattle.wat_read_names.specs.Named.{found}
+use Rattle.wat_read_labels.specs.Levels.{found}
 use Rattle.wat_read_labels.proofs.labels.Labels.level.Goals as goal
 
 pub returns-in-Some : goal.returns-in-Some
