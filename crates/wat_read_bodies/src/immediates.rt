@@ -1,6 +1,6 @@
 //! Immediates.
 
-ghost use Rattle.std.specs.Prelude.{◌≡◌, ◌^◌, ◌-◌, ◌≤ℤ◌, ◌<ℤ◌, [], Option, Some, option_map, pos, negsuc, unwrap_or, true};
+ghost use Rattle.std.specs.Prelude.{◌≡◌, [], option_map, pos, unwrap_or, true};
 ghost use Rattle.wat_lang.specs.Modules as spec;
 ghost use Rattle.wat_lang.specs.Rows.{number_rows};
 ghost use Rattle.wat_read_tokens.specs.Marks.{marks_of};
@@ -84,8 +84,7 @@ pub fn offset_in(parts: &[MarkedToken<'_>]) -> u32
 /// The number of a constant.
 pub fn whole(parts: &[MarkedToken<'_>]) -> i128
     requires { number_rows (marks_of parts.now) ≡ [] }
-    ensures value { result ≡ unwrap_or (spec.number_in spec.is_word (marks_of parts.now)) (pos 0) }
-    ensures range { (negsuc (2 ^ 63 - 1) ≤ℤ result) × (result <ℤ pos (2 ^ 64)) }
+    ensures { result ≡ unwrap_or (spec.number_in spec.is_word (marks_of parts.now)) (pos 0) }
 {
     match first(parts, Wanted::Word) {
         Some(token) => match whole_in(atom(token)) {

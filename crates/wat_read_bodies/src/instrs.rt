@@ -10,9 +10,9 @@ ghost use Rattle.wat_grammar.specs.Views.{form_of, mark_of};
 ghost use Rattle.wat_read_names.specs.Bound.{space_names};
 ghost use Rattle.wat_read_tokens.specs.Marks.{marks_of};
 
-use crate::immediates::{align_in, block_type, offset_in, whole};
+use crate::immediates::{align_in, block_type, offset_in};
 use crate::uses::{first_label, first_used, labels_used};
-use crate::words::{word_32, word_64};
+use crate::words::{word_32_in, word_64_in};
 use sem_words::List;
 use std::alloc::{AllocError, Global};
 use wasm_tree::Instr;
@@ -81,8 +81,8 @@ fn with_immediates(
         Form::MemorySize => Ok(Instr::MemorySize),
         Form::MemoryCopy => Ok(Instr::MemoryCopy),
         Form::MemoryFill => Ok(Instr::MemoryFill),
-        Form::Const32 => Ok(Instr::Const32(word_32(whole(parts)))),
-        Form::Const64 => Ok(Instr::Const64(word_64(whole(parts)))),
+        Form::Const32 => Ok(Instr::Const32(word_32_in(parts))),
+        Form::Const64 => Ok(Instr::Const64(word_64_in(parts))),
         Form::Eqz32 => Ok(Instr::Eqz32),
         Form::Eqz64 => Ok(Instr::Eqz64),
         Form::Rel32(op) => Ok(Instr::Rel32(op)),

@@ -1,16 +1,14 @@
 -- Labels that are open, by a map and by what they hide.
-use Rattle.std.proofs.Common.{◌≡◌, ℕ, zero, suc, ◌+◌, ◌-◌, ◌^◌, ◌<◌, ◌≤◌, Bool, true, false, List, [], ◌∷◌, ◌++◌, length, get_or, take, map, reverse, drop, Option, Some, None, refl, sym, ap, ◌∙◌, arith, subst, length-append, length-map, length-reverse, reverse-append}
-use Rattle.std.proofs.lemmas.List.{take_all, take_more}
-use Rattle.std.proofs.lemmas.Bool.{false≢true}
+use Rattle.std.proofs.Common.{◌≡◌, ℕ, suc, ◌+◌, ◌-◌, ◌^◌, ◌<◌, Bool, true, false, List, [], ◌∷◌, ◌++◌, length, get_or, take, map, reverse, drop, Option, Some, None, refl, sym, ap, ◌∙◌, arith, subst, length-append}
+use Rattle.std.proofs.lemmas.List.{length-map, length-reverse, reverse-append, take_all, take_more}
 use Rattle.std.proofs.lemmas.Slice.Eq.{bytes_eq-Decides}
 use Rattle.std.specs.Prelude.{IfSome, option_map, option_and_then, if◌then◌else◌}
+use Rattle.std.specs.Cmp.Lexicographic.{nat_list_eq_equiv}
 use Rattle.std.specs.Str.{bytes_eq}
 use Rattle.indexmap.specs.IndexMap.{IndexMap}
 use Rattle.wat_lang.specs.Names.{Names, is_named, place_of_id}
 use Rattle.wat_read_labels.specs.declared.labels.Level.{Level}
-use Rattle.wat_read_names.specs.Named.{name_of, found}
-use Rattle.wat_read_labels.specs.Levels.{level_name, names_of, level_of, AreHidden, level_known, Knows}
-use Rattle.wat_read_names.proofs.Places.{same_bytes}
+use Rattle.wat_read_labels.specs.Levels.{level_name, names_of, level_of, AreHidden, found, level_known, Knows}
 
 pub levels_count : (ls : List Level) → length (names_of ls) ≡ length ls
 levels_count ls = length-map (reverse ls) level_name ∙ length-reverse ls
@@ -21,11 +19,14 @@ one_more ls l = reverse-append ls (l ∷ [])
 pub names_more : (ls : List Level) (l : Level) → names_of (ls ++ l ∷ []) ≡ level_name l ∷ names_of ls
 names_more ls l = ap (map level_name) (one_more ls l)
 
+pub few_named : {S : Type 0} {known : IndexMap (List ℕ) (Option ℕ) S} (ls : List Level) (names : Names) → Knows ls known → names_of ls ≡ names → length names < 2 ^ 32
+few_named ls names h e = let f = h.are_few in let g = levels_count ls in let q = ap length e in omega arith
+
 -- ---- places
 
-below : (id : List ℕ) (ns : Names) → IfSome (level_of id ns) (λ k. k < length ns)
-below id [] = tt
-below id (n ∷ ns) = by (below id ns) (is_named id n)
+pub level_within : (id : List ℕ) (ns : Names) → IfSome (level_of id ns) (λ k. k < length ns)
+level_within id [] = tt
+level_within id (n ∷ ns) = by (level_within id ns) (is_named id n)
   where
     weaker : (o : Option ℕ) → IfSome o (λ k. k < length ns) → IfSome o (λ k. k < suc (length ns))
     weaker None h = tt
@@ -34,9 +35,6 @@ below id (n ∷ ns) = by (below id ns) (is_named id n)
     by : IfSome (level_of id ns) (λ k. k < length ns) → (b : Bool) → IfSome (let x : Option ℕ = elim b [ true ↦ Some (length ns) | false ↦ level_of id ns ] in x) (λ k. k < suc (length ns))
     by rest true = omega arith
     by rest false = weaker (level_of id ns) rest
-
-pub level_below : (id : List ℕ) (ns : Names) (k : ℕ) → Some k ≡ level_of id ns → k < length ns
-level_below id ns k e = let h : IfSome (Some k) (λ j. j < length ns) = subst (λ (o : Option ℕ). IfSome o (λ j. j < length ns)) (sym e) (below id ns) in h
 
 pub place_is : (id : List ℕ) (ns : Names) → place_of_id id ns ≡ option_map (λ k. length ns - 1 - k) (level_of id ns)
 place_is id [] = refl
@@ -49,7 +47,7 @@ place_is id (n ∷ ns) = by (place_is id ns) (is_named id n)
     by : place_of_id id ns ≡ option_map (λ k. length ns - 1 - k) (level_of id ns) → (b : Bool) → (let x : Option ℕ = elim b [ true ↦ Some 0 | false ↦ option_map suc (place_of_id id ns) ] in x)
         ≡ option_map (λ k. suc (length ns) - 1 - k) (let x : Option ℕ = elim b [ true ↦ Some (length ns) | false ↦ level_of id ns ] in x)
     by rest true = ap (λ (j : ℕ). Some j) (omega arith)
-    by rest false = ap (option_map suc) rest ∙ later (level_of id ns) (below id ns)
+    by rest false = ap (option_map suc) rest ∙ later (level_of id ns) (level_within id ns)
 
 pub place_found : (id : List ℕ) (ns : Names) (k count p : ℕ) → Some k ≡ level_of id ns → count ≡ length ns → p ≡ count - 1 - k → Some p ≡ place_of_id id ns
 place_found id ns k count p e c q = ap (λ (j : ℕ). Some j) (q ∙ ap (λ (m : ℕ). m - 1 - k) c) ∙ ap (option_map (λ k. length ns - 1 - k)) e ∙ sym (place_is id ns)
@@ -68,8 +66,11 @@ opened_plain ls new l known h none put few =
       are_few = (let e = length-append ls (l ∷ []) in omega arith);
     })
 
+same_bytes : (a b : List ℕ) → bytes_eq a b ≡ bytes_eq b a
+same_bytes a b = nat_list_eq_equiv.symm a b
+
 -- what a map has under an id, where one id has another level
-known_put : {S : Type 0} (old new : IndexMap (List ℕ) (Option ℕ) S) (name id : List ℕ) (v : Option ℕ) → found new id ≡ (if bytes_eq name id then Some v else found old id)
+pub known_put : {S : Type 0} (old new : IndexMap (List ℕ) (Option ℕ) S) (name id : List ℕ) (v : Option ℕ) → found new id ≡ (if bytes_eq name id then Some v else found old id)
     → level_known new id ≡ (if bytes_eq id name then v else level_known old id)
 known_put old new name id v e =
     ap (λ (o : Option (Option ℕ)). option_and_then (λ (l : Option ℕ). l) o) (e ∙ ap (λ (b : Bool). if b then Some v else found old id) (same_bytes name id))
@@ -130,12 +131,6 @@ closed_last levels new count d l old known h len is kept back =
     let whole : levels ≡ take count levels ++ l ∷ [] =
     sym (take_all (count + 1) levels (omega arith)) ∙ take_more levels count d (omega arith) ∙ ap (λ (x : Level). take count levels ++ x ∷ []) (sym is) in
     subst (λ (xs : List Level). Knows xs known) (sym kept) (closed (take count levels) l old known (subst (λ (xs : List Level). Knows xs old) whole h) back)
-
-pub names_less : (levels new : List Level) (count : ℕ) (d : Level) → count + 1 ≡ length levels → new ≡ take count levels → names_of new ≡ drop 1 (names_of levels)
-names_less levels new count d len kept =
-    let l : Level = get_or levels count d in
-    let whole : levels ≡ take count levels ++ l ∷ [] = sym (take_all (count + 1) levels (omega arith)) ∙ take_more levels count d (omega arith) in
-    ap names_of kept ∙ sym (ap (λ xs. drop 1 (names_of xs)) whole ∙ ap (drop 1) (names_more (take count levels) l))
 
 pub none_open : (levels : List Level) → length levels ≡ 0 → names_of levels ≡ drop 1 (names_of levels)
 none_open [] e = refl

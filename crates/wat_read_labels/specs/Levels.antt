@@ -1,12 +1,13 @@
 -- Blocks that are open, with what their ids hide. The code holds the outermost first.
-use Rattle.std.specs.Prelude.{◌≡◌, ℕ, ◌^◌, ◌<◌, true, false, List, [], ◌∷◌, map, reverse, length, Option, Some, None, IfSome, option_and_then}
-use Rattle.indexmap.specs.IndexMap.{IndexMap}
+use Rattle.std.specs.Prelude.{◌≡◌, ℕ, ◌^◌, ◌<◌, true, false, List, [], ◌∷◌, map, reverse, length, Option, Some, None, IfSome, option_map, option_and_then}
+use Rattle.std.specs.Borrow.{Bor}
+use Rattle.std.specs.Str.{bytes_eq}
+use Rattle.indexmap.specs.IndexMap.{IndexMap, get_by}
 use Rattle.wat_lang.specs.Names.{Names, is_named}
 use Rattle.wat_read_labels.specs.declared.labels.Level.{Level}
-use Rattle.wat_read_names.specs.Named.{name_of, found}
 
 abbrev pub level_name : Level → Option (List ℕ)
-level_name l = name_of l.name
+level_name l = option_map (λ (b : Bor (List ℕ)). b.now) l.name
 
 abbrev pub names_of : List Level → Names
 names_of ls = map level_name (reverse ls)
@@ -20,6 +21,10 @@ level_of id (n ∷ ns) = elim (is_named id n) [ true ↦ Some (length ns) | fals
 abbrev pub AreHidden : List Level → Type 0
 AreHidden [] = Unit {0}
 AreHidden (l ∷ ls) = IfSome (level_name l) (λ n. l.hidden ≡ level_of n (map level_name ls)) × AreHidden ls
+
+-- what a map has under an id
+abbrev pub found : {X S : Type 0} → IndexMap (List ℕ) X S → List ℕ → Option X
+found known id = get_by (bytes_eq id) known
 
 abbrev pub level_known : {S : Type 0} → IndexMap (List ℕ) (Option ℕ) S → List ℕ → Option ℕ
 level_known known id = option_and_then (λ (level : Option ℕ). level) (found known id)

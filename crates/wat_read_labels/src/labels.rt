@@ -1,6 +1,6 @@
 //! The labels of the blocks that are open.
 
-ghost use Rattle.std.specs.Prelude.{◌≡◌, ◌+◌, ◌<◌, ◌^◌, ◌∷◌, [], None, Some, ℕ, List, IfOk, OnOk, OnErr, drop, length, false, unwrap_or, if◌then◌else◌};
+ghost use Rattle.std.specs.Prelude.{◌≡◌, ◌+◌, ◌<◌, ◌^◌, ◌∷◌, [], None, Some, ℕ, List, IfSome, IfOk, OnOk, OnErr, drop, length, false, unwrap_or, if◌then◌else◌};
 ghost use Rattle.wat_lang.specs.Names as spec;
 ghost use Rattle.wat_lang.specs.Numbers as numbers;
 ghost use Rattle.wat_lang.specs.Rows.{is_out_32, is_unknown};
@@ -49,7 +49,7 @@ fn put_back<'a>(
     known: &mut IndexMap<NameKey<'a>, Option<u32>, KeyHashes>,
     level: Level<'a>,
 ) -> Result<(), AllocError>
-    ensures ok { OnOk result ((id : List ℕ) → level_known known.new id ≡ (if spec.is_named id (level_name level) then level.hidden else level_known known.old id)) }
+    ensures ok { OnOk result ((id : List ℕ) → level_known known.new id ≡ (if spec.is_named id (level_name level.entry) then level.entry.hidden else level_known known.old id)) }
     ensures err { OnErr result ((id : List ℕ) → level_known known.new id ≡ level_known known.old id) }
 {
     match level.name {
@@ -73,7 +73,6 @@ impl<'a> Labels<'a> {
     }
 
     /// How many are open.
-    #[tactic(auto, using(crate::proofs::Opened::levels_count))]
     pub fn len(&self) -> usize
         ensures { result ≡ length self.now }
     {
@@ -105,7 +104,9 @@ impl<'a> Labels<'a> {
 
     /// The level of the innermost block with the id, from the outermost on.
     fn level(&self, id: &[u8]) -> Option<u32>
-        ensures { result ≡ level_of id.now self.now }
+        ensures level { result ≡ level_of id.now self.now }
+        ensures within { IfSome result (λ k. k < length self.now) }
+        ensures few { length self.now < 2 ^ 32 }
     {
         match self.known.get(&NameKey::of(id)) {
             Some(level) => *level,
