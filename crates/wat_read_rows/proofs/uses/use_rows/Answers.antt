@@ -8,8 +8,8 @@ use Rattle.wat_marks.specs.declared.marked.MarkedToken.{MarkedToken}
 use Rattle.wat_marks.specs.Views.{marked_of}
 use Rattle.wat_read_names.specs.Bound.{space_names}
 use Rattle.wat_read_tokens.specs.Marks.{marks_of}
-use Rattle.wat_read_rows.specs.Joined.{join}
-use Rattle.wat_read_rows.proofs.Joins.{noted, noted_all, then_both}
+use Rattle.wat_read_refusals.specs.Joined.{join}
+use Rattle.wat_read_refusals.proofs.Joins.{noted, noted_all, then_both}
 use Rattle.wat_read_rows.proofs.uses.use_rows.Goals as goal
 
 pub loop-token-preserved : goal.loop-token-preserved

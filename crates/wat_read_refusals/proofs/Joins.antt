@@ -6,7 +6,7 @@ use Rattle.std.specs.Prelude.{nat_lt, nat_le, if◌then◌else◌}
 use Rattle.std.specs.List.{flat_map, filter}
 use Rattle.wat_lang.specs.Rows.{Refusal, row_number, is_before, lesser, least, where_holds}
 use Rattle.wat_read_tokens.proofs.Steps.{front}
-use Rattle.wat_read_rows.specs.Joined.{join}
+use Rattle.wat_read_refusals.specs.Joined.{join}
 
 abbrev comes : (x i y j : ℕ) → Bool
 comes x i y j = nat_lt x y || (nat_le x y && nat_lt i j)

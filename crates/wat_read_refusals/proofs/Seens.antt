@@ -8,10 +8,10 @@ use Rattle.wat_lang.specs.declared.fault.Row.TheVariants as rows
 use Rattle.wat_lang.specs.Grammar.{Marked}
 use Rattle.wat_lang.specs.Names.{text_of, binds_in}
 use Rattle.wat_lang.specs.Rows.{Refusal, least, where_holds, is_taken}
-use Rattle.wat_read_rows.specs.Joined.{join}
-use Rattle.wat_read_rows.specs.Seen.{has_seen, HasSeen}
-use Rattle.wat_read_rows.specs.Single.{before_next, taken_row}
-use Rattle.wat_read_rows.proofs.Joins.{join_none}
+use Rattle.wat_read_refusals.specs.Joined.{join}
+use Rattle.wat_read_refusals.specs.Seen.{has_seen, HasSeen}
+use Rattle.wat_read_refusals.specs.Single.{before_next, taken_row}
+use Rattle.wat_read_refusals.proofs.Joins.{join_none}
 
 pub seen_same : {S : Type 0} (s : Space) (m : Marked) (seen : IndexSet (List ℕ) S) (before : List (List ℕ)) → binds_in s m.mark ≡ false → HasSeen seen before → HasSeen seen (before_next s before m)
 seen_same s m seen before e h = λ n. h n ∙ sym (ap (λ (b : Bool). is_taken (if b then text_of m ∷ before else before) n) e)

@@ -2,7 +2,7 @@
 
 ghost use Rattle.std.specs.Prelude.{◌≡◌, None, Some, option_map};
 ghost use Rattle.wat_lang.specs.Rows as spec;
-ghost use Rattle.wat_read_rows.specs.Joined.{join, refusal_of};
+ghost use Rattle.wat_read_refusals.specs.Joined.{join, refusal_of};
 
 use std::marker::Model;
 use wat_lang::{Row, row_number};
@@ -23,7 +23,7 @@ pub struct Least {
 impl Model for Least {
     ghost use Rattle.std.specs.Prelude.{Option, option_map};
     ghost use Rattle.wat_lang.specs.Rows as spec;
-    ghost use Rattle.wat_read_rows.specs.Joined.{refusal_of};
+    ghost use Rattle.wat_read_refusals.specs.Joined.{refusal_of};
 
     ghost Value = { Option spec.Refusal };
 

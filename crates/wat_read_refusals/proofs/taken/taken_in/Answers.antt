@@ -4,10 +4,10 @@ use Rattle.wat_lang.specs.Rows as spec
 use Rattle.wat_marks.specs.declared.marked.MarkedToken.{MarkedToken}
 use Rattle.wat_marks.specs.Views.{marked_of}
 use Rattle.wat_read_tokens.specs.Marks.{marks_of}
-use Rattle.wat_read_rows.specs.Single.{before_next}
-use Rattle.wat_read_rows.proofs.Joins.{noted, noted_all}
-use Rattle.wat_read_rows.proofs.Fronts.{taken_front}
-use Rattle.wat_read_rows.proofs.taken.taken_in.Goals as goal
+use Rattle.wat_read_refusals.specs.Single.{before_next}
+use Rattle.wat_read_refusals.proofs.Joins.{noted, noted_all}
+use Rattle.wat_read_refusals.proofs.Fronts.{taken_front}
+use Rattle.wat_read_refusals.proofs.taken.taken_in.Goals as goal
 
 pub loop-token-init : goal.loop-token-init
 loop-token-init c = ([], λ n. ?, refl)

@@ -3,8 +3,8 @@ use Rattle.wat_lang.specs.Rows as spec
 use Rattle.wat_marks.specs.declared.marked.MarkedToken.{MarkedToken}
 use Rattle.wat_marks.specs.Views.{marked_of}
 use Rattle.wat_read_tokens.specs.Marks.{marks_of}
-use Rattle.wat_read_rows.proofs.Joins.{noted, noted_all, chosen_front}
-use Rattle.wat_read_rows.proofs.numbers.number_rows.Goals as goal
+use Rattle.wat_read_refusals.proofs.Joins.{noted, noted_all, chosen_front}
+use Rattle.wat_read_refusals.proofs.numbers.number_rows.Goals as goal
 
 pub loop-token-preserved : goal.loop-token-preserved
 loop-token-preserved c =

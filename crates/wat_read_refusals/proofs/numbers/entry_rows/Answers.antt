@@ -11,8 +11,8 @@ use Rattle.wat_lang.specs.declared.fault.Row.TheVariants as rows
 use Rattle.std.specs.Prelude.{not, nat_lt}
 use Rattle.std.specs.Str.{is_utf8}
 use Rattle.wasm_lang.specs.Limits.{most_entries}
-use Rattle.wat_read_rows.proofs.Joins.{noted, noted_all, chosen_front}
-use Rattle.wat_read_rows.proofs.numbers.entry_rows.Goals as goal
+use Rattle.wat_read_refusals.proofs.Joins.{noted, noted_all, chosen_front}
+use Rattle.wat_read_refusals.proofs.numbers.entry_rows.Goals as goal
 
 pub loop-token-preserved : goal.loop-token-preserved
 loop-token-preserved c =

@@ -2,8 +2,8 @@ use Rattle.std.proofs.Common.{◌≡◌, ℕ, Bool, true, false, not, ◌||◌, 
 use Rattle.std.specs.Prelude.{if◌then◌else◌}
 use Rattle.std.specs.Str.{bytes_eq}
 use Rattle.wat_read_names.proofs.Places.{same_bytes}
-use Rattle.wat_read_rows.specs.Seen.{has_seen}
-use Rattle.wat_read_rows.proofs.taken.is_again.Goals as goal
+use Rattle.wat_read_refusals.specs.Seen.{has_seen}
+use Rattle.wat_read_refusals.proofs.taken.is_again.Goals as goal
 
 not_not : (b : Bool) → not (not b) ≡ b
 not_not true = refl

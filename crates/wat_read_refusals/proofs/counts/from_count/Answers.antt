@@ -6,10 +6,10 @@ use Rattle.wat_lang.specs.Rows as spec
 use Rattle.wat_marks.specs.declared.marked.MarkedToken.{MarkedToken}
 use Rattle.wat_marks.specs.Views.{marked_of}
 use Rattle.wat_read_tokens.specs.Marks.{marks_of}
-use Rattle.wat_read_rows.specs.Joined.{join}
-use Rattle.wat_read_rows.proofs.Joins.{noted, noted_all}
-use Rattle.wat_read_rows.proofs.Fronts.{after, types_front, over_is, room_is}
-use Rattle.wat_read_rows.proofs.heads.from_count.Goals as goal
+use Rattle.wat_read_refusals.specs.Joined.{join}
+use Rattle.wat_read_refusals.proofs.Joins.{noted, noted_all}
+use Rattle.wat_read_refusals.proofs.Fronts.{after, types_front, over_is, room_is}
+use Rattle.wat_read_refusals.proofs.counts.from_count.Goals as goal
 
 pub loop-token-init : goal.loop-token-init
 loop-token-init c = (c.args.before, c.saturating_sub-room.ensures, refl)

@@ -2,8 +2,8 @@ use Rattle.std.proofs.Common.{◌≡◌, ℕ, ◌-◌, drop}
 use Rattle.wat_lang.specs.Names.{types_part, all_with}
 use Rattle.wat_lang.specs.Rows as spec
 use Rattle.wat_read_tokens.specs.Marks.{marks_of}
-use Rattle.wat_read_rows.specs.Joined.{join}
-use Rattle.wat_read_rows.proofs.heads.from_count.Given as goal
+use Rattle.wat_read_refusals.specs.Joined.{join}
+use Rattle.wat_read_refusals.proofs.counts.from_count.Given as goal
 
 abbrev pub invariant-loop-token : goal.invariant-loop-token
 invariant-loop-token l =

@@ -2,9 +2,9 @@ use Rattle.std.proofs.Common.{◌≡◌, ℕ, List, [], drop}
 use Rattle.wat_lang.specs.Names.{binds_in, all_with}
 use Rattle.wat_lang.specs.Rows as spec
 use Rattle.wat_read_tokens.specs.Marks.{marks_of}
-use Rattle.wat_read_rows.specs.Joined.{join}
-use Rattle.wat_read_rows.specs.Seen.{HasSeen}
-use Rattle.wat_read_rows.proofs.taken.taken_in.Given as goal
+use Rattle.wat_read_refusals.specs.Joined.{join}
+use Rattle.wat_read_refusals.specs.Seen.{HasSeen}
+use Rattle.wat_read_refusals.proofs.taken.taken_in.Given as goal
 
 abbrev pub invariant-loop-token : goal.invariant-loop-token
 invariant-loop-token l =

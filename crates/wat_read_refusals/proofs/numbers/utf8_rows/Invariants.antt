@@ -11,8 +11,8 @@ use Rattle.wat_lang.specs.declared.fault.Row.TheVariants as rows
 use Rattle.std.specs.Prelude.{not, nat_lt}
 use Rattle.std.specs.Str.{is_utf8}
 use Rattle.wasm_lang.specs.Limits.{most_entries}
-use Rattle.wat_read_rows.specs.Joined.{join}
-use Rattle.wat_read_rows.proofs.numbers.entry_rows.Given as goal
+use Rattle.wat_read_refusals.specs.Joined.{join}
+use Rattle.wat_read_refusals.proofs.numbers.utf8_rows.Given as goal
 
 abbrev pub invariant-loop-token : goal.invariant-loop-token
-invariant-loop-token l = join l.least (spec.least (spec.entry_rows (marks_of (drop l.token-index l.marks)))) ≡ join l.initial.least (spec.least (spec.entry_rows (marks_of l.marks)))
+invariant-loop-token l = join l.least (spec.least (spec.utf8_rows (marks_of (drop l.token-index l.marks)))) ≡ join l.initial.least (spec.least (spec.utf8_rows (marks_of l.marks)))

@@ -9,8 +9,8 @@ ghost use Rattle.wat_grammar.specs.Views.{mark_of};
 ghost use Rattle.wat_marks.specs.Views.{marked_of};
 ghost use Rattle.wat_tokens.specs.Views.{string_value};
 ghost use Rattle.wat_read_tokens.specs.Marks.{marks_of};
-ghost use Rattle.wat_read_rows.specs.Joined.{join};
-ghost use Rattle.wat_read_rows.specs.Single.{name_row, entries_row};
+ghost use Rattle.wat_read_refusals.specs.Joined.{join};
+ghost use Rattle.wat_read_refusals.specs.Single.{name_row, entries_row};
 
 use crate::least::Least;
 use std::alloc::{AllocError, Global};

@@ -1,0 +1,4 @@
+pub mod Joins
+pub mod Fronts
+pub mod Seens
+pub mod TextTests
