@@ -1,14 +1,14 @@
 -- What one token adds to the rows of a list.
-use Rattle.std.proofs.Common.{◌≡◌, ℕ, zero, suc, ◌+◌, ◌-◌, ◌<◌, ◌≤◌, Bool, true, false, ◌&&◌, ◌||◌, cond, List, [], ◌∷◌, ◌++◌, Option, Some, None, refl, sym, ap, ◌∙◌, arith}
+use Rattle.std.proofs.Common.{◌≡◌, ℕ, ◌+◌, ◌-◌, Bool, true, false, ◌&&◌, cond, List, [], ◌∷◌, ◌++◌, refl, ap, ◌∙◌, arith}
 use Rattle.std.proofs.lemmas.Bool.Decides.{nat_tests}
-use Rattle.std.specs.Prelude.{nat_le, ◌==◌, is_some, if◌then◌else◌}
+use Rattle.std.specs.Prelude.{nat_le, ◌==◌, if◌then◌else◌}
 use Rattle.wat_lang.specs.declared.parts.Space.{Space}
 use Rattle.wat_lang.specs.declared.parts.Part.{Part}
 use Rattle.wat_lang.specs.declared.fault.Row.TheVariants as rows
 use Rattle.wat_lang.specs.Grammar.{Marked}
-use Rattle.wat_lang.specs.Names.{text_of, binds_in, types_part, all_with, same_space, Field, Entry, entry_of}
-use Rattle.wat_lang.specs.Rows.{Refusal, where_holds, taken_again, is_taken, from_count, entries_in, entries_from}
-use Rattle.wat_read_refusals.specs.Single.{before_next, taken_row, place_in, over_row}
+use Rattle.wat_lang.specs.Names.{text_of, binds_in, types_part, all_with}
+use Rattle.wat_lang.specs.Rows.{where_holds, taken_again, is_taken, from_count}
+use Rattle.wat_read_refusals.specs.Single.{before_next, taken_row}
 
 pub taken_front : (s : Space) (before : List (List ℕ)) (m : Marked) (ms : List Marked) → taken_again before (all_with (binds_in s) (m ∷ ms)) ≡ taken_row s before m ++ taken_again (before_next s before m) (all_with (binds_in s) ms)
 taken_front s before m ms = by (binds_in s m.mark)

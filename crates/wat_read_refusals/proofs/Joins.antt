@@ -1,10 +1,10 @@
 -- The first of refusals, whatever is looked at first.
-use Rattle.std.proofs.Common.{◌≡◌, ℕ, zero, suc, ◌+◌, ◌-◌, ◌<◌, ◌≤◌, Bool, true, false, cond, ◌&&◌, ◌||◌, List, [], ◌∷◌, ◌++◌, length, get_or, drop, Option, Some, None, refl, sym, ap, ◌∙◌, append_assoc, arith}
+use Rattle.std.proofs.Common.{◌≡◌, ℕ, ◌+◌, ◌<◌, ◌≤◌, Bool, true, false, cond, ◌&&◌, ◌||◌, List, [], ◌∷◌, ◌++◌, length, get_or, drop, Option, Some, None, refl, sym, ap, ◌∙◌, arith}
 use Rattle.std.proofs.lemmas.List.{at_drop_all}
 use Rattle.std.proofs.lemmas.Bool.Decides.{nat_tests}
 use Rattle.std.specs.Prelude.{nat_lt, nat_le, if◌then◌else◌}
 use Rattle.std.specs.List.{flat_map, filter}
-use Rattle.wat_lang.specs.Rows.{Refusal, row_number, is_before, lesser, least, where_holds}
+use Rattle.wat_lang.specs.Rows.{Refusal, row_number, is_before, lesser, least}
 use Rattle.wat_read_tokens.proofs.Steps.{front}
 use Rattle.wat_read_refusals.specs.Joined.{join}
 

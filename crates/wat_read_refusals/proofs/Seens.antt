@@ -1,8 +1,9 @@
 -- Ids that were seen, one more.
-use Rattle.std.proofs.Common.{◌≡◌, ℕ, Bool, true, false, ◌||◌, List, [], ◌∷◌, Option, refl, sym, ap, ◌∙◌}
+use Rattle.std.proofs.Common.{◌≡◌, ℕ, Bool, true, false, ◌||◌, List, [], ◌∷◌, Option, sym, ap, ◌∙◌}
 use Rattle.std.specs.Prelude.{if◌then◌else◌}
 use Rattle.std.specs.Str.{bytes_eq}
-use Rattle.indexmap.specs.IndexSet.{IndexSet}
+use Rattle.std.specs.List.{list_any}
+use Rattle.indexmap.specs.IndexSet.{IndexSet, IsEmpty}
 use Rattle.wat_lang.specs.declared.parts.Space.{Space}
 use Rattle.wat_lang.specs.declared.fault.Row.TheVariants as rows
 use Rattle.wat_lang.specs.Grammar.{Marked}
@@ -12,6 +13,9 @@ use Rattle.wat_read_refusals.specs.Joined.{join}
 use Rattle.wat_read_refusals.specs.Seen.{has_seen, HasSeen}
 use Rattle.wat_read_refusals.specs.Single.{before_next, taken_row}
 use Rattle.wat_read_refusals.proofs.Joins.{join_none}
+
+pub seen_none : {S : Type 0} (seen : IndexSet (List ℕ) S) → IsEmpty seen → HasSeen seen []
+seen_none seen e = λ n. ap (λ (ks : List (List ℕ)). list_any (bytes_eq n) ks) e
 
 pub seen_same : {S : Type 0} (s : Space) (m : Marked) (seen : IndexSet (List ℕ) S) (before : List (List ℕ)) → binds_in s m.mark ≡ false → HasSeen seen before → HasSeen seen (before_next s before m)
 seen_same s m seen before e h = λ n. h n ∙ sym (ap (λ (b : Bool). is_taken (if b then text_of m ∷ before else before) n) e)

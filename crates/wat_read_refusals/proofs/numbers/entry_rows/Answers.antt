@@ -1,4 +1,4 @@
-use Rattle.std.proofs.Common.{◌≡◌, List, map, refl, arith}
+use Rattle.std.proofs.Common.{List, refl, arith}
 use Rattle.wat_lang.specs.Rows as spec
 use Rattle.wat_marks.specs.declared.marked.MarkedToken.{MarkedToken}
 use Rattle.wat_marks.specs.Views.{marked_of}
@@ -8,8 +8,7 @@ use Rattle.wat_lang.specs.Names.{text_of}
 use Rattle.wat_lang.specs.Modules.{natural_or_0}
 use Rattle.wat_lang.specs.Numbers.{number_of}
 use Rattle.wat_lang.specs.declared.fault.Row.TheVariants as rows
-use Rattle.std.specs.Prelude.{not, nat_lt}
-use Rattle.std.specs.Str.{is_utf8}
+use Rattle.std.specs.Prelude.{nat_lt}
 use Rattle.wasm_lang.specs.Limits.{most_entries}
 use Rattle.wat_read_refusals.proofs.Joins.{noted, noted_all, chosen_front}
 use Rattle.wat_read_refusals.proofs.numbers.entry_rows.Goals as goal

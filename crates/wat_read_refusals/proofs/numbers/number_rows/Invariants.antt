@@ -1,7 +1,5 @@
-use Rattle.std.proofs.Common.{◌≡◌, drop, map}
+use Rattle.std.proofs.Common.{◌≡◌, drop}
 use Rattle.wat_lang.specs.Rows as spec
-use Rattle.wat_marks.specs.declared.marked.MarkedToken.{MarkedToken}
-use Rattle.wat_marks.specs.Views.{marked_of}
 use Rattle.wat_read_tokens.specs.Marks.{marks_of}
 use Rattle.wat_read_refusals.specs.Joined.{join}
 use Rattle.wat_read_refusals.proofs.numbers.number_rows.Given as goal

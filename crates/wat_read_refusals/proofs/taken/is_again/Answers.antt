@@ -1,7 +1,7 @@
-use Rattle.std.proofs.Common.{◌≡◌, ℕ, Bool, true, false, not, ◌||◌, List, refl, sym, ap, ◌∙◌}
+use Rattle.std.proofs.Common.{◌≡◌, ℕ, Bool, true, false, not, ◌||◌, List, refl, ap, ◌∙◌}
 use Rattle.std.specs.Prelude.{if◌then◌else◌}
 use Rattle.std.specs.Str.{bytes_eq}
-use Rattle.wat_read_names.proofs.Places.{same_bytes}
+use Rattle.std.specs.Cmp.Lexicographic.{nat_list_eq_equiv}
 use Rattle.wat_read_refusals.specs.Seen.{has_seen}
 use Rattle.wat_read_refusals.proofs.taken.is_again.Goals as goal
 
@@ -22,4 +22,4 @@ returns-clause-added c = λ n.
     c.in_ok-is_new.ensures.updates.0 n
     ∙ ap (λ (k : List ℕ). if bytes_eq k n then true else has_seen c.args.seen.now n) c.of.ensures
     ∙ or_is (bytes_eq c.args.id.now n) (has_seen c.args.seen.now n)
-    ∙ ap (λ (b : Bool). b || has_seen c.args.seen.now n) (same_bytes c.args.id.now n)
+    ∙ ap (λ (b : Bool). b || has_seen c.args.seen.now n) (nat_list_eq_equiv.symm c.args.id.now n)

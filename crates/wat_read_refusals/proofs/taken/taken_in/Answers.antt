@@ -1,4 +1,4 @@
-use Rattle.std.proofs.Common.{◌≡◌, ℕ, List, [], refl, arith}
+use Rattle.std.proofs.Common.{ℕ, List, [], refl, arith}
 use Rattle.wat_lang.specs.Names.{binds_in, all_with}
 use Rattle.wat_lang.specs.Rows as spec
 use Rattle.wat_marks.specs.declared.marked.MarkedToken.{MarkedToken}
@@ -7,10 +7,11 @@ use Rattle.wat_read_tokens.specs.Marks.{marks_of}
 use Rattle.wat_read_refusals.specs.Single.{before_next}
 use Rattle.wat_read_refusals.proofs.Joins.{noted, noted_all}
 use Rattle.wat_read_refusals.proofs.Fronts.{taken_front}
+use Rattle.wat_read_refusals.proofs.Seens.{seen_none}
 use Rattle.wat_read_refusals.proofs.taken.taken_in.Goals as goal
 
 pub loop-token-init : goal.loop-token-init
-loop-token-init c = ([], λ n. ?, refl)
+loop-token-init c = ([], seen_none c.with_hasher-seen.result c.with_hasher-seen.ensures.empty, refl)
 
 pub loop-token-preserved : goal.loop-token-preserved
 loop-token-preserved c =

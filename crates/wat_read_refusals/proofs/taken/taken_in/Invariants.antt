@@ -1,4 +1,4 @@
-use Rattle.std.proofs.Common.{◌≡◌, ℕ, List, [], drop}
+use Rattle.std.proofs.Common.{◌≡◌, ℕ, List, drop}
 use Rattle.wat_lang.specs.Names.{binds_in, all_with}
 use Rattle.wat_lang.specs.Rows as spec
 use Rattle.wat_read_tokens.specs.Marks.{marks_of}
