@@ -1,3 +1,4 @@
 pub mod Fronts
 pub mod Params
 pub mod Same
+pub mod Types

@@ -1,6 +1,7 @@
 //! Rows of the heads of functions.
 
 ghost use Rattle.std.specs.Prelude.{◌≡◌, ◌∷◌, [], IfOk, OnOk, map};
+ghost use Rattle.sem_words.specs.Lists.{list_items};
 ghost use Rattle.wasm_tree.specs.Views.{type_of};
 ghost use Rattle.wat_lang.specs.Rows as spec;
 ghost use Rattle.wat_read_names.specs.Bound.{space_names};
@@ -8,6 +9,7 @@ ghost use Rattle.wat_read_tokens.specs.Marks.{marks_of};
 ghost use Rattle.wat_read_refusals.specs.Joined.{join};
 ghost use Rattle.wat_read_rows.specs.Heads.{differs};
 
+use sem_words::List;
 use std::alloc::{AllocError, Global};
 use wasm_lang::ValType;
 use wasm_tree::FuncType;
@@ -41,10 +43,16 @@ fn same_types(a: &[ValType], b: &[ValType]) -> bool
     true
 }
 
+fn are_none(types: &List<ValType>) -> bool
+    ensures { result ≡ spec.same_types (list_items types.now) [] }
+{
+    types.is_empty()
+}
+
 fn is_empty(signature: &FuncType) -> bool
     ensures { result ≡ spec.same_signature (type_of signature.now) (record { params = []; results = [] }) }
 {
-    signature.params.is_empty() && signature.results.is_empty()
+    are_none(&signature.params) && are_none(&signature.results)
 }
 
 fn same_signature(a: &FuncType, b: &FuncType) -> bool
