@@ -1,6 +1,6 @@
 -- Fields, cut one by one.
-use Rattle.std.proofs.Common.{◌≡◌, ℕ, ◌+◌, ◌<◌, ◌≤◌, Bool, true, false, List, [], ◌∷◌, ◌++◌, map, length, get_or, take, drop, refl, sym, ap, ◌∙◌, append_assoc, append-nil, arith, drop-drop}
-use Rattle.std.proofs.lemmas.List.{map_more, take_all, drop_all}
+use Rattle.std.proofs.Common.{◌≡◌, ℕ, ◌+◌, ◌<◌, ◌≤◌, true, false, List, [], ◌∷◌, ◌++◌, length, get_or, take, drop, refl, sym, ap, ◌∙◌, append_assoc, append-nil, arith, drop-drop}
+use Rattle.std.proofs.lemmas.List.{map_more, drop_all}
 use Rattle.wat_lang.specs.Grammar.{Mark, a_field, Marked}
 use Rattle.wat_lang.specs.Names.{Field, Cut, cut_at, cut, fields_of}
 use Rattle.wat_grammar.specs.Views.{mark_of}
@@ -36,17 +36,17 @@ one_more ts n t xs lt is =
     ∙ ap (λ ys. ys ++ xs) (sym (map_more marked_of ts n t lt))
 
 pub cut_more : (ts : List MarkedToken) (n : ℕ) (t : MarkedToken) → IsCutAt ts n → n < length ts → t ≡ get_or ts n t → is_field (mark_of t.mark) ≡ false → IsCutAt ts (n + 1)
-cut_more ts n t h lt is no =
+cut_more ts n t h lt is other =
     let rest : Cut = cut_of (drop (n + 1) ts) in
-    let here : cut_of (drop n ts) ≡ (marked_of t ∷ rest.0, rest.1) = ap cut_of (front ts n t lt is) ∙ not_field (marked_of t) rest (mark_of t.mark) no in
+    let here : cut_of (drop n ts) ≡ (marked_of t ∷ rest.0, rest.1) = ap cut_of (front ts n t lt is) ∙ not_field (marked_of t) rest (mark_of t.mark) other in
     let onto : Cut → Cut = λ c. (marks_of (take n ts) ++ c.0, c.1) in
     let pair : List Marked → Cut = λ xs. (xs, rest.1) in
     record { within = omega arith; cuts = h.cuts ∙ ap onto here ∙ ap pair (one_more ts n t rest.0 lt is) }
 
 pub cut_field : (ts : List MarkedToken) (n : ℕ) (t : MarkedToken) → IsCutAt ts n → n < length ts → t ≡ get_or ts n t → is_field (mark_of t.mark) ≡ true
     → cut_of ts ≡ (marks_of (take n ts), fields_of (marks_of (drop n ts)))
-cut_field ts n t h lt is yes =
-    let none : (cut_of (drop n ts)).0 ≡ [] = ap (λ xs. (cut_of xs).0) (front ts n t lt is) ∙ at_field (marked_of t) (cut_of (drop (n + 1) ts)) (mark_of t.mark) yes in
+cut_field ts n t h lt is begun_here =
+    let none : (cut_of (drop n ts)).0 ≡ [] = ap (λ xs. (cut_of xs).0) (front ts n t lt is) ∙ at_field (marked_of t) (cut_of (drop (n + 1) ts)) (mark_of t.mark) begun_here in
     let pair : List Marked → Cut = λ xs. (xs, fields_of (marks_of (drop n ts))) in
     h.cuts ∙ ap pair (ap (λ xs. marks_of (take n ts) ++ xs) none ∙ append-nil (marks_of (take n ts)))
 

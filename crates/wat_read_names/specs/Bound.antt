@@ -1,5 +1,5 @@
 -- The ids that fields bind in the spaces of a module.
-use Rattle.std.specs.Prelude.{◌≡◌, ℕ, Bool, true, false, ◌&&◌, not, List, [], ◌∷◌, map, filter, Option, Some, None}
+use Rattle.std.specs.Prelude.{◌≡◌, Bool, true, false, ◌&&◌, not, List, [], map, filter, Option, Some, None}
 use Rattle.wat_lang.specs.declared.parts.Space.{Space}
 use Rattle.wat_lang.specs.declared.parts.Space.TheVariants as spaces
 use Rattle.wat_lang.specs.Grammar.{Mark, binds, Marked}

@@ -1,6 +1,4 @@
-pub mod Joins
 pub mod Fronts
 pub mod Params
 pub mod Same
-pub mod Seens
-pub mod TextTests
+pub mod Types

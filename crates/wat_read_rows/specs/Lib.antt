@@ -1,4 +1,2 @@
-pub mod Joined
-pub mod Seen
 pub mod Single
 pub mod Heads

@@ -9,11 +9,10 @@ ghost use Rattle.wat_lang.specs.Rows as spec;
 ghost use Rattle.wat_read_names.specs.Bound.{space_names};
 ghost use Rattle.wat_read_names.specs.Fields.{field_of};
 ghost use Rattle.wat_read_tokens.specs.Marks.{marks_of};
-ghost use Rattle.wat_read_rows.specs.Joined.{join};
+ghost use Rattle.wat_read_refusals.specs.Joined.{join};
 ghost use Rattle.wat_read_rows.specs.Heads.{rows_by_kind};
 
-use crate::heads::{from_count, head_rows};
-use crate::least::Least;
+use crate::heads::head_rows;
 use crate::uses::use_rows;
 use key_hashes::KeyHashes;
 use std::alloc::{AllocError, Global};
@@ -21,6 +20,7 @@ use wasm_tree::FuncType;
 use wat_lang::{FieldKind, Part, Space};
 use wat_marks::MarkedToken;
 use wat_read_names::{Field, Ids, Spaces, capped_use, local_names, params_of};
+use wat_read_refusals::{Least, from_count};
 
 /// The most parameters of a type.
 const MOST_PARAMS: usize = 2_000;

@@ -1,22 +1,22 @@
 //! Rows of the heads of functions.
 
-ghost use Rattle.std.specs.Prelude.{◌≡◌, ◌-◌, ◌==◌, ◌&&◌, ◌∷◌, [], IfOk, OnOk, map, if◌then◌else◌};
+ghost use Rattle.std.specs.Prelude.{◌≡◌, ◌∷◌, [], IfOk, OnOk, map};
+ghost use Rattle.sem_words.specs.Lists.{list_items};
 ghost use Rattle.wasm_tree.specs.Views.{type_of};
-ghost use Rattle.wat_lang.specs.Names as names;
 ghost use Rattle.wat_lang.specs.Rows as spec;
 ghost use Rattle.wat_read_names.specs.Bound.{space_names};
 ghost use Rattle.wat_read_tokens.specs.Marks.{marks_of};
-ghost use Rattle.wat_read_rows.specs.Joined.{join};
+ghost use Rattle.wat_read_refusals.specs.Joined.{join};
 ghost use Rattle.wat_read_rows.specs.Heads.{differs};
 
-use crate::least::Least;
+use sem_words::List;
 use std::alloc::{AllocError, Global};
 use wasm_lang::ValType;
 use wasm_tree::FuncType;
-use wat_lang::{Part, Row};
+use wat_lang::Row;
 use wat_marks::MarkedToken;
 use wat_read_names::{Spaces, known_use, signature};
-use wat_read_tokens::Wanted;
+use wat_read_refusals::Least;
 
 fn same_type(a: ValType, b: ValType) -> bool
     ensures { result ≡ spec.same_types (a ∷ []) (b ∷ []) }
@@ -43,10 +43,16 @@ fn same_types(a: &[ValType], b: &[ValType]) -> bool
     true
 }
 
+fn are_none(types: &List<ValType>) -> bool
+    ensures { result ≡ spec.same_types (list_items types.now) [] }
+{
+    types.is_empty()
+}
+
 fn is_empty(signature: &FuncType) -> bool
     ensures { result ≡ spec.same_signature (type_of signature.now) (record { params = []; results = [] }) }
 {
-    signature.params.is_empty() && signature.results.is_empty()
+    are_none(&signature.params) && are_none(&signature.results)
 }
 
 fn same_signature(a: &FuncType, b: &FuncType) -> bool
@@ -97,36 +103,4 @@ pub fn head_rows(
     let bad = is_bad_use(alloc, types, parts, known_use(&spaces.types, parts))?;
     least.note(bad, Row::TypeUse, at);
     Ok(())
-}
-
-/// Whether something that counts has no room.
-pub fn is_over(counts: bool, room: usize) -> bool
-    ensures { result ≡ (counts && (room == 0)) }
-{
-    counts && room == 0
-}
-
-/// The room that is left behind something that counts.
-pub fn room_after(counts: bool, room: usize) -> usize
-    ensures { result ≡ (if counts then room - 1 else room) }
-{
-    if counts { room.saturating_sub(1) } else { room }
-}
-
-/// Notes the types of a part past the limit, where so many come before.
-pub fn from_count(
-    least: &mut Least,
-    most: usize,
-    before: usize,
-    part: Part,
-    parts: &[MarkedToken<'_>],
-)
-    ensures { least.new ≡ join least.old (spec.least (spec.from_count most before (names.all_with (names.types_part part) (marks_of parts.now)))) }
-{
-    let mut room = most.saturating_sub(before);
-    for token in parts {
-        let counts = Wanted::Type(part).is(token.mark);
-        least.note(is_over(counts, room), Row::Limit, token.token.at);
-        room = room_after(counts, room);
-    }
 }

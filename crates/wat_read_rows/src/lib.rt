@@ -3,12 +3,9 @@
 
 mod fields;
 mod heads;
-mod least;
-mod numbers;
 mod orders;
 mod rows;
 mod taken;
 mod uses;
 
-pub use least::{Least, Refusal};
 pub use rows::first_refusal;

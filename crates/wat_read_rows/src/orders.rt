@@ -4,13 +4,12 @@ ghost use Rattle.std.specs.Prelude.{◌≡◌, ℕ, ◌-◌, ◌&&◌, ◌||◌,
 ghost use Rattle.wat_lang.specs.Rows as spec;
 ghost use Rattle.wat_read_names.specs.Fields.{field_of};
 ghost use Rattle.wat_lang.specs.Names as names;
-ghost use Rattle.wat_read_rows.specs.Joined.{join};
+ghost use Rattle.wat_read_refusals.specs.Joined.{join};
 ghost use Rattle.wat_read_rows.specs.Single.{place_in, over_row};
 
-use crate::heads::room_after;
-use crate::least::Least;
 use wat_lang::{FieldKind, Row, Space};
 use wat_read_names::Field;
+use wat_read_refusals::{Least, room_after};
 use wat_read_tokens::same_space;
 
 /// The most types.

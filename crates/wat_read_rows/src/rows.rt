@@ -7,11 +7,9 @@ ghost use Rattle.wat_lang.specs.Rows as spec;
 ghost use Rattle.wat_read_names.specs.Bound.{HasNames};
 ghost use Rattle.wat_read_names.specs.Fields.{field_of};
 ghost use Rattle.wat_read_tokens.specs.Marks.{marks_of};
-ghost use Rattle.wat_read_rows.specs.Joined.{join, refusal_of};
+ghost use Rattle.wat_read_refusals.specs.Joined.{join, refusal_of};
 
 use crate::fields::all_field_rows;
-use crate::least::{Least, Refusal};
-use crate::numbers::{entry_rows, number_rows, utf8_rows};
 use crate::orders::{count_rows, order_rows};
 use crate::taken::taken_rows;
 use key_hashes::KeyHashes;
@@ -19,6 +17,7 @@ use std::alloc::{AllocError, Global};
 use wasm_tree::FuncType;
 use wat_marks::MarkedToken;
 use wat_read_names::{Field, Spaces};
+use wat_read_refusals::{Least, Refusal, entry_rows, number_rows, utf8_rows};
 
 /// The first refusal of a text with these marks, by place, then by number. Its fields, their ids and their types are given.
 pub fn first_refusal(

@@ -9,9 +9,8 @@ ghost use Rattle.wat_marks.specs.Strings.{reads_string};
 ghost use Rattle.wat_marks.specs.Views.{marked_of};
 ghost use Rattle.wat_read_names.specs.Bound.{space_names};
 ghost use Rattle.wat_read_tokens.specs.Marks.{marks_of};
-ghost use Rattle.wat_read_rows.specs.Joined.{join};
+ghost use Rattle.wat_read_refusals.specs.Joined.{join};
 
-use crate::least::Least;
 use key_hashes::KeyHashes;
 use std::alloc::{AllocError, Global};
 use wat_grammar::{Form, Mark};
@@ -19,6 +18,7 @@ use wat_lang::{Row, Space};
 use wat_marks::MarkedToken;
 use wat_read_labels::Labels;
 use wat_read_names::{Ids, Spaces};
+use wat_read_refusals::Least;
 
 /// The most blocks that may be open.
 const MOST_LEVELS: usize = 300_000;

@@ -1,8 +1,8 @@
 use Rattle.std.proofs.Common.{◌≡◌, Some, None, sym, ap, ◌∙◌}
 use Rattle.wat_lang.specs.Rows as spec
 use Rattle.wat_read_tokens.specs.Marks.{marks_of}
-use Rattle.wat_read_rows.specs.declared.least.Refusal.{Refusal}
-use Rattle.wat_read_rows.specs.Joined.{refusal_of}
+use Rattle.wat_read_refusals.specs.declared.least.Refusal.{Refusal}
+use Rattle.wat_read_refusals.specs.Joined.{refusal_of}
 use Rattle.std.specs.Prelude.{Option, option_map}
 use Rattle.wat_read.proofs.Said.{none_least}
 use Rattle.wat_read.proofs.reading.judged.Goals as goal

@@ -1,4 +1,4 @@
-use Rattle.std.proofs.Common.{◌≡◌, ◌+◌, ◌-◌, ◌≤◌, List, [], refl, sym, ap, ◌∙◌, arith, length, take, drop, map, length-drop, length-take}
+use Rattle.std.proofs.Common.{◌+◌, ◌-◌, List, refl, arith, length, take, drop, map, length-drop, length-take}
 use Rattle.std.proofs.lemmas.List.{take_rest}
 use Rattle.wat_lang.specs.Names.{fields_of}
 use Rattle.wat_marks.specs.declared.marked.MarkedToken.{MarkedToken}
@@ -14,13 +14,13 @@ loop-n-preserved c =
     let ts = c.args.marks.now in
     let behind = take (length ts - (n + 1)) (drop (n + 1) ts) in
     let count = c.before_field-count.result in
+    let short = simp (length-take, length-drop) at c.before_field-count.ensures.within in
     let lt = c.loop-n-test.true in
-    let short = c.before_field-count.ensures.within in
     record {
-      within = simp (length-take, length-drop) at short (omega arith);
+      within = omega arith;
       cut_off =
-          field_step ts n c.index-marks-n.result behind (take (count - 0) behind) count _ (map field_of c.loop-n.fields.items) _ (fields_of (marks_of ts)) lt c.index-marks-n.is
-          (take_rest ts (n + 1)) (ap (λ k. take k behind) (let e : count - 0 ≡ count = omega arith in e)) (omega arith) c.before_field-count.ensures.cut c.in_ok-push_field.ensures c.loop-n.invariant.cut_off;
+          field_step ts n c.index-marks-n.result behind (take count behind) count _ (map field_of c.loop-n.fields.items) _ (fields_of (marks_of ts)) lt c.index-marks-n.is
+          (take_rest ts (n + 1)) refl (omega arith) c.before_field-count.ensures.cut c.in_ok-push_field.ensures c.loop-n.invariant.cut_off;
     }
 
 pub returns : goal.returns

@@ -1,6 +1,7 @@
-use Rattle.std.proofs.Common.{◌≡◌, ◌++◌, ℕ, List, [], map, length, length-map, None, refl, sym, ap, ◌∙◌, replicate, rules}
-use Rattle.wat_lang.specs.declared.parts.Part.TheVariants.{Param, Local}
-use Rattle.wat_lang.specs.Names.{Names, written_ids}
+use Rattle.std.proofs.Common.{◌≡◌, ◌++◌, ℕ, [], length, None, sym, ap, ◌∙◌, replicate, rules}
+use Rattle.std.proofs.lemmas.List.{length-map}
+use Rattle.wat_lang.specs.declared.parts.Part.TheVariants.{Param}
+use Rattle.wat_lang.specs.Names.{written_ids}
 use Rattle.wat_read_tokens.specs.Marks.{marks_of}
 use Rattle.wat_read_names.specs.Named.{name_of, names_in}
 use Rattle.wat_read_names.proofs.Places.{locals_named}

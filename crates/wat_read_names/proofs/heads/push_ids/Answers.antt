@@ -1,7 +1,5 @@
-use Rattle.std.proofs.Common.{◌≡◌, ℕ, ◌++◌, Bool, true, false, List, [], ◌∷◌, Option, None, refl, sym, ap, ◌∙◌, arith}
-use Rattle.wat_lang.specs.declared.parts.Part.{Part}
-use Rattle.wat_lang.specs.Grammar.{Marked}
-use Rattle.wat_lang.specs.Names.{Names, types_part, id_after, written_ids}
+use Rattle.std.proofs.Common.{ℕ, ◌++◌, List, Option, refl, sym, ap, ◌∙◌, arith}
+use Rattle.wat_lang.specs.Names.{Names, types_part, written_ids}
 use Rattle.wat_marks.specs.declared.marked.MarkedToken.{MarkedToken}
 use Rattle.wat_marks.specs.Views.{marked_of}
 use Rattle.wat_read_tokens.specs.Marks.{marks_of, only}

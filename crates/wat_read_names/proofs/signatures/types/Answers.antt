@@ -1,4 +1,4 @@
-use Rattle.std.proofs.Common.{◌≡◌, List, map, refl, ◌∙◌, arith}
+use Rattle.std.proofs.Common.{List, map, refl, arith}
 use Rattle.wasm_lang.specs.Modules.{FunctionType}
 use Rattle.wasm_tree.specs.Views.{type_of}
 use Rattle.wat_lang.specs.declared.parts.Space.TheVariants as spaces

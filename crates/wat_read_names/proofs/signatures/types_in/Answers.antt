@@ -1,4 +1,4 @@
-use Rattle.std.proofs.Common.{◌≡◌, List, refl, ◌∙◌, arith}
+use Rattle.std.proofs.Common.{List, refl, ◌∙◌, arith}
 use Rattle.wasm_lang.specs.declared.types.ValType.{ValType}
 use Rattle.wat_lang.specs.Grammar.{Marked}
 use Rattle.wat_lang.specs.Names.{types_part, types_in, type_of}

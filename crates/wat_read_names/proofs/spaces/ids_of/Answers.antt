@@ -1,4 +1,4 @@
-use Rattle.std.proofs.Common.{◌≡◌, ◌++◌, List, [], map, true, false, sym, ap, ◌∙◌, rules}
+use Rattle.std.proofs.Common.{◌≡◌, ◌++◌, [], map, true, false, ap, ◌∙◌, rules}
 use Rattle.wat_lang.specs.Names.{Names}
 use Rattle.wat_read_names.specs.Fields.{field_of}
 use Rattle.wat_read_names.specs.Named.{names_in}

@@ -1,4 +1,4 @@
-use Rattle.std.proofs.Common.{◌≡◌, ◌++◌, ◌&&◌, List, map, refl, ◌∙◌, arith}
+use Rattle.std.proofs.Common.{◌&&◌, List, map, refl, arith}
 use Rattle.wat_lang.specs.Names as spec
 use Rattle.wat_read_names.specs.declared.field.Field.{Field}
 use Rattle.wat_read_names.specs.Fields.{field_of}

@@ -5,7 +5,7 @@ use Rattle.wat_read_names.specs.Fields.{field_of}
 use Rattle.std.specs.List.{flat_map}
 use Rattle.wasm_tree.specs.Views.{type_of}
 use Rattle.wat_read_names.specs.Bound.{space_names}
-use Rattle.wat_read_rows.specs.Joined.{join}
+use Rattle.wat_read_refusals.specs.Joined.{join}
 use Rattle.wat_read_rows.proofs.fields.all_field_rows.Given as goal
 
 abbrev pub invariant-loop-field : goal.invariant-loop-field

@@ -3,8 +3,8 @@ use Rattle.wat_lang.specs.Names.{Names, names_at}
 use Rattle.wat_lang.specs.Rows as spec
 use Rattle.wat_read_names.specs.Bound.{space_names}
 use Rattle.wat_read_tokens.specs.Marks.{marks_of}
-use Rattle.wat_read_rows.specs.Joined.{join}
-use Rattle.wat_read_rows.proofs.Joins.{then_both}
+use Rattle.wat_read_refusals.specs.Joined.{join}
+use Rattle.wat_read_refusals.proofs.Joins.{then_both}
 use Rattle.wat_read_rows.proofs.fields.field_rows.Goals as goal
 
 pub returns : goal.returns

@@ -4,8 +4,8 @@ use Rattle.wat_lang.specs.declared.parts.Part.TheVariants.{Local}
 use Rattle.wat_lang.specs.Names.{types_part, all_with}
 use Rattle.wat_lang.specs.Rows as spec
 use Rattle.wat_read_tokens.specs.Marks.{marks_of}
-use Rattle.wat_read_rows.specs.Joined.{join}
-use Rattle.wat_read_rows.proofs.Joins.{then_both}
+use Rattle.wat_read_refusals.specs.Joined.{join}
+use Rattle.wat_read_refusals.proofs.Joins.{then_both}
 use Rattle.wat_read_rows.proofs.fields.function_rows.Goals as goal
 
 pub returns : goal.returns

@@ -1,4 +1,4 @@
-use Rattle.wat_read_rows.proofs.Joins.{then_both}
+use Rattle.wat_read_refusals.proofs.Joins.{then_both}
 use Rattle.wat_read_rows.proofs.orders.count_rows.Goals as goal
 
 pub returns : goal.returns

@@ -4,10 +4,11 @@ use Rattle.wat_lang.specs.Names as names
 use Rattle.wat_lang.specs.Rows as spec
 use Rattle.wat_read_names.specs.declared.field.Field.{Field}
 use Rattle.wat_read_names.specs.Fields.{field_of}
-use Rattle.wat_read_rows.specs.Joined.{join}
+use Rattle.wat_read_refusals.specs.Joined.{join}
 use Rattle.wat_read_rows.specs.Single.{place_in, over_row}
-use Rattle.wat_read_rows.proofs.Joins.{noted, noted_all}
-use Rattle.wat_read_rows.proofs.Fronts.{after, entries_front, room_is}
+use Rattle.wat_read_refusals.proofs.Joins.{noted, noted_all}
+use Rattle.wat_read_refusals.proofs.Fronts.{after, room_is}
+use Rattle.wat_read_rows.proofs.Fronts.{entries_front}
 use Rattle.wat_read_rows.proofs.orders.entries_from.Goals as goal
 
 pub loop-field-init : goal.loop-field-init

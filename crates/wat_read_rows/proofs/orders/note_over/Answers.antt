@@ -1,10 +1,10 @@
 use Rattle.std.proofs.Common.{◌∙◌, ap, Option, subst, ◌≡◌, sym}
 use Rattle.wat_lang.specs.declared.fault.Row.TheVariants as rows
 use Rattle.wat_lang.specs.Rows as spec
-use Rattle.wat_read_rows.specs.Joined.{join}
+use Rattle.wat_read_refusals.specs.Joined.{join}
 use Rattle.wat_read_rows.specs.Single.{over_row}
-use Rattle.wat_read_rows.proofs.Fronts.{empty_room}
-use Rattle.wat_read_rows.proofs.Joins.{join_none}
+use Rattle.wat_read_refusals.proofs.Fronts.{empty_room}
+use Rattle.wat_read_refusals.proofs.Joins.{join_none}
 use Rattle.wat_read_rows.proofs.orders.note_over.Goals as goal
 
 pub returns-in-Some : goal.returns-in-Some

@@ -4,8 +4,8 @@ use Rattle.wat_lang.specs.Names as names
 use Rattle.wat_lang.specs.Rows as spec
 use Rattle.wat_read_names.specs.declared.field.Field.{Field}
 use Rattle.wat_read_names.specs.Fields.{field_of}
-use Rattle.wat_read_rows.specs.Joined.{join}
-use Rattle.wat_read_rows.proofs.Joins.{noted, noted_all}
+use Rattle.wat_read_refusals.specs.Joined.{join}
+use Rattle.wat_read_refusals.proofs.Joins.{noted, noted_all}
 use Rattle.wat_read_rows.proofs.orders.order_rows.Goals as goal
 
 pub loop-field-preserved : goal.loop-field-preserved

@@ -1,7 +1,7 @@
 use Rattle.std.proofs.Common.{◌≡◌, false, drop, map}
 use Rattle.wat_lang.specs.Rows as spec
 use Rattle.wat_read_names.specs.Fields.{field_of}
-use Rattle.wat_read_rows.specs.Joined.{join}
+use Rattle.wat_read_refusals.specs.Joined.{join}
 use Rattle.wat_read_rows.proofs.orders.order_rows.Given as goal
 
 abbrev pub invariant-loop-field : goal.invariant-loop-field

@@ -6,8 +6,8 @@ use Rattle.wat_lang.specs.Names as names
 use Rattle.wat_lang.specs.Rows as spec
 use Rattle.wat_read_names.specs.Fields.{field_of}
 use Rattle.wat_read_tokens.specs.Marks.{marks_of}
-use Rattle.wat_read_rows.specs.Joined.{join}
-use Rattle.wat_read_rows.proofs.Joins.{then_both}
+use Rattle.wat_read_refusals.specs.Joined.{join}
+use Rattle.wat_read_refusals.proofs.Joins.{then_both}
 use Rattle.wat_read_rows.proofs.Same.{fields_same}
 use Rattle.wat_read_rows.proofs.rows.first_refusal.Goals as goal
 

@@ -1,5 +1,5 @@
 use Rattle.std.proofs.Common.{sym}
-use Rattle.wat_read_rows.proofs.Joins.{then_both, join_none}
+use Rattle.wat_read_refusals.proofs.Joins.{then_both, join_none}
 use Rattle.wat_read_rows.proofs.taken.taken_rows.Goals as goal
 
 pub returns : goal.returns

@@ -3,7 +3,7 @@ use Rattle.wat_lang.specs.Names.{names_at}
 use Rattle.wat_lang.specs.Rows as spec
 use Rattle.wat_read_names.specs.Bound.{space_names}
 use Rattle.wat_read_tokens.specs.Marks.{marks_of}
-use Rattle.wat_read_rows.specs.Joined.{join}
+use Rattle.wat_read_refusals.specs.Joined.{join}
 use Rattle.wat_read_rows.proofs.uses.use_rows.Given as goal
 
 abbrev pub invariant-loop-token : goal.invariant-loop-token

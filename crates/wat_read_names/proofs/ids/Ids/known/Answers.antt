@@ -1,5 +1,4 @@
-use Rattle.std.proofs.Common.{◌≡◌, ℕ, List, sym, ap, ◌∙◌}
-use Rattle.std.specs.Prelude.{Option}
+use Rattle.std.proofs.Common.{sym, ap, ◌∙◌}
 use Rattle.wat_lang.specs.Names.{index_of}
 use Rattle.wat_lang.specs.Rows.{known_use}
 use Rattle.wat_read_names.proofs.Places.{number_index, id_index, place_known}
