@@ -1,0 +1,4 @@
+pub mod Parts
+pub mod Same
+pub mod Said
+pub mod Exported

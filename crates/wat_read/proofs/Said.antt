@@ -1,0 +1,7 @@
+-- Marks that no row refuses.
+use Rattle.std.proofs.Common.{◌≡◌, List, [], ◌∷◌, Option, Some, None, refl, sym, ◌∙◌}
+use Rattle.wat_lang.specs.Rows.{Refusal, least}
+
+pub none_least : (rs : List Refusal) → None ≡ least rs → rs ≡ []
+none_least [] e = refl
+none_least (r ∷ rs) e = absurd cc

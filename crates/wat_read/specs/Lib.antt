@@ -1,0 +1,3 @@
+pub mod Kinds
+pub mod Fit
+pub mod Said

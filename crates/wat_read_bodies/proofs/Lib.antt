@@ -1,0 +1,4 @@
+pub mod Atoms
+pub mod Good
+pub mod Runs
+pub mod Written

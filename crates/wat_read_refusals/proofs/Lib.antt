@@ -1,0 +1,5 @@
+pub mod Joins
+pub mod Alignments
+pub mod Fronts
+pub mod Seens
+pub mod TextTests

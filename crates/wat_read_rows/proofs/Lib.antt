@@ -1,0 +1,4 @@
+pub mod Fronts
+pub mod Params
+pub mod Same
+pub mod Types
