@@ -1,4 +1,4 @@
-pub mod Fields
+pub mod Parts
 pub mod Same
 pub mod Said
 pub mod Exported

@@ -1,6 +1,7 @@
 -- Numbers that are in their ranges.
 use Rattle.std.proofs.Common.{◌≡◌, ℕ, zero, suc, ◌+◌, ◌-◌, ◌<◌, ◌≤◌, Bool, true, false, cond, List, [], ◌∷◌, ◌++◌, map, filter, length, get_or, take, drop, Option, Some, None, refl, sym, ap, ◌∙◌, arith, not, append-nil}
 use Rattle.std.proofs.lemmas.List.{drop_all}
+use Rattle.std.proofs.lemmas.List.Sums.{take_while-cons}
 use Rattle.std.specs.Prelude.{find}
 use Rattle.wat_lang.specs.declared.parts.Space.{Space}
 use Rattle.wat_lang.specs.declared.fault.Row.TheVariants as rows
@@ -76,7 +77,7 @@ rest_good k ts h = taken (length ts - k) (drop k ts) (dropped k ts h)
 -- ---- what stands before the next instruction
 
 immediate_front : (m : Marked) (ms : List Marked) (b : Bool) → is_instruction m.mark ≡ b → immediates_in (m ∷ ms) ≡ cond (not b) (m ∷ immediates_in ms) []
-immediate_front m ms b e = ap (λ (t : Bool). cond (not t) (m ∷ immediates_in ms) []) e
+immediate_front m ms b e = take_while-cons (λ (k : Marked). not (is_instruction k.mark)) m ms ∙ ap (λ (t : Bool). cond (not t) (m ∷ immediates_in ms) []) e
 
 pub none_before : (ts : List MarkedToken) (n : ℕ) (t : MarkedToken) → n < length ts → t ≡ get_or ts n t → is_instruction (mark_of t.mark) ≡ true → marks_of (take n ts) ++ immediates_in (marks_of (drop n ts)) ≡ marks_of (take n ts)
 none_before ts n t lt is e =

@@ -43,16 +43,12 @@ pub fn code<'a>(
     let mut labels = Labels::new(alloc, hashes);
     let mut list = Vec::with_capacity(alloc, room_for(parts))?;
     for n in 0..parts.len() {
+        let token = &parts[n];
+        let behind = &parts[n + 1..];
         push_instr(
-            alloc,
-            &mut list,
-            spaces,
-            locals,
-            &labels,
-            parts[n].mark,
-            &parts[n + 1..],
+            alloc, &mut list, spaces, locals, &labels, token.mark, behind,
         )?;
-        labels.after(&parts[n])?;
+        labels.after(token)?;
     }
     if list.push(Instr::End).is_err() {
         return Err(AllocError);

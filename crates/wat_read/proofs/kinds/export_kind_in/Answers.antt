@@ -26,7 +26,7 @@ loop-n-preserved c =
     let n = c.loop-n.n in
     let within : n < length ts = omega arith in
     let t = get_or ts n c.index-parts-n.result in
-    exported_later (space_names c.args.spaces.now) ts n t _ within (get_or_default ts n c.index-parts-n.result t within) c.in-None.ensures c.loop-n.invariant
+    exported_later (space_names c.args.spaces.now) ts n t _ within (get_or_default ts n c.index-parts-n.result t within) c.in_default.ensures c.loop-n.invariant
 
 pub returns : goal.returns
 returns c = none_exported (space_names c.args.spaces.now) c.args.parts.now c.loop-n.n _ (omega arith) c.loop-n.invariant

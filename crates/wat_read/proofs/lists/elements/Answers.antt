@@ -11,7 +11,7 @@ use Rattle.wat_read_names.specs.Fields.{field_of}
 use Rattle.wat_read_names.specs.Bound.{space_names}
 use Rattle.wat_read.specs.Fit.{defines_in}
 use Rattle.wat_read_tokens.proofs.Steps.{grows, grown}
-use Rattle.wat_read.proofs.Fields.{field_good, parts_front}
+use Rattle.wat_read.proofs.Parts.{field_good, parts_front}
 use Rattle.wat_read.proofs.lists.elements.Goals as goal
 
 pub push_element-requires : goal.push_element-requires

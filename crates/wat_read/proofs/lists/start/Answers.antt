@@ -3,7 +3,7 @@ use Rattle.wat_lang.specs.declared.parts.Space.TheVariants as spaces
 use Rattle.wat_lang.specs.Names as names
 use Rattle.wat_lang.specs.Modules as spec
 use Rattle.wat_read_names.specs.Bound.{space_names}
-use Rattle.wat_read.proofs.Fields.{field_good, first_part, later_part, no_part}
+use Rattle.wat_read.proofs.Parts.{field_good, first_part, later_part, no_part}
 use Rattle.wat_read.proofs.lists.start.Goals as goal
 
 pub first_used-requires : goal.first_used-requires

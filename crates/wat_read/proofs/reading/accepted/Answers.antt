@@ -3,7 +3,7 @@ use Rattle.wat_lang.specs.Modules as spec
 use Rattle.wat_lang.specs.Names as names
 use Rattle.wat_read_tokens.specs.Marks.{marks_of}
 use Rattle.wat_read.specs.Fit.{all_fit}
-use Rattle.wat_read.proofs.Fields.{fields_good}
+use Rattle.wat_read.proofs.Parts.{fields_good}
 use Rattle.wat_read.proofs.reading.accepted.Goals as goal
 
 pub module_of-requires-clause-fit : goal.module_of-requires-clause-fit

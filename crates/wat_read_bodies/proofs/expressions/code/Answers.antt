@@ -1,5 +1,5 @@
-use Rattle.std.proofs.Common.{◌≡◌, ◌+◌, ◌-◌, ◌<◌, get_or, ◌++◌, [], ◌∷◌, List, map, length, take, drop, refl, sym, ap, ◌∙◌, arith}
-use Rattle.std.proofs.lemmas.List.{map_push, take_rest, get_or_default}
+use Rattle.std.proofs.Common.{◌≡◌, ◌+◌, ◌-◌, ◌<◌, ◌++◌, [], ◌∷◌, List, map, length, take, drop, refl, sym, ap, ◌∙◌, arith}
+use Rattle.std.proofs.lemmas.List.{map_push, take_rest}
 use Rattle.wasm_lang.specs.Instructions.{Instruction, end_mark}
 use Rattle.wasm_tree.specs.Views.{instr_of}
 use Rattle.wat_lang.specs.Names.{Names, names_at, labels_after}
@@ -22,10 +22,10 @@ loop-n-preserved c =
     let ts = c.args.parts.now in
     let n = c.loop-n.n in
     let within : n < length ts = omega arith in
-    let t = get_or ts n c.index-parts-n.result in
+    let t = c.index-parts-n.result in
     let m = marked_of t in
     let labels = c.loop-n.labels in
-    grows_at (read labels) (read c.after.new.self) ts n t (map instr_of c.loop-n.list.items) _ (instruction_at (scope labels) (marks_of (drop (n + 1) ts)) m.mark) _ within (get_or_default ts n c.index-parts-n.result t within)
+    grows_at (read labels) (read c.after.new.self) ts n t (map instr_of c.loop-n.list.items) _ (instruction_at (scope labels) (marks_of (drop (n + 1) ts)) m.mark) _ within c.index-parts-n.is
     (ap (λ ls. instruction_at (scope labels) (marks_of (drop (n + 1) ts)) m.mark ++ read ls (drop (n + 1) ts)) (sym c.in_ok-after.ensures))
     (c.in_ok-push_instr.ensures ∙ ap (λ xs. map instr_of c.loop-n.list.items ++ instruction_at (scope labels) (marks_of xs) m.mark) (take_rest ts (n + 1)))
     c.loop-n.invariant

@@ -19,6 +19,10 @@ loop-n-preserved c =
 
 pub returns-then-is-clause-value : goal.returns-then-is-clause-value
 returns-then-is-clause-value c =
+    let ts = c.args.parts.now in
+    let n = c.loop-n.n in
+    let t = get_or ts n c.index-parts-n.result in
+    let is = get_or_default ts n c.index-parts-n.result t c.loop-n-test.true in
     sym (none_before ts n t c.loop-n-test.true is (sym c.is.ensures ∙ c.if-is.true)) ∙ c.loop-n.invariant.goes_on
 
 pub returns-clause-value : goal.returns-clause-value
