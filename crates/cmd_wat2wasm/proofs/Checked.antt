@@ -7,9 +7,9 @@ use Rattle.wasm_binary_write.specs.Spelling.{spelling}
 use Rattle.wasm_validate.specs.declared.fault.Invalid as validity
 use Rattle.wasm_validate.specs.Refusals.{IsInvalid}
 use Rattle.wat_lang.specs.Texts.{SaysModule}
-use Rattle.wat_text.specs.Faults.{IsFaultOf}
-use Rattle.wat_text.specs.declared.fault.WatFault.{WatFault}
-use Rattle.wat_text.specs.declared.fault.WatFault.TheVariants as texts
+use Rattle.wat_marks.specs.Views.{IsFaultOf}
+use Rattle.wat_marks.specs.declared.fault.WatFault.{WatFault}
+use Rattle.wat_marks.specs.declared.fault.WatFault.TheVariants as texts
 use Rattle.bridge_lang.specs.WatVerdicts.{says_none, says_invalid}
 use Rattle.cmd_wat2wasm.specs.Faults.{of_wat, of_invalid}
 use Rattle.cmd_wat2wasm.specs.Verdicts.{IsRefused}

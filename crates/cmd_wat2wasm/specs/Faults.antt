@@ -1,7 +1,7 @@
 -- What the code's faults are told as.
 use Rattle.wasm_validate.specs.declared.fault.Invalid as validity
-use Rattle.wat_text.specs.declared.fault.WatFault.{WatFault}
-use Rattle.wat_text.specs.declared.fault.WatFault.TheVariants as texts
+use Rattle.wat_marks.specs.declared.fault.WatFault.{WatFault}
+use Rattle.wat_marks.specs.declared.fault.WatFault.TheVariants as texts
 use Rattle.cmd_wat2wasm.specs.declared.fault.CheckFault.{CheckFault}
 use Rattle.cmd_wat2wasm.specs.declared.fault.CheckFault.TheVariants.{Unsaid, Invalid, Memory}
 

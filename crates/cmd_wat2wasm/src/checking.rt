@@ -8,6 +8,8 @@ ghost use Rattle.cmd_wat2wasm.specs.Verdicts.{IsRefused};
 use crate::fault::{CheckFault, of_invalid, of_wat};
 use std::alloc::Global;
 use wasm_validate::{Valid, validate};
+use wat_laws_read::said_modules;
+use wat_laws_writable::writable;
 use wat_text::read;
 
 /// The valid module that a text says, which can be written where the text is no longer than a file may be.
@@ -16,6 +18,8 @@ pub fn check_wat<'a>(alloc: Global, text: &'a [u8]) -> Result<Valid<'a>, CheckFa
     ensures writable { IfOk result (λ valid. length text.now ≤ file_limit → IsWritable valid) }
     ensures refused { IfErr result (λ fault. IsRefused text.now fault) }
 {
+    said_modules();
+    writable();
     match read(alloc, text) {
         Ok(module) => match validate(alloc, module) {
             Ok(valid) => Ok(valid),

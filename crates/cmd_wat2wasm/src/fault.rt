@@ -5,7 +5,7 @@ ghost use Rattle.cmd_wat2wasm.specs.Faults as spec;
 use thiserror::Error;
 use wasm_validate::{Invalid, Rule, Section};
 use wat_lang::Row;
-use wat_text::WatFault;
+use wat_marks::WatFault;
 
 /// Why a text is refused, or want of memory.
 #[derive(Clone, Copy, PartialEq, Eq, Debug, Error)]
