@@ -1,5 +1,5 @@
 -- Numbers that are in their ranges.
-use Rattle.std.proofs.Common.{◌≡◌, ℕ, zero, suc, ◌+◌, ◌-◌, ◌<◌, ◌≤◌, Bool, true, false, cond, List, [], ◌∷◌, ◌++◌, map, filter, length, get_or, take, drop, Option, Some, None, refl, sym, ap, ◌∙◌, arith, not, append-nil}
+use Rattle.std.proofs.Common.{◌≡◌, ℕ, zero, suc, ◌+◌, ◌-◌, ◌<◌, ◌≤◌, Bool, true, false, cond, List, [], ◌∷◌, ◌++◌, map, filter, length, get_or, take, drop, Option, Some, None, refl, sym, ap, ◌∙◌, not, append-nil}
 use Rattle.std.proofs.lemmas.List.{drop_all}
 use Rattle.std.proofs.lemmas.List.Sums.{take_while-cons}
 use Rattle.std.specs.Prelude.{find}
@@ -7,8 +7,8 @@ use Rattle.wat_lang.specs.declared.parts.Space.{Space}
 use Rattle.wat_lang.specs.declared.fault.Row.TheVariants as rows
 use Rattle.wat_lang.specs.Tokens.{Token}
 use Rattle.wat_lang.specs.Numbers.{number_of}
-use Rattle.wat_lang.specs.Grammar.{Mark, uses, a_type_use, a_minimum, a_maximum, Marked, marked}
-use Rattle.wat_lang.specs.Names.{Names, text_of, index_of, uses_in, is_type_use, all_with, first_with}
+use Rattle.wat_lang.specs.Grammar.{Mark, uses, Marked, marked}
+use Rattle.wat_lang.specs.Names.{Names, text_of, uses_in, first_with}
 use Rattle.wat_lang.specs.Modules.{first_used, immediates_in, is_instruction}
 use Rattle.wat_lang.specs.Rows.{where_holds, number_rows, is_bad_number, is_out_32}
 use Rattle.wat_marks.specs.declared.marked.MarkedToken.{MarkedToken}
@@ -18,7 +18,7 @@ use Rattle.wat_grammar.specs.Views.{mark_of}
 use Rattle.wat_read_tokens.proofs.Steps.{front}
 use Rattle.wat_read_names.proofs.Cuts.{one_more}
 use Rattle.wat_read_tokens.proofs.Tests.{first_fits}
-use Rattle.wat_read_bodies.specs.Naturals.{number_in}
+use Rattle.wat_read_bodies.specs.Naturals.{number_named}
 
 use_at : (s : Space) (k : Mark) (t : Token) → uses_in s k ≡ true → is_bad_number (marked k t) ≡ false → is_out_32 (number_of (text_of (marked k t))) ≡ false
 use_at s (uses r) t h g = g
@@ -26,13 +26,6 @@ use_at s k t h g = absurd cc
 
 pub use_fits : (s : Space) (m : Marked) → uses_in s m.mark ≡ true → is_bad_number m ≡ false → is_out_32 (number_of (text_of m)) ≡ false
 use_fits s m h g = use_at s m.mark m.token h g
-
-type_use_at : (k : Mark) (t : Token) → is_type_use k ≡ true → is_bad_number (marked k t) ≡ false → is_out_32 (number_of (text_of (marked k t))) ≡ false
-type_use_at a_type_use t h g = g
-type_use_at k t h g = absurd cc
-
-pub type_use_fits : (m : Marked) → is_type_use m.mark ≡ true → is_bad_number m ≡ false → is_out_32 (number_of (text_of m)) ≡ false
-type_use_fits m h g = type_use_at m.mark m.token h g
 
 -- ---- the first number
 
@@ -49,13 +42,13 @@ first_of f p (m ∷ ms) = by (p m) (first_of f p ms)
     by true h = refl
     by false h = h
 
-pub first_number : (names : Names) (s : Space) (ms : List Marked) (m : Marked) (n : ℕ) → Some m ≡ first_with (uses_in s) ms → n ≡ number_in names m → n ≡ first_used (λ _. names) s ms
+pub first_number : (names : Names) (s : Space) (ms : List Marked) (m : Marked) (n : ℕ) → Some m ≡ first_with (uses_in s) ms → n ≡ number_named names m → n ≡ first_used (λ _. names) s ms
 unfolding by_first
-first_number names s ms m n e h = h ∙ ap (by_first (number_in names)) e ∙ sym (first_of (number_in names) (λ (k : Marked). uses_in s k.mark) ms)
+first_number names s ms m n e h = h ∙ ap (by_first (number_named names)) e ∙ sym (first_of (number_named names) (λ (k : Marked). uses_in s k.mark) ms)
 
 pub no_number : (names : Names) (s : Space) (ms : List Marked) → None ≡ first_with (uses_in s) ms → 0 ≡ first_used (λ _. names) s ms
 unfolding by_first
-no_number names s ms e = ap (by_first (number_in names)) e ∙ sym (first_of (number_in names) (λ (k : Marked). uses_in s k.mark) ms)
+no_number names s ms e = ap (by_first (number_named names)) e ∙ sym (first_of (number_named names) (λ (k : Marked). uses_in s k.mark) ms)
 
 -- ---- parts of a list
 

@@ -1,5 +1,5 @@
 -- Locals as runs of one type.
-use Rattle.std.proofs.Common.{◌≡◌, ℕ, ◌+◌, List, [], ◌∷◌, ◌++◌, replicate, refl, sym, ap, ◌∙◌, append_assoc, append-nil}
+use Rattle.std.proofs.Common.{◌≡◌, ◌+◌, List, [], ◌∷◌, ◌++◌, replicate, sym, ap, ◌∙◌, append_assoc, append-nil}
 use Rattle.std.proofs.lemmas.List.{replicate_more}
 use Rattle.wasm_lang.specs.declared.types.ValType.{ValType}
 use Rattle.wasm_tree.specs.declared.module.Run.{Run}

@@ -1,6 +1,6 @@
 -- Immediates that are written, and what stands for those that aren't.
 use Rattle.std.proofs.Common.{◌≡◌, ℕ, List, Option, Some, None, ap, ◌∙◌}
-use Rattle.std.specs.Prelude.{option_map, unwrap_or, ℤ, pos}
+use Rattle.std.specs.Prelude.{unwrap_or, ℤ, pos}
 use Rattle.wasm_lang.specs.declared.types.MemOp.{MemOp}
 use Rattle.wat_lang.specs.Grammar.{Marked}
 use Rattle.wat_lang.specs.Names.{first_with}
@@ -11,9 +11,6 @@ offset_by o = elim o [ Some m ↦ natural_or_0 (offset_of m) | None ↦ 0 ]
 
 pub offset_written : (ms : List Marked) (m : Marked) (n : ℕ) (z : Option ℤ) → Some m ≡ first_with is_offset ms → Some (pos n) ≡ z → z ≡ offset_of m → n ≡ offset_in ms
 offset_written ms m n z e h w = ap natural_or_0 (h ∙ w) ∙ ap offset_by e
-
-pub offset_empty : (ms : List Marked) (m : Marked) (z : Option ℤ) → Some m ≡ first_with is_offset ms → None ≡ z → z ≡ offset_of m → 0 ≡ offset_in ms
-offset_empty ms m z e h w = ap natural_or_0 (h ∙ w) ∙ ap offset_by e
 
 pub no_offset : (ms : List Marked) → None ≡ first_with is_offset ms → 0 ≡ offset_in ms
 no_offset ms e = ap offset_by e

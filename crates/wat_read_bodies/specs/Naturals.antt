@@ -11,5 +11,5 @@ is_natural wanted.Maximum = true
 is_natural _ = false
 
 -- the number that a token names in a space, or 0
-abbrev pub number_in : Names → Marked → ℕ
-number_in names m = unwrap_or (index_of names (text_of m)) 0
+abbrev pub number_named : Names → Marked → ℕ
+number_named names m = unwrap_or (index_of names (text_of m)) 0

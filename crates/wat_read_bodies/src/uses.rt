@@ -7,7 +7,7 @@ ghost use Rattle.wat_lang.specs.Names.{uses_in};
 ghost use Rattle.wat_lang.specs.Rows.{number_rows, is_bad_number};
 ghost use Rattle.wat_marks.specs.Views.{marked_of};
 ghost use Rattle.wat_read_tokens.specs.Marks.{marks_of, only};
-ghost use Rattle.wat_read_bodies.specs.Naturals.{number_in};
+ghost use Rattle.wat_read_bodies.specs.Naturals.{number_named};
 
 use std::alloc::{AllocError, Global};
 use wat_lang::Space;
@@ -16,8 +16,8 @@ use wat_read_labels::Labels;
 use wat_read_names::Ids;
 use wat_read_tokens::{Wanted, first};
 
-#[tactic(auto, using(wat_read_tokens::proofs::Tests::use_reads, crate::proofs::Good::use_fits, crate::proofs::Good::first_number, crate::proofs::Good::no_number))]
 /// The first number that is used of a space with these ids, or 0.
+#[tactic(auto, using(wat_read_tokens::proofs::Tests::use_reads, crate::proofs::Good::use_fits))]
 pub fn first_used(ids: &Ids<'_>, space: Space, parts: &[MarkedToken<'_>]) -> u32
     requires { number_rows (marks_of parts.now) ≡ [] }
     ensures { result ≡ spec.first_used (λ _. ids.now) space (marks_of parts.now) }
@@ -36,7 +36,7 @@ fn push_used(
     token: &MarkedToken<'_>,
 ) -> Result<(), AllocError>
     requires { is_bad_number (marked_of token.now) ≡ false }
-    ensures { OnOk result (numbers.new.items ≡ numbers.old.items ++ only (uses_in space (marked_of token.now).mark) (number_in ids.now (marked_of token.now))) }
+    ensures { OnOk result (numbers.new.items ≡ numbers.old.items ++ only (uses_in space (marked_of token.now).mark) (number_named ids.now (marked_of token.now))) }
 {
     if !Wanted::Uses(space).is(token.mark) {
         return Ok(());
@@ -62,8 +62,8 @@ pub fn used(
     Ok(numbers)
 }
 
-#[tactic(auto, using(wat_read_tokens::proofs::Tests::use_reads, crate::proofs::Good::use_fits, crate::proofs::Good::first_number, crate::proofs::Good::no_number))]
 /// The first label that is used, or 0.
+#[tactic(auto, using(wat_read_tokens::proofs::Tests::use_reads, crate::proofs::Good::use_fits))]
 pub fn first_label(labels: &Labels<'_>, parts: &[MarkedToken<'_>]) -> u32
     requires { number_rows (marks_of parts.now) ≡ [] }
     ensures { result ≡ spec.first_used (λ _. labels.now) spaces.Label (marks_of parts.now) }
@@ -81,7 +81,7 @@ fn push_label(
     token: &MarkedToken<'_>,
 ) -> Result<(), AllocError>
     requires { is_bad_number (marked_of token.now) ≡ false }
-    ensures { OnOk result (numbers.new.items ≡ numbers.old.items ++ only (uses_in spaces.Label (marked_of token.now).mark) (number_in labels.now (marked_of token.now))) }
+    ensures { OnOk result (numbers.new.items ≡ numbers.old.items ++ only (uses_in spaces.Label (marked_of token.now).mark) (number_named labels.now (marked_of token.now))) }
 {
     if !Wanted::Uses(Space::Label).is(token.mark) {
         return Ok(());

@@ -1,14 +1,14 @@
-use Rattle.std.proofs.Common.{◌≡◌, ◌+◌, ◌-◌, ◌<◌, ◌++◌, [], ◌∷◌, List, map, length, take, drop, refl, sym, ap, ◌∙◌, arith}
-use Rattle.std.proofs.lemmas.List.{map_push, take_rest}
-use Rattle.wasm_lang.specs.Instructions.{Instruction, end_mark}
+use Rattle.std.proofs.Common.{◌+◌, ◌<◌, ◌++◌, List, map, length, drop, sym, ap, ◌∙◌, arith}
+use Rattle.std.proofs.lemmas.List.{take_rest}
+use Rattle.wasm_lang.specs.Instructions.{Instruction}
 use Rattle.wasm_tree.specs.Views.{instr_of}
-use Rattle.wat_lang.specs.Names.{Names, names_at, labels_after}
+use Rattle.wat_lang.specs.Names.{Names, names_at}
 use Rattle.wat_lang.specs.Modules.{instructions_in, instruction_at}
 use Rattle.wat_marks.specs.declared.marked.MarkedToken.{MarkedToken}
 use Rattle.wat_marks.specs.Views.{marked_of}
 use Rattle.wat_read_names.specs.Bound.{space_names}
 use Rattle.wat_read_tokens.specs.Marks.{marks_of}
-use Rattle.wat_read_tokens.proofs.Steps.{grows_at, grown}
+use Rattle.wat_read_tokens.proofs.Steps.{grows_at}
 use Rattle.wat_read_bodies.proofs.Good.{rest_good}
 use Rattle.wat_read_bodies.proofs.expressions.code.Goals as goal
 

@@ -6,7 +6,7 @@ use Rattle.wat_grammar.specs.Views.{mark_of}
 use Rattle.wat_marks.specs.Views.{marked_of}
 use Rattle.wat_read_tokens.specs.Marks.{marks_of}
 use Rattle.wat_read_bodies.proofs.Atoms.{offset_reads, offset_fits}
-use Rattle.wat_read_bodies.proofs.Written.{offset_written, offset_empty, no_offset}
+use Rattle.wat_read_bodies.proofs.Written.{offset_written, no_offset}
 use Rattle.wat_read_bodies.proofs.immediates.offset_in.Goals as goal
 
 pub atom-requires : goal.atom-requires

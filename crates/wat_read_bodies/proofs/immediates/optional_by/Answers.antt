@@ -1,5 +1,5 @@
 use Rattle.std.proofs.Common.{◌≡◌, ℕ, List, false, sym, ap, ◌∙◌, subst}
-use Rattle.std.specs.Prelude.{Option, option_and_then}
+use Rattle.std.specs.Prelude.{option_and_then}
 use Rattle.wat_lang.specs.Grammar.{Marked}
 use Rattle.wat_lang.specs.Numbers.{number_of}
 use Rattle.wat_lang.specs.Names.{text_of}

@@ -1,4 +1,4 @@
-use Rattle.std.proofs.Common.{◌≡◌, List, refl, ap, ◌∙◌, arith}
+use Rattle.std.proofs.Common.{List, refl, ap, ◌∙◌, arith}
 use Rattle.wasm_lang.specs.declared.types.ValType.{ValType}
 use Rattle.wasm_tree.specs.Views.{locals_in}
 use Rattle.wat_lang.specs.declared.parts.Part.TheVariants.{Local}

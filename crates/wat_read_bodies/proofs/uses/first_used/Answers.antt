@@ -1,4 +1,3 @@
-use Rattle.wat_lang.specs.declared.parts.Space.TheVariants as spaces
 use Rattle.wat_marks.specs.Views.{marked_of}
 use Rattle.wat_read_tokens.specs.Marks.{marks_of}
 use Rattle.wat_read_bodies.proofs.Good.{first_number, no_number}

@@ -1,5 +1,4 @@
-use Rattle.std.proofs.Common.{◌≡◌, ℕ, List, refl, sym, ap, ◌∙◌, arith}
-use Rattle.wat_lang.specs.declared.parts.Space.TheVariants as spaces
+use Rattle.std.proofs.Common.{ℕ, List, refl, arith}
 use Rattle.wat_lang.specs.Grammar.{Marked}
 use Rattle.wat_lang.specs.Names.{uses_in}
 use Rattle.wat_lang.specs.Modules as spec
@@ -8,7 +7,7 @@ use Rattle.wat_marks.specs.Views.{marked_of}
 use Rattle.wat_read_tokens.specs.Marks.{marks_of}
 use Rattle.wat_read_tokens.proofs.Steps.{grows, grown, only_front}
 use Rattle.wat_read_tokens.proofs.Tests.{good_at}
-use Rattle.wat_read_bodies.specs.Naturals.{number_in}
+use Rattle.wat_read_bodies.specs.Naturals.{number_named}
 use Rattle.wat_read_bodies.proofs.uses.used.Goals as goal
 
 pub push_used-requires : goal.push_used-requires
@@ -19,7 +18,7 @@ loop-token-preserved c =
     let read : List MarkedToken → List ℕ = λ ts. spec.used (λ _. c.args.ids.now) c.args.space (marks_of ts) in
     let t = c.token-item.result in
     grows read read c.args.parts.now c.loop-token.token-index t c.loop-token.numbers.items _ _ (read c.args.parts.now) c.loop-token-test.true c.token-item.is
-    (λ ts. only_front (λ (m : Marked). uses_in c.args.space m.mark) (number_in c.args.ids.now) (marked_of t) (marks_of ts)) c.in_ok-push_used.ensures c.loop-token.invariant
+    (λ ts. only_front (λ (m : Marked). uses_in c.args.space m.mark) (number_named c.args.ids.now) (marked_of t) (marks_of ts)) c.in_ok-push_used.ensures c.loop-token.invariant
 
 pub returns : goal.returns
 returns c =

@@ -1,5 +1,4 @@
 use Rattle.std.proofs.Common.{◌≡◌, ◌++◌, drop}
-use Rattle.wat_lang.specs.declared.parts.Space.TheVariants as spaces
 use Rattle.wat_lang.specs.Modules as spec
 use Rattle.wat_read_tokens.specs.Marks.{marks_of}
 use Rattle.wat_read_bodies.proofs.uses.used.Given as goal
