@@ -1,13 +1,11 @@
 -- The ids of fields as the code holds them.
-use Rattle.std.proofs.Common.{◌≡◌, ℕ, List, [], ◌∷◌, ◌++◌, refl, sym, ap, ◌∙◌}
+use Rattle.std.proofs.Common.{◌≡◌, List, [], ◌++◌, refl, ap, ◌∙◌}
 use Rattle.std.proofs.Math.Path.{fun_ext}
 use Rattle.std.specs.List.{flat_map}
 use Rattle.wasm_lang.specs.Modules.{FunctionType}
 use Rattle.wat_lang.specs.declared.parts.Space.{Space}
 use Rattle.wat_lang.specs.declared.parts.Space.TheVariants as spaces
-use Rattle.wat_lang.specs.declared.parts.FieldKind.{FieldKind}
-use Rattle.wat_lang.specs.declared.parts.FieldKind.TheVariants as kinds
-use Rattle.wat_lang.specs.Names.{Names, Field, names_of, names_at, entry_of}
+use Rattle.wat_lang.specs.Names.{Names, Field, names_of, names_at}
 use Rattle.wat_lang.specs.Rows.{Refusal, use_rows, locals_of, field_rows}
 use Rattle.wat_read_names.specs.declared.spaces.Spaces.{Spaces}
 use Rattle.wat_read_names.specs.Bound.{space_names, HasNames}

@@ -1,8 +1,8 @@
 -- From marks to texts.
-use Rattle.std.proofs.Common.{◌≡◌, ℕ, List}
+use Rattle.std.proofs.Common.{ℕ, List}
 use Rattle.wasm_lang.specs.Modules.{WasmModule}
 use Rattle.wat_lang.specs.Grammar.{Marked}
-use Rattle.wat_lang.specs.Texts.{IsMarked, SaysModule, IsFault, a_refusal}
+use Rattle.wat_lang.specs.Texts.{IsMarked, SaysModule, a_refusal}
 use Rattle.wat_marks.specs.declared.fault.WatFault.{WatFault}
 use Rattle.wat_marks.specs.declared.fault.WatFault.TheVariants as faults
 use Rattle.wat_marks.specs.Views.{IsFaultOf}

@@ -1,11 +1,11 @@
-use Rattle.std.proofs.Common.{◌≡◌, List, map, refl, arith}
+use Rattle.std.proofs.Common.{List, map, refl, arith}
 use Rattle.wat_lang.specs.Rows as spec
 use Rattle.wat_read_names.specs.declared.field.Field.{Field}
 use Rattle.wat_read_names.specs.Fields.{field_of}
 use Rattle.std.specs.List.{flat_map}
 use Rattle.wasm_tree.specs.Views.{type_of}
 use Rattle.wat_read_names.specs.Bound.{space_names}
-use Rattle.wat_read_refusals.proofs.Joins.{noted, noted_all, chosen_front}
+use Rattle.wat_read_refusals.proofs.Joins.{noted, noted_all}
 use Rattle.wat_read_rows.proofs.fields.all_field_rows.Goals as goal
 
 pub loop-field-preserved : goal.loop-field-preserved

@@ -1,6 +1,5 @@
 use Rattle.std.proofs.Common.{◌≡◌, drop, map}
 use Rattle.wat_lang.specs.Rows as spec
-use Rattle.wat_read_names.specs.declared.field.Field.{Field}
 use Rattle.wat_read_names.specs.Fields.{field_of}
 use Rattle.std.specs.List.{flat_map}
 use Rattle.wasm_tree.specs.Views.{type_of}

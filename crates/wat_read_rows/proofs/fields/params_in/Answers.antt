@@ -1,8 +1,6 @@
 use Rattle.std.proofs.Common.{◌≤◌, ◌-◌, ◌^◌, ap, ◌∙◌, map, length, arith}
 use Rattle.std.proofs.lemmas.List.{length-map}
-use Rattle.std.specs.Prelude.{unwrap_or}
 use Rattle.wasm_lang.specs.Limits as limits
-use Rattle.wasm_tree.specs.declared.module.FuncType.{FuncType}
 use Rattle.wasm_tree.specs.Views.{type_of}
 use Rattle.wat_lang.specs.Modules.{function_type_in}
 use Rattle.wat_read_names.specs.Bound.{space_names}

@@ -1,4 +1,4 @@
-use Rattle.std.proofs.Common.{◌≡◌, ℕ, ◌-◌, Bool, List, Option, map, refl, sym, ap, ◌∙◌, arith}
+use Rattle.std.proofs.Common.{◌≡◌, ℕ, ◌-◌, Bool, List, Option, map, refl, ap, ◌∙◌, arith}
 use Rattle.std.specs.Prelude.{is_some, if◌then◌else◌}
 use Rattle.wat_lang.specs.Names as names
 use Rattle.wat_lang.specs.Rows as spec

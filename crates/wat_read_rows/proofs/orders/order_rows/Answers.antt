@@ -1,4 +1,4 @@
-use Rattle.std.proofs.Common.{◌≡◌, Bool, List, map, refl, sym, ap, ◌∙◌, arith, ◌++◌, ◌&&◌, ◌||◌}
+use Rattle.std.proofs.Common.{Bool, List, map, refl, sym, ap, ◌∙◌, arith, ◌++◌, ◌&&◌, ◌||◌}
 use Rattle.wat_lang.specs.declared.fault.Row.TheVariants as rows
 use Rattle.wat_lang.specs.Names as names
 use Rattle.wat_lang.specs.Rows as spec
