@@ -1,5 +1,5 @@
 //! Laws of verdicts.
-ghost use Rattle.std.specs.Prelude.{◌≡◌, ⊥, ℕ, List};
+ghost use Rattle.std.specs.Prelude.{◌≡◌, ℕ, List};
 ghost use Rattle.wasm_lang.specs.Modules.{WasmModule};
 ghost use Rattle.bridge_lang.specs.Reason.{Reason};
 ghost use Rattle.bridge_lang.specs.WatVerdicts.{IsValidWat, IsWatRefusal};
