@@ -116,8 +116,8 @@ fn of_fields<'a>(
     ensures found { IfOk result (λ m. Says (marks_of marks.now) (views.module_of m)) }
     ensures fault { IfErr result (λ e. IsFirstRow (marks_of marks.now) e) }
 {
-    let spaces = Spaces::of(alloc, hashes, fields)?;
     let types = types(alloc, fields)?;
+    let spaces = Spaces::of(alloc, hashes, fields)?;
     judged(alloc, hashes, &spaces, types, fields, marks)
 }
 

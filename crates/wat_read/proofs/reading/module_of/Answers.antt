@@ -24,6 +24,6 @@ returns c =
     (c.in_ok-exports.ensures ∙ map_same _ _ _ (exports_same n fs h))
     (c.start.ensures ∙ ap (λ xs. slice_get xs 0) (map_same _ _ _ (starts_same n fs h)))
     (c.in_ok-elements.ensures ∙ map_same _ _ _ (elements_same n fs h))
-    (c.in_ok-bodies.ensures ∙ map_same _ _ _ (bodies_same n fs h (map views.type_of c.args.types.items))
-    ∙ ap (λ (types : List FunctionType). map (spec.body_of (names.names_of fs) types) (spec.own_of fs spaces.Func)) c.requires.types)
+    (c.in_ok-bodies.ensures ∙ map_same _ _ _ (bodies_same n fs h (map views.type_of c.as_slice.result.now))
+    ∙ ap (λ (types : List FunctionType). map (spec.body_of (names.names_of fs) types) (spec.own_of fs spaces.Func)) (ap (map views.type_of) c.as_slice.ensures.value ∙ c.requires.types))
     (c.in_ok-segments.ensures ∙ map_same _ _ _ (segments_same n fs h))
