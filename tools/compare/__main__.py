@@ -2,7 +2,8 @@
 """python3 tools/compare PROGRAM [--seed S] [--count N] [--keep FOLDER] [--only KIND NUMBER]
 
 Random modules, N of asm.js and N of WebAssembly, and N pairs of the latter, each with a script: what PROGRAM prints of the session, and of the session of what it translates
-the module to, is what node's engine shows of the same (of a pair: of two instances over one memory, and of what PROGRAM links it to); and SpiderMonkey's validator takes each text of asm.js that PROGRAM writes.
+the module to, is what node's engine shows of the same (of a pair: of two instances over one memory, and of what PROGRAM links it to); each text's short form
+shows the same and is its own short form; and SpiderMonkey's validator takes each text of asm.js that PROGRAM writes.
 Where node isn't installed nothing is compared, and where js102 isn't, no validator is asked; a line says so. Files of a difference are kept in FOLDER.
 A difference names its module, as `asm 1000007`, which --only tries alone."""
 import argparse
@@ -116,7 +117,17 @@ class Comparison:
         wanted = self.shown(SOURCE, **job)
         heap = ["--heap", str(case.length)]
         self.same("run-asm", wanted, self.asked("run-asm", text, script, *heap, "--steps", STEPS).decode())
+        self.short("the text", text, job, wanted, script, heap)
         self.back_from_asm(case, self.asked("asm2wasm", text, *heap), shared_names(wanted))
+
+    def short(self, what, text, job, wanted, script, heap):
+        """Of a text of asm.js: its short form."""
+        made = self.asked("shorten", text)
+        short = self.file("short.js", made)
+        if self.asked("shorten", short) != made:
+            raise Difference(f"shorten: the short form of {what} isn't its own")
+        self.same(f"the engine on the short form of {what}", wanted, self.shown(f"the short form of {what}", **job | {"text": made.decode()}))
+        self.same(f"run-asm of the short form of {what}", wanted, self.asked("run-asm", short, script, *heap, "--steps", STEPS).decode())
 
     def back_from_asm(self, case, made, wanted):
         case.script.globals = {import_name("env", name): value for name, value in case.script.globals.items()}
@@ -167,9 +178,11 @@ class Comparison:
         names = {name for item, name in zip(case.module.imports, case.import_names) if item.kind == FUNCTION}
         job["imports"] = [{"field": f, "name": f} for f in sorted(names | {"$trap", "$high"})]
         job["imports"] += [{"field": f, "value": str(v)} for f, v in split.globals.items()]
-        self.same("the engine on the text of wasm2js", wanted, without_start(self.shown("the text of wasm2js", **job)))
-        seen = self.asked("run-asm", text, script, "--heap", str(length), "--steps", STEPS).decode()
+        shown, heap = self.shown("the text of wasm2js", **job), ["--heap", str(length)]
+        self.same("the engine on the text of wasm2js", wanted, without_start(shown))
+        seen = self.asked("run-asm", text, script, *heap, "--steps", STEPS).decode()
         self.same("run-asm of the text of wasm2js", wanted, without_start(seen))
+        self.short("the text of wasm2js", text, job, shown, script, heap)
 
 
     # ---- two modules, and the one that they are linked to
@@ -258,8 +271,8 @@ def main():
         print(f"differs: {line}")
     differences, sessions, validated, unending = (sum(len(a[k]) if k == 0 else a[k] for a in answers) for k in range(4))
     print(f"compare: {len(seeds)} modules and pairs, {sessions} sessions alike, {validated} texts validated, {unending} sessions without end, {differences} differences")
-    # Sessions that don't end show nothing; there are few. Three sessions of each other module are alike and one of each pair, and so there are some.
-    few = sessions == 0 or unending * 10 > len(seeds) or 3 * sessions < 7 * (len(seeds) - 3 * unending)
+    # Sessions that don't end show nothing; there are few. Five sessions of each other module are alike and one of each pair, and so there are some.
+    few = sessions == 0 or unending * 10 > len(seeds) or 3 * sessions < 11 * (len(seeds) - 3 * unending)
     if few and not differences:
         print("compare: too few sessions were held against each other")
     return 1 if differences or few else 0

@@ -62,18 +62,34 @@ class Pair:
             if item.kind != FUNCTION or (item.module == "env" and item.field in GIVEN) or self.random.random() < 0.3:
                 continue
             wanted = case.module.types[item.detail]
-            fitting = [n for n, f in other.exported.items() if n not in GIVEN and other.module.types[self._type_of(other, f)] == wanted]
+            fitting = [n for n, f in other.exported.items() if n not in GIVEN and self._fits(case, k, other, f)]
             if not fitting:
-                fitting = self._more_exports(case, other, wanted)
+                fitting = self._more_exports(case, k, other, wanted)
             if fitting:
                 name = self.random.choice(fitting)
                 case.module.imports[k] = Import("env", name, FUNCTION, item.detail)
                 case.import_names[k] = import_name("env", name)
 
-    def _more_exports(self, case, other, wanted):
+    def _fits(self, case, k, other, f):
+        """Whether a function of the other's is of the import's type, and the import wouldn't come back to itself, were it bound to that."""
+        if other.module.types[self._type_of(other, f)] != case.module.types[case.module.imports[k].detail]:
+            return False
+        here, there = other, case
+        while True:
+            functions = [j for j, item in enumerate(here.module.imports) if item.kind == FUNCTION]
+            if f >= len(functions):
+                return True
+            if here is case and functions[f] == k:
+                return False
+            name = self.bound(here, here.module.imports[functions[f]])
+            if name is None:
+                return True
+            here, there, f = there, here, there.exported[name]
+
+    def _more_exports(self, case, k, other, wanted):
         """A function of the other's of this type, under a name that neither module uses; where there is none, a new one."""
         imported = sum(i.kind == FUNCTION for i in other.module.imports)
-        alike = [f for f in range(imported + len(other.module.functions)) if other.module.types[self._type_of(other, f)] == wanted]
+        alike = [f for f in range(imported + len(other.module.functions)) if self._fits(case, k, other, f)]
         if not alike:
             alike = [imported + len(other.module.functions)]
             other.module.functions.append(Function(other.module.type(*wanted), [], self._answer(*wanted)))

@@ -34,7 +34,7 @@ use Rattle.bridge_args.specs.declared.fault.WordsFault.{WordsFault}
 use Rattle.bridge_args.specs.declared.fault.WordsFault.TheVariants as words_faults
 use Rattle.bridge_lang.specs.declared.status.Status.TheVariants.{Usage}
 use Rattle.bridge_args.specs.Answer.{Answers, asked_view}
-use Rattle.bridge_lang.specs.declared.making.Making.TheVariants.{CheckWasm, WasmToAsm}
+use Rattle.bridge_lang.specs.declared.making.Making.TheVariants.{CheckWasm}
 use Rattle.bridge_lang.specs.Command.{Action, make, link, Running, as_binary, run, on_file, asm_js, web_assembly, begins_with_zero, language_of}
 use Rattle.bridge_lang.specs.Words.{asked}
 use Rattle.bridge_lang.specs.Answers.{IsAnswered, a_bar, want_of_memory, IsScriptAnswer, an_unfit_line, no_room, MayAnswer, a_refusal, a_read_fault, no_memory}
@@ -166,7 +166,7 @@ one_joined_end first bytes j k (not_taken {reason = r} x) (joined m i e o) = abs
 one_joined_end first bytes j k (apart m why i e) (not_taken {reason = r} y) = absurd (bar_is_not_valid bytes m r y i)
 one_joined_end first bytes j k (apart m why i e) (apart n other i' e') =
     let same : Some why ≡ Some other = sym e ∙ same_refusal first bytes m n i i' ∙ e' in
-    let f : other ≡ why = cc in
+    let f : why ≡ other = cc in
     ap (λ (x : Refused). status_of (reason_of_join (joins.Apart x))) f
 one_joined_end first bytes j k (apart m why i e) (joined n i' e' o) = absurd (not_apart_too why (sym e ∙ same_refusal first bytes m n i i' ∙ e'))
 one_joined_end first bytes j k (joined m i e o) (not_taken {reason = r} y) = absurd (bar_is_not_valid bytes m r y i)

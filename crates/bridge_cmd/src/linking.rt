@@ -1,5 +1,5 @@
 //! Two modules that are linked into one.
-ghost use Rattle.std.specs.Prelude.{◌≡◌, ◌≤◌, ◌×◌, ℕ, Bool, List, IfOk, IfErr, length, string_bytes};
+ghost use Rattle.std.specs.Prelude.{◌≡◌, ◌≤◌, ℕ, Bool, List, IfOk, IfErr, length, string_bytes};
 ghost use Rattle.bridge_io.specs.Outside.{Rose, RoseBy};
 ghost use Rattle.bridge_lang.specs.Command as spec;
 ghost use Rattle.bridge_lang.specs.Job.{file_limit, IsModuleJob, written};

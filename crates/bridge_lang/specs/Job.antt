@@ -6,6 +6,7 @@ use Rattle.asm_lang.specs.Modules.{Module}
 use Rattle.asm_lang.specs.Printing.{canonical_text}
 use Rattle.asm_lang_valid.specs.Texts.{IsAcceptedText}
 use Rattle.bridge_lang.specs.AsmVerdicts.{counts_line as text_counts_line, IsRefusedText}
+use Rattle.bridge_lang.specs.Shortening.{IsShortened}
 use Rattle.bridge_lang.specs.declared.row.AsmRow.{AsmRow}
 use Rattle.wasm_lang.specs.Modules.{WasmModule}
 use Rattle.wasm_lang.specs.declared.fault.Row.{Row}
@@ -26,7 +27,7 @@ use Rattle.wasm_link_lang.specs.Refusal.{refusal}
 use Rattle.wasm_link_lang.specs.Allowed.{IsAllowed as IsAllowedFor, IsBounded as IsBoundedFor}
 use Rattle.gen_lang.specs.Recipe.{recipe, recipe_heap, summary}
 use Rattle.bridge_lang.specs.declared.making.Making.{Making}
-use Rattle.bridge_lang.specs.declared.making.Making.TheVariants.{CheckAsm, CheckWasm, WasmToAsm, WasmToWat, Show}
+use Rattle.bridge_lang.specs.declared.making.Making.TheVariants.{CheckAsm, CheckWasm, WasmToAsm, WasmToWat, Shorten, Show}
 use Rattle.bridge_lang.specs.Command.{Running, as_text, as_binary, Action, make, translate, link, run, on_file, gen, Language, asm_js, web_assembly, language_of}
 use Rattle.bridge_lang.specs.Words.{asked}
 use Rattle.bridge_lang.specs.Reason.{Reason, faulty_words, not_asm, not_a_binary, not_valid, not_run, not_linked, bad_script, missing, too_large}
@@ -68,6 +69,7 @@ read_by CheckAsm bytes = asm_js
 read_by CheckWasm bytes = web_assembly
 read_by WasmToAsm bytes = web_assembly
 read_by WasmToWat bytes = web_assembly
+read_by Shorten bytes = asm_js
 read_by Show bytes = language_of bytes
 
 abbrev pub read_as : Action → List ℕ → Language
@@ -107,6 +109,7 @@ pub record IsTranslatedBack (w : WasmModule) (output : List ℕ) : Type 0 where
 abbrev pub IsMadeOfText : Action → Module → (output : List ℕ) → Type 0
 IsMadeOfText (make CheckAsm) m output = output ≡ text_counts_line m
 IsMadeOfText (make Show) m output = output ≡ canonical_text m
+IsMadeOfText (make Shorten) m output = IsShortened m output
 IsMadeOfText (translate heap) m output = IsTranslated m heap output
 IsMadeOfText _ m output = ⊥
 

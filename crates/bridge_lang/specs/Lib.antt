@@ -8,6 +8,7 @@ pub mod WasmRows
 pub mod LinkRows
 pub mod AsmVerdicts
 pub mod WasmVerdicts
+pub mod Shortening
 pub mod AsmRuns
 pub mod WasmRuns
 pub mod Reason

@@ -7,7 +7,7 @@ use Rattle.clap.specs.Walk.{Row, Text, all_of, first_of}
 use Rattle.bridge_lang.specs.App.{faults_of, rows_read}
 use Rattle.bridge_lang.specs.Number.{is_gen_count, is_heap, is_steps, kept, number_of, number_or}
 use Rattle.bridge_lang.specs.declared.making.Making.{Making}
-use Rattle.bridge_lang.specs.declared.making.Making.TheVariants.{CheckAsm, CheckWasm, WasmToAsm, WasmToWat, Show}
+use Rattle.bridge_lang.specs.declared.making.Making.TheVariants.{CheckAsm, CheckWasm, WasmToAsm, WasmToWat, Shorten, Show}
 use Rattle.bridge_lang.specs.Command.{as_text, as_binary, make, translate, link, run, Asked, on_file, gen}
 
 -- the commands that take one file and no option
@@ -17,8 +17,9 @@ making_named name =
     else (if bytes_eq name (codes "check-wasm") then Some CheckWasm
     else (if bytes_eq name (codes "wasm2js") then Some WasmToAsm
     else (if bytes_eq name (codes "wasm2wat") then Some WasmToWat
+    else (if bytes_eq name (codes "shorten") then Some Shorten
     else (if bytes_eq name (codes "show") then Some Show
-    else None))))
+    else None)))))
 
 -- what follows the command's name
 pub record GivenTexts : Type 0 where

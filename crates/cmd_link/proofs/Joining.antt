@@ -14,7 +14,11 @@ use Rattle.wasm_link_code.specs.Linked.{linked}
 use Rattle.wasm_link_laws_modules.specs.Laws.{IsLinkable}
 use Rattle.wasm_link_laws_simulation.specs.Laws.{LinkedIsAllowed, LinkedIsBounded}
 use Rattle.wasm_link_laws_writable.specs.Laws.{IsSpelledShort, LinkedIsWritable}
+use Rattle.wasm_link_rows.specs.Faults.{IsLinkFault}
+use Rattle.wasm_link_rows.specs.declared.fault.LinkFault.{LinkFault}
+use Rattle.wasm_link_rows.specs.declared.fault.LinkFault.TheVariants as links
 use Rattle.bridge_lang.specs.Job.{IsLinkedTo, IsJoined, joined, written}
+use Rattle.cmd_link.specs.Joins.{IsNotJoined, of_link}
 
 abbrev Spells : Type 0
 Spells = (m : WasmModule) → IsWritable m → IsModuleBytes (spelling m) m
@@ -37,3 +41,7 @@ is_joined allowed bounded law spells shortest first bytes second output short va
     let made : IsLinkedTo w output =
     record { «module» = linked w; allowed = allowed w it; bounded = bounded w it; shortest = subst (λ o. IsShortest o (linked w)) (sym is) spelled } in
     joined second taken none made
+
+pub is_apart : (first : WasmModule) (bytes : List ℕ) (second : WasmModule) (fault : LinkFault) → IsValidBytes bytes second → IsLinkFault (record { first = first; second = second }) fault → IsNotJoined first bytes (of_link fault)
+is_apart first bytes second (links.Refused why) taken meets = record { second = second; taken = taken; meets = meets }
+is_apart first bytes second links.Memory taken meets = tt
