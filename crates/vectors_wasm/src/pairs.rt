@@ -491,8 +491,17 @@ pub fn seen(alloc: Global, first: &[u8], second: &[u8], script: &str) -> Result<
     let first_bytes = bytes_of(alloc, first)?;
     let second_bytes = bytes_of(alloc, second)?;
     let first = valid_of(alloc, &first_bytes)?;
-    let second = valid_of(alloc, &second_bytes)?;
-    seen_of(alloc, &first, &second, script)
+    seen_with(alloc, &first, &second_bytes, script)
+}
+
+fn seen_with(
+    alloc: Global,
+    first: &Valid<'_>,
+    bytes: &[u8],
+    script: &str,
+) -> Result<Vec<u8>, Fail> {
+    let second = valid_of(alloc, bytes)?;
+    seen_of(alloc, first, &second, script)
 }
 
 fn seen_of<'a>(
@@ -523,8 +532,16 @@ pub fn refusal(
     let first_bytes = bytes_of(alloc, first)?;
     let second_bytes = bytes_of(alloc, second)?;
     let first = valid_of(alloc, &first_bytes)?;
-    let second = valid_of(alloc, &second_bytes)?;
-    refusal_of(alloc, &first, &second)
+    refusal_with(alloc, &first, &second_bytes)
+}
+
+fn refusal_with(
+    alloc: Global,
+    first: &Valid<'_>,
+    bytes: &[u8],
+) -> Result<Option<(LinkRow, bool, u64)>, Fail> {
+    let second = valid_of(alloc, bytes)?;
+    refusal_of(alloc, first, &second)
 }
 
 fn refusal_of<'a>(
