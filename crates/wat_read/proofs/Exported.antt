@@ -1,5 +1,5 @@
 -- What is exported, token by token.
-use Rattle.std.proofs.Common.{◌≡◌, ℕ, ◌+◌, ◌-◌, ◌<◌, ◌≤◌, List, [], ◌∷◌, length, get_or, take, drop, Option, Some, None, refl, sym, ap, ◌∙◌}
+use Rattle.std.proofs.Common.{◌≡◌, ℕ, ◌+◌, ◌-◌, ◌<◌, ◌≤◌, List, length, get_or, take, drop, Option, Some, None, refl, sym, ap, ◌∙◌}
 use Rattle.std.proofs.lemmas.List.{take_rest, drop_all}
 use Rattle.wasm_lang.specs.declared.types.ExportKind.{ExportKind}
 use Rattle.wasm_lang.specs.declared.types.ExportKind.TheVariants as exports
@@ -10,7 +10,6 @@ use Rattle.wat_lang.specs.Names.{Names}
 use Rattle.wat_lang.specs.Modules.{exported_by, export_kind_in}
 use Rattle.wat_grammar.specs.Views.{mark_of}
 use Rattle.wat_marks.specs.declared.marked.MarkedToken.{MarkedToken}
-use Rattle.wat_marks.specs.Views.{marked_of}
 use Rattle.wat_read_tokens.specs.Marks.{marks_of}
 use Rattle.wat_read_tokens.proofs.Steps.{front}
 use Rattle.wat_read.specs.Kinds.{exported_as}

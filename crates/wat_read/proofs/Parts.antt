@@ -1,14 +1,14 @@
 -- Fields whose numbers are in their ranges, one by one.
-use Rattle.std.proofs.Common.{◌≡◌, ℕ, zero, suc, ◌+◌, ◌<◌, ◌≤◌, Bool, true, false, cond, List, [], ◌∷◌, ◌++◌, map, filter, length, get_or, drop, Option, Some, None, refl, sym, ap, ◌∙◌, subst, arith}
+use Rattle.std.proofs.Common.{◌≡◌, ℕ, zero, suc, ◌+◌, ◌<◌, ◌≤◌, Bool, true, false, cond, List, [], ◌∷◌, ◌++◌, map, filter, length, get_or, drop, Option, Some, None, refl, sym, ap, ◌∙◌, arith}
 use Rattle.std.proofs.lemmas.List.{drop_all}
-use Rattle.std.specs.List.{flat_map, slice_get}
+use Rattle.std.specs.List.{slice_get}
 use Rattle.wat_read_tokens.proofs.Steps.{front}
 use Rattle.wat_lang.specs.Grammar.{Marked}
 use Rattle.wat_lang.specs.Names.{Field, Cut, cut_at, cut, fields_of}
 use Rattle.wat_lang.specs.Grammar.{Mark, a_field}
 use Rattle.wat_lang.specs.Modules.{parts_of}
 use Rattle.wat_lang.specs.declared.fault.Row.TheVariants as rows
-use Rattle.wat_lang.specs.Rows.{Refusal, where_holds, is_bad_number, number_rows, rows_of_fields, rows_of, utf8_rows}
+use Rattle.wat_lang.specs.Rows.{Refusal, where_holds, is_bad_number, number_rows, rows_of}
 use Rattle.wat_read_names.specs.declared.field.Field.{Field as Held}
 use Rattle.wat_read_names.specs.Fields.{field_of}
 use Rattle.wat_read_tokens.specs.Marks.{only}

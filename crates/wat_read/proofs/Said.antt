@@ -1,5 +1,5 @@
 -- Marks that no row refuses.
-use Rattle.std.proofs.Common.{◌≡◌, List, [], ◌∷◌, Option, Some, None, refl, sym, ◌∙◌}
+use Rattle.std.proofs.Common.{◌≡◌, List, [], ◌∷◌, None, refl}
 use Rattle.wat_lang.specs.Rows.{Refusal, least}
 
 pub none_least : (rs : List Refusal) → None ≡ least rs → rs ≡ []

@@ -1,6 +1,5 @@
 -- What fields say by the ids that the code holds.
-use Rattle.std.proofs.Common.{◌≡◌, ℕ, Bool, List, [], ◌∷◌, ◌++◌, map, Option, Some, None, refl, sym, ap, ◌∙◌}
-use Rattle.std.proofs.Math.Path.{fun_ext}
+use Rattle.std.proofs.Common.{◌≡◌, ℕ, List, [], ◌∷◌, ◌++◌, map, Option, refl, ap, ◌∙◌}
 use Rattle.wasm_lang.specs.declared.types.Limits.{Limits}
 use Rattle.wasm_lang.specs.declared.types.ExportKind.{ExportKind}
 use Rattle.wasm_lang.specs.declared.types.ExportKind.TheVariants as exports
@@ -10,7 +9,7 @@ use Rattle.wasm_lang.specs.Modules.{FunctionType, Imported, GlobalEntry, Exporte
 use Rattle.wat_lang.specs.declared.parts.Space.{Space}
 use Rattle.wat_lang.specs.declared.parts.Space.TheVariants as spaces
 use Rattle.wat_lang.specs.Grammar.{Mark, an_exported, Marked}
-use Rattle.wat_lang.specs.Names.{Names, Field, names_of, names_at, local_names}
+use Rattle.wat_lang.specs.Names.{Names, Field, names_of, local_names}
 use Rattle.wat_lang.specs.Modules as spec
 use Rattle.wat_read_names.specs.declared.spaces.Spaces.{Spaces}
 use Rattle.wat_read_names.specs.Bound.{space_names, HasNames}

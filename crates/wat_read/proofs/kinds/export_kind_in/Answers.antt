@@ -1,10 +1,6 @@
 use Rattle.std.proofs.lemmas.List.{get_or_default}
-use Rattle.std.proofs.Common.{◌<◌, length, get_or, ◌+◌, refl, sym, ap, ◌∙◌, arith}
-use Rattle.std.specs.Prelude.{Some, None, Option}
-use Rattle.wasm_lang.specs.declared.types.ExportKind.{ExportKind}
-use Rattle.wat_lang.specs.Modules as spec
+use Rattle.std.proofs.Common.{◌<◌, length, get_or, ◌+◌, arith}
 use Rattle.wat_read_names.specs.Bound.{space_names}
-use Rattle.wat_read_tokens.specs.Marks.{marks_of}
 use Rattle.wat_read_bodies.proofs.Good.{rest_good}
 use Rattle.wat_read.proofs.Exported.{exported_here, exported_later, none_exported}
 use Rattle.wat_read.proofs.kinds.export_kind_in.Goals as goal

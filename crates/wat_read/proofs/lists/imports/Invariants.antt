@@ -1,15 +1,10 @@
 use Rattle.std.proofs.Common.{◌≡◌, ◌++◌, drop, map}
 use Rattle.sem_words.specs.Lists.{list_items}
-use Rattle.wasm_lang.specs.declared.types.Limits.{Limits}
-use Rattle.wasm_lang.specs.Modules.{Imported, GlobalEntry, Exported, ElementSegment, DataSegment, FunctionBody}
 use Rattle.wasm_tree.specs.Views as views
-use Rattle.wat_lang.specs.declared.parts.Space.TheVariants as spaces
 use Rattle.wat_lang.specs.Names as names
 use Rattle.wat_lang.specs.Modules as spec
-use Rattle.wat_read_names.specs.declared.field.Field.{Field}
 use Rattle.wat_read_names.specs.Fields.{field_of}
 use Rattle.wat_read_names.specs.Bound.{space_names}
-use Rattle.wat_read.specs.Fit.{defines_in}
 use Rattle.wat_read.proofs.lists.imports.Given as goal
 
 abbrev pub invariant-loop-field : goal.invariant-loop-field

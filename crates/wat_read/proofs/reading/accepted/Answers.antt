@@ -1,6 +1,5 @@
-use Rattle.std.proofs.Common.{◌≡◌, List, [], sym, ap, ◌∙◌, subst}
+use Rattle.std.proofs.Common.{sym, ap, ◌∙◌}
 use Rattle.wat_lang.specs.Modules as spec
-use Rattle.wat_lang.specs.Names as names
 use Rattle.wat_read_tokens.specs.Marks.{marks_of}
 use Rattle.wat_read.specs.Fit.{all_fit}
 use Rattle.wat_read.proofs.Parts.{fields_good}

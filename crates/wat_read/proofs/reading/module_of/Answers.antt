@@ -1,4 +1,4 @@
-use Rattle.std.proofs.Common.{◌≡◌, map, refl, sym, ap, ◌∙◌}
+use Rattle.std.proofs.Common.{map, ap, ◌∙◌}
 use Rattle.std.specs.List.{slice_get}
 use Rattle.wasm_lang.specs.Modules.{FunctionType}
 use Rattle.std.proofs.Common.{List}
