@@ -176,6 +176,10 @@ def only_modules(source, wanted):
         new = {used for it in new for used in re.findall(r"\bcrate::(\w+)", (source / f"{it}.rt").read_text())} - kept
     root = source / "lib.rt"
     root.write_text(re.sub(r"#\[cfg\(test\)\]\nmod (\w+);\n", lambda it: it[0] if it[1] in kept else "", root.read_text()))
+    # (a file that no module names isn't taken)
+    for path in source.glob("*.rt"):
+        if path != root and path.stem not in kept:
+            path.unlink()
 
 
 def run_tests(folder, crate):
