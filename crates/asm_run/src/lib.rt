@@ -12,7 +12,4 @@ mod writes;
 pub use fits::fits_asm;
 pub use session::Session;
 
-mod host_calls;
-mod running;
-
-pub use running::run;
+mod linking;

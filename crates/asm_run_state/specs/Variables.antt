@@ -1,10 +1,8 @@
--- Variables as names and values by slot.
+-- Names by their places.
 use Rattle.std.specs.Prelude.{ℕ, suc, List, [], ◌∷◌, Option, Some, None, map, option_map, if◌then◌else◌}
 use Rattle.std.specs.Borrow.{Bor}
 use Rattle.std.specs.Str.{bytes_eq}
 use Rattle.indexmap.specs.IndexMap.{IndexMap, get_by}
-use Rattle.sem_words.specs.declared.js_value.JsValue.{JsValue}
-use Rattle.asm_lang_exec.specs.Runs.{Binding, binding}
 
 -- the names that the code lends
 abbrev pub names_in : List (Bor (List ℕ)) → List (List ℕ)
@@ -18,9 +16,3 @@ slot_of (x ∷ xs) n = if bytes_eq x n then Some 0 else option_map (λ i. suc i)
 -- what a map has under a name
 abbrev pub found : {S : Type 0} → IndexMap (Bor (List ℕ)) ℕ S → List ℕ → Option ℕ
 found slots n = get_by (λ k. bytes_eq n k.now) slots
-
--- the variables of these names, in order, with the values
-abbrev pub bindings : List (List ℕ) → List JsValue → List Binding
-bindings [] vs = []
-bindings (n ∷ ns) [] = []
-bindings (n ∷ ns) (v ∷ vs) = binding n v ∷ bindings ns vs

@@ -1,15 +1,10 @@
 //! The names of variables.
-ghost use Rattle.std.specs.Prelude.{◌≡◌, ◌<◌, ℕ, List, Some, IfOk, IfSome, is_some, length, if◌then◌else◌};
-ghost use Rattle.std.specs.Bool.{OnFalse};
+ghost use Rattle.std.specs.Prelude.{◌≡◌, ◌<◌, ℕ, List, Some, IfOk, length, if◌then◌else◌};
 ghost use Rattle.std.specs.Str.{bytes_eq};
-ghost use Rattle.sem_words.specs.JsValues.{IsValue};
-ghost use Rattle.asm_lang_exec.specs.Runs.{value_in, with_value};
-ghost use Rattle.asm_run_state.specs.Variables.{names_in, slot_of, found, bindings};
+ghost use Rattle.asm_run_state.specs.Variables.{names_in, slot_of, found};
 
-use crate::values::Values;
 use indexmap::IndexMap;
 use key_hashes::{KeyHashes, hashes_of};
-use sem_words::JsValue;
 use std::alloc::{AllocError, Global};
 use std::marker::Model;
 
@@ -54,32 +49,6 @@ impl<'a> Layout<'a> {
         match self.slots.get(name) {
             Some(slot) => Some(*slot),
             None => None,
-        }
-    }
-
-    /// The value of a variable, if there is one of this name.
-    #[tactic(auto, using(crate::proofs::Slots::value_at, crate::proofs::Slots::no_value))]
-    pub fn get(&self, values: &Values, name: &[u8]) -> Option<JsValue>
-        ensures value { result ≡ value_in (bindings self.now values.now) name.now }
-        ensures keeps { IfSome result IsValue }
-    {
-        match self.slot(name) {
-            Some(slot) => values.get(slot),
-            None => None,
-        }
-    }
-
-    /// Gives a variable a value. False, and nothing is changed, where there is none of this name.
-    #[tactic(auto, using(crate::proofs::Slots::value_at, crate::proofs::Slots::no_value, crate::proofs::Slots::with_value_at, crate::proofs::Slots::with_no_value))]
-    pub fn set(&self, values: &mut Values, name: &[u8], value: JsValue) -> bool
-        requires { IsValue value }
-        ensures values { bindings self.now values.new ≡ with_value name.now value (bindings self.now values.old) }
-        ensures found { result ≡ is_some (value_in (bindings self.now values.old) name.now) }
-        ensures unchanged { OnFalse result (values.new ≡ values.old) }
-    {
-        match self.slot(name) {
-            Some(slot) => values.set(slot, value),
-            None => false,
         }
     }
 }
