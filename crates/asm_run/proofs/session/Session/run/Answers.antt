@@ -1,21 +1,78 @@
+use Rattle.std.proofs.Common.{List, map, refl, sym, ap, subst, ◌∙◌}
+use Rattle.session_lang.specs.declared.script.CallLine.{CallLine}
+use Rattle.session_lang.specs.Views.{call_of, script_of}
+use Rattle.asm_tree.specs.declared.tree.Module.{Module as Tree}
 use Rattle.asm_tree.specs.Views.{module_view}
-use Rattle.asm_run.proofs.Fitting.{accepted_here, fits_here}
+use Rattle.asm_run_code.specs.Modules.{codes_of}
+use Rattle.asm_run_words.specs.declared.world.World.{World}
+use Rattle.asm_run_words.specs.Worlds.{world_of}
+use Rattle.asm_run_emit_bodies.specs.Flats.{flat_view}
+use Rattle.asm_run_steps.specs.declared.linked.Linked.{Linked}
+use Rattle.asm_run_steps.specs.Linked.{flat_of}
+use Rattle.asm_run_calls.specs.Session.{callees_of, seen_option, IsSession}
+use Rattle.asm_run.proofs.Fitting.{codes_are, never_wrong_here, types_hold_here, means, is_one}
 use Rattle.asm_run.proofs.session.Session.run.Goals as goal
 
+pub run-requires-clause-codes : goal.run-requires-clause-codes
+run-requires-clause-codes c =
+    let s = c.self.inside in
+    let linked : Linked = record { functions = c.as_slice-2.result; tables = c.as_slice-3.result; members = c.as_slice-4.result } in
+    codes_are s.checked.now s.heap_len (script_of s.script.now) s.codes s.members.items s.callees.items s.world c.self.invariant linked
+    (ap (map flat_of) c.as_slice-2.ensures.value ∙ c.in_ok-functions.ensures ∙ ap (map flat_view) c.as_slice.ensures) c.as_slice-3.ensures c.as_slice-4.ensures.value
+    ∙ ap (λ (t : Tree). codes_of (module_view t)) (sym c.module-module.ensures.given)
+
+pub run-requires-clause-callees : goal.run-requires-clause-callees
+run-requires-clause-callees c =
+    let s = c.self.inside in
+    c.as_slice-5.ensures.value
+    ∙ c.self.invariant.callees_are
+    ∙ ap (λ (t : Tree). callees_of (module_view t) (script_of s.script.now).calls) (sym c.module-module.ensures.given)
+    ∙ ap (λ (l : List CallLine). callees_of (module_view c.module-module.result.now) (map call_of l)) (sym c.as_slice-6.ensures)
+
 pub returns-in_err-functions-clause-never_wrong : goal.returns-in_err-functions-clause-never_wrong
-returns-in_err-functions-clause-never_wrong c = c.accepted_modules.ensures.never_wrong (module_view c.args.self.code) c.args.self.size c.args.self.script c.args.budget (accepted_here c.args.self c.self.inside.checked.now c.self.inside.heap_len c.self.inside.script.now c.self.inside.codes c.self.inside.members.items c.self.inside.callees.items c.self.inside.world c.self.view_is c.self.invariant) (fits_here c.args.self c.self.inside.checked.now c.self.inside.heap_len c.self.inside.script.now c.self.inside.codes c.self.inside.members.items c.self.inside.callees.items c.self.inside.world c.self.view_is c.self.invariant)
+returns-in_err-functions-clause-never_wrong c =
+    let s = c.self.inside in
+    never_wrong_here c.args.self s.checked.now s.heap_len s.script.now s.codes s.members.items s.callees.items s.world c.self.view_is c.self.invariant c.accepted_modules.ensures.never_wrong c.args.budget
 
 pub returns-in_err-functions-clause-types_hold : goal.returns-in_err-functions-clause-types_hold
-returns-in_err-functions-clause-types_hold c = c.accepted_modules.ensures.types_hold (module_view c.args.self.code) c.args.self.size c.args.self.script c.args.budget (accepted_here c.args.self c.self.inside.checked.now c.self.inside.heap_len c.self.inside.script.now c.self.inside.codes c.self.inside.members.items c.self.inside.callees.items c.self.inside.world c.self.view_is c.self.invariant) (fits_here c.args.self c.self.inside.checked.now c.self.inside.heap_len c.self.inside.script.now c.self.inside.codes c.self.inside.members.items c.self.inside.callees.items c.self.inside.world c.self.view_is c.self.invariant)
+returns-in_err-functions-clause-types_hold c =
+    let s = c.self.inside in
+    types_hold_here c.args.self s.checked.now s.heap_len s.script.now s.codes s.members.items s.callees.items s.world c.self.view_is c.self.invariant c.accepted_modules.ensures.types_hold c.args.budget
 
 pub returns-in_err-seen-clause-never_wrong : goal.returns-in_err-seen-clause-never_wrong
-returns-in_err-seen-clause-never_wrong c = c.accepted_modules.ensures.never_wrong (module_view c.args.self.code) c.args.self.size c.args.self.script c.args.budget (accepted_here c.args.self c.self.inside.checked.now c.self.inside.heap_len c.self.inside.script.now c.self.inside.codes c.self.inside.members.items c.self.inside.callees.items c.self.inside.world c.self.view_is c.self.invariant) (fits_here c.args.self c.self.inside.checked.now c.self.inside.heap_len c.self.inside.script.now c.self.inside.codes c.self.inside.members.items c.self.inside.callees.items c.self.inside.world c.self.view_is c.self.invariant)
+returns-in_err-seen-clause-never_wrong c =
+    let s = c.self.inside in
+    never_wrong_here c.args.self s.checked.now s.heap_len s.script.now s.codes s.members.items s.callees.items s.world c.self.view_is c.self.invariant c.accepted_modules.ensures.never_wrong c.args.budget
 
 pub returns-in_err-seen-clause-types_hold : goal.returns-in_err-seen-clause-types_hold
-returns-in_err-seen-clause-types_hold c = c.accepted_modules.ensures.types_hold (module_view c.args.self.code) c.args.self.size c.args.self.script c.args.budget (accepted_here c.args.self c.self.inside.checked.now c.self.inside.heap_len c.self.inside.script.now c.self.inside.codes c.self.inside.members.items c.self.inside.callees.items c.self.inside.world c.self.view_is c.self.invariant) (fits_here c.args.self c.self.inside.checked.now c.self.inside.heap_len c.self.inside.script.now c.self.inside.codes c.self.inside.members.items c.self.inside.callees.items c.self.inside.world c.self.view_is c.self.invariant)
+returns-in_err-seen-clause-types_hold c =
+    let s = c.self.inside in
+    types_hold_here c.args.self s.checked.now s.heap_len s.script.now s.codes s.members.items s.callees.items s.world c.self.view_is c.self.invariant c.accepted_modules.ensures.types_hold c.args.budget
+
+pub unreachable-requires : goal.unreachable-requires
+unreachable-requires c =
+    let s = c.self.inside in
+    let world : World = record s.world { units = c.args.budget } in
+    is_one c.args.self s.checked.now s.heap_len s.script.now s.codes s.members.items s.callees.items s.world c.self.view_is c.self.invariant
+    c.flat_sessions.ensures c.accepted_modules.ensures.never_wrong (world_of world) c.args.budget c.as_slice-6.result.now c.in_ok-seen.seen refl c.as_slice-6.ensures
+    (subst (λ (t : Tree). IsSession (module_view t) (map call_of c.as_slice-6.result.now) (world_of world) c.in_ok-seen.seen) c.module-module.ensures.given c.in_ok-seen.ensures)
+    c.in-None.is
+
+pub returns-clause-meaning : goal.returns-clause-meaning
+returns-clause-meaning c =
+    let s = c.self.inside in
+    let world : World = record s.world { units = c.args.budget } in
+    sym (means c.args.self s.checked.now s.heap_len s.script.now s.codes s.members.items s.callees.items s.world c.self.view_is c.self.invariant
+    c.flat_sessions.ensures c.accepted_modules.ensures.never_wrong (world_of world) c.args.budget c.as_slice-6.result.now c.in_ok-seen.seen refl c.as_slice-6.ensures
+    (subst (λ (t : Tree). IsSession (module_view t) (map call_of c.as_slice-6.result.now) (world_of world) c.in_ok-seen.seen) c.module-module.ensures.given c.in_ok-seen.ensures))
+    ∙ ap seen_option c.in-Some.is
 
 pub returns-clause-never_wrong : goal.returns-clause-never_wrong
-returns-clause-never_wrong c = c.accepted_modules.ensures.never_wrong (module_view c.args.self.code) c.args.self.size c.args.self.script c.args.budget (accepted_here c.args.self c.self.inside.checked.now c.self.inside.heap_len c.self.inside.script.now c.self.inside.codes c.self.inside.members.items c.self.inside.callees.items c.self.inside.world c.self.view_is c.self.invariant) (fits_here c.args.self c.self.inside.checked.now c.self.inside.heap_len c.self.inside.script.now c.self.inside.codes c.self.inside.members.items c.self.inside.callees.items c.self.inside.world c.self.view_is c.self.invariant)
+returns-clause-never_wrong c =
+    let s = c.self.inside in
+    never_wrong_here c.args.self s.checked.now s.heap_len s.script.now s.codes s.members.items s.callees.items s.world c.self.view_is c.self.invariant c.accepted_modules.ensures.never_wrong c.args.budget
 
 pub returns-clause-types_hold : goal.returns-clause-types_hold
-returns-clause-types_hold c = c.accepted_modules.ensures.types_hold (module_view c.args.self.code) c.args.self.size c.args.self.script c.args.budget (accepted_here c.args.self c.self.inside.checked.now c.self.inside.heap_len c.self.inside.script.now c.self.inside.codes c.self.inside.members.items c.self.inside.callees.items c.self.inside.world c.self.view_is c.self.invariant) (fits_here c.args.self c.self.inside.checked.now c.self.inside.heap_len c.self.inside.script.now c.self.inside.codes c.self.inside.members.items c.self.inside.callees.items c.self.inside.world c.self.view_is c.self.invariant)
+returns-clause-types_hold c =
+    let s = c.self.inside in
+    types_hold_here c.args.self s.checked.now s.heap_len s.script.now s.codes s.members.items s.callees.items s.world c.self.view_is c.self.invariant c.accepted_modules.ensures.types_hold c.args.budget
