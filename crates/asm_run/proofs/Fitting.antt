@@ -14,13 +14,9 @@ use Rattle.asm_lang_valid.specs.Refusal.{IsAccepted}
 use Rattle.asm_lang_exec.specs.Session.{asm, checked_asm}
 use Rattle.asm_lang_exec.specs.Fits.{misfit}
 use Rattle.asm_laws_sound.specs.Laws.{AcceptedNeverGoWrong, ChecksChangeNothing}
-use Rattle.asm_run_code.specs.Machine as machine
 use Rattle.asm_run_code.specs.Modules as code
 use Rattle.asm_run_code.specs.Sessions.{flat_calls}
-use Rattle.asm_run_emit_bodies.specs.Flats.{flat_view}
 use Rattle.asm_run_emit_bodies.specs.declared.modules.Codes.{Codes}
-use Rattle.asm_run_steps.specs.declared.linked.Linked.{Linked}
-use Rattle.asm_run_steps.specs.Linked.{codes_in, flat_of, names_of}
 use Rattle.asm_run_laws.specs.Laws.{SessionsDo}
 use Rattle.asm_run_words.specs.declared.world.World.{World}
 use Rattle.asm_run_words.specs.Worlds.{WorldPlain, world_of}
@@ -30,17 +26,6 @@ use Rattle.asm_run_calls.specs.Session.{seen_option, resting, IsSession}
 
 not_none : (r : Option ObservationPlain) → (seen : ObservationPlain) × (r ≡ Some seen) → None ≡ r → ⊥
 not_none r h e = cc (e, h.1)
-
--- the code that a machine runs is that of the module
-pub codes_are : (t : Tree) (size : ℕ) (script : ScriptPlain) (codes : Codes) (members : List (Bor (List ℕ))) (callees : List (Option ℕ)) (w : World) → IsLinked t size script codes members callees w
-    → (l : Linked) → map flat_of l.functions.now ≡ map flat_view (list_items codes.functions) → l.tables.now ≡ list_items codes.tables → l.members.now ≡ members
-    → codes_in l ≡ code.codes_of (module_view t)
-codes_are t size script codes members callees w is l functions tables names =
-    let made : List machine.Flat → List (List ℕ) → List (List ℕ) → machine.Codes = λ fs ts ns. record { functions = fs; tables = ts; members = ns } in
-    let c = code.codes_of (module_view t) in
-    ap (λ fs. made fs (map list_items l.tables.now) (names_of l.members.now)) (functions ∙ is.functions)
-    ∙ ap (λ ts. made c.functions ts (names_of l.members.now)) (ap (map list_items) tables ∙ is.tables)
-    ∙ ap (λ ns. made c.functions c.tables ns) (ap names_of names ∙ is.members_are)
 
 -- a session that is run is one that was linked
 module _ (p : SessionPlain) (m : Tree) (size : ℕ) (script : Script) (codes : Codes) (members : List (Bor (List ℕ))) (callees : List (Option ℕ)) (w : World) (is : record { code = m; size = size; script = script_of script } ≡ p) (l : IsLinked m size (script_of script) codes members callees w) where

@@ -5,11 +5,10 @@ mod calls;
 mod exports;
 mod fits;
 mod globals;
+mod linking;
 mod ranges;
 mod session;
 mod writes;
 
 pub use fits::fits_asm;
 pub use session::Session;
-
-mod linking;

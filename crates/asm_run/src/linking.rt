@@ -1,16 +1,25 @@
 //! The code of a module as a machine runs it.
-ghost use Rattle.std.specs.Prelude.{◌≡◌, map, IfOk};
+ghost use Rattle.std.specs.Prelude.{◌≡◌, [], map, IfOk};
 ghost use Rattle.std.specs.Option.{unwrap_or};
-ghost use Rattle.std.specs.Prelude.{[]};
+ghost use Rattle.sem_words.specs.Lists.{list_items};
+ghost use Rattle.session_lang.specs.Views.{call_of};
 ghost use Rattle.asm_lang.specs.Modules.{Variable};
-ghost use Rattle.asm_tree.specs.Views.{global_view, init_view};
+ghost use Rattle.asm_tree.specs.Views.{global_view, init_view, module_view};
+ghost use Rattle.asm_run_code.specs.Modules.{codes_of};
 ghost use Rattle.asm_run_code.specs.Names.{member_name};
 ghost use Rattle.asm_run_emit_bodies.specs.Flats.{flat_view};
+ghost use Rattle.asm_run_words.specs.Worlds.{world_of};
 ghost use Rattle.asm_run_steps.specs.Linked.{flat_of, names_of};
+ghost use Rattle.asm_run_calls.specs.Session.{callees_of, IsSession};
 
+use asm_run_calls::run;
 use asm_run_emit_bodies::Flat;
-use asm_run_steps::Function;
-use asm_tree::{Global_, Init};
+use asm_run_steps::{Function, Linked};
+use asm_run_words::World;
+use asm_tree::{Global_, Init, Module};
+use sem_words::List;
+use session_lang::CallLine;
+use session_replies::Seen;
 use std::alloc::{AllocError, Global};
 
 /// The functions that this code is of.
@@ -52,4 +61,31 @@ fn name_of(init: &Init) -> &[u8]
         | Init::Math(_, _)
         | Init::View(_, _, _) => &[],
     }
+}
+
+/// What is seen of the module, of which these are the functions, tables and foreign members, where the script makes these calls in a
+/// world; None where the session goes wrong.
+pub fn run_linked(
+    alloc: Global,
+    module: &Module,
+    functions: &[Function<'_>],
+    tables: &[List<u32>],
+    members: &[&[u8]],
+    callees: &[Option<u32>],
+    world: World<'_>,
+    calls: &[CallLine],
+) -> Result<Option<Seen>, AllocError>
+    requires functions { map flat_of functions.now ≡ (codes_of (module_view «module».now)).functions }
+    requires tables { map list_items tables.now ≡ (codes_of (module_view «module».now)).tables }
+    requires members { names_of members.now ≡ (codes_of (module_view «module».now)).members }
+    requires callees { callees.now ≡ callees_of (module_view «module».now) (map call_of calls.now) }
+    ensures { IfOk result (λ seen. IsSession (module_view «module».now) (map call_of calls.now) (world_of world.entry) seen) }
+{
+    let linked = Linked {
+        functions,
+        tables,
+        members,
+    };
+    let seen = run(alloc, module, linked, callees, world, calls)?;
+    Ok(seen)
 }

@@ -10,11 +10,9 @@ ghost use Rattle.asm_lang_exec.specs.Session.{asm, checked_asm};
 ghost use Rattle.asm_lang_exec.specs.Fits.{misfit};
 ghost use Rattle.asm_run_calls.specs.Session.{callees_of};
 
-use crate::linking::{functions_of, members_of};
-use asm_run_calls::run;
+use crate::linking::{functions_of, members_of, run_linked};
 use asm_run_emit_bodies::{Codes, codes_of};
 use asm_run_state::first_world;
-use asm_run_steps::Linked;
 use asm_run_words::World;
 use asm_validate::Checked;
 use session_lang::Script;
@@ -101,15 +99,12 @@ impl<'a> Session<'a> {
         let mut world = self.world;
         world.units = budget;
         let functions = functions_of(alloc, codes.functions.as_slice())?;
-        let linked = Linked {
-            functions: functions.as_slice(),
-            tables: codes.tables.as_slice(),
-            members: members.as_slice(),
-        };
-        let seen = run(
+        let seen = run_linked(
             alloc,
             module,
-            linked,
+            functions.as_slice(),
+            codes.tables.as_slice(),
+            members.as_slice(),
             callees.as_slice(),
             world,
             script.calls.as_slice(),

@@ -3,30 +3,37 @@ use Rattle.session_lang.specs.declared.script.CallLine.{CallLine}
 use Rattle.session_lang.specs.Views.{call_of, script_of}
 use Rattle.asm_tree.specs.declared.tree.Module.{Module as Tree}
 use Rattle.asm_tree.specs.Views.{module_view}
+use Rattle.sem_words.specs.Lists.{list_items}
 use Rattle.asm_run_code.specs.Modules.{codes_of}
 use Rattle.asm_run_words.specs.declared.world.World.{World}
 use Rattle.asm_run_words.specs.Worlds.{world_of}
 use Rattle.asm_run_emit_bodies.specs.Flats.{flat_view}
-use Rattle.asm_run_steps.specs.declared.linked.Linked.{Linked}
-use Rattle.asm_run_steps.specs.Linked.{flat_of}
+use Rattle.asm_run_steps.specs.Linked.{flat_of, names_of}
 use Rattle.asm_run_calls.specs.Session.{callees_of, seen_option, IsSession}
-use Rattle.asm_run.proofs.Fitting.{codes_are, never_wrong_here, types_hold_here, means, is_one}
+use Rattle.asm_run.proofs.Fitting.{never_wrong_here, types_hold_here, means, is_one}
 use Rattle.asm_run.proofs.session.Session.run.Goals as goal
 
-pub run-requires-clause-codes : goal.run-requires-clause-codes
-run-requires-clause-codes c =
-    let s = c.self.inside in
-    let linked : Linked = record { functions = c.as_slice-2.result; tables = c.as_slice-3.result; members = c.as_slice-4.result } in
-    codes_are s.checked.now s.heap_len (script_of s.script.now) s.codes s.members.items s.callees.items s.world c.self.invariant linked
-    (ap (map flat_of) c.as_slice-2.ensures.value ∙ c.in_ok-functions.ensures ∙ ap (map flat_view) c.as_slice.ensures) c.as_slice-3.ensures c.as_slice-4.ensures.value
-    ∙ ap (λ (t : Tree). codes_of (module_view t)) (sym c.module-module.ensures.given)
+pub run_linked-requires-clause-functions : goal.run_linked-requires-clause-functions
+run_linked-requires-clause-functions c =
+    ap (map flat_of) c.as_slice-2.ensures.value
+    ∙ c.in_ok-functions.ensures
+    ∙ ap (map flat_view) c.as_slice.ensures
+    ∙ c.self.invariant.functions
+    ∙ ap (λ (t : Tree). (codes_of (module_view t)).functions) (sym c.module-module.ensures.given)
 
-pub run-requires-clause-callees : goal.run-requires-clause-callees
-run-requires-clause-callees c =
-    let s = c.self.inside in
+pub run_linked-requires-clause-tables : goal.run_linked-requires-clause-tables
+run_linked-requires-clause-tables c =
+    ap (map list_items) c.as_slice-3.ensures ∙ c.self.invariant.tables ∙ ap (λ (t : Tree). (codes_of (module_view t)).tables) (sym c.module-module.ensures.given)
+
+pub run_linked-requires-clause-members : goal.run_linked-requires-clause-members
+run_linked-requires-clause-members c =
+    ap names_of c.as_slice-4.ensures.value ∙ c.self.invariant.members_are ∙ ap (λ (t : Tree). (codes_of (module_view t)).members) (sym c.module-module.ensures.given)
+
+pub run_linked-requires-clause-callees : goal.run_linked-requires-clause-callees
+run_linked-requires-clause-callees c =
     c.as_slice-5.ensures.value
     ∙ c.self.invariant.callees_are
-    ∙ ap (λ (t : Tree). callees_of (module_view t) (script_of s.script.now).calls) (sym c.module-module.ensures.given)
+    ∙ ap (λ (t : Tree). callees_of (module_view t) (script_of c.self.inside.script.now).calls) (sym c.module-module.ensures.given)
     ∙ ap (λ (l : List CallLine). callees_of (module_view c.module-module.result.now) (map call_of l)) (sym c.as_slice-6.ensures)
 
 pub returns-in_err-functions-clause-never_wrong : goal.returns-in_err-functions-clause-never_wrong
