@@ -16,7 +16,7 @@ use Rattle.asm_lang_valid.specs.LimitRows.{limit_rows}
 use Rattle.asm_lang_valid.specs.Refusal.{Exported, exported, exported_from, IsAccepted}
 use Rattle.asm_lang_exec.specs.Session.{export_number}
 use Rattle.asm_run_code.specs.Sessions.{key_number}
-use Rattle.asm_run_state.specs.Variables.{slot_of}
+use Rattle.asm_run_state.specs.Names.{slot_of}
 use Rattle.asm_run.specs.Exports.{keys_in, is_key_at, EachIsFirst}
 use Rattle.asm_run_calls.specs.Session.{callees_of}
 

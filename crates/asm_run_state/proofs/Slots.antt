@@ -4,7 +4,7 @@ use Rattle.std.proofs.lemmas.List.{at_drop_more, at_drop_all}
 use Rattle.std.specs.Prelude.{if◌then◌else◌, option_map}
 use Rattle.std.specs.Borrow.{Bor}
 use Rattle.std.specs.Str.{bytes_eq}
-use Rattle.asm_run_state.specs.Variables.{names_in, slot_of}
+use Rattle.asm_run_state.specs.Names.{names_in, slot_of}
 
 -- ---- the map
 

@@ -1,2 +1,2 @@
 pub mod Globals
-pub mod Variables
+pub mod Names

@@ -1,7 +1,7 @@
-//! The names of variables.
+//! Names by their places.
 ghost use Rattle.std.specs.Prelude.{◌≡◌, ◌<◌, ℕ, List, Some, IfOk, length, if◌then◌else◌};
 ghost use Rattle.std.specs.Str.{bytes_eq};
-ghost use Rattle.asm_run_state.specs.Variables.{names_in, slot_of, found};
+ghost use Rattle.asm_run_state.specs.Names.{names_in, slot_of, found};
 
 use indexmap::IndexMap;
 use key_hashes::{KeyHashes, hashes_of};
@@ -11,7 +11,7 @@ use std::marker::Model;
 // Up to so many names are compared one by one, which is faster than a map, and takes no memory.
 const FEW: usize = 8;
 
-/// The names of variables in order. Of equal names the first counts.
+/// Names in order. Of equal names the first counts.
 #[derive(Drop)]
 pub struct Layout<'a> {
     names: Vec<&'a [u8]>,
@@ -21,7 +21,7 @@ pub struct Layout<'a> {
 
 impl<'a> Model for Layout<'a> {
     ghost use Rattle.std.specs.Prelude.{◌≡◌, ◌<◌, List, ℕ, length};
-    ghost use Rattle.asm_run_state.specs.Variables.{names_in, slot_of, found};
+    ghost use Rattle.asm_run_state.specs.Names.{names_in, slot_of, found};
 
     ghost Value = { List (List ℕ) };
 
@@ -31,7 +31,7 @@ impl<'a> Model for Layout<'a> {
 }
 
 impl<'a> Layout<'a> {
-    /// Variables of these names, in slots in order.
+    /// These names, in slots in order.
     pub fn new(alloc: Global, names: Vec<&'a [u8]>) -> Result<Layout<'a>, AllocError>
         ensures { IfOk result (λ layout. layout ≡ names_in names.entry.items) }
     {
