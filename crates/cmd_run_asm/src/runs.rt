@@ -35,11 +35,11 @@ pub fn run_script(
 }
 
 // What is printed of the session of a script that fits, whose calls name these functions.
-fn observation(
+fn observation<'a>(
     alloc: Global,
-    checked: &Checked,
+    checked: &'a Checked,
     heap_len: u32,
-    script: &Script,
+    script: &'a Script,
     callees: Vec<Option<u32>>,
     budget: u32,
 ) -> Result<Vec<u8>, AllocError>
