@@ -2,8 +2,6 @@
 use Rattle.std.proofs.Common.{◌≡◌, ℕ, zero, suc, ◌+◌, ◌<◌, Bool, true, false, not, ◌||◌, List, [], ◌∷◌, ◌++◌, length, map, get_or, Option, Some, None, refl, sym, ap, ◌∙◌, subst, arith}
 use Rattle.std.proofs.lemmas.Slice.Eq.{bytes_eq-Decides}
 use Rattle.std.specs.Prelude.{bytes_eq, slice_get, option_map, if◌then◌else◌}
-use Rattle.session_lang.specs.declared.script.CallLine.{CallLine}
-use Rattle.session_lang.specs.Views.{call_of}
 use Rattle.asm_lang.specs.Modules.{Module, Export, Exports, one, many}
 use Rattle.asm_lang_valid.specs.declared.rule.Met.{Met}
 use Rattle.asm_lang_valid.specs.declared.rule.Rule.{Rule}
@@ -15,10 +13,8 @@ use Rattle.asm_lang_valid.specs.TypeRows.{type_rows}
 use Rattle.asm_lang_valid.specs.LimitRows.{limit_rows}
 use Rattle.asm_lang_valid.specs.Refusal.{Exported, exported, exported_from, IsAccepted}
 use Rattle.asm_lang_exec.specs.Session.{export_number}
-use Rattle.asm_run_code.specs.Sessions.{key_number}
 use Rattle.asm_run_state.specs.Names.{slot_of}
 use Rattle.asm_run.specs.Exports.{keys_in, is_key_at, EachIsFirst}
-use Rattle.asm_run_calls.specs.Session.{callees_of}
 
 -- ---- the number of a function, by the place of its key
 
@@ -37,19 +33,6 @@ number_found (e ∷ es) key = by (bytes_eq e.key key) (slot_of (keys_in es) key)
 
 pub number_here : (es : List Exported) (key : List ℕ) (o : Option ℕ) → o ≡ slot_of (keys_in es) key → number_at es o ≡ export_number es key
 number_here es key o h = ap (number_at es) h ∙ sym (number_found es key)
-
--- ---- the number of the function that a call names is among those of all calls
-
-pub callee_at : (m : Module) (calls : List CallLine) (callees : List (Option ℕ)) (i : ℕ) (call : CallLine) (n : Option ℕ) → callees ≡ callees_of m (map call_of calls) → i < length calls → call ≡ get_or calls i call → n ≡ get_or callees i n
-    → n ≡ key_number m (call_of call).name
-callee_at m [] callees i call n all inside is here = absurd (omega (arith, inside))
-callee_at m (c ∷ cs) [] i call n all inside is here = cc all
-callee_at m (c ∷ cs) (k ∷ ks) zero call n all inside is here =
-    let first : k ≡ key_number m (call_of c).name = cc all in
-    here ∙ first ∙ ap (λ (l : CallLine). key_number m (call_of l).name) (sym is)
-callee_at m (c ∷ cs) (k ∷ ks) (suc i) call n all inside is here =
-    let rest : ks ≡ callees_of m (map call_of cs) = cc all in
-    callee_at m cs ks i call n rest (omega (arith, inside)) is here
 
 -- ---- each export of an accepted module is the first of its key
 

@@ -26,7 +26,7 @@ pub struct Session<'a> {
     checked: &'a Checked,
     heap_len: u32,
     script: &'a Script,
-    codes: Codes,
+    flat: Codes,
     // the names of the foreign members by their declarations
     members: Vec<&'a [u8]>,
     callees: Vec<Option<u32>>,
@@ -46,7 +46,7 @@ impl<'a> Model for Session<'a> {
 
     ghost view = { λ s. record { code = s.checked.now; size = s.heap_len; script = script_of s.script.now } };
 
-    ghost invariant = { λ s. IsLinked s.checked.now s.heap_len (script_of s.script.now) s.codes s.members.items s.callees.items s.world };
+    ghost invariant = { λ s. IsLinked s.checked.now s.heap_len (script_of s.script.now) s.flat s.members.items s.callees.items s.world };
 }
 
 impl<'a> Session<'a> {
@@ -68,14 +68,14 @@ impl<'a> Session<'a> {
         ensures script { IfOk result (λ s. s.script ≡ script_of script.now) }
     {
         let module = checked.module();
-        let codes = codes_of(alloc, module)?;
+        let flat = codes_of(alloc, module)?;
         let members = members_of(alloc, module.globals.as_slice())?;
         let world = first_world(alloc, module, heap_len, script, 0)?;
         Ok(Session {
             checked,
             heap_len,
             script,
-            codes,
+            flat,
             members,
             callees,
             world,
@@ -95,15 +95,15 @@ impl<'a> Session<'a> {
         let script = self.script;
         let callees = self.callees;
         let members = self.members;
-        let codes = self.codes;
+        let flat = self.flat;
         let mut world = self.world;
         world.units = budget;
-        let functions = functions_of(alloc, codes.functions.as_slice())?;
+        let functions = functions_of(alloc, flat.functions.as_slice())?;
         let seen = run_linked(
             alloc,
             module,
             functions.as_slice(),
-            codes.tables.as_slice(),
+            flat.tables.as_slice(),
             members.as_slice(),
             callees.as_slice(),
             world,

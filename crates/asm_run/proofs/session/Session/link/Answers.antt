@@ -17,8 +17,8 @@ invariant_of-result c =
       accepted = c.module-module.ensures.accepted;
       fits = c.requires.fits;
       long = c.requires.length;
-      functions = c.in_ok-codes.ensures.functions ∙ ap (λ (t : Tree). (code.codes_of (module_view t)).functions) same;
-      tables = c.in_ok-codes.ensures.tables ∙ ap (λ (t : Tree). (code.codes_of (module_view t)).tables) same;
+      functions = c.in_ok-flat.ensures.functions ∙ ap (λ (t : Tree). (code.codes_of (module_view t)).functions) same;
+      tables = c.in_ok-flat.ensures.tables ∙ ap (λ (t : Tree). (code.codes_of (module_view t)).tables) same;
       members_are =
           c.in_ok-members.ensures
           ∙ ap (λ (gs : List Global_). map (λ (v : Variable). unwrap_or (member_name v.init) []) (map global_view gs)) c.as_slice.ensures

@@ -39,28 +39,28 @@ run_linked-requires-clause-callees c =
 pub returns-in_err-functions-clause-never_wrong : goal.returns-in_err-functions-clause-never_wrong
 returns-in_err-functions-clause-never_wrong c =
     let s = c.self.inside in
-    never_wrong_here c.args.self s.checked.now s.heap_len s.script.now s.codes s.members.items s.callees.items s.world c.self.view_is c.self.invariant c.accepted_modules.ensures.never_wrong c.args.budget
+    never_wrong_here c.args.self s.checked.now s.heap_len s.script.now s.flat s.members.items s.callees.items s.world c.self.view_is c.self.invariant c.accepted_modules.ensures.never_wrong c.args.budget
 
 pub returns-in_err-functions-clause-types_hold : goal.returns-in_err-functions-clause-types_hold
 returns-in_err-functions-clause-types_hold c =
     let s = c.self.inside in
-    types_hold_here c.args.self s.checked.now s.heap_len s.script.now s.codes s.members.items s.callees.items s.world c.self.view_is c.self.invariant c.accepted_modules.ensures.types_hold c.args.budget
+    types_hold_here c.args.self s.checked.now s.heap_len s.script.now s.flat s.members.items s.callees.items s.world c.self.view_is c.self.invariant c.accepted_modules.ensures.types_hold c.args.budget
 
 pub returns-in_err-seen-clause-never_wrong : goal.returns-in_err-seen-clause-never_wrong
 returns-in_err-seen-clause-never_wrong c =
     let s = c.self.inside in
-    never_wrong_here c.args.self s.checked.now s.heap_len s.script.now s.codes s.members.items s.callees.items s.world c.self.view_is c.self.invariant c.accepted_modules.ensures.never_wrong c.args.budget
+    never_wrong_here c.args.self s.checked.now s.heap_len s.script.now s.flat s.members.items s.callees.items s.world c.self.view_is c.self.invariant c.accepted_modules.ensures.never_wrong c.args.budget
 
 pub returns-in_err-seen-clause-types_hold : goal.returns-in_err-seen-clause-types_hold
 returns-in_err-seen-clause-types_hold c =
     let s = c.self.inside in
-    types_hold_here c.args.self s.checked.now s.heap_len s.script.now s.codes s.members.items s.callees.items s.world c.self.view_is c.self.invariant c.accepted_modules.ensures.types_hold c.args.budget
+    types_hold_here c.args.self s.checked.now s.heap_len s.script.now s.flat s.members.items s.callees.items s.world c.self.view_is c.self.invariant c.accepted_modules.ensures.types_hold c.args.budget
 
 pub unreachable-requires : goal.unreachable-requires
 unreachable-requires c =
     let s = c.self.inside in
     let world : World = record s.world { units = c.args.budget } in
-    is_one c.args.self s.checked.now s.heap_len s.script.now s.codes s.members.items s.callees.items s.world c.self.view_is c.self.invariant
+    is_one c.args.self s.checked.now s.heap_len s.script.now s.flat s.members.items s.callees.items s.world c.self.view_is c.self.invariant
     c.flat_sessions.ensures c.accepted_modules.ensures.never_wrong (world_of world) c.args.budget c.as_slice-6.result.now c.in_ok-seen.seen refl c.as_slice-6.ensures
     (subst (λ (t : Tree). IsSession (module_view t) (map call_of c.as_slice-6.result.now) (world_of world) c.in_ok-seen.seen) c.module-module.ensures.given c.in_ok-seen.ensures)
     c.in-None.is
@@ -69,7 +69,7 @@ pub returns-clause-meaning : goal.returns-clause-meaning
 returns-clause-meaning c =
     let s = c.self.inside in
     let world : World = record s.world { units = c.args.budget } in
-    sym (means c.args.self s.checked.now s.heap_len s.script.now s.codes s.members.items s.callees.items s.world c.self.view_is c.self.invariant
+    sym (means c.args.self s.checked.now s.heap_len s.script.now s.flat s.members.items s.callees.items s.world c.self.view_is c.self.invariant
     c.flat_sessions.ensures c.accepted_modules.ensures.never_wrong (world_of world) c.args.budget c.as_slice-6.result.now c.in_ok-seen.seen refl c.as_slice-6.ensures
     (subst (λ (t : Tree). IsSession (module_view t) (map call_of c.as_slice-6.result.now) (world_of world) c.in_ok-seen.seen) c.module-module.ensures.given c.in_ok-seen.ensures))
     ∙ ap seen_option c.in-Some.is
@@ -77,9 +77,9 @@ returns-clause-meaning c =
 pub returns-clause-never_wrong : goal.returns-clause-never_wrong
 returns-clause-never_wrong c =
     let s = c.self.inside in
-    never_wrong_here c.args.self s.checked.now s.heap_len s.script.now s.codes s.members.items s.callees.items s.world c.self.view_is c.self.invariant c.accepted_modules.ensures.never_wrong c.args.budget
+    never_wrong_here c.args.self s.checked.now s.heap_len s.script.now s.flat s.members.items s.callees.items s.world c.self.view_is c.self.invariant c.accepted_modules.ensures.never_wrong c.args.budget
 
 pub returns-clause-types_hold : goal.returns-clause-types_hold
 returns-clause-types_hold c =
     let s = c.self.inside in
-    types_hold_here c.args.self s.checked.now s.heap_len s.script.now s.codes s.members.items s.callees.items s.world c.self.view_is c.self.invariant c.accepted_modules.ensures.types_hold c.args.budget
+    types_hold_here c.args.self s.checked.now s.heap_len s.script.now s.flat s.members.items s.callees.items s.world c.self.view_is c.self.invariant c.accepted_modules.ensures.types_hold c.args.budget
