@@ -2,7 +2,6 @@
 use Rattle.std.proofs.Common.{◌≡◌, ℕ, ◌+◌, List, map, Option, Some, None, sym, ap, ◌∙◌, subst}
 use Rattle.std.specs.Borrow.{Bor}
 use Rattle.sem_words.specs.Lists.{list_items}
-use Rattle.session_lang.specs.Script.{ScriptPlain}
 use Rattle.session_lang.specs.Observation.{ObservationPlain}
 use Rattle.session_lang.specs.Views.{call_of, script_of}
 use Rattle.session_lang.specs.declared.script.CallLine.{CallLine}

@@ -6,7 +6,7 @@ ghost use Rattle.asm_tree.specs.Views.{function_view, module_view};
 ghost use Rattle.asm_lang_valid.specs.Refusal.{Exported, exported_from};
 ghost use Rattle.asm_lang_exec.specs.Session as session;
 ghost use Rattle.asm_validate_facts.specs.Numbers.{export_said};
-ghost use Rattle.asm_run_state.specs.Names.{names_in, slot_of};
+ghost use Rattle.asm_run_state.specs.Names.{slot_of};
 ghost use Rattle.asm_run.specs.Exports.{EachIsFirst, is_key_at, keys_in};
 ghost use Rattle.asm_run_calls.specs.Session.{callees_of, function_seen};
 
