@@ -1,8 +1,9 @@
 #!/usr/bin/env python3
 """python3 tools/compare PROGRAM [--seed S] [--count N] [--keep FOLDER] [--only KIND NUMBER]
 
-Random modules, N of asm.js and N of WebAssembly, each with a script: what PROGRAM prints of the session, and of the session of what it translates
-the module to, is what node's engine shows of the same; and SpiderMonkey's validator takes each text of asm.js that PROGRAM writes.
+Random modules, N of asm.js and N of WebAssembly, and N pairs of the latter, each with a script: what PROGRAM prints of the session, and of the session of what it translates
+the module to, is what node's engine shows of the same (of a pair: of two instances over one memory, and of what PROGRAM links it to); each text's short form
+shows the same and is its own short form; and SpiderMonkey's validator takes each text of asm.js that PROGRAM writes.
 Where node isn't installed nothing is compared, and where js102 isn't, no validator is asked; a line says so. Files of a difference are kept in FOLDER.
 A difference names its module, as `asm 1000007`, which --only tries alone."""
 import argparse
@@ -21,6 +22,7 @@ sys.dont_write_bytecode = True
 
 import spidermonkey
 from asm_modules import AsmModule
+from pairs import Pair
 from scripts import import_name
 from wasm_bytes import FUNCTION, GLOBAL, I64
 from wasm_modules import WasmModule
@@ -92,7 +94,7 @@ class Comparison:
         answer = json.loads(self.engine.stdout.readline())
         if "seen" in answer:
             return answer["seen"]
-        unending = "SCRIPT_EXECUTION_TIMEOUT" in answer["why"]
+        unending = "SCRIPT_EXECUTION_TIMEOUT" in answer["why"] or "Maximum call stack size" in answer["why"]
         raise Unending() if unending and what == SOURCE else Difference(f"{what}: the engine: {answer['why']}")
 
     def same(self, what, wanted, seen):
@@ -115,7 +117,17 @@ class Comparison:
         wanted = self.shown(SOURCE, **job)
         heap = ["--heap", str(case.length)]
         self.same("run-asm", wanted, self.asked("run-asm", text, script, *heap, "--steps", STEPS).decode())
+        self.short("the text", text, job, wanted, script, heap)
         self.back_from_asm(case, self.asked("asm2wasm", text, *heap), shared_names(wanted))
+
+    def short(self, what, text, job, wanted, script, heap):
+        """Of a text of asm.js: its short form."""
+        made = self.asked("shorten", text)
+        short = self.file("short.js", made)
+        if self.asked("shorten", short) != made:
+            raise Difference(f"shorten: the short form of {what} isn't its own")
+        self.same(f"the engine on the short form of {what}", wanted, self.shown(f"the short form of {what}", **job | {"text": made.decode()}))
+        self.same(f"run-asm of the short form of {what}", wanted, self.asked("run-asm", short, script, *heap, "--steps", STEPS).decode())
 
     def back_from_asm(self, case, made, wanted):
         case.script.globals = {import_name("env", name): value for name, value in case.script.globals.items()}
@@ -166,9 +178,49 @@ class Comparison:
         names = {name for item, name in zip(case.module.imports, case.import_names) if item.kind == FUNCTION}
         job["imports"] = [{"field": f, "name": f} for f in sorted(names | {"$trap", "$high"})]
         job["imports"] += [{"field": f, "value": str(v)} for f, v in split.globals.items()]
-        self.same("the engine on the text of wasm2js", wanted, without_start(self.shown("the text of wasm2js", **job)))
-        seen = self.asked("run-asm", text, script, "--heap", str(length), "--steps", STEPS).decode()
+        shown, heap = self.shown("the text of wasm2js", **job), ["--heap", str(length)]
+        self.same("the engine on the text of wasm2js", wanted, without_start(shown))
+        seen = self.asked("run-asm", text, script, *heap, "--steps", STEPS).decode()
         self.same("run-asm of the text of wasm2js", wanted, without_start(seen))
+        self.short("the text of wasm2js", text, job, shown, script, heap)
+
+
+    # ---- two modules, and the one that they are linked to
+
+    def link(self, seed):
+        case = Pair(seed)
+        first, second = (self.file(f"{name}.wasm", c.module.bytes()) for name, c in zip(("first", "second"), case.cases))
+        script = self.file("m.txt", case.script.text())
+        wanted = self.shown(SOURCE, **self.pair_job(case))
+        linked = self.file("linked.wasm", self.asked("link", first, second))
+        seen = self.asked("run-wasm", linked, script, "--steps", STEPS).decode()
+        if "end trap 5 or 6" in wanted:
+            seen = re.sub(r"^end trap [56]$", "end trap 5 or 6", seen, flags=re.M)
+        self.same("run-wasm of the linked module", wanted, seen)
+        self.asked("check-wasm", linked)
+
+    def pair_job(self, case):
+        job = case.script.for_engine() | {"modules": [], "imports": [], "split": False, "calls": []}
+        numbers = [{name: f"f{k}" for k, (name, kind, _) in enumerate(c.module.exports) if kind == FUNCTION} for c in case.cases]
+        for side, c in enumerate(case.cases):
+            asked = []
+            for k, (item, name) in enumerate(zip(c.module.imports, c.import_names)):
+                known = {"module": "import", "field": str(k), "name": name}
+                bound = case.bound(c, item)
+                if bound is not None:
+                    asked.append(known | {"bound": numbers[1 - side][bound]})
+                elif item.kind == FUNCTION:
+                    params, results = c.module.types[item.detail]
+                    asked.append(known | {"params": word_types(params), "results": word_types(results)})
+                elif item.kind == GLOBAL:
+                    asked.append(known | {"value": str(case.script.globals[name])})
+            job["modules"].append({"bytes": base64.b64encode(c.module.for_engine()).decode(), "imports": asked})
+        job["memory"] = None if case.pages is None else {"pages": case.pages, "most": case.most}
+        for call in case.script.calls:
+            side = 0 if call.name in numbers[0] else 1
+            known = {"side": side, "export": numbers[side][call.name], "args": list(map(str, call.args))}
+            job["calls"].append(known | {"params": word_types(call.params), "results": word_types(call.results)})
+        return job
 
 
 def compare(task):
@@ -211,16 +263,16 @@ def main():
         seeds = [(options.only[0], int(options.only[1]))]
     else:
         print(f"compare: seed {options.seed}", flush=True)
-        seeds = [(kind, options.seed * 1000000 + k) for k in range(options.count) for kind in ("asm", "wasm")]
+        seeds = [(kind, options.seed * 1000000 + k) for k in range(options.count) for kind in ("asm", "wasm", "link")]
     tasks = [(options.program, seeds[k:k + 50], options.keep) for k in range(0, len(seeds), 50)]
     with multiprocessing.Pool() as pool:
         answers = pool.map(compare, tasks, chunksize=1)
     for line in sorted(line for differences, *_ in answers for line in differences):
         print(f"differs: {line}")
     differences, sessions, validated, unending = (sum(len(a[k]) if k == 0 else a[k] for a in answers) for k in range(4))
-    print(f"compare: {len(seeds)} modules, {sessions} sessions alike, {validated} texts validated, {unending} sessions without end, {differences} differences")
-    # Sessions that don't end show nothing; there are few. Three sessions of each other module are alike, and so there are some.
-    few = sessions == 0 or unending * 20 > len(seeds) or sessions < 3 * (len(seeds) - unending)
+    print(f"compare: {len(seeds)} modules and pairs, {sessions} sessions alike, {validated} texts validated, {unending} sessions without end, {differences} differences")
+    # Sessions that don't end show nothing; there are few. Five sessions of each other module are alike and one of each pair, and so there are some.
+    few = sessions == 0 or unending * 10 > len(seeds) or 3 * sessions < 11 * (len(seeds) - 3 * unending)
     if few and not differences:
         print("compare: too few sessions were held against each other")
     return 1 if differences or few else 0

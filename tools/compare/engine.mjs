@@ -1,5 +1,6 @@
 // Sessions on node's engine: jobs come on standard input, one line of JSON each, and answers leave on standard output.
-// A job has a script's `heap`, `replies` and `calls`, the module's `imports`, and `text` for asm.js or `bytes` in base64 for WebAssembly.
+// A job has a script's `heap`, `replies` and `calls`, the module's `imports`, and `text` for asm.js or `bytes` in base64 for WebAssembly; a pair has
+// both in `modules`.
 // An answer has `seen`, the text that `bridge run-asm` or `bridge run-wasm` prints, or `why` there is none.
 import readline from "node:readline";
 import v8 from "node:v8";
@@ -148,11 +149,36 @@ function runWasm(job) {
   return session.seen(calls, (error) => `${job.split ? "end stopped $trap" : "end trap"} ${trapKind(error, exports)}`);
 }
 
+// Two modules over one memory: an import that has `bound` is that export of the other module, which may not be there yet.
+function runPair(job) {
+  const session = new Session(job);
+  const all = [];
+  const memory = job.memory && new WebAssembly.Memory({ initial: job.memory.pages, ...(job.memory.most === null ? {} : { maximum: job.memory.most }) });
+  if (memory) session.heap = new Uint8Array(memory.buffer);
+  for (const [place, hex] of job.heap) session.heap.set(Buffer.from(hex, "hex"), place);
+  const late = (side, name) => (...words) => all[side][name](...words);
+  for (const [side, { bytes, imports: asked }] of job.modules.entries()) {
+    const given = imports({ ...job, memory: null, imports: asked.filter(({ bound }) => bound === undefined) }, session);
+    given.import ??= {};
+    for (const { field, bound } of asked) if (bound !== undefined) given.import[field] = late(1 - side, bound);
+    if (memory) given.import.memory = memory;
+    all[side] = new WebAssembly.Instance(new WebAssembly.Module(Buffer.from(bytes, "base64")), given).exports;
+  }
+  const calls = () => {
+    for (const { start } of all) start?.();
+    for (const { side, export: exported, args, params, results } of job.calls)
+      session.result(results[0], all[side][exported](...args.map((text, k) => inward(params[k], text))), false);
+  };
+  // An empty entry and one of another type are told apart by the module alone.
+  const kind = (error) => (error instanceof WebAssembly.RuntimeError && /signature mismatch/.test(error.message) ? "5 or 6" : trapKind(error, {}));
+  return session.seen(calls, (error) => `end trap ${kind(error)}`);
+}
+
 for await (const line of readline.createInterface({ input: process.stdin })) {
   let answer;
   try {
     const job = JSON.parse(line);
-    answer = { seen: job.text === undefined ? runWasm(job) : runAsm(job) };
+    answer = { seen: job.modules ? runPair(job) : job.text === undefined ? runWasm(job) : runAsm(job) };
   } catch (error) {
     answer = { why: String(error.stack ?? error) };
   }

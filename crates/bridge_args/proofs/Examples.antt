@@ -4,7 +4,7 @@ use Rattle.clap.proofs.OnLiterals.{clap_on_literals}
 use Rattle.bridge_lang.specs.App.{bridge_app, faults_of, rows_read}
 use Rattle.bridge_lang.specs.Number.{is_gen_count, is_heap, is_steps, number_of}
 use Rattle.bridge_lang.specs.declared.making.Making.TheVariants.{Show}
-use Rattle.bridge_lang.specs.Command.{as_binary, make, run, on_file, gen}
+use Rattle.bridge_lang.specs.Command.{as_binary, make, link, run, on_file, gen}
 use Rattle.bridge_lang.specs.Words.{making_named, given_in, heap_of, asked_in, asked_by, asked, lone_operand, steps_of}
 
 steps_by_word : asked (codes "bridge" ∷ codes "run-wasm" ∷ codes "a" ∷ codes "b" ∷ codes "--steps" ∷ codes "5" ∷ []) ≡ Some (on_file (run as_binary (codes "b") 5) (codes "a"))
@@ -22,6 +22,18 @@ twice_refused = refl
 after_dashes : asked (codes "bridge" ∷ codes "show" ∷ codes "--" ∷ codes "--steps" ∷ []) ≡ Some (on_file (make Show) (codes "--steps"))
 unfolding bridge_app faults_of rows_read number_of is_heap is_steps lone_operand heap_of steps_of making_named asked_by given_in asked_in asked clap_on_literals
 after_dashes = refl
+
+two_to_link : asked (codes "bridge" ∷ codes "link" ∷ codes "a" ∷ codes "b" ∷ []) ≡ Some (on_file (link (codes "b")) (codes "a"))
+unfolding bridge_app faults_of rows_read number_of is_heap is_steps lone_operand heap_of steps_of making_named asked_by given_in asked_in asked clap_on_literals
+two_to_link = refl
+
+one_to_link : asked (codes "bridge" ∷ codes "link" ∷ codes "a" ∷ []) ≡ None
+unfolding bridge_app faults_of rows_read number_of is_heap is_steps lone_operand heap_of steps_of making_named asked_by given_in asked_in asked clap_on_literals
+one_to_link = refl
+
+link_takes_no_option : asked (codes "bridge" ∷ codes "link" ∷ codes "a" ∷ codes "b" ∷ codes "--steps" ∷ codes "5" ∷ []) ≡ None
+unfolding bridge_app faults_of rows_read number_of is_heap is_steps lone_operand heap_of steps_of making_named asked_by given_in asked_in asked clap_on_literals
+link_takes_no_option = refl
 
 no_words : asked [] ≡ None
 unfolding bridge_app faults_of rows_read number_of is_heap is_steps lone_operand heap_of steps_of making_named asked_by given_in asked_in asked clap_on_literals

@@ -8,7 +8,7 @@ use Rattle.bridge_args.specs.declared.command.Given.{Given}
 use Rattle.bridge_args.specs.declared.asked.Running.{Running}
 use Rattle.bridge_args.specs.declared.asked.Running.TheVariants.{Text, Binary}
 use Rattle.bridge_args.specs.declared.asked.Action.{Action}
-use Rattle.bridge_args.specs.declared.asked.Action.TheVariants.{Make, Translate, Run}
+use Rattle.bridge_args.specs.declared.asked.Action.TheVariants.{Make, Translate, Link, Run}
 use Rattle.bridge_args.specs.declared.asked.Asked.{Asked}
 use Rattle.bridge_args.specs.declared.asked.Asked.TheVariants.{OnFile, Gen}
 use Rattle.bridge_args.specs.declared.fault.WordsFault.{WordsFault}
@@ -34,6 +34,7 @@ running_view Binary = spec.as_binary
 abbrev pub action_view : Action → spec.Action
 action_view (Make making) = spec.make making
 action_view (Translate heap) = spec.translate heap.bytes
+action_view (Link second) = spec.link (string_bytes second)
 action_view (Run running script steps) = spec.run (running_view running) (string_bytes script) steps
 
 abbrev pub asked_view : Asked → spec.Asked

@@ -2,7 +2,7 @@
 
 ghost use Rattle.std.specs.Prelude.{◌≡◌, Some, map, string_bytes};
 ghost use Rattle.bridge_lang.specs.Words as spec;
-ghost use Rattle.bridge_lang.specs.Words.{asked_by, making_of, only, only_two, asm_to_wasm_of, run_asm_of, run_wasm_of, gen_of};
+ghost use Rattle.bridge_lang.specs.Words.{asked_by, making_of, only, only_two, asm_to_wasm_of, run_asm_of, run_wasm_of, gen_of, link_of};
 ghost use Rattle.bridge_args.specs.Answer.{Answers, text_of, given_texts, asked_view};
 
 use crate::command::{Given, given_of, matches_for};
@@ -28,6 +28,8 @@ pub enum Action {
     Make(Making),
     /// Its translation to WebAssembly, with a heap of this length.
     Translate(HeapLength),
+    /// What it is linked to with the second module, which is in a file of this name.
+    Link(String),
     /// A run of the script in a file of this name, with at most so many units or reductions.
     Run {
         running: Running,
@@ -156,6 +158,19 @@ fn run_wasm(alloc: Global, given: &Given<'_, '_>) -> Result<Asked, WordsFault>
     })
 }
 
+fn linking(alloc: Global, given: &Given<'_, '_>) -> Result<Asked, WordsFault>
+    ensures { Answers asked_view (link_of (given_texts given.now)) result }
+{
+    if given.heap.is_some() || given.steps.is_some() {
+        return Err(WordsFault::Usage);
+    }
+    let (file, second) = two_operands(alloc, given)?;
+    Ok(Asked::OnFile {
+        action: Action::Link(second),
+        file,
+    })
+}
+
 fn generation(given: &Given<'_, '_>) -> Result<Asked, WordsFault>
     ensures { Answers asked_view (gen_of (given_texts given.now)) result }
 {
@@ -173,6 +188,7 @@ fn asked_for(alloc: Global, name: &str, given: &Given<'_, '_>) -> Result<Asked, 
         "run-asm" => run_asm(alloc, given),
         "run-wasm" => run_wasm(alloc, given),
         "gen" => generation(given),
+        "link" => linking(alloc, given),
         _ => making(alloc, name, given),
     }
 }

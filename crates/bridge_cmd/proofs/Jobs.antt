@@ -21,6 +21,11 @@ use Rattle.cmd_check_wasm.specs.Verdicts.{IsRefused}
 use Rattle.cmd_check_wasm.proofs.Once.{not_both, one_fault}
 use Rattle.bridge_lang.specs.WasmRuns.{IsRunnable, IsOutside}
 use Rattle.cmd_run_wasm.specs.Modules.{IsNotRun}
+use Rattle.wasm_link_lang.specs.declared.rows.Refused.{Refused}
+use Rattle.wasm_link_lang.specs.Refusal.{refusal}
+use Rattle.cmd_link.specs.declared.fault.JoinFault.{JoinFault}
+use Rattle.cmd_link.specs.declared.fault.JoinFault.TheVariants as joins
+use Rattle.cmd_link.specs.Joins.{IsNotJoined}
 use Rattle.cmd_run_wasm.specs.declared.fault.RunFault.{RunFault}
 use Rattle.cmd_run_wasm.specs.declared.fault.RunFault.TheVariants as run_faults
 use Rattle.script_read.specs.declared.fault.ScriptFault.{ScriptFault}
@@ -29,16 +34,16 @@ use Rattle.bridge_args.specs.declared.fault.WordsFault.{WordsFault}
 use Rattle.bridge_args.specs.declared.fault.WordsFault.TheVariants as words_faults
 use Rattle.bridge_lang.specs.declared.status.Status.TheVariants.{Usage}
 use Rattle.bridge_args.specs.Answer.{Answers, asked_view}
-use Rattle.bridge_lang.specs.declared.making.Making.TheVariants.{WasmToAsm}
-use Rattle.bridge_lang.specs.Command.{Action, make, Running, as_binary, run, on_file, asm_js, web_assembly, begins_with_zero, language_of}
+use Rattle.bridge_lang.specs.declared.making.Making.TheVariants.{CheckWasm, WasmToAsm}
+use Rattle.bridge_lang.specs.Command.{Action, make, link, Running, as_binary, run, on_file, asm_js, web_assembly, begins_with_zero, language_of}
 use Rattle.bridge_lang.specs.Words.{asked}
 use Rattle.bridge_lang.specs.Answers.{IsAnswered, a_bar, want_of_memory, IsScriptAnswer, an_unfit_line, no_room, MayAnswer, a_refusal, a_read_fault, no_memory}
-use Rattle.bridge_lang.specs.Job.{Job, refused, file_limit, Holds, IsFileJob, absent, long, held, read_as, IsBarred, not_accepted, unreadable, invalid, not_translated, outside, IsMade, of_text, of_binary, IsPlayed, unfit, ran, IsModuleJob, barred, made, scripted, IsJob, no_command, commanded, generated}
+use Rattle.bridge_lang.specs.Job.{Job, refused, file_limit, Holds, IsFileJob, absent, long, held, read_as, IsBarred, not_accepted, unreadable, invalid, not_translated, outside, IsMade, of_text, of_binary, IsPlayed, unfit, ran, IsJoined, not_taken, apart, joined, IsModuleJob, barred, made, scripted, paired, IsJob, no_command, commanded, generated}
 use Rattle.bridge_lang.specs.Runs.{Runner, text_runner, binary_runner, IsRunner, a_text, a_binary, script_for, Prints}
 use Rattle.bridge_lang.specs.Outcome.{EndsAs, IsCutShort, by_a_read, by_want, MayReport}
 use Rattle.bridge_lang.specs.Reason.{Reason, read_fault, missing, too_large}
 use Rattle.bridge_lang.specs.Statuses.{status_of}
-use Rattle.bridge_cmd.specs.Refused.{reason_of_check, reason_of_text, reason_of_run, reason_of_script, reason_of_words}
+use Rattle.bridge_cmd.specs.Refused.{reason_of_check, reason_of_text, reason_of_run, reason_of_script, reason_of_join, reason_of_words}
 use Rattle.bridge_cmd.proofs.Files.{OneEnd, one_file_end}
 use Rattle.cmd_check_asm.proofs.Verdicts as laws
 use Rattle.asm_lang.specs.Modules.{Module}
@@ -132,6 +137,42 @@ bar_runs_nothing running script bytes steps runner r (outside row o) (a_binary m
     let e : Some row ≡ None = sym o.meets ∙ ap not_runnable same ∙ i.runs in
     cc
 
+-- ---- two modules
+
+link_makes_nothing : (second bytes output : List ℕ) → IsMade (link second) bytes output → ⊥
+link_makes_nothing second bytes output (of_text m y j o) = absurd o
+link_makes_nothing second bytes output (of_binary w y j o) = absurd o
+
+bar_joins_nothing : (second bytes : List ℕ) (w : WasmModule) (r : Reason) → IsBarred (link second) bytes r → IsValidBytes bytes w → ⊥
+bar_joins_nothing second bytes w r (not_accepted row at x j) i = cc
+bar_joins_nothing second bytes w r (unreadable row at x j) i = (binary_clear row at) (not_both bytes w (checks.Binary row at) i j)
+bar_joins_nothing second bytes w r (invalid rule section index instruction x j) i = (invalid_clear rule section index instruction) (not_both bytes w (checks.Invalid rule section index instruction) i j)
+
+bar_is_not_valid : (bytes : List ℕ) (w : WasmModule) (r : Reason) → IsBarred (make CheckWasm) bytes r → IsValidBytes bytes w → ⊥
+bar_is_not_valid bytes w r (not_accepted row at x j) i = cc
+bar_is_not_valid bytes w r (unreadable row at x j) i = (binary_clear row at) (not_both bytes w (checks.Binary row at) i j)
+bar_is_not_valid bytes w r (invalid rule section index instruction x j) i = (invalid_clear rule section index instruction) (not_both bytes w (checks.Invalid rule section index instruction) i j)
+
+same_refusal : (first : WasmModule) (bytes : List ℕ) (m n : WasmModule) → IsValidBytes bytes m → IsValidBytes bytes n → refusal (record { first = first; second = m }) ≡ refusal (record { first = first; second = n })
+same_refusal first bytes m n x y = ap (λ (s : WasmModule). refusal (record { first = first; second = s })) (sym (same_module bytes m n x y))
+
+not_apart_too : (r : Refused) → Some r ≡ None → ⊥
+not_apart_too r e = absurd cc
+
+one_joined_end : (first : WasmModule) (bytes : List ℕ) → OneEnd (IsJoined first bytes)
+one_joined_end first bytes j k (not_taken {reason = r} x) (not_taken {reason = q} y) = one_bar (make CheckWasm) bytes r q x y
+one_joined_end first bytes j k (not_taken {reason = r} x) (apart m why i e) = absurd (bar_is_not_valid bytes m r x i)
+one_joined_end first bytes j k (not_taken {reason = r} x) (joined m i e o) = absurd (bar_is_not_valid bytes m r x i)
+one_joined_end first bytes j k (apart m why i e) (not_taken {reason = r} y) = absurd (bar_is_not_valid bytes m r y i)
+one_joined_end first bytes j k (apart m why i e) (apart n other i' e') =
+    let same : Some why ≡ Some other = sym e ∙ same_refusal first bytes m n i i' ∙ e' in
+    let f : why ≡ other = cc in
+    ap (λ (x : Refused). status_of (reason_of_join (joins.Apart x))) f
+one_joined_end first bytes j k (apart m why i e) (joined n i' e' o) = absurd (not_apart_too why (sym e ∙ same_refusal first bytes m n i i' ∙ e'))
+one_joined_end first bytes j k (joined m i e o) (not_taken {reason = r} y) = absurd (bar_is_not_valid bytes m r y i)
+one_joined_end first bytes j k (joined m i e o) (apart n why i' e') = absurd (not_apart_too why (sym e' ∙ same_refusal first bytes n m i' i ∙ e))
+one_joined_end first bytes j k (joined m i e o) (joined n i' e' o') = refl
+
 -- ---- runs
 
 one_runner : (running : Running) (bytes : List ℕ) (r q : Runner) → IsRunner bytes running r → IsRunner bytes running q → q ≡ r
@@ -166,6 +207,13 @@ one_module_end map a bytes j k (scripted {running = running} {script = script} {
     absurd (run_makes_nothing running script bytes output steps y)
 one_module_end map a bytes j k (scripted {running = running} {script = script} {steps = steps} runner i of) (barred {reason = r} y) =
     absurd (bar_runs_nothing running script bytes steps runner r y i)
+one_module_end map a bytes j k (barred {reason = r} x) (paired {second = second} w i of) = absurd (bar_joins_nothing second bytes w r x i)
+one_module_end map a bytes j k (made {output = output} x) (paired {second = second} w i of) = absurd (link_makes_nothing second bytes output x)
+one_module_end map a bytes j k (paired {second = second} w i of) (made {output = output} y) = absurd (link_makes_nothing second bytes output y)
+one_module_end map a bytes j k (paired {second = second} w i of) (barred {reason = r} y) = absurd (bar_joins_nothing second bytes w r y i)
+one_module_end map a bytes j k (paired {second = second} w i of) (paired v i' of') =
+    let same = same_module bytes w v i i' in
+    one_file_end map true second (IsJoined w) (one_joined_end w) j k of (subst (λ m. IsFileJob (Some map) true second (IsJoined m) k) same of')
 one_module_end map a bytes j k (scripted {running = running} {script = script} {steps = steps} runner i of) (scripted runner' i' of') =
     let same = one_runner running bytes runner runner' i i' in
     one_file_end map true script (IsPlayed runner steps) (one_played_end runner steps) j k of (subst (λ r. IsFileJob (Some map) true script (IsPlayed r steps) k) same of')
@@ -289,6 +337,25 @@ of_script_file told running script bytes steps runner r i (a_refusal x) = a_refu
 of_script_file told running script bytes steps runner r i a_read_fault = a_read_fault
 of_script_file told running script bytes steps runner r i no_memory = no_memory
 
+pub of_second_file : (told : Option Told) (second bytes : List ℕ) (w : WasmModule) (r : Reason) → IsValidBytes bytes w
+    → MayAnswer (IsFileJob told true second (IsJoined w)) r → MayAnswer (IsModuleJob told (link second) bytes) r
+of_second_file told second bytes w r i (a_refusal x) = a_refusal (paired w i x)
+of_second_file told second bytes w r i a_read_fault = a_read_fault
+of_second_file told second bytes w r i no_memory = no_memory
+
+-- why a second module isn't linked
+pub join_may : (first : WasmModule) (bytes : List ℕ) (fault : JoinFault) → IsNotJoined first bytes fault → MayAnswer (IsJoined first bytes) (reason_of_join fault)
+join_may first bytes (joins.Check (checks.Binary row at)) i = a_refusal (not_taken (unreadable row at refl i))
+join_may first bytes (joins.Check (checks.Invalid rule section index instruction)) i = a_refusal (not_taken (invalid rule section index instruction refl i))
+join_may first bytes (joins.Check checks.Memory) i = no_memory
+join_may first bytes (joins.Apart why) i = a_refusal (apart i.second why i.taken i.meets)
+
+pub join_quiet : (fault : JoinFault) → tells_files (reason_of_join fault) ≡ false
+join_quiet (joins.Check (checks.Binary row at)) = refl
+join_quiet (joins.Check (checks.Invalid rule section index instruction)) = refl
+join_quiet (joins.Check checks.Memory) = refl
+join_quiet (joins.Apart why) = refl
+
 pub of_command : (words : List (List ℕ)) (told : Option Told) (a : Action) (file : List ℕ) (r : Reason) → asked words ≡ Some (on_file a file)
     → MayAnswer (IsFileJob told false file (IsModuleJob told a)) r → MayReport words told r
 of_command words told a file r n (a_refusal x) = a_refusal (commanded a file n x)
@@ -320,8 +387,13 @@ file_usage told b file OfBytes never r (held bytes h w x) is = never bytes r x i
 played_usage : (runner : Runner) (steps : ℕ) (script : List ℕ) → NoUsage (IsPlayed runner steps script)
 played_usage runner steps script r (unfit line x) is = cc
 
+joined_usage : (first : WasmModule) (bytes : List ℕ) → NoUsage (IsJoined first bytes)
+joined_usage first bytes r (not_taken x) is = bar_usage (make CheckWasm) bytes r x is
+joined_usage first bytes r (apart m why i e) is = cc
+
 module_usage : (told : Option Told) (a : Action) (bytes : List ℕ) → NoUsage (IsModuleJob told a bytes)
 module_usage told a bytes r (barred x) is = bar_usage a bytes r x is
+module_usage told a bytes r (paired {second = second} w i x) is = file_usage told true second (IsJoined w) (joined_usage w) r x is
 module_usage told a bytes r (scripted {script = script} {steps = steps} runner i x) is = file_usage told true script (IsPlayed runner steps) (played_usage runner steps) r x is
 
 job_usage : (words : List (List ℕ)) (told : Option Told) (r : Reason) → IsJob words told (refused r) → status_of r ≡ Usage → asked words ≡ None

@@ -1,6 +1,6 @@
 -- What the code's refusals say, and the status of each.
 use Rattle.std.specs.Prelude.{ℕ, Bool, List, string_bytes}
-use Rattle.bridge_lang.specs.Reason.{Reason, faulty_words, not_asm, not_a_binary, not_valid, not_run, bad_script, read_fault, missing, too_large, out_of_memory}
+use Rattle.bridge_lang.specs.Reason.{Reason, faulty_words, not_asm, not_a_binary, not_valid, not_run, not_linked, bad_script, read_fault, missing, too_large, out_of_memory}
 use Rattle.bridge_cmd.specs.declared.refusal.Refusal.{Refusal}
 use Rattle.bridge_cmd.specs.declared.refusal.Refusal as refusal
 use Rattle.bridge_lang.specs.declared.status.Status as status
@@ -10,6 +10,7 @@ use Rattle.bridge_args.specs.declared.fault.WordsFault as words
 use Rattle.cmd_check_asm.specs.declared.fault.CheckFault as texts
 use Rattle.cmd_check_wasm.specs.declared.fault.CheckFault as checks
 use Rattle.cmd_run_wasm.specs.declared.fault.RunFault as runs
+use Rattle.cmd_link.specs.declared.fault.JoinFault as joins
 use Rattle.script_read.specs.declared.fault.ScriptFault as scripts
 
 abbrev pub reason_of : Refusal → Reason
@@ -18,6 +19,7 @@ reason_of (refusal.TheVariants.NotAsm row at) = not_asm row at
 reason_of (refusal.TheVariants.NotABinary row at) = not_a_binary row at
 reason_of (refusal.TheVariants.NotValid rule section index instruction) = not_valid rule section index instruction
 reason_of (refusal.TheVariants.NotRun row value) = not_run row value
+reason_of (refusal.TheVariants.NotLinked row second value) = not_linked row second value
 reason_of (refusal.TheVariants.BadScript line) = bad_script line
 reason_of refusal.TheVariants.ReadFault = read_fault
 reason_of (refusal.TheVariants.Missing is_script name) = missing is_script (string_bytes name)
@@ -46,6 +48,10 @@ reason_of_words words.TheVariants.Memory = out_of_memory
 abbrev pub reason_of_run : runs.RunFault → Reason
 reason_of_run (runs.TheVariants.Check fault) = reason_of_check fault
 reason_of_run (runs.TheVariants.Outside row) = not_run row.row row.value
+
+abbrev pub reason_of_join : joins.JoinFault → Reason
+reason_of_join (joins.TheVariants.Check fault) = reason_of_check fault
+reason_of_join (joins.TheVariants.Apart why) = not_linked why.row why.second why.value
 
 abbrev pub reason_of_script : scripts.ScriptFault → Reason
 reason_of_script (scripts.TheVariants.Refused line) = bad_script line

@@ -9,6 +9,7 @@ ghost use Rattle.bridge_lang.specs.Reason.{faulty_words, read_fault, missing, to
 ghost use Rattle.bridge_cmd.specs.Refused.{reason_of};
 
 use crate::generating::generated;
+use crate::linking::linked;
 use crate::making::{made, translated};
 use crate::playing::{FILE_LIMIT, script_run};
 use crate::refusal::{Refusal, of_gathering, of_words};
@@ -17,7 +18,7 @@ use bridge_io::{Files, gather};
 use shared_bytes::SharedBytes;
 use std::alloc::Global;
 
-/// What is done with a module's bytes, and with the script's file.
+/// What is done with a module's bytes, and with the file of a script or a second module.
 fn module_output<F: Files>(
     alloc: Global,
     action: Action,
@@ -38,6 +39,7 @@ fn module_output<F: Files>(
     match action {
         Action::Make(making) => made(alloc, making, bytes),
         Action::Translate(heap) => translated(alloc, bytes, heap),
+        Action::Link(second) => linked(alloc, bytes, second, files),
         Action::Run {
             running,
             script,

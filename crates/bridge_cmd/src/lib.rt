@@ -4,6 +4,7 @@
 mod composed;
 mod generating;
 mod job;
+mod linking;
 mod making;
 mod playing;
 mod refusal;

@@ -1,7 +1,7 @@
 //! Commands that read one file.
 ghost use Rattle.std.specs.Prelude.{◌≡◌, ◌≤◌, true, false, None, length, IfOk, IfErr};
 ghost use Rattle.bridge_lang.specs.Command as spec;
-ghost use Rattle.bridge_lang.specs.declared.making.Making.TheVariants.{CheckAsm, CheckWasm, WasmToAsm, WasmToWat, Show};
+ghost use Rattle.bridge_lang.specs.declared.making.Making.TheVariants.{CheckAsm, CheckWasm, WasmToAsm, WasmToWat, Shorten, Show};
 ghost use Rattle.asm_tree.specs.Views.{module_view};
 ghost use Rattle.wasm_binary_write.specs.Spelling.{spelling};
 ghost use Rattle.asm2wasm_translation.specs.Modules.{translation};
@@ -141,6 +141,17 @@ fn bytes_counts(alloc: Global, bytes: &[u8]) -> Result<SharedBytes, Refusal>
     }
 }
 
+/// The canonical text of the short form of an accepted module of asm.js.
+fn shortened(alloc: Global, text: &[u8]) -> Result<SharedBytes, Refusal>
+    ensures made { IfOk result (λ output. IsMade (spec.make Shorten) text.now output) }
+    ensures barred { IfErr result (λ refusal. IsAnswered (spec.make Shorten) text.now (reason_of refusal)) }
+{
+    match cmd_shorten::short_text(alloc, text) {
+        Ok(output) => Ok(SharedBytes::from_vec(alloc, output)),
+        Err(fault) => Err(of_text(fault)),
+    }
+}
+
 /// The canonical text of an accepted module of asm.js.
 fn printed(alloc: Global, text: &[u8]) -> Result<SharedBytes, Refusal>
     ensures made { spec.begins_with_zero text.now ≡ false → IfOk result (λ output. IsMade (spec.make Show) text.now output) }
@@ -202,6 +213,7 @@ pub(crate) fn made(alloc: Global, making: Making, bytes: &[u8]) -> Result<Shared
     match making {
         Making::WasmToAsm => translated_back(alloc, bytes),
         Making::WasmToWat => worded(alloc, bytes),
+        Making::Shorten => shortened(alloc, bytes),
         Making::CheckAsm => text_counts(alloc, bytes),
         Making::CheckWasm => bytes_counts(alloc, bytes),
         Making::Show => shown(alloc, bytes),

@@ -1,7 +1,7 @@
 //! Why there is no output.
 ghost use Rattle.std.specs.Prelude.{◌≡◌, string_bytes};
 ghost use Rattle.bridge_lang.specs.Reason.{not_run};
-ghost use Rattle.bridge_cmd.specs.Refused.{reason_of, reason_of_check, reason_of_text, reason_of_words, reason_of_run, reason_of_script, reason_at};
+ghost use Rattle.bridge_cmd.specs.Refused.{reason_of, reason_of_check, reason_of_text, reason_of_words, reason_of_run, reason_of_script, reason_of_join, reason_at};
 ghost use Rattle.bridge_lang.specs.Statuses.{status_of};
 
 use bridge_args::WordsFault;
@@ -9,6 +9,7 @@ use bridge_io::GatherFault;
 use bridge_lang::{Status, WasmFault};
 use cmd_check_asm::AsmRow;
 use cmd_check_wasm::CheckFault;
+use cmd_link::{JoinFault, LinkRow};
 use cmd_run_wasm::RunFault;
 use script_read::ScriptFault;
 use wasm_tree::Row;
@@ -36,11 +37,17 @@ pub(crate) enum Refusal {
         row: Beyond,
         value: u64,
     },
+    /// Whether it is for the second module's sake.
+    NotLinked {
+        row: LinkRow,
+        second: bool,
+        value: u64,
+    },
     BadScript {
         line: u64,
     },
     ReadFault,
-    /// Whether it is the script, and the file's name.
+    /// Whether it is the script or second module, and the file's name.
     Missing(bool, String),
     TooLarge(bool, String),
     OutOfMemory,
@@ -72,6 +79,11 @@ impl Refusal {
                 row: *row,
                 value: *value,
             }),
+            Refusal::NotLinked { row, second, value } => Status::LinkRefused {
+                row: *row,
+                second: *second,
+                value: *value,
+            },
             Refusal::BadScript { line } => Status::ScriptRefused { line: *line },
             Refusal::ReadFault => Status::ReadFault,
             Refusal::Missing(script, _) => Status::Missing { script: *script },
@@ -153,6 +165,20 @@ pub(crate) fn of_run(fault: RunFault) -> Refusal
         RunFault::Outside(outside) => Refusal::NotRun {
             row: outside.row,
             value: outside.value as u64,
+        },
+    }
+}
+
+/// Why a second module isn't linked to the first.
+pub(crate) fn of_join(fault: JoinFault) -> Refusal
+    ensures { reason_of result ≡ reason_of_join fault }
+{
+    match fault {
+        JoinFault::Check(fault) => of_check(fault),
+        JoinFault::Apart(why) => Refusal::NotLinked {
+            row: why.row,
+            second: why.second,
+            value: why.value,
         },
     }
 }

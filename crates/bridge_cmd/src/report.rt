@@ -4,6 +4,7 @@ ghost use Rattle.std.specs.List.{concat};
 ghost use Rattle.bridge_lang.specs.Reason.{line_of};
 ghost use Rattle.bridge_lang.specs.AsmRows as texts;
 ghost use Rattle.bridge_lang.specs.WasmRows as names;
+ghost use Rattle.bridge_lang.specs.LinkRows as links;
 ghost use Rattle.wasm_lang_valid.specs.Rules.{number};
 ghost use Rattle.wasm_lang_valid.specs.Validity.{id};
 ghost use Rattle.bridge_cmd.specs.Refused.{reason_of};
@@ -14,6 +15,7 @@ use crate::refusal::Refusal;
 use bridge_io::{Failed, Sink, put_all};
 use cmd_check_asm::{AsmRow, row_name as asm_row_name};
 use cmd_check_wasm::{row_name, rule_number, section_number};
+use cmd_link::{LinkRow, link_row_name, side_name};
 use cmd_run_wasm::outside_name;
 use itoa::Buffer;
 use wasm_tree::Row;
@@ -69,6 +71,7 @@ pub(crate) fn write_line<E: Sink>(report: &mut E, refusal: &Refusal) -> Result<(
         } => put_invalid(report, *rule, *section, *index, *instruction),
         Refusal::ReadFault => put_pieces(report, &["read fault", "\n"]),
         Refusal::NotRun { row, value } => put_outside(report, *row, *value),
+        Refusal::NotLinked { row, second, value } => put_link(report, *row, *second, *value),
         Refusal::BadScript { line } => put_script(report, *line),
         Refusal::Missing(_, file) => put_pieces(report, &["missing: ", file.as_str(), "\n"]),
         Refusal::TooLarge(_, file) => put_pieces(report, &["too large: ", file.as_str(), "\n"]),
@@ -166,6 +169,31 @@ fn put_outside<E: Sink>(report: &mut E, row: Beyond, value: u64) -> Result<(), F
     put_pieces(
         report,
         &["wasm refused: ", outside_name(row), " ", value, "\n"],
+    )
+}
+
+/// The line of two modules that aren't linked.
+fn put_link<E: Sink>(report: &mut E, row: LinkRow, second: bool, value: u64) -> Result<(), Failed>
+    requires { (n : ℕ) → E.takes report.old n }
+
+    ensures takes { (n : ℕ) → E.takes report.new n }
+    ensures never_falls { E.faults report.old ≤ E.faults report.new }
+    ensures whole { OnOk result (Gains (concat (codes "link refused: " ∷ links.link_row_name row ∷ links.side_name second ∷ decimal value ∷ codes "\n" ∷ []))
+        (seen (E.told report.old) (E.faults report.old)) (seen (E.told report.new) (E.faults report.new))) }
+    ensures front { OnErr result (GainsFront (concat (codes "link refused: " ∷ links.link_row_name row ∷ links.side_name second ∷ decimal value ∷ codes "\n" ∷ []))
+        (seen (E.told report.old) (E.faults report.old)) (seen (E.told report.new) (E.faults report.new))) }
+{
+    let mut digits = Buffer::new();
+    let value = digits.format(value);
+    put_pieces(
+        report,
+        &[
+            "link refused: ",
+            link_row_name(row),
+            side_name(second),
+            value,
+            "\n",
+        ],
     )
 }
 

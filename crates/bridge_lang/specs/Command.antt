@@ -12,6 +12,8 @@ pub data Action : Type 0 where
   make : Making → Action
   -- `asm2wasm`, with a heap of so many bytes
   translate : (heap : ℕ) → Action
+  -- `link`, with the second module in the file of this name
+  link : (second : List ℕ) → Action
   -- the script in a file of this name, with at most so many units or reductions
   run : Running → (script : List ℕ) (steps : ℕ) → Action
 

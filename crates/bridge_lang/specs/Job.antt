@@ -1,11 +1,12 @@
--- What the words and the files ask for: the first refusal in the order words, module read, module checked, script read, script
--- checked; or the output.
+-- What the words and the files ask for: the first refusal in the order words, module read, module checked, script or second module
+-- read, and checked, two modules linked; or the output.
 use Rattle.std.specs.Prelude.{◌≡◌, ◌<◌, ◌≤◌, ℕ, Bool, true, false, List, [], Option, Some, None, Err, IfSome, IsSomeAnd, length}
 use Rattle.bridge_io.specs.Outside.{Told, content_of}
 use Rattle.asm_lang.specs.Modules.{Module}
 use Rattle.asm_lang.specs.Printing.{canonical_text}
 use Rattle.asm_lang_valid.specs.Texts.{IsAcceptedText}
 use Rattle.bridge_lang.specs.AsmVerdicts.{counts_line as text_counts_line, IsRefusedText}
+use Rattle.bridge_lang.specs.Shortening.{IsShortened}
 use Rattle.bridge_lang.specs.declared.row.AsmRow.{AsmRow}
 use Rattle.wasm_lang.specs.Modules.{WasmModule}
 use Rattle.wasm_lang.specs.declared.fault.Row.{Row}
@@ -20,12 +21,16 @@ use Rattle.wat_lang.specs.Printing.{canonical}
 use Rattle.bridge_lang.specs.WasmRuns.{IsOutside}
 use Rattle.asm2wasm_lang.specs.Allowed.{IsAllowed, IsBounded, IsShortest}
 use Rattle.wasm2js_lang.specs.Allowed.{IsAllowed as IsAllowedAsm, IsBounded as IsBoundedAsm, TrapsAreCalls}
+use Rattle.wasm_link_lang.specs.declared.rows.Refused.{Refused}
+use Rattle.wasm_link_lang.specs.Pairs.{Pair}
+use Rattle.wasm_link_lang.specs.Refusal.{refusal}
+use Rattle.wasm_link_lang.specs.Allowed.{IsAllowed as IsAllowedFor, IsBounded as IsBoundedFor}
 use Rattle.gen_lang.specs.Recipe.{recipe, recipe_heap, summary}
 use Rattle.bridge_lang.specs.declared.making.Making.{Making}
-use Rattle.bridge_lang.specs.declared.making.Making.TheVariants.{CheckAsm, CheckWasm, WasmToAsm, WasmToWat, Show}
-use Rattle.bridge_lang.specs.Command.{Running, as_text, as_binary, Action, make, translate, run, on_file, gen, Language, asm_js, web_assembly, language_of}
+use Rattle.bridge_lang.specs.declared.making.Making.TheVariants.{CheckAsm, CheckWasm, WasmToAsm, WasmToWat, Shorten, Show}
+use Rattle.bridge_lang.specs.Command.{Running, as_text, as_binary, Action, make, translate, link, run, on_file, gen, Language, asm_js, web_assembly, language_of}
 use Rattle.bridge_lang.specs.Words.{asked}
-use Rattle.bridge_lang.specs.Reason.{Reason, faulty_words, not_asm, not_a_binary, not_valid, not_run, bad_script, missing, too_large}
+use Rattle.bridge_lang.specs.Reason.{Reason, faulty_words, not_asm, not_a_binary, not_valid, not_run, not_linked, bad_script, missing, too_large}
 use Rattle.bridge_lang.specs.Runs.{Runner, IsRunner, script_for, Prints}
 
 pub data Job : Type 0 where
@@ -64,11 +69,13 @@ read_by CheckAsm bytes = asm_js
 read_by CheckWasm bytes = web_assembly
 read_by WasmToAsm bytes = web_assembly
 read_by WasmToWat bytes = web_assembly
+read_by Shorten bytes = asm_js
 read_by Show bytes = language_of bytes
 
 abbrev pub read_as : Action → List ℕ → Language
 read_as (make making) bytes = read_by making bytes
 read_as (translate heap) bytes = asm_js
+read_as (link second) bytes = web_assembly
 read_as (run (as_text heap) script steps) bytes = asm_js
 read_as (run as_binary script steps) bytes = web_assembly
 
@@ -102,6 +109,7 @@ pub record IsTranslatedBack (w : WasmModule) (output : List ℕ) : Type 0 where
 abbrev pub IsMadeOfText : Action → Module → (output : List ℕ) → Type 0
 IsMadeOfText (make CheckAsm) m output = output ≡ text_counts_line m
 IsMadeOfText (make Show) m output = output ≡ canonical_text m
+IsMadeOfText (make Shorten) m output = IsShortened m output
 IsMadeOfText (translate heap) m output = IsTranslated m heap output
 IsMadeOfText _ m output = ⊥
 
@@ -123,6 +131,23 @@ pub data IsPlayed (runner : Runner) (steps : ℕ) (script : List ℕ) : Job → 
   unfit : (line : ℕ) → script_for runner script ≡ Err line → IsPlayed runner steps script (refused (bad_script line))
   ran : {output : List ℕ} → Prints runner script steps output → IsPlayed runner steps script (written output)
 
+-- ---- two modules
+
+-- the shortest spelling of a module that may be written for the pair
+pub record IsLinkedTo (w : Pair) (output : List ℕ) : Type 0 where
+  pub «module» : WasmModule
+  pub allowed : IsAllowedFor w «module»
+  pub bounded : IsBoundedFor w «module»
+  pub shortest : IsShortest output «module»
+
+-- what is made of a valid first module and a second's bytes: those are refused as `check-wasm` does it, or the pair is, or the two are linked
+pub data IsJoined (first : WasmModule) (bytes : List ℕ) : Job → Type 0 where
+  not_taken : {reason : Reason} → IsBarred (make CheckWasm) bytes reason → IsJoined first bytes (refused reason)
+  apart : (second : WasmModule) (why : Refused) → IsValidBytes bytes second → refusal (record { first = first; second = second }) ≡ Some why
+      → IsJoined first bytes (refused (not_linked why.row why.second why.value))
+  joined : {output : List ℕ} (second : WasmModule) → IsValidBytes bytes second → refusal (record { first = first; second = second }) ≡ None
+      → IsLinkedTo (record { first = first; second = second }) output → IsJoined first bytes (written output)
+
 -- ---- a text of so many functions
 
 -- the bytes that `asm2wasm` makes of the text and the text that `wasm2js` makes of those, and their lengths
@@ -140,6 +165,8 @@ pub data IsModuleJob (told : Option Told) : Action → List ℕ → Job → Type
   made : {a : Action} {bytes output : List ℕ} → IsMade a bytes output → IsModuleJob told a bytes (written output)
   scripted : {running : Running} {script bytes : List ℕ} {steps : ℕ} {job : Job} (runner : Runner) → IsRunner bytes running runner
       → IsFileJob told true script (IsPlayed runner steps) job → IsModuleJob told (run running script steps) bytes job
+  paired : {second bytes : List ℕ} {job : Job} (w : WasmModule) → IsValidBytes bytes w
+      → IsFileJob told true second (IsJoined w) job → IsModuleJob told (link second) bytes job
 
 pub data IsJob (words : List (List ℕ)) (told : Option Told) : Job → Type 0 where
   no_command : asked words ≡ None → IsJob words told (refused faulty_words)

@@ -5,8 +5,10 @@ pub mod Words
 pub mod Listing
 pub mod AsmRows
 pub mod WasmRows
+pub mod LinkRows
 pub mod AsmVerdicts
 pub mod WasmVerdicts
+pub mod Shortening
 pub mod AsmRuns
 pub mod WasmRuns
 pub mod Reason

@@ -11,6 +11,8 @@ use Rattle.wasm_lang_valid.specs.Rules.{number}
 use Rattle.wasm_lang_valid.specs.Validity.{id}
 use Rattle.bridge_lang.specs.WasmRows.{row_name}
 use Rattle.bridge_lang.specs.WasmRows as outsiders
+use Rattle.bridge_lang.specs.LinkRows.{link_row_name, side_name}
+use Rattle.wasm_link_lang.specs.declared.rows.LinkRow.{LinkRow}
 
 pub data Reason : Type 0 where
   faulty_words : Reason
@@ -22,6 +24,8 @@ pub data Reason : Type 0 where
   not_valid : (rule : Rule) (section : Section) (index instruction : ℕ) → Reason
   -- the module isn't run: why, and the number of an import, or a count
   not_run : (row : Beyond) (value : ℕ) → Reason
+  -- the two modules aren't linked: why, whether it is for the second's sake, and the number of a row, a minimum, an export, an import, a sum or a function
+  not_linked : (row : LinkRow) (second : Bool) (value : ℕ) → Reason
   -- the script isn't in its grammar or doesn't fit the module: the line
   bad_script : (line : ℕ) → Reason
   read_fault : Reason
@@ -38,6 +42,7 @@ parts_of (not_valid rule section index instruction) =
     codes "wasm refused: B13 Invalid V" ∷ decimal (number rule) ∷ codes " at section " ∷ decimal (id section)
     ∷ codes " index " ∷ decimal index ∷ codes " instruction " ∷ decimal instruction ∷ []
 parts_of (not_run row value) = codes "wasm refused: " ∷ outsiders.beyond_name row ∷ codes " " ∷ decimal value ∷ []
+parts_of (not_linked row second value) = codes "link refused: " ∷ link_row_name row ∷ side_name second ∷ decimal value ∷ []
 parts_of (bad_script line) = codes "script refused: line " ∷ decimal line ∷ []
 parts_of read_fault = codes "read fault" ∷ []
 parts_of (missing is_script file) = codes "missing: " ∷ file ∷ []

@@ -1,8 +1,8 @@
 -- The status of each reason, and the number with which the process ends.
 use Rattle.std.specs.Prelude.{ℕ}
-use Rattle.bridge_lang.specs.Reason.{Reason, faulty_words, not_asm, not_a_binary, not_valid, not_run, bad_script, read_fault, missing, too_large, out_of_memory}
+use Rattle.bridge_lang.specs.Reason.{Reason, faulty_words, not_asm, not_a_binary, not_valid, not_run, not_linked, bad_script, read_fault, missing, too_large, out_of_memory}
 use Rattle.bridge_lang.specs.declared.status.Status.{Status}
-use Rattle.bridge_lang.specs.declared.status.Status.TheVariants.{Done, Usage, AsmRefused, WasmRefused, ScriptRefused, ReadFault, WriteFault, Missing, TooLarge, Memory}
+use Rattle.bridge_lang.specs.declared.status.Status.TheVariants.{Done, Usage, AsmRefused, WasmRefused, LinkRefused, ScriptRefused, ReadFault, WriteFault, Missing, TooLarge, Memory}
 use Rattle.bridge_lang.specs.declared.status.WasmFault as wasm
 
 abbrev pub status_of : Reason → Status
@@ -11,6 +11,7 @@ status_of (not_asm row at) = AsmRefused row at
 status_of (not_a_binary row at) = WasmRefused (wasm.TheVariants.Binary row at)
 status_of (not_valid rule section index instruction) = WasmRefused (wasm.TheVariants.Invalid rule section index instruction)
 status_of (not_run row value) = WasmRefused (wasm.TheVariants.Outside row value)
+status_of (not_linked row second value) = LinkRefused row second value
 status_of (bad_script line) = ScriptRefused line
 status_of read_fault = ReadFault
 status_of (missing is_script file) = Missing is_script
@@ -28,3 +29,4 @@ code_of WriteFault = 6
 code_of (Missing script) = 7
 code_of (TooLarge script) = 8
 code_of Memory = 9
+code_of (LinkRefused row second value) = 11

@@ -7,8 +7,8 @@ use Rattle.clap.specs.Walk.{Row, Text, all_of, first_of}
 use Rattle.bridge_lang.specs.App.{faults_of, rows_read}
 use Rattle.bridge_lang.specs.Number.{is_gen_count, is_heap, is_steps, kept, number_of, number_or}
 use Rattle.bridge_lang.specs.declared.making.Making.{Making}
-use Rattle.bridge_lang.specs.declared.making.Making.TheVariants.{CheckAsm, CheckWasm, WasmToAsm, WasmToWat, Show}
-use Rattle.bridge_lang.specs.Command.{as_text, as_binary, make, translate, run, Asked, on_file, gen}
+use Rattle.bridge_lang.specs.declared.making.Making.TheVariants.{CheckAsm, CheckWasm, WasmToAsm, WasmToWat, Shorten, Show}
+use Rattle.bridge_lang.specs.Command.{as_text, as_binary, make, translate, link, run, Asked, on_file, gen}
 
 -- the commands that take one file and no option
 unfoldable pub making_named : Text → Option Making
@@ -17,8 +17,9 @@ making_named name =
     else (if bytes_eq name (codes "check-wasm") then Some CheckWasm
     else (if bytes_eq name (codes "wasm2js") then Some WasmToAsm
     else (if bytes_eq name (codes "wasm2wat") then Some WasmToWat
+    else (if bytes_eq name (codes "shorten") then Some Shorten
     else (if bytes_eq name (codes "show") then Some Show
-    else None))))
+    else None)))))
 
 -- what follows the command's name
 pub record GivenTexts : Type 0 where
@@ -65,6 +66,10 @@ abbrev pub run_wasm_of : GivenTexts → Option Asked
 run_wasm_of g = without_option g.heap (option_and_then (λ files.
     option_map (λ steps. on_file (run as_binary files.1 steps) files.0) (steps_of g)) (only_two g.operands))
 
+-- two files, and no option
+abbrev pub link_of : GivenTexts → Option Asked
+link_of g = without_option g.heap (without_option g.steps (option_map (λ files. on_file (link files.1) files.0) (only_two g.operands)))
+
 -- a number, and no option
 abbrev pub gen_of : GivenTexts → Option Asked
 gen_of g = option_and_then (λ text. option_map gen (kept is_gen_count (number_of text))) (lone_operand g)
@@ -76,7 +81,8 @@ asked_by name g =
     else (if bytes_eq name (codes "run-asm") then run_asm_of g
     else (if bytes_eq name (codes "run-wasm") then run_wasm_of g
     else (if bytes_eq name (codes "gen") then gen_of g
-    else making_of name g)))
+    else (if bytes_eq name (codes "link") then link_of g
+    else making_of name g))))
 
 -- what `clap` read, as the command's name and what follows it
 abbrev pub texts_or_none : Option (List Text) → List Text

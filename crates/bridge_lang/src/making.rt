@@ -10,6 +10,7 @@ pub enum Making {
     CheckWasm,
     WasmToAsm,
     WasmToWat,
+    Shorten,
     Show,
 }
 
@@ -24,6 +25,7 @@ impl Making {
             "check-wasm" => Some(Making::CheckWasm),
             "wasm2js" => Some(Making::WasmToAsm),
             "wasm2wat" => Some(Making::WasmToWat),
+            "shorten" => Some(Making::Shorten),
             "show" => Some(Making::Show),
             _ => None,
         }

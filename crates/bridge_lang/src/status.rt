@@ -5,6 +5,7 @@ ghost use Rattle.bridge_lang.specs.Statuses.{code_of};
 use crate::row::AsmRow;
 use wasm_lang::Row;
 use wasm_lang_valid::{Beyond, Rule, Section};
+use wasm_link_lang::LinkRow;
 
 /// Why the bytes are no WebAssembly module that the command takes.
 #[derive(Clone, Copy, Debug, PartialEq, Eq)]
@@ -36,25 +37,41 @@ pub enum Status {
     /// The words are no command.
     Usage,
     /// The text is no accepted module of asm.js: why, and the offset in bytes.
-    AsmRefused { row: AsmRow, at: u64 },
+    AsmRefused {
+        row: AsmRow,
+        at: u64,
+    },
     /// The bytes are no WebAssembly module that the command takes.
     WasmRefused(WasmFault),
     /// The script isn't in its grammar or doesn't fit the module: the line, from 1.
-    ScriptRefused { line: u64 },
+    ScriptRefused {
+        line: u64,
+    },
     /// A read failed.
     ReadFault,
     /// A write failed.
     WriteFault,
-    /// A file isn't there: the script, or the module.
-    Missing { script: bool },
-    /// A file is longer than 16,777,216 bytes: the script, or the module.
-    TooLarge { script: bool },
+    /// A file isn't there: the script or second module, or the module.
+    Missing {
+        script: bool,
+    },
+    /// A file is longer than 16,777,216 bytes: the script or second module, or the module.
+    TooLarge {
+        script: bool,
+    },
     /// Memory ran out.
     Memory,
+    /// The two modules aren't linked: why, whether it is for the second's sake, and the number of a row, a minimum, an export, an
+    /// import, a sum or a function.
+    LinkRefused {
+        row: LinkRow,
+        second: bool,
+        value: u64,
+    },
 }
 
 impl Status {
-    /// The exit status of the process, 0 to 9.
+    /// The exit status of the process, 0 to 9 or 11.
     pub fn code(&self) -> u8
         ensures { result ≡ code_of self.now }
     {
@@ -69,6 +86,7 @@ impl Status {
             Status::Missing { .. } => 7,
             Status::TooLarge { .. } => 8,
             Status::Memory => 9,
+            Status::LinkRefused { .. } => 11,
         }
     }
 }

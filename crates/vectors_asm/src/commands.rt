@@ -18,7 +18,7 @@ const ADD_MODULE: &[u8] = &[
 ];
 
 /// Names and contents of the files.
-static FILES: [(&'static str, &'static [u8]); 10] = [
+static FILES: [(&'static str, &'static [u8]); 11] = [
     ("add.js", ADD),
     (
         "times.js",
@@ -30,6 +30,7 @@ static FILES: [(&'static str, &'static [u8]); 10] = [
     ),
     ("add.wasm", ADD_MODULE),
     ("cut.wasm", b"\0asm"),
+    ("empty.wasm", b"\0asm\x01\0\0\0"),
     (
         "untyped.wasm",
         b"\0asm\x01\0\0\0\x03\x02\x01\0\x0a\x04\x01\x02\0\x0b",
@@ -48,7 +49,7 @@ type Row = (&'static [&'static str], u8, &'static [u8], &'static [u8]);
 
 const USAGE: &[u8] = b"usage: bridge COMMAND [--heap N] [--steps N] [FILE] [SCRIPT]\n";
 
-static ROWS: [Row; 48] = [
+static ROWS: [Row; 58] = [
     (&[], 1, b"", USAGE),
     (&["fly", "add.js"], 1, b"", USAGE),
     (&["asm2wasm"], 1, b"", USAGE),
@@ -158,6 +159,51 @@ static ROWS: [Row; 48] = [
         b"wasm refused: B13 Invalid V1 at section 3 index 0 instruction 0\n",
     ),
     (&["wasm2wat", "--heap", "65536", "add.wasm"], 1, b"", USAGE),
+    (
+        &["shorten", "add.js"],
+        0,
+        b"function m(){\"use asm\";\nfunction f(a,b){a=a|0;b=b|0;return a+b|0;}\nreturn f;}\n",
+        b"",
+    ),
+    (
+        &["shorten", "times.js"],
+        2,
+        b"",
+        b"asm.js refused: A14 Operand at 59\n",
+    ),
+    (&["shorten", "add.js", "f.txt"], 1, b"", USAGE),
+    (&["link", "add.wasm"], 1, b"", USAGE),
+    (&["link", "add.wasm", "empty.wasm"], 0, ADD_MODULE, b""),
+    (
+        &["link", "add.wasm", "add.wasm"],
+        11,
+        b"",
+        b"link refused: L4 ExportTaken second 0\n",
+    ),
+    (
+        &["link", "table.wasm", "add.wasm"],
+        11,
+        b"",
+        b"link refused: L1 Profile first 14\n",
+    ),
+    (
+        &["link", "add.wasm", "cut.wasm"],
+        3,
+        b"",
+        b"wasm refused: B3 Truncated at 4\n",
+    ),
+    (
+        &["link", "add.wasm", "no.wasm"],
+        7,
+        b"",
+        b"missing: no.wasm\n",
+    ),
+    (
+        &["link", "cut.wasm", "no.wasm"],
+        3,
+        b"",
+        b"wasm refused: B3 Truncated at 4\n",
+    ),
     (
         &["show", "add.wasm"],
         0,

@@ -1,4 +1,4 @@
-//! Worked rows of modules of WebAssembly: read, written, listed, judged, and what single instructions do.
+//! Worked rows of modules of WebAssembly: read, written, listed, judged, linked, and what single instructions do.
 #![tactic(auto)]
 
 #[cfg(test)]
@@ -9,6 +9,10 @@ mod jumps;
 mod listings;
 #[cfg(test)]
 mod locals;
+#[cfg(test)]
+mod pair_limits;
+#[cfg(test)]
+mod pairs;
 #[cfg(test)]
 mod plain;
 #[cfg(test)]

@@ -1,0 +1,38 @@
+;; The library of library.c, as it may be written by hand: a list of words from 1056 on, and how many there are at 1040.
+(module
+  (type $change (func (param i32) (result i32)))
+  (import "env" "change" (func $change (type $change)))
+  (import "env" "memory" (memory 2 2))
+  (table 2 2 funcref)
+  (elem (i32.const 0) $itself $square)
+  (func $push (export "push") (param $word i32) (result i32)
+    (local $count i32)
+    (local.set $count (i32.load (i32.const 1040)))
+    (if (i32.eq (local.get $count) (i32.const 1000)) (then (return (i32.const 0))))
+    (i32.store offset=1056 (i32.shl (local.get $count) (i32.const 2)) (local.get $word))
+    (i32.store (i32.const 1040) (i32.add (local.get $count) (i32.const 1)))
+    (i32.load (i32.const 1040)))
+  (func $length (export "length") (result i32)
+    (i32.load (i32.const 1040)))
+  (func (export "change_all")
+    (local $place i32)
+    (block $done
+      (loop $next
+        (br_if $done (i32.eq (local.get $place) (i32.shl (call $length) (i32.const 2))))
+        (i32.store offset=1056 (local.get $place) (call $change (i32.load offset=1056 (local.get $place))))
+        (local.set $place (i32.add (local.get $place) (i32.const 4)))
+        (br $next))))
+  (func (export "sum") (param $measure i32) (result i32)
+    (local $place i32) (local $all i32)
+    (block $done
+      (loop $next
+        (br_if $done (i32.eq (local.get $place) (i32.shl (call $length) (i32.const 2))))
+        (local.set $all (i32.add (local.get $all)
+          (call_indirect (type $change) (i32.load offset=1056 (local.get $place)) (i32.and (local.get $measure) (i32.const 1)))))
+        (local.set $place (i32.add (local.get $place) (i32.const 4)))
+        (br $next)))
+    (local.get $all))
+  (func $itself (param $word i32) (result i32)
+    (local.get $word))
+  (func $square (param $word i32) (result i32)
+    (i32.mul (local.get $word) (local.get $word))))

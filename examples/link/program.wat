@@ -1,0 +1,25 @@
+;; The program of program.c, as it may be written by hand: its step stands in a global.
+(module
+  (import "env" "push" (func $push (param i32) (result i32)))
+  (import "env" "length" (func $length (result i32)))
+  (import "env" "change_all" (func $change_all))
+  (import "env" "sum" (func $sum (param i32) (result i32)))
+  (import "env" "log" (func $log (param i32)))
+  (import "env" "memory" (memory 1))
+  (global $step (mut i32) (i32.const 3))
+  (func (export "set_step") (param $by i32)
+    (global.set $step (local.get $by)))
+  (func (export "change") (param $word i32) (result i32)
+    (i32.add (local.get $word) (global.get $step)))
+  (func (export "run") (param $n i32) (result i32)
+    (local $k i32)
+    (block $done
+      (loop $next
+        (br_if $done (i32.ge_s (local.get $k) (local.get $n)))
+        (local.set $k (i32.add (local.get $k) (i32.const 1)))
+        (drop (call $push (local.get $k)))
+        (br $next)))
+    (call $change_all)
+    (call $log (call $length))
+    (call $log (call $sum (i32.const 0)))
+    (call $sum (i32.const 1))))
