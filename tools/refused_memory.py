@@ -56,7 +56,7 @@ FILES = {
 }
 
 COMMANDS = [
-    *(f"{command} {name}.js" for command in ("check-asm", "show", "asm2wasm") for name in ("sum", "usual")),
+    *(f"{command} {name}.js" for command in ("check-asm", "show", "shorten", "asm2wasm") for name in ("sum", "usual")),
     "asm2wasm long.js",
     "run-asm sum.js sum.txt",
     "run-asm usual.js usual.txt",
@@ -64,6 +64,8 @@ COMMANDS = [
     *(f"{command} usual.wasm" for command in ("check-wasm", "show", "wasm2js")),
     "run-wasm wide.wasm wide.txt",
     "run-wasm usual.wasm usual.txt",
+    "link usual.wasm wide.wasm",
+    "link wide.wasm usual.wasm",
     "gen 1",
     "gen 2",
 ]

@@ -34,7 +34,7 @@ use Rattle.bridge_args.specs.declared.fault.WordsFault.{WordsFault}
 use Rattle.bridge_args.specs.declared.fault.WordsFault.TheVariants as words_faults
 use Rattle.bridge_lang.specs.declared.status.Status.TheVariants.{Usage}
 use Rattle.bridge_args.specs.Answer.{Answers, asked_view}
-use Rattle.bridge_lang.specs.declared.making.Making.TheVariants.{CheckWasm, WasmToAsm}
+use Rattle.bridge_lang.specs.declared.making.Making.TheVariants.{CheckWasm}
 use Rattle.bridge_lang.specs.Command.{Action, make, link, Running, as_binary, run, on_file, asm_js, web_assembly, begins_with_zero, language_of}
 use Rattle.bridge_lang.specs.Words.{asked}
 use Rattle.bridge_lang.specs.Answers.{IsAnswered, a_bar, want_of_memory, IsScriptAnswer, an_unfit_line, no_room, MayAnswer, a_refusal, a_read_fault, no_memory}

@@ -1,5 +1,5 @@
 -- The summary of what is made of a text of so many functions.
-use Rattle.std.proofs.Common.{◌≡◌, ◌≤◌, ℕ, true, List, [], length, refl, sym, subst}
+use Rattle.std.proofs.Common.{◌≡◌, ◌≤◌, ℕ, true, List, length, refl, sym, subst}
 use Rattle.std.specs.Prelude.{None}
 use Rattle.wasm_lang.specs.Grammar.{IsModuleBytes}
 use Rattle.wasm_lang.specs.Modules.{WasmModule}

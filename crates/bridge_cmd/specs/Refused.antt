@@ -3,8 +3,6 @@ use Rattle.std.specs.Prelude.{ℕ, Bool, List, string_bytes}
 use Rattle.bridge_lang.specs.Reason.{Reason, faulty_words, not_asm, not_a_binary, not_valid, not_run, not_linked, bad_script, read_fault, missing, too_large, out_of_memory}
 use Rattle.bridge_cmd.specs.declared.refusal.Refusal.{Refusal}
 use Rattle.bridge_cmd.specs.declared.refusal.Refusal as refusal
-use Rattle.bridge_lang.specs.declared.status.Status as status
-use Rattle.bridge_lang.specs.declared.status.WasmFault as wasm
 use Rattle.bridge_io.specs.declared.reading.GatherFault as gathering
 use Rattle.bridge_args.specs.declared.fault.WordsFault as words
 use Rattle.cmd_check_asm.specs.declared.fault.CheckFault as texts

@@ -152,11 +152,12 @@ fn push_name(out: &mut Vec<u8>, number: usize) -> Result<(), AllocError> {
 /// function has that name.
 fn link_of_chain(
     alloc: Global,
-    numbers: usize,
-    begin: usize,
-    last: Option<usize>,
+    numbers: u16,
+    begin: u16,
+    last: Option<u16>,
 ) -> Result<Vec<u8>, AllocError> {
-    let count = numbers;
+    let count = numbers as usize;
+    let begin = begin as usize;
     let mut imports = Vec::new(alloc);
     let mut exports = Vec::new(alloc);
     push_number(&mut imports, count)?;
@@ -170,7 +171,7 @@ fn link_of_chain(
         push_number(&mut exports, k)?;
     }
     match last {
-        Some(number) => push_name(&mut exports, number)?,
+        Some(number) => push_name(&mut exports, number as usize)?,
         None => push_name(&mut exports, 9_999)?,
     }
     exports.push(0x00)?;

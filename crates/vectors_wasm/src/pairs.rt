@@ -492,7 +492,16 @@ pub fn seen(alloc: Global, first: &[u8], second: &[u8], script: &str) -> Result<
     let second_bytes = bytes_of(alloc, second)?;
     let first = valid_of(alloc, &first_bytes)?;
     let second = valid_of(alloc, &second_bytes)?;
-    let Ok(linked) = link(alloc, &first, &second) else {
+    seen_of(alloc, &first, &second, script)
+}
+
+fn seen_of<'a>(
+    alloc: Global,
+    first: &'a Valid<'a>,
+    second: &'a Valid<'a>,
+    script: &str,
+) -> Result<Vec<u8>, Fail> {
+    let Ok(linked) = link(alloc, first, second) else {
         return Err("the two are linked".into());
     };
     match runnable(&linked) {
@@ -515,7 +524,15 @@ pub fn refusal(
     let second_bytes = bytes_of(alloc, second)?;
     let first = valid_of(alloc, &first_bytes)?;
     let second = valid_of(alloc, &second_bytes)?;
-    match link(alloc, &first, &second) {
+    refusal_of(alloc, &first, &second)
+}
+
+fn refusal_of<'a>(
+    alloc: Global,
+    first: &'a Valid<'a>,
+    second: &'a Valid<'a>,
+) -> Result<Option<(LinkRow, bool, u64)>, Fail> {
+    match link(alloc, first, second) {
         Ok(_) => Ok(None),
         Err(LinkFault::Refused(why)) => Ok(Some((why.row, why.second, why.value))),
         Err(LinkFault::Memory) => Err("memory is there".into()),

@@ -2,7 +2,7 @@ use Rattle.std.proofs.Common.{true, ap, refl, Err, string_bytes}
 use Rattle.bridge_lang.specs.Command.{link}
 use Rattle.bridge_lang.specs.Job.{held, paired}
 use Rattle.bridge_cmd.proofs.Files.{holds, not_gathered}
-use Rattle.bridge_cmd.proofs.Jobs.{module_answered, answered_quietly, check_answer, join_may, join_quiet, quiet_read_fault, quiet_missing, quiet_too_large, of_held, of_second_file}
+use Rattle.bridge_cmd.proofs.Jobs.{module_answered, answered_quietly, check_answer, join_may, quiet_read_fault, quiet_missing, quiet_too_large, of_held, of_second_file}
 use Rattle.bridge_cmd.proofs.linking.linked.Goals as goal
 
 pub returns-in-Err-clause-refused : goal.returns-in-Err-clause-refused
