@@ -1,11 +1,12 @@
 #!/usr/bin/env python3
-"""python3 tools/wrong_bodies [NAME ..] [--list] [--applies]
+"""python3 tools/wrong_bodies [NAME ..] [--list] [--applies] [--check COMMAND]
 
 Tries wrong bodies of the program, each of which gives another meaning to what was asked for, on a copy of the repository: each must be refused,
 and by the clause that its file names. --list tells them and tries none; --applies says only whether each can still be put into the sources.
 They are tried by one `rt ci` of their crates, as must-fail edits of the copy: what earlier runs on this machine proved of the same files, and the
-wrong bodies that they tried, are taken from what the kit keeps. The status is 1 where one isn't refused, is refused by another clause, or can't
-be tried.
+wrong bodies that they tried, are taken from what the kit keeps. With --check each is tried by itself, by a command that runs in its crate's folder
+of the copy and prints what `rt check` prints; in it {crate} stands for the crate and {function} for the function that is to refuse the body, as in
+'rt check {crate} --only {function}'. The status is 1 where one isn't refused, is refused by another clause, or can't be tried.
 
 NAME.edit in this folder is one wrong body, with lines that begin with
 
@@ -20,6 +21,7 @@ NAME.edit in this folder is one wrong body, with lines that begin with
 import argparse
 import pathlib
 import re
+import shlex
 import shutil
 import subprocess
 import sys
@@ -30,7 +32,7 @@ ROOT = HERE.parents[1]
 OURS = ("what", "crate", "refused", "test", "edit")
 EDITS = ("file", "old", "new")
 FUNCTION = re.compile(r"^\s*(?:pub(?:\(\w+\))? )?(?:const )?(?:unsafe )?fn (\w+)", re.M)
-NOTE = re.compile(r"refused, as it must be: note: (\S+?):(\d+):\d+: it is not proved that what the function ensures holds when it returns \(`(returns[^`]*)")
+NOTE = re.compile(r"note: (\S+?):(\d+):\d+: it is not proved that what the function ensures holds when it returns \(`(returns[^`]*)")
 
 
 class Unusable(Exception):
@@ -73,6 +75,17 @@ class WrongBody:
         if self.test:
             return f"the test {self.test[1]} of {self.test[0]}"
         return " or ".join(f"{it[0]}, {it[1]}" if len(it) == 2 else it[0] for it in self.clauses)
+
+    def function(self):
+        """The function that is to refuse it, with its module."""
+        name = self.clauses[0][0]
+        source = ROOT / "crates" / self.crate / "src"
+        own = [source.parent / text for key, text in self.edit if key == "file"]
+        for path in [*own, *sorted(source.rglob("*.rt"))]:
+            if name in FUNCTION.findall(path.read_text()):
+                modules = path.relative_to(source).with_suffix("").parts
+                return "::".join([*(it for it in modules if it not in ("lib", "mod")), name])
+        raise Unusable(f"{self.name}: there is no function {name} in {self.crate}")
 
     def changed(self):
         """The files that it changes, as they are with it."""
@@ -137,6 +150,24 @@ def try_by_proof(folder, bodies):
         yield body, *(verdict(body, said[1]) if said else (False, f"not tried: {ran.stdout.strip()[-600:]}"))
 
 
+def try_by_check(folder, body, command):
+    """The verdict on a wrong body that clauses are to refuse, by a command that checks their function."""
+    here = folder / "crates" / body.crate
+    kept = {it: (folder / it.relative_to(ROOT)).read_text() for it in body.changed()}
+    words = [it.replace("{crate}", body.crate).replace("{function}", body.function()) for it in shlex.split(command)]
+    for path, text in body.changed().items():
+        (folder / path.relative_to(ROOT)).write_text(text)
+    ran = subprocess.run(words, cwd=here, stdin=subprocess.DEVNULL, stdout=subprocess.PIPE, stderr=subprocess.STDOUT, text=True)
+    for path, text in kept.items():
+        (folder / path.relative_to(ROOT)).write_text(text)
+    if ran.returncode == 0:
+        return False, "it is proved"
+    told = [it for it in ran.stdout.split("\n") if NOTE.search(it)]
+    verdicts = [verdict(body, it) for it in told]
+    refused = [it for it in verdicts if it[0]] or verdicts
+    return refused[0] if refused else (False, f"not tried: {ran.stdout.strip()[-600:]}")
+
+
 def only_modules(source, wanted):
     """Leaves of the tests' modules the wanted one and those that it uses."""
     kept, new = set(), {wanted}
@@ -145,6 +176,10 @@ def only_modules(source, wanted):
         new = {used for it in new for used in re.findall(r"\bcrate::(\w+)", (source / f"{it}.rt").read_text())} - kept
     root = source / "lib.rt"
     root.write_text(re.sub(r"#\[cfg\(test\)\]\nmod (\w+);\n", lambda it: it[0] if it[1] in kept else "", root.read_text()))
+    # (a file that no module names isn't taken)
+    for path in source.glob("*.rt"):
+        if path != root and path.stem not in kept:
+            path.unlink()
 
 
 def run_tests(folder, crate):
@@ -183,12 +218,16 @@ def wrong_bodies(names):
     return [WrongBody(it) for it in paths if not names or it.stem in names]
 
 
-def verdicts(bodies):
+def verdicts(bodies, command):
     """Whether each wrong body is refused as it is to be, and what to print of it."""
     by_proof = [it for it in bodies if it.clauses]
     if by_proof:
         with tempfile.TemporaryDirectory(prefix="wrong-bodies-") as room:
-            yield from try_by_proof(copy_of_sources(pathlib.Path(room)), by_proof)
+            folder = copy_of_sources(pathlib.Path(room))
+            if command:
+                yield from ((it, *try_by_check(folder, it, command)) for it in by_proof)
+            else:
+                yield from try_by_proof(folder, by_proof)
     for body in bodies:
         if body.test:
             yield body, *try_by_test(body)
@@ -199,6 +238,7 @@ def main():
     words.add_argument("names", nargs="*")
     words.add_argument("--list", action="store_true")
     words.add_argument("--applies", action="store_true")
+    words.add_argument("--check", metavar="COMMAND")
     words = words.parse_args()
     try:
         bodies = wrong_bodies(words.names)
@@ -208,6 +248,8 @@ def main():
             return 0
         for body in bodies:
             body.changed()
+            if body.clauses:
+                body.function()
     except Unusable as why:
         print(f"wrong_bodies: {why}")
         return 1
@@ -215,7 +257,7 @@ def main():
         print(f"wrong_bodies: {len(bodies)} can be tried")
         return 0
     failed = 0
-    for body, is_well, said in verdicts(bodies):
+    for body, is_well, said in verdicts(bodies, words.check):
         print(f"{body.name}: {said}", flush=True)
         failed += not is_well
     print(f"wrong_bodies: {len(bodies) - failed} of {len(bodies)} are refused as they are to be")
