@@ -1,12 +1,8 @@
 -- Exports, found by their keys.
-use Rattle.std.proofs.Common.{◌≡◌, ℕ, zero, suc, ◌+◌, ◌<◌, Bool, true, false, not, ◌||◌, List, [], ◌∷◌, ◌++◌, length, map, get_or, Option, Some, None, refl, sym, ap, ◌∙◌, subst, arith}
+use Rattle.std.proofs.Common.{◌≡◌, ℕ, zero, suc, ◌+◌, Bool, true, false, not, ◌||◌, List, [], ◌∷◌, ◌++◌, map, Option, Some, None, refl, sym, ap, ◌∙◌, subst}
 use Rattle.std.proofs.lemmas.Slice.Eq.{bytes_eq-Decides}
-use Rattle.std.specs.Borrow.{Bor}
 use Rattle.std.specs.Prelude.{bytes_eq, slice_get, option_map, if◌then◌else◌}
-use Rattle.session_lang.specs.declared.script.CallLine.{CallLine}
-use Rattle.session_lang.specs.Views.{call_of}
 use Rattle.asm_lang.specs.Modules.{Module, Export, Exports, one, many}
-use Rattle.asm_tree.specs.declared.tree.Function.{Function as CodeFunction}
 use Rattle.asm_lang_valid.specs.declared.rule.Met.{Met}
 use Rattle.asm_lang_valid.specs.declared.rule.Rule.{Rule}
 use Rattle.asm_lang_valid.specs.declared.rule.Rule.TheVariants.{NameTaken, ForbiddenName}
@@ -16,9 +12,9 @@ use Rattle.asm_lang_valid.specs.NameRows.{name_rows, all_new, any_forbidden, own
 use Rattle.asm_lang_valid.specs.TypeRows.{type_rows}
 use Rattle.asm_lang_valid.specs.LimitRows.{limit_rows}
 use Rattle.asm_lang_valid.specs.Refusal.{Exported, exported, exported_from, IsAccepted}
-use Rattle.asm_lang_exec.specs.Session.{export_number, exported_function}
-use Rattle.asm_run_state.specs.Variables.{slot_of}
-use Rattle.asm_run.specs.Exports.{function_seen, keys_in, is_key_at, EachIsFirst, callees_of, callees_said}
+use Rattle.asm_lang_exec.specs.Session.{export_number}
+use Rattle.asm_run_state.specs.Names.{slot_of}
+use Rattle.asm_run.specs.Exports.{keys_in, is_key_at, EachIsFirst}
 
 -- ---- the number of a function, by the place of its key
 
@@ -37,19 +33,6 @@ number_found (e ∷ es) key = by (bytes_eq e.key key) (slot_of (keys_in es) key)
 
 pub number_here : (es : List Exported) (key : List ℕ) (o : Option ℕ) → o ≡ slot_of (keys_in es) key → number_at es o ≡ export_number es key
 number_here es key o h = ap (number_at es) h ∙ sym (number_found es key)
-
--- ---- the function that a call names is among those of all calls
-
-pub callee_at : (m : Module) (calls : List CallLine) (functions : List (Option (Bor CodeFunction))) (i : ℕ) (call : CallLine) (f : Option (Bor CodeFunction)) → callees_said functions ≡ callees_of m (map call_of calls) → i < length calls → call ≡ get_or calls i call → f ≡ get_or functions i f
-    → function_seen f ≡ exported_function m (call_of call).name
-callee_at m [] functions i call f all inside is here = absurd (omega (arith, inside))
-callee_at m (c ∷ cs) [] i call f all inside is here = cc all
-callee_at m (c ∷ cs) (g ∷ gs) zero call f all inside is here =
-    let first : function_seen g ≡ exported_function m (call_of c).name = cc all in
-    ap function_seen here ∙ first ∙ ap (λ (k : CallLine). exported_function m (call_of k).name) (sym is)
-callee_at m (c ∷ cs) (g ∷ gs) (suc i) call f all inside is here =
-    let rest : callees_said gs ≡ callees_of m (map call_of cs) = cc all in
-    callee_at m cs gs i call f rest (omega (arith, inside)) is here
 
 -- ---- each export of an accepted module is the first of its key
 

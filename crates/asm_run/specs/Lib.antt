@@ -1,5 +1,3 @@
 pub mod Exports
 pub mod Globals
 pub mod Linked
-pub mod Hosted
-pub mod Session

@@ -7,9 +7,10 @@ ghost use Rattle.session_lang.specs.Views.{call_of};
 ghost use Rattle.asm_tree.specs.Views.{function_view, module_view};
 ghost use Rattle.session_lang.specs.Fits as parts;
 ghost use Rattle.asm_lang_exec.specs.Fits;
-ghost use Rattle.asm_lang_exec.specs.Session.{exported_function};
-ghost use Rattle.asm_run.specs.Exports.{callees_of, callees_said, function_seen};
+ghost use Rattle.asm_run_code.specs.Sessions.{key_number};
+ghost use Rattle.asm_run_calls.specs.Session.{callees_of};
 
+use crate::exports::numbered;
 use crate::ranges::in_range;
 use asm_tree::Function;
 use asm_validate::Checked;
@@ -28,25 +29,21 @@ fn takes(function: &Function, args: &[i128]) -> bool
     args.len() == function.params.len() && are_in_range(args)
 }
 
-// Whether a call of this function, if its name is that of one, fits.
-fn fits_call(checked: &Checked, callee: Option<&Function>, call: &CallLine) -> bool
-    requires { function_seen callee ≡ exported_function (module_view checked.now) (call_of call.now).name }
+// Whether a call of the function of this number, if its name is that of one, fits.
+fn fits_call(checked: &Checked, callee: Option<u32>, call: &CallLine) -> bool
+    requires { callee ≡ key_number (module_view checked.now) (call_of call.now).name }
     ensures { result ≡ Fits.fits_call (module_view checked.now) (call_of call.now) }
 {
-    match callee {
+    match numbered(checked.module().functions.as_slice(), callee) {
         None => false,
         Some(function) => takes(function, call.args.as_slice()),
     }
 }
 
-/// The first line of a call that doesn't fit, by the functions that the calls name.
+/// The first line of a call that doesn't fit, by the numbers of the functions that the calls name.
 #[tactic(auto, using(session_lang::proofs::FirstLines::earlier_lesser, session_lang::proofs::FirstLines::earlier_none))]
-pub fn first_call(
-    checked: &Checked,
-    callees: &[Option<&Function>],
-    calls: &[CallLine],
-) -> Option<u64>
-    requires { callees_said callees.now ≡ callees_of (module_view checked.now) (map call_of calls.now) }
+pub fn first_call(checked: &Checked, callees: &[Option<u32>], calls: &[CallLine]) -> Option<u64>
+    requires { callees.now ≡ callees_of (module_view checked.now) (map call_of calls.now) }
     ensures { result ≡ parts.least (parts.lines_of (Fits.fits_call (module_view checked.now)) (λ (c : CallPlain). c.line) (map call_of calls.now)) }
 {
     let mut first = None;

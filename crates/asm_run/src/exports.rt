@@ -6,8 +6,9 @@ ghost use Rattle.asm_tree.specs.Views.{function_view, module_view};
 ghost use Rattle.asm_lang_valid.specs.Refusal.{Exported, exported_from};
 ghost use Rattle.asm_lang_exec.specs.Session as session;
 ghost use Rattle.asm_validate_facts.specs.Numbers.{export_said};
-ghost use Rattle.asm_run_state.specs.Variables.{names_in, slot_of};
-ghost use Rattle.asm_run.specs.Exports.{EachIsFirst, callees_of, callees_said, function_seen, is_key_at, keys_in};
+ghost use Rattle.asm_run_state.specs.Names.{slot_of};
+ghost use Rattle.asm_run.specs.Exports.{EachIsFirst, is_key_at, keys_in};
+ghost use Rattle.asm_run_calls.specs.Session.{callees_of, function_seen};
 
 use asm_run_state::Layout;
 use asm_tree::Function;
@@ -125,8 +126,8 @@ fn exports_of(checked: &Checked) -> &[ExportOf]
     checked.exports()
 }
 
-// The function of a number, if there is one.
-fn numbered<'a>(functions: &'a [Function], number: Option<u32>) -> Option<&'a Function>
+/// The function of a number, if there is one.
+pub fn numbered<'a>(functions: &'a [Function], number: Option<u32>) -> Option<&'a Function>
     ensures { function_seen result ≡ option_and_then (λ i. slice_get (map function_view functions.now) i) number }
 {
     match number {
@@ -135,21 +136,20 @@ fn numbered<'a>(functions: &'a [Function], number: Option<u32>) -> Option<&'a Fu
     }
 }
 
-/// The functions that calls of exports of an accepted module name, in the order of the calls. None for a key under which no function
-/// is exported.
-pub fn callees<'a>(
+/// The numbers of the functions that calls of exports of an accepted module name, in the order of the calls. None for a key under which
+/// no function is exported.
+pub fn callees(
     alloc: Global,
-    checked: &'a Checked,
+    checked: &Checked,
     calls: &[CallLine],
-) -> Result<Vec<Option<&'a Function>>, AllocError>
-    ensures { IfOk result (λ functions. callees_said functions.items ≡ callees_of (module_view checked.now) (map call_of calls.now)) }
+) -> Result<Vec<Option<u32>>, AllocError>
+    ensures { IfOk result (λ callees. callees.items ≡ callees_of (module_view checked.now) (map call_of calls.now)) }
 {
     let mut exports = Exports::new(exports_of(checked));
-    let functions = checked.module().functions.as_slice();
     let mut callees = Vec::with_capacity(alloc, calls.len())?;
     for call in calls {
         let number = exports.number(alloc, call.name.as_bytes())?;
-        callees.push(numbered(functions, number))?;
+        callees.push(number)?;
     }
     Ok(callees)
 }

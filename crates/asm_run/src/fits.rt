@@ -6,14 +6,13 @@ ghost use Rattle.asm_tree.specs.Views.{module_view};
 ghost use Rattle.asm_lang_valid.specs.Refusal.{foreign_globals};
 ghost use Rattle.session_lang.specs.Fits.{least, unfit_lines};
 ghost use Rattle.asm_lang_exec.specs.Fits.{tests, misfit};
-ghost use Rattle.asm_run.specs.Exports.{callees_of, callees_said};
+ghost use Rattle.asm_run_calls.specs.Session.{callees_of};
 
 use crate::calls::first_call;
 use crate::exports::callees;
 use crate::globals::{are_given, first_global, imported_globals};
 use crate::writes::{first_reply, first_write};
 use asm_run_state::Layout;
-use asm_tree::Function;
 use asm_validate::Checked;
 use script_lines::Lines;
 use session_lang::{Misfit, Script, earlier};
@@ -26,11 +25,11 @@ fn first_unfit(
     script: &Script,
     imported: &Layout<'_>,
     lines: &Lines<'_>,
-    callees: &[Option<&Function>],
+    callees: &[Option<u32>],
 ) -> Option<u64>
     requires imported { imported.now ≡ foreign_globals (module_view checked.now) }
     requires lines { lines.now ≡ (script_of script.now).globals }
-    requires callees { callees_said callees.now ≡ callees_of (module_view checked.now) (script_of script.now).calls }
+    requires callees { callees.now ≡ callees_of (module_view checked.now) (script_of script.now).calls }
     ensures { result ≡ least (unfit_lines (tests (module_view checked.now) heap_len) (script_of script.now)) }
 {
     let globals = first_global(imported, lines);
@@ -47,11 +46,11 @@ fn fits_by(
     script: &Script,
     imported: &Layout<'_>,
     lines: &Lines<'_>,
-    callees: &[Option<&Function>],
+    callees: &[Option<u32>],
 ) -> Result<(), Misfit>
     requires imported { imported.now ≡ foreign_globals (module_view checked.now) }
     requires lines { lines.now ≡ (script_of script.now).globals }
-    requires callees { callees_said callees.now ≡ callees_of (module_view checked.now) (script_of script.now).calls }
+    requires callees { callees.now ≡ callees_of (module_view checked.now) (script_of script.now).calls }
     ensures { MatchResult result (λ _. misfit (module_view checked.now) heap_len (script_of script.now) ≡ None) (λ refused. misfit (module_view checked.now) heap_len (script_of script.now) ≡ Some refused.line) }
 {
     match first_unfit(checked, heap_len, script, imported, lines, callees) {
@@ -71,16 +70,16 @@ fn fits_by(
 /// and has an argument for each parameter, values of globals and arguments lie in [-2^31, 2^32), and
 /// each imported global is given.
 ///
-/// Where it fits, it comes with the functions that its calls name, in order. The refusal has the first line that doesn't fit, or 0
+/// Where it fits, it comes with the numbers of the functions that its calls name, in order. The refusal has the first line that doesn't fit, or 0
 /// where only a global is missing. An error of memory says nothing of the script.
-pub fn fits_asm<'a>(
+pub fn fits_asm(
     alloc: Global,
-    checked: &'a Checked,
+    checked: &Checked,
     heap_len: u32,
     script: &Script,
-) -> Result<Result<Vec<Option<&'a Function>>, Misfit>, AllocError>
+) -> Result<Result<Vec<Option<u32>>, Misfit>, AllocError>
     ensures fits { IfOk result (λ answer. MatchResult answer (λ _. misfit (module_view checked.now) heap_len (script_of script.now) ≡ None) (λ refused. misfit (module_view checked.now) heap_len (script_of script.now) ≡ Some refused.line)) }
-    ensures callees { IfOk result (λ answer. IfOk answer (λ callees. callees_said callees.items ≡ callees_of (module_view checked.now) (script_of script.now).calls)) }
+    ensures callees { IfOk result (λ answer. IfOk answer (λ callees. callees.items ≡ callees_of (module_view checked.now) (script_of script.now).calls)) }
 {
     let lines = Lines::new(alloc, script.globals.as_slice())?;
     let imported = imported_globals(alloc, checked)?;

@@ -6,7 +6,7 @@ ghost use Rattle.asm_tree.specs.Views.{module_view, texts_view};
 ghost use Rattle.asm_lang_valid.specs.Refusal.{foreign_globals};
 ghost use Rattle.asm_lang_valid.specs.Scope.{is_in};
 ghost use Rattle.session_lang.specs.Fits as parts;
-ghost use Rattle.asm_run_state.specs.Variables.{names_in};
+ghost use Rattle.asm_run_state.specs.Names.{names_in};
 ghost use Rattle.asm_run.specs.Globals.{fits_line};
 
 use crate::ranges::in_range;

@@ -5,14 +5,10 @@ mod calls;
 mod exports;
 mod fits;
 mod globals;
+mod linking;
 mod ranges;
 mod session;
 mod writes;
 
 pub use fits::fits_asm;
 pub use session::Session;
-
-mod host_calls;
-mod running;
-
-pub use running::run;

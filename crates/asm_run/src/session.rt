@@ -8,12 +8,12 @@ ghost use Rattle.session_replies.specs.Views.{seen_of};
 ghost use Rattle.asm_tree.specs.Views.{module_view};
 ghost use Rattle.asm_lang_exec.specs.Session.{asm, checked_asm};
 ghost use Rattle.asm_lang_exec.specs.Fits.{misfit};
-ghost use Rattle.asm_run.specs.Exports.{callees_of, callees_said};
+ghost use Rattle.asm_run_calls.specs.Session.{callees_of};
 
-use crate::run;
-use asm_names::Environment;
-use asm_run_state::World;
-use asm_tree::Function;
+use crate::linking::{functions_of, members_of, run_linked};
+use asm_run_emit_bodies::{Codes, codes_of};
+use asm_run_state::first_world;
+use asm_run_words::World;
 use asm_validate::Checked;
 use session_lang::Script;
 use session_replies::Seen;
@@ -26,8 +26,10 @@ pub struct Session<'a> {
     checked: &'a Checked,
     heap_len: u32,
     script: &'a Script,
-    environment: Environment<'a>,
-    callees: Vec<Option<&'a Function>>,
+    flat: Codes,
+    // the names of the foreign members by their declarations
+    members: Vec<&'a [u8]>,
+    callees: Vec<Option<u32>>,
     world: World<'a>,
 }
 
@@ -36,9 +38,6 @@ impl<'a> Model for Session<'a> {
     ghost use Rattle.session_lang.specs.Views.{script_of};
     ghost use Rattle.asm_tree.specs.contracts.tree.Expr as exprs;
     ghost use Rattle.asm_tree.specs.contracts.tree.Stmt as stmts;
-    ghost use Rattle.asm_tree.specs.Views.{module_view};
-    ghost use Rattle.std.specs.Prelude.{◌≡◌};
-    ghost use Rattle.asm_run.specs.Exports.{callees_of, callees_said};
     ghost use Rattle.asm_run.specs.Linked.{SessionPlain, IsLinked};
 
     ghost Value = { SessionPlain };
@@ -47,36 +46,37 @@ impl<'a> Model for Session<'a> {
 
     ghost view = { λ s. record { code = s.checked.now; size = s.heap_len; script = script_of s.script.now } };
 
-    ghost invariant = { λ s. IsLinked s.checked.now s.heap_len (script_of s.script.now) s.environment s.world × (callees_said s.callees.items ≡ callees_of (module_view s.checked.now) (script_of s.script.now).calls) };
+    ghost invariant = { λ s. IsLinked s.checked.now s.heap_len (script_of s.script.now) s.flat s.members.items s.callees.items s.world };
 }
 
 impl<'a> Session<'a> {
     /// Links a module with a heap of this length and a script, of which `fits_asm` said that it fits and which functions its calls
-    /// name. It takes the memory of the heap and of the module's variables, and while it links that of a map of the script's lines
-    /// of globals.
+    /// name. It takes the memory of the heap, of the module's variables and of the module's flat code, and while it links that of a map
+    /// of the script's lines of globals and of maps of the module's names.
     pub fn link(
         alloc: Global,
         checked: &'a Checked,
         heap_len: u32,
         script: &'a Script,
-        callees: Vec<Option<&'a Function>>,
+        callees: Vec<Option<u32>>,
     ) -> Result<Session<'a>, AllocError>
         requires fits { misfit (module_view checked.now) heap_len (script_of script.now) ≡ None }
         requires length { IsHeapLength heap_len }
-        requires callees { callees_said callees.items ≡ callees_of (module_view checked.now) (script_of script.now).calls }
+        requires callees { callees.items ≡ callees_of (module_view checked.now) (script_of script.now).calls }
         ensures code { IfOk result (λ s. s.code ≡ checked.now) }
         ensures size { IfOk result (λ s. s.size ≡ heap_len) }
         ensures script { IfOk result (λ s. s.script ≡ script_of script.now) }
     {
-        asm_run_state::laws::literals_are_small();
         let module = checked.module();
-        let environment = Environment::new(alloc, module)?;
-        let world = World::first(alloc, module, heap_len, script, 0)?;
+        let flat = codes_of(alloc, module)?;
+        let members = members_of(alloc, module.globals.as_slice())?;
+        let world = first_world(alloc, module, heap_len, script, 0)?;
         Ok(Session {
             checked,
             heap_len,
             script,
-            environment,
+            flat,
+            members,
             callees,
             world,
         })
@@ -89,16 +89,22 @@ impl<'a> Session<'a> {
         ensures never_wrong { (seen : ObservationPlain) × (asm (module_view self.entry.code) self.entry.size self.entry.script budget ≡ Some seen) }
         ensures types_hold { checked_asm (module_view self.entry.code) self.entry.size self.entry.script budget ≡ asm (module_view self.entry.code) self.entry.size self.entry.script budget }
     {
-        asm_laws_machine::accepted::accepted_laws();
+        asm_run_laws::flat_sessions();
         asm_laws_sound::laws::accepted_modules();
-        let environment = self.environment;
-        let callees = self.callees;
+        let module = self.checked.module();
         let script = self.script;
+        let callees = self.callees;
+        let members = self.members;
+        let flat = self.flat;
         let mut world = self.world;
-        world.set_units(budget);
-        let seen = run(
+        world.units = budget;
+        let functions = functions_of(alloc, flat.functions.as_slice())?;
+        let seen = run_linked(
             alloc,
-            &environment,
+            module,
+            functions.as_slice(),
+            flat.tables.as_slice(),
+            members.as_slice(),
             callees.as_slice(),
             world,
             script.calls.as_slice(),

@@ -1,10 +1,4 @@
-pub mod Begun
-pub mod Declared
-pub mod Each
 pub mod GivenValues
-pub mod Bounds
 pub mod Lasts
-pub mod Puts
-pub mod Small
-pub mod Written
 pub mod Slots
+pub mod Words

@@ -1,12 +1,10 @@
--- Where variables are found, and what a write leaves of them.
-use Rattle.std.proofs.Common.{◌≡◌, ℕ, zero, suc, ◌+◌, ◌<◌, ◌≤◌, Bool, true, false, List, [], ◌∷◌, length, drop, get_or, set, Option, Some, None, refl, sym, ap, ◌∙◌, arith, zero-add}
+-- Where names are found.
+use Rattle.std.proofs.Common.{◌≡◌, ℕ, zero, suc, ◌+◌, ◌<◌, ◌≤◌, Bool, true, false, List, [], ◌∷◌, length, drop, get_or, Option, Some, None, refl, sym, ap, ◌∙◌, arith, zero-add}
 use Rattle.std.proofs.lemmas.List.{at_drop_more, at_drop_all}
-use Rattle.std.specs.Prelude.{if◌then◌else◌, option_map, slice_get}
+use Rattle.std.specs.Prelude.{if◌then◌else◌, option_map}
 use Rattle.std.specs.Borrow.{Bor}
 use Rattle.std.specs.Str.{bytes_eq}
-use Rattle.sem_words.specs.declared.js_value.JsValue.{JsValue}
-use Rattle.asm_lang_exec.specs.Runs.{value_in, with_value, Binding, binding}
-use Rattle.asm_run_state.specs.Variables.{names_in, slot_of, bindings}
+use Rattle.asm_run_state.specs.Names.{names_in, slot_of}
 
 -- ---- the map
 
@@ -58,53 +56,3 @@ none_left ns i n x past e = sym (e ∙ at_drop_all (λ cs. option_map (λ k. i +
 
 pub first_slots : (ns : List (Bor (List ℕ))) (n : List ℕ) → slot_of (names_in ns) n ≡ option_map (λ k. 0 + k) (slot_of (names_in ns) n)
 first_slots ns n = sym (unshifted (slot_of (names_in ns) n))
-
--- ---- values and writes
-
-abbrev slot_value : Option ℕ → List JsValue → Option JsValue
-slot_value None vs = None
-slot_value (Some i) vs = slice_get vs i
-
-value_step : (b : Bool) (o : Option ℕ) (v : JsValue) (vs : List JsValue) (x : Option JsValue) → x ≡ slot_value o vs → (if b then Some v else x) ≡ slot_value (if b then Some 0 else option_map (λ i. suc i) o) (v ∷ vs)
-value_step true o v vs x e = refl
-value_step false None v vs x e = e
-value_step false (Some i) v vs x e = e
-
-none_past : (o : Option ℕ) → None ≡ slot_value o []
-none_past None = refl
-none_past (Some i) = refl
-
-value_law : (ns : List (List ℕ)) (vs : List JsValue) (n : List ℕ) → value_in (bindings ns vs) n ≡ slot_value (slot_of ns n) vs
-value_law [] vs n = refl
-value_law (x ∷ ns) [] n = none_past (slot_of (x ∷ ns) n)
-value_law (x ∷ ns) (v ∷ vs) n = value_step (bytes_eq x n) (slot_of ns n) v vs (value_in (bindings ns vs) n) (value_law ns vs n)
-
-pub value_at : (ns : List (List ℕ)) (vs : List JsValue) (n : List ℕ) (i : ℕ) → slot_of ns n ≡ Some i → value_in (bindings ns vs) n ≡ slice_get vs i
-value_at ns vs n i e = value_law ns vs n ∙ ap (λ o. slot_value o vs) e
-
-pub no_value : (ns : List (List ℕ)) (vs : List JsValue) (n : List ℕ) → slot_of ns n ≡ None → value_in (bindings ns vs) n ≡ None
-no_value ns vs n e = value_law ns vs n ∙ ap (λ o. slot_value o vs) e
-
-abbrev slot_written : Option ℕ → JsValue → List JsValue → List JsValue
-slot_written None v vs = vs
-slot_written (Some i) v vs = set vs i v
-
-write_step : (x : List ℕ) (ns : List (List ℕ)) (b : Bool) (o : Option ℕ) (v w : JsValue) (vs : List JsValue) (bs : List Binding) → bs ≡ bindings ns (slot_written o v vs) → (if b then binding x v ∷ bindings ns vs else binding x w ∷ bs) ≡ bindings (x ∷ ns) (slot_written (if b then Some 0 else option_map (λ i. suc i) o) v (w ∷ vs))
-write_step x ns true o v w vs bs e = refl
-write_step x ns false None v w vs bs e = ap (λ (bs : List Binding). binding x w ∷ bs) e
-write_step x ns false (Some i) v w vs bs e = ap (λ (bs : List Binding). binding x w ∷ bs) e
-
-nothing_written : (x : List ℕ) (ns : List (List ℕ)) (o : Option ℕ) (v : JsValue) → [] ≡ bindings (x ∷ ns) (slot_written o v [])
-nothing_written x ns None v = refl
-nothing_written x ns (Some i) v = refl
-
-write_law : (ns : List (List ℕ)) (vs : List JsValue) (n : List ℕ) (v : JsValue) → with_value n v (bindings ns vs) ≡ bindings ns (slot_written (slot_of ns n) v vs)
-write_law [] vs n v = refl
-write_law (x ∷ ns) [] n v = nothing_written x ns (slot_of (x ∷ ns) n) v
-write_law (x ∷ ns) (w ∷ vs) n v = write_step x ns (bytes_eq x n) (slot_of ns n) v w vs (with_value n v (bindings ns vs)) (write_law ns vs n v)
-
-pub with_value_at : (ns : List (List ℕ)) (vs : List JsValue) (n : List ℕ) (v : JsValue) (i : ℕ) → slot_of ns n ≡ Some i → with_value n v (bindings ns vs) ≡ bindings ns (set vs i v)
-with_value_at ns vs n v i e = write_law ns vs n v ∙ ap (λ o. bindings ns (slot_written o v vs)) e
-
-pub with_no_value : (ns : List (List ℕ)) (vs : List JsValue) (n : List ℕ) (v : JsValue) → slot_of ns n ≡ None → with_value n v (bindings ns vs) ≡ bindings ns vs
-with_no_value ns vs n v e = write_law ns vs n v ∙ ap (λ o. bindings ns (slot_written o v vs)) e

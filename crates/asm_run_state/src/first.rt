@@ -1,5 +1,5 @@
 //! Where a session begins.
-ghost use Rattle.std.specs.Prelude.{◌≡◌, [], IfOk};
+ghost use Rattle.std.specs.Prelude.{◌≡◌, IfOk};
 ghost use Rattle.std.specs.Str.{bytes_eq};
 ghost use Rattle.heap_lang.specs.Heap.{IsHeapLength};
 ghost use Rattle.session_lang.specs.Views.{script_of};
@@ -7,51 +7,45 @@ ghost use Rattle.asm_lang.specs.Modules as plain;
 ghost use Rattle.asm_tree.specs.Views.{init_view, module_view};
 ghost use Rattle.asm_lang_valid.specs.Refusal as refusal;
 ghost use Rattle.asm_lang_valid.specs.Scope.{init_meaning, constructors, constructor_in, viewed};
-ghost use Rattle.asm_lang_exec.specs.Session.{first_heap, first_place};
-ghost use Rattle.asm_run_state.specs.Literals.{HasSmallLiterals};
-ghost use Rattle.asm_run_state.specs.Worlds.{place_of};
+ghost use Rattle.asm_lang_exec.specs.Session.{first_heap};
+ghost use Rattle.asm_run_words.specs.Worlds.{world_of};
+ghost use Rattle.asm_run_state.specs.Globals.{first_world};
 
 use crate::globals::first_globals;
-use crate::world::World;
-use crate::{Layout, Values};
+use asm_run_words::World;
 use asm_tree::{Init, Module};
 use heap_views::Heap;
 use sem_words::List;
-use session_lang::Script;
+use session_lang::{End, Script};
 use session_replies::{Replies, put_writes};
 use std::alloc::{AllocError, Global};
 
-impl<'a> World<'a> {
-    /// The world of a module with a heap of this length, the script and the budget, before the first
-    /// call. It takes the memory of the heap and of the module's variables, and while it is made that of a
-    /// map of the script's lines of globals.
-    pub fn first(
-        alloc: Global,
-        module: &'a Module,
-        heap_length: u32,
-        script: &'a Script,
-        units: u64,
-    ) -> Result<World<'a>, AllocError>
-        requires length { IsHeapLength heap_length }
-        requires literals { HasSmallLiterals (module_view «module».now) }
-        ensures { IfOk result (λ w. place_of w [] ≡ first_place (module_view «module».now) heap_length (script_of script.now) units) }
-    {
-        let globals = first_globals(alloc, script, module.globals.as_slice())?;
-        let heap = first_heap(alloc, module, heap_length, script)?;
-        let names = Layout::new(alloc, globals.names)?;
-        Ok(World {
-            names,
-            globals: Values::new(globals.values),
-            heap,
-            replies: Replies::of(script),
-            events: List::new(alloc),
-            units,
-        })
-    }
+/// The world of a module with a heap of this length, the script and the budget, before the first call. It takes the memory of the
+/// heap and of the module's variables, and while it is made that of a map of the script's lines of globals.
+pub fn first_world<'a>(
+    alloc: Global,
+    module: &Module,
+    heap_length: u32,
+    script: &'a Script,
+    units: u64,
+) -> Result<World<'a>, AllocError>
+    requires { IsHeapLength heap_length }
+    ensures { IfOk result (λ w. world_of w ≡ first_world (module_view «module».now) heap_length (script_of script.now) units) }
+{
+    let globals = first_globals(alloc, script, module.globals.as_slice())?;
+    let heap = first_heap(alloc, module, heap_length, script)?;
+    Ok(World {
+        globals,
+        heap,
+        replies: Replies::of(script),
+        events: List::new(alloc),
+        units,
+        ending: End::Done,
+    })
 }
 
 // The heap with the script's bytes; a module without a view of integers has none.
-#[tactic(auto, using(crate::proofs::Puts::puts_are_writes))]
+#[tactic(auto, using(asm_run_words::proofs::Writes::puts_are_writes))]
 fn first_heap(
     alloc: Global,
     module: &Module,

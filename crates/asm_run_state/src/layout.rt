@@ -1,22 +1,17 @@
-//! The names of variables.
-ghost use Rattle.std.specs.Prelude.{◌≡◌, ◌<◌, ℕ, List, Some, IfOk, IfSome, is_some, length, if◌then◌else◌};
-ghost use Rattle.std.specs.Bool.{OnFalse};
+//! Names by their places.
+ghost use Rattle.std.specs.Prelude.{◌≡◌, ◌<◌, ℕ, List, Some, IfOk, length, if◌then◌else◌};
 ghost use Rattle.std.specs.Str.{bytes_eq};
-ghost use Rattle.sem_words.specs.JsValues.{IsValue};
-ghost use Rattle.asm_lang_exec.specs.Runs.{value_in, with_value};
-ghost use Rattle.asm_run_state.specs.Variables.{names_in, slot_of, found, bindings};
+ghost use Rattle.asm_run_state.specs.Names.{names_in, slot_of, found};
 
-use crate::values::Values;
 use indexmap::IndexMap;
 use key_hashes::{KeyHashes, hashes_of};
-use sem_words::JsValue;
 use std::alloc::{AllocError, Global};
 use std::marker::Model;
 
 // Up to so many names are compared one by one, which is faster than a map, and takes no memory.
 const FEW: usize = 8;
 
-/// The names of variables in order. Of equal names the first counts.
+/// Names in order. Of equal names the first counts.
 #[derive(Drop)]
 pub struct Layout<'a> {
     names: Vec<&'a [u8]>,
@@ -26,7 +21,7 @@ pub struct Layout<'a> {
 
 impl<'a> Model for Layout<'a> {
     ghost use Rattle.std.specs.Prelude.{◌≡◌, ◌<◌, List, ℕ, length};
-    ghost use Rattle.asm_run_state.specs.Variables.{names_in, slot_of, found};
+    ghost use Rattle.asm_run_state.specs.Names.{names_in, slot_of, found};
 
     ghost Value = { List (List ℕ) };
 
@@ -36,7 +31,7 @@ impl<'a> Model for Layout<'a> {
 }
 
 impl<'a> Layout<'a> {
-    /// Variables of these names, in slots in order.
+    /// These names, in slots in order.
     pub fn new(alloc: Global, names: Vec<&'a [u8]>) -> Result<Layout<'a>, AllocError>
         ensures { IfOk result (λ layout. layout ≡ names_in names.entry.items) }
     {
@@ -54,32 +49,6 @@ impl<'a> Layout<'a> {
         match self.slots.get(name) {
             Some(slot) => Some(*slot),
             None => None,
-        }
-    }
-
-    /// The value of a variable, if there is one of this name.
-    #[tactic(auto, using(crate::proofs::Slots::value_at, crate::proofs::Slots::no_value))]
-    pub fn get(&self, values: &Values, name: &[u8]) -> Option<JsValue>
-        ensures value { result ≡ value_in (bindings self.now values.now) name.now }
-        ensures keeps { IfSome result IsValue }
-    {
-        match self.slot(name) {
-            Some(slot) => values.get(slot),
-            None => None,
-        }
-    }
-
-    /// Gives a variable a value. False, and nothing is changed, where there is none of this name.
-    #[tactic(auto, using(crate::proofs::Slots::value_at, crate::proofs::Slots::no_value, crate::proofs::Slots::with_value_at, crate::proofs::Slots::with_no_value))]
-    pub fn set(&self, values: &mut Values, name: &[u8], value: JsValue) -> bool
-        requires { IsValue value }
-        ensures values { bindings self.now values.new ≡ with_value name.now value (bindings self.now values.old) }
-        ensures found { result ≡ is_some (value_in (bindings self.now values.old) name.now) }
-        ensures unchanged { OnFalse result (values.new ≡ values.old) }
-    {
-        match self.slot(name) {
-            Some(slot) => values.set(slot, value),
-            None => false,
         }
     }
 }

@@ -1,33 +1,16 @@
-//! What the host sees of a call of the script that comes back.
+//! Whether a function has a result.
 ghost use Rattle.std.specs.Prelude.{◌≡◌};
-ghost use Rattle.sem_words.specs.JsValues.{IsValue};
-ghost use Rattle.session_lang.specs.Views.{event_of};
 ghost use Rattle.asm_tree.specs.Views.{function_view, stmt_view, stmts_view};
 ghost use Rattle.asm_lang_valid.specs.Scope as scopes;
 ghost use Rattle.asm_lang_valid.specs.Scope.{signature_of};
-ghost use Rattle.asm_lang_exec.specs.Session as session;
 
 use asm_tree::{Function, Stmt};
-use sem_words::{JsValue, Word, to_uint32};
-use session_lang::Event;
 
 /// Whether a function has a result: its last statement is a return with an expression.
 pub fn has_result(function: &Function) -> bool
     ensures { result ≡ (signature_of (function_view function.now)).result }
 {
     last_gives_value(function.body.as_slice())
-}
-
-/// The event of a call of the function that comes back with a value.
-pub fn result_event(function: &Function, value: JsValue) -> Event
-    requires { IsValue value }
-    ensures { event_of result ≡ session.result_event (function_view function.now) value }
-{
-    if has_result(function) {
-        Event::Result(Word::W32(to_uint32(value)))
-    } else {
-        Event::Returned
-    }
 }
 
 #[tactic(auto, using(crate::proofs::Lasts::lasts))]

@@ -1,7 +1,8 @@
 //! Exports by their keys, and the functions that calls name. The function does nothing, and its contract is what the check computes.
-ghost use Rattle.std.specs.Prelude.{◌≡◌, ◌∷◌, [], Some, None, true, false, codes, slice_get};
-ghost use Rattle.asm_run_state.specs.Variables.{slot_of};
-ghost use Rattle.asm_run.specs.Exports.{callees_of, is_key_at, keys_in};
+ghost use Rattle.std.specs.Prelude.{◌≡◌, ◌∷◌, [], Some, None, true, false, codes};
+ghost use Rattle.asm_run_state.specs.Names.{slot_of};
+ghost use Rattle.asm_run.specs.Exports.{is_key_at, keys_in};
+ghost use Rattle.asm_run_calls.specs.Session.{callees_of};
 ghost use Rattle.asm_worked.specs.Callees.{asked, keyed};
 ghost use Rattle.asm_worked.specs.Rows as rows;
 
@@ -14,5 +15,5 @@ pub fn callees()
     ensures there { is_key_at keyed 2 (codes "a") ≡ true }
     ensures not_there { is_key_at keyed 1 (codes "a") ≡ false }
     ensures past { is_key_at keyed 3 (codes "a") ≡ false }
-    ensures callees { callees_of rows.sum asked ≡ slice_get rows.sum.functions 0 ∷ None ∷ slice_get rows.sum.functions 0 ∷ [] }
+    ensures callees { callees_of rows.sum asked ≡ Some 0 ∷ None ∷ Some 0 ∷ [] }
 {}

@@ -4,12 +4,11 @@ ghost use Rattle.heap_lang.specs.Heap.{IsHeapLength};
 ghost use Rattle.session_lang.specs.Views.{script_of};
 ghost use Rattle.asm_tree.specs.Views.{module_view};
 ghost use Rattle.asm_lang_exec.specs.Fits.{misfit};
-ghost use Rattle.asm_run.specs.Exports.{callees_of, callees_said};
+ghost use Rattle.asm_run_calls.specs.Session.{callees_of};
 ghost use Rattle.bridge_lang.specs.AsmRuns.{Prints, Shows};
 ghost use Rattle.cmd_run_asm.specs.Runs.{IsScriptRefusal};
 
 use asm_run::{Session, fits_asm};
-use asm_tree::Function;
 use asm_validate::Checked;
 use script_read::{ScriptFault, read_script};
 use session_lang::Script;
@@ -41,12 +40,12 @@ fn observation<'a>(
     checked: &'a Checked,
     heap_len: u32,
     script: &'a Script,
-    callees: Vec<Option<&'a Function>>,
+    callees: Vec<Option<u32>>,
     budget: u32,
 ) -> Result<Vec<u8>, AllocError>
     requires fits { misfit (module_view checked.now) heap_len (script_of script.now) ≡ None }
     requires length { IsHeapLength heap_len }
-    requires callees { callees_said callees.items ≡ callees_of (module_view checked.now) (script_of script.now).calls }
+    requires callees { callees.items ≡ callees_of (module_view checked.now) (script_of script.now).calls }
     ensures { IfOk result (λ output. Shows (module_view checked.now) heap_len (script_of script.now) budget output.items) }
 {
     let session = Session::link(alloc, checked, heap_len, script, callees)?;

@@ -1,6 +1,6 @@
 use Rattle.std.proofs.Common.{◌≡◌, ◌++◌, drop, map}
 use Rattle.asm_validate_facts.specs.Numbers.{export_said}
-use Rattle.asm_run_state.specs.Variables.{names_in}
+use Rattle.asm_run_state.specs.Names.{names_in}
 use Rattle.asm_run.specs.Exports.{keys_in}
 use Rattle.asm_run.proofs.exports.layout_of.Given as goal
 

@@ -1,6 +1,6 @@
 use Rattle.std.proofs.Common.{◌≡◌, ◌+◌, drop}
 use Rattle.std.specs.Prelude.{option_map}
-use Rattle.asm_run_state.specs.Variables.{names_in, slot_of}
+use Rattle.asm_run_state.specs.Names.{names_in, slot_of}
 use Rattle.asm_run_state.proofs.layout.slot_among.Given as goal
 
 abbrev pub invariant-loop-i : goal.invariant-loop-i

@@ -1,6 +1,6 @@
 use Rattle.std.proofs.Common.{◌≡◌, ◌≤◌, ◌+◌, ℕ, List, length, drop}
 use Rattle.std.specs.Prelude.{option_map}
-use Rattle.asm_run_state.specs.Variables.{names_in, slot_of, found}
+use Rattle.asm_run_state.specs.Names.{names_in, slot_of, found}
 use Rattle.asm_run_state.proofs.layout.slots_of.Given as goal
 
 abbrev pub invariant-loop-i : goal.invariant-loop-i

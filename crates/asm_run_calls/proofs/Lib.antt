@@ -1,0 +1,3 @@
+pub mod Hosting
+pub mod Numbers
+pub mod Whole

@@ -1,4 +1,0 @@
-pub mod AtOnce
-pub mod Hiding
-pub mod Led
-pub mod Trees

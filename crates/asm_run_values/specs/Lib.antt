@@ -1,4 +1,0 @@
-pub mod Beyond
-pub mod Targets
-pub mod Values
-pub mod Seen
