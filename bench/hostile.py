@@ -57,6 +57,13 @@ def called_keys(n):
     return module, b"".join(b"call e%d 1\n" % i for i in range(n))
 
 
+def turns_on_a_long_name(n):
+    """As many turns of a loop as its variable's name has bytes: no turn reads the name."""
+    name = "n" * n
+    body = f"while((x|0)<{n}){{x=x+1|0;{name}={name}+x|0;}}x={name}|0;"
+    return hostile_asm.text(f"var {name}=0;{body}"), b"call f 0\n"
+
+
 def colliding_exports(n):
     names = [it.encode() for it in colliding.names(n)]
     return hostile_wasm.exports(n, lambda i: names[i]), b"".join(b"call %s\n" % it for it in reversed(names))
@@ -96,6 +103,7 @@ ASM_SCRIPTS = {
     "a reply of many writes": (250_000, script(lambda n: b"reply 1" + b" 1=00" * n, LITTLE_TEXT)),
     "foreign globals with a line each": (9_000, foreign_globals),
     "a call of each of many exports": (60_000, called_keys),
+    "as many turns of a loop as its variable's name has bytes": (10_000, turns_on_a_long_name),
     **if_found("calls of keys that collide", (20_000, colliding_keys)),
 }
 WASM_SCRIPTS = {
