@@ -71,7 +71,7 @@ GIVEN = """./.git ./HANDLES ./crates ./crates.txt ./crates/bridge ./crates/bridg
 ./crates/words/proofs ./crates/words/proofs/Laws.antt ./crates/words/proofs/More.antt ./crates/words/src ./crates/words/src/lib.rt ./log""".split()
 CHECKS = [
     "python3 first_call_tests.py", "python3 examples.py", "python3 believed.py", "python3 map.py", "python3 trails.py", "python3 adapters.py", "python3 refused_memory.py",
-    "python3 compare", "python3 wat_tests.py", "node validity.mjs", "node host_tests.mjs", "node page.mjs",
+    "python3 compare", "python3 wat_tests.py", "python3 wat_texts.py", "node validity.mjs", "node host_tests.mjs", "node page.mjs",
 ]
 
 
