@@ -28,6 +28,8 @@ from wasm_bytes import FUNCTION, GLOBAL, I64
 from wasm_modules import WasmModule
 
 STEPS = "10000000"
+# Budgets of units that cut most sessions short, at which a short form shows what its text shows.
+BUDGETS = "0 1 3 10 40 200".split()
 LONGEST = 60  # seconds of a call of the program
 SOURCE = "the random module"
 ENGINE = pathlib.Path(__file__).with_name("engine.mjs")
@@ -128,6 +130,9 @@ class Comparison:
             raise Difference(f"shorten: the short form of {what} isn't its own")
         self.same(f"the engine on the short form of {what}", wanted, self.shown(f"the short form of {what}", **job | {"text": made.decode()}))
         self.same(f"run-asm of the short form of {what}", wanted, self.asked("run-asm", short, script, *heap, "--steps", STEPS).decode())
+        for units in BUDGETS:
+            cut, cut_short = (self.asked("run-asm", it, script, *heap, "--steps", units).decode() for it in (text, short))
+            self.same(f"run-asm of the short form of {what} in {units} units", cut, cut_short)
 
     def back_from_asm(self, case, made, wanted):
         case.script.globals = {import_name("env", name): value for name, value in case.script.globals.items()}
