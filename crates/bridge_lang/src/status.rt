@@ -63,7 +63,10 @@ pub enum Status {
     /// Memory ran out.
     Memory,
     /// The text says no module of WebAssembly: why, and the offset in bytes.
-    WatRefused { row: WatRow, at: u64 },
+    WatRefused {
+        row: WatRow,
+        at: u64,
+    },
     /// The two modules aren't linked: why, whether it is for the second's sake, and the number of a row, a minimum, an export, an
     /// import, a sum or a function.
     LinkRefused {
