@@ -3,9 +3,9 @@
 
     bench/gate.py [NAME ..]        runs `rt ci NAME ..` at the top of this checkout
 
-Every second the processes of the prover are read from /proc; those with a `--crate-name` count for that crate, by what they do
-(check: proofs, tests and edits; build: programs and libraries). What ends within a second of its start isn't seen, so the sums are a
-little low. Where other runs of the prover work on the machine, theirs count too: leave the machine alone.
+Every second the processes of the prover are read from /proc; those of this run that have a `--crate-name` count for that crate, by what they do:
+proof (with the building of its library or program), tests, edits. What ends within a second of its start isn't seen, so the sums are a
+little low. Other runs of the prover on the machine don't count, but what runs beside makes each process take longer: leave the machine alone.
 """
 import collections
 import os
@@ -18,15 +18,19 @@ TOP = pathlib.Path(__file__).resolve().parent.parent
 TICK = os.sysconf("SC_CLK_TCK")
 
 
-def crate_of(words):
-    """Returns the crate and the work of a prover's command line, or nothing of another one."""
+def work_of(words, folder, gate):
+    """Returns the crate and the work of a prover's command line in a folder, or nothing where it isn't one of this run."""
     if "--crate-name" not in words or not words[0].endswith("rattle"):
         return None
-    return words[words.index("--crate-name") + 1], words[1]
+    # (edits, and crates that are named, are in folders that are named after the gate's process)
+    if f"-{gate}-" not in folder and not pathlib.Path(folder).is_relative_to(TOP):
+        return None
+    work = "edits" if "rt-edit-" in folder else "tests" if "--test" in words else "proof"
+    return words[words.index("--crate-name") + 1], work
 
 
-def seen():
-    """Returns, for each process of the prover, its crate, its work and the seconds of processor time that it has taken."""
+def seen(gate):
+    """Returns, for each process of the prover in this run, its crate, its work and the seconds of processor time that it has taken."""
     found = {}
     for entry in os.scandir("/proc"):
         if not entry.name.isdigit():
@@ -34,12 +38,13 @@ def seen():
         try:
             words = pathlib.Path(entry.path, "cmdline").read_bytes().decode("utf-8", "replace").split("\0")
             stat = pathlib.Path(entry.path, "stat").read_text()
+            folder = os.readlink(f"{entry.path}/cwd")
         except OSError:
             continue
-        crate = crate_of(words)
-        if crate:
+        work = work_of(words, folder, gate)
+        if work:
             fields = stat[stat.rindex(")") + 2:].split()
-            found[int(entry.name), fields[19]] = (*crate, (int(fields[11]) + int(fields[12])) / TICK)
+            found[int(entry.name), fields[19]] = (*work, (int(fields[11]) + int(fields[12])) / TICK)
     return found
 
 
@@ -48,7 +53,7 @@ def main():
     gate = subprocess.Popen(["rt", "ci", *sys.argv[1:]], cwd=TOP)
     taken = {}
     while gate.poll() is None:
-        taken.update(seen())
+        taken.update(seen(gate.pid))
         time.sleep(1)
     sums = collections.defaultdict(lambda: collections.defaultdict(float))
     for crate, work, seconds in taken.values():

@@ -29,7 +29,7 @@ SECONDS = 300
 STACK = int(os.environ.get("STACK", "8"))
 MEMORY = 12 << 30
 
-ASM = ["check-asm", "show", "asm2wasm", "run-asm"]
+ASM = ["check-asm", "show", "shorten", "asm2wasm", "run-asm"]
 WASM = ["check-wasm", "show", "wasm2js", "run-wasm"]
 
 

@@ -71,6 +71,19 @@ WIDE = {
     "globals": (10_000, lambda n: text("", before=many(n, lambda i: f"var g{i}=0;"))),
     "globals past the limit": (100_000, lambda n: text("", before="var " + ",".join(f"g{i}=0" for i in range(n)) + ";")),
     "globals in use": (10_000, lambda n: text(many(n, lambda i: f"x=g{i}|0;"), before=many(n, lambda i: f"var g{i}=0;"))),
+    "labels beside each other": (60_000, lambda n: text(many(n, lambda i: f"a{i}:{{break a{i};}}"))),
+    "functions that nothing reaches": (
+        5_000,
+        lambda n: functions(n, lambda i: f"function f{i}(x){{x=x|0;x=f{i * 7919 % n}(x)|0;return x|0;}}", "function e(){}return e;"),
+    ),
+    "tables that one function calls": (
+        3_000,
+        lambda n: functions(
+            1,
+            lambda i: "function f0(x){x=x|0;return x|0;}" + "function e(x){x=x|0;" + many(n, lambda k: f"x=t{k}[x&0](x)|0;") + "return x|0;}",
+            many(n, lambda i: f"var t{i}=[f0];") + "return e;",
+        ),
+    ),
     "locals": (5_000, lambda n: text("var " + ",".join(f"l{i}=0" for i in range(n)) + ";")),
     "locals in use": (
         5_000,
@@ -129,6 +142,10 @@ COLLIDING = {
     ),
     "labels whose names collide": (20_000, lambda n: text("".join(f"{it}:" for it in colliding.names(n)) + ";")),
     "locals whose names collide": (20_000, lambda n: text("var " + ",".join(f"{it}=0" for it in colliding.names(n)) + ";")),
+    "functions whose names collide": (
+        20_000,
+        lambda n: ('function m(){"use asm";' + "".join(f"function {it}(){{}}" for it in colliding.names(n)[: min(n, 79_000)]) + "function f(){}return f;}").encode(),
+    ),
     "exports whose keys collide": (20_000, lambda n: text("", after="return{" + ",".join(f"{it}:f" for it in colliding.names(n)) + "};")),
 }
 

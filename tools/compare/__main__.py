@@ -2,8 +2,8 @@
 """python3 tools/compare PROGRAM [--seed S] [--count N] [--keep FOLDER] [--only KIND NUMBER]
 
 Random modules, N of asm.js and N of WebAssembly, and N pairs of the latter, each with a script: what PROGRAM prints of the session, and of the session of what it translates
-the module to, is what node's engine shows of the same (of a pair: of two instances over one memory, and of what PROGRAM links it to); each text's short form
-shows the same and is its own short form; and SpiderMonkey's validator takes each text of asm.js that PROGRAM writes.
+the module to, is what node's engine shows of the same (of a pair: of two instances over one memory, and of what PROGRAM links it to); so is what it prints
+of a text of asm.js in few units, where the engine counts them; each text's short form shows the same and is its own short form; and SpiderMonkey's validator takes each text of asm.js that PROGRAM writes.
 Where node isn't installed nothing is compared, and where js102 isn't, no validator is asked; a line says so. Files of a difference are kept in FOLDER.
 A difference names its module, as `asm 1000007`, which --only tries alone."""
 import argparse
@@ -30,6 +30,8 @@ from wasm_modules import WasmModule
 STEPS = "10000000"
 # Budgets of units that cut most sessions short, at which a short form shows what its text shows.
 BUDGETS = "0 1 3 10 40 200".split()
+# .. and at which a run shows what the engine shows of a text that counts them.
+UNITS = [0, 1, 2, 3, 5, 9, 17, 40, 100, 400]
 LONGEST = 60  # seconds of a call of the program
 SOURCE = "the random module"
 ENGINE = pathlib.Path(__file__).with_name("engine.mjs")
@@ -119,6 +121,9 @@ class Comparison:
         wanted = self.shown(SOURCE, **job)
         heap = ["--heap", str(case.length)]
         self.same("run-asm", wanted, self.asked("run-asm", text, script, *heap, "--steps", STEPS).decode())
+        for units in UNITS:
+            cut = self.shown(SOURCE, **job | {"text": case.counted, "units": units})
+            self.same(f"run-asm in {units} units", cut, self.asked("run-asm", text, script, *heap, "--steps", str(units)).decode())
         self.short("the text", text, job, wanted, script, heap)
         self.back_from_asm(case, self.asked("asm2wasm", text, *heap), shared_names(wanted))
 
@@ -276,8 +281,8 @@ def main():
         print(f"differs: {line}")
     differences, sessions, validated, unending = (sum(len(a[k]) if k == 0 else a[k] for a in answers) for k in range(4))
     print(f"compare: {len(seeds)} modules and pairs, {sessions} sessions alike, {validated} texts validated, {unending} sessions without end, {differences} differences")
-    # Sessions that don't end show nothing; there are few. Five sessions of each other module are alike and one of each pair, and so there are some.
-    few = sessions == 0 or unending * 10 > len(seeds) or 3 * sessions < 11 * (len(seeds) - 3 * unending)
+    # Sessions that don't end show nothing; there are few. Of others 21 are alike of a module of asm.js, 11 of one of WebAssembly and one of a pair.
+    few = sessions == 0 or unending * 10 > len(seeds) or not options.only and 3 * sessions < 33 * (len(seeds) - 3 * unending)
     if few and not differences:
         print("compare: too few sessions were held against each other")
     return 1 if differences or few else 0

@@ -1,11 +1,13 @@
 """Random expressions and functions of asm.js, as lists of tokens.
 
 Beside tokens of the language a list holds `;?`, a semicolon that a line end or a closing brace may stand for, `;do`, the one after `do .. while (..)`,
-and `JOIN`, which says that no line may end there."""
+and `JOIN`, which says that no line may end there. A unit of a run is taken where a token of UNITS stands: at a function's start and at each turn of a loop."""
 from dataclasses import dataclass
 
 WORDS = [0, 1, 2, 3, 4, 5, 7, 8, 15, 16, 31, 32, 33, 63, 64, 100, 127, 128, 255, 256, 257, 1000, 4095, 4096, 32767, 32768, 65535, 65536, 65537, 2**20 - 1, 2**24]
 WORDS += [2**30, 2**31 - 2, 2**31 - 1, 2**31, 2**31 + 1, 2**32 - 2, 2**32 - 1]
+# Where a unit is taken: before a condition, in place of one, and as a statement; and how a text says so that counts them.
+UNITS = {"UNIT,": "$$take_unit$$(),", "UNIT": "$$take_unit$$(),1", "UNIT;": "$$take_unit$$();"}
 NEGATIVE = [-1, -2, -3, -4, -7, -8, -16, -31, -32, -100, -128, -129, -255, -256, -32768, -32769, -65536, -2**30, -2**31 + 1, -2**31]
 # How strongly the grammar's expressions bind, from the comma to single operands.
 COMMA, ASSIGNMENT, CONDITIONAL, OR, XOR, AND, EQUALITY, RELATION, SHIFT, SUM, PRODUCT, UNARY, SINGLE = range(13)
@@ -362,17 +364,17 @@ class Body:
     def loop_form(self, marks, first, goes_on, onward, body):
         form = self.pick(["while", "for", "do", "ever"])
         if form == "while":
-            return first + [";?", *marks, "while", "(", *goes_on, ")", "{", *onward, ";?", *body, "}"]
+            return first + [";?", *marks, "while", "(", "UNIT,", *goes_on, ")", "{", *onward, ";?", *body, "}"]
         if form == "do":
-            return first + [";?", *marks, "do", "{", *onward, ";?", *body, "}", "while", "(", *goes_on, ")", ";do"]
+            return first + [";?", *marks, "do", "{", "UNIT;", *onward, ";?", *body, "}", "while", "(", *goes_on, ")", ";do"]
         if form == "ever":
-            head = self.pick([["for", "(", ";", ";", ")"], ["while", "(", "1", ")"]])
+            head = self.pick([["for", "(", ";", "UNIT", ";", ")"], ["while", "(", "UNIT,", "1", ")"]])
             leave = self.pick([["break", ";"], ["{", "break", ";?", "}"]])
             return first + [";?", *marks, *head, "{", "if", "(", "!", "(", *goes_on, ")", ")", *leave, *onward, ";?", *body, "}"]
         call = self.call(1, False) if self.chance(0.3) else None
         onward = call + [",", *onward] if call else onward
         start = first if self.chance(0.5) else None
-        return (first + [";?"] if start is None else []) + [*marks, "for", "(", *(start or []), ";", *goes_on, ";", *onward, ")", "{", *body, "}"]
+        return (first + [";?"] if start is None else []) + [*marks, "for", "(", *(start or []), ";", "UNIT,", *goes_on, ";", *onward, ")", "{", *body, "}"]
 
     def switch(self, depth):
         base = self.pick([0, 0, 1, -2, 100, -2**31, 2**31 - 9])
@@ -410,7 +412,7 @@ class Body:
             first = [[n, "=", *self.literal(self.any_number() if self.chance(0.5) else 0).tokens] for n in names[:count]]
             tokens += ["var", *self.listed(first), ";?"]
             names = names[count:]
-        return tokens + code + ["}"]
+        return tokens + ["UNIT;", *code, "}"]
 
     def recursion(self):
         """Calls itself with its first argument lowered, at most 15 times."""

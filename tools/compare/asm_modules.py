@@ -14,11 +14,13 @@ VIEWS = {"Int8Array": 0, "Uint8Array": 0, "Int16Array": 1, "Uint16Array": 1, "In
 LONG_TOKENS = {"<<", ">>", "==", "!=", "<=", ">=", "++", "--", "&&", "||", "=>", "//", "/*"}
 # Words after which a statement may begin on a new line without a semicolon before it.
 STARTERS = {"var", "if", "return", "while", "for", "do", "switch", "break", "continue", "function"}
+# Semicolons that may be left out, and where no line may end, as they stand on one line.
+PLAIN = {";?": ";", ";do": ";", "JOIN": ""}
 ODD_MEMBERS = ["new", "if", "default", "arguments_", "__proto", "delete", "$xab", "$x"]
 
 
 class AsmModule:
-    """`text`, `script`, `length` of the heap, and what the engine's host must know."""
+    """`text`, and `counted`, which takes each unit of a run by a call of `$$take_unit$$`; `script`, `length` of the heap, and what the engine's host must know."""
 
     def __init__(self, seed):
         self.random = random.Random(f"asm {seed}")
@@ -31,7 +33,8 @@ class AsmModule:
         self.names_of_module = [d[0] for d in self.declared]
         self.functions, self.tables, self.exports = [], [], []
         tokens = self._tokens()
-        self.text = Layout(self.random).of(tokens)
+        self.text = Layout(self.random).of([t for t in tokens if t not in asm_bodies.UNITS])
+        self.counted = " ".join(asm_bodies.UNITS.get(t, PLAIN.get(t, t)) for t in tokens)
         self.script = self._script()
 
     # ---- chances

@@ -1,6 +1,7 @@
 // Sessions on node's engine: jobs come on standard input, one line of JSON each, and answers leave on standard output.
 // A job has a script's `heap`, `replies` and `calls`, the module's `imports`, and `text` for asm.js or `bytes` in base64 for WebAssembly; a pair has
 // both in `modules`.
+// `units` says how many units a run may take, where its text takes each by a call of `$$take_unit$$`.
 // An answer has `seen`, the text that `bridge run-asm` or `bridge run-wasm` prints, or `why` there is none.
 import readline from "node:readline";
 import v8 from "node:v8";
@@ -9,6 +10,7 @@ import vm from "node:vm";
 // asm.js is run as plain JavaScript, whose meaning is what the translations keep.
 v8.setFlagsFromString("--no-validate-asm");
 const LONGEST = 10000; // milliseconds of a session
+const RUNNING = "still running";
 
 class End extends Error {
   constructor(line) {
@@ -66,7 +68,9 @@ class Session {
     } catch (error) {
       this.lines.push(error instanceof End ? error.line : trap(error));
     }
-    return [...this.lines, ...this.heapLines(), ""].join("\n");
+    // (where units are used up no end is seen, and so no heap)
+    const heap = this.lines.at(-1) === RUNNING ? [] : this.heapLines();
+    return [...this.lines, ...heap, ""].join("\n");
   }
 
   result(type, value, split) {
@@ -84,6 +88,11 @@ function runAsm(job) {
     foreign[field] = value === undefined ? (...args) => Number(BigInt.asIntN(32, session.imported(name, args.map((x) => String(x | 0))))) : Number(value);
   const module = vm.runInThisContext(`var module = ${job.text}\n; module`);
   const made = module(globalThis, foreign, heap);
+  let left = job.units ?? Infinity;
+  globalThis.$$take_unit$$ = () => {
+    if (left === 0) throw new End(RUNNING);
+    left -= 1;
+  };
   const exported = (name) => (typeof made === "function" ? made : made[name]);
   for (const [place, hex] of job.heap) session.heap.set(Buffer.from(hex, "hex"), place);
   const calls = () => {
