@@ -104,7 +104,7 @@ def modules(room):
 
 def texts(program, before, room):
     """The bytes of each text, and how many times as long as the others ours is."""
-    print("bytes of text                      module     bridge  binaryen's       its -O    over: " + ("the build before, " if before else "") + "binaryen's, its -O")
+    print(f"  {'bytes of':30} {'module':>9} {'bridge':>10} {'binaryen':>12} {'its -O':>12}   over: {'the build before, ' if before else ''}binaryen's, its -O's")
     rows = []
     for name, path in modules(room):
         ours = translated([program, "wasm2js", path])

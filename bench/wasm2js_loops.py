@@ -81,14 +81,14 @@ def fill(at, length=1_048_576):
 
 # Each loop's name, its number of turns and its module.
 LOOPS = [
-    ("loads, stores, products", 20_000_000, PRODUCTS),
-    ("64-bit sums and shifts", 20_000_000, WIDE),
-    ("exchanges", 5_000_000, EXCHANGES),
-    ("CRC", 3_000_000, CRC),
-    ("copies of 1 MiB, aligned alike", 60, copy(2_097_152, 0)),
-    (".. from three bytes behind a word", 60, copy(2_097_155, 3)),
-    (".. downwards", 60, copy(65_536, 0)),
-    (".. not aligned alike", 20, copy(2_097_153, 0)),
-    ("fills of 1 MiB", 60, fill(2_097_152)),
-    (".. from an odd place", 60, fill(2_097_153)),
+    ("loads, stores, products", 50_000_000, PRODUCTS),
+    ("64-bit sums and shifts", 40_000_000, WIDE),
+    ("exchanges", 10_000_000, EXCHANGES),
+    ("CRC", 10_000_000, CRC),
+    ("copies of 1 MiB, aligned alike", 400, copy(2_097_152, 0)),
+    (".. from three bytes behind a word", 400, copy(2_097_155, 3)),
+    (".. downwards", 400, copy(65_536, 0)),
+    (".. not aligned alike", 100, copy(2_097_153, 0)),
+    ("fills of 1 MiB", 400, fill(2_097_152)),
+    (".. from an odd place", 400, fill(2_097_153)),
 ]

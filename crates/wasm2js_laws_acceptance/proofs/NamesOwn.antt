@@ -125,12 +125,12 @@ wide_once = (
 division_once : AllByRecursion DeclaresOnce division_helpers
 division_once = (once _ two_arguments [] refl refl two_rise, (once _ two_arguments [] refl refl two_rise, (once _ two_arguments [] refl refl two_rise, (once _ two_arguments [] refl refl two_rise, tt))))
 
-arguments_rise : (i n : ℕ) → RisesFrom (rank (argument i)) (arguments_after (suc i) n)
-arguments_rise i zero = tt
-arguments_rise i (suc n) = (inr (refl, omega arith), arguments_rise (suc i) n)
+words_rise : (i n : ℕ) → RisesFrom (rank (argument i)) (arguments_after (suc i) n)
+words_rise i zero = tt
+words_rise i (suc n) = (inr (refl, omega arith), words_rise (suc i) n)
 
 data_once : (long : Bool) → AllByRecursion DeclaresOnce (data_helpers long)
-data_once true = (once _ (arguments_after 0 17) [] refl refl (arguments_rise 0 16), (once _ two_arguments [] refl refl two_rise, tt))
+data_once true = (once _ (arguments_after 0 17) [] refl refl (words_rise 0 16), (once _ two_arguments [] refl refl two_rise, tt))
 data_once false = tt
 
 memory_once : (bytes : ℕ) (long : Bool) → AllByRecursion DeclaresOnce (memory_helpers bytes long)

@@ -1,4 +1,4 @@
-use Rattle.std.proofs.Common.{[], ◌∷◌, ◌++◌, map, refl}
+use Rattle.std.proofs.Common.{◌++◌, map, refl}
 use Rattle.std.proofs.lemmas.Result.{IfOk-equal}
 use Rattle.sem_words.specs.Lists.{list_items}
 use Rattle.asm_tree.specs.Views.{function_view}

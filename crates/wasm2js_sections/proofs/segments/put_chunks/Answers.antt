@@ -1,4 +1,4 @@
-use Rattle.std.proofs.Common.{◌≡◌, suc, ◌+◌, ◌-◌, ◌*◌, ◌≤◌, ◌++◌, length, take, drop, sym, ap, ◌∙◌, append_assoc, arith}
+use Rattle.std.proofs.Common.{◌≡◌, suc, ◌+◌, ◌-◌, ◌++◌, take, drop, sym, ap, ◌∙◌, append_assoc, arith}
 use Rattle.wasm2js_build.specs.Blocks.{statements_of}
 use Rattle.wasm2js_translation.specs.Modules.{chunk_stmts, waits_from, put_chunks}
 use Rattle.wasm2js_sections.proofs.Chunks.{chunk_next}
