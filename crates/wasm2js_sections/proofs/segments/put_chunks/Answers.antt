@@ -16,8 +16,8 @@ loop-left-preserved c =
     let inside = c.loop-left.invariant.0 in
     let one : c.loop-left.left ≡ suc k = omega arith in
     let further = put_chunks k (waits_from from (at + i) chunk) (at + (i + 64)) (drop (i + 64) bytes) in
-    let pushed : statements_of c.put_one.new.body ≡ before ++ chunk_stmts from (at + i) chunk = c.in_ok-put_one.ensures-puts in
-    let next = c.in_ok-put_one.ensures-waits in (
+    let pushed : statements_of c.put_one.new.body ≡ before ++ chunk_stmts from (at + i) chunk = c.in_ok-from.ensures.puts in
+    let next = c.in_ok-from.ensures.waits in (
       omega (arith, inside),
       ap (λ from. statements_of c.put_one.new.body ++ put_chunks k from (at + (i + 64)) (drop (i + 64) bytes)) next
           ∙ ap (λ ss. ss ++ further) pushed
