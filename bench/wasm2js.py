@@ -104,7 +104,8 @@ def modules(room):
 
 def texts(program, before, room):
     """The bytes of each text, and how many times as long as the others ours is."""
-    print(f"  {'bytes of':30} {'module':>9} {'bridge':>10} {'binaryen':>12} {'its -O':>12}   over: {'the build before, ' if before else ''}binaryen's, its -O's")
+    over = "the build before, binaryen's, its -O's" if before else "binaryen's, its -O's"
+    print(f"  {'bytes of':30} {'module':>9} {'bridge':>10} {'binaryen':>12} {'its -O':>12}   over: {over}")
     rows = []
     for name, path in modules(room):
         ours = translated([program, "wasm2js", path])
@@ -148,7 +149,8 @@ def loading(program, before, room):
         for number, build in enumerate(it for it in (program, before) if it):
             files.append(room / f"data{number}.js")
             files[-1].write_bytes(translated([build, "wasm2js", path]))
-            row += f" {files[-1].stat().st_size / length:6.3f} bytes for a byte, run-asm {seconds([program, 'run-asm', files[-1], script, '--heap', str(2 * PAGE)]) * 1e3:7.1f} ms;"
+            took = seconds([program, "run-asm", files[-1], script, "--heap", str(2 * PAGE)])
+            row += f" {files[-1].stat().st_size / length:6.3f} bytes for a byte, run-asm {took * 1e3:7.1f} ms;"
         if shutil.which("node"):
             row += " node, ms: " + subprocess.run(["node", "-e", LOAD, str(2 * PAGE), *files], check=True, stdout=subprocess.PIPE, text=True).stdout.strip()
         print(row)
