@@ -201,6 +201,19 @@ class WasmModule:
         for _ in range(self.pick([0, 0, 1, 2, 3])):
             data = self.bytes(self.pick([0, 1, 4, 16, 21, 40]))
             self.module.segments.append((self.pick([0, 1, self.random.randint(0, 1200), size - len(data)]), data))
+        if self.chance(0.3):
+            for _ in range(self.pick([1, 1, 2])):
+                data = self._long_data()
+                self.module.segments.append((self.pick([0, 1, 2, 3, self.random.randint(0, 600), size - len(data)]), data))
+
+    def _long_data(self):
+        """Bytes of about as many as `wasm2js` writes by calls, among them runs of zeros that begin and end anywhere."""
+        length = self.pick([511, 512, 513, 514, 515, 574, 575, 576, 577, 639, 640, 700, 1100])
+        runs = b""
+        while len(runs) < length:
+            count = self.pick([1, 3, 40, 63, 64, 65, 128, 200, 300])
+            runs += bytes(count) if self.chance(0.5) else self.bytes(count)
+        return runs[:length]
 
     # ---- the script
 

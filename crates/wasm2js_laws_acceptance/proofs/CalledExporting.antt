@@ -1,6 +1,6 @@
 -- The exports of a translated module are those that are asked for.
-use Rattle.std.proofs.Common.{◌≡◌, ℕ, ◌+◌, Bool, true, false, not, List, [], ◌∷◌, ◌++◌, map, Option, Some, None, is_some, inl, inr, refl, sym, ap, ◌∙◌}
-use Rattle.std.specs.Prelude.{slice_get, option_map, take, drop, codes}
+use Rattle.std.proofs.Common.{◌≡◌, ℕ, zero, suc, ◌+◌, ◌/◌, Bool, true, false, not, length, List, [], ◌∷◌, ◌++◌, map, Option, Some, None, is_some, inl, inr, refl, sym, ap, ◌∙◌}
+use Rattle.std.specs.Prelude.{slice_get, option_map, take, drop, codes, if◌then◌else◌, ◌==◌}
 use Rattle.std.specs.List.{AllByRecursion, flat_map}
 use Rattle.std.proofs.lemmas.Option.{slice_get_within}
 use Rattle.session_lang.specs.Names.{export_name}
@@ -22,8 +22,11 @@ use Rattle.asm_lang.specs.Modules.{Function, Export, Module}
 use Rattle.asm_lang_valid.specs.Scope.{Signature, signature_of, a_function, module_meaning}
 use Rattle.asm_lang_valid.specs.Refusal.{exported}
 use Rattle.wasm2js_lang.specs.Calling.{Callable, typed_as, exported_kind, Entry, words, has_result, entry_of, entries_asked, entry_at, entries_given}
-use Rattle.wasm2js_translation.specs.Names.{numbered, function, fixed, init, last_high, spelled}
-use Rattle.wasm2js_translation.specs.Modules.{set_bytes, set_words, set_run, to_word, segment_stmts, start_stmts, functions_from, init_function, high_function, helpers, export_for, translated}
+use Rattle.wasm2js_lang.specs.Parts.Functions.{is_long}
+use Rattle.wasm2js_translation.specs.Names.{data_zeros, numbered, function, fixed, init, last_high, spelled}
+use Rattle.wasm2js_translation.specs.Words.{tell, simple_statement}
+use Rattle.wasm2js_translation.specs.Pairs.{literal}
+use Rattle.wasm2js_translation.specs.Modules.{set_bytes, set_words, are_zeros, set_zeros, put_chunk, put_chunks, put_run, set_run, to_word, segment_stmts, start_stmts, functions_from, init_function, high_function, helpers, export_for, translated}
 use Rattle.wasm2js_translation.specs.Tables.{words_of, stubs}
 use Rattle.wasm2js_laws_scopes.specs.Provided.{signature, signature_for}
 use Rattle.wasm2js_laws_acceptance.proofs.ProvidedEntries.{in_right}
@@ -46,13 +49,36 @@ words_silent at (w ∷ []) = (refl, tt)
 words_silent at (w ∷ x ∷ []) = (refl, (refl, tt))
 words_silent at (w ∷ x ∷ y ∷ []) = (refl, (refl, (refl, tt)))
 
-run_silent : (at : ℕ) (xs : List ℕ) → AreSilent (set_run at xs)
-run_silent at xs =
-    silent_join (set_bytes at (take (to_word at) xs)) (set_words (at + to_word at) (drop (to_word at) xs)) (bytes_silent at (take (to_word at) xs)) (words_silent (at + to_word at) (drop (to_word at) xs))
+zeros_silent : (from at : ℕ) → AreSilent (set_zeros from at)
+zeros_silent from at = by (from == at)
+  where
+    by : (t : Bool) → AreSilent (if t then [] else simple_statement (tell data_zeros (literal from ∷ literal at ∷ [])) ∷ [])
+    by true = tt
+    by false = (refl, tt)
+
+chunks_silent : (count from at : ℕ) (xs : List ℕ) → AreSilent (put_chunks count from at xs)
+chunks_silent zero from at xs = silent_join (set_zeros from at) (set_words at xs) (zeros_silent from at) (words_silent at xs)
+chunks_silent (suc n) from at xs = by (are_zeros (take 64 xs)) (λ start. chunks_silent n start (at + 64) (drop 64 xs))
+  where
+    by : (t : Bool) → ((start : ℕ) → AreSilent (put_chunks n start (at + 64) (drop 64 xs))) → AreSilent ((if t then [] else set_zeros from at ++ put_chunk at (take 64 xs) ∷ []) ++ put_chunks n (if t then from else at + 64) (at + 64) (drop 64 xs))
+    by true rest = rest from
+    by false rest =
+        silent_join (set_zeros from at ++ put_chunk at (take 64 xs) ∷ []) (put_chunks n (at + 64) (at + 64) (drop 64 xs))
+        (silent_join (set_zeros from at) (put_chunk at (take 64 xs) ∷ []) (zeros_silent from at) (refl, tt)) (rest (at + 64))
+
+aligned_silent : (long : Bool) (at : ℕ) (xs : List ℕ) → AreSilent (put_run long at xs)
+aligned_silent true at xs = chunks_silent (length xs / 64) at at xs
+aligned_silent false at xs = words_silent at xs
+
+run_silent : (long : Bool) (at : ℕ) (xs : List ℕ) → AreSilent (set_run long at xs)
+run_silent long at xs =
+    let further = drop (to_word at) xs in
+    silent_join (set_bytes at (take (to_word at) xs)) (put_run long (at + to_word at) further) (bytes_silent at (take (to_word at) xs))
+    (aligned_silent long (at + to_word at) further)
 
 segments_silent : (ds : List DataSegment) → AreSilent (flat_map segment_stmts ds)
 segments_silent [] = tt
-segments_silent (d ∷ ds) = silent_join (segment_stmts d) (flat_map segment_stmts ds) (run_silent (or_zero (constant_offset d.offset)) d.bytes) (segments_silent ds)
+segments_silent (d ∷ ds) = silent_join (segment_stmts d) (flat_map segment_stmts ds) (run_silent (is_long d) (or_zero (constant_offset d.offset)) d.bytes) (segments_silent ds)
 
 start_silent : (s : Option ℕ) → AreSilent (start_stmts s)
 start_silent None = tt

@@ -366,7 +366,7 @@ abbrev pub answers : Pieces → Bool
 answers body = last_gives_value (stmts_in (stmts_of body))
 
 pub checked : (w : WasmModule) (mem : Bool) → (mem ≡ true → has_memory w ≡ true) → (name : Name) (ps ls : List Name) (body : Pieces) → list_all is_own ps ≡ true → list_all is_own ls ≡ true
-    → length ps ≤ 3 → length ls ≤ 2 → nat_le (highs body) 998 ≡ true → check_pieces (variables ps ls) mem (answers body) body ≡ true
+    → length ps ≤ 17 → length ls ≤ 2 → nat_le (highs body) 998 ≡ true → check_pieces (variables ps ls) mem (answers body) body ≡ true
     → IsFineFunction (translated w) of_trap (function_of name ps ls (stmts_of body))
 checked w mem has name ps ls body p l few fewer low h =
     let ss = stmts_of body in

@@ -1,5 +1,5 @@
 -- The helpers are fine.
-use Rattle.std.proofs.Common.{◌≡◌, ℕ, ◌+◌, ◌*◌, ◌^◌, ◌≤◌, ◌<◌, Bool, true, false, cond, List, [], ◌∷◌, ◌++◌, Option, Some, None, refl, sym, arith}
+use Rattle.std.proofs.Common.{◌≡◌, ℕ, zero, suc, ◌+◌, ◌*◌, ◌^◌, ◌≤◌, ◌<◌, Bool, true, false, cond, List, [], ◌∷◌, ◌++◌, Option, Some, None, refl, sym, arith}
 use Rattle.std.specs.Prelude.{nat_lt, if◌then◌else◌, negsuc}
 use Rattle.std.specs.List.{AllByRecursion}
 use Rattle.std.proofs.lemmas.Bool.Decides.{nat_tests}
@@ -9,12 +9,13 @@ use Rattle.wasm_lang_valid.specs.ModuleRules.{has_memory}
 use Rattle.wasm_lang_valid.specs.Profile.{or_zero, memory_bytes}
 use Rattle.wasm_lang_valid.specs.Runnable.{above, most_pages_to_run, pages}
 use Rattle.asm_lang.specs.Modules.{Function}
+use Rattle.wasm2js_lang.specs.Parts.Functions.{has_long_segments}
 use Rattle.wasm2js_translation.specs.Names as names
 use Rattle.wasm2js_translation.specs.Names.{fixed}
 use Rattle.wasm2js_translation.specs.Words.{Term, conjunction, disjunction, shift_left, shift_right_signed, shift_right, equal, less, at_most, greater, both, read, number, zeros, compare, byte, whole}
 use Rattle.wasm2js_translation.specs.Pairs.{literal, plus, minus, sign_of, funnel_left, funnel_right}
 use Rattle.wasm2js_translation.specs.Actions.{low_ones, place}
-use Rattle.wasm2js_translation.specs.Helpers.{argument, own, first, second, third, spare, one_argument, two_arguments, three_arguments, is_far, shift_left_function, shift_right_signed_function, shift_right_function, rotate_left_function, leading_zeros_function, trailing_zeros_function, set_bits_function, wide_helpers, division_helpers, word_at, access_helpers, is_whole, four_times, copy_function, fill_function, memory_helpers}
+use Rattle.wasm2js_translation.specs.Helpers.{argument, own, first, second, third, spare, one_argument, two_arguments, three_arguments, is_far, shift_left_function, shift_right_signed_function, shift_right_function, rotate_left_function, leading_zeros_function, trailing_zeros_function, set_bits_function, wide_helpers, division_helpers, word_at, access_helpers, is_whole, four_times, copy_function, fill_function, arguments_after, data_helpers, memory_helpers}
 use Rattle.wasm2js_translation.specs.Modules.{helpers, translated}
 use Rattle.wasm2js_laws_acceptance.specs.FunctionsFunctions.{IsFineFunction, of_trap, IsSource}
 use Rattle.wasm2js_laws_acceptance.specs.FunctionsLaws.{HelpersAreFine}
@@ -139,6 +140,15 @@ module _ (w : WasmModule) where
     abbrev fall : ℕ → Piece → Piece
     fall size p = while_so (compare true greater third (literal 0)) (set (argument 2) (minus third (literal size)) ▸ p ▸ done)
 
+    -- ---- words of segments
+
+    abbrev puts : (offset i count : ℕ) → Pieces
+    puts offset i zero = done
+    puts offset i (suc n) = set_word (place (argument 0) offset) (read (argument i)) ▸ puts (offset + 4) (suc i) n
+
+    abbrev zero_pieces : Pieces
+    zero_pieces = while_so (compare false less first second) (set_word first (literal 0) ▸ set (argument 0) (plus first (literal 4)) ▸ done) ▸ done
+
     module _ (bytes : ℕ) (few : bytes < 2 ^ 31) where
       abbrev start : Term → Piece
       start t = test (compare false greater t (minus (literal bytes) third)) 2
@@ -176,8 +186,12 @@ module _ (w : WasmModule) where
       fill_fine : Fine (fill_function bytes)
       fill_fine = checked w true there (fixed names.fill) three_arguments (own 0 ∷ own 1 ∷ []) fill_body refl refl (omega arith) (omega arith) refl fill_checked
 
-      memory_fine : AllByRecursion Fine (memory_helpers bytes)
-      memory_fine = (access_fine.0, (access_fine.1.0, (access_fine.1.1.0, (access_fine.1.1.1.0, (copy_fine, (fill_fine, tt))))))
+      data_fine : (long : Bool) → AllByRecursion Fine (data_helpers long)
+      data_fine true = (checked w true there (fixed names.data_words) (arguments_after 0 17) [] (puts 0 1 16) refl refl (omega arith) (omega arith) refl refl, (checked w true there (fixed names.data_zeros) two_arguments [] zero_pieces refl refl (omega arith) (omega arith) refl refl, tt))
+      data_fine false = tt
+
+      memory_fine : (long : Bool) → AllByRecursion Fine (memory_helpers bytes long)
+      memory_fine long = (access_fine.0, (access_fine.1.0, (access_fine.1.1.0, (access_fine.1.1.1.0, (copy_fine, (fill_fine, data_fine long))))))
 
   -- ---- all of them
 
@@ -185,8 +199,8 @@ module _ (w : WasmModule) where
   joined [] gs h k = k
   joined (f ∷ fs) gs h k = (h.0, joined fs gs h.1 k)
 
-  if_memory : (b : Bool) → b ≡ has_memory w → memory_bytes w < 2 ^ 31 → AllByRecursion Fine (if b then memory_helpers (memory_bytes w) else [])
-  if_memory true e few = memory_fine (sym e) (memory_bytes w) few
+  if_memory : (b : Bool) → b ≡ has_memory w → memory_bytes w < 2 ^ 31 → AllByRecursion Fine (if b then memory_helpers (memory_bytes w) (has_long_segments w) else [])
+  if_memory true e few = memory_fine (sym e) (memory_bytes w) few (has_long_segments w)
   if_memory false e few = tt
 
   pub few_bytes : (o : Option ℕ) → above most_pages_to_run o ≡ None → or_zero o * 65536 ≤ 2 ^ 28

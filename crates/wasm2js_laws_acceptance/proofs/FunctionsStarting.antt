@@ -1,9 +1,10 @@
 -- The function that a session begins with is fine.
-use Rattle.std.proofs.Common.{◌≡◌, ℕ, zero, suc, ◌+◌, ◌*◌, ◌/◌, ◌^◌, ◌≤◌, ◌<◌, Bool, true, false, ◌&&◌, List, [], ◌∷◌, ◌++◌, length, take, drop, Option, Some, None, refl, sym, ap, ◌∙◌, subst, arith}
-use Rattle.std.specs.Prelude.{ℤ, pos, is_some, slice_get, All, nat_lt, nat_eq, if◌then◌else◌}
+use Rattle.std.proofs.Common.{◌≡◌, ℕ, zero, suc, ◌+◌, ◌*◌, ◌/◌, ◌^◌, ◌≤◌, ◌<◌, Bool, true, false, ◌&&◌, List, [], ◌∷◌, ◌++◌, length, take, drop, take-append-drop, Option, Some, None, refl, sym, ap, ◌∙◌, subst, arith}
+use Rattle.std.specs.Prelude.{ℤ, pos, is_some, max, slice_get, All, nat_lt, nat_eq, ◌==◌, if◌then◌else◌}
 use Rattle.std.specs.List.{AllByRecursion, flat_map}
 use Rattle.std.proofs.lemmas.Bool.{and_parts}
-use Rattle.std.proofs.lemmas.Bool.Decides.{nat_tests}
+use Rattle.std.proofs.lemmas.Bool.Decides.{nat_tests, Decides-eqb}
+use Rattle.std.proofs.lemmas.List.{length-take-le, length-append}
 use Rattle.std.proofs.lemmas.List.Elements.{recursion_from_All}
 use Rattle.std.proofs.lemmas.Option.{slice_get_within}
 use Rattle.sem_words.specs.Words.{signed_of}
@@ -24,25 +25,31 @@ use Rattle.asm_lang.specs.Modules as text
 use Rattle.asm_lang.specs.Modules.{lit, store}
 use Rattle.asm_lang_valid.specs.declared.meaning.Element.{Element}
 use Rattle.asm_lang_valid.specs.declared.meaning.Element.TheVariants.{Uint8, Int32}
-use Rattle.asm_lang_valid.specs.Scope.{a_view, shift_of, Signature, last_gives_value}
+use Rattle.asm_lang_valid.specs.Scope.{a_view, a_function, shift_of, Signature, last_gives_value}
 use Rattle.asm_lang_valid.specs.Typing.{Scope, Around, at_top, named, literal_type, index_fits, type_of as expr_type}
 use Rattle.asm_lang_valid.specs.Typed.{scope_of}
-use Rattle.wasm2js_translation.specs.Names.{Fixed, numbered, function, fixed, init, view_of_bytes, view_of_words}
-use Rattle.wasm2js_translation.specs.Words.{name_of}
+use Rattle.wasm2js_lang.specs.Parts.Functions.{is_long, has_long_segments}
+use Rattle.wasm2js_translation.specs.Names.{Fixed, numbered, function, fixed, init, view_of_bytes, view_of_words, data_words, data_zeros}
+use Rattle.wasm2js_translation.specs.Words.{Term, tell, simple_statement, name_of}
+use Rattle.wasm2js_translation.specs.Pairs.{literal}
+use Rattle.wasm2js_translation.specs.Helpers.{put_function, zero_function}
+use Rattle.wasm2js_laws_terms.specs.Sound.{IsHelper, AllSound, terms_depth}
 use Rattle.wasm2js_laws_terms.specs.Laws.{IsFineExpr, IsFine}
 use Rattle.wasm2js_laws_terms.proofs.FineExprs.{is_identifier, is_typed_below, intish, literal_fine}
-use Rattle.wasm2js_laws_terms.proofs.FineActions.{both_true, no_marks}
-use Rattle.wasm2js_translation.specs.Modules.{set_byte, set_word, set_bytes, set_words, to_word, set_run, segment_stmts, start_stmts, init_function, translated}
+use Rattle.wasm2js_laws_terms.proofs.FineActions.{both_true, no_marks, simple_fine}
+use Rattle.wasm2js_translation.specs.Modules.{set_byte, set_word, set_bytes, set_words, words_in, are_zeros, set_zeros, put_chunk, put_chunks, put_run, to_word, set_run, segment_stmts, start_stmts, init_function, translated}
 use Rattle.wasm2js_laws_scopes.specs.Provided.{HasMemory, IsFunction, signature_for}
 use Rattle.wasm2js_laws_scopes.proofs.HeadNames.{memories_are_provided}
 use Rattle.wasm2js_laws_typed.specs.Constructs.{AllFine}
 use Rattle.wasm2js_laws_typed.proofs.Facts.{plain_literal, signed_literal}
-use Rattle.wasm2js_laws_typed.proofs.FineBlocks.{all_join, together}
+use Rattle.wasm2js_laws_typed.proofs.FineBlocks.{all_join, all_higher, together}
 use Rattle.wasm2js_laws_acceptance.specs.FunctionsFunctions.{IsFineFunction, of_trap, IsSource}
 use Rattle.wasm2js_laws_acceptance.specs.FunctionsLaws.{HasFunctions, InitIsFine}
 use Rattle.wasm2js_laws_acceptance.proofs.FunctionsLimited.{where_none, at_most, limited}
 use Rattle.wasm2js_laws_acceptance.proofs.FunctionsMade.{made_of_fine}
 use Rattle.wasm2js_laws_acceptance.proofs.FunctionsHelperBodies.{memory_small}
+use Rattle.wasm2js_laws_acceptance.proofs.ProvidedFound.{is_seen}
+use Rattle.wasm2js_laws_acceptance.proofs.ProvidedPut.{long_among, put_found, zeros_found}
 
 -- ---- one write
 
@@ -76,6 +83,33 @@ module _ (s : Scope) (a : Around) where
         write_fine Int32 view_of_words (at / 4) (signed_of 32 (little_endian xs)) memory.words (index_number Int32 (at / 4) (omega (arith, h)) (omega (arith, h)))
         (literal_fine s (pos (at / 4)) (plain_literal (at / 4) (omega (arith, h)))) (intish s (literal_fine s (signed_of 32 (little_endian xs)) (signed_literal (little_endian xs) k)))
 
+    -- ---- words of a call
+
+    words_many : (k : ℕ) (xs : List ℕ) → length xs ≡ 4 * k → length (words_in xs) ≡ k
+    words_many zero [] e = refl
+    words_many zero (x ∷ xs) e = absurd (omega (arith, e))
+    words_many (suc k) [] e = absurd (omega (arith, e))
+    words_many (suc k) (w ∷ []) e = absurd (omega (arith, e))
+    words_many (suc k) (w ∷ x ∷ []) e = absurd (omega (arith, e))
+    words_many (suc k) (w ∷ x ∷ y ∷ []) e = absurd (omega (arith, e))
+    words_many (suc k) (w ∷ x ∷ y ∷ z ∷ xs) e = ap suc (words_many k xs (omega (arith, e)))
+
+    words_depth : (xs : List ℕ) → terms_depth (words_in xs) ≤ 1
+    words_depth [] = omega arith
+    words_depth (w ∷ []) = omega arith
+    words_depth (w ∷ x ∷ []) = omega arith
+    words_depth (w ∷ x ∷ y ∷ []) = omega arith
+    words_depth (w ∷ x ∷ y ∷ z ∷ xs) = let h = words_depth xs in omega (arith, h)
+
+    words_low : (xs : List ℕ) → 4 + 3 * max 1 (terms_depth (words_in xs)) ≤ 9
+    words_low xs = let h = words_depth xs in omega (arith, h)
+
+    lower : {a b c : ℕ} → a ≤ b → b ≤ c → a ≤ c
+    lower p q = omega (arith, p, q)
+
+    helper_for : (ts : List Term) → IsHelper s data_words 17 false → length ts ≡ 17 → IsHelper s data_words (length ts) false
+    helper_for ts helper e = subst (λ n. IsHelper s data_words n false) (sym e) helper
+
     -- ---- runs of bytes
 
     abbrev AreBytes : List ℕ → Type 0
@@ -87,6 +121,13 @@ module _ (s : Scope) (a : Around) where
 
     four : (w x y z : ℕ) → w < 256 → x < 256 → y < 256 → z < 256 → little_endian (w ∷ x ∷ y ∷ z ∷ []) < 2 ^ 32
     four w x y z a b c d = omega (arith, a, b, c, d)
+
+    words_sound : (xs : List ℕ) → AreBytes xs → AllSound s (words_in xs)
+    words_sound [] b = tt
+    words_sound (w ∷ []) b = tt
+    words_sound (w ∷ x ∷ []) b = tt
+    words_sound (w ∷ x ∷ y ∷ []) b = tt
+    words_sound (w ∷ x ∷ y ∷ z ∷ xs) b = (signed_literal (little_endian (w ∷ x ∷ y ∷ z ∷ [])) (four w x y z b.0 b.1.0 b.1.1.0 b.1.1.1.0), words_sound xs b.1.1.1.1)
 
     words_fine : (at : ℕ) (xs : List ℕ) → at + length xs ≤ 2 ^ 28 → AreBytes xs → AllFine s a 3 (set_words at xs)
     words_fine at (w ∷ x ∷ y ∷ z ∷ xs) h b =
@@ -111,18 +152,73 @@ module _ (s : Scope) (a : Around) where
     take_long (suc n) [] = omega arith
     take_long (suc n) (x ∷ xs) = let h = take_long n xs in omega (arith, h)
 
-    -- what is left of a run from a place on; where nothing is left the place may lie past its end
-    after_run : (at n : ℕ) (xs : List ℕ) → at + length xs ≤ 2 ^ 28 → AreBytes xs → AllFine s a 3 (set_words (at + n) (drop n xs))
-    after_run at zero xs h b = words_fine (at + 0) xs (omega (arith, h)) b
-    after_run at (suc n) [] h b = tt
-    after_run at (suc n) (x ∷ xs) h b =
-        let e : at + 1 + n ≡ at + suc n = omega arith in
-        subst (λ k. AllFine s a 3 (set_words k (drop n xs))) e (after_run (at + 1) n xs (omega (arith, h)) b.1)
+    both_lengths : (n : ℕ) (xs : List ℕ) → length (take n xs) + length (drop n xs) ≡ length xs
+    both_lengths n xs = sym (length-append (take n xs) (drop n xs)) ∙ ap length (take-append-drop n xs)
 
-    run_fine : (at : ℕ) (xs : List ℕ) → at + length xs ≤ 2 ^ 28 → AreBytes xs → AllFine s a 3 (set_run at xs)
-    run_fine at xs h b =
+    -- sixteen words by one call
+    chunk_fine : (at : ℕ) (xs : List ℕ) → at < 2 ^ 30 → AreBytes xs → IsHelper s data_words 17 false → length xs ≡ 64 → IsFine s a (put_chunk at xs) 9
+    chunk_fine at xs h b helper long =
+        let f = simple_fine s a (tell data_words (literal at ∷ words_in xs)) (helper_for (literal at ∷ words_in xs) helper (ap suc (words_many 16 xs long)), (plain_literal at (omega (arith, h)), words_sound xs b)) in
+        record { is_typed = f.is_typed; printed = f.printed; low = lower f.low (words_low xs); marks = f.marks }
+
+    -- what writes words and zeros
+    record Helpers : Type 0 where
+      words : IsHelper s data_words 17 false
+      zeros : IsHelper s data_zeros 2 false
+
+    zeros_fine : (from at : ℕ) → from < 2 ^ 30 → at < 2 ^ 30 → Helpers → AllFine s a 9 (set_zeros from at)
+    zeros_fine from at h k helpers = by (from == at)
+      where
+        by : (t : Bool) → AllFine s a 9 (if t then [] else simple_statement (tell data_zeros (literal from ∷ literal at ∷ [])) ∷ [])
+        by true = tt
+        by false =
+            let f = simple_fine s a (tell data_zeros (literal from ∷ literal at ∷ [])) (helpers.zeros, (plain_literal from (omega (arith, h)), (plain_literal at (omega (arith, k)), tt))) in
+            (record { is_typed = f.is_typed; printed = f.printed; low = lower f.low (omega arith); marks = f.marks }, tt)
+
+    chunks_fine : (count from at : ℕ) (xs : List ℕ) → from ≤ at → at + length xs ≤ 2 ^ 28 → AreBytes xs → 64 * count ≤ length xs → Helpers → AllFine s a 9 (put_chunks count from at xs)
+    chunks_fine zero from at xs before h b le helpers =
+        all_join s a 9 (set_zeros from at) (set_words at xs) (zeros_fine from at (omega (arith, before, h)) (omega (arith, h)) helpers) (all_higher s a 3 9 (set_words at xs) (omega arith) (words_fine at xs h b))
+    chunks_fine (suc n) from at xs before h b le helpers =
+        let both = both_lengths 64 xs in
+        let sixty : length (take 64 xs) ≡ 64 = length-take-le 64 xs (omega (arith, le)) in
+        by (are_zeros (take 64 xs)) (λ start behind. chunks_fine n start (at + 64) (drop 64 xs) behind (omega (arith, h, both, sixty)) (dropped 64 xs b) (omega (arith, le, both, sixty)) helpers)
+      where
+        by : (t : Bool) → ((start : ℕ) → start ≤ at + 64 → AllFine s a 9 (put_chunks n start (at + 64) (drop 64 xs)))
+            → AllFine s a 9 ((if t then [] else set_zeros from at ++ put_chunk at (take 64 xs) ∷ []) ++ put_chunks n (if t then from else at + 64) (at + 64) (drop 64 xs))
+        by true rest = rest from (omega (arith, before))
+        by false rest =
+            all_join s a 9 (set_zeros from at ++ put_chunk at (take 64 xs) ∷ []) (put_chunks n (at + 64) (at + 64) (drop 64 xs))
+            (all_join s a 9 (set_zeros from at) (put_chunk at (take 64 xs) ∷ []) (zeros_fine from at (omega (arith, before, h)) (omega (arith, h)) helpers)
+            (chunk_fine at (take 64 xs) (omega (arith, h, le)) (taken 64 xs b) helpers.words (length-take-le 64 xs (omega (arith, le))), tt))
+            (rest (at + 64) (omega arith))
+
+    abbrev Helper : Bool → Type 0
+    Helper long = long ≡ true → Helpers
+
+    aligned_fine : (long : Bool) → Helper long → (at : ℕ) (xs : List ℕ) → at + length xs ≤ 2 ^ 28 → AreBytes xs → AllFine s a 9 (put_run long at xs)
+    aligned_fine true helper at xs h b = chunks_fine (length xs / 64) at at xs (omega arith) h b (omega arith) (helper refl)
+    aligned_fine false helper at xs h b = all_higher s a 3 9 (set_words at xs) (omega arith) (words_fine at xs h b)
+
+    nothing_fine : (long : Bool) (at : ℕ) → AllFine s a 9 (put_run long at [])
+    nothing_fine true at =
+        let is : (at == at) ≡ true = (Decides-eqb at at).1 refl in
+        subst (λ t. AllFine s a 9 ((if t then [] else simple_statement (tell data_zeros (literal at ∷ literal at ∷ [])) ∷ []) ++ [])) (sym is) tt
+    nothing_fine false at = tt
+
+    -- what is left of a run from a place on; where nothing is left the place may lie past its end
+    after_run : (long : Bool) → Helper long → (at n : ℕ) (xs : List ℕ) → at + length xs ≤ 2 ^ 28 → AreBytes xs → AllFine s a 9 (put_run long (at + n) (drop n xs))
+    after_run long helper at zero xs h b = aligned_fine long helper (at + 0) xs (omega (arith, h)) b
+    after_run long helper at (suc n) [] h b = nothing_fine long (at + suc n)
+    after_run long helper at (suc n) (x ∷ xs) h b =
+        let e : at + 1 + n ≡ at + suc n = omega arith in
+        subst (λ k. AllFine s a 9 (put_run long k (drop n xs))) e (after_run long helper (at + 1) n xs (omega (arith, h)) b.1)
+
+    run_fine : (long : Bool) → Helper long → (at : ℕ) (xs : List ℕ) → at + length xs ≤ 2 ^ 28 → AreBytes xs → AllFine s a 9 (set_run long at xs)
+    run_fine long helper at xs h b =
         let n = take_long (to_word at) xs in
-        all_join s a 3 (set_bytes at (take (to_word at) xs)) _ (bytes_fine at (take (to_word at) xs) (within at (length (take (to_word at) xs)) (length xs) n h) (taken (to_word at) xs b)) (after_run at (to_word at) xs h b)
+        all_join s a 9 (set_bytes at (take (to_word at) xs)) _
+        (all_higher s a 3 9 (set_bytes at (take (to_word at) xs)) (omega arith) (bytes_fine at (take (to_word at) xs) (within at (length (take (to_word at) xs)) (length xs) n h) (taken (to_word at) xs b)))
+        (after_run long helper at (to_word at) xs h b)
       where
         within : (at m n : ℕ) → m ≤ n → at + n ≤ 2 ^ 28 → at + m ≤ 2 ^ 28
         within at m n p q = omega (arith, p, q)
@@ -131,16 +227,18 @@ module _ (s : Scope) (a : Around) where
 
   record IsPut (d : DataSegment) : Type 0 where
     memory : HasMemory s
+    words : is_long d ≡ true → IsHelper s data_words 17 false
+    zeros : is_long d ≡ true → IsHelper s data_zeros 2 false
     inside : or_zero (constant_offset d.offset) + length d.bytes ≤ 2 ^ 28
     bytes : AllByRecursion (λ b. b < 256) d.bytes
 
-  segments_fine : (ds : List DataSegment) → AllByRecursion IsPut ds → AllFine s a 3 (flat_map segment_stmts ds)
+  segments_fine : (ds : List DataSegment) → AllByRecursion IsPut ds → AllFine s a 9 (flat_map segment_stmts ds)
   segments_fine [] h = tt
-  segments_fine (d ∷ ds) h = all_join s a 3 (segment_stmts d) _ (run_fine h.0.memory (or_zero (constant_offset d.offset)) d.bytes h.0.inside h.0.bytes) (segments_fine ds h.1)
+  segments_fine (d ∷ ds) h = all_join s a 9 (segment_stmts d) _ (run_fine h.0.memory (is_long d) (λ long. record { words = h.0.words long; zeros = h.0.zeros long }) (or_zero (constant_offset d.offset)) d.bytes h.0.inside h.0.bytes) (segments_fine ds h.1)
 
   -- ---- the start function
 
-  start_fine : (f : ℕ) → IsFunction s (numbered function f) (record { params = 0; result = false }) → AllFine s a 3 (start_stmts (Some f))
+  start_fine : (f : ℕ) → IsFunction s (numbered function f) (record { params = 0; result = false }) → AllFine s a 9 (start_stmts (Some f))
   start_fine f h =
       let e = h.is_this in
       let p : length h.function.params ≡ 0 = ap (λ (s : Signature). s.params) h.signature in
@@ -226,6 +324,20 @@ module _ (w : WasmModule) where
     memory_there : (d : DataSegment) → segment_rule w d ≡ None → has_memory w ≡ true
     memory_there d h = (and_parts (nat_eq d.memory 0) (has_memory w) (meets_none (is_memory_number w d.memory) _ _ h)).1
 
+    zeros_put : has_memory w ≡ true → has_long_segments w ≡ true → IsHelper s data_zeros 2 false
+    zeros_put has long = record {
+      function = zero_function;
+      is_this = is_seen w (fixed init) [] [] (flat_map segment_stmts w.segments ++ start_stmts w.start) refl refl (fixed data_zeros) (a_function zero_function) refl (zeros_found w has long);
+      signature = refl;
+    }
+
+    puts : has_memory w ≡ true → has_long_segments w ≡ true → IsHelper s data_words 17 false
+    puts has long = record {
+      function = put_function;
+      is_this = is_seen w (fixed init) [] [] (flat_map segment_stmts w.segments ++ start_stmts w.start) refl refl (fixed data_words) (a_function put_function) refl (put_found w has long);
+      signature = refl;
+    }
+
     put : (i : ℕ) (d : DataSegment) → slice_get w.segments i ≡ Some d → IsPut s at_top d
     put i d e =
         let limits = limited w source.within in
@@ -237,12 +349,14 @@ module _ (w : WasmModule) where
         let fits = at_place (λ (d : DataSegment). passes (constant_offset d.offset) (length d.bytes) (memory_bytes w) ≡ false) w.segments i d (none_passes (memory_bytes w) outside.0 w.segments outside.1) e in
         record {
           memory = memories_are_provided w (fixed init) [] [] (flat_map segment_stmts w.segments ++ start_stmts w.start) refl refl (memory_there d rule);
+          words = λ long. puts (memory_there d rule) (long_among w.segments i d e long);
+          zeros = λ long. zeros_put (memory_there d rule) (long_among w.segments i d e long);
           inside = in_turn (inside_room (constant_offset d.offset) n.0 (length d.bytes) (memory_bytes w) n.1 fits) (memory_small w source);
           bytes = recursion_from_All (λ b. b < 256) d.bytes
               (at_place (λ (d : DataSegment). All (λ b. b < 256) d.bytes) w.segments i d (recursion_from_All (λ (d : DataSegment). All (λ b. b < 256) d.bytes) w.segments source.bytes) e);
         }
 
-    starts : (o : Option ℕ) → w.start ≡ o → AllFine s at_top 3 (start_stmts o)
+    starts : (o : Option ℕ) → w.start ≡ o → AllFine s at_top 9 (start_stmts o)
     starts None e = tt
     starts (Some f) e =
         let one : 0 < start_count w.start = subst (λ o. 0 < start_count o) (sym e) (omega arith) in
@@ -254,8 +368,8 @@ module _ (w : WasmModule) where
     fine : IsFineFunction (translated w) of_trap (init_function w)
     fine =
         let ss = flat_map segment_stmts w.segments ++ start_stmts w.start in
-        made_of_fine (translated w) (fixed init) [] [] ss 3 (omega arith)
-        (together s at_top 3 ss (all_join s at_top 3 (flat_map segment_stmts w.segments) _ (segments_fine s at_top w.segments (all_from_places (IsPut s at_top) w.segments put)) (starts w.start refl))) (omega arith) (omega arith)
+        made_of_fine (translated w) (fixed init) [] [] ss 9 (omega arith)
+        (together s at_top 9 ss (all_join s at_top 9 (flat_map segment_stmts w.segments) _ (segments_fine s at_top w.segments (all_from_places (IsPut s at_top) w.segments put)) (starts w.start refl))) (omega arith) (omega arith)
 
 pub init_is_fine : InitIsFine
 init_is_fine w source given = fine w source given

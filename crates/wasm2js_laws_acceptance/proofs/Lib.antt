@@ -2,6 +2,7 @@ pub mod ProvidedOrder
 pub mod ProvidedEntries
 pub mod ProvidedDeclared
 pub mod ProvidedFound
+pub mod ProvidedPut
 pub mod ProvidedWithin
 pub mod ProvidedGlobals
 pub mod ProvidedFunctions

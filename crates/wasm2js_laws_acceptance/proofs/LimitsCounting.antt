@@ -12,6 +12,7 @@ use Rattle.wasm_lang_valid.specs.Profile.{memory_bytes}
 use Rattle.wasm_lang_exec.specs.Fits.{GlobalImport, global_imports}
 use Rattle.wasm_lang_exec.specs.Reductions.{Callee, an_import, a_function, if_function, imported_callee, imported_callees, own_callees, callees}
 use Rattle.asm_lang.specs.Modules.{Function}
+use Rattle.wasm2js_lang.specs.Parts.Functions.{has_long_segments}
 use Rattle.wasm2js_translation.specs.Helpers.{wide_helpers, division_helpers, memory_helpers}
 use Rattle.wasm2js_translation.specs.Modules.{function_for, functions_from, init_function, high_function, helpers, functions_of, view_variables, fixed_variables, foreign_variables, imported_variables, first_values, own_variables, global_variables, variables_of}
 use Rattle.wasm2js_translation.specs.Tables.{MaskedTable, masked, is_needed, is_empty, is_other, stub_function, stubs_for, stubs}
@@ -84,15 +85,16 @@ module _ (w : WasmModule) where
       let c = stubs_few ts (a + 1) n in
       omega (arith, e, b, c)
 
-  helpers_few : length (helpers w) ≤ 17
+  helpers_few : length (helpers w) ≤ 19
   helpers_few =
-      let a = length-append (wide_helpers ++ division_helpers) (if has_memory w then memory_helpers (memory_bytes w) else []) in
-      let b = by (has_memory w) in
+      let a = length-append (wide_helpers ++ division_helpers) (if has_memory w then memory_helpers (memory_bytes w) (has_long_segments w) else []) in
+      let b = by (has_long_segments w) (has_memory w) in
       omega (arith, a, b)
     where
-      by : (b : Bool) → length (if b then memory_helpers (memory_bytes w) else []) ≤ 6
-      by true = omega arith
-      by false = omega arith
+      by : (long b : Bool) → length (if b then memory_helpers (memory_bytes w) long else []) ≤ 8
+      by true true = omega arith
+      by false true = omega arith
+      by long false = omega arith
 
   pub all_functions_few : IsLimited w → length (functions_of w) ≤ 50000
   all_functions_few limits =
@@ -101,7 +103,7 @@ module _ (w : WasmModule) where
       let c = length-append (helpers w) (functions_from w 0 (callees w)) in
       few _ _ _ _ _ _ _ a b c helpers_few (functions_few 0 (callees w)) (callees_few limits) (stubs_few (masked w) 0 4002)
     where
-      few : (all front source h f s cs : ℕ) → all ≡ front + 2 → front ≡ source + s → source ≡ h + f → h ≤ 17 → f ≤ cs → cs ≤ 20000 → s ≤ 2 * 4002 → all ≤ 50000
+      few : (all front source h f s cs : ℕ) → all ≡ front + 2 → front ≡ source + s → source ≡ h + f → h ≤ 19 → f ≤ cs → cs ≤ 20000 → s ≤ 2 * 4002 → all ≤ 50000
       few all front source h f s cs a b c d e g i = omega (arith, a, b, c, d, e, g, i)
 
   -- ---- foreign calls

@@ -14,9 +14,10 @@ use Rattle.asm_lang.specs.Modules.{Variable, Param, Function, Module}
 use Rattle.asm_lang_valid.specs.Rows.{body_at, function_count}
 use Rattle.asm_lang_valid.specs.Scope.{is_in}
 use Rattle.asm_lang_valid.specs.NameRows.{global_texts, declares, params_names, locals_names, param_texts, function_names, functions_names}
-use Rattle.wasm2js_translation.specs.Names.{Name, spelled, Rises}
+use Rattle.wasm2js_lang.specs.Parts.Functions.{has_long_segments}
+use Rattle.wasm2js_translation.specs.Names.{Name, spelled, rank, RisesFrom, Rises}
 use Rattle.wasm2js_lang.specs.Tables.{MaskedTable, masked}
-use Rattle.wasm2js_translation.specs.Helpers.{int_param, zero_variable, argument, own, one_argument, two_arguments, three_arguments, wide_helpers, division_helpers, memory_helpers}
+use Rattle.wasm2js_translation.specs.Helpers.{int_param, zero_variable, argument, own, one_argument, two_arguments, three_arguments, wide_helpers, division_helpers, arguments_after, data_helpers, memory_helpers}
 use Rattle.wasm2js_translation.specs.Modules.{param_names, context_of, wrapper_locals, function_for, functions_from, init_function, high_function, helpers, functions_of, translated}
 use Rattle.wasm2js_translation.specs.Pairs.{local_pair, operand_pair, names_of}
 use Rattle.wasm2js_translation.specs.Rooms.{Room, body_room, local_names, operand_names, declared_names}
@@ -124,8 +125,16 @@ wide_once = (
 division_once : AllByRecursion DeclaresOnce division_helpers
 division_once = (once _ two_arguments [] refl refl two_rise, (once _ two_arguments [] refl refl two_rise, (once _ two_arguments [] refl refl two_rise, (once _ two_arguments [] refl refl two_rise, tt))))
 
-memory_once : (bytes : ℕ) → AllByRecursion DeclaresOnce (memory_helpers bytes)
-memory_once bytes = (
+words_rise : (i n : ℕ) → RisesFrom (rank (argument i)) (arguments_after (suc i) n)
+words_rise i zero = tt
+words_rise i (suc n) = (inr (refl, omega arith), words_rise (suc i) n)
+
+data_once : (long : Bool) → AllByRecursion DeclaresOnce (data_helpers long)
+data_once true = (once _ (arguments_after 0 17) [] refl refl (words_rise 0 16), (once _ two_arguments [] refl refl two_rise, tt))
+data_once false = tt
+
+memory_once : (bytes : ℕ) (long : Bool) → AllByRecursion DeclaresOnce (memory_helpers bytes long)
+memory_once bytes long = (
   once _ one_argument [] refl refl one_rises,
   (
     once _ one_argument [] refl refl one_rises,
@@ -133,17 +142,17 @@ memory_once bytes = (
       once _ two_arguments [] refl refl two_rise,
       (
         once _ three_arguments [] refl refl three_rise,
-        (once _ three_arguments (own 0 ∷ []) refl refl three_and_own, (once _ three_arguments (own 0 ∷ own 1 ∷ []) refl refl three_and_two, tt)),
+        (once _ three_arguments (own 0 ∷ []) refl refl three_and_own, (once _ three_arguments (own 0 ∷ own 1 ∷ []) refl refl three_and_two, data_once long)),
       ),
     ),
   ),
 )
 
-helpers_once : (bytes : ℕ) (b : Bool) → AllByRecursion DeclaresOnce (wide_helpers ++ division_helpers ++ (if b then memory_helpers bytes else []))
-helpers_once bytes b = all_join DeclaresOnce (wide_helpers ++ division_helpers) (if b then memory_helpers bytes else []) (all_join DeclaresOnce wide_helpers division_helpers wide_once division_once) (by b)
+helpers_once : (bytes : ℕ) (long b : Bool) → AllByRecursion DeclaresOnce (wide_helpers ++ division_helpers ++ (if b then memory_helpers bytes long else []))
+helpers_once bytes long b = all_join DeclaresOnce (wide_helpers ++ division_helpers) (if b then memory_helpers bytes long else []) (all_join DeclaresOnce wide_helpers division_helpers wide_once division_once) (by b)
   where
-    by : (b : Bool) → AllByRecursion DeclaresOnce (if b then memory_helpers bytes else [])
-    by true = memory_once bytes
+    by : (b : Bool) → AllByRecursion DeclaresOnce (if b then memory_helpers bytes long else [])
+    by true = memory_once bytes long
     by false = tt
 
 -- ---- functions of the source
@@ -256,7 +265,7 @@ pub all_once : (w : WasmModule) → AllByRecursion DeclaresOnce (functions_of w)
 all_once w =
     all_join DeclaresOnce ((helpers w ++ functions_from w 0 (callees w)) ++ stubs w) (init_function w ∷ high_function ∷ [])
     (all_join DeclaresOnce (helpers w ++ functions_from w 0 (callees w)) (stubs w)
-    (all_join DeclaresOnce (helpers w) (functions_from w 0 (callees w)) (helpers_once (memory_bytes w) (has_memory w)) (callees_once w 0 (callees w)))
+    (all_join DeclaresOnce (helpers w) (functions_from w 0 (callees w)) (helpers_once (memory_bytes w) (has_long_segments w) (has_memory w)) (callees_once w 0 (callees w)))
     (all_flat DeclaresOnce (stubs_for w (masked w)) stub_numbers (stub_once w (masked w))))
     (once _ [] [] refl refl tt, (once _ [] [] refl refl tt, tt))
 

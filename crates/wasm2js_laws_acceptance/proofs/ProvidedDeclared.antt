@@ -11,6 +11,7 @@ use Rattle.wasm_lang_exec.specs.Reductions.{Callee, an_import, a_function, calle
 use Rattle.wasm_lang_exec.specs.Fits.{GlobalImport, global_imports}
 use Rattle.asm_lang.specs.Modules.{Variable, Function, Table}
 use Rattle.asm_lang_valid.specs.NameRows.{global_texts, function_texts}
+use Rattle.wasm2js_lang.specs.Parts.Functions.{has_long_segments}
 use Rattle.wasm2js_translation.specs.Names as names
 use Rattle.wasm2js_translation.specs.Names.{Name, numbered, fixed, spelled, Rises}
 use Rattle.wasm2js_lang.specs.Tables.{MaskedTable, masked_from, masked, cells_of}
@@ -62,14 +63,15 @@ own_names k (g ∷ gs) = first_names k g.init ++ own_names (suc k) gs
 abbrev pub numbered_names : WasmModule → List Name
 numbered_names w = let given = global_imports w.imports in imported_names 0 given ++ own_names (length given) w.globals
 
-abbrev pub memory_names : Bool → List Name
-memory_names true = fixed names.load_32 ∷ fixed names.load_64 ∷ fixed names.store_32 ∷ fixed names.store_64 ∷ fixed names.copy ∷ fixed names.fill ∷ []
-memory_names false = []
+abbrev pub memory_names : (long memory : Bool) → List Name
+memory_names true true = fixed names.load_32 ∷ fixed names.load_64 ∷ fixed names.store_32 ∷ fixed names.store_64 ∷ fixed names.copy ∷ fixed names.fill ∷ fixed names.data_words ∷ fixed names.data_zeros ∷ []
+memory_names false true = fixed names.load_32 ∷ fixed names.load_64 ∷ fixed names.store_32 ∷ fixed names.store_64 ∷ fixed names.copy ∷ fixed names.fill ∷ []
+memory_names long false = []
 
-abbrev pub helper_names : Bool → List Name
-helper_names b =
+abbrev pub helper_names : (long memory : Bool) → List Name
+helper_names long b =
     fixed names.shift_left ∷ fixed names.shift_right_signed ∷ fixed names.shift_right ∷ fixed names.rotate_left ∷ fixed names.leading_zeros ∷ fixed names.trailing_zeros ∷ fixed names.set_bits
-    ∷ fixed names.divide_signed ∷ fixed names.divide ∷ fixed names.remainder_signed ∷ fixed names.remainder ∷ memory_names b
+    ∷ fixed names.divide_signed ∷ fixed names.divide ∷ fixed names.remainder_signed ∷ fixed names.remainder ∷ memory_names long b
 
 abbrev pub callee_names : (k : ℕ) → Option Callee → List Name
 callee_names k None = []
@@ -97,7 +99,7 @@ abbrev pub global_names : WasmModule → List Name
 global_names w = head_names (has_memory w) ++ (foreign_names 0 (callees w) ++ numbered_names w)
 
 abbrev pub function_names : WasmModule → List Name
-function_names w = helper_names (has_memory w) ++ (callees_names 0 (callees w) ++ (flat_map (stub_names w (masked w)) stub_numbers ++ last_names))
+function_names w = helper_names (has_long_segments w) (has_memory w) ++ (callees_names 0 (callees w) ++ (flat_map (stub_names w (masked w)) stub_numbers ++ last_names))
 
 abbrev pub declared_names : WasmModule → List Name
 declared_names w = global_names w ++ (function_names w ++ table_names (masked w))
@@ -155,9 +157,11 @@ globals_are_named w =
     (numbered_texts w)
     ∙ ap spellings (append_assoc (head_names (has_memory w)) (foreign_names 0 (callees w)) (numbered_names w))
 
-helper_texts : (bytes : ℕ) (b : Bool) → texts_of (wide_helpers ++ division_helpers ++ (if b then memory_helpers bytes else [])) ≡ spellings (helper_names b)
-helper_texts bytes true = refl
-helper_texts bytes false = refl
+helper_texts : (bytes : ℕ) (long b : Bool) → texts_of (wide_helpers ++ division_helpers ++ (if b then memory_helpers bytes long else [])) ≡ spellings (helper_names long b)
+helper_texts bytes true true = refl
+helper_texts bytes false true = refl
+helper_texts bytes true false = refl
+helper_texts bytes false false = refl
 
 callee_texts : (w : WasmModule) (k : ℕ) (c : Option Callee) → texts_of (function_for w k c) ≡ spellings (callee_names k c)
 callee_texts w k None = refl
@@ -183,12 +187,12 @@ stubs_texts w ts (n ∷ ns) = join_functions (stubs_for w ts n) (flat_map (stubs
 
 pub functions_are_named : (w : WasmModule) → function_texts (translated w) ≡ spellings (function_names w)
 functions_are_named w =
-    let a = helper_names (has_memory w) in
+    let a = helper_names (has_long_segments w) (has_memory w) in
     let b = callees_names 0 (callees w) in
     let c = flat_map (stub_names w (masked w)) stub_numbers in
     join_functions ((helpers w ++ functions_from w 0 (callees w)) ++ stubs w) (init_function w ∷ high_function ∷ []) ((a ++ b) ++ c) last_names
     (join_functions (helpers w ++ functions_from w 0 (callees w)) (stubs w) (a ++ b) c
-    (join_functions (helpers w) (functions_from w 0 (callees w)) a b (helper_texts (memory_bytes w) (has_memory w)) (callees_texts w 0 (callees w)))
+    (join_functions (helpers w) (functions_from w 0 (callees w)) a b (helper_texts (memory_bytes w) (has_long_segments w) (has_memory w)) (callees_texts w 0 (callees w)))
     (stubs_texts w (masked w) stub_numbers))
     refl
     ∙ ap spellings (append_assoc (a ++ b) c last_names ∙ append_assoc a b (c ++ last_names))
@@ -261,9 +265,11 @@ numbered_rises w =
     places_join 2 0 (2 * length given) (imported_names 0 given) (own_names (length given) w.globals) (omega arith) (imported_rises 0 given)
     (let e : 0 + length given ≡ length given = omega arith in subst (λ n. Reaches 2 (2 * n) (imported_names 0 given)) e (imported_reach 0 given)) (own_rises (length given) w.globals)
 
-helpers_rise : (b : Bool) → Places 3 0 (helper_names b)
-helpers_rise true = search rules depth 60
-helpers_rise false = search rules depth 60
+helpers_rise : (long b : Bool) → Places 3 0 (helper_names long b)
+helpers_rise true true = search rules depth 60
+helpers_rise false true = search rules depth 60
+helpers_rise true false = search rules depth 60
+helpers_rise false false = search rules depth 60
 
 callees_rise : (k : ℕ) (cs : List (Option Callee)) → Places 4 k (callees_names k cs)
 callees_rise k [] = tt
@@ -306,7 +312,7 @@ abbrev later_of : WasmModule → List Name
 later_of w = flat_map (stub_names w (masked w)) stub_numbers ++ (last_names ++ table_names (masked w))
 
 abbrev regrouped : WasmModule → List Name
-regrouped w = head_names (has_memory w) ++ (foreign_names 0 (callees w) ++ (numbered_names w ++ (helper_names (has_memory w) ++ (callees_names 0 (callees w) ++ later_of w))))
+regrouped w = head_names (has_memory w) ++ (foreign_names 0 (callees w) ++ (numbered_names w ++ (helper_names (has_long_segments w) (has_memory w) ++ (callees_names 0 (callees w) ++ later_of w))))
 
 regrouped_rise : (w : WasmModule) → Rises (regrouped w)
 regrouped_rise w =
@@ -314,10 +320,10 @@ regrouped_rise w =
     let last = group_before 5 6 last_names (table_names (masked w)) 0 (omega arith) last_rise tables in
     let further = group_before 4 5 (flat_map (stub_names w (masked w)) stub_numbers) (last_names ++ table_names (masked w)) 0 (omega arith) (stubs_rise w (masked w) 0 4002) last in
     let functions = group_before 3 4 (callees_names 0 (callees w)) (later_of w) 0 (omega arith) (callees_rise 0 (callees w)) further in
-    let helped = group_before 2 3 (helper_names (has_memory w)) (callees_names 0 (callees w) ++ later_of w) 0 (omega arith) (helpers_rise (has_memory w)) functions in
-    let globals = group_before 1 2 (numbered_names w) (helper_names (has_memory w) ++ (callees_names 0 (callees w) ++ later_of w)) 0 (omega arith) (numbered_rises w) helped in
-    let imported = group_before 0 1 (foreign_names 0 (callees w)) (numbered_names w ++ (helper_names (has_memory w) ++ (callees_names 0 (callees w) ++ later_of w))) 0 (omega arith) (foreign_rises 0 (callees w)) globals in
-    first_group 0 0 (head_names (has_memory w)) (foreign_names 0 (callees w) ++ (numbered_names w ++ (helper_names (has_memory w) ++ (callees_names 0 (callees w) ++ later_of w)))) (head_rises (has_memory w)) imported
+    let helped = group_before 2 3 (helper_names (has_long_segments w) (has_memory w)) (callees_names 0 (callees w) ++ later_of w) 0 (omega arith) (helpers_rise (has_long_segments w) (has_memory w)) functions in
+    let globals = group_before 1 2 (numbered_names w) (helper_names (has_long_segments w) (has_memory w) ++ (callees_names 0 (callees w) ++ later_of w)) 0 (omega arith) (numbered_rises w) helped in
+    let imported = group_before 0 1 (foreign_names 0 (callees w)) (numbered_names w ++ (helper_names (has_long_segments w) (has_memory w) ++ (callees_names 0 (callees w) ++ later_of w))) 0 (omega arith) (foreign_rises 0 (callees w)) globals in
+    first_group 0 0 (head_names (has_memory w)) (foreign_names 0 (callees w) ++ (numbered_names w ++ (helper_names (has_long_segments w) (has_memory w) ++ (callees_names 0 (callees w) ++ later_of w)))) (head_rises (has_memory w)) imported
 
 regroup : (a b c d e f g h : List Name) → a ++ (b ++ (c ++ (d ++ (e ++ (f ++ (g ++ h)))))) ≡ (a ++ (b ++ c)) ++ ((d ++ (e ++ (f ++ g))) ++ h)
 regroup a b c d e f g h =
@@ -328,5 +334,5 @@ regroup a b c d e f g h =
 pub declared_names_rise : (w : WasmModule) → Rises (declared_names w)
 declared_names_rise w =
     subst Rises
-    (regroup (head_names (has_memory w)) (foreign_names 0 (callees w)) (numbered_names w) (helper_names (has_memory w)) (callees_names 0 (callees w)) (flat_map (stub_names w (masked w)) stub_numbers) last_names (table_names (masked w)))
+    (regroup (head_names (has_memory w)) (foreign_names 0 (callees w)) (numbered_names w) (helper_names (has_long_segments w) (has_memory w)) (callees_names 0 (callees w)) (flat_map (stub_names w (masked w)) stub_numbers) last_names (table_names (masked w)))
     (regrouped_rise w)

@@ -78,16 +78,16 @@ same_is_followed by c z p r s (spent x) same h = record {
 }
 same_is_followed by c z p r s wrong same h = tt
 
-free_lower : (by : Comparison) → KeepsOrder by → (c z : ℕ) (p q : Place) (r : Rest) (later : List EventPlain)
-    → p.units ≡ q.units + 1 → IsPrefix p.events q.events → Lower by c z q.units r q.events later → Lower by c (z + 1) p.units r p.events later
-free_lower by keeps c z p q r later units more (reached low below enough) = reached low below (omega (arith, units, enough))
-free_lower by keeps c z p q r later units more (before h few) = before (prefix_trans _ _ _ (keeps.target p.events q.events more) h) (omega (arith, units, few))
+free_lower : (by : Comparison) → KeepsOrder by → (c z u : ℕ) (p q : Place) (r : Rest) (later : List EventPlain)
+    → p.units ≡ q.units + u → IsPrefix p.events q.events → Lower by c z q.units r q.events later → Lower by c (z + u) p.units r p.events later
+free_lower by keeps c z u p q r later units more (reached low below enough) = reached low below (omega (arith, units, enough))
+free_lower by keeps c z u p q r later units more (before h few) = before (prefix_trans _ _ _ (keeps.target p.events q.events more) h) (omega (arith, units, few))
 
 pub free_units : FreeUnits
-free_units by keeps c z p q r (goes t x) units more h = h
-free_units by keeps c z p q r (stops e x) units more h = h
-free_units by keeps c z p q r (spent x) units more h = record { high = h.high; no_more = h.no_more; lower = free_lower by keeps c z p q r x.events units more h.lower }
-free_units by keeps c z p q r wrong units more h = tt
+free_units by keeps c z u p q r (goes t x) units more h = h
+free_units by keeps c z u p q r (stops e x) units more h = h
+free_units by keeps c z u p q r (spent x) units more h = record { high = h.high; no_more = h.no_more; lower = free_lower by keeps c z u p q r x.events units more h.lower }
+free_units by keeps c z u p q r wrong units more h = tt
 
 -- ---- whole sessions
 
@@ -100,13 +100,13 @@ apart zero a b n e = omega arith
 apart (suc c) a b n e = let h = apart c a b n e in omega (arith, e, h)
 
 -- with more than `low` reductions before it the target would have had more units
-too_many : (c z calls bytes low more n : ℕ) → 1 ≤ c → z ≤ calls + 1 → n < c * (low + 1) + z → c * ((low + 1 + more) + calls + bytes + 1) ≤ n → ⊥
+too_many : (c z calls bytes low more n : ℕ) → 1 ≤ c → z ≤ calls + bytes + 1 → n < c * (low + 1) + z → c * ((low + 1 + more) + calls + bytes + 1) ≤ n → ⊥
 too_many c z calls bytes low more n one free few many =
     let e : c * ((low + 1 + more) + calls + bytes + 1) ≡ c * (low + 1) + c * (more + calls + bytes + 1) = apart c (low + 1) (more + calls + bytes + 1) _ (omega arith) in
     let l = at_least c (more + calls + bytes + 1) one in
     omega (arith, free, few, many, e, l)
 
-few_reductions : (c z calls bytes low m n : ℕ) → 1 ≤ c → z ≤ calls + 1 → n < c * (low + 1) + z → c * (m + calls + bytes + 1) ≤ n → m ≤ low
+few_reductions : (c z calls bytes low m n : ℕ) → 1 ≤ c → z ≤ calls + bytes + 1 → n < c * (low + 1) + z → c * (m + calls + bytes + 1) ≤ n → m ≤ low
 few_reductions c z calls bytes low m n one free few many = ⊎_elim (λ h. absurd (by h)) (λ h. omega (arith, h)) (cases_lt low m)
   where
     by : low < m → ⊥
@@ -114,7 +114,7 @@ few_reductions c z calls bytes low m n one free few many = ⊎_elim (λ h. absur
         let e : m ≡ low + 1 + (m - (low + 1)) = omega (arith, h) in
         too_many c z calls bytes low (m - (low + 1)) n one free few (subst (λ k. c * (k + calls + bytes + 1) ≤ n) e many)
 
-none_reached : (c z calls bytes m n : ℕ) → 1 ≤ c → z ≤ calls + 1 → n < z → c * (m + calls + bytes + 1) ≤ n → ⊥
+none_reached : (c z calls bytes m n : ℕ) → 1 ≤ c → z ≤ calls + bytes + 1 → n < z → c * (m + calls + bytes + 1) ≤ n → ⊥
 none_reached c z calls bytes m n one free few many =
     let l = at_least c (m + calls + bytes + 1) one in
     omega (arith, free, few, many, l)
@@ -137,7 +137,7 @@ module _ (by : Comparison) (c z calls bytes : ℕ) (p : Place) (source target : 
         goes_on = λ none m many. absurd (subst (λ y. IsNone y.end → ⊥) is (λ n. cc n) none);
       }
 
-  spent_followed : (later : List EventPlain) (high : ℕ) → 1 ≤ c → z ≤ calls + 1 → Stands by p source → running later ≡ target p.units
+  spent_followed : (later : List EventPlain) (high : ℕ) → 1 ≤ c → z ≤ calls + bytes + 1 → Stands by p source → running later ≡ target p.units
       → TargetIsBelow by (running later) (source high) → Lower by c z p.units source p.events later → IsDone
   spent_followed later high one free st is no_more (reached low below few) = record {
     low = low;

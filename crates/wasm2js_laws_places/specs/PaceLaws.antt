@@ -24,11 +24,11 @@ StandsStill =
 abbrev pub SameIsFollowed : Type 0
 SameIsFollowed = (by : Comparison) (c z : ℕ) (p : Place) (r s : Rest) (run : Run (Unit {0})) → ((k : ℕ) → r k ≡ s k) → Follows by c z p s run → Follows by c z p r run
 
--- a unit that only the target takes
+-- units that only the target takes
 abbrev pub FreeUnits : Type 0
 FreeUnits =
-    (by : Comparison) → KeepsOrder by → (c z : ℕ) (p q : Place) (r : Rest) (run : Run (Unit {0}))
-    → p.units ≡ q.units + 1 → IsPrefix p.events q.events → Follows by c z q r run → Follows by c (z + 1) p r run
+    (by : Comparison) → KeepsOrder by → (c z u : ℕ) (p q : Place) (r : Rest) (run : Run (Unit {0}))
+    → p.units ≡ q.units + u → IsPrefix p.events q.events → Follows by c z q r run → Follows by c (z + u) p r run
 
 -- the target is out of units among those that no reduction pays for
 abbrev pub UnpaidStops : Type 0
@@ -36,9 +36,9 @@ UnpaidStops =
     (by : Comparison) → KeepsOrder by → (c z high : ℕ) (p q : Place) (r : Rest)
     → p.units < z → IsPrefix p.events q.events → TargetIsBelow by (running q.events) (r high) → Follows by c z p r (spent q)
 
--- a whole session, of which no more than one unit and one for each call aren't paid for
+-- a whole session, of which no more than one unit, one for each call and one for each of so many bytes aren't paid for
 abbrev pub FollowedFromTheStart : Type 0
 FollowedFromTheStart =
     (by : Comparison) (c z calls bytes : ℕ) (p : Place) (source target : Session) (run : Run (Unit {0}))
-    → 1 ≤ c → z ≤ calls + 1 → Stands by p source → observed run ≡ Some (target p.units)
+    → 1 ≤ c → z ≤ calls + bytes + 1 → Stands by p source → observed run ≡ Some (target p.units)
     → Follows by c z p source run → IsFollowed by source target (λ m. c * (m + calls + bytes + 1)) p.units

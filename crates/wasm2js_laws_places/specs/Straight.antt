@@ -7,7 +7,7 @@ use Rattle.sem_words.specs.Words.{word_of, signed_of, add_of, sub_of, mul_of, sh
 use Rattle.heap_lang.specs.declared.kind.ViewKind.{ViewKind}
 use Rattle.heap_lang.specs.declared.kind.ViewKind.TheVariants.{I8, U8, I32}
 use Rattle.heap_lang.specs.Heap.{load, store}
-use Rattle.wasm2js_translation.specs.Names.{Fixed, Name, numbered, fixed, letter, fixed_rank, spare_high, init, last_high}
+use Rattle.wasm2js_translation.specs.Names.{Fixed, Name, numbered, fixed, letter, fixed_rank, spare_high, data_words, data_zeros, init, last_high}
 use Rattle.wasm2js_translation.specs.Words.{BitOp, conjunction, disjunction, exclusion, shift_left, shift_right_signed, shift_right, Relation, equal, unequal, less, at_most, greater, at_least, Term, read, number, both, flip, sum, product, zeros, compare, choose, byte, whole, Summands, no_more, further, Simple, put, ask, tell, guard, stop, write_byte, write_whole, Action, simply, either}
 
 -- ---- words of variables
@@ -95,8 +95,10 @@ values ts words heap = map (λ t. value t words heap) ts
 
 -- ---- helpers
 
--- what straight code may call: not the two functions that are there for the host
+-- what straight code may call: not what writes data segments, nor the two functions that are there for the host
 abbrev pub is_helper : Fixed → Bool
+is_helper data_words = false
+is_helper data_zeros = false
 is_helper init = false
 is_helper last_high = false
 is_helper f = true

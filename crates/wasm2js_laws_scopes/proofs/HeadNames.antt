@@ -16,6 +16,7 @@ use Rattle.asm_lang_valid.specs.Scope as scopes
 use Rattle.asm_lang_valid.specs.Scope.{is_in, Meaning, a_parameter, an_int, a_foreign, a_builtin, a_view, init_meaning, among_globals, among_functions, among_tables}
 use Rattle.asm_lang_valid.specs.Typing.{named}
 use Rattle.asm_lang_valid.specs.Typed.{scope_of}
+use Rattle.wasm2js_lang.specs.Parts.Functions.{has_long_segments}
 use Rattle.wasm2js_translation.specs.Names as names
 use Rattle.wasm2js_translation.specs.Names.{Name, Fixed, numbered, fixed, word, spelled}
 use Rattle.wasm2js_translation.proofs.Spelling.{spellings_are_usable}
@@ -130,18 +131,18 @@ module _ (w : WasmModule) (name : Name) (ps ls : List Name) (ss : List Stmt) (p 
   own_functions = functions_from w 0 (callees w) ++ (stubs w ++ init_function w ∷ high_function ∷ [])
 
   abbrev no_variable : Fixed → Meaning
-  no_variable f = among_functions ((wide_helpers ++ (division_helpers ++ (if has_memory w then memory_helpers (memory_bytes w) else []))) ++ own_functions) (word f) (among_tables (tables_for w) (word f))
+  no_variable f = among_functions ((wide_helpers ++ (division_helpers ++ (if has_memory w then memory_helpers (memory_bytes w) (has_long_segments w) else []))) ++ own_functions) (word f) (among_tables (tables_for w) (word f))
 
   in_order : variables_of w ≡ (if has_memory w then view_variables else []) ++ (fixed_variables ++ numbered_variables)
   in_order =
       append_assoc ((if has_memory w then view_variables else []) ++ fixed_variables) (foreign_variables 0 (callees w)) (global_variables w)
       ∙ append_assoc (if has_memory w then view_variables else []) fixed_variables numbered_variables
 
-  functions_in_order : functions_of w ≡ (wide_helpers ++ (division_helpers ++ (if has_memory w then memory_helpers (memory_bytes w) else []))) ++ own_functions
+  functions_in_order : functions_of w ≡ (wide_helpers ++ (division_helpers ++ (if has_memory w then memory_helpers (memory_bytes w) (has_long_segments w) else []))) ++ own_functions
   functions_in_order =
       append_assoc (helpers w ++ functions_from w 0 (callees w)) (stubs w) (init_function w ∷ high_function ∷ [])
       ∙ append_assoc (helpers w) (functions_from w 0 (callees w)) (stubs w ++ init_function w ∷ high_function ∷ [])
-      ∙ ap (λ fs. fs ++ own_functions) (append_assoc wide_helpers division_helpers (if has_memory w then memory_helpers (memory_bytes w) else []))
+      ∙ ap (λ fs. fs ++ own_functions) (append_assoc wide_helpers division_helpers (if has_memory w then memory_helpers (memory_bytes w) (has_long_segments w) else []))
 
   in_module : (f : Fixed) → named (scope_of (translated w) (function_of name ps ls ss)) (word f) ≡ among_globals (translated w) ((if has_memory w then view_variables else []) ++ (fixed_variables ++ numbered_variables)) (word f) (no_variable f)
   in_module f =
@@ -163,7 +164,7 @@ module _ (w : WasmModule) (name : Name) (ps ls : List Name) (ss : List Stmt) (p 
     high = in_module names.result_high ∙ high_is (translated w) numbered_variables (no_variable names.result_high) refl (has_memory w);
     helpers = λ f form h. record {
       function = helper_of (memory_bytes w) f;
-      is_this = helper_place f (wide_is_helper f form h) ∙ wide_found (memory_bytes w) f form (if has_memory w then memory_helpers (memory_bytes w) else []) own_functions (among_tables (tables_for w) (word f)) h;
+      is_this = helper_place f (wide_is_helper f form h) ∙ wide_found (memory_bytes w) f form (if has_memory w then memory_helpers (memory_bytes w) (has_long_segments w) else []) own_functions (among_tables (tables_for w) (word f)) h;
       signature = wide_signature (memory_bytes w) f form h;
     };
   }
@@ -177,8 +178,8 @@ module _ (w : WasmModule) (name : Name) (ps ls : List Name) (ss : List Stmt) (p 
       function = helper_of (memory_bytes w) f;
       is_this =
           helper_place f (memory_is_helper f form h)
-          ∙ ap (λ b. among_functions ((wide_helpers ++ (division_helpers ++ (if b then memory_helpers (memory_bytes w) else []))) ++ own_functions) (word f) (among_tables (tables_for w) (word f))) e
-          ∙ memory_found (memory_bytes w) f form own_functions (among_tables (tables_for w) (word f)) h;
+          ∙ ap (λ b. among_functions ((wide_helpers ++ (division_helpers ++ (if b then memory_helpers (memory_bytes w) (has_long_segments w) else []))) ++ own_functions) (word f) (among_tables (tables_for w) (word f))) e
+          ∙ memory_found (memory_bytes w) (has_long_segments w) f form own_functions (among_tables (tables_for w) (word f)) h;
       signature = memory_signature (memory_bytes w) f form h;
     };
   }

@@ -119,15 +119,15 @@ module _ (bytes : ℕ) where
   wide_signature names.remainder form h = cc h
   wide_signature f form h = absurd (cc h)
 
-  pub memory_found : (f : Fixed) (form : Signature) (rest : List Function) (o : Meaning) → memory_helper f ≡ Some form
-      → among_functions ((wide_helpers ++ (division_helpers ++ memory_helpers bytes)) ++ rest) (word f) o ≡ a_function (helper_of f)
-  memory_found names.load_32 form rest o h = refl
-  memory_found names.load_64 form rest o h = refl
-  memory_found names.store_32 form rest o h = refl
-  memory_found names.store_64 form rest o h = refl
-  memory_found names.copy form rest o h = refl
-  memory_found names.fill form rest o h = refl
-  memory_found f form rest o h = absurd (cc h)
+  pub memory_found : (long : Bool) (f : Fixed) (form : Signature) (rest : List Function) (o : Meaning) → memory_helper f ≡ Some form
+      → among_functions ((wide_helpers ++ (division_helpers ++ memory_helpers bytes long)) ++ rest) (word f) o ≡ a_function (helper_of f)
+  memory_found long names.load_32 form rest o h = refl
+  memory_found long names.load_64 form rest o h = refl
+  memory_found long names.store_32 form rest o h = refl
+  memory_found long names.store_64 form rest o h = refl
+  memory_found long names.copy form rest o h = refl
+  memory_found long names.fill form rest o h = refl
+  memory_found long f form rest o h = absurd (cc h)
 
   pub memory_signature : (f : Fixed) (form : Signature) → memory_helper f ≡ Some form → signature_of (helper_of f) ≡ form
   memory_signature names.load_32 form h = cc h

@@ -107,6 +107,8 @@ module _ (w : WasmModule) (bound : ℕ) where
   helper_helps names.store_64 g h e = with_memory names.store_64 store_64_function g e (λ i. store_words_help (translated w) (bytes_are_seen i) bound (memory_bytes w))
   helper_helps names.copy g h e = with_memory names.copy (copy_function (memory_bytes w)) g e (λ i. copy_helps (translated w) (views_are_seen i) (memory_bytes w) bound)
   helper_helps names.fill g h e = with_memory names.fill (fill_function (memory_bytes w)) g e (λ i. fill_helps (translated w) (views_are_seen i) (memory_bytes w) bound)
+  helper_helps names.data_words g h e = absurd (cc h)
+  helper_helps names.data_zeros g h e = absurd (cc h)
   helper_helps names.init g h e = absurd (cc h)
   helper_helps names.last_high g h e = absurd (cc h)
 

@@ -10,6 +10,7 @@ use Rattle.wasm_lang_valid.specs.Profile.{memory_bytes}
 use Rattle.wasm_lang_exec.specs.Reductions.{Callee, callees}
 use Rattle.asm_lang.specs.Modules.{Variable, Function, Table}
 use Rattle.asm_lang_valid.specs.Scope.{Meaning, nothing, a_parameter, a_function, a_table, init_meaning, among_globals, among_functions, among_tables, module_meaning}
+use Rattle.wasm2js_lang.specs.Parts.Functions.{has_long_segments}
 use Rattle.wasm2js_translation.specs.Names as names
 use Rattle.wasm2js_translation.specs.Names.{Name, Fixed, numbered, fixed, word, spelled}
 use Rattle.wasm2js_translation.proofs.Spelling.{spellings_differ}
@@ -70,12 +71,16 @@ stubs_always w ts (n ∷ ns) =
     (only_always (is_needed w ts is_empty n) names.no_entry n) (only_always (is_needed w ts is_other n) names.other_entry n))
     (stubs_always w ts ns)
 
+no_memory : (long : Bool) → list_all is_always (helper_names long false) ≡ true
+no_memory true = refl
+no_memory false = refl
+
 functions_always : (w : WasmModule) → has_memory w ≡ false → list_all is_always (function_names w) ≡ true
 functions_always w e =
     let cs = callees_names 0 (callees w) in
     let ss = flat_map (stub_names w (masked w)) stub_numbers in
-    subst (λ b. list_all is_always (helper_names b ++ (cs ++ (ss ++ last_names))) ≡ true) (sym e)
-    (all_of_both (helper_names false) (cs ++ (ss ++ last_names)) refl
+    subst (λ b. list_all is_always (helper_names (has_long_segments w) b ++ (cs ++ (ss ++ last_names))) ≡ true) (sym e)
+    (all_of_both (helper_names (has_long_segments w) false) (cs ++ (ss ++ last_names)) (no_memory (has_long_segments w))
     (all_of_both cs (ss ++ last_names) (callees_always 0 (callees w)) (all_of_both ss last_names (stubs_always w (masked w) stub_numbers) refl)))
 
 tables_always : (ts : List MaskedTable) → list_all is_always (table_names ts) ≡ true
@@ -172,7 +177,7 @@ module _ (w : WasmModule) where
       is
 
   abbrev memory_functions : List Function
-  memory_functions = if has_memory w then memory_helpers (memory_bytes w) else []
+  memory_functions = if has_memory w then memory_helpers (memory_bytes w) (has_long_segments w) else []
 
   wide_found : (g : Function) (f : Fixed) → In g wide_helpers → g.name ≡ word f → module_meaning (translated w) (word f) ≡ a_function g
   wide_found g f h is = helper_found g f (in_left g (wide_helpers ++ division_helpers) memory_functions (in_left g wide_helpers division_helpers h)) is
@@ -180,10 +185,10 @@ module _ (w : WasmModule) where
   division_found : (g : Function) (f : Fixed) → In g division_helpers → g.name ≡ word f → module_meaning (translated w) (word f) ≡ a_function g
   division_found g f h is = helper_found g f (in_left g (wide_helpers ++ division_helpers) memory_functions (in_right g wide_helpers division_helpers h)) is
 
-  memory_found : (g : Function) (f : Fixed) → has_memory w ≡ true → In g (memory_helpers (memory_bytes w)) → g.name ≡ word f → module_meaning (translated w) (word f) ≡ a_function g
+  memory_found : (g : Function) (f : Fixed) → has_memory w ≡ true → In g (memory_helpers (memory_bytes w) (has_long_segments w)) → g.name ≡ word f → module_meaning (translated w) (word f) ≡ a_function g
   memory_found g f e h is =
       helper_found g f
-      (in_right g (wide_helpers ++ division_helpers) memory_functions (subst (λ b. In g (if b then memory_helpers (memory_bytes w) else [])) (sym e) h)) is
+      (in_right g (wide_helpers ++ division_helpers) memory_functions (subst (λ b. In g (if b then memory_helpers (memory_bytes w) (has_long_segments w) else [])) (sym e) h)) is
 
   last_found : (g : Function) (f : Fixed) → In g (init_function w ∷ high_function ∷ []) → g.name ≡ word f → module_meaning (translated w) (word f) ≡ a_function g
   last_found g f h is = function_found w g (fixed f) (in_right g ((helpers w ++ functions_from w 0 (callees w)) ++ stubs w) (init_function w ∷ high_function ∷ []) h) is
@@ -223,6 +228,8 @@ module _ (w : WasmModule) where
   name_means names.store_64 = by_memory names.store_64 _ refl (λ e. memory_found store_64_function names.store_64 e (inr (inr (inr (inl refl)))) refl)
   name_means names.copy = by_memory names.copy _ refl (λ e. memory_found (copy_function (memory_bytes w)) names.copy e (inr (inr (inr (inr (inl refl))))) refl)
   name_means names.fill = by_memory names.fill _ refl (λ e. memory_found (fill_function (memory_bytes w)) names.fill e (inr (inr (inr (inr (inr (inl refl)))))) refl)
+  name_means names.data_words = refl
+  name_means names.data_zeros = refl
   name_means names.init = last_found (init_function w) names.init (inl refl) refl
   name_means names.last_high = last_found high_function names.last_high (inr (inl refl)) refl
 

@@ -66,7 +66,7 @@ module _ (w : WasmModule) (by : Comparison) (keeps : KeepsOrder by) (c z : ℕ) 
 
     by_units : (bound u : ℕ) → q.units ≡ u → Follows by c (z + 1) q r (and_then (paid u) (λ _. called bound) (shown q.units))
     by_units bound zero h = no_unit h
-    by_units bound (suc u) h = free_units by keeps c z q (shown u) r (called bound (shown u)) (omega (arith, h)) (e ∷ [], refl) (read_high u h)
+    by_units bound (suc u) h = free_units by keeps c z 1 q (shown u) r (called bound (shown u)) (omega (arith, h)) (e ∷ [], refl) (read_high u h)
 
     pub high_called : (bound : ℕ) → q.units ≤ bound → IsHigh (call_at_to (translated w) bound high_function [] next)
     high_called zero few = no_unit (omega (arith, few))

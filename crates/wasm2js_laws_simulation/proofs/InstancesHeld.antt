@@ -38,14 +38,14 @@ module _ (entries : EntriesAreTheTable) (w : WasmModule) (source : IsSource w) (
   abbrev x : Setting
   x = setting_of w s
 
-  lying : AllByRecursion (IsLying (init_scope w source) (memory_bytes w)) w.segments
+  lying : AllByRecursion (IsLying (translated w) (init_scope w source) (memory_bytes w)) w.segments
   lying = all_lie w source
 
   inside : AllByRecursion (FitsIn (memory_bytes w)) w.segments
-  inside = all_map (IsLying (init_scope w source) (memory_bytes w)) (FitsIn (memory_bytes w)) w.segments (λ d h. (h.inside, All-from_recursion (λ b. b < 256) d.bytes h.bytes)) lying
+  inside = all_map (IsLying (translated w) (init_scope w source) (memory_bytes w)) (FitsIn (memory_bytes w)) w.segments (λ d h. (h.inside, All-from_recursion (λ b. b < 256) d.bytes h.bytes)) lying
 
   constant : AllByRecursion (λ (d : DataSegment). IsConstant d.offset) w.segments
-  constant = all_map (IsLying (init_scope w source) (memory_bytes w)) (λ (d : DataSegment). IsConstant d.offset) w.segments (λ d h. h.constant) lying
+  constant = all_map (IsLying (translated w) (init_scope w source) (memory_bytes w)) (λ (d : DataSegment). IsConstant d.offset) w.segments (λ d h. h.constant) lying
 
   abbrev after : List ℕ
   after = heap_after w source called s fit inside
@@ -57,7 +57,7 @@ module _ (entries : EntriesAreTheTable) (w : WasmModule) (source : IsSource w) (
   all_fit =
       and_from (entries_fit first w.elements) (bytes_fit first w.segments) (entries_fit_first w s profile)
       (bytes_fit_in first w.segments
-      (all_map (IsLying (init_scope w source) (memory_bytes w)) (λ (d : DataSegment). IsConstant d.offset × (or_zero (constant_offset d.offset) + length d.bytes ≤ length first.memory)) w.segments
+      (all_map (IsLying (translated w) (init_scope w source) (memory_bytes w)) (λ (d : DataSegment). IsConstant d.offset × (or_zero (constant_offset d.offset) + length d.bytes ≤ length first.memory)) w.segments
       (λ d h. (h.constant, subst (λ n. or_zero (constant_offset d.offset) + length d.bytes ≤ n) (sym (memory_long w source called s fit)) h.inside)) lying))
 
   words_are : (units : ℕ) → word_at (begins_with w s after units) ≡ word_at (begins_at w s 0)
@@ -75,7 +75,7 @@ module _ (entries : EntriesAreTheTable) (w : WasmModule) (source : IsSource w) (
   pub is_stored : IsStored w s
   is_stored = record {
     heap = after;
-    stores = λ calls bound units next. segments_are_stored w source calls bound next (begins_at w s units) (heap_holds w source called s fit);
+    stores = λ bound units next room. segments_are_stored w source bound next (begins_at w s units) (heap_holds w source called s fit) room;
     fit = all_fit;
     world = λ units. record {
       match = match_start;

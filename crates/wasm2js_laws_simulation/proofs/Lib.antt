@@ -32,6 +32,8 @@ pub mod FollowedBodies
 pub mod FollowedHosts
 pub mod StartInit
 pub mod SegmentsLying
+pub mod SegmentsPut
+pub mod SegmentsZeros
 pub mod SegmentsStored
 pub mod InstancesMemory
 pub mod InstancesInstance

@@ -28,6 +28,8 @@ use Rattle.wasm2js_laws_acceptance.proofs.AcceptedWhole.{translations_are_accept
 use Rattle.wasm2js_laws_places.specs.Following.{Follows}
 use Rattle.wasm2js_laws_places.proofs.Paced.{followed_from_the_start}
 use Rattle.wasm2js_laws_simulation.proofs.HostCalls.{host_calls_follow}
+use Rattle.wasm2js_laws_simulation.specs.SegmentsLaws.{segments_units}
+use Rattle.wasm2js_laws_simulation.proofs.SegmentsStored.{segments_few}
 use Rattle.wasm2js_laws_simulation.specs.StartLaws.{begins_at}
 use Rattle.wasm2js_laws_simulation.proofs.StartInit.{init_follows}
 use Rattle.wasm2js_laws_simulation.proofs.StartHigh.{no_high_word}
@@ -64,7 +66,7 @@ module _ (held : StoresAreHeld) where
       abbrev run_of : ℕ → Run (Unit {0})
       run_of n = host_calls_to (call_at_to (translated w) n) (translated w) (script_for w s).calls gives (begins_at w s n)
 
-      follows : (n : ℕ) → Follows by pace (length s.calls + 1) (begins_at w s n) (source_session w s) (run_of n)
+      follows : (n : ℕ) → Follows by pace (length s.calls + segments_units w.segments + 1) (begins_at w s n) (source_session w s) (run_of n)
       follows n =
           init_follows w s pace ready.source ready.called ready.some ready.follow (held w ready.source ready.words ready.called s fit)
           (λ bound. host_calls_follow w s pace bound s.calls ready.source ready.some ready.follow calls_fit) n
@@ -80,8 +82,8 @@ module _ (held : StoresAreHeld) where
 
       pub followed : (n : ℕ) → IsFollowed by (source_session w s) (target_session w (translated w) s) (λ m. pace * (m + length s.calls + segment_bytes w.segments + 1)) n
       followed n =
-          followed_from_the_start by pace (length s.calls + 1) (length s.calls) (segment_bytes w.segments) (begins_at w s n) (source_session w s) (target_session w (translated w) s) (run_of n)
-          ready.some (omega arith) (record { events = []; is_running = refl; match = refl }) (seen n) (follows n)
+          followed_from_the_start by pace (length s.calls + segments_units w.segments + 1) (length s.calls) (segment_bytes w.segments) (begins_at w s n) (source_session w s) (target_session w (translated w) s) (run_of n)
+          ready.some (let few = segments_few w.segments in omega (arith, few)) (record { events = []; is_running = refl; match = refl }) (seen n) (follows n)
 
       pub simulate : Sim by (source_session w s) (target_session w (translated w) s)
           × ((m : ℕ) → SourceIsBelow by (source_session w s m) (target_session w (translated w) s (pace * (m + length s.calls + segment_bytes w.segments + 1))))

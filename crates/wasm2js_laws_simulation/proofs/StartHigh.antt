@@ -1,5 +1,5 @@
 -- A session of `$init` and `$hi`, where no start function runs: no statement of a segment touches the variable of the high word.
-use Rattle.std.proofs.Common.{◌≡◌, ℕ, ◌≤◌, Bool, true, false, List, [], ◌∷◌, ◌++◌, length, Option, Some, None, pos, refl, sym, ap, ◌∙◌}
+use Rattle.std.proofs.Common.{◌≡◌, ℕ, suc, ◌≤◌, Bool, true, false, List, [], ◌∷◌, ◌++◌, length, Option, Some, None, pos, refl, sym, ap, ◌∙◌, arith}
 use Rattle.std.specs.Prelude.{if◌then◌else◌, codes}
 use Rattle.std.specs.List.{flat_map}
 use Rattle.sem_words.specs.declared.js_value.JsValue.{JsValue}
@@ -22,7 +22,7 @@ use Rattle.asm_lang_valid.specs.Typing.{Scope}
 use Rattle.asm_lang_valid.specs.Typed.{scope_of}
 use Rattle.asm_lang_exec.specs.Runs.{Place, Run, goes, stops, spent, wrong, Part, after, and_then, defined, gives, value_in, back_to, add_event}
 use Rattle.asm_lang_exec.specs.Values.{word}
-use Rattle.asm_lang_exec.specs.Meaning.{Completion, returned, function_end, call_at}
+use Rattle.asm_lang_exec.specs.Meaning.{Completion, normal, returned, function_end, call_at}
 use Rattle.asm_lang_exec.specs.Session.{first_globals, first_place, result_event, host_calls, observed}
 use Rattle.asm_laws_continuation.specs.Following.{exec_all_to, unless_left_to, call_at_to, host_calls_to}
 use Rattle.asm_laws_continuation.proofs.Following.{sessions_follow}
@@ -35,7 +35,7 @@ use Rattle.wasm2js_translation.specs.Modules.{segment_stmts, start_stmts, init_f
 use Rattle.wasm2js_laws_scripts.proofs.Calls.{IsExported, exported_as_asked}
 use Rattle.wasm2js_laws_acceptance.specs.FunctionsFunctions.{IsSource}
 use Rattle.wasm2js_laws_preservation.proofs.ControlStepping.{appended}
-use Rattle.wasm2js_laws_simulation.specs.SegmentsLaws.{with_segments}
+use Rattle.wasm2js_laws_simulation.specs.SegmentsLaws.{with_segments, segments_units, Takes, through, short}
 use Rattle.wasm2js_laws_simulation.proofs.HostExports.{init_exported, high_exported}
 use Rattle.wasm2js_laws_simulation.proofs.SegmentsStored.{segments_are_stored}
 use Rattle.wasm2js_laws_simulation.proofs.InstancesMemory.{heap_holds}
@@ -61,18 +61,22 @@ module _ (w : WasmModule) (source : IsSource w) (asked : IsCalledAs w (translate
   abbrev a : text.Module
   a = translated w
 
+  -- the units of segments
+  abbrev cost : ℕ
+  cost = segments_units w.segments
+
   abbrev begins : Place
-  begins = first_place a (heap_bytes w) (asking_high s) 2
+  begins = first_place a (heap_bytes w) (asking_high s) (suc (suc cost))
 
   abbrev inside : Scope
   inside = scope_of a (init_function w)
 
   -- after `$init` took its unit, after the segments, and after `$init` is back
   abbrev entered : Place
-  entered = record begins { locals = []; units = 1 }
+  entered = record begins { locals = []; units = suc cost }
 
   abbrev stored : Place
-  stored = record entered { heap = with_segments w.segments begins.heap }
+  stored = record entered { heap = with_segments w.segments begins.heap; units = 1 }
 
   abbrev back : Place
   back = record stored { events = call_returned ∷ [] }
@@ -83,7 +87,7 @@ module _ (w : WasmModule) (source : IsSource w) (asked : IsCalledAs w (translate
   -- ---- `$hi`
 
   abbrev asks : Part (Unit {0})
-  asks = host_calls_to (call_at_to a 2) a (hi_call 0 ∷ []) gives
+  asks = host_calls_to (call_at_to a (suc (suc cost))) a (hi_call 0 ∷ []) gives
 
   abbrev answers : JsValue → Part (Unit {0})
   answers v = and_then (add_event (result_event high_function v)) gives
@@ -97,7 +101,7 @@ module _ (w : WasmModule) (source : IsSource w) (asked : IsCalledAs w (translate
 
   high_called : asks back ≡ goes tt last
   high_called =
-      ap (λ o. and_then (defined o) (λ g. call_at_to a 2 g [] (λ v. and_then (add_event (result_event g v)) gives)) back) (high_exported w)
+      ap (λ o. and_then (defined o) (λ g. call_at_to a (suc (suc cost)) g [] (λ v. and_then (add_event (result_event g v)) gives)) back) (high_exported w)
       ∙ ap read_as zero
 
   -- ---- `$init`
@@ -121,22 +125,34 @@ module _ (w : WasmModule) (source : IsSource w) (asked : IsCalledAs w (translate
   ends d = and_then (function_end d) (λ v. and_then (back_to [] v) next)
 
   abbrev starts : Option ℕ → Part (Unit {0})
-  starts o = exec_all_to (call_at_to a 1) inside 1 (stmts_in (start_stmts o)) ends
+  starts o = exec_all_to (call_at_to a (suc cost)) inside (suc cost) (stmts_in (start_stmts o)) ends
 
   holds : memory_bytes w ≤ length begins.heap
   holds = heap_holds w source asked s fit
 
-  whole : host_calls_to (call_at_to a 2) a (init_call ∷ hi_call 0 ∷ []) gives begins ≡ goes tt last
+  abbrev further : Completion → Part (Unit {0})
+  further d = unless_left_to d (exec_all_to (call_at_to a (suc cost)) inside (suc cost) (stmts_in (start_stmts w.start))) ends
+
+  all_stored : exec_all_to (call_at_to a (suc cost)) inside (suc cost) (stmts_in (flat_map segment_stmts w.segments)) further entered ≡ further normal stored
+  all_stored = by (segments_are_stored w source (suc cost) further entered holds (omega arith))
+    where
+      by : {run : Run (Unit {0})} → Takes cost (with_segments w.segments begins.heap) entered (further normal) run → run ≡ further normal stored
+      by (through left many is) =
+          let one : left ≡ 1 = omega (arith, many) in
+          is ∙ ap (λ u. further normal (record entered { heap = with_segments w.segments begins.heap; units = u })) one
+      by (short q less shown is) = absurd (omega (arith, less))
+
+  whole : host_calls_to (call_at_to a (suc (suc cost))) a (init_call ∷ hi_call 0 ∷ []) gives begins ≡ goes tt last
   whole =
-      ap (λ o. and_then (defined o) (λ g. call_at_to a 2 g [] (λ v. and_then (add_event (result_event g v)) (λ _. asks))) begins) (init_exported w)
-      ∙ ap (λ f. f entered) (appended (call_at_to a 1) inside 1 (flat_map segment_stmts w.segments) (start_stmts w.start) ends)
-      ∙ segments_are_stored w source (call_at_to a 1) 1 (λ d. unless_left_to d (exec_all_to (call_at_to a 1) inside 1 (stmts_in (start_stmts w.start))) ends) entered holds
+      ap (λ o. and_then (defined o) (λ g. call_at_to a (suc (suc cost)) g [] (λ v. and_then (add_event (result_event g v)) (λ _. asks))) begins) (init_exported w)
+      ∙ ap (λ f. f entered) (appended (call_at_to a (suc cost)) inside (suc cost) (flat_map segment_stmts w.segments) (start_stmts w.start) ends)
+      ∙ all_stored
       ∙ ap (λ o. starts o stored) none
       ∙ ap (λ (f : Signature). asks (record stored { events = (if f.result then call_gave (word Undef) else call_returned) ∷ [] })) none_signed
       ∙ high_called
 
-  direct : host_calls (call_at false a 2) a (asking_high s).calls begins ≡ goes tt last
-  direct = sym (nothing_after _) ∙ sym (sessions_follow a 2 (asking_high s).calls gives begins) ∙ whole
+  direct : host_calls (call_at false a (suc (suc cost))) a (asking_high s).calls begins ≡ goes tt last
+  direct = sym (nothing_after _) ∙ sym (sessions_follow a (suc (suc cost)) (asking_high s).calls gives begins) ∙ whole
 
   pub no_high_word : GivesNoHighWord w a s
-  no_high_word = record { units = 2; heap = last.heap; gives = ap observed direct }
+  no_high_word = record { units = suc (suc cost); heap = last.heap; gives = ap observed direct }

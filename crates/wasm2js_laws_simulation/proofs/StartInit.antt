@@ -27,7 +27,7 @@ use Rattle.wasm_laws_sound.proofs.Functions.{meets_none, meets_rest}
 use Rattle.asm_lang.specs.Modules as text
 use Rattle.asm_lang_valid.specs.Scope.{Signature, signature_of, a_function}
 use Rattle.asm_lang_valid.specs.Typed.{scope_of}
-use Rattle.asm_lang_exec.specs.Runs.{Place, Part, spent, gives, and_then, defined, back_to, add_event}
+use Rattle.asm_lang_exec.specs.Runs.{Place, Part, Run, spent, gives, and_then, defined, back_to, add_event}
 use Rattle.asm_lang_exec.specs.Values.{word}
 use Rattle.asm_lang_exec.specs.Meaning.{Completion, normal, function_end}
 use Rattle.asm_lang_exec.specs.Session.{result_event}
@@ -54,6 +54,7 @@ use Rattle.wasm2js_laws_simulation.proofs.HostExports.{init_exported}
 use Rattle.wasm2js_laws_simulation.proofs.HostPace.{weaker}
 use Rattle.wasm2js_laws_simulation.proofs.HostKept.{store_same}
 use Rattle.wasm2js_laws_simulation.proofs.HostCalls.{keeps, profile, hosted}
+use Rattle.wasm2js_laws_simulation.specs.SegmentsLaws.{segments_units, Takes, through, short}
 use Rattle.wasm2js_laws_simulation.specs.StartLaws.{begins_at, begins_with, IsStored, InitFollows}
 
 -- ---- the start function takes and gives nothing
@@ -155,14 +156,14 @@ module _ (w : WasmModule) (s : ScriptPlain) (c : ℕ) (source : IsSource w) (ask
   abbrev left_to : Option ℕ → Rest
   left_to o n = started w o n (with_bytes w.segments (with_entries w.elements (first_store w s))) (calls_seen w s.calls)
 
-  module _ (bound : ℕ) (few : suc bound ≤ units) where
+  module _ (bound left : ℕ) (few : suc bound ≤ units) (room : left ≤ bound) where
     abbrev starts : Option ℕ → Part (Unit {0})
     starts o = exec_all_to (call_at_to (translated w) bound) (scope_of (translated w) (init_function w)) bound (stmts_in (start_stmts o)) ends
 
-    none_starts : Follows by c z (there bound) (left_to None) (starts None (there bound))
+    none_starts : Follows by c z (there left) (left_to None) (starts None (there left))
     none_starts =
-        same_is_followed by c z (there bound) (left_to None) (left_of (there bound) []) (starts None (there bound)) (λ n. ap (calls_seen w s.calls n) (sym (stored.store bound)))
-        (back (there bound) [] Undef (omega (arith, few)) refl (stored.world bound))
+        same_is_followed by c z (there left) (left_to None) (left_of (there left) []) (starts None (there left)) (λ n. ap (calls_seen w s.calls n) (sym (stored.store left)))
+        (back (there left) [] Undef (omega (arith, few, room)) refl (stored.world left))
 
     module _ (f : ℕ) (it : IsStart w f) where
       abbrev watch : Outcome → ObservationPlain
@@ -177,28 +178,28 @@ module _ (w : WasmModule) (s : ScriptPlain) (c : ℕ) (source : IsSource w) (ask
       abbrev g : text.Function
       g = declared.function
 
-      begins : (n : ℕ) → left_to (Some f) n ≡ seen_with caller [] (call_then caller f ε) (reverse [] ++ []) [] (there bound) [] n
+      begins : (n : ℕ) → left_to (Some f) n ≡ seen_with caller [] (call_then caller f ε) (reverse [] ++ []) [] (there left) [] n
       begins n =
           let after = calls_seen w s.calls in
           ap (λ r. after_start r after) (host_call w n f [] (with_bytes w.segments (with_entries w.elements (first_store w s))))
-          ∙ ap (λ st. watch (call_then caller f ε (at [] [] st n))) (sym (stored.store bound))
+          ∙ ap (λ st. watch (call_then caller f ε (at [] [] st n))) (sym (stored.store left))
 
-      returns : IsReturn caller bound (result_of it.type) [] ε [] [] (there bound) (λ v. ends normal)
+      returns : IsReturn caller bound (result_of it.type) [] ε [] [] (there left) (λ v. ends normal)
       returns q events v few' same world =
           subst (λ r. Follows by c z q (seen_with caller [] (onward w ε) (given_back r v q ++ []) [] q events) (ends normal q)) (sym (no_result it.type it.results))
           (same_is_followed by c z q (seen_with caller [] (onward w ε) [] [] q events) (left_of q events) (ends normal q) (λ n. ap watch (no_code w (at [] [] (store_of x q events) n)))
-          (back q events Undef (omega (arith, few, few')) same world))
+          (back q events Undef (omega (arith, few, room, few')) same world))
 
-      some_starts : Follows by c z (there bound) (left_to (Some f)) (starts (Some f) (there bound))
+      some_starts : Follows by c z (there left) (left_to (Some f)) (starts (Some f) (there left))
       some_starts =
-          subst (λ m. Follows by c z (there bound) (left_to (Some f)) (call_named_to (call_at_to (translated w) bound) m [] (λ v. ends normal) (there bound)))
+          subst (λ m. Follows by c z (there left) (left_to (Some f)) (call_named_to (call_at_to (translated w) bound) m [] (λ v. ends normal) (there left)))
           (sym (is_seen w (fixed init) [] [] (flat_map segment_stmts w.segments ++ start_stmts w.start) refl refl (numbered function f) (a_function g) refl declared.meaning))
-          (same_is_followed by c z (there bound) (left_to (Some f)) (seen_with caller [] (call_then caller f ε) (reverse [] ++ []) [] (there bound) [])
-          (call_at_to (translated w) bound g [] (λ v. ends normal) (there bound)) begins
+          (same_is_followed by c z (there left) (left_to (Some f)) (seen_with caller [] (call_then caller f ε) (reverse [] ++ []) [] (there left) [])
+          (call_at_to (translated w) bound g [] (λ v. ends normal) (there left)) begins
           (follow caller refl refl (hosted w s c source one bound starting z watch (λ e st. refl) (λ st. refl)) f it.type g it.typed declared.meaning
-          bound [] ε [] [] (λ v. ends normal) (there bound) [] [] [] (omega arith) (omega arith) (stored.world bound) (no_params it.type.params it.params) returns))
+          bound [] ε [] [] (λ v. ends normal) (there left) [] [] [] (omega (arith, room)) (omega arith) (stored.world left) (no_params it.type.params it.params) returns))
 
-    by_start : (o : Option ℕ) → w.start ≡ o → Follows by c z (there bound) (left_to o) (starts o (there bound))
+    by_start : (o : Option ℕ) → w.start ≡ o → Follows by c z (there left) (left_to o) (starts o (there left))
     by_start None e = none_starts
     by_start (Some f) e = some_starts f (started_by w source f e)
 
@@ -207,38 +208,56 @@ module _ (w : WasmModule) (s : ScriptPlain) (c : ℕ) (source : IsSource w) (ask
     instantiates : (n : ℕ) → wasm w s (suc n) ≡ left_to w.start n
     instantiates n = ap (λ b. instantiated b w s n (first_store w s)) stored.fit
 
-    after_stores : Follows by c z (there bound) (source_session w s) (starts w.start (there bound))
+    after_stores : Follows by c z (there left) (source_session w s) (starts w.start (there left))
     after_stores =
-        steps_are_paid by order c z 0 (there bound) (there bound) (source_session w s) (left_to w.start) (starts w.start (there bound)) (omega arith) (omega arith) (prefix_same _ _ refl)
+        steps_are_paid by order c z 0 (there left) (there left) (source_session w s) (left_to w.start) (starts w.start (there left)) (omega arith) (omega arith) (prefix_same _ _ refl)
         (record { events = []; is_running = refl; match = refl }) instantiates (by_start w.start refl)
 
+  module _ (bound : ℕ) (few : suc bound ≤ units) where
     abbrev inside : Part (Unit {0})
     inside = exec_all_to (call_at_to (translated w) bound) (scope_of (translated w) (init_function w)) bound (init_function w).body ends
 
-    runs : inside (begins_at w s bound) ≡ starts w.start (there bound)
-    runs =
-        ap (λ f. f (begins_at w s bound)) (appended (call_at_to (translated w) bound) (scope_of (translated w) (init_function w)) bound (flat_map segment_stmts w.segments) (start_stmts w.start) ends)
-        ∙ stored.stores (call_at_to (translated w) bound) bound bound
-        (λ d. unless_left_to d (exec_all_to (call_at_to (translated w) bound) (scope_of (translated w) (init_function w)) bound (stmts_in (start_stmts w.start))) ends)
+    abbrev cost : ℕ
+    cost = segments_units w.segments
 
-    inside_follows : Follows by c z (there bound) (source_session w s) (inside (begins_at w s bound))
-    inside_follows = subst (λ run. Follows by c z (there bound) (source_session w s) run) (sym runs) after_stores
+    abbrev further : Completion → Part (Unit {0})
+    further d = unless_left_to d (exec_all_to (call_at_to (translated w) bound) (scope_of (translated w) (init_function w)) bound (stmts_in (start_stmts w.start))) ends
+
+    abbrev stores : Part (Unit {0})
+    stores = exec_all_to (call_at_to (translated w) bound) (scope_of (translated w) (init_function w)) bound (stmts_in (flat_map segment_stmts w.segments)) further
+
+    apart : inside (begins_at w s bound) ≡ stores (begins_at w s bound)
+    apart = ap (λ f. f (begins_at w s bound)) (appended (call_at_to (translated w) bound) (scope_of (translated w) (init_function w)) bound (flat_map segment_stmts w.segments) (start_stmts w.start) ends)
+
+    -- the units of segments are paid by no reduction
+    after_segments : (run : Run (Unit {0})) → Takes cost stored.heap (begins_at w s bound) (further normal) run → Follows by c (z + cost) (begins_at w s bound) (source_session w s) run
+    after_segments run (through left many is) =
+        subst (λ run. Follows by c (z + cost) (begins_at w s bound) (source_session w s) run) (sym is)
+        (free_units by order c z cost (begins_at w s bound) (there left) (source_session w s) (further normal (there left)) many (prefix_same _ _ refl) (after_stores bound left few (omega (arith, many))))
+    after_segments run (short q less shown is) =
+        subst (λ run. Follows by c (z + cost) (begins_at w s bound) (source_session w s) run) (sym is)
+        (unpaid_stops by order c (z + cost) 0 (begins_at w s bound) q (source_session w s) (omega (arith, less)) (prefix_same _ _ (sym shown)) (prefix_same _ _ (ap by.target_events shown)))
+
+    inside_follows : Follows by c (z + cost) (begins_at w s bound) (source_session w s) (inside (begins_at w s bound))
+    inside_follows =
+        subst (λ run. Follows by c (z + cost) (begins_at w s bound) (source_session w s) run) (sym apart)
+        (after_segments (stores (begins_at w s bound)) (stored.stores bound bound further (omega arith)))
 
   -- ---- its own unit
 
-  no_unit : units ≡ 0 → Follows by c (z + 1) (begins_at w s units) (source_session w s) (spent (begins_at w s units))
-  no_unit e = unpaid_stops by order c (z + 1) 0 (begins_at w s units) (begins_at w s units) (source_session w s) (omega (arith, e)) (prefix_same _ _ refl) (prefix_same _ _ refl)
+  no_unit : units ≡ 0 → Follows by c (z + segments_units w.segments + 1) (begins_at w s units) (source_session w s) (spent (begins_at w s units))
+  no_unit e = unpaid_stops by order c (z + segments_units w.segments + 1) 0 (begins_at w s units) (begins_at w s units) (source_session w s) (omega (arith, e)) (prefix_same _ _ refl) (prefix_same _ _ refl)
 
-  by_units : (n : ℕ) → units ≡ n → Follows by c (z + 1) (begins_at w s units) (source_session w s) (call_at_to (translated w) n (init_function w) [] next (begins_at w s units))
+  by_units : (n : ℕ) → units ≡ n → Follows by c (z + segments_units w.segments + 1) (begins_at w s units) (source_session w s) (call_at_to (translated w) n (init_function w) [] next (begins_at w s units))
   by_units zero e = no_unit e
   by_units (suc n) e =
-      subst (λ u. Follows by c (z + 1) (begins_at w s u) (source_session w s) (call_at_to (translated w) (suc n) (init_function w) [] next (begins_at w s u))) (sym e)
-      (free_units by order c z (begins_at w s (suc n)) (there n) (source_session w s) (inside n (omega (arith, e)) (begins_at w s n)) (omega arith) (prefix_same _ _ refl) (inside_follows n (omega (arith, e))))
+      subst (λ u. Follows by c (z + segments_units w.segments + 1) (begins_at w s u) (source_session w s) (call_at_to (translated w) (suc n) (init_function w) [] next (begins_at w s u))) (sym e)
+      (free_units by order c (z + segments_units w.segments) 1 (begins_at w s (suc n)) (begins_at w s n) (source_session w s) (inside n (omega (arith, e)) (begins_at w s n)) (omega arith) (prefix_same _ _ refl) (inside_follows n (omega (arith, e))))
 
-  pub init_called : Follows by c (z + 1) (begins_at w s units) (source_session w s) (host_calls_to (call_at_to (translated w) units) (translated w) (script_for w s).calls gives (begins_at w s units))
+  pub init_called : Follows by c (z + segments_units w.segments + 1) (begins_at w s units) (source_session w s) (host_calls_to (call_at_to (translated w) units) (translated w) (script_for w s).calls gives (begins_at w s units))
   unfolding next
   init_called =
-      subst (λ o. Follows by c (z + 1) (begins_at w s units) (source_session w s)
+      subst (λ o. Follows by c (z + segments_units w.segments + 1) (begins_at w s units) (source_session w s)
       (and_then (defined o) (λ g. call_at_to (translated w) units g [] (λ v. and_then (add_event (result_event g v)) (λ _. then_calls))) (begins_at w s units)))
       (sym (init_exported w)) (by_units units refl)
 

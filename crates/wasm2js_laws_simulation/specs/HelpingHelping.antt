@@ -7,11 +7,11 @@ use Rattle.wasm_lang_valid.specs.ModuleRules.{has_memory}
 use Rattle.wasm_lang_valid.specs.Profile.{memory_bytes}
 use Rattle.asm_lang_valid.specs.declared.meaning.Builtin.TheVariants.{Imul, Clz32}
 use Rattle.asm_lang_valid.specs.declared.meaning.Element.TheVariants.{Int8, Uint8, Int32}
-use Rattle.asm_lang_valid.specs.Scope.{Meaning, nothing, an_int, a_foreign, a_builtin, a_view, a_function}
+use Rattle.asm_lang_valid.specs.Scope.{Meaning, nothing, an_int, a_foreign, a_builtin, a_view, a_function, module_meaning}
 use Rattle.wasm2js_translation.specs.Names as names
 use Rattle.wasm2js_translation.specs.Names.{Fixed, word}
 use Rattle.wasm2js_translation.specs.Helpers.{shift_left_function, shift_right_signed_function, shift_right_function, rotate_left_function, leading_zeros_function, trailing_zeros_function, set_bits_function, copy_function, fill_function}
-use Rattle.wasm2js_translation.specs.Modules.{init_function, high_function}
+use Rattle.wasm2js_translation.specs.Modules.{init_function, high_function, translated}
 use Rattle.wasm2js_laws_places.specs.Straight.{Answer, Helping}
 use Rattle.wasm2js_laws_helpers.specs.Answers.{one_word, turned, counted, divided, set_bits_answer, set_bits_units}
 use Rattle.wasm2js_laws_helpers.specs.Laws.{divide_signed_function, divide_function, remainder_signed_function, remainder_function}
@@ -87,5 +87,8 @@ fixed_meaning w names.store_32 = on_memory (has_memory w) (a_function store_32_f
 fixed_meaning w names.store_64 = on_memory (has_memory w) (a_function store_64_function)
 fixed_meaning w names.copy = on_memory (has_memory w) (a_function (copy_function (memory_bytes w)))
 fixed_meaning w names.fill = on_memory (has_memory w) (a_function (fill_function (memory_bytes w)))
+-- no code of an instruction calls it
+fixed_meaning w names.data_words = module_meaning (translated w) (word names.data_words)
+fixed_meaning w names.data_zeros = module_meaning (translated w) (word names.data_zeros)
 fixed_meaning w names.init = a_function (init_function w)
 fixed_meaning w names.last_high = a_function high_function

@@ -2,7 +2,7 @@
 
 ghost use Rattle.wasm2js_laws_simulation.specs.SegmentsLaws.{SegmentsAreStored};
 
-/// By words and by bytes, without a call.
+/// By calls that write sixteen words each, by words and by bytes.
 pub fn segments()
     ensures { SegmentsAreStored }
 {}

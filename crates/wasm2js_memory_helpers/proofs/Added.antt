@@ -10,6 +10,14 @@ two_after old fs one two x y first second p q e f =
     ∙ ap (λ x. old ++ (fs ++ x ∷ y ∷ [])) e
     ∙ ap (λ y. old ++ (fs ++ first ∷ y ∷ [])) f
 
+pub three_after : {A : Type 0} (old fs one two three new more : List A) (x y first second : A) → one ≡ old ++ fs → two ≡ one ++ x ∷ [] → x ≡ first → y ≡ second → three ≡ two ++ y ∷ []
+    → new ≡ three ++ more → new ≡ old ++ (fs ++ first ∷ second ∷ more)
+three_after old fs one two three new more x y first second p q e f g h =
+    h
+    ∙ ap (λ l. l ++ more) (g ∙ two_after old fs one two x y first second p q e f)
+    ∙ append_assoc old (fs ++ first ∷ second ∷ []) more
+    ∙ ap (λ l. old ++ l) (append_assoc fs (first ∷ second ∷ []) more)
+
 pub two_first : {A : Type 0} (old one two : List A) (x y first second : A) → one ≡ old ++ x ∷ [] → two ≡ one ++ y ∷ [] → x ≡ first → y ≡ second
     → two ≡ old ++ (first ∷ second ∷ [])
 two_first old one two x y first second p q e f =

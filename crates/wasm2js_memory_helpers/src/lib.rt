@@ -4,6 +4,7 @@
 mod access;
 mod copying;
 mod filling;
+mod putting;
 mod runs;
 mod whole;
 

@@ -49,6 +49,8 @@ fixed_view always.Store32 = plain.store_32
 fixed_view always.Store64 = plain.store_64
 fixed_view always.Copy = plain.copy
 fixed_view always.Fill = plain.fill
+fixed_view always.DataWords = plain.data_words
+fixed_view always.DataZeros = plain.data_zeros
 fixed_view always.Init = plain.init
 fixed_view always.LastHigh = plain.last_high
 

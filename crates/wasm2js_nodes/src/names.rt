@@ -57,6 +57,8 @@ pub enum Fixed {
     Store64,
     Copy,
     Fill,
+    DataWords,
+    DataZeros,
     Init,
     LastHigh,
 }

@@ -87,6 +87,8 @@ fn word(fixed: Fixed) -> &'static [u8]
         Fixed::Store64 => b"$store64",
         Fixed::Copy => b"$copy",
         Fixed::Fill => b"$fill",
+        Fixed::DataWords => b"$put",
+        Fixed::DataZeros => b"$zero",
         Fixed::Init => b"$init",
         Fixed::LastHigh => b"$hi",
     }

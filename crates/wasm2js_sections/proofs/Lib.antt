@@ -2,3 +2,4 @@ pub mod Imports
 pub mod ByName
 pub mod Runs
 pub mod Lists
+pub mod Chunks

@@ -11,7 +11,7 @@ use Rattle.asm_lang_tokens.specs.Bytes.{begins_name, is_digit, is_name_byte}
 use Rattle.asm_lang.specs.Lexemes.{Class, identifier, Entry, class_in, reserved_words}
 use Rattle.asm_lang_valid.specs.Scope.{is_in}
 use Rattle.asm_lang_valid.specs.NameRows.{is_forbidden, is_forbidden_key}
-use Rattle.wasm2js_translation.specs.Names.{Numbered, local_low, local_high, operand_low, operand_high, global_low, global_high, function, foreign, table, no_entry, other_entry, label, Fixed, view_of_bytes, view_of_signed_bytes, view_of_words, imul, clz32, trap, high, spare_high, result_high, shift_left, shift_right_signed, shift_right, rotate_left, leading_zeros, trailing_zeros, set_bits, divide_signed, divide, remainder_signed, remainder, load_32, load_64, store_32, store_64, copy, fill, init, last_high, Name, numbered, fixed, letter, numeral, word, spelled, own_words, Rank, IsBefore, rank, RisesFrom, Rises}
+use Rattle.wasm2js_translation.specs.Names.{Numbered, local_low, local_high, operand_low, operand_high, global_low, global_high, function, foreign, table, no_entry, other_entry, label, Fixed, view_of_bytes, view_of_signed_bytes, view_of_words, imul, clz32, trap, high, spare_high, result_high, shift_left, shift_right_signed, shift_right, rotate_left, leading_zeros, trailing_zeros, set_bits, divide_signed, divide, remainder_signed, remainder, load_32, load_64, store_32, store_64, copy, fill, data_words, data_zeros, init, last_high, Name, numbered, fixed, letter, numeral, word, spelled, own_words, Rank, IsBefore, rank, RisesFrom, Rises}
 use Rattle.wasm2js_translation.specs.TermsLaws.{SpellingsDiffer, IsUsable, SpellingsAreUsable, RisingNamesAreNew}
 
 -- ---- numerals
@@ -169,6 +169,8 @@ fixed_usable store_32 = record { is_word = refl; is_identifier = refl; may_be_de
 fixed_usable store_64 = record { is_word = refl; is_identifier = refl; may_be_declared = refl; may_be_a_key = refl; is_not_own = refl }
 fixed_usable copy = record { is_word = refl; is_identifier = refl; may_be_declared = refl; may_be_a_key = refl; is_not_own = refl }
 fixed_usable fill = record { is_word = refl; is_identifier = refl; may_be_declared = refl; may_be_a_key = refl; is_not_own = refl }
+fixed_usable data_words = record { is_word = refl; is_identifier = refl; may_be_declared = refl; may_be_a_key = refl; is_not_own = refl }
+fixed_usable data_zeros = record { is_word = refl; is_identifier = refl; may_be_declared = refl; may_be_a_key = refl; is_not_own = refl }
 fixed_usable init = record { is_word = refl; is_identifier = refl; may_be_declared = refl; may_be_a_key = refl; is_not_own = refl }
 fixed_usable last_high = record { is_word = refl; is_identifier = refl; may_be_declared = refl; may_be_a_key = refl; is_not_own = refl }
 
@@ -197,7 +199,7 @@ kind_found label = refl
 
 abbrev all_fixed : List Fixed
 all_fixed =
-    view_of_bytes ∷ view_of_signed_bytes ∷ view_of_words ∷ imul ∷ clz32 ∷ trap ∷ high ∷ spare_high ∷ result_high ∷ shift_left ∷ shift_right_signed ∷ shift_right ∷ rotate_left ∷ leading_zeros ∷ trailing_zeros ∷ set_bits ∷ divide_signed ∷ divide ∷ remainder_signed ∷ remainder ∷ load_32 ∷ load_64 ∷ store_32 ∷ store_64 ∷ copy ∷ fill ∷ init ∷ last_high ∷ []
+    view_of_bytes ∷ view_of_signed_bytes ∷ view_of_words ∷ imul ∷ clz32 ∷ trap ∷ high ∷ spare_high ∷ result_high ∷ shift_left ∷ shift_right_signed ∷ shift_right ∷ rotate_left ∷ leading_zeros ∷ trailing_zeros ∷ set_bits ∷ divide_signed ∷ divide ∷ remainder_signed ∷ remainder ∷ load_32 ∷ load_64 ∷ store_32 ∷ store_64 ∷ copy ∷ fill ∷ data_words ∷ data_zeros ∷ init ∷ last_high ∷ []
 
 abbrev fixed_in : List Fixed → List ℕ → Option Fixed
 fixed_in [] s = None
@@ -230,6 +232,8 @@ fixed_found store_32 = refl
 fixed_found store_64 = refl
 fixed_found copy = refl
 fixed_found fill = refl
+fixed_found data_words = refl
+fixed_found data_zeros = refl
 fixed_found init = refl
 fixed_found last_high = refl
 
@@ -264,6 +268,8 @@ fixed_head store_32 = refl
 fixed_head store_64 = refl
 fixed_head copy = refl
 fixed_head fill = refl
+fixed_head data_words = refl
+fixed_head data_zeros = refl
 fixed_head init = refl
 fixed_head last_high = refl
 

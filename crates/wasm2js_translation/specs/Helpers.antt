@@ -1,5 +1,5 @@
 -- The functions that the code of instructions calls: operators on words of 64 bits, division, and access to the memory.
-use Rattle.std.specs.Prelude.{ℕ, ◌+◌, false, true, List, [], ◌∷◌, ◌++◌, map, Some, pos, negsuc}
+use Rattle.std.specs.Prelude.{ℕ, zero, suc, ◌+◌, Bool, false, true, if◌then◌else◌, List, [], ◌∷◌, ◌++◌, map, Some, pos, negsuc}
 use Rattle.sem_words.specs.declared.js_value.JsOp.{JsOp}
 use Rattle.sem_words.specs.declared.js_value.JsOp.TheVariants.{Div, Rem}
 use Rattle.asm_lang.specs.Trees as trees
@@ -240,5 +240,38 @@ fill_function bytes = function_of (fixed names.fill) three_arguments (own 0 ∷ 
     ∷ each_word (simple_statement (write_whole (plus first done) (read (own 1)))) ∷ [])
     ∷ each_byte (simple_statement (write_byte (plus first done) second)) ∷ [])
 
-abbrev pub memory_helpers : (bytes : ℕ) → List Function
-memory_helpers bytes = access_helpers ++ copy_function bytes ∷ fill_function bytes ∷ []
+-- ---- sixteen words of a data segment, at a place that is a multiple of four
+
+-- so many arguments, from number i on
+abbrev pub arguments_after : (i count : ℕ) → List Name
+arguments_after i zero = []
+arguments_after i (suc n) = argument i ∷ arguments_after (suc i) n
+
+-- one of them, to the place so many bytes past the first argument; and four of them
+abbrev pub put_at : (offset i : ℕ) → Stmt
+put_at offset i = simple_statement (write_whole (place (argument 0) offset) (read (argument i)))
+
+abbrev pub put_four : (offset i : ℕ) → List Stmt
+put_four offset i = put_at offset i ∷ put_at (offset + 4) (i + 1) ∷ put_at (offset + 8) (i + 2) ∷ put_at (offset + 12) (i + 3) ∷ []
+
+abbrev pub put_body : List Stmt
+put_body = put_four 0 1 ++ put_four 16 5 ++ put_four 32 9 ++ put_four 48 13
+
+abbrev pub put_function : Function
+put_function = function_of (fixed names.data_words) (arguments_after 0 17) [] put_body
+
+-- zeros from one place to another, which are multiples of four
+abbrev pub zero_body : List Stmt
+zero_body =
+    repeat (compare false less first second)
+    (simple_statement (write_whole first (literal 0)) ∷ sets (argument 0) (plus first (literal 4)) ∷ []) ∷ []
+
+abbrev pub zero_function : Function
+zero_function = function_of (fixed names.data_zeros) two_arguments [] zero_body
+
+-- where data segments are long
+abbrev pub data_helpers : (long : Bool) → List Function
+data_helpers long = if long then put_function ∷ zero_function ∷ [] else []
+
+abbrev pub memory_helpers : (bytes : ℕ) (long : Bool) → List Function
+memory_helpers bytes long = access_helpers ++ copy_function bytes ∷ fill_function bytes ∷ data_helpers long

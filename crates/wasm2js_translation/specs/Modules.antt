@@ -1,5 +1,5 @@
 -- The module of asm.js that a module of WebAssembly is translated to.
-use Rattle.std.specs.Prelude.{ℕ, suc, ◌+◌, ◌-◌, ◌/◌, ◌%◌, List, [], ◌∷◌, ◌++◌, length, take, drop, Option, Some, None, slice_get, codes, pos, if◌then◌else◌}
+use Rattle.std.specs.Prelude.{ℕ, suc, ◌+◌, ◌-◌, ◌/◌, ◌%◌, ◌==◌, zero, Bool, true, ◌&&◌, List, [], ◌∷◌, ◌++◌, length, take, drop, Option, Some, None, slice_get, codes, pos, if◌then◌else◌}
 use Rattle.std.specs.List.{flat_map}
 use Rattle.sem_words.specs.Words.{signed_of}
 use Rattle.heap_lang.specs.Numbers.{little_endian}
@@ -20,9 +20,11 @@ use Rattle.wasm_lang_exec.specs.Fits.{GlobalImport, global_imports}
 use Rattle.asm_lang.specs.Trees.{Init, number, foreign_int, member, math, view}
 use Rattle.asm_lang.specs.Modules as text
 use Rattle.asm_lang.specs.Modules.{Expr, lit, call, store, Exprs, no_exprs, exprs, Stmt, returns, Variable, Function, Export, many, Module}
-use Rattle.wasm2js_translation.specs.Names.{Name, numbered, function, foreign, global_low, global_high, fixed, view_of_bytes, view_of_signed_bytes, view_of_words, imul, clz32, trap, high, spare_high, result_high, init, last_high, spelled}
-use Rattle.wasm2js_translation.specs.Words.{signed_number, put_in, name_of}
-use Rattle.wasm2js_translation.specs.Pairs.{names_of, local_pair}
+use Rattle.wasm2js_lang.specs.Parts.Functions.{is_long, has_long_segments}
+use Rattle.wasm2js_translation.specs.Names.{Name, numbered, function, foreign, global_low, global_high, fixed, view_of_bytes, view_of_signed_bytes, view_of_words, imul, clz32, trap, high, spare_high, result_high, data_words, data_zeros, init, last_high, spelled}
+use Rattle.wasm2js_translation.specs.Words as terms
+use Rattle.wasm2js_translation.specs.Words.{Term, tell, simple_statement, signed_number, put_in, name_of}
+use Rattle.wasm2js_translation.specs.Pairs.{names_of, local_pair, literal}
 use Rattle.wasm2js_translation.specs.Actions.{low}
 use Rattle.wasm2js_translation.specs.Helpers.{zero_variable, function_of, wide_helpers, division_helpers, memory_helpers}
 use Rattle.wasm2js_translation.specs.Bodies.{word_in, signed_word, high_result, body_stmts}
@@ -104,16 +106,50 @@ abbrev pub set_words : (at : ℕ) → List ℕ → List Stmt
 set_words at (w ∷ x ∷ y ∷ z ∷ bytes) = set_word at (w ∷ x ∷ y ∷ z ∷ []) ∷ set_words (at + 4) bytes
 set_words at bytes = set_bytes at bytes
 
+-- the words of four bytes each
+abbrev pub words_in : List ℕ → List Term
+words_in (w ∷ x ∷ y ∷ z ∷ bytes) = terms.number (signed_of 32 (little_endian (w ∷ x ∷ y ∷ z ∷ []))) ∷ words_in bytes
+words_in bytes = []
+
+-- sixteen words by one call
+abbrev pub put_chunk : (at : ℕ) → List ℕ → Stmt
+put_chunk at bytes = simple_statement (tell data_words (literal at ∷ words_in bytes))
+
+abbrev pub are_zeros : List ℕ → Bool
+are_zeros [] = true
+are_zeros (x ∷ xs) = (x == 0) && are_zeros xs
+
+-- zeros from one place to another, if there are any
+abbrev pub set_zeros : (from to : ℕ) → List Stmt
+set_zeros from to = if from == to then [] else simple_statement (tell data_zeros (literal from ∷ literal to ∷ [])) ∷ []
+
+-- 64 bytes, where zeros wait from a place on until other bytes come; and from where zeros wait after them
+abbrev pub chunk_stmts : (from at : ℕ) → List ℕ → List Stmt
+chunk_stmts from at bytes = if are_zeros bytes then [] else set_zeros from at ++ put_chunk at bytes ∷ []
+
+abbrev pub waits_from : (from at : ℕ) → List ℕ → ℕ
+waits_from from at bytes = if are_zeros bytes then from else at + 64
+
+-- so many times 64 bytes, and then the rest
+abbrev pub put_chunks : (count from at : ℕ) → List ℕ → List Stmt
+put_chunks zero from at bytes = set_zeros from at ++ set_words at bytes
+put_chunks (suc n) from at bytes =
+    let chunk = take 64 bytes in chunk_stmts from at chunk ++ put_chunks n (waits_from from at chunk) (at + 64) (drop 64 bytes)
+
+-- where a segment is long, and where it isn't
+abbrev pub put_run : (long : Bool) (at : ℕ) → List ℕ → List Stmt
+put_run long at bytes = if long then put_chunks (length bytes / 64) at at bytes else set_words at bytes
+
 -- how far it is to the next multiple of four
 abbrev pub to_word : ℕ → ℕ
 to_word at = (4 - at % 4) % 4
 
-abbrev pub set_run : (at : ℕ) → List ℕ → List Stmt
-set_run at bytes = set_bytes at (take (to_word at) bytes) ++ set_words (at + to_word at) (drop (to_word at) bytes)
+abbrev pub set_run : (long : Bool) (at : ℕ) → List ℕ → List Stmt
+set_run long at bytes = set_bytes at (take (to_word at) bytes) ++ put_run long (at + to_word at) (drop (to_word at) bytes)
 
 -- those of a module that can be translated lie at constant places
 abbrev pub segment_stmts : DataSegment → List Stmt
-segment_stmts d = set_run (or_zero (constant_offset d.offset)) d.bytes
+segment_stmts d = set_run (is_long d) (or_zero (constant_offset d.offset)) d.bytes
 
 abbrev pub start_stmts : Option ℕ → List Stmt
 start_stmts None = []
@@ -127,7 +163,7 @@ abbrev pub high_function : Function
 high_function = function_of (fixed last_high) [] [] (returns (Some (signed_number (word_in high_result))) ∷ [])
 
 abbrev pub helpers : WasmModule → List Function
-helpers m = wide_helpers ++ division_helpers ++ (if has_memory m then memory_helpers (memory_bytes m) else [])
+helpers m = wide_helpers ++ division_helpers ++ (if has_memory m then memory_helpers (memory_bytes m) (has_long_segments m) else [])
 
 abbrev pub functions_of : WasmModule → List Function
 functions_of m = helpers m ++ functions_from m 0 (callees m) ++ stubs m ++ init_function m ∷ high_function ∷ []

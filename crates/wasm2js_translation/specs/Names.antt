@@ -52,6 +52,8 @@ pub data Fixed : Type 0 where
   store_64 : Fixed
   copy : Fixed
   fill : Fixed
+  data_words : Fixed
+  data_zeros : Fixed
   -- functions that are exported beside those of the source
   init : Fixed
   last_high : Fixed
@@ -111,6 +113,8 @@ word store_32 = codes "$store32"
 word store_64 = codes "$store64"
 word copy = codes "$copy"
 word fill = codes "$fill"
+word data_words = codes "$put"
+word data_zeros = codes "$zero"
 word init = codes "$init"
 word last_high = codes "$hi"
 
@@ -165,6 +169,8 @@ fixed_rank store_32 = rank_at 3 13
 fixed_rank store_64 = rank_at 3 14
 fixed_rank copy = rank_at 3 15
 fixed_rank fill = rank_at 3 16
+fixed_rank data_words = rank_at 3 17
+fixed_rank data_zeros = rank_at 3 18
 fixed_rank init = rank_at 6 0
 fixed_rank last_high = rank_at 6 1
 

@@ -1,5 +1,5 @@
 -- Small modules of WebAssembly, with scripts for them.
-use Rattle.std.specs.Prelude.{ℕ, false, true, List, [], ◌∷◌, ◌++◌, Some, None, codes}
+use Rattle.std.specs.Prelude.{ℕ, false, true, List, [], ◌∷◌, ◌++◌, replicate, Some, None, codes}
 use Rattle.sem_words.specs.declared.word.Bin.TheVariants as bins
 use Rattle.wasm_lang.specs.declared.types.ValType.{ValType}
 use Rattle.wasm_lang.specs.declared.types.ValType.TheVariants.{I32, I64}
@@ -101,6 +101,10 @@ choosing = alone (type (I32 ∷ []) (I32 ∷ [])) []
     ∷ end_mark
     ∷ plain (bin32 bins.Add) ∷ plain drop_operand ∷ int 20
     ∷ end_mark ∷ [])
+
+-- with a segment of 512 bytes
+abbrev pub listing : WasmModule
+listing = record (with_page (type [] []) []) { segments = bytes 0 (replicate 512 1) ∷ [] }
 
 abbrev pub adding : WasmModule
 adding = alone (type (I64 ∷ I64 ∷ []) (I64 ∷ [])) [] (get 0 ∷ get 1 ∷ plain (bin64 bins.Add) ∷ [])

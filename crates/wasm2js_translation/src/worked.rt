@@ -2,7 +2,7 @@
 ghost use Rattle.std.specs.Prelude.{◌≡◌, ◌∷◌, [], pos, negsuc, Some, codes};
 ghost use Rattle.sem_words.specs.declared.word.Word.TheVariants.{W32};
 ghost use Rattle.session_lang.specs.Observation.{done, stopped, running, ended, call_returned, call_gave, import_called};
-ghost use Rattle.wasm2js_translation.specs.Pieces.{loading, storing, choosing, adding, tabled};
+ghost use Rattle.wasm2js_translation.specs.Pieces.{loading, storing, choosing, adding, tabled, listing};
 ghost use Rattle.wasm2js_translation.specs.Programs.{adding_shape, adding_script, no_shape, starting, starting_script, asking, asking_shape, asking_script, copying, copying_script, narrow, narrow_script, dividing, by_zero_script, overflow_script, wide, wide_shape, wide_script};
 ghost use Rattle.wasm2js_translation.specs.Sessions.{variables, variables_shape, variables_script, turning, turning_script, branching, branching_script, trapping, trapping_script, calling, calling_shapes, calling_script, entry_script, entry_shape, remembering, memory_shape, memory_script};
 ghost use Rattle.wasm2js_translation.specs.Worked.{text_of, tables_of, variables_of, exports_of, target_seen, events_at, first_bytes, IsAlike};
@@ -50,6 +50,11 @@ pub fn helpers()
     ensures load { text_of loading (codes "$load64") ≡ codes "function $load64(x0){x0=x0|0;$q=($u8[x0+4>>0]|0)+(($u8[x0+5>>0]|0)<<8)+(($u8[x0+6>>0]|0)<<16)+(($u8[x0+7>>0]|0)<<24)|0;return($u8[x0>>0]|0)+(($u8[x0+1>>0]|0)<<8)+(($u8[x0+2>>0]|0)<<16)+(($u8[x0+3>>0]|0)<<24)|0;}" }
     ensures copy { text_of loading (codes "$copy") ≡ codes "function $copy(x0,x1,x2){x0=x0|0;x1=x1|0;x2=x2|0;var s0=0;if(x2>>>0>65536)$trap(2);if(x0>>>0>65536-x2>>>0)$trap(2);if(x1>>>0>65536-x2>>>0)$trap(2);if(x0>>>0<=x1>>>0){if(((x0|x1)&3|0)==(0|0)){while((s0|0)<=(x2-4|0)){$w[x0+s0>>2]=$w[x1+s0>>2]|0;s0=s0+4|0;}}while((s0|0)<(x2|0)){$u8[x0+s0>>0]=$u8[x1+s0>>0]|0;s0=s0+1|0;}}else{if(((x0|x1|x2)&3|0)==(0|0)){while((x2|0)>(0|0)){x2=x2-4|0;$w[x0+x2>>2]=$w[x1+x2>>2]|0;}}else{while((x2|0)>(0|0)){x2=x2-1|0;$u8[x0+x2>>0]=$u8[x1+x2>>0]|0;}}}}" }
     ensures fill { text_of loading (codes "$fill") ≡ codes "function $fill(x0,x1,x2){x0=x0|0;x1=x1|0;x2=x2|0;var s0=0;var s1=0;if(x2>>>0>65536)$trap(2);if(x0>>>0>65536-x2>>>0)$trap(2);if((x0&3|0)==(0|0)){s1=$imul(x1&255,16843009);while((s0|0)<=(x2-4|0)){$w[x0+s0>>2]=s1;s0=s0+4|0;}}while((s0|0)<(x2|0)){$u8[x0+s0>>0]=x1;s0=s0+1|0;}}" }
+{}
+
+/// The helper that writes sixteen words of a long segment.
+pub fn a_long_segment()
+    ensures { text_of listing (codes "$put") ≡ codes "function $put(x0,x1,x2,x3,x4,x5,x6,x7,x8,x9,x10,x11,x12,x13,x14,x15,x16){x0=x0|0;x1=x1|0;x2=x2|0;x3=x3|0;x4=x4|0;x5=x5|0;x6=x6|0;x7=x7|0;x8=x8|0;x9=x9|0;x10=x10|0;x11=x11|0;x12=x12|0;x13=x13|0;x14=x14|0;x15=x15|0;x16=x16|0;$w[x0>>2]=x1;$w[x0+4>>2]=x2;$w[x0+8>>2]=x3;$w[x0+12>>2]=x4;$w[x0+16>>2]=x5;$w[x0+20>>2]=x6;$w[x0+24>>2]=x7;$w[x0+28>>2]=x8;$w[x0+32>>2]=x9;$w[x0+36>>2]=x10;$w[x0+40>>2]=x11;$w[x0+44>>2]=x12;$w[x0+48>>2]=x13;$w[x0+52>>2]=x14;$w[x0+56>>2]=x15;$w[x0+60>>2]=x16;}" }
 {}
 
 /// The declarations of a module with imports, globals of both types and no memory, and of one with a

@@ -1,13 +1,13 @@
 -- The functions of a module of asm.js that stands for one of WebAssembly, and those that it exports.
-use Rattle.std.specs.Prelude.{◌≡◌, ◌⊎◌, ℕ, ◌+◌, ◌-◌, true, false, List, [], ◌∷◌, ◌++◌, length, map, Some, slice_get, option_map, codes, pos, if◌then◌else◌}
-use Rattle.std.specs.List.{AllByRecursion, flat_map}
+use Rattle.std.specs.Prelude.{◌≡◌, ◌⊎◌, ℕ, ◌+◌, ◌-◌, Bool, true, false, List, [], ◌∷◌, ◌++◌, length, map, nat_le, Some, slice_get, option_map, codes, pos, if◌then◌else◌}
+use Rattle.std.specs.List.{AllByRecursion, flat_map, list_any}
 use Rattle.sem_words.specs.declared.word.TrapKind.TheVariants.{TableEntry, OtherType}
 use Rattle.sem_words.specs.Words.{trap_code}
 use Rattle.session_lang.specs.Names.{export_name}
 use Rattle.session_lang.specs.Observation.{trap_name}
 use Rattle.wasm_lang.specs.declared.types.ExportKind.{ExportKind}
 use Rattle.wasm_lang.specs.declared.types.ExportKind.TheVariants as exports
-use Rattle.wasm_lang.specs.Modules.{FunctionType, Exported as Export, WasmModule}
+use Rattle.wasm_lang.specs.Modules.{FunctionType, Exported as Export, DataSegment, WasmModule}
 use Rattle.wasm_lang_valid.specs.ModuleRules.{function_types, has_memory}
 use Rattle.asm_lang.specs.Modules.{lit, call, no_exprs, exprs, Stmt, plain, Stmts, stmts, Function, Table, Module}
 use Rattle.asm_lang_valid.specs.Refusal.{Exported, exported_from}
@@ -29,8 +29,19 @@ memory_helpers =
     entry (codes "$load32") 1 true ∷ entry (codes "$load64") 1 true ∷ entry (codes "$store32") 2 false ∷ entry (codes "$store64") 3 false
     ∷ entry (codes "$copy") 3 false ∷ entry (codes "$fill") 3 false ∷ []
 
+-- a data segment with so many bytes that words of it are written by a call
+abbrev pub is_long : DataSegment → Bool
+is_long d = nat_le 512 (length d.bytes)
+
+abbrev pub has_long_segments : WasmModule → Bool
+has_long_segments w = list_any is_long w.segments
+
+-- sixteen words, written from a place of the memory on, and zeros from one place to another
+abbrev pub data_helpers : (long : Bool) → List Entry
+data_helpers long = if long then entry (codes "$put") 17 false ∷ entry (codes "$zero") 2 false ∷ [] else []
+
 abbrev pub helpers_asked : WasmModule → List Entry
-helpers_asked w = word_helpers ++ (if has_memory w then memory_helpers else [])
+helpers_asked w = word_helpers ++ (if has_memory w then memory_helpers ++ data_helpers (has_long_segments w) else [])
 
 -- ---- functions of the source: the imported ones first, as WebAssembly numbers them, and all after the helpers
 

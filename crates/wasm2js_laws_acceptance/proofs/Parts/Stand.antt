@@ -27,17 +27,19 @@ use Rattle.wasm2js_laws_acceptance.proofs.NamesFresh.{params_of, functions_new}
 use Rattle.wasm2js_laws_acceptance.proofs.NamesKeys.{function_typed}
 use Rattle.wasm2js_laws_acceptance.proofs.LimitsCounting.{imports_long}
 use Rattle.wasm2js_laws_acceptance.proofs.CalledExporting.{same_signature, init_signed}
-use Rattle.wasm2js_lang.specs.Parts.Functions.{word_helpers, memory_helpers, helpers_asked, signature_asked, place_of, as_entry}
+use Rattle.wasm2js_lang.specs.Parts.Functions.{word_helpers, memory_helpers, has_long_segments, data_helpers, helpers_asked, signature_asked, place_of, as_entry}
 use Rattle.wasm2js_laws_acceptance.proofs.Parts.Lists.{in_front, behind, number_is}
 
 -- ---- helpers
 
 pub helpers_are : (w : WasmModule) → map as_entry (helpers w) ≡ helpers_asked w
-helpers_are w = by (has_memory w)
+helpers_are w = by (has_long_segments w) (has_memory w)
   where
-    by : (b : Bool) → map as_entry (code.wide_helpers ++ code.division_helpers ++ (if b then code.memory_helpers (memory_bytes w) else [])) ≡ word_helpers ++ (if b then memory_helpers else [])
-    by true = refl
-    by false = refl
+    by : (long b : Bool) → map as_entry (code.wide_helpers ++ code.division_helpers ++ (if b then code.memory_helpers (memory_bytes w) long else [])) ≡ word_helpers ++ (if b then memory_helpers ++ data_helpers long else [])
+    by true true = refl
+    by false true = refl
+    by true false = refl
+    by false false = refl
 
 pub helpers_long : (w : WasmModule) → length (helpers w) ≡ length (helpers_asked w)
 helpers_long w = sym (length-map (helpers w) as_entry) ∙ ap length (helpers_are w)
