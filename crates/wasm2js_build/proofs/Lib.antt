@@ -1,3 +1,4 @@
 pub mod Views
 pub mod Sizes
 pub mod Lists
+pub mod Literals

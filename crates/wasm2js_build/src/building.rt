@@ -1,11 +1,14 @@
 //! From terms to expressions.
-ghost use Rattle.std.specs.Prelude.{◌≡◌, true, false, IfOk};
+ghost use Rattle.std.specs.Prelude.{◌≡◌, true, false, IfOk, if◌then◌else◌};
 ghost use Rattle.sem_words.specs.Lists.{list_items};
+ghost use Rattle.asm_types.specs.declared.value_type.ValueType.TheVariants.{Signed, Unsigned};
+ghost use Rattle.asm_lang_valid.specs.Typing.{typed_below, literal_type};
 ghost use Rattle.asm_lang.specs.Modules as plain;
 ghost use Rattle.asm_tree.specs.Views.{expr_view, exprs_view, links_view};
 ghost use Rattle.wasm2js_translation.specs.Names as plain_names;
 ghost use Rattle.wasm2js_translation.specs.Names.{spelled};
-ghost use Rattle.wasm2js_translation.specs.Words.{bit_operator, relation_operator, as_number, as_int, byte_view, name_of, indexed, arguments, expr as expr_for, int_of};
+ghost use Rattle.wasm2js_translation.specs.Words as words;
+ghost use Rattle.wasm2js_translation.specs.Words.{bit_operator, relation_operator, as_signed, as_unsigned, as_number, as_int, as_test, test_of, byte_view, name_of, indexed, arguments, expr as expr_for, int_of};
 ghost use Rattle.wasm2js_nodes.specs.Names.{name_view};
 ghost use Rattle.wasm2js_build.specs.Views.{bit_view, relation_view, term_view, terms_view};
 
@@ -30,12 +33,12 @@ pub fn expr(alloc: Global, term: &Term<'_>) -> Result<Expr, AllocError>
         Term::Number(value) => Ok(literal(*value)),
         Term::Both(operator, a, b) => both(alloc, *operator, a, b),
         Term::BothNumber(operator, a, value) => {
-            let a = int_expr(alloc, a)?;
+            let a = expr(alloc, a)?;
             binary(alloc, js_bit(*operator), a, literal(*value))
         }
         Term::BothRead(operator, a, b) => both_read(alloc, *operator, *a, *b),
         Term::Flip(a) => {
-            let a = int_expr(alloc, a)?;
+            let a = expr(alloc, a)?;
             flipped(alloc, a)
         }
         Term::SumOfTwo(a, minus, b) => two(alloc, a, *minus, b),
@@ -74,10 +77,10 @@ pub fn expr(alloc: Global, term: &Term<'_>) -> Result<Expr, AllocError>
 #[cycle(building)]
 #[inline(never)]
 fn both(alloc: Global, operator: BitOp, a: &Term<'_>, b: &Term<'_>) -> Result<Expr, AllocError>
-    ensures { IfOk result (λ e. expr_view e ≡ plain.binary (bit_operator (bit_view operator)) (int_of (term_view a.now)) (int_of (term_view b.now))) }
+    ensures { IfOk result (λ e. expr_view e ≡ plain.binary (bit_operator (bit_view operator)) (expr_for (term_view a.now)) (expr_for (term_view b.now))) }
 {
-    let a = int_expr(alloc, a)?;
-    let b = int_expr(alloc, b)?;
+    let a = expr(alloc, a)?;
+    let b = expr(alloc, b)?;
     binary(alloc, js_bit(operator), a, b)
 }
 
@@ -164,7 +167,7 @@ fn compared(
     a: &Term<'_>,
     b: &Term<'_>,
 ) -> Result<Expr, AllocError>
-    ensures { IfOk result (λ e. expr_view e ≡ plain.binary (relation_operator (relation_view relation)) (as_number is_signed (expr_for (term_view a.now))) (as_number is_signed (expr_for (term_view b.now)))) }
+    ensures { IfOk result (λ e. expr_view e ≡ plain.binary (relation_operator (relation_view relation)) (as_number is_signed (term_view a.now) (expr_for (term_view a.now))) (as_number is_signed (term_view b.now) (expr_for (term_view b.now)))) }
 {
     let a = number_expr(alloc, a, is_signed)?;
     let b = number_expr(alloc, b, is_signed)?;
@@ -179,9 +182,9 @@ fn compared_number(
     a: Expr,
     value: i64,
 ) -> Result<Expr, AllocError>
-    ensures { IfOk result (λ e. expr_view e ≡ plain.binary (relation_operator (relation_view relation)) (expr_view a) (as_number is_signed (plain.lit value))) }
+    ensures { IfOk result (λ e. expr_view e ≡ plain.binary (relation_operator (relation_view relation)) (expr_view a) (as_number is_signed (words.number value) (plain.lit value))) }
 {
-    let value = number_form(alloc, literal(value), is_signed)?;
+    let value = number_literal(alloc, value, is_signed)?;
     binary(alloc, js_relation(relation), a, value)
 }
 
@@ -193,19 +196,19 @@ fn compared_read(
     a: Name,
     b: Name,
 ) -> Result<Expr, AllocError>
-    ensures { IfOk result (λ e. expr_view e ≡ plain.binary (relation_operator (relation_view relation)) (as_number is_signed (plain.var (spelled (name_view a)))) (as_number is_signed (plain.var (spelled (name_view b))))) }
+    ensures { IfOk result (λ e. expr_view e ≡ plain.binary (relation_operator (relation_view relation)) (as_number is_signed (words.read (name_view a)) (plain.var (spelled (name_view a)))) (as_number is_signed (words.read (name_view b)) (plain.var (spelled (name_view b))))) }
 {
-    let a = number_form(alloc, variable(alloc, a)?, is_signed)?;
-    let b = number_form(alloc, variable(alloc, b)?, is_signed)?;
+    let a = number(alloc, variable(alloc, a)?, is_signed)?;
+    let b = number(alloc, variable(alloc, b)?, is_signed)?;
     binary(alloc, js_relation(relation), a, b)
 }
 
 #[cycle(building)]
 #[inline(never)]
 fn choice(alloc: Global, test: &Term<'_>, a: &Term<'_>, b: &Term<'_>) -> Result<Expr, AllocError>
-    ensures { IfOk result (λ e. expr_view e ≡ plain.cond (as_number true (expr_for (term_view test.now))) (int_of (term_view a.now)) (int_of (term_view b.now))) }
+    ensures { IfOk result (λ e. expr_view e ≡ plain.cond (test_of (term_view test.now)) (int_of (term_view a.now)) (int_of (term_view b.now))) }
 {
-    let test = number_expr(alloc, test, true)?;
+    let test = test_expr(alloc, test)?;
     let a = int_expr(alloc, a)?;
     let b = int_expr(alloc, b)?;
     chosen(alloc, test, a, b)
@@ -283,19 +286,187 @@ pub(crate) fn number_expr(
     term: &Term<'_>,
     is_signed: bool,
 ) -> Result<Expr, AllocError>
-    ensures { IfOk result (λ e. expr_view e ≡ as_number is_signed (expr_for (term_view term.now))) }
+    ensures { IfOk result (λ e. expr_view e ≡ as_number is_signed (term_view term.now) (expr_for (term_view term.now))) }
 {
     let e = expr(alloc, term)?;
-    number_form(alloc, e, is_signed)
+    number_form(alloc, term, e, is_signed)
 }
 
-fn number_form(alloc: Global, e: Expr, is_signed: bool) -> Result<Expr, AllocError>
-    ensures { IfOk result (λ r. expr_view r ≡ as_number is_signed (expr_view e)) }
+fn number_form(
+    alloc: Global,
+    term: &Term<'_>,
+    e: Expr,
+    is_signed: bool,
+) -> Result<Expr, AllocError>
+    ensures { IfOk result (λ r. expr_view r ≡ as_number is_signed (term_view term.now) (expr_view e)) }
+{
+    if is_signed {
+        signed_form(alloc, term, e)
+    } else {
+        unsigned_form(alloc, term, e)
+    }
+}
+
+// `e|0` or `e>>>0`
+fn number(alloc: Global, e: Expr, is_signed: bool) -> Result<Expr, AllocError>
+    ensures { IfOk result (λ r. expr_view r ≡ (if is_signed then words.signed_number (expr_view e) else words.plain_number (expr_view e))) }
 {
     if is_signed {
         signed(alloc, e)
     } else {
         unsigned(alloc, e)
+    }
+}
+
+// A literal as an operand of a comparison.
+fn number_literal(alloc: Global, value: i64, is_signed: bool) -> Result<Expr, AllocError>
+    ensures { IfOk result (λ e. expr_view e ≡ as_number is_signed (words.number value) (plain.lit value)) }
+{
+    if is_signed {
+        signed_literal(alloc, value, literal(value))
+    } else {
+        unsigned_literal(alloc, value, literal(value))
+    }
+}
+
+#[tactic(auto, using(crate::proofs::Literals::is_signed))]
+fn is_signed_literal(value: i64) -> bool
+    ensures { result ≡ typed_below Signed (literal_type value) }
+{
+    -2147483648 <= value && value < 2147483648
+}
+
+#[tactic(auto, using(crate::proofs::Literals::is_unsigned))]
+fn is_unsigned_literal(value: i64) -> bool
+    ensures { result ≡ typed_below Unsigned (literal_type value) }
+{
+    0 <= value && value < 4294967296
+}
+
+fn signed_literal(alloc: Global, value: i64, e: Expr) -> Result<Expr, AllocError>
+    ensures { IfOk result (λ r. expr_view r ≡ as_signed (words.number value) (expr_view e)) }
+{
+    if is_signed_literal(value) {
+        Ok(e)
+    } else {
+        signed(alloc, e)
+    }
+}
+
+fn unsigned_literal(alloc: Global, value: i64, e: Expr) -> Result<Expr, AllocError>
+    ensures { IfOk result (λ r. expr_view r ≡ as_unsigned (words.number value) (expr_view e)) }
+{
+    if is_unsigned_literal(value) {
+        Ok(e)
+    } else {
+        unsigned(alloc, e)
+    }
+}
+
+fn signed_bits(alloc: Global, operator: BitOp, e: Expr) -> Result<Expr, AllocError>
+    ensures { (a b : words.Term) → IfOk result (λ r. expr_view r ≡ as_signed (words.both (bit_view operator) a b) (expr_view e)) }
+{
+    match operator {
+        BitOp::Shr => signed(alloc, e),
+        BitOp::And | BitOp::Or | BitOp::Xor | BitOp::Shl | BitOp::Sar => Ok(e),
+    }
+}
+
+fn unsigned_bits(alloc: Global, operator: BitOp, e: Expr) -> Result<Expr, AllocError>
+    ensures { (a b : words.Term) → IfOk result (λ r. expr_view r ≡ as_unsigned (words.both (bit_view operator) a b) (expr_view e)) }
+{
+    match operator {
+        BitOp::Shr => Ok(e),
+        BitOp::And | BitOp::Or | BitOp::Xor | BitOp::Shl | BitOp::Sar => unsigned(alloc, e),
+    }
+}
+
+#[tactic(auto, using(crate::proofs::Views::terms))]
+fn signed_form(alloc: Global, term: &Term<'_>, e: Expr) -> Result<Expr, AllocError>
+    ensures { IfOk result (λ r. expr_view r ≡ as_signed (term_view term.now) (expr_view e)) }
+{
+    match term {
+        Term::Number(value) => signed_literal(alloc, *value, e),
+        Term::Both(operator, _, _)
+        | Term::BothNumber(operator, _, _)
+        | Term::BothRead(operator, _, _) => signed_bits(alloc, *operator, e),
+        Term::Flip(_) | Term::Product(_, _) | Term::Zeros(_) => Ok(e),
+        Term::Read(_)
+        | Term::SumOfTwo(_, _, _)
+        | Term::SumOfThree(_, _, _, _, _)
+        | Term::SumNumber(_, _, _)
+        | Term::SumRead(_, _, _)
+        | Term::SumOfFour(_, _, _, _)
+        | Term::Compare(_, _, _, _)
+        | Term::CompareNumber(_, _, _, _)
+        | Term::CompareRead(_, _, _, _)
+        | Term::Choose(_, _, _)
+        | Term::Byte(_, _)
+        | Term::Whole(_) => signed(alloc, e),
+    }
+}
+
+#[tactic(auto, using(crate::proofs::Views::terms))]
+fn unsigned_form(alloc: Global, term: &Term<'_>, e: Expr) -> Result<Expr, AllocError>
+    ensures { IfOk result (λ r. expr_view r ≡ as_unsigned (term_view term.now) (expr_view e)) }
+{
+    match term {
+        Term::Number(value) => unsigned_literal(alloc, *value, e),
+        Term::Both(operator, _, _)
+        | Term::BothNumber(operator, _, _)
+        | Term::BothRead(operator, _, _) => unsigned_bits(alloc, *operator, e),
+        Term::Zeros(_) => Ok(e),
+        Term::Read(_)
+        | Term::Flip(_)
+        | Term::SumOfTwo(_, _, _)
+        | Term::SumOfThree(_, _, _, _, _)
+        | Term::SumNumber(_, _, _)
+        | Term::SumRead(_, _, _)
+        | Term::SumOfFour(_, _, _, _)
+        | Term::Product(_, _)
+        | Term::Compare(_, _, _, _)
+        | Term::CompareNumber(_, _, _, _)
+        | Term::CompareRead(_, _, _, _)
+        | Term::Choose(_, _, _)
+        | Term::Byte(_, _)
+        | Term::Whole(_) => unsigned(alloc, e),
+    }
+}
+
+/// The expression of a term as a condition.
+#[cycle(building)]
+#[inline(never)]
+pub(crate) fn test_expr(alloc: Global, term: &Term<'_>) -> Result<Expr, AllocError>
+    ensures { IfOk result (λ e. expr_view e ≡ test_of (term_view term.now)) }
+{
+    let e = expr(alloc, term)?;
+    test_form(alloc, term, e)
+}
+
+#[tactic(auto, using(crate::proofs::Views::terms))]
+fn test_form(alloc: Global, term: &Term<'_>, e: Expr) -> Result<Expr, AllocError>
+    ensures { IfOk result (λ r. expr_view r ≡ as_test (term_view term.now) (expr_view e)) }
+{
+    match term {
+        Term::Read(_)
+        | Term::Number(_)
+        | Term::SumOfTwo(_, _, _)
+        | Term::SumOfThree(_, _, _, _, _)
+        | Term::SumNumber(_, _, _)
+        | Term::SumRead(_, _, _)
+        | Term::SumOfFour(_, _, _, _)
+        | Term::Choose(_, _, _)
+        | Term::Byte(_, _)
+        | Term::Whole(_) => signed(alloc, e),
+        Term::Both(_, _, _)
+        | Term::BothNumber(_, _, _)
+        | Term::BothRead(_, _, _)
+        | Term::Flip(_)
+        | Term::Product(_, _)
+        | Term::Zeros(_)
+        | Term::Compare(_, _, _, _)
+        | Term::CompareNumber(_, _, _, _)
+        | Term::CompareRead(_, _, _, _) => Ok(e),
     }
 }
 
