@@ -117,6 +117,7 @@ pub fn part_of(block: Block) -> Stmt
 }
 
 /// `if(test)first else second`, without the `else` where nothing would stand behind it.
+#[tactic(auto, using(crate::proofs::Lists::chosen_else))]
 pub fn chosen(alloc: Global, test: Expr, first: Block, second: Block) -> Result<Stmt, AllocError>
     ensures { IfOk result (λ s. stmt_view s ≡ bodies.chosen (expr_view test) (statements_of first) (statements_of second)) }
 {
