@@ -18,7 +18,8 @@ use sem_words::{JsOp, List};
 use std::alloc::{AllocError, Global};
 use wasm2js_nodes::{
     Fixed, Name, binary, block_statement, call, gives, if_else, if_only, locals_of, natural,
-    params_of, part_statement, plainly, put_in, shifted, signed, spell, store_in, trap_call, while_loop,
+    params_of, part_statement, plainly, put_in, shifted, signed, spell, store_in, trap_call,
+    while_loop,
 };
 
 /// A list of statements that grows at its end. Contracts read the statements by `statements_of`.

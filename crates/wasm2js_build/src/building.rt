@@ -292,12 +292,7 @@ pub(crate) fn number_expr(
     number_form(alloc, term, e, is_signed)
 }
 
-fn number_form(
-    alloc: Global,
-    term: &Term<'_>,
-    e: Expr,
-    is_signed: bool,
-) -> Result<Expr, AllocError>
+fn number_form(alloc: Global, term: &Term<'_>, e: Expr, is_signed: bool) -> Result<Expr, AllocError>
     ensures { IfOk result (λ r. expr_view r ≡ as_number is_signed (term_view term.now) (expr_view e)) }
 {
     if is_signed {
