@@ -2,3 +2,4 @@ pub mod Views
 pub mod Sizes
 pub mod Lists
 pub mod Literals
+pub mod OwnForms

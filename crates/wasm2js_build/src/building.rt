@@ -1,17 +1,16 @@
 //! From terms to expressions.
 ghost use Rattle.std.specs.Prelude.{◌≡◌, true, false, IfOk, if◌then◌else◌};
 ghost use Rattle.sem_words.specs.Lists.{list_items};
-ghost use Rattle.asm_types.specs.declared.value_type.ValueType.TheVariants.{Signed, Unsigned};
-ghost use Rattle.asm_lang_valid.specs.Typing.{typed_below, literal_type};
 ghost use Rattle.asm_lang.specs.Modules as plain;
 ghost use Rattle.asm_tree.specs.Views.{expr_view, exprs_view, links_view};
 ghost use Rattle.wasm2js_translation.specs.Names as plain_names;
 ghost use Rattle.wasm2js_translation.specs.Names.{spelled};
 ghost use Rattle.wasm2js_translation.specs.Words as words;
-ghost use Rattle.wasm2js_translation.specs.Words.{bit_operator, relation_operator, as_signed, as_unsigned, as_number, as_int, as_test, test_of, byte_view, name_of, indexed, arguments, expr as expr_for, int_of};
+ghost use Rattle.wasm2js_translation.specs.Words.{bit_operator, relation_operator, as_number, test_of, byte_view, name_of, indexed, arguments, expr as expr_for, int_of};
 ghost use Rattle.wasm2js_nodes.specs.Names.{name_view};
 ghost use Rattle.wasm2js_build.specs.Views.{bit_view, relation_view, term_view, terms_view};
 
+use crate::forms::{Form, int_form, number_form, own_form, test_form};
 use crate::terms::{BitOp, Relation, Term};
 use asm_tree::{Expr, Link};
 use sem_words::{JsOp, List};
@@ -217,39 +216,12 @@ fn choice(alloc: Global, test: &Term<'_>, a: &Term<'_>, b: &Term<'_>) -> Result<
 /// The expression of a term, of type int.
 #[cycle(building)]
 #[inline(never)]
+#[tactic(auto, using(crate::proofs::OwnForms::int_is))]
 pub fn int_expr(alloc: Global, term: &Term<'_>) -> Result<Expr, AllocError>
     ensures { IfOk result (λ e. expr_view e ≡ int_of (term_view term.now)) }
 {
     let e = expr(alloc, term)?;
-    int_form(alloc, term, e)
-}
-
-// What the heap holds and sums are only intish.
-#[tactic(auto, using(crate::proofs::Views::terms))]
-fn int_form(alloc: Global, term: &Term<'_>, e: Expr) -> Result<Expr, AllocError>
-    ensures { IfOk result (λ r. expr_view r ≡ as_int (term_view term.now) (expr_view e)) }
-{
-    match term {
-        Term::SumOfTwo(_, _, _)
-        | Term::SumOfThree(_, _, _, _, _)
-        | Term::SumNumber(_, _, _)
-        | Term::SumRead(_, _, _)
-        | Term::SumOfFour(_, _, _, _)
-        | Term::Byte(_, _)
-        | Term::Whole(_) => signed(alloc, e),
-        Term::Read(_)
-        | Term::Number(_)
-        | Term::Both(_, _, _)
-        | Term::BothNumber(_, _, _)
-        | Term::BothRead(_, _, _)
-        | Term::Flip(_)
-        | Term::Product(_, _)
-        | Term::Zeros(_)
-        | Term::Compare(_, _, _, _)
-        | Term::CompareNumber(_, _, _, _)
-        | Term::CompareRead(_, _, _, _)
-        | Term::Choose(_, _, _) => Ok(e),
-    }
+    int_form(alloc, own_form(term), e)
 }
 
 fn js_bit(operator: BitOp) -> JsOp
@@ -281,6 +253,7 @@ fn js_relation(relation: Relation) -> JsOp
 /// The number of a term, with its sign or without.
 #[cycle(building)]
 #[inline(never)]
+#[tactic(auto, using(crate::proofs::OwnForms::number_is))]
 pub(crate) fn number_expr(
     alloc: Global,
     term: &Term<'_>,
@@ -289,17 +262,7 @@ pub(crate) fn number_expr(
     ensures { IfOk result (λ e. expr_view e ≡ as_number is_signed (term_view term.now) (expr_for (term_view term.now))) }
 {
     let e = expr(alloc, term)?;
-    number_form(alloc, term, e, is_signed)
-}
-
-fn number_form(alloc: Global, term: &Term<'_>, e: Expr, is_signed: bool) -> Result<Expr, AllocError>
-    ensures { IfOk result (λ r. expr_view r ≡ as_number is_signed (term_view term.now) (expr_view e)) }
-{
-    if is_signed {
-        signed_form(alloc, term, e)
-    } else {
-        unsigned_form(alloc, term, e)
-    }
+    number_form(alloc, own_form(term), e, is_signed)
 }
 
 // `e|0` or `e>>>0`
@@ -314,155 +277,22 @@ fn number(alloc: Global, e: Expr, is_signed: bool) -> Result<Expr, AllocError>
 }
 
 // A literal as an operand of a comparison.
+#[tactic(auto, using(crate::proofs::OwnForms::number_is))]
 fn number_literal(alloc: Global, value: i64, is_signed: bool) -> Result<Expr, AllocError>
     ensures { IfOk result (λ e. expr_view e ≡ as_number is_signed (words.number value) (plain.lit value)) }
 {
-    if is_signed {
-        signed_literal(alloc, value, literal(value))
-    } else {
-        unsigned_literal(alloc, value, literal(value))
-    }
-}
-
-#[tactic(auto, using(crate::proofs::Literals::is_signed))]
-fn is_signed_literal(value: i64) -> bool
-    ensures { result ≡ typed_below Signed (literal_type value) }
-{
-    -2147483648 <= value && value < 2147483648
-}
-
-#[tactic(auto, using(crate::proofs::Literals::is_unsigned))]
-fn is_unsigned_literal(value: i64) -> bool
-    ensures { result ≡ typed_below Unsigned (literal_type value) }
-{
-    0 <= value && value < 4294967296
-}
-
-fn signed_literal(alloc: Global, value: i64, e: Expr) -> Result<Expr, AllocError>
-    ensures { IfOk result (λ r. expr_view r ≡ as_signed (words.number value) (expr_view e)) }
-{
-    if is_signed_literal(value) {
-        Ok(e)
-    } else {
-        signed(alloc, e)
-    }
-}
-
-fn unsigned_literal(alloc: Global, value: i64, e: Expr) -> Result<Expr, AllocError>
-    ensures { IfOk result (λ r. expr_view r ≡ as_unsigned (words.number value) (expr_view e)) }
-{
-    if is_unsigned_literal(value) {
-        Ok(e)
-    } else {
-        unsigned(alloc, e)
-    }
-}
-
-fn signed_bits(alloc: Global, operator: BitOp, e: Expr) -> Result<Expr, AllocError>
-    ensures { (a b : words.Term) → IfOk result (λ r. expr_view r ≡ as_signed (words.both (bit_view operator) a b) (expr_view e)) }
-{
-    match operator {
-        BitOp::Shr => signed(alloc, e),
-        BitOp::And | BitOp::Or | BitOp::Xor | BitOp::Shl | BitOp::Sar => Ok(e),
-    }
-}
-
-fn unsigned_bits(alloc: Global, operator: BitOp, e: Expr) -> Result<Expr, AllocError>
-    ensures { (a b : words.Term) → IfOk result (λ r. expr_view r ≡ as_unsigned (words.both (bit_view operator) a b) (expr_view e)) }
-{
-    match operator {
-        BitOp::Shr => Ok(e),
-        BitOp::And | BitOp::Or | BitOp::Xor | BitOp::Shl | BitOp::Sar => unsigned(alloc, e),
-    }
-}
-
-#[tactic(auto, using(crate::proofs::Views::terms))]
-fn signed_form(alloc: Global, term: &Term<'_>, e: Expr) -> Result<Expr, AllocError>
-    ensures { IfOk result (λ r. expr_view r ≡ as_signed (term_view term.now) (expr_view e)) }
-{
-    match term {
-        Term::Number(value) => signed_literal(alloc, *value, e),
-        Term::Both(operator, _, _)
-        | Term::BothNumber(operator, _, _)
-        | Term::BothRead(operator, _, _) => signed_bits(alloc, *operator, e),
-        Term::Flip(_) | Term::Product(_, _) | Term::Zeros(_) => Ok(e),
-        Term::Read(_)
-        | Term::SumOfTwo(_, _, _)
-        | Term::SumOfThree(_, _, _, _, _)
-        | Term::SumNumber(_, _, _)
-        | Term::SumRead(_, _, _)
-        | Term::SumOfFour(_, _, _, _)
-        | Term::Compare(_, _, _, _)
-        | Term::CompareNumber(_, _, _, _)
-        | Term::CompareRead(_, _, _, _)
-        | Term::Choose(_, _, _)
-        | Term::Byte(_, _)
-        | Term::Whole(_) => signed(alloc, e),
-    }
-}
-
-#[tactic(auto, using(crate::proofs::Views::terms))]
-fn unsigned_form(alloc: Global, term: &Term<'_>, e: Expr) -> Result<Expr, AllocError>
-    ensures { IfOk result (λ r. expr_view r ≡ as_unsigned (term_view term.now) (expr_view e)) }
-{
-    match term {
-        Term::Number(value) => unsigned_literal(alloc, *value, e),
-        Term::Both(operator, _, _)
-        | Term::BothNumber(operator, _, _)
-        | Term::BothRead(operator, _, _) => unsigned_bits(alloc, *operator, e),
-        Term::Zeros(_) => Ok(e),
-        Term::Read(_)
-        | Term::Flip(_)
-        | Term::SumOfTwo(_, _, _)
-        | Term::SumOfThree(_, _, _, _, _)
-        | Term::SumNumber(_, _, _)
-        | Term::SumRead(_, _, _)
-        | Term::SumOfFour(_, _, _, _)
-        | Term::Product(_, _)
-        | Term::Compare(_, _, _, _)
-        | Term::CompareNumber(_, _, _, _)
-        | Term::CompareRead(_, _, _, _)
-        | Term::Choose(_, _, _)
-        | Term::Byte(_, _)
-        | Term::Whole(_) => unsigned(alloc, e),
-    }
+    number_form(alloc, Form::Literal(value), literal(value), is_signed)
 }
 
 /// The expression of a term as a condition.
 #[cycle(building)]
 #[inline(never)]
+#[tactic(auto, using(crate::proofs::OwnForms::test_is))]
 pub(crate) fn test_expr(alloc: Global, term: &Term<'_>) -> Result<Expr, AllocError>
     ensures { IfOk result (λ e. expr_view e ≡ test_of (term_view term.now)) }
 {
     let e = expr(alloc, term)?;
-    test_form(alloc, term, e)
-}
-
-#[tactic(auto, using(crate::proofs::Views::terms))]
-fn test_form(alloc: Global, term: &Term<'_>, e: Expr) -> Result<Expr, AllocError>
-    ensures { IfOk result (λ r. expr_view r ≡ as_test (term_view term.now) (expr_view e)) }
-{
-    match term {
-        Term::Read(_)
-        | Term::Number(_)
-        | Term::SumOfTwo(_, _, _)
-        | Term::SumOfThree(_, _, _, _, _)
-        | Term::SumNumber(_, _, _)
-        | Term::SumRead(_, _, _)
-        | Term::SumOfFour(_, _, _, _)
-        | Term::Choose(_, _, _)
-        | Term::Byte(_, _)
-        | Term::Whole(_) => signed(alloc, e),
-        Term::Both(_, _, _)
-        | Term::BothNumber(_, _, _)
-        | Term::BothRead(_, _, _)
-        | Term::Flip(_)
-        | Term::Product(_, _)
-        | Term::Zeros(_)
-        | Term::Compare(_, _, _, _)
-        | Term::CompareNumber(_, _, _, _)
-        | Term::CompareRead(_, _, _, _) => Ok(e),
-    }
+    test_form(alloc, own_form(term), e)
 }
 
 // A byte at the place of an expression.
