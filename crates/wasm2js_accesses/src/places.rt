@@ -1,7 +1,7 @@
 //! Places in the memory.
 ghost use Rattle.std.specs.Prelude.{◌≡◌, ◌<◌, ◌^◌, [], ◌∷◌, ◌++◌, ◌==◌, if◌then◌else◌, IfOk};
 ghost use Rattle.asm_lang.specs.Modules as text;
-ghost use Rattle.wasm2js_translation.specs.Words.{both, conjunction, expr, signed_number, stmts_in};
+ghost use Rattle.wasm2js_translation.specs.Words.{both, conjunction, test_of, part_of};
 ghost use Rattle.wasm2js_translation.specs.Pairs as pairs;
 ghost use Rattle.wasm2js_build.specs.Views.{term_view};
 ghost use Rattle.wasm2js_build.specs.Blocks.{statements_of};
@@ -28,7 +28,7 @@ pub fn by_place(
     apart: Block,
     together: Block,
 ) -> Result<(), AllocError>
-    ensures { IfOk result (λ _. statements_of block.new ≡ statements_of block.old ++ text.if_else (signed_number (expr (both conjunction (term_view at.now) (pairs.literal 3)))) (text.block (stmts_in (statements_of apart))) (text.block (stmts_in (statements_of together))) ∷ []) }
+    ensures { IfOk result (λ _. statements_of block.new ≡ statements_of block.old ++ text.if_else (test_of (both conjunction (term_view at.now) (pairs.literal 3))) (part_of (statements_of apart)) (part_of (statements_of together)) ∷ []) }
 {
     block.either(&Term::both_number(BitOp::And, at, 3), apart, together)
 }

@@ -11,10 +11,10 @@ use Rattle.wasm_run_flat.specs.Places.{code_at}
 use Rattle.wasm_run_flat.specs.declared.target.Target.TheVariants.{Past, Again}
 use Rattle.wasm_run_flat.proofs.Standing.{block_opens, loop_opens, first_arm_opens, second_arm_opens}
 use Rattle.wasm_run_flat.proofs.Past.{past_block, past_loop, past_if}
-use Rattle.asm_lang.specs.Modules.{Stmt, breaks, if_else}
+use Rattle.asm_lang.specs.Modules.{Stmt, breaks}
 use Rattle.wasm2js_translation.specs.Helpers.{block_of}
 use Rattle.wasm2js_translation.specs.Actions.{under}
-use Rattle.wasm2js_translation.specs.Bodies.{Aim, past, again, stmts_of, comes_to_end, labels_round, under_label, endless, signed_word}
+use Rattle.wasm2js_translation.specs.Bodies.{Aim, past, again, stmts_of, comes_to_end, labels_round, under_label, endless, chosen, signed_word}
 use Rattle.wasm2js_bodies.specs.Walks.{IsInside, size, GoesOn, IsOver}
 use Rattle.wasm2js_bodies.proofs.Steps.{goes_on}
 
@@ -93,7 +93,7 @@ module _ (bytes cells : ℕ) (c : Context) (body : List Instruction) (at : ℕ) 
   pub if_step : (other : List Stmt) → slice_get body at ≡ Some (flat.if_block r) → n ≡ under 1 b ts → us ≡ listed r ++ drop 1 ts
       → (first second : Bool) → IsOver bytes cells c body (at + 1) first (past n r ∷ ls) n [] [] inner
       → IsOver bytes cells c body (other_arm body at) second (past n r ∷ ls) n [] [] other
-      → after ≡ before ++ under_label (labels_round ls) (if_else (signed_word n) (block_of inner) (block_of other)) ∷ []
+      → after ≡ before ++ under_label (labels_round ls) (chosen (signed_word n) inner other) ∷ []
       → GoesOn bytes cells c body at (past_end body at) ls b ts us before after
   if_step other here base gives first second o p made =
       let code = code_at body (at + 1) in
@@ -103,9 +103,9 @@ module _ (bytes cells : ℕ) (c : Context) (body : List Instruction) (at : ℕ) 
       let are : other ≡ stmts_of bytes cells c more (past d r ∷ ls) d [] = p.statements ∙ ap (λ (m : ℕ). stmts_of bytes cells c more (past m r ∷ ls) m []) base in
       subst (λ (vs : List ValType). GoesOn bytes cells c body at (past_end body at) ls b ts vs before after) (sym gives)
       (goes_on bytes cells c body at ls b ts before after
-      (under_label (labels_round ls) (if_else (signed_word d) (block_of (stmts_of bytes cells c code (past d r ∷ ls) d [])) (block_of (stmts_of bytes cells c more (past d r ∷ ls) d []))) ∷ [])
+      (under_label (labels_round ls) (chosen (signed_word d) (stmts_of bytes cells c code (past d r ∷ ls) d []) (stmts_of bytes cells c more (past d r ∷ ls) d [])) ∷ [])
       (listed r ++ drop 1 ts) (past_end body at) s.targets (if_block r code more) (past_if body at s.targets r s.stands here) s.translated
-      (made ∙ ap (λ (m : ℕ). before ++ under_label (labels_round ls) (if_else (signed_word m) (block_of inner) (block_of other)) ∷ []) base
-      ∙ ap (λ (ss : List Stmt). before ++ under_label (labels_round ls) (if_else (signed_word d) (block_of ss) (block_of other)) ∷ []) is
-      ∙ ap (λ (ss : List Stmt). before ++ under_label (labels_round ls) (if_else (signed_word d) (block_of (stmts_of bytes cells c code (past d r ∷ ls) d [])) (block_of ss)) ∷ []) are)
+      (made ∙ ap (λ (m : ℕ). before ++ under_label (labels_round ls) (chosen (signed_word m) inner other) ∷ []) base
+      ∙ ap (λ (ss : List Stmt). before ++ under_label (labels_round ls) (chosen (signed_word d) ss other) ∷ []) is
+      ∙ ap (λ (ss : List Stmt). before ++ under_label (labels_round ls) (chosen (signed_word d) (stmts_of bytes cells c code (past d r ∷ ls) d []) ss) ∷ []) are)
       (λ is. refl) (λ is. refl))

@@ -6,9 +6,9 @@ use Rattle.wasm_lang.specs.Instructions as flat
 use Rattle.wasm_lang.specs.Instructions.{Instruction}
 use Rattle.wasm_lang_valid.specs.Typing.{Context, listed}
 use Rattle.wasm_run_flat.specs.Jumps.{past_end, other_arm}
-use Rattle.asm_lang.specs.Modules.{Stmt, breaks, if_else}
+use Rattle.asm_lang.specs.Modules.{Stmt, breaks}
 use Rattle.wasm2js_translation.specs.Helpers.{block_of}
-use Rattle.wasm2js_translation.specs.Bodies.{Aim, past, again, labels_round, under_label, endless, signed_word}
+use Rattle.wasm2js_translation.specs.Bodies.{Aim, past, again, labels_round, under_label, endless, chosen, signed_word}
 use Rattle.wasm2js_operands.specs.Operands.{over}
 use Rattle.wasm2js_bodies.specs.Walks.{IsInside, GoesOn, IsOver}
 use Rattle.wasm2js_bodies.proofs.Blocks.{block_step, loop_step, if_step}
@@ -61,7 +61,7 @@ module _ (bytes cells : ℕ) (c : Context) (body : List Instruction) (at : ℕ) 
       → IsOver bytes cells c body first reached (aim ∷ ls) n [] empty inner → ys ≡ xs → ks ≡ ls
       → IsOver bytes cells c body second also (aim ∷ ks) m [] other more → vs ≡ ys → ms ≡ ks
       → over b zs ≡ listed r ++ over b vs
-      → after ≡ before ++ under_label (labels_round ms) (if_else (signed_word d) (block_of inner) (block_of more)) ∷ []
+      → after ≡ before ++ under_label (labels_round ms) (chosen (signed_word d) inner more) ∷ []
       → GoesOn bytes cells c body at place ls b (over b ws) (over b zs) before after
   if_done first second place n m d reached also ks ms aim ws xs ys vs zs before after empty other inner more s here h left n-is m-is d-is begins turns ends aimed none nothing o same outer p alike around gives made =
       let m-n : m ≡ n = m-is ∙ ap length same ∙ sym n-is in
@@ -71,5 +71,5 @@ module _ (bytes cells : ℕ) (c : Context) (body : List Instruction) (at : ℕ) 
       (gives ∙ ap (λ (us : List ValType). listed r ++ over b us) (alike ∙ same) ∙ ap (λ (us : List ValType). listed r ++ us) left) reached also
       (moved (at + 1) first n n reached ls aim (past n r) empty inner o begins aimed refl refl none)
       (moved (other_arm body at) second m n also ks aim (past n r) other more p turns aimed outer m-n nothing)
-      (made ∙ ap (λ (js : List Aim). before ++ under_label (labels_round js) (if_else (signed_word d) (block_of inner) (block_of more)) ∷ []) (around ∙ outer)
-      ∙ ap (λ (e : ℕ). before ++ under_label (labels_round ls) (if_else (signed_word e) (block_of inner) (block_of more)) ∷ []) d-n))
+      (made ∙ ap (λ (js : List Aim). before ++ under_label (labels_round js) (chosen (signed_word d) inner more) ∷ []) (around ∙ outer)
+      ∙ ap (λ (e : ℕ). before ++ under_label (labels_round ls) (chosen (signed_word e) inner more) ∷ []) d-n))

@@ -3,7 +3,7 @@ ghost use Rattle.std.specs.Prelude.{◌≡◌, ◌≤◌, ◌∷◌, [], ◌++�
 ghost use Rattle.asm_lang.specs.Modules as plain;
 ghost use Rattle.wasm2js_translation.specs.Actions as actions;
 ghost use Rattle.wasm2js_translation.specs.Bodies as bodies;
-ghost use Rattle.wasm2js_translation.specs.Helpers as helpers;
+ghost use Rattle.wasm2js_translation.specs.Words as words;
 ghost use Rattle.wasm2js_build.specs.Blocks.{statements_of};
 ghost use Rattle.wasm2js_jumps.specs.Aims.{aims_view};
 ghost use Rattle.wasm2js_operands.specs.Operands.{over, IsKept};
@@ -11,7 +11,7 @@ ghost use Rattle.wasm2js_operands.specs.Operands.{over, IsKept};
 use std::alloc::{AllocError, Global};
 use wasm_lang::ValType;
 use wasm2js_build::Block;
-use wasm2js_jumps::{Aim, Jumps, block_of, by_index, if_only, jump, leave_with, signed_word};
+use wasm2js_jumps::{Aim, Jumps, by_index, if_only, jump, leave_with, part_of, signed_word};
 use wasm2js_operands::{remove, under};
 
 /// `br`
@@ -49,10 +49,10 @@ fn put_if_only(
     inner: Block,
     block: &mut Block,
 ) -> Result<(), AllocError>
-    ensures { IfOk result (λ _. statements_of block.new ≡ statements_of block.old ++ plain.if_only (bodies.signed_word subject) (helpers.block_of (statements_of inner)) ∷ []) }
+    ensures { IfOk result (λ _. statements_of block.new ≡ statements_of block.old ++ plain.if_only (bodies.signed_word subject) (words.part_of (statements_of inner)) ∷ []) }
 {
     let test = signed_word(alloc, subject)?;
-    let stmt = if_only(alloc, test, block_of(inner))?;
+    let stmt = if_only(alloc, test, part_of(inner))?;
     block.push(stmt)
 }
 
@@ -68,7 +68,7 @@ pub fn branch_if(
     requires { base ≤ vec_len types.old }
     ensures kept { IsKept base types.old.items types.new.items }
     ensures types { over base types.new.items ≡ drop 1 (over base types.old.items) }
-    ensures value { IfOk result (λ _. statements_of block.new ≡ statements_of block.old ++ plain.if_only (bodies.signed_word (actions.under 1 base (over base types.old.items))) (helpers.block_of (bodies.jump (aims_view aims.now) label base (drop 1 (over base types.old.items)))) ∷ []) }
+    ensures value { IfOk result (λ _. statements_of block.new ≡ statements_of block.old ++ plain.if_only (bodies.signed_word (actions.under 1 base (over base types.old.items))) (words.part_of (bodies.jump (aims_view aims.now) label base (drop 1 (over base types.old.items)))) ∷ []) }
 {
     let subject = under(types, base, 1);
     remove(types, base, 1);

@@ -14,7 +14,7 @@ use std::alloc::{AllocError, Global};
 use wasm_lang::ValType;
 use wasm2js_build::Block;
 use wasm2js_jumps::{
-    Aim, bare_break, block_of, endless, if_else, labelled, leave_with, signed_word,
+    Aim, bare_break, block_of, chosen, endless, labelled, leave_with, signed_word,
 };
 use wasm2js_nodes::{Name, Numbered};
 use wasm2js_operands::add;
@@ -98,10 +98,10 @@ fn put_if(
     second: Block,
     block: &mut Block,
 ) -> Result<(), AllocError>
-    ensures { IfOk result (λ _. statements_of block.new ≡ statements_of block.old ++ bodies.under_label (bodies.labels_round (aims_view aims.now)) (plain.if_else (bodies.signed_word subject) (helpers.block_of (statements_of first)) (helpers.block_of (statements_of second))) ∷ []) }
+    ensures { IfOk result (λ _. statements_of block.new ≡ statements_of block.old ++ bodies.under_label (bodies.labels_round (aims_view aims.now)) (bodies.chosen (bodies.signed_word subject) (statements_of first) (statements_of second)) ∷ []) }
 {
     let test = signed_word(alloc, subject)?;
-    let stmt = if_else(alloc, test, block_of(first), block_of(second))?;
+    let stmt = chosen(alloc, test, first, second)?;
     put_labelled(alloc, aims, stmt, block)
 }
 
@@ -180,7 +180,7 @@ pub fn close_if(
     requires { base ≤ vec_len types.old }
     ensures kept { IfOk result (λ _. IsKept base types.old.items types.new.items) }
     ensures types { IfOk result (λ _. over base types.new.items ≡ listed result_type ++ over base types.old.items) }
-    ensures statements { IfOk result (λ _. statements_of block.new ≡ statements_of block.old ++ bodies.under_label (bodies.labels_round (aims_view aims.now.items)) (plain.if_else (bodies.signed_word (vec_len types.old)) (helpers.block_of (statements_of first)) (helpers.block_of (statements_of second))) ∷ []) }
+    ensures statements { IfOk result (λ _. statements_of block.new ≡ statements_of block.old ++ bodies.under_label (bodies.labels_round (aims_view aims.now.items)) (bodies.chosen (bodies.signed_word (vec_len types.old)) (statements_of first) (statements_of second)) ∷ []) }
 {
     let subject = types.len() as u64;
     put_if(alloc, aims, subject, first, second, block)?;

@@ -1,3 +1,5 @@
 pub mod Views
 pub mod Sizes
 pub mod Lists
+pub mod Literals
+pub mod OwnForms

@@ -1,24 +1,25 @@
 //! Statements of asm.js, one after another.
-ghost use Rattle.std.specs.Prelude.{◌≡◌, [], ◌∷◌, ◌++◌, List, map, IfOk};
+ghost use Rattle.std.specs.Prelude.{◌≡◌, [], ◌∷◌, ◌++◌, ◌↔◌, List, map, IfOk, IsTrue};
 ghost use Rattle.sem_words.specs.Lists.{list_items};
 ghost use Rattle.asm_lang.specs.Modules as plain;
 ghost use Rattle.asm_tree.specs.Views.{expr_view, stmt_view, function_view};
 ghost use Rattle.wasm2js_translation.specs.Names as names;
 ghost use Rattle.wasm2js_translation.specs.Words as words;
-ghost use Rattle.wasm2js_translation.specs.Words.{simple_statement, signed_number, expr as expr_for, int_of, stmts_in};
+ghost use Rattle.wasm2js_translation.specs.Words.{simple_statement, signed_number, int_of, test_of, part_of};
 ghost use Rattle.wasm2js_translation.specs.Helpers as helpers;
 ghost use Rattle.wasm2js_nodes.specs.Names.{name_view, fixed_view};
 ghost use Rattle.wasm2js_build.specs.Views.{term_view, terms_view};
 ghost use Rattle.wasm2js_build.specs.Blocks.{statements_of};
 
-use crate::building::{argument_list, expr, int_expr, number_expr};
+use crate::building::{argument_list, expr, int_expr, number_expr, test_expr};
 use crate::terms::Term;
 use asm_tree::{Expr, Function, Stmt};
 use sem_words::{JsOp, List};
 use std::alloc::{AllocError, Global};
 use wasm2js_nodes::{
     Fixed, Name, binary, block_statement, call, gives, if_else, if_only, locals_of, natural,
-    params_of, plainly, put_in, shifted, signed, spell, store_in, trap_call, while_loop,
+    params_of, part_statement, plainly, put_in, shifted, signed, spell, store_in, trap_call,
+    while_loop,
 };
 
 /// A list of statements that grows at its end. Contracts read the statements by `statements_of`.
@@ -53,6 +54,20 @@ impl Block {
         ensures { stmt_view result ≡ helpers.block_of (statements_of self) }
     {
         block_statement(self.into_list())
+    }
+
+    /// The statements as a part of an `if`.
+    pub fn into_part(self) -> Stmt
+        ensures { stmt_view result ≡ part_of (statements_of self) }
+    {
+        part_statement(self.into_list())
+    }
+
+    /// Whether there is no statement.
+    pub fn is_empty(&self) -> bool
+        ensures { IsTrue result ↔ (statements_of self.now ≡ []) }
+    {
+        self.statements.is_empty()
     }
 
     /// One more statement.
@@ -127,17 +142,12 @@ impl Block {
         self.push(statement)
     }
 
-    /// `if(test|0){first}else{second}`
+    /// `if(test)first else second`, each in braces where it isn't one statement that holds no other.
     pub fn either(&mut self, test: &Term<'_>, first: Block, second: Block) -> Result<(), AllocError>
-        ensures { IfOk result (λ _. statements_of self.new ≡ statements_of self.old ++ plain.if_else (signed_number (expr_for (term_view test.now))) (plain.block (stmts_in (statements_of first))) (plain.block (stmts_in (statements_of second))) ∷ []) }
+        ensures { IfOk result (λ _. statements_of self.new ≡ statements_of self.old ++ plain.if_else (test_of (term_view test.now)) (part_of (statements_of first)) (part_of (statements_of second)) ∷ []) }
     {
-        let test = number_expr(self.alloc, test, true)?;
-        let statement = if_else(
-            self.alloc,
-            test,
-            first.into_statement(),
-            second.into_statement(),
-        )?;
+        let test = test_expr(self.alloc, test)?;
+        let statement = if_else(self.alloc, test, first.into_part(), second.into_part())?;
         self.push(statement)
     }
 

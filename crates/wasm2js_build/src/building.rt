@@ -1,14 +1,16 @@
 //! From terms to expressions.
-ghost use Rattle.std.specs.Prelude.{◌≡◌, true, false, IfOk};
+ghost use Rattle.std.specs.Prelude.{◌≡◌, true, false, IfOk, if◌then◌else◌};
 ghost use Rattle.sem_words.specs.Lists.{list_items};
 ghost use Rattle.asm_lang.specs.Modules as plain;
 ghost use Rattle.asm_tree.specs.Views.{expr_view, exprs_view, links_view};
 ghost use Rattle.wasm2js_translation.specs.Names as plain_names;
 ghost use Rattle.wasm2js_translation.specs.Names.{spelled};
-ghost use Rattle.wasm2js_translation.specs.Words.{bit_operator, relation_operator, as_number, as_int, byte_view, name_of, indexed, arguments, expr as expr_for, int_of};
+ghost use Rattle.wasm2js_translation.specs.Words as words;
+ghost use Rattle.wasm2js_translation.specs.Words.{bit_operator, relation_operator, as_number, test_of, byte_view, name_of, indexed, arguments, expr as expr_for, int_of};
 ghost use Rattle.wasm2js_nodes.specs.Names.{name_view};
 ghost use Rattle.wasm2js_build.specs.Views.{bit_view, relation_view, term_view, terms_view};
 
+use crate::forms::{Form, int_form, number_form, own_form, test_form};
 use crate::terms::{BitOp, Relation, Term};
 use asm_tree::{Expr, Link};
 use sem_words::{JsOp, List};
@@ -30,12 +32,12 @@ pub fn expr(alloc: Global, term: &Term<'_>) -> Result<Expr, AllocError>
         Term::Number(value) => Ok(literal(*value)),
         Term::Both(operator, a, b) => both(alloc, *operator, a, b),
         Term::BothNumber(operator, a, value) => {
-            let a = int_expr(alloc, a)?;
+            let a = expr(alloc, a)?;
             binary(alloc, js_bit(*operator), a, literal(*value))
         }
         Term::BothRead(operator, a, b) => both_read(alloc, *operator, *a, *b),
         Term::Flip(a) => {
-            let a = int_expr(alloc, a)?;
+            let a = expr(alloc, a)?;
             flipped(alloc, a)
         }
         Term::SumOfTwo(a, minus, b) => two(alloc, a, *minus, b),
@@ -74,10 +76,10 @@ pub fn expr(alloc: Global, term: &Term<'_>) -> Result<Expr, AllocError>
 #[cycle(building)]
 #[inline(never)]
 fn both(alloc: Global, operator: BitOp, a: &Term<'_>, b: &Term<'_>) -> Result<Expr, AllocError>
-    ensures { IfOk result (λ e. expr_view e ≡ plain.binary (bit_operator (bit_view operator)) (int_of (term_view a.now)) (int_of (term_view b.now))) }
+    ensures { IfOk result (λ e. expr_view e ≡ plain.binary (bit_operator (bit_view operator)) (expr_for (term_view a.now)) (expr_for (term_view b.now))) }
 {
-    let a = int_expr(alloc, a)?;
-    let b = int_expr(alloc, b)?;
+    let a = expr(alloc, a)?;
+    let b = expr(alloc, b)?;
     binary(alloc, js_bit(operator), a, b)
 }
 
@@ -164,7 +166,7 @@ fn compared(
     a: &Term<'_>,
     b: &Term<'_>,
 ) -> Result<Expr, AllocError>
-    ensures { IfOk result (λ e. expr_view e ≡ plain.binary (relation_operator (relation_view relation)) (as_number is_signed (expr_for (term_view a.now))) (as_number is_signed (expr_for (term_view b.now)))) }
+    ensures { IfOk result (λ e. expr_view e ≡ plain.binary (relation_operator (relation_view relation)) (as_number is_signed (term_view a.now) (expr_for (term_view a.now))) (as_number is_signed (term_view b.now) (expr_for (term_view b.now)))) }
 {
     let a = number_expr(alloc, a, is_signed)?;
     let b = number_expr(alloc, b, is_signed)?;
@@ -179,9 +181,9 @@ fn compared_number(
     a: Expr,
     value: i64,
 ) -> Result<Expr, AllocError>
-    ensures { IfOk result (λ e. expr_view e ≡ plain.binary (relation_operator (relation_view relation)) (expr_view a) (as_number is_signed (plain.lit value))) }
+    ensures { IfOk result (λ e. expr_view e ≡ plain.binary (relation_operator (relation_view relation)) (expr_view a) (as_number is_signed (words.number value) (plain.lit value))) }
 {
-    let value = number_form(alloc, literal(value), is_signed)?;
+    let value = number_literal(alloc, value, is_signed)?;
     binary(alloc, js_relation(relation), a, value)
 }
 
@@ -193,19 +195,19 @@ fn compared_read(
     a: Name,
     b: Name,
 ) -> Result<Expr, AllocError>
-    ensures { IfOk result (λ e. expr_view e ≡ plain.binary (relation_operator (relation_view relation)) (as_number is_signed (plain.var (spelled (name_view a)))) (as_number is_signed (plain.var (spelled (name_view b))))) }
+    ensures { IfOk result (λ e. expr_view e ≡ plain.binary (relation_operator (relation_view relation)) (as_number is_signed (words.read (name_view a)) (plain.var (spelled (name_view a)))) (as_number is_signed (words.read (name_view b)) (plain.var (spelled (name_view b))))) }
 {
-    let a = number_form(alloc, variable(alloc, a)?, is_signed)?;
-    let b = number_form(alloc, variable(alloc, b)?, is_signed)?;
+    let a = number(alloc, variable(alloc, a)?, is_signed)?;
+    let b = number(alloc, variable(alloc, b)?, is_signed)?;
     binary(alloc, js_relation(relation), a, b)
 }
 
 #[cycle(building)]
 #[inline(never)]
 fn choice(alloc: Global, test: &Term<'_>, a: &Term<'_>, b: &Term<'_>) -> Result<Expr, AllocError>
-    ensures { IfOk result (λ e. expr_view e ≡ plain.cond (as_number true (expr_for (term_view test.now))) (int_of (term_view a.now)) (int_of (term_view b.now))) }
+    ensures { IfOk result (λ e. expr_view e ≡ plain.cond (test_of (term_view test.now)) (int_of (term_view a.now)) (int_of (term_view b.now))) }
 {
-    let test = number_expr(alloc, test, true)?;
+    let test = test_expr(alloc, test)?;
     let a = int_expr(alloc, a)?;
     let b = int_expr(alloc, b)?;
     chosen(alloc, test, a, b)
@@ -214,39 +216,12 @@ fn choice(alloc: Global, test: &Term<'_>, a: &Term<'_>, b: &Term<'_>) -> Result<
 /// The expression of a term, of type int.
 #[cycle(building)]
 #[inline(never)]
+#[tactic(auto, using(crate::proofs::OwnForms::int_is))]
 pub fn int_expr(alloc: Global, term: &Term<'_>) -> Result<Expr, AllocError>
     ensures { IfOk result (λ e. expr_view e ≡ int_of (term_view term.now)) }
 {
     let e = expr(alloc, term)?;
-    int_form(alloc, term, e)
-}
-
-// What the heap holds and sums are only intish.
-#[tactic(auto, using(crate::proofs::Views::terms))]
-fn int_form(alloc: Global, term: &Term<'_>, e: Expr) -> Result<Expr, AllocError>
-    ensures { IfOk result (λ r. expr_view r ≡ as_int (term_view term.now) (expr_view e)) }
-{
-    match term {
-        Term::SumOfTwo(_, _, _)
-        | Term::SumOfThree(_, _, _, _, _)
-        | Term::SumNumber(_, _, _)
-        | Term::SumRead(_, _, _)
-        | Term::SumOfFour(_, _, _, _)
-        | Term::Byte(_, _)
-        | Term::Whole(_) => signed(alloc, e),
-        Term::Read(_)
-        | Term::Number(_)
-        | Term::Both(_, _, _)
-        | Term::BothNumber(_, _, _)
-        | Term::BothRead(_, _, _)
-        | Term::Flip(_)
-        | Term::Product(_, _)
-        | Term::Zeros(_)
-        | Term::Compare(_, _, _, _)
-        | Term::CompareNumber(_, _, _, _)
-        | Term::CompareRead(_, _, _, _)
-        | Term::Choose(_, _, _) => Ok(e),
-    }
+    int_form(alloc, own_form(term), e)
 }
 
 fn js_bit(operator: BitOp) -> JsOp
@@ -278,25 +253,46 @@ fn js_relation(relation: Relation) -> JsOp
 /// The number of a term, with its sign or without.
 #[cycle(building)]
 #[inline(never)]
+#[tactic(auto, using(crate::proofs::OwnForms::number_is))]
 pub(crate) fn number_expr(
     alloc: Global,
     term: &Term<'_>,
     is_signed: bool,
 ) -> Result<Expr, AllocError>
-    ensures { IfOk result (λ e. expr_view e ≡ as_number is_signed (expr_for (term_view term.now))) }
+    ensures { IfOk result (λ e. expr_view e ≡ as_number is_signed (term_view term.now) (expr_for (term_view term.now))) }
 {
     let e = expr(alloc, term)?;
-    number_form(alloc, e, is_signed)
+    number_form(alloc, own_form(term), e, is_signed)
 }
 
-fn number_form(alloc: Global, e: Expr, is_signed: bool) -> Result<Expr, AllocError>
-    ensures { IfOk result (λ r. expr_view r ≡ as_number is_signed (expr_view e)) }
+// `e|0` or `e>>>0`
+fn number(alloc: Global, e: Expr, is_signed: bool) -> Result<Expr, AllocError>
+    ensures { IfOk result (λ r. expr_view r ≡ (if is_signed then words.signed_number (expr_view e) else words.plain_number (expr_view e))) }
 {
     if is_signed {
         signed(alloc, e)
     } else {
         unsigned(alloc, e)
     }
+}
+
+// A literal as an operand of a comparison.
+#[tactic(auto, using(crate::proofs::OwnForms::number_is))]
+fn number_literal(alloc: Global, value: i64, is_signed: bool) -> Result<Expr, AllocError>
+    ensures { IfOk result (λ e. expr_view e ≡ as_number is_signed (words.number value) (plain.lit value)) }
+{
+    number_form(alloc, Form::Literal(value), literal(value), is_signed)
+}
+
+/// The expression of a term as a condition.
+#[cycle(building)]
+#[inline(never)]
+#[tactic(auto, using(crate::proofs::OwnForms::test_is))]
+pub(crate) fn test_expr(alloc: Global, term: &Term<'_>) -> Result<Expr, AllocError>
+    ensures { IfOk result (λ e. expr_view e ≡ test_of (term_view term.now)) }
+{
+    let e = expr(alloc, term)?;
+    test_form(alloc, own_form(term), e)
 }
 
 // A byte at the place of an expression.

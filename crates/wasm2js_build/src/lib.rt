@@ -3,6 +3,7 @@
 
 mod block;
 mod building;
+mod forms;
 mod terms;
 
 pub use block::{Block, function};

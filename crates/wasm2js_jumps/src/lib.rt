@@ -11,6 +11,8 @@ mod values;
 pub use aims::{Aim, aim_at, label_of};
 pub use calls::{CalledTable, call_entry, call_function, result_type};
 pub use jumps::{jump, leave_with};
-pub use nodes::{bare_break, block_of, break_to, continue_to, endless, if_else, if_only, labelled};
+pub use nodes::{
+    bare_break, block_of, break_to, chosen, continue_to, endless, if_only, labelled, part_of,
+};
 pub use switches::{Jumps, by_index};
 pub use values::signed_word;

@@ -6,6 +6,7 @@ ghost use Rattle.asm_lang.specs.Modules as plain;
 ghost use Rattle.asm_tree.specs.Views.{expr_view, exprs_view, stmt_view, clauses_view};
 ghost use Rattle.wasm2js_translation.specs.Names.{spelled};
 ghost use Rattle.wasm2js_translation.specs.Helpers as helpers;
+ghost use Rattle.wasm2js_translation.specs.Words as words;
 ghost use Rattle.wasm2js_translation.specs.Bodies as bodies;
 ghost use Rattle.wasm2js_nodes.specs.Names.{name_view};
 ghost use Rattle.wasm2js_build.specs.Blocks.{statements_of};
@@ -98,14 +99,33 @@ pub fn if_only(alloc: Global, test: Expr, yes: Stmt) -> Result<Stmt, AllocError>
     Ok(Stmt::If(yes, None, test))
 }
 
-/// `if(test) yes else no`
+// `if(test) yes else no`
 #[tactic(auto, using(asm_tree::proofs::Views::views))]
-pub fn if_else(alloc: Global, test: Expr, yes: Stmt, no: Stmt) -> Result<Stmt, AllocError>
+fn if_else(alloc: Global, test: Expr, yes: Stmt, no: Stmt) -> Result<Stmt, AllocError>
     ensures { IfOk result (λ s. stmt_view s ≡ plain.if_else (expr_view test) (stmt_view yes) (stmt_view no)) }
 {
     let yes = boxed(alloc, yes)?;
     let no = boxed(alloc, no)?;
     Ok(Stmt::If(yes, Some(no), test))
+}
+
+/// The statements as a part of an `if`.
+pub fn part_of(block: Block) -> Stmt
+    ensures { stmt_view result ≡ words.part_of (statements_of block) }
+{
+    block.into_part()
+}
+
+/// `if(test)first else second`, without the `else` where nothing would stand behind it.
+#[tactic(auto, using(crate::proofs::Lists::chosen_else))]
+pub fn chosen(alloc: Global, test: Expr, first: Block, second: Block) -> Result<Stmt, AllocError>
+    ensures { IfOk result (λ s. stmt_view s ≡ bodies.chosen (expr_view test) (statements_of first) (statements_of second)) }
+{
+    if second.is_empty() {
+        if_only(alloc, test, part_of(first))
+    } else {
+        if_else(alloc, test, part_of(first), part_of(second))
+    }
 }
 
 /// `while(1){..}`

@@ -24,8 +24,8 @@ use Rattle.wasm2js_translation.specs.Names.{Name, spelled}
 use Rattle.wasm2js_translation.specs.Words.{Term, read, number, both, flip, sum, product, zeros, compare, choose, byte, whole, Summands, no_more, further, put, guard, write_byte, write_whole, expr, int_of, as_number, signed_number, simple_statement, trap_call, stmts_in}
 use Rattle.wasm2js_laws_terms.specs.Sound.{IsInt, IsSound, AreSound, summands_length, some_summands, term_depth}
 use Rattle.wasm2js_laws_terms.specs.Laws.{IsFineExpr, IsFine}
-use Rattle.wasm2js_laws_terms.proofs.FineExprs.{is_typed_below, signed_fine, plain_fine}
-use Rattle.wasm2js_laws_terms.proofs.FineTerms.{term_fine}
+use Rattle.wasm2js_laws_terms.proofs.FineExprs.{is_typed_below, signed_fine}
+use Rattle.wasm2js_laws_terms.proofs.FineTerms.{number_fine as term_number_fine, term_fine}
 use Rattle.wasm2js_laws_terms.proofs.FineActions.{both_true, no_marks, both_marks, simple_fine, trap_fine}
 use Rattle.wasm2js_translation.specs.Helpers.{zero_variable, function_of, block_of, when, repeat, gives, sets, first, second, spare}
 use Rattle.wasm2js_translation.specs.Modules.{translated}
@@ -61,7 +61,7 @@ mutual
 
 infixr 60 ◌▸◌
 abbrev pub divided_value : Bool → JsOp → Expr
-divided_value signed op = binary op (as_number signed (expr first)) (as_number signed (expr second))
+divided_value signed op = binary op (as_number signed first (expr first)) (as_number signed second (expr second))
 
 abbrev mutual
   pub stmt_of : Piece → Stmt
@@ -218,9 +218,9 @@ module _ (s : Scope) (ints : List Name) (mem answers : Bool) (given : HasFixed s
   number_type true = Signed
   number_type false = Unsigned
 
-  number_fine : (signed : Bool) (t : Term) → check ints mem answers t ≡ true → IsFineExpr s (as_number signed (expr t)) (number_type signed) (1 + max (3 * term_depth t) 1)
-  number_fine true t h = signed_fine s (term_fine s t (sound t h)).as_it_is
-  number_fine false t h = plain_fine s (term_fine s t (sound t h)).as_it_is
+  number_fine : (signed : Bool) (t : Term) → check ints mem answers t ≡ true → IsFineExpr s (as_number signed t (expr t)) (number_type signed) (1 + max (3 * term_depth t) 1)
+  number_fine true t h = term_number_fine s true t (sound t h) (term_fine s t (sound t h)).as_it_is
+  number_fine false t h = term_number_fine s false t (sound t h) (term_fine s t (sound t h)).as_it_is
 
   or_true : (b : Bool) → (b || true) ≡ true
   or_true true = refl
@@ -243,8 +243,8 @@ module _ (s : Scope) (ints : List Name) (mem answers : Bool) (given : HasFixed s
 
   division_fine : (signed : Bool) (op : JsOp) → is_division op ≡ true → check ints mem answers first ≡ true → check ints mem answers second ≡ true → IsFineExpr s (divided_value signed op) Intish 5
   division_fine signed op d h k =
-      let l = as_number signed (expr first) in
-      let r = as_number signed (expr second) in
+      let l = as_number signed first (expr first) in
+      let r = as_number signed second (expr second) in
       let f = number_fine signed first h in
       let g = number_fine signed second k in
       record {

@@ -9,14 +9,15 @@ use Rattle.asm_lang_exec.specs.Runs.{Place, Part}
 use Rattle.asm_lang_exec.specs.Values.{Calls}
 use Rattle.asm_lang_exec.specs.Meaning.{Completion, exec, exec_all}
 use Rattle.asm_laws_continuation.proofs.Following.{statements_follow}
-use Rattle.wasm2js_translation.specs.Words.{Term, Simple, Action, simply, either, expr, branch, simple_statement, simple_statements, statement, statements, stmts_in}
+use Rattle.wasm2js_translation.specs.Words.{Term, Simple, Action, simply, either, branch, simple_statement, simple_statements, statement, statements, stmts_in}
 use Rattle.wasm2js_laws_terms.specs.Sound.{AreSoundSimple, IsSoundAction, AreSoundActions}
 use Rattle.wasm2js_laws_places.specs.Straight.{value, Helping, AskHelpers, ActionAsks, ActionsAsk, Outcome, run_simple, run_simples, run_action, run_actions, simple_units, simples_units, action_units, actions_units}
 use Rattle.wasm2js_laws_places.specs.Places.{word_at, AreApart, IsHeap}
 use Rattle.wasm2js_laws_places.specs.Helped.{Does, AreHelpers}
 use Rattle.wasm2js_laws_actions.specs.Laws.{ActionsAreDone, ActionsAreFollowed}
-use Rattle.wasm2js_laws_actions.proofs.Numbers.{is_true}
-use Rattle.wasm2js_laws_actions.proofs.Evaluated.{expr_read, number_then}
+use Rattle.wasm2js_laws_actions.proofs.Typed.{sound_named}
+use Rattle.wasm2js_laws_actions.proofs.Evaluated.{expr_read, test_then}
+use Rattle.wasm2js_laws_actions.proofs.Parts.{part_does}
 use Rattle.wasm2js_laws_actions.proofs.Doing.{then_does, still_on, wrong_does}
 use Rattle.wasm2js_laws_actions.proofs.Simples.{simple_done}
 
@@ -42,18 +43,20 @@ module _ (calls : Calls) (c : Scope) (turns bound bytes : ℕ) (helping : Helpin
 
     pick : IsSoundAction c (either t first second) → ActionAsks (either t first second) → AreApart p → IsHeap bytes p.heap → p.units ≤ bound → (b : Bool)
         → Does bytes (chosen b) (chosen_units b) p ((if not b then exec false calls c turns [] (branch first) else exec false calls c turns [] (branch second)) p)
-    pick s is apart heap le true = simples_done second p s.2 is.1 apart heap le
-    pick s is apart heap le false = simples_done first p s.1 is.0 apart heap le
+    pick s is apart heap le true =
+        subst (λ r. Does bytes (chosen true) (chosen_units true) p r) (sym (part_does calls c turns (simple_statements second) p)) (simples_done second p s.2 is.1 apart heap le)
+    pick s is apart heap le false =
+        subst (λ r. Does bytes (chosen false) (chosen_units false) p r) (sym (part_does calls c turns (simple_statements first) p)) (simples_done first p s.1 is.0 apart heap le)
 
     either_done : IsSoundAction c (either t first second) → ActionAsks (either t first second) → AreApart p → IsHeap bytes p.heap → p.units ≤ bound
         → Does bytes (run_action helping (either t first second) (word_at p) p.heap) (action_units helping (either t first second) (word_at p) p.heap) p
         (exec false calls c turns [] (statement (either t first second)) p)
     either_done s is apart heap le =
         let x : ℕ = value t (word_at p) p.heap in
-        number_then calls c true (expr t) x p (λ r. Does bytes (chosen (x == 0)) (chosen_units (x == 0)) p r) next (wrong_does bytes (chosen (x == 0)) (chosen_units (x == 0)) p)
+        test_then calls c x p (λ r. Does bytes (chosen (x == 0)) (chosen_units (x == 0)) p r) next (wrong_does bytes (chosen (x == 0)) (chosen_units (x == 0)) p) t (sound_named c t s.0)
         (expr_read calls c t p s.0 apart)
-        (λ f. subst (λ b. Does bytes (chosen (x == 0)) (chosen_units (x == 0)) p ((if b then exec false calls c turns [] (branch first) else exec false calls c turns [] (branch second)) p))
-        (sym (is_true x f)) (pick s is apart heap le (x == 0)))
+        (λ v e. subst (λ b. Does bytes (chosen (x == 0)) (chosen_units (x == 0)) p ((if b then exec false calls c turns [] (branch first) else exec false calls c turns [] (branch second)) p))
+        (sym e) (pick s is apart heap le (x == 0)))
 
   action_done : (a : Action) (p : Place) → IsSoundAction c a → ActionAsks a → AreApart p → IsHeap bytes p.heap → p.units ≤ bound
       → Does bytes (run_action helping a (word_at p) p.heap) (action_units helping a (word_at p) p.heap) p (exec false calls c turns [] (statement a) p)

@@ -1,7 +1,9 @@
 pub mod Numbers
 pub mod Reading
 pub mod Variables
+pub mod Typed
 pub mod Evaluated
 pub mod Doing
 pub mod Simples
+pub mod Parts
 pub mod Executed

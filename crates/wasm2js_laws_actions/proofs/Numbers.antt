@@ -100,7 +100,7 @@ product_read v w p = by (wholes_of v w)
     by None = tt
     by (Some z) = (refl, word_of-signed_of_32 _ (small bins.Mul v w))
 
-few_zeros : (a : ℕ) → a < 2 ^ 32 → leading_zeros_of 32 a ≤ 32
+pub few_zeros : (a : ℕ) → a < 2 ^ 32 → leading_zeros_of 32 a ≤ 32
 few_zeros a h = un_of-le 32 uns.Clz a h
 
 pub zeros_read : (v : JsValue) (p : Place) → Reads (leading_zeros_of 32 (to_uint32_of v)) p (defined (js_clz32_of v) p)

@@ -33,6 +33,7 @@ use Rattle.wasm2js_laws_places.specs.Places.{word_at, AreApart, IsHeap}
 use Rattle.wasm2js_laws_places.specs.Helped.{IsOn, Does, Helps, AreHelpers}
 use Rattle.wasm2js_laws_actions.proofs.Numbers.{same_word, small, bound_found}
 use Rattle.wasm2js_laws_actions.proofs.Reading.{read_then, all_then, found_then}
+use Rattle.wasm2js_laws_actions.proofs.Typed.{sound_named}
 use Rattle.wasm2js_laws_actions.proofs.Evaluated.{expr_read, int_read, arguments_read, number_then, index_then}
 use Rattle.wasm2js_laws_actions.proofs.Doing.{apart_kept, leaves_done, write_leaves, store_is_on, still_on, wrong_does, done_further}
 
@@ -121,8 +122,8 @@ module _ (calls : Calls) (c : Scope) (turns bound bytes : ℕ) (helping : Helpin
     guard_done s has low apart heap =
         let x : ℕ = value t (word_at p) p.heap in
         let P : Run Completion → Type 0 = λ r. Does bytes guarded 0 p r in
-        number_then calls c false (expr t) x p (λ r. P (after r guard_next)) (λ v. and_then (ev (natural most)) (λ w. defined (js_binary_of Gt v w))) (wrong_does bytes guarded 0 p)
-        (expr_read calls c t p s apart)
+        number_then calls c false t x p (λ r. P (after r guard_next)) (λ v. and_then (ev (natural most)) (λ w. defined (js_binary_of Gt v w))) (wrong_does bytes guarded 0 p)
+        (sound_named c t s) (expr_read calls c t p s apart)
         (λ f. found_then P (Boolean (nat_lt most x)) p (defined (js_binary_of Gt (unsigned_value x) (unsigned_value most)) p) guard_next (wrong_does bytes guarded 0 p) (bound_found x most p)
         (guard_pick has low heap (nat_lt most x)))
 

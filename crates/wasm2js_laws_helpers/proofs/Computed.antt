@@ -86,8 +86,8 @@ module _ (calls : Calls) (c : Scope) (words : Words) where
       expr_read (read n) k = k
       expr_read (number z) k = (refl, refl)
       expr_read (both op l r) k =
-          two calls c (bits_of op) (bit_operator op) (bits_read op) (int_of l) (int_of r) _ _ p (as_int_read l (expr l) _ (expr_read l k.0)) (as_int_read r (expr r) _ (expr_read r k.1))
-      expr_read (flip t) k = flip_read (int_of t) _ (as_int_read t (expr t) _ (expr_read t k))
+          two calls c (bits_of op) (bit_operator op) (bits_read op) (expr l) (expr r) _ _ p (expr_read l k.0) (expr_read r k.1)
+      expr_read (flip t) k = flip_read (expr t) _ (expr_read t k)
       expr_read (sum t ts) k =
           read_then (Reads (value (sum t ts) words p.heap) p) (value t words p.heap) p (ev (int_of t) p) (λ v. eval_links false calls c (summands ts) v) tt
           (as_int_read t (expr t) _ (expr_read t k.0)) (λ v e. summands_read ts (value t words p.heap) v k.1 e)

@@ -8,12 +8,12 @@ use Rattle.sem_words.specs.declared.word.TrapKind.TheVariants.{ZeroDivisor, Over
 use Rattle.sem_words.specs.declared.js_value.JsValue.{JsValue}
 use Rattle.sem_words.specs.declared.js_value.JsValue.TheVariants.{Whole, Bool as Boolean}
 use Rattle.sem_words.specs.declared.js_value.JsOp.{JsOp}
-use Rattle.sem_words.specs.declared.js_value.JsOp.TheVariants.{Eq, Div, Rem}
+use Rattle.sem_words.specs.declared.js_value.JsOp.TheVariants.{Div, Rem}
 use Rattle.sem_words.specs.JsValues.{truthy_of}
 use Rattle.sem_words.specs.JsOperators.{is_zero, are_alike, js_binary_of}
 use Rattle.sem_words.specs.Words.{word_of, signed_of}
 use Rattle.session_lang.specs.Observation.{trap_name}
-use Rattle.asm_lang.specs.Modules.{Expr, Stmt, Function, Module, lit, binary}
+use Rattle.asm_lang.specs.Modules.{Expr, Stmt, Function, Module, binary}
 use Rattle.asm_lang_valid.specs.Scope.{a_foreign}
 use Rattle.asm_lang_valid.specs.Typing.{Scope, named}
 use Rattle.asm_lang_exec.specs.Runs as runs
@@ -27,14 +27,14 @@ use Rattle.wasm2js_laws_places.specs.Places.{IsHeap}
 use Rattle.wasm2js_laws_places.specs.Helped.{Helps}
 use Rattle.wasm2js_laws_actions.specs.Reads.{Reads}
 use Rattle.wasm2js_laws_actions.proofs.Numbers.{number_value}
-use Rattle.wasm2js_laws_actions.proofs.Evaluated.{signed_read, number_then}
+use Rattle.wasm2js_laws_actions.proofs.Evaluated.{signed_read, converted, converted_then}
 use Rattle.wasm2js_laws_helpers.specs.Answers.{checked}
 use Rattle.wasm2js_laws_helpers.proofs.Called.{placed, words_after}
 use Rattle.std.proofs.Math.Nat.{div-le_self, mod-le}
 use Rattle.sem_words.specs.declared.js_value.JsOp.TheVariants.{And}
 use Rattle.sem_words.specs.JsOperators.{quotient_of, remainder_of}
 use Rattle.asm_lang.specs.Modules.{returns}
-use Rattle.wasm2js_translation.specs.Words.{as_number, expr}
+use Rattle.wasm2js_translation.specs.Words.{equal, number, compare, expr}
 use Rattle.wasm2js_translation.specs.Helpers.{first, second, divisor_test, overflow_test}
 use Rattle.wasm2js_laws_helpers.proofs.Quotients.{quotient_word, remainder_word, divides}
 use Rattle.wasm2js_laws_helpers.proofs.Trapped.{Comes, nothing_wrong, equal_then, zero_divisor, overflows}
@@ -78,12 +78,12 @@ plain_remainder x (suc y) f h = let e = mod-le x (suc y) in sym (small_word (x %
 
 module _ (calls : Calls) (c : Scope) (turns : ℕ) (has : named c (name_of trap) ≡ a_foreign trap_name) where
   pub result_comes : (signed : Bool) (op : JsOp) (q x y : ℕ) (a b : Expr) (p : Place) → Result_read op signed q x y → (y == 0) ≡ false → Reads x p (eval false calls c a p) → Reads y p (eval false calls c b p)
-      → Comes (Ok q) p (run calls c turns (returns (Some (signed_number (binary op (as_number signed a) (as_number signed b)))) ∷ []) p)
+      → Comes (Ok q) p (run calls c turns (returns (Some (signed_number (binary op (converted signed a) (converted signed b)))) ∷ []) p)
   result_comes signed op q x y a b p found some h k =
-      returned_of (eval false calls c (signed_number (binary op (as_number signed a) (as_number signed b))) p)
-      (signed_read calls c (binary op (as_number signed a) (as_number signed b)) q p
-      (number_then calls c signed a x p (Reads q p) (λ v. and_then (eval false calls c (as_number signed b)) (λ w. defined (js_binary_of op v w))) tt h
-      (λ f. number_then calls c signed b y p (Reads q p) (λ w. defined (js_binary_of op (number_value signed x) w)) tt k (λ g. found p f g some))))
+      returned_of (eval false calls c (signed_number (binary op (converted signed a) (converted signed b))) p)
+      (signed_read calls c (binary op (converted signed a) (converted signed b)) q p
+      (converted_then calls c signed a x p (Reads q p) (λ v. and_then (eval false calls c (converted signed b)) (λ w. defined (js_binary_of op v w))) tt h
+      (λ f. converted_then calls c signed b y p (Reads q p) (λ w. defined (js_binary_of op (number_value signed x) w)) tt k (λ g. found p f g some))))
     where
       returned_of : (r : Run JsValue) → Reads q p r → Comes (Ok q) p (after (after r (λ v. runs.gives (returned v))) (λ d. unless_left d (run calls c turns [])))
       returned_of (goes v z) h = (h.1, h.0)
@@ -95,8 +95,8 @@ module _ (calls : Calls) (c : Scope) (turns : ℕ) (has : named c (name_of trap)
   pub tested : (y : ℕ) (r : Result ℕ TrapKind) (rest : List Stmt) (p : Place) → Reads y p (eval false calls c (expr second) p) → ((y == 0) ≡ false → Comes r p (run calls c turns rest p))
       → Comes (if y == 0 then Err ZeroDivisor else r) p (run calls c turns (divisor_test ∷ rest) p)
   tested y r rest p h f =
-      equal_then calls c turns (expr second) y (pos 0) p (λ z. Comes (if y == 0 then Err ZeroDivisor else r) p (after z (λ d. unless_left d (run calls c turns rest))))
-      (λ v. if truthy_of v then exec false calls c turns [] (trap_call 3) else runs.gives normal) (nothing_wrong (if y == 0 then Err ZeroDivisor else r) p) h (by (y == 0) refl)
+      equal_then calls c turns second y (pos 0) p (λ z. Comes (if y == 0 then Err ZeroDivisor else r) p (after z (λ d. unless_left d (run calls c turns rest))))
+      (λ v. if truthy_of v then exec false calls c turns [] (trap_call 3) else runs.gives normal) (nothing_wrong (if y == 0 then Err ZeroDivisor else r) p) tt h (by (y == 0) refl)
     where
       by : (t : Bool) → (y == 0) ≡ t
           → Comes (if t then Err ZeroDivisor else r) p (after ((if t then exec false calls c turns [] (trap_call 3) else runs.gives normal) p) (λ d. unless_left d (run calls c turns rest)))
@@ -107,10 +107,10 @@ module _ (calls : Calls) (c : Scope) (turns : ℕ) (has : named c (name_of trap)
   pub tested_overflow : (x y : ℕ) (r : Result ℕ TrapKind) (rest : List Stmt) (p : Place) → Reads x p (eval false calls c (expr first) p) → Reads y p (eval false calls c (expr second) p) → Comes r p (run calls c turns rest p)
       → Comes (if (x == 2147483648) && (y == 4294967295) then Err Overflow else r) p (run calls c turns (overflow_test ∷ rest) p)
   tested_overflow x y r rest p h k f =
-      equal_then calls c turns (expr first) x (negsuc 2147483647) p P (λ v. and_then (eval false calls c (binary Eq (signed_number (expr second)) (signed_number (lit (negsuc 0))))) (λ w. defined (js_binary_of And v w)))
-      (nothing_wrong (if (x == 2147483648) && (y == 4294967295) then Err Overflow else r) p) h
-      (equal_then calls c turns (expr second) y (negsuc 0) p P (λ w. defined (js_binary_of And (Boolean (x == 2147483648)) w))
-      (nothing_wrong (if (x == 2147483648) && (y == 4294967295) then Err Overflow else r) p) k (by (x == 2147483648) (y == 4294967295)))
+      equal_then calls c turns first x (negsuc 2147483647) p P (λ v. and_then (eval false calls c (expr (compare true equal second (number (negsuc 0))))) (λ w. defined (js_binary_of And v w)))
+      (nothing_wrong (if (x == 2147483648) && (y == 4294967295) then Err Overflow else r) p) tt h
+      (equal_then calls c turns second y (negsuc 0) p P (λ w. defined (js_binary_of And (Boolean (x == 2147483648)) w))
+      (nothing_wrong (if (x == 2147483648) && (y == 4294967295) then Err Overflow else r) p) tt k (by (x == 2147483648) (y == 4294967295)))
     where
       P : Run JsValue → Type 0
       P z =

@@ -21,7 +21,8 @@ use Rattle.sem_words.specs.declared.word.Bin.{Bin}
 use Rattle.sem_words.specs.declared.word.Bin.TheVariants as bins
 use Rattle.sem_words.specs.Words.{bin_of}
 use Rattle.asm_lang.specs.Modules.{returns}
-use Rattle.wasm2js_translation.specs.Words.{as_number, expr}
+use Rattle.wasm2js_translation.specs.Words.{expr}
+use Rattle.wasm2js_laws_actions.proofs.Evaluated.{converted}
 use Rattle.wasm2js_translation.specs.Helpers.{first, second, overflow_test}
 use Rattle.wasm2js_laws_helpers.specs.Answers.{divided}
 use Rattle.wasm2js_laws_helpers.specs.Laws.{HelpsAtOnce, HasTrap, divide_signed_function, divide_function, remainder_signed_function, remainder_function, DivideSignedHelps, DivideHelps, RemainderSignedHelps, RemainderHelps}
@@ -86,8 +87,8 @@ first_divide_signed m (v ∷ w ∷ u ∷ more) = refl
 divide_signed_body : (m : Module) → HasTrap m → Body m divide_signed_function bins.DivS
 divide_signed_body m has v w p d n =
     let here = placed p n (two_locals (signed_value (to_uint32_of v)) (signed_value (to_uint32_of w))) in
-    tested (call_at false m d) (scope_of m divide_signed_function) d has (to_uint32_of w) (if (to_uint32_of v == 2147483648) && (to_uint32_of w == 4294967295) then Err Overflow else Ok (word_of 32 (int_div (signed_of 32 (to_uint32_of v)) (signed_of 32 (to_uint32_of w))))) (overflow_test ∷ returns (Some (signed_number (binary Div (as_number true (expr first)) (as_number true (expr second))))) ∷ []) here (refl, marked_word w)
-    (λ some. tested_overflow (call_at false m d) (scope_of m divide_signed_function) d has (to_uint32_of v) (to_uint32_of w) (Ok (word_of 32 (int_div (signed_of 32 (to_uint32_of v)) (signed_of 32 (to_uint32_of w))))) (returns (Some (signed_number (binary Div (as_number true (expr first)) (as_number true (expr second))))) ∷ []) here (refl, marked_word v) (refl, marked_word w)
+    tested (call_at false m d) (scope_of m divide_signed_function) d has (to_uint32_of w) (if (to_uint32_of v == 2147483648) && (to_uint32_of w == 4294967295) then Err Overflow else Ok (word_of 32 (int_div (signed_of 32 (to_uint32_of v)) (signed_of 32 (to_uint32_of w))))) (overflow_test ∷ returns (Some (signed_number (binary Div (converted true (expr first)) (converted true (expr second))))) ∷ []) here (refl, marked_word w)
+    (λ some. tested_overflow (call_at false m d) (scope_of m divide_signed_function) d has (to_uint32_of v) (to_uint32_of w) (Ok (word_of 32 (int_div (signed_of 32 (to_uint32_of v)) (signed_of 32 (to_uint32_of w))))) (returns (Some (signed_number (binary Div (converted true (expr first)) (converted true (expr second))))) ∷ []) here (refl, marked_word v) (refl, marked_word w)
     (result_comes (call_at false m d) (scope_of m divide_signed_function) d has true Div (word_of 32 (int_div (signed_of 32 (to_uint32_of v)) (signed_of 32 (to_uint32_of w)))) (to_uint32_of v) (to_uint32_of w) (expr first) (expr second) here (λ p f g s. quotient_found (signed_of 32 (to_uint32_of v)) (signed_of 32 (to_uint32_of w)) _ p (signed_some (to_uint32_of w) g s) refl) some (refl, marked_word v) (refl, marked_word w)))
 
 pub divide_signed_helps : DivideSignedHelps
@@ -102,7 +103,7 @@ first_divide m (v ∷ w ∷ u ∷ more) = refl
 divide_body : (m : Module) → HasTrap m → Body m divide_function bins.DivU
 divide_body m has v w p d n =
     let here = placed p n (two_locals (signed_value (to_uint32_of v)) (signed_value (to_uint32_of w))) in
-    tested (call_at false m d) (scope_of m divide_function) d has (to_uint32_of w) (Ok (to_uint32_of v / to_uint32_of w)) (returns (Some (signed_number (binary Div (as_number false (expr first)) (as_number false (expr second))))) ∷ []) here (refl, marked_word w)
+    tested (call_at false m d) (scope_of m divide_function) d has (to_uint32_of w) (Ok (to_uint32_of v / to_uint32_of w)) (returns (Some (signed_number (binary Div (converted false (expr first)) (converted false (expr second))))) ∷ []) here (refl, marked_word w)
     (λ some. result_comes (call_at false m d) (scope_of m divide_function) d has false Div (to_uint32_of v / to_uint32_of w) (to_uint32_of v) (to_uint32_of w) (expr first) (expr second) here (λ p f g s. quotient_found (pos (to_uint32_of v)) (pos (to_uint32_of w)) _ p (plain_some (to_uint32_of w) s) (plain_quotient (to_uint32_of v) (to_uint32_of w) f s)) some (refl, marked_word v) (refl, marked_word w))
 
 pub divide_helps : DivideHelps
@@ -117,7 +118,7 @@ first_remainder_signed m (v ∷ w ∷ u ∷ more) = refl
 remainder_signed_body : (m : Module) → HasTrap m → Body m remainder_signed_function bins.RemS
 remainder_signed_body m has v w p d n =
     let here = placed p n (two_locals (signed_value (to_uint32_of v)) (signed_value (to_uint32_of w))) in
-    tested (call_at false m d) (scope_of m remainder_signed_function) d has (to_uint32_of w) (Ok (word_of 32 (int_rem (signed_of 32 (to_uint32_of v)) (signed_of 32 (to_uint32_of w))))) (returns (Some (signed_number (binary Rem (as_number true (expr first)) (as_number true (expr second))))) ∷ []) here (refl, marked_word w)
+    tested (call_at false m d) (scope_of m remainder_signed_function) d has (to_uint32_of w) (Ok (word_of 32 (int_rem (signed_of 32 (to_uint32_of v)) (signed_of 32 (to_uint32_of w))))) (returns (Some (signed_number (binary Rem (converted true (expr first)) (converted true (expr second))))) ∷ []) here (refl, marked_word w)
     (λ some. result_comes (call_at false m d) (scope_of m remainder_signed_function) d has true Rem (word_of 32 (int_rem (signed_of 32 (to_uint32_of v)) (signed_of 32 (to_uint32_of w)))) (to_uint32_of v) (to_uint32_of w) (expr first) (expr second) here (λ p f g s. remainder_found (signed_of 32 (to_uint32_of v)) (signed_of 32 (to_uint32_of w)) _ p (signed_some (to_uint32_of w) g s) refl) some (refl, marked_word v) (refl, marked_word w))
 
 pub remainder_signed_helps : RemainderSignedHelps
@@ -132,7 +133,7 @@ first_remainder m (v ∷ w ∷ u ∷ more) = refl
 remainder_body : (m : Module) → HasTrap m → Body m remainder_function bins.RemU
 remainder_body m has v w p d n =
     let here = placed p n (two_locals (signed_value (to_uint32_of v)) (signed_value (to_uint32_of w))) in
-    tested (call_at false m d) (scope_of m remainder_function) d has (to_uint32_of w) (Ok (to_uint32_of v % to_uint32_of w)) (returns (Some (signed_number (binary Rem (as_number false (expr first)) (as_number false (expr second))))) ∷ []) here (refl, marked_word w)
+    tested (call_at false m d) (scope_of m remainder_function) d has (to_uint32_of w) (Ok (to_uint32_of v % to_uint32_of w)) (returns (Some (signed_number (binary Rem (converted false (expr first)) (converted false (expr second))))) ∷ []) here (refl, marked_word w)
     (λ some. result_comes (call_at false m d) (scope_of m remainder_function) d has false Rem (to_uint32_of v % to_uint32_of w) (to_uint32_of v) (to_uint32_of w) (expr first) (expr second) here (λ p f g s. remainder_found (pos (to_uint32_of v)) (pos (to_uint32_of w)) _ p (plain_some (to_uint32_of w) s) (plain_remainder (to_uint32_of v) (to_uint32_of w) f s)) some (refl, marked_word v) (refl, marked_word w))
 
 pub remainder_helps : RemainderHelps

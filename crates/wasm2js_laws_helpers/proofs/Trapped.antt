@@ -13,17 +13,18 @@ use Rattle.sem_words.specs.JsValues.{to_uint32_of}
 use Rattle.sem_words.specs.JsOperators.{is_zero, are_alike, js_binary_of, signed_value}
 use Rattle.sem_words.specs.Words.{word_of, signed_of, trap_code}
 use Rattle.session_lang.specs.Observation.{stopped, trap_name}
-use Rattle.asm_lang.specs.Modules.{Expr, Stmt, lit, binary}
+use Rattle.asm_lang.specs.Modules.{Stmt}
 use Rattle.asm_lang_valid.specs.Scope.{a_foreign}
 use Rattle.asm_lang_valid.specs.Typing.{Scope, named}
 use Rattle.asm_lang_exec.specs.Runs.{Place, Run, goes, stops, wrong, Part, after, and_then, defined}
 use Rattle.asm_lang_exec.specs.Values.{Calls}
 use Rattle.asm_lang_exec.specs.Meaning.{eval, Completion, returned, unless_left, exec, exec_all}
 use Rattle.wasm2js_translation.specs.Names.{trap}
-use Rattle.wasm2js_translation.specs.Words.{name_of, signed_number, trap_call, stmts_in}
+use Rattle.wasm2js_translation.specs.Words.{name_of, equal, Term, number, compare, as_number, expr, trap_call, stmts_in}
 use Rattle.wasm2js_laws_actions.specs.Reads.{Reads, Finds}
 use Rattle.wasm2js_laws_actions.proofs.Numbers.{number_value}
 use Rattle.wasm2js_laws_actions.proofs.Reading.{found_then}
+use Rattle.wasm2js_laws_actions.proofs.Typed.{IsNamed}
 use Rattle.wasm2js_laws_actions.proofs.Evaluated.{number_then}
 
 -- a value of the word is returned, or the trap was called
@@ -49,11 +50,11 @@ equal_found x y p f g = by (are_alike (signed_of 32 x) (signed_of 32 y))
 
 module _ (calls : Calls) (c : Scope) (turns : ℕ) where
   -- the test of a word against a literal
-  pub equal_then : {B : Type 0} (e : Expr) (x : ℕ) (k : ℤ) (p : Place) (P : Run B → Type 0) (next : JsValue → Part B) → P wrong → Reads x p (eval false calls c e p)
-      → P (next (Boolean (x == word_of 32 k)) p) → P (after (eval false calls c (binary Eq (signed_number e) (signed_number (lit k))) p) next)
-  equal_then e x k p P next w h f =
-      number_then calls c true e x p (λ r. P (after r next)) (λ v. and_then (eval false calls c (signed_number (lit k))) (λ w. defined (js_binary_of Eq v w))) w h
-      (λ low. number_then calls c true (lit k) (word_of 32 k) p (λ r. P (after r next)) (λ v. defined (js_binary_of Eq (number_value true x) v)) w (refl, refl)
+  pub equal_then : {B : Type 0} (t : Term) (x : ℕ) (k : ℤ) (p : Place) (P : Run B → Type 0) (next : JsValue → Part B) → P wrong → IsNamed c t → Reads x p (eval false calls c (expr t) p)
+      → P (next (Boolean (x == word_of 32 k)) p) → P (after (eval false calls c (expr (compare true equal t (number k))) p) next)
+  equal_then t x k p P next w is h f =
+      number_then calls c true t x p (λ r. P (after r next)) (λ v. and_then (eval false calls c (as_number true (number k) (expr (number k)))) (λ w. defined (js_binary_of Eq v w))) w is h
+      (λ low. number_then calls c true (number k) (word_of 32 k) p (λ r. P (after r next)) (λ v. defined (js_binary_of Eq (number_value true x) v)) w tt (refl, refl)
       (λ small. found_then P (Boolean (x == word_of 32 k)) p (defined (js_binary_of Eq (signed_value x) (signed_value (word_of 32 k))) p) next w (equal_found x (word_of 32 k) p low small) f))
 
   -- the trap's call

@@ -38,6 +38,7 @@ use Rattle.wasm2js_laws_preservation.specs.ControlControl.{Function, IsFair, Ins
 use Rattle.wasm2js_laws_preservation.specs.ControlLaws.{IsKeptFirst}
 use Rattle.wasm2js_laws_preservation.proofs.ControlStanding.{after_condition}
 use Rattle.wasm2js_laws_preservation.proofs.ControlStepping.{free_step}
+use Rattle.wasm2js_laws_actions.proofs.Parts.{test_followed}
 use Rattle.wasm2js_laws_preservation.proofs.ControlKept.{decided_by}
 use Rattle.wasm2js_laws_preservation.proofs.InstructionsEnding.{trap_same}
 use Rattle.wasm2js_laws_preservation.specs.BranchesLaws.{BranchesAreKept}
@@ -176,7 +177,9 @@ module _ (f : Function) (fair : IsFair f) where
         (subst (λ m. IsFollowed f p (either_way m) ((if not (x == 0) then jumps else goes_further) p)) e (chosen x))
 
     condition_kept : IsFollowed f p start (statements_to f (br_if k ▹ code) ls b (I32 ∷ us) next p)
-    condition_kept = decided_by f start (numbered operand_low (b + length us)) p jumps goes_further i.apart by_word
+    condition_kept =
+        subst (λ (run : Part (Unit {0})). IsFollowed f p start (run p)) (sym (test_followed f.calls f.scope f.bound then_rest [] (bodies.signed_word (b + length us)) (bodies.jump ls k b us)))
+        (decided_by f start (numbered operand_low (b + length us)) p jumps goes_further i.apart by_word)
 
   br_if_kept : (k : ℕ) → IsKeptFirst f (br_if k)
   br_if_kept k most code ls b ts after around before next small typed standing nested ex rest =

@@ -24,8 +24,9 @@ use Rattle.wasm_laws_drive.proofs.Stepping.{block_step, if_step}
 use Rattle.asm_lang_exec.specs.Runs.{Place, Part, and_then, defined, read}
 use Rattle.asm_lang_exec.specs.Meaning.{Completion, normal}
 use Rattle.wasm2js_translation.specs.Names.{Name, numbered, operand_low, spelled}
-use Rattle.wasm2js_translation.specs.Bodies.{Aim, past, again, comes_to_end}
+use Rattle.wasm2js_translation.specs.Bodies.{Aim, past, again, labels_round, label_name, signed_word, comes_to_end, stmts_of}
 use Rattle.wasm2js_laws_places.specs.Following.{Rest}
+use Rattle.wasm2js_laws_actions.proofs.Parts.{chosen_followed}
 use Rattle.wasm2js_laws_places.specs.Straight.{Words}
 use Rattle.wasm2js_laws_places.specs.Places.{word_at, AreApart, operands, Stays}
 use Rattle.wasm2js_laws_actions.proofs.Numbers.{is_true}
@@ -135,8 +136,10 @@ module _ (f : Function) (fair : IsFair f) (first_kept : (t : Tree) → OpensNone
 
     arms_kept : IsFollowed f p (code_sight f around (if_block r x y ▹ code) b (I32 ∷ us) p w) (statements_to f (if_block r x y ▹ code) ls b (I32 ∷ us) next p)
     arms_kept =
-        decided_by f (code_sight f around (if_block r x y ▹ code) b (I32 ∷ us) p w) (numbered operand_low base) p (statements_to f x (past base r ∷ ls) base [] inside)
-        (statements_to f y (past base r ∷ ls) base [] inside) i.apart both_arms
+        subst (λ (run : Part (Unit {0})). IsFollowed f p (code_sight f around (if_block r x y ▹ code) b (I32 ∷ us) p w) (run p))
+        (sym (chosen_followed f.calls f.scope f.bound inside (label_name (labels_round ls) ∷ []) (signed_word base) (stmts_of f.setting.bytes f.cells f.context x (past base r ∷ ls) base []) (stmts_of f.setting.bytes f.cells f.context y (past base r ∷ ls) base [])))
+        (decided_by f (code_sight f around (if_block r x y ▹ code) b (I32 ∷ us) p w) (numbered operand_low base) p (statements_to f x (past base r ∷ ls) base [] inside)
+        (statements_to f y (past base r ∷ ls) base [] inside) i.apart both_arms)
 
   if_kept : (r : Option ValType) (x y code : Trees) → Kept x → Kept y → Kept code → Kept (if_block r x y ▹ code)
   if_kept r x y code x_kept y_kept rest most ls b ts after around before next le typed stands nested ex =

@@ -28,7 +28,7 @@ use Rattle.wasm2js_laws_actions.proofs.Reading.{found_then}
 use Rattle.wasm2js_laws_actions.proofs.Evaluated.{number_then}
 use Rattle.wasm2js_laws_helpers.proofs.Called.{placed, words_after}
 use Rattle.wasm2js_laws_helpers.proofs.Bodies.{run}
-use Rattle.wasm2js_laws_preservation.proofs.StoresFound.{Found, expr_read, compare_then}
+use Rattle.wasm2js_laws_preservation.proofs.StoresFound.{Found, found_named, expr_read, compare_then}
 use Rattle.wasm2js_laws_preservation.proofs.RunsLoops.{Works}
 
 -- the trap of the memory was called, and the heap is as before
@@ -56,8 +56,8 @@ module _ (calls : Calls) (c : Scope) (turns : ℕ) (words : Words) where
       → (nat_lt most (value t words p.heap) ≡ true → P (stops (stopped trap_name (W32 2 ∷ [])) p)) → (nat_lt most (value t words p.heap) ≡ false → P (run calls c turns rest p))
       → P (run calls c turns (simple_statement (guard t most 2) ∷ rest) p)
   guard_then t most rest p P w has k f g =
-      number_then calls c false (expr t) x p (λ r. After rest P (after r next)) (λ v. and_then (eval false calls c (natural most)) (λ w. defined (js_binary_of Gt v w))) w
-      (expr_read calls c words p t k)
+      number_then calls c false t x p (λ r. After rest P (after r next)) (λ v. and_then (eval false calls c (natural most)) (λ w. defined (js_binary_of Gt v w))) w
+      (found_named calls c words p t k) (expr_read calls c words p t k)
       (λ small. found_then (After rest P) (Boolean (nat_lt most x)) p (defined (js_binary_of Gt (unsigned_value x) (unsigned_value most)) p) next w (bound_found x most p) (by (nat_lt most x) refl))
     where
       x : ℕ
@@ -77,8 +77,8 @@ module _ (calls : Calls) (c : Scope) (turns : ℕ) (words : Words) where
       → (rel_of 32 (relation_of signed r) (value a words p.heap) (value b words p.heap) ≡ false → P (run calls c turns rest p))
       → P (run calls c turns (if_only (int_of (compare signed r a b)) (trap_call 2) ∷ rest) p)
   test_then signed r a b rest p P w has ka kb f g =
-      compare_then calls c signed r (expr a) (expr b) (value a words p.heap) (value b words p.heap) p (After rest P) (λ v. if truthy_of v then ex (trap_call 2) else runs.gives normal) w
-      (expr_read calls c words p a ka) (expr_read calls c words p b kb) (by (rel_of 32 (relation_of signed r) (value a words p.heap) (value b words p.heap)) refl)
+      compare_then calls c signed r a b (value a words p.heap) (value b words p.heap) p (After rest P) (λ v. if truthy_of v then ex (trap_call 2) else runs.gives normal) w
+      (found_named calls c words p a ka) (found_named calls c words p b kb) (expr_read calls c words p a ka) (expr_read calls c words p b kb) (by (rel_of 32 (relation_of signed r) (value a words p.heap) (value b words p.heap)) refl)
     where
       by : (t : Bool) → rel_of 32 (relation_of signed r) (value a words p.heap) (value b words p.heap) ≡ t → After rest P ((if t then ex (trap_call 2) else runs.gives normal) p)
       by true e = trap_then rest p P has (f e)
@@ -91,8 +91,8 @@ module _ (calls : Calls) (c : Scope) (turns : ℕ) (words : Words) where
       → (rel_of 32 (relation_of signed r) (value a words p.heap) (value b words p.heap) ≡ false → After rest P (ex y p))
       → P (run calls c turns (if_else (int_of (compare signed r a b)) x y ∷ rest) p)
   either_then signed r a b x y rest p P w ka kb f g =
-      compare_then calls c signed r (expr a) (expr b) (value a words p.heap) (value b words p.heap) p (After rest P) (λ v. if truthy_of v then ex x else ex y) w
-      (expr_read calls c words p a ka) (expr_read calls c words p b kb) (by (rel_of 32 (relation_of signed r) (value a words p.heap) (value b words p.heap)) refl)
+      compare_then calls c signed r a b (value a words p.heap) (value b words p.heap) p (After rest P) (λ v. if truthy_of v then ex x else ex y) w
+      (found_named calls c words p a ka) (found_named calls c words p b kb) (expr_read calls c words p a ka) (expr_read calls c words p b kb) (by (rel_of 32 (relation_of signed r) (value a words p.heap) (value b words p.heap)) refl)
     where
       by : (t : Bool) → rel_of 32 (relation_of signed r) (value a words p.heap) (value b words p.heap) ≡ t → After rest P ((if t then ex x else ex y) p)
       by true e = f e
@@ -105,8 +105,8 @@ module _ (calls : Calls) (c : Scope) (turns : ℕ) (words : Words) where
       → (rel_of 32 (relation_of signed r) (value a words p.heap) (value b words p.heap) ≡ false → P (run calls c turns rest p))
       → P (run calls c turns (if_only (int_of (compare signed r a b)) x ∷ rest) p)
   only_then signed r a b x rest p P w ka kb f g =
-      compare_then calls c signed r (expr a) (expr b) (value a words p.heap) (value b words p.heap) p (After rest P) (λ v. if truthy_of v then ex x else runs.gives normal) w
-      (expr_read calls c words p a ka) (expr_read calls c words p b kb) (by (rel_of 32 (relation_of signed r) (value a words p.heap) (value b words p.heap)) refl)
+      compare_then calls c signed r a b (value a words p.heap) (value b words p.heap) p (After rest P) (λ v. if truthy_of v then ex x else runs.gives normal) w
+      (found_named calls c words p a ka) (found_named calls c words p b kb) (expr_read calls c words p a ka) (expr_read calls c words p b kb) (by (rel_of 32 (relation_of signed r) (value a words p.heap) (value b words p.heap)) refl)
     where
       by : (t : Bool) → rel_of 32 (relation_of signed r) (value a words p.heap) (value b words p.heap) ≡ t → After rest P ((if t then ex x else runs.gives normal) p)
       by true e = f e

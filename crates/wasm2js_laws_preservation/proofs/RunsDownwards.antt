@@ -108,7 +108,7 @@ module _ (m : Module) (has : HasViews m) (bytes : ℕ) (d : ℕ) (p : Place) (a 
     byte_ends s n is =
         subst (λ t. Finds (Boolean t) (byte_state len s n) (eval false calls c (int_of (compare true greater third (literal 0))) (byte_state len s n)))
         (is_none (to_uint32_of s) (omega (arith, is)))
-        (compared_finds calls c true greater (expr third) (expr (literal 0)) (to_uint32_of s) 0 (byte_state len s n) (refl, refl) (refl, refl))
+        (compared_finds calls c true greater third (literal 0) (to_uint32_of s) 0 (byte_state len s n) tt tt (refl, refl) (refl, refl))
 
     byte_goes_on : (j : ℕ) (s : JsValue) (n : ℕ) → j < len → to_uint32_of s ≡ byte_word j
         → Finds (Boolean true) (byte_state j s n) (eval false calls c (int_of (compare true greater third (literal 0))) (byte_state j s n))
@@ -116,7 +116,7 @@ module _ (m : Module) (has : HasViews m) (bytes : ℕ) (d : ℕ) (p : Place) (a 
         let few = small_len in
         subst (λ t. Finds (Boolean t) (byte_state j s n) (eval false calls c (int_of (compare true greater third (literal 0))) (byte_state j s n)))
         (is_some (to_uint32_of s) (omega (arith, is, less_than)) (omega (arith, is, few)))
-        (compared_finds calls c true greater (expr third) (expr (literal 0)) (to_uint32_of s) 0 (byte_state j s n) (refl, refl) (refl, refl))
+        (compared_finds calls c true greater third (literal 0) (to_uint32_of s) 0 (byte_state j s n) tt tt (refl, refl) (refl, refl))
 
     byte_put : (j : ℕ) (v : JsValue) → j < len → to_uint32_of v ≡ byte_word (suc j) → byte_moved (add_of 32 to (to_uint32_of v)) (add_of 32 from (to_uint32_of v)) (byte_heap j) ≡ byte_heap (suc j)
     byte_put j v less_than is =
@@ -175,7 +175,7 @@ module _ (m : Module) (has : HasViews m) (bytes : ℕ) (d : ℕ) (p : Place) (a 
       word_ends s n is =
           subst (λ t. Finds (Boolean t) (word_state whole_words s n) (eval false calls c (int_of (compare true greater third (literal 0))) (word_state whole_words s n)))
           (is_none (to_uint32_of s) (omega (arith, is, even_len)))
-          (compared_finds calls c true greater (expr third) (expr (literal 0)) (to_uint32_of s) 0 (word_state whole_words s n) (refl, refl) (refl, refl))
+          (compared_finds calls c true greater third (literal 0) (to_uint32_of s) 0 (word_state whole_words s n) tt tt (refl, refl) (refl, refl))
 
       word_goes_on : (j : ℕ) (s : JsValue) (n : ℕ) → j < whole_words → to_uint32_of s ≡ word_word j
           → Finds (Boolean true) (word_state j s n) (eval false calls c (int_of (compare true greater third (literal 0))) (word_state j s n))
@@ -183,7 +183,7 @@ module _ (m : Module) (has : HasViews m) (bytes : ℕ) (d : ℕ) (p : Place) (a 
           let few = small_len in
           subst (λ t. Finds (Boolean t) (word_state j s n) (eval false calls c (int_of (compare true greater third (literal 0))) (word_state j s n)))
           (is_some (to_uint32_of s) (omega (arith, is, less_than)) (omega (arith, is, few)))
-          (compared_finds calls c true greater (expr third) (expr (literal 0)) (to_uint32_of s) 0 (word_state j s n) (refl, refl) (refl, refl))
+          (compared_finds calls c true greater third (literal 0) (to_uint32_of s) 0 (word_state j s n) tt tt (refl, refl) (refl, refl))
 
       word_put : (j : ℕ) (v : JsValue) → j < whole_words → to_uint32_of v ≡ word_word (suc j) → word_moved (add_of 32 to (to_uint32_of v)) (add_of 32 from (to_uint32_of v)) (word_heap j) ≡ word_heap (suc j)
       word_put j v less_than is =

@@ -119,7 +119,7 @@ module _ (m : Module) (has : HasViews m) (bytes : ℕ) (d : ℕ) (p : Place) (a 
           let small = h.small in
           subst (λ t. Finds (Boolean t) (byte_state total s n) (eval false calls c (int_of (compare true less done third)) (byte_state total s n)))
           (not_less (to_uint32_of s) len (is ∙ all) (omega (arith, within, small)))
-          (compared_finds calls c true less (expr done) (expr third) (to_uint32_of s) len (byte_state total s n) (refl, refl) (refl, refl))
+          (compared_finds calls c true less done third (to_uint32_of s) len (byte_state total s n) tt tt (refl, refl) (refl, refl))
 
       byte_goes_on : (j : ℕ) (s : JsValue) (n : ℕ) → j < total → to_uint32_of s ≡ byte_word j
           → Finds (Boolean true) (byte_state j s n) (eval false calls c (int_of (compare true less done third)) (byte_state j s n))
@@ -127,7 +127,7 @@ module _ (m : Module) (has : HasViews m) (bytes : ℕ) (d : ℕ) (p : Place) (a 
           let small = h.small in
           subst (λ t. Finds (Boolean t) (byte_state j s n) (eval false calls c (int_of (compare true less done third)) (byte_state j s n)))
           (is_less (to_uint32_of s) len (omega (arith, is, all, less_than)) (omega (arith, within, small)))
-          (compared_finds calls c true less (expr done) (expr third) (to_uint32_of s) len (byte_state j s n) (refl, refl) (refl, refl))
+          (compared_finds calls c true less done third (to_uint32_of s) len (byte_state j s n) tt tt (refl, refl) (refl, refl))
 
       byte_put : (j : ℕ) (s : JsValue) → j < total → to_uint32_of s ≡ byte_word j → byte_moved (add_of 32 to (to_uint32_of s)) (add_of 32 from (to_uint32_of s)) (byte_heap j) ≡ byte_heap (suc j)
       byte_put j s less_than is =
@@ -189,7 +189,7 @@ module _ (m : Module) (has : HasViews m) (bytes : ℕ) (d : ℕ) (p : Place) (a 
           let small = h.small in
           subst (λ t. Finds (Boolean t) (word_state whole_words s n) (eval false calls c (int_of (compare true at_most done (minus third (literal 4)))) (word_state whole_words s n)))
           (none_left (to_uint32_of s) len (omega (arith, is)) (omega (arith, is)) (omega (arith, within, small)))
-          (compared_finds calls c true at_most (expr done) (expr (minus third (literal 4))) (to_uint32_of s) (sub_of 32 len 4) (word_state whole_words s n) (refl, refl)
+          (compared_finds calls c true at_most done (minus third (literal 4)) (to_uint32_of s) (sub_of 32 len 4) (word_state whole_words s n) tt tt (refl, refl)
           (expr_read calls c (word_at (word_state whole_words s n)) (word_state whole_words s n) (minus third (literal 4)) ((refl, refl), (tt, tt))))
 
       word_goes_on : (j : ℕ) (s : JsValue) (n : ℕ) → j < whole_words → to_uint32_of s ≡ word_word j
@@ -198,7 +198,7 @@ module _ (m : Module) (has : HasViews m) (bytes : ℕ) (d : ℕ) (p : Place) (a 
           let small = h.small in
           subst (λ t. Finds (Boolean t) (word_state j s n) (eval false calls c (int_of (compare true at_most done (minus third (literal 4)))) (word_state j s n)))
           (words_left (to_uint32_of s) len (omega (arith, is, less_than)) (omega (arith, within, small)))
-          (compared_finds calls c true at_most (expr done) (expr (minus third (literal 4))) (to_uint32_of s) (sub_of 32 len 4) (word_state j s n) (refl, refl)
+          (compared_finds calls c true at_most done (minus third (literal 4)) (to_uint32_of s) (sub_of 32 len 4) (word_state j s n) tt tt (refl, refl)
           (expr_read calls c (word_at (word_state j s n)) (word_state j s n) (minus third (literal 4)) ((refl, refl), (tt, tt))))
 
       word_put : (j : ℕ) (s : JsValue) → j < whole_words → to_uint32_of s ≡ word_word j → word_moved (add_of 32 to (to_uint32_of s)) (add_of 32 from (to_uint32_of s)) (word_heap j) ≡ word_heap (suc j)

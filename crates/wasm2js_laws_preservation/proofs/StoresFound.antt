@@ -24,9 +24,10 @@ use Rattle.wasm2js_translation.specs.Words.{called, Relation, equal, unequal, le
 use Rattle.wasm2js_laws_terms.specs.Sound.{byte_element}
 use Rattle.wasm2js_laws_places.specs.Straight.{Words, value, summed, bits_of, relation_of, truth, added, index_at, element_word}
 use Rattle.wasm2js_laws_actions.specs.Reads.{Reads, Finds}
-use Rattle.wasm2js_laws_actions.proofs.Numbers.{bits_read, links_read, product_read, number_value, compared_read}
+use Rattle.wasm2js_laws_actions.proofs.Numbers.{bits_read, links_read, product_read, number_value}
 use Rattle.wasm2js_laws_actions.proofs.Reading.{read_then, all_then, found_then, one_more}
-use Rattle.wasm2js_laws_actions.proofs.Evaluated.{two, signed_read, byte_read, number_then, index_then}
+use Rattle.wasm2js_laws_actions.proofs.Typed.{IsNamed}
+use Rattle.wasm2js_laws_actions.proofs.Evaluated.{two, signed_read, byte_read, number_then, compared, index_then}
 
 -- ---- the value of a comparison
 
@@ -85,28 +86,19 @@ module _ (calls : Calls) (c : Scope) where
   ev e = eval false calls c e
 
   -- a comparison's value, and with what comes after it
-  pub compared_finds : (signed : Bool) (r : Relation) (a b : Expr) (x y : ℕ) (p : Place) → Reads x p (ev a p) → Reads y p (ev b p)
-      → Finds (Boolean (rel_of 32 (relation_of signed r) x y)) p (ev (binary (relation_operator r) (as_number signed a) (as_number signed b)) p)
-  compared_finds signed r a b x y p h k =
+  pub compared_finds : (signed : Bool) (r : Relation) (a b : Term) (x y : ℕ) (p : Place) → IsNamed c a → IsNamed c b → Reads x p (ev (expr a) p) → Reads y p (ev (expr b) p)
+      → Finds (Boolean (rel_of 32 (relation_of signed r) x y)) p (ev (expr (compare signed r a b)) p)
+  compared_finds signed r a b x y p i j h k =
       let z : JsValue = Boolean (rel_of 32 (relation_of signed r) x y) in
-      number_then calls c signed a x p (Finds z p) (λ v. and_then (ev (as_number signed b)) (λ w. defined (js_binary_of (relation_operator r) v w))) tt h
-      (λ small. number_then calls c signed b y p (Finds z p) (λ w. defined (js_binary_of (relation_operator r) (number_value signed x) w)) tt k
+      number_then calls c signed a x p (Finds z p) (λ v. and_then (ev (as_number signed b (expr b))) (λ w. defined (js_binary_of (relation_operator r) v w))) tt i h
+      (λ small. number_then calls c signed b y p (Finds z p) (λ w. defined (js_binary_of (relation_operator r) (number_value signed x) w)) tt j k
       (λ few. compared_found signed r x y p small few))
 
-  pub compare_then : {B : Type 0} (signed : Bool) (r : Relation) (a b : Expr) (x y : ℕ) (p : Place) (P : Run B → Type 0) (next : JsValue → Part B) → P wrong
-      → Reads x p (ev a p) → Reads y p (ev b p) → P (next (Boolean (rel_of 32 (relation_of signed r) x y)) p)
-      → P (after (ev (binary (relation_operator r) (as_number signed a) (as_number signed b)) p) next)
-  compare_then signed r a b x y p P next w h k f =
-      found_then P (Boolean (rel_of 32 (relation_of signed r) x y)) p (ev (binary (relation_operator r) (as_number signed a) (as_number signed b)) p) next w
-      (compared_finds signed r a b x y p h k) f
-
-  compared : (signed : Bool) (r : Relation) (a b : Expr) (x y : ℕ) (p : Place) → Reads x p (ev a p) → Reads y p (ev b p)
-      → Reads (truth (rel_of 32 (relation_of signed r) x y)) p (ev (binary (relation_operator r) (as_number signed a) (as_number signed b)) p)
-  compared signed r a b x y p h k =
-      let z : ℕ = truth (rel_of 32 (relation_of signed r) x y) in
-      number_then calls c signed a x p (Reads z p) (λ v. and_then (ev (as_number signed b)) (λ w. defined (js_binary_of (relation_operator r) v w))) tt h
-      (λ f. number_then calls c signed b y p (Reads z p) (λ w. defined (js_binary_of (relation_operator r) (number_value signed x) w)) tt k
-      (λ g. compared_read signed r x y p f g))
+  pub compare_then : {B : Type 0} (signed : Bool) (r : Relation) (a b : Term) (x y : ℕ) (p : Place) (P : Run B → Type 0) (next : JsValue → Part B) → P wrong
+      → IsNamed c a → IsNamed c b → Reads x p (ev (expr a) p) → Reads y p (ev (expr b) p) → P (next (Boolean (rel_of 32 (relation_of signed r) x y)) p)
+      → P (after (ev (expr (compare signed r a b)) p) next)
+  compare_then signed r a b x y p P next w i j h k f =
+      found_then P (Boolean (rel_of 32 (relation_of signed r) x y)) p (ev (expr (compare signed r a b)) p) next w (compared_finds signed r a b x y p i j h k) f
 
   element_read : (n : List ℕ) (v : Element) (k : ℕ) (e : Expr) (x : ℕ) (p : Place) → to_uint32_of (Whole (pos k)) % 32 ≡ k → named c n ≡ a_view v → Reads x p (ev e p)
       → Reads (element_word (load (kind_of v) (index_at k x) p.heap)) p (ev (index n (indexed k e)) p)
@@ -156,19 +148,32 @@ module _ (calls : Calls) (c : Scope) where
       AllFound no_more = Unit {0}
       AllFound (further minus t ts) = Found t × AllFound ts
 
+    pub found_named : (t : Term) → Found t → IsNamed c t
+    found_named (read n) k = tt
+    found_named (number z) k = tt
+    found_named (both op l r) k = tt
+    found_named (flip t) k = absurd k
+    found_named (sum t ts) k = tt
+    found_named (product l r) k = k.0
+    found_named (zeros t) k = absurd k
+    found_named (compare signed r x y) k = tt
+    found_named (choose t x y) k = absurd k
+    found_named (byte signed at) k = tt
+    found_named (whole at) k = tt
+
     mutual
       pub expr_read : (t : Term) → Found t → Reads (value t words p.heap) p (ev (expr t) p)
       expr_read (read n) k = k
       expr_read (number z) k = (refl, refl)
       expr_read (both op l r) k =
-          two calls c (bits_of op) (bit_operator op) (bits_read op) (int_of l) (int_of r) _ _ p (as_int_read l (expr l) _ p (expr_read l k.0)) (as_int_read r (expr r) _ p (expr_read r k.1))
+          two calls c (bits_of op) (bit_operator op) (bits_read op) (expr l) (expr r) _ _ p (expr_read l k.0) (expr_read r k.1)
       expr_read (flip t) k = absurd k
       expr_read (sum t ts) k =
           read_then (Reads (value (sum t ts) words p.heap) p) (value t words p.heap) p (ev (int_of t) p) (λ v. eval_links false calls c (summands ts) v) tt
           (as_int_read t (expr t) _ p (expr_read t k.0)) (λ v e. summands_read ts (value t words p.heap) v k.1 e)
       expr_read (product l r) k = times_read (int_of l) (int_of r) _ _ p k.0 (as_int_read l (expr l) _ p (expr_read l k.1)) (as_int_read r (expr r) _ p (expr_read r k.2))
       expr_read (zeros t) k = absurd k
-      expr_read (compare signed r x y) k = compared signed r (expr x) (expr y) _ _ p (expr_read x k.0) (expr_read y k.1)
+      expr_read (compare signed r x y) k = compared calls c signed r x y _ _ p (found_named x k.0) (found_named y k.1) (expr_read x k.0) (expr_read y k.1)
       expr_read (choose t x y) k = absurd k
       expr_read (byte signed t) k = byte_read calls c signed (expr t) _ p k.0 (expr_read t k.1)
       expr_read (whole t) k = element_read (name_of view_of_words) Int32 2 (expr t) _ p refl k.0 (expr_read t k.1)

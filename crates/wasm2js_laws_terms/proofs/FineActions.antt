@@ -1,5 +1,5 @@
 -- Sound actions are fine statements.
-use Rattle.std.proofs.Common.{◌≡◌, ℕ, ◌+◌, ◌*◌, ◌≤◌, ◌<◌, ◌^◌, max, Bool, true, false, ◌&&◌, List, [], ◌∷◌, ◌++◌, length, Option, Some, None, refl, sym, ap, subst, arith}
+use Rattle.std.proofs.Common.{◌≡◌, ℕ, ◌+◌, ◌*◌, ◌≤◌, ◌<◌, ◌^◌, max, Bool, true, false, ◌&&◌, List, [], ◌∷◌, ◌++◌, length, Option, Some, None, refl, sym, ap, subst, arith, append-nil}
 use Rattle.std.specs.List.{AllByRecursion}
 use Rattle.std.specs.Prelude.{pos, is_some, nat_lt, ◌==◌, if◌then◌else◌}
 use Rattle.std.proofs.lemmas.Bool.Decides.{nat_tests}
@@ -7,20 +7,21 @@ use Rattle.asm_types.specs.declared.value_type.ValueType.{ValueType}
 use Rattle.asm_types.specs.declared.value_type.ValueType.TheVariants.{Fixnum, Signed, Unsigned, Int, Intish}
 use Rattle.asm_types.specs.Rows.{row}
 use Rattle.sem_words.specs.declared.js_value.JsOp.TheVariants.{Gt}
-use Rattle.asm_lang.specs.Modules.{Expr, binary, call, assign, store, Stmt, plain}
-use Rattle.asm_lang.specs.Heights.{expr_height, exprs_height}
+use Rattle.asm_lang.specs.Modules.{Expr, binary, call, assign, store, Stmt, block, plain, empty, if_only, if_else, returns, while_loop, do_while, for_loop, breaks, continues, labelled, switches}
+use Rattle.asm_lang.specs.Heights.{expr_height, exprs_height, stmt_heights}
+use Rattle.asm_laws_print.specs.Fitting.{ends_open, FitsStmt}
 use Rattle.asm_lang_valid.specs.declared.meaning.Element.{Element}
 use Rattle.asm_lang_valid.specs.declared.meaning.Element.TheVariants.{Uint8, Int32}
 use Rattle.asm_lang_valid.specs.Scope.{an_int, a_foreign, a_view, shift_of, Signature, last_gives_value}
 use Rattle.asm_lang_valid.specs.Rows.{expr_count, stmt_count}
-use Rattle.asm_lang_valid.specs.Typing.{Scope, Around, named, same, literal_type, typed_below, is_int, is_call, type_of, call_fits, index_fits}
-use Rattle.asm_lang_valid.specs.LimitRows.{Mark, call_marks}
+use Rattle.asm_lang_valid.specs.Typing.{Scope, Around, named, same, literal_type, typed_below, is_int, is_call, type_of, call_fits, index_fits, typed}
+use Rattle.asm_lang_valid.specs.LimitRows.{Mark, call_marks, stmt_marks}
 use Rattle.wasm2js_translation.specs.Names.{Name, Fixed, fixed, spelled, view_of_bytes, view_of_words, trap}
-use Rattle.wasm2js_translation.specs.Words.{Term, Simple, put, ask, tell, guard, stop, write_byte, write_whole, Action, simply, either, natural, signed_number, plain_number, indexed, name_of, expr, int_of, arguments, trap_call, simple_statement, simple_statements, statement, statements}
+use Rattle.wasm2js_translation.specs.Words.{Term, Simple, put, ask, tell, guard, stop, write_byte, write_whole, Action, simply, either, natural, signed_number, as_unsigned, indexed, name_of, expr, int_of, test_of, arguments, trap_call, stmts_in, is_flat, part_of, simple_statement, simple_statements, statement, statements}
 use Rattle.wasm2js_laws_terms.specs.Sound.{IsHelper, IsSoundSimple, AreSoundSimple, IsSoundAction, AreSoundActions, simple_depth, simples_depth, action_depth, actions_depth, term_depth, terms_depth}
 use Rattle.wasm2js_laws_terms.specs.Laws.{IsFineExpr, IsTrapUse, IsFine, AreFine, height_of, ActionsAreFine, StatementsAreFine}
-use Rattle.wasm2js_laws_terms.proofs.FineExprs.{is_identifier, is_typed_below, intish, signed_int, signed_fine, above_fine, place_fine, index_is_fit, AreFineExprs}
-use Rattle.wasm2js_laws_terms.proofs.FineTerms.{has_depth, term_fine, arguments_fine, arguments_length}
+use Rattle.wasm2js_laws_terms.proofs.FineExprs.{is_identifier, is_typed_below, intish, above_fine, place_fine, index_is_fit, AreFineExprs}
+use Rattle.wasm2js_laws_terms.proofs.FineTerms.{has_depth, number_fine, test_fine, term_fine, arguments_fine, arguments_length}
 
 -- ---- marks
 
@@ -63,7 +64,7 @@ guard_low a d h p = omega (arith, h, p)
 write_low : (i t a b : ℕ) → i ≤ 1 + max (3 * a) 1 → t ≤ 3 * b → 1 + (1 + max i t) ≤ 4 + 3 * max a b
 write_low i t a b h k = omega (arith, h, k)
 
-either_low : (e f s t a b : ℕ) → e ≤ 1 + max (3 * t) 1 → f ≤ 4 + 3 * a → s ≤ 4 + 3 * b → 1 + max e (max (max 1 f) (max 1 s)) ≤ 5 + 3 * max t (max a b)
+either_low : (e f s t a b : ℕ) → e ≤ 1 + max (3 * t) 1 → f ≤ max 1 (4 + 3 * a) → s ≤ max 1 (4 + 3 * b) → 1 + max e (max f s) ≤ 5 + 3 * max t (max a b)
 either_low e f s t a b p q r = omega (arith, p, q, r)
 
 module _ (c : Scope) (around : Around) where
@@ -166,13 +167,13 @@ module _ (c : Scope) (around : Around) where
 
   guard_fine : (t : Term) (most kind : ℕ) → IsSoundSimple c (guard t most kind) → IsFine c around (simple_statement (guard t most kind)) (4 + 3 * term_depth t)
   guard_fine t most kind h =
-      let f = above_fine c most h.1 (term_fine c t h.0).as_it_is in
+      let f = above_fine c most h.1 (number_fine c false t h.0 (term_fine c t h.0).as_it_is) in
       let s = trap_fine kind h.2.0 h.2.1 in
       record {
         is_typed = both_true _ _ (is_typed_below c f) s.is_typed;
         printed = (f.printed, s.printed);
         low = guard_low _ (term_depth t) f.low (has_depth t);
-        marks = λ at. both_marks _ _ (no_marks _ (f.no_marks (at + 1))) (s.marks (at + 1 + expr_count (binary Gt (plain_number (expr t)) (natural most))));
+        marks = λ at. both_marks _ _ (no_marks _ (f.no_marks (at + 1))) (s.marks (at + 1 + expr_count (binary Gt (as_unsigned t (expr t)) (natural most))));
       }
 
   pub simple_fine : (s : Simple) → IsSoundSimple c s → IsFine c around (simple_statement s) (4 + 3 * simple_depth s)
@@ -200,6 +201,55 @@ module _ (c : Scope) (around : Around) where
       two : {a b h k m : ℕ} → a ≤ h → b ≤ k → h ≤ m → k ≤ m → max a b ≤ m
       two p q r s = omega (arith, p, q, r, s)
 
+  -- ---- a part of an `if`
+
+  -- no `else` behind it would go to another `if`
+  pub record IsFinePart (s : Stmt) (h : ℕ) : Type 0 where
+    pub is_typed : typed c around s ≡ true
+    pub closed : ends_open s ≡ false
+    pub printed : FitsStmt s
+    pub low : (stmt_heights s).as_body ≤ max 1 h
+    pub marks : (at : ℕ) → AllByRecursion IsTrapUse (stmt_marks c at s)
+
+  part_low : (k h : ℕ) → k ≤ h → max 1 k ≤ max 1 h
+  part_low k h p = omega (arith, p)
+
+  in_block_fine : (ss : List Stmt) {h : ℕ} → AreFine c around ss h → IsFinePart (block (stmts_in ss)) h
+  in_block_fine ss {h = h} f = record { is_typed = f.are_typed; closed = refl; printed = f.printed; low = part_low _ h f.low; marks = λ at. f.marks (at + 1) }
+
+  one_low : (k h : ℕ) → max k 0 ≤ h → k ≤ max 1 h
+  one_low k h p = omega (arith, p)
+
+  first_true : (b : Bool) → (b && true) ≡ true → b ≡ true
+  first_true true e = refl
+  first_true false e = e
+
+  one_alone : (s : Stmt) {h : ℕ} → ends_open s ≡ false → (stmt_heights s).as_body ≡ (stmt_heights s).height → AreFine c around (s ∷ []) h → IsFinePart s h
+  one_alone s {h = h} closed same f = record {
+    is_typed = first_true _ f.are_typed;
+    closed = closed;
+    printed = f.printed.0;
+    low = subst (λ k. k ≤ max 1 h) (sym same) (one_low (stmt_heights s).height h f.low);
+    marks = λ at. subst (AllByRecursion IsTrapUse) (append-nil (stmt_marks c at s)) (f.marks at);
+  }
+
+  pub part_fine : (ss : List Stmt) {h : ℕ} → AreFine c around ss h → IsFinePart (part_of ss) h
+  part_fine [] f = in_block_fine [] f
+  part_fine (plain e ∷ []) f = one_alone (plain e) refl refl f
+  part_fine (breaks l ∷ []) f = one_alone (breaks l) refl refl f
+  part_fine (continues l ∷ []) f = one_alone (continues l) refl refl f
+  part_fine (returns o ∷ []) f = one_alone (returns o) refl refl f
+  part_fine (block ss ∷ []) f = in_block_fine (block ss ∷ []) f
+  part_fine (empty ∷ []) f = in_block_fine (empty ∷ []) f
+  part_fine (if_only e s ∷ []) f = in_block_fine (if_only e s ∷ []) f
+  part_fine (if_else e s r ∷ []) f = in_block_fine (if_else e s r ∷ []) f
+  part_fine (while_loop e s ∷ []) f = in_block_fine (while_loop e s ∷ []) f
+  part_fine (do_while s e ∷ []) f = in_block_fine (do_while s e ∷ []) f
+  part_fine (for_loop x y z s ∷ []) f = in_block_fine (for_loop x y z s ∷ []) f
+  part_fine (labelled ls s ∷ []) f = in_block_fine (labelled ls s ∷ []) f
+  part_fine (switches e cs ∷ []) f = in_block_fine (switches e cs ∷ []) f
+  part_fine (s ∷ r ∷ ss) f = in_block_fine (s ∷ r ∷ ss) f
+
   first_less : (n a b : ℕ) → n + 3 * a ≤ n + 3 * max a b
   first_less n a b = omega arith
 
@@ -213,14 +263,14 @@ module _ (c : Scope) (around : Around) where
   pub action_fine : (a : Action) → IsSoundAction c a → IsFine c around (statement a) (height_of (action_depth a))
   action_fine (simply s) h = let f = simple_fine s h in record { is_typed = f.is_typed; printed = f.printed; low = in_turn _ f.low (omega arith); marks = f.marks }
   action_fine (either t first second) h =
-      let e = signed_int c (signed_fine c (term_fine c t h.0).as_it_is) in
-      let f = simples_fine first h.1 in
-      let g = simples_fine second h.2 in
+      let e = test_fine c t (term_fine c t h.0).as_it_is (term_fine c t h.0).as_int in
+      let f = part_fine (simple_statements first) (simples_fine first h.1) in
+      let g = part_fine (simple_statements second) (simples_fine second h.2) in
       record {
-        is_typed = both_true _ _ (both_true _ _ (is_typed_below c e) f.are_typed) g.are_typed;
-        printed = (e.printed, refl, f.printed, g.printed);
+        is_typed = both_true _ _ (both_true _ _ (is_typed_below c e) f.is_typed) g.is_typed;
+        printed = (e.printed, f.closed, f.printed, g.printed);
         low = either_low _ _ _ (term_depth t) (simples_depth first) (simples_depth second) e.low f.low g.low;
-        marks = λ at. both_marks _ _ (no_marks _ (e.no_marks (at + 1))) (both_marks _ _ (f.marks (at + 1 + expr_count (signed_number (expr t)) + 1)) (g.marks _));
+        marks = λ at. both_marks _ _ (no_marks _ (e.no_marks (at + 1))) (both_marks _ _ (f.marks (at + 1 + expr_count (test_of t))) (g.marks _));
       }
 
   actions_fine : (actions : List Action) → AreSoundActions c actions → AreFine c around (statements actions) (height_of (actions_depth actions))

@@ -21,7 +21,7 @@ use Rattle.asm_lang_valid.specs.Rows.{expr_count}
 use Rattle.asm_lang_valid.specs.Typing.{Scope, named, literal_type, typed_below, is_int, is_call, most_operators, links_length, index_fits, type_of, all_below, links_fit}
 use Rattle.asm_lang_valid.specs.LimitRows.{expr_marks, exprs_marks, links_marks}
 use Rattle.wasm2js_translation.specs.Names.{Name, Fixed, fixed, spelled}
-use Rattle.wasm2js_translation.specs.Words.{bit_operator, BitOp, conjunction, disjunction, exclusion, shift_left, shift_right_signed, shift_right, Relation, equal, unequal, less, at_most, greater, at_least, relation_operator, natural, signed_number, plain_number, as_number, indexed, name_of}
+use Rattle.wasm2js_translation.specs.Words.{bit_operator, BitOp, conjunction, disjunction, exclusion, shift_left, shift_right_signed, shift_right, Relation, equal, unequal, less, at_most, greater, at_least, relation_operator, natural, signed_number, plain_number, indexed, name_of}
 use Rattle.wasm2js_translation.proofs.Spelling.{spellings_are_usable}
 use Rattle.wasm2js_laws_terms.specs.Laws.{IsFineExpr}
 
@@ -187,7 +187,7 @@ module _ (c : Scope) where
   or_true true = refl
   or_true false = refl
 
-  abbrev number_type : Bool → ValueType
+  abbrev pub number_type : Bool → ValueType
   number_type true = Signed
   number_type false = Unsigned
 
@@ -212,7 +212,7 @@ module _ (c : Scope) where
   relation_printed greater l r p q = (refl, p, q)
   relation_printed at_least l r p q = (refl, p, q)
 
-  relation_fine : (signed : Bool) (op : Relation) (l r : Expr) {h k : ℕ} → IsFineExpr c l (number_type signed) h → IsFineExpr c r (number_type signed) k
+  pub relation_fine : (signed : Bool) (op : Relation) (l r : Expr) {h k : ℕ} → IsFineExpr c l (number_type signed) h → IsFineExpr c r (number_type signed) k
       → IsFineExpr c (binary (relation_operator op) l r) Int (1 + max h k)
   relation_fine signed op l r f g = record {
     type = Int;
@@ -224,14 +224,9 @@ module _ (c : Scope) where
     no_marks = two_marks (relation_operator op) l r f.no_call f.no_marks g.no_marks;
   }
 
-  pub compared_fine : (signed : Bool) (op : Relation) {l r : Expr} {h k : ℕ} → IsFineExpr c l Intish h → IsFineExpr c r Intish k
-      → IsFineExpr c (binary (relation_operator op) (as_number signed l) (as_number signed r)) Int (1 + max (1 + max h 1) (1 + max k 1))
-  compared_fine true op {l = l} {r = r} f g = relation_fine true op (signed_number l) (signed_number r) (signed_fine f) (signed_fine g)
-  compared_fine false op {l = l} {r = r} f g = relation_fine false op (plain_number l) (plain_number r) (plain_fine f) (plain_fine g)
-
   -- a number without a sign above a literal
-  pub above_fine : (n : ℕ) {e : Expr} {h : ℕ} → n < 2 ^ 32 → IsFineExpr c e Intish h → IsFineExpr c (binary (relation_operator greater) (plain_number e) (natural n)) Int (1 + max (1 + max h 1) 1)
-  above_fine n {e = e} small f = relation_fine false greater (plain_number e) (natural n) (plain_fine f) (unsigned_literal n small)
+  pub above_fine : (n : ℕ) {e : Expr} {h : ℕ} → n < 2 ^ 32 → IsFineExpr c e Unsigned h → IsFineExpr c (binary (relation_operator greater) e (natural n)) Int (1 + max h 1)
+  above_fine n {e = e} small f = relation_fine false greater e (natural n) f (unsigned_literal n small)
     where
       in_words : (n : ℕ) → n < 2 ^ 32 → nat_lt n (2 ^ 32) ≡ true
       in_words n h = grind (arith, nat_tests)

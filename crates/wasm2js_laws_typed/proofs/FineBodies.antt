@@ -164,7 +164,7 @@ module _ (s : Scope) (c : Context) (is_called : FunctionType → Bool) (bytes ce
       let h = 30 + max (tree_levels first) (tree_levels second) in
       subst (λ ts. AllFine s a (30 + tree_levels (if_block r first second ▹ code)) (stmts_of bytes cells c (if_block r first second ▹ code) ls b ts)) (sym typed.1) (
         is_higher s a _ _ _ (if_high (tree_levels first) (tree_levels second) (tree_levels code))
-            (arms_are_fine s a (labels_round ls) base h _ _ (new_label labels ls b a aims around) (at.operands base (omega arith)) (omega arith)
+            (arms_are_fine s a (labels_round ls) base h (stmts_of bytes cells c first (past base r ∷ ls) base []) (stmts_of bytes cells c second (past base r ∷ ls) base []) (new_label labels ls b a aims around) (at.operands base (omega arith)) (omega arith)
             (all_higher s a1 _ h _ (first_high (tree_levels first) (tree_levels second)) f) (all_higher s a1 _ h _ (rest_high (tree_levels first) (tree_levels second)) g)),
         all_higher s a _ _ _ (rest_high (1 + max (tree_levels first) (tree_levels second)) (tree_levels code))
             (further labels ls b (listed r ++ below) after a typed.4 formed.2 aims around (right_room s c (with_room (room_of c first base []) (room_of c second base [])) (room_of c code b (listed r ++ below)) rooms)),
@@ -190,7 +190,7 @@ module _ (s : Scope) (c : Context) (is_called : FunctionType → Bool) (bytes ce
       let at = left_room s c (here b (I32 ∷ (listed r ++ below)) []) (room_of c code b (listed r ++ below)) room in
       let rest = right_room s c (here b (I32 ∷ (listed r ++ below)) []) (room_of c code b (listed r ++ below)) room in (
         is_higher s a _ 9 (30 + tree_levels code) (omega arith)
-            (tests_are_fine s a (b + length (listed r ++ below)) 8 _ (at.operands (b + length (listed r ++ below)) (omega arith)) (omega arith)
+            (tests_are_fine s a (b + length (listed r ++ below)) 8 (jump ls k b (listed r ++ below)) (at.operands (b + length (listed r ++ below)) (omega arith)) (omega arith)
             (jumps_are_fine s a c labels ls k b r below [] given.fixed answers aims e around (room_here s c code b (listed r ++ below) rest))),
         further labels ls b (listed r ++ below) after a typed formed aims around rest,
       ))

@@ -4,14 +4,15 @@ use Rattle.wasm_lang.specs.declared.types.ValType.{ValType}
 use Rattle.wasm_lang.specs.declared.types.ValType.TheVariants.{I32}
 use Rattle.wasm_lang.specs.Modules.{FunctionType}
 use Rattle.wasm_lang_valid.specs.Typing.{Context, listed, result_of as type_result}
-use Rattle.asm_lang.specs.Modules.{Stmt, if_only, if_else}
+use Rattle.asm_lang.specs.Modules.{Stmt, if_only}
 use Rattle.asm_lang_valid.specs.Typing.{Scope, Label, Around, result_of, in_a_loop, in_a_switch, has_label}
 use Rattle.wasm2js_translation.specs.Names.{numbered, function, table}
 use Rattle.wasm2js_laws_terms.specs.Sound.{IsInt}
 use Rattle.wasm2js_laws_terms.specs.Laws.{IsFine}
 use Rattle.wasm2js_laws_scopes.specs.Provided.{HasFixed, HasRoom, IsFunction, IsTable, signature_for}
+use Rattle.wasm2js_translation.specs.Words.{part_of}
 use Rattle.wasm2js_translation.specs.Actions.{under, low}
-use Rattle.wasm2js_translation.specs.Bodies.{Aim, past, again, out, labels_round, label_name, signed_word, under_label, endless, leave_with, jump, call_stmts, form_number, indirect_stmts, by_index}
+use Rattle.wasm2js_translation.specs.Bodies.{Aim, past, again, out, labels_round, label_name, signed_word, under_label, endless, chosen, leave_with, jump, call_stmts, form_number, indirect_stmts, by_index}
 use Rattle.wasm2js_translation.specs.Helpers.{block_of}
 use Rattle.wasm2js_translation.specs.Rooms.{here}
 
@@ -42,11 +43,11 @@ abbrev pub ArmsAreFine : Type 0
 ArmsAreFine =
     (s : Scope) (a : Around) (n d h : ℕ) (first second : List Stmt) → has_label a.labels (label_name n) ≡ false → IsInt s (low d) → 2 ≤ h → AllFine s (with_label false n a) h first
     → AllFine s (with_label false n a) h second
-    → IsFine s a (under_label n (if_else (signed_word d) (block_of first) (block_of second))) (1 + h)
+    → IsFine s a (under_label n (chosen (signed_word d) first second)) (1 + h)
 
 -- .. one arm without a label
 abbrev pub TestsAreFine : Type 0
-TestsAreFine = (s : Scope) (a : Around) (d h : ℕ) (ss : List Stmt) → IsInt s (low d) → 2 ≤ h → AllFine s a h ss → IsFine s a (if_only (signed_word d) (block_of ss)) (1 + h)
+TestsAreFine = (s : Scope) (a : Around) (d h : ℕ) (ss : List Stmt) → IsInt s (low d) → 2 ≤ h → AllFine s a h ss → IsFine s a (if_only (signed_word d) (part_of ss)) (1 + h)
 
 -- ---- branches
 

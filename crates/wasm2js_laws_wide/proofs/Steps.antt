@@ -30,6 +30,7 @@ use Rattle.wasm2js_laws_places.specs.Helped.{IsShort}
 use Rattle.wasm2js_laws_actions.specs.Reads.{Reads, ReadsAll}
 use Rattle.wasm2js_laws_actions.proofs.Numbers.{small, bits_read, links_read}
 use Rattle.wasm2js_laws_actions.proofs.Reading.{read_then, all_then, one_more}
+use Rattle.wasm2js_laws_actions.proofs.Typed.{IsNamed}
 use Rattle.wasm2js_laws_actions.proofs.Evaluated.{two, compared, chosen, as_int_read}
 use Rattle.wasm2js_laws_actions.proofs.Variables.{spelled_alike}
 use Rattle.wasm2js_laws_helpers.specs.Answers.{length_of}
@@ -60,6 +61,19 @@ abbrev pub AllEasy : List Term → Type 0
 AllEasy [] = Unit {0}
 AllEasy (t ∷ ts) = IsEasy t × AllEasy ts
 
+easy_named : (c : Scope) (t : Term) → IsEasy t → IsNamed c t
+easy_named c (read n) s = tt
+easy_named c (number z) s = tt
+easy_named c (both op a b) s = tt
+easy_named c (flip a) s = tt
+easy_named c (sum a ts) s = tt
+easy_named c (product a b) s = absurd s
+easy_named c (zeros a) s = absurd s
+easy_named c (compare signed r a b) s = tt
+easy_named c (choose t a b) s = tt
+easy_named c (byte signed at) s = tt
+easy_named c (whole at) s = tt
+
 module _ (calls : Calls) (c : Scope) where
   abbrev ev : Expr → Part JsValue
   ev e = eval false calls c e
@@ -68,15 +82,15 @@ module _ (calls : Calls) (c : Scope) where
     easy_read : (t : Term) (p : Place) → IsEasy t → Reads (value t (words_at p) p.heap) p (ev (expr t) p)
     easy_read (read n) p s = found (spelled n) p
     easy_read (number z) p s = (refl, refl)
-    easy_read (both op l r) p s = two calls c (bits_of op) (bit_operator op) (bits_read op) (int_of l) (int_of r) _ _ p (as_int_read calls c l (expr l) _ p (easy_read l p s.0)) (as_int_read calls c r (expr r) _ p (easy_read r p s.1))
+    easy_read (both op l r) p s = two calls c (bits_of op) (bit_operator op) (bits_read op) (expr l) (expr r) _ _ p (easy_read l p s.0) (easy_read r p s.1)
     easy_read (flip t) p s = absurd s
     easy_read (sum t ts) p s =
         read_then (Reads (value (sum t ts) (words_at p) p.heap) p) (value t (words_at p) p.heap) p (ev (int_of t) p) (λ v. eval_links false calls c (summands ts) v) tt
         (as_int_read calls c t (expr t) _ p (easy_read t p s.0)) (λ v e. easy_links ts (value t (words_at p) p.heap) v p s.1 e)
     easy_read (product l r) p s = absurd s
     easy_read (zeros t) p s = absurd s
-    easy_read (compare signed r x y) p s = compared calls c signed r (expr x) (expr y) _ _ p (easy_read x p s.0) (easy_read y p s.1)
-    easy_read (choose t x y) p s = chosen calls c (expr t) (int_of x) (int_of y) _ _ _ p (easy_read t p s.0) (as_int_read calls c x (expr x) _ p (easy_read x p s.1)) (as_int_read calls c y (expr y) _ p (easy_read y p s.2))
+    easy_read (compare signed r x y) p s = compared calls c signed r x y _ _ p (easy_named c x s.0) (easy_named c y s.1) (easy_read x p s.0) (easy_read y p s.1)
+    easy_read (choose t x y) p s = chosen calls c t (int_of x) (int_of y) _ _ _ p (easy_named c t s.0) (easy_read t p s.0) (as_int_read calls c x (expr x) _ p (easy_read x p s.1)) (as_int_read calls c y (expr y) _ p (easy_read y p s.2))
     easy_read (byte signed t) p s = absurd s
     easy_read (whole t) p s = absurd s
 

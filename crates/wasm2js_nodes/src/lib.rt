@@ -13,6 +13,6 @@ pub use nodes::{
 };
 pub use spelling::spell;
 pub use statements::{
-    block_statement, gives, if_else, if_only, locals_of, params_of, returns, returns_nothing,
-    while_loop,
+    block_statement, gives, if_else, if_only, locals_of, params_of, part_statement, returns,
+    returns_nothing, while_loop,
 };

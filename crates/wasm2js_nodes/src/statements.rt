@@ -1,9 +1,9 @@
 //! Statements of asm.js, one node after another.
-ghost use Rattle.std.specs.Prelude.{◌≡◌, [], ◌∷◌, ◌++◌, List, map, Some, None, IfOk};
+ghost use Rattle.std.specs.Prelude.{◌≡◌, [], ◌∷◌, ◌++◌, List, map, length, Some, None, IfOk};
 ghost use Rattle.sem_words.specs.Lists.{list_items};
 ghost use Rattle.asm_lang.specs.Modules as plain;
 ghost use Rattle.asm_tree.specs.Views.{expr_view, stmt_view, param_view, local_view};
-ghost use Rattle.wasm2js_translation.specs.Words.{stmts_in, signed_number};
+ghost use Rattle.wasm2js_translation.specs.Words.{stmts_in, signed_number, is_flat, stands_alone, part_of};
 ghost use Rattle.wasm2js_translation.specs.Helpers as helpers;
 ghost use Rattle.wasm2js_nodes.specs.Names.{name_view};
 
@@ -30,6 +30,59 @@ pub fn block_statement(statements: List<Stmt>) -> Stmt
     ensures { stmt_view result ≡ plain.block (stmts_in (map stmt_view (list_items statements))) }
 {
     Stmt::Block(statements)
+}
+
+// Whether a statement holds no other.
+#[tactic(auto, using(asm_tree::proofs::Views::views))]
+fn holds_no_other(statement: &Stmt) -> bool
+    ensures { result ≡ is_flat (stmt_view statement.now) }
+{
+    match statement {
+        Stmt::Plain(_) | Stmt::Break(_) | Stmt::Continue(_) | Stmt::Return(_) => true,
+        Stmt::If(_, None, _) => false,
+        Stmt::If(_, Some(_), _) => false,
+        Stmt::Block(_)
+        | Stmt::Empty
+        | Stmt::While(_, _)
+        | Stmt::DoWhile(_, _)
+        | Stmt::For(_, _)
+        | Stmt::Labelled(_, _)
+        | Stmt::Switch(_, _) => false,
+    }
+}
+
+fn is_one_alone(statements: &[Stmt]) -> bool
+    ensures { result ≡ stands_alone (map stmt_view statements.now) }
+{
+    if statements.len() == 1 {
+        holds_no_other(&statements[0])
+    } else {
+        false
+    }
+}
+
+// The one statement.
+fn only(statements: List<Stmt>) -> Stmt
+    requires { length (list_items statements) ≡ 1 }
+    ensures { list_items statements ≡ result ∷ [] }
+{
+    let mut statements = statements.into_vec();
+    match statements.pop() {
+        Some(statement) => statement,
+        None => Stmt::Empty,
+    }
+}
+
+/// The statements as a part of an `if`: one that holds no other stands alone, and others in `{..}`.
+#[tactic(auto, using(crate::proofs::Lists::alone_is, crate::proofs::Lists::others_are, crate::proofs::Lists::one_there))]
+pub fn part_statement(statements: List<Stmt>) -> Stmt
+    ensures { stmt_view result ≡ part_of (map stmt_view (list_items statements)) }
+{
+    if is_one_alone(statements.as_slice()) {
+        only(statements)
+    } else {
+        block_statement(statements)
+    }
 }
 
 /// `if(test)statement`

@@ -14,7 +14,7 @@ use Rattle.wasm_lang_exec.specs.Code.{unreachable, block, loop, if_block, br, br
 use Rattle.asm_lang.specs.Modules as text
 use Rattle.asm_lang.specs.Modules.{Expr, var, table_call, binary, Exprs, no_exprs, exprs, Stmt, if_only, if_else, returns, while_loop, breaks, continues, labelled, switches, Clauses, no_clauses, clauses}
 use Rattle.wasm2js_translation.specs.Names.{Name, numbered, function, table, label, fixed, result_high, spelled}
-use Rattle.wasm2js_translation.specs.Words.{read, signed_number, natural, put_in, guard, simple_statement, simple_statements, statements, trap_call, stmts_in}
+use Rattle.wasm2js_translation.specs.Words.{read, signed_number, natural, put_in, guard, simple_statement, simple_statements, statements, trap_call, stmts_in, part_of}
 use Rattle.wasm2js_translation.specs.Pairs.{operand_pair, moved}
 use Rattle.wasm2js_translation.specs.Actions.{under, low, actions}
 use Rattle.wasm2js_translation.specs.Helpers.{block_of}
@@ -172,6 +172,11 @@ under_label n s = labelled (label_name n ∷ []) s
 abbrev pub endless : List Stmt → Stmt
 endless ss = while_loop (natural 1) (block_of ss)
 
+-- without an `else` where nothing would stand behind it
+abbrev pub chosen : Expr → (first second : List Stmt) → Stmt
+chosen test first [] = if_only test (part_of first)
+chosen test first (s ∷ ss) = if_else test (part_of first) (part_of (s ∷ ss))
+
 -- the memory has so many bytes, and each table so many cells
 module _ (bytes cells : ℕ) (c : Context) where
   -- under these aims, the innermost first; so many operands lie below the block's, and those have these types
@@ -182,7 +187,7 @@ module _ (bytes cells : ℕ) (c : Context) where
   stmts_of (br k ▹ is) ls b ts = jump ls k b ts
   stmts_of (return ▹ is) ls b ts = leave_with c.returns (under 1 b ts)
   stmts_of (br_table ks d ▹ is) ls b ts = by_index (λ k. jump ls k b (drop 1 ts)) (signed_word (under 1 b ts)) ks d
-  stmts_of (br_if k ▹ is) ls b ts = if_only (signed_word (under 1 b ts)) (block_of (jump ls k b (drop 1 ts))) ∷ stmts_of is ls b (drop 1 ts)
+  stmts_of (br_if k ▹ is) ls b ts = if_only (signed_word (under 1 b ts)) (part_of (jump ls k b (drop 1 ts))) ∷ stmts_of is ls b (drop 1 ts)
   stmts_of (block r body ▹ is) ls b ts =
       let base = under 0 b ts in
       under_label (labels_round ls) (block_of (stmts_of body (past base r ∷ ls) base [])) ∷ stmts_of is ls b (listed r ++ ts)
@@ -192,7 +197,7 @@ module _ (bytes cells : ℕ) (c : Context) where
   stmts_of (if_block r first second ▹ is) ls b ts =
       let base = under 1 b ts in
       under_label (labels_round ls)
-      (if_else (signed_word base) (block_of (stmts_of first (past base r ∷ ls) base [])) (block_of (stmts_of second (past base r ∷ ls) base [])))
+      (chosen (signed_word base) (stmts_of first (past base r ∷ ls) base []) (stmts_of second (past base r ∷ ls) base []))
       ∷ stmts_of is ls b (listed r ++ drop 1 ts)
   stmts_of (call f ▹ is) ls b ts = call_stmts f b ts (type_of c f) ++ stmts_of is ls b (types_after_call (type_of c f) ts)
   stmts_of (call_indirect t ▹ is) ls b ts =

@@ -10,12 +10,12 @@ ghost use Rattle.wasm2js_translation.specs.Worked.{text_of, tables_of, variables
 /// The four bytes from 3 past the address lie in a page where the address is at most 65529; they are
 /// read as a word where its place is a multiple of four.
 pub fn a_guarded_load()
-    ensures { text_of loading (codes "f0") ≡ codes "function f0(x0){x0=x0|0;var s0=0;s0=x0;if(s0>>>0>65529)$trap(2);if((s0+3|0)&3|0){s0=$load32(s0+3|0)|0;}else{s0=$w[s0+3>>2]|0;}return s0|0;}" }
+    ensures { text_of loading (codes "f0") ≡ codes "function f0(x0){x0=x0|0;var s0=0;s0=x0;if(s0>>>0>65529)$trap(2);if(s0+3&3)s0=$load32(s0+3|0)|0;else s0=$w[s0+3>>2]|0;return s0|0;}" }
 {}
 
 /// Both words of a store of 64 bits are written after one test of all eight bytes.
 pub fn an_unaligned_store()
-    ensures { text_of storing (codes "f0") ≡ codes "function f0(x0,x1,X1){x0=x0|0;x1=x1|0;X1=X1|0;var s0=0;var S0=0;var s1=0;var S1=0;s0=x0;s1=x1;S1=X1;if(s0>>>0>65528)$trap(2);if(s0&3|0){$store64(s0,s1,S1);}else{$w[s0>>2]=s1;$w[s0+4>>2]=S1;}}" }
+    ensures { text_of storing (codes "f0") ≡ codes "function f0(x0,x1,X1){x0=x0|0;x1=x1|0;X1=X1|0;var s0=0;var S0=0;var s1=0;var S1=0;s0=x0;s1=x1;S1=X1;if(s0>>>0>65528)$trap(2);if(s0&3)$store64(s0,s1,S1);else{$w[s0>>2]=s1;$w[s0+4>>2]=S1;}}" }
 {}
 
 /// A branch by an index, to the inner block, whose result stands where it has to, and to the outer one,
@@ -44,12 +44,12 @@ pub fn a_call_of_an_entry()
 pub fn helpers()
     ensures shift { text_of loading (codes "$shl") ≡ codes "function $shl(x0,x1,x2){x0=x0|0;x1=x1|0;x2=x2|0;if(x2&32){$q=x0<<x2;return 0|0;}$q=(x1<<x2)+(x0>>>1>>>~x2)|0;return x0<<x2|0;}" }
     ensures rotation { text_of loading (codes "$rotl") ≡ codes "function $rotl(x0,x1,x2){x0=x0|0;x1=x1|0;x2=x2|0;var s0=0;if(x2&32){s0=x0;x0=x1;x1=s0;}$q=(x1<<x2)+(x0>>>1>>>~x2)|0;return(x0<<x2)+(x1>>>1>>>~x2)|0;}" }
-    ensures zeros { text_of loading (codes "$ctz") ≡ codes "function $ctz(x0,x1){x0=x0|0;x1=x1|0;if(x0){return 32-$clz32(~x0&(x0-1|0))|0;}return 64-$clz32(~x1&(x1-1|0))|0;}" }
+    ensures zeros { text_of loading (codes "$ctz") ≡ codes "function $ctz(x0,x1){x0=x0|0;x1=x1|0;if(x0){return 32-$clz32(~x0&x0-1)|0;}return 64-$clz32(~x1&x1-1)|0;}" }
     ensures bits { text_of loading (codes "$pop") ≡ codes "function $pop(x0){x0=x0|0;var s0=0;while(x0){s0=s0+(x0&1)|0;x0=x0>>>1;}return s0|0;}" }
-    ensures quotient { text_of loading (codes "$divs") ≡ codes "function $divs(x0,x1){x0=x0|0;x1=x1|0;if((x1|0)==(0|0))$trap(3);if((x0|0)==(-2147483648|0)&(x1|0)==(-1|0))$trap(4);return(x0|0)/(x1|0)|0;}" }
-    ensures load { text_of loading (codes "$load64") ≡ codes "function $load64(x0){x0=x0|0;$q=($u8[x0+4>>0]|0)+(($u8[x0+5>>0]|0)<<8)+(($u8[x0+6>>0]|0)<<16)+(($u8[x0+7>>0]|0)<<24)|0;return($u8[x0>>0]|0)+(($u8[x0+1>>0]|0)<<8)+(($u8[x0+2>>0]|0)<<16)+(($u8[x0+3>>0]|0)<<24)|0;}" }
-    ensures copy { text_of loading (codes "$copy") ≡ codes "function $copy(x0,x1,x2){x0=x0|0;x1=x1|0;x2=x2|0;var s0=0;if(x2>>>0>65536)$trap(2);if(x0>>>0>65536-x2>>>0)$trap(2);if(x1>>>0>65536-x2>>>0)$trap(2);if(x0>>>0<=x1>>>0){if(((x0|x1)&3|0)==(0|0)){while((s0|0)<=(x2-4|0)){$w[x0+s0>>2]=$w[x1+s0>>2]|0;s0=s0+4|0;}}while((s0|0)<(x2|0)){$u8[x0+s0>>0]=$u8[x1+s0>>0]|0;s0=s0+1|0;}}else{if(((x0|x1|x2)&3|0)==(0|0)){while((x2|0)>(0|0)){x2=x2-4|0;$w[x0+x2>>2]=$w[x1+x2>>2]|0;}}else{while((x2|0)>(0|0)){x2=x2-1|0;$u8[x0+x2>>0]=$u8[x1+x2>>0]|0;}}}}" }
-    ensures fill { text_of loading (codes "$fill") ≡ codes "function $fill(x0,x1,x2){x0=x0|0;x1=x1|0;x2=x2|0;var s0=0;var s1=0;if(x2>>>0>65536)$trap(2);if(x0>>>0>65536-x2>>>0)$trap(2);if((x0&3|0)==(0|0)){s1=$imul(x1&255,16843009);while((s0|0)<=(x2-4|0)){$w[x0+s0>>2]=s1;s0=s0+4|0;}}while((s0|0)<(x2|0)){$u8[x0+s0>>0]=x1;s0=s0+1|0;}}" }
+    ensures quotient { text_of loading (codes "$divs") ≡ codes "function $divs(x0,x1){x0=x0|0;x1=x1|0;if((x1|0)==0)$trap(3);if((x0|0)==-2147483648&(x1|0)==-1)$trap(4);return(x0|0)/(x1|0)|0;}" }
+    ensures load { text_of loading (codes "$load64") ≡ codes "function $load64(x0){x0=x0|0;$q=($u8[x0+4>>0]|0)+($u8[x0+5>>0]<<8)+($u8[x0+6>>0]<<16)+($u8[x0+7>>0]<<24)|0;return($u8[x0>>0]|0)+($u8[x0+1>>0]<<8)+($u8[x0+2>>0]<<16)+($u8[x0+3>>0]<<24)|0;}" }
+    ensures copy { text_of loading (codes "$copy") ≡ codes "function $copy(x0,x1,x2){x0=x0|0;x1=x1|0;x2=x2|0;var s0=0;if(x2>>>0>65536)$trap(2);if(x0>>>0>65536-x2>>>0)$trap(2);if(x1>>>0>65536-x2>>>0)$trap(2);if(x0>>>0<=x1>>>0){if(((x0|x1)&3)==0){while((s0|0)<=(x2-4|0)){$w[x0+s0>>2]=$w[x1+s0>>2]|0;s0=s0+4|0;}}while((s0|0)<(x2|0)){$u8[x0+s0>>0]=$u8[x1+s0>>0]|0;s0=s0+1|0;}}else{if(((x0|x1|x2)&3)==0){while((x2|0)>0){x2=x2-4|0;$w[x0+x2>>2]=$w[x1+x2>>2]|0;}}else{while((x2|0)>0){x2=x2-1|0;$u8[x0+x2>>0]=$u8[x1+x2>>0]|0;}}}}" }
+    ensures fill { text_of loading (codes "$fill") ≡ codes "function $fill(x0,x1,x2){x0=x0|0;x1=x1|0;x2=x2|0;var s0=0;var s1=0;if(x2>>>0>65536)$trap(2);if(x0>>>0>65536-x2>>>0)$trap(2);if((x0&3)==0){s1=$imul(x1&255,16843009);while((s0|0)<=(x2-4|0)){$w[x0+s0>>2]=s1;s0=s0+4|0;}}while((s0|0)<(x2|0)){$u8[x0+s0>>0]=x1;s0=s0+1|0;}}" }
 {}
 
 /// The helper that writes sixteen words of a long segment.

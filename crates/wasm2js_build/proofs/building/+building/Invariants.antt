@@ -13,6 +13,9 @@ decreases-int_expr l = 3 * size (term_view l.term.now) + 1
 abbrev pub decreases-number_expr : goal.decreases-number_expr
 decreases-number_expr l = 3 * size (term_view l.term.now) + 1
 
+abbrev pub decreases-test_expr : goal.decreases-test_expr
+decreases-test_expr l = 3 * size (term_view l.term.now) + 1
+
 abbrev pub decreases-both : goal.decreases-both
 decreases-both l = 3 * (size (term_view l.a.now) + size (term_view l.b.now)) + 2
 
