@@ -65,6 +65,17 @@ def data(count):
     return ("(module\n(memory 100)\n" + "".join(f'(data (i32.const {150 * i}) "{string}")\n' for i in range(count)) + ")\n").encode()
 
 
+def written(path, make, count):
+    """Writes a text. A process of its own does, since what is measured begins as a copy of this one."""
+    child = os.fork()
+    if not child:
+        with open(path, "wb") as out:
+            out.write(make(count))
+        os._exit(0)
+    if os.waitpid(child, 0)[1]:
+        sys.exit("a text isn't made")
+
+
 def once(words):
     """Processor seconds and peak memory in bytes of one run."""
     quiet = [(os.POSIX_SPAWN_OPEN, end, os.devnull, os.O_WRONLY, 0) for end in (1, 2)]
@@ -122,8 +133,7 @@ def main():
             for n in (count // 10, count):
                 files.append(os.path.join(folder, f"{n}.wat"))
                 modules.append(os.path.join(folder, f"{n}.wasm"))
-                with open(files[-1], "wb") as out:
-                    out.write(make(n))
+                written(files[-1], make, n)
                 with open(modules[-1], "wb") as out:
                     subprocess.run([program, "wat2wasm", files[-1]], check=True, stdout=out)
             rows(f"wat2wasm: {name}", pair(program, "wat2wasm"), files)

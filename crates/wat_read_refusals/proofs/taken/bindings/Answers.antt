@@ -6,7 +6,7 @@ use Rattle.wat_marks.specs.Views.{marked_of}
 use Rattle.wat_read_tokens.specs.Marks.{marks_of}
 use Rattle.wat_read_tokens.proofs.Steps.{grows, grown}
 use Rattle.wat_read_refusals.specs.Single.{binds_in_module}
-use Rattle.wat_read_refusals.proofs.Bindings.{kept_front}
+use Rattle.wat_read_refusals.proofs.OfModule.{kept_front}
 use Rattle.wat_read_refusals.proofs.taken.bindings.Goals as goal
 
 pub loop-token-preserved : goal.loop-token-preserved

@@ -6,7 +6,7 @@ use Rattle.wat_read_tokens.specs.Marks.{marks_of}
 use Rattle.wat_read_refusals.specs.Joined.{join}
 use Rattle.wat_read_refusals.specs.Single.{module_spaces}
 use Rattle.wat_read_refusals.proofs.Joins.{then_both}
-use Rattle.wat_read_refusals.proofs.Bindings.{same_taken}
+use Rattle.wat_read_refusals.proofs.OfModule.{same_taken}
 use Rattle.wat_read_rows.proofs.taken.taken_rows.Goals as goal
 
 pub returns : goal.returns
