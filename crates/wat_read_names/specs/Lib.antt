@@ -1,4 +1,3 @@
 pub mod Fields
 pub mod Named
 pub mod Bound
-pub mod Counted
