@@ -1,7 +1,7 @@
 #!/usr/bin/env python3
 """python3 bench/hostile.py PROGRAM [--part=N] [--commands=NAME,..] [--share=K/N] [--runs=N] [WORD ..]: what hostile inputs cost.
 
-Each family (`hostile_asm.py`, `hostile_wasm.py`, and scripts below) gives an input for a count and for ten times that; both are at most
+Each family (`hostile_asm.py`, `hostile_wasm.py`, `hostile_wat.py`, and scripts below) gives an input for a count and for ten times that; both are at most
 16,777,216 bytes long. Each command that takes it runs once on each, with a stack of 8 MiB (or of `STACK` MiB by the environment). A row has the status, the length, the processor
 seconds and the peak memory on the long input, and how many times as much each is as on the short one. Marks at the end of a row:
 
@@ -9,6 +9,7 @@ seconds and the peak memory on the long input, and how many times as much each i
     TIME        more than 1.1 times as many times the seconds as the length, where that is above 0.1 seconds
     MEMORY      the same of the memory, above 100 MiB
     GIB         above 1 GiB
+    WIDE        more than 24 bytes of memory for each byte of a text of WebAssembly
 
 With `--part=N` the counts are divided by N; `--commands` gives the commands that are run; `--share=1/3` takes every third family from the first on, for
 three runs side by side; with `--runs=3` a row that would be marked TIME is run again, up to three times in all, and shows of each input the run that
@@ -22,6 +23,7 @@ import tempfile
 import colliding
 import hostile_asm
 import hostile_wasm
+import hostile_wat
 
 LIMIT = 16_777_216
 SECONDS = 300
@@ -31,6 +33,7 @@ MEMORY = 12 << 30
 
 ASM = ["check-asm", "show", "shorten", "asm2wasm", "run-asm"]
 WASM = ["check-wasm", "show", "wasm2js", "run-wasm"]
+WAT = ["wat2wasm"]
 
 
 def script(line, module):
@@ -164,6 +167,7 @@ def both(words, lengths, run, runs):
     marks += ["TIME"] * grows_faster(short, long, growth)
     marks += ["MEMORY"] * (more > 1.1 * growth and memory > 100)
     marks += ["GIB"] * (memory > 1024)
+    marks += ["WIDE"] * (words in WAT and memory * 2**20 > 24 * lengths[1] and memory > 100)
     said = line if status and status > 0 else ""
     print(
         f"  {words:11} {status:3} {lengths[1]:9} bytes {growth:5.1f} times"
@@ -209,6 +213,7 @@ def alone(make):
 def groups():
     yield "asm.js", ASM, {name: (n, alone(make)) for name, (n, make) in hostile_asm.FAMILIES.items()}
     yield "WebAssembly", WASM, {name: (n, alone(make)) for name, (n, make) in hostile_wasm.FAMILIES.items()}
+    yield "texts of WebAssembly", WAT, {name: (n, alone(make)) for name, (n, make) in hostile_wat.FAMILIES.items()}
     yield "scripts of asm.js", ["run-asm"], ASM_SCRIPTS
     yield "scripts of WebAssembly", ["run-wasm"], WASM_SCRIPTS
 

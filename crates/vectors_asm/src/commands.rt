@@ -18,7 +18,7 @@ const ADD_MODULE: &[u8] = &[
 ];
 
 /// Names and contents of the files.
-static FILES: [(&'static str, &'static [u8]); 11] = [
+static FILES: [(&'static str, &'static [u8]); 14] = [
     ("add.js", ADD),
     (
         "times.js",
@@ -39,6 +39,15 @@ static FILES: [(&'static str, &'static [u8]); 11] = [
         "table.wasm",
         b"\0asm\x01\0\0\0\x02\x09\x01\x01m\x01t\x01\x70\0\0",
     ),
+    (
+        "add.wat",
+        b"(module (func $f (type $t) (param $a i32) (param $b i32) (result i32) local.get $a local.get $b i32.add)\n(type $t (func (param i32 i32) (result i32))) (export \"f\" (func $f)))",
+    ),
+    ("float.wat", b"(module (func (type 0) f32.add"),
+    (
+        "lacking.wat",
+        b"(module (type (func (result i32))) (func (type 0)))",
+    ),
     ("f.txt", b"call f 2147483647 1\n"),
     ("g.txt", b"# no g\ncall g\n"),
     ("cal.txt", b"cal f\n"),
@@ -49,7 +58,7 @@ type Row = (&'static [&'static str], u8, &'static [u8], &'static [u8]);
 
 const USAGE: &[u8] = b"usage: bridge COMMAND [--heap N] [--steps N] [FILE] [SCRIPT]\n";
 
-static ROWS: [Row; 58] = [
+static ROWS: [Row; 62] = [
     (&[], 1, b"", USAGE),
     (&["fly", "add.js"], 1, b"", USAGE),
     (&["asm2wasm"], 1, b"", USAGE),
@@ -159,6 +168,20 @@ static ROWS: [Row; 58] = [
         b"wasm refused: B13 Invalid V1 at section 3 index 0 instruction 0\n",
     ),
     (&["wasm2wat", "--heap", "65536", "add.wasm"], 1, b"", USAGE),
+    (&["wat2wasm", "add.wat"], 0, ADD_MODULE, b""),
+    (
+        &["wat2wasm", "float.wat"],
+        10,
+        b"",
+        b"wat refused: C9 OutsideInteger at 23\n",
+    ),
+    (
+        &["wat2wasm", "lacking.wat"],
+        3,
+        b"",
+        b"wasm refused: B13 Invalid V9 at section 10 index 0 instruction 0\n",
+    ),
+    (&["wat2wasm", "--heap", "65536", "add.wat"], 1, b"", USAGE),
     (
         &["shorten", "add.js"],
         0,

@@ -1,3 +1,4 @@
 pub mod Sequences
 pub mod Views
 pub mod Tables
+pub mod Keywords

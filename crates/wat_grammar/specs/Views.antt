@@ -14,14 +14,20 @@ use Rattle.wat_grammar.specs.declared.parts.Mark.TheVariants as marks
 use Rattle.wat_grammar.specs.declared.parts.Item.{Item}
 use Rattle.wat_grammar.specs.declared.parts.Item.TheVariants as items
 use Rattle.wat_grammar.specs.declared.parts.Row.{Row}
+use Rattle.wat_grammar.specs.Keywords.{word_of}
 use Rattle.wat_grammar.specs.Sequences.{sequence_of}
 use Rattle.wat_grammar.specs.declared.rules.Rows.{Rows}
 use Rattle.wat_grammar.specs.declared.rules.Rows.TheVariants as choices
 use Rattle.wat_grammar.specs.declared.parts.Next.{Next}
+use Rattle.wasm_lang.specs.declared.types.MemOp.{MemOp}
 use Rattle.wasm_lang.specs.Instructions as plain
 use Rattle.wasm_lang.specs.Instructions.{Instruction}
+use Rattle.wat_grammar.specs.declared.form.Access.{Access}
 use Rattle.wat_grammar.specs.declared.form.Form.{Form}
 use Rattle.wat_grammar.specs.declared.form.Form.TheVariants as forms
+
+abbrev pub op_of : Access → MemOp
+op_of a = record { wide = a.wide; size = a.size; signed = a.signed }
 
 abbrev pub form_of : Form → Instruction
 form_of forms.Unreachable = plain.unreachable
@@ -44,8 +50,8 @@ form_of forms.LocalSet = plain.plain (plain.local_set 0)
 form_of forms.LocalTee = plain.plain (plain.local_tee 0)
 form_of forms.GlobalGet = plain.plain (plain.global_get 0)
 form_of forms.GlobalSet = plain.plain (plain.global_set 0)
-form_of (forms.Load op) = plain.plain (plain.load op 0 0)
-form_of (forms.Store op) = plain.plain (plain.store op 0 0)
+form_of (forms.Load access) = plain.plain (plain.load (op_of access) 0 0)
+form_of (forms.Store access) = plain.plain (plain.store (op_of access) 0 0)
 form_of forms.MemorySize = plain.plain plain.memory_size
 form_of forms.MemoryCopy = plain.plain plain.memory_copy
 form_of forms.MemoryFill = plain.plain plain.memory_fill
@@ -95,7 +101,7 @@ want_of wants.Index = grammar.an_index
 want_of wants.ValueType = grammar.a_value_type
 want_of wants.Offset = grammar.offset_atom
 want_of wants.Align = grammar.alignment_atom
-want_of (wants.Word word) = grammar.a_word word.now
+want_of (wants.Word word) = grammar.a_word (word_of word)
 
 abbrev pub mark_of : Mark → grammar.Mark
 mark_of marks.Nothing = grammar.nothing

@@ -1,7 +1,32 @@
 //! Forms of instructions: what a name says, without immediates.
 
+ghost use Rattle.std.specs.Prelude.{◌≡◌};
+ghost use Rattle.wat_grammar.specs.Views.{op_of};
+
 use sem_words::{Bin, Rel, Un};
 use wasm_lang::MemOp;
+
+/// What a load or a store reaches, in few bytes, since each token that is read is kept with its form.
+#[derive(Clone, Copy, Debug)]
+pub struct Access {
+    pub wide: bool,
+    /// How many bytes.
+    pub size: u8,
+    pub signed: bool,
+}
+
+impl Access {
+    /// The same as instructions of modules have it.
+    pub fn op(self) -> MemOp
+        ensures { result ≡ op_of self }
+    {
+        MemOp {
+            wide: self.wide,
+            size: u32::from(self.size),
+            signed: self.signed,
+        }
+    }
+}
 
 /// The form of an instruction (section 2.4).
 #[derive(Clone, Copy, Debug)]
@@ -26,8 +51,8 @@ pub enum Form {
     LocalTee,
     GlobalGet,
     GlobalSet,
-    Load(MemOp),
-    Store(MemOp),
+    Load(Access),
+    Store(Access),
     MemorySize,
     MemoryCopy,
     MemoryFill,
@@ -44,5 +69,5 @@ pub enum Form {
     Wrap,
     ExtendS,
     ExtendU,
-    SignExtend { wide: bool, bits: u32 },
+    SignExtend { wide: bool, bits: u8 },
 }

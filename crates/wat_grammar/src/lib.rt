@@ -3,13 +3,14 @@
 
 mod atoms;
 mod form;
+mod keyword;
 mod names;
 mod parts;
 mod rules;
 mod sequences;
 mod stack;
 
-pub use form::Form;
+pub use form::{Access, Form};
 pub use names::form_named;
 pub use parts::{Lexeme, Mark};
 pub use stack::Stack;

@@ -6,9 +6,8 @@ ghost use Rattle.wat_lang.specs.Words.{form_named, instruction_names};
 ghost use Rattle.wat_grammar.specs.Tables.{entries, key_of, with_key};
 ghost use Rattle.wat_grammar.specs.Views.{form_of};
 
-use crate::form::Form;
+use crate::form::{Access, Form};
 use sem_words::{Bin, Rel, Un};
-use wasm_lang::MemOp;
 
 /// A name and the form that it names.
 type Entry = (&'static [u8], Form);
@@ -18,7 +17,7 @@ type Entry = (&'static [u8], Form);
 static NAMES_0: [Entry; 6] = [
     (
         b"i32.load8_s",
-        Form::Load(MemOp {
+        Form::Load(Access {
             wide: false,
             size: 1,
             signed: true,
@@ -26,7 +25,7 @@ static NAMES_0: [Entry; 6] = [
     ),
     (
         b"i64.load8_s",
-        Form::Load(MemOp {
+        Form::Load(Access {
             wide: true,
             size: 1,
             signed: true,
@@ -42,7 +41,7 @@ static NAMES_1: [Entry; 6] = [
     (b"local.tee", Form::LocalTee),
     (
         b"i32.load16_s",
-        Form::Load(MemOp {
+        Form::Load(Access {
             wide: false,
             size: 2,
             signed: true,
@@ -50,7 +49,7 @@ static NAMES_1: [Entry; 6] = [
     ),
     (
         b"i64.load16_s",
-        Form::Load(MemOp {
+        Form::Load(Access {
             wide: true,
             size: 2,
             signed: true,
@@ -58,7 +57,7 @@ static NAMES_1: [Entry; 6] = [
     ),
     (
         b"i64.load32_s",
-        Form::Load(MemOp {
+        Form::Load(Access {
             wide: true,
             size: 4,
             signed: true,
@@ -80,7 +79,7 @@ static NAMES_3: [Entry; 2] = [
     (b"nop", Form::Nop),
     (
         b"i64.store32",
-        Form::Store(MemOp {
+        Form::Store(Access {
             wide: true,
             size: 4,
             signed: false,
@@ -93,7 +92,7 @@ static NAMES_4: [Entry; 4] = [
     (b"drop", Form::Drop),
     (
         b"i32.load8_u",
-        Form::Load(MemOp {
+        Form::Load(Access {
             wide: false,
             size: 1,
             signed: false,
@@ -101,7 +100,7 @@ static NAMES_4: [Entry; 4] = [
     ),
     (
         b"i64.load8_u",
-        Form::Load(MemOp {
+        Form::Load(Access {
             wide: true,
             size: 1,
             signed: false,
@@ -112,7 +111,7 @@ static NAMES_4: [Entry; 4] = [
 static NAMES_5: [Entry; 3] = [
     (
         b"i32.load16_u",
-        Form::Load(MemOp {
+        Form::Load(Access {
             wide: false,
             size: 2,
             signed: false,
@@ -120,7 +119,7 @@ static NAMES_5: [Entry; 3] = [
     ),
     (
         b"i64.load16_u",
-        Form::Load(MemOp {
+        Form::Load(Access {
             wide: true,
             size: 2,
             signed: false,
@@ -128,7 +127,7 @@ static NAMES_5: [Entry; 3] = [
     ),
     (
         b"i64.load32_u",
-        Form::Load(MemOp {
+        Form::Load(Access {
             wide: true,
             size: 4,
             signed: false,
@@ -148,7 +147,7 @@ static NAMES_6: [Entry; 6] = [
 static NAMES_7: [Entry; 6] = [
     (
         b"i32.store",
-        Form::Store(MemOp {
+        Form::Store(Access {
             wide: false,
             size: 4,
             signed: false,
@@ -156,7 +155,7 @@ static NAMES_7: [Entry; 6] = [
     ),
     (
         b"i64.store",
-        Form::Store(MemOp {
+        Form::Store(Access {
             wide: true,
             size: 8,
             signed: false,
@@ -172,7 +171,7 @@ static NAMES_11: [Entry; 5] = [
     (b"end", Form::End),
     (
         b"i32.store16",
-        Form::Store(MemOp {
+        Form::Store(Access {
             wide: false,
             size: 2,
             signed: false,
@@ -180,7 +179,7 @@ static NAMES_11: [Entry; 5] = [
     ),
     (
         b"i64.store16",
-        Form::Store(MemOp {
+        Form::Store(Access {
             wide: true,
             size: 2,
             signed: false,
@@ -233,7 +232,7 @@ static NAMES_14: [Entry; 6] = [
     (b"else", Form::Else),
     (
         b"i32.store8",
-        Form::Store(MemOp {
+        Form::Store(Access {
             wide: false,
             size: 1,
             signed: false,
@@ -241,7 +240,7 @@ static NAMES_14: [Entry; 6] = [
     ),
     (
         b"i64.store8",
-        Form::Store(MemOp {
+        Form::Store(Access {
             wide: true,
             size: 1,
             signed: false,
@@ -348,7 +347,7 @@ static NAMES_31: [Entry; 4] = [
     (b"local.set", Form::LocalSet),
     (
         b"i32.load",
-        Form::Load(MemOp {
+        Form::Load(Access {
             wide: false,
             size: 4,
             signed: false,
@@ -356,7 +355,7 @@ static NAMES_31: [Entry; 4] = [
     ),
     (
         b"i64.load",
-        Form::Load(MemOp {
+        Form::Load(Access {
             wide: true,
             size: 8,
             signed: false,

@@ -7,6 +7,7 @@ ghost use Rattle.wat_grammar.specs.Views.{class_of, want_of};
 
 use crate::atoms::{is_align, is_id, is_number, is_offset};
 use crate::form::Form;
+use crate::keyword::Keyword;
 use crate::sequences::Sequence;
 use wat_lang::{FieldKind, Part, Rule, Space};
 
@@ -34,7 +35,7 @@ pub enum Want {
     Offset,
     /// `align=` and a number.
     Align,
-    Word(&'static [u8]),
+    Word(Keyword),
 }
 
 /// What a token is in the module.
@@ -119,6 +120,6 @@ fn atom_meets(want: Want, bytes: &[u8]) -> bool
         Want::ValueType => is_value_type(bytes),
         Want::Offset => is_offset(bytes),
         Want::Align => is_align(bytes),
-        Want::Word(word) => word == bytes,
+        Want::Word(word) => word.text() == bytes,
     }
 }

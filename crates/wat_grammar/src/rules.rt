@@ -8,6 +8,7 @@ ghost use Rattle.wat_grammar.specs.Views.{behind_form, class_of, form_of, next_i
 ghost use Rattle.wat_grammar.specs.Sequences.{sequence_of};
 
 use crate::form::Form;
+use crate::keyword::Keyword;
 use crate::names::form_named;
 use crate::parts::{Lexeme, Mark, Next, Row, Want, meets};
 use crate::sequences::Sequence;
@@ -24,52 +25,52 @@ pub enum Rows {
 
 static FIELDS: [Row; 10] = [
     Row {
-        want: Want::Word(b"type"),
+        want: Want::Word(Keyword::Type),
         mark: Mark::Field(FieldKind::Type),
         next: Sequence::TypeField,
     },
     Row {
-        want: Want::Word(b"import"),
+        want: Want::Word(Keyword::Import),
         mark: Mark::Field(FieldKind::Import),
         next: Sequence::ImportField,
     },
     Row {
-        want: Want::Word(b"func"),
+        want: Want::Word(Keyword::Func),
         mark: Mark::Field(FieldKind::Func),
         next: Sequence::FuncField,
     },
     Row {
-        want: Want::Word(b"table"),
+        want: Want::Word(Keyword::Table),
         mark: Mark::Field(FieldKind::Table),
         next: Sequence::Table,
     },
     Row {
-        want: Want::Word(b"memory"),
+        want: Want::Word(Keyword::Memory),
         mark: Mark::Field(FieldKind::Memory),
         next: Sequence::Memory,
     },
     Row {
-        want: Want::Word(b"global"),
+        want: Want::Word(Keyword::Global),
         mark: Mark::Field(FieldKind::Global),
         next: Sequence::GlobalField,
     },
     Row {
-        want: Want::Word(b"export"),
+        want: Want::Word(Keyword::Export),
         mark: Mark::Field(FieldKind::Export),
         next: Sequence::ExportField,
     },
     Row {
-        want: Want::Word(b"start"),
+        want: Want::Word(Keyword::Start),
         mark: Mark::Field(FieldKind::Start),
         next: Sequence::UsesFunc,
     },
     Row {
-        want: Want::Word(b"elem"),
+        want: Want::Word(Keyword::Elem),
         mark: Mark::Field(FieldKind::Elem),
         next: Sequence::ElemField,
     },
     Row {
-        want: Want::Word(b"data"),
+        want: Want::Word(Keyword::Data),
         mark: Mark::Field(FieldKind::Data),
         next: Sequence::DataField,
     },
@@ -77,22 +78,22 @@ static FIELDS: [Row; 10] = [
 
 static DESCRIBED: [Row; 4] = [
     Row {
-        want: Want::Word(b"func"),
+        want: Want::Word(Keyword::Func),
         mark: Mark::Described(Space::Func),
         next: Sequence::DescribedFunc,
     },
     Row {
-        want: Want::Word(b"table"),
+        want: Want::Word(Keyword::Table),
         mark: Mark::Described(Space::Table),
         next: Sequence::Table,
     },
     Row {
-        want: Want::Word(b"memory"),
+        want: Want::Word(Keyword::Memory),
         mark: Mark::Described(Space::Memory),
         next: Sequence::Memory,
     },
     Row {
-        want: Want::Word(b"global"),
+        want: Want::Word(Keyword::Global),
         mark: Mark::Described(Space::Global),
         next: Sequence::DescribedGlobal,
     },
@@ -100,22 +101,22 @@ static DESCRIBED: [Row; 4] = [
 
 static EXPORTED: [Row; 4] = [
     Row {
-        want: Want::Word(b"func"),
+        want: Want::Word(Keyword::Func),
         mark: Mark::Exported(Space::Func),
         next: Sequence::UsesFunc,
     },
     Row {
-        want: Want::Word(b"table"),
+        want: Want::Word(Keyword::Table),
         mark: Mark::Exported(Space::Table),
         next: Sequence::UsesTable,
     },
     Row {
-        want: Want::Word(b"memory"),
+        want: Want::Word(Keyword::Memory),
         mark: Mark::Exported(Space::Memory),
         next: Sequence::UsesMemory,
     },
     Row {
-        want: Want::Word(b"global"),
+        want: Want::Word(Keyword::Global),
         mark: Mark::Exported(Space::Global),
         next: Sequence::UsesGlobal,
     },
@@ -123,17 +124,17 @@ static EXPORTED: [Row; 4] = [
 
 static HEAD_WITH_LOCALS: [Row; 3] = [
     Row {
-        want: Want::Word(b"param"),
+        want: Want::Word(Keyword::Param),
         mark: Mark::Nothing,
         next: Sequence::HeadList(true, Part::Param),
     },
     Row {
-        want: Want::Word(b"result"),
+        want: Want::Word(Keyword::Result),
         mark: Mark::Nothing,
         next: Sequence::HeadList(true, Part::Result),
     },
     Row {
-        want: Want::Word(b"local"),
+        want: Want::Word(Keyword::Local),
         mark: Mark::Nothing,
         next: Sequence::HeadList(true, Part::Local),
     },
@@ -141,12 +142,12 @@ static HEAD_WITH_LOCALS: [Row; 3] = [
 
 static RESULTS_WITH_LOCALS: [Row; 2] = [
     Row {
-        want: Want::Word(b"result"),
+        want: Want::Word(Keyword::Result),
         mark: Mark::Nothing,
         next: Sequence::HeadList(true, Part::Result),
     },
     Row {
-        want: Want::Word(b"local"),
+        want: Want::Word(Keyword::Local),
         mark: Mark::Nothing,
         next: Sequence::HeadList(true, Part::Local),
     },
@@ -154,12 +155,12 @@ static RESULTS_WITH_LOCALS: [Row; 2] = [
 
 static HEAD: [Row; 2] = [
     Row {
-        want: Want::Word(b"param"),
+        want: Want::Word(Keyword::Param),
         mark: Mark::Nothing,
         next: Sequence::HeadList(false, Part::Param),
     },
     Row {
-        want: Want::Word(b"result"),
+        want: Want::Word(Keyword::Result),
         mark: Mark::Nothing,
         next: Sequence::HeadList(false, Part::Result),
     },
@@ -198,7 +199,7 @@ static TABLE_END: [Row; 2] = [
         next: Sequence::Funcref,
     },
     Row {
-        want: Want::Word(b"funcref"),
+        want: Want::Word(Keyword::Funcref),
         mark: Mark::Nothing,
         next: Sequence::Empty,
     },
@@ -219,17 +220,17 @@ static KIND: [Row; 2] = [
 
 static CONSTANT: [Row; 3] = [
     Row {
-        want: Want::Word(b"i32.const"),
+        want: Want::Word(Keyword::Const32),
         mark: Mark::Instruction(Form::Const32),
         next: Sequence::Constant32,
     },
     Row {
-        want: Want::Word(b"i64.const"),
+        want: Want::Word(Keyword::Const64),
         mark: Mark::Instruction(Form::Const64),
         next: Sequence::Constant64,
     },
     Row {
-        want: Want::Word(b"global.get"),
+        want: Want::Word(Keyword::GlobalGet),
         mark: Mark::Instruction(Form::GlobalGet),
         next: Sequence::ConstantGlobal,
     },
@@ -237,12 +238,12 @@ static CONSTANT: [Row; 3] = [
 
 static ARMS: [Row; 2] = [
     Row {
-        want: Want::Word(b"else"),
+        want: Want::Word(Keyword::Else),
         mark: Mark::Instruction(Form::Else),
         next: Sequence::ElseArm,
     },
     Row {
-        want: Want::Word(b"end"),
+        want: Want::Word(Keyword::End),
         mark: Mark::Instruction(Form::End),
         next: Sequence::Empty,
     },
@@ -262,7 +263,7 @@ fn head_rows(locals: bool, part: Part) -> Rows
         (true, Part::Result) => Rows::Table(&RESULTS_WITH_LOCALS),
         (true, Part::Local) => {
             one(
-                Want::Word(b"local"),
+                Want::Word(Keyword::Local),
                 Mark::Nothing,
                 Sequence::HeadList(true, Part::Local),
             )
@@ -270,7 +271,7 @@ fn head_rows(locals: bool, part: Part) -> Rows
         (false, Part::Param) => Rows::Table(&HEAD),
         (false, Part::Result) => {
             one(
-                Want::Word(b"result"),
+                Want::Word(Keyword::Result),
                 Mark::Nothing,
                 Sequence::HeadList(false, Part::Result),
             )
@@ -320,7 +321,7 @@ fn table(rule: Rule) -> Rows
         Rule::Functions => one(Want::Index, Mark::Uses(Space::Func), Sequence::Functions),
         Rule::Labels => one(Want::Index, Mark::Uses(Space::Label), Sequence::Labels),
         Rule::Strings => one(Want::Text, Mark::Bytes, Sequence::Strings),
-        Rule::FuncWord => one(Want::Word(b"func"), Mark::Nothing, Sequence::Empty),
+        Rule::FuncWord => one(Want::Word(Keyword::Func), Mark::Nothing, Sequence::Empty),
         Rule::Code => Rows::Instructions,
         Rule::Label => one(Want::Id, Mark::Binds(Space::Label), Sequence::Empty),
         Rule::BlockResult => one(Want::Open, Mark::Nothing, Sequence::ResultType),

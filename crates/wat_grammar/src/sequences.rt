@@ -6,6 +6,7 @@ ghost use Rattle.wat_grammar.specs.declared.sequences.Sequence.TheVariants as se
 ghost use Rattle.wat_grammar.specs.Sequences.{sequence_of};
 
 use crate::form::Form;
+use crate::keyword::Keyword;
 use crate::parts::{Item, Mark, Want};
 use wat_lang::{Part, Rule, Space};
 
@@ -65,7 +66,7 @@ const OPEN: Item = Item::Token(Want::Open, Mark::Nothing);
 const CLOSE: Item = Item::Token(Want::Close, Mark::Nothing);
 
 static MODULE: [Item; 4] = [
-    Item::Token(Want::Word(b"module"), Mark::Nothing),
+    Item::Token(Want::Word(Keyword::Module), Mark::Nothing),
     Item::Rule(Rule::Name),
     Item::Rule(Rule::Fields),
     CLOSE,
@@ -76,7 +77,7 @@ static FIELD_AND_MORE: [Item; 3] = [Item::Rule(Rule::Field), CLOSE, Item::Rule(R
 static TYPE_FIELD: [Item; 5] = [
     Item::Rule(Rule::Bound(Space::Type)),
     OPEN,
-    Item::Token(Want::Word(b"func"), Mark::Nothing),
+    Item::Token(Want::Word(Keyword::Func), Mark::Nothing),
     Item::Rule(Rule::Heads(false, Part::Param)),
     CLOSE,
 ];
@@ -92,7 +93,7 @@ static IMPORT_FIELD: [Item; 5] = [
 static FUNC_FIELD: [Item; 7] = [
     Item::Rule(Rule::Bound(Space::Func)),
     OPEN,
-    Item::Token(Want::Word(b"type"), Mark::Nothing),
+    Item::Token(Want::Word(Keyword::Type), Mark::Nothing),
     Item::Token(Want::Index, Mark::TypeUse),
     CLOSE,
     Item::Rule(Rule::Heads(true, Part::Param)),
@@ -143,7 +144,7 @@ static DATA_FIELD: [Item; 4] = [
 static DESCRIBED_FUNC: [Item; 6] = [
     Item::Rule(Rule::Bound(Space::Func)),
     OPEN,
-    Item::Token(Want::Word(b"type"), Mark::Nothing),
+    Item::Token(Want::Word(Keyword::Type), Mark::Nothing),
     Item::Token(Want::Index, Mark::TypeUse),
     CLOSE,
     Item::Rule(Rule::Heads(false, Part::Param)),
@@ -162,10 +163,10 @@ static USES_MEMORY: [Item; 1] = [Item::Token(Want::Index, Mark::Uses(Space::Memo
 
 static USES_GLOBAL: [Item; 1] = [Item::Token(Want::Index, Mark::Uses(Space::Global))];
 
-static FUNCREF: [Item; 1] = [Item::Token(Want::Word(b"funcref"), Mark::Nothing)];
+static FUNCREF: [Item; 1] = [Item::Token(Want::Word(Keyword::Funcref), Mark::Nothing)];
 
 static MUTABLE_TYPE: [Item; 3] = [
-    Item::Token(Want::Word(b"mut"), Mark::Mutable),
+    Item::Token(Want::Word(Keyword::Mut), Mark::Mutable),
     Item::Token(Want::ValueType, Mark::GlobalType),
     CLOSE,
 ];
@@ -183,14 +184,14 @@ static LABELS: [Item; 1] = [Item::Rule(Rule::Labels)];
 static STRINGS: [Item; 1] = [Item::Rule(Rule::Strings)];
 
 static RESULT_TYPE: [Item; 3] = [
-    Item::Token(Want::Word(b"result"), Mark::Nothing),
+    Item::Token(Want::Word(Keyword::Result), Mark::Nothing),
     Item::Token(Want::ValueType, Mark::BlockResult),
     CLOSE,
 ];
 
 static ELSE_ARM: [Item; 2] = [
     Item::Rule(Rule::Code),
-    Item::Token(Want::Word(b"end"), Mark::Instruction(Form::End)),
+    Item::Token(Want::Word(Keyword::End), Mark::Instruction(Form::End)),
 ];
 
 static CODE: [Item; 1] = [Item::Rule(Rule::Code)];
@@ -199,7 +200,7 @@ static BLOCK: [Item; 5] = [
     Item::Rule(Rule::Label),
     Item::Rule(Rule::BlockResult),
     Item::Rule(Rule::Code),
-    Item::Token(Want::Word(b"end"), Mark::Instruction(Form::End)),
+    Item::Token(Want::Word(Keyword::End), Mark::Instruction(Form::End)),
     Item::Rule(Rule::Code),
 ];
 
@@ -229,7 +230,7 @@ static CALL: [Item; 2] = [
 
 static CALL_INDIRECT: [Item; 5] = [
     OPEN,
-    Item::Token(Want::Word(b"type"), Mark::Nothing),
+    Item::Token(Want::Word(Keyword::Type), Mark::Nothing),
     Item::Token(Want::Index, Mark::Uses(Space::Type)),
     CLOSE,
     Item::Rule(Rule::Code),

@@ -1,4 +1,5 @@
 pub mod GoingOn
 pub mod ReadingOn
-pub mod Faults
+pub mod Words
+pub mod SoFar
 pub mod Fitting

@@ -1,8 +1,7 @@
 -- Where reading stands behind some tokens.
-use Rattle.std.proofs.Common.{◌≡◌, ℕ, zero, suc, ◌+◌, ◌<◌, ◌≤◌, true, false, List, [], ◌∷◌, ◌++◌, map, length, drop, slice_index_or, Option, Some, None, option_map, refl, sym, ap, ◌∙◌, subst, append_assoc, append-nil, arith, slice_get, drop-drop}
+use Rattle.std.proofs.Common.{◌≡◌, ℕ, suc, ◌+◌, true, false, List, [], ◌∷◌, ◌++◌, drop, Option, Some, None, option_map, refl, sym, ap, ◌∙◌, append_assoc, append-nil, arith, drop-drop}
 use Rattle.wat_lang.specs.Tokens.{Token}
 use Rattle.wat_lang.specs.Grammar.{Item, Mark, Marked, marked}
-use Rattle.wat_lang.specs.Texts.{at_or}
 use Rattle.wat_laws_grammar.specs.Machine.{Taken, taken, feed, may_stop, if_true, run_on, run, fed_on, fed, start}
 
 pub record ReadsOn (ts : List Token) (ms : List Marked) (s : List Item) (rest : List Token) (i : ℕ) : Type 0 where
@@ -49,63 +48,3 @@ reads_short ts ms s i h e = record {
   none = h.runs ∙ ap (λ b. option_map (λ (ns : List Marked). ms ++ ns) (if_true (Some []) b)) e;
   there = h.counts ∙ (let q : i + 0 ≡ i = omega arith in q);
 }
-
--- ---- as the code holds tokens
-
-next_token : {X : Type 0} (view : X → Token) (xs : List X) (i : ℕ) (t : X) → i < length xs → t ≡ slice_index_or xs i t → map view (drop i xs) ≡ view t ∷ map view (drop (i + 1) xs)
-next_token view [] i t lt is = absurd (omega (arith, lt))
-next_token view (x ∷ xs) zero t lt is = ap (λ y. view y ∷ map view xs) (sym is)
-next_token view (x ∷ xs) (suc i) t lt is =
-    next_token view xs i t (omega (arith, lt)) is ∙ ap (λ k. view t ∷ map view (drop k (x ∷ xs))) (let e : suc (i + 1) ≡ suc i + 1 = omega arith in e)
-
-map_more : {X Y : Type 0} (f : X → Y) (xs : List X) (x : X) → map f (xs ++ x ∷ []) ≡ map f xs ++ f x ∷ []
-map_more f [] x = refl
-map_more f (y ∷ xs) x = ap (λ ys. f y ∷ ys) (map_more f xs x)
-
--- the tokens behind a place begin with this one
-moved : {X : Type 0} (view : X → Token) (xs : List X) (i : ℕ) (t : X) (ms : List Marked) (s : List Item) → i < length xs → t ≡ slice_index_or xs i t
-    → ReadsOn (map view xs) ms s (map view (drop i xs)) i → ReadsOn (map view xs) ms s (view t ∷ map view (drop (i + 1) xs)) i
-moved view xs i t ms s lt is h = subst (λ (rest : List Token). ReadsOn (map view xs) ms s rest i) (next_token view xs i t lt is) h
-
-pub token_taken : {X M : Type 0} (view : X → Token) (see : M → Marked) (xs : List X) (i : ℕ) (t : X) (ms new : List M) (k : M) (m : Mark) (s next : List Item)
-    → i < length xs → t ≡ slice_index_or xs i t → see k ≡ marked m (view t) → new ≡ ms ++ k ∷ []
-    → ReadsOn (map view xs) (map see ms) s (map view (drop i xs)) i → feed s (view t).class ≡ Some (taken m next)
-    → ReadsOn (map view xs) (map see new) next (map view (drop (i + 1) xs)) (i + 1)
-token_taken view see xs i t ms new k m s next lt is sees puts h e =
-    subst (λ (ks : List Marked). ReadsOn (map view xs) ks next (map view (drop (i + 1) xs)) (i + 1))
-    (sym (ap (map see) puts ∙ map_more see ms k ∙ ap (λ (y : Marked). map see ms ++ y ∷ []) sees))
-    (reads_more (map view xs) (map see ms) s next (view t) (map view (drop (i + 1) xs)) i m (moved view xs i t (map see ms) s lt is h) e)
-
-get_here : {X : Type 0} (view : X → Token) (xs : List X) (i : ℕ) (t : X) → i < length xs → t ≡ slice_index_or xs i t → slice_get (map view xs) i ≡ Some (view t)
-get_here view [] i t lt is = absurd (omega (arith, lt))
-get_here view (x ∷ xs) zero t lt is = ap (λ y. let z : Option Token = Some (view y) in z) (sym is)
-get_here view (x ∷ xs) (suc i) t lt is = get_here view xs i t (omega (arith, lt)) is
-
-get_behind : {X : Type 0} (view : X → Token) (xs : List X) (i : ℕ) → length xs ≤ i → slice_get (map view xs) i ≡ None
-get_behind view [] i le = refl
-get_behind view (x ∷ xs) zero le = absurd (omega (arith, le))
-get_behind view (x ∷ xs) (suc i) le = get_behind view xs i (omega (arith, le))
-
-pub stuck_there : {X : Type 0} (view : X → Token) (xs : List X) (i : ℕ) (t : X) (ms : List Marked) (s : List Item) (end : ℕ) → i < length xs → t ≡ slice_index_or xs i t
-    → ReadsOn (map view xs) ms s (map view (drop i xs)) i → feed s (view t).class ≡ None
-    → (run start (map view xs) ≡ None) × ((view t).at ≡ at_or end (slice_get (map view xs) (fed start (map view xs))))
-stuck_there view xs i t ms s end lt is h e =
-    let stop = reads_no_more (map view xs) ms s (view t) (map view (drop (i + 1) xs)) i (moved view xs i t ms s lt is h) e in
-    (stop.none, sym (ap (λ k. at_or end (slice_get (map view xs) k)) stop.there ∙ ap (at_or end) (get_here view xs i t lt is)))
-
-drop_behind : {X : Type 0} (view : X → Token) (xs : List X) (i : ℕ) → length xs ≤ i → map view (drop i xs) ≡ []
-drop_behind view [] zero le = refl
-drop_behind view [] (suc i) le = refl
-drop_behind view (x ∷ xs) zero le = absurd (omega (arith, le))
-drop_behind view (x ∷ xs) (suc i) le = drop_behind view xs i (omega (arith, le))
-
-pub stuck_at_end : {X : Type 0} (view : X → Token) (xs : List X) (i : ℕ) (ms : List Marked) (s : List Item) (end : ℕ) → length xs ≤ i
-    → ReadsOn (map view xs) ms s (map view (drop i xs)) i → may_stop s ≡ false
-    → (run start (map view xs) ≡ None) × (end ≡ at_or end (slice_get (map view xs) (fed start (map view xs))))
-stuck_at_end view xs i ms s end le h e =
-    let stop = reads_short (map view xs) ms s i (subst (λ (rest : List Token). ReadsOn (map view xs) ms s rest i) (drop_behind view xs i le) h) e in
-    (stop.none, sym (ap (λ k. at_or end (slice_get (map view xs) k)) stop.there ∙ ap (at_or end) (get_behind view xs i le)))
-
-pub read_all : {X : Type 0} (view : X → Token) (xs : List X) (i : ℕ) (ms : List Marked) (s : List Item) → length xs ≤ i
-    → ReadsOn (map view xs) ms s (map view (drop i xs)) i → may_stop s ≡ true → run start (map view xs) ≡ Some ms
-read_all view xs i ms s le h e = reads_all (map view xs) ms s i (subst (λ (rest : List Token). ReadsOn (map view xs) ms s rest i) (drop_behind view xs i le) h) e

@@ -1,30 +1,37 @@
 -- What the values of this crate stand for, and what its faults say.
-use Rattle.std.specs.Prelude.{◌≡◌, ℕ, List, None}
+use Rattle.std.specs.Prelude.{◌≡◌, ℕ, List, Ok, Option, Some, None, if◌then◌else◌}
 use Rattle.wat_lang.specs.declared.fault.Row.TheVariants as rows
-use Rattle.wat_lang.specs.Tokens.{Token, HasNoTokenAt}
+use Rattle.wat_lang.specs.Tokens.{Token}
 use Rattle.wat_lang.specs.Grammar as grammar
-use Rattle.wat_lang.specs.Texts.{IsFault, at_or}
-use Rattle.std.specs.List.{slice_get}
-use Rattle.wat_laws_grammar.specs.Machine.{run, fed, start}
+use Rattle.wat_lang.specs.Texts.{IsFault, outside_at, stands_outside}
 use Rattle.wat_grammar.specs.Views.{mark_of}
-use Rattle.wat_tokens.specs.Views.{token_of}
+use Rattle.wat_tokens.specs.declared.scanner.Scanner.{Scanner}
+use Rattle.wat_tokens.specs.Left.{IsLeft, IsFirstFault}
+use Rattle.wat_tokens.specs.Views as tokens
 use Rattle.wat_marks.specs.declared.fault.WatFault.{WatFault}
 use Rattle.wat_marks.specs.declared.fault.WatFault.TheVariants as faults
 use Rattle.wat_marks.specs.declared.marked.MarkedToken.{MarkedToken}
 
 abbrev pub marked_of : MarkedToken → grammar.Marked
-marked_of m = grammar.marked (mark_of m.mark) (token_of m.token)
+marked_of m = grammar.marked (mark_of m.mark) (tokens.token_of m.token)
 
 -- Want of memory says nothing of the text.
 abbrev pub IsFaultOf : List ℕ → WatFault → Type 0
 IsFaultOf text (faults.Refused row at) = IsFault text row at
 IsFaultOf text faults.Memory = Unit {0}
 
-abbrev pub IsTokenFault : List ℕ → WatFault → Type 0
-IsTokenFault text (faults.Refused row at) = (row ≡ rows.Token) × HasNoTokenAt text at
-IsTokenFault text faults.Memory = Unit {0}
+-- the first place of a word outside the integers, where one more token is looked at
+abbrev pub outside_after : Option ℕ → Token → Option ℕ
+outside_after (Some at) t = Some at
+outside_after None t = if stands_outside t.class then Some t.at else None
 
--- reading stops before the token at this place, or at the end
-abbrev pub IsStuck : (end : ℕ) → List Token → WatFault → Type 0
-IsStuck end ts (faults.Refused row at) = (row ≡ rows.Grammar) × (run start ts ≡ None) × (at ≡ at_or end (slice_get ts (fed start ts)))
-IsStuck end ts faults.Memory = Unit {0}
+-- what is left is tokens with their first word outside the integers there, or has its first fault there
+pub data LooksBehind (s : Scanner) : WatFault → ℕ → Type 0 where
+  fault_behind : {at k : ℕ} → IsFirstFault s k → LooksBehind s (faults.Refused rows.Token k) at
+  word_behind : {at k : ℕ} {ts : List Token} → IsLeft s (Ok ts) → outside_at ts ≡ Some k → LooksBehind s (faults.Refused rows.OutsideInteger k) at
+  break_there : {at : ℕ} {ts : List Token} → IsLeft s (Ok ts) → outside_at ts ≡ None → LooksBehind s (faults.Refused rows.Grammar at) at
+
+-- what is left is tokens behind a word outside the integers at the place, or has its first fault there
+pub data IsWordOrToken (s : Scanner) : WatFault → ℕ → Type 0 where
+  first_fault : {at k : ℕ} → IsFirstFault s k → IsWordOrToken s (faults.Refused rows.Token k) at
+  word_there : {at : ℕ} {ts : List Token} → IsLeft s (Ok ts) → IsWordOrToken s (faults.Refused rows.OutsideInteger at) at

@@ -5,7 +5,6 @@ mod fault;
 mod marked;
 mod outside;
 mod reading;
-mod tokens;
 
 pub use fault::WatFault;
 pub use marked::MarkedToken;

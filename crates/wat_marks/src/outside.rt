@@ -1,11 +1,14 @@
 //! Words that are no part of the integer profile.
 
-ghost use Rattle.std.specs.Prelude.{◌≡◌, map};
+ghost use Rattle.std.specs.Prelude.{◌≡◌, IfOk, IfErr, List, Ok};
 ghost use Rattle.wat_lang.specs.Numbers.{is_outside};
 ghost use Rattle.wat_lang.specs.Texts.{outside_at, stands_outside};
+ghost use Rattle.wat_lang.specs.Tokens as spec;
+ghost use Rattle.wat_tokens.specs.Left.{IsLeft, IsFirstFault};
 ghost use Rattle.wat_tokens.specs.Views.{class_of, token_of};
+ghost use Rattle.wat_marks.specs.Views.{outside_after};
 
-use wat_tokens::{Class, Token};
+use wat_tokens::{Class, Next, Scanner, Token};
 
 fn is_outside(word: &[u8]) -> bool
     ensures { result ≡ is_outside word.now }
@@ -13,7 +16,8 @@ fn is_outside(word: &[u8]) -> bool
     word.starts_with(b"f32") || word.starts_with(b"f64") || word == b"memory.grow".as_slice()
 }
 
-fn stands_outside(class: Class<'_>) -> bool
+/// Whether it is a word that is no part of the integer profile.
+pub fn stands_outside(class: Class<'_>) -> bool
     ensures { result ≡ stands_outside (class_of class.entry) }
 {
     match class {
@@ -22,14 +26,34 @@ fn stands_outside(class: Class<'_>) -> bool
     }
 }
 
-/// The offset of the first word that is no part of the integer profile.
-pub fn outside_at(tokens: &[Token<'_>]) -> Option<u64>
-    ensures { result ≡ outside_at (map token_of tokens.now) }
+/// The offset of the first such word, where one more token is looked at.
+fn outside_after(found: Option<u64>, token: Token<'_>) -> Option<u64>
+    ensures { result ≡ outside_after found (token_of token.entry) }
 {
-    for token in tokens {
-        if stands_outside(token.class) {
-            return Some(token.at);
+    match found {
+        Some(at) => Some(at),
+        None => {
+            if stands_outside(token.class) {
+                Some(token.at)
+            } else {
+                None
+            }
         }
     }
-    None
+}
+
+/// The offset of the first such word of what is left, or that of the first fault of its tokens.
+pub fn outside_behind(from: Scanner<'_>) -> Result<Option<u64>, u64>
+    ensures found { IfOk result (λ o. (ts : List spec.Token) × IsLeft from.entry (Ok ts) × (o ≡ outside_at ts)) }
+    ensures fault { IfErr result (λ at. IsFirstFault from.entry at) }
+{
+    let mut scanner = from;
+    let mut found = None;
+    loop {
+        match scanner.next() {
+            Next::Token(token) => found = outside_after(found, token),
+            Next::End => return Ok(found),
+            Next::Fault(at) => return Err(at),
+        }
+    }
 }

@@ -1,25 +1,21 @@
 //! The marks of the tokens of a text.
 
-ghost use Rattle.std.specs.Prelude.{◌≡◌, IfOk, IfErr, List, Some, map};
-ghost use Rattle.wat_lang.specs.declared.fault.Row.TheVariants as rows;
-ghost use Rattle.wat_lang.specs.Tokens.{HasTokens};
+ghost use Rattle.std.specs.Prelude.{◌≡◌, IfOk, IfErr, List, map};
 ghost use Rattle.wat_lang.specs.Grammar.{Item};
 ghost use Rattle.wat_lang.specs.Texts.{IsMarked};
-ghost use Rattle.wat_laws_grammar.specs.Machine.{feed, run, start};
+ghost use Rattle.wat_laws_grammar.specs.Machine.{feed};
 ghost use Rattle.wat_grammar.specs.Views as grammar;
-ghost use Rattle.wat_tokens.specs.Views.{class_of, token_of};
-ghost use Rattle.wat_marks.specs.declared.fault.WatFault.TheVariants as faults;
-ghost use Rattle.wat_marks.specs.Views.{IsFaultOf, IsStuck, marked_of};
+ghost use Rattle.wat_tokens.specs.Views.{class_of};
+ghost use Rattle.wat_marks.specs.Views.{IsFaultOf, IsWordOrToken, LooksBehind, marked_of};
 
 use crate::fault::WatFault;
 use crate::marked::MarkedToken;
-use crate::outside::outside_at;
-use crate::tokens::all_tokens;
+use crate::outside::{outside_behind, stands_outside};
 use std::alloc::Global;
 use wat_grammar::{Lexeme, Stack};
 use wat_lang::Row;
 use wat_laws_grammar::{derivations_are_runs, first_faults};
-use wat_tokens::{Class, Token};
+use wat_tokens::{Class, Next, Scanner, Token};
 
 fn lexeme_of<'a>(class: Class<'a>) -> Lexeme<'a>
     ensures { (is : List Item) → feed is (grammar.class_of result) ≡ feed is (class_of class.entry) }
@@ -33,67 +29,38 @@ fn lexeme_of<'a>(class: Class<'a>) -> Lexeme<'a>
     }
 }
 
-#[tactic(auto, using(crate::proofs::ReadingOn::reads_start, crate::proofs::ReadingOn::read_all))]
-/// The tokens with their marks, or the place of the first that breaks the grammar; `end` is the text's length.
-fn read_marks<'a>(
-    alloc: Global,
-    tokens: &[Token<'a>],
-    end: u64,
-) -> Result<Vec<MarkedToken<'a>>, WatFault>
-    ensures found { IfOk result (λ v. run start (map token_of tokens.now) ≡ Some (map marked_of v.items)) }
-    ensures fault { IfErr result (λ e. IsStuck end (map token_of tokens.now) e) }
+/// Why a text is refused whose grammar breaks at a place that `scanner` stands behind: tokens count first, then words outside the integers.
+fn cause(scanner: Scanner<'_>, at: u64) -> WatFault
+    ensures { LooksBehind scanner.entry result at }
 {
-    let mut stack = Stack::new(alloc)?;
-    let mut marks = Vec::new(alloc);
-    for token in tokens {
-        match stack.feed(lexeme_of(token.class))? {
-            Some(mark) => {
-                let marked = MarkedToken {
-                    mark,
-                    token: *token,
-                };
-                marks.push(marked)?;
-            }
-            None => return Err(broken(token.at)),
-        }
-    }
-    if stack.may_stop() {
-        Ok(marks)
-    } else {
-        Err(broken(end))
+    match outside_behind(scanner) {
+        Err(fault) => WatFault::Refused {
+            row: Row::Token,
+            at: fault,
+        },
+        Ok(Some(word)) => WatFault::Refused {
+            row: Row::OutsideInteger,
+            at: word,
+        },
+        Ok(None) => WatFault::Refused {
+            row: Row::Grammar,
+            at,
+        },
     }
 }
 
-fn broken(at: u64) -> WatFault
-    ensures { result ≡ faults.Refused rows.Grammar at }
+/// Why a text is refused that has a word outside the integers at a place that `scanner` stands behind: tokens count first.
+fn outside_cause(scanner: Scanner<'_>, at: u64) -> WatFault
+    ensures { IsWordOrToken scanner.entry result at }
 {
-    WatFault::Refused {
-        row: Row::Grammar,
-        at,
-    }
-}
-
-/// The marks of the tokens of a text, or the row that refuses it.
-#[tactic(auto, using(crate::proofs::Faults::outside_found, crate::proofs::Faults::stuck_found, crate::proofs::Faults::marked_found))]
-fn marks_of<'a>(
-    alloc: Global,
-    source: &[u8],
-    tokens: &[Token<'a>],
-) -> Result<Vec<MarkedToken<'a>>, WatFault>
-    requires { HasTokens source.now (map token_of tokens.now) }
-    ensures found { IfOk result (λ v. IsMarked source.now (map marked_of v.items)) }
-    ensures fault { IfErr result (λ e. IsFaultOf source.now e) }
-{
-    derivations_are_runs();
-    first_faults();
-    match outside_at(tokens) {
-        Some(at) => Err(WatFault::Refused {
+    match scanner.fault() {
+        Some(fault) => WatFault::Refused {
+            row: Row::Token,
+            at: fault,
+        },
+        None => WatFault::Refused {
             row: Row::OutsideInteger,
             at,
-        }),
-        None => match read_marks(alloc, tokens, source.len() as u64) {
-            Ok(marks) => Ok(marks),
-            Err(fault) => Err(fault),
         },
     }
 }
@@ -101,13 +68,41 @@ fn marks_of<'a>(
 /// The tokens of a text, each with what it is in the module.
 ///
 /// The refusal is the row that counts first, of those for tokens, for words outside the integers and for the grammar.
-#[tactic(auto, using(crate::proofs::Faults::token_fault))]
 pub fn marks<'a>(alloc: Global, source: &'a [u8]) -> Result<Vec<MarkedToken<'a>>, WatFault>
     ensures found { IfOk result (λ v. IsMarked source.now (map marked_of v.items)) }
     ensures fault { IfErr result (λ e. IsFaultOf source.now e) }
 {
-    match all_tokens(alloc, source) {
-        Ok(tokens) => marks_of(alloc, source, tokens.as_slice()),
-        Err(fault) => Err(fault),
+    derivations_are_runs();
+    first_faults();
+    let mut stack = Stack::new(alloc)?;
+    let mut marks = Vec::new(alloc);
+    let mut scanner = Scanner::new(source);
+    loop {
+        match scanner.next() {
+            Next::Token(token) => {
+                if stands_outside(token.class) {
+                    return Err(outside_cause(scanner, token.at));
+                }
+                match stack.feed(lexeme_of(token.class))? {
+                    Some(mark) => marks.push(MarkedToken { mark, token })?,
+                    None => return Err(cause(scanner, token.at)),
+                }
+            }
+            Next::End => {
+                if stack.may_stop() {
+                    return Ok(marks);
+                }
+                return Err(WatFault::Refused {
+                    row: Row::Grammar,
+                    at: source.len() as u64,
+                });
+            }
+            Next::Fault(at) => {
+                return Err(WatFault::Refused {
+                    row: Row::Token,
+                    at,
+                });
+            }
+        }
     }
 }

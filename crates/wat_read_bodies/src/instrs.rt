@@ -76,8 +76,14 @@ fn with_immediates(
         Form::LocalTee => Ok(Instr::LocalTee(first_used(locals, Space::Local, parts))),
         Form::GlobalGet => Ok(Instr::GlobalGet(first_used(&spaces.globals, Space::Global, parts))),
         Form::GlobalSet => Ok(Instr::GlobalSet(first_used(&spaces.globals, Space::Global, parts))),
-        Form::Load(op) => Ok(Instr::Load(op, align_in(op, parts), offset_in(parts))),
-        Form::Store(op) => Ok(Instr::Store(op, align_in(op, parts), offset_in(parts))),
+        Form::Load(access) => {
+            let op = access.op();
+            Ok(Instr::Load(op, align_in(op, parts), offset_in(parts)))
+        }
+        Form::Store(access) => {
+            let op = access.op();
+            Ok(Instr::Store(op, align_in(op, parts), offset_in(parts)))
+        }
         Form::MemorySize => Ok(Instr::MemorySize),
         Form::MemoryCopy => Ok(Instr::MemoryCopy),
         Form::MemoryFill => Ok(Instr::MemoryFill),
@@ -94,7 +100,10 @@ fn with_immediates(
         Form::Wrap => Ok(Instr::Wrap),
         Form::ExtendS => Ok(Instr::ExtendS),
         Form::ExtendU => Ok(Instr::ExtendU),
-        Form::SignExtend { wide, bits } => Ok(Instr::SignExtend { wide, bits }),
+        Form::SignExtend { wide, bits } => Ok(Instr::SignExtend {
+            wide,
+            bits: u32::from(bits),
+        }),
     }
 }
 

@@ -3,3 +3,4 @@ pub mod Alignments
 pub mod Fronts
 pub mod Seens
 pub mod TextTests
+pub mod OfModule

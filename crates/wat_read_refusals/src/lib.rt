@@ -9,4 +9,4 @@ mod taken;
 pub use counts::{from_count, room_after};
 pub use least::{Least, Refusal};
 pub use numbers::{entry_rows, number_rows, utf8_rows};
-pub use taken::taken_in;
+pub use taken::{bindings, taken_in};

@@ -1,20 +1,23 @@
 //! Ids that are bound again in a space.
 
-ghost use Rattle.std.specs.Prelude.{◌≡◌, ◌||◌, ℕ, List, IfOk, OnOk, bytes_eq};
+ghost use Rattle.std.specs.Prelude.{◌≡◌, ◌++◌, ◌||◌, ℕ, List, IfOk, OnOk, bytes_eq};
 ghost use Rattle.wat_lang.specs.Rows as spec;
-ghost use Rattle.wat_read_tokens.specs.Marks.{marks_of};
+ghost use Rattle.wat_lang.specs.Names.{all_with};
+ghost use Rattle.wat_grammar.specs.Views.{mark_of};
+ghost use Rattle.wat_read_tokens.specs.Marks.{marks_of, only};
 ghost use Rattle.wat_marks.specs.Views.{marked_of};
 ghost use Rattle.wat_read_refusals.specs.Joined.{join};
 ghost use Rattle.wat_read_refusals.specs.Seen.{has_seen, HasSeen};
-ghost use Rattle.wat_read_refusals.specs.Single.{before_next, taken_row};
+ghost use Rattle.wat_read_refusals.specs.Single.{before_next, binds_in_module, taken_row};
 
 use crate::least::Least;
 use indexmap::IndexSet;
 use key_hashes::{KeyHashes, NameKey};
 use std::alloc::{AllocError, Global};
+use wat_grammar::Mark;
 use wat_lang::{Row, Space};
 use wat_marks::MarkedToken;
-use wat_read_tokens::{Wanted, atom};
+use wat_read_tokens::{Wanted, atom, same_space};
 
 /// Adds an id, and says whether it was there.
 fn is_again<'a>(
@@ -45,6 +48,42 @@ fn note_taken<'a>(
     let again = is_again(seen, atom(token))?;
     least.note(again, Row::IdTaken, token.token.at);
     Ok(())
+}
+
+fn binds_in_module(mark: Mark) -> bool
+    ensures { result ≡ binds_in_module (mark_of mark) }
+{
+    match mark {
+        Mark::Binds(space) => !same_space(Space::Local, space) && !same_space(Space::Label, space),
+        _ => false,
+    }
+}
+
+fn push_binding<'a>(
+    found: &mut Vec<MarkedToken<'a>>,
+    token: &MarkedToken<'a>,
+) -> Result<(), AllocError>
+    ensures { OnOk result (marks_of found.new.items ≡ marks_of found.old.items ++ only (binds_in_module (marked_of token.now).mark) (marked_of token.now)) }
+{
+    if !binds_in_module(token.mark) {
+        return Ok(());
+    }
+    found.push(*token)?;
+    Ok(())
+}
+
+/// The tokens that bind ids in spaces of the module, so that the others are passed over once.
+pub fn bindings<'a>(
+    alloc: Global,
+    marks: &[MarkedToken<'a>],
+) -> Result<Vec<MarkedToken<'a>>, AllocError>
+    ensures { IfOk result (λ v. marks_of v.items ≡ all_with binds_in_module (marks_of marks.now)) }
+{
+    let mut found = Vec::new(alloc);
+    for token in marks {
+        push_binding(&mut found, token)?;
+    }
+    Ok(found)
 }
 
 /// Notes the ids that are bound again in the space.

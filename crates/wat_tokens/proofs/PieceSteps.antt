@@ -1,10 +1,10 @@
 -- Strings, piece by piece.
-use Rattle.std.proofs.Common.{◌≡◌, ℕ, zero, suc, ◌+◌, ◌<◌, ◌≤◌, Bool, true, false, List, [], ◌∷◌, ◌++◌, length, get_or, take, drop, Option, Some, None, refl, sym, ap, ◌∙◌, arith, append_assoc, append-nil, drop-cons, length-append}
+use Rattle.std.proofs.Common.{◌≡◌, ℕ, zero, suc, ◌+◌, ◌-◌, ◌<◌, ◌≤◌, Bool, true, false, List, [], ◌∷◌, ◌++◌, length, get_or, take, drop, Option, Some, None, refl, sym, ap, ◌∙◌, arith, append_assoc, append-nil, drop-cons, length-append}
 use Rattle.std.specs.Prelude.{option_map, encode_utf8}
 use Rattle.std.proofs.lemmas.List.{take_more, length-drop, length-take-le, drop-drop}
 use Rattle.std.proofs.lemmas.Str.{length-encode, len_utf8_bounds}
 use Rattle.wat_lang.specs.Tokens.{Piece, quote, character, no_piece, piece_of, string_from, put_value}
-use Rattle.wat_tokens.specs.Closed.{value_in, value_of, IsClosed, IsClosedSomewhere, Passed, Scanned}
+use Rattle.wat_tokens.specs.Closed.{value_in, value_of, quoted_in, EndsAt, IsClosed, IsClosedSomewhere, Passed, Scanned}
 
 pub skip : (n : ℕ) (bs : List ℕ) → string_from n bs ≡ string_from 0 (drop n bs)
 skip zero bs = refl
@@ -126,13 +126,26 @@ pub value_at_quote : (s so_far : List ℕ) (n : ℕ) → Passed s n so_far → n
 value_at_quote s so_far n p lt e = sym (ap value_in (ends_with_quote s so_far n p lt e))
 
 pub never_none : (s : List ℕ) → IsClosedSomewhere s → string_from 0 s ≡ None → ⊥
-never_none s c e = let nothing : Option (List ℕ × List ℕ) = None in let both : Some (value_of s, drop (c.0 + 1) s) ≡ nothing = sym c.2.is ∙ e in absurd cc
+never_none s c e = c e
+
+pub somewhere : (s : List ℕ) (n : ℕ) (plain : Bool) → IsClosed s n plain → IsClosedSomewhere s
+somewhere s n plain c = λ e. let nothing : Option (List ℕ × List ℕ) = None in let both : Some (value_of s, drop (n + 1) s) ≡ nothing = sym c.is ∙ e in absurd cc
+
+pub ends_at : (s : List ℕ) (n : ℕ) (plain : Bool) → IsClosed s n plain → EndsAt s n
+ends_at s n plain c = (c.is, c.within)
+
+quoted_is : (s : List ℕ) (n : ℕ) (plain : Bool) → IsClosed s n plain → quoted_in s (string_from 0 s) ≡ take n s
+quoted_is s n plain c =
+    let len = length-drop (n + 1) s in
+    let within = c.within in
+    ap (quoted_in s) c.is ∙ ap (λ (k : ℕ). take k s) (let e : length s - (length (drop (n + 1) s) + 1) ≡ n = omega (arith, len, within) in e)
 
 pub lent_value : (s : List ℕ) (n : ℕ) (plain : Bool) → IsClosed s n plain → plain ≡ true → take n s ≡ value_of s
 lent_value s n plain c is = sym (c.plainly is)
 
-pub not_lent : (s : List ℕ) (n : ℕ) (plain : Bool) → IsClosed s n plain → plain ≡ false → value_of s ≡ take n s → ⊥
-not_lent s n plain c is e =
+pub not_lent : (s : List ℕ) (n : ℕ) (plain : Bool) → IsClosed s n plain → plain ≡ false → value_of s ≡ quoted_in s (string_from 0 s) → ⊥
+not_lent s n plain c is q =
+    let e : value_of s ≡ take n s = q ∙ quoted_is s n plain c in
     let fewer = c.escaped is in
     let within = c.within in
     let long : length (value_of s) ≡ length (take n s) = ap length e in

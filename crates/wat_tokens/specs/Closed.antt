@@ -1,5 +1,5 @@
 -- What stands behind the opening quote of a string.
-use Rattle.std.specs.Prelude.{◌≡◌, ℕ, ◌+◌, ◌<◌, ◌≤◌, Bool, true, false, List, [], length, take, drop, Option, Some, None, option_map}
+use Rattle.std.specs.Prelude.{◌≡◌, ℕ, ◌+◌, ◌-◌, ◌<◌, ◌≤◌, Bool, true, false, List, [], length, take, drop, Option, Some, None, option_map}
 use Rattle.wat_lang.specs.Tokens.{string_from, put_value}
 
 abbrev pub value_in : Option (List ℕ × List ℕ) → List ℕ
@@ -17,8 +17,17 @@ pub record IsClosed (bs : List ℕ) (n : ℕ) (plain : Bool) : Type 0 where
   pub plainly : plain ≡ true → value_of bs ≡ take n bs
   pub escaped : plain ≡ false → length (value_of bs) < n
 
+-- they end at so many bytes, before the closing quote
+abbrev pub EndsAt : List ℕ → ℕ → Type 0
+EndsAt bs n = (string_from 0 bs ≡ Some (value_of bs, drop (n + 1) bs)) × (n < length bs)
+
+-- the bytes before what follows the closing quote, and before that quote
+abbrev pub quoted_in : List ℕ → Option (List ℕ × List ℕ) → List ℕ
+quoted_in bs None = []
+quoted_in bs (Some s) = take (length bs - (length s.1 + 1)) bs
+
 abbrev pub IsClosedSomewhere : List ℕ → Type 0
-IsClosedSomewhere bs = (n : ℕ) × (plain : Bool) × IsClosed bs n plain
+IsClosedSomewhere bs = string_from 0 bs ≡ None → ⊥
 
 -- the first n bytes stand for these
 pub record Passed (bs : List ℕ) (n : ℕ) (so_far : List ℕ) : Type 0 where

@@ -1,13 +1,14 @@
 -- Tokens of the code as those of the text form.
-use Rattle.std.specs.Prelude.{ℕ, ◌<◌, ◌≤◌, List, take}
+use Rattle.std.specs.Prelude.{ℕ, ◌<◌, ◌≤◌, List}
 use Rattle.wat_lang.specs.Tokens as spec
+use Rattle.wat_lang.specs.Tokens.{string_from}
 use Rattle.wat_tokens.specs.declared.strings.StringText.{StringText}
 use Rattle.wat_tokens.specs.declared.token.Class.{Class}
 use Rattle.wat_tokens.specs.declared.token.Class.TheVariants as classes
 use Rattle.wat_tokens.specs.declared.token.Token.{Token}
 use Rattle.wat_tokens.specs.declared.front.Front.{Front}
 use Rattle.wat_tokens.specs.declared.front.Front.TheVariants as fronts
-use Rattle.wat_tokens.specs.Closed.{value_of}
+use Rattle.wat_tokens.specs.Closed.{value_of, quoted_in}
 
 -- what a string stands for
 abbrev pub string_value : StringText → List ℕ
@@ -15,7 +16,7 @@ string_value s = value_of s.behind.now
 
 -- the bytes between its quotes
 abbrev pub between_quotes : StringText → List ℕ
-between_quotes s = take s.len s.behind.now
+between_quotes s = quoted_in s.behind.now (string_from 0 s.behind.now)
 
 abbrev pub class_of : Class → spec.Class
 class_of classes.Opens = spec.opens

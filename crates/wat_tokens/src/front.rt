@@ -55,7 +55,7 @@ fn string_front(rest: &[u8]) -> Front<'_>
     ensures { front_view result ≡ spec.string_front (1 + length rest.now) (spec.string_from 0 rest.now) }
 {
     match StringText::new(rest) {
-        Some(string) => Front::Token(Class::String(string), string.len() + 1),
+        Some((string, len)) => Front::Token(Class::String(string), len + 2),
         None => Front::Nothing,
     }
 }

@@ -1,6 +1,7 @@
 //! The numbers that atoms write.
 
-ghost use Rattle.std.specs.Prelude.{◌≡◌, ℕ, ◌+◌, ◌*◌, ◌^◌, ◌<◌, ◌≤◌, ◌&&◌, ◌==◌, codes, pos};
+ghost use Rattle.std.specs.Prelude.{◌≡◌, ℕ, ◌+◌, ◌*◌, ◌^◌, ◌<◌, ◌≤◌, ◌&&◌, ◌==◌, codes, pos, IfSome, Some};
+ghost use Rattle.wat_tokens.specs.declared.numbers.Base.TheVariants.{Ten};
 ghost use Rattle.wat_lang.specs.Tokens as tokens;
 ghost use Rattle.wat_lang.specs.Numbers as spec;
 ghost use Rattle.wat_tokens.specs.Natural.{base_of, is_digit_of, natural_in, IsCapped, IsNatural};
@@ -21,6 +22,9 @@ pub enum Base {
     Ten,
     Sixteen,
 }
+
+/// A number that is below it has room for another decimal digit in 64 bits.
+const LONGEST_SHORT: u64 = 1_000_000_000_000_000_000;
 
 /// The greatest natural number that is told exactly.
 const FARTHEST: u128 = 18_446_744_073_709_551_616;
@@ -87,6 +91,43 @@ fn natural_in(base: Base, s: &[u8]) -> Option<u128>
     if after_digit { Some(value) } else { None }
 }
 
+/// The number with one more decimal digit.
+fn with_short_digit(value: u64, b: u8) -> u64
+    requires { value ≤ 1000000000000000000 }
+    ensures { (n : ℕ) → IsCapped value n → IsCapped result (base_of Ten * n + tokens.digit_value b) }
+{
+    10 * value + u64::from(digit_value(b))
+}
+
+/// The natural number of decimal digits alone, where they are few.
+#[tactic(auto, using(crate::proofs::Digits::turns))]
+fn short_natural(s: &[u8]) -> Option<u64>
+    ensures { IfSome result (λ v. IsNatural (Some v) (natural_in Ten s.now)) }
+{
+    let mut n = 0;
+    let mut value = 0u64;
+    let mut after_digit = false;
+    while n < s.len() {
+        if value > LONGEST_SHORT || !is_digit_of(Base::Ten, s[n]) {
+            return None;
+        }
+        value = with_short_digit(value, s[n]);
+        after_digit = true;
+        n += 1;
+    }
+    if after_digit { Some(value) } else { None }
+}
+
+/// The natural number of decimal digits.
+fn decimal(s: &[u8]) -> Option<u128>
+    ensures { IsNatural result (natural_in Ten s.now) }
+{
+    match short_natural(s) {
+        Some(value) => Some(u128::from(value)),
+        None => natural_in(Base::Ten, s),
+    }
+}
+
 /// Whether it begins with `0x`.
 fn begins_hexadecimal(s: &[u8]) -> bool
     ensures { result ≡ spec.begins_text (codes "0x") s.now }
@@ -101,7 +142,7 @@ fn natural_of(s: &[u8]) -> Option<u128>
     if begins_hexadecimal(s) {
         natural_in(Base::Sixteen, s.get(2..)?)
     } else {
-        natural_in(Base::Ten, s)
+        decimal(s)
     }
 }
 

@@ -2,47 +2,37 @@
 
 ghost use Rattle.std.specs.Prelude.{◌≡◌, ◌+◌, ◌++◌, true, None, IfOk, MatchOption, OnOk, encode_utf8};
 ghost use Rattle.wat_lang.specs.Tokens as spec;
-ghost use Rattle.wat_tokens.specs.Closed.{IsClosed, IsClosedSomewhere, value_of};
+ghost use Rattle.wat_tokens.specs.Closed.{EndsAt, IsClosed, IsClosedSomewhere, value_of};
 
 use crate::pieces::{Piece, piece_of};
 use std::alloc::{AllocError, Global};
 
-/// A string of a text.
+/// A string of a text. Where its closing quote stands is looked for again when that is asked, since most strings are short.
 #[derive(Clone, Copy)]
 pub struct StringText<'a> {
     /// What stands behind its opening quote, up to the end of the text.
     behind: &'a [u8],
-    /// How many bytes stand before its closing quote.
-    len: usize,
-    /// Whether each byte stands for itself.
-    plain: bool,
-    ghost closed: { IsClosed behind.now len plain },
+    ghost closed: { IsClosedSomewhere behind.now },
 }
 
 impl<'a> StringText<'a> {
     ghost use Rattle.wat_tokens.specs.Views.{string_value, between_quotes};
 
-    /// The string, from behind its opening quote on.
-    pub(crate) fn new(behind: &'a [u8]) -> Option<StringText<'a>>
-        ensures { MatchOption result (spec.string_from 0 behind.now ≡ None) (λ s. s.behind.now ≡ behind.now) }
+    /// The string, from behind its opening quote on, and how many bytes stand before its closing one.
+    pub(crate) fn new(behind: &'a [u8]) -> Option<(StringText<'a>, usize)>
+        ensures { MatchOption result (spec.string_from 0 behind.now ≡ None) (λ x. (x.0.behind.now ≡ behind.now) × EndsAt behind.now x.1) }
     {
-        let (len, plain) = closing_quote(behind)?;
-        Some(StringText { behind, len, plain })
-    }
-
-    /// How many bytes it takes behind its opening quote, with its closing one.
-    pub(crate) fn len(self) -> usize
-        ensures { result ≡ self.entry.len + 1 }
-    {
-        self.len + 1
+        let (len, _) = closing_quote(behind)?;
+        Some((StringText { behind }, len))
     }
 
     /// What it stands for, where each byte between its quotes stands for itself.
     pub fn lent(self) -> Option<&'a [u8]>
         ensures { MatchOption result (string_value self.entry ≡ between_quotes self.entry → ⊥) (λ bytes. bytes.now ≡ string_value self.entry) }
     {
-        if self.plain {
-            Some(&self.behind[..self.len])
+        let (len, plain) = closing_quote(self.behind)?;
+        if plain {
+            Some(&self.behind[..len])
         } else {
             None
         }
