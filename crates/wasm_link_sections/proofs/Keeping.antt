@@ -47,6 +47,9 @@ module _ (w : Pair) (second : Bool) (m : WasmModule) where
             (subst (λ n. IsKept (flat_map (pushed w second (locals_of m n b)) b.code) b.code one.last) place one.kept))
       ]
 
+  pub kept_none : (moved : List (Option Kept)) → moved ≡ [] → (length moved ≡ 0) × AreKept w second m moved
+  kept_none moved e = subst (λ (ks : List (Option Kept)). (length ks ≡ 0) × AreKept w second m ks) (sym e) (refl, λ i b there. tt)
+
   pub kept_step : (bodies : List Body) (i : ℕ) (b : Body) (before now : List (Option Kept)) → map body_of bodies ≡ m.bodies → i < length bodies → b ≡ get_or bodies i b → (length before ≡ i) × AreKept w second m before
       → IsAdded (flat_map (pushed w second (locals_of m i (body_of b))) (body_of b).code) (body_of b).code before now → (length now ≡ i + 1) × AreKept w second m now
   kept_step bodies i b before now own h is so_far one =

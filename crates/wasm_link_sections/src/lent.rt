@@ -1,6 +1,6 @@
 // The bodies of functions, whose moved code is lent from a buffer.
 
-ghost use Rattle.std.specs.Prelude.{◌≡◌, ◌++◌, map, IfOk, OnOk};
+ghost use Rattle.std.specs.Prelude.{◌≡◌, ◌++◌, [], map, IfOk, OnOk};
 ghost use Rattle.sem_words.specs.Lists.{list_items};
 ghost use Rattle.wasm_tree.specs.Views.{body_of, locals_in, module_of};
 ghost use Rattle.wasm_link_move.specs.Moved.{side_of};
@@ -45,13 +45,20 @@ fn moved_bodies(
 ) -> Result<MovedCode, AllocError>
     ensures { IfOk result (λ moved. AreKept numbers.now (side_of side) (module_of own.now) moved) }
 {
-    let bodies = own.bodies.as_slice();
-    let mut moved = MovedCode::with_room(alloc, bodies.len(), code_bytes(bodies))?;
-    for (i, body) in bodies.iter().enumerate() {
+    let mut moved = begun(alloc, own)?;
+    for (i, body) in own.bodies.as_slice().iter().enumerate() {
         let scratch = locals_count(own, i, body);
         moved = moved.with_body(alloc, numbers, side, scratch, &body.code)?;
     }
     Ok(moved)
+}
+
+// No body yet, with room for all.
+fn begun(alloc: Global, own: &Module<'_>) -> Result<MovedCode, AllocError>
+    ensures { IfOk result (λ moved. moved ≡ []) }
+{
+    let bodies = own.bodies.as_slice();
+    MovedCode::with_room(alloc, bodies.len(), code_bytes(bodies))
 }
 
 // How many bytes the code of bodies takes that is lent.
@@ -120,6 +127,7 @@ fn push_lent<'m>(
 }
 
 // A body whose code is lent where it is kept, and else moved.
+#[tactic(auto, using(crate::proofs::Keeping::lent_is))]
 fn lent_body<'m>(
     alloc: Global,
     numbers: &Numbers<'_>,
