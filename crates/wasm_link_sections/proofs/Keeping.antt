@@ -64,10 +64,11 @@ module _ (w : Pair) (second : Bool) (m : WasmModule) where
   needed_is (suc other) code = refl
 
   pub lent_is : (other i : ℕ) (b : FunctionBody) (kept : Kept) (at : Option Kept) (locals : List ValType) → Some kept ≡ at → IsKept (flat_map (pushed w second (locals_of m i b)) b.code) b.code at
-      → locals ≡ b.locals ++ scratch_if (scratch_needed other kept.indirect) → record { locals = locals; code = kept.code } ≡ body_made w second m other i b
+      → locals ≡ b.locals ++ scratch_if (scratch_needed other kept.indirect) → ◌≡◌ {A = FunctionBody} (record { locals = locals; code = kept.code }) (body_made w second m other i b)
   lent_is other i b kept at locals there is locals_are =
       let it : IsKept (flat_map (pushed w second (locals_of m i b)) b.code) b.code (Some kept) = subst (IsKept (flat_map (pushed w second (locals_of m i b)) b.code) b.code) (sym there) is in
       let more : scratch_if (scratch_needed other kept.indirect) ≡ scratch other b.code = ap (λ t. scratch_if (scratch_needed other t)) it.1 ∙ ap scratch_if (needed_is other b.code) ∙ scratch_is other b.code in
       let all : locals ≡ b.locals ++ scratch other b.code = locals_are ∙ ap (λ l. b.locals ++ l) more in
-      let pair : (l : List ValType) → record { locals = l; code = kept.code } ≡ record { locals = l; code = flat_map (pushed w second (locals_of m i b)) b.code } = λ l. ap (λ (c : List Instruction). record { locals = l; code = c }) it.0 in
-      ap (λ (l : List ValType). record { locals = l; code = kept.code }) all ∙ pair (b.locals ++ scratch other b.code)
+      let with_locals : List ValType → FunctionBody = λ l. record { locals = l; code = kept.code } in
+      let with_code : List Instruction → FunctionBody = λ code. record { locals = b.locals ++ scratch other b.code; code = code } in
+      ap with_locals all ∙ ap with_code it.0

@@ -1,4 +1,4 @@
-use Rattle.std.proofs.Common.{◌≡◌, ◌+◌, ◌*◌, ◌^◌, ◌≤◌, ◌×◌, drop, length}
+use Rattle.std.proofs.Common.{◌≡◌, ◌+◌, ◌*◌, ◌^◌, ◌≤◌, drop, length}
 use Rattle.wasm_tree.specs.Views.{locals_in}
 use Rattle.wasm_link_rows.proofs.crowded.runs_count.Given as goal
 

@@ -11,6 +11,6 @@ loop-i-init c = kept_none c.args.numbers.now (side_of c.args.side) (module_of c.
 
 pub loop-i-preserved : goal.loop-i-preserved
 loop-i-preserved c =
-    kept_step c.args.numbers.now (side_of c.args.side) (module_of c.args.own.now) c.as_slice-body-items.result.now c.loop-i.i c.body-item.result _ _
+    kept_step c.args.numbers.now (side_of c.args.side) (module_of c.args.own.now) c.as_slice-body-items.result.now c.loop-i.i c.body-item.result c.loop-i.moved c.in_ok-moved-2.moved
     (ap (map body_of) c.as_slice-body-items.ensures) c.loop-i-test.true c.body-item.is c.loop-i.invariant
-    (subst (λ k. IsAdded (flat_map (pushed c.args.numbers.now (side_of c.args.side) k) (code_of c.body-item.result.code)) (code_of c.body-item.result.code) _ _) c.locals_count-scratch.ensures.value c.in_ok-with_body.ensures)
+    (subst (λ k. IsAdded (flat_map (pushed c.args.numbers.now (side_of c.args.side) k) (code_of c.body-item.result.code)) (code_of c.body-item.result.code) c.loop-i.moved c.in_ok-moved-2.moved) c.locals_count-scratch.ensures.value c.in_ok-moved-2.ensures)
