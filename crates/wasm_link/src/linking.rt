@@ -12,7 +12,7 @@ use crate::standing::made_is_linked;
 use std::alloc::{AllocError, Global};
 use wasm_link_bind::Numbers;
 use wasm_link_rows::{LinkFault, check};
-use wasm_link_sections::{MovedPair, lent, made};
+use wasm_link_sections::{MovedPair, lent_module, made};
 use wasm_tree::Module;
 use wasm_validate::Valid;
 
@@ -57,6 +57,6 @@ pub fn lent_with<'a>(
     ensures { IfOk result (λ m. module_of m ≡ linked numbers.now) }
 {
     made_is_linked();
-    let module = lent(alloc, numbers, moved)?;
+    let module = lent_module(alloc, numbers, moved)?;
     Ok(module)
 }

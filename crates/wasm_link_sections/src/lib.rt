@@ -10,4 +10,4 @@ mod start;
 mod values;
 
 pub use lent::{MovedPair, moved_pair};
-pub use linked::{lent, made};
+pub use linked::{lent_module, made};

@@ -32,7 +32,7 @@ pub fn made<'a>(alloc: Global, numbers: &Numbers<'a>) -> Result<Module<'a>, Allo
 }
 
 /// .. with code that is lent from a buffer.
-pub fn lent<'a>(
+pub fn lent_module<'a>(
     alloc: Global,
     numbers: &Numbers<'a>,
     moved: &'a MovedPair,
