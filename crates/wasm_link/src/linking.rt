@@ -1,6 +1,6 @@
 // The linked module of a pair.
 
-ghost use Rattle.std.specs.Prelude.{◌≡◌, None, IfOk, MatchResult};
+ghost use Rattle.std.specs.Prelude.{◌≡◌, false, None, true, IfOk, MatchResult};
 ghost use Rattle.wasm_tree.specs.Views.{module_of};
 ghost use Rattle.wasm_lang_valid.specs.Validity.{IsValidModule};
 ghost use Rattle.wasm_link_lang.specs.Refusal as plain;

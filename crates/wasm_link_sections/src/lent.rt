@@ -1,6 +1,6 @@
 // The bodies of functions, whose moved code is lent from a buffer.
 
-ghost use Rattle.std.specs.Prelude.{◌≡◌, ◌++◌, [], map, IfOk, OnOk};
+ghost use Rattle.std.specs.Prelude.{◌≡◌, ◌++◌, [], false, map, true, IfOk, OnOk};
 ghost use Rattle.sem_words.specs.Lists.{list_items};
 ghost use Rattle.wasm_tree.specs.Views.{body_of, locals_in, module_of};
 ghost use Rattle.wasm_link_move.specs.Moved.{side_of};

@@ -1,6 +1,6 @@
 // The whole linked module.
 
-ghost use Rattle.std.specs.Prelude.{◌≡◌, ◌++◌, map, IfOk};
+ghost use Rattle.std.specs.Prelude.{◌≡◌, ◌++◌, false, map, true, IfOk};
 ghost use Rattle.sem_words.specs.Lists.{list_items};
 ghost use Rattle.wasm_tree.specs.Views.{body_of, element_of, export_of, global_of, import_of, module_of, segment_of};
 ghost use Rattle.wasm_link_lang.specs.Refusal.{least_maximum};
