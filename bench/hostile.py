@@ -1,7 +1,7 @@
 #!/usr/bin/env python3
 """python3 bench/hostile.py PROGRAM [--part=N] [--commands=NAME,..] [--share=K/N] [--runs=N] [WORD ..]: what hostile inputs cost.
 
-Each family (`hostile_asm.py`, `hostile_wasm.py`, `hostile_wat.py`, and scripts below) gives an input for a count and for ten times that; both are at most
+Each family (`hostile_asm.py`, `hostile_wasm.py`, `hostile_wat.py`, pairs of modules in `hostile_pairs.py`, and scripts below) gives an input for a count and for ten times that; both are at most
 16,777,216 bytes long. Each command that takes it runs once on each, with a stack of 8 MiB (or of `STACK` MiB by the environment). A row has the status, the length, the processor
 seconds and the peak memory on the long input, and how many times as much each is as on the short one. Marks at the end of a row:
 
@@ -22,6 +22,7 @@ import tempfile
 
 import colliding
 import hostile_asm
+import hostile_pairs
 import hostile_wasm
 import hostile_wat
 
@@ -179,7 +180,7 @@ def both(words, lengths, run, runs):
 
 
 def written(names, make, n):
-    """Writes a module and a script. A process of its own does, since what is measured begins as a copy of this one."""
+    """Writes a module and a script, or two modules. A process of its own does, since what is measured begins as a copy of this one."""
     child = os.fork()
     if not child:
         for name, whole in zip(names, make(n)):
@@ -200,7 +201,7 @@ def family(program, folder, make, n, commands, runs):
     lengths = [written(names, make, count) for names, count in zip(paths, (n, 10 * n))]
     ended = False
     for command in commands:
-        files = 2 if command.startswith("run-") else 1
+        files = 2 if command == "link" or command.startswith("run-") else 1
         ended |= both(command, lengths, lambda at: measured([program, command, *paths[at][:files]]), runs)
     return ended
 
@@ -214,6 +215,7 @@ def groups():
     yield "asm.js", ASM, {name: (n, alone(make)) for name, (n, make) in hostile_asm.FAMILIES.items()}
     yield "WebAssembly", WASM, {name: (n, alone(make)) for name, (n, make) in hostile_wasm.FAMILIES.items()}
     yield "texts of WebAssembly", WAT, {name: (n, alone(make)) for name, (n, make) in hostile_wat.FAMILIES.items()}
+    yield "pairs", ["link"], hostile_pairs.FAMILIES
     yield "scripts of asm.js", ["run-asm"], ASM_SCRIPTS
     yield "scripts of WebAssembly", ["run-wasm"], WASM_SCRIPTS
 
