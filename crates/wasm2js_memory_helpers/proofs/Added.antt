@@ -22,3 +22,12 @@ pub two_first : {A : Type 0} (old one two : List A) (x y first second : A) → o
     → two ≡ old ++ (first ∷ second ∷ [])
 two_first old one two x y first second p q e f =
     q ∙ ap (λ l. l ++ y ∷ []) p ∙ append_assoc old (x ∷ []) (y ∷ []) ∙ ap (λ x. old ++ (x ∷ y ∷ [])) e ∙ ap (λ y. old ++ (first ∷ y ∷ [])) f
+
+pub four_after : {A : Type 0} (old a b c d one two three : List A) → one ≡ old ++ a → two ≡ one ++ b → three ≡ two ++ c → three ++ d ≡ old ++ (a ++ (b ++ (c ++ d)))
+four_after old a b c d one two three p q r =
+    ap (λ l. l ++ d) r
+    ∙ append_assoc two c d
+    ∙ ap (λ l. l ++ (c ++ d)) q
+    ∙ append_assoc one b (c ++ d)
+    ∙ ap (λ l. l ++ (b ++ (c ++ d))) p
+    ∙ append_assoc old a (b ++ (c ++ d))
