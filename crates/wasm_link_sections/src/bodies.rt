@@ -32,8 +32,7 @@ pub fn push_bodies<'m>(
     Ok(())
 }
 
-/// One body, with its moved code.
-pub fn moved_body<'m>(
+fn moved_body<'m>(
     alloc: Global,
     numbers: &Numbers<'_>,
     side: Side,
@@ -44,7 +43,7 @@ pub fn moved_body<'m>(
 ) -> Result<Body<'m>, AllocError>
     ensures { IfOk result (λ moved. body_of moved ≡ made.body_made numbers.now (side_of side) (module_of own.now) other i (body_of body.now)) }
 {
-    let locals = locals_count(own, i, body);
+    let locals = locals_count(alloc, own, i, body)?;
     let code = moved_code(alloc, numbers, side, locals, &body.code)?;
     Ok(Body {
         locals: locals_with(alloc, other, body)?,
@@ -72,8 +71,7 @@ fn needs_scratch(alloc: Global, other: u32, code: &Code<'_>) -> Result<bool, All
     has_indirect(alloc, code)
 }
 
-/// The locals, and one more where it is needed.
-pub fn locals_and(alloc: Global, locals: &[Run], needed: bool) -> Result<List<Run>, AllocError>
+fn locals_and(alloc: Global, locals: &[Run], needed: bool) -> Result<List<Run>, AllocError>
     ensures { IfOk result (λ list. locals_in (list_items list) ≡ locals_in locals.now ++ made.scratch_if needed) }
 {
     let mut runs = Vec::from_slice(alloc, locals)?;

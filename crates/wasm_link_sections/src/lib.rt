@@ -4,10 +4,8 @@
 mod back;
 mod bodies;
 mod front;
-mod lent;
 mod linked;
 mod start;
 mod values;
 
-pub use lent::{MovedPair, moved_pair};
-pub use linked::{lent_module, made};
+pub use linked::made;
