@@ -73,7 +73,7 @@ WIDE = {
     "globals in use": (10_000, lambda n: text(many(n, lambda i: f"x=g{i}|0;"), before=many(n, lambda i: f"var g{i}=0;"))),
     "labels beside each other": (60_000, lambda n: text(many(n, lambda i: f"a{i}:{{break a{i};}}"))),
     "functions that nothing reaches": (
-        5_000,
+        4_900,
         lambda n: functions(n, lambda i: f"function f{i}(x){{x=x|0;x=f{i * 7919 % n}(x)|0;return x|0;}}", "function e(){}return e;"),
     ),
     "tables that one function calls": (
