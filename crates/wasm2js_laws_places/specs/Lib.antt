@@ -4,3 +4,4 @@ pub mod Helped
 pub mod Worked
 pub mod Following
 pub mod PaceLaws
+pub mod Delaying

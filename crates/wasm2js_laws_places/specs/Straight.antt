@@ -7,19 +7,10 @@ use Rattle.sem_words.specs.Words.{word_of, signed_of, add_of, sub_of, mul_of, sh
 use Rattle.heap_lang.specs.declared.kind.ViewKind.{ViewKind}
 use Rattle.heap_lang.specs.declared.kind.ViewKind.TheVariants.{I8, U8, I32}
 use Rattle.heap_lang.specs.Heap.{load, store}
-use Rattle.wasm2js_translation.specs.Names.{Fixed, Name, numbered, fixed, letter, fixed_rank, spare_high, data_words, data_zeros, init, last_high}
+use Rattle.wasm2js_translation.specs.Names.{Fixed, Name, numbered, fixed, same_name, spare_high, data_words, data_zeros, init, last_high}
 use Rattle.wasm2js_translation.specs.Words.{BitOp, conjunction, disjunction, exclusion, shift_left, shift_right_signed, shift_right, Relation, equal, unequal, less, at_most, greater, at_least, Term, read, number, both, flip, sum, product, zeros, compare, choose, byte, whole, Summands, no_more, further, Simple, put, ask, tell, guard, stop, write_byte, write_whole, Action, simply, either}
 
 -- ---- words of variables
-
-abbrev pub same_fixed : Fixed → Fixed → Bool
-same_fixed f g = ((fixed_rank f).group == (fixed_rank g).group) && ((fixed_rank f).place == (fixed_rank g).place)
-
-abbrev pub same_name : Name → Name → Bool
-same_name (numbered k n) (numbered l m) = (letter k == letter l) && (n == m)
-same_name (numbered k n) (fixed g) = false
-same_name (fixed f) (numbered l m) = false
-same_name (fixed f) (fixed g) = same_fixed f g
 
 -- the word of each variable
 abbrev pub Words : Type 0

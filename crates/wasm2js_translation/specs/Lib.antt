@@ -2,6 +2,7 @@ pub mod Pairs
 pub mod Wide
 pub mod Actions
 pub mod Helpers
+pub mod Delays
 pub mod Bodies
 pub mod Rooms
 pub mod Tables

@@ -1,5 +1,5 @@
 -- The names in what WebAssembly is translated to, and how they are spelled and ordered.
-use Rattle.std.specs.Prelude.{ℕ, zero, suc, ◌+◌, ◌*◌, ◌<◌, ◌≡◌, ◌⊎◌, List, [], ◌∷◌, map, codes}
+use Rattle.std.specs.Prelude.{ℕ, zero, suc, ◌+◌, ◌*◌, ◌<◌, ◌≡◌, ◌⊎◌, Bool, false, ◌&&◌, ◌==◌, List, [], ◌∷◌, map, codes}
 use Rattle.std.specs.Int.Digits.{digits_of}
 
 -- what a numbered name is of
@@ -191,6 +191,15 @@ numbered_rank label n = rank_at 0 n
 abbrev pub rank : Name → Rank
 rank (numbered k n) = numbered_rank k n
 rank (fixed f) = fixed_rank f
+
+abbrev pub same_fixed : Fixed → Fixed → Bool
+same_fixed f g = ((fixed_rank f).group == (fixed_rank g).group) && ((fixed_rank f).place == (fixed_rank g).place)
+
+abbrev pub same_name : Name → Name → Bool
+same_name (numbered k n) (numbered l m) = (letter k == letter l) && (n == m)
+same_name (numbered k n) (fixed g) = false
+same_name (fixed f) (numbered l m) = false
+same_name (fixed f) (fixed g) = same_fixed f g
 
 -- each name of a list stands after the one before it
 abbrev pub RisesFrom : Rank → List Name → Type 0

@@ -10,12 +10,12 @@ ghost use Rattle.wasm2js_translation.specs.Worked.{text_of, tables_of, variables
 /// The four bytes from 3 past the address lie in a page where the address is at most 65529; they are
 /// read as a word where its place is a multiple of four.
 pub fn a_guarded_load()
-    ensures { text_of loading (codes "f0") ≡ codes "function f0(x0){x0=x0|0;var s0=0;s0=x0;if(s0>>>0>65529)$trap(2);if(s0+3&3)s0=$load32(s0+3|0)|0;else s0=$w[s0+3>>2]|0;return s0|0;}" }
+    ensures { text_of loading (codes "f0") ≡ codes "function f0(x0){x0=x0|0;var s0=0;if(x0>>>0>65529)$trap(2);if(x0+3&3)s0=$load32(x0+3|0)|0;else s0=$w[x0+3>>2]|0;return s0|0;}" }
 {}
 
 /// Both words of a store of 64 bits are written after one test of all eight bytes.
 pub fn an_unaligned_store()
-    ensures { text_of storing (codes "f0") ≡ codes "function f0(x0,x1,X1){x0=x0|0;x1=x1|0;X1=X1|0;var s0=0;var S0=0;var s1=0;var S1=0;s0=x0;s1=x1;S1=X1;if(s0>>>0>65528)$trap(2);if(s0&3)$store64(s0,s1,S1);else{$w[s0>>2]=s1;$w[s0+4>>2]=S1;}}" }
+    ensures { text_of storing (codes "f0") ≡ codes "function f0(x0,x1,X1){x0=x0|0;x1=x1|0;X1=X1|0;var s0=0;var S0=0;var s1=0;var S1=0;if(x0>>>0>65528)$trap(2);if(x0&3)$store64(x0,x1,X1);else{$w[x0>>2]=x1;$w[x0+4>>2]=X1;}}" }
 {}
 
 /// A branch by an index, to the inner block, whose result stands where it has to, and to the outer one,
@@ -26,7 +26,7 @@ pub fn a_branch_by_an_index()
 
 /// A sum of words of 64 bits with its carry; the high word of the result is left in `$h`.
 pub fn a_wide_sum()
-    ensures { text_of adding (codes "f0") ≡ codes "function f0(x0,X0,x1,X1){x0=x0|0;X0=X0|0;x1=x1|0;X1=X1|0;var s0=0;var S0=0;var s1=0;var S1=0;s0=x0;S0=X0;s1=x1;S1=X1;s0=s0+s1|0;S0=S0+S1+(s0>>>0<s1>>>0)|0;$h=S0;return s0|0;}" }
+    ensures { text_of adding (codes "f0") ≡ codes "function f0(x0,X0,x1,X1){x0=x0|0;X0=X0|0;x1=x1|0;X1=X1|0;var s0=0;var S0=0;var s1=0;var S1=0;s0=x0+x1|0;S0=X0+X1+(s0>>>0<x1>>>0)|0;$h=S0;return s0|0;}" }
 {}
 
 /// Calls of an entry: types of one form share a table, an entry of another type and one that isn't there
