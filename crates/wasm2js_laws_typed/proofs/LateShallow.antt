@@ -147,8 +147,8 @@ late_action_shallow : (ds : List Delayed) (a : Action) → AreLight ds → IsSha
 late_action_shallow ds (simply x) h = late_simple_shallow ds x h
 late_action_shallow ds (either t first second) h = (
   those_light _ ds h,
-  both_before _ (action_depth (either (replaced ds t) (late_arm ds first) (late_arm ds second))) _ _ (in_turn_deep (simples (written (those _ ds))) _) (written_deep _ (those_light _ ds h))
-      (two (replaced_depth ds h t) (two (late_arm_depth ds first h) (late_arm_depth ds second h))),
+  both_before _ _ _ _ (in_turn_deep (simples (written (those _ ds))) _) (written_deep _ (those_light _ ds h))
+      (two (replaced_depth ds h t) (two (late_arm_depth _ first (those_light _ ds h)) (late_arm_depth _ second (those_light _ ds h)))),
 )
 
 in_turn : (x y a b c : ℕ) → c ≤ max x y → x ≤ max 1 a → y ≤ max 1 b → c ≤ max 1 (max a b)

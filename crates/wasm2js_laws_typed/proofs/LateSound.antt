@@ -132,7 +132,7 @@ module _ (s : Scope) where
   late_action_sound ds (simply x) k h = late_simple_sound ds x k h
   late_action_sound ds (either t first second) k h = (
     in_turn_sound (simples (written (those _ ds))) _ (simples_sound _ (written_sound _ (those_sound _ ds h)))
-        ((replaced_sound ds h t k.0, late_arm_sound ds first k.1 h, late_arm_sound ds second k.2 h), tt),
+        ((replaced_sound ds h t k.0, late_arm_sound _ first k.1 (those_sound _ ds h), late_arm_sound _ second k.2 (those_sound _ ds h)), tt),
     those_sound _ ds h,
   )
 
