@@ -1,11 +1,11 @@
 -- Straight code whose words are written late is no deeper: a word that waits is as deep as the variable in whose place it stands.
-use Rattle.std.proofs.Common.{◌≡◌, ℕ, ◌+◌, ◌≤◌, max, Bool, true, false, List, [], ◌∷◌, ◌++◌, Some, refl, sym, ap, ◌∙◌, subst, arith}
+use Rattle.std.proofs.Common.{◌≡◌, ℕ, ◌+◌, ◌≤◌, max, Bool, true, false, List, [], ◌∷◌, ◌++◌, Some, refl, sym, ap, subst, arith}
 use Rattle.std.specs.Prelude.{◌&&◌, if◌then◌else◌}
 use Rattle.wasm_lang.specs.declared.types.ValType.{ValType}
 use Rattle.wasm2js_translation.specs.Names.{Name, same_name}
 use Rattle.wasm2js_translation.specs.Words.{Term, read, number, both, flip, sum, product, zeros, compare, choose, byte, whole, Summands, no_more, further, Simple, put, ask, tell, guard, stop, write_byte, write_whole, Action, simply, either}
 use Rattle.wasm2js_translation.specs.Pairs.{simples}
-use Rattle.wasm2js_translation.specs.Delays.{Delayed, is_operand, is_light, waiting, those, others, without, written, word_or, at_hand, replaced, replaced_summands, all_replaced, in_place, puts, Late, may_wait, at_once, late_simple, late_arm, late_either, late_action, late, stands, standing}
+use Rattle.wasm2js_translation.specs.Delays.{Delayed, is_operand, is_light, waiting, those, others, without, written, word_or, at_hand, replaced, replaced_summands, all_replaced, in_place, puts, Late, may_wait, at_once, late_simple, late_arm, late_action, late, stands, standing}
 use Rattle.wasm2js_laws_terms.specs.Sound.{term_depth, summands_depth, terms_depth, simple_depth, simples_depth, action_depth, actions_depth}
 use Rattle.wasm2js_laws_typed.specs.Waiting.{AreLight, LateIsShallow}
 

@@ -1,12 +1,11 @@
 -- Straight code whose words are written late may stand where the code may.
-use Rattle.std.proofs.Common.{◌≡◌, ℕ, suc, Bool, true, false, List, [], ◌∷◌, ◌++◌, length, Some, refl, sym, ap, ◌∙◌, subst, ◌≤◌}
+use Rattle.std.proofs.Common.{◌≡◌, suc, Bool, true, false, List, [], ◌∷◌, ◌++◌, length, Some, refl, sym, ap, ◌∙◌, subst, ◌≤◌}
 use Rattle.std.specs.Prelude.{if◌then◌else◌}
-use Rattle.wasm_lang.specs.declared.types.ValType.{ValType}
 use Rattle.asm_lang_valid.specs.Typing.{Scope, most_operators}
 use Rattle.wasm2js_translation.specs.Names.{Name, same_name}
-use Rattle.wasm2js_translation.specs.Words.{Term, read, number, both, flip, sum, product, zeros, compare, choose, byte, whole, Summands, no_more, further, Simple, put, ask, tell, guard, stop, write_byte, write_whole, Action, simply, either}
+use Rattle.wasm2js_translation.specs.Words.{Term, read, number, both, flip, sum, product, zeros, compare, choose, byte, whole, Summands, no_more, further, Simple, put, ask, tell, guard, stop, write_byte, write_whole, Action, simply, either, simple_statement, simple_statements, statements}
 use Rattle.wasm2js_translation.specs.Pairs.{simples}
-use Rattle.wasm2js_translation.specs.Delays.{Delayed, waiting, those, others, without, written, word_or, at_hand, replaced, replaced_summands, all_replaced, in_place, puts, Late, may_wait, at_once, late_simple, late_arm, late_either, late_action, late, stands, standing}
+use Rattle.wasm2js_translation.specs.Delays.{Delayed, waiting, those, others, without, written, word_or, at_hand, replaced, replaced_summands, all_replaced, in_place, puts, Late, may_wait, at_once, late_simple, late_arm, late_action, late, stands}
 use Rattle.wasm2js_laws_terms.specs.Sound.{IsInt, IsSound, AreSound, AllSound, IsHelper, IsSoundSimple, AreSoundSimple, IsSoundAction, AreSoundActions, some_summands, summands_length}
 use Rattle.wasm2js_laws_typed.specs.Waiting.{AreSoundWaiting, LateIsSound, WrittenIsSound, StandingIsSound}
 
@@ -150,3 +149,9 @@ written_is_sound s ds h = written_sound s ds h
 
 pub standing_sound : StandingIsSound
 standing_sound s b ts ds h = those_sound s (λ d. stands b ts d.name) ds h
+
+-- ---- words that are written, as actions
+
+pub simple_actions : (xs : List Simple) → statements (simples xs) ≡ simple_statements xs
+simple_actions [] = refl
+simple_actions (x ∷ xs) = ap (λ ss. simple_statement x ∷ ss) (simple_actions xs)
