@@ -1,10 +1,10 @@
 -- Code whose words are written late calls the helpers that the code calls.
-use Rattle.std.proofs.Common.{ℕ, Bool, true, false, List, [], ◌∷◌, ◌++◌}
+use Rattle.std.proofs.Common.{Bool, true, false, List, [], ◌∷◌, ◌++◌}
 use Rattle.std.specs.Prelude.{if◌then◌else◌}
 use Rattle.wasm2js_translation.specs.Names.{Name}
 use Rattle.wasm2js_translation.specs.Words.{Term, Simple, put, ask, tell, guard, stop, write_byte, write_whole, Action, simply, either}
 use Rattle.wasm2js_translation.specs.Pairs.{simples}
-use Rattle.wasm2js_translation.specs.Delays.{Delayed, those, others, without, written, replaced, in_place, puts, Late, may_wait, at_once, late_simple, late_arm, late_action, late}
+use Rattle.wasm2js_translation.specs.Delays.{Delayed, those, others, without, written, replaced, in_place, puts, may_wait, at_once, late_simple, late_arm, late_action, late}
 use Rattle.wasm2js_laws_places.specs.Straight.{AsksHelpers, AskHelpers, ActionAsks, ActionsAsk}
 use Rattle.wasm2js_laws_actions.specs.Laws.{LateAsksHelpers, WrittenAsksNone}
 
