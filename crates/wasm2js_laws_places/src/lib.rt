@@ -1,6 +1,7 @@
 //! From WebAssembly to asm.js: which state of WebAssembly a place of asm.js stands for, and what straight code does without asm.js.
 #![tactic(auto)]
 
+pub mod delay_laws;
 pub mod pace_laws;
 
 ghost use Rattle.std.specs.Prelude.{◌≡◌, ◌∷◌, []};
