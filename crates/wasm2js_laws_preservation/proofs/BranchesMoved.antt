@@ -4,6 +4,7 @@ use Rattle.std.specs.Prelude.{◌==◌}
 use Rattle.std.proofs.lemmas.Bool.Decides.{nat_tests, Decides-eqb}
 use Rattle.sem_words.specs.declared.word.Word.{Word}
 use Rattle.sem_words.specs.declared.js_value.JsValue.{JsValue}
+use Rattle.sem_words.specs.JsValues.{to_uint32_of}
 use Rattle.session_lang.specs.Observation.{EventPlain}
 use Rattle.wasm_lang.specs.declared.types.ValType.{ValType}
 use Rattle.wasm_lang.specs.declared.types.ValType.TheVariants.{I32, I64}
@@ -90,6 +91,11 @@ module _ (f : Function) (r : Rest) (here p : Place) where
   written words next (stops e q) h k = absurd h
   written words next (spent q) h k = absurd h
   written words next wrong h k = tt
+
+  pub write_then : (to : Name) (v : JsValue) (next : Completion → Part (Unit {0})) → AreApart p → IsHeap f.setting.bytes p.heap
+      → ((q : Place) → IsOn f.setting.bytes (with_word to (to_uint32_of v) (word_at p)) p.heap 0 p q → IsFollowed f here r (next normal q))
+      → IsFollowed f here r (and_then (write (spelled to) v) (λ y. next normal) p)
+  write_then to v next apart heap k = written (with_word to (to_uint32_of v) (word_at p)) next (write (spelled to) v p) (write_leaves f.setting.bytes to v p apart heap) k
 
   pub move_then : (to from : Name) (next : Completion → Part (Unit {0})) → AreApart p → IsHeap f.setting.bytes p.heap
       → ((q : Place) → IsOn f.setting.bytes (with_word to (word_at p from) (word_at p)) p.heap 0 p q → IsFollowed f here r (next normal q))

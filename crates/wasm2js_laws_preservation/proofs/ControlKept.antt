@@ -1,6 +1,6 @@
 -- All code is kept, by induction on its tree.
-use Rattle.std.proofs.Common.{◌≡◌, ℕ, zero, suc, ◌+◌, ◌^◌, ◌<◌, ◌≤◌, false, not, List, [], ◌∷◌, ◌++◌, length, Option, pos, refl, sym, ap, ◌∙◌, subst, arith}
-use Rattle.std.specs.Prelude.{if◌then◌else◌, ◌==◌}
+use Rattle.std.proofs.Common.{◌≡◌, ℕ, zero, suc, ◌+◌, ◌^◌, ◌<◌, ◌≤◌, false, not, List, [], ◌∷◌, ◌++◌, length, Option, pos, refl, sym, ap, ◌∙◌, subst, append_assoc, append-nil, drop, arith}
+use Rattle.std.specs.Prelude.{slice_get, if◌then◌else◌, ◌==◌}
 use Rattle.std.specs.Int.Bits.{or_zero_r}
 use Rattle.std.proofs.lemmas.Bool.Decides.{nat_tests}
 use Rattle.sem_words.specs.declared.js_value.JsValue.{JsValue}
@@ -12,7 +12,8 @@ use Rattle.asm_types.proofs.Sound.{to_uint32_lt}
 use Rattle.session_lang.specs.Observation.{EventPlain}
 use Rattle.wasm_lang.specs.declared.types.ValType.{ValType}
 use Rattle.wasm_lang.specs.declared.types.ValType.TheVariants.{I32}
-use Rattle.wasm_lang_valid.specs.Typing.{listed}
+use Rattle.wasm_lang.specs.Instructions.{Plain}
+use Rattle.wasm_lang_valid.specs.Typing.{listed, type_of}
 use Rattle.wasm_lang_exec.specs.Code.{Tree, unreachable, block, loop, if_block, br, br_if, br_table, return, call, call_indirect, plain, Trees, ε, ◌▹◌}
 use Rattle.wasm_lang_exec.specs.Reductions.{arity_of, choose}
 use Rattle.wasm_laws_sound.specs.Trees.{IsTyped}
@@ -24,7 +25,9 @@ use Rattle.wasm_laws_drive.proofs.Stepping.{block_step, if_step}
 use Rattle.asm_lang_exec.specs.Runs.{Place, Part, and_then, defined, read}
 use Rattle.asm_lang_exec.specs.Meaning.{Completion, normal}
 use Rattle.wasm2js_translation.specs.Names.{Name, numbered, operand_low, spelled}
-use Rattle.wasm2js_translation.specs.Bodies.{Aim, past, again, labels_round, label_name, signed_word, comes_to_end, stmts_of}
+use Rattle.wasm2js_translation.specs.Words.{simple_statements}
+use Rattle.wasm2js_translation.specs.Delays.{Delayed, written}
+use Rattle.wasm2js_translation.specs.Bodies.{Aim, past, again, labels_round, label_name, signed_word, comes_to_end, types_after_call, call_stmts, indirect_stmts, stmts_of}
 use Rattle.wasm2js_laws_places.specs.Following.{Rest}
 use Rattle.wasm2js_laws_actions.proofs.Parts.{chosen_followed}
 use Rattle.wasm2js_laws_places.specs.Straight.{Words}
@@ -32,11 +35,12 @@ use Rattle.wasm2js_laws_places.specs.Places.{word_at, AreApart, operands, Stays}
 use Rattle.wasm2js_laws_actions.proofs.Numbers.{is_true}
 use Rattle.wasm2js_laws_actions.proofs.Reading.{read_then}
 use Rattle.wasm2js_laws_actions.proofs.Variables.{variable_read}
-use Rattle.wasm2js_laws_preservation.specs.ControlControl.{Function, IsFair, Inside, state_at, code_sight, IsFollowed, statements_to, MayStand, under_aims, AreNested, Exits, IsKept}
-use Rattle.wasm2js_laws_preservation.specs.ControlLaws.{OpensNone, IsKeptFirst, CodeIsKept}
+use Rattle.wasm2js_laws_preservation.specs.ControlControl.{Function, IsFair, Inside, state_at, code_sight, IsFollowed, statements_to, MayStand, under_aims, AreNested, Exits, IsKept, IsKeptLate}
+use Rattle.wasm2js_laws_preservation.specs.ControlLaws.{OpensNone, IsKeptBefore, IsKeptFirst, CodeIsKept}
 use Rattle.wasm2js_laws_preservation.proofs.ControlStanding.{block_body, after_block, loop_body, after_loop, first_arm, second_arm, after_arms}
 use Rattle.wasm2js_laws_preservation.proofs.ControlStepping.{stays_itself, free_step}
 use Rattle.wasm2js_laws_preservation.proofs.ControlLabels.{nested_past, nested_again}
+use Rattle.wasm2js_laws_preservation.proofs.ControlWritten.{nothing_waits, kept_late}
 use Rattle.wasm2js_laws_preservation.proofs.ControlBlocks.{next_inside, block_exits}
 use Rattle.wasm2js_laws_preservation.proofs.ControlLoops.{turns_are_kept}
 
@@ -58,36 +62,62 @@ module _ (f : Function) (r : Rest) (n : Name) (p : Place) (first second : Part (
       (λ v a. subst (λ y. IsFollowed f p r (either_part y p)) (sym (ap signed_value (or_zero_r (to_uint32_of v) ∙ a)))
       (subst (λ c. IsFollowed f p r ((if c then first else second) p)) (sym (is_true (word_at p n) (subst (λ x. x < 2 ^ 32) a (to_uint32_lt v)))) (h (word_at p n) refl)))
 
-module _ (f : Function) (fair : IsFair f) (first_kept : (t : Tree) → OpensNone t → IsKeptFirst f t) where
-  abbrev Kept : Trees → Type 0
-  Kept code =
+module _ (f : Function) (fair : IsFair f) where
+  -- while nothing waits
+  abbrev KeptBare : Trees → Type 0
+  KeptBare code =
       (most : ℕ) (ls : List Aim) (b : ℕ) (ts after : List ValType) (around : List Surrounding) (before : Words) (next : Completion → Part (Unit {0})) → most ≤ f.bound
       → IsTyped (under_aims f.context ls) code ts after → MayStand f code b ts → AreNested ls b → Exits f most ls b after (comes_to_end code) around before next → IsKept f most code ls b ts around before next
 
-  none_kept : Kept ε
-  none_kept most ls b ts after around before next le typed stands nested ex p w i stays =
+  -- whatever waits
+  abbrev pub Kept : Trees → Type 0
+  Kept code =
+      (most : ℕ) (ls : List Aim) (b : ℕ) (ts after : List ValType) (around : List Surrounding) (before : Words) (next : Completion → Part (Unit {0})) → most ≤ f.bound
+      → IsTyped (under_aims f.context ls) code ts after → MayStand f code b ts → AreNested ls b → Exits f most ls b after (comes_to_end code) around before next → IsKeptLate f most code ls b ts around before next
+
+  -- all that waits is written before the code
+  abbrev pub WritesFirst : Trees → Type 0
+  WritesFirst code =
+      (ls : List Aim) (b : ℕ) (ts : List ValType) (ds : List Delayed)
+      → stmts_of f.setting.bytes f.cells f.context code ls b ts ds ≡ simple_statements (written ds) ++ stmts_of f.setting.bytes f.cells f.context code ls b ts []
+
+  after_written : (code : Trees) → WritesFirst code → KeptBare code → Kept code
+  after_written code is bare most ls b ts after around before next le typed stands nested ex =
+      kept_late f fair most code ls b ts around before next (bare most ls b ts after around before next le typed stands nested ex) (is ls b ts)
+
+  none_bare : KeptBare ε
+  none_bare most ls b ts after around before next le typed stands nested ex p w i stays =
       subst (λ us. IsFollowed f p (code_sight f around ε b us p w) (next normal p)) (sym typed) (ex.on refl p w i stays)
 
-  block_kept : (r : Option ValType) (body code : Trees) → Kept body → Kept code → Kept (block r body ▹ code)
-  block_kept r body code inner rest most ls b ts after around before next le typed stands nested ex p w i stays =
+  pub none_kept : Kept ε
+  none_kept = after_written ε (λ ls b ts ds. sym (append-nil (simple_statements (written ds)))) none_bare
+
+  block_bare : (r : Option ValType) (body code : Trees) → Kept body → Kept code → KeptBare (block r body ▹ code)
+  block_bare r body code inner rest most ls b ts after around before next le typed stands nested ex p w i stays =
       let base : ℕ = b + length ts in
-      let kept = rest most ls b (listed r ++ ts) after around before next le typed.1 (after_block f b r body code ts stands) nested ex in
+      let kept = rest most ls b (listed r ++ ts) after around before next le typed.1 (after_block f b r body code ts stands) nested ex [] (nothing_waits f) in
       let round : List Surrounding = in_label (operands b ts (word_at p)) (arity_of r) ε code ∷ around in
       let inside = next_inside f fair most ls b base ts r code around before next p refl stays nested kept in
-      let run = statements_to f body (past base r ∷ ls) base [] inside p in
+      let run = statements_to f body (past base r ∷ ls) base [] [] inside p in
       free_step f fair most w p (operands b ts (word_at p)) (in_block f.home around (arity_of r) ε body code) (code_sight f around (block r body ▹ code) b ts p w) (code_sight f round body base [] p w) run i
       (λ n. ap f.watch (block_step f.home around r body code (state_at f (operands b ts (word_at p)) p w n))) (λ n. refl)
       (inner most (past base r ∷ ls) base [] (listed r) round (word_at p) inside le typed.0 (block_body f b r body code ts stands) (nested_past ls b base (omega arith) nested r)
-      (block_exits f fair most ls b base ts r code around before next p refl stays nested kept after (comes_to_end code) ex (comes_to_end body)) p w i (stays_itself base (word_at p)))
+      (block_exits f fair most ls b base ts r code around before next p refl stays nested kept after (comes_to_end code) ex (comes_to_end body)) [] (nothing_waits f) p w i (stays_itself base (word_at p)))
 
-  loop_kept : (r : Option ValType) (body code : Trees) → Kept body → Kept code → Kept (loop r body ▹ code)
-  loop_kept r body code inner rest most ls b ts after around before next le typed stands nested ex p w i stays =
+  pub block_kept : (r : Option ValType) (body code : Trees) → Kept body → Kept code → Kept (block r body ▹ code)
+  block_kept r body code inner rest = after_written (block r body ▹ code) (λ ls b ts ds. refl) (block_bare r body code inner rest)
+
+  loop_bare : (r : Option ValType) (body code : Trees) → Kept body → Kept code → KeptBare (loop r body ▹ code)
+  loop_bare r body code inner rest most ls b ts after around before next le typed stands nested ex p w i stays =
       let base : ℕ = b + length ts in
-      let kept = rest most ls b (listed r ++ ts) after around before next le typed.1 (after_loop f b r body code ts stands) nested ex in
+      let kept = rest most ls b (listed r ++ ts) after around before next le typed.1 (after_loop f b r body code ts stands) nested ex [] (nothing_waits f) in
       let few = i.units in
       turns_are_kept f fair most ls b ts after r body code around before next (comes_to_end code) nested ex kept
-      (λ k round words further small exits. inner k (again base ∷ ls) base [] (listed r) round words further small typed.0 (loop_body f b r body code ts stands) (nested_again ls b base (omega arith) nested) exits)
+      (λ k round words further small exits. inner k (again base ∷ ls) base [] (listed r) round words further small typed.0 (loop_body f b r body code ts stands) (nested_again ls b base (omega arith) nested) exits [] (nothing_waits f))
       f.bound (omega arith) p w i stays (omega (arith, few, le))
+
+  pub loop_kept : (r : Option ValType) (body code : Trees) → Kept body → Kept code → Kept (loop r body ▹ code)
+  loop_kept r body code inner rest = after_written (loop r body ▹ code) (λ ls b ts ds. refl) (loop_bare r body code inner rest)
 
   module _ (r : Option ValType) (x y code : Trees) (x_kept : Kept x) (y_kept : Kept y) (rest : Kept code) (most : ℕ) (ls : List Aim) (b : ℕ) (us after : List ValType)
       (around : List Surrounding) (before : Words) (next : Completion → Part (Unit {0})) (le : most ≤ f.bound)
@@ -98,7 +128,7 @@ module _ (f : Function) (fair : IsFair f) (first_kept : (t : Tree) → OpensNone
     base = b + length us
 
     kept : IsKept f most code ls b (listed r ++ us) around before next
-    kept = rest most ls b (listed r ++ us) after around before next le typed (after_arms f b r x y code us stands) nested ex
+    kept = rest most ls b (listed r ++ us) after around before next le typed (after_arms f b r x y code us stands) nested ex [] (nothing_waits f)
 
     abbrev round : List Surrounding
     round = in_label (operands b us (word_at p)) (arity_of r) ε code ∷ around
@@ -108,18 +138,18 @@ module _ (f : Function) (fair : IsFair f) (first_kept : (t : Tree) → OpensNone
 
     -- one of the two arms
     arm : (z : Trees) → Kept z → IsTyped (under_aims f.context (past base r ∷ ls)) z [] (listed r) → MayStand f z base []
-        → IsFollowed f p (code_sight f round z base [] p w) (statements_to f z (past base r ∷ ls) base [] inside p)
+        → IsFollowed f p (code_sight f round z base [] p w) (statements_to f z (past base r ∷ ls) base [] [] inside p)
     arm z z_kept z_typed z_stands =
         z_kept most (past base r ∷ ls) base [] (listed r) round (word_at p) inside le z_typed z_stands (nested_past ls b base (omega arith) nested r)
-        (block_exits f fair most ls b base us r code around before next p refl stays nested kept after (comes_to_end code) ex (comes_to_end z)) p w i (stays_itself base (word_at p))
+        (block_exits f fair most ls b base us r code around before next p refl stays nested kept after (comes_to_end code) ex (comes_to_end z)) [] (nothing_waits f) p w i (stays_itself base (word_at p))
 
     abbrev arms : ℕ → Part (Unit {0})
-    arms n = if not (n == 0) then statements_to f x (past base r ∷ ls) base [] inside else statements_to f y (past base r ∷ ls) base [] inside
+    arms n = if not (n == 0) then statements_to f x (past base r ∷ ls) base [] [] inside else statements_to f y (past base r ∷ ls) base [] [] inside
 
     chosen : (n : ℕ) → IsFollowed f p (code_sight f round (choose n x y) base [] p w) (arms n p)
     chosen zero = arm y y_kept y_typed (second_arm f b r x y code us stands)
     chosen (suc n) =
-        subst (λ c. IsFollowed f p (code_sight f round x base [] p w) ((if not c then statements_to f x (past base r ∷ ls) base [] inside else statements_to f y (past base r ∷ ls) base [] inside) p))
+        subst (λ c. IsFollowed f p (code_sight f round x base [] p w) ((if not c then statements_to f x (past base r ∷ ls) base [] [] inside else statements_to f y (past base r ∷ ls) base [] [] inside) p))
         (sym (not_zero n)) (arm x x_kept x_typed (first_arm f b r x y code us stands))
 
     abbrev test : ℕ
@@ -134,36 +164,62 @@ module _ (f : Function) (fair : IsFair f) (first_kept : (t : Tree) → OpensNone
         (λ j. ap f.watch (if_step f.home around r x y code (state_at f (operands b (I32 ∷ us) (word_at p)) p w j))) (λ j. refl)
         (subst (λ m. IsFollowed f p (code_sight f round (choose m x y) base [] p w) (arms n p)) e (chosen n))
 
-    arms_kept : IsFollowed f p (code_sight f around (if_block r x y ▹ code) b (I32 ∷ us) p w) (statements_to f (if_block r x y ▹ code) ls b (I32 ∷ us) next p)
+    arms_kept : IsFollowed f p (code_sight f around (if_block r x y ▹ code) b (I32 ∷ us) p w) (statements_to f (if_block r x y ▹ code) ls b (I32 ∷ us) [] next p)
     arms_kept =
         subst (λ (run : Part (Unit {0})). IsFollowed f p (code_sight f around (if_block r x y ▹ code) b (I32 ∷ us) p w) (run p))
-        (sym (chosen_followed f.calls f.scope f.bound inside (label_name (labels_round ls) ∷ []) (signed_word base) (stmts_of f.setting.bytes f.cells f.context x (past base r ∷ ls) base []) (stmts_of f.setting.bytes f.cells f.context y (past base r ∷ ls) base [])))
-        (decided_by f (code_sight f around (if_block r x y ▹ code) b (I32 ∷ us) p w) (numbered operand_low base) p (statements_to f x (past base r ∷ ls) base [] inside)
-        (statements_to f y (past base r ∷ ls) base [] inside) i.apart both_arms)
+        (sym (chosen_followed f.calls f.scope f.bound inside (label_name (labels_round ls) ∷ []) (signed_word base) (stmts_of f.setting.bytes f.cells f.context x (past base r ∷ ls) base [] []) (stmts_of f.setting.bytes f.cells f.context y (past base r ∷ ls) base [] [])))
+        (decided_by f (code_sight f around (if_block r x y ▹ code) b (I32 ∷ us) p w) (numbered operand_low base) p (statements_to f x (past base r ∷ ls) base [] [] inside)
+        (statements_to f y (past base r ∷ ls) base [] [] inside) i.apart both_arms)
 
-  if_kept : (r : Option ValType) (x y code : Trees) → Kept x → Kept y → Kept code → Kept (if_block r x y ▹ code)
-  if_kept r x y code x_kept y_kept rest most ls b ts after around before next le typed stands nested ex =
+  if_bare : (r : Option ValType) (x y code : Trees) → Kept x → Kept y → Kept code → KeptBare (if_block r x y ▹ code)
+  if_bare r x y code x_kept y_kept rest most ls b ts after around before next le typed stands nested ex =
       let stands' = subst (λ ts. MayStand f (if_block r x y ▹ code) b ts) typed.1 stands in
       subst (λ ts. IsKept f most (if_block r x y ▹ code) ls b ts around before next) (sym typed.1)
       (λ p w i stays. arms_kept r x y code x_kept y_kept rest most ls b typed.0 after around before next le typed.2 typed.3 typed.4 stands' nested ex p w i stays)
 
-  first_of_all : (t : Tree) (code : Trees) → OpensNone t → Kept code → Kept (t ▹ code)
-  first_of_all t code none rest most ls b ts after around before next le typed stands nested ex =
-      first_kept t none most code ls b ts after around before next le typed stands nested ex (λ us typed' stands' ex'. rest most ls b us after around before next le typed' stands' nested ex')
+  pub if_kept : (r : Option ValType) (x y code : Trees) → Kept x → Kept y → Kept code → Kept (if_block r x y ▹ code)
+  if_kept r x y code x_kept y_kept rest = after_written (if_block r x y ▹ code) (λ ls b ts ds. refl) (if_bare r x y code x_kept y_kept rest)
 
-  all_kept : (code : Trees) → Kept code
-  all_kept ε = none_kept
-  all_kept (block r body ▹ code) = block_kept r body code (all_kept body) (all_kept code)
-  all_kept (loop r body ▹ code) = loop_kept r body code (all_kept body) (all_kept code)
-  all_kept (if_block r x y ▹ code) = if_kept r x y code (all_kept x) (all_kept y) (all_kept code)
-  all_kept (unreachable ▹ code) = first_of_all unreachable code tt (all_kept code)
-  all_kept (br k ▹ code) = first_of_all (br k) code tt (all_kept code)
-  all_kept (br_if k ▹ code) = first_of_all (br_if k) code tt (all_kept code)
-  all_kept (br_table ks d ▹ code) = first_of_all (br_table ks d) code tt (all_kept code)
-  all_kept (return ▹ code) = first_of_all return code tt (all_kept code)
-  all_kept (call g ▹ code) = first_of_all (call g) code tt (all_kept code)
-  all_kept (call_indirect t ▹ code) = first_of_all (call_indirect t) code tt (all_kept code)
-  all_kept (plain i ▹ code) = first_of_all (plain i) code tt (all_kept code)
+  -- an instruction that opens no block, plain or not
+
+  pub plain_kept : (p : Plain) (code : Trees) → IsKeptFirst f (plain p) → Kept code → Kept (plain p ▹ code)
+  plain_kept p code first rest most ls b ts after around before next le typed stands nested ex =
+      first most code ls b ts after around before next le typed stands nested ex (λ us typed' stands' ex'. rest most ls b us after around before next le typed' stands' nested ex')
+
+  other_bare : (t : Tree) (code : Trees) → IsKeptBefore IsKept f t → Kept code → KeptBare (t ▹ code)
+  other_bare t code first rest most ls b ts after around before next le typed stands nested ex =
+      first most code ls b ts after around before next le typed stands nested ex
+      (λ us typed' stands' ex'. rest most ls b us after around before next le typed' stands' nested ex' [] (nothing_waits f))
+
+  pub other_kept : (t : Tree) (code : Trees) → WritesFirst (t ▹ code) → IsKeptBefore IsKept f t → Kept code → Kept (t ▹ code)
+  other_kept t code is first rest = after_written (t ▹ code) is (other_bare t code first rest)
+
+  -- a call, whose statements may be several
+  pub call_kept : (g : ℕ) (code : Trees) → IsKeptFirst f (call g) → Kept code → Kept (call g ▹ code)
+  call_kept g code first rest =
+      other_kept (call g) code
+      (λ ls b ts ds. append_assoc (simple_statements (written ds)) (call_stmts g b ts (type_of f.context g)) (stmts_of f.setting.bytes f.cells f.context code ls b (types_after_call (type_of f.context g) ts) [])) first rest
+
+  pub entry_kept : (t : ℕ) (code : Trees) → IsKeptFirst f (call_indirect t) → Kept code → Kept (call_indirect t ▹ code)
+  entry_kept t code first rest =
+      other_kept (call_indirect t) code
+      (λ ls b ts ds. append_assoc (simple_statements (written ds)) (indirect_stmts f.cells f.context.types b ts (slice_get f.context.types t))
+      (stmts_of f.setting.bytes f.cells f.context code ls b (types_after_call (slice_get f.context.types t) (drop 1 ts)) [])) first rest
+
+module _ (f : Function) (fair : IsFair f) (first_kept : (t : Tree) → OpensNone t → IsKeptFirst f t) where
+  all_kept : (code : Trees) → Kept f fair code
+  all_kept ε = none_kept f fair
+  all_kept (block r body ▹ code) = block_kept f fair r body code (all_kept body) (all_kept code)
+  all_kept (loop r body ▹ code) = loop_kept f fair r body code (all_kept body) (all_kept code)
+  all_kept (if_block r x y ▹ code) = if_kept f fair r x y code (all_kept x) (all_kept y) (all_kept code)
+  all_kept (unreachable ▹ code) = other_kept f fair unreachable code (λ ls b ts ds. refl) (first_kept unreachable tt) (all_kept code)
+  all_kept (br k ▹ code) = other_kept f fair (br k) code (λ ls b ts ds. refl) (first_kept (br k) tt) (all_kept code)
+  all_kept (br_if k ▹ code) = other_kept f fair (br_if k) code (λ ls b ts ds. refl) (first_kept (br_if k) tt) (all_kept code)
+  all_kept (br_table ks d ▹ code) = other_kept f fair (br_table ks d) code (λ ls b ts ds. refl) (first_kept (br_table ks d) tt) (all_kept code)
+  all_kept (return ▹ code) = other_kept f fair return code (λ ls b ts ds. refl) (first_kept return tt) (all_kept code)
+  all_kept (call g ▹ code) = call_kept f fair g code (first_kept (call g) tt) (all_kept code)
+  all_kept (call_indirect t ▹ code) = entry_kept f fair t code (first_kept (call_indirect t) tt) (all_kept code)
+  all_kept (plain p ▹ code) = plain_kept f fair p code (first_kept (plain p) tt) (all_kept code)
 
 pub code_is_kept : CodeIsKept
 code_is_kept f fair first_kept most code = all_kept f fair first_kept code most

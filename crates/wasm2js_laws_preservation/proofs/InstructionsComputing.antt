@@ -1,5 +1,5 @@
 -- An instruction that computes, reads or writes, and its code.
-use Rattle.std.proofs.Common.{◌≡◌, ℕ, ◌≤◌, true, false, List, [], ◌∷◌, ◌++◌, drop, refl, sym, ap, ◌∙◌, subst, arith}
+use Rattle.std.proofs.Common.{◌≡◌, ℕ, ◌≤◌, true, false, List, ◌∷◌, ◌++◌, drop, refl, sym, ap, ◌∙◌, subst, arith}
 use Rattle.std.proofs.Math.Path.{fun_ext}
 use Rattle.std.specs.List.{AllByRecursion}
 use Rattle.sem_words.specs.declared.word.Word.{Word}
@@ -25,19 +25,26 @@ use Rattle.asm_lang_exec.specs.Values.{Calls}
 use Rattle.asm_lang_exec.specs.Meaning.{Completion, normal, exec_all}
 use Rattle.asm_laws_continuation.specs.Laws.{AllFollow}
 use Rattle.asm_laws_continuation.specs.Following.{unless_left_to}
-use Rattle.wasm2js_translation.specs.Words.{stmts_in, statements}
+use Rattle.wasm2js_translation.specs.Words.{Action, stmts_in, statements}
+use Rattle.wasm2js_translation.specs.Delays.{Delayed, Late, late, standing}
 use Rattle.wasm2js_translation.specs.Bodies.{Aim, after_plain, stmts_of}
 use Rattle.wasm2js_laws_terms.specs.Sound.{AreSoundActions}
 use Rattle.wasm2js_laws_places.specs.Following.{Rest}
 use Rattle.wasm2js_laws_places.proofs.Paced.{stands_still}
 use Rattle.wasm2js_laws_places.specs.Straight.{Words, Helping, Outcome, goes, stops, run_actions, actions_units}
 use Rattle.wasm2js_laws_places.specs.Places.{word_at, operands, locals_of, store_with, store_of, IsHeap, IsReply, Stays}
+use Rattle.wasm2js_laws_places.specs.Delaying.{seen, AreWaiting, IsSame}
+use Rattle.wasm2js_laws_typed.specs.Waiting.{AreSoundWaiting}
 use Rattle.wasm2js_laws_places.specs.Helped.{IsOn, IsTrap, IsShort, Does, AreHelpers}
 use Rattle.wasm2js_laws_actions.proofs.Doing.{apart_kept}
 use Rattle.wasm2js_laws_actions.proofs.Executed.{actions_are_done, actions_are_followed}
-use Rattle.wasm2js_laws_preservation.specs.ControlControl.{Function, IsFair, MayStand, Inside, state_at, code_sight, IsFollowed, statements_to, IsKept}
+use Rattle.wasm2js_laws_preservation.specs.ControlControl.{Function, IsFair, MayStand, Inside, MayWait, seen_at, state_at, late_sight, IsFollowed, statements_to, IsKeptWhile, IsKeptLate}
 use Rattle.wasm2js_laws_typed.specs.Laws.{IsFormed}
 use Rattle.wasm2js_laws_preservation.specs.ControlLaws.{IsKeptFirst}
+use Rattle.wasm2js_laws_places.proofs.Delayed.{late_is_alike, standing_is_seen}
+use Rattle.wasm2js_laws_typed.proofs.LateSound.{late_sound, standing_sound}
+use Rattle.wasm2js_laws_actions.proofs.LateAsking.{late_asks_helpers}
+use Rattle.wasm2js_laws_preservation.proofs.ControlSeen.{seen_are_words, locals_seen, store_seen}
 use Rattle.wasm2js_laws_preservation.proofs.ControlStepping.{appended, stays_on, stands, step, no_step}
 use Rattle.wasm2js_laws_preservation.specs.InstructionsPlain.{IsAlike, IsPlain, PlainIs, code_of}
 use Rattle.wasm2js_laws_preservation.specs.InstructionsLaws.{PlainsAreKept}
@@ -70,32 +77,58 @@ state_on f words heap u p q values w n on =
     ∙ ap (λ h. at values (locals_of f.context.locals (word_at q)) (store_with f.setting (word_at q) h p.replies w) n) (sym on.has_heap)
     ∙ ap (λ r. at values (locals_of f.context.locals (word_at q)) (store_with f.setting (word_at q) q.heap r w) n) (sym on.replies)
 
-module _ (f : Function) (fair : IsFair f) (helping : Helping) (most b : ℕ) (us : List ValType) (code : Trees) (ls : List Aim) (around : List Surrounding) (before : Words)
-    (next : Completion → Part (Unit {0})) (rest : IsKept f most code ls b us around before next) (p : Place) (w : List EventPlain) (i : Inside f most w p) (stays : Stays b before (word_at p)) where
-  abbrev then_rest : Completion → Part (Unit {0})
-  then_rest d = unless_left_to d (statements_to f code ls b us) next
+-- what straight code comes to, where these words wait at its end and count as written
+abbrev outcome_seen : List Delayed → Outcome → Outcome
+outcome_seen ds (goes words heap) = goes (seen ds words heap) heap
+outcome_seen ds (stops kind heap) = stops kind heap
 
-  -- what is left of the session, which goes on from the effect
-  abbrev goes_on : Effect → Rest
-  goes_on e n = f.watch (after e (state_at f [] p w n) (goes_with f.home around code))
+seen_is : (ds : List Delayed) (o o' : Outcome) → IsSame ds o o' → o ≡ outcome_seen ds o'
+seen_is ds (goes words heap) (goes words' heap') h = let e = h.0 in let g = h.1 in cc (e, g)
+seen_is ds (goes words heap) (stops kind heap') h = absurd h
+seen_is ds (stops kind heap) (goes words heap') h = absurd h
+seen_is ds (stops kind heap) (stops kind' heap') h = let e = h.0 in let g = h.1 in cc (e, g)
+
+-- from a place with these words to those that wait after the code
+module _ (f : Function) (fair : IsFair f) (helping : Helping) (most b : ℕ) (us : List ValType) (code : Trees) (ls : List Aim) (around : List Surrounding) (before words : Words)
+    (next : Completion → Part (Unit {0})) (rest : IsKeptLate f most code ls b us around before next) (later : List Delayed) (may : MayWait f later)
+    (p : Place) (w : List EventPlain) (i : Inside f most w p) (stays : Stays b before words) where
+  -- what may be read still
+  abbrev ds : List Delayed
+  ds = standing b us later
+
+  may_stand : MayWait f ds
+  may_stand = record { waiting = (standing_is_seen b us later (word_at p) p.heap may.waiting).0; sound = standing_sound f.scope b us later may.sound }
+
+  abbrev then_rest : Completion → Part (Unit {0})
+  then_rest d = unless_left_to d (statements_to f code ls b us ds) next
 
   -- the rest, from the place after the code
-  on_from : (words : Words) (heap : List ℕ) (u : ℕ) (q : Place) → IsOn f.setting.bytes words heap u p q → Stays b (word_at p) words → drop f.setting.bytes heap ≡ drop f.setting.bytes p.heap
-      → IsFollowed f q (code_sight f around code b us q w) (then_rest normal q)
-  on_from words heap u q on s same =
-      rest q w (inside_on f most w words heap u p q on same i)
-      (stays_on b b b before (word_at p) (word_at q) (omega arith) (omega arith) stays (subst (λ (v : Words). Stays b (word_at p) v) (sym (fun_ext on.has_words)) s))
+  on_from : (words' : Words) (heap : List ℕ) (u : ℕ) (q : Place) → IsOn f.setting.bytes words' heap u p q → Stays b words (seen later words' heap) → drop f.setting.bytes heap ≡ drop f.setting.bytes p.heap
+      → IsFollowed f q (late_sight f around code b us ds q w) (then_rest normal q)
+  on_from words' heap u q on s same =
+      let z : Words = seen later words' heap in
+      let stood = (standing_is_seen b us later words' heap may.waiting).2 in
+      let kept = stays_on b b b before z (seen ds words' heap) (omega arith) (omega arith) (stays_on b b b before words z (omega arith) (omega arith) stays s) stood in
+      rest ds may_stand q w (inside_on f most w words' heap u p q on same i)
+      (subst (λ heap. Stays b before (seen ds (word_at q) heap)) (sym on.has_heap) (subst (λ (v : Words). Stays b before (seen ds v heap)) (sym (fun_ext on.has_words)) kept))
+
+  -- the operands that stand there
+  operands_on : (words' : Words) (heap : List ℕ) (u : ℕ) (q : Place) → IsOn f.setting.bytes words' heap u p q → operands b us (seen later words' heap) ≡ operands b us (seen_at ds q)
+  operands_on words' heap u q on =
+      sym (standing_is_seen b us later words' heap may.waiting).1
+      ∙ ap (λ (v : Words). operands b us (seen ds v heap)) (sym (fun_ext on.has_words))
+      ∙ ap (λ heap. operands b us (seen ds (word_at q) heap)) (sym on.has_heap)
 
   -- the state that an effect leaves is that of the place after the code
-  left_at : (values locals : List Word) (store : Store) (words : Words) (heap : List ℕ) (u : ℕ) (q : Place) → IsOn f.setting.bytes words heap u p q → values ≡ operands b us words
-      → locals ≡ locals_of f.context.locals words → store ≡ store_with f.setting words heap p.replies w
-      → (n : ℕ) → f.watch (goes_with f.home around code (record { values = values; locals = locals; store = store; left = n })) ≡ code_sight f around code b us q w n
-  left_at values locals store words heap u q on a c d n =
-      ap (λ vs. f.watch (goes_with f.home around code (record { values = vs; locals = locals; store = store; left = n }))) a
-      ∙ ap (λ vs. f.watch (goes_with f.home around code (record { values = operands b us words; locals = vs; store = store; left = n }))) c
-      ∙ ap (λ s. f.watch (goes_with f.home around code (record { values = operands b us words; locals = locals_of f.context.locals words; store = s; left = n }))) d
-      ∙ ap (λ t. f.watch (goes_with f.home around code t)) (state_on f words heap u p q (operands b us words) w n on)
-      ∙ ap (λ (v : Words). f.watch (goes_with f.home around code (state_at f (operands b us v) q w n))) (sym (fun_ext on.has_words))
+  left_at : (values locals : List Word) (store : Store) (words' : Words) (heap : List ℕ) (u : ℕ) (q : Place) → IsOn f.setting.bytes words' heap u p q → values ≡ operands b us (seen later words' heap)
+      → locals ≡ locals_of f.context.locals (seen later words' heap) → store ≡ store_with f.setting (seen later words' heap) heap p.replies w
+      → (n : ℕ) → f.watch (goes_with f.home around code (record { values = values; locals = locals; store = store; left = n })) ≡ late_sight f around code b us ds q w n
+  left_at values locals store words' heap u q on a c d n =
+      let there : List Word = operands b us (seen_at ds q) in
+      ap (λ vs. f.watch (goes_with f.home around code (record { values = vs; locals = locals; store = store; left = n }))) (a ∙ operands_on words' heap u q on)
+      ∙ ap (λ vs. f.watch (goes_with f.home around code (record { values = there; locals = vs; store = store; left = n }))) (c ∙ locals_seen f later words' heap p.replies w may.waiting)
+      ∙ ap (λ s. f.watch (goes_with f.home around code (record { values = there; locals = locals_of f.context.locals words'; store = s; left = n }))) (d ∙ store_seen f later words' heap p.replies w may.waiting)
+      ∙ ap (λ t. f.watch (goes_with f.home around code t)) (state_on f words' heap u p q there w n on)
 
   -- ---- the cases of an effect, of what the code comes to, and of a run of its statements
 
@@ -106,18 +139,18 @@ module _ (f : Function) (fair : IsFair f) (helping : Helping) (most b : ℕ) (us
     abbrev Effects : Effect → Type 0
     Effects e = (n : ℕ) → f.watch (go (state_at f values p w n)) ≡ f.watch (after e (state_at f values p w n) (goes_with f.home around code))
 
-    paid_case : (e : Effect) (o : Outcome) (run : Run Completion) (u : ℕ) → u ≤ f.pace → Effects e → IsAlike f helping b us (word_at p) p.heap p.replies w e o → Does f.setting.bytes o u p run
-        → IsFollowed f p r (runs.after run then_rest)
-    paid_case (machine.goes vs lo st) (goes words heap) (runs.goes d q) u le on a x =
+    paid_case : (e : Effect) (o : Outcome) (run : Run Completion) (u : ℕ) → u ≤ f.pace → Effects e → IsAlike f helping b us words p.heap p.replies w e (outcome_seen later o)
+        → Does f.setting.bytes o u p run → IsFollowed f p r (runs.after run then_rest)
+    paid_case (machine.goes vs lo st) (goes words' heap) (runs.goes d q) u le on a x =
         let left = x.1.left in
         subst (λ d. IsFollowed f p r (then_rest d q)) (sym x.0)
-        (step f fair most w p q values go r (code_sight f around code b us q w) (then_rest normal q) i starts u le (sym left) x.1.events
-        (λ n. on n ∙ left_at vs lo st words heap u q x.1 a.0 a.1 a.2 n) (on_from words heap u q x.1 a.3 a.4))
-    paid_case (machine.goes vs lo st) (goes words heap) (runs.stops e q) u le on a x = absurd x
-    paid_case (machine.goes vs lo st) (goes words heap) (spent q) u le on a x = out_of_units u q le x
-    paid_case (machine.goes vs lo st) (goes words heap) wrong u le on a x = tt
+        (step f fair most w p q values go r (late_sight f around code b us ds q w) (then_rest normal q) i starts u le (sym left) x.1.events
+        (λ n. on n ∙ left_at vs lo st words' heap u q x.1 a.0 a.1 a.2 n) (on_from words' heap u q x.1 a.3 a.4))
+    paid_case (machine.goes vs lo st) (goes words' heap) (runs.stops e q) u le on a x = absurd x
+    paid_case (machine.goes vs lo st) (goes words' heap) (spent q) u le on a x = out_of_units u q le x
+    paid_case (machine.goes vs lo st) (goes words' heap) wrong u le on a x = tt
     paid_case (machine.goes vs lo st) (stops k heap) run u le on a x = absurd a
-    paid_case (machine.traps kind) (goes words heap) run u le on a x = absurd a
+    paid_case (machine.traps kind) (goes words' heap) run u le on a x = absurd a
     paid_case (machine.traps kind) (stops k heap) (runs.goes d q) u le on a x = absurd x
     paid_case (machine.traps kind) (stops k heap) (runs.stops e q) u le on a x = record {
       cost = 1;
@@ -126,117 +159,152 @@ module _ (f : Function) (fair : IsFair f) (helping : Helping) (most b : ℕ) (us
     }
     paid_case (machine.traps kind) (stops k heap) (spent q) u le on a x = out_of_units u q le x
     paid_case (machine.traps kind) (stops k heap) wrong u le on a x = tt
-    paid_case machine.sticks (goes words heap) run u le on a x = absurd a
+    paid_case machine.sticks (goes words' heap) run u le on a x = absurd a
     paid_case machine.sticks (stops k heap) run u le on a x = absurd a
 
   -- a constant
   free_case : (r : Rest) (vs lo : List Word) (st : Store) (o : Outcome) (run : Run Completion) (u : ℕ) → u ≡ 0
       → ((n : ℕ) → r n ≡ f.watch (goes_with f.home around code (record { values = vs; locals = lo; store = st; left = n })))
-      → IsAlike f helping b us (word_at p) p.heap p.replies w (machine.goes vs lo st) o → Does f.setting.bytes o u p run → IsFollowed f p r (runs.after run then_rest)
-  free_case r vs lo st (goes words heap) (runs.goes d q) u none on a x =
+      → IsAlike f helping b us words p.heap p.replies w (machine.goes vs lo st) (outcome_seen later o) → Does f.setting.bytes o u p run → IsFollowed f p r (runs.after run then_rest)
+  free_case r vs lo st (goes words' heap) (runs.goes d q) u none on a x =
       let left = x.1.left in
       subst (λ d. IsFollowed f p r (then_rest d q)) (sym x.0)
       (counts_alike f p q r (then_rest normal q) (omega (arith, left, none)) x.1.events
-      (no_step f fair q r (code_sight f around code b us q w) (then_rest normal q) (λ n. on n ∙ left_at vs lo st words heap u q x.1 a.0 a.1 a.2 n) (on_from words heap u q x.1 a.3 a.4)))
-  free_case r vs lo st (goes words heap) (runs.stops e q) u none on a x = absurd x
-  free_case r vs lo st (goes words heap) (spent q) u none on a x = let few = x.few in absurd (omega (arith, few, none))
-  free_case r vs lo st (goes words heap) wrong u none on a x = tt
+      (no_step f fair q r (late_sight f around code b us ds q w) (then_rest normal q) (λ n. on n ∙ left_at vs lo st words' heap u q x.1 a.0 a.1 a.2 n) (on_from words' heap u q x.1 a.3 a.4)))
+  free_case r vs lo st (goes words' heap) (runs.stops e q) u none on a x = absurd x
+  free_case r vs lo st (goes words' heap) (spent q) u none on a x = let few = x.few in absurd (omega (arith, few, none))
+  free_case r vs lo st (goes words' heap) wrong u none on a x = tt
   free_case r vs lo st (stops k heap) run u none on a x = absurd a
 
 -- ---- the instruction in its code
 
 module _ (f : Function) (fair : IsFair f) (calls : Calls) (follow : AllFollow calls f.calls) (helping : Helping) (helpers : AreHelpers f.scope calls f.bound f.setting.bytes helping)
-    (ins : Plain) (most : ℕ) (code : Trees) (ls : List Aim) (b : ℕ) (ts us : List ValType) (around : List Surrounding) (before : Words) (next : Completion → Part (Unit {0}))
-    (small : most ≤ f.bound) (is : IsPlain f helping ins b ts us) (sound : AreSoundActions f.scope (code_of f helping ins b ts)) (rest : IsKept f most code ls b us around before next)
-    (p : Place) (w : List EventPlain) (i : Inside f most w p) (stays : Stays b before (word_at p)) where
+    (ins : Plain) (most : ℕ) (code : Trees) (ls : List Aim) (b : ℕ) (ts us : List ValType) (ds : List Delayed) (around : List Surrounding) (before : Words) (next : Completion → Part (Unit {0}))
+    (small : most ≤ f.bound) (is : IsPlain f helping ins b ts us) (sound : AreSoundActions f.scope (code_of f helping ins b ts)) (may : MayWait f ds) (rest : IsKeptLate f most code ls b us around before next)
+    (p : Place) (w : List EventPlain) (i : Inside f most w p) (stays : Stays b before (seen_at ds p)) where
   -- the types afterwards, as the translation follows them
   abbrev then_types : List ValType
   then_types = after_plain f.context ins ts
 
-  kept : IsKept f most code ls b then_types around before next
-  kept = subst (λ us. IsKept f most code ls b us around before next) (sym is.types) rest
+  kept : IsKeptLate f most code ls b then_types around before next
+  kept = subst (λ us. IsKeptLate f most code ls b us around before next) (sym is.types) rest
+
+  -- the words at which the instruction's code does what it does
+  abbrev words : Words
+  words = seen_at ds p
+
+  abbrev at_once : List Action
+  at_once = code_of f helping ins b ts
+
+  abbrev whole : Late
+  whole = late ds at_once
 
   abbrev effect : Effect
-  effect = do_plain ins (operands b ts (word_at p)) (locals_of f.context.locals (word_at p)) (store_of f.setting p w)
+  effect = do_plain ins (operands b ts words) (locals_of f.context.locals (word_at p)) (store_of f.setting p w)
 
   abbrev outcome : Outcome
-  outcome = run_actions helping (code_of f helping ins b ts) (word_at p) p.heap
+  outcome = run_actions helping whole.now (word_at p) p.heap
 
   abbrev units : ℕ
-  units = actions_units helping (code_of f helping ins b ts) (word_at p) p.heap
+  units = actions_units helping whole.now (word_at p) p.heap
 
-  alike : IsAlike f helping b then_types (word_at p) p.heap p.replies w effect outcome
+  -- what is written late does the same
+  alike_late : AreWaiting whole.later × IsSame whole.later (run_actions helping at_once words p.heap) outcome × (units ≡ actions_units helping at_once words p.heap)
+  alike_late = late_is_alike helping ds at_once (word_at p) p.heap may.waiting
+
+  sound_late : AreSoundActions f.scope whole.now × AreSoundWaiting f.scope whole.later
+  sound_late = late_sound f.scope ds at_once sound may.sound
+
+  may_later : MayWait f whole.later
+  may_later = record { waiting = alike_late.0; sound = sound_late.1 }
+
+  same_effect : do_plain ins (operands b ts words) (locals_of f.context.locals words) (store_with f.setting words p.heap p.replies w) ≡ effect
+  same_effect =
+      ap (λ ls. do_plain ins (operands b ts words) ls (store_with f.setting words p.heap p.replies w)) (locals_seen f ds (word_at p) p.heap p.replies w may.waiting)
+      ∙ ap (do_plain ins (operands b ts words) (locals_of f.context.locals (word_at p))) (store_seen f ds (word_at p) p.heap p.replies w may.waiting)
+
+  alike : IsAlike f helping b then_types words p.heap p.replies w effect (outcome_seen whole.later outcome)
   alike =
-      subst (λ us. IsAlike f helping b us (word_at p) p.heap p.replies w effect outcome) (sym is.types)
-      (is.alike (word_at p) p.heap p.replies w (are_words p) i.world.is_heap)
+      subst (λ o. IsAlike f helping b then_types words p.heap p.replies w effect o) (seen_is whole.later (run_actions helping at_once words p.heap) outcome alike_late.1)
+      (subst (λ e. IsAlike f helping b then_types words p.heap p.replies w e (run_actions helping at_once words p.heap)) same_effect
+      (subst (λ us. IsAlike f helping b us words p.heap p.replies w (do_plain ins (operands b ts words) (locals_of f.context.locals words) (store_with f.setting words p.heap p.replies w)) (run_actions helping at_once words p.heap)) (sym is.types)
+      (is.alike words p.heap p.replies w (seen_are_words ds (word_at p) p.heap may.waiting (are_words p)) i.world.is_heap)))
+
+  paid : units ≤ f.pace
+  paid = subst (λ u. u ≤ f.pace) (sym alike_late.2) (is.paid words p.heap)
 
   abbrev ran : Run Completion
-  ran = exec_all false calls f.scope f.bound (stmts_in (statements (code_of f helping ins b ts))) p
+  ran = exec_all false calls f.scope f.bound (stmts_in (statements whole.now)) p
 
   does : Does f.setting.bytes outcome units p ran
   does =
       let few = i.units in
-      actions_are_done calls f.scope f.bound f.bound f.setting.bytes helping helpers (code_of f helping ins b ts) sound is.asks p i.apart i.world.is_heap (omega (arith, few, small))
+      actions_are_done calls f.scope f.bound f.bound f.setting.bytes helping helpers whole.now sound_late.0 (late_asks_helpers ds at_once is.asks) p i.apart i.world.is_heap (omega (arith, few, small))
 
   abbrev rest_then : Completion → Part (Unit {0})
-  rest_then d = unless_left_to d (statements_to f code ls b then_types) next
+  rest_then d = unless_left_to d (statements_to f code ls b then_types (standing b then_types whole.later)) next
 
-  runs_on : statements_to f (plain ins ▹ code) ls b ts next p ≡ runs.after ran rest_then
+  runs_on : statements_to f (plain ins ▹ code) ls b ts ds next p ≡ runs.after ran rest_then
   runs_on =
-      ap (λ (part : Part (Unit {0})). part p) (appended f.calls f.scope f.bound (statements (code_of f helping ins b ts)) (stmts_of f.setting.bytes f.cells f.context code ls b then_types) next)
-      ∙ actions_are_followed calls f.calls f.scope f.bound (code_of f helping ins b ts) rest_then p follow
+      ap (λ (part : Part (Unit {0})). part p)
+      (appended f.calls f.scope f.bound (statements whole.now) (stmts_of f.setting.bytes f.cells f.context code ls b then_types (standing b then_types whole.later)) next)
+      ∙ actions_are_followed calls f.calls f.scope f.bound whole.now rest_then p follow
 
   abbrev start : Rest
-  start = code_sight f around (plain ins ▹ code) b ts p w
+  start = late_sight f around (plain ins ▹ code) b ts ds p w
 
   abbrev go : State → MachineOutcome
   go t = after (do_plain ins t.values t.locals t.store) t (goes_with f.home around code)
 
-  pub paid_followed : is_constant ins ≡ false → IsFollowed f p start (statements_to f (plain ins ▹ code) ls b ts next p)
+  pub paid_followed : is_constant ins ≡ false → IsFollowed f p start (statements_to f (plain ins ▹ code) ls b ts ds next p)
   paid_followed e =
       subst (λ run. IsFollowed f p start run) (sym runs_on)
-      (paid_case f fair helping most b then_types code ls around before next kept p w i stays (operands b ts (word_at p)) go start
-      (λ n. ap f.watch (plain_step f.home around ins code (state_at f (operands b ts (word_at p)) p w n) e)) effect outcome ran units (is.paid (word_at p) p.heap) (λ n. refl) alike does)
+      (paid_case f fair helping most b then_types code ls around before words next kept whole.later may_later p w i stays (operands b ts words) go start
+      (λ n. ap f.watch (plain_step f.home around ins code (state_at f (operands b ts words) p w n) e)) effect outcome ran units paid (λ n. refl) alike does)
 
   pub free_followed : (vs : List Word) → is_constant ins ≡ true → effect ≡ machine.goes vs (locals_of f.context.locals (word_at p)) (store_of f.setting p w)
       → ((n : ℕ) → start n ≡ f.watch (goes_with f.home around code (state_at f vs p w n)))
-      → IsFollowed f p start (statements_to f (plain ins ▹ code) ls b ts next p)
+      → IsFollowed f p start (statements_to f (plain ins ▹ code) ls b ts ds next p)
   free_followed vs e known on =
       subst (λ run. IsFollowed f p start run) (sym runs_on)
-      (free_case f fair helping most b then_types code ls around before next kept p w i stays start vs (locals_of f.context.locals (word_at p)) (store_of f.setting p w) outcome ran units
-      (is.free e (word_at p) p.heap) on (subst (λ e. IsAlike f helping b then_types (word_at p) p.heap p.replies w e outcome) known alike) does)
+      (free_case f fair helping most b then_types code ls around before words next kept whole.later may_later p w i stays start vs (locals_of f.context.locals (word_at p)) (store_of f.setting p w) outcome ran units
+      (alike_late.2 ∙ is.free e words p.heap) on (subst (λ e. IsAlike f helping b then_types words p.heap p.replies w e (outcome_seen whole.later outcome)) known alike) does)
 
 module _ (f : Function) (fair : IsFair f) (calls : Calls) (follow : AllFollow calls f.calls) (helping : Helping) (helpers : AreHelpers f.scope calls f.bound f.setting.bytes helping) where
-  one_kept : (ins : Plain) → (IsFormed ins → PlainIs f helping ins)
-      → ((most : ℕ) (code : Trees) (ls : List Aim) (b : ℕ) (ts us : List ValType) (around : List Surrounding) (before : Words) (next : Completion → Part (Unit {0})) → most ≤ f.bound
-      → IsPlain f helping ins b ts us → AreSoundActions f.scope (code_of f helping ins b ts) → IsKept f most code ls b us around before next → IsKept f most (plain ins ▹ code) ls b ts around before next)
-      → IsKeptFirst f (plain ins)
-  one_kept ins is each most code ls b ts after_types around before next small typed standing nested ex rest =
+  abbrev IsKeptHere : Plain → Type 0
+  IsKeptHere ins =
+      (most : ℕ) (code : Trees) (ls : List Aim) (b : ℕ) (ts us : List ValType) (ds : List Delayed) (around : List Surrounding) (before : Words) (next : Completion → Part (Unit {0})) → most ≤ f.bound
+      → IsPlain f helping ins b ts us → AreSoundActions f.scope (code_of f helping ins b ts) → MayWait f ds → IsKeptLate f most code ls b us around before next
+      → IsKeptWhile ds f most (plain ins ▹ code) ls b ts around before next
+
+  one_kept : (ins : Plain) → (IsFormed ins → PlainIs f helping ins) → IsKeptHere ins → IsKeptFirst f (plain ins)
+  one_kept ins is each most code ls b ts after_types around before next small typed standing nested ex rest ds may =
       let stands' = subst (λ ts. MayStand f (plain ins ▹ code) b ts) typed.operands standing in
       let sound = code_sound f fair helping ins code ls b typed.form typed.takes typed.gives typed.below typed.has_form typed.acts stands' in
       let on = rest_stands f fair helping ins code ls b typed.form typed.takes typed.gives typed.below typed.has_form typed.acts stands' in
       let known = is standing.formed.0 ls b typed.form typed.takes typed.gives typed.below typed.has_form typed.acts in
-      subst (λ ts. IsKept f most (plain ins ▹ code) ls b ts around before next) (sym typed.operands)
-      (each most code ls b (typed.takes ++ typed.below) (typed.gives ++ typed.below) around before next small known sound (rest (typed.gives ++ typed.below) typed.goes_on on ex))
+      subst (λ ts. IsKeptWhile ds f most (plain ins ▹ code) ls b ts around before next) (sym typed.operands)
+      (each most code ls b (typed.takes ++ typed.below) (typed.gives ++ typed.below) ds around before next small known sound may (rest (typed.gives ++ typed.below) typed.goes_on on ex))
 
   paid_kept : (ins : Plain) → is_constant ins ≡ false → (IsFormed ins → PlainIs f helping ins) → IsKeptFirst f (plain ins)
   paid_kept ins e is =
       one_kept ins is
-      (λ most code ls b ts us around before next small known sound rest p w i stays. paid_followed f fair calls follow helping helpers ins most code ls b ts us around before next small known sound rest p w i stays e)
+      (λ most code ls b ts us ds around before next small known sound may rest p w i stays.
+      paid_followed f fair calls follow helping helpers ins most code ls b ts us ds around before next small known sound may rest p w i stays e)
 
   narrow_kept : (n : ℕ) → (IsFormed (const32 n) → PlainIs f helping (const32 n)) → IsKeptFirst f (plain (const32 n))
   narrow_kept n is =
       one_kept (const32 n) is
-      (λ most code ls b ts us around before next small known sound rest p w i stays.
-      free_followed f fair calls follow helping helpers (const32 n) most code ls b ts us around before next small known sound rest p w i stays (W32 n ∷ operands b ts (word_at p)) refl refl
-      (λ j. ap (λ o. f.watch (closed f.home around o)) (narrow_constant f.home n code (state_at f (operands b ts (word_at p)) p w j))))
+      (λ most code ls b ts us ds around before next small known sound may rest p w i stays.
+      free_followed f fair calls follow helping helpers (const32 n) most code ls b ts us ds around before next small known sound may rest p w i stays (W32 n ∷ operands b ts (seen_at ds p)) refl refl
+      (λ j. ap (λ o. f.watch (closed f.home around o)) (narrow_constant f.home n code (state_at f (operands b ts (seen_at ds p)) p w j))))
 
   wide_kept : (n : ℕ) → (IsFormed (const64 n) → PlainIs f helping (const64 n)) → IsKeptFirst f (plain (const64 n))
   wide_kept n is =
       one_kept (const64 n) is
-      (λ most code ls b ts us around before next small known sound rest p w i stays.
-      free_followed f fair calls follow helping helpers (const64 n) most code ls b ts us around before next small known sound rest p w i stays (W64 n ∷ operands b ts (word_at p)) refl refl
-      (λ j. ap (λ o. f.watch (closed f.home around o)) (wide_constant f.home n code (state_at f (operands b ts (word_at p)) p w j))))
+      (λ most code ls b ts us ds around before next small known sound may rest p w i stays.
+      free_followed f fair calls follow helping helpers (const64 n) most code ls b ts us ds around before next small known sound may rest p w i stays (W64 n ∷ operands b ts (seen_at ds p)) refl refl
+      (λ j. ap (λ o. f.watch (closed f.home around o)) (wide_constant f.home n code (state_at f (operands b ts (seen_at ds p)) p w j))))
 
   each_kept : (ins : Plain) → (IsFormed ins → PlainIs f helping ins) → IsKeptFirst f (plain ins)
   each_kept (const32 n) is = narrow_kept n is

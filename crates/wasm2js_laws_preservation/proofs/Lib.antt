@@ -3,6 +3,8 @@ pub mod ControlStepping
 pub mod ControlLabels
 pub mod ControlBlocks
 pub mod ControlLoops
+pub mod ControlSeen
+pub mod ControlWritten
 pub mod ControlKept
 pub mod InstructionsEnding
 pub mod InstructionsSound

@@ -1,162 +1,34 @@
 -- All code is kept, by induction on its tree, where its instructions are.
-use Rattle.std.proofs.Common.{◌≡◌, ℕ, zero, suc, ◌+◌, ◌≤◌, Bool, true, false, not, List, [], ◌∷◌, ◌++◌, length, Option, refl, sym, ap, subst, arith}
-use Rattle.std.specs.Prelude.{if◌then◌else◌, ◌==◌}
-use Rattle.std.proofs.lemmas.Bool.Decides.{nat_tests}
-use Rattle.session_lang.specs.Observation.{EventPlain}
-use Rattle.wasm_lang.specs.declared.types.ValType.{ValType}
-use Rattle.wasm_lang.specs.declared.types.ValType.TheVariants.{I32}
-use Rattle.wasm_lang_valid.specs.Typing.{listed}
-use Rattle.wasm_lang_exec.specs.Code.{Tree, unreachable, block, loop, if_block, br, br_if, br_table, return, call, call_indirect, plain, Trees, ε, ◌▹◌}
-use Rattle.wasm_lang_exec.specs.Reductions.{arity_of, choose}
-use Rattle.wasm_laws_sound.specs.Trees.{IsTyped}
-use Rattle.wasm_laws_drive.specs.Drive.{State, Outcome}
-use Rattle.wasm_laws_drive.specs.Equations.{take_number}
-use Rattle.wasm_laws_drive.specs.Contexts.{Surrounding, in_label}
-use Rattle.wasm_laws_drive.specs.Steps.{in_block}
-use Rattle.wasm_laws_drive.proofs.Stepping.{block_step, if_step}
-use Rattle.asm_lang_exec.specs.Runs.{Place, Part}
-use Rattle.asm_lang_exec.specs.Meaning.{Completion, normal}
-use Rattle.wasm2js_translation.specs.Names.{numbered, operand_low}
-use Rattle.wasm2js_translation.specs.Bodies.{Aim, past, again, labels_round, label_name, signed_word, comes_to_end, stmts_of}
-use Rattle.wasm2js_laws_actions.proofs.Parts.{chosen_followed}
-use Rattle.wasm2js_laws_places.specs.Straight.{Words}
-use Rattle.wasm2js_laws_places.specs.Places.{word_at, operands, Stays}
-use Rattle.wasm2js_laws_preservation.specs.ControlControl.{Function, IsFair, Inside, state_at, code_sight, IsFollowed, statements_to, MayStand, under_aims, AreNested, Exits, IsKept}
-use Rattle.wasm2js_laws_preservation.proofs.ControlStanding.{block_body, after_block, loop_body, after_loop, first_arm, second_arm, after_arms}
-use Rattle.wasm2js_laws_preservation.proofs.ControlStepping.{stays_itself, free_step}
-use Rattle.wasm2js_laws_preservation.proofs.ControlLabels.{nested_past, nested_again}
-use Rattle.wasm2js_laws_preservation.proofs.ControlBlocks.{next_inside, block_exits}
-use Rattle.wasm2js_laws_preservation.proofs.ControlLoops.{turns_are_kept}
-use Rattle.wasm2js_laws_preservation.proofs.ControlKept.{decided_by}
+use Rattle.std.proofs.Common.{◌≡◌, ℕ, Bool, true, false, refl}
+use Rattle.wasm_lang.specs.Instructions.{Plain}
+use Rattle.wasm_lang_exec.specs.Code.{unreachable, block, loop, if_block, br, br_if, br_table, return, call, call_indirect, plain, Trees, ε, ◌▹◌}
+use Rattle.wasm2js_laws_preservation.specs.ControlControl.{Function}
 use Rattle.wasm2js_laws_preservation.specs.ControlLaws.{IsKeptFirst}
-use Rattle.wasm2js_laws_preservation.specs.BranchesLaws.{IsBranch}
+use Rattle.wasm2js_laws_preservation.proofs.ControlKept.{Kept, none_kept, block_kept, loop_kept, if_kept, plain_kept, other_kept, call_kept, entry_kept}
 use Rattle.wasm2js_laws_preservation.proofs.BranchesLeaving.{branches_are_kept}
 use Rattle.wasm2js_laws_preservation.proofs.SwitchesTabled.{indexed_branches_are_kept}
-use Rattle.wasm_lang.specs.Instructions.{Plain}
 use Rattle.wasm2js_laws_preservation.specs.ComputedLaws.{accesses_memory, IsHelped}
 use Rattle.wasm2js_laws_preservation.proofs.ComputedEach.{each_is_kept}
 use Rattle.wasm2js_laws_preservation.specs.OccurringLaws.{AllPlain, AccessIsKept, OccurringAreKept}
 
-not_zero : (n : ℕ) → (suc n == 0) ≡ false
-not_zero n = grind (arith, nat_tests)
-
-module _ (f : Function) (fair : IsFair f) where
-  abbrev Kept : Trees → Type 0
-  Kept code =
-      (most : ℕ) (ls : List Aim) (b : ℕ) (ts after : List ValType) (around : List Surrounding) (before : Words) (next : Completion → Part (Unit {0})) → most ≤ f.bound
-      → IsTyped (under_aims f.context ls) code ts after → MayStand f code b ts → AreNested ls b → Exits f most ls b after (comes_to_end code) around before next → IsKept f most code ls b ts around before next
-
-  none_kept : Kept ε
-  none_kept most ls b ts after around before next le typed stands nested ex p w i stays =
-      subst (λ us. IsFollowed f p (code_sight f around ε b us p w) (next normal p)) (sym typed) (ex.on refl p w i stays)
-
-  block_kept : (r : Option ValType) (body code : Trees) → Kept body → Kept code → Kept (block r body ▹ code)
-  block_kept r body code inner rest most ls b ts after around before next le typed stands nested ex p w i stays =
-      let base : ℕ = b + length ts in
-      let kept = rest most ls b (listed r ++ ts) after around before next le typed.1 (after_block f b r body code ts stands) nested ex in
-      let round : List Surrounding = in_label (operands b ts (word_at p)) (arity_of r) ε code ∷ around in
-      let inside = next_inside f fair most ls b base ts r code around before next p refl stays nested kept in
-      let run = statements_to f body (past base r ∷ ls) base [] inside p in
-      free_step f fair most w p (operands b ts (word_at p)) (in_block f.home around (arity_of r) ε body code) (code_sight f around (block r body ▹ code) b ts p w) (code_sight f round body base [] p w) run i
-      (λ n. ap f.watch (block_step f.home around r body code (state_at f (operands b ts (word_at p)) p w n))) (λ n. refl)
-      (inner most (past base r ∷ ls) base [] (listed r) round (word_at p) inside le typed.0 (block_body f b r body code ts stands) (nested_past ls b base (omega arith) nested r)
-      (block_exits f fair most ls b base ts r code around before next p refl stays nested kept after (comes_to_end code) ex (comes_to_end body)) p w i (stays_itself base (word_at p)))
-
-  loop_kept : (r : Option ValType) (body code : Trees) → Kept body → Kept code → Kept (loop r body ▹ code)
-  loop_kept r body code inner rest most ls b ts after around before next le typed stands nested ex p w i stays =
-      let base : ℕ = b + length ts in
-      let kept = rest most ls b (listed r ++ ts) after around before next le typed.1 (after_loop f b r body code ts stands) nested ex in
-      let few = i.units in
-      turns_are_kept f fair most ls b ts after r body code around before next (comes_to_end code) nested ex kept
-      (λ k round words further small exits. inner k (again base ∷ ls) base [] (listed r) round words further small typed.0 (loop_body f b r body code ts stands) (nested_again ls b base (omega arith) nested) exits)
-      f.bound (omega arith) p w i stays (omega (arith, few, le))
-
-  module _ (r : Option ValType) (x y code : Trees) (x_kept : Kept x) (y_kept : Kept y) (rest : Kept code) (most : ℕ) (ls : List Aim) (b : ℕ) (us after : List ValType)
-      (around : List Surrounding) (before : Words) (next : Completion → Part (Unit {0})) (le : most ≤ f.bound)
-      (x_typed : IsTyped (under_aims f.context (past (b + length us) r ∷ ls)) x [] (listed r)) (y_typed : IsTyped (under_aims f.context (past (b + length us) r ∷ ls)) y [] (listed r))
-      (typed : IsTyped (under_aims f.context ls) code (listed r ++ us) after) (stands : MayStand f (if_block r x y ▹ code) b (I32 ∷ us)) (nested : AreNested ls b) (ex : Exits f most ls b after (comes_to_end code) around before next)
-      (p : Place) (w : List EventPlain) (i : Inside f most w p) (stays : Stays b before (word_at p)) where
-    abbrev base : ℕ
-    base = b + length us
-
-    kept : IsKept f most code ls b (listed r ++ us) around before next
-    kept = rest most ls b (listed r ++ us) after around before next le typed (after_arms f b r x y code us stands) nested ex
-
-    abbrev round : List Surrounding
-    round = in_label (operands b us (word_at p)) (arity_of r) ε code ∷ around
-
-    abbrev inside : Completion → Part (Unit {0})
-    inside = next_inside f fair most ls b base us r code around before next p refl stays nested kept
-
-    -- one of the two arms
-    arm : (z : Trees) → Kept z → IsTyped (under_aims f.context (past base r ∷ ls)) z [] (listed r) → MayStand f z base []
-        → IsFollowed f p (code_sight f round z base [] p w) (statements_to f z (past base r ∷ ls) base [] inside p)
-    arm z z_kept z_typed z_stands =
-        z_kept most (past base r ∷ ls) base [] (listed r) round (word_at p) inside le z_typed z_stands (nested_past ls b base (omega arith) nested r)
-        (block_exits f fair most ls b base us r code around before next p refl stays nested kept after (comes_to_end code) ex (comes_to_end z)) p w i (stays_itself base (word_at p))
-
-    abbrev arms : ℕ → Part (Unit {0})
-    arms n = if not (n == 0) then statements_to f x (past base r ∷ ls) base [] inside else statements_to f y (past base r ∷ ls) base [] inside
-
-    chosen : (n : ℕ) → IsFollowed f p (code_sight f round (choose n x y) base [] p w) (arms n p)
-    chosen zero = arm y y_kept y_typed (second_arm f b r x y code us stands)
-    chosen (suc n) =
-        subst (λ c. IsFollowed f p (code_sight f round x base [] p w) ((if not c then statements_to f x (past base r ∷ ls) base [] inside else statements_to f y (past base r ∷ ls) base [] inside) p))
-        (sym (not_zero n)) (arm x x_kept x_typed (first_arm f b r x y code us stands))
-
-    abbrev test : ℕ
-    test = word_at p (numbered operand_low base)
-
-    abbrev enters : State → Outcome
-    enters t = take_number t.values t (λ c. in_block f.home around (arity_of r) ε (choose c x y) code)
-
-    both_arms : (n : ℕ) → n ≡ test → IsFollowed f p (code_sight f around (if_block r x y ▹ code) b (I32 ∷ us) p w) (arms n p)
-    both_arms n e =
-        free_step f fair most w p (operands b (I32 ∷ us) (word_at p)) enters (code_sight f around (if_block r x y ▹ code) b (I32 ∷ us) p w) (code_sight f round (choose test x y) base [] p w) (arms n p) i
-        (λ j. ap f.watch (if_step f.home around r x y code (state_at f (operands b (I32 ∷ us) (word_at p)) p w j))) (λ j. refl)
-        (subst (λ m. IsFollowed f p (code_sight f round (choose m x y) base [] p w) (arms n p)) e (chosen n))
-
-    arms_kept : IsFollowed f p (code_sight f around (if_block r x y ▹ code) b (I32 ∷ us) p w) (statements_to f (if_block r x y ▹ code) ls b (I32 ∷ us) next p)
-    arms_kept =
-        subst (λ (run : Part (Unit {0})). IsFollowed f p (code_sight f around (if_block r x y ▹ code) b (I32 ∷ us) p w) (run p))
-        (sym (chosen_followed f.calls f.scope f.bound inside (label_name (labels_round ls) ∷ []) (signed_word base) (stmts_of f.setting.bytes f.cells f.context x (past base r ∷ ls) base []) (stmts_of f.setting.bytes f.cells f.context y (past base r ∷ ls) base [])))
-        (decided_by f (code_sight f around (if_block r x y ▹ code) b (I32 ∷ us) p w) (numbered operand_low base) p (statements_to f x (past base r ∷ ls) base [] inside)
-        (statements_to f y (past base r ∷ ls) base [] inside) i.apart both_arms)
-
-  if_kept : (r : Option ValType) (x y code : Trees) → Kept x → Kept y → Kept code → Kept (if_block r x y ▹ code)
-  if_kept r x y code x_kept y_kept rest most ls b ts after around before next le typed stands nested ex =
-      let stands' = subst (λ ts. MayStand f (if_block r x y ▹ code) b ts) typed.1 stands in
-      subst (λ ts. IsKept f most (if_block r x y ▹ code) ls b ts around before next) (sym typed.1)
-      (λ p w i stays. arms_kept r x y code x_kept y_kept rest most ls b typed.0 after around before next le typed.2 typed.3 typed.4 stands' nested ex p w i stays)
-
-  first_of_all : (t : Tree) (code : Trees) → IsKeptFirst f t → Kept code → Kept (t ▹ code)
-  first_of_all t code first rest most ls b ts after around before next le typed stands nested ex =
-      first most code ls b ts after around before next le typed stands nested ex (λ us typed' stands' ex'. rest most ls b us after around before next le typed' stands' nested ex')
-
 module _ (f : Function) (helped : IsHelped f) (calls : (g : ℕ) → IsKeptFirst f (call g)) (entries : (t : ℕ) → IsKeptFirst f (call_indirect t)) where
-  plain_kept : (p : Plain) (access : Bool) → accesses_memory p ≡ access → AccessIsKept f p → IsKeptFirst f (plain p)
-  plain_kept p true e h = h e
-  plain_kept p false e h = each_is_kept f helped p e
-
-  abbrev first : (t : Tree) (code : Trees) → IsKeptFirst f t → Kept f helped.fair code → Kept f helped.fair (t ▹ code)
-  first t code kept rest = first_of_all f helped.fair t code kept rest
-
-  abbrev branch : (t : Tree) → IsBranch t → IsKeptFirst f t
-  branch t h = branches_are_kept f helped.fair helped.fair.provides.fixed.traps t h
+  either_kept : (p : Plain) (access : Bool) → accesses_memory p ≡ access → AccessIsKept f p → IsKeptFirst f (plain p)
+  either_kept p true e h = h e
+  either_kept p false e h = each_is_kept f helped p e
 
   all_kept : (code : Trees) → AllPlain (AccessIsKept f) code → Kept f helped.fair code
   all_kept ε h = none_kept f helped.fair
   all_kept (block r body ▹ code) h = block_kept f helped.fair r body code (all_kept body h.0) (all_kept code h.1)
   all_kept (loop r body ▹ code) h = loop_kept f helped.fair r body code (all_kept body h.0) (all_kept code h.1)
   all_kept (if_block r x y ▹ code) h = if_kept f helped.fair r x y code (all_kept x h.0) (all_kept y h.1) (all_kept code h.2)
-  all_kept (unreachable ▹ code) h = first unreachable code (branch unreachable tt) (all_kept code h)
-  all_kept (br k ▹ code) h = first (br k) code (branch (br k) tt) (all_kept code h)
-  all_kept (br_if k ▹ code) h = first (br_if k) code (branch (br_if k) tt) (all_kept code h)
-  all_kept (br_table ks d ▹ code) h = first (br_table ks d) code (indexed_branches_are_kept f helped.fair ks d) (all_kept code h)
-  all_kept (return ▹ code) h = first return code (branch return tt) (all_kept code h)
-  all_kept (call g ▹ code) h = first (call g) code (calls g) (all_kept code h)
-  all_kept (call_indirect t ▹ code) h = first (call_indirect t) code (entries t) (all_kept code h)
-  all_kept (plain p ▹ code) h = first (plain p) code (plain_kept p (accesses_memory p) refl h.0) (all_kept code h.1)
+  all_kept (unreachable ▹ code) h = other_kept f helped.fair unreachable code (λ ls b ts ds. refl) (branches_are_kept f helped.fair helped.fair.provides.fixed.traps unreachable tt) (all_kept code h)
+  all_kept (br k ▹ code) h = other_kept f helped.fair (br k) code (λ ls b ts ds. refl) (branches_are_kept f helped.fair helped.fair.provides.fixed.traps (br k) tt) (all_kept code h)
+  all_kept (br_if k ▹ code) h = other_kept f helped.fair (br_if k) code (λ ls b ts ds. refl) (branches_are_kept f helped.fair helped.fair.provides.fixed.traps (br_if k) tt) (all_kept code h)
+  all_kept (br_table ks d ▹ code) h = other_kept f helped.fair (br_table ks d) code (λ ls b ts ds. refl) (indexed_branches_are_kept f helped.fair ks d) (all_kept code h)
+  all_kept (return ▹ code) h = other_kept f helped.fair return code (λ ls b ts ds. refl) (branches_are_kept f helped.fair helped.fair.provides.fixed.traps return tt) (all_kept code h)
+  all_kept (call g ▹ code) h = call_kept f helped.fair g code (calls g) (all_kept code h)
+  all_kept (call_indirect t ▹ code) h = entry_kept f helped.fair t code (entries t) (all_kept code h)
+  all_kept (plain p ▹ code) h = plain_kept f helped.fair p code (either_kept p (accesses_memory p) refl h.0) (all_kept code h.1)
 
 pub occurring_are_kept : OccurringAreKept
 occurring_are_kept f helped calls entries most code ls b ts after around before next accesses = all_kept f helped calls entries code accesses most ls b ts after around before next

@@ -13,7 +13,7 @@ use Rattle.wasm2js_translation.specs.Bodies.{Aim, comes_to_end}
 use Rattle.wasm2js_laws_places.specs.Straight.{Words, Helping}
 use Rattle.wasm2js_laws_places.specs.Helped.{AreHelpers}
 use Rattle.wasm2js_laws_typed.specs.Laws.{IsFormed}
-use Rattle.wasm2js_laws_preservation.specs.ControlControl.{Function, IsFair, MayStand, under_aims, AreNested, Exits, IsKept}
+use Rattle.wasm2js_laws_preservation.specs.ControlControl.{Function, IsFair, MayStand, under_aims, AreNested, Exits, IsKeptLate}
 use Rattle.wasm2js_laws_preservation.specs.ControlLaws.{IsKeptFirst}
 use Rattle.wasm2js_laws_preservation.specs.InstructionsPlain.{Supports, Always}
 
@@ -47,4 +47,4 @@ AllIsKept =
     (f : Function) → IsHelped f → ((p : Plain) → accesses_memory p ≡ true → IsKeptFirst f (plain p)) → ((g : ℕ) → IsKeptFirst f (call g)) → ((t : ℕ) → IsKeptFirst f (call_indirect t))
     → (most : ℕ) (code : Trees) (ls : List Aim) (b : ℕ) (ts after : List ValType) (around : List Surrounding) (before : Words) (next : Completion → Part (Unit {0}))
     → most ≤ f.bound → IsTyped (under_aims f.context ls) code ts after → MayStand f code b ts → AreNested ls b → Exits f most ls b after (comes_to_end code) around before next
-    → IsKept f most code ls b ts around before next
+    → IsKeptLate f most code ls b ts around before next

@@ -26,13 +26,16 @@ use Rattle.asm_lang_exec.specs.Meaning.{Completion, normal, broken, continued, r
 use Rattle.asm_laws_continuation.specs.Following.{CallsBefore, exec_all_to}
 use Rattle.wasm2js_translation.specs.Names.{fixed, result_high}
 use Rattle.wasm2js_translation.specs.Words.{stmts_in}
+use Rattle.wasm2js_translation.specs.Delays.{Delayed}
 use Rattle.wasm2js_translation.specs.Bodies.{Aim, past, again, out, label_of, stmts_of}
 use Rattle.wasm2js_translation.specs.Rooms.{room_of}
 use Rattle.wasm2js_laws_scopes.specs.Provided.{Provides, HasRoom}
 use Rattle.wasm2js_laws_places.specs.Following.{Rest, Follows}
 use Rattle.wasm2js_laws_places.specs.Straight.{Words}
 use Rattle.wasm2js_laws_places.specs.Places.{Setting, word_at, names_in, AreApart, operands, locals_of, store_of, World, Stays}
+use Rattle.wasm2js_laws_places.specs.Delaying.{seen, AreWaiting}
 use Rattle.wasm2js_laws_typed.specs.Bodies.{IsFormedCode}
+use Rattle.wasm2js_laws_typed.specs.Waiting.{AreSoundWaiting}
 
 -- ---- what is fixed while a function runs
 
@@ -83,6 +86,15 @@ pub record Inside (f : Function) (most : ℕ) (events : List EventPlain) (p : Pl
   pub apart : AreApart p
   pub units : p.units ≤ most
 
+-- these words may wait, and be written in the function
+pub record MayWait (f : Function) (ds : List Delayed) : Type 0 where
+  pub waiting : AreWaiting ds
+  pub sound : AreSoundWaiting f.scope ds
+
+-- the words of a place, where these count as written
+abbrev pub seen_at : List Delayed → Place → Words
+seen_at ds p = seen ds (word_at p) p.heap
+
 -- ---- what is left of the session
 
 module _ (f : Function) where
@@ -97,11 +109,15 @@ module _ (f : Function) where
   abbrev pub code_sight : List Surrounding → Trees → ℕ → List ValType → Place → List EventPlain → Rest
   code_sight around code b ts p events n = sight around (onward f.home code) (operands b ts (word_at p)) p events n
 
+  -- while these words wait
+  abbrev pub late_sight : List Surrounding → Trees → ℕ → List ValType → List Delayed → Place → List EventPlain → Rest
+  late_sight around code b ts ds p events n = sight around (onward f.home code) (operands b ts (seen_at ds p)) p events n
+
   abbrev pub IsFollowed : Place → Rest → Run (Unit {0}) → Type 0
   IsFollowed p r run = Follows f.by f.pace f.unpaid p r run
 
-  abbrev pub statements_to : Trees → List Aim → ℕ → List ValType → (Completion → Part (Unit {0})) → Part (Unit {0})
-  statements_to code ls b ts next = exec_all_to f.calls f.scope f.bound (stmts_in (stmts_of f.setting.bytes f.cells f.context code ls b ts)) next
+  abbrev pub statements_to : Trees → List Aim → ℕ → List ValType → List Delayed → (Completion → Part (Unit {0})) → Part (Unit {0})
+  statements_to code ls b ts ds next = exec_all_to f.calls f.scope f.bound (stmts_in (stmts_of f.setting.bytes f.cells f.context code ls b ts ds)) next
 
 -- ---- labels
 
@@ -143,7 +159,15 @@ pub record Exits (f : Function) (most : ℕ) (ls : List Aim) (b : ℕ) (after : 
   pub leaves : (q : Place) (w : List EventPlain) (v : JsValue) (values : List Word) → Inside f most w q → Gives f.context.returns v q values
       → IsFollowed f q (sight f around Leave values q w) (next (returned v) q)
 
--- from each place in the function what the statements come to follows the code
+-- from each place in the function what the statements come to follows the code, while these words wait
+abbrev pub IsKeptWhile : List Delayed → (f : Function) (most : ℕ) → Trees → List Aim → (b : ℕ) → List ValType → List Surrounding → (before : Words) → (Completion → Part (Unit {0})) → Type 0
+IsKeptWhile ds f most code ls b ts around before next =
+    (p : Place) (w : List EventPlain) → Inside f most w p → Stays b before (seen_at ds p) → IsFollowed f p (late_sight f around code b ts ds p w) (statements_to f code ls b ts ds next p)
+
+-- while none do, and whatever waits
+
 abbrev pub IsKept : (f : Function) (most : ℕ) → Trees → List Aim → (b : ℕ) → List ValType → List Surrounding → (before : Words) → (Completion → Part (Unit {0})) → Type 0
-IsKept f most code ls b ts around before next =
-    (p : Place) (w : List EventPlain) → Inside f most w p → Stays b before (word_at p) → IsFollowed f p (code_sight f around code b ts p w) (statements_to f code ls b ts next p)
+IsKept f most code ls b ts around before next = IsKeptWhile [] f most code ls b ts around before next
+
+abbrev pub IsKeptLate : (f : Function) (most : ℕ) → Trees → List Aim → (b : ℕ) → List ValType → List Surrounding → (before : Words) → (Completion → Part (Unit {0})) → Type 0
+IsKeptLate f most code ls b ts around before next = (ds : List Delayed) → MayWait f ds → IsKeptWhile ds f most code ls b ts around before next

@@ -9,7 +9,7 @@ use Rattle.asm_lang_exec.specs.Runs.{Part}
 use Rattle.asm_lang_exec.specs.Meaning.{Completion}
 use Rattle.wasm2js_translation.specs.Bodies.{Aim, comes_to_end}
 use Rattle.wasm2js_laws_places.specs.Straight.{Words, Helping}
-use Rattle.wasm2js_laws_preservation.specs.ControlControl.{Function, MayStand, under_aims, AreNested, Exits, IsKept}
+use Rattle.wasm2js_laws_preservation.specs.ControlControl.{Function, MayStand, under_aims, AreNested, Exits, IsKeptLate}
 use Rattle.wasm2js_laws_preservation.specs.ControlLaws.{IsKeptFirst}
 use Rattle.wasm2js_laws_preservation.specs.LoadsLaws.{AreReaders}
 use Rattle.wasm2js_laws_preservation.specs.StoresLaws.{AreWriters}
@@ -41,4 +41,4 @@ AllIsKept =
     → ((g : ℕ) → IsKeptFirst f (call g)) → ((t : ℕ) → IsKeptFirst f (call_indirect t))
     → (most : ℕ) (code : Trees) (ls : List Aim) (b : ℕ) (ts after : List ValType) (around : List Surrounding) (before : Words) (next : Completion → Part (Unit {0}))
     → most ≤ f.bound → IsTyped (under_aims f.context ls) code ts after → MayStand f code b ts → AreNested ls b → Exits f most ls b after (comes_to_end code) around before next
-    → IsKept f most code ls b ts around before next
+    → IsKeptLate f most code ls b ts around before next

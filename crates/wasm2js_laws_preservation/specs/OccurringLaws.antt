@@ -11,7 +11,7 @@ use Rattle.asm_lang_exec.specs.Runs.{Part}
 use Rattle.asm_lang_exec.specs.Meaning.{Completion}
 use Rattle.wasm2js_translation.specs.Bodies.{Aim, comes_to_end}
 use Rattle.wasm2js_laws_places.specs.Straight.{Words}
-use Rattle.wasm2js_laws_preservation.specs.ControlControl.{Function, MayStand, under_aims, AreNested, Exits, IsKept}
+use Rattle.wasm2js_laws_preservation.specs.ControlControl.{Function, MayStand, under_aims, AreNested, Exits, IsKeptLate}
 use Rattle.wasm2js_laws_preservation.specs.ControlLaws.{IsKeptFirst}
 use Rattle.wasm2js_laws_preservation.specs.ComputedLaws.{accesses_memory, IsHelped}
 
@@ -42,7 +42,7 @@ OccurringAreKept =
     → (most : ℕ) (code : Trees) (ls : List Aim) (b : ℕ) (ts after : List ValType) (around : List Surrounding) (before : Words) (next : Completion → Part (Unit {0}))
     → AllPlain (AccessIsKept f) code
     → most ≤ f.bound → IsTyped (under_aims f.context ls) code ts after → MayStand f code b ts → AreNested ls b → Exits f most ls b after (comes_to_end code) around before next
-    → IsKept f most code ls b ts around before next
+    → IsKeptLate f most code ls b ts around before next
 
 -- no plain instruction of which the test is true
 abbrev pub IsNone : (Plain → Bool) → Instruction → Type 0

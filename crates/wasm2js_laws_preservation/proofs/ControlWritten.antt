@@ -1,0 +1,132 @@
+-- What waits is written before code that begins with no plain instruction, and that code is kept as if nothing had waited.
+use Rattle.std.proofs.Common.{◌≡◌, ℕ, true, List, [], ◌∷◌, ◌++◌, None, refl, sym, ap, ◌∙◌, subst, arith}
+use Rattle.std.proofs.Math.Path.{fun_ext}
+use Rattle.sem_words.specs.declared.js_value.JsValue.TheVariants.{Whole}
+use Rattle.session_lang.specs.Observation.{EventPlain}
+use Rattle.wasm_lang.specs.declared.types.ValType.{ValType}
+use Rattle.wasm_lang_exec.specs.Code.{Trees}
+use Rattle.wasm_laws_drive.specs.Drive.{onward}
+use Rattle.wasm_laws_drive.specs.Contexts.{Surrounding, closed}
+use Rattle.asm_lang.specs.Modules.{Stmt}
+use Rattle.asm_lang_exec.specs.Runs.{Place, Part}
+use Rattle.asm_lang_exec.specs.Meaning.{Completion, normal}
+use Rattle.asm_laws_continuation.specs.Following.{unless_left_to, exec_to, exec_all_to}
+use Rattle.wasm2js_translation.specs.Names.{Name}
+use Rattle.wasm2js_translation.specs.Words.{Term, read, number, both, flip, sum, product, zeros, compare, choose, byte, whole, put, simple_statement, simple_statements, stmts_in}
+use Rattle.wasm2js_translation.specs.Delays.{Delayed, is_light, written}
+use Rattle.wasm2js_translation.specs.Bodies.{Aim, stmts_of}
+use Rattle.wasm2js_laws_places.specs.Following.{Rest}
+use Rattle.wasm2js_laws_places.specs.Straight.{Words, with_word, value, gives, Helping, goes, run_simples}
+use Rattle.wasm2js_laws_places.specs.Places.{word_at, AreApart, IsHeap, operands, Stays}
+use Rattle.wasm2js_laws_places.specs.Helped.{IsOn}
+use Rattle.wasm2js_laws_places.specs.Delaying.{seen, AreWaiting}
+use Rattle.wasm2js_laws_actions.proofs.Doing.{apart_kept, still_on, on_further}
+use Rattle.wasm2js_laws_preservation.specs.ControlControl.{Function, IsFair, Inside, MayWait, seen_at, state_at, late_sight, IsFollowed, statements_to, IsKept, IsKeptLate}
+use Rattle.wasm2js_laws_places.proofs.Delayed.{written_is_seen}
+use Rattle.wasm2js_laws_preservation.proofs.ControlSeen.{state_seen}
+use Rattle.wasm2js_laws_preservation.proofs.ControlStepping.{appended, no_step}
+use Rattle.wasm2js_laws_preservation.proofs.InstructionsEnding.{counts_alike}
+use Rattle.wasm2js_laws_preservation.proofs.InstructionsComputing.{inside_on, state_on}
+use Rattle.wasm2js_laws_preservation.proofs.BranchesMoved.{write_then, move_then}
+
+-- nothing waits
+pub nothing_waits : (f : Function) → MayWait f []
+nothing_waits f = record { waiting = tt; sound = tt }
+
+-- ---- words that are written one after the other
+
+abbrev all_put : List Delayed → Words → (heap : List ℕ) → Words
+all_put [] words heap = words
+all_put (d ∷ ds) words heap = all_put ds (with_word d.name (value d.word words heap) words) heap
+
+abbrev no_helping : Helping
+no_helping = record { answer = λ f xs heap. gives 0 None heap; cost = λ f xs. 0 }
+
+all_run : (ds : List Delayed) (words : Words) (heap : List ℕ) → run_simples no_helping (written ds) words heap ≡ goes (all_put ds words heap) heap
+all_run [] words heap = refl
+all_run (d ∷ ds) words heap = all_run ds (with_word d.name (value d.word words heap) words) heap
+
+put_is_seen : (ds : List Delayed) (words : Words) (heap : List ℕ) → AreWaiting ds → all_put ds words heap ≡ seen ds words heap
+put_is_seen ds words heap waiting =
+    let e : goes (all_put ds words heap) heap ≡ goes (seen ds words heap) heap = sym (all_run ds words heap) ∙ (written_is_seen no_helping ds words heap waiting).0 in
+    cc e
+
+-- ---- their statements at p, seen from another place
+
+module _ (f : Function) (r : Rest) (here : Place) where
+  put_then : (n : Name) (t : Term) (p : Place) (next : Completion → Part (Unit {0})) → is_light t ≡ true → AreApart p → IsHeap f.setting.bytes p.heap
+      → ((q : Place) → IsOn f.setting.bytes (with_word n (value t (word_at p) p.heap) (word_at p)) p.heap 0 p q → IsFollowed f here r (next normal q))
+      → IsFollowed f here r (exec_to f.calls f.scope f.bound [] (simple_statement (put n t)) next p)
+  put_then n (read m) p next h apart heap k = move_then f r here p n m next apart heap k
+  put_then n (number z) p next h apart heap k = write_then f r here p n (Whole z) next apart heap k
+  put_then n (both op a b) p next h apart heap k = absurd (cc h)
+  put_then n (flip a) p next h apart heap k = absurd (cc h)
+  put_then n (sum a ts) p next h apart heap k = absurd (cc h)
+  put_then n (product a b) p next h apart heap k = absurd (cc h)
+  put_then n (zeros a) p next h apart heap k = absurd (cc h)
+  put_then n (compare signed s a b) p next h apart heap k = absurd (cc h)
+  put_then n (choose t a b) p next h apart heap k = absurd (cc h)
+  put_then n (byte signed t) p next h apart heap k = absurd (cc h)
+  put_then n (whole t) p next h apart heap k = absurd (cc h)
+
+  written_then : (ds : List Delayed) (p : Place) (next : Completion → Part (Unit {0})) → AreWaiting ds → AreApart p → IsHeap f.setting.bytes p.heap
+      → ((q : Place) → IsOn f.setting.bytes (all_put ds (word_at p) p.heap) p.heap 0 p q → IsFollowed f here r (next normal q))
+      → IsFollowed f here r (exec_all_to f.calls f.scope f.bound (stmts_in (simple_statements (written ds))) next p)
+  written_then [] p next waiting apart heap k = k p (still_on f.setting.bytes p heap)
+  written_then (d ∷ ds) p next waiting apart heap k =
+      put_then d.name d.word p (λ c. unless_left_to c (exec_all_to f.calls f.scope f.bound (stmts_in (simple_statements (written ds)))) next) waiting.1 apart heap
+      (λ q on. written_then ds q next waiting.3 (apart_kept p q on.locals on.globals apart) (subst (IsHeap f.setting.bytes) (sym on.has_heap) on.is_heap) (λ q' on'. k q' (further q q' on on')))
+    where
+      further : (q q' : Place) → IsOn f.setting.bytes (with_word d.name (value d.word (word_at p) p.heap) (word_at p)) p.heap 0 p q
+          → IsOn f.setting.bytes (all_put ds (word_at q) q.heap) q.heap 0 q q' → IsOn f.setting.bytes (all_put (d ∷ ds) (word_at p) p.heap) p.heap 0 p q'
+      further q q' on on' =
+          on_further f.setting.bytes (with_word d.name (value d.word (word_at p) p.heap) (word_at p)) (all_put (d ∷ ds) (word_at p) p.heap) p.heap p.heap 0 0 p q q' on
+          (subst (λ (words : Words). IsOn f.setting.bytes (all_put ds words p.heap) p.heap 0 q q') (fun_ext on.has_words)
+          (subst (λ heap. IsOn f.setting.bytes (all_put ds (word_at q) heap) heap 0 q q') on.has_heap on'))
+
+-- ---- code after them
+
+module _ (f : Function) (fair : IsFair f) (most : ℕ) (code : Trees) (ls : List Aim) (b : ℕ) (ts : List ValType) (around : List Surrounding) (before : Words) (next : Completion → Part (Unit {0}))
+    (kept : IsKept f most code ls b ts around before next) where
+  abbrev bare : List Stmt
+  bare = stmts_of f.setting.bytes f.cells f.context code ls b ts []
+
+  abbrev then_code : Completion → Part (Unit {0})
+  then_code c = unless_left_to c (exec_all_to f.calls f.scope f.bound (stmts_in bare)) next
+
+  module _ (ds : List Delayed) (may : MayWait f ds) (p : Place) (w : List EventPlain) (i : Inside f most w p) (stays : Stays b before (seen_at ds p)) where
+    abbrev start : Rest
+    start = late_sight f around code b ts ds p w
+
+    -- at a place where all is written
+    module _ (q : Place) (on : IsOn f.setting.bytes (seen_at ds p) p.heap 0 p q) where
+      same : word_at q ≡ seen_at ds p
+      same = fun_ext on.has_words
+
+      same_sight : (n : ℕ) → start n ≡ late_sight f around code b ts [] q w n
+      same_sight n =
+          ap (λ t. f.watch (closed f.home around (onward f.home code t)))
+          (sym (state_seen f ds (word_at p) p.heap p.replies w may.waiting (operands b ts (seen_at ds p)) n) ∙ state_on f (seen_at ds p) p.heap 0 p q (operands b ts (seen_at ds p)) w n on)
+          ∙ ap (λ (words : Words). f.watch (closed f.home around (onward f.home code (state_at f (operands b ts words) q w n)))) (sym same)
+
+      from_there : IsFollowed f p start (then_code normal q)
+      from_there =
+          let left = on.left in
+          counts_alike f p q start (then_code normal q) (omega (arith, left)) on.events
+          (no_step f fair q start (late_sight f around code b ts [] q w) (then_code normal q) same_sight
+          (kept q w (inside_on f most w (seen_at ds p) p.heap 0 p q on refl i) (subst (λ (words : Words). Stays b before words) (sym same) stays)))
+
+    from_written : (q : Place) → IsOn f.setting.bytes (all_put ds (word_at p) p.heap) p.heap 0 p q → IsFollowed f p start (then_code normal q)
+    from_written q on = from_there q (subst (λ (words : Words). IsOn f.setting.bytes words p.heap 0 p q) (put_is_seen ds (word_at p) p.heap may.waiting) on)
+
+    after_written : stmts_of f.setting.bytes f.cells f.context code ls b ts ds ≡ simple_statements (written ds) ++ bare
+        → IsFollowed f p start (statements_to f code ls b ts ds next p)
+    after_written is =
+        subst (λ run. IsFollowed f p start run)
+        (sym (ap (λ ss. exec_all_to f.calls f.scope f.bound (stmts_in ss) next p) is
+        ∙ ap (λ (part : Part (Unit {0})). part p) (appended f.calls f.scope f.bound (simple_statements (written ds)) bare next)))
+        (written_then f start p ds p then_code may.waiting i.apart i.world.is_heap from_written)
+
+  -- where all is written first, whatever waits
+  pub kept_late : ((ds : List Delayed) → stmts_of f.setting.bytes f.cells f.context code ls b ts ds ≡ simple_statements (written ds) ++ bare) → IsKeptLate f most code ls b ts around before next
+  kept_late is ds may p w i stays = after_written ds may p w i stays (is ds)
