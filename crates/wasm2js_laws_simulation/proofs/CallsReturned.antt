@@ -18,7 +18,7 @@ use Rattle.wasm_lang_exec.specs.Code.{Trees}
 use Rattle.wasm_laws_drive.specs.Drive.{at, onward}
 use Rattle.wasm_laws_drive.specs.Contexts.{Surrounding, closed}
 use Rattle.asm_lang.specs.Modules.{Expr}
-use Rattle.asm_lang_exec.specs.Runs.{Place, Run, goes, stops, spent, wrong, Part, after, and_then, defined, value_in, write}
+use Rattle.asm_lang_exec.specs.Runs.{Place, Part, and_then, defined, value_in, write}
 use Rattle.asm_lang_exec.specs.Meaning.{Completion, normal}
 use Rattle.asm_laws_continuation.specs.Following.{eval_to, exec_all_to, unless_left_to}
 use Rattle.wasm2js_translation.specs.Names.{Name, numbered, local_low, local_high, operand_low, operand_high, fixed, result_high, spelled}
@@ -28,35 +28,20 @@ use Rattle.wasm2js_translation.specs.Actions.{low}
 use Rattle.wasm2js_translation.specs.Bodies.{Aim, word_in, high_result, answered}
 use Rattle.wasm2js_laws_places.specs.Following.{Rest}
 use Rattle.wasm2js_laws_places.specs.Straight.{Words, with_word}
-use Rattle.wasm2js_laws_places.specs.Places.{word_bound, word_at, names_in, AreApart, operands, locals_from, locals_of, store_of, IsHeap, World, Stays}
+use Rattle.wasm2js_laws_places.specs.Places.{word_bound, word_at, names_in, operands, locals_from, locals_of, store_of, IsHeap, World, Stays}
 use Rattle.wasm2js_laws_places.specs.Helped.{IsOn}
 use Rattle.wasm2js_laws_actions.proofs.Numbers.{small}
-use Rattle.wasm2js_laws_actions.proofs.Doing.{Leaves, write_leaves, still_on, apart_kept}
+use Rattle.wasm2js_laws_actions.proofs.Doing.{still_on, apart_kept}
 use Rattle.wasm2js_laws_preservation.specs.ControlControl.{Function, Match, IsFair, Inside, code_sight, IsFollowed, statements_to, IsKept}
 use Rattle.wasm2js_laws_preservation.proofs.ControlStepping.{stays_on, no_step}
 use Rattle.wasm2js_laws_preservation.proofs.ControlLabels.{operands_stay}
 use Rattle.wasm2js_laws_preservation.proofs.InstructionsEnding.{counts_alike}
 use Rattle.wasm2js_laws_preservation.proofs.InstructionsComputing.{inside_on}
-use Rattle.wasm2js_laws_preservation.proofs.BranchesMoved.{Agrees, agrees_on, agrees_with, state_agrees, operand_agrees, high_agrees, itself, not_below, move_then}
+use Rattle.wasm2js_laws_preservation.proofs.BranchesMoved.{Agrees, agrees_on, agrees_with, state_agrees, operand_agrees, high_agrees, itself, not_below, write_then, move_then}
 use Rattle.wasm2js_laws_simulation.specs.CallsCalled.{given_back, seen_with}
 
 pub signed_word : (v : JsValue) → to_uint32_of (signed_value (bit_or (to_uint32_of v) 0)) ≡ to_uint32_of v
 signed_word v = word_of-signed_of_32 _ (small bins.Or v (Whole (pos 0))) ∙ or_zero_r (to_uint32_of v)
-
--- ---- a variable is written
-
-module _ (f : Function) (r : Rest) (here p : Place) where
-  written : (words : Words) (next : Completion → Part (Unit {0})) (x : Run JsValue) → Leaves f.setting.bytes words p.heap p x
-      → ((q : Place) → IsOn f.setting.bytes words p.heap 0 p q → IsFollowed f here r (next normal q)) → IsFollowed f here r (after x (λ v. next normal))
-  written words next (goes v q) h k = k q h
-  written words next (stops e q) h k = absurd h
-  written words next (spent q) h k = absurd h
-  written words next wrong h k = tt
-
-  pub write_then : (to : Name) (v : JsValue) (next : Completion → Part (Unit {0})) → AreApart p → IsHeap f.setting.bytes p.heap
-      → ((q : Place) → IsOn f.setting.bytes (with_word to (to_uint32_of v) (word_at p)) p.heap 0 p q → IsFollowed f here r (next normal q))
-      → IsFollowed f here r (and_then (write (spelled to) v) (λ y. next normal) p)
-  write_then to v next apart heap k = written (with_word to (to_uint32_of v) (word_at p)) next (write (spelled to) v p) (write_leaves f.setting.bytes to v p apart heap) k
 
 -- ---- what comes after the value of a call
 
@@ -83,7 +68,7 @@ module _ (f : Function) (fair : IsFair f) (most : ℕ) (ls : List Aim) (b : ℕ)
   d = b + length below
 
   abbrev then_rest : List ValType → Completion → Part (Unit {0})
-  then_rest us c = unless_left_to c (statements_to f code ls b us) next
+  then_rest us c = unless_left_to c (statements_to f code ls b us []) next
 
   -- above what lay below the arguments
   abbrev seen_above : List Word → Rest

@@ -17,10 +17,10 @@ use Rattle.wasm_lang_exec.specs.Store.{zeros_of}
 use Rattle.asm_lang.specs.Modules.{Variable}
 use Rattle.asm_lang_exec.specs.Runs.{Binding, binding, Place, value_in}
 use Rattle.asm_lang_exec.specs.Meaning.{first_value, parameters}
-use Rattle.wasm2js_translation.specs.Names.{Name, numbered, local_low, local_high, spelled}
+use Rattle.wasm2js_translation.specs.Names.{Name, numbered, local_low, local_high, spelled, same_name}
 use Rattle.wasm2js_translation.specs.Helpers.{int_param, zero_variable}
 use Rattle.wasm2js_translation.specs.Modules.{param_names}
-use Rattle.wasm2js_laws_places.specs.Straight.{Words, same_name}
+use Rattle.wasm2js_laws_places.specs.Straight.{Words}
 use Rattle.wasm2js_laws_places.specs.Places.{word_bound, word_at, names_in, locals_from}
 use Rattle.wasm2js_laws_actions.proofs.Variables.{spelled_alike}
 use Rattle.wasm2js_laws_simulation.specs.CallsCalled.{Passes}

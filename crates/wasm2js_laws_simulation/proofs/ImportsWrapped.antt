@@ -59,7 +59,8 @@ use Rattle.wasm2js_laws_actions.proofs.Doing.{apart_kept}
 use Rattle.wasm2js_laws_preservation.specs.ControlControl.{Function, Match, IsFollowed}
 use Rattle.wasm2js_laws_preservation.proofs.InstructionsEnding.{are_words}
 use Rattle.wasm2js_laws_simulation.specs.CallsCalled.{Passes, given_back, seen_with, call_then, IsReturn, IsCallFollowed}
-use Rattle.wasm2js_laws_simulation.proofs.CallsReturned.{signed_word as word_signed, write_then}
+use Rattle.wasm2js_laws_preservation.proofs.BranchesMoved.{write_then}
+use Rattle.wasm2js_laws_simulation.proofs.CallsReturned.{signed_word as word_signed}
 use Rattle.wasm2js_laws_simulation.specs.FramesFrames.{at_depth, IsSettled}
 use Rattle.wasm2js_laws_simulation.proofs.FramesHelped.{profile_of}
 use Rattle.wasm2js_laws_simulation.proofs.FramesEntered.{bound_from, parameters_are, as_many, names_bound, zero_bindings, zero_words, zero_names, words_in, locals_entered, same_locals}

@@ -39,13 +39,13 @@ use Rattle.wasm_lang_exec.specs.Fits.{GlobalImport, with_import, global_imports}
 use Rattle.asm_lang.specs.Modules.{Variable}
 use Rattle.asm_lang_exec.specs.Runs.{Binding, binding, value_in}
 use Rattle.asm_lang_exec.specs.Session.{given_value, first_globals}
-use Rattle.wasm2js_translation.specs.Names.{Name, numbered, fixed, spare_high, result_high, global_low, global_high, spelled}
+use Rattle.wasm2js_translation.specs.Names.{Name, numbered, fixed, spare_high, result_high, global_low, global_high, spelled, same_name}
 use Rattle.wasm2js_lang.specs.Allowed.{script_for}
 use Rattle.wasm2js_translation.specs.Modules.{view_variables, fixed_variables, foreign_variables, given_variable, imported_variables, first_values, own_variables, global_variables, variables_of}
 use Rattle.wasm2js_laws_acceptance.proofs.ProvidedWithin.{rows_are_within}
 use Rattle.wasm2js_laws_acceptance.specs.FunctionsFunctions.{HasWord, IsSource}
 use Rattle.wasm2js_laws_acceptance.specs.AcceptedLaws.{HaveFirstWords}
-use Rattle.wasm2js_laws_places.specs.Straight.{Words, same_name}
+use Rattle.wasm2js_laws_places.specs.Straight.{Words}
 use Rattle.wasm2js_laws_places.specs.Places.{word_bound, word_at, globals_from, globals_of}
 use Rattle.wasm2js_laws_actions.proofs.Variables.{spelled_alike}
 use Rattle.wasm2js_laws_simulation.specs.StartLaws.{begins_at}
