@@ -1,19 +1,18 @@
 -- Comparisons, and the test for zero.
-use Rattle.std.proofs.Common.{◌≡◌, ℕ, ◌+◌, ◌≤◌, Bool, true, false, not, List, [], ◌∷◌, refl, sym, ap, ◌∙◌, arith}
+use Rattle.std.proofs.Common.{◌≡◌, ℕ, Bool, true, false, not, List, [], ◌∷◌, refl, sym, ap, ◌∙◌, arith}
 use Rattle.std.specs.Prelude.{◌==◌, if◌then◌else◌, bit_and}
 use Rattle.sem_words.specs.declared.word.Rel.{Rel}
 use Rattle.sem_words.specs.declared.word.Rel.TheVariants.{Eq, Ne, LtS, LtU, GtS, GtU, LeS, LeU, GeS, GeU}
 use Rattle.sem_words.specs.Words.{rel_of}
-use Rattle.asm_lang_exec.specs.Runs.{Place}
-use Rattle.wasm2js_translation.specs.Names.{Name, spelled}
+use Rattle.wasm2js_translation.specs.Names.{spelled}
 use Rattle.wasm2js_translation.specs.Words.{put}
 use Rattle.wasm2js_translation.specs.Pairs.{Pair}
 use Rattle.wasm2js_translation.specs.Wide.{wide_relation, wide_compare, is_wide_zero}
 use Rattle.wasm2js_translation.specs.Helpers.{wide_helpers}
 use Rattle.wasm2js_lang.specs.SplitWords.{wide_at, word_at, truth_word}
-use Rattle.wasm2js_laws_numbers.specs.Laws.{joined, low_relation}
+use Rattle.wasm2js_laws_numbers.specs.Laws.{low_relation}
 use Rattle.wasm2js_laws_numbers.proofs.Related.{high_words_decide}
-use Rattle.wasm2js_laws_places.specs.Straight.{Words, with_word, truth, value}
+use Rattle.wasm2js_laws_places.specs.Straight.{Words, truth, value}
 use Rattle.wasm2js_laws_wide.specs.Laws.{halves, RelationsCompute, ZeroTestsCompute}
 use Rattle.wasm2js_laws_wide.proofs.Looked.{words_at}
 use Rattle.wasm2js_laws_wide.proofs.Steps.{IsEasy}

@@ -1,5 +1,4 @@
 -- Operator by operator.
-use Rattle.std.proofs.Common.{◌≡◌, false}
 use Rattle.sem_words.specs.declared.word.Bin.TheVariants.{Add, Sub, Mul, DivS, DivU, RemS, RemU, And, Or, Xor, Shl, ShrS, ShrU, Rotl, Rotr}
 use Rattle.sem_words.specs.declared.word.Un.TheVariants.{Clz, Ctz, Popcnt}
 use Rattle.wasm2js_laws_wide.specs.Laws.{BinariesCompute, UnariesCompute}

@@ -1,10 +1,8 @@
 -- Low bits that are extended with their sign.
-use Rattle.std.proofs.Common.{◌≡◌, ℕ, ◌<◌, ◌≤◌, Bool, true, false, ◌||◌, List, [], ◌∷◌, refl, sym, ap, ◌∙◌, subst, arith}
-use Rattle.std.specs.Prelude.{◌^◌, ◌==◌}
+use Rattle.std.proofs.Common.{◌≡◌, ℕ, Bool, true, false, ◌||◌, refl, sym, ap, ◌∙◌, subst, arith}
+use Rattle.std.specs.Prelude.{◌==◌}
 use Rattle.std.proofs.lemmas.Bool.Decides.{Decides-eqb}
 use Rattle.sem_words.specs.Words.{shr_s_of, extend_of}
-use Rattle.asm_lang_exec.specs.Runs.{Place}
-use Rattle.wasm2js_translation.specs.Names.{Name}
 use Rattle.wasm2js_translation.specs.Words.{simple_statements}
 use Rattle.wasm2js_translation.specs.Pairs.{Pair}
 use Rattle.wasm2js_translation.specs.Wide.{wide_extend}
@@ -14,7 +12,7 @@ use Rattle.wasm2js_laws_numbers.specs.Laws as numbers
 use Rattle.wasm2js_laws_numbers.specs.Laws.{joined, with_sign}
 use Rattle.wasm2js_laws_numbers.proofs.Extended.{wide_extensions}
 use Rattle.wasm2js_laws_places.specs.Straight.{Words, with_word}
-use Rattle.wasm2js_laws_wide.specs.Laws.{halves, is_extension, ExtensionsCompute}
+use Rattle.wasm2js_laws_wide.specs.Laws.{halves, ExtensionsCompute}
 use Rattle.wasm2js_laws_wide.proofs.Looked.{words_at}
 use Rattle.wasm2js_laws_wide.proofs.Standing.{computes}
 use Rattle.wasm2js_laws_wide.proofs.Named.{put_here, put_elsewhere, Replaces, replaces, targets, low_among, high_among, is_word, whole_is}

@@ -1,5 +1,5 @@
 -- Variables by name, where a local hides one of the module: reads, writes, and calls that leave a high word.
-use Rattle.std.proofs.Common.{◌≡◌, ℕ, ◌+◌, Bool, true, false, ◌||◌, List, [], ◌∷◌, Option, Some, None, is_some, refl, sym, ap, ◌∙◌, subst, arith}
+use Rattle.std.proofs.Common.{◌≡◌, ℕ, ◌+◌, Bool, true, false, ◌||◌, List, ◌∷◌, Option, Some, None, is_some, refl, sym, ap, ◌∙◌, subst, arith}
 use Rattle.std.specs.Prelude.{bytes_eq, if◌then◌else◌}
 use Rattle.std.proofs.lemmas.Slice.Eq.{bytes_eq-Decides}
 use Rattle.sem_words.specs.declared.js_value.JsValue.{JsValue}
@@ -8,10 +8,10 @@ use Rattle.asm_lang_valid.specs.Scope.{is_in}
 use Rattle.asm_lang_exec.specs.Runs.{Binding, Place, Run, goes, stops, spent, wrong, value_in, with_value, either_value, defined, read, write, written}
 use Rattle.wasm2js_translation.specs.Names.{Name, fixed, spare_high, spelled, same_name}
 use Rattle.wasm2js_lang.specs.SplitWords.{spare, value_at, word_of_value, word_at}
-use Rattle.wasm2js_laws_places.specs.Straight.{Words, with_word, with_high}
+use Rattle.wasm2js_laws_places.specs.Straight.{Words, with_high}
 use Rattle.wasm2js_laws_actions.specs.Reads.{Reads}
 use Rattle.wasm2js_laws_actions.proofs.Variables.{spelled_alike, set_get}
-use Rattle.wasm2js_laws_helpers.proofs.Called.{WasSet, HasHigh, IsCalled}
+use Rattle.wasm2js_laws_helpers.proofs.Called.{WasSet, IsCalled}
 
 abbrev pub words_at : Place → Words
 words_at p n = word_at p (spelled n)

@@ -1,5 +1,5 @@
 -- Words that are put under the names of pairs, and when those names are apart.
-use Rattle.std.proofs.Common.{◌≡◌, ℕ, ◌+◌, ◌<◌, Bool, true, false, not, ◌&&◌, List, [], ◌∷◌, length, Option, Some, None, is_some, refl, sym, ap, ◌∙◌, subst, arith}
+use Rattle.std.proofs.Common.{◌≡◌, ℕ, ◌+◌, ◌<◌, Bool, true, false, not, ◌&&◌, List, [], ◌∷◌, Option, Some, None, is_some, refl, sym, ap, ◌∙◌, subst, arith}
 use Rattle.std.proofs.lemmas.Bool.{and_parts}
 use Rattle.std.proofs.lemmas.Slice.Eq.{bytes_eq-Decides}
 use Rattle.std.specs.Prelude.{◌*◌, ◌^◌, bytes_eq, map, if◌then◌else◌}
@@ -11,7 +11,7 @@ use Rattle.asm_types.specs.declared.value_type.ValueType.TheVariants.{Signed, In
 use Rattle.asm_types.specs.Rows.{row}
 use Rattle.asm_types.proofs.Sound.{to_uint32_lt}
 use Rattle.asm_lang.specs.Modules.{assign, Exprs, Function, Module}
-use Rattle.asm_lang_valid.specs.Scope.{Meaning, an_int, an_outside, a_function, is_in, module_meaning}
+use Rattle.asm_lang_valid.specs.Scope.{Meaning, an_int, an_outside, a_function, module_meaning}
 use Rattle.asm_lang_valid.specs.Typing.{Scope, Around, named, is_int, is_builtin, typed_below, operated, exprs_length, callee_fits, type_of, all_below, effect_fits, all_typed}
 use Rattle.asm_lang_valid.specs.Typed.{scope_of}
 use Rattle.asm_lang_exec.specs.Runs.{Place}

@@ -1,5 +1,5 @@
 -- Statements that stand in an accepted module never go wrong, so they end as they come.
-use Rattle.std.proofs.Common.{◌≡◌, ℕ, ◌+◌, ◌<◌, ◌≤◌, Bool, true, false, not, ◌||◌, List, [], ◌∷◌, ◌++◌, Option, Some, None, refl, sym, ap, ◌∙◌, subst, arith}
+use Rattle.std.proofs.Common.{◌≡◌, ℕ, ◌+◌, ◌<◌, ◌≤◌, true, false, not, List, [], ◌∷◌, ◌++◌, None, refl, ap, ◌∙◌, subst, arith}
 use Rattle.std.proofs.lemmas.Bool.{and_parts}
 use Rattle.std.specs.Prelude.{map, bytes_eq, if◌then◌else◌}
 use Rattle.asm_lang.specs.Trees.{Init, number, decimal, foreign_int, foreign_double, member, math, view}
@@ -10,16 +10,16 @@ use Rattle.asm_lang_valid.specs.Typed.{scope_of}
 use Rattle.asm_lang_exec.specs.Runs.{Binding, Place, Run, Part, goes, stops, spent, wrong, value_in}
 use Rattle.asm_lang_exec.specs.Values.{Calls}
 use Rattle.asm_lang_exec.specs.Meaning.{eval, Completion, normal, unless_left, exec_all, call_at}
-use Rattle.asm_laws_sound.proofs.Names.{Fitting, local_kinds, param_kinds, kinds_of, global_kinds, is_variable, with_kind}
+use Rattle.asm_laws_sound.proofs.Names.{Fitting, local_kinds, param_kinds, global_kinds, is_variable, with_kind}
 use Rattle.asm_laws_sound.proofs.Both.{EndsIn, Sound, sound_then, sound_gives}
 use Rattle.asm_laws_sound.proofs.Members.{Typed, accepted_is_typed}
 use Rattle.asm_laws_sound.proofs.Evaluating.{Inv, SoundCalls, effect_sound_by, eval_sound, call_sound}
 use Rattle.asm_laws_sound.proofs.Executing.{calls_sound}
 use Rattle.wasm2js_translation.specs.Names.{Name}
 use Rattle.wasm2js_translation.specs.Words.{Simple, put, ask, tell, guard, stop, write_byte, write_whole, simple_statement, simple_statements, stmts_in}
-use Rattle.wasm2js_lang.specs.SplitWords.{sequence, spare, Declared, declared, own_variables, own_names, starts_as_int, variables_among, StandIn, Hold, IsWithin, IsSameBut, doing, Ends, Computes}
+use Rattle.wasm2js_lang.specs.SplitWords.{sequence, spare, Declared, declared, own_variables, starts_as_int, variables_among, StandIn, Hold, IsWithin, IsSameBut, doing, Computes}
 use Rattle.wasm2js_laws_places.specs.Straight.{Words}
-use Rattle.wasm2js_laws_wide.proofs.Looked.{words_at, Moves, either_false}
+use Rattle.wasm2js_laws_wide.proofs.Looked.{words_at, either_false}
 use Rattle.wasm2js_laws_wide.proofs.Steps.{Comes, AreSteps, IsStep, all_leave, all_take, all_come}
 
 -- ---- the variables that a place has

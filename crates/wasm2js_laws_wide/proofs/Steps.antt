@@ -1,5 +1,5 @@
 -- What the statements of straight code come to that writes variables and calls helpers on words of 64 bits.
-use Rattle.std.proofs.Common.{◌≡◌, ℕ, zero, suc, ◌+◌, ◌<◌, ◌≤◌, Bool, true, false, List, [], ◌∷◌, length, Option, Some, None, is_some, pos, refl, sym, ap, ◌∙◌, subst, arith}
+use Rattle.std.proofs.Common.{◌≡◌, ℕ, ◌+◌, ◌≤◌, false, List, [], ◌∷◌, length, Option, Some, None, is_some, pos, refl, sym, ap, ◌∙◌, subst, arith}
 use Rattle.std.proofs.Math.Path.{fun_ext}
 use Rattle.std.proofs.lemmas.List.{length-map}
 use Rattle.std.specs.Prelude.{map, bytes_eq, if◌then◌else◌, bit_or}
@@ -14,7 +14,6 @@ use Rattle.sem_words.specs.Words.{shl_of, shr_s_of, shr_u_of, rotl_of, leading_z
 use Rattle.sem_words.proofs.WordLaws.{word_of-signed_of_32}
 use Rattle.session_lang.specs.Imports.{low_word, high_word}
 use Rattle.asm_lang.specs.Modules.{Expr, lit}
-use Rattle.asm_lang_valid.specs.Scope.{is_in}
 use Rattle.asm_lang_valid.specs.Typing.{Scope, named}
 use Rattle.asm_lang_exec.specs.Runs as runs
 use Rattle.asm_lang_exec.specs.Runs.{Place, Run, spent, wrong, Part, after, and_then, defined, value_in, write}
@@ -23,7 +22,7 @@ use Rattle.asm_lang_exec.specs.Meaning.{eval, eval_all, eval_links, link_operato
 use Rattle.wasm2js_translation.specs.Names as names
 use Rattle.wasm2js_translation.specs.Names.{Name, Fixed, spelled, same_name}
 use Rattle.wasm2js_translation.specs.Words.{Term, read, number, both, flip, sum, product, zeros, compare, choose, byte, whole, Summands, no_more, further, Simple, put, ask, tell, guard, stop, write_byte, write_whole, bit_operator, name_of, expr, summands, int_of, arguments, simple_statement, simple_statements, stmts_in}
-use Rattle.wasm2js_lang.specs.SplitWords.{spare, value_at, word_of_value, word_at}
+use Rattle.wasm2js_lang.specs.SplitWords.{spare, value_at, word_of_value}
 use Rattle.wasm2js_laws_numbers.specs.Laws.{joined}
 use Rattle.wasm2js_laws_places.specs.Straight.{Words, with_word, with_high, bits_of, value, summed, values, added}
 use Rattle.wasm2js_laws_places.specs.Helped.{IsShort}
@@ -34,7 +33,7 @@ use Rattle.wasm2js_laws_actions.proofs.Typed.{IsNamed}
 use Rattle.wasm2js_laws_actions.proofs.Evaluated.{two, compared, chosen, as_int_read}
 use Rattle.wasm2js_laws_actions.proofs.Variables.{spelled_alike}
 use Rattle.wasm2js_laws_helpers.specs.Answers.{length_of}
-use Rattle.wasm2js_laws_helpers.proofs.Called.{CallGives, IsCalled}
+use Rattle.wasm2js_laws_helpers.proofs.Called.{CallGives}
 use Rattle.wasm2js_laws_wide.proofs.Looked.{words_at, found, Moves, stays, moves_then, no_value, word_if, Among, Wrote, wrote, called_moves, called_words}
 
 -- ---- terms of this code

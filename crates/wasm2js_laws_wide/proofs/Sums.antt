@@ -1,11 +1,9 @@
 -- Sums, differences, and operators that go bit by bit.
-use Rattle.std.proofs.Common.{◌≡◌, ℕ, ◌≤◌, Bool, true, false, List, [], ◌∷◌, Ok, refl, sym, ap, ◌∙◌, arith}
+use Rattle.std.proofs.Common.{◌≡◌, ℕ, Bool, true, false, Ok, refl, sym, ap, ◌∙◌, arith}
 use Rattle.std.specs.Prelude.{nat_lt, bit_and, bit_or, bit_xor}
 use Rattle.sem_words.specs.declared.word.Bin.{Bin}
 use Rattle.sem_words.specs.declared.word.Bin.TheVariants.{Add, Sub, And, Or, Xor}
 use Rattle.sem_words.specs.Words.{add_of, sub_of, bin_of}
-use Rattle.asm_lang_exec.specs.Runs.{Place}
-use Rattle.wasm2js_translation.specs.Names.{Name}
 use Rattle.wasm2js_translation.specs.Words.{BitOp, conjunction, disjunction, exclusion, simple_statements}
 use Rattle.wasm2js_translation.specs.Pairs.{Pair}
 use Rattle.wasm2js_translation.specs.Wide.{wide_sum, wide_difference, wide_bits}

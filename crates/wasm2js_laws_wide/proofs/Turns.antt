@@ -1,5 +1,5 @@
 -- Shifts and rotations, by a helper that takes both words and a count.
-use Rattle.std.proofs.Common.{◌≡◌, ℕ, ◌+◌, ◌<◌, ◌≤◌, true, List, [], ◌∷◌, Some, Ok, refl, sym, ap, ◌∙◌, subst, arith}
+use Rattle.std.proofs.Common.{◌≡◌, ℕ, ◌+◌, ◌<◌, ◌≤◌, List, [], ◌∷◌, Some, Ok, refl, sym, ap, ◌∙◌, arith}
 use Rattle.std.specs.Prelude.{◌*◌, ◌^◌, ◌%◌, ◌/◌, ◌-◌}
 use Rattle.std.specs.Int.{int_shr}
 use Rattle.sem_words.specs.declared.word.Bin.{Bin}
