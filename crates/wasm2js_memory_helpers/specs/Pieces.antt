@@ -28,11 +28,3 @@ store_32_function = function_of (fixed names.store_32) two_arguments [] (write_w
 
 abbrev pub store_64_function : Function
 store_64_function = function_of (fixed names.store_64) three_arguments [] (write_word 0 second ++ write_word 4 third)
-
--- these for each whole word of a run, while there are four bytes more, and for each byte that is left
-
-abbrev pub words_while : List Stmt → Stmt
-words_while ss = repeat (compare true at_most done (minus third (literal 4))) (ss ++ sets (own 0) (plus done (literal 4)) ∷ [])
-
-abbrev pub bytes_while : List Stmt → Stmt
-bytes_while ss = repeat (compare true less done third) (ss ++ sets (own 0) (plus done (literal 1)) ∷ [])
