@@ -50,18 +50,18 @@ fill_few bytes at byte len = by (nat_le (at + len) bytes) refl
     by true e = let few = loops_few (nat_le 4 len) (bytes_before at) len (before_few at) in let le = few_left len at bytes e in omega (arith, few, le)
     by false e = omega arith
 
+abbrev copy_loops : (to from len : ℕ) (up : Bool) → ℕ
+copy_loops to from len up = if up then units_upwards (are_alike to from len) to len else units_downwards (are_alike to from len) to len
+
 copy_few : (bytes to from len : ℕ) → copy_units bytes (to ∷ from ∷ len ∷ []) ≤ bytes + 8
 copy_few bytes to from len = by (nat_le (to + len) bytes) (nat_le (from + len) bytes) refl
   where
-    abbrev units : Bool → ℕ
-    units up = if up then units_upwards (are_alike to from len) to len else units_downwards (are_alike to from len) to len
-
-    loops : (up : Bool) → units up ≤ len + 7
+    loops : (up : Bool) → copy_loops to from len up ≤ len + 7
     loops true = loops_few (are_alike to from len) (bytes_before to) len (before_few to)
     loops false = loops_few (are_alike to from len) ((to + len) % 4) len (omega arith)
 
     by : (s t : Bool) → nat_le (to + len) bytes ≡ s
-        → (if s && t then 1 + units (nat_le to from) else 1) ≤ bytes + 8
+        → (if s && t then 1 + copy_loops to from len (nat_le to from) else 1) ≤ bytes + 8
     by true true e = let few = loops (nat_le to from) in let le = few_left len to bytes e in omega (arith, few, le)
     by true false e = omega arith
     by false t e = omega arith
