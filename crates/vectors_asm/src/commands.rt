@@ -96,7 +96,7 @@ static ROWS: [Row; 62] = [
     (
         &["gen", "200"],
         0,
-        b"functions 200\nasm 12628\nwasm 8961\njs 59058\n",
+        b"functions 200\nasm 12628\nwasm 8961\njs 60010\n",
         b"",
     ),
     (&["asm2wasm", "add.js"], 0, ADD_MODULE, b""),
