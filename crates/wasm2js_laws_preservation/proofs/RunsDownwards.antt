@@ -1,6 +1,6 @@
 -- The loops that copy downwards, to places after those that are read, from the last ones on.
 use Rattle.std.proofs.Common.{◌≡◌, ℕ, suc, ◌+◌, ◌-◌, ◌*◌, ◌/◌, ◌%◌, ◌^◌, ◌<◌, ◌≤◌, Bool, true, false, List, [], ◌∷◌, ◌++◌, map, length, take, drop, refl, sym, ap, ◌∙◌, subst, arith}
-use Rattle.std.specs.Prelude.{if◌then◌else◌, ◌==◌, bit_and}
+use Rattle.std.specs.Prelude.{◌==◌, bit_and}
 use Rattle.std.proofs.lemmas.Bool.Decides.{nat_tests}
 use Rattle.sem_words.specs.declared.js_value.JsValue.{JsValue}
 use Rattle.sem_words.specs.declared.js_value.JsValue.TheVariants.{Bool as Boolean}
@@ -18,7 +18,7 @@ use Rattle.asm_lang_exec.specs.Meaning.{eval, exec, Completion, unless_left, cal
 use Rattle.wasm2js_translation.specs.Names.{spelled}
 use Rattle.wasm2js_translation.specs.Words.{Term, equal, unequal, less, greater, conjunction, disjunction, exclusion, both, byte, whole, compare, write_whole, int_of, simple_statement}
 use Rattle.wasm2js_translation.specs.Pairs.{literal, plus, minus}
-use Rattle.wasm2js_translation.specs.Helpers.{argument, own, first, second, third, sets, block_of, repeat, fall, is_inside, eight_down, down_to_word, while_left, copy_word, copy_byte, copy_down, copy_function}
+use Rattle.wasm2js_translation.specs.Helpers.{argument, own, first, second, third, block_of, repeat, fall, is_inside, eight_down, down_to_word, while_left, copy_word, copy_byte, copy_down, copy_function}
 use Rattle.wasm2js_laws_places.specs.Places.{word_at, IsHeap}
 use Rattle.wasm2js_laws_actions.specs.Reads.{Finds}
 use Rattle.wasm2js_laws_helpers.proofs.Bodies.{run}
