@@ -12,10 +12,10 @@ use Rattle.asm_lang.specs.Modules.{Function}
 use Rattle.wasm2js_lang.specs.Parts.Functions.{has_long_segments}
 use Rattle.wasm2js_translation.specs.Names as names
 use Rattle.wasm2js_translation.specs.Names.{fixed}
-use Rattle.wasm2js_translation.specs.Words.{Term, conjunction, disjunction, shift_left, shift_right_signed, shift_right, equal, less, at_most, greater, both, read, number, zeros, compare, byte, whole}
+use Rattle.wasm2js_translation.specs.Words.{Term, conjunction, shift_left, shift_right_signed, shift_right, equal, less, at_most, greater, both, read, number, zeros, compare, byte, whole}
 use Rattle.wasm2js_translation.specs.Pairs.{literal, plus, minus, sign_of, funnel_left, funnel_right}
 use Rattle.wasm2js_translation.specs.Actions.{low_ones, place}
-use Rattle.wasm2js_translation.specs.Helpers.{argument, own, first, second, third, spare, one_argument, two_arguments, three_arguments, is_far, shift_left_function, shift_right_signed_function, shift_right_function, rotate_left_function, leading_zeros_function, trailing_zeros_function, set_bits_function, wide_helpers, division_helpers, word_at, access_helpers, is_whole, four_times, copy_function, fill_function, arguments_after, data_helpers, memory_helpers}
+use Rattle.wasm2js_translation.specs.Helpers.{argument, own, first, second, third, spare, one_argument, two_arguments, three_arguments, is_far, shift_left_function, shift_right_signed_function, shift_right_function, rotate_left_function, leading_zeros_function, trailing_zeros_function, set_bits_function, wide_helpers, division_helpers, word_at, access_helpers, past, is_inside, eight_up, eight_down, has_words, four_times, copy_function, fill_function, arguments_after, data_helpers, memory_helpers}
 use Rattle.wasm2js_translation.specs.Modules.{helpers, translated}
 use Rattle.wasm2js_laws_acceptance.specs.FunctionsFunctions.{IsFineFunction, of_trap, IsSource}
 use Rattle.wasm2js_laws_acceptance.specs.FunctionsLaws.{HelpersAreFine}
@@ -125,20 +125,37 @@ module _ (w : WasmModule) where
     abbrev far : Term
     far = read (own 0)
 
-    abbrev each_word : Piece → Piece
-    each_word p = while_so (compare true at_most far (minus third (literal 4))) (p ▸ set (own 0) (plus far (literal 4)) ▸ done)
+    abbrev up_to_word : Piece → Piece
+    up_to_word p = while_so (is_inside (plus first far)) (p ▸ set (own 0) (plus far (literal 1)) ▸ done)
 
     abbrev each_byte : Piece → Piece
     each_byte p = while_so (compare true less far third) (p ▸ set (own 0) (plus far (literal 1)) ▸ done)
 
-    abbrev word_copy : Term → Piece
-    word_copy d = set_word (plus first d) (whole (plus second d))
+    -- for each of these, and then further ones
+    abbrev for_all : (ℕ → Piece) → List ℕ → Pieces → Pieces
+    for_all p [] more = more
+    for_all p (x ∷ xs) more = p x ▸ for_all p xs more
+
+    abbrev each : (size : ℕ) → (ℕ → Piece) → List ℕ → Piece
+    each size p xs = while_so (compare true at_most far (minus third (literal size))) (for_all p xs (set (own 0) (plus far (literal size)) ▸ done))
+
+    abbrev word_copy : Term → ℕ → Piece
+    word_copy d offset = set_word (past first d offset) (whole (past second d offset))
 
     abbrev byte_copy : Term → Piece
     byte_copy d = set_byte (plus first d) (byte false (plus second d))
 
-    abbrev fall : ℕ → Piece → Piece
-    fall size p = while_so (compare true greater third (literal 0)) (set (argument 2) (minus third (literal size)) ▸ p ▸ done)
+    abbrev word_fill : ℕ → Piece
+    word_fill offset = set_word (past first far offset) (read (own 1))
+
+    abbrev byte_fill : Piece
+    byte_fill = set_byte (plus first far) second
+
+    abbrev down_to_word : Piece → Piece
+    down_to_word p = while_so (is_inside (plus first third)) (set (argument 2) (minus third (literal 1)) ▸ p ▸ done)
+
+    abbrev while_left : (most size : ℕ) → Pieces → Piece
+    while_left most size ps = while_so (compare true greater third (literal most)) (set (argument 2) (minus third (literal size)) ▸ ps)
 
     -- ---- words of segments
 
@@ -157,15 +174,15 @@ module _ (w : WasmModule) where
       copy_body =
           bound third bytes 2 ▸ start first ▸ start second
           ▸ one_of (compare false at_most first second)
-          (in_case (is_whole (both disjunction first second)) (each_word (word_copy far) ▸ done) ▸ each_byte (byte_copy far) ▸ done)
-          (one_of (is_whole (both disjunction (both disjunction first second) third)) (fall 4 (word_copy third) ▸ done) (fall 1 (byte_copy third) ▸ done) ▸ done)
+          (in_case has_words (up_to_word (byte_copy far) ▸ each 32 (word_copy far) eight_up ▸ each 4 (word_copy far) (0 ∷ []) ▸ done) ▸ each_byte (byte_copy far) ▸ done)
+          (in_case has_words (down_to_word (byte_copy third) ▸ while_left 31 32 (for_all (word_copy third) eight_down done) ▸ while_left 3 4 (word_copy third 0 ▸ done) ▸ done) ▸ while_left 0 1 (byte_copy third ▸ done) ▸ done)
           ▸ done
 
       abbrev fill_body : Pieces
       fill_body =
           bound third bytes 2 ▸ start first
-          ▸ in_case (is_whole first) (set (own 1) (four_times second) ▸ each_word (set_word (plus first far) (read (own 1))) ▸ done)
-          ▸ each_byte (set_byte (plus first far) second)
+          ▸ in_case (compare true greater third (literal 3)) (set (own 1) (four_times second) ▸ up_to_word byte_fill ▸ each 32 word_fill eight_up ▸ each 4 word_fill (0 ∷ []) ▸ done)
+          ▸ each_byte byte_fill
           ▸ done
 
       is_fixnum : nat_lt bytes (2 ^ 31) ≡ true

@@ -1,6 +1,6 @@
 -- A call of the helper that copies.
 use Rattle.std.proofs.Common.{◌≡◌, ℕ, ◌+◌, ◌^◌, ◌≤◌, Bool, true, false, ◌&&◌, List, [], ◌∷◌, None, refl, subst, arith}
-use Rattle.std.specs.Prelude.{if◌then◌else◌, nat_le, bit_or}
+use Rattle.std.specs.Prelude.{if◌then◌else◌, nat_le}
 use Rattle.sem_words.specs.declared.js_value.JsValue.{JsValue}
 use Rattle.sem_words.specs.JsValues.{to_uint32_of}
 use Rattle.sem_words.specs.JsOperators.{signed_value}
@@ -21,7 +21,7 @@ use Rattle.wasm2js_laws_helpers.proofs.Called.{placed, called}
 use Rattle.wasm2js_laws_helpers.proofs.Bodies.{run}
 use Rattle.wasm2js_laws_helpers.proofs.Turned.{marked_word}
 use Rattle.wasm2js_laws_preservation.proofs.LoadsLoaded.{any_heap}
-use Rattle.wasm2js_laws_preservation.specs.RunsAnswers.{is_aligned, copied_run, copy_units, units_upwards, units_downwards}
+use Rattle.wasm2js_laws_preservation.specs.RunsAnswers.{are_alike, copied_run, copy_units, units_upwards, units_downwards}
 use Rattle.wasm2js_laws_preservation.specs.RunsLaws.{HasViews, CopyHelps}
 use Rattle.wasm2js_laws_preservation.proofs.RunsLoops.{Works, settled}
 use Rattle.wasm2js_laws_preservation.proofs.RunsCalled.{Traps, guard_then, test_then, either_then, Comes, called_job}
@@ -49,7 +49,7 @@ module _ (m : Module) (has : HasViews m) (bytes : ℕ) (d : ℕ) (p : Place) (a 
   target = copied to from len p.heap
 
   abbrev loops_units : Bool → ℕ
-  loops_units up = if up then units_upwards (is_aligned (bit_or to from)) len else units_downwards (is_aligned (bit_or (bit_or to from) len)) len
+  loops_units up = if up then units_upwards (are_alike to from len) to len else units_downwards (are_alike to from len) to len
 
   abbrev start : ℕ → Place
   start n = placed p n (copy_locals m has bytes d p a b l nothing)
@@ -69,7 +69,7 @@ module _ (m : Module) (has : HasViews m) (bytes : ℕ) (d : ℕ) (p : Place) (a 
         let holds = h.holds in
         either_then calls c d (word_at (start n)) false at_most first second (block_of copy_up) (block_of copy_down) [] (start n) (Works p target (loops_units true) n) tt (refl, refl) (refl, refl)
         (λ e. settled p target calls c d (loops_units true) n (run calls c d copy_up (start n))
-        (up_works m has bytes d p a b l (any_heap bytes p.heap h) (fits to from is) (omega (arith, here, holds)) n le (is_aligned (bit_or to from)) refl))
+        (up_works m has bytes d p a b l (any_heap bytes p.heap h) (fits to from is) (omega (arith, here, holds)) n le (are_alike to from len) refl))
         (λ e. absurd (cc (is, e)))
     loops_work there here n le false is =
         let holds = h.holds in
@@ -77,7 +77,7 @@ module _ (m : Module) (has : HasViews m) (bytes : ℕ) (d : ℕ) (p : Place) (a 
         either_then calls c d (word_at (start n)) false at_most first second (block_of copy_up) (block_of copy_down) [] (start n) (Works p target (loops_units false) n) tt (refl, refl) (refl, refl)
         (λ e. absurd (cc (is, e)))
         (λ e. settled p target calls c d (loops_units false) n (run calls c d copy_down (start n))
-        (down_works m has bytes d p a b l (any_heap bytes p.heap h) (omega (arith, above)) (omega (arith, there, holds)) n le (is_aligned (bit_or (bit_or to from) len)) refl))
+        (down_works m has bytes d p a b l (any_heap bytes p.heap h) (omega (arith, above)) (omega (arith, there, holds)) n le (are_alike to from len) refl))
 
     inside_works : to + len ≤ bytes → from + len ≤ bytes → (n : ℕ) → n ≤ d → Works p target (loops_units (nat_le to from)) n (run calls c d tests (start n))
     inside_works there here n le =

@@ -1,35 +1,43 @@
 -- The loops that copy downwards, to places after those that are read, from the last ones on.
-use Rattle.std.proofs.Common.{◌≡◌, ℕ, suc, ◌+◌, ◌-◌, ◌*◌, ◌/◌, ◌%◌, ◌^◌, ◌<◌, ◌≤◌, Bool, true, false, List, [], ◌∷◌, length, take, drop, refl, sym, ap, ◌∙◌, subst, arith}
-use Rattle.std.specs.Prelude.{◌==◌, bit_and, bit_or}
+use Rattle.std.proofs.Common.{◌≡◌, ℕ, suc, ◌+◌, ◌-◌, ◌*◌, ◌/◌, ◌%◌, ◌^◌, ◌<◌, ◌≤◌, Bool, true, false, List, [], ◌∷◌, ◌++◌, map, length, take, drop, refl, sym, ap, ◌∙◌, subst, arith}
+use Rattle.std.specs.Prelude.{◌==◌, bit_and}
+use Rattle.std.proofs.lemmas.Bool.Decides.{nat_tests}
 use Rattle.sem_words.specs.declared.js_value.JsValue.{JsValue}
 use Rattle.sem_words.specs.declared.js_value.JsValue.TheVariants.{Bool as Boolean}
 use Rattle.sem_words.specs.JsValues.{to_uint32_of}
-use Rattle.sem_words.specs.Words.{add_of, sub_of}
+use Rattle.sem_words.specs.Words.{add_of, sub_of, rel_of}
+use Rattle.sem_words.specs.declared.word.Rel.TheVariants.{Ne, GtS}
 use Rattle.heap_lang.specs.Heap.{with_run, store_bytes, copied}
 use Rattle.heap_lang.proofs.RunLemmas.{copied_none, length-copied}
 use Rattle.asm_lang.specs.Modules.{Stmt, Module}
 use Rattle.asm_lang_valid.specs.Typing.{Scope}
 use Rattle.asm_lang_valid.specs.Typed.{scope_of}
-use Rattle.asm_lang_exec.specs.Runs.{Binding, binding, Place, after}
+use Rattle.asm_lang_exec.specs.Runs.{Binding, binding, Place, Run, wrong, spent, after}
 use Rattle.asm_lang_exec.specs.Values.{Calls}
-use Rattle.asm_lang_exec.specs.Meaning.{eval, exec, unless_left, call_at}
+use Rattle.asm_lang_exec.specs.Meaning.{eval, exec, Completion, unless_left, call_at}
 use Rattle.wasm2js_translation.specs.Names.{spelled}
-use Rattle.wasm2js_translation.specs.Words.{equal, greater, conjunction, disjunction, both, byte, whole, compare, expr, int_of}
+use Rattle.wasm2js_translation.specs.Words.{Term, equal, unequal, less, greater, conjunction, disjunction, exclusion, both, byte, whole, compare, write_whole, int_of, simple_statement}
 use Rattle.wasm2js_translation.specs.Pairs.{literal, plus, minus}
-use Rattle.wasm2js_translation.specs.Helpers.{argument, own, first, second, third, sets, block_of, fall, copy_word, copy_byte, copy_down, copy_function}
+use Rattle.wasm2js_translation.specs.Helpers.{argument, own, first, second, third, block_of, repeat, fall, is_inside, eight_down, down_to_word, while_left, copy_word, copy_byte, copy_down, copy_function}
 use Rattle.wasm2js_laws_places.specs.Places.{word_at, IsHeap}
 use Rattle.wasm2js_laws_actions.specs.Reads.{Finds}
 use Rattle.wasm2js_laws_helpers.proofs.Bodies.{run}
 use Rattle.wasm2js_laws_preservation.proofs.LoadsNumbers.{number_of}
-use Rattle.wasm2js_laws_preservation.proofs.StoresFound.{compared_finds}
+use Rattle.wasm2js_laws_preservation.proofs.StoresFound.{expr_read, compared_finds}
 use Rattle.wasm2js_laws_preservation.proofs.StoresSteps.{byte_then, whole_then, put_then}
-use Rattle.wasm2js_laws_preservation.specs.RunsAnswers.{units_downwards}
+use Rattle.wasm2js_laws_preservation.specs.RunsAnswers.{are_alike, units_downwards}
 use Rattle.wasm2js_laws_preservation.specs.RunsLaws.{HasViews}
-use Rattle.wasm2js_laws_preservation.proofs.RunsLoops.{Works, at_cost, settled, state, StepIs, IsLoop, looped}
+use Rattle.wasm2js_laws_preservation.proofs.RunsLoops.{Works, at_cost, state, StepIs, IsLoop, repeated}
 use Rattle.wasm2js_laws_preservation.proofs.RunsRuns.{number_stored, copied_down_by}
-use Rattle.wasm2js_laws_preservation.proofs.RunsCalled.{either_then}
-use Rattle.wasm2js_laws_preservation.proofs.RunsTests.{is_some, is_none, low_bits, first_aligned, second_aligned}
-use Rattle.wasm2js_laws_preservation.proofs.RunsUpwards.{nothing, byte_moved, word_moved, byte_moved_is, word_moved_is, heap_copied}
+use Rattle.wasm2js_laws_preservation.proofs.RunsCalled.{only_then}
+use Rattle.wasm2js_laws_preservation.proofs.RunsTests as tests
+use Rattle.wasm2js_laws_preservation.proofs.RunsTests.{is_more, not_more, not_inside, words_test, alike_places}
+use Rattle.wasm2js_laws_preservation.proofs.RunsUpwards.{nothing, past_by, byte_moved, word_moved, byte_moved_is, word_moved_is, heap_copied}
+
+-- each ends where the one before begins, and the last one begins at 0
+abbrev pub AreDownward : (end : ℕ) → List ℕ → Type 0
+AreDownward end [] = end ≡ 0
+AreDownward end (x ∷ xs) = (end ≡ x + 4) × AreDownward x xs
 
 module _ (m : Module) (has : HasViews m) (bytes : ℕ) (d : ℕ) (p : Place) (a b l : JsValue) where
   abbrev calls : Calls
@@ -58,15 +66,19 @@ module _ (m : Module) (has : HasViews m) (bytes : ℕ) (d : ℕ) (p : Place) (a 
   abbrev down_locals : (s : JsValue) → List Binding
   down_locals s = binding (spelled (argument 0)) a ∷ binding (spelled (argument 1)) b ∷ binding (spelled (argument 2)) s ∷ binding (spelled (own 0)) nothing ∷ []
 
-  abbrev byte_body : List Stmt
-  byte_body = sets (argument 2) (minus third (literal 1)) ∷ copy_byte third ∷ []
-
-  abbrev word_body : List Stmt
-  word_body = sets (argument 2) (minus third (literal 4)) ∷ copy_word third ∷ []
-
   module _ (h : IsHeap 0 p.heap) (down : from ≤ to) (within : to + len ≤ length p.heap) where
     abbrev at_place : ℕ → (s : JsValue) → List ℕ → Place
     at_place n s heap = record p { units = n; locals = down_locals s; heap = heap }
+
+    -- the heap where so many bytes are left
+    abbrev so_far : ℕ → List ℕ
+    so_far left = copied_from left (len - left)
+
+    long : (k : ℕ) → length (so_far k) ≡ length p.heap
+    long k = length-copied (to + k) (from + k) (len - k) p.heap
+
+    few_bytes : len < 2 ^ 31
+    few_bytes = let small = h.small in omega (arith, within, small)
 
     moved_on : (left size done : ℕ) → left + (size + done) ≤ len
         → store_bytes (to + left) size (number_of size (from + left) (copied_from (left + size) done)) (copied_from (left + size) done) ≡ copied_from left (size + done)
@@ -80,164 +92,258 @@ module _ (m : Module) (has : HasViews m) (bytes : ℕ) (d : ℕ) (p : Place) (a 
         ∙ ap (λ h. with_run (to + left) (take size (drop (from + left) h)) h) same
         ∙ sym (copied_down_by (to + left) (from + left) size done p.heap (omega (arith, down)) (omega (arith, few, within)))
 
-    -- the same numbers of bytes
-    same_copied : (left done other more : ℕ) → left ≡ other → done ≡ more → copied_from left done ≡ copied_from other more
-    same_copied left done other more e f = ap (λ n. copied_from n done) e ∙ ap (copied_from other) f
+    -- so many bytes more
+    next_bytes : (k size : ℕ) → k + size ≤ len → store_bytes (to + k) size (number_of size (from + k) (so_far (k + size))) (so_far (k + size)) ≡ so_far k
+    next_bytes k size few =
+        let sum : size + (len - (k + size)) ≡ len - k = omega (arith, few) in
+        moved_on k size (len - (k + size)) (omega (arith, few)) ∙ ap (copied_from k) sum
 
-    all_done : (left done : ℕ) → left ≡ 0 → done ≡ len → copied_from left done ≡ target
-    all_done left done e f =
+    none_done : so_far len ≡ p.heap
+    none_done = let none : len - len ≡ 0 = omega arith in ap (copied_from len) none ∙ copied_none (to + len) (from + len) p.heap
+
+    all_done : so_far 0 ≡ target
+    all_done =
         let there : to + 0 ≡ to = omega arith in
         let here : from + 0 ≡ from = omega arith in
-        same_copied left done 0 len e f ∙ ap (λ i. copied i (from + 0) len p.heap) there ∙ ap (λ i. copied to i len p.heap) here
+        let all : len - 0 ≡ len = omega arith in
+        ap (λ i. copied i (from + 0) (len - 0) p.heap) there ∙ ap (λ i. copied to i (len - 0) p.heap) here ∙ ap (λ n. copied to from n p.heap) all
 
-    small_len : len < 2 ^ 31
-    small_len = let small = h.small in omega (arith, within, small)
+    -- ---- one element
 
-    -- ---- byte by byte
+    still : (k : ℕ) → IsHeap 0 (so_far k)
+    still k = heap_copied (to + k) (from + k) (len - k) p.heap h
 
-    abbrev byte_word : ℕ → ℕ
-    byte_word j = len - j
+    byte_put : (k x y : ℕ) → k + 1 ≤ len → x ≡ to + k → y ≡ from + k → byte_moved x y (so_far (k + 1)) ≡ so_far k
+    byte_put k x y few there here =
+        let e = long (k + 1) in
+        ap (λ i. byte_moved i y (so_far (k + 1))) there
+        ∙ ap (λ i. byte_moved (to + k) i (so_far (k + 1))) here
+        ∙ byte_moved_is (to + k) (from + k) (so_far (k + 1)) (still (k + 1)) (omega (arith, few, within, e)) (omega (arith, few, within, down, e))
+        ∙ next_bytes k 1 few
 
-    abbrev byte_heap : ℕ → List ℕ
-    byte_heap j = copied_from (len - j) j
+    word_put : (k x y : ℕ) → k + 4 ≤ len → (to + k) % 4 ≡ 0 → (from + k) % 4 ≡ 0 → x ≡ to + k → y ≡ from + k → word_moved x y (so_far (k + 4)) ≡ so_far k
+    word_put k x y few even_to even_from there here =
+        let e = long (k + 4) in
+        ap (λ i. word_moved i y (so_far (k + 4))) there
+        ∙ ap (λ i. word_moved (to + k) i (so_far (k + 4))) here
+        ∙ word_moved_is (to + k) (from + k) (so_far (k + 4)) (still (k + 4)) even_to even_from (omega (arith, few, within, e)) (omega (arith, few, within, down, e))
+        ∙ next_bytes k 4 few
 
-    abbrev byte_state : (j : ℕ) (s : JsValue) (n : ℕ) → Place
-    byte_state j s n = state p down_locals byte_word byte_heap j s n
+    place_at : (at k : ℕ) (s : JsValue) → to_uint32_of s ≡ k → at + k < 2 ^ 32 → add_of 32 at (to_uint32_of s) ≡ at + k
+    place_at at k s is few = omega (arith, is, few)
 
-    byte_ends : (s : JsValue) (n : ℕ) → to_uint32_of s ≡ byte_word len → Finds (Boolean false) (byte_state len s n) (eval false calls c (int_of (compare true greater third (literal 0))) (byte_state len s n))
-    byte_ends s n is =
-        subst (λ t. Finds (Boolean t) (byte_state len s n) (eval false calls c (int_of (compare true greater third (literal 0))) (byte_state len s n)))
-        (is_none (to_uint32_of s) (omega (arith, is)))
-        (compared_finds calls c true greater third (literal 0) (to_uint32_of s) 0 (byte_state len s n) tt tt (refl, refl) (refl, refl))
+    place_past : (at k offset : ℕ) (s : JsValue) → to_uint32_of s ≡ k → at + (k + offset) < 2 ^ 32 → add_of 32 (add_of 32 at (to_uint32_of s)) (offset % 2 ^ 32) ≡ at + (k + offset)
+    place_past at k offset s is few = omega (arith, is, few)
 
-    byte_goes_on : (j : ℕ) (s : JsValue) (n : ℕ) → j < len → to_uint32_of s ≡ byte_word j
-        → Finds (Boolean true) (byte_state j s n) (eval false calls c (int_of (compare true greater third (literal 0))) (byte_state j s n))
-    byte_goes_on j s n less_than is =
-        let few = small_len in
-        subst (λ t. Finds (Boolean t) (byte_state j s n) (eval false calls c (int_of (compare true greater third (literal 0))) (byte_state j s n)))
-        (is_some (to_uint32_of s) (omega (arith, is, less_than)) (omega (arith, is, few)))
-        (compared_finds calls c true greater third (literal 0) (to_uint32_of s) 0 (byte_state j s n) tt tt (refl, refl) (refl, refl))
-
-    byte_put : (j : ℕ) (v : JsValue) → j < len → to_uint32_of v ≡ byte_word (suc j) → byte_moved (add_of 32 to (to_uint32_of v)) (add_of 32 from (to_uint32_of v)) (byte_heap j) ≡ byte_heap (suc j)
-    byte_put j v less_than is =
+    byte_then_rest : (k : ℕ) (s : JsValue) (n : ℕ) (rest : List Stmt) (P : Run Completion → Type 0) → P wrong → to_uint32_of s ≡ k → k + 1 ≤ len
+        → P (run calls c d rest (at_place n s (so_far k))) → P (run calls c d (copy_byte third ∷ rest) (at_place n s (so_far (k + 1))))
+    byte_then_rest k s n rest P w is few f =
         let small = h.small in
-        let left = len - suc j in
-        let e = length-copied (to + (left + 1)) (from + (left + 1)) j p.heap in
-        let there : add_of 32 to (to_uint32_of v) ≡ to + left = omega (arith, is, less_than, within, small) in
-        let here : add_of 32 from (to_uint32_of v) ≡ from + left = omega (arith, is, less_than, within, small, down) in
-        ap (λ i. byte_moved i (add_of 32 from (to_uint32_of v)) (byte_heap j)) there
-        ∙ ap (λ i. byte_moved (to + left) i (byte_heap j)) here
-        ∙ ap (byte_moved (to + left) (from + left)) (same_copied (len - j) j (left + 1) j (omega (arith, less_than)) refl)
-        ∙ byte_moved_is (to + left) (from + left) (copied_from (left + 1) j) (heap_copied (to + (left + 1)) (from + (left + 1)) j p.heap h) (omega (arith, less_than, within, e)) (omega (arith, less_than, within, down, e))
-        ∙ moved_on left 1 j (omega (arith, less_than))
-        ∙ same_copied left (1 + j) left (suc j) refl (omega arith)
-
-    byte_step : (j : ℕ) (s : JsValue) (n : ℕ) → j < len → to_uint32_of s ≡ byte_word j
-        → StepIs p down_locals byte_word byte_heap (suc j) n (exec false calls c d [] (block_of byte_body) (byte_state j s n))
-    byte_step j s n less_than is =
-        put_then calls c d (word_at (byte_state j s n)) (argument 2) (minus third (literal 1)) (copy_byte third ∷ []) (byte_state j s n) (StepIs p down_locals byte_word byte_heap (suc j) n) tt ((refl, refl), (tt, tt))
-        (λ v e.
-        let rest : to_uint32_of v ≡ sub_of 32 (to_uint32_of s) 1 = e in
-        let few = small_len in
-        let left : to_uint32_of v ≡ byte_word (suc j) = omega (arith, rest, is, less_than, few) in
-        byte_then calls c d (word_at (at_place n v (byte_heap j))) (plus first third) (byte false (plus second third)) [] (at_place n v (byte_heap j)) (StepIs p down_locals byte_word byte_heap (suc j) n) tt has.bytes
+        byte_then calls c d (word_at (at_place n s (so_far (k + 1)))) (plus first third) (byte false (plus second third)) rest (at_place n s (so_far (k + 1))) P w has.bytes
         ((refl, refl), ((refl, refl), tt)) (has.bytes, ((refl, refl), ((refl, refl), tt)))
-        (record { value = v; has_word = left; is = ap (at_place n v) (byte_put j v less_than left) }))
+        (subst (λ heap. P (run calls c d rest (at_place n s heap)))
+        (sym (byte_put k (add_of 32 to (to_uint32_of s)) (add_of 32 from (to_uint32_of s)) few (place_at to k s is (omega (arith, few, within, small))) (place_at from k s is (omega (arith, few, within, small, down)))))
+        f)
 
-    byte_is_loop : IsLoop p down_locals byte_word byte_heap len (eval false calls c (int_of (compare true greater third (literal 0)))) (exec false calls c d [] (block_of byte_body))
-    byte_is_loop = record { ends = byte_ends; goes_on = byte_goes_on; step = byte_step }
+    module _ (k : ℕ) (even_to : (to + k) % 4 ≡ 0) (even_from : (from + k) % 4 ≡ 0) (s : JsValue) (n : ℕ) (is : to_uint32_of s ≡ k) where
+      word_then_rest : (offset : ℕ) (rest : List Stmt) (P : Run Completion → Type 0) → P wrong → offset % 4 ≡ 0 → k + (offset + 4) ≤ len
+          → P (run calls c d rest (at_place n s (so_far (k + offset)))) → P (run calls c d (copy_word third offset ∷ rest) (at_place n s (so_far (k + (offset + 4)))))
+      word_then_rest offset rest P w even few f =
+          let last : j + 4 ≡ k + (offset + 4) = omega arith in
+          subst (λ i. P (run calls c d (copy_word third offset ∷ rest) (at_place n s (so_far i)))) last (by (offset == 0) refl)
+        where
+          j : ℕ
+          j = k + offset
 
-    bytes_work : (n : ℕ) → n ≤ d → Works p target (1 + len) n (run calls c d (fall 1 (copy_byte third) ∷ []) (at_place n l p.heap))
-    bytes_work n le =
-        at_cost p target (1 + len + 0) (1 + len) n (run calls c d (fall 1 (copy_byte third) ∷ []) (at_place n l p.heap)) (omega arith)
-        (subst (λ h. Works p target (1 + len + 0) n (run calls c d (fall 1 (copy_byte third) ∷ []) (at_place n l h))) (copied_none (to + (len - 0)) (from + (len - 0)) p.heap)
-        (looped p down_locals byte_word byte_heap target len (eval false calls c (int_of (compare true greater third (literal 0)))) (exec false calls c d [] (block_of byte_body)) byte_is_loop
-        (λ r. after r (λ e. unless_left e (run calls c d []))) refl (λ q. refl) d len 0 l n 0 le (omega arith) (omega arith)
-        (λ s n le has. (omega arith, all_done (len - len) len (omega arith) refl, refl, refl, refl))))
+          small : length p.heap ≤ 2 ^ 28
+          small = h.small
 
-    -- ---- word by word
+          put : (x y : ℕ) → x ≡ to + j → y ≡ from + j → word_moved x y (so_far (j + 4)) ≡ so_far j
+          put x y there here = word_put j x y (omega (arith, few)) (omega (arith, even, even_to)) (omega (arith, even, even_from)) there here
 
-    module _ (even_to : to % 4 ≡ 0) (even_from : from % 4 ≡ 0) (even_len : len % 4 ≡ 0) where
-      abbrev whole_words : ℕ
-      whole_words = len / 4
+          by : (t : Bool) → (offset == 0) ≡ t
+              → P (run calls c d (simple_statement (write_whole (past_by t first third offset) (whole (past_by t second third offset))) ∷ rest) (at_place n s (so_far (j + 4))))
+          by true e =
+              let none : offset ≡ 0 = grind (arith, nat_tests, e) in
+              whole_then calls c d (word_at (at_place n s (so_far (j + 4)))) (plus first third) (whole (plus second third)) rest (at_place n s (so_far (j + 4))) P w has.words
+              ((refl, refl), ((refl, refl), tt)) (has.words, ((refl, refl), ((refl, refl), tt)))
+              (subst (λ heap. P (run calls c d rest (at_place n s heap)))
+              (sym (put (add_of 32 to (to_uint32_of s)) (add_of 32 from (to_uint32_of s)) (place_at to j s (omega (arith, is, none)) (omega (arith, few, within, small))) (place_at from j s (omega (arith, is, none)) (omega (arith, few, within, small, down)))))
+              f)
+          by false e =
+              whole_then calls c d (word_at (at_place n s (so_far (j + 4)))) (past_by false first third offset) (whole (past_by false second third offset)) rest (at_place n s (so_far (j + 4))) P w has.words
+              ((refl, refl), ((refl, refl), (tt, tt))) (has.words, ((refl, refl), ((refl, refl), (tt, tt))))
+              (subst (λ heap. P (run calls c d rest (at_place n s heap)))
+              (sym (put (add_of 32 (add_of 32 to (to_uint32_of s)) (offset % 2 ^ 32)) (add_of 32 (add_of 32 from (to_uint32_of s)) (offset % 2 ^ 32))
+              (place_past to k offset s is (omega (arith, few, within, small))) (place_past from k offset s is (omega (arith, few, within, small, down)))))
+              f)
 
-      abbrev word_word : ℕ → ℕ
-      word_word j = len - 4 * j
+      words_then_rest : (os : List ℕ) (end : ℕ) (rest : List Stmt) (P : Run Completion → Type 0) → P wrong → AreDownward end os → end % 4 ≡ 0 → k + end ≤ len
+          → P (run calls c d rest (at_place n s (so_far k))) → P (run calls c d (map (copy_word third) os ++ rest) (at_place n s (so_far (k + end))))
+      words_then_rest [] end rest P w are even few f =
+          let same : k + end ≡ k = omega (arith, are) in
+          subst (λ j. P (run calls c d rest (at_place n s (so_far j)))) (sym same) f
+      words_then_rest (x ∷ xs) end rest P w are even few f =
+          let begins = are.0 in
+          subst (λ e. P (run calls c d (copy_word third x ∷ (map (copy_word third) xs ++ rest)) (at_place n s (so_far (k + e))))) (sym begins)
+          (word_then_rest x (map (copy_word third) xs ++ rest) P w (omega (arith, even, begins)) (omega (arith, few, begins))
+          (words_then_rest xs x rest P w are.1 (omega (arith, even, begins)) (omega (arith, few, begins)) f))
 
-      abbrev word_heap : ℕ → List ℕ
-      word_heap j = copied_from (len - 4 * j) (4 * j)
+    -- ---- loops, where so many bytes are left after j turns
 
-      abbrev word_state : (j : ℕ) (s : JsValue) (n : ℕ) → Place
-      word_state j s n = state p down_locals word_word word_heap j s n
+    module _ (word : ℕ → ℕ) where
+      abbrev heap_at : ℕ → List ℕ
+      heap_at j = so_far (word j)
 
-      word_ends : (s : JsValue) (n : ℕ) → to_uint32_of s ≡ word_word whole_words
-          → Finds (Boolean false) (word_state whole_words s n) (eval false calls c (int_of (compare true greater third (literal 0))) (word_state whole_words s n))
-      word_ends s n is =
-          subst (λ t. Finds (Boolean t) (word_state whole_words s n) (eval false calls c (int_of (compare true greater third (literal 0))) (word_state whole_words s n)))
-          (is_none (to_uint32_of s) (omega (arith, is, even_len)))
-          (compared_finds calls c true greater third (literal 0) (to_uint32_of s) 0 (word_state whole_words s n) tt tt (refl, refl) (refl, refl))
+      abbrev at_turn : (j : ℕ) (s : JsValue) (n : ℕ) → Place
+      at_turn j s n = state p down_locals word heap_at j s n
 
-      word_goes_on : (j : ℕ) (s : JsValue) (n : ℕ) → j < whole_words → to_uint32_of s ≡ word_word j
-          → Finds (Boolean true) (word_state j s n) (eval false calls c (int_of (compare true greater third (literal 0))) (word_state j s n))
-      word_goes_on j s n less_than is =
-          let few = small_len in
-          subst (λ t. Finds (Boolean t) (word_state j s n) (eval false calls c (int_of (compare true greater third (literal 0))) (word_state j s n)))
-          (is_some (to_uint32_of s) (omega (arith, is, less_than)) (omega (arith, is, few)))
-          (compared_finds calls c true greater third (literal 0) (to_uint32_of s) 0 (word_state j s n) tt tt (refl, refl) (refl, refl))
+      abbrev Stands : (test : Term) → Bool → (j : ℕ) (s : JsValue) (n : ℕ) → Type 0
+      Stands test b j s n = Finds (Boolean b) (at_turn j s n) (eval false calls c (int_of test) (at_turn j s n))
 
-      word_put : (j : ℕ) (v : JsValue) → j < whole_words → to_uint32_of v ≡ word_word (suc j) → word_moved (add_of 32 to (to_uint32_of v)) (add_of 32 from (to_uint32_of v)) (word_heap j) ≡ word_heap (suc j)
-      word_put j v less_than is =
-          let small = h.small in
-          let left = len - 4 * suc j in
-          let e = length-copied (to + (left + 4)) (from + (left + 4)) (4 * j) p.heap in
-          let there : add_of 32 to (to_uint32_of v) ≡ to + left = omega (arith, is, less_than, within, small) in
-          let here : add_of 32 from (to_uint32_of v) ≡ from + left = omega (arith, is, less_than, within, small, down) in
-          ap (λ i. word_moved i (add_of 32 from (to_uint32_of v)) (word_heap j)) there
-          ∙ ap (λ i. word_moved (to + left) i (word_heap j)) here
-          ∙ ap (word_moved (to + left) (from + left)) (same_copied (len - 4 * j) (4 * j) (left + 4) (4 * j) (omega (arith, less_than)) refl)
-          ∙ word_moved_is (to + left) (from + left) (copied_from (left + 4) (4 * j)) (heap_copied (to + (left + 4)) (from + (left + 4)) (4 * j) p.heap h)
-          (omega (arith, even_to, even_len, less_than)) (omega (arith, even_from, even_len, less_than)) (omega (arith, less_than, within, e)) (omega (arith, less_than, within, down, e))
-          ∙ moved_on left 4 (4 * j) (omega (arith, less_than))
-          ∙ same_copied left (4 + 4 * j) left (4 * suc j) refl (omega arith)
+      abbrev Loops : (total : ℕ) (test : Term) (ss : List Stmt) → Type 0
+      Loops total test ss = IsLoop p down_locals word heap_at total (eval false calls c (int_of test)) (exec false calls c d [] (block_of ss))
 
-      word_step : (j : ℕ) (s : JsValue) (n : ℕ) → j < whole_words → to_uint32_of s ≡ word_word j
-          → StepIs p down_locals word_word word_heap (suc j) n (exec false calls c d [] (block_of word_body) (word_state j s n))
-      word_step j s n less_than is =
-          put_then calls c d (word_at (word_state j s n)) (argument 2) (minus third (literal 4)) (copy_word third ∷ []) (word_state j s n) (StepIs p down_locals word_word word_heap (suc j) n) tt ((refl, refl), (tt, tt))
+      -- the tests
+
+      inside_stands : (b : Bool) (j : ℕ) (s : JsValue) (n : ℕ) → rel_of 32 Ne (bit_and (add_of 32 to (to_uint32_of s)) 3) 0 ≡ b → Stands (is_inside (plus first third)) b j s n
+      inside_stands b j s n e =
+          subst (λ t. Stands (is_inside (plus first third)) t j s n) e
+          (compared_finds calls c true unequal (both conjunction (plus first third) (literal 3)) (literal 0) (bit_and (add_of 32 to (to_uint32_of s)) 3) 0 (at_turn j s n) tt tt
+          (expr_read calls c (word_at (at_turn j s n)) (at_turn j s n) (both conjunction (plus first third) (literal 3)) (((refl, refl), ((refl, refl), tt)), tt)) (refl, refl))
+
+      left_stands : (most : ℕ) (b : Bool) (j : ℕ) (s : JsValue) (n : ℕ) → rel_of 32 GtS (to_uint32_of s) (most % 2 ^ 32) ≡ b → Stands (compare true greater third (literal most)) b j s n
+      left_stands most b j s n e =
+          subst (λ t. Stands (compare true greater third (literal most)) t j s n) e
+          (compared_finds calls c true greater third (literal most) (to_uint32_of s) (most % 2 ^ 32) (at_turn j s n) tt tt (refl, refl) (refl, refl))
+
+      -- so many bytes fewer are left, before they are copied
+      fallen : (size j : ℕ) (s : JsValue) (n : ℕ) (ss : List Stmt) → to_uint32_of s ≡ word j → word j ≡ word (suc j) + size → word j ≤ len
+          → ((v : JsValue) → to_uint32_of v ≡ word (suc j) → StepIs p down_locals word heap_at (suc j) n (run calls c d ss (at_place n v (so_far (word (suc j) + size)))))
+          → StepIs p down_locals word heap_at (suc j) n (exec false calls c d [] (block_of (fall size ss)) (at_turn j s n))
+      fallen size j s n ss is next few f =
+          let k = few_bytes in
+          put_then calls c d (word_at (at_turn j s n)) (argument 2) (minus third (literal size)) ss (at_turn j s n) (StepIs p down_locals word heap_at (suc j) n) tt ((refl, refl), (tt, tt))
           (λ v e.
-          let rest : to_uint32_of v ≡ sub_of 32 (to_uint32_of s) 4 = e in
-          let few = small_len in
-          let left : to_uint32_of v ≡ word_word (suc j) = omega (arith, rest, is, less_than, few) in
-          whole_then calls c d (word_at (at_place n v (word_heap j))) (plus first third) (whole (plus second third)) [] (at_place n v (word_heap j)) (StepIs p down_locals word_word word_heap (suc j) n) tt has.words
-          ((refl, refl), ((refl, refl), tt)) (has.words, ((refl, refl), ((refl, refl), tt)))
-          (record { value = v; has_word = left; is = ap (at_place n v) (word_put j v less_than left) }))
+          let rest : to_uint32_of v ≡ sub_of 32 (to_uint32_of s) (size % 2 ^ 32) = e in
+          subst (λ i. StepIs p down_locals word heap_at (suc j) n (run calls c d ss (at_place n v (so_far i)))) (sym next) (f v (omega (arith, rest, is, next, few, k))))
 
-      word_is_loop : IsLoop p down_locals word_word word_heap whole_words (eval false calls c (int_of (compare true greater third (literal 0)))) (exec false calls c d [] (block_of word_body))
-      word_is_loop = record { ends = word_ends; goes_on = word_goes_on; step = word_step }
+      -- where a turn ends
+      turned : (j : ℕ) (v : JsValue) (n : ℕ) → to_uint32_of v ≡ word (suc j) → StepIs p down_locals word heap_at (suc j) n (run calls c d [] (at_place n v (so_far (word (suc j)))))
+      turned j v n e = record { value = v; has_word = e; is = refl }
 
-      words_work : (n : ℕ) → n ≤ d → Works p target (1 + whole_words) n (run calls c d (fall 4 (copy_word third) ∷ []) (at_place n l p.heap))
-      words_work n le =
-          at_cost p target (1 + whole_words + 0) (1 + whole_words) n (run calls c d (fall 4 (copy_word third) ∷ []) (at_place n l p.heap)) (omega arith)
-          (subst (λ h. Works p target (1 + whole_words + 0) n (run calls c d (fall 4 (copy_word third) ∷ []) (at_place n l h))) (copied_none (to + (len - 4 * 0)) (from + (len - 4 * 0)) p.heap)
-          (looped p down_locals word_word word_heap target whole_words (eval false calls c (int_of (compare true greater third (literal 0)))) (exec false calls c d [] (block_of word_body)) word_is_loop
-          (λ r. after r (λ e. unless_left e (run calls c d []))) refl (λ q. refl) d whole_words 0 l n 0 le (omega arith) (omega arith)
-          (λ s n le has. (omega arith, all_done (len - 4 * whole_words) (4 * whole_words) (omega (arith, even_len)) (omega (arith, even_len)), refl, refl, refl))))
+      byte_step : (j : ℕ) (s : JsValue) (n : ℕ) → to_uint32_of s ≡ word j → word j ≡ word (suc j) + 1 → word j ≤ len
+          → StepIs p down_locals word heap_at (suc j) n (exec false calls c d [] (block_of (fall 1 (copy_byte third ∷ []))) (at_turn j s n))
+      byte_step j s n is next few =
+          fallen 1 j s n (copy_byte third ∷ []) is next few
+          (λ v e. byte_then_rest (word (suc j)) v n [] (StepIs p down_locals word heap_at (suc j) n) tt e (omega (arith, next, few)) (turned j v n e))
 
-    -- ---- either loop
+      -- words at these offsets
+      words_step : (size : ℕ) (os : List ℕ) → AreDownward size os → size % 4 ≡ 0 → (j : ℕ) (s : JsValue) (n : ℕ) → (to + word (suc j)) % 4 ≡ 0 → (from + word (suc j)) % 4 ≡ 0 → to_uint32_of s ≡ word j
+          → word j ≡ word (suc j) + size → word j ≤ len → StepIs p down_locals word heap_at (suc j) n (exec false calls c d [] (block_of (fall size (map (copy_word third) os ++ []))) (at_turn j s n))
+      words_step size os are even j s n even_to even_from is next few =
+          fallen size j s n (map (copy_word third) os ++ []) is next few
+          (λ v e. words_then_rest (word (suc j)) even_to even_from v n e os size [] (StepIs p down_locals word heap_at (suc j) n) tt are even (omega (arith, next, few)) (turned j v n e))
 
-    pub down_works : (n : ℕ) → n ≤ d → (t : Bool) → (bit_and (bit_or (bit_or to from) len) 3 == 0) ≡ t → Works p target (units_downwards t len) n (run calls c d copy_down (at_place n l p.heap))
-    down_works n le true is =
-        let low = low_bits (bit_or (bit_or to from) len) is in
-        let both_low = first_aligned (bit_or to from) len low in
-        either_then calls c d (word_at (at_place n l p.heap)) true equal (both conjunction (both disjunction (both disjunction first second) third) (literal 3)) (literal 0)
-        (block_of (fall 4 (copy_word third) ∷ [])) (block_of (fall 1 (copy_byte third) ∷ [])) [] (at_place n l p.heap) (Works p target (1 + len / 4) n) tt
-        ((((refl, refl), (refl, refl)), (refl, refl)), tt) tt
-        (λ e. settled p target calls c d (1 + len / 4) n (run calls c d (fall 4 (copy_word third) ∷ []) (at_place n l p.heap))
-        (words_work (first_aligned to from both_low) (second_aligned to from both_low) (second_aligned (bit_or to from) len low) n le))
-        (λ e. absurd (cc (is, e)))
-    down_works n le false is =
-        either_then calls c d (word_at (at_place n l p.heap)) true equal (both conjunction (both disjunction (both disjunction first second) third) (literal 3)) (literal 0)
-        (block_of (fall 4 (copy_word third) ∷ [])) (block_of (fall 1 (copy_byte third) ∷ [])) [] (at_place n l p.heap) (Works p target (1 + len) n) tt
-        ((((refl, refl), (refl, refl)), (refl, refl)), tt) tt
-        (λ e. absurd (cc (is, e)))
-        (λ e. settled p target calls c d (1 + len) n (run calls c d (fall 1 (copy_byte third) ∷ []) (at_place n l p.heap)) (bytes_work n le))
+      -- from one place to another
+      looping : (total : ℕ) (test : Term) (ss rest : List Stmt) → Loops total test ss → (K : Run Completion → Run Completion) → K wrong ≡ wrong → ((q : Place) → K (spent q) ≡ spent q)
+          → (cost start stop : ℕ) → word 0 ≡ start → word total ≡ stop
+          → ((s : JsValue) (n : ℕ) → n ≤ d → to_uint32_of s ≡ stop → Works p target cost n (K (run calls c d rest (at_place n s (so_far stop)))))
+          → (s : JsValue) (n : ℕ) → n ≤ d → to_uint32_of s ≡ start → Works p target (1 + total + cost) n (K (run calls c d (repeat test ss ∷ rest) (at_place n s (so_far start))))
+      looping total test ss rest loops K is_wrong is_spent cost start stop starts stops f s n le is =
+          subst (λ k. Works p target (1 + total + cost) n (K (run calls c d (repeat test ss ∷ rest) (at_place n s (so_far k))))) starts
+          (repeated p down_locals word heap_at target calls c d total test ss rest loops K is_wrong is_spent cost s n le (is ∙ sym starts)
+          (λ s n le has. subst (λ k. Works p target cost n (K (run calls c d rest (at_place n s (so_far k))))) (sym stops) (f s n le (has ∙ stops))))
+
+    -- ---- the four loops
+
+    abbrev byte_loop : List Stmt
+    byte_loop = while_left 0 1 (copy_byte third ∷ []) ∷ []
+
+    -- byte by byte, where so many are left
+    bytes_work : (start : ℕ) → start ≤ len → (s : JsValue) (n : ℕ) → n ≤ d → to_uint32_of s ≡ start → Works p target (1 + start) n (run calls c d byte_loop (at_place n s (so_far start)))
+    bytes_work start few s n le is =
+        let k = few_bytes in
+        at_cost p target (1 + start + 0) (1 + start) n (run calls c d byte_loop (at_place n s (so_far start))) (omega arith)
+        (looping (λ j. start - j) start (compare true greater third (literal 0)) (fall 1 (copy_byte third ∷ [])) []
+        (record {
+          ends = λ s n is. left_stands (λ j. start - j) 0 false start s n (not_more (to_uint32_of s) 0 (omega (arith, is)) (omega arith));
+          goes_on = λ j s n less is. left_stands (λ j. start - j) 0 true j s n (is_more (to_uint32_of s) 0 (omega (arith, is, less)) (omega (arith, is, few, k)));
+          step = λ j s n less is. byte_step (λ j. start - j) j s n is (omega (arith, less)) (omega (arith, few));
+        })
+        (λ r. r) refl (λ q. refl) 0 start 0 (omega arith) (omega arith) (λ s n le has. (omega arith, all_done, refl, refl, refl)) s n le is)
+
+    module _ (alike : to % 4 ≡ from % 4) (four : 4 ≤ len) where
+      -- how many bytes are behind the last word, and before that
+      abbrev behind : ℕ
+      behind = (to + len) % 4
+
+      abbrev left : ℕ
+      left = len - behind
+
+      -- and then the bytes that are left
+      abbrev bytes_after : Run Completion → Run Completion
+      bytes_after r = after r (λ e. unless_left e (run calls c d byte_loop))
+
+      abbrev words_rest : List Stmt
+      words_rest = while_left 3 4 (copy_word third 0 ∷ []) ∷ []
+
+      abbrev eight_rest : List Stmt
+      eight_rest = while_left 31 32 (map (copy_word third) eight_down) ∷ words_rest
+
+      words_work : (s : JsValue) (n : ℕ) → n ≤ d → to_uint32_of s ≡ left % 32
+          → Works p target (1 + left % 32 / 4 + (1 + left % 4)) n (bytes_after (run calls c d words_rest (at_place n s (so_far (left % 32)))))
+      words_work s n le is =
+          let k = few_bytes in
+          looping (λ j. left % 32 - 4 * j) (left % 32 / 4) (compare true greater third (literal 3)) (fall 4 (copy_word third 0 ∷ [])) []
+          (record {
+            ends = λ s n is. left_stands (λ j. left % 32 - 4 * j) 3 false (left % 32 / 4) s n (not_more (to_uint32_of s) 3 (omega (arith, is)) (omega arith));
+            goes_on = λ j s n less is. left_stands (λ j. left % 32 - 4 * j) 3 true j s n (is_more (to_uint32_of s) 3 (omega (arith, is, less)) (omega (arith, is, k)));
+            step = λ j s n less is.
+                words_step (λ j. left % 32 - 4 * j) 4 (0 ∷ []) (refl, refl) refl j s n (omega (arith, less, four)) (omega (arith, less, four, alike)) is (omega (arith, less)) (omega arith);
+          })
+          bytes_after refl (λ q. refl) (1 + left % 4) (left % 32) (left % 4) (omega arith) (omega arith) (λ s n le has. bytes_work (left % 4) (omega arith) s n le has) s n le is
+
+      eight_work : (s : JsValue) (n : ℕ) → n ≤ d → to_uint32_of s ≡ left
+          → Works p target (1 + left / 32 + (1 + left % 32 / 4 + (1 + left % 4))) n (bytes_after (run calls c d eight_rest (at_place n s (so_far left))))
+      eight_work s n le is =
+          let k = few_bytes in
+          looping (λ j. left - 32 * j) (left / 32) (compare true greater third (literal 31)) (fall 32 (map (copy_word third) eight_down)) words_rest
+          (record {
+            ends = λ s n is. left_stands (λ j. left - 32 * j) 31 false (left / 32) s n (not_more (to_uint32_of s) 31 (omega (arith, is)) (omega arith));
+            goes_on = λ j s n less is. left_stands (λ j. left - 32 * j) 31 true j s n (is_more (to_uint32_of s) 31 (omega (arith, is, less)) (omega (arith, is, k)));
+            step = λ j s n less is.
+                words_step (λ j. left - 32 * j) 32 eight_down (refl, (refl, (refl, (refl, (refl, (refl, (refl, (refl, refl)))))))) refl j s n (omega (arith, less, four)) (omega (arith, less, four, alike)) is (omega (arith, less)) (omega arith);
+          })
+          bytes_after refl (λ q. refl) (1 + left % 32 / 4 + (1 + left % 4)) left (left % 32) (omega arith) (omega arith) words_work s n le is
+
+      head_work : (n : ℕ) → n ≤ d
+          → Works p target (units_downwards true to len) n (bytes_after (run calls c d (down_to_word (copy_byte third) ∷ eight_rest) (at_place n l p.heap)))
+      head_work n le =
+          let small = h.small in
+          subst (λ heap. Works p target (units_downwards true to len) n (bytes_after (run calls c d (down_to_word (copy_byte third) ∷ eight_rest) (at_place n l heap)))) none_done
+          (looping (λ j. len - j) behind (is_inside (plus first third)) (fall 1 (copy_byte third ∷ [])) eight_rest
+          (record {
+            ends = λ s n is. inside_stands (λ j. len - j) false behind s n (not_inside (add_of 32 to (to_uint32_of s)) (omega (arith, is, four, within, small)));
+            goes_on = λ j s n less is. inside_stands (λ j. len - j) true j s n (tests.is_inside (add_of 32 to (to_uint32_of s)) (λ none. omega (arith, is, none, less, four, within, small)));
+            step = λ j s n less is. byte_step (λ j. len - j) j s n is (omega (arith, less, four)) (omega arith);
+          })
+          bytes_after refl (λ q. refl) (1 + left / 32 + (1 + left % 32 / 4 + (1 + left % 4))) len left (omega arith) refl eight_work l n le refl)
+
+    -- ---- all of them, or bytes alone
+
+    pub down_works : (n : ℕ) → n ≤ d → (t : Bool) → are_alike to from len ≡ t → Works p target (units_downwards t to len) n (run calls c d copy_down (at_place n l p.heap))
+    down_works n le t is =
+        only_then calls c d (word_at (at_place n l p.heap)) true equal (both disjunction (both conjunction (both exclusion first second) (literal 3)) (compare true less third (literal 4))) (literal 0)
+        (block_of (down_to_word (copy_byte third) ∷ while_left 31 32 (map (copy_word third) eight_down) ∷ while_left 3 4 (copy_word third 0 ∷ []) ∷ [])) byte_loop (at_place n l p.heap)
+        (Works p target (units_downwards t to len) n) tt ((((refl, refl), (refl, refl)), tt), ((refl, refl), tt)) tt (λ e. by_words_work t is (sym (words_test to from len few_bytes) ∙ e)) (λ e. by_bytes_work t is (sym (words_test to from len few_bytes) ∙ e))
+      where
+        by_words_work : (t : Bool) → are_alike to from len ≡ t → are_alike to from len ≡ true
+            → Works p target (units_downwards t to len) n (after (run calls c d (down_to_word (copy_byte third) ∷ while_left 31 32 (map (copy_word third) eight_down) ∷ while_left 3 4 (copy_word third 0 ∷ []) ∷ []) (at_place n l p.heap)) (λ e. unless_left e (run calls c d byte_loop)))
+        by_words_work true is e = head_work (alike_places to from len e).0 (alike_places to from len e).1 n le
+        by_words_work false is e = absurd (cc (is, e))
+
+        by_bytes_work : (t : Bool) → are_alike to from len ≡ t → are_alike to from len ≡ false → Works p target (units_downwards t to len) n (run calls c d byte_loop (at_place n l p.heap))
+        by_bytes_work true is e = absurd (cc (is, e))
+        by_bytes_work false is e =
+            subst (λ heap. Works p target (1 + len) n (run calls c d byte_loop (at_place n l heap))) none_done (bytes_work len (omega arith) l n le refl)

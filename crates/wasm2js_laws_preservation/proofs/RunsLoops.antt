@@ -1,13 +1,16 @@
 -- A loop that changes one variable and the heap, by the turns that are done.
-use Rattle.std.proofs.Common.{◌≡◌, ℕ, zero, suc, ◌+◌, ◌<◌, ◌≤◌, true, false, if◌then◌else◌, List, [], refl, sym, ap, ◌∙◌, subst, arith}
+use Rattle.std.proofs.Common.{◌≡◌, ℕ, zero, suc, ◌+◌, ◌<◌, ◌≤◌, true, false, if◌then◌else◌, List, [], ◌∷◌, refl, sym, ap, ◌∙◌, subst, arith}
 use Rattle.sem_words.specs.declared.js_value.JsValue.{JsValue}
 use Rattle.sem_words.specs.declared.js_value.JsValue.TheVariants.{Bool as Boolean}
 use Rattle.sem_words.specs.JsValues.{to_uint32_of, truthy_of}
 use Rattle.asm_lang_exec.specs.Runs as runs
 use Rattle.asm_lang_exec.specs.Runs.{Binding, Place, Run, goes, stops, spent, wrong, Part, after, and_then}
-use Rattle.asm_lang_exec.specs.Meaning.{Completion, normal, broken, continued, returned, unless_left, loop_end, unless_ended, turns}
+use Rattle.asm_lang.specs.Modules.{Stmt}
+use Rattle.asm_lang_exec.specs.Meaning.{eval, exec, Completion, normal, broken, continued, returned, unless_left, loop_end, unless_ended, turns}
 use Rattle.asm_lang_valid.specs.Typing.{Scope}
 use Rattle.asm_lang_exec.specs.Values.{Calls}
+use Rattle.wasm2js_translation.specs.Words.{Term, int_of}
+use Rattle.wasm2js_translation.specs.Helpers.{block_of, repeat}
 use Rattle.wasm2js_laws_actions.specs.Reads.{Finds}
 use Rattle.wasm2js_laws_helpers.proofs.Bodies.{run}
 use Rattle.wasm2js_laws_actions.proofs.Reading.{found_then}
@@ -114,3 +117,12 @@ module _ (base : Place) (locals : JsValue → List Binding) (word : ℕ → ℕ)
         (one_more base target (1 + k + cost) (1 + suc k + cost) n (outer (turn d (Boolean true) (state j s n))) (omega arith)
         (stepped_works d j (1 + k + cost) n (body (state j s n)) (l.step j s n less is)
         (λ t has. looped d k (suc j) t n cost (omega (arith, le)) (omega (arith, e)) has (λ s n le. f s n (omega (arith, le))))))
+
+  -- a loop before other statements, with what comes after them all
+  pub repeated : (target : List ℕ) (calls : Calls) (c : Scope) (d total : ℕ) (test : Term) (ss rest : List Stmt)
+      → IsLoop total (eval false calls c (int_of test)) (exec false calls c d [] (block_of ss))
+      → (K : Run Completion → Run Completion) → K wrong ≡ wrong → ((q : Place) → K (spent q) ≡ spent q) → (cost : ℕ) (s : JsValue) (n : ℕ) → n ≤ d → to_uint32_of s ≡ word 0
+      → ((s : JsValue) (n : ℕ) → n ≤ d → to_uint32_of s ≡ word total → Works base target cost n (K (run calls c d rest (state total s n))))
+      → Works base target (1 + total + cost) n (K (run calls c d (repeat test ss ∷ rest) (state 0 s n)))
+  repeated target calls c d total test ss rest is_loop K is_wrong is_spent cost s n le is f =
+      looped target total (eval false calls c (int_of test)) (exec false calls c d [] (block_of ss)) is_loop (λ r. K (after r (λ e. unless_left e (run calls c d rest)))) is_wrong is_spent d total 0 s n cost le (omega arith) is f

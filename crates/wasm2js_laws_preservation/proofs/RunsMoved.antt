@@ -1,6 +1,6 @@
 -- Fills and copies: their code calls a helper, whose loops a reduction may pay for.
 use Rattle.std.proofs.Common.{◌≡◌, ℕ, ◌+◌, ◌%◌, ◌≤◌, Bool, true, false, ◌&&◌, List, [], ◌∷◌, ◌++◌, length, take, drop, take-append-drop, take_all, drop_of_length-le, replicate, Some, None, Ok, refl, sym, ap, ◌∙◌, subst, arith}
-use Rattle.std.specs.Prelude.{if◌then◌else◌, nat_le, bit_or}
+use Rattle.std.specs.Prelude.{if◌then◌else◌, nat_le}
 use Rattle.std.proofs.lemmas.List.{take-append-le, drop-append-le, length-append, length-take, length-drop, length-replicate}
 use Rattle.std.proofs.lemmas.Bool.Decides.{nat_tests}
 use Rattle.session_lang.specs.Imports.{Replies}
@@ -27,39 +27,41 @@ use Rattle.wasm2js_laws_preservation.proofs.WideKept.{low}
 use Rattle.wasm2js_laws_typed.proofs.SoundPlain.{of_fixed}
 use Rattle.wasm2js_laws_preservation.proofs.LoadsGuarded.{nothing_after}
 use Rattle.wasm2js_laws_preservation.proofs.LoadsNumbers.{memory_length}
-use Rattle.wasm2js_laws_preservation.specs.RunsAnswers.{filled_run, fill_units, copied_run, copy_units, units_upwards, units_downwards, is_aligned}
+use Rattle.wasm2js_laws_preservation.specs.RunsAnswers.{filled_run, fill_units, copied_run, copy_units, loops_units, bytes_before, units_upwards, units_downwards, are_alike}
 use Rattle.wasm2js_laws_preservation.specs.RunsLaws.{AreMovers, FillIsDone, CopyIsDone}
 use Rattle.wasm2js_laws_preservation.proofs.RunsTests.{fits}
 
 -- ---- units
 
-upwards_few : (t : Bool) (len : ℕ) → units_upwards t len ≤ len + 2
-upwards_few true len = omega arith
-upwards_few false len = omega arith
+loops_few : (t : Bool) (head len : ℕ) → head ≤ 3 → loops_units t head len ≤ len + 7
+loops_few true head len few = omega (arith, few)
+loops_few false head len few = omega arith
 
-downwards_few : (t : Bool) (len : ℕ) → units_downwards t len ≤ len + 2
-downwards_few true len = omega arith
-downwards_few false len = omega arith
+before_few : (at : ℕ) → bytes_before at ≤ 3
+before_few at = omega arith
 
 few_left : (len at bytes : ℕ) → nat_le (at + len) bytes ≡ true → len ≤ bytes
 few_left len at bytes e = let le : at + len ≤ bytes = grind (arith, nat_tests, e) in omega (arith, le)
 
-fill_few : (bytes at byte len : ℕ) → fill_units bytes (at ∷ byte ∷ len ∷ []) ≤ bytes + 3
+fill_few : (bytes at byte len : ℕ) → fill_units bytes (at ∷ byte ∷ len ∷ []) ≤ bytes + 8
 fill_few bytes at byte len = by (nat_le (at + len) bytes) refl
   where
-    by : (t : Bool) → nat_le (at + len) bytes ≡ t → (if t then 1 + units_upwards (is_aligned at) len else 1) ≤ bytes + 3
-    by true e = let few = upwards_few (is_aligned at) len in let le = few_left len at bytes e in omega (arith, few, le)
+    by : (t : Bool) → nat_le (at + len) bytes ≡ t → (if t then 1 + units_upwards (nat_le 4 len) at len else 1) ≤ bytes + 8
+    by true e = let few = loops_few (nat_le 4 len) (bytes_before at) len (before_few at) in let le = few_left len at bytes e in omega (arith, few, le)
     by false e = omega arith
 
-copy_few : (bytes to from len : ℕ) → copy_units bytes (to ∷ from ∷ len ∷ []) ≤ bytes + 3
+abbrev copy_loops : (to from len : ℕ) (up : Bool) → ℕ
+copy_loops to from len up = if up then units_upwards (are_alike to from len) to len else units_downwards (are_alike to from len) to len
+
+copy_few : (bytes to from len : ℕ) → copy_units bytes (to ∷ from ∷ len ∷ []) ≤ bytes + 8
 copy_few bytes to from len = by (nat_le (to + len) bytes) (nat_le (from + len) bytes) refl
   where
-    loops : (up : Bool) → (if up then units_upwards (is_aligned (bit_or to from)) len else units_downwards (is_aligned (bit_or (bit_or to from) len)) len) ≤ len + 2
-    loops true = upwards_few (is_aligned (bit_or to from)) len
-    loops false = downwards_few (is_aligned (bit_or (bit_or to from) len)) len
+    loops : (up : Bool) → copy_loops to from len up ≤ len + 7
+    loops true = loops_few (are_alike to from len) (bytes_before to) len (before_few to)
+    loops false = loops_few (are_alike to from len) ((to + len) % 4) len (omega arith)
 
     by : (s t : Bool) → nat_le (to + len) bytes ≡ s
-        → (if s && t then 1 + (if nat_le to from then units_upwards (is_aligned (bit_or to from)) len else units_downwards (is_aligned (bit_or (bit_or to from) len)) len) else 1) ≤ bytes + 3
+        → (if s && t then 1 + copy_loops to from len (nat_le to from) else 1) ≤ bytes + 8
     by true true e = let few = loops (nat_le to from) in let le = few_left len to bytes e in omega (arith, few, le)
     by true false e = omega arith
     by false t e = omega arith
@@ -138,7 +140,7 @@ module _ (f : Function) (helping : Helping) (movers : AreMovers f.setting.bytes 
   top = omega arith
 
   -- a call of a helper is paid for
-  paid_for : (cost most : ℕ) (o : Outcome) → cost ≤ most → most ≤ bytes + 3 → cost + units_after o (actions_units helping []) ≤ f.pace
+  paid_for : (cost most : ℕ) (o : Outcome) → cost ≤ most → most ≤ bytes + 8 → cost + units_after o (actions_units helping []) ≤ f.pace
   paid_for cost most o le few = let none = nothing_after o (actions_units helping []) (λ words heap. refl) in omega (arith, le, few, none, pace)
 
   module _ (words : Words) (heap : List ℕ) (replies : Replies) (events : List EventPlain) (h : IsHeap bytes heap) where

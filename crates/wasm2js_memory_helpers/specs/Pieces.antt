@@ -1,11 +1,11 @@
 -- Pieces of the helpers that the code builds one by one.
-use Rattle.std.specs.Prelude.{true, false, List, [], ◌∷◌, ◌++◌}
-use Rattle.asm_lang.specs.Modules.{Stmt, Function}
+use Rattle.std.specs.Prelude.{false, [], ◌∷◌, ◌++◌}
+use Rattle.asm_lang.specs.Modules.{Function}
 use Rattle.wasm2js_translation.specs.Names as names
 use Rattle.wasm2js_translation.specs.Names.{fixed}
-use Rattle.wasm2js_translation.specs.Words.{shift_left, less, at_most, Term, compare, both, sum, no_more, further, byte}
-use Rattle.wasm2js_translation.specs.Pairs.{literal, plus, minus}
-use Rattle.wasm2js_translation.specs.Helpers.{function_of, one_argument, two_arguments, three_arguments, gives, sets, repeat, own, done, spare, second, third, word_at, write_word}
+use Rattle.wasm2js_translation.specs.Words.{shift_left, Term, both, sum, no_more, further, byte}
+use Rattle.wasm2js_translation.specs.Pairs.{literal}
+use Rattle.wasm2js_translation.specs.Helpers.{function_of, one_argument, two_arguments, three_arguments, gives, sets, spare, second, third, word_at, write_word}
 
 -- the word of four bytes, the lowest first
 abbrev pub bytes_together : (a b c d : Term) → Term
@@ -28,11 +28,3 @@ store_32_function = function_of (fixed names.store_32) two_arguments [] (write_w
 
 abbrev pub store_64_function : Function
 store_64_function = function_of (fixed names.store_64) three_arguments [] (write_word 0 second ++ write_word 4 third)
-
--- these for each whole word of a run, while there are four bytes more, and for each byte that is left
-
-abbrev pub words_while : List Stmt → Stmt
-words_while ss = repeat (compare true at_most done (minus third (literal 4))) (ss ++ sets (own 0) (plus done (literal 4)) ∷ [])
-
-abbrev pub bytes_while : List Stmt → Stmt
-bytes_while ss = repeat (compare true less done third) (ss ++ sets (own 0) (plus done (literal 1)) ∷ [])

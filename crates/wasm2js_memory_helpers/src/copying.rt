@@ -1,19 +1,20 @@
 //! Copies of runs of bytes.
-ghost use Rattle.std.specs.Prelude.{◌≡◌, true, false, ◌++◌, ◌∷◌, [], IfOk};
+ghost use Rattle.std.specs.Prelude.{◌≡◌, true, false, ◌++◌, ◌∷◌, [], map, IfOk};
 ghost use Rattle.asm_lang.specs.Modules as plain;
 ghost use Rattle.asm_tree.specs.Views.{function_view};
-ghost use Rattle.wasm2js_translation.specs.Words.{int_of, disjunction, both, compare, at_most, greater, read, number, whole, byte, write_whole, write_byte, simple_statement};
-ghost use Rattle.wasm2js_translation.specs.Pairs.{plus, minus, literal};
+ghost use Rattle.wasm2js_translation.specs.Words.{int_of, compare, at_most, read, whole, write_whole, simple_statement};
 ghost use Rattle.wasm2js_translation.specs.Helpers as helpers;
 ghost use Rattle.wasm2js_nodes.specs.Names.{name_view};
 ghost use Rattle.wasm2js_build.specs.Views.{term_view};
 ghost use Rattle.wasm2js_build.specs.Blocks.{statements_of};
 
-use crate::runs::{each_byte, each_word, test_length, test_start, when_whole};
+use crate::runs::{
+    fall, rise, test_length, test_start, while_bytes, while_inside, while_left, while_more,
+};
 use asm_tree::Function;
 use std::alloc::{AllocError, Global};
 use wasm2js_build::{BitOp, Block, Relation, Term};
-use wasm2js_helpers::short::{argument, of_three, own, third};
+use wasm2js_helpers::short::{argument, first, of_three, own, second, third};
 use wasm2js_nodes::{Fixed, Name};
 
 /// The helper, in a memory of so many bytes.
@@ -36,133 +37,167 @@ fn copy(block: &mut Block, up: Block, down: Block) -> Result<(), AllocError>
     block.when_else(&test, up, down)
 }
 
-// One word, so many bytes further.
-fn copy_word(block: &mut Block, far: Name) -> Result<(), AllocError>
-    ensures { IfOk result (λ _. statements_of block.new ≡ statements_of block.old ++ helpers.copy_word (read (name_view far)) ∷ []) }
+// Where the places have the same last two bits, and there are four bytes.
+fn when_words(block: &mut Block, inner: Block) -> Result<(), AllocError>
+    ensures { IfOk result (λ _. statements_of block.new ≡ statements_of block.old ++ helpers.when helpers.has_words (statements_of inner) ∷ []) }
 {
-    put_word(block, &Term::plus_read(argument(0), far), far)
+    let bits = Term::both_read(BitOp::Xor, argument(0), argument(1));
+    let apart = Term::both_number(BitOp::And, &bits, 3);
+    let length = third();
+    let few = Term::compare_number(true, Relation::Less, &length, 4);
+    let neither = Term::both(BitOp::Or, &apart, &few);
+    block.when(
+        &Term::compare_number(true, Relation::Equal, &neither, 0),
+        inner,
+    )
 }
 
-// The word so many bytes past the second argument.
-fn put_word(block: &mut Block, to: &Term<'_>, far: Name) -> Result<(), AllocError>
-    ensures { IfOk result (λ _. statements_of block.new ≡ statements_of block.old ++ simple_statement (write_whole (term_view to.now) (whole (plus helpers.second (read (name_view far))))) ∷ []) }
-{
-    let from = Term::plus_read(argument(1), far);
-    block.write_whole(to, &Term::whole(&from))
-}
+// ---- one element
 
 // One byte, so many bytes further.
 fn copy_byte(block: &mut Block, far: Name) -> Result<(), AllocError>
     ensures { IfOk result (λ _. statements_of block.new ≡ statements_of block.old ++ helpers.copy_byte (read (name_view far)) ∷ []) }
 {
-    put_byte(block, &Term::plus_read(argument(0), far), far)
+    let from = Term::plus_read(argument(1), far);
+    let to = Term::plus_read(argument(0), far);
+    block.write_byte(&to, &Term::byte(false, &from))
 }
 
-// The byte so many bytes past the second argument.
-fn put_byte(block: &mut Block, to: &Term<'_>, far: Name) -> Result<(), AllocError>
-    ensures { IfOk result (λ _. statements_of block.new ≡ statements_of block.old ++ simple_statement (write_byte (term_view to.now) (byte false (plus helpers.second (read (name_view far))))) ∷ []) }
+// The word of one place to another.
+fn put_word(block: &mut Block, to: &Term<'_>, from: &Term<'_>) -> Result<(), AllocError>
+    ensures { IfOk result (λ _. statements_of block.new ≡ statements_of block.old ++ simple_statement (write_whole (term_view to.now) (whole (term_view from.now))) ∷ []) }
 {
-    let from = Term::plus_read(argument(1), far);
-    block.write_byte(to, &Term::byte(false, &from))
+    block.write_whole(to, &Term::whole(from))
+}
+
+// One word, so many bytes further and by an offset.
+fn copy_word(block: &mut Block, far: Name, offset: u32) -> Result<(), AllocError>
+    ensures { IfOk result (λ _. statements_of block.new ≡ statements_of block.old ++ helpers.copy_word (read (name_view far)) offset ∷ []) }
+{
+    if offset == 0 {
+        let from = Term::plus_read(argument(1), far);
+        return put_word(block, &Term::plus_read(argument(0), far), &from);
+    }
+    let (to, from, distance) = (first(), second(), Term::read(far));
+    let more = Term::number(i64::from(offset));
+    let from = Term::sum_of_three(&from, &distance, &more);
+    put_word(block, &Term::sum_of_three(&to, &distance, &more), &from)
+}
+
+// Four words, by their offsets.
+#[tactic(auto, using(std::proofs::lemmas::List::append_assoc))]
+fn copy_four(
+    block: &mut Block,
+    far: Name,
+    one: u32,
+    two: u32,
+    three: u32,
+    four: u32,
+) -> Result<(), AllocError>
+    ensures { IfOk result (λ _. statements_of block.new ≡ statements_of block.old ++ map (helpers.copy_word (read (name_view far))) (one ∷ two ∷ three ∷ four ∷ [])) }
+{
+    copy_word(block, far, one)?;
+    copy_word(block, far, two)?;
+    copy_word(block, far, three)?;
+    copy_word(block, far, four)
 }
 
 // ---- upwards
 
-fn words_up(alloc: Global) -> Result<Block, AllocError>
-    ensures { IfOk result (λ b. statements_of b ≡ helpers.each_word (helpers.copy_word helpers.done) ∷ []) }
+fn byte_up(alloc: Global) -> Result<Block, AllocError>
+    ensures { IfOk result (λ b. statements_of b ≡ helpers.rise 1 (helpers.copy_byte helpers.done ∷ [])) }
 {
-    let mut one = Block::new(alloc);
-    copy_word(&mut one, own(0))?;
-    let mut block = Block::new(alloc);
-    each_word(&mut block, one)?;
-    Ok(block)
+    let mut inner = Block::new(alloc);
+    copy_byte(&mut inner, own(0))?;
+    rise(&mut inner, 1)?;
+    Ok(inner)
 }
 
-fn when_both_whole(block: &mut Block, inner: Block) -> Result<(), AllocError>
-    ensures { IfOk result (λ _. statements_of block.new ≡ statements_of block.old ++ helpers.when (helpers.is_whole (both disjunction helpers.first helpers.second)) (statements_of inner) ∷ []) }
+fn word_up(alloc: Global) -> Result<Block, AllocError>
+    ensures { IfOk result (λ b. statements_of b ≡ helpers.rise 4 (helpers.copy_word helpers.done 0 ∷ [])) }
 {
-    let places = Term::both_read(BitOp::Or, argument(0), argument(1));
-    when_whole(block, &places, inner)
+    let mut inner = Block::new(alloc);
+    copy_word(&mut inner, own(0), 0)?;
+    rise(&mut inner, 4)?;
+    Ok(inner)
+}
+
+#[tactic(auto, using(std::proofs::lemmas::List::append_assoc))]
+fn eight_up(alloc: Global) -> Result<Block, AllocError>
+    ensures { IfOk result (λ b. statements_of b ≡ helpers.rise 32 (map (helpers.copy_word helpers.done) helpers.eight_up)) }
+{
+    let mut inner = Block::new(alloc);
+    copy_four(&mut inner, own(0), 0, 4, 8, 12)?;
+    copy_four(&mut inner, own(0), 16, 20, 24, 28)?;
+    rise(&mut inner, 32)?;
+    Ok(inner)
+}
+
+fn words_up(alloc: Global) -> Result<Block, AllocError>
+    ensures { IfOk result (λ b. statements_of b ≡ helpers.up_to_word (helpers.copy_byte helpers.done) ∷ helpers.each 32 (map (helpers.copy_word helpers.done) helpers.eight_up) ∷ helpers.each 4 (helpers.copy_word helpers.done 0 ∷ []) ∷ []) }
+{
+    let mut block = Block::new(alloc);
+    while_inside(&mut block, own(0), byte_up(alloc)?)?;
+    while_more(&mut block, 32, eight_up(alloc)?)?;
+    while_more(&mut block, 4, word_up(alloc)?)?;
+    Ok(block)
 }
 
 fn copy_up(alloc: Global) -> Result<Block, AllocError>
     ensures { IfOk result (λ b. statements_of b ≡ helpers.copy_up) }
 {
-    let mut one = Block::new(alloc);
-    copy_byte(&mut one, own(0))?;
     let mut block = Block::new(alloc);
-    when_both_whole(&mut block, words_up(alloc)?)?;
-    each_byte(&mut block, one)?;
+    when_words(&mut block, words_up(alloc)?)?;
+    while_bytes(&mut block, byte_up(alloc)?)?;
     Ok(block)
 }
 
 // ---- downwards, from the last bytes on
 
-// So many bytes fewer are left.
-fn fall(block: &mut Block, size: i64) -> Result<(), AllocError>
-    ensures { IfOk result (λ _. statements_of block.new ≡ statements_of block.old ++ helpers.sets (helpers.argument 2) (minus helpers.third (number size)) ∷ []) }
-{
-    let left = third();
-    block.put(argument(2), &Term::minus_number(&left, size))
-}
-
-// While bytes are left.
-fn while_left(alloc: Global, inner: Block) -> Result<Block, AllocError>
-    ensures { IfOk result (λ b. statements_of b ≡ helpers.repeat (compare true greater helpers.third (literal 0)) (statements_of inner) ∷ []) }
-{
-    let left = third();
-    let test = Term::compare_number(true, Relation::Greater, &left, 0);
-    let mut block = Block::new(alloc);
-    block.repeat(&test, inner)?;
-    Ok(block)
-}
-
-fn words_down(alloc: Global) -> Result<Block, AllocError>
-    ensures { IfOk result (λ b. statements_of b ≡ helpers.fall 4 (helpers.copy_word helpers.third) ∷ []) }
-{
-    let mut inner = Block::new(alloc);
-    fall(&mut inner, 4)?;
-    copy_word(&mut inner, argument(2))?;
-    while_left(alloc, inner)
-}
-
-fn bytes_down(alloc: Global) -> Result<Block, AllocError>
-    ensures { IfOk result (λ b. statements_of b ≡ helpers.fall 1 (helpers.copy_byte helpers.third) ∷ []) }
+fn byte_down(alloc: Global) -> Result<Block, AllocError>
+    ensures { IfOk result (λ b. statements_of b ≡ helpers.fall 1 (helpers.copy_byte helpers.third ∷ [])) }
 {
     let mut inner = Block::new(alloc);
     fall(&mut inner, 1)?;
     copy_byte(&mut inner, argument(2))?;
-    while_left(alloc, inner)
+    Ok(inner)
 }
 
-// By words, where both places and the length are multiples of four.
-fn choose_down(block: &mut Block, by_words: Block, by_bytes: Block) -> Result<(), AllocError>
-    ensures { IfOk result (λ _. statements_of block.new ≡ statements_of block.old ++ plain.if_else (int_of (helpers.is_whole (both disjunction (both disjunction helpers.first helpers.second) helpers.third))) (helpers.block_of (statements_of by_words)) (helpers.block_of (statements_of by_bytes)) ∷ []) }
+fn word_down(alloc: Global) -> Result<Block, AllocError>
+    ensures { IfOk result (λ b. statements_of b ≡ helpers.fall 4 (helpers.copy_word helpers.third 0 ∷ [])) }
 {
-    let length = third();
-    let places = Term::both_read(BitOp::Or, argument(0), argument(1));
-    let all = Term::both(BitOp::Or, &places, &length);
-    when_all_whole(block, &all, by_words, by_bytes)
+    let mut inner = Block::new(alloc);
+    fall(&mut inner, 4)?;
+    copy_word(&mut inner, argument(2), 0)?;
+    Ok(inner)
 }
 
-// The first block where a number is a multiple of four, and else the second.
-fn when_all_whole(
-    block: &mut Block,
-    all: &Term<'_>,
-    whole: Block,
-    other: Block,
-) -> Result<(), AllocError>
-    ensures { IfOk result (λ _. statements_of block.new ≡ statements_of block.old ++ plain.if_else (int_of (helpers.is_whole (term_view all.now))) (helpers.block_of (statements_of whole)) (helpers.block_of (statements_of other)) ∷ []) }
+#[tactic(auto, using(std::proofs::lemmas::List::append_assoc))]
+fn eight_down(alloc: Global) -> Result<Block, AllocError>
+    ensures { IfOk result (λ b. statements_of b ≡ helpers.fall 32 (map (helpers.copy_word helpers.third) helpers.eight_down)) }
 {
-    let rest = Term::both_number(BitOp::And, all, 3);
-    let test = Term::compare_number(true, Relation::Equal, &rest, 0);
-    block.when_else(&test, whole, other)
+    let mut inner = Block::new(alloc);
+    fall(&mut inner, 32)?;
+    copy_four(&mut inner, argument(2), 28, 24, 20, 16)?;
+    copy_four(&mut inner, argument(2), 12, 8, 4, 0)?;
+    Ok(inner)
+}
+
+fn words_down(alloc: Global) -> Result<Block, AllocError>
+    ensures { IfOk result (λ b. statements_of b ≡ helpers.down_to_word (helpers.copy_byte helpers.third) ∷ helpers.while_left 31 32 (map (helpers.copy_word helpers.third) helpers.eight_down) ∷ helpers.while_left 3 4 (helpers.copy_word helpers.third 0 ∷ []) ∷ []) }
+{
+    let mut block = Block::new(alloc);
+    while_inside(&mut block, argument(2), byte_down(alloc)?)?;
+    while_left(&mut block, 31, eight_down(alloc)?)?;
+    while_left(&mut block, 3, word_down(alloc)?)?;
+    Ok(block)
 }
 
 fn copy_down(alloc: Global) -> Result<Block, AllocError>
     ensures { IfOk result (λ b. statements_of b ≡ helpers.copy_down) }
 {
     let mut block = Block::new(alloc);
-    choose_down(&mut block, words_down(alloc)?, bytes_down(alloc)?)?;
+    when_words(&mut block, words_down(alloc)?)?;
+    while_left(&mut block, 0, byte_down(alloc)?)?;
     Ok(block)
 }

@@ -1,8 +1,7 @@
 //! Runs of bytes in the memory: their tests and their loops.
-ghost use Rattle.std.specs.Prelude.{◌≡◌, ◌++◌, ◌∷◌, [], IfOk};
-ghost use Rattle.wasm2js_translation.specs.Words.{read, number};
-ghost use Rattle.wasm2js_translation.specs.Pairs.{plus};
-ghost use Rattle.wasm2js_memory_helpers.specs.Pieces.{words_while, bytes_while};
+ghost use Rattle.std.specs.Prelude.{◌≡◌, true, false, ◌++◌, ◌∷◌, [], IfOk};
+ghost use Rattle.wasm2js_translation.specs.Words.{compare, less, at_most, greater, read, number};
+ghost use Rattle.wasm2js_translation.specs.Pairs.{plus, minus, literal};
 ghost use Rattle.wasm2js_translation.specs.Helpers as helpers;
 ghost use Rattle.wasm2js_nodes.specs.Names.{name_view};
 ghost use Rattle.wasm2js_build.specs.Views.{term_view};
@@ -34,44 +33,59 @@ pub fn test_start(block: &mut Block, bytes: u32, at: Name) -> Result<(), AllocEr
     block.trap_when(&test, 2)
 }
 
-/// Where a place is a multiple of four.
-pub fn when_whole<'a>(block: &mut Block, at: &'a Term<'a>, inner: Block) -> Result<(), AllocError>
-    ensures { IfOk result (λ _. statements_of block.new ≡ statements_of block.old ++ helpers.when (helpers.is_whole (term_view at.now)) (statements_of inner) ∷ []) }
-{
-    let rest = Term::both_number(BitOp::And, at, 3);
-    let test = Term::compare_number(true, Relation::Equal, &rest, 0);
-    block.when(&test, inner)
-}
-
 // ---- loops over a run
 
-/// Goes on by so many bytes.
-fn count(block: &mut Block, bytes: i64) -> Result<(), AllocError>
-    ensures { IfOk result (λ _. statements_of block.new ≡ statements_of block.old ++ helpers.sets (helpers.own 0) (plus helpers.done (number bytes)) ∷ []) }
+/// While the place so many bytes past the first argument is no multiple of four.
+pub fn while_inside(block: &mut Block, far: Name, inner: Block) -> Result<(), AllocError>
+    ensures { IfOk result (λ _. statements_of block.new ≡ statements_of block.old ++ helpers.repeat (helpers.is_inside (plus helpers.first (read (name_view far)))) (statements_of inner) ∷ []) }
 {
-    let done = Term::read(own(0));
-    block.put(own(0), &Term::plus_number(&done, bytes))
+    let place = Term::plus_read(argument(0), far);
+    let rest = Term::both_number(BitOp::And, &place, 3);
+    block.repeat(
+        &Term::compare_number(true, Relation::Unequal, &rest, 0),
+        inner,
+    )
 }
 
-/// While there are four bytes more. The inner block is for one word.
-pub fn each_word(block: &mut Block, inner: Block) -> Result<(), AllocError>
-    ensures { IfOk result (λ _. statements_of block.new ≡ statements_of block.old ++ words_while (statements_of inner) ∷ []) }
+/// So many bytes more are done.
+pub fn rise(block: &mut Block, size: u32) -> Result<(), AllocError>
+    ensures { IfOk result (λ _. statements_of block.new ≡ statements_of block.old ++ helpers.rise size []) }
 {
-    let mut inner = inner;
-    count(&mut inner, 4)?;
-    let length = third();
-    let last = Term::minus_number(&length, 4);
     let done = Term::read(own(0));
-    let test = Term::compare(true, Relation::AtMost, &done, &last);
+    block.put(own(0), &Term::plus_number(&done, i64::from(size)))
+}
+
+/// So many bytes fewer are left.
+pub fn fall(block: &mut Block, size: u32) -> Result<(), AllocError>
+    ensures { IfOk result (λ _. statements_of block.new ≡ statements_of block.old ++ helpers.fall size []) }
+{
+    let left = third();
+    block.put(argument(2), &Term::minus_number(&left, i64::from(size)))
+}
+
+/// While there are so many bytes more.
+pub fn while_more(block: &mut Block, size: u32, inner: Block) -> Result<(), AllocError>
+    ensures { IfOk result (λ _. statements_of block.new ≡ statements_of block.old ++ helpers.repeat (compare true at_most helpers.done (minus helpers.third (literal size))) (statements_of inner) ∷ []) }
+{
+    let length = third();
+    let last = Term::minus_number(&length, i64::from(size));
+    let done = Term::read(own(0));
+    block.repeat(&Term::compare(true, Relation::AtMost, &done, &last), inner)
+}
+
+/// While there are bytes that aren't done.
+pub fn while_bytes(block: &mut Block, inner: Block) -> Result<(), AllocError>
+    ensures { IfOk result (λ _. statements_of block.new ≡ statements_of block.old ++ helpers.repeat (compare true less helpers.done helpers.third) (statements_of inner) ∷ []) }
+{
+    let test = Term::compare_read(true, Relation::Less, own(0), argument(2));
     block.repeat(&test, inner)
 }
 
-/// While bytes are left. The inner block is for one byte.
-pub fn each_byte(block: &mut Block, inner: Block) -> Result<(), AllocError>
-    ensures { IfOk result (λ _. statements_of block.new ≡ statements_of block.old ++ bytes_while (statements_of inner) ∷ []) }
+/// While more than so many bytes are left.
+pub fn while_left(block: &mut Block, most: u32, inner: Block) -> Result<(), AllocError>
+    ensures { IfOk result (λ _. statements_of block.new ≡ statements_of block.old ++ helpers.repeat (compare true greater helpers.third (literal most)) (statements_of inner) ∷ []) }
 {
-    let mut inner = inner;
-    count(&mut inner, 1)?;
-    let test = Term::compare_read(true, Relation::Less, own(0), argument(2));
+    let left = third();
+    let test = Term::compare_number(true, Relation::Greater, &left, i64::from(most));
     block.repeat(&test, inner)
 }

@@ -1,12 +1,12 @@
 -- The functions that the code of instructions calls: operators on words of 64 bits, division, and access to the memory.
-use Rattle.std.specs.Prelude.{ℕ, zero, suc, ◌+◌, Bool, false, true, if◌then◌else◌, List, [], ◌∷◌, ◌++◌, map, Some, pos, negsuc}
+use Rattle.std.specs.Prelude.{ℕ, zero, suc, ◌+◌, ◌==◌, Bool, false, true, if◌then◌else◌, List, [], ◌∷◌, ◌++◌, map, Some, pos, negsuc}
 use Rattle.sem_words.specs.declared.js_value.JsOp.{JsOp}
 use Rattle.sem_words.specs.declared.js_value.JsOp.TheVariants.{Div, Rem}
 use Rattle.asm_lang.specs.Trees as trees
 use Rattle.asm_lang.specs.Modules.{binary, Stmt, block, if_only, if_else, returns, while_loop, Variable, Param, Function}
 use Rattle.wasm2js_translation.specs.Names as names
 use Rattle.wasm2js_translation.specs.Names.{Name, numbered, local_low, operand_low, fixed, spelled}
-use Rattle.wasm2js_translation.specs.Words.{conjunction, disjunction, shift_left, shift_right_signed, shift_right, equal, less, at_most, greater, Term, read, number, both, sum, no_more, further, product, zeros, compare, byte, whole, signed_number, plain_number, expr, int_of, put, guard, write_byte, write_whole, simple_statement, trap_call, stmts_in}
+use Rattle.wasm2js_translation.specs.Words.{conjunction, disjunction, exclusion, shift_left, shift_right_signed, shift_right, equal, unequal, less, at_most, greater, Term, read, number, both, sum, no_more, further, product, zeros, compare, byte, whole, signed_number, plain_number, expr, int_of, put, guard, write_byte, write_whole, simple_statement, trap_call, stmts_in}
 use Rattle.wasm2js_translation.specs.Pairs.{literal, plus, minus, sign_of, funnel_left, funnel_right}
 use Rattle.wasm2js_translation.specs.Actions.{low_ones, place}
 
@@ -185,42 +185,74 @@ length_test bytes = simple_statement (guard third bytes 2)
 abbrev pub start_test : (bytes : ℕ) → Term → Stmt
 start_test bytes at = if_only (int_of (compare false greater at (minus (literal bytes) third))) (trap_call 2)
 
-abbrev pub is_whole : Term → Term
-is_whole at = compare true equal (both conjunction at (literal 3)) (literal 0)
-
 -- how many bytes are done
 abbrev pub done : Term
 done = read (own 0)
 
--- this for each whole word, while there are four bytes more, and for each byte that is left
-abbrev pub each_word : (for_word : Stmt) → Stmt
-each_word for_word = repeat (compare true at_most done (minus third (literal 4))) (for_word ∷ sets (own 0) (plus done (literal 4)) ∷ [])
+-- so many bytes past a place, and further by an offset
+abbrev pub past : (at far : Term) → (offset : ℕ) → Term
+past at far offset = if offset == 0 then plus at far else sum at (further false far (further false (literal offset) no_more))
+
+-- the offsets of eight words, upwards and downwards
+abbrev pub eight_up : List ℕ
+eight_up = 0 ∷ 4 ∷ 8 ∷ 12 ∷ 16 ∷ 20 ∷ 24 ∷ 28 ∷ []
+
+abbrev pub eight_down : List ℕ
+eight_down = 28 ∷ 24 ∷ 20 ∷ 16 ∷ 12 ∷ 8 ∷ 4 ∷ 0 ∷ []
+
+-- the place is no multiple of four
+abbrev pub is_inside : Term → Term
+is_inside at = compare true unequal (both conjunction at (literal 3)) (literal 0)
+
+-- these for so many bytes, and so many bytes more are done
+abbrev pub rise : (size : ℕ) → List Stmt → List Stmt
+rise size ss = ss ++ sets (own 0) (plus done (literal size)) ∷ []
+
+-- .. up to a word, while there are so many bytes more, and for each byte that is left
+abbrev pub up_to_word : (for_byte : Stmt) → Stmt
+up_to_word for_byte = repeat (is_inside (plus first done)) (rise 1 (for_byte ∷ []))
+
+abbrev pub each : (size : ℕ) → List Stmt → Stmt
+each size ss = repeat (compare true at_most done (minus third (literal size))) (rise size ss)
 
 abbrev pub each_byte : (for_byte : Stmt) → Stmt
-each_byte for_byte = repeat (compare true less done third) (for_byte ∷ sets (own 0) (plus done (literal 1)) ∷ [])
+each_byte for_byte = repeat (compare true less done third) (rise 1 (for_byte ∷ []))
+
+-- so many bytes fewer are left, and these for them
+abbrev pub fall : (size : ℕ) → List Stmt → List Stmt
+fall size ss = sets (argument 2) (minus third (literal size)) ∷ ss
+
+-- .. down to a word, and while more than so many bytes are left
+abbrev pub down_to_word : (for_byte : Stmt) → Stmt
+down_to_word for_byte = repeat (is_inside (plus first third)) (fall 1 (for_byte ∷ []))
+
+abbrev pub while_left : (most size : ℕ) → List Stmt → Stmt
+while_left most size ss = repeat (compare true greater third (literal most)) (fall size ss)
 
 -- to the first argument, from the second one, so many places further
 
-abbrev pub copy_word : (far : Term) → Stmt
-copy_word far = simple_statement (write_whole (plus first far) (whole (plus second far)))
+abbrev pub copy_word : (far : Term) (offset : ℕ) → Stmt
+copy_word far offset = simple_statement (write_whole (past first far offset) (whole (past second far offset)))
 
 abbrev pub copy_byte : (far : Term) → Stmt
 copy_byte far = simple_statement (write_byte (plus first far) (byte false (plus second far)))
 
+-- the places have the same last two bits, and there are four bytes: so a word can be copied
+abbrev pub has_words : Term
+has_words =
+    compare true equal (both disjunction (both conjunction (both exclusion first second) (literal 3)) (compare true less third (literal 4))) (literal 0)
+
 abbrev pub copy_up : List Stmt
 copy_up =
-    when (is_whole (both disjunction first second)) (each_word (copy_word done) ∷ [])
+    when has_words (up_to_word (copy_byte done) ∷ each 32 (map (copy_word done) eight_up) ∷ each 4 (copy_word done 0 ∷ []) ∷ [])
     ∷ each_byte (copy_byte done) ∷ []
 
 -- from the last bytes on, with the length that is left
-abbrev pub fall : (size : ℕ) → Stmt → Stmt
-fall size s = repeat (compare true greater third (literal 0)) (sets (argument 2) (minus third (literal size)) ∷ s ∷ [])
-
 abbrev pub copy_down : List Stmt
 copy_down =
-    if_else (int_of (is_whole (both disjunction (both disjunction first second) third)))
-    (block_of (fall 4 (copy_word third) ∷ []))
-    (block_of (fall 1 (copy_byte third) ∷ [])) ∷ []
+    when has_words
+    (down_to_word (copy_byte third) ∷ while_left 31 32 (map (copy_word third) eight_down) ∷ while_left 3 4 (copy_word third 0 ∷ []) ∷ [])
+    ∷ while_left 0 1 (copy_byte third ∷ []) ∷ []
 
 -- no byte is written before it is read
 abbrev pub copy_function : (bytes : ℕ) → Function
@@ -232,13 +264,18 @@ copy_function bytes = function_of (fixed names.copy) three_arguments (own 0 ∷ 
 abbrev pub four_times : Term → Term
 four_times x = product (both conjunction x (literal 255)) (literal 16843009)
 
+abbrev pub fill_word : (offset : ℕ) → Stmt
+fill_word offset = simple_statement (write_whole (past first done offset) (read (own 1)))
+
+abbrev pub fill_byte : Stmt
+fill_byte = simple_statement (write_byte (plus first done) second)
+
+abbrev pub fill_words : List Stmt
+fill_words = sets (own 1) (four_times second) ∷ up_to_word fill_byte ∷ each 32 (map fill_word eight_up) ∷ each 4 (fill_word 0 ∷ []) ∷ []
+
 abbrev pub fill_function : (bytes : ℕ) → Function
 fill_function bytes = function_of (fixed names.fill) three_arguments (own 0 ∷ own 1 ∷ [])
-    (length_test bytes ∷ start_test bytes first
-    ∷ when (is_whole first)
-    (sets (own 1) (four_times second)
-    ∷ each_word (simple_statement (write_whole (plus first done) (read (own 1)))) ∷ [])
-    ∷ each_byte (simple_statement (write_byte (plus first done) second)) ∷ [])
+    (length_test bytes ∷ start_test bytes first ∷ when (compare true greater third (literal 3)) fill_words ∷ each_byte fill_byte ∷ [])
 
 -- ---- sixteen words of a data segment, at a place that is a multiple of four
 
