@@ -9,3 +9,5 @@ pub mod Groups
 pub mod Opcodes
 pub mod Spelled
 pub mod Written
+pub mod Turned
+pub mod LentCode

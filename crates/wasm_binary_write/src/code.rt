@@ -1,6 +1,7 @@
 //! Function bodies (WebAssembly Core 1.0, section 5.5.13).
 ghost use Rattle.std.specs.Prelude.{◌≡◌, ℕ, List, ◌+◌, ◌^◌, ◌++◌, map, replicate, IfOk, OnOk};
 ghost use Rattle.wasm_lang.specs.declared.types.ValType.{ValType as PlainType};
+ghost use Rattle.wasm_lang.specs.ReadingCode.{spelled};
 ghost use Rattle.wasm_tree.specs.Views.{code_of, locals_in};
 ghost use Rattle.wasm_binary_write.specs.Spelling.{items, instruction, vector, run, runs, same_type};
 ghost use Rattle.wasm_binary_write.specs.Views.{joined_of};
@@ -8,9 +9,9 @@ ghost use Rattle.wasm_binary_write.specs.Runs.{runs_after, IsBelow};
 
 use crate::instrs::push_instrs;
 use crate::leb::push_wide;
-use crate::spell::{Spell, push_sized, push_vector};
+use crate::spell::{Spell, push_vector, put_size};
 use std::alloc::{AllocError, Global};
-use wasm_tree::{Body, Code, Run, ValType};
+use wasm_tree::{Body, Code, Input, ReadError, Run, ValType, read_instr};
 
 /// Runs of one type, joined: they may have more locals than one run can have.
 #[derive(Clone, Copy)]
@@ -35,10 +36,10 @@ impl Spell for Body<'_> {
     ghost spelling = { λ b. sized (body (body_of b)) };
 
     fn push_to(&self, alloc: Global, out: &mut Vec<u8>) -> Result<(), AllocError> {
-        let mut content = Vec::new(alloc);
-        push_locals(alloc, &mut content, self.locals.as_slice())?;
-        push_code(alloc, &mut content, &self.code)?;
-        push_sized(out, &content)
+        let start = out.len();
+        push_locals(alloc, out, self.locals.as_slice())?;
+        push_code(alloc, out, &self.code)?;
+        put_size(out, start)
     }
 }
 
@@ -48,11 +49,26 @@ fn push_code(alloc: Global, out: &mut Vec<u8>, code: &Code<'_>) -> Result<(), Al
 {
     match code {
         Code::Own(list) => push_instrs(alloc, out, list.as_slice()),
-        Code::Lent(_) => {
-            let list = code.instrs(alloc)?;
-            push_instrs(alloc, out, list.as_slice())
+        Code::Lent(bytes) => push_lent(alloc, out, bytes),
+    }
+}
+
+// .. of bytes, up to the end, or up to bytes that are no instruction.
+fn push_lent(alloc: Global, out: &mut Vec<u8>, bytes: &[u8]) -> Result<(), AllocError>
+    ensures { OnOk result (out.new.items ≡ out.old.items ++ items instruction (spelled bytes.now)) }
+{
+    let mut rest = Input::new(bytes);
+    for _turn in 0..bytes.len() {
+        match read_instr(alloc, rest) {
+            Ok((instr, after)) => {
+                instr.push_to(alloc, out)?;
+                rest = after;
+            }
+            Err(ReadError::Refused(_)) => return Ok(()),
+            Err(ReadError::Memory) => return Err(AllocError),
         }
     }
+    Ok(())
 }
 
 fn push_locals(alloc: Global, out: &mut Vec<u8>, locals: &[Run]) -> Result<(), AllocError>

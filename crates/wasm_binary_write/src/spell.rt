@@ -1,5 +1,5 @@
 //! What is written, and lists of it.
-ghost use Rattle.std.specs.Prelude.{◌≡◌, ℕ, List, ◌++◌, OnOk};
+ghost use Rattle.std.specs.Prelude.{◌≡◌, ◌≤◌, ◌-◌, ℕ, List, ◌++◌, OnOk, drop, length, take};
 ghost use Rattle.wasm_binary_write.specs.Spelling.{items, vector, section, sized};
 
 use crate::leb::push_unsigned;
@@ -53,8 +53,19 @@ pub fn push_section<T: Spell>(
     if list.is_empty() {
         return Ok(());
     }
-    let mut content = Vec::new(alloc);
-    push_vector(alloc, &mut content, list)?;
     out.push(id)?;
-    push_sized(out, &content)
+    let start = out.len();
+    push_vector(alloc, out, list)?;
+    put_size(out, start)
+}
+
+/// Puts their count before the bytes that were written from here on, so that no second copy of them is made.
+pub fn put_size(out: &mut Vec<u8>, start: usize) -> Result<(), AllocError>
+    requires { start ≤ length out.old.items }
+    ensures { OnOk result (out.new.items ≡ take start out.old.items ++ sized (drop start out.old.items)) }
+{
+    let end = out.len();
+    push_unsigned(out, end - start)?;
+    out[start..].rotate_left(end - start);
+    Ok(())
 }

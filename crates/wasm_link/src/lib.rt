@@ -5,6 +5,7 @@ mod linking;
 mod standing;
 mod validated;
 
-pub use linking::{link_module, linked_with};
+pub use linking::{lent_with, link_module, linked_with};
 pub use validated::link;
 pub use wasm_link_rows::{LinkFault, check};
+pub use wasm_link_sections::{MovedPair, moved_pair};

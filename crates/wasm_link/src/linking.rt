@@ -1,17 +1,18 @@
 // The linked module of a pair.
 
-ghost use Rattle.std.specs.Prelude.{◌≡◌, None, IfOk, MatchResult};
+ghost use Rattle.std.specs.Prelude.{◌≡◌, false, None, true, IfOk, MatchResult};
 ghost use Rattle.wasm_tree.specs.Views.{module_of};
 ghost use Rattle.wasm_lang_valid.specs.Validity.{IsValidModule};
 ghost use Rattle.wasm_link_lang.specs.Refusal as plain;
 ghost use Rattle.wasm_link_code.specs.Linked.{linked};
 ghost use Rattle.wasm_link_rows.specs.Faults.{IsLinkFault};
+ghost use Rattle.wasm_link_sections.specs.Lent.{AreKept};
 
 use crate::standing::made_is_linked;
 use std::alloc::{AllocError, Global};
 use wasm_link_bind::Numbers;
 use wasm_link_rows::{LinkFault, check};
-use wasm_link_sections::made;
+use wasm_link_sections::{MovedPair, lent_module, made};
 use wasm_tree::Module;
 use wasm_validate::Valid;
 
@@ -39,5 +40,23 @@ pub fn linked_with<'a>(alloc: Global, numbers: &Numbers<'a>) -> Result<Module<'a
 {
     made_is_linked();
     let module = made(alloc, numbers)?;
+    Ok(module)
+}
+
+/// .. with the code of its bodies lent from what was moved before.
+pub fn lent_with<'a>(
+    alloc: Global,
+    numbers: &Numbers<'a>,
+    moved: &'a MovedPair,
+) -> Result<Module<'a>, AllocError>
+    requires first { IsValidModule numbers.now.first }
+    requires second { IsValidModule numbers.now.second }
+    requires linked { plain.refusal numbers.now ≡ None }
+    requires first_code { AreKept numbers.now false numbers.now.first moved.now.first }
+    requires second_code { AreKept numbers.now true numbers.now.second moved.now.second }
+    ensures { IfOk result (λ m. module_of m ≡ linked numbers.now) }
+{
+    made_is_linked();
+    let module = lent_module(alloc, numbers, moved)?;
     Ok(module)
 }

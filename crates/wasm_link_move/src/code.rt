@@ -27,7 +27,7 @@ pub fn moved_code(
     alloc: Global,
     numbers: &Numbers<'_>,
     side: Side,
-    scratch: usize,
+    scratch: u128,
     code: &Code<'_>,
 ) -> Result<List<Instr>, AllocError>
     ensures made { IfOk result (λ list. map instr_of (list_items list) ≡ flat_map (pushed numbers.now (side_of side) scratch) (code_of code.now)) }
@@ -42,7 +42,7 @@ fn pushed_all(
     alloc: Global,
     numbers: &Numbers<'_>,
     side: Side,
-    scratch: usize,
+    scratch: u128,
     code: Vec<Instr>,
 ) -> Result<List<Instr>, AllocError>
     ensures { IfOk result (λ list. map instr_of (list_items list) ≡ flat_map (pushed numbers.now (side_of side) scratch) (map instr_of code.items)) }
@@ -59,7 +59,7 @@ fn push_moved(
     code: &mut Vec<Instr>,
     numbers: &Numbers<'_>,
     side: Side,
-    scratch: usize,
+    scratch: u128,
     instr: Instr,
 ) -> Result<(), AllocError>
     ensures { OnOk result (map instr_of code.new.items ≡ map instr_of code.old.items ++ pushed numbers.now (side_of side) scratch (instr_of instr)) }
@@ -84,12 +84,12 @@ fn push_moved(
     Ok(())
 }
 
-// A call by an entry.
-fn push_indirect(
+/// Appends a call by an entry.
+pub fn push_indirect(
     code: &mut Vec<Instr>,
     numbers: &Numbers<'_>,
     side: Side,
-    scratch: usize,
+    scratch: u128,
     function_type: u32,
 ) -> Result<(), AllocError>
     ensures { OnOk result (map instr_of code.new.items ≡ map instr_of code.old.items ++ pushed numbers.now (side_of side) scratch (call_indirect function_type)) }
@@ -125,13 +125,15 @@ fn bases_of(numbers: &Numbers<'_>, side: Side) -> Sizes
     }
 }
 
-fn function_number(numbers: &Numbers<'_>, side: Side, function: u32) -> u32
+/// The number of what a function of one of the modules stands for.
+pub fn function_number(numbers: &Numbers<'_>, side: Side, function: u32) -> u32
     ensures { result ≡ number numbers.now ((bases numbers.now (side_of side)).functions + function) }
 {
     numbers.function(bases_of(numbers, side).functions + function as usize)
 }
 
-fn global_number(numbers: &Numbers<'_>, side: Side, global: u32) -> u32
+/// The number of a global of one of the modules.
+pub fn global_number(numbers: &Numbers<'_>, side: Side, global: u32) -> u32
     ensures { result ≡ plain.global_number numbers.now ((bases numbers.now (side_of side)).globals + global) }
 {
     numbers.global(bases_of(numbers, side).globals + global as usize)

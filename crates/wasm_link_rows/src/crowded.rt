@@ -1,13 +1,13 @@
 // Functions with a call by an entry and no room for one more local.
 
-ghost use Rattle.std.specs.Prelude.{◌≡◌, ◌&&◌, map, nat_le, IfOk};
-ghost use Rattle.wasm_tree.specs.Views.{body_of, code_of, instr_of, module_of};
+ghost use Rattle.std.specs.Prelude.{◌≡◌, ◌≤◌, ◌*◌, ◌^◌, ◌&&◌, length, map, nat_le, IfOk};
+ghost use Rattle.wasm_tree.specs.Views.{body_of, code_of, instr_of, locals_in, module_of};
 ghost use Rattle.wasm_lang_valid.specs.Validity.{own_type};
 ghost use Rattle.wasm_link_lang.specs.Refusal as plain;
 
 use std::alloc::{AllocError, Global};
 use wasm_link_bind::imported_functions;
-use wasm_tree::{Body, Code, Instr, Module, ValType};
+use wasm_tree::{Body, Code, Instr, Module, Run, ValType};
 
 /// The number of the first such function.
 pub fn crowded(alloc: Global, module: &Module<'_>) -> Result<Option<usize>, AllocError>
@@ -22,6 +22,7 @@ pub fn crowded(alloc: Global, module: &Module<'_>) -> Result<Option<usize>, Allo
     Ok(None)
 }
 
+#[tactic(auto, using(crate::proofs::Locals::too_few, crate::proofs::Locals::many))]
 fn is_crowded(
     alloc: Global,
     module: &Module<'_>,
@@ -30,10 +31,10 @@ fn is_crowded(
 ) -> Result<bool, AllocError>
     ensures { IfOk result (λ crowded. crowded ≡ (plain.has_indirect (body_of body.now).code && nat_le 60000 (plain.locals_of (module_of «module».now) i (body_of body.now)))) }
 {
-    if !has_indirect(alloc, &body.code)? {
+    if locals_count(module, i, body) < 60_000 {
         return Ok(false);
     }
-    Ok(locals_count(alloc, module, i, body)? >= 60_000)
+    has_indirect(alloc, &body.code)
 }
 
 /// Whether a call by an entry stands in code.
@@ -62,16 +63,23 @@ fn is_indirect(instr: &Instr) -> bool
 }
 
 /// How many locals the body at this place has, with the parameters.
-pub fn locals_count(
-    alloc: Global,
-    module: &Module<'_>,
-    i: usize,
-    body: &Body<'_>,
-) -> Result<usize, AllocError>
-    ensures { IfOk result (λ count. count ≡ plain.locals_of (module_of «module».now) i (body_of body.now)) }
+pub fn locals_count(module: &Module<'_>, i: usize, body: &Body<'_>) -> u128
+    ensures value { result ≡ plain.locals_of (module_of «module».now) i (body_of body.now) }
 {
-    let types = body.local_types(alloc, own_params(module, i))?;
-    Ok(types.len())
+    own_params(module, i).len() as u128 + runs_count(body.locals.as_slice())
+}
+
+#[tactic(auto, using(crate::proofs::Locals::runs_step))]
+fn runs_count(runs: &[Run]) -> u128
+    ensures value { result ≡ length (locals_in runs.now) }
+    ensures few { result ≤ 2 ^ 32 * length runs.now }
+{
+    let _length = runs.len();
+    let mut count = 0;
+    for run in runs {
+        count += u128::from(run.count);
+    }
+    count
 }
 
 // The parameters of the function at this place.

@@ -75,6 +75,11 @@ abbrev pub needs_scratch : (other : ℕ) → List Instruction → Bool
 needs_scratch zero code = false
 needs_scratch (suc other) code = has_indirect code
 
+-- .. where it is said whether a call by an entry is in the code
+abbrev pub scratch_needed : (other : ℕ) → (indirect : Bool) → Bool
+scratch_needed zero indirect = false
+scratch_needed (suc other) indirect = indirect
+
 abbrev pub scratch_if : Bool → List ValType
 scratch_if false = []
 scratch_if true = I32 ∷ []

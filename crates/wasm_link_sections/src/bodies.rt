@@ -32,7 +32,8 @@ pub fn push_bodies<'m>(
     Ok(())
 }
 
-fn moved_body<'m>(
+/// One body, with its moved code.
+pub fn moved_body<'m>(
     alloc: Global,
     numbers: &Numbers<'_>,
     side: Side,
@@ -43,7 +44,7 @@ fn moved_body<'m>(
 ) -> Result<Body<'m>, AllocError>
     ensures { IfOk result (λ moved. body_of moved ≡ made.body_made numbers.now (side_of side) (module_of own.now) other i (body_of body.now)) }
 {
-    let locals = locals_count(alloc, own, i, body)?;
+    let locals = locals_count(own, i, body);
     let code = moved_code(alloc, numbers, side, locals, &body.code)?;
     Ok(Body {
         locals: locals_with(alloc, other, body)?,
@@ -71,7 +72,8 @@ fn needs_scratch(alloc: Global, other: u32, code: &Code<'_>) -> Result<bool, All
     has_indirect(alloc, code)
 }
 
-fn locals_and(alloc: Global, locals: &[Run], needed: bool) -> Result<List<Run>, AllocError>
+/// The locals, and one more where it is needed.
+pub fn locals_and(alloc: Global, locals: &[Run], needed: bool) -> Result<List<Run>, AllocError>
     ensures { IfOk result (λ list. locals_in (list_items list) ≡ locals_in locals.now ++ made.scratch_if needed) }
 {
     let mut runs = Vec::from_slice(alloc, locals)?;

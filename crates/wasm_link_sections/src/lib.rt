@@ -4,8 +4,10 @@
 mod back;
 mod bodies;
 mod front;
+mod lent;
 mod linked;
 mod start;
 mod values;
 
-pub use linked::made;
+pub use lent::{MovedPair, moved_pair};
+pub use linked::{lent_module, made};
