@@ -1,11 +1,11 @@
 -- What words come to while some of them wait: straight code whose words are written late does what the code does that writes each at once.
-use Rattle.std.specs.Prelude.{◌≡◌, ℕ, true, List, [], ◌∷◌, Option, None, if◌then◌else◌}
+use Rattle.std.specs.Prelude.{◌≡◌, ℕ, true, List, [], ◌∷◌, None, if◌then◌else◌}
 use Rattle.wasm_lang.specs.declared.types.ValType.{ValType}
-use Rattle.wasm2js_translation.specs.Names.{Name, same_name}
+use Rattle.wasm2js_translation.specs.Names.{same_name}
 use Rattle.wasm2js_translation.specs.Words.{Action}
 use Rattle.wasm2js_translation.specs.Delays.{Delayed, is_operand, is_light, waiting, written, late, standing}
 use Rattle.wasm2js_laws_places.specs.Straight.{Words, value, Helping, Outcome, goes, stops, run_simples, simples_units, run_actions, actions_units}
-use Rattle.wasm2js_laws_places.specs.Places.{Setting, operands, locals_of, globals_of, Stays}
+use Rattle.wasm2js_laws_places.specs.Places.{operands, locals_of, globals_of, Stays}
 
 -- the word of each variable, where these words count as written
 abbrev pub seen : List Delayed → Words → (heap : List ℕ) → Words

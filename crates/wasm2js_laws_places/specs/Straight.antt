@@ -1,5 +1,5 @@
 -- What straight code does to words and to the heap, without asm.js: a number for each term, and for each action what it leaves or its trap.
-use Rattle.std.specs.Prelude.{◌≡◌, ℕ, ◌+◌, ◌-◌, ◌^◌, Bool, true, false, ◌&&◌, nat_lt, if◌then◌else◌, ◌==◌, ℤ, bit_and, bit_or, bit_xor, List, [], ◌∷◌, map, Option, Some, None}
+use Rattle.std.specs.Prelude.{◌≡◌, ℕ, ◌+◌, ◌-◌, ◌^◌, Bool, true, false, nat_lt, if◌then◌else◌, ◌==◌, ℤ, bit_and, bit_or, bit_xor, List, [], ◌∷◌, map, Option, Some, None}
 use Rattle.std.specs.Int.{int_shr}
 use Rattle.sem_words.specs.declared.word.Rel.{Rel}
 use Rattle.sem_words.specs.declared.word.Rel.TheVariants.{Eq, Ne, LtS, LtU, LeS, LeU, GtS, GtU, GeS, GeU}
@@ -7,7 +7,7 @@ use Rattle.sem_words.specs.Words.{word_of, signed_of, add_of, sub_of, mul_of, sh
 use Rattle.heap_lang.specs.declared.kind.ViewKind.{ViewKind}
 use Rattle.heap_lang.specs.declared.kind.ViewKind.TheVariants.{I8, U8, I32}
 use Rattle.heap_lang.specs.Heap.{load, store}
-use Rattle.wasm2js_translation.specs.Names.{Fixed, Name, numbered, fixed, same_name, spare_high, data_words, data_zeros, init, last_high}
+use Rattle.wasm2js_translation.specs.Names.{Fixed, Name, fixed, same_name, spare_high, data_words, data_zeros, init, last_high}
 use Rattle.wasm2js_translation.specs.Words.{BitOp, conjunction, disjunction, exclusion, shift_left, shift_right_signed, shift_right, Relation, equal, unequal, less, at_most, greater, at_least, Term, read, number, both, flip, sum, product, zeros, compare, choose, byte, whole, Summands, no_more, further, Simple, put, ask, tell, guard, stop, write_byte, write_whole, Action, simply, either}
 
 -- ---- words of variables

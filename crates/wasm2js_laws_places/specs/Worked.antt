@@ -1,10 +1,12 @@
--- Straight code that is worked out: sums of two words, and loads from a memory of eight bytes.
+-- Straight code that is worked out: sums of two words, loads from a memory of eight bytes, and words that wait.
 use Rattle.std.specs.Prelude.{ℕ, false, List, [], ◌∷◌, None}
 use Rattle.wasm_lang.specs.declared.types.MemOp.{MemOp}
-use Rattle.wasm2js_translation.specs.Names.{numbered, operand_low, operand_high}
-use Rattle.wasm2js_translation.specs.Pairs.{operand_pair, simples}
+use Rattle.wasm2js_translation.specs.Names.{Name, numbered, local_low, operand_low, operand_high}
+use Rattle.wasm2js_translation.specs.Words.{read, byte, Simple, put, Action, simply, either}
+use Rattle.wasm2js_translation.specs.Pairs.{literal, operand_pair, simples}
 use Rattle.wasm2js_translation.specs.Wide.{wide_sum}
 use Rattle.wasm2js_translation.specs.Actions.{load_code}
+use Rattle.wasm2js_translation.specs.Delays.{late}
 use Rattle.wasm2js_laws_places.specs.Straight.{Words, with_word, gives, Helping, Outcome, goes, stops, run_actions}
 
 -- each helper gives 77, for three units
@@ -33,3 +35,33 @@ four_bytes = record { wide = false; size = 4; signed = false }
 
 abbrev pub loaded_at : ℕ → Outcome
 loaded_at a = run_actions any_help (load_code 8 four_bytes 0 (operand_pair 0)) (words_of a 0 0 0) a_heap
+
+-- ---- words that wait
+
+-- a local's variable, and those of the low words of two operands
+abbrev pub a_local : Name
+a_local = numbered local_low 0
+
+abbrev pub first_operand : Name
+first_operand = numbered operand_low 0
+
+abbrev pub second_operand : Name
+second_operand = numbered operand_low 1
+
+-- an operand that is read after the local that it took its word from has changed
+abbrev pub changed_and_read : List Simple
+changed_and_read = put a_local (literal 5) ∷ put second_operand (read first_operand) ∷ []
+
+abbrev pub local_to_operand : Simple
+local_to_operand = put first_operand (read a_local)
+
+abbrev pub changed_later : List Action
+changed_later = (late [] (simples (local_to_operand ∷ changed_and_read))).now
+
+-- likewise where the local changes in an arm
+abbrev pub changed_in_an_arm : List Action
+changed_in_an_arm = (late [] (simply local_to_operand ∷ either (read second_operand) changed_and_read [] ∷ [])).now
+
+-- of what is read at an address, nothing is written before it
+abbrev pub byte_at_a_constant : List Action
+byte_at_a_constant = (late [] (simples (put first_operand (literal 4) ∷ put first_operand (byte false (read first_operand)) ∷ []))).now

@@ -145,13 +145,13 @@ abbrev pub differ : Bool → Bool → Bool
 differ true b = not b
 differ false b = b
 
--- a variable that one arm alone puts is written before both, as is what reads a variable that changes in one
+-- a variable that one arm alone puts is written before both, as is what reads a variable that changes in one; so it waits in neither
 abbrev pub late_either : List Delayed → Term → (first second : List Simple) → Late
 late_either ds t first second =
     let spoiled = λ (d : Delayed).
     reads_one (λ m. one_changes first m || one_changes second m) d.word || differ (one_puts first d.name) (one_puts second d.name) in
     record {
-      now = simples (written (those spoiled ds)) ++ either (replaced ds t) (late_arm ds first) (late_arm ds second) ∷ [];
+      now = simples (written (those spoiled ds)) ++ either (replaced ds t) (late_arm (others spoiled ds) first) (late_arm (others spoiled ds) second) ∷ [];
       later = others (λ d. spoiled d || one_puts first d.name) ds;
     }
 
