@@ -3,8 +3,8 @@ use Rattle.std.proofs.Common.{◌≡◌, List, [], ◌∷◌, ◌++◌, refl, sy
 use Rattle.asm_lang.specs.Modules.{Stmt}
 use Rattle.wasm2js_translation.specs.Words.{Simple, simply, simple_statement, simple_statements}
 use Rattle.wasm2js_translation.specs.Pairs.{simples}
-use Rattle.wasm2js_build.specs.Straight.{one, run, State, state_at_once}
-use Rattle.wasm2js_build.proofs.Straight.{one_at_once}
+use Rattle.wasm2js_build.specs.Growing.{one, run, State, state_at_once}
+use Rattle.wasm2js_build.proofs.Growing.{one_at_once}
 
 pub run_at_once : (told : List Stmt) (ss : List Simple) → run (state_at_once told) (simples ss) ≡ state_at_once (told ++ simple_statements ss)
 run_at_once told [] = ap state_at_once (sym (append-nil told))

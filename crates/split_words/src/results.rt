@@ -13,7 +13,7 @@ ghost use Rattle.wasm2js_translation.specs.Helpers.{wide_helpers};
 ghost use Rattle.wasm2js_nodes.specs.Names.{name_view, fixed_view};
 ghost use Rattle.wasm2js_build.specs.Views.{bit_view, term_view};
 ghost use Rattle.wasm2js_build.specs.Blocks.{statements_of};
-ghost use Rattle.wasm2js_build.specs.Straight.{run, state_of};
+ghost use Rattle.wasm2js_build.specs.Growing.{run, state_of};
 ghost use Rattle.wasm2js_laws_wide.specs.Laws.{is_extension};
 ghost use Rattle.split_words.specs.Views.{pair_view, halves_of};
 
@@ -61,7 +61,7 @@ pub fn wide_extend(block: &mut Block, bits: u32, a: Pair, to: Pair) -> Result<()
 
 #[tactic(auto, using(crate::proofs::AtOnce::run_at_once))]
 fn binary_at_once(block: &mut Block, op: Bin, a: Pair, b: Pair, to: Pair) -> Result<(), AllocError>
-    requires { is_mul_div op ≡ false }
+    requires made { is_mul_div op ≡ false }
     ensures { IfOk result (λ _. statements_of block.new ≡ statements_of block.old ++ simple_statements (wide.wide_binary op (pair_view a) (pair_view b) (pair_view to))) }
 {
     let mut straight = Straight::at_once(block);

@@ -11,7 +11,7 @@ ghost use Rattle.wasm2js_translation.specs.Helpers.{wide_helpers};
 ghost use Rattle.wasm2js_nodes.specs.Names.{name_view};
 ghost use Rattle.wasm2js_build.specs.Views.{relation_view};
 ghost use Rattle.wasm2js_build.specs.Blocks.{statements_of};
-ghost use Rattle.wasm2js_build.specs.Straight.{run, state_of};
+ghost use Rattle.wasm2js_build.specs.Growing.{run, state_of};
 ghost use Rattle.split_words.specs.Views.{pair_view, halves_of};
 
 use crate::pair::Pair;

@@ -90,13 +90,13 @@ static ROWS: [Row; 62] = [
     (
         &["gen", "2"],
         0,
-        b"functions 2\nasm 182\nwasm 97\njs 3248\n",
+        b"functions 2\nasm 182\nwasm 97\njs 3197\n",
         b"",
     ),
     (
         &["gen", "200"],
         0,
-        b"functions 200\nasm 12628\nwasm 8961\njs 59058\n",
+        b"functions 200\nasm 12628\nwasm 8961\njs 49199\n",
         b"",
     ),
     (&["asm2wasm", "add.js"], 0, ADD_MODULE, b""),

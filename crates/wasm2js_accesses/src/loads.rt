@@ -7,7 +7,7 @@ ghost use Rattle.wasm2js_translation.specs.Pairs.{simples};
 ghost use Rattle.wasm2js_translation.specs.Actions as code;
 ghost use Rattle.wasm2js_nodes.specs.Names.{name_view};
 ghost use Rattle.wasm2js_build.specs.Views.{term_view};
-ghost use Rattle.wasm2js_build.specs.Straight.{run, state_of};
+ghost use Rattle.wasm2js_build.specs.Growing.{run, state_of};
 ghost use Rattle.split_words.specs.Views.{pair_view};
 
 use crate::numbers::put_number;

@@ -3,7 +3,7 @@ ghost use Rattle.std.specs.Prelude.{◌≡◌, [], ◌∷◌, IfOk};
 ghost use Rattle.wasm2js_translation.specs.Words as words;
 ghost use Rattle.wasm2js_translation.specs.Pairs.{simples};
 ghost use Rattle.wasm2js_nodes.specs.Names.{name_view};
-ghost use Rattle.wasm2js_build.specs.Straight.{run, state_of};
+ghost use Rattle.wasm2js_build.specs.Growing.{run, state_of};
 
 use std::alloc::AllocError;
 use wasm2js_build::{Straight, Term};

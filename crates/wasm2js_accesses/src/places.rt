@@ -4,7 +4,7 @@ ghost use Rattle.wasm2js_translation.specs.Words.{both, conjunction, either};
 ghost use Rattle.wasm2js_translation.specs.Pairs as pairs;
 ghost use Rattle.wasm2js_build.specs.Views.{term_view};
 ghost use Rattle.wasm2js_build.specs.Steps.{steps_view};
-ghost use Rattle.wasm2js_build.specs.Straight.{one, state_of};
+ghost use Rattle.wasm2js_build.specs.Growing.{one, state_of};
 
 use std::alloc::AllocError;
 use wasm2js_build::{BitOp, Step, Straight, Term};

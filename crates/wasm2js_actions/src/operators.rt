@@ -9,7 +9,7 @@ ghost use Rattle.wasm2js_translation.specs.Pairs as pairs;
 ghost use Rattle.wasm2js_translation.specs.Pairs.{simples};
 ghost use Rattle.wasm2js_translation.specs.Wide as wide;
 ghost use Rattle.wasm2js_translation.specs.Actions as code;
-ghost use Rattle.wasm2js_build.specs.Straight.{run, state_of};
+ghost use Rattle.wasm2js_build.specs.Growing.{run, state_of};
 
 use crate::numeric::{
     binary, is_zero, narrow_constant, relation, sign_extended, unary, wide_constant,

@@ -3,7 +3,7 @@ ghost use Rattle.std.specs.Prelude.{◌≡◌, ◌+◌, ◌<◌, ◌^◌, false,
 ghost use Rattle.wasm_lang_valid.specs.Measures.{is_wide_mul_div};
 ghost use Rattle.wasm_lang_valid.specs.Typing.{Context};
 ghost use Rattle.wasm_tree.specs.Views.{instr_of};
-ghost use Rattle.wasm2js_build.specs.Straight.{run, state_of};
+ghost use Rattle.wasm2js_build.specs.Growing.{run, state_of};
 ghost use Rattle.wasm2js_actions.specs.Scopes.{Suits, instruction_actions, least_context};
 
 use crate::depths::under;

@@ -12,7 +12,7 @@ use Rattle.wasm2js_translation.specs.Delays.{Delayed}
 use Rattle.wasm2js_translation.specs.Bodies.{Aim, past, again, labels_round, under_label, endless, chosen, signed_word}
 use Rattle.wasm2js_operands.specs.Operands.{over}
 use Rattle.wasm2js_bodies.specs.Walks.{IsInside, GoesOn, IsOver}
-use Rattle.wasm2js_build.specs.Straight.{State, late_at}
+use Rattle.wasm2js_build.specs.Growing.{State, late_at}
 use Rattle.wasm2js_bodies.proofs.Steps.{all_written}
 use Rattle.wasm2js_bodies.proofs.Blocks.{block_step, loop_step, if_step}
 use Rattle.wasm2js_bodies.proofs.Lists.{all_under, left_under}

@@ -11,8 +11,8 @@ use Rattle.asm_lang.specs.Modules.{Stmt}
 use Rattle.wasm2js_translation.specs.Words.{statements}
 use Rattle.wasm2js_translation.specs.Actions.{actions}
 use Rattle.wasm2js_translation.specs.Delays.{Delayed, late, standing}
-use Rattle.wasm2js_build.specs.Straight.{State, run, late_at}
-use Rattle.wasm2js_build.proofs.Straight.{run_late}
+use Rattle.wasm2js_build.specs.Growing.{State, run, late_at}
+use Rattle.wasm2js_build.proofs.Growing.{run_late}
 use Rattle.wasm2js_translation.specs.Bodies.{Aim, after_plain}
 use Rattle.wasm2js_actions.specs.Scopes.{instruction_actions}
 use Rattle.wasm2js_operands.specs.Scopes.{after}

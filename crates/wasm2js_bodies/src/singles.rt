@@ -6,7 +6,7 @@ ghost use Rattle.wasm_tree.specs.Views.{instr_of};
 ghost use Rattle.wasm2js_translation.specs.Bodies as bodies;
 ghost use Rattle.wasm2js_actions.specs.Scopes.{instruction_actions};
 ghost use Rattle.wasm2js_build.specs.Blocks.{statements_of};
-ghost use Rattle.wasm2js_build.specs.Straight.{run, waits_of, late_state};
+ghost use Rattle.wasm2js_build.specs.Growing.{run, waits_of, late_state};
 ghost use Rattle.wasm2js_jumps.specs.Aims.{aims_view};
 ghost use Rattle.wasm2js_operands.specs.Operands.{over, IsKept};
 ghost use Rattle.wasm2js_operands.specs.Scopes.{context_in};

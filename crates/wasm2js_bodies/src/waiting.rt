@@ -1,5 +1,5 @@
 //! What still waits after an instruction.
-ghost use Rattle.std.specs.Prelude.{◌≡◌, ◌≤◌, ◌+◌, ◌-◌, suc, length, slice_get, vec_len};
+ghost use Rattle.std.specs.Prelude.{◌≡◌, ◌≤◌, slice_get, vec_len};
 ghost use Rattle.wasm2js_translation.specs.Delays as delays;
 ghost use Rattle.wasm2js_nodes.specs.Names.{name_view};
 ghost use Rattle.wasm2js_build.specs.Waits.{delays_view};
@@ -18,6 +18,7 @@ pub fn keep_standing(types: &Vec<ValType>, base: usize, waits: &mut Vec<Delayed>
 }
 
 // Whether a variable is of an operand that stands, of a block above so many others.
+#[tactic(auto, using(crate::proofs::Lists::stands_by_number))]
 fn stands(types: &Vec<ValType>, base: usize, name: Name) -> bool
     requires { base ≤ vec_len types.now }
     ensures { result ≡ delays.stands base (over base types.now.items) (name_view name) }
@@ -30,7 +31,9 @@ fn stands(types: &Vec<ValType>, base: usize, name: Name) -> bool
 }
 
 // Whether the operand of this number has 64 bits.
-fn is_wide_at(types: &Vec<ValType>, d: u64) -> bool {
+fn is_wide_at(types: &Vec<ValType>, d: u64) -> bool
+    ensures { result ≡ delays.is_wide (slice_get types.now.items d) }
+{
     match types.get(d as usize) {
         Some(ValType::I64) => true,
         _ => false,

@@ -2,7 +2,7 @@
 ghost use Rattle.std.specs.Prelude.{◌≡◌, ◌≤◌, ◌∷◌, [], Some, slice_get, vec_len, IfOk};
 ghost use Rattle.wasm_lang.specs.Instructions as flat;
 ghost use Rattle.wasm2js_build.specs.Blocks.{statements_of};
-ghost use Rattle.wasm2js_build.specs.Straight.{waits_of};
+ghost use Rattle.wasm2js_build.specs.Growing.{waits_of};
 ghost use Rattle.wasm2js_jumps.specs.Aims.{aim_view, aims_view};
 ghost use Rattle.wasm2js_operands.specs.Operands.{over, IsKept};
 ghost use Rattle.wasm2js_bodies.specs.Walks.{IsInside};

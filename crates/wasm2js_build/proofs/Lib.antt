@@ -4,5 +4,5 @@ pub mod Lists
 pub mod Literals
 pub mod OwnForms
 pub mod Replacing
-pub mod Straight
+pub mod Growing
 pub mod Waiting

@@ -3,4 +3,4 @@ pub mod Blocks
 pub mod OwnForms
 pub mod Waits
 pub mod Steps
-pub mod Straight
+pub mod Growing

@@ -2,7 +2,7 @@
 use Rattle.std.specs.Prelude.{Bool, List, [], ◌∷◌, map, ◌||◌}
 use Rattle.wasm2js_translation.specs.Words as words
 use Rattle.wasm2js_translation.specs.Names.{Name}
-use Rattle.wasm2js_translation.specs.Delays.{Delayed, puts, changes, one_puts, one_changes, reads_one, differ}
+use Rattle.wasm2js_translation.specs.Delays.{Delayed, puts, changes, one_puts, one_changes, reads_one, differ, others}
 use Rattle.wasm2js_nodes.specs.Names.{name_view, fixed_view}
 use Rattle.wasm2js_build.specs.Views.{term_view, terms_view}
 use Rattle.wasm2js_build.specs.declared.steps.Step.{Step}
@@ -33,3 +33,6 @@ is_spoiled (change.Either first second) d =
 abbrev pub is_put : Change → Name → Bool
 is_put (change.One s) n = puts (step_view s.now) n
 is_put (change.Either first second) n = one_puts (steps_view first.now) n
+
+abbrev pub left_in_arms : Change → List Delayed → List Delayed
+left_in_arms c ds = others (is_spoiled c) ds

@@ -121,7 +121,7 @@ fn is_of_one_changed(first: &[Step<'_>], second: &[Step<'_>], word: Atom) -> boo
 
 /// Whether a word that waits is written before the change: it is that of a variable that changes, or waits for one that only some of the steps put.
 pub(crate) fn spoils(change: Change<'_>, delayed: Delayed) -> bool
-    ensures { result ≡ is_spoiled change (delayed_view delayed) }
+    ensures { result ≡ is_spoiled change.entry (delayed_view delayed) }
 {
     match change {
         Change::One(step) => is_of_changed(step, delayed.word),
@@ -134,7 +134,7 @@ pub(crate) fn spoils(change: Change<'_>, delayed: Delayed) -> bool
 
 /// Whether the change puts a word into a variable.
 pub(crate) fn replaces(change: Change<'_>, name: Name) -> bool
-    ensures { result ≡ is_put change (name_view name) }
+    ensures { result ≡ is_put change.entry (name_view name) }
 {
     match change {
         Change::One(step) => puts(step, name),

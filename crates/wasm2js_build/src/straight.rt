@@ -8,8 +8,9 @@ ghost use Rattle.wasm2js_nodes.specs.Names.{name_view, fixed_view};
 ghost use Rattle.wasm2js_build.specs.Views.{term_view, terms_view};
 ghost use Rattle.wasm2js_build.specs.Blocks.{statements_of};
 ghost use Rattle.wasm2js_build.specs.Waits.{atom_view, delayed_view, delays_view, late_term};
-ghost use Rattle.wasm2js_build.specs.Steps.{step_view, steps_view, is_spoiled, is_put};
-ghost use Rattle.wasm2js_build.specs.Straight.{one, waits_of, late_state, state_of, state_at_once, begins_to_wait};
+ghost use Rattle.wasm2js_build.specs.declared.steps.Change.TheVariants.{Either};
+ghost use Rattle.wasm2js_build.specs.Steps.{step_view, steps_view, is_spoiled, is_put, left_in_arms};
+ghost use Rattle.wasm2js_build.specs.Growing.{one, waits_of, late_state, state_of, state_at_once, begins_to_wait};
 
 use crate::block::Block;
 use crate::building::late_test;
@@ -53,7 +54,7 @@ impl LateBlock {
 
     // What a change spoils is written.
     fn write_spoiled(&mut self, change: Change<'_>) -> Result<(), AllocError>
-        ensures statements { IfOk result (λ _. statements_of self.new.block ≡ statements_of self.old.block ++ simple_statements (delays.written (delays.those (is_spoiled change) (waits_of self.old)))) }
+        ensures statements { IfOk result (λ _. statements_of self.new.block ≡ statements_of self.old.block ++ simple_statements (delays.written (delays.those (is_spoiled change.entry) (waits_of self.old)))) }
         ensures waits { self.new.waits ≡ self.old.waits }
     {
         for delayed in &self.waits {
@@ -66,8 +67,8 @@ impl LateBlock {
 
     // A change, of which this is the statement.
     fn change(&mut self, change: Change<'_>, statement: Stmt) -> Result<(), AllocError>
-        ensures statements { IfOk result (λ _. statements_of self.new.block ≡ (statements_of self.old.block ++ simple_statements (delays.written (delays.those (is_spoiled change) (waits_of self.old)))) ++ stmt_view statement ∷ []) }
-        ensures waits { IfOk result (λ _. waits_of self.new ≡ delays.others (λ d. is_spoiled change d || is_put change d.name) (waits_of self.old)) }
+        ensures statements { IfOk result (λ _. statements_of self.new.block ≡ (statements_of self.old.block ++ simple_statements (delays.written (delays.those (is_spoiled change.entry) (waits_of self.old)))) ++ stmt_view statement ∷ []) }
+        ensures waits { IfOk result (λ _. waits_of self.new ≡ delays.others (λ d. is_spoiled change.entry d || is_put change.entry d.name) (waits_of self.old)) }
     {
         self.write_spoiled(change)?;
         self.block.push(statement)?;
@@ -236,7 +237,7 @@ fn waiting_step(waits: &[Delayed], step: &Step<'_>) -> Option<Delayed>
 
 // What a change spoils is written by now, and what it replaces is gone.
 fn drop_changed(waits: &mut Vec<Delayed>, change: Change<'_>)
-    ensures { delays_view waits.new.items ≡ delays.others (λ d. is_spoiled change d || is_put change d.name) (delays_view waits.old.items) }
+    ensures { delays_view waits.new.items ≡ delays.others (λ d. is_spoiled change.entry d || is_put change.entry d.name) (delays_view waits.old.items) }
 {
     waits.retain(|delayed| !(spoils(change, *delayed) || replaces(change, delayed.name)));
 }
@@ -262,6 +263,14 @@ fn arm(alloc: Global, waits: &[Delayed], steps: &[Step<'_>]) -> Result<Block, Al
     Ok(block)
 }
 
+// What a change spoils is written by now.
+fn drop_spoiled(waits: &mut Vec<Delayed>, change: Change<'_>)
+    ensures { delays_view waits.new.items ≡ delays.others (is_spoiled change.entry) (delays_view waits.old.items) }
+{
+    waits.retain(|delayed| !spoils(change, *delayed));
+}
+
+// In the arms nothing waits that is written before both.
 fn choice(
     alloc: Global,
     waits: &[Delayed],
@@ -269,10 +278,12 @@ fn choice(
     first: &[Step<'_>],
     second: &[Step<'_>],
 ) -> Result<Stmt, AllocError>
-    ensures { IfOk result (λ s. stmt_view s ≡ words.statement (words.either (late_term waits.now test.now) (delays.late_arm (delays_view waits.now) (steps_view first.now)) (delays.late_arm (delays_view waits.now) (steps_view second.now)))) }
+    ensures { IfOk result (λ s. stmt_view s ≡ words.statement (words.either (late_term waits.now test.now) (delays.late_arm (left_in_arms (Either first.entry second.entry) (delays_view waits.now)) (steps_view first.now)) (delays.late_arm (left_in_arms (Either first.entry second.entry) (delays_view waits.now)) (steps_view second.now)))) }
 {
     let test = late_test(alloc, waits, test)?;
-    let yes = arm(alloc, waits, first)?;
-    let no = arm(alloc, waits, second)?;
+    let mut left = Vec::from_slice(alloc, waits)?;
+    drop_spoiled(&mut left, Change::Either(first, second));
+    let yes = arm(alloc, &left, first)?;
+    let no = arm(alloc, &left, second)?;
     if_else(alloc, test, yes.into_part(), no.into_part())
 }

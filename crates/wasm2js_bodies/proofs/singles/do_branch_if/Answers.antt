@@ -6,7 +6,7 @@ use Rattle.wasm2js_translation.specs.Actions.{under}
 use Rattle.wasm2js_translation.specs.Bodies.{jump, signed_word}
 use Rattle.wasm2js_translation.specs.Words.{part_of}
 use Rattle.wasm2js_build.specs.Blocks.{statements_of}
-use Rattle.wasm2js_build.specs.Straight.{waits_of}
+use Rattle.wasm2js_build.specs.Growing.{waits_of}
 use Rattle.wasm2js_jumps.specs.Aims.{aims_view}
 use Rattle.wasm2js_operands.specs.Operands.{over}
 use Rattle.wasm2js_operands.specs.Scopes.{context_in}

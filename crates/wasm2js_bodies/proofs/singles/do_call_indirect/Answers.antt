@@ -4,7 +4,7 @@ use Rattle.wasm_lang.specs.Instructions as flat
 use Rattle.wasm_lang_exec.specs.Code.{call_indirect}
 use Rattle.wasm2js_translation.specs.Bodies.{indirect_stmts, types_after_call}
 use Rattle.wasm2js_build.specs.Blocks.{statements_of}
-use Rattle.wasm2js_build.specs.Straight.{waits_of}
+use Rattle.wasm2js_build.specs.Growing.{waits_of}
 use Rattle.wasm2js_operands.specs.Operands.{over}
 use Rattle.wasm2js_operands.specs.Scopes.{context_in}
 use Rattle.wasm2js_bodies.proofs.Steps.{written_step}

@@ -1,5 +1,5 @@
 use Rattle.wasm2js_build.specs.Blocks.{statements_of}
-use Rattle.wasm2js_build.specs.Straight.{waits_of}
+use Rattle.wasm2js_build.specs.Growing.{waits_of}
 use Rattle.wasm2js_operands.specs.Scopes.{context_in}
 use Rattle.wasm2js_bodies.proofs.Steps.{end_step}
 use Rattle.wasm2js_bodies.proofs.singles.do_end.Goals as goal

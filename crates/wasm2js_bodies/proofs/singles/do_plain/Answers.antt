@@ -1,6 +1,6 @@
 use Rattle.wasm_tree.specs.Views.{instr_of}
 use Rattle.wasm2js_build.specs.Blocks.{statements_of}
-use Rattle.wasm2js_build.specs.Straight.{waits_of}
+use Rattle.wasm2js_build.specs.Growing.{waits_of}
 use Rattle.wasm2js_build.specs.Waits.{delays_view}
 use Rattle.wasm2js_operands.specs.Operands.{over}
 use Rattle.wasm2js_operands.specs.Scopes.{context_in}

@@ -3,7 +3,7 @@ use Rattle.wasm_lang.specs.Instructions as flat
 use Rattle.wasm_lang_exec.specs.Code.{unreachable}
 use Rattle.wasm2js_translation.specs.Words.{trap_call}
 use Rattle.wasm2js_build.specs.Blocks.{statements_of}
-use Rattle.wasm2js_build.specs.Straight.{waits_of}
+use Rattle.wasm2js_build.specs.Growing.{waits_of}
 use Rattle.wasm2js_operands.specs.Scopes.{context_in}
 use Rattle.wasm2js_bodies.proofs.Steps.{written_last_step}
 use Rattle.wasm2js_bodies.proofs.singles.do_unreachable.Goals as goal

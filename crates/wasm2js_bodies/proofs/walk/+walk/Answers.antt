@@ -2,7 +2,7 @@ use Rattle.std.proofs.Common.{rules, ◌≡◌, ◌<◌, ◌≤◌, ℕ, length,
 use Rattle.wasm_run_flat.specs.Places.{code_at}
 use Rattle.wasm_run_flat.proofs.Standing.{stands_inside}
 use Rattle.wasm2js_build.specs.Blocks.{statements_of}
-use Rattle.wasm2js_build.specs.Straight.{waits_of, late_state}
+use Rattle.wasm2js_build.specs.Growing.{waits_of, late_state}
 use Rattle.wasm2js_jumps.specs.Aims.{aim_view, aims_view}
 use Rattle.wasm2js_operands.specs.Scopes.{context_in}
 use Rattle.wasm2js_bodies.specs.Walks.{IsInside, size}

@@ -2,7 +2,7 @@ use Rattle.std.proofs.Common.{◌≡◌, ◌≤◌, ◌+◌, ◌*◌, ◌++◌}
 use Rattle.wasm_run_flat.specs.Places.{code_at}
 use Rattle.wasm2js_translation.specs.Bodies.{stmts_of, comes_to_end}
 use Rattle.wasm2js_build.specs.Blocks.{statements_of}
-use Rattle.wasm2js_build.specs.Straight.{waits_of}
+use Rattle.wasm2js_build.specs.Growing.{waits_of}
 use Rattle.wasm2js_jumps.specs.Aims.{aims_view}
 use Rattle.wasm2js_operands.specs.Operands.{over, IsKept}
 use Rattle.wasm2js_operands.specs.Scopes.{context_in}

@@ -4,7 +4,7 @@ use Rattle.asm_lang.specs.Modules.{Stmt}
 use Rattle.wasm2js_translation.specs.Words.{Term, Simple, Action, simply, either, simple_statement, simple_statements, statement, statements}
 use Rattle.wasm2js_translation.specs.Pairs.{simples}
 use Rattle.wasm2js_translation.specs.Delays.{Delayed, late, late_simple, late_either}
-use Rattle.wasm2js_build.specs.Straight.{State, one, run, late_at, state_at_once}
+use Rattle.wasm2js_build.specs.Growing.{State, one, run, late_at, state_at_once}
 use Rattle.wasm2js_build.proofs.Replacing.{nothing_in_place}
 
 pub one_at_once : (told : List Stmt) (s : Simple) → one (state_at_once told) (simply s) ≡ state_at_once (told ++ simple_statement s ∷ [])
