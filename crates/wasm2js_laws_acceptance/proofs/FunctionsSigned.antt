@@ -8,9 +8,9 @@ use Rattle.wasm_lang_valid.specs.Typing.{Context, listed, result_of as type_resu
 use Rattle.wasm_lang_exec.specs.Code.{unreachable, block, loop, if_block, br, br_if, br_table, return, call, call_indirect, plain, Trees, ε, ◌▹◌}
 use Rattle.asm_lang.specs.Modules.{Expr, Stmt, returns}
 use Rattle.asm_lang_valid.specs.Scope.{gives_value, last_gives_value}
-use Rattle.wasm2js_translation.specs.Words.{Simple, put, ask, tell, guard, stop, write_byte, write_whole, Action, simply, either, simple_statement, statements, stmts_in}
-use Rattle.wasm2js_translation.specs.Actions.{actions}
-use Rattle.wasm2js_translation.specs.Bodies.{out, signed_word, leave_with, jump, switches_from, answered, call_stmts, indirect_stmts, types_after_call, after_plain, stmts_of, closing, body_stmts}
+use Rattle.wasm2js_translation.specs.Words.{Simple, put, ask, tell, guard, stop, write_byte, write_whole, Action, simply, either, simple_statement, simple_statements, statements, stmts_in}
+use Rattle.wasm2js_translation.specs.Bodies.{out, signed_word, leave_with, jump, switches_from, answered, call_stmts, indirect_stmts, types_after_call, after_plain, stmts_of, left_waiting, closing, body_stmts, late_code}
+use Rattle.wasm2js_translation.specs.Delays.{Delayed, written}
 
 -- ---- the last statement
 
@@ -48,6 +48,13 @@ actions_give [] = tt
 actions_give (simply s ∷ xs) = (simple_gives s, actions_give xs)
 actions_give (either t first second ∷ xs) = (refl, actions_give xs)
 
+written_gives : (ds : List Delayed) → NoneGive (simple_statements (written ds))
+written_gives [] = tt
+written_gives (d ∷ ds) = (refl, written_gives ds)
+
+none_behind : (ds : List Delayed) (ss : List Stmt) → NoneGive ss → NoneGive (simple_statements (written ds) ++ ss)
+none_behind ds ss h = none_join (simple_statements (written ds)) ss (written_gives ds) h
+
 switches_give : (to : ℕ → List Stmt) (e : Expr) (full i : ℕ) (ks : List ℕ) (d : ℕ) → NoneGive (switches_from to e full i ks d)
 switches_give to e zero i ks d = (refl, tt)
 switches_give to e (suc full) i ks d = (refl, switches_give to e full (i + 512) (drop 512 ks) d)
@@ -75,21 +82,24 @@ jump_gives r (suc k) b ts e = tt
 -- ---- bodies
 
 module _ (bytes cells : ℕ) (c : Context) where
-  code_gives : c.returns ≡ None → (code : Trees) (b : ℕ) (ts : List ValType) → NoneGive (stmts_of bytes cells c code (out c.returns ∷ []) b ts)
-  code_gives none ε b ts = tt
-  code_gives none (plain p ▹ code) b ts = none_join (statements (actions bytes c p b ts)) _ (actions_give (actions bytes c p b ts)) (code_gives none code b (after_plain c p ts))
-  code_gives none (unreachable ▹ code) b ts = (refl, tt)
-  code_gives none (br k ▹ code) b ts = jump_gives c.returns k b ts none
-  code_gives none (return ▹ code) b ts = leave_gives c.returns _ none
-  code_gives none (br_table ks d ▹ code) b ts = switches_give _ _ _ 0 _ d
-  code_gives none (br_if k ▹ code) b ts = (refl, code_gives none code b (drop 1 ts))
-  code_gives none (block r body ▹ code) b ts = (refl, code_gives none code b (listed r ++ ts))
-  code_gives none (loop r body ▹ code) b ts = (refl, code_gives none code b (listed r ++ ts))
-  code_gives none (if_block r first second ▹ code) b ts = (refl, code_gives none code b (listed r ++ drop 1 ts))
-  code_gives none (call f ▹ code) b ts = none_join (call_stmts f b ts (type_of c f)) _ (call_gives f b ts (type_of c f)) (code_gives none code b (types_after_call (type_of c f) ts))
-  code_gives none (call_indirect t ▹ code) b ts =
-      none_join (indirect_stmts cells c.types b ts (slice_get c.types t)) _ (entry_gives cells c.types b ts (slice_get c.types t))
-      (code_gives none code b (types_after_call (slice_get c.types t) (drop 1 ts)))
+  code_gives : c.returns ≡ None → (code : Trees) (b : ℕ) (ts : List ValType) (ds : List Delayed) → NoneGive (stmts_of bytes cells c code (out c.returns ∷ []) b ts ds)
+  code_gives none ε b ts ds = written_gives ds
+  code_gives none (plain p ▹ code) b ts ds =
+      let x = late_code bytes cells c p b ts ds in none_join (statements x.now) _ (actions_give x.now) (code_gives none code b (after_plain c p ts) (left_waiting bytes cells c p b ts ds))
+  code_gives none (unreachable ▹ code) b ts ds = none_behind ds _ (refl, tt)
+  code_gives none (br k ▹ code) b ts ds = none_behind ds _ (jump_gives c.returns k b ts none)
+  code_gives none (return ▹ code) b ts ds = none_behind ds _ (leave_gives c.returns _ none)
+  code_gives none (br_table ks d ▹ code) b ts ds = none_behind ds _ (switches_give _ _ _ 0 _ d)
+  code_gives none (br_if k ▹ code) b ts ds = none_behind ds _ (refl, code_gives none code b (drop 1 ts) [])
+  code_gives none (block r body ▹ code) b ts ds = none_behind ds _ (refl, code_gives none code b (listed r ++ ts) [])
+  code_gives none (loop r body ▹ code) b ts ds = none_behind ds _ (refl, code_gives none code b (listed r ++ ts) [])
+  code_gives none (if_block r first second ▹ code) b ts ds = none_behind ds _ (refl, code_gives none code b (listed r ++ drop 1 ts) [])
+  code_gives none (call f ▹ code) b ts ds =
+      none_join (simple_statements (written ds) ++ call_stmts f b ts (type_of c f)) _ (none_behind ds _ (call_gives f b ts (type_of c f)))
+      (code_gives none code b (types_after_call (type_of c f) ts) [])
+  code_gives none (call_indirect t ▹ code) b ts ds =
+      none_join (simple_statements (written ds) ++ indirect_stmts cells c.types b ts (slice_get c.types t)) _ (none_behind ds _ (entry_gives cells c.types b ts (slice_get c.types t)))
+      (code_gives none code b (types_after_call (slice_get c.types t) (drop 1 ts)) [])
 
   append_none : (xs : List Stmt) → xs ++ [] ≡ xs
   append_none [] = refl
@@ -105,4 +115,4 @@ module _ (bytes cells : ℕ) (c : Context) where
   closed_gives (Some I64) xs h = ap (λ xs. last_gives_value (stmts_in xs)) (append_two xs _ (returns (Some (signed_word 0)))) ∙ last_is (xs ++ _ ∷ []) (returns (Some (signed_word 0)))
 
   pub body_gives : (code : Trees) → last_gives_value (stmts_in (body_stmts bytes cells c code)) ≡ is_some c.returns
-  body_gives code = closed_gives c.returns (stmts_of bytes cells c code (out c.returns ∷ []) 0 []) (λ none. code_gives none code 0 [])
+  body_gives code = closed_gives c.returns (stmts_of bytes cells c code (out c.returns ∷ []) 0 [] []) (λ none. code_gives none code 0 [] [])

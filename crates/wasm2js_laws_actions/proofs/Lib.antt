@@ -7,3 +7,4 @@ pub mod Doing
 pub mod Simples
 pub mod Parts
 pub mod Executed
+pub mod LateAsking

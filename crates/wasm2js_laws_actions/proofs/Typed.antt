@@ -10,7 +10,7 @@ use Rattle.sem_words.specs.declared.js_value.JsOp.{JsOp}
 use Rattle.sem_words.specs.declared.js_value.JsOp.TheVariants.{Mul}
 use Rattle.sem_words.specs.declared.js_value.JsUnary.TheVariants.{BitNot}
 use Rattle.sem_words.specs.JsValues.{to_uint32_of, truthy_of}
-use Rattle.sem_words.specs.JsOperators.{whole_of, wholes_of, alike_of, signed_value, unsigned_value, js_binary_of, js_unary_of, js_imul_of, js_clz32_of}
+use Rattle.sem_words.specs.JsOperators.{whole_of, wholes_of, alike_of, signed_value, unsigned_value, js_binary_of, js_unary_of}
 use Rattle.sem_words.specs.Words.{word_of, signed_of, mul_of, leading_zeros_of}
 use Rattle.asm_types.specs.declared.value_type.ValueType.{ValueType}
 use Rattle.asm_types.specs.declared.value_type.ValueType.TheVariants.{Fixnum, Signed, Unsigned, Int, Intish}
@@ -18,7 +18,7 @@ use Rattle.asm_types.specs.Types.{is_below}
 use Rattle.asm_types.specs.Rows.{row, gives_of, takes_of}
 use Rattle.asm_types.specs.Values.{fits_of, is_between, least}
 use Rattle.asm_types.proofs.Sound.{wider, to_uint32_lt, Gives, Good, binary_gives, unary_sound, from_row}
-use Rattle.asm_lang.specs.Modules.{Expr, Exprs, lit, call, unary, binary}
+use Rattle.asm_lang.specs.Modules.{Expr, Exprs, call, unary, binary}
 use Rattle.asm_lang_valid.specs.declared.meaning.Builtin.TheVariants.{Imul, Clz32}
 use Rattle.asm_lang_valid.specs.Scope.{a_builtin}
 use Rattle.asm_lang_valid.specs.Typing.{Scope, named, literal_type, typed_below}

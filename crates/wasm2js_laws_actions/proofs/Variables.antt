@@ -8,9 +8,9 @@ use Rattle.sem_words.specs.declared.js_value.JsValue.{JsValue}
 use Rattle.sem_words.specs.JsValues.{to_uint32_of}
 use Rattle.asm_lang_valid.specs.Scope.{is_in}
 use Rattle.asm_lang_exec.specs.Runs.{Binding, binding, Place, defined, value_in, with_value, either_value, read}
-use Rattle.wasm2js_translation.specs.Names.{Fixed, view_of_bytes, view_of_signed_bytes, view_of_words, imul, clz32, trap, high, spare_high, result_high, shift_left, shift_right_signed, shift_right, rotate_left, leading_zeros, trailing_zeros, set_bits, divide_signed, divide, remainder_signed, remainder, load_32, load_64, store_32, store_64, copy, fill, data_words, data_zeros, init, last_high, Name, numbered, fixed, letter, numeral, spelled, fixed_rank}
+use Rattle.wasm2js_translation.specs.Names.{Fixed, view_of_bytes, view_of_signed_bytes, view_of_words, imul, clz32, trap, high, spare_high, result_high, shift_left, shift_right_signed, shift_right, rotate_left, leading_zeros, trailing_zeros, set_bits, divide_signed, divide, remainder_signed, remainder, load_32, load_64, store_32, store_64, copy, fill, data_words, data_zeros, init, last_high, Name, numbered, fixed, letter, numeral, spelled, fixed_rank, same_fixed, same_name}
 use Rattle.wasm2js_translation.proofs.Spelling.{spellings_differ}
-use Rattle.wasm2js_laws_places.specs.Straight.{same_fixed, same_name, with_word}
+use Rattle.wasm2js_laws_places.specs.Straight.{with_word}
 use Rattle.wasm2js_laws_places.specs.Places.{is_own, variables, word_bound, word_at, names_in, AreApart}
 use Rattle.wasm2js_laws_actions.specs.Reads.{Reads}
 

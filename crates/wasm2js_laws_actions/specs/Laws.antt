@@ -7,6 +7,8 @@ use Rattle.asm_lang_exec.specs.Meaning.{eval, eval_all, exec_all, Completion}
 use Rattle.asm_laws_continuation.specs.Following.{CallsBefore, exec_all_to}
 use Rattle.asm_laws_continuation.specs.Laws.{AllFollow}
 use Rattle.wasm2js_translation.specs.Words.{Term, Action, expr, int_of, arguments, statements, stmts_in}
+use Rattle.wasm2js_translation.specs.Pairs.{simples}
+use Rattle.wasm2js_translation.specs.Delays.{Delayed, written, late}
 use Rattle.wasm2js_laws_terms.specs.Sound.{IsSound, AllSound, AreSoundActions}
 use Rattle.wasm2js_laws_places.specs.Straight.{value, values, Helping, ActionsAsk, run_actions, actions_units}
 use Rattle.wasm2js_laws_places.specs.Places.{word_at, AreApart, IsHeap}
@@ -37,3 +39,11 @@ abbrev pub ActionsAreFollowed : Type 0
 ActionsAreFollowed =
     (calls : Calls) (calls_to : CallsBefore (Unit {0})) (c : Scope) (turns : ℕ) (actions : List Action) (next : Completion → Part (Unit {0})) (p : Place) → AllFollow calls calls_to
     → exec_all_to calls_to c turns (stmts_in (statements actions)) next p ≡ and_then (exec_all false calls c turns (stmts_in (statements actions))) next p
+
+-- code whose words are written late calls no other functions
+abbrev pub LateAsksHelpers : Type 0
+LateAsksHelpers = (ds : List Delayed) (actions : List Action) → ActionsAsk actions → ActionsAsk (late ds actions).now
+
+-- .. and what is written calls none
+abbrev pub WrittenAsksNone : Type 0
+WrittenAsksNone = (ds : List Delayed) → ActionsAsk (simples (written ds))

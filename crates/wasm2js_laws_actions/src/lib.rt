@@ -1,7 +1,7 @@
 //! From WebAssembly to asm.js: straight code does on asm.js's places what it does on words.
 #![tactic(auto)]
 
-ghost use Rattle.wasm2js_laws_actions.specs.Laws.{TermsAreRead, IntsAreRead, ArgumentsAreRead, ActionsAreDone, ActionsAreFollowed};
+ghost use Rattle.wasm2js_laws_actions.specs.Laws.{TermsAreRead, IntsAreRead, ArgumentsAreRead, ActionsAreDone, ActionsAreFollowed, LateAsksHelpers, WrittenAsksNone};
 
 /// A term's value has the term's word.
 pub fn terms()
@@ -14,4 +14,10 @@ pub fn terms()
 pub fn actions()
     ensures done { ActionsAreDone }
     ensures followed { ActionsAreFollowed }
+{}
+
+/// Which functions code calls whose words are written late.
+pub fn waiting()
+    ensures late { LateAsksHelpers }
+    ensures written { WrittenAsksNone }
 {}

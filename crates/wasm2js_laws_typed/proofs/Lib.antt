@@ -11,3 +11,5 @@ pub mod FineSwitches
 pub mod RoomParts
 pub mod TypedShapes
 pub mod FineBodies
+pub mod LateSound
+pub mod LateShallow

@@ -1,5 +1,5 @@
 -- The statements of code.
-use Rattle.std.specs.Prelude.{◌≡◌, ℕ, ◌+◌, Bool, true, List, Option, Some, slice_get, is_some}
+use Rattle.std.specs.Prelude.{◌≡◌, ℕ, ◌+◌, Bool, true, List, [], Option, Some, slice_get, is_some}
 use Rattle.wasm_lang.specs.declared.types.ValType.{ValType}
 use Rattle.wasm_lang.specs.Modules.{FunctionType}
 use Rattle.wasm_lang_valid.specs.Typing.{Context}
@@ -35,4 +35,4 @@ CodeIsFine =
     (s : Scope) (c : Context) (is_called : FunctionType → Bool) (bytes cells : ℕ) → Provides s c is_called bytes cells → result_of s ≡ is_some c.returns
     → (code : Trees) (labels : List (Option ValType)) (ls : List Aim) (b : ℕ) (before after : List ValType) (a : Around) → IsTyped (record c { labels = labels }) code before after
     → IsFormedCode c.types is_called code → AreAims c.returns labels ls b → a.labels ≡ labels_for ls → HasRoom s c (room_of c code b before)
-    → AllFine s a (30 + tree_levels code) (stmts_of bytes cells c code ls b before)
+    → AllFine s a (30 + tree_levels code) (stmts_of bytes cells c code ls b before [])

@@ -1,3 +1,4 @@
 pub mod Laws
 pub mod Constructs
 pub mod Bodies
+pub mod Waiting

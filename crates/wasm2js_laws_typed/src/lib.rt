@@ -4,11 +4,20 @@
 ghost use Rattle.wasm2js_laws_typed.specs.Laws.{PlainIsSound, PlainIsShallow};
 ghost use Rattle.wasm2js_laws_typed.specs.Constructs.{BlocksAreFine, LoopsAreFine, ArmsAreFine, TestsAreFine, LabelsAreNew, ReturnsAreFine, JumpsAreFine, CallsAreFine, EntryCallsAreFine, SwitchesAreFine};
 ghost use Rattle.wasm2js_laws_typed.specs.Bodies.{CodeIsFine};
+ghost use Rattle.wasm2js_laws_typed.specs.Waiting.{LateIsSound, LateIsShallow, WrittenIsSound, StandingIsSound};
 
 /// Instructions that compute, and read and write locals, globals and the memory.
 pub fn instructions()
     ensures sound { PlainIsSound }
     ensures shallow { PlainIsShallow }
+{}
+
+/// Code whose words are written late, and the words that wait then.
+pub fn waiting()
+    ensures sound { LateIsSound }
+    ensures shallow { LateIsShallow }
+    ensures written { WrittenIsSound }
+    ensures standing { StandingIsSound }
 {}
 
 /// Blocks, loops and arms, where what stands in them is fine.

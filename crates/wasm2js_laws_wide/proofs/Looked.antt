@@ -6,9 +6,9 @@ use Rattle.sem_words.specs.declared.js_value.JsValue.{JsValue}
 use Rattle.sem_words.specs.JsValues.{to_uint32_of}
 use Rattle.asm_lang_valid.specs.Scope.{is_in}
 use Rattle.asm_lang_exec.specs.Runs.{Binding, Place, Run, goes, stops, spent, wrong, value_in, with_value, either_value, defined, read, write, written}
-use Rattle.wasm2js_translation.specs.Names.{Name, fixed, spare_high, spelled}
+use Rattle.wasm2js_translation.specs.Names.{Name, fixed, spare_high, spelled, same_name}
 use Rattle.wasm2js_lang.specs.SplitWords.{spare, value_at, word_of_value, word_at}
-use Rattle.wasm2js_laws_places.specs.Straight.{Words, same_name, with_word, with_high}
+use Rattle.wasm2js_laws_places.specs.Straight.{Words, with_word, with_high}
 use Rattle.wasm2js_laws_actions.specs.Reads.{Reads}
 use Rattle.wasm2js_laws_actions.proofs.Variables.{spelled_alike, set_get}
 use Rattle.wasm2js_laws_helpers.proofs.Called.{WasSet, HasHigh, IsCalled}

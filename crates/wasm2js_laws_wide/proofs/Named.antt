@@ -17,13 +17,13 @@ use Rattle.asm_lang_valid.specs.Typed.{scope_of}
 use Rattle.asm_lang_exec.specs.Runs.{Place}
 use Rattle.asm_lang_exec.specs.Values.{call_named}
 use Rattle.asm_lang_exec.specs.Meaning.{call_at}
-use Rattle.wasm2js_translation.specs.Names.{Name, Fixed, fixed, spare_high, spelled}
+use Rattle.wasm2js_translation.specs.Names.{Name, Fixed, fixed, spare_high, spelled, same_name}
 use Rattle.asm_laws_sound.proofs.Names.{kind_in, kinds_of, of_kind, name_meaning}
 use Rattle.wasm2js_translation.specs.Words.{Term, Simple, ask, name_of, natural, called, signed_number, arguments, simple_statements}
 use Rattle.wasm2js_translation.specs.Pairs.{Pair}
 use Rattle.wasm2js_lang.specs.SplitWords.{sequence, spare, word_of_value, value_at, wide_at, MayReplace, IsApart}
 use Rattle.wasm2js_laws_numbers.specs.Laws.{joined}
-use Rattle.wasm2js_laws_places.specs.Straight.{Words, same_name, with_word}
+use Rattle.wasm2js_laws_places.specs.Straight.{Words, with_word}
 use Rattle.wasm2js_laws_actions.proofs.Variables.{spelled_alike}
 use Rattle.wasm2js_laws_helpers.proofs.Called.{CallGives}
 use Rattle.wasm2js_laws_helpers.proofs.Turned.{GivesTwo}

@@ -21,11 +21,11 @@ use Rattle.asm_lang_exec.specs.Runs.{Place, Run, spent, wrong, Part, after, and_
 use Rattle.asm_lang_exec.specs.Values.{Calls, call_named}
 use Rattle.asm_lang_exec.specs.Meaning.{eval, eval_all, eval_links, link_operator, Completion, normal, unless_left, exec, exec_all}
 use Rattle.wasm2js_translation.specs.Names as names
-use Rattle.wasm2js_translation.specs.Names.{Name, Fixed, spelled}
+use Rattle.wasm2js_translation.specs.Names.{Name, Fixed, spelled, same_name}
 use Rattle.wasm2js_translation.specs.Words.{Term, read, number, both, flip, sum, product, zeros, compare, choose, byte, whole, Summands, no_more, further, Simple, put, ask, tell, guard, stop, write_byte, write_whole, bit_operator, name_of, expr, summands, int_of, arguments, simple_statement, simple_statements, stmts_in}
 use Rattle.wasm2js_lang.specs.SplitWords.{spare, value_at, word_of_value, word_at}
 use Rattle.wasm2js_laws_numbers.specs.Laws.{joined}
-use Rattle.wasm2js_laws_places.specs.Straight.{Words, same_name, with_word, with_high, bits_of, value, summed, values, added}
+use Rattle.wasm2js_laws_places.specs.Straight.{Words, with_word, with_high, bits_of, value, summed, values, added}
 use Rattle.wasm2js_laws_places.specs.Helped.{IsShort}
 use Rattle.wasm2js_laws_actions.specs.Reads.{Reads, ReadsAll}
 use Rattle.wasm2js_laws_actions.proofs.Numbers.{small, bits_read, links_read}

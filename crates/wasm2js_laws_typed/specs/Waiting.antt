@@ -1,0 +1,34 @@
+-- Words that wait, and straight code whose words are written late: it may stand where the code may, and is no deeper.
+use Rattle.std.specs.Prelude.{◌≡◌, ℕ, ◌≤◌, max, true, List, [], ◌∷◌}
+use Rattle.wasm_lang.specs.declared.types.ValType.{ValType}
+use Rattle.asm_lang_valid.specs.Typing.{Scope}
+use Rattle.wasm2js_translation.specs.Words.{Action}
+use Rattle.wasm2js_translation.specs.Delays.{Delayed, is_light, written, late, standing}
+use Rattle.wasm2js_laws_terms.specs.Sound.{IsInt, IsSound, AreSoundSimple, AreSoundActions, actions_depth}
+
+-- each may be written
+abbrev pub AreSoundWaiting : Scope → List Delayed → Type 0
+AreSoundWaiting s [] = Unit {0}
+AreSoundWaiting s (d ∷ ds) = IsInt s d.name × IsSound s d.word × AreSoundWaiting s ds
+
+-- each is a number, or a variable of no operand
+abbrev pub AreLight : List Delayed → Type 0
+AreLight [] = Unit {0}
+AreLight (d ∷ ds) = (is_light d.word ≡ true) × AreLight ds
+
+-- ---- laws
+
+abbrev pub LateIsSound : Type 0
+LateIsSound =
+    (s : Scope) (ds : List Delayed) (actions : List Action) → AreSoundActions s actions → AreSoundWaiting s ds
+    → AreSoundActions s (late ds actions).now × AreSoundWaiting s (late ds actions).later
+
+-- what is written has depth 1, and words that stand in the place of variables leave each term as deep as it was
+abbrev pub LateIsShallow : Type 0
+LateIsShallow = (ds : List Delayed) (actions : List Action) → AreLight ds → AreLight (late ds actions).later × (actions_depth (late ds actions).now ≤ max 1 (actions_depth actions))
+
+abbrev pub WrittenIsSound : Type 0
+WrittenIsSound = (s : Scope) (ds : List Delayed) → AreSoundWaiting s ds → AreSoundSimple s (written ds)
+
+abbrev pub StandingIsSound : Type 0
+StandingIsSound = (s : Scope) (b : ℕ) (ts : List ValType) (ds : List Delayed) → AreSoundWaiting s ds → AreSoundWaiting s (standing b ts ds)
