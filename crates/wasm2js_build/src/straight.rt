@@ -9,7 +9,7 @@ ghost use Rattle.wasm2js_build.specs.Views.{term_view, terms_view};
 ghost use Rattle.wasm2js_build.specs.Blocks.{statements_of};
 ghost use Rattle.wasm2js_build.specs.Waits.{atom_view, delayed_view, delays_view, late_term};
 ghost use Rattle.wasm2js_build.specs.declared.steps.Change.TheVariants.{Either};
-ghost use Rattle.wasm2js_build.specs.Steps.{step_view, steps_view, is_spoiled, is_put, left_in_arms};
+ghost use Rattle.wasm2js_build.specs.Steps.{step_view, steps_view, is_spoiled, is_put, is_left_in_arms, left_in_arms};
 ghost use Rattle.wasm2js_build.specs.Growing.{one, waits_of, late_state, state_of, state_at_once, begins_to_wait};
 
 use crate::block::Block;
@@ -77,6 +77,7 @@ impl LateBlock {
     }
 
     // A step that doesn't wait.
+    #[tactic(auto, using(crate::proofs::Growing::then_simply))]
     fn act_now(&mut self, step: &Step<'_>) -> Result<(), AllocError>
         ensures statements { IfOk result (λ _. statements_of self.new.block ≡ statements_of self.old.block ++ statements (delays.at_once (waits_of self.old) (step_view step.now)).now) }
         ensures waits { IfOk result (λ _. waits_of self.new ≡ (delays.at_once (waits_of self.old) (step_view step.now)).later) }
@@ -86,11 +87,12 @@ impl LateBlock {
     }
 
     // The first steps where the test holds, and else the second ones.
-    fn either(
+    #[tactic(auto, using(crate::proofs::Growing::then_either))]
+    fn either<'a>(
         &mut self,
         test: &Term<'_>,
-        first: &[Step<'_>],
-        second: &[Step<'_>],
+        first: &'a [Step<'a>],
+        second: &'a [Step<'a>],
     ) -> Result<(), AllocError>
         ensures statements { IfOk result (λ _. statements_of self.new.block ≡ statements_of self.old.block ++ statements (delays.late_either (waits_of self.old) (term_view test.now) (steps_view first.now) (steps_view second.now)).now) }
         ensures waits { IfOk result (λ _. waits_of self.new ≡ (delays.late_either (waits_of self.old) (term_view test.now) (steps_view first.now) (steps_view second.now)).later) }
@@ -162,11 +164,11 @@ impl Straight {
     }
 
     /// The first steps where the test holds, and else the second ones.
-    pub fn either(
+    pub fn either<'a>(
         &mut self,
         test: &Term<'_>,
-        first: &[Step<'_>],
-        second: &[Step<'_>],
+        first: &'a [Step<'a>],
+        second: &'a [Step<'a>],
     ) -> Result<(), AllocError>
         ensures { IfOk result (λ _. state_of self.new ≡ one (state_of self.old) (words.either (term_view test.now) (steps_view first.now) (steps_view second.now))) }
     {
@@ -263,20 +265,27 @@ fn arm(alloc: Global, waits: &[Delayed], steps: &[Step<'_>]) -> Result<Block, Al
     Ok(block)
 }
 
+fn is_kept(change: Change<'_>, delayed: Delayed) -> bool
+    ensures { result ≡ is_left_in_arms change.entry (delayed_view delayed) }
+{
+    !spoils(change, delayed)
+}
+
 // What a change spoils is written by now.
 fn drop_spoiled(waits: &mut Vec<Delayed>, change: Change<'_>)
-    ensures { delays_view waits.new.items ≡ delays.others (is_spoiled change.entry) (delays_view waits.old.items) }
+    ensures { delays_view waits.new.items ≡ delays.those (is_left_in_arms change.entry) (delays_view waits.old.items) }
 {
-    waits.retain(|delayed| !spoils(change, *delayed));
+    waits.retain(|delayed| is_kept(change, *delayed));
 }
 
 // In the arms nothing waits that is written before both.
-fn choice(
+#[tactic(auto, using(crate::proofs::Waiting::left_are))]
+fn choice<'a>(
     alloc: Global,
     waits: &[Delayed],
     test: &Term<'_>,
-    first: &[Step<'_>],
-    second: &[Step<'_>],
+    first: &'a [Step<'a>],
+    second: &'a [Step<'a>],
 ) -> Result<Stmt, AllocError>
     ensures { IfOk result (λ s. stmt_view s ≡ words.statement (words.either (late_term waits.now test.now) (delays.late_arm (left_in_arms (Either first.entry second.entry) (delays_view waits.now)) (steps_view first.now)) (delays.late_arm (left_in_arms (Either first.entry second.entry) (delays_view waits.now)) (steps_view second.now)))) }
 {
