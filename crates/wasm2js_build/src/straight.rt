@@ -88,11 +88,11 @@ impl LateBlock {
 
     // The first steps where the test holds, and else the second ones.
     #[tactic(auto, using(crate::proofs::Growing::then_either))]
-    fn either(
+    fn either<'a>(
         &mut self,
         test: &Term<'_>,
-        first: &[Step<'_>],
-        second: &[Step<'_>],
+        first: &'a [Step<'a>],
+        second: &'a [Step<'a>],
     ) -> Result<(), AllocError>
         ensures statements { IfOk result (λ _. statements_of self.new.block ≡ statements_of self.old.block ++ statements (delays.late_either (waits_of self.old) (term_view test.now) (steps_view first.now) (steps_view second.now)).now) }
         ensures waits { IfOk result (λ _. waits_of self.new ≡ (delays.late_either (waits_of self.old) (term_view test.now) (steps_view first.now) (steps_view second.now)).later) }
@@ -165,12 +165,11 @@ impl Straight {
     }
 
     /// The first steps where the test holds, and else the second ones.
-    #[tactic(auto, using(crate::proofs::Growing::goes_either))]
-    pub fn either(
+    pub fn either<'a>(
         &mut self,
         test: &Term<'_>,
-        first: &[Step<'_>],
-        second: &[Step<'_>],
+        first: &'a [Step<'a>],
+        second: &'a [Step<'a>],
     ) -> Result<(), AllocError>
         ensures { IfOk result (λ _. state_of self.new ≡ one (state_of self.old) (words.either (term_view test.now) (steps_view first.now) (steps_view second.now))) }
     {
@@ -282,12 +281,12 @@ fn drop_spoiled(waits: &mut Vec<Delayed>, change: Change<'_>)
 
 // In the arms nothing waits that is written before both.
 #[tactic(auto, using(crate::proofs::Waiting::left_are))]
-fn choice(
+fn choice<'a>(
     alloc: Global,
     waits: &[Delayed],
     test: &Term<'_>,
-    first: &[Step<'_>],
-    second: &[Step<'_>],
+    first: &'a [Step<'a>],
+    second: &'a [Step<'a>],
 ) -> Result<Stmt, AllocError>
     ensures { IfOk result (λ s. stmt_view s ≡ words.statement (words.either (late_term waits.now test.now) (delays.late_arm (left_in_arms (Either first.entry second.entry) (delays_view waits.now)) (steps_view first.now)) (delays.late_arm (left_in_arms (Either first.entry second.entry) (delays_view waits.now)) (steps_view second.now)))) }
 {
