@@ -150,7 +150,6 @@ impl Straight {
     }
 
     /// One more step.
-    #[tactic(auto, using(crate::proofs::Growing::begins, crate::proofs::Growing::goes, crate::proofs::Growing::goes_at_once))]
     pub fn act(&mut self, step: &Step<'_>) -> Result<(), AllocError>
         ensures { IfOk result (λ _. state_of self.new ≡ one (state_of self.old) (words.simply (step_view step.now))) }
     {
