@@ -7,11 +7,13 @@ ghost use Rattle.wasm2js_translation.specs.Names as names;
 ghost use Rattle.wasm2js_translation.specs.Words as words;
 ghost use Rattle.wasm2js_translation.specs.Words.{simple_statements};
 ghost use Rattle.wasm2js_translation.specs.Pairs as pairs;
+ghost use Rattle.wasm2js_translation.specs.Pairs.{simples};
 ghost use Rattle.wasm2js_translation.specs.Wide as wide;
 ghost use Rattle.wasm2js_translation.specs.Helpers.{wide_helpers};
 ghost use Rattle.wasm2js_nodes.specs.Names.{name_view, fixed_view};
 ghost use Rattle.wasm2js_build.specs.Views.{bit_view, term_view};
 ghost use Rattle.wasm2js_build.specs.Blocks.{statements_of};
+ghost use Rattle.wasm2js_build.specs.Growing.{run, state_of};
 ghost use Rattle.wasm2js_laws_wide.specs.Laws.{is_extension};
 ghost use Rattle.split_words.specs.Views.{pair_view, halves_of};
 
@@ -19,18 +21,18 @@ use crate::pair::Pair;
 use sem_words::{Bin, Un};
 use std::alloc::AllocError;
 use wasm_lang::ValType;
-use wasm2js_build::{BitOp, Block, Relation, Term};
+use wasm2js_build::{BitOp, Block, Relation, Straight, Term};
 use wasm2js_nodes::{Fixed, Name};
 
 /// A value of this type from one place to another.
+#[tactic(auto, using(crate::proofs::AtOnce::run_at_once))]
 pub fn moved(block: &mut Block, kind: ValType, from: Pair, to: Pair) -> Result<(), AllocError>
     ensures { IfOk result (λ _. statements_of block.new ≡ statements_of block.old ++ simple_statements (pairs.moved kind (pair_view from) (pair_view to))) }
 {
-    block.put(to.low, &Term::read(from.low))?;
-    match kind {
-        ValType::I32 => Ok(()),
-        ValType::I64 => block.put(to.high, &Term::read(from.high)),
-    }
+    let mut straight = Straight::at_once(block);
+    put_moved(&mut straight, kind, from, to)?;
+    *block = straight.into_block();
+    Ok(())
 }
 
 /// A product, a quotient and a remainder aren't made of words of 32 bits here.
@@ -39,14 +41,14 @@ pub fn wide_binary(block: &mut Block, op: Bin, a: Pair, b: Pair, to: Pair) -> Re
     ensures statements { IfOk result (λ _. statements_of block.new ≡ statements_of block.old ++ simple_statements (wide.wide_binary op (pair_view a) (pair_view b) (pair_view to))) }
     ensures computes { IfOk result (λ _. Gains (statements_of block.old) (statements_of block.new) (λ ss. ComputesBinary wide_helpers ss op (halves_of a) (halves_of b) (halves_of to))) }
 {
-    put_binary(block, op, a, b, to)
+    binary_at_once(block, op, a, b, to)
 }
 
 pub fn wide_unary(block: &mut Block, op: Un, a: Pair, to: Pair) -> Result<(), AllocError>
     ensures statements { IfOk result (λ _. statements_of block.new ≡ statements_of block.old ++ simple_statements (wide.wide_unary op (pair_view a) (pair_view to))) }
     ensures computes { IfOk result (λ _. Gains (statements_of block.old) (statements_of block.new) (λ ss. ComputesUnary wide_helpers ss op (halves_of a) (halves_of to))) }
 {
-    put_unary(block, op, a, to)
+    unary_at_once(block, op, a, to)
 }
 
 /// The low bits, of which there are 8, 16 or 32, extended with their sign.
@@ -54,121 +56,187 @@ pub fn wide_extend(block: &mut Block, bits: u32, a: Pair, to: Pair) -> Result<()
     ensures statements { IfOk result (λ _. statements_of block.new ≡ statements_of block.old ++ simple_statements (wide.wide_extend bits (pair_view a) (pair_view to))) }
     ensures computes { is_extension bits ≡ true → IfOk result (λ _. Gains (statements_of block.old) (statements_of block.new) (λ ss. ComputesExtension wide_helpers ss bits (halves_of a) (halves_of to))) }
 {
-    put_wide_extended(block, bits, a, to)
+    extended_at_once(block, bits, a, to)
 }
 
-fn put_binary(block: &mut Block, op: Bin, a: Pair, b: Pair, to: Pair) -> Result<(), AllocError>
-    requires { is_mul_div op ≡ false }
+#[tactic(auto, using(crate::proofs::AtOnce::run_at_once))]
+fn binary_at_once(block: &mut Block, op: Bin, a: Pair, b: Pair, to: Pair) -> Result<(), AllocError>
+    requires made { is_mul_div op ≡ false }
     ensures { IfOk result (λ _. statements_of block.new ≡ statements_of block.old ++ simple_statements (wide.wide_binary op (pair_view a) (pair_view b) (pair_view to))) }
 {
-    match op {
-        Bin::Add => sum(block, a, b, to),
-        Bin::Sub => difference(block, a, b, to),
-        Bin::Mul | Bin::DivS | Bin::DivU | Bin::RemS | Bin::RemU => unreachable!(),
-        Bin::And => bits(block, BitOp::And, a, b, to),
-        Bin::Or => bits(block, BitOp::Or, a, b, to),
-        Bin::Xor => bits(block, BitOp::Xor, a, b, to),
-        Bin::Shl => turn(block, Fixed::ShiftLeft, a, to, &Term::read(b.low)),
-        Bin::ShrS => turn(block, Fixed::ShiftRightSigned, a, to, &Term::read(b.low)),
-        Bin::ShrU => turn(block, Fixed::ShiftRight, a, to, &Term::read(b.low)),
-        Bin::Rotl => turn(block, Fixed::RotateLeft, a, to, &Term::read(b.low)),
-        Bin::Rotr => turn_right(block, a, b, to),
-    }
+    let mut straight = Straight::at_once(block);
+    put_binary(&mut straight, op, a, b, to)?;
+    *block = straight.into_block();
+    Ok(())
 }
 
-fn put_unary(block: &mut Block, op: Un, a: Pair, to: Pair) -> Result<(), AllocError>
+#[tactic(auto, using(crate::proofs::AtOnce::run_at_once))]
+fn unary_at_once(block: &mut Block, op: Un, a: Pair, to: Pair) -> Result<(), AllocError>
     ensures { IfOk result (λ _. statements_of block.new ≡ statements_of block.old ++ simple_statements (wide.wide_unary op (pair_view a) (pair_view to))) }
 {
-    match op {
-        Un::Clz => count(block, Fixed::LeadingZeros, a, to),
-        Un::Ctz => count(block, Fixed::TrailingZeros, a, to),
-        Un::Popcnt => set_bits(block, a, to),
+    let mut straight = Straight::at_once(block);
+    put_unary(&mut straight, op, a, to)?;
+    *block = straight.into_block();
+    Ok(())
+}
+
+#[tactic(auto, using(crate::proofs::AtOnce::run_at_once))]
+fn extended_at_once(block: &mut Block, bits: u32, a: Pair, to: Pair) -> Result<(), AllocError>
+    ensures { IfOk result (λ _. statements_of block.new ≡ statements_of block.old ++ simple_statements (wide.wide_extend bits (pair_view a) (pair_view to))) }
+{
+    let mut straight = Straight::at_once(block);
+    put_extension(&mut straight, bits, a, to)?;
+    *block = straight.into_block();
+    Ok(())
+}
+
+/// A value of this type from one place to another.
+pub fn put_moved(
+    straight: &mut Straight,
+    kind: ValType,
+    from: Pair,
+    to: Pair,
+) -> Result<(), AllocError>
+    ensures { IfOk result (λ _. state_of straight.new ≡ run (state_of straight.old) (simples (pairs.moved kind (pair_view from) (pair_view to)))) }
+{
+    straight.put(to.low, &Term::read(from.low))?;
+    match kind {
+        ValType::I32 => Ok(()),
+        ValType::I64 => straight.put(to.high, &Term::read(from.high)),
     }
 }
 
-fn put_wide_extended(block: &mut Block, bits: u32, a: Pair, to: Pair) -> Result<(), AllocError>
-    ensures { IfOk result (λ _. statements_of block.new ≡ statements_of block.old ++ simple_statements (wide.wide_extend bits (pair_view a) (pair_view to))) }
+/// Where words may wait.
+pub fn put_binary(
+    straight: &mut Straight,
+    op: Bin,
+    a: Pair,
+    b: Pair,
+    to: Pair,
+) -> Result<(), AllocError>
+    requires { is_mul_div op ≡ false }
+    ensures { IfOk result (λ _. state_of straight.new ≡ run (state_of straight.old) (simples (wide.wide_binary op (pair_view a) (pair_view b) (pair_view to)))) }
+{
+    match op {
+        Bin::Add => sum(straight, a, b, to),
+        Bin::Sub => difference(straight, a, b, to),
+        Bin::Mul | Bin::DivS | Bin::DivU | Bin::RemS | Bin::RemU => unreachable!(),
+        Bin::And => bits(straight, BitOp::And, a, b, to),
+        Bin::Or => bits(straight, BitOp::Or, a, b, to),
+        Bin::Xor => bits(straight, BitOp::Xor, a, b, to),
+        Bin::Shl => turn(straight, Fixed::ShiftLeft, a, to, &Term::read(b.low)),
+        Bin::ShrS => turn(straight, Fixed::ShiftRightSigned, a, to, &Term::read(b.low)),
+        Bin::ShrU => turn(straight, Fixed::ShiftRight, a, to, &Term::read(b.low)),
+        Bin::Rotl => turn(straight, Fixed::RotateLeft, a, to, &Term::read(b.low)),
+        Bin::Rotr => turn_right(straight, a, b, to),
+    }
+}
+
+/// Where words may wait.
+pub fn put_unary(straight: &mut Straight, op: Un, a: Pair, to: Pair) -> Result<(), AllocError>
+    ensures { IfOk result (λ _. state_of straight.new ≡ run (state_of straight.old) (simples (wide.wide_unary op (pair_view a) (pair_view to)))) }
+{
+    match op {
+        Un::Clz => count(straight, Fixed::LeadingZeros, a, to),
+        Un::Ctz => count(straight, Fixed::TrailingZeros, a, to),
+        Un::Popcnt => set_bits(straight, a, to),
+    }
+}
+
+/// Where words may wait.
+pub fn put_extension(
+    straight: &mut Straight,
+    bits: u32,
+    a: Pair,
+    to: Pair,
+) -> Result<(), AllocError>
+    ensures { IfOk result (λ _. state_of straight.new ≡ run (state_of straight.old) (simples (wide.wide_extend bits (pair_view a) (pair_view to)))) }
 {
     if bits == 32 {
-        block.put(to.low, &Term::read(a.low))?;
+        straight.put(to.low, &Term::read(a.low))?;
     } else {
-        put_extended(block, bits, a.low, to.low)?;
+        put_extended(straight, bits, a.low, to.low)?;
     }
-    put_sign(block, to.low, to.high)
+    put_sign(straight, to.low, to.high)
 }
 
 /// The low bits of a word, extended with their sign.
-pub fn put_extended(block: &mut Block, bits: u32, from: Name, to: Name) -> Result<(), AllocError>
-    ensures { IfOk result (λ _. statements_of block.new ≡ statements_of block.old ++ simple_statements (words.put (name_view to) (pairs.extended bits (words.read (name_view from))) ∷ [])) }
+pub fn put_extended(
+    straight: &mut Straight,
+    bits: u32,
+    from: Name,
+    to: Name,
+) -> Result<(), AllocError>
+    ensures { IfOk result (λ _. state_of straight.new ≡ run (state_of straight.old) (simples (words.put (name_view to) (pairs.extended bits (words.read (name_view from))) ∷ []))) }
 {
     let places = 32u32.saturating_sub(bits) as i64;
     let a = Term::read(from);
     let far = Term::both_number(BitOp::Shl, &a, places);
-    block.put(to, &Term::both_number(BitOp::Sar, &far, places))
+    straight.put(to, &Term::both_number(BitOp::Sar, &far, places))
 }
 
 /// The high word of a number of 64 bits that has the value of the low word's signed reading.
-pub fn put_sign(block: &mut Block, low: Name, high: Name) -> Result<(), AllocError>
-    ensures { IfOk result (λ _. statements_of block.new ≡ statements_of block.old ++ simple_statements (words.put (name_view high) (pairs.sign_of (words.read (name_view low))) ∷ [])) }
+pub fn put_sign(straight: &mut Straight, low: Name, high: Name) -> Result<(), AllocError>
+    ensures { IfOk result (λ _. state_of straight.new ≡ run (state_of straight.old) (simples (words.put (name_view high) (pairs.sign_of (words.read (name_view low))) ∷ []))) }
 {
     let word = Term::read(low);
-    block.put(high, &Term::both_number(BitOp::Sar, &word, 31))
+    straight.put(high, &Term::both_number(BitOp::Sar, &word, 31))
 }
 
 // The carry of the low words goes into the high one.
-fn sum(block: &mut Block, a: Pair, b: Pair, to: Pair) -> Result<(), AllocError>
-    ensures { IfOk result (λ _. statements_of block.new ≡ statements_of block.old ++ simple_statements (wide.wide_sum (pair_view a) (pair_view b) (pair_view to))) }
+fn sum(straight: &mut Straight, a: Pair, b: Pair, to: Pair) -> Result<(), AllocError>
+    ensures { IfOk result (λ _. state_of straight.new ≡ run (state_of straight.old) (simples (wide.wide_sum (pair_view a) (pair_view b) (pair_view to)))) }
 {
-    block.put(to.low, &Term::plus_read(a.low, b.low))?;
+    straight.put(to.low, &Term::plus_read(a.low, b.low))?;
     let carry = Term::compare_read(false, Relation::Less, to.low, b.low);
     let a_high = Term::read(a.high);
     let b_high = Term::read(b.high);
-    block.put(to.high, &Term::sum_of_three(&a_high, &b_high, &carry))
+    straight.put(to.high, &Term::sum_of_three(&a_high, &b_high, &carry))
 }
 
 // So does what the low words borrow, while they stand.
-fn difference(block: &mut Block, a: Pair, b: Pair, to: Pair) -> Result<(), AllocError>
-    ensures { IfOk result (λ _. statements_of block.new ≡ statements_of block.old ++ simple_statements (wide.wide_difference (pair_view a) (pair_view b) (pair_view to))) }
+fn difference(straight: &mut Straight, a: Pair, b: Pair, to: Pair) -> Result<(), AllocError>
+    ensures { IfOk result (λ _. state_of straight.new ≡ run (state_of straight.old) (simples (wide.wide_difference (pair_view a) (pair_view b) (pair_view to)))) }
 {
     let borrow = Term::compare_read(false, Relation::Less, a.low, b.low);
     let a_high = Term::read(a.high);
     let b_high = Term::read(b.high);
-    block.put(to.high, &Term::less_two(&a_high, &b_high, &borrow))?;
-    block.put(to.low, &Term::minus_read(a.low, b.low))
+    straight.put(to.high, &Term::less_two(&a_high, &b_high, &borrow))?;
+    straight.put(to.low, &Term::minus_read(a.low, b.low))
 }
 
-fn bits(block: &mut Block, op: BitOp, a: Pair, b: Pair, to: Pair) -> Result<(), AllocError>
-    ensures { IfOk result (λ _. statements_of block.new ≡ statements_of block.old ++ simple_statements (wide.wide_bits (bit_view op) (pair_view a) (pair_view b) (pair_view to))) }
+fn bits(straight: &mut Straight, op: BitOp, a: Pair, b: Pair, to: Pair) -> Result<(), AllocError>
+    ensures { IfOk result (λ _. state_of straight.new ≡ run (state_of straight.old) (simples (wide.wide_bits (bit_view op) (pair_view a) (pair_view b) (pair_view to)))) }
 {
-    block.put(to.low, &Term::both_read(op, a.low, b.low))?;
-    block.put(to.high, &Term::both_read(op, a.high, b.high))
+    straight.put(to.low, &Term::both_read(op, a.low, b.low))?;
+    straight.put(to.high, &Term::both_read(op, a.high, b.high))
 }
 
 // By a helper that takes both words and a count.
 fn turn(
-    block: &mut Block,
+    straight: &mut Straight,
     helper: Fixed,
     a: Pair,
     to: Pair,
     count: &Term<'_>,
 ) -> Result<(), AllocError>
-    ensures { IfOk result (λ _. statements_of block.new ≡ statements_of block.old ++ simple_statements (wide.wide_turn (fixed_view helper) (pair_view a) (pair_view to) (term_view count.now))) }
+    ensures { IfOk result (λ _. state_of straight.new ≡ run (state_of straight.old) (simples (wide.wide_turn (fixed_view helper) (pair_view a) (pair_view to) (term_view count.now)))) }
 {
-    block.ask(
+    straight.ask(
         to.low,
         helper,
         &[Term::read(a.low), Term::read(a.high), *count],
     )?;
-    block.put(to.high, &Term::read(Name::Always(Fixed::SpareHigh)))
+    straight.put(to.high, &Term::read(Name::Always(Fixed::SpareHigh)))
 }
 
-fn turn_right(block: &mut Block, a: Pair, b: Pair, to: Pair) -> Result<(), AllocError>
-    ensures { IfOk result (λ _. statements_of block.new ≡ statements_of block.old ++ simple_statements (wide.wide_turn names.rotate_left (pair_view a) (pair_view to) (pairs.minus (pairs.literal 0) (words.read (pair_view b).low)))) }
+fn turn_right(straight: &mut Straight, a: Pair, b: Pair, to: Pair) -> Result<(), AllocError>
+    ensures { IfOk result (λ _. state_of straight.new ≡ run (state_of straight.old) (simples (wide.wide_turn names.rotate_left (pair_view a) (pair_view to) (pairs.minus (pairs.literal 0) (words.read (pair_view b).low))))) }
 {
     let none = Term::number(0);
     let places = Term::read(b.low);
     turn(
-        block,
+        straight,
         Fixed::RotateLeft,
         a,
         to,
@@ -177,25 +245,25 @@ fn turn_right(block: &mut Block, a: Pair, b: Pair, to: Pair) -> Result<(), Alloc
 }
 
 // A number of bits, which is at most 64.
-fn count(block: &mut Block, helper: Fixed, a: Pair, to: Pair) -> Result<(), AllocError>
-    ensures { IfOk result (λ _. statements_of block.new ≡ statements_of block.old ++ simple_statements (wide.wide_count (fixed_view helper) (pair_view a) (pair_view to))) }
+fn count(straight: &mut Straight, helper: Fixed, a: Pair, to: Pair) -> Result<(), AllocError>
+    ensures { IfOk result (λ _. state_of straight.new ≡ run (state_of straight.old) (simples (wide.wide_count (fixed_view helper) (pair_view a) (pair_view to)))) }
 {
-    block.ask(to.low, helper, &[Term::read(a.low), Term::read(a.high)])?;
-    block.put(to.high, &Term::number(0))
+    straight.ask(to.low, helper, &[Term::read(a.low), Term::read(a.high)])?;
+    straight.put(to.high, &Term::number(0))
 }
 
-fn set_bits(block: &mut Block, a: Pair, to: Pair) -> Result<(), AllocError>
-    ensures { IfOk result (λ _. statements_of block.new ≡ statements_of block.old ++ simple_statements (wide.wide_unary uns.Popcnt (pair_view a) (pair_view to))) }
+fn set_bits(straight: &mut Straight, a: Pair, to: Pair) -> Result<(), AllocError>
+    ensures { IfOk result (λ _. state_of straight.new ≡ run (state_of straight.old) (simples (wide.wide_unary uns.Popcnt (pair_view a) (pair_view to)))) }
 {
-    set_bits_of_words(block, a, to)?;
-    block.put(to.low, &Term::plus_read(to.low, to.high))?;
-    block.put(to.high, &Term::number(0))
+    set_bits_of_words(straight, a, to)?;
+    straight.put(to.low, &Term::plus_read(to.low, to.high))?;
+    straight.put(to.high, &Term::number(0))
 }
 
 // Those of each word in a word of its own.
-fn set_bits_of_words(block: &mut Block, a: Pair, to: Pair) -> Result<(), AllocError>
-    ensures { IfOk result (λ _. statements_of block.new ≡ statements_of block.old ++ simple_statements (words.ask (name_view to.low) names.set_bits (words.read (name_view a.low) ∷ []) ∷ words.ask (name_view to.high) names.set_bits (words.read (name_view a.high) ∷ []) ∷ [])) }
+fn set_bits_of_words(straight: &mut Straight, a: Pair, to: Pair) -> Result<(), AllocError>
+    ensures { IfOk result (λ _. state_of straight.new ≡ run (state_of straight.old) (simples (words.ask (name_view to.low) names.set_bits (words.read (name_view a.low) ∷ []) ∷ words.ask (name_view to.high) names.set_bits (words.read (name_view a.high) ∷ []) ∷ []))) }
 {
-    block.ask(to.low, Fixed::SetBits, &[Term::read(a.low)])?;
-    block.ask(to.high, Fixed::SetBits, &[Term::read(a.high)])
+    straight.ask(to.low, Fixed::SetBits, &[Term::read(a.low)])?;
+    straight.ask(to.high, Fixed::SetBits, &[Term::read(a.high)])
 }

@@ -1,13 +1,13 @@
 //! Places in the memory.
-ghost use Rattle.std.specs.Prelude.{◌≡◌, ◌<◌, ◌^◌, [], ◌∷◌, ◌++◌, ◌==◌, if◌then◌else◌, IfOk};
-ghost use Rattle.asm_lang.specs.Modules as text;
-ghost use Rattle.wasm2js_translation.specs.Words.{both, conjunction, test_of, part_of};
+ghost use Rattle.std.specs.Prelude.{◌≡◌, ◌<◌, ◌^◌, ◌==◌, if◌then◌else◌, IfOk};
+ghost use Rattle.wasm2js_translation.specs.Words.{both, conjunction, either};
 ghost use Rattle.wasm2js_translation.specs.Pairs as pairs;
 ghost use Rattle.wasm2js_build.specs.Views.{term_view};
-ghost use Rattle.wasm2js_build.specs.Blocks.{statements_of};
+ghost use Rattle.wasm2js_build.specs.Steps.{steps_view};
+ghost use Rattle.wasm2js_build.specs.Growing.{one, state_of};
 
 use std::alloc::AllocError;
-use wasm2js_build::{BitOp, Block, Term};
+use wasm2js_build::{BitOp, Step, Straight, Term};
 
 /// The place so many bytes past the address.
 pub fn place<'a>(address: &'a Term<'a>, offset: u64) -> Term<'a>
@@ -21,14 +21,14 @@ pub fn place<'a>(address: &'a Term<'a>, offset: u64) -> Term<'a>
     }
 }
 
-/// The second block where the place is a multiple of four, and else the first.
-pub fn by_place(
-    block: &mut Block,
+/// The second steps where the place is a multiple of four, and else the first.
+pub fn by_place<'a>(
+    straight: &mut Straight,
     at: &Term<'_>,
-    apart: Block,
-    together: Block,
+    apart: &'a [Step<'a>],
+    together: &'a [Step<'a>],
 ) -> Result<(), AllocError>
-    ensures { IfOk result (λ _. statements_of block.new ≡ statements_of block.old ++ text.if_else (test_of (both conjunction (term_view at.now) (pairs.literal 3))) (part_of (statements_of apart)) (part_of (statements_of together)) ∷ []) }
+    ensures { IfOk result (λ _. state_of straight.new ≡ one (state_of straight.old) (either (both conjunction (term_view at.now) (pairs.literal 3)) (steps_view apart.now) (steps_view together.now))) }
 {
-    block.either(&Term::both_number(BitOp::And, at, 3), apart, together)
+    straight.either(&Term::both_number(BitOp::And, at, 3), apart, together)
 }

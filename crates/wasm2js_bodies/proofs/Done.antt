@@ -8,68 +8,71 @@ use Rattle.wasm_lang_valid.specs.Typing.{Context, listed}
 use Rattle.wasm_run_flat.specs.Jumps.{past_end, other_arm}
 use Rattle.asm_lang.specs.Modules.{Stmt, breaks}
 use Rattle.wasm2js_translation.specs.Helpers.{block_of}
+use Rattle.wasm2js_translation.specs.Delays.{Delayed}
 use Rattle.wasm2js_translation.specs.Bodies.{Aim, past, again, labels_round, under_label, endless, chosen, signed_word}
 use Rattle.wasm2js_operands.specs.Operands.{over}
 use Rattle.wasm2js_bodies.specs.Walks.{IsInside, GoesOn, IsOver}
+use Rattle.wasm2js_build.specs.Growing.{State, late_at}
+use Rattle.wasm2js_bodies.proofs.Steps.{all_written}
 use Rattle.wasm2js_bodies.proofs.Blocks.{block_step, loop_step, if_step}
 use Rattle.wasm2js_bodies.proofs.Lists.{all_under, left_under}
 
 module _ (bytes cells : ℕ) (c : Context) (body : List Instruction) (at : ℕ) (ls : List Aim) (b : ℕ) (r : Option ValType) where
-  moved : (place first m n : ℕ) (reached : Bool) (ms : List Aim) (aim to : Aim) (empty inner : List Stmt) → IsOver bytes cells c body first reached (aim ∷ ms) m [] empty inner
-      → first ≡ place → aim ≡ to → ms ≡ ls → m ≡ n → empty ≡ [] → IsOver bytes cells c body place reached (to ∷ ls) n [] [] inner
-  moved place first m n reached ms aim to empty inner o e1 e2 e3 e4 e5 =
-      subst (λ (p : ℕ). IsOver bytes cells c body p reached (to ∷ ls) n [] [] inner) e1
-      (subst (λ (a : Aim). IsOver bytes cells c body first reached (a ∷ ls) n [] [] inner) e2
-      (subst (λ (ks : List Aim). IsOver bytes cells c body first reached (aim ∷ ks) n [] [] inner) e3
-      (subst (λ (d : ℕ). IsOver bytes cells c body first reached (aim ∷ ms) d [] [] inner) e4
-      (subst (λ (ss : List Stmt). IsOver bytes cells c body first reached (aim ∷ ms) m [] ss inner) e5 o))))
+  moved : (place first m n : ℕ) (reached : Bool) (ms : List Aim) (aim to : Aim) (inner : List Stmt) (empty : State) → IsOver bytes cells c body first reached (aim ∷ ms) m [] empty.waits empty.told inner
+      → first ≡ place → aim ≡ to → ms ≡ ls → m ≡ n → empty ≡ late_at [] [] → IsOver bytes cells c body place reached (to ∷ ls) n [] [] [] inner
+  moved place first m n reached ms aim to inner empty o e1 e2 e3 e4 e5 =
+      subst (λ (p : ℕ). IsOver bytes cells c body p reached (to ∷ ls) n [] [] [] inner) e1
+      (subst (λ (a : Aim). IsOver bytes cells c body first reached (a ∷ ls) n [] [] [] inner) e2
+      (subst (λ (ks : List Aim). IsOver bytes cells c body first reached (aim ∷ ks) n [] [] [] inner) e3
+      (subst (λ (d : ℕ). IsOver bytes cells c body first reached (aim ∷ ms) d [] [] [] inner) e4
+      (subst (λ (q : State). IsOver bytes cells c body first reached (aim ∷ ms) m [] q.waits q.told inner) e5 o))))
 
   -- the operands xs as the block is opened, ys as it ends and zs after it
-  pub block_done : (first place n : ℕ) (reached : Bool) (ms : List Aim) (aim : Aim) (xs ys zs : List ValType) (before after empty inner : List Stmt)
-      → IsInside body at → slice_get body at ≡ Some (flat.block r) → b ≤ length xs → n ≡ length xs
-      → first ≡ at + 1 → place ≡ past_end body at → aim ≡ past n r → empty ≡ []
-      → IsOver bytes cells c body first reached (aim ∷ ls) n [] empty inner
+  pub block_done : (first place n : ℕ) (reached : Bool) (ms : List Aim) (aim : Aim) (xs ys zs : List ValType) (ds es : List Delayed) (before mid after inner : List Stmt) (empty : State)
+      → IsInside body at → mid ≡ before ++ all_written ds → es ≡ [] → slice_get body at ≡ Some (flat.block r) → b ≤ length xs → n ≡ length xs
+      → first ≡ at + 1 → place ≡ past_end body at → aim ≡ past n r → empty ≡ late_at [] []
+      → IsOver bytes cells c body first reached (aim ∷ ls) n [] empty.waits empty.told inner
       → ys ≡ xs → ms ≡ ls → over b zs ≡ listed r ++ over b ys
-      → after ≡ before ++ under_label (labels_round ms) (block_of inner) ∷ []
-      → GoesOn bytes cells c body at place ls b (over b xs) (over b zs) before after
-  block_done first place n reached ms aim xs ys zs before after empty inner s here h count begins ends aimed none o same outer gives made =
-      subst (λ (p : ℕ). GoesOn bytes cells c body at p ls b (over b xs) (over b zs) before after) (sym ends)
-      (block_step bytes cells c body at ls b n r (over b xs) (over b zs) before after inner s here (count ∙ all_under b xs h)
+      → after ≡ mid ++ under_label (labels_round ms) (block_of inner) ∷ []
+      → GoesOn bytes cells c body at place ls b (over b xs) (over b zs) ds es before after
+  block_done first place n reached ms aim xs ys zs ds es before mid after inner empty s w waits here h count begins ends aimed none o same outer gives made =
+      subst (λ (p : ℕ). GoesOn bytes cells c body at p ls b (over b xs) (over b zs) ds es before after) (sym ends)
+      (block_step bytes cells c body at ls b n r (over b xs) (over b zs) ds es before mid after inner s w waits here (count ∙ all_under b xs h)
       (gives ∙ ap (λ (vs : List ValType). listed r ++ over b vs) same) reached
-      (moved (at + 1) first n n reached ls aim (past n r) empty inner o begins aimed refl refl none)
-      (made ∙ ap (λ (ks : List Aim). before ++ under_label (labels_round ks) (block_of inner) ∷ []) outer))
+      (moved (at + 1) first n n reached ls aim (past n r) inner empty o begins aimed refl refl none)
+      (made ∙ ap (λ (ks : List Aim). mid ++ under_label (labels_round ks) (block_of inner) ∷ []) outer))
 
-  pub loop_done : (first place n : ℕ) (reached : Bool) (ms : List Aim) (aim : Aim) (xs ys zs : List ValType) (before after empty inner : List Stmt)
-      → IsInside body at → slice_get body at ≡ Some (flat.loop r) → b ≤ length xs → n ≡ length xs
-      → first ≡ at + 1 → place ≡ past_end body at → aim ≡ again n → empty ≡ []
-      → IsOver bytes cells c body first reached (aim ∷ ls) n [] empty inner
+  pub loop_done : (first place n : ℕ) (reached : Bool) (ms : List Aim) (aim : Aim) (xs ys zs : List ValType) (ds es : List Delayed) (before mid after inner : List Stmt) (empty : State)
+      → IsInside body at → mid ≡ before ++ all_written ds → es ≡ [] → slice_get body at ≡ Some (flat.loop r) → b ≤ length xs → n ≡ length xs
+      → first ≡ at + 1 → place ≡ past_end body at → aim ≡ again n → empty ≡ late_at [] []
+      → IsOver bytes cells c body first reached (aim ∷ ls) n [] empty.waits empty.told inner
       → ys ≡ xs → ms ≡ ls → over b zs ≡ listed r ++ over b ys
-      → after ≡ before ++ under_label (labels_round ms) (endless (inner ++ (if reached then breaks None ∷ [] else []))) ∷ []
-      → GoesOn bytes cells c body at place ls b (over b xs) (over b zs) before after
-  loop_done first place n reached ms aim xs ys zs before after empty inner s here h count begins ends aimed none o same outer gives made =
-      subst (λ (p : ℕ). GoesOn bytes cells c body at p ls b (over b xs) (over b zs) before after) (sym ends)
-      (loop_step bytes cells c body at ls b n r (over b xs) (over b zs) before after inner s here (count ∙ all_under b xs h)
+      → after ≡ mid ++ under_label (labels_round ms) (endless (inner ++ (if reached then breaks None ∷ [] else []))) ∷ []
+      → GoesOn bytes cells c body at place ls b (over b xs) (over b zs) ds es before after
+  loop_done first place n reached ms aim xs ys zs ds es before mid after inner empty s w waits here h count begins ends aimed none o same outer gives made =
+      subst (λ (p : ℕ). GoesOn bytes cells c body at p ls b (over b xs) (over b zs) ds es before after) (sym ends)
+      (loop_step bytes cells c body at ls b n r (over b xs) (over b zs) ds es before mid after inner s w waits here (count ∙ all_under b xs h)
       (gives ∙ ap (λ (vs : List ValType). listed r ++ over b vs) same) reached
-      (moved (at + 1) first n n reached ls aim (again n) empty inner o begins aimed refl refl none)
-      (made ∙ ap (λ (ks : List Aim). before ++ under_label (labels_round ks) (endless (inner ++ (if reached then breaks None ∷ [] else []))) ∷ []) outer))
+      (moved (at + 1) first n n reached ls aim (again n) inner empty o begins aimed refl refl none)
+      (made ∙ ap (λ (ks : List Aim). mid ++ under_label (labels_round ks) (endless (inner ++ (if reached then breaks None ∷ [] else []))) ∷ []) outer))
 
   -- the operands ws as the if is reached, xs without the topmost one, ys and vs as the arms end and zs after it
-  pub if_done : (first second place n m d : ℕ) (reached also : Bool) (ks ms : List Aim) (aim : Aim) (ws xs ys vs zs : List ValType) (before after empty other inner more : List Stmt)
-      → IsInside body at → slice_get body at ≡ Some (flat.if_block r) → b ≤ length xs → over b xs ≡ drop 1 (over b ws)
+  pub if_done : (first second place n m d : ℕ) (reached also : Bool) (ks ms : List Aim) (aim : Aim) (ws xs ys vs zs : List ValType) (ds es : List Delayed) (before mid after inner more : List Stmt) (empty other : State)
+      → IsInside body at → mid ≡ before ++ all_written ds → es ≡ [] → slice_get body at ≡ Some (flat.if_block r) → b ≤ length xs → over b xs ≡ drop 1 (over b ws)
       → n ≡ length xs → m ≡ length ys → d ≡ length vs
-      → first ≡ at + 1 → second ≡ other_arm body at → place ≡ past_end body at → aim ≡ past n r → empty ≡ [] → other ≡ []
-      → IsOver bytes cells c body first reached (aim ∷ ls) n [] empty inner → ys ≡ xs → ks ≡ ls
-      → IsOver bytes cells c body second also (aim ∷ ks) m [] other more → vs ≡ ys → ms ≡ ks
+      → first ≡ at + 1 → second ≡ other_arm body at → place ≡ past_end body at → aim ≡ past n r → empty ≡ late_at [] [] → other ≡ late_at [] []
+      → IsOver bytes cells c body first reached (aim ∷ ls) n [] empty.waits empty.told inner → ys ≡ xs → ks ≡ ls
+      → IsOver bytes cells c body second also (aim ∷ ks) m [] other.waits other.told more → vs ≡ ys → ms ≡ ks
       → over b zs ≡ listed r ++ over b vs
-      → after ≡ before ++ under_label (labels_round ms) (chosen (signed_word d) inner more) ∷ []
-      → GoesOn bytes cells c body at place ls b (over b ws) (over b zs) before after
-  if_done first second place n m d reached also ks ms aim ws xs ys vs zs before after empty other inner more s here h left n-is m-is d-is begins turns ends aimed none nothing o same outer p alike around gives made =
+      → after ≡ mid ++ under_label (labels_round ms) (chosen (signed_word d) inner more) ∷ []
+      → GoesOn bytes cells c body at place ls b (over b ws) (over b zs) ds es before after
+  if_done first second place n m d reached also ks ms aim ws xs ys vs zs ds es before mid after inner more empty other s w waits here h left n-is m-is d-is begins turns ends aimed none nothing o same outer p alike around gives made =
       let m-n : m ≡ n = m-is ∙ ap length same ∙ sym n-is in
       let d-n : d ≡ n = d-is ∙ ap length (alike ∙ same) ∙ sym n-is in
-      subst (λ (q : ℕ). GoesOn bytes cells c body at q ls b (over b ws) (over b zs) before after) (sym ends)
-      (if_step bytes cells c body at ls b n r (over b ws) (over b zs) before after inner s more here (n-is ∙ left_under b ws xs h left)
+      subst (λ (q : ℕ). GoesOn bytes cells c body at q ls b (over b ws) (over b zs) ds es before after) (sym ends)
+      (if_step bytes cells c body at ls b n r (over b ws) (over b zs) ds es before mid after inner s w waits more here (n-is ∙ left_under b ws xs h left)
       (gives ∙ ap (λ (us : List ValType). listed r ++ over b us) (alike ∙ same) ∙ ap (λ (us : List ValType). listed r ++ us) left) reached also
-      (moved (at + 1) first n n reached ls aim (past n r) empty inner o begins aimed refl refl none)
-      (moved (other_arm body at) second m n also ks aim (past n r) other more p turns aimed outer m-n nothing)
-      (made ∙ ap (λ (js : List Aim). before ++ under_label (labels_round js) (chosen (signed_word d) inner more) ∷ []) (around ∙ outer)
-      ∙ ap (λ (e : ℕ). before ++ under_label (labels_round ls) (chosen (signed_word e) inner more) ∷ []) d-n))
+      (moved (at + 1) first n n reached ls aim (past n r) inner empty o begins aimed refl refl none)
+      (moved (other_arm body at) second m n also ks aim (past n r) more other p turns aimed outer m-n nothing)
+      (made ∙ ap (λ (js : List Aim). mid ++ under_label (labels_round js) (chosen (signed_word d) inner more) ∷ []) (around ∙ outer)
+      ∙ ap (λ (e : ℕ). mid ++ under_label (labels_round ls) (chosen (signed_word e) inner more) ∷ []) d-n))

@@ -1,5 +1,5 @@
 -- Plain instructions, and forms of types.
-use Rattle.std.proofs.Common.{◌≡◌, ℕ, zero, suc, ◌+◌, Bool, true, false, ◌||◌, List, [], ◌∷◌, ◌++◌, Some, refl, subst}
+use Rattle.std.proofs.Common.{◌≡◌, ℕ, zero, suc, ◌+◌, Bool, true, false, ◌||◌, List, [], ◌∷◌, ◌++◌, Some, refl, ap, subst, ◌∙◌}
 use Rattle.std.specs.Prelude.{slice_get}
 use Rattle.wasm_lang.specs.declared.types.ValType.{ValType}
 use Rattle.wasm_lang.specs.Instructions as flat
@@ -10,6 +10,9 @@ use Rattle.wasm_lang_exec.specs.Code.{plain}
 use Rattle.asm_lang.specs.Modules.{Stmt}
 use Rattle.wasm2js_translation.specs.Words.{statements}
 use Rattle.wasm2js_translation.specs.Actions.{actions}
+use Rattle.wasm2js_translation.specs.Delays.{Delayed, late, standing}
+use Rattle.wasm2js_build.specs.Growing.{State, run, late_at}
+use Rattle.wasm2js_build.proofs.Growing.{run_late}
 use Rattle.wasm2js_translation.specs.Bodies.{Aim, after_plain}
 use Rattle.wasm2js_actions.specs.Scopes.{instruction_actions}
 use Rattle.wasm2js_operands.specs.Scopes.{after}
@@ -27,21 +30,25 @@ is_translated [] at i h here = absurd (cc here)
 is_translated (j ∷ js) zero i h here = let same : j ≡ i = cc here in subst (λ i. is_wide_mul_div i ≡ false) same (either_false (is_wide_mul_div j) (has_mul_div js) h).0
 is_translated (j ∷ js) (suc at) i h here = is_translated js at i (either_false (is_wide_mul_div j) (has_mul_div js) h).1 here
 
-pub plain_step : (bytes cells : ℕ) (c : Context) (body : List Instruction) (at place : ℕ) (ls : List Aim) (b : ℕ) (ts us : List ValType) (before made : List Stmt) (i : Instruction)
+pub plain_step : (bytes cells : ℕ) (c : Context) (body : List Instruction) (at place : ℕ) (ls : List Aim) (b : ℕ) (ts us : List ValType) (before made : List Stmt) (i : Instruction) (ds es fs : List Delayed)
     → is_plain i ≡ true → IsInside body at → slice_get body at ≡ Some i → place ≡ at + 1
-    → made ≡ before ++ statements (instruction_actions bytes c i b ts) → us ≡ after c i ts
-    → GoesOn bytes cells c body at place ls b ts us before made
-plain_step bytes cells c body at place ls b ts us before made flat.unreachable p s here next m g = cc
-plain_step bytes cells c body at place ls b ts us before made (flat.block r) p s here next m g = cc
-plain_step bytes cells c body at place ls b ts us before made (flat.loop r) p s here next m g = cc
-plain_step bytes cells c body at place ls b ts us before made (flat.if_block r) p s here next m g = cc
-plain_step bytes cells c body at place ls b ts us before made flat.else_mark p s here next m g = cc
-plain_step bytes cells c body at place ls b ts us before made flat.end_mark p s here next m g = cc
-plain_step bytes cells c body at place ls b ts us before made (flat.br k) p s here next m g = cc
-plain_step bytes cells c body at place ls b ts us before made (flat.br_if k) p s here next m g = cc
-plain_step bytes cells c body at place ls b ts us before made (flat.br_table ks k) p s here next m g = cc
-plain_step bytes cells c body at place ls b ts us before made flat.return p s here next m g = cc
-plain_step bytes cells c body at place ls b ts us before made (flat.call f) p s here next m g = cc
-plain_step bytes cells c body at place ls b ts us before made (flat.call_indirect t) p s here next m g = cc
-plain_step bytes cells c body at place ls b ts us before made (flat.plain i) p s here next m g =
-    single_step bytes cells c body at ls b ts before made (statements (actions bytes c i b ts)) place us (after_plain c i ts) (flat.plain i) (plain i) s here refl next m g (λ is. refl) (λ is. refl)
+    → late_at made fs ≡ run (late_at before ds) (instruction_actions bytes c i b ts) → us ≡ after c i ts → es ≡ standing b us fs
+    → GoesOn bytes cells c body at place ls b ts us ds es before made
+plain_step bytes cells c body at place ls b ts us before made flat.unreachable ds es fs p s here next m g e = cc
+plain_step bytes cells c body at place ls b ts us before made (flat.block r) ds es fs p s here next m g e = cc
+plain_step bytes cells c body at place ls b ts us before made (flat.loop r) ds es fs p s here next m g e = cc
+plain_step bytes cells c body at place ls b ts us before made (flat.if_block r) ds es fs p s here next m g e = cc
+plain_step bytes cells c body at place ls b ts us before made flat.else_mark ds es fs p s here next m g e = cc
+plain_step bytes cells c body at place ls b ts us before made flat.end_mark ds es fs p s here next m g e = cc
+plain_step bytes cells c body at place ls b ts us before made (flat.br k) ds es fs p s here next m g e = cc
+plain_step bytes cells c body at place ls b ts us before made (flat.br_if k) ds es fs p s here next m g e = cc
+plain_step bytes cells c body at place ls b ts us before made (flat.br_table ks k) ds es fs p s here next m g e = cc
+plain_step bytes cells c body at place ls b ts us before made flat.return ds es fs p s here next m g e = cc
+plain_step bytes cells c body at place ls b ts us before made (flat.call f) ds es fs p s here next m g e = cc
+plain_step bytes cells c body at place ls b ts us before made (flat.call_indirect t) ds es fs p s here next m g e = cc
+plain_step bytes cells c body at place ls b ts us before made (flat.plain i) ds es fs p s here next m g e =
+    let x = late ds (actions bytes c i b ts) in
+    let all : late_at made fs ≡ late_at (before ++ statements x.now) x.later = m ∙ run_late before ds (actions bytes c i b ts) in
+    let waits : es ≡ standing b (after_plain c i ts) x.later = e ∙ ap (λ (ws : List ValType). standing b ws fs) g ∙ ap (λ (q : State). standing b (after_plain c i ts) q.waits) all in
+    single_step bytes cells c body at ls b ts ds before made (statements x.now) place us (after_plain c i ts) es (standing b (after_plain c i ts) x.later) (flat.plain i) (plain i) s here refl next
+    (ap (λ (q : State). q.told) all) g waits (λ is. refl) (λ is. refl)

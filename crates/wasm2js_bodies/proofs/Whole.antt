@@ -17,10 +17,9 @@ inside_if body (Some tree) translated is some = record { targets = []; stands = 
 pub begins_inside : (body : List Instruction) → IsSome (tree_of body) → has_mul_div body ≡ false → IsInside body 0
 begins_inside body some translated = inside_if body (tree_of body) translated refl some
 
-pub closed : (bytes cells : ℕ) (c : Context) (code tree : Trees) (none made all : List Stmt) → code ≡ tree → none ≡ []
-    → made ≡ none ++ stmts_of bytes cells c code (out c.returns ∷ []) 0 [] → all ≡ made ++ closing bytes cells c c.returns
+pub closed : (bytes cells : ℕ) (c : Context) (code tree : Trees) (made all : List Stmt) → code ≡ tree
+    → made ≡ stmts_of bytes cells c code (out c.returns ∷ []) 0 [] [] → all ≡ made ++ closing bytes cells c c.returns
     → all ≡ body_stmts bytes cells c tree
-closed bytes cells c code tree none made all is empty given ended =
+closed bytes cells c code tree made all is given ended =
     ended ∙ ap (λ (ss : List Stmt). ss ++ closing bytes cells c c.returns)
-    (given ∙ ap (λ (ss : List Stmt). ss ++ stmts_of bytes cells c code (out c.returns ∷ []) 0 []) empty
-    ∙ ap (λ (x : Trees). stmts_of bytes cells c x (out c.returns ∷ []) 0 []) is)
+    (given ∙ ap (λ (x : Trees). stmts_of bytes cells c x (out c.returns ∷ []) 0 [] []) is)

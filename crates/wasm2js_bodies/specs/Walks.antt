@@ -8,6 +8,7 @@ use Rattle.wasm_lang_exec.specs.Code.{Trees, ε, ◌▹◌, block, loop, if_bloc
 use Rattle.wasm_run_flat.specs.Places.{code_at, Stands}
 use Rattle.wasm_run_flat.specs.declared.target.Target.{Target}
 use Rattle.asm_lang.specs.Modules.{Stmt}
+use Rattle.wasm2js_translation.specs.Delays.{Delayed}
 use Rattle.wasm2js_translation.specs.Bodies.{Aim, stmts_of, comes_to_end}
 
 -- code stands there, whatever blocks it stands in, in a body whose instructions are translated
@@ -24,14 +25,14 @@ size (loop r body ▹ is) = suc (size body + size is)
 size (if_block r first second ▹ is) = suc (size first + size second + size is)
 size (x ▹ is) = suc (size is)
 
--- to another place of the same block, where there is less to do: the operands there have the types us
-pub record GoesOn (bytes cells : ℕ) (c : Context) (body : List Instruction) (at place : ℕ) (ls : List Aim) (b : ℕ) (ts us : List ValType) (before after : List Stmt) : Type 0 where
-  pub statements : after ++ stmts_of bytes cells c (code_at body place) ls b us ≡ before ++ stmts_of bytes cells c (code_at body at) ls b ts
+-- to another place of the same block, where there is less to do: the operands there have the types us, and es wait there in place of ds
+pub record GoesOn (bytes cells : ℕ) (c : Context) (body : List Instruction) (at place : ℕ) (ls : List Aim) (b : ℕ) (ts us : List ValType) (ds es : List Delayed) (before after : List Stmt) : Type 0 where
+  pub statements : after ++ stmts_of bytes cells c (code_at body place) ls b us es ≡ before ++ stmts_of bytes cells c (code_at body at) ls b ts ds
   pub ending : comes_to_end (code_at body place) ≡ comes_to_end (code_at body at)
   pub inside : IsInside body place
   pub smaller : size (code_at body place) < size (code_at body at)
 
 -- the block is over, and its end was reached or not
-pub record IsOver (bytes cells : ℕ) (c : Context) (body : List Instruction) (at : ℕ) (reached : Bool) (ls : List Aim) (b : ℕ) (ts : List ValType) (before after : List Stmt) : Type 0 where
-  pub statements : after ≡ before ++ stmts_of bytes cells c (code_at body at) ls b ts
+pub record IsOver (bytes cells : ℕ) (c : Context) (body : List Instruction) (at : ℕ) (reached : Bool) (ls : List Aim) (b : ℕ) (ts : List ValType) (ds : List Delayed) (before after : List Stmt) : Type 0 where
+  pub statements : after ≡ before ++ stmts_of bytes cells c (code_at body at) ls b ts ds
   pub ending : reached ≡ comes_to_end (code_at body at)

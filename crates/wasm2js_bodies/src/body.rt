@@ -13,14 +13,14 @@ use crate::singles::{Sizes, Walk};
 use crate::walk::put_code;
 use std::alloc::{AllocError, Global};
 use wasm_run_flat::Body;
-use wasm2js_build::Block;
+use wasm2js_build::{Block, LateBlock};
 use wasm2js_jumps::Aim;
 use wasm2js_operands::BodyScope;
 
 // The statements of the code of a body. A branch to its label leaves the function.
-fn put_all(walk: &Walk<'_>, body: &Body, block: &mut Block) -> Result<(), AllocError>
+fn all_statements(walk: &Walk<'_>, body: &Body) -> Result<Block, AllocError>
     requires { IsInside body.now 0 }
-    ensures { IfOk result (λ _. statements_of block.new ≡ statements_of block.old ++ bodies.stmts_of walk.now.sizes.bytes walk.now.sizes.cells (context_in walk.now.scope.now) (code_at body.now 0) (bodies.out walk.now.scope.now.returns ∷ []) 0 []) }
+    ensures { IfOk result (λ block. statements_of block ≡ bodies.stmts_of walk.now.sizes.bytes walk.now.sizes.cells (context_in walk.now.scope.now) (code_at body.now 0) (bodies.out walk.now.scope.now.returns ∷ []) 0 [] []) }
 {
     let mut types = Vec::new(walk.alloc);
     let mut aims = Vec::new(walk.alloc);
@@ -28,8 +28,9 @@ fn put_all(walk: &Walk<'_>, body: &Body, block: &mut Block) -> Result<(), AllocE
         result: walk.scope.returns,
     };
     enter(&mut aims, leaves)?;
-    put_code(walk, body, &mut types, &mut aims, 0, 0, block)?;
-    Ok(())
+    let mut text = LateBlock::new(walk.alloc);
+    put_code(walk, body, &mut types, &mut aims, 0, 0, &mut text)?;
+    Ok(text.block)
 }
 
 /// The statements of the body of a function, which is an expression without products, quotients and remainders of words of 64 bits: its blocks are closed and it ends with its own end.
@@ -48,8 +49,7 @@ pub fn body_statements(
         sizes,
         scope,
     };
-    let mut block = Block::new(alloc);
-    put_all(&walk, body, &mut block)?;
+    let mut block = all_statements(&walk, body)?;
     close(alloc, scope.returns, &mut block)?;
     Ok(block)
 }

@@ -7,6 +7,7 @@ mod calls;
 mod closing;
 mod kinds;
 mod singles;
+mod waiting;
 mod walk;
 
 pub use body::body_statements;

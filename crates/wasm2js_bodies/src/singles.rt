@@ -3,10 +3,10 @@ ghost use Rattle.std.specs.Prelude.{◌≡◌, ◌≤◌, ◌+◌, ◌++◌, ◌
 ghost use Rattle.wasm_lang.specs.Instructions as flat;
 ghost use Rattle.wasm_lang_valid.specs.Measures.{is_wide_mul_div};
 ghost use Rattle.wasm_tree.specs.Views.{instr_of};
-ghost use Rattle.wasm2js_translation.specs.Words as words;
 ghost use Rattle.wasm2js_translation.specs.Bodies as bodies;
 ghost use Rattle.wasm2js_actions.specs.Scopes.{instruction_actions};
 ghost use Rattle.wasm2js_build.specs.Blocks.{statements_of};
+ghost use Rattle.wasm2js_build.specs.Growing.{run, waits_of, late_state};
 ghost use Rattle.wasm2js_jumps.specs.Aims.{aims_view};
 ghost use Rattle.wasm2js_operands.specs.Operands.{over, IsKept};
 ghost use Rattle.wasm2js_operands.specs.Scopes.{context_in};
@@ -16,12 +16,13 @@ ghost use Rattle.wasm2js_bodies.specs.Steps.{IsStep};
 
 use crate::branches::{branch_by_index, branch_if, branch_to, give_back};
 use crate::calls::{put_call, put_call_indirect};
+use crate::waiting::keep_standing;
 use std::alloc::{AllocError, Global};
 use wasm_lang::ValType;
 use wasm_run_flat::Body;
 use wasm_tree::Instr;
 use wasm2js_actions::{InstructionScope, instruction};
-use wasm2js_build::Block;
+use wasm2js_build::{LateBlock, Straight};
 use wasm2js_jumps::Aim;
 use wasm2js_operands::{BodyScope, after_plain};
 
@@ -55,11 +56,11 @@ fn put_instruction(
     types: &Vec<ValType>,
     base: usize,
     instr: &Instr,
-    block: &mut Block,
+    text: &mut LateBlock,
 ) -> Result<(), AllocError>
     requires there { base ≤ vec_len types.now }
     requires translated { is_wide_mul_div (instr_of instr.now) ≡ false }
-    ensures { IfOk result (λ _. statements_of block.new ≡ statements_of block.old ++ words.statements (instruction_actions walk.now.sizes.bytes (context_in walk.now.scope.now) (instr_of instr.now) base (over base types.now.items))) }
+    ensures { IfOk result (λ _. late_state text.new ≡ run (late_state text.old) (instruction_actions walk.now.sizes.bytes (context_in walk.now.scope.now) (instr_of instr.now) base (over base types.now.items))) }
 {
     let scope = InstructionScope {
         bytes: walk.sizes.bytes,
@@ -67,7 +68,9 @@ fn put_instruction(
         globals: walk.scope.globals,
     };
     let stack = &types[base..];
-    instruction(walk.alloc, block, &scope, instr, base as u64, stack)?;
+    let mut straight = Straight::late(text);
+    instruction(&mut straight, &scope, instr, base as u64, stack)?;
+    *text = straight.into_late();
     Ok(())
 }
 
@@ -79,18 +82,19 @@ pub fn do_plain(
     base: usize,
     at: usize,
     instr: &Instr,
-    block: &mut Block,
+    text: &mut LateBlock,
 ) -> Result<Next, AllocError>
     requires inside { IsInside body.now at }
     requires there { base ≤ vec_len types.old }
     requires plain { is_plain (instr_of instr.now) ≡ true }
     requires here { slice_get body.now at ≡ Some (instr_of instr.now) }
     ensures kept { IfOk result (λ _. IsKept base types.old.items types.new.items) }
-    ensures step { (ls : List bodies.Aim) → IfOk result (λ next. IsStep next walk.now body.now at ls base (over base types.old.items) (over base types.new.items) (statements_of block.old) (statements_of block.new)) }
+    ensures step { (ls : List bodies.Aim) → IfOk result (λ next. IsStep next walk.now body.now at ls base (over base types.old.items) (over base types.new.items) (waits_of text.old) (waits_of text.new) (statements_of text.old.block) (statements_of text.new.block)) }
 {
     let place = place_after(body, at);
-    put_instruction(walk, types, base, instr, block)?;
+    put_instruction(walk, types, base, instr, text)?;
     after_plain(walk.scope, types, base, instr)?;
+    keep_standing(types, base, &mut text.waits);
     Ok(Next::At(place))
 }
 
@@ -111,16 +115,24 @@ pub fn do_call(
     base: usize,
     at: usize,
     function: u32,
-    block: &mut Block,
+    text: &mut LateBlock,
 ) -> Result<Next, AllocError>
     requires inside { IsInside body.now at }
     requires there { base ≤ vec_len types.old }
     requires here { slice_get body.now at ≡ Some (flat.call function) }
     ensures kept { IfOk result (λ _. IsKept base types.old.items types.new.items) }
-    ensures step { (ls : List bodies.Aim) → IfOk result (λ next. IsStep next walk.now body.now at ls base (over base types.old.items) (over base types.new.items) (statements_of block.old) (statements_of block.new)) }
+    ensures step { (ls : List bodies.Aim) → IfOk result (λ next. IsStep next walk.now body.now at ls base (over base types.old.items) (over base types.new.items) (waits_of text.old) (waits_of text.new) (statements_of text.old.block) (statements_of text.new.block)) }
 {
     let place = place_after(body, at);
-    put_call(walk.alloc, walk.scope, types, base, function, block)?;
+    text.write_all()?;
+    put_call(
+        walk.alloc,
+        walk.scope,
+        types,
+        base,
+        function,
+        &mut text.block,
+    )?;
     Ok(Next::At(place))
 }
 
@@ -132,15 +144,16 @@ pub fn do_call_indirect(
     base: usize,
     at: usize,
     number: u32,
-    block: &mut Block,
+    text: &mut LateBlock,
 ) -> Result<Next, AllocError>
     requires inside { IsInside body.now at }
     requires there { base ≤ vec_len types.old }
     requires here { slice_get body.now at ≡ Some (flat.call_indirect number) }
     ensures kept { IfOk result (λ _. IsKept base types.old.items types.new.items) }
-    ensures step { (ls : List bodies.Aim) → IfOk result (λ next. IsStep next walk.now body.now at ls base (over base types.old.items) (over base types.new.items) (statements_of block.old) (statements_of block.new)) }
+    ensures step { (ls : List bodies.Aim) → IfOk result (λ next. IsStep next walk.now body.now at ls base (over base types.old.items) (over base types.new.items) (waits_of text.old) (waits_of text.new) (statements_of text.old.block) (statements_of text.new.block)) }
 {
     let place = place_after(body, at);
+    text.write_all()?;
     put_call_indirect(
         walk.alloc,
         walk.sizes.cells,
@@ -148,7 +161,7 @@ pub fn do_call_indirect(
         types,
         base,
         number,
-        block,
+        &mut text.block,
     )?;
     Ok(Next::At(place))
 }
@@ -162,16 +175,17 @@ pub fn do_branch_if(
     base: usize,
     at: usize,
     label: u32,
-    block: &mut Block,
+    text: &mut LateBlock,
 ) -> Result<Next, AllocError>
     requires inside { IsInside body.now at }
     requires there { base ≤ vec_len types.old }
     requires here { slice_get body.now at ≡ Some (flat.br_if label) }
     ensures kept { IfOk result (λ _. IsKept base types.old.items types.new.items) }
-    ensures step { IfOk result (λ next. IsStep next walk.now body.now at (aims_view aims.now) base (over base types.old.items) (over base types.new.items) (statements_of block.old) (statements_of block.new)) }
+    ensures step { IfOk result (λ next. IsStep next walk.now body.now at (aims_view aims.now) base (over base types.old.items) (over base types.new.items) (waits_of text.old) (waits_of text.new) (statements_of text.old.block) (statements_of text.new.block)) }
 {
     let place = place_after(body, at);
-    branch_if(walk.alloc, aims, types, base, label, block)?;
+    text.write_all()?;
+    branch_if(walk.alloc, aims, types, base, label, &mut text.block)?;
     Ok(Next::At(place))
 }
 
@@ -180,13 +194,14 @@ pub fn do_unreachable(
     walk: &Walk<'_>,
     body: &Body,
     at: usize,
-    block: &mut Block,
+    text: &mut LateBlock,
 ) -> Result<Next, AllocError>
     requires inside { IsInside body.now at }
     requires here { slice_get body.now at ≡ Some flat.unreachable }
-    ensures { (ls : List bodies.Aim) (b : ℕ) (ts us : List ValType) → IfOk result (λ next. IsStep next walk.now body.now at ls b ts us (statements_of block.old) (statements_of block.new)) }
+    ensures { (ls : List bodies.Aim) (b : ℕ) (ts us : List ValType) → IfOk result (λ next. IsStep next walk.now body.now at ls b ts us (waits_of text.old) (waits_of text.new) (statements_of text.old.block) (statements_of text.new.block)) }
 {
-    block.stop(1)?;
+    text.write_all()?;
+    text.block.stop(1)?;
     Ok(Next::Over(false))
 }
 
@@ -199,14 +214,15 @@ pub fn do_branch(
     base: usize,
     at: usize,
     label: u32,
-    block: &mut Block,
+    text: &mut LateBlock,
 ) -> Result<Next, AllocError>
     requires inside { IsInside body.now at }
     requires there { base ≤ vec_len types.now }
     requires here { slice_get body.now at ≡ Some (flat.br label) }
-    ensures { (us : List ValType) → IfOk result (λ next. IsStep next walk.now body.now at (aims_view aims.now) base (over base types.now.items) us (statements_of block.old) (statements_of block.new)) }
+    ensures { (us : List ValType) → IfOk result (λ next. IsStep next walk.now body.now at (aims_view aims.now) base (over base types.now.items) us (waits_of text.old) (waits_of text.new) (statements_of text.old.block) (statements_of text.new.block)) }
 {
-    branch_to(walk.alloc, aims, types, base, label, block)?;
+    text.write_all()?;
+    branch_to(walk.alloc, aims, types, base, label, &mut text.block)?;
     Ok(Next::Over(false))
 }
 
@@ -220,15 +236,24 @@ pub fn do_branch_by_index(
     at: usize,
     labels: &[u32],
     default: u32,
-    block: &mut Block,
+    text: &mut LateBlock,
 ) -> Result<Next, AllocError>
     requires inside { IsInside body.now at }
     requires there { base ≤ vec_len types.old }
     requires here { slice_get body.now at ≡ Some (flat.br_table labels.now default) }
     ensures kept { IfOk result (λ _. IsKept base types.old.items types.new.items) }
-    ensures step { (us : List ValType) → IfOk result (λ next. IsStep next walk.now body.now at (aims_view aims.now) base (over base types.old.items) us (statements_of block.old) (statements_of block.new)) }
+    ensures step { (us : List ValType) → IfOk result (λ next. IsStep next walk.now body.now at (aims_view aims.now) base (over base types.old.items) us (waits_of text.old) (waits_of text.new) (statements_of text.old.block) (statements_of text.new.block)) }
 {
-    branch_by_index(walk.alloc, aims, types, base, labels, default, block)?;
+    text.write_all()?;
+    branch_by_index(
+        walk.alloc,
+        aims,
+        types,
+        base,
+        labels,
+        default,
+        &mut text.block,
+    )?;
     Ok(Next::Over(false))
 }
 
@@ -239,22 +264,29 @@ pub fn do_return(
     types: &Vec<ValType>,
     base: usize,
     at: usize,
-    block: &mut Block,
+    text: &mut LateBlock,
 ) -> Result<Next, AllocError>
     requires inside { IsInside body.now at }
     requires there { base ≤ vec_len types.now }
     requires here { slice_get body.now at ≡ Some flat.return }
-    ensures { (ls : List bodies.Aim) (us : List ValType) → IfOk result (λ next. IsStep next walk.now body.now at ls base (over base types.now.items) us (statements_of block.old) (statements_of block.new)) }
+    ensures { (ls : List bodies.Aim) (us : List ValType) → IfOk result (λ next. IsStep next walk.now body.now at ls base (over base types.now.items) us (waits_of text.old) (waits_of text.new) (statements_of text.old.block) (statements_of text.new.block)) }
 {
-    give_back(walk.alloc, walk.scope.returns, types, base, block)?;
+    text.write_all()?;
+    give_back(walk.alloc, walk.scope.returns, types, base, &mut text.block)?;
     Ok(Next::Over(false))
 }
 
 /// `else` or `end`
-pub fn do_end(walk: &Walk<'_>, body: &Body, at: usize, block: &Block) -> Next
+pub fn do_end(
+    walk: &Walk<'_>,
+    body: &Body,
+    at: usize,
+    text: &mut LateBlock,
+) -> Result<Next, AllocError>
     requires inside { IsInside body.now at }
     requires here { (slice_get body.now at ≡ Some flat.else_mark) ⊎ (slice_get body.now at ≡ Some flat.end_mark) }
-    ensures { (ls : List bodies.Aim) (b : ℕ) (ts us : List ValType) → IsStep result walk.now body.now at ls b ts us (statements_of block.now) (statements_of block.now) }
+    ensures { (ls : List bodies.Aim) (b : ℕ) (ts us : List ValType) → IfOk result (λ next. IsStep next walk.now body.now at ls b ts us (waits_of text.old) (waits_of text.new) (statements_of text.old.block) (statements_of text.new.block)) }
 {
-    Next::Over(true)
+    text.write_all()?;
+    Ok(Next::Over(true))
 }

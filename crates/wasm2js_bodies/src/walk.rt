@@ -2,6 +2,7 @@
 ghost use Rattle.std.specs.Prelude.{◌≡◌, ◌≤◌, ◌∷◌, [], Some, slice_get, vec_len, IfOk};
 ghost use Rattle.wasm_lang.specs.Instructions as flat;
 ghost use Rattle.wasm2js_build.specs.Blocks.{statements_of};
+ghost use Rattle.wasm2js_build.specs.Growing.{waits_of};
 ghost use Rattle.wasm2js_jumps.specs.Aims.{aim_view, aims_view};
 ghost use Rattle.wasm2js_operands.specs.Operands.{over, IsKept};
 ghost use Rattle.wasm2js_bodies.specs.Walks.{IsInside};
@@ -16,7 +17,7 @@ use crate::singles::{
 use std::alloc::AllocError;
 use wasm_lang::ValType;
 use wasm_run_flat::Body;
-use wasm2js_build::Block;
+use wasm2js_build::LateBlock;
 use wasm2js_jumps::Aim;
 use wasm2js_operands::remove;
 
@@ -29,17 +30,17 @@ pub fn put_code(
     aims: &mut Vec<Aim>,
     base: usize,
     at: usize,
-    block: &mut Block,
+    text: &mut LateBlock,
 ) -> Result<bool, AllocError>
     requires inside { IsInside body.now at }
     requires there { base ≤ vec_len types.old }
     ensures kept { IfOk result (λ _. IsKept base types.old.items types.new.items) }
     ensures aims { IfOk result (λ _. aims.new.items ≡ aims.old.items) }
-    ensures value { IfOk result (λ reached. Ends reached walk.now body.now at (aims_view aims.old.items) base (over base types.old.items) (statements_of block.old) (statements_of block.new)) }
+    ensures value { IfOk result (λ reached. Ends reached walk.now body.now at (aims_view aims.old.items) base (over base types.old.items) (waits_of text.old) (statements_of text.old.block) (statements_of text.new.block)) }
 {
     let mut place = at;
     loop {
-        match step(walk, body, types, aims, base, place, block)? {
+        match step(walk, body, types, aims, base, place, text)? {
             Next::At(next) => place = next,
             Next::Over(reached) => return Ok(reached),
         }
@@ -55,35 +56,35 @@ fn step(
     aims: &mut Vec<Aim>,
     base: usize,
     at: usize,
-    block: &mut Block,
+    text: &mut LateBlock,
 ) -> Result<Next, AllocError>
     requires inside { IsInside body.now at }
     requires there { base ≤ vec_len types.old }
     ensures kept { IfOk result (λ _. IsKept base types.old.items types.new.items) }
     ensures aims { IfOk result (λ _. aims.new.items ≡ aims.old.items) }
-    ensures value { IfOk result (λ next. IsStep next walk.now body.now at (aims_view aims.old.items) base (over base types.old.items) (over base types.new.items) (statements_of block.old) (statements_of block.new)) }
+    ensures value { IfOk result (λ next. IsStep next walk.now body.now at (aims_view aims.old.items) base (over base types.old.items) (over base types.new.items) (waits_of text.old) (waits_of text.new) (statements_of text.old.block) (statements_of text.new.block)) }
 {
     let Some(instr) = body.get(at) else {
         return Ok(Next::Over(true));
     };
     match kind_of(instr) {
-        Kind::Plain => Ok(do_plain(walk, body, types, base, at, instr, block)?),
-        Kind::Unreachable => Ok(do_unreachable(walk, body, at, block)?),
-        Kind::Block(result) => Ok(do_block(walk, body, types, aims, base, at, result, block)?),
-        Kind::Loop(result) => Ok(do_loop(walk, body, types, aims, base, at, result, block)?),
-        Kind::If(result) => Ok(do_if(walk, body, types, aims, base, at, result, block)?),
-        Kind::Else => Ok(do_end(walk, body, at, block)),
-        Kind::End => Ok(do_end(walk, body, at, block)),
-        Kind::Br(label) => Ok(do_branch(walk, body, types, aims, base, at, label, block)?),
-        Kind::BrIf(label) => Ok(do_branch_if(walk, body, types, aims, base, at, label, block)?),
+        Kind::Plain => Ok(do_plain(walk, body, types, base, at, instr, text)?),
+        Kind::Unreachable => Ok(do_unreachable(walk, body, at, text)?),
+        Kind::Block(result) => Ok(do_block(walk, body, types, aims, base, at, result, text)?),
+        Kind::Loop(result) => Ok(do_loop(walk, body, types, aims, base, at, result, text)?),
+        Kind::If(result) => Ok(do_if(walk, body, types, aims, base, at, result, text)?),
+        Kind::Else => Ok(do_end(walk, body, at, text)?),
+        Kind::End => Ok(do_end(walk, body, at, text)?),
+        Kind::Br(label) => Ok(do_branch(walk, body, types, aims, base, at, label, text)?),
+        Kind::BrIf(label) => Ok(do_branch_if(walk, body, types, aims, base, at, label, text)?),
         Kind::BrTable(labels, default) => {
             let labels = labels.as_slice();
-            Ok(do_branch_by_index(walk, body, types, aims, base, at, labels, default, block)?)
+            Ok(do_branch_by_index(walk, body, types, aims, base, at, labels, default, text)?)
         }
-        Kind::Return => Ok(do_return(walk, body, types, base, at, block)?),
-        Kind::Call(function) => Ok(do_call(walk, body, types, base, at, function, block)?),
+        Kind::Return => Ok(do_return(walk, body, types, base, at, text)?),
+        Kind::Call(function) => Ok(do_call(walk, body, types, base, at, function, text)?),
         Kind::CallIndirect(number) => {
-            Ok(do_call_indirect(walk, body, types, base, at, number, block)?)
+            Ok(do_call_indirect(walk, body, types, base, at, number, text)?)
         }
     }
 }
@@ -97,17 +98,17 @@ fn put_inside(
     aims: &mut Vec<Aim>,
     aim: Aim,
     at: usize,
-    block: &mut Block,
+    text: &mut LateBlock,
 ) -> Result<bool, AllocError>
     requires { IsInside body.now at }
     ensures types { IfOk result (λ _. types.new.items ≡ types.old.items) }
     ensures aims { IfOk result (λ _. aims.new.items ≡ aims.old.items) }
-    ensures value { IfOk result (λ reached. Ends reached walk.now body.now at (aim_view aim ∷ aims_view aims.old.items) (vec_len types.old) [] (statements_of block.old) (statements_of block.new)) }
+    ensures value { IfOk result (λ reached. Ends reached walk.now body.now at (aim_view aim ∷ aims_view aims.old.items) (vec_len types.old) [] (waits_of text.old) (statements_of text.old.block) (statements_of text.new.block)) }
 {
     let count = aims.len();
     let base = types.len();
     enter(aims, aim)?;
-    let reached = put_code(walk, body, types, aims, base, at, block)?;
+    let reached = put_code(walk, body, types, aims, base, at, text)?;
     aims.truncate(count);
     types.truncate(base);
     Ok(reached)
@@ -123,20 +124,29 @@ fn do_block(
     base: usize,
     at: usize,
     result_type: Option<ValType>,
-    block: &mut Block,
+    text: &mut LateBlock,
 ) -> Result<Next, AllocError>
     requires inside { IsInside body.now at }
     requires there { base ≤ vec_len types.old }
     requires here { slice_get body.now at ≡ Some (flat.block result_type) }
     ensures kept { IfOk result (λ _. IsKept base types.old.items types.new.items) }
     ensures aims { IfOk result (λ _. aims.new.items ≡ aims.old.items) }
-    ensures value { IfOk result (λ next. IsStep next walk.now body.now at (aims_view aims.old.items) base (over base types.old.items) (over base types.new.items) (statements_of block.old) (statements_of block.new)) }
+    ensures value { IfOk result (λ next. IsStep next walk.now body.now at (aims_view aims.old.items) base (over base types.old.items) (over base types.new.items) (waits_of text.old) (waits_of text.new) (statements_of text.old.block) (statements_of text.new.block)) }
 {
     let first = place_after(body, at);
-    let mut inner = Block::new(walk.alloc);
+    text.write_all()?;
+    let mut inner = LateBlock::new(walk.alloc);
     let aim = past(types, result_type);
     put_inside(walk, body, types, aims, aim, first, &mut inner)?;
-    close_block(walk.alloc, aims, types, base, result_type, inner, block)?;
+    close_block(
+        walk.alloc,
+        aims,
+        types,
+        base,
+        result_type,
+        inner.block,
+        &mut text.block,
+    )?;
     Ok(Next::At(body.past_end(at)))
 }
 
@@ -150,17 +160,18 @@ fn do_loop(
     base: usize,
     at: usize,
     result_type: Option<ValType>,
-    block: &mut Block,
+    text: &mut LateBlock,
 ) -> Result<Next, AllocError>
     requires inside { IsInside body.now at }
     requires there { base ≤ vec_len types.old }
     requires here { slice_get body.now at ≡ Some (flat.loop result_type) }
     ensures kept { IfOk result (λ _. IsKept base types.old.items types.new.items) }
     ensures aims { IfOk result (λ _. aims.new.items ≡ aims.old.items) }
-    ensures value { IfOk result (λ next. IsStep next walk.now body.now at (aims_view aims.old.items) base (over base types.old.items) (over base types.new.items) (statements_of block.old) (statements_of block.new)) }
+    ensures value { IfOk result (λ next. IsStep next walk.now body.now at (aims_view aims.old.items) base (over base types.old.items) (over base types.new.items) (waits_of text.old) (waits_of text.new) (statements_of text.old.block) (statements_of text.new.block)) }
 {
     let first = place_after(body, at);
-    let mut inner = Block::new(walk.alloc);
+    text.write_all()?;
+    let mut inner = LateBlock::new(walk.alloc);
     let aim = again(types);
     let reached = put_inside(walk, body, types, aims, aim, first, &mut inner)?;
     close_loop(
@@ -169,9 +180,9 @@ fn do_loop(
         types,
         base,
         result_type,
-        inner,
+        inner.block,
         reached,
-        block,
+        &mut text.block,
     )?;
     Ok(Next::At(body.past_end(at)))
 }
@@ -186,22 +197,32 @@ fn do_if(
     base: usize,
     at: usize,
     result_type: Option<ValType>,
-    block: &mut Block,
+    text: &mut LateBlock,
 ) -> Result<Next, AllocError>
     requires inside { IsInside body.now at }
     requires there { base ≤ vec_len types.old }
     requires here { slice_get body.now at ≡ Some (flat.if_block result_type) }
     ensures kept { IfOk result (λ _. IsKept base types.old.items types.new.items) }
     ensures aims { IfOk result (λ _. aims.new.items ≡ aims.old.items) }
-    ensures value { IfOk result (λ next. IsStep next walk.now body.now at (aims_view aims.old.items) base (over base types.old.items) (over base types.new.items) (statements_of block.old) (statements_of block.new)) }
+    ensures value { IfOk result (λ next. IsStep next walk.now body.now at (aims_view aims.old.items) base (over base types.old.items) (over base types.new.items) (waits_of text.old) (waits_of text.new) (statements_of text.old.block) (statements_of text.new.block)) }
 {
     let first = place_after(body, at);
     remove(types, base, 1);
     let aim = past(types, result_type);
-    let mut yes = Block::new(walk.alloc);
+    text.write_all()?;
+    let mut yes = LateBlock::new(walk.alloc);
     put_inside(walk, body, types, aims, aim, first, &mut yes)?;
-    let mut no = Block::new(walk.alloc);
+    let mut no = LateBlock::new(walk.alloc);
     put_inside(walk, body, types, aims, aim, body.other_arm(at), &mut no)?;
-    close_if(walk.alloc, aims, types, base, result_type, yes, no, block)?;
+    close_if(
+        walk.alloc,
+        aims,
+        types,
+        base,
+        result_type,
+        yes.block,
+        no.block,
+        &mut text.block,
+    )?;
     Ok(Next::At(body.past_end(at)))
 }

@@ -3,3 +3,6 @@ pub mod Sizes
 pub mod Lists
 pub mod Literals
 pub mod OwnForms
+pub mod Replacing
+pub mod Growing
+pub mod Waiting

@@ -10,22 +10,23 @@ ghost use Rattle.wasm2js_translation.specs.Helpers as helpers;
 ghost use Rattle.wasm2js_nodes.specs.Names.{name_view, fixed_view};
 ghost use Rattle.wasm2js_build.specs.Views.{term_view, terms_view};
 ghost use Rattle.wasm2js_build.specs.Blocks.{statements_of};
+ghost use Rattle.wasm2js_build.specs.Steps.{step_view};
 
-use crate::building::{argument_list, expr, int_expr, number_expr, test_expr};
+use crate::building::{expr, int_expr};
+use crate::steps::{Step, statement};
 use crate::terms::Term;
-use asm_tree::{Expr, Function, Stmt};
-use sem_words::{JsOp, List};
+use asm_tree::{Function, Stmt};
+use sem_words::List;
 use std::alloc::{AllocError, Global};
 use wasm2js_nodes::{
-    Fixed, Name, binary, block_statement, call, gives, if_else, if_only, locals_of, natural,
-    params_of, part_statement, plainly, put_in, shifted, signed, spell, store_in, trap_call,
-    while_loop,
+    Fixed, Name, block_statement, gives, if_else, if_only, locals_of, params_of, part_statement,
+    spell, trap_call, while_loop,
 };
 
 /// A list of statements that grows at its end. Contracts read the statements by `statements_of`.
 #[derive(Drop)]
 pub struct Block {
-    alloc: Global,
+    pub(crate) alloc: Global,
     statements: List<Stmt>,
 }
 
@@ -80,75 +81,62 @@ impl Block {
         }
     }
 
+    // One more step.
+    #[tactic(auto, using(crate::proofs::Replacing::nothing_in_place))]
+    fn act(&mut self, step: &Step<'_>) -> Result<(), AllocError>
+        ensures { IfOk result (λ _. statements_of self.new ≡ statements_of self.old ++ simple_statement (step_view step.now) ∷ []) }
+    {
+        let statement = statement(self.alloc, &[], step)?;
+        self.push(statement)
+    }
+
     /// `to=value;`
     pub fn put(&mut self, to: Name, value: &Term<'_>) -> Result<(), AllocError>
         ensures { IfOk result (λ _. statements_of self.new ≡ statements_of self.old ++ simple_statement (words.put (name_view to) (term_view value.now)) ∷ []) }
     {
-        let value = int_expr(self.alloc, value)?;
-        let statement = put_in(self.alloc, to, value)?;
-        self.push(statement)
+        self.act(&Step::Put(to, value))
     }
 
     /// `to=helper(arguments)|0;`
     pub fn ask(&mut self, to: Name, helper: Fixed, arguments: &[Term<'_>]) -> Result<(), AllocError>
         ensures { IfOk result (λ _. statements_of self.new ≡ statements_of self.old ++ simple_statement (words.ask (name_view to) (fixed_view helper) (terms_view arguments.now)) ∷ []) }
     {
-        let answer = answer(self.alloc, helper, arguments)?;
-        let statement = put_in(self.alloc, to, answer)?;
-        self.push(statement)
+        self.act(&Step::Ask(to, helper, arguments))
     }
 
     /// `helper(arguments);`
     pub fn tell(&mut self, helper: Fixed, arguments: &[Term<'_>]) -> Result<(), AllocError>
         ensures { IfOk result (λ _. statements_of self.new ≡ statements_of self.old ++ simple_statement (words.tell (fixed_view helper) (terms_view arguments.now)) ∷ []) }
     {
-        let call = helper_call(self.alloc, helper, arguments)?;
-        self.push(plainly(call))
+        self.act(&Step::Tell(helper, arguments))
     }
 
     /// `if(value>>>0>most)$trap(kind);`
     pub fn guard(&mut self, value: &Term<'_>, most: u64, kind: u32) -> Result<(), AllocError>
         ensures { IfOk result (λ _. statements_of self.new ≡ statements_of self.old ++ simple_statement (words.guard (term_view value.now) most kind) ∷ []) }
     {
-        let statement = guard_statement(self.alloc, value, most, kind)?;
-        self.push(statement)
+        self.act(&Step::Guard(value, most, kind))
     }
 
     /// `$trap(kind);`
     pub fn stop(&mut self, kind: u32) -> Result<(), AllocError>
         ensures { IfOk result (λ _. statements_of self.new ≡ statements_of self.old ++ simple_statement (words.stop kind) ∷ []) }
     {
-        let statement = trap_call(self.alloc, kind)?;
-        self.push(statement)
+        self.act(&Step::Stop(kind))
     }
 
     /// `$u8[at>>0]=value;`
     pub fn write_byte(&mut self, at: &Term<'_>, value: &Term<'_>) -> Result<(), AllocError>
         ensures { IfOk result (λ _. statements_of self.new ≡ statements_of self.old ++ simple_statement (words.write_byte (term_view at.now) (term_view value.now)) ∷ []) }
     {
-        let at = expr(self.alloc, at)?;
-        let value = int_expr(self.alloc, value)?;
-        let statement = byte_statement(self.alloc, at, value)?;
-        self.push(statement)
+        self.act(&Step::WriteByte(at, value))
     }
 
     /// `$w[at>>2]=value;`
     pub fn write_whole(&mut self, at: &Term<'_>, value: &Term<'_>) -> Result<(), AllocError>
         ensures { IfOk result (λ _. statements_of self.new ≡ statements_of self.old ++ simple_statement (words.write_whole (term_view at.now) (term_view value.now)) ∷ []) }
     {
-        let at = expr(self.alloc, at)?;
-        let value = int_expr(self.alloc, value)?;
-        let statement = whole_statement(self.alloc, at, value)?;
-        self.push(statement)
-    }
-
-    /// `if(test)first else second`, each in braces where it isn't one statement that holds no other.
-    pub fn either(&mut self, test: &Term<'_>, first: Block, second: Block) -> Result<(), AllocError>
-        ensures { IfOk result (λ _. statements_of self.new ≡ statements_of self.old ++ plain.if_else (test_of (term_view test.now)) (part_of (statements_of first)) (part_of (statements_of second)) ∷ []) }
-    {
-        let test = test_expr(self.alloc, test)?;
-        let statement = if_else(self.alloc, test, first.into_part(), second.into_part())?;
-        self.push(statement)
+        self.act(&Step::WriteWhole(at, value))
     }
 
     /// `if(test){inner}`
@@ -206,50 +194,6 @@ impl Block {
         let statement = gives(self.alloc, value)?;
         self.push(statement)
     }
-}
-
-// `helper(arguments)`
-fn helper_call(alloc: Global, helper: Fixed, arguments: &[Term<'_>]) -> Result<Expr, AllocError>
-    ensures { IfOk result (λ e. expr_view e ≡ words.called (fixed_view helper) (words.arguments (terms_view arguments.now))) }
-{
-    let arguments = argument_list(alloc, arguments)?;
-    call(alloc, Name::Always(helper), arguments)
-}
-
-// `helper(arguments)|0`
-fn answer(alloc: Global, helper: Fixed, arguments: &[Term<'_>]) -> Result<Expr, AllocError>
-    ensures { IfOk result (λ e. expr_view e ≡ signed_number (words.called (fixed_view helper) (words.arguments (terms_view arguments.now)))) }
-{
-    let call = helper_call(alloc, helper, arguments)?;
-    signed(alloc, call)
-}
-
-fn guard_statement(
-    alloc: Global,
-    value: &Term<'_>,
-    most: u64,
-    kind: u32,
-) -> Result<Stmt, AllocError>
-    ensures { IfOk result (λ s. stmt_view s ≡ simple_statement (words.guard (term_view value.now) most kind)) }
-{
-    let value = number_expr(alloc, value, false)?;
-    let test = binary(alloc, JsOp::Gt, value, natural(most))?;
-    let trap = trap_call(alloc, kind)?;
-    if_only(alloc, test, trap)
-}
-
-fn byte_statement(alloc: Global, at: Expr, value: Expr) -> Result<Stmt, AllocError>
-    ensures { IfOk result (λ s. stmt_view s ≡ plain.plain (plain.store (words.name_of names.view_of_bytes) (words.indexed 0 (expr_view at)) (expr_view value))) }
-{
-    let at = shifted(alloc, at, 0)?;
-    store_in(alloc, Name::Always(Fixed::ViewOfBytes), at, value)
-}
-
-fn whole_statement(alloc: Global, at: Expr, value: Expr) -> Result<Stmt, AllocError>
-    ensures { IfOk result (λ s. stmt_view s ≡ plain.plain (plain.store (words.name_of names.view_of_words) (words.indexed 2 (expr_view at)) (expr_view value))) }
-{
-    let at = shifted(alloc, at, 2)?;
-    store_in(alloc, Name::Always(Fixed::ViewOfWords), at, value)
 }
 
 /// A function of ints, whose local variables begin with 0.

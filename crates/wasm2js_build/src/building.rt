@@ -8,66 +8,91 @@ ghost use Rattle.wasm2js_translation.specs.Names.{spelled};
 ghost use Rattle.wasm2js_translation.specs.Words as words;
 ghost use Rattle.wasm2js_translation.specs.Words.{bit_operator, relation_operator, as_number, test_of, byte_view, name_of, indexed, arguments, expr as expr_for, int_of};
 ghost use Rattle.wasm2js_nodes.specs.Names.{name_view};
-ghost use Rattle.wasm2js_build.specs.Views.{bit_view, relation_view, term_view, terms_view};
+ghost use Rattle.wasm2js_translation.specs.Delays.{at_hand as at_hand_view};
+ghost use Rattle.wasm2js_build.specs.Views.{bit_view, relation_view, term_view};
+ghost use Rattle.wasm2js_build.specs.Waits.{atom_view, delays_view, late_term, late_terms};
 
-use crate::forms::{Form, int_form, number_form, own_form, test_form};
+use crate::forms::{Form, atom_form, int_form, number_form, own_form, test_form};
 use crate::terms::{BitOp, Relation, Term};
+use crate::waits::{Atom, Delayed, at_hand};
 use asm_tree::{Expr, Link};
 use sem_words::{JsOp, List};
 use std::alloc::{AllocError, Global};
 use wasm2js_nodes::{
     Fixed, Name, binary, call_of_one, call_of_two, chain, chosen, element, flipped, literal,
-    shifted, signed, unsigned, variable, with_expr,
+    shifted, variable, with_expr,
 };
 
 /// The expression of a term, as it is.
-#[cycle(building)]
-#[inline(never)]
-#[tactic(auto, using(crate::proofs::Views::terms))]
+#[tactic(auto, using(crate::proofs::Replacing::nothing_waits))]
 pub fn expr(alloc: Global, term: &Term<'_>) -> Result<Expr, AllocError>
     ensures { IfOk result (λ e. expr_view e ≡ expr_for (term_view term.now)) }
 {
+    late_expr(alloc, &[], term)
+}
+
+/// The expression of a term, of type int.
+#[tactic(auto, using(crate::proofs::Replacing::nothing_waits))]
+pub fn int_expr(alloc: Global, term: &Term<'_>) -> Result<Expr, AllocError>
+    ensures { IfOk result (λ e. expr_view e ≡ int_of (term_view term.now)) }
+{
+    late_int(alloc, &[], term)
+}
+
+/// The expression of a term as it is, where these words wait.
+#[cycle(building)]
+#[inline(never)]
+#[tactic(auto, using(crate::proofs::Views::terms))]
+pub(crate) fn late_expr(
+    alloc: Global,
+    waits: &[Delayed],
+    term: &Term<'_>,
+) -> Result<Expr, AllocError>
+    ensures { IfOk result (λ e. expr_view e ≡ expr_for (late_term waits.now term.now)) }
+{
     match term {
-        Term::Read(name) => variable(alloc, *name),
+        Term::Read(name) => atom_expr(alloc, at_hand(waits, *name)),
         Term::Number(value) => Ok(literal(*value)),
-        Term::Both(operator, a, b) => both(alloc, *operator, a, b),
+        Term::Both(operator, a, b) => both(alloc, waits, *operator, a, b),
         Term::BothNumber(operator, a, value) => {
-            let a = expr(alloc, a)?;
+            let a = late_expr(alloc, waits, a)?;
             binary(alloc, js_bit(*operator), a, literal(*value))
         }
-        Term::BothRead(operator, a, b) => both_read(alloc, *operator, *a, *b),
+        Term::BothRead(operator, a, b) => both_read(alloc, waits, *operator, *a, *b),
         Term::Flip(a) => {
-            let a = expr(alloc, a)?;
+            let a = late_expr(alloc, waits, a)?;
             flipped(alloc, a)
         }
-        Term::SumOfTwo(a, minus, b) => two(alloc, a, *minus, b),
-        Term::SumOfThree(a, first, b, second, c) => three(alloc, a, *first, b, *second, c),
-        Term::SumOfFour(a, b, c, d) => four(alloc, a, b, c, d),
+        Term::SumOfTwo(a, minus, b) => two(alloc, waits, a, *minus, b),
+        Term::SumOfThree(a, first, b, second, c) => three(alloc, waits, a, *first, b, *second, c),
+        Term::SumOfFour(a, b, c, d) => four(alloc, waits, a, b, c, d),
         Term::SumNumber(a, minus, value) => {
-            let a = int_expr(alloc, a)?;
+            let a = late_int(alloc, waits, a)?;
             sum_of_two(alloc, a, *minus, literal(*value))
         }
-        Term::SumRead(a, minus, b) => sum_read(alloc, *a, *minus, *b),
-        Term::Product(a, b) => product(alloc, a, b),
+        Term::SumRead(a, minus, b) => sum_read(alloc, waits, *a, *minus, *b),
+        Term::Product(a, b) => product(alloc, waits, a, b),
         Term::Zeros(a) => {
-            let a = int_expr(alloc, a)?;
+            let a = late_int(alloc, waits, a)?;
             call_of_one(alloc, Name::Always(Fixed::Clz32), a)
         }
-        Term::Compare(is_signed, relation, a, b) => compared(alloc, *is_signed, *relation, a, b),
+        Term::Compare(is_signed, relation, a, b) => compared(
+            alloc, waits, *is_signed, *relation, a, b,
+        ),
         Term::CompareNumber(is_signed, relation, a, value) => {
-            let a = number_expr(alloc, a, *is_signed)?;
+            let a = late_number(alloc, waits, a, *is_signed)?;
             compared_number(alloc, *is_signed, *relation, a, *value)
         }
         Term::CompareRead(is_signed, relation, a, b) => {
-            compared_read(alloc, *is_signed, *relation, *a, *b)
+            compared_read(alloc, waits, *is_signed, *relation, *a, *b)
         }
-        Term::Choose(test, a, b) => choice(alloc, test, a, b),
+        Term::Choose(test, a, b) => choice(alloc, waits, test, a, b),
         Term::Byte(is_signed, at) => {
-            let at = expr(alloc, at)?;
+            let at = late_expr(alloc, waits, at)?;
             byte(alloc, *is_signed, at)
         }
         Term::Whole(at) => {
-            let at = expr(alloc, at)?;
+            let at = late_expr(alloc, waits, at)?;
             whole(alloc, at)
         }
     }
@@ -75,39 +100,63 @@ pub fn expr(alloc: Global, term: &Term<'_>) -> Result<Expr, AllocError>
 
 #[cycle(building)]
 #[inline(never)]
-fn both(alloc: Global, operator: BitOp, a: &Term<'_>, b: &Term<'_>) -> Result<Expr, AllocError>
-    ensures { IfOk result (λ e. expr_view e ≡ plain.binary (bit_operator (bit_view operator)) (expr_for (term_view a.now)) (expr_for (term_view b.now))) }
+fn both(
+    alloc: Global,
+    waits: &[Delayed],
+    operator: BitOp,
+    a: &Term<'_>,
+    b: &Term<'_>,
+) -> Result<Expr, AllocError>
+    ensures { IfOk result (λ e. expr_view e ≡ plain.binary (bit_operator (bit_view operator)) (expr_for (late_term waits.now a.now)) (expr_for (late_term waits.now b.now))) }
 {
-    let a = expr(alloc, a)?;
-    let b = expr(alloc, b)?;
+    let a = late_expr(alloc, waits, a)?;
+    let b = late_expr(alloc, waits, b)?;
     binary(alloc, js_bit(operator), a, b)
 }
 
 #[inline(never)]
-fn both_read(alloc: Global, operator: BitOp, a: Name, b: Name) -> Result<Expr, AllocError>
-    ensures { IfOk result (λ e. expr_view e ≡ plain.binary (bit_operator (bit_view operator)) (plain.var (spelled (name_view a))) (plain.var (spelled (name_view b)))) }
+fn both_read(
+    alloc: Global,
+    waits: &[Delayed],
+    operator: BitOp,
+    a: Name,
+    b: Name,
+) -> Result<Expr, AllocError>
+    ensures { IfOk result (λ e. expr_view e ≡ plain.binary (bit_operator (bit_view operator)) (expr_for (at_hand_view (delays_view waits.now) (name_view a))) (expr_for (at_hand_view (delays_view waits.now) (name_view b)))) }
 {
-    let a = variable(alloc, a)?;
-    let b = variable(alloc, b)?;
+    let a = atom_expr(alloc, at_hand(waits, a))?;
+    let b = atom_expr(alloc, at_hand(waits, b))?;
     binary(alloc, js_bit(operator), a, b)
 }
 
 #[cycle(building)]
 #[inline(never)]
-fn two(alloc: Global, a: &Term<'_>, minus: bool, b: &Term<'_>) -> Result<Expr, AllocError>
-    ensures { IfOk result (λ e. expr_view e ≡ plain.chain (int_of (term_view a.now)) (plain.links minus (int_of (term_view b.now)) plain.no_links)) }
+fn two(
+    alloc: Global,
+    waits: &[Delayed],
+    a: &Term<'_>,
+    minus: bool,
+    b: &Term<'_>,
+) -> Result<Expr, AllocError>
+    ensures { IfOk result (λ e. expr_view e ≡ plain.chain (int_of (late_term waits.now a.now)) (plain.links minus (int_of (late_term waits.now b.now)) plain.no_links)) }
 {
-    let a = int_expr(alloc, a)?;
-    let b = int_expr(alloc, b)?;
+    let a = late_int(alloc, waits, a)?;
+    let b = late_int(alloc, waits, b)?;
     sum_of_two(alloc, a, minus, b)
 }
 
 #[inline(never)]
-fn sum_read(alloc: Global, a: Name, minus: bool, b: Name) -> Result<Expr, AllocError>
-    ensures { IfOk result (λ e. expr_view e ≡ plain.chain (plain.var (spelled (name_view a))) (plain.links minus (plain.var (spelled (name_view b))) plain.no_links)) }
+fn sum_read(
+    alloc: Global,
+    waits: &[Delayed],
+    a: Name,
+    minus: bool,
+    b: Name,
+) -> Result<Expr, AllocError>
+    ensures { IfOk result (λ e. expr_view e ≡ plain.chain (int_of (at_hand_view (delays_view waits.now) (name_view a))) (plain.links minus (int_of (at_hand_view (delays_view waits.now) (name_view b))) plain.no_links)) }
 {
-    let a = variable(alloc, a)?;
-    let b = variable(alloc, b)?;
+    let a = atom_expr(alloc, at_hand(waits, a))?;
+    let b = atom_expr(alloc, at_hand(waits, b))?;
     sum_of_two(alloc, a, minus, b)
 }
 
@@ -115,17 +164,18 @@ fn sum_read(alloc: Global, a: Name, minus: bool, b: Name) -> Result<Expr, AllocE
 #[inline(never)]
 fn three(
     alloc: Global,
+    waits: &[Delayed],
     a: &Term<'_>,
     first: bool,
     b: &Term<'_>,
     second: bool,
     c: &Term<'_>,
 ) -> Result<Expr, AllocError>
-    ensures { IfOk result (λ e. expr_view e ≡ plain.chain (int_of (term_view a.now)) (plain.links first (int_of (term_view b.now)) (plain.links second (int_of (term_view c.now)) plain.no_links))) }
+    ensures { IfOk result (λ e. expr_view e ≡ plain.chain (int_of (late_term waits.now a.now)) (plain.links first (int_of (late_term waits.now b.now)) (plain.links second (int_of (late_term waits.now c.now)) plain.no_links))) }
 {
-    let a = int_expr(alloc, a)?;
-    let b = int_expr(alloc, b)?;
-    let c = int_expr(alloc, c)?;
+    let a = late_int(alloc, waits, a)?;
+    let b = late_int(alloc, waits, b)?;
+    let c = late_int(alloc, waits, c)?;
     sum_of_three(alloc, a, (first, b), (second, c))
 }
 
@@ -133,27 +183,28 @@ fn three(
 #[inline(never)]
 fn four(
     alloc: Global,
+    waits: &[Delayed],
     a: &Term<'_>,
     b: &Term<'_>,
     c: &Term<'_>,
     d: &Term<'_>,
 ) -> Result<Expr, AllocError>
-    ensures { IfOk result (λ e. expr_view e ≡ plain.chain (int_of (term_view a.now)) (plain.links false (int_of (term_view b.now)) (plain.links false (int_of (term_view c.now)) (plain.links false (int_of (term_view d.now)) plain.no_links)))) }
+    ensures { IfOk result (λ e. expr_view e ≡ plain.chain (int_of (late_term waits.now a.now)) (plain.links false (int_of (late_term waits.now b.now)) (plain.links false (int_of (late_term waits.now c.now)) (plain.links false (int_of (late_term waits.now d.now)) plain.no_links)))) }
 {
-    let a = int_expr(alloc, a)?;
-    let b = int_expr(alloc, b)?;
-    let c = int_expr(alloc, c)?;
-    let d = int_expr(alloc, d)?;
+    let a = late_int(alloc, waits, a)?;
+    let b = late_int(alloc, waits, b)?;
+    let c = late_int(alloc, waits, c)?;
+    let d = late_int(alloc, waits, d)?;
     sum_of_four(alloc, a, b, c, d)
 }
 
 #[cycle(building)]
 #[inline(never)]
-fn product(alloc: Global, a: &Term<'_>, b: &Term<'_>) -> Result<Expr, AllocError>
-    ensures { IfOk result (λ e. expr_view e ≡ plain.call (name_of plain_names.imul) (plain.exprs (int_of (term_view a.now)) (plain.exprs (int_of (term_view b.now)) plain.no_exprs))) }
+fn product(alloc: Global, waits: &[Delayed], a: &Term<'_>, b: &Term<'_>) -> Result<Expr, AllocError>
+    ensures { IfOk result (λ e. expr_view e ≡ plain.call (name_of plain_names.imul) (plain.exprs (int_of (late_term waits.now a.now)) (plain.exprs (int_of (late_term waits.now b.now)) plain.no_exprs))) }
 {
-    let a = int_expr(alloc, a)?;
-    let b = int_expr(alloc, b)?;
+    let a = late_int(alloc, waits, a)?;
+    let b = late_int(alloc, waits, b)?;
     call_of_two(alloc, Name::Always(Fixed::Imul), a, b)
 }
 
@@ -161,15 +212,16 @@ fn product(alloc: Global, a: &Term<'_>, b: &Term<'_>) -> Result<Expr, AllocError
 #[inline(never)]
 fn compared(
     alloc: Global,
+    waits: &[Delayed],
     is_signed: bool,
     relation: Relation,
     a: &Term<'_>,
     b: &Term<'_>,
 ) -> Result<Expr, AllocError>
-    ensures { IfOk result (λ e. expr_view e ≡ plain.binary (relation_operator (relation_view relation)) (as_number is_signed (term_view a.now) (expr_for (term_view a.now))) (as_number is_signed (term_view b.now) (expr_for (term_view b.now)))) }
+    ensures { IfOk result (λ e. expr_view e ≡ plain.binary (relation_operator (relation_view relation)) (as_number is_signed (late_term waits.now a.now) (expr_for (late_term waits.now a.now))) (as_number is_signed (late_term waits.now b.now) (expr_for (late_term waits.now b.now)))) }
 {
-    let a = number_expr(alloc, a, is_signed)?;
-    let b = number_expr(alloc, b, is_signed)?;
+    let a = late_number(alloc, waits, a, is_signed)?;
+    let b = late_number(alloc, waits, b, is_signed)?;
     binary(alloc, js_relation(relation), a, b)
 }
 
@@ -190,26 +242,33 @@ fn compared_number(
 #[inline(never)]
 fn compared_read(
     alloc: Global,
+    waits: &[Delayed],
     is_signed: bool,
     relation: Relation,
     a: Name,
     b: Name,
 ) -> Result<Expr, AllocError>
-    ensures { IfOk result (λ e. expr_view e ≡ plain.binary (relation_operator (relation_view relation)) (as_number is_signed (words.read (name_view a)) (plain.var (spelled (name_view a)))) (as_number is_signed (words.read (name_view b)) (plain.var (spelled (name_view b))))) }
+    ensures { IfOk result (λ e. expr_view e ≡ plain.binary (relation_operator (relation_view relation)) (as_number is_signed (at_hand_view (delays_view waits.now) (name_view a)) (expr_for (at_hand_view (delays_view waits.now) (name_view a)))) (as_number is_signed (at_hand_view (delays_view waits.now) (name_view b)) (expr_for (at_hand_view (delays_view waits.now) (name_view b))))) }
 {
-    let a = number(alloc, variable(alloc, a)?, is_signed)?;
-    let b = number(alloc, variable(alloc, b)?, is_signed)?;
+    let a = atom_number(alloc, at_hand(waits, a), is_signed)?;
+    let b = atom_number(alloc, at_hand(waits, b), is_signed)?;
     binary(alloc, js_relation(relation), a, b)
 }
 
 #[cycle(building)]
 #[inline(never)]
-fn choice(alloc: Global, test: &Term<'_>, a: &Term<'_>, b: &Term<'_>) -> Result<Expr, AllocError>
-    ensures { IfOk result (λ e. expr_view e ≡ plain.cond (test_of (term_view test.now)) (int_of (term_view a.now)) (int_of (term_view b.now))) }
+fn choice(
+    alloc: Global,
+    waits: &[Delayed],
+    test: &Term<'_>,
+    a: &Term<'_>,
+    b: &Term<'_>,
+) -> Result<Expr, AllocError>
+    ensures { IfOk result (λ e. expr_view e ≡ plain.cond (test_of (late_term waits.now test.now)) (int_of (late_term waits.now a.now)) (int_of (late_term waits.now b.now))) }
 {
-    let test = test_expr(alloc, test)?;
-    let a = int_expr(alloc, a)?;
-    let b = int_expr(alloc, b)?;
+    let test = late_test(alloc, waits, test)?;
+    let a = late_int(alloc, waits, a)?;
+    let b = late_int(alloc, waits, b)?;
     chosen(alloc, test, a, b)
 }
 
@@ -217,11 +276,15 @@ fn choice(alloc: Global, test: &Term<'_>, a: &Term<'_>, b: &Term<'_>) -> Result<
 #[cycle(building)]
 #[inline(never)]
 #[tactic(auto, using(crate::proofs::OwnForms::int_is))]
-pub fn int_expr(alloc: Global, term: &Term<'_>) -> Result<Expr, AllocError>
-    ensures { IfOk result (λ e. expr_view e ≡ int_of (term_view term.now)) }
+pub(crate) fn late_int(
+    alloc: Global,
+    waits: &[Delayed],
+    term: &Term<'_>,
+) -> Result<Expr, AllocError>
+    ensures { IfOk result (λ e. expr_view e ≡ int_of (late_term waits.now term.now)) }
 {
-    let e = expr(alloc, term)?;
-    int_form(alloc, own_form(term), e)
+    let e = late_expr(alloc, waits, term)?;
+    int_form(alloc, own_form(waits, term), e)
 }
 
 fn js_bit(operator: BitOp) -> JsOp
@@ -254,26 +317,36 @@ fn js_relation(relation: Relation) -> JsOp
 #[cycle(building)]
 #[inline(never)]
 #[tactic(auto, using(crate::proofs::OwnForms::number_is))]
-pub(crate) fn number_expr(
+pub(crate) fn late_number(
     alloc: Global,
+    waits: &[Delayed],
     term: &Term<'_>,
     is_signed: bool,
 ) -> Result<Expr, AllocError>
-    ensures { IfOk result (λ e. expr_view e ≡ as_number is_signed (term_view term.now) (expr_for (term_view term.now))) }
+    ensures { IfOk result (λ e. expr_view e ≡ as_number is_signed (late_term waits.now term.now) (expr_for (late_term waits.now term.now))) }
 {
-    let e = expr(alloc, term)?;
-    number_form(alloc, own_form(term), e, is_signed)
+    let e = late_expr(alloc, waits, term)?;
+    number_form(alloc, own_form(waits, term), e, is_signed)
 }
 
-// `e|0` or `e>>>0`
-fn number(alloc: Global, e: Expr, is_signed: bool) -> Result<Expr, AllocError>
-    ensures { IfOk result (λ r. expr_view r ≡ (if is_signed then words.signed_number (expr_view e) else words.plain_number (expr_view e))) }
+// A variable or a literal, which is of type int.
+fn atom_expr(alloc: Global, atom: Atom) -> Result<Expr, AllocError>
+    ensures bare { IfOk result (λ e. expr_view e ≡ expr_for (atom_view atom)) }
+    ensures int { IfOk result (λ e. expr_view e ≡ int_of (atom_view atom)) }
 {
-    if is_signed {
-        signed(alloc, e)
-    } else {
-        unsigned(alloc, e)
+    match atom {
+        Atom::Read(name) => variable(alloc, name),
+        Atom::Number(value) => Ok(literal(value)),
     }
+}
+
+// The number of a variable or a literal, with its sign or without.
+#[tactic(auto, using(crate::proofs::OwnForms::number_is))]
+fn atom_number(alloc: Global, atom: Atom, is_signed: bool) -> Result<Expr, AllocError>
+    ensures { IfOk result (λ e. expr_view e ≡ as_number is_signed (atom_view atom) (expr_for (atom_view atom))) }
+{
+    let e = atom_expr(alloc, atom)?;
+    number_form(alloc, atom_form(atom), e, is_signed)
 }
 
 // A literal as an operand of a comparison.
@@ -288,11 +361,15 @@ fn number_literal(alloc: Global, value: i64, is_signed: bool) -> Result<Expr, Al
 #[cycle(building)]
 #[inline(never)]
 #[tactic(auto, using(crate::proofs::OwnForms::test_is))]
-pub(crate) fn test_expr(alloc: Global, term: &Term<'_>) -> Result<Expr, AllocError>
-    ensures { IfOk result (λ e. expr_view e ≡ test_of (term_view term.now)) }
+pub(crate) fn late_test(
+    alloc: Global,
+    waits: &[Delayed],
+    term: &Term<'_>,
+) -> Result<Expr, AllocError>
+    ensures { IfOk result (λ e. expr_view e ≡ test_of (late_term waits.now term.now)) }
 {
-    let e = expr(alloc, term)?;
-    test_form(alloc, own_form(term), e)
+    let e = late_expr(alloc, waits, term)?;
+    test_form(alloc, own_form(waits, term), e)
 }
 
 // A byte at the place of an expression.
@@ -359,12 +436,16 @@ fn with_link(links: List<Link>, minus: bool, operand: Expr) -> Result<List<Link>
 
 /// The arguments of a call, each of type int.
 #[tactic(auto, using(crate::proofs::Lists::arguments_are))]
-pub(crate) fn argument_list(alloc: Global, terms: &[Term<'_>]) -> Result<List<Expr>, AllocError>
-    ensures { IfOk result (λ r. exprs_view (list_items r) ≡ arguments (terms_view terms.now)) }
+pub(crate) fn argument_list(
+    alloc: Global,
+    waits: &[Delayed],
+    terms: &[Term<'_>],
+) -> Result<List<Expr>, AllocError>
+    ensures { IfOk result (λ r. exprs_view (list_items r) ≡ arguments (late_terms waits.now terms.now)) }
 {
     let mut exprs = List::with_capacity(alloc, terms.len())?;
     for term in terms {
-        let e = int_expr(alloc, term)?;
+        let e = late_int(alloc, waits, term)?;
         exprs = with_expr(exprs, e)?;
     }
     Ok(exprs)

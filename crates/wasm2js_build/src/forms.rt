@@ -5,10 +5,12 @@ ghost use Rattle.asm_lang_valid.specs.Typing.{typed_below, literal_type};
 ghost use Rattle.asm_tree.specs.Views.{expr_view};
 ghost use Rattle.wasm2js_translation.specs.Words as words;
 ghost use Rattle.wasm2js_translation.specs.Words.{as_signed, as_unsigned};
-ghost use Rattle.wasm2js_build.specs.Views.{bit_view, term_view};
+ghost use Rattle.wasm2js_build.specs.Views.{bit_view};
+ghost use Rattle.wasm2js_build.specs.Waits.{atom_view, late_term};
 ghost use Rattle.wasm2js_build.specs.OwnForms.{bits_form, form_of, signed_by, unsigned_by, number_by, int_by, test_by};
 
 use crate::terms::{BitOp, Term};
+use crate::waits::{Atom, Delayed, at_hand};
 use asm_tree::Expr;
 use std::alloc::{AllocError, Global};
 use wasm2js_nodes::{signed, unsigned};
@@ -39,19 +41,30 @@ fn bits(operator: BitOp) -> Form
     }
 }
 
-/// What the expression of a term is.
+/// What the expression of a variable or a literal is.
+pub(crate) fn atom_form(atom: Atom) -> Form
+    ensures { result ≡ form_of (atom_view atom) }
+{
+    match atom {
+        Atom::Read(_) => Form::Int,
+        Atom::Number(value) => Form::Literal(value),
+    }
+}
+
+/// What the expression of a term is, where these words wait.
 #[tactic(auto, using(crate::proofs::Views::terms))]
-pub(crate) fn own_form(term: &Term<'_>) -> Form
-    ensures { result ≡ form_of (term_view term.now) }
+pub(crate) fn own_form(waits: &[Delayed], term: &Term<'_>) -> Form
+    ensures { result ≡ form_of (late_term waits.now term.now) }
 {
     match term {
+        Term::Read(name) => atom_form(at_hand(waits, *name)),
         Term::Number(value) => Form::Literal(*value),
         Term::Both(operator, _, _)
         | Term::BothNumber(operator, _, _)
         | Term::BothRead(operator, _, _) => bits(*operator),
         Term::Flip(_) | Term::Product(_, _) => Form::Signed,
         Term::Zeros(_) => Form::Fixnum,
-        Term::Read(_) | Term::Choose(_, _, _) => Form::Int,
+        Term::Choose(_, _, _) => Form::Int,
         Term::SumOfTwo(_, _, _)
         | Term::SumOfThree(_, _, _, _, _)
         | Term::SumNumber(_, _, _)

@@ -3,6 +3,7 @@
 
 mod names;
 mod nodes;
+mod same;
 mod spelling;
 mod statements;
 
@@ -11,6 +12,7 @@ pub use nodes::{
     binary, call, call_of_one, call_of_two, chain, chosen, element, flipped, literal, natural,
     plainly, put_in, shifted, signed, store_in, trap_call, unsigned, variable, with_expr,
 };
+pub use same::same_name;
 pub use spelling::spell;
 pub use statements::{
     block_statement, gives, if_else, if_only, locals_of, params_of, part_statement, returns,

@@ -38,7 +38,7 @@ fn joined(alloc: Global, letter: u8, digits: &[u8]) -> Result<Text, AllocError>
     Text::from_bytes(alloc, bytes.as_slice())
 }
 
-fn letter(kind: Numbered) -> u8
+pub(crate) fn letter(kind: Numbered) -> u8
     ensures { result ≡ plain.letter (numbered_view kind) }
 {
     match kind {

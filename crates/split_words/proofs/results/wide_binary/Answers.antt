@@ -10,6 +10,6 @@ use Rattle.split_words.proofs.results.wide_binary.Goals as goal
 
 pub returns-clause-computes : goal.returns-clause-computes
 returns-clause-computes c =
-    gained c.put_binary.result (statements_of c.args.block.now) (statements_of c.put_binary.new.block) (simple_statements (wide_binary c.args.op (pair_view c.args.a) (pair_view c.args.b) (pair_view c.args.to)))
+    gained c.binary_at_once.result (statements_of c.args.block.now) (statements_of c.binary_at_once.new.block) (simple_statements (wide_binary c.args.op (pair_view c.args.a) (pair_view c.args.b) (pair_view c.args.to)))
     (λ ss. ComputesBinary wide_helpers ss c.args.op (halves_of c.args.a) (halves_of c.args.b) (halves_of c.args.to))
-    (binaries_compute c.args.op (pair_view c.args.a) (pair_view c.args.b) (pair_view c.args.to) c.requires.translated) c.put_binary.ensures
+    (binaries_compute c.args.op (pair_view c.args.a) (pair_view c.args.b) (pair_view c.args.to) c.requires.translated) c.binary_at_once.ensures

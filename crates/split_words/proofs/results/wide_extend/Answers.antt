@@ -10,6 +10,6 @@ use Rattle.split_words.proofs.results.wide_extend.Goals as goal
 
 pub returns-clause-computes : goal.returns-clause-computes
 returns-clause-computes c = λ h.
-    gained c.put_wide_extended.result (statements_of c.args.block.now) (statements_of c.put_wide_extended.new.block) (simple_statements (wide_extend c.args.bits (pair_view c.args.a) (pair_view c.args.to)))
+    gained c.extended_at_once.result (statements_of c.args.block.now) (statements_of c.extended_at_once.new.block) (simple_statements (wide_extend c.args.bits (pair_view c.args.a) (pair_view c.args.to)))
     (λ ss. ComputesExtension wide_helpers ss c.args.bits (halves_of c.args.a) (halves_of c.args.to))
-    (extensions_compute c.args.bits (pair_view c.args.a) (pair_view c.args.to) h) c.put_wide_extended.ensures
+    (extensions_compute c.args.bits (pair_view c.args.a) (pair_view c.args.to) h) c.extended_at_once.ensures

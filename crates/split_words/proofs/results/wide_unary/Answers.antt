@@ -10,6 +10,6 @@ use Rattle.split_words.proofs.results.wide_unary.Goals as goal
 
 pub returns-clause-computes : goal.returns-clause-computes
 returns-clause-computes c =
-    gained c.put_unary.result (statements_of c.args.block.now) (statements_of c.put_unary.new.block) (simple_statements (wide_unary c.args.op (pair_view c.args.a) (pair_view c.args.to)))
+    gained c.unary_at_once.result (statements_of c.args.block.now) (statements_of c.unary_at_once.new.block) (simple_statements (wide_unary c.args.op (pair_view c.args.a) (pair_view c.args.to)))
     (λ ss. ComputesUnary wide_helpers ss c.args.op (halves_of c.args.a) (halves_of c.args.to))
-    (unaries_compute c.args.op (pair_view c.args.a) (pair_view c.args.to)) c.put_unary.ensures
+    (unaries_compute c.args.op (pair_view c.args.a) (pair_view c.args.to)) c.unary_at_once.ensures

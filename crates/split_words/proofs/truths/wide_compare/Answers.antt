@@ -12,6 +12,6 @@ use Rattle.split_words.proofs.truths.wide_compare.Goals as goal
 
 pub returns-clause-computes : goal.returns-clause-computes
 returns-clause-computes c =
-    gained c.put_relation.result (statements_of c.args.block.now) (statements_of c.put_relation.new.block) (simple_statements (wide_compare c.args.op (pair_view c.args.a) (pair_view c.args.b) (name_view c.args.to)))
+    gained c.relation_at_once.result (statements_of c.args.block.now) (statements_of c.relation_at_once.new.block) (simple_statements (wide_compare c.args.op (pair_view c.args.a) (pair_view c.args.b) (name_view c.args.to)))
     (λ ss. ComputesRelation wide_helpers ss c.args.op (halves_of c.args.a) (halves_of c.args.b) (spelled (name_view c.args.to)))
-    (relations_compute c.args.op (pair_view c.args.a) (pair_view c.args.b) (name_view c.args.to)) c.put_relation.ensures
+    (relations_compute c.args.op (pair_view c.args.a) (pair_view c.args.b) (name_view c.args.to)) c.relation_at_once.ensures

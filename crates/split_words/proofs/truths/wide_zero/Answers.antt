@@ -13,6 +13,6 @@ use Rattle.split_words.proofs.truths.wide_zero.Goals as goal
 
 pub returns-clause-computes : goal.returns-clause-computes
 returns-clause-computes c =
-    gained c.put_zero_test.result (statements_of c.args.block.now) (statements_of c.put_zero_test.new.block) (simple_statements (put (name_view c.args.to) (is_wide_zero (pair_view c.args.a)) ∷ []))
+    gained c.zero_test_at_once.result (statements_of c.args.block.now) (statements_of c.zero_test_at_once.new.block) (simple_statements (put (name_view c.args.to) (is_wide_zero (pair_view c.args.a)) ∷ []))
     (λ ss. ComputesZero wide_helpers ss (halves_of c.args.a) (spelled (name_view c.args.to)))
-    (zero_tests_compute (pair_view c.args.a) (name_view c.args.to)) c.put_zero_test.ensures
+    (zero_tests_compute (pair_view c.args.a) (name_view c.args.to)) c.zero_test_at_once.ensures

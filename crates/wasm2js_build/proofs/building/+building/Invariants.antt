@@ -4,17 +4,17 @@ use Rattle.wasm2js_build.specs.Views.{term_view}
 use Rattle.wasm2js_build.proofs.Sizes.{size}
 use Rattle.wasm2js_build.proofs.building.+building.Given as goal
 
-abbrev pub decreases-expr : goal.decreases-expr
-decreases-expr l = 3 * size (term_view l.term.now)
+abbrev pub decreases-late_expr : goal.decreases-late_expr
+decreases-late_expr l = 3 * size (term_view l.term.now)
 
-abbrev pub decreases-int_expr : goal.decreases-int_expr
-decreases-int_expr l = 3 * size (term_view l.term.now) + 1
+abbrev pub decreases-late_int : goal.decreases-late_int
+decreases-late_int l = 3 * size (term_view l.term.now) + 1
 
-abbrev pub decreases-number_expr : goal.decreases-number_expr
-decreases-number_expr l = 3 * size (term_view l.term.now) + 1
+abbrev pub decreases-late_number : goal.decreases-late_number
+decreases-late_number l = 3 * size (term_view l.term.now) + 1
 
-abbrev pub decreases-test_expr : goal.decreases-test_expr
-decreases-test_expr l = 3 * size (term_view l.term.now) + 1
+abbrev pub decreases-late_test : goal.decreases-late_test
+decreases-late_test l = 3 * size (term_view l.term.now) + 1
 
 abbrev pub decreases-both : goal.decreases-both
 decreases-both l = 3 * (size (term_view l.a.now) + size (term_view l.b.now)) + 2
