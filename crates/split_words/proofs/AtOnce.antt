@@ -11,3 +11,9 @@ run_at_once told [] = ap state_at_once (sym (append-nil told))
 run_at_once told (s ∷ ss) =
     ap (λ (x : State). run x (simples ss)) (one_at_once told s) ∙ run_at_once (told ++ simple_statement s ∷ []) ss
     ∙ ap state_at_once (append_assoc told (simple_statement s ∷ []) (simple_statements ss))
+
+-- a block whose statements were taken into code where nothing waits, and put back
+pub told_at_once : (x y : State) (told after : List Stmt) (ss : List Simple) → x ≡ state_at_once told → y ≡ run x (simples ss) → after ≡ y.told → after ≡ told ++ simple_statements ss
+told_at_once x y told after ss begins runs ends =
+    let e : y ≡ state_at_once (told ++ simple_statements ss) = runs ∙ ap (λ (s : State). run s (simples ss)) begins ∙ run_at_once told ss in
+    ends ∙ ap (λ (s : State). s.told) e
