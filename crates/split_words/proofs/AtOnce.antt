@@ -1,9 +1,9 @@
 -- Where nothing waits, straight code is appended as it is.
-use Rattle.std.proofs.Common.{◌≡◌, List, [], ◌∷◌, ◌++◌, refl, sym, ap, ◌∙◌, append_assoc, append-nil}
+use Rattle.std.proofs.Common.{◌≡◌, List, [], ◌∷◌, ◌++◌, sym, ap, ◌∙◌, append_assoc, append-nil}
 use Rattle.asm_lang.specs.Modules.{Stmt}
-use Rattle.wasm2js_translation.specs.Words.{Simple, simply, simple_statement, simple_statements}
+use Rattle.wasm2js_translation.specs.Words.{Simple, simple_statement, simple_statements}
 use Rattle.wasm2js_translation.specs.Pairs.{simples}
-use Rattle.wasm2js_build.specs.Growing.{one, run, State, state_at_once}
+use Rattle.wasm2js_build.specs.Growing.{run, State, state_at_once}
 use Rattle.wasm2js_build.proofs.Growing.{one_at_once}
 
 pub run_at_once : (told : List Stmt) (ss : List Simple) → run (state_at_once told) (simples ss) ≡ state_at_once (told ++ simple_statements ss)

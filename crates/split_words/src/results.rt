@@ -25,6 +25,7 @@ use wasm2js_build::{BitOp, Block, Relation, Straight, Term};
 use wasm2js_nodes::{Fixed, Name};
 
 /// A value of this type from one place to another.
+#[tactic(auto, using(crate::proofs::AtOnce::run_at_once))]
 pub fn moved(block: &mut Block, kind: ValType, from: Pair, to: Pair) -> Result<(), AllocError>
     ensures { IfOk result (λ _. statements_of block.new ≡ statements_of block.old ++ simple_statements (pairs.moved kind (pair_view from) (pair_view to))) }
 {
@@ -58,6 +59,7 @@ pub fn wide_extend(block: &mut Block, bits: u32, a: Pair, to: Pair) -> Result<()
     extended_at_once(block, bits, a, to)
 }
 
+#[tactic(auto, using(crate::proofs::AtOnce::run_at_once))]
 fn binary_at_once(block: &mut Block, op: Bin, a: Pair, b: Pair, to: Pair) -> Result<(), AllocError>
     requires made { is_mul_div op ≡ false }
     ensures { IfOk result (λ _. statements_of block.new ≡ statements_of block.old ++ simple_statements (wide.wide_binary op (pair_view a) (pair_view b) (pair_view to))) }
@@ -68,6 +70,7 @@ fn binary_at_once(block: &mut Block, op: Bin, a: Pair, b: Pair, to: Pair) -> Res
     Ok(())
 }
 
+#[tactic(auto, using(crate::proofs::AtOnce::run_at_once))]
 fn unary_at_once(block: &mut Block, op: Un, a: Pair, to: Pair) -> Result<(), AllocError>
     ensures { IfOk result (λ _. statements_of block.new ≡ statements_of block.old ++ simple_statements (wide.wide_unary op (pair_view a) (pair_view to))) }
 {
@@ -77,6 +80,7 @@ fn unary_at_once(block: &mut Block, op: Un, a: Pair, to: Pair) -> Result<(), All
     Ok(())
 }
 
+#[tactic(auto, using(crate::proofs::AtOnce::run_at_once))]
 fn extended_at_once(block: &mut Block, bits: u32, a: Pair, to: Pair) -> Result<(), AllocError>
     ensures { IfOk result (λ _. statements_of block.new ≡ statements_of block.old ++ simple_statements (wide.wide_extend bits (pair_view a) (pair_view to))) }
 {

@@ -41,6 +41,7 @@ pub fn wide_zero(block: &mut Block, a: Pair, to: Name) -> Result<(), AllocError>
     zero_test_at_once(block, a, to)
 }
 
+#[tactic(auto, using(crate::proofs::AtOnce::run_at_once))]
 fn relation_at_once(
     block: &mut Block,
     op: Rel,
@@ -56,6 +57,7 @@ fn relation_at_once(
     Ok(())
 }
 
+#[tactic(auto, using(crate::proofs::AtOnce::run_at_once))]
 fn zero_test_at_once(block: &mut Block, a: Pair, to: Name) -> Result<(), AllocError>
     ensures { IfOk result (λ _. statements_of block.new ≡ statements_of block.old ++ simple_statements (words.put (name_view to) (wide.is_wide_zero (pair_view a)) ∷ [])) }
 {

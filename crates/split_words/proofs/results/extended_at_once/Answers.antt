@@ -8,5 +8,4 @@ use Rattle.split_words.proofs.results.extended_at_once.Goals as goal
 pub returns : goal.returns
 returns c =
     told_at_once (state_of c.at_once-straight.result) (state_of c.put_extension.new.straight) (statements_of c.args.block.now) (statements_of c.into_block.result)
-    (wide_extend c.args.bits (pair_view c.args.a) (pair_view c.args.to))
-    c.at_once-straight.ensures c.in_ok-put_extension.ensures c.into_block.ensures
+    (wide_extend c.args.bits (pair_view c.args.a) (pair_view c.args.to)) c.at_once-straight.ensures c.in_ok-put_extension.ensures c.into_block.ensures
