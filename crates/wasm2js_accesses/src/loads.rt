@@ -19,7 +19,7 @@ use wasm2js_build::{BitOp, Step, Straight, Term};
 use wasm2js_nodes::{Fixed, Name};
 
 // A load from a memory of so many bytes, whose address stands in the low one of the variables that it fills.
-#[tactic(auto, using(crate::proofs::Joined::joins))]
+#[tactic(auto, using(wasm2js_build::proofs::Growing::run_joined))]
 fn load(
     straight: &mut Straight,
     bytes: u64,

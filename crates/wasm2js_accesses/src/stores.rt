@@ -19,7 +19,7 @@ use wasm2js_build::{BitOp, Step, Straight, Term};
 use wasm2js_nodes::{Fixed, Name};
 
 // A store to a memory of so many bytes, to the address in a, of the value in v.
-#[tactic(auto, using(crate::proofs::Joined::joins))]
+#[tactic(auto, using(wasm2js_build::proofs::Growing::run_joined))]
 fn store(
     straight: &mut Straight,
     bytes: u64,

@@ -46,7 +46,7 @@ pub fn instruction(
 }
 
 // In a context that has nothing but the scope.
-#[tactic(auto, using(wasm2js_accesses::proofs::Joined::joins))]
+#[tactic(auto, using(wasm2js_build::proofs::Growing::run_joined))]
 fn plain_instruction(
     straight: &mut Straight,
     scope: &InstructionScope<'_>,

@@ -1,10 +1,12 @@
 -- Straight code that grows, action by action.
-use Rattle.std.proofs.Common.{◌≡◌, Bool, true, false, List, [], ◌∷◌, ◌++◌, refl, sym, ap, ◌∙◌, append_assoc, append-nil}
+use Rattle.std.proofs.Common.{◌≡◌, Bool, true, false, List, [], ◌∷◌, ◌++◌, Some, None, refl, sym, ap, ◌∙◌, append_assoc, append-nil}
+use Rattle.std.specs.Prelude.{if◌then◌else◌}
 use Rattle.asm_lang.specs.Modules.{Stmt}
-use Rattle.wasm2js_translation.specs.Words.{Term, Simple, Action, simply, either, simple_statement, simple_statements, statement, statements}
+use Rattle.wasm2js_translation.specs.Names.{Name}
+use Rattle.wasm2js_translation.specs.Words.{Term, Simple, put, ask, tell, guard, stop, write_byte, write_whole, Action, simply, either, simple_statement, simple_statements, statement, statements}
 use Rattle.wasm2js_translation.specs.Pairs.{simples}
-use Rattle.wasm2js_translation.specs.Delays.{Delayed, late, late_simple, late_either}
-use Rattle.wasm2js_build.specs.Growing.{State, one, run, late_at, state_at_once}
+use Rattle.wasm2js_translation.specs.Delays.{Delayed, Late, replaced, may_wait, without, at_once, late, late_simple, late_either}
+use Rattle.wasm2js_build.specs.Growing.{State, one, run, late_at, state_at_once, begins_to_wait}
 use Rattle.wasm2js_build.proofs.Replacing.{nothing_in_place}
 
 pub one_at_once : (told : List Stmt) (s : Simple) → one (state_at_once told) (simply s) ≡ state_at_once (told ++ simple_statement s ∷ [])
@@ -37,3 +39,70 @@ run_late told ds (either t first second ∷ as) =
     let y = late x.later as in
     run_late (told ++ statements x.now) x.later as
     ∙ ap (λ (ss : List Stmt). late_at ss y.later) (append_assoc told (statements x.now) (statements y.now) ∙ ap (λ (ss : List Stmt). told ++ ss) (sym (statements_joined x.now y.now)))
+
+-- ---- one more action
+
+put_waits : (b : Bool) (told : List Stmt) (ds : List Delayed) (n : Name) (u : Term) (x : Late) (d : Delayed)
+    → (if b then Some (record { name = n; word = u }) else None) ≡ Some d
+    → late_at (told ++ statements (if b then record { now = []; later = without n ds ++ record { name = n; word = u } ∷ [] } else x).now) (if b then record { now = []; later = without n ds ++ record { name = n; word = u } ∷ [] } else x).later
+    ≡ late_at told (without d.name ds ++ d ∷ [])
+put_waits true told ds n u x d e =
+    let same : record { name = n; word = u } ≡ d = cc e in
+    ap (λ (ss : List Stmt). late_at ss (without n ds ++ record { name = n; word = u } ∷ [])) (append-nil told)
+    ∙ ap (λ (y : Delayed). late_at told (without y.name ds ++ y ∷ [])) same
+put_waits false told ds n u x d e = absurd (cc e)
+
+put_goes : (b : Bool) (told : List Stmt) (ds : List Delayed) (n : Name) (u : Term) (x y : Late)
+    → (if b then Some (record { name = n; word = u }) else None) ≡ None
+    → late_at (told ++ statements (if b then y else x).now) (if b then y else x).later ≡ late_at (told ++ statements x.now) x.later
+put_goes true told ds n u x y e = absurd (cc e)
+put_goes false told ds n u x y e = refl
+
+-- a word that begins to wait
+pub begins : (told : List Stmt) (ds : List Delayed) (s : Simple) (d : Delayed) → begins_to_wait ds s ≡ Some d → one (late_at told ds) (simply s) ≡ late_at told (without d.name ds ++ d ∷ [])
+unfolding one
+begins told ds (put n t) d e = put_waits (may_wait ds n (replaced ds t)) told ds n (replaced ds t) (at_once ds (put n t)) d e
+begins told ds (ask n helper ts) d e = absurd (cc e)
+begins told ds (tell helper ts) d e = absurd (cc e)
+begins told ds (guard t most kind) d e = absurd (cc e)
+begins told ds (stop kind) d e = absurd (cc e)
+begins told ds (write_byte at t) d e = absurd (cc e)
+begins told ds (write_whole at t) d e = absurd (cc e)
+
+-- a step that doesn't wait
+pub goes : (told : List Stmt) (ds : List Delayed) (s : Simple) → begins_to_wait ds s ≡ None → one (late_at told ds) (simply s) ≡ late_at (told ++ statements (at_once ds s).now) (at_once ds s).later
+unfolding one
+goes told ds (put n t) e =
+    put_goes (may_wait ds n (replaced ds t)) told ds n (replaced ds t) (at_once ds (put n t)) (record { now = []; later = without n ds ++ record { name = n; word = replaced ds t } ∷ [] }) e
+goes told ds (ask n helper ts) e = refl
+goes told ds (tell helper ts) e = refl
+goes told ds (guard t most kind) e = refl
+goes told ds (stop kind) e = refl
+goes told ds (write_byte at t) e = refl
+goes told ds (write_whole at t) e = refl
+
+-- where nothing begins to wait
+pub goes_at_once : (told : List Stmt) (ds : List Delayed) (s : Simple)
+    → one (record { is_late = false; told = told; waits = ds }) (simply s) ≡ record { is_late = false; told = told ++ statements (at_once ds s).now; waits = (at_once ds s).later }
+unfolding one
+goes_at_once told ds s = refl
+
+pub goes_either : (b : Bool) (told : List Stmt) (ds : List Delayed) (t : Term) (first second : List Simple)
+    → one (record { is_late = b; told = told; waits = ds }) (either t first second)
+    ≡ record { is_late = b; told = told ++ statements (late_either ds t first second).now; waits = (late_either ds t first second).later }
+unfolding one
+goes_either b told ds t first second = refl
+
+-- ---- what is written before a change, and then the change
+
+simples_joined : (xs : List Simple) (s : Simple) → simples (xs ++ s ∷ []) ≡ simples xs ++ simply s ∷ []
+simples_joined [] s = refl
+simples_joined (x ∷ xs) s = ap (λ (as : List Action). simply x ∷ as) (simples_joined xs s)
+
+pub then_either : (old : List Stmt) (xs : List Simple) (a : Action) → (old ++ simple_statements xs) ++ statement a ∷ [] ≡ old ++ statements (simples xs ++ a ∷ [])
+then_either old xs a =
+    append_assoc old (simple_statements xs) (statement a ∷ [])
+    ∙ ap (λ (ss : List Stmt). old ++ ss) (ap (λ (ss : List Stmt). ss ++ statement a ∷ []) (sym (statements_simples xs)) ∙ sym (statements_joined (simples xs) (a ∷ [])))
+
+pub then_simply : (old : List Stmt) (xs : List Simple) (s : Simple) → (old ++ simple_statements xs) ++ simple_statement s ∷ [] ≡ old ++ statements (simples (xs ++ s ∷ []))
+then_simply old xs s = then_either old xs (simply s) ∙ ap (λ (as : List Action). old ++ statements as) (sym (simples_joined xs s))

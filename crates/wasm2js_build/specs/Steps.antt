@@ -1,5 +1,5 @@
 -- What steps of straight code say, as plain data.
-use Rattle.std.specs.Prelude.{Bool, List, [], ◌∷◌, map, ◌||◌}
+use Rattle.std.specs.Prelude.{Bool, not, List, [], ◌∷◌, map, ◌||◌}
 use Rattle.wasm2js_translation.specs.Words as words
 use Rattle.wasm2js_translation.specs.Names.{Name}
 use Rattle.wasm2js_translation.specs.Delays.{Delayed, puts, changes, one_puts, one_changes, reads_one, differ, others}
@@ -33,6 +33,10 @@ is_spoiled (change.Either first second) d =
 abbrev pub is_put : Change → Name → Bool
 is_put (change.One s) n = puts (step_view s.now) n
 is_put (change.Either first second) n = one_puts (steps_view first.now) n
+
+-- what waits is not written before the change
+unfoldable pub is_left_in_arms : Change → Delayed → Bool
+is_left_in_arms c d = not (is_spoiled c d)
 
 abbrev pub left_in_arms : Change → List Delayed → List Delayed
 left_in_arms c ds = others (is_spoiled c) ds

@@ -9,7 +9,7 @@ ghost use Rattle.wasm2js_build.specs.Views.{term_view, terms_view};
 ghost use Rattle.wasm2js_build.specs.Blocks.{statements_of};
 ghost use Rattle.wasm2js_build.specs.Waits.{atom_view, delayed_view, delays_view, late_term};
 ghost use Rattle.wasm2js_build.specs.declared.steps.Change.TheVariants.{Either};
-ghost use Rattle.wasm2js_build.specs.Steps.{step_view, steps_view, is_spoiled, is_put, left_in_arms};
+ghost use Rattle.wasm2js_build.specs.Steps.{step_view, steps_view, is_spoiled, is_put, is_left_in_arms, left_in_arms};
 ghost use Rattle.wasm2js_build.specs.Growing.{one, waits_of, late_state, state_of, state_at_once, begins_to_wait};
 
 use crate::block::Block;
@@ -77,6 +77,7 @@ impl LateBlock {
     }
 
     // A step that doesn't wait.
+    #[tactic(auto, using(crate::proofs::Growing::then_simply))]
     fn act_now(&mut self, step: &Step<'_>) -> Result<(), AllocError>
         ensures statements { IfOk result (λ _. statements_of self.new.block ≡ statements_of self.old.block ++ statements (delays.at_once (waits_of self.old) (step_view step.now)).now) }
         ensures waits { IfOk result (λ _. waits_of self.new ≡ (delays.at_once (waits_of self.old) (step_view step.now)).later) }
@@ -86,6 +87,7 @@ impl LateBlock {
     }
 
     // The first steps where the test holds, and else the second ones.
+    #[tactic(auto, using(crate::proofs::Growing::then_either))]
     fn either(
         &mut self,
         test: &Term<'_>,
@@ -148,6 +150,7 @@ impl Straight {
     }
 
     /// One more step.
+    #[tactic(auto, using(crate::proofs::Growing::begins, crate::proofs::Growing::goes, crate::proofs::Growing::goes_at_once))]
     pub fn act(&mut self, step: &Step<'_>) -> Result<(), AllocError>
         ensures { IfOk result (λ _. state_of self.new ≡ one (state_of self.old) (words.simply (step_view step.now))) }
     {
@@ -162,6 +165,7 @@ impl Straight {
     }
 
     /// The first steps where the test holds, and else the second ones.
+    #[tactic(auto, using(crate::proofs::Growing::goes_either))]
     pub fn either(
         &mut self,
         test: &Term<'_>,
@@ -263,14 +267,21 @@ fn arm(alloc: Global, waits: &[Delayed], steps: &[Step<'_>]) -> Result<Block, Al
     Ok(block)
 }
 
+fn is_kept(change: Change<'_>, delayed: Delayed) -> bool
+    ensures { result ≡ is_left_in_arms change.entry (delayed_view delayed) }
+{
+    !spoils(change, delayed)
+}
+
 // What a change spoils is written by now.
 fn drop_spoiled(waits: &mut Vec<Delayed>, change: Change<'_>)
-    ensures { delays_view waits.new.items ≡ delays.others (is_spoiled change.entry) (delays_view waits.old.items) }
+    ensures { delays_view waits.new.items ≡ delays.those (is_left_in_arms change.entry) (delays_view waits.old.items) }
 {
-    waits.retain(|delayed| !spoils(change, *delayed));
+    waits.retain(|delayed| is_kept(change, *delayed));
 }
 
 // In the arms nothing waits that is written before both.
+#[tactic(auto, using(crate::proofs::Waiting::left_are))]
 fn choice(
     alloc: Global,
     waits: &[Delayed],
