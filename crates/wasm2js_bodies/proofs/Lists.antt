@@ -5,6 +5,7 @@ use Rattle.std.proofs.lemmas.List.{length-reverse, reverse-append, get_or-revers
 use Rattle.std.proofs.lemmas.Option.{slice_get-get_or, slice_get_past}
 use Rattle.std.proofs.lemmas.Bool.Decides.{nat_tests}
 use Rattle.std.proofs.Math.ListN.{drop_of_length-le}
+use Rattle.std.proofs.Math.Seq.{take-length}
 use Rattle.wasm_lang.specs.declared.types.ValType.{ValType}
 use Rattle.wasm_lang.specs.declared.types.ValType.TheVariants.{I32}
 use Rattle.wasm2js_translation.specs.Names.{numbered, operand_high}
@@ -29,6 +30,9 @@ all_under base xs h =
 
 pub left_under : (base : ℕ) (xs ys : List ValType) → base ≤ length ys → over base ys ≡ drop 1 (over base xs) → length ys ≡ under 1 base (over base xs)
 left_under base xs ys h e = all_under base ys h ∙ ap (λ (ts : List ValType). base + length ts) e
+
+pub all_above : (base : ℕ) (xs : List ValType) → take (length xs - base) (drop base xs) ≡ drop base xs
+all_above base xs = ap (λ (n : ℕ). take n (drop base xs)) (sym (length-drop base xs)) ∙ take-length (drop base xs)
 
 pub none_over : (xs : List ValType) → over (length xs) xs ≡ []
 none_over xs = ap reverse (drop_of_length-le xs {i = length xs} (omega arith))

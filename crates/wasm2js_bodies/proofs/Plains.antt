@@ -1,5 +1,5 @@
 -- Plain instructions, and forms of types.
-use Rattle.std.proofs.Common.{◌≡◌, ℕ, zero, suc, ◌+◌, Bool, true, false, ◌||◌, List, [], ◌∷◌, ◌++◌, Some, refl, ap, subst, ◌∙◌}
+use Rattle.std.proofs.Common.{◌≡◌, ℕ, zero, suc, ◌+◌, Bool, true, false, ◌||◌, List, [], ◌∷◌, ◌++◌, Some, refl, sym, ap, subst, ◌∙◌}
 use Rattle.std.specs.Prelude.{slice_get}
 use Rattle.wasm_lang.specs.declared.types.ValType.{ValType}
 use Rattle.wasm_lang.specs.Instructions as flat
@@ -8,10 +8,11 @@ use Rattle.wasm_lang_valid.specs.Measures.{is_wide_mul_div, has_mul_div}
 use Rattle.wasm_lang_valid.specs.Typing.{Context}
 use Rattle.wasm_lang_exec.specs.Code.{plain}
 use Rattle.asm_lang.specs.Modules.{Stmt}
-use Rattle.wasm2js_translation.specs.Words.{statements}
+use Rattle.wasm2js_translation.specs.Words.{Action, statements}
 use Rattle.wasm2js_translation.specs.Actions.{actions}
 use Rattle.wasm2js_translation.specs.Delays.{Delayed, late, standing}
-use Rattle.wasm2js_build.specs.Growing.{State, run, late_at}
+use Rattle.wasm2js_build.specs.Growing.{State, run, late_at, late_state, state_of}
+use Rattle.wasm2js_build.specs.declared.straight.Straight.{Straight}
 use Rattle.wasm2js_build.proofs.Growing.{run_late}
 use Rattle.wasm2js_translation.specs.Bodies.{Aim, after_plain}
 use Rattle.wasm2js_actions.specs.Scopes.{instruction_actions}
@@ -29,6 +30,10 @@ pub is_translated : (body : List Instruction) (at : ℕ) (i : Instruction) → h
 is_translated [] at i h here = absurd (cc here)
 is_translated (j ∷ js) zero i h here = let same : j ≡ i = cc here in subst (λ i. is_wide_mul_div i ≡ false) same (either_false (is_wide_mul_div j) (has_mul_div js) h).0
 is_translated (j ∷ js) (suc at) i h here = is_translated js at i (either_false (is_wide_mul_div j) (has_mul_div js) h).1 here
+
+-- what may wait before straight code may wait after it
+pub late_after : (s : Straight) (told : List Stmt) (ds : List Delayed) (acts : List Action) → state_of s ≡ run (late_at told ds) acts → late_state s.text ≡ run (late_at told ds) acts
+late_after s told ds acts e = ap (λ (q : State). late_at q.told q.waits) (e ∙ run_late told ds acts) ∙ sym (run_late told ds acts)
 
 pub plain_step : (bytes cells : ℕ) (c : Context) (body : List Instruction) (at place : ℕ) (ls : List Aim) (b : ℕ) (ts us : List ValType) (before made : List Stmt) (i : Instruction) (ds es fs : List Delayed)
     → is_plain i ≡ true → IsInside body at → slice_get body at ≡ Some i → place ≡ at + 1
