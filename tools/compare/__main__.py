@@ -1,11 +1,12 @@
 #!/usr/bin/env python3
-"""python3 tools/compare PROGRAM [--seed S] [--count N] [--keep FOLDER] [--only KIND NUMBER]
+"""python3 tools/compare PROGRAM [--seed S] [--count N] [--kind KIND] [--keep FOLDER] [--only KIND NUMBER]
 
 Random modules, N of asm.js and N of WebAssembly, and N pairs of the latter, each with a script: what PROGRAM prints of the session, and of the session of what it translates
 the module to, is what node's engine shows of the same (of a pair: of two instances over one memory, and of what PROGRAM links it to); so is what it prints
 of a text of asm.js in few units, where the engine counts them; each text's short form shows the same and is its own short form; and SpiderMonkey's validator takes each text of asm.js that PROGRAM writes.
 Where node isn't installed nothing is compared, and where js102 isn't, no validator is asked; a line says so. Files of a difference are kept in FOLDER.
-A difference names its module, as `asm 1000007`, which --only tries alone."""
+--kind tries modules of asm.js (asm), of WebAssembly (wasm), or pairs (link) alone. A difference names its module, as `asm 1000007`, which --only
+tries alone."""
 import argparse
 import base64
 import json
@@ -33,6 +34,7 @@ BUDGETS = "0 1 3 10 40 200".split()
 # .. and at which a run shows what the engine shows of a text that counts them.
 UNITS = [0, 1, 2, 3, 5, 9, 17, 40, 100, 400]
 LONGEST = 60  # seconds of a call of the program
+KINDS = "asm", "wasm", "link"
 SOURCE = "the random module"
 ENGINE = pathlib.Path(__file__).with_name("engine.mjs")
 
@@ -261,6 +263,7 @@ def main():
     parser.add_argument("program", type=os.path.abspath)
     parser.add_argument("--seed", type=int, default=1)
     parser.add_argument("--count", type=int, default=1000)
+    parser.add_argument("--kind", choices=KINDS)
     parser.add_argument("--keep", type=pathlib.Path)
     parser.add_argument("--only", nargs=2)
     options = parser.parse_args()
@@ -273,7 +276,7 @@ def main():
         seeds = [(options.only[0], int(options.only[1]))]
     else:
         print(f"compare: seed {options.seed}", flush=True)
-        seeds = [(kind, options.seed * 1000000 + k) for k in range(options.count) for kind in ("asm", "wasm", "link")]
+        seeds = [(kind, options.seed * 1000000 + k) for k in range(options.count) for kind in KINDS if options.kind in (None, kind)]
     tasks = [(options.program, seeds[k:k + 50], options.keep) for k in range(0, len(seeds), 50)]
     with multiprocessing.Pool() as pool:
         answers = pool.map(compare, tasks, chunksize=1)
@@ -282,7 +285,7 @@ def main():
     differences, sessions, validated, unending = (sum(len(a[k]) if k == 0 else a[k] for a in answers) for k in range(4))
     print(f"compare: {len(seeds)} modules and pairs, {sessions} sessions alike, {validated} texts validated, {unending} sessions without end, {differences} differences")
     # Sessions that don't end show nothing; there are few. Of others 21 are alike of a module of asm.js, 11 of one of WebAssembly and one of a pair.
-    few = sessions == 0 or unending * 10 > len(seeds) or not options.only and 3 * sessions < 33 * (len(seeds) - 3 * unending)
+    few = sessions == 0 or unending * 10 > len(seeds) or not (options.only or options.kind) and 3 * sessions < 33 * (len(seeds) - 3 * unending)
     if few and not differences:
         print("compare: too few sessions were held against each other")
     return 1 if differences or few else 0
