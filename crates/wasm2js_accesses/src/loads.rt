@@ -6,8 +6,8 @@ ghost use Rattle.wasm2js_translation.specs.Pairs as pairs;
 ghost use Rattle.wasm2js_translation.specs.Pairs.{simples};
 ghost use Rattle.wasm2js_translation.specs.Actions as code;
 ghost use Rattle.wasm2js_nodes.specs.Names.{name_view};
-ghost use Rattle.wasm2js_build.specs.Views.{term_view};
-ghost use Rattle.wasm2js_build.specs.Growing.{run, state_of};
+ghost use Rattle.wasm2js_build.specs.Views.{term_view, terms_view};
+ghost use Rattle.wasm2js_build.specs.Growing.{one, run, state_of};
 ghost use Rattle.split_words.specs.Views.{pair_view};
 
 use crate::numbers::put_number;
@@ -130,11 +130,29 @@ fn load_narrow(straight: &mut Straight, offset: u64, p: Pair) -> Result<(), Allo
 {
     let address = Term::read(p.low);
     let at = place(&address, offset);
-    let arguments = [at];
-    let apart = [Step::Ask(p.low, Fixed::Load32, &arguments)];
-    let word = Term::whole(&at);
-    let together = [Step::Put(p.low, &word)];
-    by_place(straight, &at, &apart, &together)
+    load_whole(straight, &at, p.low)
+}
+
+// The word at a place.
+fn load_whole<'a>(straight: &mut Straight, at: &'a Term<'a>, p: Name) -> Result<(), AllocError>
+    ensures { IfOk result (λ _. state_of straight.new ≡ one (state_of straight.old) (words.either (words.both words.conjunction (term_view at.now) (pairs.literal 3)) (words.ask (name_view p) names.load_32 (term_view at.now ∷ []) ∷ []) (words.put (name_view p) (words.whole (term_view at.now)) ∷ []))) }
+{
+    ask_or_put(straight, at, &[*at], &Term::whole(at), p)
+}
+
+// By a helper, or the word where the place is a multiple of four.
+fn ask_or_put<'a>(
+    straight: &mut Straight,
+    at: &Term<'_>,
+    arguments: &'a [Term<'a>],
+    word: &'a Term<'a>,
+    p: Name,
+) -> Result<(), AllocError>
+    ensures { IfOk result (λ _. state_of straight.new ≡ one (state_of straight.old) (words.either (words.both words.conjunction (term_view at.now) (pairs.literal 3)) (words.ask (name_view p) names.load_32 (terms_view arguments.now) ∷ []) (words.put (name_view p) (term_view word.now) ∷ []))) }
+{
+    let apart = [Step::Ask(p, Fixed::Load32, arguments)];
+    let together = [Step::Put(p, word)];
+    by_place(straight, at, &apart, &together)
 }
 
 // The address stands until the low word is loaded.
@@ -145,13 +163,40 @@ fn load_wide(straight: &mut Straight, offset: u64, p: Pair) -> Result<(), AllocE
     let address = Term::read(p.low);
     let at = place(&address, offset);
     let after = place(&address, offset + 4);
-    let arguments = [at];
+    load_words(straight, &at, &after, p)
+}
+
+// The words at two places, the first one as the low word.
+fn load_words<'a>(
+    straight: &mut Straight,
+    at: &'a Term<'a>,
+    after: &'a Term<'a>,
+    p: Pair,
+) -> Result<(), AllocError>
+    ensures { IfOk result (λ _. state_of straight.new ≡ one (state_of straight.old) (words.either (words.both words.conjunction (term_view at.now) (pairs.literal 3)) (words.ask (name_view p.low) names.load_64 (term_view at.now ∷ []) ∷ words.put (name_view p.high) (words.read (names.fixed names.spare_high)) ∷ []) (words.put (name_view p.high) (words.whole (term_view after.now)) ∷ words.put (name_view p.low) (words.whole (term_view at.now)) ∷ []))) }
+{
     let spare = Term::read(Name::Always(Fixed::SpareHigh));
+    let low = Term::whole(at);
+    let high = Term::whole(after);
+    ask_or_put_both(straight, at, &[*at], &spare, &low, &high, p)
+}
+
+// By a helper of the place, or the words where it is a multiple of four.
+fn ask_or_put_both<'a>(
+    straight: &mut Straight,
+    at: &Term<'_>,
+    arguments: &'a [Term<'a>],
+    spare: &'a Term<'a>,
+    low: &'a Term<'a>,
+    high: &'a Term<'a>,
+    p: Pair,
+) -> Result<(), AllocError>
+    ensures { IfOk result (λ _. state_of straight.new ≡ one (state_of straight.old) (words.either (words.both words.conjunction (term_view at.now) (pairs.literal 3)) (words.ask (name_view p.low) names.load_64 (terms_view arguments.now) ∷ words.put (name_view p.high) (term_view spare.now) ∷ []) (words.put (name_view p.high) (term_view high.now) ∷ words.put (name_view p.low) (term_view low.now) ∷ []))) }
+{
     let apart = [
-        Step::Ask(p.low, Fixed::Load64, &arguments),
-        Step::Put(p.high, &spare),
+        Step::Ask(p.low, Fixed::Load64, arguments),
+        Step::Put(p.high, spare),
     ];
-    let (low, high) = (Term::whole(&at), Term::whole(&after));
-    let together = [Step::Put(p.high, &high), Step::Put(p.low, &low)];
-    by_place(straight, &at, &apart, &together)
+    let together = [Step::Put(p.high, high), Step::Put(p.low, low)];
+    by_place(straight, at, &apart, &together)
 }

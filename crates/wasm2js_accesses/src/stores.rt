@@ -6,8 +6,8 @@ ghost use Rattle.wasm2js_translation.specs.Pairs as pairs;
 ghost use Rattle.wasm2js_translation.specs.Pairs.{simples};
 ghost use Rattle.wasm2js_translation.specs.Actions as code;
 ghost use Rattle.wasm2js_nodes.specs.Names.{name_view, fixed_view};
-ghost use Rattle.wasm2js_build.specs.Views.{term_view};
-ghost use Rattle.wasm2js_build.specs.Growing.{run, state_of};
+ghost use Rattle.wasm2js_build.specs.Views.{term_view, terms_view};
+ghost use Rattle.wasm2js_build.specs.Growing.{one, run, state_of};
 ghost use Rattle.split_words.specs.Views.{pair_view};
 
 use crate::depths::low;
@@ -112,11 +112,32 @@ fn store_narrow(straight: &mut Straight, offset: u64, a: Name, v: Name) -> Resul
 {
     let address = Term::read(a);
     let at = place(&address, offset);
-    let word = Term::read(v);
-    let arguments = [at, word];
-    let apart = [Step::Tell(Fixed::Store32, &arguments)];
-    let together = [Step::WriteWhole(&at, &word)];
-    by_place(straight, &at, &apart, &together)
+    store_whole(straight, &at, &Term::read(v))
+}
+
+// A word to a place.
+fn store_whole<'a>(
+    straight: &mut Straight,
+    at: &'a Term<'a>,
+    word: &'a Term<'a>,
+) -> Result<(), AllocError>
+    ensures { IfOk result (λ _. state_of straight.new ≡ one (state_of straight.old) (words.either (words.both words.conjunction (term_view at.now) (pairs.literal 3)) (words.tell names.store_32 (term_view at.now ∷ term_view word.now ∷ []) ∷ []) (words.write_whole (term_view at.now) (term_view word.now) ∷ []))) }
+{
+    tell_or_write(straight, &[*at, *word], at, word)
+}
+
+// By a helper, or where the place is a multiple of four at once.
+fn tell_or_write<'a>(
+    straight: &mut Straight,
+    arguments: &'a [Term<'a>],
+    at: &'a Term<'a>,
+    word: &'a Term<'a>,
+) -> Result<(), AllocError>
+    ensures { IfOk result (λ _. state_of straight.new ≡ one (state_of straight.old) (words.either (words.both words.conjunction (term_view at.now) (pairs.literal 3)) (words.tell names.store_32 (terms_view arguments.now) ∷ []) (words.write_whole (term_view at.now) (term_view word.now) ∷ []))) }
+{
+    let apart = [Step::Tell(Fixed::Store32, arguments)];
+    let together = [Step::WriteWhole(at, word)];
+    by_place(straight, at, &apart, &together)
 }
 
 fn store_wide(straight: &mut Straight, offset: u64, a: Name, v: Pair) -> Result<(), AllocError>
@@ -126,9 +147,40 @@ fn store_wide(straight: &mut Straight, offset: u64, a: Name, v: Pair) -> Result<
     let address = Term::read(a);
     let at = place(&address, offset);
     let after = place(&address, offset + 4);
-    let (low, high) = (Term::read(v.low), Term::read(v.high));
-    let arguments = [at, low, high];
-    let apart = [Step::Tell(Fixed::Store64, &arguments)];
-    let together = [Step::WriteWhole(&at, &low), Step::WriteWhole(&after, &high)];
-    by_place(straight, &at, &apart, &together)
+    store_words(
+        straight,
+        &at,
+        &after,
+        &Term::read(v.low),
+        &Term::read(v.high),
+    )
+}
+
+// Two words to two places.
+fn store_words<'a>(
+    straight: &mut Straight,
+    at: &'a Term<'a>,
+    after: &'a Term<'a>,
+    low: &'a Term<'a>,
+    high: &'a Term<'a>,
+) -> Result<(), AllocError>
+    ensures { IfOk result (λ _. state_of straight.new ≡ one (state_of straight.old) (words.either (words.both words.conjunction (term_view at.now) (pairs.literal 3)) (words.tell names.store_64 (term_view at.now ∷ term_view low.now ∷ term_view high.now ∷ []) ∷ []) (words.write_whole (term_view at.now) (term_view low.now) ∷ words.write_whole (term_view after.now) (term_view high.now) ∷ []))) }
+{
+    tell_or_write_both(straight, &[*at, *low, *high], at, after, low, high)
+}
+
+// By a helper, or where the first place is a multiple of four at once.
+fn tell_or_write_both<'a>(
+    straight: &mut Straight,
+    arguments: &'a [Term<'a>],
+    at: &'a Term<'a>,
+    after: &'a Term<'a>,
+    low: &'a Term<'a>,
+    high: &'a Term<'a>,
+) -> Result<(), AllocError>
+    ensures { IfOk result (λ _. state_of straight.new ≡ one (state_of straight.old) (words.either (words.both words.conjunction (term_view at.now) (pairs.literal 3)) (words.tell names.store_64 (terms_view arguments.now) ∷ []) (words.write_whole (term_view at.now) (term_view low.now) ∷ words.write_whole (term_view after.now) (term_view high.now) ∷ []))) }
+{
+    let apart = [Step::Tell(Fixed::Store64, arguments)];
+    let together = [Step::WriteWhole(at, low), Step::WriteWhole(after, high)];
+    by_place(straight, at, &apart, &together)
 }

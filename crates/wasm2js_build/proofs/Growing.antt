@@ -1,6 +1,6 @@
 -- Straight code that grows, action by action.
-use Rattle.std.proofs.Common.{◌≡◌, Bool, true, false, List, [], ◌∷◌, ◌++◌, Some, None, refl, sym, ap, ◌∙◌, append_assoc, append-nil}
-use Rattle.std.specs.Prelude.{if◌then◌else◌}
+use Rattle.std.proofs.Common.{◌≡◌, Bool, true, false, List, [], ◌∷◌, ◌++◌, Option, Some, None, refl, sym, ap, subst, ◌∙◌, append_assoc, append-nil}
+use Rattle.std.specs.Prelude.{Result, Ok, Err, IfOk, if◌then◌else◌}
 use Rattle.asm_lang.specs.Modules.{Stmt}
 use Rattle.wasm2js_translation.specs.Names.{Name}
 use Rattle.wasm2js_translation.specs.Words.{Term, Simple, put, ask, tell, guard, stop, write_byte, write_whole, Action, simply, either, simple_statement, simple_statements, statement, statements}
@@ -26,18 +26,18 @@ statements_simples [] = refl
 statements_simples (s ∷ ss) = ap (λ r. simple_statement s ∷ r) (statements_simples ss)
 
 -- where words may wait, code is written late
-pub run_late : (told : List Stmt) (ds : List Delayed) (as : List Action) → run (late_at told ds) as ≡ late_at (told ++ statements (late ds as).now) (late ds as).later
+pub run_late : (told : List Stmt) (ds : List Delayed) (acts : List Action) → run (late_at told ds) acts ≡ late_at (told ++ statements (late ds acts).now) (late ds acts).later
 unfolding one
 run_late told ds [] = ap (λ (ss : List Stmt). late_at ss ds) (sym (append-nil told))
-run_late told ds (simply s ∷ as) =
+run_late told ds (simply s ∷ acts) =
     let x = late_simple ds s in
-    let y = late x.later as in
-    run_late (told ++ statements x.now) x.later as
+    let y = late x.later acts in
+    run_late (told ++ statements x.now) x.later acts
     ∙ ap (λ (ss : List Stmt). late_at ss y.later) (append_assoc told (statements x.now) (statements y.now) ∙ ap (λ (ss : List Stmt). told ++ ss) (sym (statements_joined x.now y.now)))
-run_late told ds (either t first second ∷ as) =
+run_late told ds (either t first second ∷ acts) =
     let x = late_either ds t first second in
-    let y = late x.later as in
-    run_late (told ++ statements x.now) x.later as
+    let y = late x.later acts in
+    run_late (told ++ statements x.now) x.later acts
     ∙ ap (λ (ss : List Stmt). late_at ss y.later) (append_assoc told (statements x.now) (statements y.now) ∙ ap (λ (ss : List Stmt). told ++ ss) (sym (statements_joined x.now y.now)))
 
 -- ---- one more action
@@ -52,11 +52,10 @@ put_waits true told ds n u x d e =
     ∙ ap (λ (y : Delayed). late_at told (without y.name ds ++ y ∷ [])) same
 put_waits false told ds n u x d e = absurd (cc e)
 
-put_goes : (b : Bool) (told : List Stmt) (ds : List Delayed) (n : Name) (u : Term) (x y : Late)
-    → (if b then Some (record { name = n; word = u }) else None) ≡ None
+put_goes : (b : Bool) (told : List Stmt) (d : Delayed) (x y : Late) → (if b then Some d else None) ≡ None
     → late_at (told ++ statements (if b then y else x).now) (if b then y else x).later ≡ late_at (told ++ statements x.now) x.later
-put_goes true told ds n u x y e = absurd (cc e)
-put_goes false told ds n u x y e = refl
+put_goes true told d x y e = absurd (cc e)
+put_goes false told d x y e = refl
 
 -- a word that begins to wait
 pub begins : (told : List Stmt) (ds : List Delayed) (s : Simple) (d : Delayed) → begins_to_wait ds s ≡ Some d → one (late_at told ds) (simply s) ≡ late_at told (without d.name ds ++ d ∷ [])
@@ -73,7 +72,7 @@ begins told ds (write_whole at t) d e = absurd (cc e)
 pub goes : (told : List Stmt) (ds : List Delayed) (s : Simple) → begins_to_wait ds s ≡ None → one (late_at told ds) (simply s) ≡ late_at (told ++ statements (at_once ds s).now) (at_once ds s).later
 unfolding one
 goes told ds (put n t) e =
-    put_goes (may_wait ds n (replaced ds t)) told ds n (replaced ds t) (at_once ds (put n t)) (record { now = []; later = without n ds ++ record { name = n; word = replaced ds t } ∷ [] }) e
+    put_goes (may_wait ds n (replaced ds t)) told (record { name = n; word = replaced ds t }) (at_once ds (put n t)) (record { now = []; later = without n ds ++ record { name = n; word = replaced ds t } ∷ [] }) e
 goes told ds (ask n helper ts) e = refl
 goes told ds (tell helper ts) e = refl
 goes told ds (guard t most kind) e = refl
@@ -97,7 +96,7 @@ goes_either b told ds t first second = refl
 
 simples_joined : (xs : List Simple) (s : Simple) → simples (xs ++ s ∷ []) ≡ simples xs ++ simply s ∷ []
 simples_joined [] s = refl
-simples_joined (x ∷ xs) s = ap (λ (as : List Action). simply x ∷ as) (simples_joined xs s)
+simples_joined (x ∷ xs) s = ap (λ (acts : List Action). simply x ∷ acts) (simples_joined xs s)
 
 pub then_either : (old : List Stmt) (xs : List Simple) (a : Action) → (old ++ simple_statements xs) ++ statement a ∷ [] ≡ old ++ statements (simples xs ++ a ∷ [])
 then_either old xs a =
@@ -105,4 +104,41 @@ then_either old xs a =
     ∙ ap (λ (ss : List Stmt). old ++ ss) (ap (λ (ss : List Stmt). ss ++ statement a ∷ []) (sym (statements_simples xs)) ∙ sym (statements_joined (simples xs) (a ∷ [])))
 
 pub then_simply : (old : List Stmt) (xs : List Simple) (s : Simple) → (old ++ simple_statements xs) ++ simple_statement s ∷ [] ≡ old ++ statements (simples (xs ++ s ∷ []))
-then_simply old xs s = then_either old xs (simply s) ∙ ap (λ (as : List Action). old ++ statements as) (sym (simples_joined xs s))
+then_simply old xs s = then_either old xs (simply s) ∙ ap (λ (acts : List Action). old ++ statements acts) (sym (simples_joined xs s))
+
+-- ---- the same of the code, of which `vs` are the words that wait as it reads them
+
+pub act_waits : (late : Bool) (told : List Stmt) (ds vs ws : List Delayed) (s : Simple) (o : Option Delayed) (d : Delayed) → late ≡ true → vs ≡ ds → o ≡ begins_to_wait vs s → o ≡ Some d
+    → ws ≡ without d.name ds ++ d ∷ []
+    → record { is_late = late; told = told; waits = ws } ≡ one (record { is_late = late; told = told; waits = ds }) (simply s)
+act_waits late told ds vs ws s o d is_so same asked is after =
+    let e : begins_to_wait ds s ≡ Some d = ap (λ (x : List Delayed). begins_to_wait x s) (sym same) ∙ sym asked ∙ is in
+    subst (λ (x : Bool). record { is_late = x; told = told; waits = ws } ≡ one (record { is_late = x; told = told; waits = ds }) (simply s)) (sym is_so)
+    (ap (λ (x : List Delayed). late_at told x) after ∙ sym (begins told ds s d e))
+
+pub act_goes : (late : Bool) (told after : List Stmt) (ds vs ws : List Delayed) (s : Simple) (o : Option Delayed) → late ≡ true → vs ≡ ds → o ≡ begins_to_wait vs s → o ≡ None
+    → after ≡ told ++ statements (at_once ds s).now → ws ≡ (at_once ds s).later
+    → record { is_late = late; told = after; waits = ws } ≡ one (record { is_late = late; told = told; waits = ds }) (simply s)
+act_goes late told after ds vs ws s o is_so same asked is made waits =
+    let e : begins_to_wait ds s ≡ None = ap (λ (x : List Delayed). begins_to_wait x s) (sym same) ∙ sym asked ∙ is in
+    subst (λ (x : Bool). record { is_late = x; told = after; waits = ws } ≡ one (record { is_late = x; told = told; waits = ds }) (simply s)) (sym is_so)
+    (ap (λ (x : List Stmt). late_at x ws) made ∙ ap (λ (x : List Delayed). late_at (told ++ statements (at_once ds s).now) x) waits ∙ sym (goes told ds s e))
+
+pub act_at_once : (late : Bool) (told after : List Stmt) (ds ws : List Delayed) (s : Simple) → late ≡ false → after ≡ told ++ statements (at_once ds s).now → ws ≡ (at_once ds s).later
+    → record { is_late = late; told = after; waits = ws } ≡ one (record { is_late = late; told = told; waits = ds }) (simply s)
+act_at_once late told after ds ws s is_so made waits =
+    subst (λ (x : Bool). record { is_late = x; told = after; waits = ws } ≡ one (record { is_late = x; told = told; waits = ds }) (simply s)) (sym is_so)
+    (ap (λ (x : List Stmt). record { is_late = false; told = x; waits = ws }) made
+    ∙ ap (λ (x : List Delayed). record { is_late = false; told = told ++ statements (at_once ds s).now; waits = x }) waits ∙ sym (goes_at_once told ds s))
+
+pub act_either : (late : Bool) (told after : List Stmt) (ds ws : List Delayed) (t : Term) (first second : List Simple)
+    → after ≡ told ++ statements (late_either ds t first second).now → ws ≡ (late_either ds t first second).later
+    → record { is_late = late; told = after; waits = ws } ≡ one (record { is_late = late; told = told; waits = ds }) (either t first second)
+act_either late told after ds ws t first second made waits =
+    ap (λ (x : List Stmt). record { is_late = late; told = x; waits = ws }) made
+    ∙ ap (λ (x : List Delayed). record { is_late = late; told = told ++ statements (late_either ds t first second).now; waits = x }) waits
+    ∙ sym (goes_either late told ds t first second)
+
+pub both_ok : {X E : Type 0} (r : Result X E) (P Q R : X → Type 0) → ((x : X) → P x → Q x → R x) → IfOk r P → IfOk r Q → IfOk r R
+both_ok (Ok x) P Q R f p q = f x p q
+both_ok (Err e) P Q R f p q = p

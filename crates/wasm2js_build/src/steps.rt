@@ -42,10 +42,10 @@ pub enum Step<'a> {
 
 /// What is about to happen to variables.
 #[derive(Clone, Copy)]
-pub(crate) enum Change<'a> {
-    One(&'a Step<'a>),
+pub(crate) enum Change<'a, 's> {
+    One(&'a Step<'s>),
     /// The first steps or the second ones.
-    Either(&'a [Step<'a>], &'a [Step<'a>]),
+    Either(&'a [Step<'s>], &'a [Step<'s>]),
 }
 
 /// Whether a step puts a word into a variable.
@@ -120,7 +120,7 @@ fn is_of_one_changed(first: &[Step<'_>], second: &[Step<'_>], word: Atom) -> boo
 }
 
 /// Whether a word that waits is written before the change: it is that of a variable that changes, or waits for one that only some of the steps put.
-pub(crate) fn spoils(change: Change<'_>, delayed: Delayed) -> bool
+pub(crate) fn spoils(change: Change<'_, '_>, delayed: Delayed) -> bool
     ensures { result ≡ is_spoiled change.entry (delayed_view delayed) }
 {
     match change {
@@ -133,7 +133,7 @@ pub(crate) fn spoils(change: Change<'_>, delayed: Delayed) -> bool
 }
 
 /// Whether the change puts a word into a variable.
-pub(crate) fn replaces(change: Change<'_>, name: Name) -> bool
+pub(crate) fn replaces(change: Change<'_, '_>, name: Name) -> bool
     ensures { result ≡ is_put change.entry (name_view name) }
 {
     match change {

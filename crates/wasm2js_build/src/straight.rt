@@ -53,7 +53,7 @@ impl LateBlock {
     }
 
     // What a change spoils is written.
-    fn write_spoiled(&mut self, change: Change<'_>) -> Result<(), AllocError>
+    fn write_spoiled(&mut self, change: Change<'_, '_>) -> Result<(), AllocError>
         ensures statements { IfOk result (λ _. statements_of self.new.block ≡ statements_of self.old.block ++ simple_statements (delays.written (delays.those (is_spoiled change.entry) (waits_of self.old)))) }
         ensures waits { self.new.waits ≡ self.old.waits }
     {
@@ -66,7 +66,7 @@ impl LateBlock {
     }
 
     // A change, of which this is the statement.
-    fn change(&mut self, change: Change<'_>, statement: Stmt) -> Result<(), AllocError>
+    fn change(&mut self, change: Change<'_, '_>, statement: Stmt) -> Result<(), AllocError>
         ensures statements { IfOk result (λ _. statements_of self.new.block ≡ (statements_of self.old.block ++ simple_statements (delays.written (delays.those (is_spoiled change.entry) (waits_of self.old)))) ++ stmt_view statement ∷ []) }
         ensures waits { IfOk result (λ _. waits_of self.new ≡ delays.others (λ d. is_spoiled change.entry d || is_put change.entry d.name) (waits_of self.old)) }
     {
@@ -88,11 +88,11 @@ impl LateBlock {
 
     // The first steps where the test holds, and else the second ones.
     #[tactic(auto, using(crate::proofs::Growing::then_either))]
-    fn either(
+    fn either<'a, 's>(
         &mut self,
         test: &Term<'_>,
-        first: &[Step<'_>],
-        second: &[Step<'_>],
+        first: &'a [Step<'s>],
+        second: &'a [Step<'s>],
     ) -> Result<(), AllocError>
         ensures statements { IfOk result (λ _. statements_of self.new.block ≡ statements_of self.old.block ++ statements (delays.late_either (waits_of self.old) (term_view test.now) (steps_view first.now) (steps_view second.now)).now) }
         ensures waits { IfOk result (λ _. waits_of self.new ≡ (delays.late_either (waits_of self.old) (term_view test.now) (steps_view first.now) (steps_view second.now)).later) }
@@ -150,7 +150,6 @@ impl Straight {
     }
 
     /// One more step.
-    #[tactic(auto, using(crate::proofs::Growing::begins, crate::proofs::Growing::goes, crate::proofs::Growing::goes_at_once))]
     pub fn act(&mut self, step: &Step<'_>) -> Result<(), AllocError>
         ensures { IfOk result (λ _. state_of self.new ≡ one (state_of self.old) (words.simply (step_view step.now))) }
     {
@@ -165,12 +164,11 @@ impl Straight {
     }
 
     /// The first steps where the test holds, and else the second ones.
-    #[tactic(auto, using(crate::proofs::Growing::goes_either))]
-    pub fn either(
+    pub fn either<'a, 's>(
         &mut self,
         test: &Term<'_>,
-        first: &[Step<'_>],
-        second: &[Step<'_>],
+        first: &'a [Step<'s>],
+        second: &'a [Step<'s>],
     ) -> Result<(), AllocError>
         ensures { IfOk result (λ _. state_of self.new ≡ one (state_of self.old) (words.either (term_view test.now) (steps_view first.now) (steps_view second.now))) }
     {
@@ -240,7 +238,7 @@ fn waiting_step(waits: &[Delayed], step: &Step<'_>) -> Option<Delayed>
 }
 
 // What a change spoils is written by now, and what it replaces is gone.
-fn drop_changed(waits: &mut Vec<Delayed>, change: Change<'_>)
+fn drop_changed(waits: &mut Vec<Delayed>, change: Change<'_, '_>)
     ensures { delays_view waits.new.items ≡ delays.others (λ d. is_spoiled change.entry d || is_put change.entry d.name) (delays_view waits.old.items) }
 {
     waits.retain(|delayed| !(spoils(change, *delayed) || replaces(change, delayed.name)));
@@ -267,14 +265,14 @@ fn arm(alloc: Global, waits: &[Delayed], steps: &[Step<'_>]) -> Result<Block, Al
     Ok(block)
 }
 
-fn is_kept(change: Change<'_>, delayed: Delayed) -> bool
+fn is_kept(change: Change<'_, '_>, delayed: Delayed) -> bool
     ensures { result ≡ is_left_in_arms change.entry (delayed_view delayed) }
 {
     !spoils(change, delayed)
 }
 
 // What a change spoils is written by now.
-fn drop_spoiled(waits: &mut Vec<Delayed>, change: Change<'_>)
+fn drop_spoiled(waits: &mut Vec<Delayed>, change: Change<'_, '_>)
     ensures { delays_view waits.new.items ≡ delays.those (is_left_in_arms change.entry) (delays_view waits.old.items) }
 {
     waits.retain(|delayed| is_kept(change, *delayed));
@@ -282,12 +280,12 @@ fn drop_spoiled(waits: &mut Vec<Delayed>, change: Change<'_>)
 
 // In the arms nothing waits that is written before both.
 #[tactic(auto, using(crate::proofs::Waiting::left_are))]
-fn choice(
+fn choice<'a, 's>(
     alloc: Global,
     waits: &[Delayed],
     test: &Term<'_>,
-    first: &[Step<'_>],
-    second: &[Step<'_>],
+    first: &'a [Step<'s>],
+    second: &'a [Step<'s>],
 ) -> Result<Stmt, AllocError>
     ensures { IfOk result (λ s. stmt_view s ≡ words.statement (words.either (late_term waits.now test.now) (delays.late_arm (left_in_arms (Either first.entry second.entry) (delays_view waits.now)) (steps_view first.now)) (delays.late_arm (left_in_arms (Either first.entry second.entry) (delays_view waits.now)) (steps_view second.now)))) }
 {

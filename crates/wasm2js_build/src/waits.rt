@@ -68,7 +68,23 @@ fn atom_of(waits: &[Delayed], term: &Term<'_>) -> Option<Atom>
     match term {
         Term::Read(name) => Some(at_hand(waits, *name)),
         Term::Number(value) => Some(Atom::Number(*value)),
-        _ => None,
+        Term::Both(_, _, _)
+        | Term::BothNumber(_, _, _)
+        | Term::BothRead(_, _, _)
+        | Term::Flip(_)
+        | Term::SumOfTwo(_, _, _)
+        | Term::SumOfThree(_, _, _, _, _)
+        | Term::SumNumber(_, _, _)
+        | Term::SumRead(_, _, _)
+        | Term::SumOfFour(_, _, _, _)
+        | Term::Product(_, _)
+        | Term::Zeros(_)
+        | Term::Compare(_, _, _, _)
+        | Term::CompareNumber(_, _, _, _)
+        | Term::CompareRead(_, _, _, _)
+        | Term::Choose(_, _, _)
+        | Term::Byte(_, _)
+        | Term::Whole(_) => None,
     }
 }
 

@@ -8,5 +8,5 @@ use Rattle.wasm2js_build.proofs.straight.LateBlock.write_spoiled.Given as goal
 
 abbrev pub invariant-loop-delayed : goal.invariant-loop-delayed
 invariant-loop-delayed l =
-    statements_of l.self.block ++ simple_statements (written (those (is_spoiled l.change) (delays_view (drop l.delayed-index l.fn.self.waits.items))))
+    statements_of l.self.1.0 ++ simple_statements (written (those (is_spoiled l.change) (delays_view (drop l.delayed-index l.fn.self.waits.items))))
     ≡ statements_of l.fn.self.block ++ simple_statements (written (those (is_spoiled l.change) (delays_view l.fn.self.waits.items)))

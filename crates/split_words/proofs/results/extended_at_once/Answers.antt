@@ -1,0 +1,11 @@
+use Rattle.wasm2js_translation.specs.Wide.{wide_extend}
+use Rattle.wasm2js_build.specs.Blocks.{statements_of}
+use Rattle.wasm2js_build.specs.Growing.{state_of}
+use Rattle.split_words.specs.Views.{pair_view}
+use Rattle.split_words.proofs.AtOnce.{told_at_once}
+use Rattle.split_words.proofs.results.extended_at_once.Goals as goal
+
+pub returns : goal.returns
+returns c =
+    told_at_once (state_of c.at_once-straight.result) (state_of c.put_extension.new.straight) (statements_of c.args.block.now) (statements_of c.into_block.result)
+    (wide_extend c.args.bits (pair_view c.args.a) (pair_view c.args.to)) c.at_once-straight.ensures c.in_ok-put_extension.ensures c.into_block.ensures

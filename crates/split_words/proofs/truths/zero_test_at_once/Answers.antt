@@ -1,0 +1,14 @@
+use Rattle.std.proofs.Common.{[], ◌∷◌}
+use Rattle.wasm2js_nodes.specs.Names.{name_view}
+use Rattle.wasm2js_translation.specs.Words.{put}
+use Rattle.wasm2js_translation.specs.Wide.{is_wide_zero}
+use Rattle.wasm2js_build.specs.Blocks.{statements_of}
+use Rattle.wasm2js_build.specs.Growing.{state_of}
+use Rattle.split_words.specs.Views.{pair_view}
+use Rattle.split_words.proofs.AtOnce.{told_at_once}
+use Rattle.split_words.proofs.truths.zero_test_at_once.Goals as goal
+
+pub returns : goal.returns
+returns c =
+    told_at_once (state_of c.at_once-straight.result) (state_of c.put_zero_test.new.straight) (statements_of c.args.block.now) (statements_of c.into_block.result)
+    (put (name_view c.args.to) (is_wide_zero (pair_view c.args.a)) ∷ []) c.at_once-straight.ensures c.in_ok-put_zero_test.ensures c.into_block.ensures
