@@ -147,7 +147,13 @@ fn store_wide(straight: &mut Straight, offset: u64, a: Name, v: Pair) -> Result<
     let address = Term::read(a);
     let at = place(&address, offset);
     let after = place(&address, offset + 4);
-    store_words(straight, &at, &after, &Term::read(v.low), &Term::read(v.high))
+    store_words(
+        straight,
+        &at,
+        &after,
+        &Term::read(v.low),
+        &Term::read(v.high),
+    )
 }
 
 // Two words to two places.
