@@ -1,5 +1,6 @@
 //! Words, and what they ask for.
 
+use crate::rows::holds;
 use bridge_args::read_words;
 use std::alloc::Global;
 use std::process::Abort;
@@ -25,8 +26,8 @@ fn shows(alloc: Global, words: &[&str], expected: &str) -> bool {
 type Row = (&'static [&'static str], &'static str);
 
 fn all_show(rt: &impl Abort, alloc: Global, rows: &[Row]) {
-    for (words, expected) in rows {
-        assert!(rt; shows(alloc, words, expected), "{words:?}");
+    for (number, (words, expected)) in rows.iter().enumerate() {
+        holds(rt, number, shows(alloc, words, expected));
     }
 }
 

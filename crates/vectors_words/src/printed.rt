@@ -1,106 +1,189 @@
 //! Runs that are written out.
-ghost use Rattle.heap_lang.specs.Heap.{IsHeapLength};
-
+use crate::rows::holds;
 use heap_views::Heap;
 use sem_words::{List, Text, TrapKind, Word};
 use session_lang::{End, Event};
 use session_print::observation_text;
 use session_replies::Seen;
 use std::alloc::{AllocError, Global};
-use std::test::Fail;
+use std::process::Abort;
 
-/// What is seen of one event, and then an end.
-fn seen(alloc: Global, event: Event, end: Option<End>, heap: Heap) -> Result<Seen, AllocError> {
-    let mut events = Vec::new(alloc);
-    events.push(event)?;
-    Ok(Seen {
-        events: List::from_vec(events),
-        end,
-        heap,
-    })
+/// One event that is seen.
+#[derive(Clone, Copy)]
+enum Shown {
+    Import(&'static [u8], &'static [Word]),
+    Result(Word),
+    Returned,
 }
 
-/// A heap of so many bytes that are 0 but for these, at their places.
-fn heap_with(alloc: Global, len: u32, puts: &[(u32, &[u8])]) -> Result<Heap, Fail>
-    requires { IsHeapLength len }
-{
-    let mut heap = Heap::new(alloc, len)?;
-    for (at, bytes) in puts {
-        if !heap.put(*at, bytes) {
-            return Err(Fail::new("past the heap's end"));
+/// How a session ends, where it does.
+#[derive(Clone, Copy)]
+enum Last {
+    Running,
+    Done,
+    Memory,
+}
+
+/// What is seen: an event, and then perhaps an end; the bytes of the heap that aren't 0, at their places; and what is written of it.
+struct Row {
+    puts: &'static [(u32, &'static [u8])],
+    event: Shown,
+    last: Last,
+    written: &'static [u8],
+}
+
+fn event_of(alloc: Global, event: Shown) -> Result<Event, AllocError> {
+    match event {
+        Shown::Import(name, words) => {
+            let name = Text::from_bytes(alloc, name)?;
+            let words = Vec::from_slice(alloc, words)?;
+            Ok(Event::Import(name, List::from_vec(words)))
         }
+        Shown::Result(word) => Ok(Event::Result(word)),
+        Shown::Returned => Ok(Event::Returned),
     }
-    Ok(heap)
 }
 
-/// So is printed what is seen of the event and the end.
-fn prints(alloc: Global, event: Event, end: Option<End>, heap: Heap, want: &[u8]) -> bool {
-    match seen(alloc, event, end, heap) {
-        Ok(run) => match observation_text(alloc, &run) {
-            Ok(text) => text.as_slice() == want,
-            Err(_) => false,
-        },
+fn events_of(alloc: Global, event: Shown) -> Result<List<Event>, AllocError> {
+    let mut events = Vec::new(alloc);
+    events.push(event_of(alloc, event)?)?;
+    Ok(List::from_vec(events))
+}
+
+fn end_of(last: Last) -> Option<End> {
+    match last {
+        Last::Running => None,
+        Last::Done => Some(End::Done),
+        Last::Memory => Some(End::Trap(TrapKind::Memory)),
+    }
+}
+
+fn are_put(heap: &mut Heap, puts: &[(u32, &[u8])]) -> bool {
+    let mut are_inside = true;
+    for (at, bytes) in puts {
+        are_inside &= heap.put(*at, bytes);
+    }
+    are_inside
+}
+
+/// What is seen of the row with this heap of zeros.
+fn seen(alloc: Global, heap: Result<Heap, AllocError>, row: &Row) -> Option<Seen> {
+    match (heap, events_of(alloc, row.event)) {
+        (Ok(mut heap), Ok(events)) => {
+            if are_put(&mut heap, row.puts) {
+                Some(Seen {
+                    events,
+                    end: end_of(row.last),
+                    heap,
+                })
+            } else {
+                None
+            }
+        }
+        _ => None,
+    }
+}
+
+fn text_is(alloc: Global, seen: &Seen, written: &[u8]) -> bool {
+    match observation_text(alloc, seen) {
+        Ok(text) => text.as_slice() == written,
         Err(_) => false,
     }
 }
 
+/// So is printed what is seen of the row with this heap of zeros.
+fn prints(rt: &impl Abort, alloc: Global, heap: Result<Heap, AllocError>, row: &Row) {
+    match seen(alloc, heap, row) {
+        Some(seen) => holds(rt, 0, text_is(alloc, &seen, row.written)),
+        None => holds(rt, 1, false),
+    }
+}
+
+static PAST_THE_END: Row = Row {
+    puts: &[(0, &[1, 2, 3, 4, 5])],
+    event: Shown::Result(Word::W32(84148994)),
+    last: Last::Memory,
+    written: b"result 84148994\nend trap 2\nheap 0 01020304050000000000000000000000\n",
+};
+
 #[test]
-fn a_load_past_the_end(rt: HostRuntime) -> Result<(), Fail> {
-    let heap = heap_with(rt.alloc(), 20, &[(0, &[1, 2, 3, 4, 5])])?;
-    let event = Event::Result(Word::W32(84148994));
-    let end = Some(End::Trap(TrapKind::Memory));
-    let want = b"result 84148994\nend trap 2\nheap 0 01020304050000000000000000000000\n";
-    assert!(rt; prints(rt.alloc(), event, end, heap, want));
-    Ok(())
+fn a_load_past_the_end(rt: HostRuntime) {
+    prints(&rt, rt.alloc(), Heap::new(rt.alloc(), 20), &PAST_THE_END);
 }
 
 // The second block of 4,096 bytes has a first and a last line, and the third is 20 bytes.
-#[test]
-fn lines_at_the_ends_of_blocks(rt: HostRuntime) -> Result<(), Fail> {
-    let puts: [(u32, &[u8]); 3] = [(4096, &[1]), (8191, &[2]), (8208, &[3])];
-    let heap = heap_with(rt.alloc(), 8212, &puts)?;
-    let want =
-        b"returned\nend done\nheap 4096 01000000000000000000000000000000\nheap 8176 00000000000000000000000000000002\nheap 8208 03000000\n";
-    assert!(rt; prints(rt.alloc(), Event::Returned, Some(End::Done), heap, want));
-    Ok(())
-}
+static ENDS_OF_BLOCKS: Row = Row {
+    puts: &[(4096, &[1]), (8191, &[2]), (8208, &[3])],
+    event: Shown::Returned,
+    last: Last::Done,
+    written: b"returned\nend done\nheap 4096 01000000000000000000000000000000\nheap 8176 00000000000000000000000000000002\nheap 8208 03000000\n",
+};
 
 #[test]
-fn a_byte_after_blocks_of_zeros(rt: HostRuntime) -> Result<(), Fail> {
-    let heap = heap_with(rt.alloc(), 8196, &[(8195, &[255])])?;
-    let want = b"returned\nend done\nheap 8192 000000ff\n";
-    assert!(rt; prints(rt.alloc(), Event::Returned, Some(End::Done), heap, want));
-    Ok(())
+fn lines_at_the_ends_of_blocks(rt: HostRuntime) {
+    prints(
+        &rt,
+        rt.alloc(),
+        Heap::new(rt.alloc(), 8212),
+        &ENDS_OF_BLOCKS,
+    );
 }
+
+static LAST_BYTE: Row = Row {
+    puts: &[(8195, &[255])],
+    event: Shown::Returned,
+    last: Last::Done,
+    written: b"returned\nend done\nheap 8192 000000ff\n",
+};
 
 #[test]
-fn an_import_with_words(rt: HostRuntime) -> Result<(), Fail> {
-    let words = [Word::W32(4294967294), Word::W64(4294967294)];
-    let words = List::from_vec(Vec::from_slice(rt.alloc(), &words)?);
-    let event = Event::Import(Text::from_bytes(rt.alloc(), b"abort")?, words);
-    let heap = Heap::new(rt.alloc(), 0)?;
-    let want = b"import abort -2 4294967294\nstill running\n";
-    assert!(rt; prints(rt.alloc(), event, None, heap, want));
-    Ok(())
+fn a_byte_after_blocks_of_zeros(rt: HostRuntime) {
+    prints(&rt, rt.alloc(), Heap::new(rt.alloc(), 8196), &LAST_BYTE);
 }
 
-/// The observation of a run that returned has these bytes of the heap.
-fn observes(alloc: Global, end: Option<End>, heap: Heap, want: &[u8]) -> bool {
-    match seen(alloc, Event::Returned, end, heap) {
-        Ok(run) => match run.observation(alloc) {
-            Ok(observation) => observation.heap.as_bytes() == want,
+static WITH_WORDS: Row = Row {
+    puts: &[],
+    event: Shown::Import(b"abort", &[Word::W32(4294967294), Word::W64(4294967294)]),
+    last: Last::Running,
+    written: b"import abort -2 4294967294\nstill running\n",
+};
+
+#[test]
+fn an_import_with_words(rt: HostRuntime) {
+    prints(&rt, rt.alloc(), Heap::new(rt.alloc(), 0), &WITH_WORDS);
+}
+
+/// What is seen is observed with these bytes of the heap.
+fn observes(alloc: Global, seen: Option<Seen>, wanted: &[u8]) -> bool {
+    match seen {
+        Some(seen) => match seen.observation(alloc) {
+            Ok(observation) => observation.heap.as_bytes() == wanted,
             Err(_) => false,
         },
-        Err(_) => false,
+        None => false,
     }
 }
 
+static AT_AN_END: Row = Row {
+    puts: &[(1, &[7])],
+    event: Shown::Returned,
+    last: Last::Done,
+    written: &[0, 7, 0, 0],
+};
+
+static BEFORE_AN_END: Row = Row {
+    puts: &[],
+    event: Shown::Returned,
+    last: Last::Running,
+    written: &[],
+};
+
 // The observation has the heap's bytes at an end alone.
 #[test]
-fn an_observation_with_the_heap(rt: HostRuntime) -> Result<(), Fail> {
-    let heap = heap_with(rt.alloc(), 4, &[(1, &[7])])?;
-    assert!(rt; observes(rt.alloc(), Some(End::Done), heap, &[0, 7, 0, 0]));
-    let heap = Heap::new(rt.alloc(), 4)?;
-    assert!(rt; observes(rt.alloc(), None, heap, &[]));
-    Ok(())
+fn an_observation_with_the_heap(rt: HostRuntime) {
+    let alloc = rt.alloc();
+    for (number, row) in [&AT_AN_END, &BEFORE_AN_END].iter().enumerate() {
+        let seen = seen(alloc, Heap::new(alloc, 4), row);
+        holds(&rt, number, observes(alloc, seen, row.written));
+    }
 }

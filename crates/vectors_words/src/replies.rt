@@ -1,47 +1,26 @@
 //! Worked rows.
-use crate::rows::same_bytes;
+use crate::rows::holds;
 use heap_views::Heap;
-use script_read::{ScriptFault, read_script};
+use script_read::read_script;
 use sem_words::{List, Text, Word};
 use session_lang::{End, Event, Script, WriteLine};
-use session_replies::{Answer, Replies, put_writes};
+use session_replies::{Answer, Given, Replies, put_writes};
 use std::alloc::{AllocError, Global};
-use std::test::Fail;
+use std::process::Abort;
 
-fn write(alloc: Global, at: u64, bytes: &[u8]) -> Result<WriteLine, AllocError> {
-    Ok(WriteLine {
-        at,
-        bytes: Text::from_bytes(alloc, bytes)?,
-        line: 1,
-    })
+/// How a call of an import is answered.
+#[derive(Clone, Copy)]
+enum Answered {
+    /// With a word, no writes and no event.
+    Silently(u64),
+    /// With a word, and the call as an event.
+    Seen(u64),
+    Stops,
+    NoReply,
 }
 
-// A reply with a word, 0x5_0000_0007, and one byte write, and then one that throws.
-fn two_replies(alloc: Global) -> Result<Script, ScriptFault> {
-    read_script(alloc, b"reply 21474836487 1=0908\nthrow")
-}
-
-type Asked<'a> = Result<Answer<'a>, AllocError>;
-
-fn ask<'a>(alloc: Global, replies: &mut Replies<'a>, name: &[u8], args: &[Word]) -> Asked<'a> {
-    replies.answer(alloc, name, List::from_vec(Vec::from_slice(alloc, args)?))
-}
-
-fn goes_silently(answer: &Asked<'_>, word: u64) -> bool {
-    match answer {
-        Ok(Answer::Goes(given)) => {
-            given.word == word && given.writes.is_empty() && given.event.is_none()
-        }
-        _ => false,
-    }
-}
-
-fn goes_with_call(answer: &Asked<'_>, word: u64, name: &[u8], args: &[Word]) -> bool {
-    match answer {
-        Ok(Answer::Goes(given)) => given.word == word && is_call(&given.event, name, args),
-        _ => false,
-    }
-}
+/// A call of an import, and its answer.
+type Row = (&'static [u8], &'static [Word], Answered);
 
 fn is_call(event: &Option<Event>, name: &[u8], args: &[Word]) -> bool {
     match event {
@@ -50,53 +29,77 @@ fn is_call(event: &Option<Event>, name: &[u8], args: &[Word]) -> bool {
     }
 }
 
-fn stops(answer: &Asked<'_>, name: &[u8], args: &[Word]) -> bool {
-    match answer {
-        Ok(Answer::Ends(End::Stopped(text, words))) => {
+fn are_given(given: &Given<'_>, row: &Row) -> bool {
+    let (name, args, answered) = *row;
+    match answered {
+        Answered::Silently(word) => {
+            given.word == word && given.writes.is_empty() && given.event.is_none()
+        }
+        Answered::Seen(word) => given.word == word && is_call(&given.event, name, args),
+        Answered::Stops | Answered::NoReply => false,
+    }
+}
+
+fn is_end(end: &End, row: &Row) -> bool {
+    let (name, args, answered) = *row;
+    match (end, answered) {
+        (End::Stopped(text, words), Answered::Stops)
+        | (End::NoReply(text, words), Answered::NoReply) => {
             text.as_bytes() == name && words.as_slice() == args
         }
         _ => false,
     }
 }
 
-fn lacks_reply(answer: &Asked<'_>, name: &[u8], args: &[Word]) -> bool {
-    match answer {
-        Ok(Answer::Ends(End::NoReply(text, words))) => {
-            text.as_bytes() == name && words.as_slice() == args
-        }
-        _ => false,
+fn is_answered<'a>(alloc: Global, replies: &mut Replies<'a>, row: &Row) -> bool {
+    let (name, args, _) = *row;
+    let Ok(args) = Vec::from_slice(alloc, args) else {
+        return false;
+    };
+    match replies.answer(alloc, name, List::from_vec(args)) {
+        Ok(Answer::Goes(given)) => are_given(&given, row),
+        Ok(Answer::Ends(end)) => is_end(&end, row),
+        Err(_) => false,
     }
 }
 
-#[test]
-fn replies_in_order(rt: HostRuntime) -> Result<(), Fail> {
-    let alloc = rt.alloc();
-    let script = two_replies(alloc)?;
-    let mut replies = Replies::of(&script);
-    let high = ask(alloc, &mut replies, b"$high", &[]);
-    assert!(rt; goes_silently(&high, 0));
-    let one = [Word::W32(1)];
-    let called = ask(alloc, &mut replies, b"f", &one);
-    assert!(rt; goes_with_call(&called, 0x5_0000_0007, b"f", &one));
-    let high = ask(alloc, &mut replies, b"$high", &[]);
-    assert!(rt; goes_silently(&high, 5));
-    let three = [Word::W32(3)];
-    let trap = ask(alloc, &mut replies, b"$trap", &three);
-    assert!(rt; stops(&trap, b"$trap", &three));
-    let two = [Word::W64(2)];
-    let thrown = ask(alloc, &mut replies, b"g", &two);
-    assert!(rt; stops(&thrown, b"g", &two));
-    Ok(())
+/// The script's replies answer the calls so.
+fn answer_all(rt: &impl Abort, alloc: Global, script: &Script, rows: &[Row]) {
+    let mut replies = Replies::of(script);
+    for (number, row) in rows.iter().enumerate() {
+        holds(rt, number, is_answered(alloc, &mut replies, row));
+    }
 }
 
+/// The replies of the script of this text answer the calls so.
+fn answers(rt: &impl Abort, alloc: Global, text: &[u8], rows: &[Row]) {
+    match read_script(alloc, text) {
+        Ok(script) => answer_all(rt, alloc, &script, rows),
+        Err(_) => holds(rt, 0, false),
+    }
+}
+
+// A reply with a word, 0x5_0000_0007, and one byte write, and then one that throws.
+const TWO_REPLIES: &[u8] = b"reply 21474836487 1=0908\nthrow";
+
+static IN_ORDER: [Row; 5] = [
+    (b"$high", &[], Answered::Silently(0)),
+    (b"f", &[Word::W32(1)], Answered::Seen(0x5_0000_0007)),
+    (b"$high", &[], Answered::Silently(5)),
+    (b"$trap", &[Word::W32(3)], Answered::Stops),
+    (b"g", &[Word::W64(2)], Answered::Stops),
+];
+
 #[test]
-fn no_reply_is_left(rt: HostRuntime) -> Result<(), Fail> {
-    let script = read_script(rt.alloc(), b"")?;
-    let mut replies = Replies::of(&script);
-    let one = [Word::W32(1)];
-    let lost = ask(rt.alloc(), &mut replies, b"f", &one);
-    assert!(rt; lacks_reply(&lost, b"f", &one));
-    Ok(())
+fn replies_in_order(rt: HostRuntime) {
+    answers(&rt, rt.alloc(), TWO_REPLIES, &IN_ORDER);
+}
+
+static NONE_LEFT: [Row; 1] = [(b"f", &[Word::W32(1)], Answered::NoReply)];
+
+#[test]
+fn no_reply_is_left(rt: HostRuntime) {
+    answers(&rt, rt.alloc(), b"", &NONE_LEFT);
 }
 
 static WRITES: [(u64, &[u8]); 4] = [
@@ -106,14 +109,25 @@ static WRITES: [(u64, &[u8]); 4] = [
     (0x1_0000_0000, &[6]),
 ];
 
-#[test]
-fn writes_in_order(rt: HostRuntime) -> Result<(), AllocError> {
-    let mut heap = Heap::new(rt.alloc(), 4)?;
-    let mut writes = Vec::new(rt.alloc());
+fn all_writes(alloc: Global) -> Result<Vec<WriteLine>, AllocError> {
+    let mut writes = Vec::new(alloc);
     for (at, bytes) in WRITES.iter() {
-        writes.push(write(rt.alloc(), *at, bytes)?)?;
+        writes.push(WriteLine {
+            at: *at,
+            bytes: Text::from_bytes(alloc, bytes)?,
+            line: 1,
+        })?;
     }
-    put_writes(&mut heap, writes.as_slice());
-    same_bytes(&rt, "a heap", heap.bytes(), &[1, 9, 8, 0]);
-    Ok(())
+    Ok(writes)
+}
+
+#[test]
+fn writes_in_order(rt: HostRuntime) {
+    match (Heap::new(rt.alloc(), 4), all_writes(rt.alloc())) {
+        (Ok(mut heap), Ok(writes)) => {
+            put_writes(&mut heap, writes.as_slice());
+            holds(&rt, 0, heap.bytes() == [1, 9, 8, 0].as_slice());
+        }
+        _ => holds(&rt, 1, false),
+    }
 }

@@ -1,7 +1,16 @@
-//! What many rows assert.
+//! What all rows assert, in one place: an assertion costs the prover as much as several rows.
+use std::alloc::AllocError;
 use std::process::Abort;
 
-/// The bytes of this name are as wanted.
-pub(crate) fn same_bytes(rt: &impl Abort, name: &str, seen: &[u8], wanted: &[u8]) {
-    assert_eq!(rt; seen, wanted, "{name}");
+/// The row of this number is as it says.
+pub(crate) fn holds(rt: &impl Abort, number: usize, is_so: bool) {
+    assert!(rt; is_so, "row {number}");
+}
+
+/// What was made, where memory was left.
+pub(crate) fn made<T: Drop>(rt: &impl Abort, item: Result<T, AllocError>) -> T {
+    match item {
+        Ok(item) => item,
+        Err(_) => panic!(rt; "out of memory"),
+    }
 }

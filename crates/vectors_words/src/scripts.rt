@@ -1,7 +1,8 @@
 //! Scripts that are written out.
+use crate::rows::holds;
 use script_read::{ScriptFault, read_script};
 use session_lang::{CallLine, Reply, ReplyLine, Script, WriteLine};
-use std::test::Fail;
+use std::alloc::Global;
 
 fn is_write(write: &WriteLine, at: u64, bytes: &[u8], line: u64) -> bool {
     write.at == at && write.bytes.as_bytes() == bytes && write.line == line
@@ -60,26 +61,34 @@ fn has_replies(script: &Script) -> bool {
     }
 }
 
+fn has_all(script: &Script) -> bool {
+    has_global(script) && has_write(script) && has_calls(script) && has_replies(script)
+}
+
+fn has_nothing(script: &Script) -> bool {
+    script.globals.is_empty()
+        && script.writes.is_empty()
+        && script.calls.is_empty()
+        && script.replies.is_empty()
+}
+
+const ALL_KINDS: &[u8] =
+    b"# all kinds\r\nglobal g -1\r\n\r\n\theap 16 0aFF \r\ncall f  1 -2\r\ncall %6a4B\r\n  # replies\nreply -1 4=00 8=01\nthrow";
+
 #[test]
-fn each_kind(rt: HostRuntime) -> Result<(), Fail> {
-    let text =
-        b"# all kinds\r\nglobal g -1\r\n\r\n\theap 16 0aFF \r\ncall f  1 -2\r\ncall %6a4B\r\n  # replies\nreply -1 4=00 8=01\nthrow";
-    let script = read_script(rt.alloc(), text)?;
-    assert!(rt; has_global(&script));
-    assert!(rt; has_write(&script));
-    assert!(rt; has_calls(&script));
-    assert!(rt; has_replies(&script));
-    Ok(())
+fn each_kind(rt: HostRuntime) {
+    match read_script(rt.alloc(), ALL_KINDS) {
+        Ok(script) => holds(&rt, 0, has_all(&script)),
+        Err(_) => holds(&rt, 1, false),
+    }
 }
 
 #[test]
-fn no_text(rt: HostRuntime) -> Result<(), Fail> {
-    let script = read_script(rt.alloc(), b"")?;
-    assert!(rt; script.globals.is_empty());
-    assert!(rt; script.writes.is_empty());
-    assert!(rt; script.calls.is_empty());
-    assert!(rt; script.replies.is_empty());
-    Ok(())
+fn no_text(rt: HostRuntime) {
+    match read_script(rt.alloc(), b"") {
+        Ok(script) => holds(&rt, 0, has_nothing(&script)),
+        Err(_) => holds(&rt, 1, false),
+    }
 }
 
 static REFUSED: [(&[u8], u64); 9] = [
@@ -94,10 +103,16 @@ static REFUSED: [(&[u8], u64); 9] = [
     (b"throw\r\nthrow now", 2),
 ];
 
+fn is_refused(alloc: Global, text: &[u8], line: u64) -> bool {
+    match read_script(alloc, text) {
+        Err(ScriptFault::Refused { line: at }) => at == line,
+        _ => false,
+    }
+}
+
 #[test]
 fn refused_lines(rt: HostRuntime) {
-    for (text, line) in REFUSED.iter() {
-        let fault = read_script(rt.alloc(), text).err();
-        assert_eq!(rt; fault, Some(ScriptFault::Refused { line: *line }));
+    for (number, (text, line)) in REFUSED.iter().enumerate() {
+        holds(&rt, number, is_refused(rt.alloc(), text, *line));
     }
 }
