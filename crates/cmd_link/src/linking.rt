@@ -14,7 +14,7 @@ use cmd_check_wasm::check_bytes;
 use std::alloc::Global;
 use std::mem;
 use wasm_binary_write::{spelling_laws, write};
-use wasm_link::{LinkFault, link_module};
+use wasm_link::{LinkFault, check, lent_with, moved_pair};
 use wasm_link_laws_simulation::sessions;
 use wasm_link_laws_writable::writable;
 use wasm_validate::Valid;
@@ -51,9 +51,15 @@ fn linked_bytes<'a>(
 ) -> Result<Vec<u8>, LinkFault>
     ensures { MatchResult result (λ output. (refusal (record { first = first.now; second = second.now }) ≡ None) × (output.items ≡ spelling (linked (record { first = first.now; second = second.now })))) (IsLinkFault (record { first = first.now; second = second.now })) }
 {
-    let module = link_module(alloc, first, second)?;
+    let _first = first.module();
+    let _second = second.module();
+    let numbers = check(alloc, first, second)?;
+    let moved = moved_pair(alloc, &numbers)?;
+    let module = lent_with(alloc, &numbers, &moved)?;
+    mem::drop(numbers);
     let output = write(alloc, &module);
     mem::forget(module);
+    mem::forget(moved);
     match output {
         Ok(output) => Ok(output),
         Err(_) => Err(LinkFault::Memory),

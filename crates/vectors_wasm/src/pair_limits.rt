@@ -15,10 +15,14 @@ enum Kind {
     Locals,
     /// .. that has a call by a table entry.
     Called,
+    /// Pages of the memory.
+    Pages,
+    /// .. of four at most.
+    FewPages,
 }
 
 /// A kind, how many there are in the first and in the second, and for whose sake and by which number they aren't linked.
-static EDGES: [(Kind, usize, usize, Option<(bool, u64)>); 13] = [
+static EDGES: [(Kind, usize, usize, Option<(bool, u64)>); 15] = [
     (Kind::Types, 5_000, 5_000, None),
     (Kind::Types, 5_000, 5_001, Some((false, 10_001))),
     (Kind::Functions, 40_000, 39_999, None),
@@ -32,6 +36,8 @@ static EDGES: [(Kind, usize, usize, Option<(bool, u64)>); 13] = [
     (Kind::Called, 60_000, 1, Some((false, 0))),
     (Kind::Called, 1, 60_000, Some((true, 0))),
     (Kind::Called, 60_000, 60_000, Some((false, 0))),
+    (Kind::Pages, 4_096, 4_096, None),
+    (Kind::FewPages, 1, 4, None),
 ];
 
 fn push_number(out: &mut Vec<u8>, n: usize) -> Result<(), AllocError> {
@@ -84,6 +90,19 @@ fn table(alloc: Global, count: usize) -> Result<Vec<u8>, AllocError> {
     Ok(out)
 }
 
+/// The memory, with so many pages and this many at most.
+fn memory(alloc: Global, count: usize, most: Option<u8>) -> Result<Vec<u8>, AllocError> {
+    let mut content = Vec::from_slice(alloc, b"\x01\x03env\x06memory\x02")?;
+    content.push(if most.is_some() { 0x01 } else { 0x00 })?;
+    push_number(&mut content, count)?;
+    if let Some(most) = most {
+        content.push(most)?;
+    }
+    let mut out = Vec::new(alloc);
+    push_section(&mut out, 2, content.as_slice())?;
+    Ok(out)
+}
+
 /// A function of so many locals and this code, in a module with a table of one entry.
 fn locals(alloc: Global, count: usize, code: &[u8]) -> Result<Vec<u8>, AllocError> {
     let mut body = Vec::from_slice(alloc, &[0x01])?;
@@ -120,6 +139,8 @@ fn sections_of(alloc: Global, kind: Kind, count: usize) -> Result<Vec<u8>, Alloc
         Kind::Entries => return table(alloc, count),
         Kind::Locals => return locals(alloc, count, &[0x0b]),
         Kind::Called => return locals(alloc, count, &[0x41, 0x00, 0x11, 0x00, 0x00, 0x0b]),
+        Kind::Pages => return memory(alloc, count, None),
+        Kind::FewPages => return memory(alloc, count, Some(4)),
     }
     Ok(out)
 }
