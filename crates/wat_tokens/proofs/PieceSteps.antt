@@ -1,9 +1,10 @@
 -- Strings, piece by piece.
 use Rattle.std.proofs.Common.{◌≡◌, ℕ, zero, suc, ◌+◌, ◌-◌, ◌<◌, ◌≤◌, Bool, true, false, List, [], ◌∷◌, ◌++◌, length, get_or, take, drop, Option, Some, None, refl, sym, ap, ◌∙◌, arith, append_assoc, append-nil, drop-cons, length-append}
-use Rattle.std.specs.Prelude.{option_map, encode_utf8}
+use Rattle.std.specs.Prelude.{◌&&◌, not, ◌==◌, if◌then◌else◌, option_map, encode_utf8}
 use Rattle.std.proofs.lemmas.List.{take_more, length-drop, length-take-le, drop-drop}
 use Rattle.std.proofs.lemmas.Str.{length-encode, len_utf8_bounds}
-use Rattle.wat_lang.specs.Tokens.{Piece, quote, character, no_piece, piece_of, string_from, put_value}
+use Rattle.wat_lang.specs.Tokens.{Piece, quote, character, no_piece, piece_of, escape_piece, is_string_byte, string_from, put_value}
+use Rattle.wat_tokens.specs.Fronts.{is_plain}
 use Rattle.wat_tokens.specs.Closed.{value_in, value_of, quoted_in, EndsAt, IsClosed, IsClosedSomewhere, Passed, Scanned}
 
 pub skip : (n : ℕ) (bs : List ℕ) → string_from n bs ≡ string_from 0 (drop n bs)
@@ -190,3 +191,26 @@ passed_turn s t so_far v n m p lt is e fits = passed_more s so_far v n m p lt (e
 pub first_fits : (t : List ℕ) (b : ℕ) → t ≡ b ∷ drop 1 t → 1 ≤ length t
 first_fits [] b e = absurd cc
 first_fits (c ∷ t) b e = omega arith
+
+-- a byte that stands for itself
+plain_piece : (b : ℕ) (bs : List ℕ) → is_plain b ≡ true → character (b ∷ []) 0 ≡ piece_of (b ∷ bs)
+plain_piece b bs e = by (is_string_byte b) (b == 34) (b == 92) e
+  where
+    by : (t u v : Bool) → (t && (not u && not v)) ≡ true
+        → character (b ∷ []) 0 ≡ (let p : Piece = if u then quote else (if v then escape_piece bs else (if t then character (b ∷ []) 0 else no_piece)) in p)
+    by true false false e = refl
+    by true false true e = absurd cc
+    by true true v e = absurd cc
+    by false u v e = absurd cc
+
+plain_at : (s : List ℕ) (n : ℕ) → n < length s → is_plain (get_or s n 0) ≡ true → character (get_or s n 0 ∷ []) 0 ≡ piece_of (drop n s)
+plain_at s n lt e = plain_piece (get_or s n 0) (drop (n + 1) s) e ∙ ap piece_of (sym (one_front s n lt))
+
+plain_front : (s : List ℕ) (n : ℕ) → n < length s → drop n s ≡ get_or s n 0 ∷ drop 1 (drop n s)
+plain_front s n lt = one_front s n lt ∙ ap (λ xs. get_or s n 0 ∷ xs) (sym (drop-drop 1 n s))
+
+pub plain_turn : (s : List ℕ) (n : ℕ) (plain : Bool) → Scanned s n plain → n < length s → is_plain (get_or s n 0) ≡ true → Scanned s (n + 1) plain
+plain_turn s n plain p lt e = scanned_byte s n (get_or s n 0) plain p lt (plain_at s n lt e) (plain_front s n lt)
+
+pub plain_passed : (s so_far : List ℕ) (n : ℕ) → Passed s n so_far → n < length s → is_plain (get_or s n 0) ≡ true → Passed s (n + 1) (so_far ++ get_or s n 0 ∷ [])
+plain_passed s so_far n p lt e = passed_more s so_far (get_or s n 0 ∷ []) n 0 p lt (plain_at s n lt e) (let len = length-drop n s in omega (arith, lt, len))

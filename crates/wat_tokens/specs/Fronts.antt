@@ -10,9 +10,13 @@ use Rattle.wat_tokens.specs.declared.pieces.Piece.TheVariants as pieces
 -- the bytes from `!` to `~`, but for quotes, commas, semicolons, parentheses, brackets and braces
 abbrev pub in_atom_ranges : ℕ → Bool
 in_atom_ranges b =
-    if nat_lt b 42 then (b == 33) || (nat_le 35 b && nat_le b 39)
-    else (if nat_lt b 92 then (not (b == 44) && not (b == 59)) && not (b == 91)
-    else (nat_le b 126 && not (b == 93)) && (not (b == 123) && not (b == 125)))
+    if nat_le 94 b then nat_le b 122 || ((b == 124) || (b == 126))
+    else (if nat_le 45 b then (nat_le b 90 || (b == 92)) && not (b == 59)
+    else ((b == 33) || (nat_le 35 b && nat_le b 39)) || ((b == 42) || (b == 43)))
+
+-- a byte that stands in a string for itself: no quote and no backslash
+abbrev pub is_plain : ℕ → Bool
+is_plain b = (nat_le 32 b && not (b == 127)) && (not (b == 34) && not (b == 92))
 
 abbrev pub pair_view : Pair → spec.Pair
 pair_view pairs.Opens = spec.comment_opens

@@ -29,16 +29,16 @@ pub fn digit_value(b: u8) -> u8
     }
 }
 
-/// The bytes from `!` to `~`, but for quotes, commas, semicolons, parentheses, brackets and braces.
+/// The bytes from `!` to `~`, but for quotes, commas, semicolons, parentheses, brackets and braces. Letters come first, as the most frequent.
 fn in_atom_ranges(b: u8) -> bool
     ensures { result ≡ in_atom_ranges b }
 {
-    if b < 42 {
-        b == 33 || (35 <= b && b <= 39)
-    } else if b < 92 {
-        (b != 44 && b != 59) && b != 91
+    if b >= 94 {
+        b <= 122 || (b == 124 || b == 126)
+    } else if b >= 45 {
+        (b <= 90 || b == 92) && b != 59
     } else {
-        (b <= 126 && b != 93) && (b != 123 && b != 125)
+        (b == 33 || (35 <= b && b <= 39)) || (b == 42 || b == 43)
     }
 }
 

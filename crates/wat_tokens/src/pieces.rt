@@ -4,7 +4,7 @@ ghost use Rattle.std.specs.Prelude.{◌≡◌, ◌≤◌, ◌+◌, ◌*◌, true
 ghost use Rattle.std.specs.List.{prefix_len};
 ghost use Rattle.wat_lang.specs.Tokens as spec;
 ghost use Rattle.wat_lang.specs.Tokens.{is_scalar, value_in};
-ghost use Rattle.wat_tokens.specs.Fronts.{piece_view, Fits};
+ghost use Rattle.wat_tokens.specs.Fronts.{is_plain, piece_view, Fits};
 
 use crate::bytes::{begins_with, digit_value, is_hexadecimal_digit};
 
@@ -147,6 +147,13 @@ fn escape_piece(s: &[u8]) -> Piece
             }
         },
     }
+}
+
+/// Whether it is a byte that stands in a string for itself.
+pub fn is_plain(b: u8) -> bool
+    ensures { result ≡ is_plain b }
+{
+    (b >= b' ' && b != 127) && (b != b'"' && b != b'\\')
 }
 
 /// What stands next in a string.

@@ -4,7 +4,7 @@ ghost use Rattle.std.specs.Prelude.{◌≡◌, ◌+◌, ◌++◌, true, None, If
 ghost use Rattle.wat_lang.specs.Tokens as spec;
 ghost use Rattle.wat_tokens.specs.Closed.{EndsAt, IsClosed, IsClosedSomewhere, value_of};
 
-use crate::pieces::{Piece, piece_of};
+use crate::pieces::{Piece, is_plain, piece_of};
 use std::alloc::{AllocError, Global};
 
 /// A string of a text. Where its closing quote stands is looked for again when that is asked, since most strings are short.
@@ -53,18 +53,22 @@ fn closing_quote(s: &[u8]) -> Option<(usize, bool)>
     let mut n = 0;
     let mut plain = true;
     while n < s.len() {
-        match piece_of(&s[n..]) {
-            Piece::Quote => return Some((n, plain)),
-            Piece::Byte(_) => n += 1,
-            Piece::Escape(_, more) => {
-                plain = false;
-                n += more + 1;
+        if is_plain(s[n]) {
+            n += 1;
+        } else {
+            match piece_of(&s[n..]) {
+                Piece::Quote => return Some((n, plain)),
+                Piece::Byte(_) => n += 1,
+                Piece::Escape(_, more) => {
+                    plain = false;
+                    n += more + 1;
+                }
+                Piece::Scalar(_, more) => {
+                    plain = false;
+                    n += more + 1;
+                }
+                Piece::Bad => return None,
             }
-            Piece::Scalar(_, more) => {
-                plain = false;
-                n += more + 1;
-            }
-            Piece::Bad => return None,
         }
     }
     None
@@ -78,21 +82,26 @@ fn decoded(alloc: Global, s: &[u8]) -> Result<Vec<u8>, AllocError>
     let mut bytes = Vec::new(alloc);
     let mut n = 0;
     while n < s.len() {
-        match piece_of(&s[n..]) {
-            Piece::Byte(value) => {
-                bytes.push(value)?;
-                n += 1;
+        if is_plain(s[n]) {
+            bytes.push(s[n])?;
+            n += 1;
+        } else {
+            match piece_of(&s[n..]) {
+                Piece::Byte(value) => {
+                    bytes.push(value)?;
+                    n += 1;
+                }
+                Piece::Escape(value, more) => {
+                    bytes.push(value)?;
+                    n += more + 1;
+                }
+                Piece::Scalar(c, more) => {
+                    push_scalar(&mut bytes, c)?;
+                    n += more + 1;
+                }
+                Piece::Quote => return Ok(bytes),
+                Piece::Bad => return Ok(bytes),
             }
-            Piece::Escape(value, more) => {
-                bytes.push(value)?;
-                n += more + 1;
-            }
-            Piece::Scalar(c, more) => {
-                push_scalar(&mut bytes, c)?;
-                n += more + 1;
-            }
-            Piece::Quote => return Ok(bytes),
-            Piece::Bad => return Ok(bytes),
         }
     }
     Ok(bytes)

@@ -1,0 +1,4 @@
+mod Dropped
+mod Fields
+mod Modules
+mod Rows
