@@ -3,3 +3,4 @@ pub mod ReadingOn
 pub mod Words
 pub mod SoFar
 pub mod Fitting
+pub mod Keeping

@@ -3,7 +3,9 @@ use Rattle.std.specs.Prelude.{◌≡◌, ℕ, List, Ok, Option, Some, None, if�
 use Rattle.wat_lang.specs.declared.fault.Row.TheVariants as rows
 use Rattle.wat_lang.specs.Tokens.{Token}
 use Rattle.wat_lang.specs.Grammar as grammar
-use Rattle.wat_lang.specs.Texts.{IsFault, outside_at, stands_outside}
+use Rattle.wat_lang.specs.Modules.{module_of}
+use Rattle.wat_lang.specs.Rows.{rows_of}
+use Rattle.wat_lang.specs.Texts.{IsFault, IsMarked, outside_at, stands_outside}
 use Rattle.wat_grammar.specs.Views.{mark_of}
 use Rattle.wat_tokens.specs.declared.scanner.Scanner.{Scanner}
 use Rattle.wat_tokens.specs.Left.{IsLeft, IsFirstFault}
@@ -14,6 +16,13 @@ use Rattle.wat_marks.specs.declared.marked.MarkedToken.{MarkedToken}
 
 abbrev pub marked_of : MarkedToken → grammar.Marked
 marked_of m = grammar.marked (mark_of m.mark) (tokens.token_of m.token)
+
+-- the text has marks, and these have their rows and their module
+pub record IsMarkedAs (text : List ℕ) (ks : List grammar.Marked) : Type 0 where
+  pub all : List grammar.Marked
+  pub is_marked : IsMarked text all
+  pub same_rows : rows_of ks ≡ rows_of all
+  pub same_module : module_of ks ≡ module_of all
 
 -- Want of memory says nothing of the text.
 abbrev pub IsFaultOf : List ℕ → WatFault → Type 0
