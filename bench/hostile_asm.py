@@ -131,6 +131,14 @@ WIDE = {
         10_000,
         lambda n: text(many(900, lambda i: f"a{i}:{{") + many(n, lambda i: f"if(x)break a{i % 900};") + "}" * 900),
     ),
+    "breaks of a loop out of 900 blocks": (
+        10_000,
+        lambda n: text("while(x){" + many(900, lambda i: f"a{i}:{{") + "if(x)break;" * n + "}" * 901),
+    ),
+    "continues with labels of 300 loops": (
+        10_000,
+        lambda n: text(many(300, lambda i: f"a{i}:while(x){{") + many(n, lambda i: f"if(x)continue a{i % 300};") + "}" * 300),
+    ),
 }
 
 # Names that collide in a hash map without a seed.

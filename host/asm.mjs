@@ -254,8 +254,11 @@ function exportsOf(signatures, values, linked, state) {
 /** The names that asm.js has for parameters. */
 const namesOf = (params) => params.flatMap((type, k) => (type === "i64" ? [`x${k}`, `X${k}`] : [`x${k}`]));
 
-/** The lines, or beginnings of lines, by which a text says what its functions take, what it imports, and how long its memory is. */
-const PIECES = /^(var [ig]\d+=foreign\..*|function f\d+\(.*?\)|function \$copy\(.*?\$trap\(2\);)/gm;
+/** The lines, or beginnings of lines, by which a text says what its functions take, what it imports, and whether it has a memory. */
+const PIECES = /^(var [ig]\d+=foreign\..*|function f\d+\(.*?\)|var \$w=.*)/gm;
+
+/** How many bytes the memory of a text has, as its functions that copy and fill say it, where it has them. */
+const LENGTHS = /^function \$(?:copy|fill)\(.*?if\(x2>>>0>(\d+)\)/gm;
 
 /** Those of them that stand in a text of the module with these signatures, each with the field that says so. */
 function piecesOf({ imports, exports, pages }) {
@@ -265,12 +268,13 @@ function piecesOf({ imports, exports, pages }) {
     ...ofKind("function", exports).map((item) => [fieldOf(item), head(item, item.index)]),
     ...imported.map((item, k) => [fieldOf(item), `var i${k}=foreign.${importName(item)};`, head(item, k)]),
     ...ofKind("global", imports).map((item, k) => [fieldOf(item), `var g${k}=foreign.${importName(item)}|0;`]),
-    ...(pages === null ? [] : [["memory", `function $copy(x0,x1,x2){x0=x0|0;x1=x1|0;x2=x2|0;var s0=0;if(x2>>>0>${pages * PAGE})$trap(2);`]]),
+    ...(pages === null ? [] : [["memory", "var $w=new stdlib.Int32Array(heap);"]]),
   ];
 }
 
 /**
- * Checks that a text was made of the module that has these signatures, as far as imports, exports, memory and start function say it.
+ * Checks that a text was made of the module that has these signatures, as far as imports, exports, memory and start function say it. How long its
+ * memory is only a text says that copies or fills.
  * @throws {LinkError} where it wasn't, with the field
  */
 export function checkText(text, signatures) {
@@ -283,7 +287,8 @@ export function checkText(text, signatures) {
   if (!lines.startsWith('function wasm(stdlib,foreign,heap){"use asm";')) wrong = "text";
   if (!lines.endsWith(`\nreturn{${returned}};}`)) wrong ??= "exports";
   if (count("var i") !== ofKind("function", signatures.imports).length) wrong ??= "imports";
-  if (count("function $copy") !== Number(signatures.pages !== null)) wrong ??= "memory";
+  if (count("var $w") !== Number(signatures.pages !== null)) wrong ??= "memory";
+  if (Array.from(lines.matchAll(LENGTHS)).some(([, length]) => Number(length) !== signatures.pages * PAGE)) wrong ??= "memory";
   if (started !== String(signatures.start)) wrong ??= "start";
   if (wrong) throw new LinkError(`${wrong}: not as in the text that wasm2js writes of this module`);
 }

@@ -258,8 +258,11 @@ function exportsOf(signatures, values, linked, state) {
 /** The names that asm.js has for parameters. */
 const namesOf = (params) => params.flatMap((type, k) => (type === "i64" ? [`x${k}`, `X${k}`] : [`x${k}`]));
 
-/** The lines, or beginnings of lines, by which a text says what its functions take, what it imports, and how long its memory is. */
-const PIECES = /^(var [ig]\d+=foreign\..*|function f\d+\(.*?\)|function \$copy\(.*?\$trap\(2\);)/gm;
+/** The lines, or beginnings of lines, by which a text says what its functions take, what it imports, and whether it has a memory. */
+const PIECES = /^(var [ig]\d+=foreign\..*|function f\d+\(.*?\)|var \$w=.*)/gm;
+
+/** How many bytes the memory of a text has, as its functions that copy and fill say it, where it has them. */
+const LENGTHS = /^function \$(?:copy|fill)\(.*?if\(x2>>>0>(\d+)\)/gm;
 
 /** Those of them that stand in a text of the module with these signatures, each with the field that says so. */
 function piecesOf({ imports, exports, pages }) {
@@ -269,12 +272,13 @@ function piecesOf({ imports, exports, pages }) {
     ...ofKind("function", exports).map((item) => [fieldOf(item), head(item, item.index)]),
     ...imported.map((item, k) => [fieldOf(item), `var i${k}=foreign.${importName(item)};`, head(item, k)]),
     ...ofKind("global", imports).map((item, k) => [fieldOf(item), `var g${k}=foreign.${importName(item)}|0;`]),
-    ...(pages === null ? [] : [["memory", `function $copy(x0,x1,x2){x0=x0|0;x1=x1|0;x2=x2|0;var s0=0;if(x2>>>0>${pages * PAGE})$trap(2);`]]),
+    ...(pages === null ? [] : [["memory", "var $w=new stdlib.Int32Array(heap);"]]),
   ];
 }
 
 /**
- * Checks that a text was made of the module that has these signatures, as far as imports, exports, memory and start function say it.
+ * Checks that a text was made of the module that has these signatures, as far as imports, exports, memory and start function say it. How long its
+ * memory is only a text says that copies or fills.
  * @throws {LinkError} where it wasn't, with the field
  */
 function checkText(text, signatures) {
@@ -287,7 +291,8 @@ function checkText(text, signatures) {
   if (!lines.startsWith('function wasm(stdlib,foreign,heap){"use asm";')) wrong = "text";
   if (!lines.endsWith(`\nreturn{${returned}};}`)) wrong ??= "exports";
   if (count("var i") !== ofKind("function", signatures.imports).length) wrong ??= "imports";
-  if (count("function $copy") !== Number(signatures.pages !== null)) wrong ??= "memory";
+  if (count("var $w") !== Number(signatures.pages !== null)) wrong ??= "memory";
+  if (Array.from(lines.matchAll(LENGTHS)).some(([, length]) => Number(length) !== signatures.pages * PAGE)) wrong ??= "memory";
   if (started !== String(signatures.start)) wrong ??= "start";
   if (wrong) throw new LinkError(`${wrong}: not as in the text that wasm2js writes of this module`);
 }
@@ -349,24 +354,7 @@ var $high=foreign.$high;
 var $q=0;
 var $h=0;
 var g0=5168;
-function $shl(x0,x1,x2){x0=x0|0;x1=x1|0;x2=x2|0;if(x2&32){$q=x0<<x2;return 0|0;}$q=(x1<<x2)+(x0>>>1>>>~x2)|0;return x0<<x2|0;}
-function $shrs(x0,x1,x2){x0=x0|0;x1=x1|0;x2=x2|0;if(x2&32){$q=x1>>31;return x1>>x2|0;}$q=x1>>x2;return(x0>>>x2)+(x1<<1<<~x2)|0;}
-function $shru(x0,x1,x2){x0=x0|0;x1=x1|0;x2=x2|0;if(x2&32){$q=0;return x1>>>x2|0;}$q=x1>>>x2;return(x0>>>x2)+(x1<<1<<~x2)|0;}
-function $rotl(x0,x1,x2){x0=x0|0;x1=x1|0;x2=x2|0;var s0=0;if(x2&32){s0=x0;x0=x1;x1=s0;}$q=(x1<<x2)+(x0>>>1>>>~x2)|0;return(x0<<x2)+(x1>>>1>>>~x2)|0;}
-function $clz(x0,x1){x0=x0|0;x1=x1|0;if(x1){return $clz32(x1)|0;}return 32+$clz32(x0)|0;}
-function $ctz(x0,x1){x0=x0|0;x1=x1|0;if(x0){return 32-$clz32(~x0&x0-1)|0;}return 64-$clz32(~x1&x1-1)|0;}
-function $pop(x0){x0=x0|0;var s0=0;while(x0){s0=s0+(x0&1)|0;x0=x0>>>1;}return s0|0;}
-function $divs(x0,x1){x0=x0|0;x1=x1|0;if((x1|0)==0)$trap(3);if((x0|0)==-2147483648&(x1|0)==-1)$trap(4);return(x0|0)/(x1|0)|0;}
-function $divu(x0,x1){x0=x0|0;x1=x1|0;if((x1|0)==0)$trap(3);return(x0>>>0)/(x1>>>0)|0;}
-function $rems(x0,x1){x0=x0|0;x1=x1|0;if((x1|0)==0)$trap(3);return(x0|0)%(x1|0)|0;}
-function $remu(x0,x1){x0=x0|0;x1=x1|0;if((x1|0)==0)$trap(3);return(x0>>>0)%(x1>>>0)|0;}
-function $load32(x0){x0=x0|0;return($u8[x0>>0]|0)+($u8[x0+1>>0]<<8)+($u8[x0+2>>0]<<16)+($u8[x0+3>>0]<<24)|0;}
-function $load64(x0){x0=x0|0;$q=($u8[x0+4>>0]|0)+($u8[x0+5>>0]<<8)+($u8[x0+6>>0]<<16)+($u8[x0+7>>0]<<24)|0;return($u8[x0>>0]|0)+($u8[x0+1>>0]<<8)+($u8[x0+2>>0]<<16)+($u8[x0+3>>0]<<24)|0;}
-function $store32(x0,x1){x0=x0|0;x1=x1|0;$u8[x0>>0]=x1;$u8[x0+1>>0]=x1>>>8;$u8[x0+2>>0]=x1>>>16;$u8[x0+3>>0]=x1>>>24;}
-function $store64(x0,x1,x2){x0=x0|0;x1=x1|0;x2=x2|0;$u8[x0>>0]=x1;$u8[x0+1>>0]=x1>>>8;$u8[x0+2>>0]=x1>>>16;$u8[x0+3>>0]=x1>>>24;$u8[x0+4>>0]=x2;$u8[x0+5>>0]=x2>>>8;$u8[x0+6>>0]=x2>>>16;$u8[x0+7>>0]=x2>>>24;}
-function $copy(x0,x1,x2){x0=x0|0;x1=x1|0;x2=x2|0;var s0=0;if(x2>>>0>1048576)$trap(2);if(x0>>>0>1048576-x2>>>0)$trap(2);if(x1>>>0>1048576-x2>>>0)$trap(2);if(x0>>>0<=x1>>>0){if(((x0^x1)&3|(x2|0)<4)==0){while((x0+s0&3)!=0){$u8[x0+s0>>0]=$u8[x1+s0>>0]|0;s0=s0+1|0;}while((s0|0)<=(x2-32|0)){$w[x0+s0>>2]=$w[x1+s0>>2]|0;$w[x0+s0+4>>2]=$w[x1+s0+4>>2]|0;$w[x0+s0+8>>2]=$w[x1+s0+8>>2]|0;$w[x0+s0+12>>2]=$w[x1+s0+12>>2]|0;$w[x0+s0+16>>2]=$w[x1+s0+16>>2]|0;$w[x0+s0+20>>2]=$w[x1+s0+20>>2]|0;$w[x0+s0+24>>2]=$w[x1+s0+24>>2]|0;$w[x0+s0+28>>2]=$w[x1+s0+28>>2]|0;s0=s0+32|0;}while((s0|0)<=(x2-4|0)){$w[x0+s0>>2]=$w[x1+s0>>2]|0;s0=s0+4|0;}}while((s0|0)<(x2|0)){$u8[x0+s0>>0]=$u8[x1+s0>>0]|0;s0=s0+1|0;}}else{if(((x0^x1)&3|(x2|0)<4)==0){while((x0+x2&3)!=0){x2=x2-1|0;$u8[x0+x2>>0]=$u8[x1+x2>>0]|0;}while((x2|0)>31){x2=x2-32|0;$w[x0+x2+28>>2]=$w[x1+x2+28>>2]|0;$w[x0+x2+24>>2]=$w[x1+x2+24>>2]|0;$w[x0+x2+20>>2]=$w[x1+x2+20>>2]|0;$w[x0+x2+16>>2]=$w[x1+x2+16>>2]|0;$w[x0+x2+12>>2]=$w[x1+x2+12>>2]|0;$w[x0+x2+8>>2]=$w[x1+x2+8>>2]|0;$w[x0+x2+4>>2]=$w[x1+x2+4>>2]|0;$w[x0+x2>>2]=$w[x1+x2>>2]|0;}while((x2|0)>3){x2=x2-4|0;$w[x0+x2>>2]=$w[x1+x2>>2]|0;}}while((x2|0)>0){x2=x2-1|0;$u8[x0+x2>>0]=$u8[x1+x2>>0]|0;}}}
-function $fill(x0,x1,x2){x0=x0|0;x1=x1|0;x2=x2|0;var s0=0;var s1=0;if(x2>>>0>1048576)$trap(2);if(x0>>>0>1048576-x2>>>0)$trap(2);if((x2|0)>3){s1=$imul(x1&255,16843009);while((x0+s0&3)!=0){$u8[x0+s0>>0]=x1;s0=s0+1|0;}while((s0|0)<=(x2-32|0)){$w[x0+s0>>2]=s1;$w[x0+s0+4>>2]=s1;$w[x0+s0+8>>2]=s1;$w[x0+s0+12>>2]=s1;$w[x0+s0+16>>2]=s1;$w[x0+s0+20>>2]=s1;$w[x0+s0+24>>2]=s1;$w[x0+s0+28>>2]=s1;s0=s0+32|0;}while((s0|0)<=(x2-4|0)){$w[x0+s0>>2]=s1;s0=s0+4|0;}}while((s0|0)<(x2|0)){$u8[x0+s0>>0]=x1;s0=s0+1|0;}}
-function f0(x0,x1,x2,x3){x0=x0|0;x1=x1|0;x2=x2|0;x3=x3|0;var x4=0;var x5=0;var x6=0;var x7=0;var x8=0;var x9=0;var x10=0;var x11=0;var x12=0;var x13=0;var x14=0;var x15=0;var x16=0;var x17=0;var x18=0;var x19=0;var s0=0;var s1=0;var s2=0;var s3=0;var s4=0;var s5=0;x4=65536;x5=0;x6=0;L0:while(1){s1=$imul(x6,x2);s0=x1-s1|0;x7=s0;x8=0;L1:while(1){L2:{L3:{s0=x3;if(s0|0)break L3;x9=0;break L2;}s0=$imul(x8,x2);s0=s0+x0|0;x10=s0;x11=0;x9=0;x12=0;L3:while(1){s0=x11+-536870913|0;s0=s0>>>0<-1073741825>>>0;if(s0|0)break L2;s0=(x12|0)>536870912;if(s0|0)break L2;s0=(x12|0)<-536870912;if(s0|0)break L2;s1=x12>>31;x13=s1;s0=x12+s1|0;s0=s0^x13;x14=s0;s0=s0&65535;x13=s0;s1=x14>>>16;x14=s1;s0=$imul(s0,s1);x15=s0;s0=s0>>>15;s0=s0&65534;s1=$imul(x14,x14);s0=s0+s1|0;s1=x15<<1;s1=s1&131070;s2=$imul(x13,x13);s2=s2>>>16;s1=s1+s2|0;x15=s1;s1=s1>>>16;s0=s0+s1|0;s0=s0<<4;s1=x15>>>12;s1=s1&15;s0=s0|s1;x16=s0;s2=x11>>31;x15=s2;s1=x11+s2|0;s1=s1^x15;x17=s1;s1=s1&65535;x15=s1;s2=x17>>>16;x17=s2;s1=$imul(s1,s2);x18=s1;s1=s1>>>15;s1=s1&65534;s2=$imul(x17,x17);s1=s1+s2|0;s2=x18<<1;s2=s2&131070;s3=$imul(x15,x15);s3=s3>>>16;s2=s2+s3|0;x18=s2;s2=s2>>>16;s1=s1+s2|0;s1=s1<<4;s2=x18>>>12;s2=s2&15;s1=s1|s2;x18=s1;s0=s0+s1|0;s0=s0>>>0>1073741824;if(s0|0)break L2;s2=$imul(x13,x17);x19=s2;s2=s2>>>16;s3=$imul(x14,x17);s2=s2+s3|0;s3=$imul(x14,x15);x14=s3;s3=s3>>>16;s2=s2+s3|0;s3=$imul(x13,x15);s3=s3>>>16;s4=x19&65535;s3=s3+s4|0;s4=x14&65535;s3=s3+s4|0;x13=s3;s3=s3>>>16;s2=s2+s3|0;s2=s2<<4;s3=x13>>>12;s3=s3&15;s2=s2|s3;x13=s2;s1=0-s2|0;s3=x12^x11;s3=(s3|0)<0;s1=s3|0?s1:x13;s1=s1<<1;s0=x7+s1|0;x12=s0;s0=x10+x18|0;s0=s0-x16|0;x11=s0;s1=x9+1|0;x9=s1;s0=(x3|0)!=(s1|0);if(s0|0)continue L3;break;}x9=x3;}s0=(x9|0)==(x3|0);x12=s0;L2:{L3:{s0=(x9|0)!=(x3|0);if(s0|0)break L3;x11=0;if(x4>>>0>1048574)$trap(2);$u8[x4>>0]=0;$u8[x4+1>>0]=0>>>8;break L2;}s1=$imul(x9,6);s1=s1+36|0;x14=s1;s1=s1>>>4;x13=s1;s1=s1&15;s1=$imul(s1,3);x11=s1;s1=s1+1025|0;if(s1>>>0>1048575)$trap(2);s1=$u8[s1>>0]|0;x15=s1;s2=x13+1|0;s2=s2&15;s2=$imul(s2,3);x13=s2;s2=s2+1025|0;if(s2>>>0>1048575)$trap(2);s2=$u8[s2>>0]|0;s2=s2-x15|0;s3=x14&14;x14=s3;s2=$imul(s2,s3);s2=s2>>>4;s1=s1+s2|0;if(x4>>>0>1048574)$trap(2);$u8[x4+1>>0]=s1;s1=x11+1024|0;if(s1>>>0>1048575)$trap(2);s1=$u8[s1>>0]|0;x15=s1;s2=x13+1024|0;if(s2>>>0>1048575)$trap(2);s2=$u8[s2>>0]|0;s2=s2-x15|0;s2=$imul(s2,x14);s2=s2>>>4;s1=s1+s2|0;if(x4>>>0>1048575)$trap(2);$u8[x4>>0]=s1;s0=x11+1026|0;if(s0>>>0>1048575)$trap(2);s0=$u8[s0>>0]|0;x11=s0;s1=x13+1026|0;if(s1>>>0>1048575)$trap(2);s1=$u8[s1>>0]|0;s1=s1-x11|0;s1=$imul(s1,x14);s1=s1>>>4;s0=s0+s1|0;x11=s0;}s0=x5+x12|0;x5=s0;if(x4>>>0>1048572)$trap(2);$u8[x4+3>>0]=255;if(x4>>>0>1048573)$trap(2);$u8[x4+2>>0]=x11;s0=x4+4|0;x4=s0;s0=x8+1|0;x8=s0;s0=(s0|0)!=512;if(s0|0)continue L1;break;}s0=x6+1|0;x6=s0;s0=(s0|0)!=384;if(s0|0)continue L0;break;}s0=x5;return s0|0;}
+function f0(x0,x1,x2,x3){x0=x0|0;x1=x1|0;x2=x2|0;x3=x3|0;var x4=0;var x5=0;var x6=0;var x7=0;var x8=0;var x9=0;var x10=0;var x11=0;var x12=0;var x13=0;var x14=0;var x15=0;var x16=0;var x17=0;var x18=0;var x19=0;var s0=0;var s1=0;var s2=0;var s3=0;var s4=0;var s5=0;x4=65536;x5=0;x6=0;L0:while(1){s1=$imul(x6,x2);s0=x1-s1|0;x7=s0;x8=0;L1:while(1){L2:{L3:{s0=x3;if(s0|0)break L3;x9=0;break L2;}s0=$imul(x8,x2);s0=s0+x0|0;x10=s0;x11=0;x9=0;x12=0;L3:while(1){s0=x11+-536870913|0;s0=s0>>>0<-1073741825>>>0;if(s0|0)break L2;s0=(x12|0)>536870912;if(s0|0)break L2;s0=(x12|0)<-536870912;if(s0|0)break L2;s1=x12>>31;x13=s1;s0=x12+s1|0;s0=s0^x13;x14=s0;s0=s0&65535;x13=s0;s1=x14>>>16;x14=s1;s0=$imul(s0,s1);x15=s0;s0=s0>>>15;s0=s0&65534;s1=$imul(x14,x14);s0=s0+s1|0;s1=x15<<1;s1=s1&131070;s2=$imul(x13,x13);s2=s2>>>16;s1=s1+s2|0;x15=s1;s1=s1>>>16;s0=s0+s1|0;s0=s0<<4;s1=x15>>>12;s1=s1&15;s0=s0|s1;x16=s0;s2=x11>>31;x15=s2;s1=x11+s2|0;s1=s1^x15;x17=s1;s1=s1&65535;x15=s1;s2=x17>>>16;x17=s2;s1=$imul(s1,s2);x18=s1;s1=s1>>>15;s1=s1&65534;s2=$imul(x17,x17);s1=s1+s2|0;s2=x18<<1;s2=s2&131070;s3=$imul(x15,x15);s3=s3>>>16;s2=s2+s3|0;x18=s2;s2=s2>>>16;s1=s1+s2|0;s1=s1<<4;s2=x18>>>12;s2=s2&15;s1=s1|s2;x18=s1;s0=s0+s1|0;s0=s0>>>0>1073741824;if(s0|0)break L2;s2=$imul(x13,x17);x19=s2;s2=s2>>>16;s3=$imul(x14,x17);s2=s2+s3|0;s3=$imul(x14,x15);x14=s3;s3=s3>>>16;s2=s2+s3|0;s3=$imul(x13,x15);s3=s3>>>16;s4=x19&65535;s3=s3+s4|0;s4=x14&65535;s3=s3+s4|0;x13=s3;s3=s3>>>16;s2=s2+s3|0;s2=s2<<4;s3=x13>>>12;s3=s3&15;s2=s2|s3;x13=s2;s1=0-s2|0;s3=x12^x11;s3=(s3|0)<0;s1=s3|0?s1:x13;s1=s1<<1;s0=x7+s1|0;x12=s0;s0=x10+x18|0;s0=s0-x16|0;x11=s0;s1=x9+1|0;x9=s1;s0=(x3|0)!=(s1|0);if(s0|0)continue L3;break;}x9=x3;}s0=(x9|0)==(x3|0);x12=s0;L2:{L3:{s0=(x9|0)!=(x3|0);if(s0|0)break L3;x11=0;if(x4>>>0>1048574)$trap(2);$u8[x4>>0]=0;$u8[x4+1>>0]=0>>>8;break L2;}s1=$imul(x9,6);s1=s1+36|0;x14=s1;s1=s1>>>4;x13=s1;s1=s1&15;s1=$imul(s1,3);x11=s1;s1=s1+1025|0;s1=$u8[s1>>0]|0;x15=s1;s2=x13+1|0;s2=s2&15;s2=$imul(s2,3);x13=s2;s2=s2+1025|0;s2=$u8[s2>>0]|0;s2=s2-x15|0;s3=x14&14;x14=s3;s2=$imul(s2,s3);s2=s2>>>4;s1=s1+s2|0;if(x4>>>0>1048574)$trap(2);$u8[x4+1>>0]=s1;s1=x11+1024|0;s1=$u8[s1>>0]|0;x15=s1;s2=x13+1024|0;s2=$u8[s2>>0]|0;s2=s2-x15|0;s2=$imul(s2,x14);s2=s2>>>4;s1=s1+s2|0;$u8[x4>>0]=s1;s0=x11+1026|0;s0=$u8[s0>>0]|0;x11=s0;s1=x13+1026|0;s1=$u8[s1>>0]|0;s1=s1-x11|0;s1=$imul(s1,x14);s1=s1>>>4;s0=s0+s1|0;x11=s0;}s0=x5+x12|0;x5=s0;if(x4>>>0>1048572)$trap(2);$u8[x4+3>>0]=255;$u8[x4+2>>0]=x11;s0=x4+4|0;x4=s0;s0=x8+1|0;x8=s0;s0=(s0|0)!=512;if(s0|0)continue L1;break;}s0=x6+1|0;x6=s0;s0=(s0|0)!=384;if(s0|0)continue L0;break;}s0=x5;return s0|0;}
 function $init(){$w[256]=420421186;$w[257]=17373703;$w[258]=1224999983;$w[259]=207881984;$w[260]=1377339948;$w[261]=-780322383;$w[262]=-739920506;$w[263]=-370018068;$w[264]=1607071935;$w[265]=-872371457;$w[266]=1469644928;$w[267]=53766656;}
 function $hi(){return $h|0;}
 return{$init:$init,$hi:$hi,draw:f0};}

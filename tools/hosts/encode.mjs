@@ -39,6 +39,7 @@ export const load = (offset = 0) => [0x28, 0, unsigned(offset)];
 export const load64 = (offset = 0) => [0x29, 0, unsigned(offset)];
 export const store = (offset = 0) => [0x36, 0, unsigned(offset)];
 export const store64 = (offset = 0) => [0x37, 0, unsigned(offset)];
+export const fill = () => [0xfc, 0x0b, 0];
 export const OPERATORS = { unreachable: 0, drop: 0x1a, add: 0x6a, divS: 0x6d, divU: 0x6e, remS: 0x6f, remU: 0x70, add64: 0x7c, xor64: 0x85, wrap: 0xa7, fill: [0xfc, 11, 0], copy: [0xfc, 10, 0, 0] };
 export const when = (body) => [0x04, EMPTY, body, 0x0b];
 

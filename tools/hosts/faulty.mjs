@@ -1,10 +1,10 @@
 // What hosts refuse before anything runs, with the field that the error names.
 import { Memory } from "../../host/asm.mjs";
-import { I32, I64, call, const32, const64, get, load, store } from "./encode.mjs";
+import { I32, I64, call, const32, const64, fill, get, load, store } from "./encode.mjs";
 
 const own = (type, code) => ({ type, code });
 
-/** A module with an import of each kind, whose start function writes and calls one. */
+/** A module with an import of each kind, whose start function writes, calls one, and fills no bytes, so that its text says how long the memory is. */
 export const ASKING = {
   types: [[[I32], [I32]], [[], [I64]], [[], []], [[I64, I32], [I64]]],
   imports: [
@@ -13,7 +13,7 @@ export const ASKING = {
     { module: "env", name: "g", kind: "global", type: I32 },
     { module: "env", name: "memory", kind: "memory", least: 1, most: 1 },
   ],
-  functions: [own(2, [const32(0), const32(1), call(0), store()]), own(0, [get(0), call(0)]), own(3, [call(1)]), own(0, [get(0), load()])],
+  functions: [own(2, [const32(0), const32(1), call(0), store(), const32(0), const32(0), const32(0), fill()]), own(0, [get(0), call(0)]), own(3, [call(1)]), own(0, [get(0), load()])],
   exports: [["run", "function", 3], ["wide", "function", 4], ["at", "function", 5], ["memory", "memory", 0]],
   start: 2,
 };

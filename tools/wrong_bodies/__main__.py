@@ -121,8 +121,12 @@ def clause_of(body, said):
     if not note:
         return None
     path, line, goal = note.groups()
-    before = "\n".join((ROOT / "crates" / body.crate / path).read_text().split("\n")[: int(line)])
-    function = FUNCTION.findall(before)[-1:]
+    lines = (ROOT / "crates" / body.crate / path).read_text().split("\n")
+    end = int(line)
+    # (of a function with attributes the note names their line)
+    while lines[end - 1].lstrip().startswith("#[") and end < len(lines):
+        end += 1
+    function = FUNCTION.findall("\n".join(lines[:end]))[-1:]
     clause = re.search(r"-clause-(\w+?)(?:-\d+)?$", goal)
     return (*function, clause[1]) if clause else (*function,)
 

@@ -12,7 +12,7 @@ use Rattle.asm_lang_valid.specs.Typing.{Scope}
 use Rattle.asm_tree.specs.declared.tree.Clause.{Clause}
 use Rattle.asm_tree.specs.Views.{stmts_view, clauses_view}
 use Rattle.asm2wasm_translation.specs.Bodies as code
-use Rattle.asm2wasm_emit_switches.proofs.CaseValues.{clauses_put}
+use Rattle.switch_cases.proofs.CaseValues.{clauses_put}
 use Rattle.asm2wasm_emit_bodies.specs.Forms.{clauses_spelled, few_code}
 use Rattle.asm2wasm_emit_bodies.proofs.Counted.{count_is}
 

@@ -17,7 +17,7 @@ use Rattle.asm2wasm_emit_switches.specs.declared.labels.Open.TheVariants as open
 use Rattle.asm2wasm_emit_switches.specs.declared.labels.Labels.{Labels}
 use Rattle.asm2wasm_emit_switches.specs.declared.labels.Labels.TheVariants as variants
 use Rattle.asm2wasm_emit_switches.specs.Labels.{labels_view}
-use Rattle.asm2wasm_emit_switches.proofs.CaseValues.{clauses_put}
+use Rattle.switch_cases.proofs.CaseValues.{clauses_put}
 use Rattle.asm2wasm_emit_switches.proofs.Runs.{labels_view-Inside}
 use Rattle.asm2wasm_emit_bodies.specs.Forms.{clauses_spelled, clause_code}
 use Rattle.asm2wasm_emit_bodies.proofs.Counted.{count_is}

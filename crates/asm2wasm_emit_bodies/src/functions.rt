@@ -14,10 +14,11 @@ ghost use Rattle.asm2wasm_emit_bodies.specs.Forms.{last_form};
 use crate::statements::{emit_stmt, emit_stmts};
 use asm_tree::{Expr, Init, Local, Stmt};
 use asm2wasm_emit_pieces::Output;
-use asm2wasm_emit_switches::{Labels, word_of};
+use asm2wasm_emit_switches::Labels;
 use asm2wasm_emit_values::{Context, emit};
 use asm2wasm_numbers::FunctionNumbers;
 use std::alloc::{AllocError, Global};
+use switch_cases::word_of;
 
 /// The body of a function, without the `End` that closes it, in a module with a heap of `size` bytes.
 pub fn emit_function(

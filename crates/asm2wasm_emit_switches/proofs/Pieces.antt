@@ -18,7 +18,7 @@ use Rattle.asm_tree.specs.Views.{stmts_view, clauses_view}
 use Rattle.asm2wasm_translation.specs.Bodies.{is_dense, case_branches, table_branch, dispatch, case_numbers}
 use Rattle.asm2wasm_emit_pieces.proofs.Parts.{first_part, second_part}
 use Rattle.asm2wasm_emit_switches.specs.Cases.{one_clause, tests_for}
-use Rattle.asm2wasm_emit_switches.proofs.CaseValues.{clauses_put}
+use Rattle.switch_cases.proofs.CaseValues.{clauses_put}
 
 -- one piece of those that are left
 pub turned : (all a b : List Instruction) (w x y : Trees) → all ≡ a ++ flat w → w ≡ x ⊕ y → b ≡ a ++ flat x → all ≡ b ++ flat y

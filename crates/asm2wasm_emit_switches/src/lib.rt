@@ -7,16 +7,11 @@
 
 mod labels;
 mod long;
-mod range;
 mod reach;
 mod short;
-mod targets;
 mod values;
 
 pub use labels::{Branch, Labels, Open};
 pub use long::{all_further, first_clause, reached};
-pub use range::CaseRange;
 pub use reach::{reach_of, reaches};
 pub use short::dispatch;
-pub use targets::{before_default, target_labels};
-pub use values::word_of;

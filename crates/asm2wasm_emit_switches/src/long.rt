@@ -9,12 +9,12 @@ ghost use Rattle.asm2wasm_translation.specs.Values as value_codes;
 ghost use Rattle.asm2wasm_translation.specs.Bodies as code;
 ghost use Rattle.asm2wasm_emit_switches.specs.Cases.{one_clause};
 
-use crate::targets::before_default;
 use crate::values::is_value;
 use asm_tree::Clause;
 use asm2wasm_emit_pieces::Output;
 use sem_words::Rel;
 use std::alloc::AllocError;
+use switch_cases::before_default;
 use wasm_tree::Instr;
 
 /// Into the local `k`, the number of the first clause that is run for the value in the local `t`.

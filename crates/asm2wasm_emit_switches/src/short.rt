@@ -8,13 +8,12 @@ ghost use Rattle.asm_lang_valid.specs.Typing as typing;
 ghost use Rattle.asm2wasm_translation.specs.Bodies as code;
 ghost use Rattle.asm2wasm_emit_switches.specs.Cases.{one_clause, tests_for};
 
-use crate::range::CaseRange;
-use crate::targets::{before_default, target_labels};
-use crate::values::{is_value, word_of};
+use crate::values::is_value;
 use asm_tree::Clause;
 use asm2wasm_emit_pieces::Output;
 use sem_words::{Bin, List};
 use std::alloc::{AllocError, Global};
+use switch_cases::{CaseRange, before_default, target_labels, word_of};
 use wasm_tree::Instr;
 
 /// To the label of the clause of the value in the local `t`: label i is the place of clause i, and the last one the end

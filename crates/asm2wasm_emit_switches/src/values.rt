@@ -9,14 +9,8 @@ ghost use Rattle.asm2wasm_translation.specs.Values as code;
 use asm2wasm_emit_pieces::Output;
 use sem_words::Rel;
 use std::alloc::AllocError;
+use switch_cases::word_of;
 use wasm_tree::Instr;
-
-/// The word of 32 bits that a whole number leaves.
-pub fn word_of(value: i64) -> u32
-    ensures { result ≡ words.word_of 32 value }
-{
-    value.rem_euclid(1 << 32) as u32
-}
 
 /// Whether the local `t` holds the value of a case.
 pub fn is_value(output: &mut Output, t: usize, value: i64) -> Result<(), AllocError>

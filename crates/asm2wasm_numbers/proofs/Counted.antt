@@ -13,7 +13,7 @@ use Rattle.asm_names.proofs.Numbered.{same_member, member_first}
 use Rattle.asm_validate_limits.specs.declared.calls.ForeignCall.{ForeignCall as CodeCall}
 use Rattle.asm_validate_limits.specs.Called.{foreign_view, EachIsFirst}
 use Rattle.asm2wasm_translation.specs.Numbers.{number_among, import_number}
-use Rattle.asm2wasm_tables.specs.Names.{or_else}
+use Rattle.name_slots.specs.Names.{or_else}
 use Rattle.asm2wasm_numbers.specs.declared.calls.Call.{Call}
 use Rattle.asm2wasm_numbers.specs.contracts.calls.CallPartialEq.TheImpl.{eq-value}
 use Rattle.asm2wasm_numbers.specs.Calls.{key_of, same_call, place_among}

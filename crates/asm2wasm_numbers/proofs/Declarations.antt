@@ -11,7 +11,7 @@ use Rattle.asm_tree.specs.declared.tree.Param.{Param}
 use Rattle.asm_tree.specs.declared.tree.Local.{Local}
 use Rattle.asm_tree.specs.Views.{table_view, global_view, param_view, local_view, init_view, texts_view}
 use Rattle.asm2wasm_translation.specs.Numbers.{int_variables, is_variable}
-use Rattle.asm2wasm_tables.specs.Names.{names_in}
+use Rattle.name_slots.specs.Names.{names_in}
 use Rattle.asm2wasm_numbers.specs.Declarations.{table_names, variable_names, param_names}
 
 -- what is named of a list, of which the first has this name

@@ -16,8 +16,9 @@ use Rattle.asm_lang_valid.specs.Scope.{Signature, function_signature, first_memb
 use Rattle.std.specs.Prelude.{Option, None}
 use Rattle.asm2wasm_lang.specs.Tables.{bases_of}
 use Rattle.asm2wasm_translation.specs.Numbers.{own_number, import_number, slot_of, base_of}
-use Rattle.asm2wasm_tables.specs.Names.{function_names, slot_or_length}
-use Rattle.asm2wasm_tables.proofs.Named.{number_is}
+use Rattle.name_slots.specs.Names.{slot_or_length}
+use Rattle.asm2wasm_tables.specs.Names.{function_names}
+use Rattle.name_slots.proofs.Named.{number_is}
 use Rattle.asm2wasm_numbers.specs.Declarations.{table_names}
 use Rattle.asm2wasm_numbers.specs.Places.{base_or_zero}
 use Rattle.asm2wasm_numbers.proofs.Bases.{base_in, base_is}

@@ -12,7 +12,7 @@ use Rattle.asm_validate_limits.specs.declared.calls.ForeignCall.{ForeignCall as 
 use Rattle.asm_lang.specs.Modules.{Module}
 use Rattle.asm_validate_limits.specs.Called.{foreign_view}
 use Rattle.asm2wasm_translation.specs.Numbers.{is_signature, is_known, each_once, asked_signature, place_of_type}
-use Rattle.asm2wasm_tables.specs.Names.{or_else}
+use Rattle.name_slots.specs.Names.{or_else}
 use Rattle.asm2wasm_numbers.specs.declared.signatures.Signature.{Signature}
 use Rattle.asm2wasm_numbers.specs.contracts.signatures.SignaturePartialEq.TheImpl.{eq-value}
 use Rattle.asm2wasm_numbers.specs.Signatures.{asked, signature_said}

@@ -3,7 +3,7 @@ use Rattle.std.specs.Prelude.{◌≡◌, ℕ, suc, Bool, ◌&&◌, List, [], ◌
 use Rattle.indexmap.specs.IndexMap.{IndexMap, get_by}
 use Rattle.asm_lang_valid.specs.Typing.{same}
 use Rattle.asm_validate_limits.specs.declared.calls.ForeignCall.{ForeignCall as CodeCall}
-use Rattle.asm2wasm_tables.specs.Names.{or_else}
+use Rattle.name_slots.specs.Names.{or_else}
 use Rattle.asm2wasm_numbers.specs.declared.calls.Call.{Call}
 
 abbrev pub key_of : CodeCall → Call

@@ -1,7 +1,7 @@
 -- The places that the code tells.
 use Rattle.std.specs.Prelude.{ℕ, List, slice_get}
 use Rattle.asm2wasm_translation.specs.Numbers.{VariablePlace, a_local, a_global, nowhere}
-use Rattle.asm2wasm_tables.specs.Names.{or_else}
+use Rattle.name_slots.specs.Names.{or_else}
 use Rattle.asm2wasm_numbers.specs.declared.place.Place.{Place}
 use Rattle.asm2wasm_numbers.specs.declared.place.Place.TheVariants.{Local, Global, Nowhere}
 

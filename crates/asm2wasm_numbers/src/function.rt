@@ -13,7 +13,7 @@ use crate::names::local_slots;
 use crate::place::Place;
 use asm_names::{Meaning, Scope};
 use asm_tree::Function;
-use asm2wasm_tables::Slots;
+use name_slots::Slots;
 use sem_words::Text;
 use std::alloc::{AllocError, Global};
 use std::marker::Model;

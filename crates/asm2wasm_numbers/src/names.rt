@@ -2,13 +2,14 @@
 ghost use Rattle.std.specs.Prelude.{◌≡◌, ◌++◌, IfOk, map};
 ghost use Rattle.asm_tree.specs.Views.{module_view, table_view, global_view, function_view, param_view, local_view, init_view, texts_view};
 ghost use Rattle.asm2wasm_translation.specs.Numbers.{int_variables, local_names, is_variable};
-ghost use Rattle.asm2wasm_tables.specs.Names.{names_in};
+ghost use Rattle.name_slots.specs.Names.{names_in};
 ghost use Rattle.asm2wasm_numbers.specs.Named.{IsNamed};
 ghost use Rattle.asm2wasm_numbers.specs.Declarations.{variable_names, table_names, param_names};
 
 use asm_tree::{Function, Global_, Init, Local, Param, Table};
 use asm_validate::Checked;
-use asm2wasm_tables::{Slots, function_slots};
+use asm2wasm_tables::function_slots;
+use name_slots::Slots;
 use sem_words::Text;
 use std::alloc::{AllocError, Global};
 

@@ -1,15 +1,27 @@
 -- Tables laid end to end, one more at a time.
 use Rattle.std.proofs.Common.{◌≡◌, ℕ, ◌+◌, ◌<◌, List, [], ◌∷◌, ◌++◌, length, map, drop, get_or, refl, sym, ap, ◌∙◌, append_assoc, length-append}
-use Rattle.std.proofs.lemmas.List.{at_drop_more, length-map}
+use Rattle.std.proofs.lemmas.List.{at_drop_more, length-map, map-append}
+use Rattle.std.specs.Borrow.{Bor}
 use Rattle.sem_words.specs.declared.text.Text.{Text}
 use Rattle.sem_words.specs.Lists.{text_bytes, list_items}
 use Rattle.asm_lang.specs.Modules as plain
+use Rattle.asm_tree.specs.declared.tree.Function.{Function}
 use Rattle.asm_tree.specs.declared.tree.Table.{Table}
-use Rattle.asm_tree.specs.Views.{table_view, texts_view}
+use Rattle.asm_tree.specs.Views.{function_view, table_view, texts_view}
 use Rattle.asm_lang_valid.specs.Refusal.{function_number}
 use Rattle.asm2wasm_lang.specs.Tables.{members_of, entries_from, bases_from}
-use Rattle.asm2wasm_tables.specs.Names.{slot_or_length, function_names, numbers_in, entries_in}
-use Rattle.asm2wasm_tables.proofs.Named.{number_is}
+use Rattle.name_slots.specs.Names.{names_in, slot_or_length}
+use Rattle.name_slots.proofs.Named.{number_is}
+use Rattle.asm2wasm_tables.specs.Names.{function_names, numbers_in, entries_in}
+
+pub function_more : (bs : List (Bor (List ℕ))) (b : Bor (List ℕ)) (fs : List Function) (i : ℕ) (f : Function) → i < length fs → f ≡ get_or fs i f → b.now ≡ text_bytes f.name →
+    names_in (bs ++ b ∷ []) ++ function_names (map function_view (drop (i + 1) fs)) ≡ names_in bs ++ function_names (map function_view (drop i fs))
+function_more bs b fs i f h is same =
+    let rest = function_names (map function_view (drop (i + 1) fs)) in
+    ap (λ l. l ++ rest) (map-append (λ (b : Bor (List ℕ)). b.now) bs (b ∷ [])) ∙ append_assoc (names_in bs) (b.now ∷ []) rest
+    ∙ ap (λ y. names_in bs ++ y ∷ rest) same
+    ∙ ap (λ (w : Function). names_in bs ++ text_bytes w.name ∷ rest) is
+    ∙ sym (at_drop_more (λ l. names_in bs ++ function_names (map function_view l)) fs i f h)
 
 pub member_more : (es : List ℕ) (names : List (List ℕ)) (ms : List Text) (i : ℕ) (t : Text) (x : ℕ) → i < length ms → t ≡ get_or ms i t → x ≡ slot_or_length names (text_bytes t) →
     (es ++ x ∷ []) ++ numbers_in names (texts_view (drop (i + 1) ms)) ≡ es ++ numbers_in names (texts_view (drop i ms))

@@ -5,9 +5,9 @@ ghost use Rattle.asm_tree.specs.Views.{module_view, function_view, table_view, t
 ghost use Rattle.asm2wasm_lang.specs.Tables.{bases_of, entries_of, bases_from};
 ghost use Rattle.asm2wasm_tables.specs.Names.{function_names, numbers_in, entries_in};
 
-use crate::slots::Slots;
 use asm_tree::{Function, Table};
 use asm_validate::Checked;
+use name_slots::Slots;
 use sem_words::{List, Text};
 use std::alloc::{AllocError, Global};
 

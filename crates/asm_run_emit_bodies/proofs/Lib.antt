@@ -1,4 +1,4 @@
-pub mod Left
+pub mod Inside
 pub mod Cases
 pub mod Shapes
 pub mod Forms

@@ -1,5 +1,5 @@
 -- Statements and clauses, from the last one to the first.
-use Rattle.std.proofs.Common.{◌≡◌, ℕ, zero, suc, ◌+◌, ◌<◌, ◌≤◌, List, [], ◌∷◌, length, drop, get_or, refl, sym, ap, ◌∙◌, arith}
+use Rattle.std.proofs.Common.{◌≡◌, ℕ, zero, suc, ◌+◌, ◌<◌, ◌≤◌, List, [], ◌∷◌, length, drop, get_or, sym, ap, ◌∙◌, arith}
 use Rattle.std.proofs.lemmas.List.{at_drop_more, at_drop_all}
 use Rattle.sem_words.specs.Lists.{list_items}
 use Rattle.asm_lang_valid.specs.Typing.{Scope}
@@ -50,12 +50,6 @@ module _ (c : Scope) (around : List Around) (d : ℕ) (o : List Op) where
   unfolding clauses_code
   clause_none ks = at_drop_all (λ l. clauses_code c around d (clauses_view l) o) ks (length ks) (omega arith)
 
-  -- each clause has an address
-  pub starts_count : (ks : List Clause) → length (clauses_code c around d (clauses_view ks) o).starts ≡ suc (length ks)
-  unfolding clauses_code
-  starts_count [] = refl
-  starts_count (k ∷ ks) = ap suc (starts_count ks)
-
   -- ---- a pass from the last one to the first: the code so far is that of those passed
 
   pub stmts_begin : (ss : List CodeStmt) → o ≡ stmts_code c around d (stmts_view (drop (length ss) ss)) o
@@ -91,7 +85,3 @@ module _ (c : Scope) (around : List Around) (d : ℕ) (o : List Op) where
 
   pub starts_end : (ks : List Clause) (x : List ℕ) (i : ℕ) → i ≡ 0 → x ≡ (clauses_code c around d (clauses_view (drop i ks)) o).starts → x ≡ (clauses_code c around d (clauses_view ks) o).starts
   starts_end ks x i hi hx = hx ∙ ap (λ i. (clauses_code c around d (clauses_view (drop i ks)) o).starts) hi
-
-  -- an address for each clause
-  pub enough : (ks : List Clause) (x : List ℕ) → x ≡ (clauses_code c around d (clauses_view ks) o).starts → length ks ≤ length x
-  enough ks x hx = omega (arith, ap length hx, starts_count ks)

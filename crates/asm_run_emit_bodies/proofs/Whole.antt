@@ -34,6 +34,13 @@ whole_made r b w free around ss o o₁ o₂ ho hf h₁ h₂ ha hs h =
     ∙ ap (λ k. stmts_code c [] k (stmts_view (list_items w.function.body)) (Number k 0 ∷ Give k ∷ [])) hf)
     h
 
+-- .. under the names of the function
+pub whole_named : {E : Type 0} (r : Result (Unit {0}) E) (b : List Op) (w : Within) (m : Tree) (f : Function) → w.home ≡ m → w.function ≡ f → OnOk r (b ≡ whole (scope_said w)) → OnOk r (b ≡ whole (scope_of (module_view m) (function_view f)))
+whole_named r b w m f hm hf h =
+    told r b (whole (scope_said w)) (whole (scope_of (module_view m) (function_view f)))
+    (ap (λ (t : Tree). whole (scope_of (module_view t) (function_view w.function))) hm ∙ ap (λ (g : Function). whole (scope_of (module_view m) (function_view g))) hf)
+    h
+
 first_is : (c : Scope) (n : List ℕ) (i : Init) → init_word i ≡ first_word c (record { name = n; init = i })
 first_is c n (number z) = refl
 first_is c n (decimal bs) = refl
@@ -51,11 +58,10 @@ abbrev pub made_of : ℕ → List ℕ → List Op → code.Flat
 made_of params firsts ops = record { params = params; firsts = firsts; code = ops }
 
 -- its parts are those of the function
-pub flat_made : (m : Tree) (f : Function) (w : Within) (ps : List Param) (ls : List Local) (params : ℕ) (firsts : List ℕ) (o ops : List Op) → w.home ≡ m → w.function ≡ f → ps ≡ list_items f.params → ls ≡ list_items f.locals →
-    params ≡ length ps → firsts ≡ map local_word (map local_view ls) → o ≡ whole (scope_said w) → ops ≡ reverse o → made_of params firsts ops ≡ flat (module_view m) (function_view f)
-flat_made m f w ps ls params firsts o ops hm hw hp hl h₁ h₂ ho h₃ =
+pub flat_made : (m : Tree) (f : Function) (ps : List Param) (ls : List Local) (params : ℕ) (firsts : List ℕ) (o ops : List Op) → ps ≡ list_items f.params → ls ≡ list_items f.locals →
+    params ≡ length ps → firsts ≡ map local_word (map local_view ls) → o ≡ whole (scope_of (module_view m) (function_view f)) → ops ≡ reverse o → made_of params firsts ops ≡ flat (module_view m) (function_view f)
+flat_made m f ps ls params firsts o ops hp hl h₁ h₂ ho h₃ =
     let c = scope_of (module_view m) (function_view f) in
-    let scope = ap (λ (t : Tree). scope_of (module_view t) (function_view w.function)) hm ∙ ap (λ (g : Function). scope_of (module_view m) (function_view g)) hw in
     ap (λ k. made_of k firsts ops) (h₁ ∙ ap (λ (l : List Param). length l) hp ∙ sym (length-map (list_items f.params) param_view))
     ∙ ap (λ l. made_of (length (map param_view (list_items f.params))) l ops) (h₂ ∙ ap (λ (l : List Local). map local_word (map local_view l)) hl ∙ firsts_are c (map local_view (list_items f.locals)))
-    ∙ ap (λ l. made_of (length (map param_view (list_items f.params))) (map (first_word c) (map local_view (list_items f.locals))) l) (h₃ ∙ ap reverse (ho ∙ ap (λ (s : Scope). whole s) scope))
+    ∙ ap (λ l. made_of (length (map param_view (list_items f.params))) (map (first_word c) (map local_view (list_items f.locals))) l) (h₃ ∙ ap reverse ho)

@@ -1,3 +1,3 @@
-pub mod Around
+pub mod Jumps
 pub mod Switches
 pub mod Flats

@@ -1,7 +1,7 @@
 //! The flat code of the statements, functions and modules of asm.js.
 #![tactic(auto)]
 
-mod around;
+mod jumps;
 mod modules;
 mod statements;
 mod switches;

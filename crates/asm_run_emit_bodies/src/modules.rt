@@ -3,16 +3,18 @@ ghost use Rattle.std.specs.Prelude.{◌≡◌, [], map, reverse, OnOk, IfOk};
 ghost use Rattle.sem_words.specs.Lists.{list_items};
 ghost use Rattle.asm_tree.specs.Views.{module_view, function_view, local_view, table_view, init_view, texts_view};
 ghost use Rattle.asm_lang_valid.specs.Refusal.{function_number};
+ghost use Rattle.asm_lang_valid.specs.Typed.{scope_of};
 ghost use Rattle.asm2wasm_lang.specs.Tables as entries;
 ghost use Rattle.asm_run_code.specs.Modules as code;
 ghost use Rattle.asm_run_emit_values.specs.Names.{scope_said};
 ghost use Rattle.asm_run_emit_bodies.specs.Flats.{flat_view, local_word, init_word, whole};
 
-use crate::around::Around;
+use crate::jumps::Jumps;
 use crate::statements::emit_stmts;
 use asm_run_code::Op;
 use asm_run_emit_values::{FunctionNames, ModuleNames, Output, small};
 use asm_tree::{Function, Init, Local, Module, Table};
+use asm_validate_nodes::label_hashes;
 use sem_words::{List, Text};
 use std::alloc::{AllocError, Global};
 use switch_cases::word_of;
@@ -40,8 +42,17 @@ pub fn codes_of(alloc: Global, module: &Module) -> Result<Codes, AllocError>
     ensures tables { IfOk result (λ codes. map (λ t. list_items t) (list_items codes.tables) ≡ (code.codes_of (module_view «module».now)).tables) }
 {
     let names = ModuleNames::new(alloc, module)?;
-    let functions = flats_of(alloc, &names, module.functions.as_slice())?;
-    let tables = tables_of(alloc, &names, module.tables.as_slice())?;
+    codes_by(alloc, &names)
+}
+
+// .. by the names of the module.
+fn codes_by(alloc: Global, names: &ModuleNames<'_>) -> Result<Codes, AllocError>
+    ensures functions { IfOk result (λ codes. map flat_view (list_items codes.functions) ≡ (code.codes_of (module_view names.now)).functions) }
+    ensures tables { IfOk result (λ codes. map (λ t. list_items t) (list_items codes.tables) ≡ (code.codes_of (module_view names.now)).tables) }
+{
+    let module = names.module();
+    let functions = flats_of(alloc, names, module.functions.as_slice())?;
+    let tables = tables_of(alloc, names, module.tables.as_slice())?;
     Ok(Codes {
         functions: List::from_vec(functions),
         tables: List::from_vec(tables),
@@ -74,8 +85,7 @@ fn code_of<'a>(
     requires { output.old ≡ [] }
     ensures { IfOk result (λ flat. flat_view flat ≡ code.flat (module_view «module».now) (function_view function.now)) }
 {
-    let names = FunctionNames::new(alloc, module, function)?;
-    emit_body(alloc, &names, output)?;
+    emit_function(alloc, module, output, function)?;
     let params = small(function.params.as_slice().len())?;
     let firsts = firsts_of(alloc, function.locals.as_slice())?;
     let code = stored_code(alloc, output)?;
@@ -87,6 +97,20 @@ fn code_of<'a>(
 }
 
 // The whole code, where there is none yet.
+fn emit_function<'a>(
+    alloc: Global,
+    module: &ModuleNames<'a>,
+    output: &mut Output,
+    function: &'a Function,
+) -> Result<(), AllocError>
+    requires { output.old ≡ [] }
+    ensures { OnOk result (output.new ≡ whole (scope_of (module_view «module».now) (function_view function.now))) }
+{
+    let names = FunctionNames::new(alloc, module, function)?;
+    emit_body(alloc, &names, output)
+}
+
+// .. by the names of the function.
 fn emit_body(
     alloc: Global,
     names: &FunctionNames<'_, '_>,
@@ -98,9 +122,9 @@ fn emit_body(
     let free = small(names.first_free())?;
     output.put(Op::Give { from: free })?;
     output.put(Op::Number { to: free, word: 0 })?;
-    let around = Around::Nothing;
     let body = names.function().body.as_slice();
-    emit_stmts(names, output, alloc, &around, free, body)
+    let mut jumps = Jumps::new(alloc, label_hashes(body));
+    emit_stmts(names, output, alloc, &mut jumps, free, body)
 }
 
 fn stored_code(alloc: Global, output: &Output) -> Result<Vec<Op>, AllocError>

@@ -1,14 +1,14 @@
 //! The code of statements, from its end.
-ghost use Rattle.std.specs.Prelude.{◌≡◌, [], ◌∷◌, OnOk, IfOk};
+ghost use Rattle.std.specs.Prelude.{◌≡◌, ◌≤◌, List, [], ◌∷◌, length, OnOk, IfOk};
 ghost use Rattle.asm_lang.specs.Modules as form;
 ghost use Rattle.asm_tree.specs.Views.{texts_view, expr_view, expr_option, stmt_view, stmts_view, clauses_view};
 ghost use Rattle.asm_run_code.specs.declared.op.Op.TheVariants.{Go};
 ghost use Rattle.asm_run_code.specs.Bodies as code;
 ghost use Rattle.asm_run_code.specs.Bodies.{stmt, stmts_code, clauses_code};
 ghost use Rattle.asm_run_emit_values.specs.Names.{scope_said};
-ghost use Rattle.asm_run_emit_bodies.specs.Around.{around_view};
+ghost use Rattle.asm_run_emit_bodies.specs.Jumps.{around_view, Meets};
 
-use crate::around::{Around, Open};
+use crate::jumps::{Around, Jumps};
 use crate::switches::{Starts, dispatch};
 use asm_run_code::Op;
 use asm_run_emit_values::{
@@ -24,43 +24,44 @@ pub fn emit_stmt<'l>(
     names: &FunctionNames<'_, '_>,
     output: &mut Output,
     alloc: Global,
-    around: &'l Around<'l>,
+    jumps: &mut Jumps<'l>,
     own: &'l [Text],
     free: u32,
     statement: &'l Stmt,
 ) -> Result<(), AllocError>
-    ensures { OnOk result (output.new ≡ stmt (scope_said names.now) (around_view around.now) (texts_view own.now) free (stmt_view statement.now) output.old) }
+    ensures code { (os : List code.Around) → Meets jumps.old os → OnOk result (output.new ≡ stmt (scope_said names.now) os (texts_view own.now) free (stmt_view statement.now) output.old) }
+    ensures kept { OnOk result (jumps.new ≡ jumps.old) }
 {
     match statement {
         Stmt::Empty => Ok(()),
-        Stmt::Block(body) => emit_stmts(names, output, alloc, around, free, body.as_slice()),
+        Stmt::Block(body) => emit_stmts(names, output, alloc, jumps, free, body.as_slice()),
         Stmt::Plain(expr) => emit_value(names, output, None, free, expr),
         Stmt::If(yes, no, condition) => match no {
-            None => emit_if(names, output, alloc, around, free, condition, yes),
-            Some(no) => emit_if_else(names, output, alloc, around, free, condition, yes, no),
+            None => emit_if(names, output, alloc, jumps, free, condition, yes),
+            Some(no) => emit_if_else(names, output, alloc, jumps, free, condition, yes, no),
         },
         Stmt::Return(value) => emit_return(names, output, free, value),
         Stmt::While(condition, body) => {
-            emit_while(names, output, alloc, around, own, free, condition, body)
+            emit_while(names, output, alloc, jumps, own, free, condition, body)
         }
         Stmt::DoWhile(body, condition) => {
-            emit_do(names, output, alloc, around, own, free, body, condition)
+            emit_do(names, output, alloc, jumps, own, free, body, condition)
         }
         Stmt::For(head, body) => {
             let head: &ForHead = head;
-            emit_for(names, output, alloc, around, own, free, head, body)
+            emit_for(names, output, alloc, jumps, own, free, head, body)
         }
-        Stmt::Break(name) => put_go(output, around.break_address(name)),
-        Stmt::Continue(name) => put_go(output, around.continue_address(name)),
+        Stmt::Break(name) => put_go(output, jumps.break_address(name)),
+        Stmt::Continue(name) => put_go(output, jumps.continue_address(name)),
         Stmt::Labelled(labels, body) => {
-            emit_labelled(names, output, alloc, around, labels.as_slice(), free, body)
+            emit_labelled(names, output, alloc, jumps, labels.as_slice(), free, body)
         }
         Stmt::Switch(clauses, subject) => {
             emit_switch(
                 names,
                 output,
                 alloc,
-                around,
+                jumps,
                 free,
                 clauses.as_slice(),
                 subject,
@@ -74,16 +75,38 @@ fn emit_labelled<'l>(
     names: &FunctionNames<'_, '_>,
     output: &mut Output,
     alloc: Global,
-    around: &'l Around<'l>,
+    jumps: &mut Jumps<'l>,
     labels: &'l [Text],
     free: u32,
     body: &'l Stmt,
 ) -> Result<(), AllocError>
-    ensures { OnOk result (output.new ≡ stmt (scope_said names.now) (around_view around.now) [] free (form.labelled (texts_view labels.now) (stmt_view body.now)) output.old) }
+    ensures code { (os : List code.Around) → Meets jumps.old os → OnOk result (output.new ≡ stmt (scope_said names.now) os [] free (form.labelled (texts_view labels.now) (stmt_view body.now)) output.old) }
+    ensures kept { OnOk result (jumps.new ≡ jumps.old) }
 {
     let past = output.address()?;
-    let inside = Around::Inside(Open::Named(labels, past), around);
-    emit_stmt(names, output, alloc, &inside, labels, free, body)
+    let around = Around::Named(labels, past);
+    emit_inside(names, output, alloc, jumps, around, labels, free, body)
+}
+
+// A statement that stands in a loop or under labels.
+#[cycle(statements)]
+fn emit_inside<'l>(
+    names: &FunctionNames<'_, '_>,
+    output: &mut Output,
+    alloc: Global,
+    jumps: &mut Jumps<'l>,
+    around: Around<'l>,
+    own: &'l [Text],
+    free: u32,
+    body: &'l Stmt,
+) -> Result<(), AllocError>
+    ensures code { (os : List code.Around) → Meets jumps.old os → OnOk result (output.new ≡ stmt (scope_said names.now) (around_view around.entry ∷ os) (texts_view own.now) free (stmt_view body.now) output.old) }
+    ensures kept { OnOk result (jumps.new ≡ jumps.old) }
+{
+    jumps.enter(around)?;
+    emit_stmt(names, output, alloc, jumps, own, free, body)?;
+    jumps.leave(around);
+    Ok(())
 }
 
 fn put_go(output: &mut Output, at: u32) -> Result<(), AllocError>
@@ -98,16 +121,17 @@ pub fn emit_stmts<'l>(
     names: &FunctionNames<'_, '_>,
     output: &mut Output,
     alloc: Global,
-    around: &'l Around<'l>,
+    jumps: &mut Jumps<'l>,
     free: u32,
     body: &'l [Stmt],
 ) -> Result<(), AllocError>
-    ensures { OnOk result (output.new ≡ stmts_code (scope_said names.now) (around_view around.now) free (stmts_view body.now) output.old) }
+    ensures code { (os : List code.Around) → Meets jumps.old os → OnOk result (output.new ≡ stmts_code (scope_said names.now) os free (stmts_view body.now) output.old) }
+    ensures kept { OnOk result (jumps.new ≡ jumps.old) }
 {
     let mut i = body.len();
     while i > 0 {
         i -= 1;
-        emit_stmt(names, output, alloc, around, &[], free, &body[i])?;
+        emit_stmt(names, output, alloc, jumps, &[], free, &body[i])?;
     }
     Ok(())
 }
@@ -117,15 +141,16 @@ fn emit_if<'l>(
     names: &FunctionNames<'_, '_>,
     output: &mut Output,
     alloc: Global,
-    around: &'l Around<'l>,
+    jumps: &mut Jumps<'l>,
     free: u32,
     condition: &'l Expr,
     yes: &'l Stmt,
 ) -> Result<(), AllocError>
-    ensures { OnOk result (output.new ≡ stmt (scope_said names.now) (around_view around.now) [] free (form.if_only (expr_view condition.now) (stmt_view yes.now)) output.old) }
+    ensures code { (os : List code.Around) → Meets jumps.old os → OnOk result (output.new ≡ stmt (scope_said names.now) os [] free (form.if_only (expr_view condition.now) (stmt_view yes.now)) output.old) }
+    ensures kept { OnOk result (jumps.new ≡ jumps.old) }
 {
     let past = output.address()?;
-    emit_stmt(names, output, alloc, around, &[], free, yes)?;
+    emit_stmt(names, output, alloc, jumps, &[], free, yes)?;
     emit_test(names, output, free, condition, past)
 }
 
@@ -134,19 +159,20 @@ fn emit_if_else<'l>(
     names: &FunctionNames<'_, '_>,
     output: &mut Output,
     alloc: Global,
-    around: &'l Around<'l>,
+    jumps: &mut Jumps<'l>,
     free: u32,
     condition: &'l Expr,
     yes: &'l Stmt,
     no: &'l Stmt,
 ) -> Result<(), AllocError>
-    ensures { OnOk result (output.new ≡ stmt (scope_said names.now) (around_view around.now) [] free (form.if_else (expr_view condition.now) (stmt_view yes.now) (stmt_view no.now)) output.old) }
+    ensures code { (os : List code.Around) → Meets jumps.old os → OnOk result (output.new ≡ stmt (scope_said names.now) os [] free (form.if_else (expr_view condition.now) (stmt_view yes.now) (stmt_view no.now)) output.old) }
+    ensures kept { OnOk result (jumps.new ≡ jumps.old) }
 {
     let past = output.address()?;
-    emit_stmt(names, output, alloc, around, &[], free, no)?;
+    emit_stmt(names, output, alloc, jumps, &[], free, no)?;
     let at = output.address()?;
     output.put(Op::Go { at: past })?;
-    emit_stmt(names, output, alloc, around, &[], free, yes)?;
+    emit_stmt(names, output, alloc, jumps, &[], free, yes)?;
     emit_test(names, output, free, condition, at)
 }
 
@@ -177,20 +203,21 @@ fn emit_while<'l>(
     names: &FunctionNames<'_, '_>,
     output: &mut Output,
     alloc: Global,
-    around: &'l Around<'l>,
+    jumps: &mut Jumps<'l>,
     own: &'l [Text],
     free: u32,
     condition: &'l Expr,
     body: &'l Stmt,
 ) -> Result<(), AllocError>
-    ensures { OnOk result (output.new ≡ stmt (scope_said names.now) (around_view around.now) (texts_view own.now) free (form.while_loop (expr_view condition.now) (stmt_view body.now)) output.old) }
+    ensures code { (os : List code.Around) → Meets jumps.old os → OnOk result (output.new ≡ stmt (scope_said names.now) os (texts_view own.now) free (form.while_loop (expr_view condition.now) (stmt_view body.now)) output.old) }
+    ensures kept { OnOk result (jumps.new ≡ jumps.old) }
 {
     let past = output.address()?;
     let inner = next(free)?;
     output.put(Op::Again { slot: free })?;
     let turn = output.address()?;
-    let inside = Around::Inside(Open::Loop(own, turn, past), around);
-    emit_stmt(names, output, alloc, &inside, &[], inner, body)?;
+    let around = Around::Loop(own, turn, past);
+    emit_inside(names, output, alloc, jumps, around, &[], inner, body)?;
     emit_test(names, output, inner, condition, past)?;
     output.put(Op::Turn { to: free })
 }
@@ -200,21 +227,22 @@ fn emit_do<'l>(
     names: &FunctionNames<'_, '_>,
     output: &mut Output,
     alloc: Global,
-    around: &'l Around<'l>,
+    jumps: &mut Jumps<'l>,
     own: &'l [Text],
     free: u32,
     body: &'l Stmt,
     condition: &'l Expr,
 ) -> Result<(), AllocError>
-    ensures { OnOk result (output.new ≡ stmt (scope_said names.now) (around_view around.now) (texts_view own.now) free (form.do_while (stmt_view body.now) (expr_view condition.now)) output.old) }
+    ensures code { (os : List code.Around) → Meets jumps.old os → OnOk result (output.new ≡ stmt (scope_said names.now) os (texts_view own.now) free (form.do_while (stmt_view body.now) (expr_view condition.now)) output.old) }
+    ensures kept { OnOk result (jumps.new ≡ jumps.old) }
 {
     let past = output.address()?;
     let inner = next(free)?;
     output.put(Op::Again { slot: free })?;
     emit_test(names, output, inner, condition, past)?;
     let turn = output.address()?;
-    let inside = Around::Inside(Open::Loop(own, turn, past), around);
-    emit_stmt(names, output, alloc, &inside, &[], inner, body)?;
+    let around = Around::Loop(own, turn, past);
+    emit_inside(names, output, alloc, jumps, around, &[], inner, body)?;
     output.put(Op::Turn { to: free })
 }
 
@@ -223,21 +251,22 @@ fn emit_for<'l>(
     names: &FunctionNames<'_, '_>,
     output: &mut Output,
     alloc: Global,
-    around: &'l Around<'l>,
+    jumps: &mut Jumps<'l>,
     own: &'l [Text],
     free: u32,
     head: &'l ForHead,
     body: &'l Stmt,
 ) -> Result<(), AllocError>
-    ensures { OnOk result (output.new ≡ stmt (scope_said names.now) (around_view around.now) (texts_view own.now) free (form.for_loop (expr_option head.now.start) (expr_option head.now.condition) (expr_option head.now.step) (stmt_view body.now)) output.old) }
+    ensures code { (os : List code.Around) → Meets jumps.old os → OnOk result (output.new ≡ stmt (scope_said names.now) os (texts_view own.now) free (form.for_loop (expr_option head.now.start) (expr_option head.now.condition) (expr_option head.now.step) (stmt_view body.now)) output.old) }
+    ensures kept { OnOk result (jumps.new ≡ jumps.old) }
 {
     let past = output.address()?;
     let inner = next(free)?;
     output.put(Op::Again { slot: free })?;
     emit_part(names, output, inner, &head.step)?;
     let turn = output.address()?;
-    let inside = Around::Inside(Open::Loop(own, turn, past), around);
-    emit_stmt(names, output, alloc, &inside, &[], inner, body)?;
+    let around = Around::Loop(own, turn, past);
+    emit_inside(names, output, alloc, jumps, around, &[], inner, body)?;
     emit_condition(names, output, inner, &head.condition, past)?;
     output.put(Op::Turn { to: free })?;
     emit_part(names, output, free, &head.start)
@@ -277,16 +306,19 @@ fn emit_switch<'l>(
     names: &FunctionNames<'_, '_>,
     output: &mut Output,
     alloc: Global,
-    around: &'l Around<'l>,
+    jumps: &mut Jumps<'l>,
     free: u32,
     clauses: &'l [Clause],
     subject: &'l Expr,
 ) -> Result<(), AllocError>
-    ensures { OnOk result (output.new ≡ stmt (scope_said names.now) (around_view around.now) [] free (form.switches (expr_view subject.now) (clauses_view clauses.now)) output.old) }
+    ensures code { (os : List code.Around) → Meets jumps.old os → OnOk result (output.new ≡ stmt (scope_said names.now) os [] free (form.switches (expr_view subject.now) (clauses_view clauses.now)) output.old) }
+    ensures kept { OnOk result (jumps.new ≡ jumps.old) }
 {
     let past = output.address()?;
-    let inside = Around::Inside(Open::Switch(past), around);
-    let starts = emit_clauses(names, output, alloc, &inside, free, clauses)?;
+    let around = Around::Switch(past);
+    jumps.enter(around)?;
+    let starts = emit_clauses(names, output, alloc, jumps, free, clauses)?;
+    jumps.leave(around);
     let place = local(names, subject)?;
     let slot = into(place, free);
     dispatch(output, alloc, clauses, &starts, slot)?;
@@ -299,12 +331,14 @@ fn emit_clauses<'l>(
     names: &FunctionNames<'_, '_>,
     output: &mut Output,
     alloc: Global,
-    around: &'l Around<'l>,
+    jumps: &mut Jumps<'l>,
     free: u32,
     clauses: &'l [Clause],
 ) -> Result<Starts, AllocError>
-    ensures code { OnOk result (output.new ≡ (clauses_code (scope_said names.now) (around_view around.now) free (clauses_view clauses.now) output.old).code) }
-    ensures starts { IfOk result (λ starts. starts ≡ (clauses_code (scope_said names.now) (around_view around.now) free (clauses_view clauses.now) output.old).starts) }
+    ensures code { (os : List code.Around) → Meets jumps.old os → OnOk result (output.new ≡ (clauses_code (scope_said names.now) os free (clauses_view clauses.now) output.old).code) }
+    ensures starts { (os : List code.Around) → Meets jumps.old os → IfOk result (λ starts. starts ≡ (clauses_code (scope_said names.now) os free (clauses_view clauses.now) output.old).starts) }
+    ensures count { IfOk result (λ starts. length clauses.now ≤ length starts) }
+    ensures kept { OnOk result (jumps.new ≡ jumps.old) }
 {
     let mut starts = Starts::new(alloc);
     let past = output.address()?;
@@ -316,7 +350,7 @@ fn emit_clauses<'l>(
             names,
             output,
             alloc,
-            around,
+            jumps,
             free,
             clauses[i].body.as_slice(),
         )?;

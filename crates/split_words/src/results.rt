@@ -11,7 +11,7 @@ ghost use Rattle.wasm2js_translation.specs.Pairs.{simples};
 ghost use Rattle.wasm2js_translation.specs.Wide as wide;
 ghost use Rattle.wasm2js_translation.specs.Helpers.{wide_helpers};
 ghost use Rattle.wasm2js_nodes.specs.Names.{name_view, fixed_view};
-ghost use Rattle.wasm2js_build.specs.Views.{bit_view, term_view};
+ghost use Rattle.wasm2js_terms.specs.Views.{bit_view, term_view};
 ghost use Rattle.wasm2js_build.specs.Blocks.{statements_of};
 ghost use Rattle.wasm2js_build.specs.Growing.{run, state_of};
 ghost use Rattle.wasm2js_laws_wide.specs.Laws.{is_extension};
@@ -21,8 +21,9 @@ use crate::pair::Pair;
 use sem_words::{Bin, Un};
 use std::alloc::AllocError;
 use wasm_lang::ValType;
-use wasm2js_build::{BitOp, Block, Relation, Straight, Term};
+use wasm2js_build::{Block, Straight};
 use wasm2js_nodes::{Fixed, Name};
+use wasm2js_terms::{BitOp, Relation, Term};
 
 /// A value of this type from one place to another.
 #[tactic(auto, using(crate::proofs::AtOnce::run_at_once))]

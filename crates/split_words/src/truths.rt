@@ -9,7 +9,7 @@ ghost use Rattle.wasm2js_translation.specs.Pairs.{simples};
 ghost use Rattle.wasm2js_translation.specs.Wide as wide;
 ghost use Rattle.wasm2js_translation.specs.Helpers.{wide_helpers};
 ghost use Rattle.wasm2js_nodes.specs.Names.{name_view};
-ghost use Rattle.wasm2js_build.specs.Views.{relation_view};
+ghost use Rattle.wasm2js_terms.specs.Views.{relation_view};
 ghost use Rattle.wasm2js_build.specs.Blocks.{statements_of};
 ghost use Rattle.wasm2js_build.specs.Growing.{run, state_of};
 ghost use Rattle.split_words.specs.Views.{pair_view, halves_of};
@@ -17,8 +17,9 @@ ghost use Rattle.split_words.specs.Views.{pair_view, halves_of};
 use crate::pair::Pair;
 use sem_words::Rel;
 use std::alloc::AllocError;
-use wasm2js_build::{BitOp, Block, Relation, Straight, Term};
+use wasm2js_build::{Block, Straight};
 use wasm2js_nodes::Name;
+use wasm2js_terms::{BitOp, Relation, Term};
 
 pub fn wide_compare(
     block: &mut Block,

@@ -90,13 +90,13 @@ static ROWS: [Row; 62] = [
     (
         &["gen", "2"],
         0,
-        b"functions 2\nasm 182\nwasm 97\njs 4149\n",
+        b"functions 2\nasm 182\nwasm 97\njs 735\n",
         b"",
     ),
     (
         &["gen", "200"],
         0,
-        b"functions 200\nasm 12628\nwasm 8961\njs 50151\n",
+        b"functions 200\nasm 12628\nwasm 8961\njs 40995\n",
         b"",
     ),
     (&["asm2wasm", "add.js"], 0, ADD_MODULE, b""),

@@ -1,16 +1,17 @@
-//! The memory of the source, and whether segments of it are long.
-ghost use Rattle.std.specs.Prelude.{◌≡◌, None, map};
-ghost use Rattle.std.specs.List.{list_any};
-ghost use Rattle.wasm_tree.specs.Views.{import_of, module_of, segment_of};
+//! The memory of the source, and which helpers it asks for.
+ghost use Rattle.std.specs.Prelude.{◌≡◌, None, map, IfOk};
+ghost use Rattle.wasm_tree.specs.Views.{import_of, module_of};
 ghost use Rattle.wasm_lang_valid.specs.ModuleRules as rules;
 ghost use Rattle.wasm_lang_valid.specs.Profile.{outside_profile};
-ghost use Rattle.wasm2js_lang.specs.Parts.Functions as parts;
-ghost use Rattle.wasm2js_memory_helpers.specs.Helpers.{memory_of};
+ghost use Rattle.wasm2js_needs.specs.Needs.{needs_for};
+ghost use Rattle.wasm2js_memory_helpers.specs.Choices.{memory_of};
 
+use std::alloc::{AllocError, Global};
 use wasm_lang::ImportKind;
 use wasm_profile::memory_bytes;
-use wasm_tree::{Import, Module, Segment};
+use wasm_tree::{Import, Module};
 use wasm_validate::Valid;
+use wasm2js_needs::{Needs, needs_of};
 
 /// How many bytes the memory has, if there is one.
 #[tactic(auto, using(crate::proofs::Pages::few))]
@@ -43,21 +44,10 @@ fn imports_memory(imports: &[Import<'_>]) -> bool
     false
 }
 
-/// Whether words of data segments are written by calls.
-pub(crate) fn has_long_segments(valid: &Valid<'_>) -> bool
-    ensures { result ≡ parts.has_long_segments valid.now }
+/// Which helpers the source asks for.
+pub(crate) fn needs(alloc: Global, valid: &Valid<'_>) -> Result<Needs, AllocError>
+    ensures { IfOk result (λ needs. needs ≡ needs_for valid.now) }
 {
     let module = valid.module();
-    any_long(module.segments.as_slice())
-}
-
-fn any_long(segments: &[Segment<'_>]) -> bool
-    ensures { result ≡ list_any parts.is_long (map segment_of segments.now) }
-{
-    for segment in segments {
-        if segment.bytes.as_bytes().len() >= 512 {
-            return true;
-        }
-    }
-    false
+    needs_of(alloc, module)
 }

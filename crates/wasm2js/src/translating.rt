@@ -20,7 +20,7 @@ ghost use Rattle.wasm2js_translation.specs.Modules as code;
 ghost use Rattle.wasm2js_tables.specs.Views.{masked_view};
 ghost use Rattle.wasm2js.specs.Parts.{first_functions, last_functions};
 
-use crate::memory::{has_long_segments, memory};
+use crate::memory::{memory, needs};
 use crate::properties::properties;
 use asm_tree::{Function, Module};
 use sem_words::{List, Text};
@@ -124,8 +124,8 @@ fn push_first(
     requires { outside_profile valid.now ≡ None }
     ensures { IfOk result (λ _. map function_view (list_items functions.new) ≡ map function_view (list_items functions.old) ++ first_functions valid.now) }
 {
-    let long = has_long_segments(valid);
-    push_helpers(alloc, memory(valid), long, functions)?;
+    let needs = needs(alloc, valid)?;
+    push_helpers(alloc, memory(valid), &needs, functions)?;
     push_functions(alloc, valid, functions)?;
     Ok(())
 }

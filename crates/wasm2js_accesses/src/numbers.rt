@@ -6,8 +6,9 @@ ghost use Rattle.wasm2js_nodes.specs.Names.{name_view};
 ghost use Rattle.wasm2js_build.specs.Growing.{run, state_of};
 
 use std::alloc::AllocError;
-use wasm2js_build::{Straight, Term};
+use wasm2js_build::Straight;
 use wasm2js_nodes::Name;
+use wasm2js_terms::Term;
 
 /// A literal.
 pub fn put_number(straight: &mut Straight, to: Name, value: i64) -> Result<(), AllocError>

@@ -2,12 +2,13 @@
 ghost use Rattle.std.specs.Prelude.{◌≡◌, ◌<◌, ◌^◌, ◌==◌, if◌then◌else◌, IfOk};
 ghost use Rattle.wasm2js_translation.specs.Words.{both, conjunction, either};
 ghost use Rattle.wasm2js_translation.specs.Pairs as pairs;
-ghost use Rattle.wasm2js_build.specs.Views.{term_view};
+ghost use Rattle.wasm2js_terms.specs.Views.{term_view};
 ghost use Rattle.wasm2js_build.specs.Steps.{steps_view};
 ghost use Rattle.wasm2js_build.specs.Growing.{one, state_of};
 
 use std::alloc::AllocError;
-use wasm2js_build::{BitOp, Step, Straight, Term};
+use wasm2js_build::{Step, Straight};
+use wasm2js_terms::{BitOp, Term};
 
 /// The place so many bytes past the address.
 pub fn place<'a>(address: &'a Term<'a>, offset: u64) -> Term<'a>

@@ -6,7 +6,7 @@ ghost use Rattle.wasm2js_translation.specs.Pairs as pairs;
 ghost use Rattle.wasm2js_translation.specs.Pairs.{simples};
 ghost use Rattle.wasm2js_translation.specs.Actions as code;
 ghost use Rattle.wasm2js_nodes.specs.Names.{name_view, fixed_view};
-ghost use Rattle.wasm2js_build.specs.Views.{term_view, terms_view};
+ghost use Rattle.wasm2js_terms.specs.Views.{term_view, terms_view};
 ghost use Rattle.wasm2js_build.specs.Growing.{one, run, state_of};
 ghost use Rattle.split_words.specs.Views.{pair_view};
 
@@ -15,8 +15,9 @@ use crate::places::{by_place, place};
 use split_words::{Pair, operand_pair};
 use std::alloc::AllocError;
 use wasm_lang::MemOp;
-use wasm2js_build::{BitOp, Step, Straight, Term};
+use wasm2js_build::{Step, Straight};
 use wasm2js_nodes::{Fixed, Name};
+use wasm2js_terms::{BitOp, Term};
 
 // A store to a memory of so many bytes, to the address in a, of the value in v.
 #[tactic(auto, using(wasm2js_build::proofs::Growing::run_joined))]

@@ -8,7 +8,7 @@ ghost use Rattle.wasm2js_translation.specs.Pairs as pairs;
 ghost use Rattle.wasm2js_translation.specs.Pairs.{simples};
 ghost use Rattle.wasm2js_translation.specs.Actions as code;
 ghost use Rattle.wasm2js_nodes.specs.Names.{name_view, fixed_view};
-ghost use Rattle.wasm2js_build.specs.Views.{bit_view, relation_view, term_view};
+ghost use Rattle.wasm2js_terms.specs.Views.{bit_view, relation_view, term_view};
 ghost use Rattle.wasm2js_build.specs.Growing.{run, state_of};
 ghost use Rattle.split_words.specs.Views.{pair_view};
 
@@ -16,8 +16,9 @@ use sem_words::{Bin, Rel, Un};
 use split_words::{Pair, put_extended, put_extension, put_sign};
 use std::alloc::AllocError;
 use wasm2js_accesses::put_number;
-use wasm2js_build::{BitOp, Relation, Straight, Term};
+use wasm2js_build::Straight;
 use wasm2js_nodes::{Fixed, Name};
+use wasm2js_terms::{BitOp, Relation, Term};
 
 /// Of the operands in a and b, in a.
 pub fn binary(straight: &mut Straight, op: Bin, a: Name, b: Name) -> Result<(), AllocError>

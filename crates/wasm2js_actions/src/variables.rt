@@ -13,8 +13,9 @@ use split_words::{Pair, global_pair, local_pair, operand_pair, put_moved};
 use std::alloc::AllocError;
 use wasm_lang::{GlobalType, ValType};
 use wasm2js_accesses::low;
-use wasm2js_build::{Straight, Term};
+use wasm2js_build::Straight;
 use wasm2js_nodes::Name;
+use wasm2js_terms::Term;
 
 /// From a local to the operand of number d.
 pub fn local_get(

@@ -8,30 +8,32 @@ use Rattle.wasm_lang_valid.specs.Typing.{Context, listed}
 use Rattle.wasm_run_flat.specs.Jumps.{past_end, other_arm}
 use Rattle.asm_lang.specs.Modules.{Stmt, breaks}
 use Rattle.wasm2js_translation.specs.Helpers.{block_of}
-use Rattle.wasm2js_translation.specs.Delays.{Delayed}
 use Rattle.wasm2js_translation.specs.Bodies.{Aim, past, again, labels_round, under_label, endless, chosen, signed_word}
 use Rattle.wasm2js_operands.specs.Operands.{over}
 use Rattle.wasm2js_bodies.specs.Walks.{IsInside, GoesOn, IsOver}
-use Rattle.wasm2js_build.specs.Growing.{State, late_at}
+use Rattle.wasm2js_build.specs.Growing.{State, Held, nothing_held, late_at}
 use Rattle.wasm2js_bodies.proofs.Steps.{all_written}
 use Rattle.wasm2js_bodies.proofs.Blocks.{block_step, loop_step, if_step}
 use Rattle.wasm2js_bodies.proofs.Lists.{all_under, left_under}
 
+abbrev held_in : State → Held
+held_in q = record { waits = q.waits; known = q.known }
+
 module _ (bytes cells : ℕ) (c : Context) (body : List Instruction) (at : ℕ) (ls : List Aim) (b : ℕ) (r : Option ValType) where
-  moved : (place first m n : ℕ) (reached : Bool) (ms : List Aim) (aim to : Aim) (inner : List Stmt) (empty : State) → IsOver bytes cells c body first reached (aim ∷ ms) m [] empty.waits empty.told inner
-      → first ≡ place → aim ≡ to → ms ≡ ls → m ≡ n → empty ≡ late_at [] [] → IsOver bytes cells c body place reached (to ∷ ls) n [] [] [] inner
+  moved : (place first m n : ℕ) (reached : Bool) (ms : List Aim) (aim to : Aim) (inner : List Stmt) (empty : State) → IsOver bytes cells c body first reached (aim ∷ ms) m [] (held_in empty) empty.told inner
+      → first ≡ place → aim ≡ to → ms ≡ ls → m ≡ n → empty ≡ late_at [] [] [] → IsOver bytes cells c body place reached (to ∷ ls) n [] nothing_held [] inner
   moved place first m n reached ms aim to inner empty o e1 e2 e3 e4 e5 =
-      subst (λ (p : ℕ). IsOver bytes cells c body p reached (to ∷ ls) n [] [] [] inner) e1
-      (subst (λ (a : Aim). IsOver bytes cells c body first reached (a ∷ ls) n [] [] [] inner) e2
-      (subst (λ (ks : List Aim). IsOver bytes cells c body first reached (aim ∷ ks) n [] [] [] inner) e3
-      (subst (λ (d : ℕ). IsOver bytes cells c body first reached (aim ∷ ms) d [] [] [] inner) e4
-      (subst (λ (q : State). IsOver bytes cells c body first reached (aim ∷ ms) m [] q.waits q.told inner) e5 o))))
+      subst (λ (p : ℕ). IsOver bytes cells c body p reached (to ∷ ls) n [] nothing_held [] inner) e1
+      (subst (λ (a : Aim). IsOver bytes cells c body first reached (a ∷ ls) n [] nothing_held [] inner) e2
+      (subst (λ (ks : List Aim). IsOver bytes cells c body first reached (aim ∷ ks) n [] nothing_held [] inner) e3
+      (subst (λ (d : ℕ). IsOver bytes cells c body first reached (aim ∷ ms) d [] nothing_held [] inner) e4
+      (subst (λ (q : State). IsOver bytes cells c body first reached (aim ∷ ms) m [] (held_in q) q.told inner) e5 o))))
 
   -- the operands xs as the block is opened, ys as it ends and zs after it
-  pub block_done : (first place n : ℕ) (reached : Bool) (ms : List Aim) (aim : Aim) (xs ys zs : List ValType) (ds es : List Delayed) (before mid after inner : List Stmt) (empty : State)
-      → IsInside body at → mid ≡ before ++ all_written ds → es ≡ [] → slice_get body at ≡ Some (flat.block r) → b ≤ length xs → n ≡ length xs
-      → first ≡ at + 1 → place ≡ past_end body at → aim ≡ past n r → empty ≡ late_at [] []
-      → IsOver bytes cells c body first reached (aim ∷ ls) n [] empty.waits empty.told inner
+  pub block_done : (first place n : ℕ) (reached : Bool) (ms : List Aim) (aim : Aim) (xs ys zs : List ValType) (ds es : Held) (before mid after inner : List Stmt) (empty : State)
+      → IsInside body at → mid ≡ before ++ all_written ds → es ≡ nothing_held → slice_get body at ≡ Some (flat.block r) → b ≤ length xs → n ≡ length xs
+      → first ≡ at + 1 → place ≡ past_end body at → aim ≡ past n r → empty ≡ late_at [] [] []
+      → IsOver bytes cells c body first reached (aim ∷ ls) n [] (held_in empty) empty.told inner
       → ys ≡ xs → ms ≡ ls → over b zs ≡ listed r ++ over b ys
       → after ≡ mid ++ under_label (labels_round ms) (block_of inner) ∷ []
       → GoesOn bytes cells c body at place ls b (over b xs) (over b zs) ds es before after
@@ -42,10 +44,10 @@ module _ (bytes cells : ℕ) (c : Context) (body : List Instruction) (at : ℕ) 
       (moved (at + 1) first n n reached ls aim (past n r) inner empty o begins aimed refl refl none)
       (made ∙ ap (λ (ks : List Aim). mid ++ under_label (labels_round ks) (block_of inner) ∷ []) outer))
 
-  pub loop_done : (first place n : ℕ) (reached : Bool) (ms : List Aim) (aim : Aim) (xs ys zs : List ValType) (ds es : List Delayed) (before mid after inner : List Stmt) (empty : State)
-      → IsInside body at → mid ≡ before ++ all_written ds → es ≡ [] → slice_get body at ≡ Some (flat.loop r) → b ≤ length xs → n ≡ length xs
-      → first ≡ at + 1 → place ≡ past_end body at → aim ≡ again n → empty ≡ late_at [] []
-      → IsOver bytes cells c body first reached (aim ∷ ls) n [] empty.waits empty.told inner
+  pub loop_done : (first place n : ℕ) (reached : Bool) (ms : List Aim) (aim : Aim) (xs ys zs : List ValType) (ds es : Held) (before mid after inner : List Stmt) (empty : State)
+      → IsInside body at → mid ≡ before ++ all_written ds → es ≡ nothing_held → slice_get body at ≡ Some (flat.loop r) → b ≤ length xs → n ≡ length xs
+      → first ≡ at + 1 → place ≡ past_end body at → aim ≡ again n → empty ≡ late_at [] [] []
+      → IsOver bytes cells c body first reached (aim ∷ ls) n [] (held_in empty) empty.told inner
       → ys ≡ xs → ms ≡ ls → over b zs ≡ listed r ++ over b ys
       → after ≡ mid ++ under_label (labels_round ms) (endless (inner ++ (if reached then breaks None ∷ [] else []))) ∷ []
       → GoesOn bytes cells c body at place ls b (over b xs) (over b zs) ds es before after
@@ -57,12 +59,12 @@ module _ (bytes cells : ℕ) (c : Context) (body : List Instruction) (at : ℕ) 
       (made ∙ ap (λ (ks : List Aim). mid ++ under_label (labels_round ks) (endless (inner ++ (if reached then breaks None ∷ [] else []))) ∷ []) outer))
 
   -- the operands ws as the if is reached, xs without the topmost one, ys and vs as the arms end and zs after it
-  pub if_done : (first second place n m d : ℕ) (reached also : Bool) (ks ms : List Aim) (aim : Aim) (ws xs ys vs zs : List ValType) (ds es : List Delayed) (before mid after inner more : List Stmt) (empty other : State)
-      → IsInside body at → mid ≡ before ++ all_written ds → es ≡ [] → slice_get body at ≡ Some (flat.if_block r) → b ≤ length xs → over b xs ≡ drop 1 (over b ws)
+  pub if_done : (first second place n m d : ℕ) (reached also : Bool) (ks ms : List Aim) (aim : Aim) (ws xs ys vs zs : List ValType) (ds es : Held) (before mid after inner more : List Stmt) (empty other : State)
+      → IsInside body at → mid ≡ before ++ all_written ds → es ≡ nothing_held → slice_get body at ≡ Some (flat.if_block r) → b ≤ length xs → over b xs ≡ drop 1 (over b ws)
       → n ≡ length xs → m ≡ length ys → d ≡ length vs
-      → first ≡ at + 1 → second ≡ other_arm body at → place ≡ past_end body at → aim ≡ past n r → empty ≡ late_at [] [] → other ≡ late_at [] []
-      → IsOver bytes cells c body first reached (aim ∷ ls) n [] empty.waits empty.told inner → ys ≡ xs → ks ≡ ls
-      → IsOver bytes cells c body second also (aim ∷ ks) m [] other.waits other.told more → vs ≡ ys → ms ≡ ks
+      → first ≡ at + 1 → second ≡ other_arm body at → place ≡ past_end body at → aim ≡ past n r → empty ≡ late_at [] [] [] → other ≡ late_at [] [] []
+      → IsOver bytes cells c body first reached (aim ∷ ls) n [] (held_in empty) empty.told inner → ys ≡ xs → ks ≡ ls
+      → IsOver bytes cells c body second also (aim ∷ ks) m [] (held_in other) other.told more → vs ≡ ys → ms ≡ ks
       → over b zs ≡ listed r ++ over b vs
       → after ≡ mid ++ under_label (labels_round ms) (chosen (signed_word d) inner more) ∷ []
       → GoesOn bytes cells c body at place ls b (over b ws) (over b zs) ds es before after

@@ -11,7 +11,8 @@ use Rattle.asm_lang.specs.Modules.{Stmt}
 use Rattle.wasm2js_translation.specs.Words.{Action, statements}
 use Rattle.wasm2js_translation.specs.Actions.{actions}
 use Rattle.wasm2js_translation.specs.Delays.{Delayed, late, standing}
-use Rattle.wasm2js_build.specs.Growing.{State, run, late_at, late_state, state_of}
+use Rattle.wasm2js_translation.specs.Known.{Known, lean}
+use Rattle.wasm2js_build.specs.Growing.{State, Held, run, late_at, late_state, state_of}
 use Rattle.wasm2js_build.specs.declared.straight.Straight.{Straight}
 use Rattle.wasm2js_build.proofs.Growing.{run_late}
 use Rattle.wasm2js_translation.specs.Bodies.{Aim, after_plain}
@@ -31,13 +32,13 @@ is_translated [] at i h here = absurd (cc here)
 is_translated (j ∷ js) zero i h here = let same : j ≡ i = cc here in subst (λ i. is_wide_mul_div i ≡ false) same (either_false (is_wide_mul_div j) (has_mul_div js) h).0
 is_translated (j ∷ js) (suc at) i h here = is_translated js at i (either_false (is_wide_mul_div j) (has_mul_div js) h).1 here
 
--- what may wait before straight code may wait after it
-pub late_after : (s : Straight) (told : List Stmt) (ds : List Delayed) (acts : List Action) → state_of s ≡ run (late_at told ds) acts → late_state s.text ≡ run (late_at told ds) acts
-late_after s told ds acts e = ap (λ (q : State). late_at q.told q.waits) (e ∙ run_late told ds acts) ∙ sym (run_late told ds acts)
+-- where words may wait before straight code they may wait after it
+pub late_after : (s : Straight) (told : List Stmt) (ds : List Delayed) (ks : List Known) (acts : List Action) → state_of s ≡ run (late_at told ds ks) acts → late_state s.text ≡ run (late_at told ds ks) acts
+late_after s told ds ks acts e = ap (λ (q : State). late_at q.told q.waits q.known) (e ∙ run_late told ds ks acts) ∙ sym (run_late told ds ks acts)
 
-pub plain_step : (bytes cells : ℕ) (c : Context) (body : List Instruction) (at place : ℕ) (ls : List Aim) (b : ℕ) (ts us : List ValType) (before made : List Stmt) (i : Instruction) (ds es fs : List Delayed)
+pub plain_step : (bytes cells : ℕ) (c : Context) (body : List Instruction) (at place : ℕ) (ls : List Aim) (b : ℕ) (ts us : List ValType) (before made : List Stmt) (i : Instruction) (ds es : Held) (fs : List Delayed)
     → is_plain i ≡ true → IsInside body at → slice_get body at ≡ Some i → place ≡ at + 1
-    → late_at made fs ≡ run (late_at before ds) (instruction_actions bytes c i b ts) → us ≡ after c i ts → es ≡ standing b us fs
+    → late_at made fs es.known ≡ run (late_at before ds.waits ds.known) (instruction_actions bytes c i b ts) → us ≡ after c i ts → es.waits ≡ standing b us fs
     → GoesOn bytes cells c body at place ls b ts us ds es before made
 plain_step bytes cells c body at place ls b ts us before made flat.unreachable ds es fs p s here next m g e = cc
 plain_step bytes cells c body at place ls b ts us before made (flat.block r) ds es fs p s here next m g e = cc
@@ -52,8 +53,12 @@ plain_step bytes cells c body at place ls b ts us before made flat.return ds es 
 plain_step bytes cells c body at place ls b ts us before made (flat.call f) ds es fs p s here next m g e = cc
 plain_step bytes cells c body at place ls b ts us before made (flat.call_indirect t) ds es fs p s here next m g e = cc
 plain_step bytes cells c body at place ls b ts us before made (flat.plain i) ds es fs p s here next m g e =
-    let x = late ds (actions bytes c i b ts) in
-    let all : late_at made fs ≡ late_at (before ++ statements x.now) x.later = m ∙ run_late before ds (actions bytes c i b ts) in
-    let waits : es ≡ standing b (after_plain c i ts) x.later = e ∙ ap (λ (ws : List ValType). standing b ws fs) g ∙ ap (λ (q : State). standing b (after_plain c i ts) q.waits) all in
-    single_step bytes cells c body at ls b ts ds before made (statements x.now) place us (after_plain c i ts) es (standing b (after_plain c i ts) x.later) (flat.plain i) (plain i) s here refl next
-    (ap (λ (q : State). q.told) all) g waits (λ is. refl) (λ is. refl)
+    let x = late ds.waits (actions bytes c i b ts) in
+    let y = lean ds.known x.now in
+    let all : late_at made fs es.known ≡ late_at (before ++ statements y.now) x.later y.known = m ∙ run_late before ds.waits ds.known (actions bytes c i b ts) in
+    let waits : es.waits ≡ standing b (after_plain c i ts) x.later = e ∙ ap (λ (ws : List ValType). standing b ws fs) g ∙ ap (λ (q : State). standing b (after_plain c i ts) q.waits) all in
+    let held : es ≡ record { waits = standing b (after_plain c i ts) x.later; known = y.known } =
+    ap (λ (ws : List Delayed). record { waits = ws; known = es.known }) waits
+    ∙ ap (λ (q : State). record { waits = standing b (after_plain c i ts) x.later; known = q.known }) all in
+    single_step bytes cells c body at ls b ts ds before made (statements y.now) place us (after_plain c i ts) es (record { waits = standing b (after_plain c i ts) x.later; known = y.known }) (flat.plain i) (plain i) s here refl next
+    (ap (λ (q : State). q.told) all) g held (λ is. refl) (λ is. refl)

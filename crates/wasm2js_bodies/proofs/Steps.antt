@@ -14,9 +14,10 @@ use Rattle.wasm_run_flat.specs.declared.target.Target.{Target}
 use Rattle.wasm_run_flat.proofs.Standing.{single_goes_on, end_leaves, else_leaves, last_ends, else_stands_inside}
 use Rattle.asm_lang.specs.Modules.{Stmt}
 use Rattle.wasm2js_translation.specs.Words.{simple_statements}
-use Rattle.wasm2js_translation.specs.Delays.{Delayed, written}
-use Rattle.wasm2js_translation.specs.Bodies.{Aim, stmts_of, comes_to_end}
-use Rattle.wasm2js_bodies.specs.Walks.{IsInside, size, GoesOn, IsOver}
+use Rattle.wasm2js_translation.specs.Delays.{written}
+use Rattle.wasm2js_translation.specs.Bodies.{Aim, comes_to_end}
+use Rattle.wasm2js_build.specs.Growing.{Held, nothing_held}
+use Rattle.wasm2js_bodies.specs.Walks.{IsInside, size, stmts_after, GoesOn, IsOver}
 
 pub falls : (x : Tree) (is : Trees) → size is < size (x ▹ is)
 falls unreachable is = omega arith
@@ -31,20 +32,20 @@ falls (call f) is = omega arith
 falls (call_indirect t) is = omega arith
 falls (plain p) is = omega arith
 
-module _ (bytes cells : ℕ) (c : Context) (body : List Instruction) (at : ℕ) (ls : List Aim) (b : ℕ) (ts : List ValType) (ds : List Delayed) (before after head : List Stmt) where
+module _ (bytes cells : ℕ) (c : Context) (body : List Instruction) (at : ℕ) (ls : List Aim) (b : ℕ) (ts : List ValType) (ds : Held) (before after head : List Stmt) where
   -- what follows the instruction stands at `place`
-  pub goes_on : (us : List ValType) (es : List Delayed) (place : ℕ) (targets : List Target) (x : Tree) → IsNext body at place targets x → has_mul_div body ≡ false → after ≡ before ++ head
-      → ((is : Trees) → stmts_of bytes cells c (x ▹ is) ls b ts ds ≡ head ++ stmts_of bytes cells c is ls b us es)
+  pub goes_on : (us : List ValType) (es : Held) (place : ℕ) (targets : List Target) (x : Tree) → IsNext body at place targets x → has_mul_div body ≡ false → after ≡ before ++ head
+      → ((is : Trees) → stmts_after bytes cells c (x ▹ is) ls b ts ds ≡ head ++ stmts_after bytes cells c is ls b us es)
       → ((is : Trees) → comes_to_end (x ▹ is) ≡ comes_to_end is)
       → GoesOn bytes cells c body at place ls b ts us ds es before after
   goes_on us es place targets x n translated made first last =
       let rest = code_at body place in
-      let all : stmts_of bytes cells c (code_at body at) ls b ts ds ≡ head ++ stmts_of bytes cells c rest ls b us es =
-      ap (λ (is : Trees). stmts_of bytes cells c is ls b ts ds) n.code ∙ first rest in
+      let all : stmts_after bytes cells c (code_at body at) ls b ts ds ≡ head ++ stmts_after bytes cells c rest ls b us es =
+      ap (λ (is : Trees). stmts_after bytes cells c is ls b ts ds) n.code ∙ first rest in
       record {
         statements =
-            ap (λ (ss : List Stmt). ss ++ stmts_of bytes cells c rest ls b us es) made
-            ∙ append_assoc before head (stmts_of bytes cells c rest ls b us es)
+            ap (λ (ss : List Stmt). ss ++ stmts_after bytes cells c rest ls b us es) made
+            ∙ append_assoc before head (stmts_after bytes cells c rest ls b us es)
             ∙ ap (λ (ss : List Stmt). before ++ ss) (sym all);
         ending = sym (ap comes_to_end n.code ∙ last rest);
         inside = record { targets = targets; stands = n.stands; translated = translated };
@@ -52,59 +53,59 @@ module _ (bytes cells : ℕ) (c : Context) (body : List Instruction) (at : ℕ) 
       }
 
   -- where vs are the types of the operands after it, and fs wait
-  pub single_step : (place : ℕ) (us vs : List ValType) (es fs : List Delayed) (i : Instruction) (x : Tree) → IsInside body at → slice_get body at ≡ Some i → single i ≡ Some x → place ≡ at + 1 → after ≡ before ++ head
+  pub single_step : (place : ℕ) (us vs : List ValType) (es fs : Held) (i : Instruction) (x : Tree) → IsInside body at → slice_get body at ≡ Some i → single i ≡ Some x → place ≡ at + 1 → after ≡ before ++ head
       → us ≡ vs → es ≡ fs
-      → ((is : Trees) → stmts_of bytes cells c (x ▹ is) ls b ts ds ≡ head ++ stmts_of bytes cells c is ls b vs fs)
+      → ((is : Trees) → stmts_after bytes cells c (x ▹ is) ls b ts ds ≡ head ++ stmts_after bytes cells c is ls b vs fs)
       → ((is : Trees) → comes_to_end (x ▹ is) ≡ comes_to_end is)
       → GoesOn bytes cells c body at place ls b ts us ds es before after
   single_step place us vs es fs i x s here same next made gives waits first last =
       subst (λ (q : ℕ). GoesOn bytes cells c body at q ls b ts us ds es before after) (sym next)
       (subst (λ (ws : List ValType). GoesOn bytes cells c body at (at + 1) ls b ts ws ds es before after) (sym gives)
-      (subst (λ (gs : List Delayed). GoesOn bytes cells c body at (at + 1) ls b ts vs ds gs before after) (sym waits)
+      (subst (λ (gs : Held). GoesOn bytes cells c body at (at + 1) ls b ts vs ds gs before after) (sym waits)
       (goes_on vs fs (at + 1) s.targets x (single_goes_on body at s.targets i x s.stands here same) s.translated made first last)))
 
   -- what follows the instruction isn't reached
   pub last_step : (i : Instruction) (x : Tree) → IsInside body at → slice_get body at ≡ Some i → single i ≡ Some x → after ≡ before ++ head
-      → ((is : Trees) → stmts_of bytes cells c (x ▹ is) ls b ts ds ≡ head)
+      → ((is : Trees) → stmts_after bytes cells c (x ▹ is) ls b ts ds ≡ head)
       → ((is : Trees) → comes_to_end (x ▹ is) ≡ false)
       → IsOver bytes cells c body at false ls b ts ds before after
   last_step i x s here same made first last =
       let n = single_goes_on body at s.targets i x s.stands here same in
       let rest = code_at body (at + 1) in
       record {
-        statements = made ∙ ap (λ (ss : List Stmt). before ++ ss) (sym (ap (λ (is : Trees). stmts_of bytes cells c is ls b ts ds) n.code ∙ first rest));
+        statements = made ∙ ap (λ (ss : List Stmt). before ++ ss) (sym (ap (λ (is : Trees). stmts_after bytes cells c is ls b ts ds) n.code ∙ first rest));
         ending = sym (ap comes_to_end n.code ∙ last rest);
       }
 
 -- ---- an instruction before which all that waits is written
 
-abbrev pub all_written : List Delayed → List Stmt
-all_written ds = simple_statements (written ds)
+abbrev pub all_written : Held → List Stmt
+all_written ds = simple_statements (written ds.waits)
 
 pub joined : (before mid after all head : List Stmt) → mid ≡ before ++ all → after ≡ mid ++ head → after ≡ before ++ (all ++ head)
 joined before mid after all head e f = f ∙ ap (λ (ss : List Stmt). ss ++ head) e ∙ append_assoc before all head
 
-module _ (bytes cells : ℕ) (c : Context) (body : List Instruction) (at : ℕ) (ls : List Aim) (b : ℕ) (ts : List ValType) (ds : List Delayed) (before mid after head : List Stmt) where
-  pub written_goes_on : mid ≡ before ++ all_written ds → (us : List ValType) (es : List Delayed) → es ≡ [] → (place : ℕ) (targets : List Target) (x : Tree) → IsNext body at place targets x → has_mul_div body ≡ false → after ≡ mid ++ head
-      → ((is : Trees) → stmts_of bytes cells c (x ▹ is) ls b ts ds ≡ all_written ds ++ (head ++ stmts_of bytes cells c is ls b us []))
+module _ (bytes cells : ℕ) (c : Context) (body : List Instruction) (at : ℕ) (ls : List Aim) (b : ℕ) (ts : List ValType) (ds : Held) (before mid after head : List Stmt) where
+  pub written_goes_on : mid ≡ before ++ all_written ds → (us : List ValType) (es : Held) → es ≡ nothing_held → (place : ℕ) (targets : List Target) (x : Tree) → IsNext body at place targets x → has_mul_div body ≡ false → after ≡ mid ++ head
+      → ((is : Trees) → stmts_after bytes cells c (x ▹ is) ls b ts ds ≡ all_written ds ++ (head ++ stmts_after bytes cells c is ls b us nothing_held))
       → ((is : Trees) → comes_to_end (x ▹ is) ≡ comes_to_end is)
       → GoesOn bytes cells c body at place ls b ts us ds es before after
   written_goes_on w us es waits place targets x n translated made first last =
-      subst (λ (gs : List Delayed). GoesOn bytes cells c body at place ls b ts us ds gs before after) (sym waits)
-      (goes_on bytes cells c body at ls b ts ds before after (all_written ds ++ head) us [] place targets x n translated (joined before mid after (all_written ds) head w made)
-      (λ is. first is ∙ sym (append_assoc (all_written ds) head (stmts_of bytes cells c is ls b us []))) last)
+      subst (λ (gs : Held). GoesOn bytes cells c body at place ls b ts us ds gs before after) (sym waits)
+      (goes_on bytes cells c body at ls b ts ds before after (all_written ds ++ head) us nothing_held place targets x n translated (joined before mid after (all_written ds) head w made)
+      (λ is. first is ∙ sym (append_assoc (all_written ds) head (stmts_after bytes cells c is ls b us nothing_held))) last)
 
-  pub written_step : mid ≡ before ++ all_written ds → (place : ℕ) (us vs : List ValType) (es : List Delayed) → es ≡ [] → (i : Instruction) (x : Tree) → IsInside body at → slice_get body at ≡ Some i → single i ≡ Some x → place ≡ at + 1
+  pub written_step : mid ≡ before ++ all_written ds → (place : ℕ) (us vs : List ValType) (es : Held) → es ≡ nothing_held → (i : Instruction) (x : Tree) → IsInside body at → slice_get body at ≡ Some i → single i ≡ Some x → place ≡ at + 1
       → after ≡ mid ++ head → us ≡ vs
-      → ((is : Trees) → stmts_of bytes cells c (x ▹ is) ls b ts ds ≡ all_written ds ++ (head ++ stmts_of bytes cells c is ls b vs []))
+      → ((is : Trees) → stmts_after bytes cells c (x ▹ is) ls b ts ds ≡ all_written ds ++ (head ++ stmts_after bytes cells c is ls b vs nothing_held))
       → ((is : Trees) → comes_to_end (x ▹ is) ≡ comes_to_end is)
       → GoesOn bytes cells c body at place ls b ts us ds es before after
   written_step w place us vs es waits i x s here same next made gives first last =
-      single_step bytes cells c body at ls b ts ds before after (all_written ds ++ head) place us vs es [] i x s here same next (joined before mid after (all_written ds) head w made) gives waits
-      (λ is. first is ∙ sym (append_assoc (all_written ds) head (stmts_of bytes cells c is ls b vs []))) last
+      single_step bytes cells c body at ls b ts ds before after (all_written ds ++ head) place us vs es nothing_held i x s here same next (joined before mid after (all_written ds) head w made) gives waits
+      (λ is. first is ∙ sym (append_assoc (all_written ds) head (stmts_after bytes cells c is ls b vs nothing_held))) last
 
   pub written_last_step : mid ≡ before ++ all_written ds → (i : Instruction) (x : Tree) → IsInside body at → slice_get body at ≡ Some i → single i ≡ Some x → after ≡ mid ++ head
-      → ((is : Trees) → stmts_of bytes cells c (x ▹ is) ls b ts ds ≡ all_written ds ++ head)
+      → ((is : Trees) → stmts_after bytes cells c (x ▹ is) ls b ts ds ≡ all_written ds ++ head)
       → ((is : Trees) → comes_to_end (x ▹ is) ≡ false)
       → IsOver bytes cells c body at false ls b ts ds before after
   written_last_step w i x s here same made first last =
@@ -123,11 +124,11 @@ no_code body at s (inl here) = no_code_at_else body at s.targets s.stands here
 no_code body at s (inr here) = no_code_at_end body at s.targets s.stands here
 
 -- at an else or an end
-pub end_step : (bytes cells : ℕ) (c : Context) (body : List Instruction) (at : ℕ) (ls : List Aim) (b : ℕ) (ts : List ValType) (ds : List Delayed) (before after : List Stmt)
+pub end_step : (bytes cells : ℕ) (c : Context) (body : List Instruction) (at : ℕ) (ls : List Aim) (b : ℕ) (ts : List ValType) (ds : Held) (before after : List Stmt)
     → IsInside body at → (slice_get body at ≡ Some flat.else_mark) ⊎ (slice_get body at ≡ Some flat.end_mark) → after ≡ before ++ all_written ds → IsOver bytes cells c body at true ls b ts ds before after
 end_step bytes cells c body at ls b ts ds before after s here made =
     let e = no_code body at s here in
     record {
-      statements = made ∙ sym (ap (λ (is : Trees). before ++ stmts_of bytes cells c is ls b ts ds) e);
+      statements = made ∙ sym (ap (λ (is : Trees). before ++ stmts_after bytes cells c is ls b ts ds) e);
       ending = sym (ap comes_to_end e);
     }

@@ -18,8 +18,8 @@ pub begins_inside : (body : List Instruction) → IsSome (tree_of body) → has_
 begins_inside body some translated = inside_if body (tree_of body) translated refl some
 
 pub closed : (bytes cells : ℕ) (c : Context) (code tree : Trees) (made all : List Stmt) → code ≡ tree
-    → made ≡ stmts_of bytes cells c code (out c.returns ∷ []) 0 [] [] → all ≡ made ++ closing bytes cells c c.returns
+    → made ≡ stmts_of bytes cells c code (out c.returns ∷ []) 0 [] [] [] → all ≡ made ++ closing bytes cells c c.returns
     → all ≡ body_stmts bytes cells c tree
 closed bytes cells c code tree made all is given ended =
     ended ∙ ap (λ (ss : List Stmt). ss ++ closing bytes cells c c.returns)
-    (given ∙ ap (λ (x : Trees). stmts_of bytes cells c x (out c.returns ∷ []) 0 [] []) is)
+    (given ∙ ap (λ (x : Trees). stmts_of bytes cells c x (out c.returns ∷ []) 0 [] [] []) is)

@@ -20,7 +20,7 @@ use wasm2js_operands::BodyScope;
 // The statements of the code of a body. A branch to its label leaves the function.
 fn all_statements(walk: &Walk<'_>, body: &Body) -> Result<Block, AllocError>
     requires { IsInside body.now 0 }
-    ensures { IfOk result (λ block. statements_of block ≡ bodies.stmts_of walk.now.sizes.bytes walk.now.sizes.cells (context_in walk.now.scope.now) (code_at body.now 0) (bodies.out walk.now.scope.now.returns ∷ []) 0 [] []) }
+    ensures { IfOk result (λ block. statements_of block ≡ bodies.stmts_of walk.now.sizes.bytes walk.now.sizes.cells (context_in walk.now.scope.now) (code_at body.now 0) (bodies.out walk.now.scope.now.returns ∷ []) 0 [] [] []) }
 {
     let mut types = Vec::new(walk.alloc);
     let mut aims = Vec::new(walk.alloc);

@@ -6,7 +6,7 @@ ghost use Rattle.wasm_tree.specs.Views.{instr_of};
 ghost use Rattle.wasm2js_translation.specs.Bodies as bodies;
 ghost use Rattle.wasm2js_actions.specs.Scopes.{instruction_actions};
 ghost use Rattle.wasm2js_build.specs.Blocks.{statements_of};
-ghost use Rattle.wasm2js_build.specs.Growing.{run, waits_of, late_state};
+ghost use Rattle.wasm2js_build.specs.Growing.{run, held_of, late_state};
 ghost use Rattle.wasm2js_jumps.specs.Aims.{aims_view};
 ghost use Rattle.wasm2js_operands.specs.Operands.{over, IsKept};
 ghost use Rattle.wasm2js_operands.specs.Scopes.{context_in};
@@ -89,7 +89,7 @@ pub fn do_plain(
     requires plain { is_plain (instr_of instr.now) ≡ true }
     requires here { slice_get body.now at ≡ Some (instr_of instr.now) }
     ensures kept { IfOk result (λ _. IsKept base types.old.items types.new.items) }
-    ensures step { (ls : List bodies.Aim) → IfOk result (λ next. IsStep next walk.now body.now at ls base (over base types.old.items) (over base types.new.items) (waits_of text.old) (waits_of text.new) (statements_of text.old.block) (statements_of text.new.block)) }
+    ensures step { (ls : List bodies.Aim) → IfOk result (λ next. IsStep next walk.now body.now at ls base (over base types.old.items) (over base types.new.items) (held_of text.old) (held_of text.new) (statements_of text.old.block) (statements_of text.new.block)) }
 {
     let place = place_after(body, at);
     put_instruction(walk, types, base, instr, text)?;
@@ -121,7 +121,7 @@ pub fn do_call(
     requires there { base ≤ vec_len types.old }
     requires here { slice_get body.now at ≡ Some (flat.call function) }
     ensures kept { IfOk result (λ _. IsKept base types.old.items types.new.items) }
-    ensures step { (ls : List bodies.Aim) → IfOk result (λ next. IsStep next walk.now body.now at ls base (over base types.old.items) (over base types.new.items) (waits_of text.old) (waits_of text.new) (statements_of text.old.block) (statements_of text.new.block)) }
+    ensures step { (ls : List bodies.Aim) → IfOk result (λ next. IsStep next walk.now body.now at ls base (over base types.old.items) (over base types.new.items) (held_of text.old) (held_of text.new) (statements_of text.old.block) (statements_of text.new.block)) }
 {
     let place = place_after(body, at);
     text.write_all()?;
@@ -150,7 +150,7 @@ pub fn do_call_indirect(
     requires there { base ≤ vec_len types.old }
     requires here { slice_get body.now at ≡ Some (flat.call_indirect number) }
     ensures kept { IfOk result (λ _. IsKept base types.old.items types.new.items) }
-    ensures step { (ls : List bodies.Aim) → IfOk result (λ next. IsStep next walk.now body.now at ls base (over base types.old.items) (over base types.new.items) (waits_of text.old) (waits_of text.new) (statements_of text.old.block) (statements_of text.new.block)) }
+    ensures step { (ls : List bodies.Aim) → IfOk result (λ next. IsStep next walk.now body.now at ls base (over base types.old.items) (over base types.new.items) (held_of text.old) (held_of text.new) (statements_of text.old.block) (statements_of text.new.block)) }
 {
     let place = place_after(body, at);
     text.write_all()?;
@@ -181,7 +181,7 @@ pub fn do_branch_if(
     requires there { base ≤ vec_len types.old }
     requires here { slice_get body.now at ≡ Some (flat.br_if label) }
     ensures kept { IfOk result (λ _. IsKept base types.old.items types.new.items) }
-    ensures step { IfOk result (λ next. IsStep next walk.now body.now at (aims_view aims.now) base (over base types.old.items) (over base types.new.items) (waits_of text.old) (waits_of text.new) (statements_of text.old.block) (statements_of text.new.block)) }
+    ensures step { IfOk result (λ next. IsStep next walk.now body.now at (aims_view aims.now) base (over base types.old.items) (over base types.new.items) (held_of text.old) (held_of text.new) (statements_of text.old.block) (statements_of text.new.block)) }
 {
     let place = place_after(body, at);
     text.write_all()?;
@@ -198,7 +198,7 @@ pub fn do_unreachable(
 ) -> Result<Next, AllocError>
     requires inside { IsInside body.now at }
     requires here { slice_get body.now at ≡ Some flat.unreachable }
-    ensures { (ls : List bodies.Aim) (b : ℕ) (ts us : List ValType) → IfOk result (λ next. IsStep next walk.now body.now at ls b ts us (waits_of text.old) (waits_of text.new) (statements_of text.old.block) (statements_of text.new.block)) }
+    ensures { (ls : List bodies.Aim) (b : ℕ) (ts us : List ValType) → IfOk result (λ next. IsStep next walk.now body.now at ls b ts us (held_of text.old) (held_of text.new) (statements_of text.old.block) (statements_of text.new.block)) }
 {
     text.write_all()?;
     text.block.stop(1)?;
@@ -219,7 +219,7 @@ pub fn do_branch(
     requires inside { IsInside body.now at }
     requires there { base ≤ vec_len types.now }
     requires here { slice_get body.now at ≡ Some (flat.br label) }
-    ensures { (us : List ValType) → IfOk result (λ next. IsStep next walk.now body.now at (aims_view aims.now) base (over base types.now.items) us (waits_of text.old) (waits_of text.new) (statements_of text.old.block) (statements_of text.new.block)) }
+    ensures { (us : List ValType) → IfOk result (λ next. IsStep next walk.now body.now at (aims_view aims.now) base (over base types.now.items) us (held_of text.old) (held_of text.new) (statements_of text.old.block) (statements_of text.new.block)) }
 {
     text.write_all()?;
     branch_to(walk.alloc, aims, types, base, label, &mut text.block)?;
@@ -242,7 +242,7 @@ pub fn do_branch_by_index(
     requires there { base ≤ vec_len types.old }
     requires here { slice_get body.now at ≡ Some (flat.br_table labels.now default) }
     ensures kept { IfOk result (λ _. IsKept base types.old.items types.new.items) }
-    ensures step { (us : List ValType) → IfOk result (λ next. IsStep next walk.now body.now at (aims_view aims.now) base (over base types.old.items) us (waits_of text.old) (waits_of text.new) (statements_of text.old.block) (statements_of text.new.block)) }
+    ensures step { (us : List ValType) → IfOk result (λ next. IsStep next walk.now body.now at (aims_view aims.now) base (over base types.old.items) us (held_of text.old) (held_of text.new) (statements_of text.old.block) (statements_of text.new.block)) }
 {
     text.write_all()?;
     branch_by_index(
@@ -269,7 +269,7 @@ pub fn do_return(
     requires inside { IsInside body.now at }
     requires there { base ≤ vec_len types.now }
     requires here { slice_get body.now at ≡ Some flat.return }
-    ensures { (ls : List bodies.Aim) (us : List ValType) → IfOk result (λ next. IsStep next walk.now body.now at ls base (over base types.now.items) us (waits_of text.old) (waits_of text.new) (statements_of text.old.block) (statements_of text.new.block)) }
+    ensures { (ls : List bodies.Aim) (us : List ValType) → IfOk result (λ next. IsStep next walk.now body.now at ls base (over base types.now.items) us (held_of text.old) (held_of text.new) (statements_of text.old.block) (statements_of text.new.block)) }
 {
     text.write_all()?;
     give_back(walk.alloc, walk.scope.returns, types, base, &mut text.block)?;
@@ -285,7 +285,7 @@ pub fn do_end(
 ) -> Result<Next, AllocError>
     requires inside { IsInside body.now at }
     requires here { (slice_get body.now at ≡ Some flat.else_mark) ⊎ (slice_get body.now at ≡ Some flat.end_mark) }
-    ensures { (ls : List bodies.Aim) (b : ℕ) (ts us : List ValType) → IfOk result (λ next. IsStep next walk.now body.now at ls b ts us (waits_of text.old) (waits_of text.new) (statements_of text.old.block) (statements_of text.new.block)) }
+    ensures { (ls : List bodies.Aim) (b : ℕ) (ts us : List ValType) → IfOk result (λ next. IsStep next walk.now body.now at ls b ts us (held_of text.old) (held_of text.new) (statements_of text.old.block) (statements_of text.new.block)) }
 {
     text.write_all()?;
     Ok(Next::Over(true))

@@ -2,12 +2,12 @@
 ghost use Rattle.std.specs.Prelude.{◌≡◌, ◌≤◌, slice_get, vec_len};
 ghost use Rattle.wasm2js_translation.specs.Delays as delays;
 ghost use Rattle.wasm2js_nodes.specs.Names.{name_view};
-ghost use Rattle.wasm2js_build.specs.Waits.{delays_view};
+ghost use Rattle.wasm2js_terms.specs.Waits.{delays_view};
 ghost use Rattle.wasm2js_operands.specs.Operands.{over};
 
 use wasm_lang::ValType;
-use wasm2js_build::Delayed;
 use wasm2js_nodes::{Name, Numbered};
+use wasm2js_terms::Delayed;
 
 /// What waits for an operand that is gone is dropped.
 pub fn keep_standing(types: &Vec<ValType>, base: usize, waits: &mut Vec<Delayed>)

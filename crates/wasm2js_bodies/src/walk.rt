@@ -2,7 +2,7 @@
 ghost use Rattle.std.specs.Prelude.{◌≡◌, ◌≤◌, ◌∷◌, [], Some, slice_get, vec_len, IfOk};
 ghost use Rattle.wasm_lang.specs.Instructions as flat;
 ghost use Rattle.wasm2js_build.specs.Blocks.{statements_of};
-ghost use Rattle.wasm2js_build.specs.Growing.{waits_of};
+ghost use Rattle.wasm2js_build.specs.Growing.{held_of};
 ghost use Rattle.wasm2js_jumps.specs.Aims.{aim_view, aims_view};
 ghost use Rattle.wasm2js_operands.specs.Operands.{over, IsKept};
 ghost use Rattle.wasm2js_bodies.specs.Walks.{IsInside};
@@ -36,7 +36,7 @@ pub fn put_code(
     requires there { base ≤ vec_len types.old }
     ensures kept { IfOk result (λ _. IsKept base types.old.items types.new.items) }
     ensures aims { IfOk result (λ _. aims.new.items ≡ aims.old.items) }
-    ensures value { IfOk result (λ reached. Ends reached walk.now body.now at (aims_view aims.old.items) base (over base types.old.items) (waits_of text.old) (statements_of text.old.block) (statements_of text.new.block)) }
+    ensures value { IfOk result (λ reached. Ends reached walk.now body.now at (aims_view aims.old.items) base (over base types.old.items) (held_of text.old) (statements_of text.old.block) (statements_of text.new.block)) }
 {
     let mut place = at;
     loop {
@@ -62,7 +62,7 @@ fn step(
     requires there { base ≤ vec_len types.old }
     ensures kept { IfOk result (λ _. IsKept base types.old.items types.new.items) }
     ensures aims { IfOk result (λ _. aims.new.items ≡ aims.old.items) }
-    ensures value { IfOk result (λ next. IsStep next walk.now body.now at (aims_view aims.old.items) base (over base types.old.items) (over base types.new.items) (waits_of text.old) (waits_of text.new) (statements_of text.old.block) (statements_of text.new.block)) }
+    ensures value { IfOk result (λ next. IsStep next walk.now body.now at (aims_view aims.old.items) base (over base types.old.items) (over base types.new.items) (held_of text.old) (held_of text.new) (statements_of text.old.block) (statements_of text.new.block)) }
 {
     let Some(instr) = body.get(at) else {
         return Ok(Next::Over(true));
@@ -103,7 +103,7 @@ fn put_inside(
     requires { IsInside body.now at }
     ensures types { IfOk result (λ _. types.new.items ≡ types.old.items) }
     ensures aims { IfOk result (λ _. aims.new.items ≡ aims.old.items) }
-    ensures value { IfOk result (λ reached. Ends reached walk.now body.now at (aim_view aim ∷ aims_view aims.old.items) (vec_len types.old) [] (waits_of text.old) (statements_of text.old.block) (statements_of text.new.block)) }
+    ensures value { IfOk result (λ reached. Ends reached walk.now body.now at (aim_view aim ∷ aims_view aims.old.items) (vec_len types.old) [] (held_of text.old) (statements_of text.old.block) (statements_of text.new.block)) }
 {
     let count = aims.len();
     let base = types.len();
@@ -131,7 +131,7 @@ fn do_block(
     requires here { slice_get body.now at ≡ Some (flat.block result_type) }
     ensures kept { IfOk result (λ _. IsKept base types.old.items types.new.items) }
     ensures aims { IfOk result (λ _. aims.new.items ≡ aims.old.items) }
-    ensures value { IfOk result (λ next. IsStep next walk.now body.now at (aims_view aims.old.items) base (over base types.old.items) (over base types.new.items) (waits_of text.old) (waits_of text.new) (statements_of text.old.block) (statements_of text.new.block)) }
+    ensures value { IfOk result (λ next. IsStep next walk.now body.now at (aims_view aims.old.items) base (over base types.old.items) (over base types.new.items) (held_of text.old) (held_of text.new) (statements_of text.old.block) (statements_of text.new.block)) }
 {
     let first = place_after(body, at);
     text.write_all()?;
@@ -167,7 +167,7 @@ fn do_loop(
     requires here { slice_get body.now at ≡ Some (flat.loop result_type) }
     ensures kept { IfOk result (λ _. IsKept base types.old.items types.new.items) }
     ensures aims { IfOk result (λ _. aims.new.items ≡ aims.old.items) }
-    ensures value { IfOk result (λ next. IsStep next walk.now body.now at (aims_view aims.old.items) base (over base types.old.items) (over base types.new.items) (waits_of text.old) (waits_of text.new) (statements_of text.old.block) (statements_of text.new.block)) }
+    ensures value { IfOk result (λ next. IsStep next walk.now body.now at (aims_view aims.old.items) base (over base types.old.items) (over base types.new.items) (held_of text.old) (held_of text.new) (statements_of text.old.block) (statements_of text.new.block)) }
 {
     let first = place_after(body, at);
     text.write_all()?;
@@ -204,7 +204,7 @@ fn do_if(
     requires here { slice_get body.now at ≡ Some (flat.if_block result_type) }
     ensures kept { IfOk result (λ _. IsKept base types.old.items types.new.items) }
     ensures aims { IfOk result (λ _. aims.new.items ≡ aims.old.items) }
-    ensures value { IfOk result (λ next. IsStep next walk.now body.now at (aims_view aims.old.items) base (over base types.old.items) (over base types.new.items) (waits_of text.old) (waits_of text.new) (statements_of text.old.block) (statements_of text.new.block)) }
+    ensures value { IfOk result (λ next. IsStep next walk.now body.now at (aims_view aims.old.items) base (over base types.old.items) (over base types.new.items) (held_of text.old) (held_of text.new) (statements_of text.old.block) (statements_of text.new.block)) }
 {
     let first = place_after(body, at);
     remove(types, base, 1);

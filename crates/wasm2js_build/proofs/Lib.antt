@@ -1,8 +1,7 @@
-pub mod Views
-pub mod Sizes
 pub mod Lists
 pub mod Literals
 pub mod OwnForms
 pub mod Replacing
 pub mod Growing
 pub mod Waiting
+pub mod Bounds

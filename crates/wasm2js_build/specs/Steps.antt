@@ -1,10 +1,11 @@
 -- What steps of straight code say, as plain data.
-use Rattle.std.specs.Prelude.{Bool, not, List, [], ◌∷◌, map, ◌||◌}
+use Rattle.std.specs.Prelude.{ℕ, Bool, not, Option, Some, List, [], ◌∷◌, map, ◌||◌}
 use Rattle.wasm2js_translation.specs.Words as words
-use Rattle.wasm2js_translation.specs.Names.{Name}
+use Rattle.wasm2js_translation.specs.Names.{Name, same_name}
 use Rattle.wasm2js_translation.specs.Delays.{Delayed, puts, changes, one_puts, one_changes, reads_one, differ, others}
+use Rattle.wasm2js_translation.specs.Known.{Known, fact_of, lesser, noted, unchanged}
 use Rattle.wasm2js_nodes.specs.Names.{name_view, fixed_view}
-use Rattle.wasm2js_build.specs.Views.{term_view, terms_view}
+use Rattle.wasm2js_terms.specs.Views.{term_view, terms_view}
 use Rattle.wasm2js_build.specs.declared.steps.Step.{Step}
 use Rattle.wasm2js_build.specs.declared.steps.Step.TheVariants as steps
 use Rattle.wasm2js_build.specs.declared.steps.Change.{Change}
@@ -40,3 +41,9 @@ is_left_in_arms c d = not (is_spoiled c d)
 
 abbrev pub left_in_arms : Change → List Delayed → List Delayed
 left_in_arms c ds = others (is_spoiled c) ds
+
+-- behind a test of a word, where that is a variable's
+abbrev pub learned_bound : List Known → Option words.Term → (most : ℕ) → List Known
+learned_bound ks (Some (words.read n)) most =
+    let f = fact_of ks n in noted n (record { most = lesser f.most (Some most); by_four = f.by_four }) (unchanged (same_name n) ks)
+learned_bound ks o most = ks

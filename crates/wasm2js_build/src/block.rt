@@ -8,13 +8,12 @@ ghost use Rattle.wasm2js_translation.specs.Words as words;
 ghost use Rattle.wasm2js_translation.specs.Words.{simple_statement, signed_number, int_of, test_of, part_of};
 ghost use Rattle.wasm2js_translation.specs.Helpers as helpers;
 ghost use Rattle.wasm2js_nodes.specs.Names.{name_view, fixed_view};
-ghost use Rattle.wasm2js_build.specs.Views.{term_view, terms_view};
+ghost use Rattle.wasm2js_terms.specs.Views.{term_view, terms_view};
 ghost use Rattle.wasm2js_build.specs.Blocks.{statements_of};
 ghost use Rattle.wasm2js_build.specs.Steps.{step_view};
 
 use crate::building::{expr, int_expr};
 use crate::steps::{Step, statement};
-use crate::terms::Term;
 use asm_tree::{Function, Stmt};
 use sem_words::List;
 use std::alloc::{AllocError, Global};
@@ -22,6 +21,7 @@ use wasm2js_nodes::{
     Fixed, Name, block_statement, gives, if_else, if_only, locals_of, params_of, part_statement,
     spell, trap_call, while_loop,
 };
+use wasm2js_terms::Term;
 
 /// A list of statements that grows at its end. Contracts read the statements by `statements_of`.
 #[derive(Drop)]

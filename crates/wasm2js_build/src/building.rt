@@ -9,12 +9,10 @@ ghost use Rattle.wasm2js_translation.specs.Words as words;
 ghost use Rattle.wasm2js_translation.specs.Words.{bit_operator, relation_operator, as_number, test_of, byte_view, name_of, indexed, arguments, expr as expr_for, int_of};
 ghost use Rattle.wasm2js_nodes.specs.Names.{name_view};
 ghost use Rattle.wasm2js_translation.specs.Delays.{at_hand as at_hand_view};
-ghost use Rattle.wasm2js_build.specs.Views.{bit_view, relation_view, term_view};
-ghost use Rattle.wasm2js_build.specs.Waits.{atom_view, delays_view, late_term, late_terms};
+ghost use Rattle.wasm2js_terms.specs.Views.{bit_view, relation_view, term_view};
+ghost use Rattle.wasm2js_terms.specs.Waits.{atom_view, delays_view, late_term, late_terms};
 
 use crate::forms::{Form, atom_form, int_form, number_form, own_form, test_form};
-use crate::terms::{BitOp, Relation, Term};
-use crate::waits::{Atom, Delayed, at_hand};
 use asm_tree::{Expr, Link};
 use sem_words::{JsOp, List};
 use std::alloc::{AllocError, Global};
@@ -22,6 +20,7 @@ use wasm2js_nodes::{
     Fixed, Name, binary, call_of_one, call_of_two, chain, chosen, element, flipped, literal,
     shifted, variable, with_expr,
 };
+use wasm2js_terms::{Atom, BitOp, Delayed, Relation, Term, at_hand};
 
 /// The expression of a term, as it is.
 #[tactic(auto, using(crate::proofs::Replacing::nothing_waits))]
@@ -42,7 +41,7 @@ pub fn int_expr(alloc: Global, term: &Term<'_>) -> Result<Expr, AllocError>
 /// The expression of a term as it is, where these words wait.
 #[cycle(building)]
 #[inline(never)]
-#[tactic(auto, using(crate::proofs::Views::terms))]
+#[tactic(auto, using(wasm2js_terms::proofs::Views::terms))]
 pub(crate) fn late_expr(
     alloc: Global,
     waits: &[Delayed],

@@ -5,15 +5,14 @@ ghost use Rattle.asm_lang_valid.specs.Typing.{typed_below, literal_type};
 ghost use Rattle.asm_tree.specs.Views.{expr_view};
 ghost use Rattle.wasm2js_translation.specs.Words as words;
 ghost use Rattle.wasm2js_translation.specs.Words.{as_signed, as_unsigned};
-ghost use Rattle.wasm2js_build.specs.Views.{bit_view};
-ghost use Rattle.wasm2js_build.specs.Waits.{atom_view, late_term};
+ghost use Rattle.wasm2js_terms.specs.Views.{bit_view};
+ghost use Rattle.wasm2js_terms.specs.Waits.{atom_view, late_term};
 ghost use Rattle.wasm2js_build.specs.OwnForms.{bits_form, form_of, signed_by, unsigned_by, number_by, int_by, test_by};
 
-use crate::terms::{BitOp, Term};
-use crate::waits::{Atom, Delayed, at_hand};
 use asm_tree::Expr;
 use std::alloc::{AllocError, Global};
 use wasm2js_nodes::{signed, unsigned};
+use wasm2js_terms::{Atom, BitOp, Delayed, Term, at_hand};
 
 /// The type of an expression, as far as it decides where the expression is converted.
 #[derive(Clone, Copy)]
@@ -52,7 +51,7 @@ pub(crate) fn atom_form(atom: Atom) -> Form
 }
 
 /// What the expression of a term is, where these words wait.
-#[tactic(auto, using(crate::proofs::Views::terms))]
+#[tactic(auto, using(wasm2js_terms::proofs::Views::terms))]
 pub(crate) fn own_form(waits: &[Delayed], term: &Term<'_>) -> Form
     ensures { result ≡ form_of (late_term waits.now term.now) }
 {

@@ -4,14 +4,11 @@
 mod block;
 mod building;
 mod forms;
+mod learning;
 mod steps;
 mod straight;
-mod terms;
-mod waits;
 
 pub use block::{Block, function};
 pub use building::{expr, int_expr};
 pub use steps::Step;
 pub use straight::{LateBlock, Straight};
-pub use terms::{BitOp, Relation, Term};
-pub use waits::{Atom, Delayed};

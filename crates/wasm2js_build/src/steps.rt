@@ -7,12 +7,10 @@ ghost use Rattle.wasm2js_translation.specs.Names as names;
 ghost use Rattle.wasm2js_translation.specs.Words as words;
 ghost use Rattle.wasm2js_translation.specs.Words.{simple_statement, signed_number};
 ghost use Rattle.wasm2js_nodes.specs.Names.{name_view, fixed_view};
-ghost use Rattle.wasm2js_build.specs.Waits.{atom_view, delayed_view, delays_view, late_term, late_terms};
+ghost use Rattle.wasm2js_terms.specs.Waits.{atom_view, delayed_view, delays_view, late_term, late_terms};
 ghost use Rattle.wasm2js_build.specs.Steps.{step_view, steps_view, is_spoiled, is_put};
 
 use crate::building::{argument_list, late_expr, late_int, late_number};
-use crate::terms::Term;
-use crate::waits::{Atom, Delayed};
 use asm_tree::{Expr, Stmt};
 use sem_words::JsOp;
 use std::alloc::{AllocError, Global};
@@ -20,6 +18,7 @@ use wasm2js_nodes::{
     Fixed, Name, binary, call, if_only, natural, plainly, put_in, same_name, shifted, signed,
     store_in, trap_call,
 };
+use wasm2js_terms::{Atom, Delayed, Term};
 
 /// A step that is no choice between others.
 #[derive(Clone, Copy)]
@@ -66,8 +65,8 @@ fn is_spare(name: Name) -> bool
     same_name(Name::Always(Fixed::SpareHigh), name)
 }
 
-// Whether a step changes a variable.
-fn changes(step: &Step<'_>, name: Name) -> bool
+/// Whether a step changes a variable.
+pub(crate) fn changes(step: &Step<'_>, name: Name) -> bool
     ensures { result ≡ delays.changes (step_view step.now) (name_view name) }
 {
     match step {
@@ -89,7 +88,7 @@ fn one_puts(steps: &[Step<'_>], name: Name) -> bool
     false
 }
 
-fn one_changes(steps: &[Step<'_>], name: Name) -> bool
+pub(crate) fn one_changes(steps: &[Step<'_>], name: Name) -> bool
     ensures { result ≡ delays.one_changes (steps_view steps.now) (name_view name) }
 {
     for step in steps {

@@ -9,37 +9,108 @@ ghost use Rattle.wasm2js_translation.specs.Helpers as helpers;
 ghost use Rattle.wasm2js_helpers.specs.Pieces.{divide_signed_function, divide_function, remainder_signed_function, remainder_function};
 ghost use Rattle.wasm2js_nodes.specs.Names.{fixed_view};
 ghost use Rattle.wasm2js_build.specs.Blocks.{statements_of};
+ghost use Rattle.wasm2js_helpers.specs.Choices.{choice, chosen, quotient_choices, remainder_choices, division_choices};
 
 use crate::short::{add, first, of_two, second};
 use asm_tree::{Expr, Function, Stmt};
 use sem_words::{JsOp, List};
 use std::alloc::{AllocError, Global};
-use wasm2js_build::{BitOp, Block, Relation, Term, expr};
+use wasm2js_build::{Block, expr};
+use wasm2js_needs::Needs;
 use wasm2js_nodes::{Fixed, binary, natural, returns, signed};
+use wasm2js_terms::{BitOp, Relation, Term};
 
-/// Adds the helpers.
-#[tactic(auto, using(std::proofs::lemmas::List::append_assoc))]
-pub fn division_helpers(alloc: Global, functions: &mut List<Function>) -> Result<(), AllocError>
-    ensures { IfOk result (λ _. map function_view (list_items functions.new) ≡ map function_view (list_items functions.old) ++ helpers.division_helpers) }
+/// Adds the helpers that are asked for.
+#[tactic(auto, using(crate::proofs::Chosen::one_more))]
+pub fn division_helpers(
+    alloc: Global,
+    needs: &Needs,
+    functions: &mut List<Function>,
+) -> Result<(), AllocError>
+    ensures { IfOk result (λ _. map function_view (list_items functions.new) ≡ map function_view (list_items functions.old) ++ chosen (division_choices needs.now)) }
 {
-    add_quotients(alloc, functions)?;
-    add_remainders(alloc, functions)
+    add_quotients(alloc, needs, functions)?;
+    add_remainders(alloc, needs, functions)
 }
 
-#[tactic(auto, using(std::proofs::lemmas::List::append_assoc))]
-fn add_quotients(alloc: Global, functions: &mut List<Function>) -> Result<(), AllocError>
-    ensures { IfOk result (λ _. map function_view (list_items functions.new) ≡ map function_view (list_items functions.old) ++ divide_signed_function ∷ divide_function ∷ []) }
+#[tactic(auto, using(crate::proofs::Chosen::one_more))]
+fn add_quotients(
+    alloc: Global,
+    needs: &Needs,
+    functions: &mut List<Function>,
+) -> Result<(), AllocError>
+    ensures { IfOk result (λ _. map function_view (list_items functions.new) ≡ map function_view (list_items functions.old) ++ chosen (quotient_choices needs.now)) }
 {
-    add(functions, divide_signed(alloc)?)?;
-    add(functions, divide(alloc)?)
+    add_signed_quotient(alloc, needs.signed_quotient, functions)?;
+    add_quotient(alloc, needs.quotient, functions)
 }
 
-#[tactic(auto, using(std::proofs::lemmas::List::append_assoc))]
-fn add_remainders(alloc: Global, functions: &mut List<Function>) -> Result<(), AllocError>
-    ensures { IfOk result (λ _. map function_view (list_items functions.new) ≡ map function_view (list_items functions.old) ++ remainder_signed_function ∷ remainder_function ∷ []) }
+#[tactic(auto, using(crate::proofs::Chosen::one_more))]
+fn add_remainders(
+    alloc: Global,
+    needs: &Needs,
+    functions: &mut List<Function>,
+) -> Result<(), AllocError>
+    ensures { IfOk result (λ _. map function_view (list_items functions.new) ≡ map function_view (list_items functions.old) ++ chosen (remainder_choices needs.now)) }
 {
-    add(functions, remainder_signed(alloc)?)?;
-    add(functions, remainder(alloc)?)
+    add_signed_remainder(alloc, needs.signed_remainder, functions)?;
+    add_remainder(alloc, needs.remainder, functions)
+}
+
+fn add_signed_quotient(
+    alloc: Global,
+    asked: bool,
+    functions: &mut List<Function>,
+) -> Result<(), AllocError>
+    ensures { IfOk result (λ _. map function_view (list_items functions.new) ≡ map function_view (list_items functions.old) ++ chosen (choice asked divide_signed_function ∷ [])) }
+{
+    if asked {
+        add(functions, divide_signed(alloc)?)
+    } else {
+        Ok(())
+    }
+}
+
+fn add_quotient(
+    alloc: Global,
+    asked: bool,
+    functions: &mut List<Function>,
+) -> Result<(), AllocError>
+    ensures { IfOk result (λ _. map function_view (list_items functions.new) ≡ map function_view (list_items functions.old) ++ chosen (choice asked divide_function ∷ [])) }
+{
+    if asked {
+        add(functions, divide(alloc)?)
+    } else {
+        Ok(())
+    }
+}
+
+fn add_signed_remainder(
+    alloc: Global,
+    asked: bool,
+    functions: &mut List<Function>,
+) -> Result<(), AllocError>
+    ensures { IfOk result (λ _. map function_view (list_items functions.new) ≡ map function_view (list_items functions.old) ++ chosen (choice asked remainder_signed_function ∷ [])) }
+{
+    if asked {
+        add(functions, remainder_signed(alloc)?)
+    } else {
+        Ok(())
+    }
+}
+
+fn add_remainder(
+    alloc: Global,
+    asked: bool,
+    functions: &mut List<Function>,
+) -> Result<(), AllocError>
+    ensures { IfOk result (λ _. map function_view (list_items functions.new) ≡ map function_view (list_items functions.old) ++ chosen (choice asked remainder_function ∷ [])) }
+{
+    if asked {
+        add(functions, remainder(alloc)?)
+    } else {
+        Ok(())
+    }
 }
 
 fn divide_signed(alloc: Global) -> Result<Function, AllocError>

@@ -6,14 +6,15 @@ ghost use Rattle.wasm2js_translation.specs.Names.{fixed};
 ghost use Rattle.wasm2js_translation.specs.Words as words;
 ghost use Rattle.wasm2js_translation.specs.Helpers as helpers;
 ghost use Rattle.wasm2js_nodes.specs.Names.{name_view, fixed_view};
-ghost use Rattle.wasm2js_build.specs.Views.{bit_view, term_view};
+ghost use Rattle.wasm2js_terms.specs.Views.{bit_view, term_view};
 ghost use Rattle.wasm2js_build.specs.Blocks.{statements_of};
 
 use asm_tree::Function;
 use sem_words::List;
 use std::alloc::{AllocError, Global};
-use wasm2js_build::{BitOp, Block, Term, function};
+use wasm2js_build::{Block, function};
 use wasm2js_nodes::{Fixed, Name, Numbered};
+use wasm2js_terms::{BitOp, Term};
 
 /// An argument, by its number.
 pub fn argument(number: u64) -> Name

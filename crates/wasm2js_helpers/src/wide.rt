@@ -11,8 +11,9 @@ ghost use Rattle.wasm2js_translation.specs.Actions.{low_ones};
 ghost use Rattle.wasm2js_translation.specs.Helpers as helpers;
 ghost use Rattle.wasm2js_translation.specs.Helpers.{when, repeat, sets, gives, is_far, shift_left_function, shift_right_function, shift_right_signed_function, rotate_left_function, leading_zeros_function, trailing_zeros_function, set_bits_function};
 ghost use Rattle.wasm2js_nodes.specs.Names.{name_view};
-ghost use Rattle.wasm2js_build.specs.Views.{bit_view, term_view};
+ghost use Rattle.wasm2js_terms.specs.Views.{bit_view, term_view};
 ghost use Rattle.wasm2js_build.specs.Blocks.{statements_of};
+ghost use Rattle.wasm2js_helpers.specs.Choices.{choice, chosen, wide_choices, word_choices};
 
 use crate::short::{
     add, argument, first, gives_both, of_one, of_three, of_two, own, put_both, put_both_number,
@@ -21,17 +22,42 @@ use crate::short::{
 use asm_tree::Function;
 use sem_words::List;
 use std::alloc::{AllocError, Global};
-use wasm2js_build::{BitOp, Block, Term};
+use wasm2js_build::Block;
+use wasm2js_needs::Needs;
 use wasm2js_nodes::{Fixed, Name};
+use wasm2js_terms::{BitOp, Term};
 
-/// Adds the helpers.
+/// Adds the helpers that are asked for.
+#[tactic(auto, using(crate::proofs::Chosen::one_more))]
+pub fn wide_helpers(
+    alloc: Global,
+    needs: &Needs,
+    functions: &mut List<Function>,
+) -> Result<(), AllocError>
+    ensures { IfOk result (λ _. map function_view (list_items functions.new) ≡ map function_view (list_items functions.old) ++ chosen (word_choices needs.now)) }
+{
+    add_wide(alloc, needs.wide, functions)?;
+    add_set_bits(alloc, needs.set_bits, functions)
+}
+
+// All that take both words, or none of them.
+fn add_wide(alloc: Global, asked: bool, functions: &mut List<Function>) -> Result<(), AllocError>
+    ensures { IfOk result (λ _. map function_view (list_items functions.new) ≡ map function_view (list_items functions.old) ++ chosen (wide_choices asked)) }
+{
+    if asked {
+        add_all_wide(alloc, functions)
+    } else {
+        Ok(())
+    }
+}
+
 #[tactic(auto, using(std::proofs::lemmas::List::append_assoc))]
-pub fn wide_helpers(alloc: Global, functions: &mut List<Function>) -> Result<(), AllocError>
-    ensures { IfOk result (λ _. map function_view (list_items functions.new) ≡ map function_view (list_items functions.old) ++ helpers.wide_helpers) }
+fn add_all_wide(alloc: Global, functions: &mut List<Function>) -> Result<(), AllocError>
+    ensures { IfOk result (λ _. map function_view (list_items functions.new) ≡ map function_view (list_items functions.old) ++ shift_left_function ∷ shift_right_signed_function ∷ shift_right_function ∷ rotate_left_function ∷ leading_zeros_function ∷ trailing_zeros_function ∷ []) }
 {
     add_shifts(alloc, functions)?;
     add_turn(alloc, functions)?;
-    add_counts(alloc, functions)
+    add_zeros(alloc, functions)
 }
 
 #[tactic(auto, using(std::proofs::lemmas::List::append_assoc))]
@@ -50,12 +76,25 @@ fn add_turn(alloc: Global, functions: &mut List<Function>) -> Result<(), AllocEr
 }
 
 #[tactic(auto, using(std::proofs::lemmas::List::append_assoc))]
-fn add_counts(alloc: Global, functions: &mut List<Function>) -> Result<(), AllocError>
-    ensures { IfOk result (λ _. map function_view (list_items functions.new) ≡ map function_view (list_items functions.old) ++ leading_zeros_function ∷ trailing_zeros_function ∷ set_bits_function ∷ []) }
+fn add_zeros(alloc: Global, functions: &mut List<Function>) -> Result<(), AllocError>
+    ensures { IfOk result (λ _. map function_view (list_items functions.new) ≡ map function_view (list_items functions.old) ++ leading_zeros_function ∷ trailing_zeros_function ∷ []) }
 {
     add(functions, leading_zeros(alloc)?)?;
-    add(functions, trailing_zeros(alloc)?)?;
-    add(functions, set_bits(alloc)?)
+    add(functions, trailing_zeros(alloc)?)
+}
+
+fn add_set_bits(
+    alloc: Global,
+    asked: bool,
+    functions: &mut List<Function>,
+) -> Result<(), AllocError>
+    ensures { IfOk result (λ _. map function_view (list_items functions.new) ≡ map function_view (list_items functions.old) ++ chosen (choice asked set_bits_function ∷ [])) }
+{
+    if asked {
+        add(functions, set_bits(alloc)?)
+    } else {
+        Ok(())
+    }
 }
 
 // The count modulo 64 is 32 or more.

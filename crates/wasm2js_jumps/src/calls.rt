@@ -21,8 +21,9 @@ use sem_words::List;
 use std::alloc::{AllocError, Global};
 use wasm_lang::ValType;
 use wasm_tree::FuncType;
-use wasm2js_build::{Block, Term};
+use wasm2js_build::Block;
 use wasm2js_nodes::{Name, Numbered, call, natural, put_in, signed, variable};
+use wasm2js_terms::Term;
 
 fn add_word(
     alloc: Global,

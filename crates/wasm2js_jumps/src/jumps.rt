@@ -14,8 +14,9 @@ use crate::nodes::{break_to, continue_to, give, leave};
 use crate::values::{keep_high, signed_word};
 use std::alloc::{AllocError, Global};
 use wasm_lang::ValType;
-use wasm2js_build::{Block, Term};
+use wasm2js_build::Block;
 use wasm2js_nodes::{Name, Numbered};
+use wasm2js_terms::Term;
 
 fn give_word(alloc: Global, depth: u64, block: &mut Block) -> Result<(), AllocError>
     ensures { IfOk result (λ _. statements_of block.new ≡ statements_of block.old ++ plain.returns (Some (bodies.signed_word depth)) ∷ []) }

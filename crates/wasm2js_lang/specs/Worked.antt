@@ -6,9 +6,9 @@ use Rattle.wasm_lang.specs.declared.types.ValType.{ValType}
 use Rattle.wasm_lang.specs.declared.types.ValType.TheVariants.{I32, I64}
 use Rattle.wasm_lang.specs.declared.types.ImportKind.TheVariants as imports
 use Rattle.wasm_lang.specs.declared.types.ExportKind.TheVariants as exports
-use Rattle.sem_words.specs.declared.word.Bin.TheVariants.{Rotl}
+use Rattle.sem_words.specs.declared.word.Bin.TheVariants.{RemU, Rotl}
 use Rattle.sem_words.specs.Words.{rotl_of}
-use Rattle.wasm_lang.specs.Instructions.{plain, const32, local_get, bin64, call_indirect, end_mark}
+use Rattle.wasm_lang.specs.Instructions.{Instruction, plain, const32, local_get, load, memory_copy, bin32, bin64, call_indirect, end_mark}
 use Rattle.wasm_lang.specs.Modules.{FunctionType, WasmModule}
 use Rattle.asm_lang.specs.Trees.{number, member}
 use Rattle.asm_lang.specs.Modules.{lit, Stmts, no_stmts, stmts, returns, Variable, Param, Function, Export, many, Module}
@@ -124,6 +124,25 @@ rotating = record {
   elements = [];
   bodies = record { locals = []; code = plain (local_get 0) ∷ plain (local_get 1) ∷ plain (bin64 Rotl) ∷ end_mark ∷ [] } ∷ [];
   segments = [];
+}
+
+-- ---- a copy of as many bytes as the remainder of two words of the memory says
+
+abbrev pub load_of : ℕ → Instruction
+load_of size = plain (load (record { wide = false; size = size; signed = false }) 0 0)
+
+abbrev pub moving : WasmModule
+moving = record rotating {
+  types = type [] [] ∷ [];
+  memories = record { min = 1; max = None } ∷ [];
+  bodies =
+      record {
+        locals = [];
+        code =
+            plain (const32 0) ∷ plain (const32 4)
+            ∷ plain (const32 8) ∷ load_of 4 ∷ plain (const32 12) ∷ load_of 2 ∷ plain (bin32 RemU)
+            ∷ plain memory_copy ∷ end_mark ∷ [];
+      } ∷ [];
 }
 
 abbrev pub rotation : Helper

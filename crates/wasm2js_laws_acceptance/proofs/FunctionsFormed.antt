@@ -1,8 +1,8 @@
 -- The instructions in the tree of a body are those of its expression: they have opcodes, their constants are words, and the types that
--- calls of entries name are among those that are called.
+-- calls of entries name, and the helpers, are among those that are called.
 use Rattle.std.proofs.Common.{◌≡◌, ℕ, zero, suc, ◌+◌, Bool, true, false, cond, List, [], ◌∷◌, ◌++◌, length, Some, None, refl, sym, subst}
 use Rattle.std.specs.Prelude.{slice_get, All, ◌||◌}
-use Rattle.std.specs.List.{AllByRecursion}
+use Rattle.std.specs.List.{AllByRecursion, list_any}
 use Rattle.std.specs.Cmp.Lexicographic.{pointwise}
 use Rattle.std.proofs.lemmas.List.Elements.{recursion_from_All}
 use Rattle.wasm_lang.specs.declared.types.ValType.{ValType}
@@ -17,6 +17,12 @@ use Rattle.wasm_lang_valid.specs.ModuleRules.{imported_functions}
 use Rattle.wasm_lang_valid.specs.Typing.{same}
 use Rattle.wasm_lang_valid.specs.Measures.{called, called_in, called_types, same_type, is_among, is_wide_mul_div, has_mul_div, first_mul_div, measures_of}
 use Rattle.wasm_lang_exec.specs.Code.{unreachable, block, loop, if_block, br, br_if, br_table, return, call, call_indirect, plain, Trees, ε, ◌▹◌, ◌⊕◌, one, Open, a_block, a_loop, an_if, an_else, nest, tree_of}
+use Rattle.wasm2js_lang.specs.Helpers.{is_wide_operator}
+use Rattle.wasm2js_lang.specs.Parts.Functions.{counts_set_bits, is_signed_quotient, is_quotient, is_signed_remainder, is_remainder, is_load, is_store, is_copy, is_fill, has_instruction, is_asked}
+use Rattle.wasm2js_translation.specs.Names as names
+use Rattle.wasm2js_translation.specs.Names.{Fixed}
+use Rattle.wasm2js_translation.specs.Words.{name_of}
+use Rattle.wasm2js_laws_scopes.specs.Provided.{asks, Called, AsksAmong}
 use Rattle.wasm2js_laws_typed.specs.Laws.{is_loaded, is_stored, is_extended, IsFormed}
 use Rattle.wasm2js_laws_typed.specs.Bodies.{IsFormedCode}
 use Rattle.wasm2js_laws_acceptance.specs.FunctionsFunctions.{HasWord, is_called}
@@ -69,10 +75,10 @@ no_first n (b ∷ bs) h = by (has_mul_div b.code) refl (no_first (n + 1) bs) h
 
 -- ---- from the expression to the tree
 
-module _ (types : List FunctionType) (is_called : FunctionType → Bool) where
+module _ (types : List FunctionType) (is_called : Called) where
   abbrev pub IsFormedHere : Instruction → Type 0
-  IsFormedHere (flat.plain p) = IsFormed p
-  IsFormedHere (flat.call_indirect n) = (t : FunctionType) → slice_get types n ≡ Some t → is_called t ≡ true
+  IsFormedHere (flat.plain p) = IsFormed p × AsksAmong is_called.helpers p
+  IsFormedHere (flat.call_indirect n) = (t : FunctionType) → slice_get types n ≡ Some t → is_called.types t ≡ true
   IsFormedHere i = Unit {0}
 
   abbrev F : Trees → Type 0
@@ -158,6 +164,51 @@ among_right : (t : FunctionType) (a b : List FunctionType) → is_among t b ≡ 
 among_right t [] b h = h
 among_right t (u ∷ a) b h = let e = among_right t a b h in rw e (or_true (same_type t u))
 
+-- ---- the helpers that instructions ask for
+
+or_first : (a b : Bool) → a ≡ true → (a || b) ≡ true
+or_first true b h = refl
+or_first false b h = absurd (cc h)
+
+or_second : (a b : Bool) → b ≡ true → (a || b) ≡ true
+or_second true b h = refl
+or_second false b h = h
+
+none_among : (is : List Instruction) → list_any (λ i. false) is ≡ true → ⊥
+none_among [] h = cc h
+none_among (i ∷ is) h = none_among is h
+
+-- an instruction of one body is one of the module
+among_bodies : (is_one : Instruction → Bool) (bodies : List FunctionBody) (i : ℕ) (b : FunctionBody) → slice_get bodies i ≡ Some b → list_any is_one b.code ≡ true
+    → list_any (λ (b : FunctionBody). list_any is_one b.code) bodies ≡ true
+among_bodies is_one [] i b e h = absurd (cc e)
+among_bodies is_one (x ∷ bodies) zero b e h =
+    let same : x ≡ b = cc e in
+    or_first (list_any is_one x.code) _ (subst (λ (b : FunctionBody). list_any is_one b.code ≡ true) (sym same) h)
+among_bodies is_one (x ∷ bodies) (suc i) b e h = or_second (list_any is_one x.code) _ (among_bodies is_one bodies i b e h)
+
+module _ (w : WasmModule) (code : List Instruction) (all : (is_one : Instruction → Bool) → list_any is_one code ≡ true → has_instruction is_one w ≡ true) where
+  -- what some instruction asks for is there
+  pub asked_is_there : (f : Fixed) → list_any (asks f) code ≡ true → is_asked w (name_of f) ≡ true
+  asked_is_there names.shift_left h = all is_wide_operator h
+  asked_is_there names.shift_right_signed h = all is_wide_operator h
+  asked_is_there names.shift_right h = all is_wide_operator h
+  asked_is_there names.rotate_left h = all is_wide_operator h
+  asked_is_there names.leading_zeros h = all is_wide_operator h
+  asked_is_there names.trailing_zeros h = all is_wide_operator h
+  asked_is_there names.set_bits h = all counts_set_bits h
+  asked_is_there names.divide_signed h = all is_signed_quotient h
+  asked_is_there names.divide h = all is_quotient h
+  asked_is_there names.remainder_signed h = all is_signed_remainder h
+  asked_is_there names.remainder h = all is_remainder h
+  asked_is_there names.load_32 h = all (is_load 4) h
+  asked_is_there names.load_64 h = all (is_load 8) h
+  asked_is_there names.store_32 h = all (is_store 4) h
+  asked_is_there names.store_64 h = all (is_store 8) h
+  asked_is_there names.copy h = all is_copy h
+  asked_is_there names.fill h = all is_fill h
+  asked_is_there f h = absurd (none_among code h)
+
 module _ (types : List FunctionType) where
   among_body : (bodies : List FunctionBody) (i : ℕ) (b : FunctionBody) (t : FunctionType) → slice_get bodies i ≡ Some b → is_among t (called_in types b.code) ≡ true → is_among t (called_types types bodies) ≡ true
   among_body [] i b t e h = absurd (cc e)
@@ -169,26 +220,31 @@ module _ (types : List FunctionType) where
   call_is_among : (n : ℕ) (t : FunctionType) → slice_get types n ≡ Some t → is_among t (called types (flat.call_indirect n)) ≡ true
   call_is_among n t e = rw e (let f = same_self t in rw f refl)
 
-  module _ (all_called : FunctionType → Bool) where
-    formed_code : (code : List Instruction) → AllByRecursion HasOpcode code → AllByRecursion HasWord code → AreNoProducts code → ((t : FunctionType) → is_among t (called_in types code) ≡ true → all_called t ≡ true)
+  module _ (all_called : Called) where
+    formed_code : (code : List Instruction) → AllByRecursion HasOpcode code → AllByRecursion HasWord code → AreNoProducts code
+        → ((t : FunctionType) → is_among t (called_in types code) ≡ true → all_called.types t ≡ true) → ((f : Fixed) → list_any (asks f) code ≡ true → all_called.helpers f ≡ true)
         → AllByRecursion (IsFormedHere types all_called) code
-    formed_code [] o w m c = tt
-    formed_code (i ∷ is) o w m c = (here i o.0 w.0 m.0 (λ t h. c t (among_left t (called types i) (called_in types is) h)), formed_code is o.1 w.1 m.1 (λ t h. c t (among_right t (called types i) (called_in types is) h)))
+    formed_code [] o w m c a = tt
+    formed_code (i ∷ is) o w m c a = (
+      here i o.0 w.0 m.0 (λ t h. c t (among_left t (called types i) (called_in types is) h)) (λ f h. a f (or_first (asks f i) (list_any (asks f) is) h)),
+      formed_code is o.1 w.1 m.1 (λ t h. c t (among_right t (called types i) (called_in types is) h)) (λ f h. a f (or_second (asks f i) (list_any (asks f) is) h)),
+    )
       where
-        here : (i : Instruction) → HasOpcode i → HasWord i → is_wide_mul_div i ≡ false → ((t : FunctionType) → is_among t (called types i) ≡ true → all_called t ≡ true) → IsFormedHere types all_called i
-        here (flat.plain p) o w m c = plain_is_formed p (form_is_there (flat.plain p) o) w m
-        here (flat.call_indirect n) o w m c = λ t e. c t (call_is_among n t e)
-        here flat.unreachable o w m c = tt
-        here (flat.block r) o w m c = tt
-        here (flat.loop r) o w m c = tt
-        here (flat.if_block r) o w m c = tt
-        here flat.else_mark o w m c = tt
-        here flat.end_mark o w m c = tt
-        here (flat.br l) o w m c = tt
-        here (flat.br_if l) o w m c = tt
-        here (flat.br_table ls d) o w m c = tt
-        here flat.return o w m c = tt
-        here (flat.call f) o w m c = tt
+        here : (i : Instruction) → HasOpcode i → HasWord i → is_wide_mul_div i ≡ false → ((t : FunctionType) → is_among t (called types i) ≡ true → all_called.types t ≡ true)
+            → ((f : Fixed) → asks f i ≡ true → all_called.helpers f ≡ true) → IsFormedHere types all_called i
+        here (flat.plain p) o w m c a = (plain_is_formed p (form_is_there (flat.plain p) o) w m, a)
+        here (flat.call_indirect n) o w m c a = λ t e. c t (call_is_among n t e)
+        here flat.unreachable o w m c a = tt
+        here (flat.block r) o w m c a = tt
+        here (flat.loop r) o w m c a = tt
+        here (flat.if_block r) o w m c a = tt
+        here flat.else_mark o w m c a = tt
+        here flat.end_mark o w m c a = tt
+        here (flat.br l) o w m c a = tt
+        here (flat.br_if l) o w m c a = tt
+        here (flat.br_table ls d) o w m c a = tt
+        here flat.return o w m c a = tt
+        here (flat.call f) o w m c a = tt
 
 -- ---- a body of a module
 
@@ -204,4 +260,4 @@ body_is_formed w i b trees shaped words products is tree =
     let v = at_place (λ (b : FunctionBody). All HasWord b.code) w.bodies i b (recursion_from_All (λ (b : FunctionBody). All HasWord b.code) w.bodies words) is in
     let m = at_place (λ (b : FunctionBody). has_mul_div b.code ≡ false) w.bodies i b (no_first (length (imported_functions w.imports)) w.bodies products) is in
     formed_tree w.types (is_called w) b.code trees
-    (formed_code w.types (is_called w) b.code (recursion_from_All HasOpcode b.code s.opcodes) (recursion_from_All HasWord b.code v) (no_products b.code m) (λ t h. among_body w.types w.bodies i b t is h)) tree
+    (formed_code w.types (is_called w) b.code (recursion_from_All HasOpcode b.code s.opcodes) (recursion_from_All HasWord b.code v) (no_products b.code m) (λ t h. among_body w.types w.bodies i b t is h) (asked_is_there w b.code (λ is_one h. among_bodies is_one w.bodies i b is h))) tree

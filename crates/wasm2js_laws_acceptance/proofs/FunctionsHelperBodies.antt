@@ -9,16 +9,17 @@ use Rattle.wasm_lang_valid.specs.ModuleRules.{has_memory}
 use Rattle.wasm_lang_valid.specs.Profile.{or_zero, memory_bytes}
 use Rattle.wasm_lang_valid.specs.Runnable.{above, most_pages_to_run, pages}
 use Rattle.asm_lang.specs.Modules.{Function}
-use Rattle.wasm2js_lang.specs.Parts.Functions.{has_long_segments}
+use Rattle.wasm2js_lang.specs.Parts.Functions.{is_asked}
 use Rattle.wasm2js_translation.specs.Names as names
 use Rattle.wasm2js_translation.specs.Names.{fixed}
 use Rattle.wasm2js_translation.specs.Words.{Term, conjunction, shift_left, shift_right_signed, shift_right, equal, less, at_most, greater, both, read, number, zeros, compare, byte, whole}
 use Rattle.wasm2js_translation.specs.Pairs.{literal, plus, minus, sign_of, funnel_left, funnel_right}
 use Rattle.wasm2js_translation.specs.Actions.{low_ones, place}
-use Rattle.wasm2js_translation.specs.Helpers.{argument, own, first, second, third, spare, one_argument, two_arguments, three_arguments, is_far, shift_left_function, shift_right_signed_function, shift_right_function, rotate_left_function, leading_zeros_function, trailing_zeros_function, set_bits_function, wide_helpers, division_helpers, word_at, access_helpers, past, is_inside, eight_up, eight_down, has_words, four_times, copy_function, fill_function, arguments_after, data_helpers, memory_helpers}
-use Rattle.wasm2js_translation.specs.Modules.{helpers, translated}
+use Rattle.wasm2js_translation.specs.Helpers.{argument, own, first, second, third, spare, one_argument, two_arguments, three_arguments, is_far, shift_left_function, shift_right_signed_function, shift_right_function, rotate_left_function, leading_zeros_function, trailing_zeros_function, set_bits_function, wide_helpers, division_helpers, word_at, access_helpers, past, is_inside, eight_up, eight_down, has_words, four_times, copy_function, fill_function, arguments_after, put_function, zero_function, memory_helpers}
+use Rattle.wasm2js_translation.specs.Modules.{all_helpers, helpers, translated}
 use Rattle.wasm2js_laws_acceptance.specs.FunctionsFunctions.{IsFineFunction, of_trap, IsSource}
 use Rattle.wasm2js_laws_acceptance.specs.FunctionsLaws.{HelpersAreFine}
+use Rattle.wasm2js_laws_acceptance.proofs.ProvidedHelpers.{all_kept}
 use Rattle.wasm2js_laws_acceptance.proofs.FunctionsLimited.{at_most as no_more, limited}
 use Rattle.wasm2js_laws_acceptance.proofs.FunctionsChecking.{Piece, set, give, in_case, while_so, one_of, test, bound, set_byte, set_word, divided, Pieces, done, ◌▸◌, variables, answers, check_pieces, checked}
 
@@ -203,12 +204,11 @@ module _ (w : WasmModule) where
       fill_fine : Fine (fill_function bytes)
       fill_fine = checked w true there (fixed names.fill) three_arguments (own 0 ∷ own 1 ∷ []) fill_body refl refl (omega arith) (omega arith) refl fill_checked
 
-      data_fine : (long : Bool) → AllByRecursion Fine (data_helpers long)
-      data_fine true = (checked w true there (fixed names.data_words) (arguments_after 0 17) [] (puts 0 1 16) refl refl (omega arith) (omega arith) refl refl, (checked w true there (fixed names.data_zeros) two_arguments [] zero_pieces refl refl (omega arith) (omega arith) refl refl, tt))
-      data_fine false = tt
+      data_fine : AllByRecursion Fine (put_function ∷ zero_function ∷ [])
+      data_fine = (checked w true there (fixed names.data_words) (arguments_after 0 17) [] (puts 0 1 16) refl refl (omega arith) (omega arith) refl refl, (checked w true there (fixed names.data_zeros) two_arguments [] zero_pieces refl refl (omega arith) (omega arith) refl refl, tt))
 
-      memory_fine : (long : Bool) → AllByRecursion Fine (memory_helpers bytes long)
-      memory_fine long = (access_fine.0, (access_fine.1.0, (access_fine.1.1.0, (access_fine.1.1.1.0, (copy_fine, (fill_fine, data_fine long))))))
+      memory_fine : AllByRecursion Fine (memory_helpers bytes)
+      memory_fine = (access_fine.0, (access_fine.1.0, (access_fine.1.1.0, (access_fine.1.1.1.0, (copy_fine, (fill_fine, data_fine))))))
 
   -- ---- all of them
 
@@ -216,8 +216,8 @@ module _ (w : WasmModule) where
   joined [] gs h k = k
   joined (f ∷ fs) gs h k = (h.0, joined fs gs h.1 k)
 
-  if_memory : (b : Bool) → b ≡ has_memory w → memory_bytes w < 2 ^ 31 → AllByRecursion Fine (if b then memory_helpers (memory_bytes w) (has_long_segments w) else [])
-  if_memory true e few = memory_fine (sym e) (memory_bytes w) few (has_long_segments w)
+  if_memory : (b : Bool) → b ≡ has_memory w → memory_bytes w < 2 ^ 31 → AllByRecursion Fine (if b then memory_helpers (memory_bytes w) else [])
+  if_memory true e few = memory_fine (sym e) (memory_bytes w) few
   if_memory false e few = tt
 
   pub few_bytes : (o : Option ℕ) → above most_pages_to_run o ≡ None → or_zero o * 65536 ≤ 2 ^ 28
@@ -234,7 +234,8 @@ module _ (w : WasmModule) where
   helpers_fine : IsSource w → AllByRecursion Fine (helpers w)
   helpers_fine source =
       let few = memory_small source in
-      joined (wide_helpers ++ division_helpers) _ (joined wide_helpers division_helpers wide_fine division_fine) (if_memory (has_memory w) refl (omega (arith, few)))
+      all_kept Fine (is_asked w) (all_helpers w)
+      (joined (wide_helpers ++ division_helpers) _ (joined wide_helpers division_helpers wide_fine division_fine) (if_memory (has_memory w) refl (omega (arith, few))))
 
 pub helpers_are_fine : HelpersAreFine
 helpers_are_fine w source = helpers_fine w source

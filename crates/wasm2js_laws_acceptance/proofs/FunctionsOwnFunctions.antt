@@ -115,7 +115,7 @@ module _ (w : WasmModule) (t : FunctionType) (more : List ValType) (code : Trees
         let answers : target.result_of s ≡ is_some c.returns = body_gives (memory_bytes w) (cell_count w) c code in
         let first = left_room s c (here 0 (listed c.returns) []) (room_of c code 0 []) has_room in
         let rest = right_room s c (here 0 (listed c.returns) []) (room_of c code 0 []) has_room in
-        all_join s at_top (30 + tree_levels code) (stmts_of (memory_bytes w) (cell_count w) c code (out c.returns ∷ []) 0 [] []) _
+        all_join s at_top (30 + tree_levels code) (stmts_of (memory_bytes w) (cell_count w) c code (out c.returns ∷ []) 0 [] [] []) _
         (code_is_fine s c (is_called w) (memory_bytes w) (cell_count w) given answers code (result_of t ∷ []) (out c.returns ∷ []) 0 [] (listed (result_of t)) at_top typed.1 formed (refl, refl, refl) refl rest)
         (all_higher s at_top 8 (30 + tree_levels code) _ (omega arith)
         (closing_fine s at_top (memory_bytes w) (cell_count w) c c.returns

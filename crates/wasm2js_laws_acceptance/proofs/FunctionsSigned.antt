@@ -9,8 +9,9 @@ use Rattle.wasm_lang_exec.specs.Code.{unreachable, block, loop, if_block, br, br
 use Rattle.asm_lang.specs.Modules.{Expr, Stmt, returns}
 use Rattle.asm_lang_valid.specs.Scope.{gives_value, last_gives_value}
 use Rattle.wasm2js_translation.specs.Words.{Simple, put, ask, tell, guard, stop, write_byte, write_whole, Action, simply, either, simple_statement, simple_statements, statements, stmts_in}
-use Rattle.wasm2js_translation.specs.Bodies.{out, signed_word, leave_with, jump, switches_from, answered, call_stmts, indirect_stmts, types_after_call, after_plain, stmts_of, left_waiting, closing, body_stmts, late_code}
+use Rattle.wasm2js_translation.specs.Bodies.{out, signed_word, leave_with, jump, switches_from, answered, call_stmts, indirect_stmts, types_after_call, after_plain, stmts_of, left_waiting, closing, body_stmts, lean_code}
 use Rattle.wasm2js_translation.specs.Delays.{Delayed, written}
+use Rattle.wasm2js_translation.specs.Known.{Known}
 
 -- ---- the last statement
 
@@ -82,24 +83,25 @@ jump_gives r (suc k) b ts e = tt
 -- ---- bodies
 
 module _ (bytes cells : ℕ) (c : Context) where
-  code_gives : c.returns ≡ None → (code : Trees) (b : ℕ) (ts : List ValType) (ds : List Delayed) → NoneGive (stmts_of bytes cells c code (out c.returns ∷ []) b ts ds)
-  code_gives none ε b ts ds = written_gives ds
-  code_gives none (plain p ▹ code) b ts ds =
-      let x = late_code bytes cells c p b ts ds in none_join (statements x.now) _ (actions_give x.now) (code_gives none code b (after_plain c p ts) (left_waiting bytes cells c p b ts ds))
-  code_gives none (unreachable ▹ code) b ts ds = none_behind ds _ (refl, tt)
-  code_gives none (br k ▹ code) b ts ds = none_behind ds _ (jump_gives c.returns k b ts none)
-  code_gives none (return ▹ code) b ts ds = none_behind ds _ (leave_gives c.returns _ none)
-  code_gives none (br_table ks d ▹ code) b ts ds = none_behind ds _ (switches_give _ _ _ 0 _ d)
-  code_gives none (br_if k ▹ code) b ts ds = none_behind ds _ (refl, code_gives none code b (drop 1 ts) [])
-  code_gives none (block r body ▹ code) b ts ds = none_behind ds _ (refl, code_gives none code b (listed r ++ ts) [])
-  code_gives none (loop r body ▹ code) b ts ds = none_behind ds _ (refl, code_gives none code b (listed r ++ ts) [])
-  code_gives none (if_block r first second ▹ code) b ts ds = none_behind ds _ (refl, code_gives none code b (listed r ++ drop 1 ts) [])
-  code_gives none (call f ▹ code) b ts ds =
+  code_gives : c.returns ≡ None → (code : Trees) (b : ℕ) (ts : List ValType) (ds : List Delayed) (ks : List Known) → NoneGive (stmts_of bytes cells c code (out c.returns ∷ []) b ts ds ks)
+  code_gives none ε b ts ds ks = written_gives ds
+  code_gives none (plain p ▹ code) b ts ds ks =
+      let x = lean_code bytes cells c p b ts ds ks in
+      none_join (statements x.now) _ (actions_give x.now) (code_gives none code b (after_plain c p ts) (left_waiting bytes cells c p b ts ds) x.known)
+  code_gives none (unreachable ▹ code) b ts ds ks = none_behind ds _ (refl, tt)
+  code_gives none (br k ▹ code) b ts ds ks = none_behind ds _ (jump_gives c.returns k b ts none)
+  code_gives none (return ▹ code) b ts ds ks = none_behind ds _ (leave_gives c.returns _ none)
+  code_gives none (br_table ns d ▹ code) b ts ds ks = none_behind ds _ (switches_give _ _ _ 0 _ d)
+  code_gives none (br_if k ▹ code) b ts ds ks = none_behind ds _ (refl, code_gives none code b (drop 1 ts) [] [])
+  code_gives none (block r body ▹ code) b ts ds ks = none_behind ds _ (refl, code_gives none code b (listed r ++ ts) [] [])
+  code_gives none (loop r body ▹ code) b ts ds ks = none_behind ds _ (refl, code_gives none code b (listed r ++ ts) [] [])
+  code_gives none (if_block r first second ▹ code) b ts ds ks = none_behind ds _ (refl, code_gives none code b (listed r ++ drop 1 ts) [] [])
+  code_gives none (call f ▹ code) b ts ds ks =
       none_join (simple_statements (written ds) ++ call_stmts f b ts (type_of c f)) _ (none_behind ds _ (call_gives f b ts (type_of c f)))
-      (code_gives none code b (types_after_call (type_of c f) ts) [])
-  code_gives none (call_indirect t ▹ code) b ts ds =
+      (code_gives none code b (types_after_call (type_of c f) ts) [] [])
+  code_gives none (call_indirect t ▹ code) b ts ds ks =
       none_join (simple_statements (written ds) ++ indirect_stmts cells c.types b ts (slice_get c.types t)) _ (none_behind ds _ (entry_gives cells c.types b ts (slice_get c.types t)))
-      (code_gives none code b (types_after_call (slice_get c.types t) (drop 1 ts)) [])
+      (code_gives none code b (types_after_call (slice_get c.types t) (drop 1 ts)) [] [])
 
   append_none : (xs : List Stmt) → xs ++ [] ≡ xs
   append_none [] = refl
@@ -115,4 +117,4 @@ module _ (bytes cells : ℕ) (c : Context) where
   closed_gives (Some I64) xs h = ap (λ xs. last_gives_value (stmts_in xs)) (append_two xs _ (returns (Some (signed_word 0)))) ∙ last_is (xs ++ _ ∷ []) (returns (Some (signed_word 0)))
 
   pub body_gives : (code : Trees) → last_gives_value (stmts_in (body_stmts bytes cells c code)) ≡ is_some c.returns
-  body_gives code = closed_gives c.returns (stmts_of bytes cells c code (out c.returns ∷ []) 0 [] []) (λ none. code_gives none code 0 [] [])
+  body_gives code = closed_gives c.returns (stmts_of bytes cells c code (out c.returns ∷ []) 0 [] [] []) (λ none. code_gives none code 0 [] [] [])

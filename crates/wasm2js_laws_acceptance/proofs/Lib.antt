@@ -2,6 +2,7 @@ pub mod ProvidedOrder
 pub mod ProvidedEntries
 pub mod ProvidedDeclared
 pub mod ProvidedFound
+pub mod ProvidedHelpers
 pub mod ProvidedPut
 pub mod ProvidedWithin
 pub mod ProvidedGlobals

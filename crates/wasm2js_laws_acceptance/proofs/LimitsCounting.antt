@@ -12,9 +12,9 @@ use Rattle.wasm_lang_valid.specs.Profile.{memory_bytes}
 use Rattle.wasm_lang_exec.specs.Fits.{GlobalImport, global_imports}
 use Rattle.wasm_lang_exec.specs.Reductions.{Callee, an_import, a_function, if_function, imported_callee, imported_callees, own_callees, callees}
 use Rattle.asm_lang.specs.Modules.{Function}
-use Rattle.wasm2js_lang.specs.Parts.Functions.{has_long_segments}
-use Rattle.wasm2js_translation.specs.Helpers.{wide_helpers, division_helpers, memory_helpers}
-use Rattle.wasm2js_translation.specs.Modules.{function_for, functions_from, init_function, high_function, helpers, functions_of, view_variables, fixed_variables, foreign_variables, imported_variables, first_values, own_variables, global_variables, variables_of}
+use Rattle.wasm2js_lang.specs.Parts.Functions.{is_asked}
+use Rattle.wasm2js_translation.specs.Helpers.{wide_helpers, division_helpers, memory_helpers, kept}
+use Rattle.wasm2js_translation.specs.Modules.{function_for, functions_from, init_function, high_function, all_helpers, helpers, functions_of, view_variables, fixed_variables, foreign_variables, imported_variables, first_values, own_variables, global_variables, variables_of}
 use Rattle.wasm2js_translation.specs.Tables.{MaskedTable, masked, is_needed, is_empty, is_other, stub_function, stubs_for, stubs}
 use Rattle.wasm2js_translation.specs.Names.{no_entry, other_entry}
 use Rattle.wasm2js_laws_acceptance.specs.FunctionsFunctions.{import_uses, uses_of}
@@ -85,16 +85,24 @@ module _ (w : WasmModule) where
       let c = stubs_few ts (a + 1) n in
       omega (arith, e, b, c)
 
+  kept_few : (fs : List Function) → length (kept (is_asked w) fs) ≤ length fs
+  kept_few [] = omega arith
+  kept_few (f ∷ fs) =
+      let a = length-append (if is_asked w f.name then f ∷ [] else []) (kept (is_asked w) fs) in
+      let b = one_if (is_asked w f.name) f in
+      let c = kept_few fs in
+      omega (arith, a, b, c)
+
   helpers_few : length (helpers w) ≤ 19
   helpers_few =
-      let a = length-append (wide_helpers ++ division_helpers) (if has_memory w then memory_helpers (memory_bytes w) (has_long_segments w) else []) in
-      let b = by (has_long_segments w) (has_memory w) in
-      omega (arith, a, b)
+      let a = length-append (wide_helpers ++ division_helpers) (if has_memory w then memory_helpers (memory_bytes w) else []) in
+      let b = by (has_memory w) in
+      let c = kept_few (all_helpers w) in
+      omega (arith, a, b, c)
     where
-      by : (long b : Bool) → length (if b then memory_helpers (memory_bytes w) long else []) ≤ 8
-      by true true = omega arith
-      by false true = omega arith
-      by long false = omega arith
+      by : (b : Bool) → length (if b then memory_helpers (memory_bytes w) else []) ≤ 8
+      by true = omega arith
+      by false = omega arith
 
   pub all_functions_few : IsLimited w → length (functions_of w) ≤ 50000
   all_functions_few limits =

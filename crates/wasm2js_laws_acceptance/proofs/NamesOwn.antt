@@ -14,17 +14,18 @@ use Rattle.asm_lang.specs.Modules.{Variable, Param, Function, Module}
 use Rattle.asm_lang_valid.specs.Rows.{body_at, function_count}
 use Rattle.asm_lang_valid.specs.Scope.{is_in}
 use Rattle.asm_lang_valid.specs.NameRows.{global_texts, declares, params_names, locals_names, param_texts, function_names, functions_names}
-use Rattle.wasm2js_lang.specs.Parts.Functions.{has_long_segments}
+use Rattle.wasm2js_lang.specs.Parts.Functions.{is_asked}
 use Rattle.wasm2js_translation.specs.Names.{Name, spelled, rank, RisesFrom, Rises}
 use Rattle.wasm2js_lang.specs.Tables.{MaskedTable, masked}
-use Rattle.wasm2js_translation.specs.Helpers.{int_param, zero_variable, argument, own, one_argument, two_arguments, three_arguments, wide_helpers, division_helpers, arguments_after, data_helpers, memory_helpers}
-use Rattle.wasm2js_translation.specs.Modules.{param_names, context_of, wrapper_locals, function_for, functions_from, init_function, high_function, helpers, functions_of, translated}
+use Rattle.wasm2js_translation.specs.Helpers.{int_param, zero_variable, argument, own, one_argument, two_arguments, three_arguments, wide_helpers, division_helpers, arguments_after, put_function, zero_function, memory_helpers}
+use Rattle.wasm2js_translation.specs.Modules.{param_names, context_of, wrapper_locals, function_for, functions_from, init_function, high_function, all_helpers, helpers, functions_of, translated}
 use Rattle.wasm2js_translation.specs.Pairs.{local_pair, operand_pair, names_of}
 use Rattle.wasm2js_translation.specs.Rooms.{Room, body_room, local_names, operand_names, declared_names}
 use Rattle.wasm2js_translation.specs.Tables.{is_empty, is_other, is_needed, stub_numbers, stubs_for, stubs}
 use Rattle.asm_laws_sound.specs.UsesLaws.{BodyUsesNames}
 use Rattle.asm_laws_sound.proofs.Uses.{functions_use_names}
 use Rattle.wasm2js_laws_acceptance.proofs.ProvidedDeclared.{spellings, texts_of, variable_texts}
+use Rattle.wasm2js_laws_acceptance.proofs.ProvidedHelpers.{all_kept}
 use Rattle.wasm2js_laws_acceptance.proofs.ProvidedOrder.{Places, places_from, Reaches, places_join, first_group, last_group}
 use Rattle.wasm2js_laws_acceptance.specs.NamesLaws.{FunctionsHaveNoRows}
 use Rattle.wasm2js_laws_acceptance.proofs.NamesFresh.{none_join, all_join, all_flat, NewTexts, MayBeDeclared, declared_once, new_first, new_second, rising_are_new, names_allowed, params_of, functions_new, functions_allowed}
@@ -129,12 +130,11 @@ words_rise : (i n : ℕ) → RisesFrom (rank (argument i)) (arguments_after (suc
 words_rise i zero = tt
 words_rise i (suc n) = (inr (refl, omega arith), words_rise (suc i) n)
 
-data_once : (long : Bool) → AllByRecursion DeclaresOnce (data_helpers long)
-data_once true = (once _ (arguments_after 0 17) [] refl refl (words_rise 0 16), (once _ two_arguments [] refl refl two_rise, tt))
-data_once false = tt
+data_once : AllByRecursion DeclaresOnce (put_function ∷ zero_function ∷ [])
+data_once = (once _ (arguments_after 0 17) [] refl refl (words_rise 0 16), (once _ two_arguments [] refl refl two_rise, tt))
 
-memory_once : (bytes : ℕ) (long : Bool) → AllByRecursion DeclaresOnce (memory_helpers bytes long)
-memory_once bytes long = (
+memory_once : (bytes : ℕ) → AllByRecursion DeclaresOnce (memory_helpers bytes)
+memory_once bytes = (
   once _ one_argument [] refl refl one_rises,
   (
     once _ one_argument [] refl refl one_rises,
@@ -142,18 +142,21 @@ memory_once bytes long = (
       once _ two_arguments [] refl refl two_rise,
       (
         once _ three_arguments [] refl refl three_rise,
-        (once _ three_arguments (own 0 ∷ []) refl refl three_and_own, (once _ three_arguments (own 0 ∷ own 1 ∷ []) refl refl three_and_two, data_once long)),
+        (once _ three_arguments (own 0 ∷ []) refl refl three_and_own, (once _ three_arguments (own 0 ∷ own 1 ∷ []) refl refl three_and_two, data_once)),
       ),
     ),
   ),
 )
 
-helpers_once : (bytes : ℕ) (long b : Bool) → AllByRecursion DeclaresOnce (wide_helpers ++ division_helpers ++ (if b then memory_helpers bytes long else []))
-helpers_once bytes long b = all_join DeclaresOnce (wide_helpers ++ division_helpers) (if b then memory_helpers bytes long else []) (all_join DeclaresOnce wide_helpers division_helpers wide_once division_once) (by b)
+offered_once : (bytes : ℕ) (b : Bool) → AllByRecursion DeclaresOnce (wide_helpers ++ division_helpers ++ (if b then memory_helpers bytes else []))
+offered_once bytes b = all_join DeclaresOnce (wide_helpers ++ division_helpers) (if b then memory_helpers bytes else []) (all_join DeclaresOnce wide_helpers division_helpers wide_once division_once) (by b)
   where
-    by : (b : Bool) → AllByRecursion DeclaresOnce (if b then memory_helpers bytes long else [])
-    by true = memory_once bytes long
+    by : (b : Bool) → AllByRecursion DeclaresOnce (if b then memory_helpers bytes else [])
+    by true = memory_once bytes
     by false = tt
+
+helpers_once : (w : WasmModule) → AllByRecursion DeclaresOnce (helpers w)
+helpers_once w = all_kept DeclaresOnce (is_asked w) (all_helpers w) (offered_once (memory_bytes w) (has_memory w))
 
 -- ---- functions of the source
 
@@ -265,7 +268,7 @@ pub all_once : (w : WasmModule) → AllByRecursion DeclaresOnce (functions_of w)
 all_once w =
     all_join DeclaresOnce ((helpers w ++ functions_from w 0 (callees w)) ++ stubs w) (init_function w ∷ high_function ∷ [])
     (all_join DeclaresOnce (helpers w ++ functions_from w 0 (callees w)) (stubs w)
-    (all_join DeclaresOnce (helpers w) (functions_from w 0 (callees w)) (helpers_once (memory_bytes w) (has_long_segments w) (has_memory w)) (callees_once w 0 (callees w)))
+    (all_join DeclaresOnce (helpers w) (functions_from w 0 (callees w)) (helpers_once w) (callees_once w 0 (callees w)))
     (all_flat DeclaresOnce (stubs_for w (masked w)) stub_numbers (stub_once w (masked w))))
     (once _ [] [] refl refl tt, (once _ [] [] refl refl tt, tt))
 

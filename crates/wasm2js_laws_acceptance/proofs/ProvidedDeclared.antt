@@ -11,12 +11,12 @@ use Rattle.wasm_lang_exec.specs.Reductions.{Callee, an_import, a_function, calle
 use Rattle.wasm_lang_exec.specs.Fits.{GlobalImport, global_imports}
 use Rattle.asm_lang.specs.Modules.{Variable, Function, Table}
 use Rattle.asm_lang_valid.specs.NameRows.{global_texts, function_texts}
-use Rattle.wasm2js_lang.specs.Parts.Functions.{has_long_segments}
+use Rattle.wasm2js_lang.specs.Parts.Functions.{is_asked}
 use Rattle.wasm2js_translation.specs.Names as names
-use Rattle.wasm2js_translation.specs.Names.{Name, numbered, fixed, spelled, Rises}
+use Rattle.wasm2js_translation.specs.Names.{Name, numbered, fixed, spelled, rank, Rises}
 use Rattle.wasm2js_lang.specs.Tables.{MaskedTable, masked_from, masked, cells_of}
-use Rattle.wasm2js_translation.specs.Helpers.{wide_helpers, division_helpers, memory_helpers}
-use Rattle.wasm2js_translation.specs.Modules.{function_for, functions_from, init_function, high_function, helpers, view_variables, fixed_variables, foreign_variables, given_variable, imported_variables, first_values, own_variables, global_variables, translated}
+use Rattle.wasm2js_translation.specs.Helpers.{wide_helpers, division_helpers, memory_helpers, kept}
+use Rattle.wasm2js_translation.specs.Modules.{function_for, functions_from, init_function, high_function, all_helpers, helpers, view_variables, fixed_variables, foreign_variables, given_variable, imported_variables, first_values, own_variables, global_variables, translated}
 use Rattle.wasm2js_translation.specs.Tables.{is_empty, is_other, is_needed, stub_numbers, stubs_for, stubs, table_for}
 use Rattle.wasm2js_laws_acceptance.proofs.ProvidedOrder.{Places, places_from, Reaches, places_join, group_before, first_group, last_group}
 use Rattle.wasm2js_laws_acceptance.proofs.ProvidedEntries.{Entry, entries, variable_entry, function_entry, table_entry}
@@ -63,15 +63,25 @@ own_names k (g ∷ gs) = first_names k g.init ++ own_names (suc k) gs
 abbrev pub numbered_names : WasmModule → List Name
 numbered_names w = let given = global_imports w.imports in imported_names 0 given ++ own_names (length given) w.globals
 
-abbrev pub memory_names : (long memory : Bool) → List Name
-memory_names true true = fixed names.load_32 ∷ fixed names.load_64 ∷ fixed names.store_32 ∷ fixed names.store_64 ∷ fixed names.copy ∷ fixed names.fill ∷ fixed names.data_words ∷ fixed names.data_zeros ∷ []
-memory_names false true = fixed names.load_32 ∷ fixed names.load_64 ∷ fixed names.store_32 ∷ fixed names.store_64 ∷ fixed names.copy ∷ fixed names.fill ∷ []
-memory_names long false = []
+abbrev pub memory_names : (memory : Bool) → List Name
+memory_names true = fixed names.load_32 ∷ fixed names.load_64 ∷ fixed names.store_32 ∷ fixed names.store_64 ∷ fixed names.copy ∷ fixed names.fill ∷ fixed names.data_words ∷ fixed names.data_zeros ∷ []
+memory_names false = []
 
-abbrev pub helper_names : (long memory : Bool) → List Name
-helper_names long b =
+-- what is offered of helpers
+abbrev pub offered_names : (memory : Bool) → List Name
+offered_names b =
     fixed names.shift_left ∷ fixed names.shift_right_signed ∷ fixed names.shift_right ∷ fixed names.rotate_left ∷ fixed names.leading_zeros ∷ fixed names.trailing_zeros ∷ fixed names.set_bits
-    ∷ fixed names.divide_signed ∷ fixed names.divide ∷ fixed names.remainder_signed ∷ fixed names.remainder ∷ memory_names long b
+    ∷ fixed names.divide_signed ∷ fixed names.divide ∷ fixed names.remainder_signed ∷ fixed names.remainder ∷ memory_names b
+
+abbrev pub only : Bool → Name → List Name
+only b n = if b then n ∷ [] else []
+
+abbrev pub kept_names : (asked : List ℕ → Bool) → List Name → List Name
+kept_names asked [] = []
+kept_names asked (n ∷ ns) = only (asked (spelled n)) n ++ kept_names asked ns
+
+abbrev pub helper_names : WasmModule → List Name
+helper_names w = kept_names (is_asked w) (offered_names (has_memory w))
 
 abbrev pub callee_names : (k : ℕ) → Option Callee → List Name
 callee_names k None = []
@@ -80,9 +90,6 @@ callee_names k (Some c) = numbered names.function k ∷ []
 abbrev pub callees_names : (k : ℕ) → List (Option Callee) → List Name
 callees_names k [] = []
 callees_names k (c ∷ cs) = callee_names k c ++ callees_names (suc k) cs
-
-abbrev pub only : Bool → Name → List Name
-only b n = if b then n ∷ [] else []
 
 abbrev pub stub_names : WasmModule → List MaskedTable → (stub : ℕ) → List Name
 stub_names w ts n = only (is_needed w ts is_empty n) (numbered names.no_entry n) ++ only (is_needed w ts is_other n) (numbered names.other_entry n)
@@ -99,7 +106,7 @@ abbrev pub global_names : WasmModule → List Name
 global_names w = head_names (has_memory w) ++ (foreign_names 0 (callees w) ++ numbered_names w)
 
 abbrev pub function_names : WasmModule → List Name
-function_names w = helper_names (has_long_segments w) (has_memory w) ++ (callees_names 0 (callees w) ++ (flat_map (stub_names w (masked w)) stub_numbers ++ last_names))
+function_names w = helper_names w ++ (callees_names 0 (callees w) ++ (flat_map (stub_names w (masked w)) stub_numbers ++ last_names))
 
 abbrev pub declared_names : WasmModule → List Name
 declared_names w = global_names w ++ (function_names w ++ table_names (masked w))
@@ -157,11 +164,26 @@ globals_are_named w =
     (numbered_texts w)
     ∙ ap spellings (append_assoc (head_names (has_memory w)) (foreign_names 0 (callees w)) (numbered_names w))
 
-helper_texts : (bytes : ℕ) (long b : Bool) → texts_of (wide_helpers ++ division_helpers ++ (if b then memory_helpers bytes long else [])) ≡ spellings (helper_names long b)
-helper_texts bytes true true = refl
-helper_texts bytes false true = refl
-helper_texts bytes true false = refl
-helper_texts bytes false false = refl
+one_text : (b : Bool) (f : Function) (n : Name) → f.name ≡ spelled n → texts_of (if b then f ∷ [] else []) ≡ spellings (only b n)
+one_text true f n e = ap (λ t. t ∷ []) e
+one_text false f n e = refl
+
+kept_texts : (asked : List ℕ → Bool) (fs : List Function) (ns : List Name) → texts_of fs ≡ spellings ns → texts_of (kept asked fs) ≡ spellings (kept_names asked ns)
+kept_texts asked [] [] e = refl
+kept_texts asked [] (n ∷ ns) e = cc e
+kept_texts asked (f ∷ fs) [] e = cc e
+kept_texts asked (f ∷ fs) (n ∷ ns) e =
+    let text : f.name ≡ spelled n = cc e in
+    let rest : texts_of fs ≡ spellings ns = cc e in
+    join_functions (if asked f.name then f ∷ [] else []) (kept asked fs) (only (asked (spelled n)) n) (kept_names asked ns)
+    (one_text (asked f.name) f n text ∙ ap (λ s. spellings (only (asked s) n)) text) (kept_texts asked fs ns rest)
+
+offered_texts : (bytes : ℕ) (b : Bool) → texts_of (wide_helpers ++ division_helpers ++ (if b then memory_helpers bytes else [])) ≡ spellings (offered_names b)
+offered_texts bytes true = refl
+offered_texts bytes false = refl
+
+helper_texts : (w : WasmModule) → texts_of (helpers w) ≡ spellings (helper_names w)
+helper_texts w = kept_texts (is_asked w) (all_helpers w) (offered_names (has_memory w)) (offered_texts (memory_bytes w) (has_memory w))
 
 callee_texts : (w : WasmModule) (k : ℕ) (c : Option Callee) → texts_of (function_for w k c) ≡ spellings (callee_names k c)
 callee_texts w k None = refl
@@ -171,10 +193,6 @@ callee_texts w k (Some (a_function t more code)) = refl
 callees_texts : (w : WasmModule) (k : ℕ) (cs : List (Option Callee)) → texts_of (functions_from w k cs) ≡ spellings (callees_names k cs)
 callees_texts w k [] = refl
 callees_texts w k (c ∷ cs) = join_functions (function_for w k c) (functions_from w (suc k) cs) (callee_names k c) (callees_names (suc k) cs) (callee_texts w k c) (callees_texts w (suc k) cs)
-
-one_text : (b : Bool) (f : Function) (n : Name) → f.name ≡ spelled n → texts_of (if b then f ∷ [] else []) ≡ spellings (only b n)
-one_text true f n e = ap (λ t. t ∷ []) e
-one_text false f n e = refl
 
 stub_texts : (w : WasmModule) (ts : List MaskedTable) (n : ℕ) → texts_of (stubs_for w ts n) ≡ spellings (stub_names w ts n)
 stub_texts w ts n =
@@ -187,12 +205,12 @@ stubs_texts w ts (n ∷ ns) = join_functions (stubs_for w ts n) (flat_map (stubs
 
 pub functions_are_named : (w : WasmModule) → function_texts (translated w) ≡ spellings (function_names w)
 functions_are_named w =
-    let a = helper_names (has_long_segments w) (has_memory w) in
+    let a = helper_names w in
     let b = callees_names 0 (callees w) in
     let c = flat_map (stub_names w (masked w)) stub_numbers in
     join_functions ((helpers w ++ functions_from w 0 (callees w)) ++ stubs w) (init_function w ∷ high_function ∷ []) ((a ++ b) ++ c) last_names
     (join_functions (helpers w ++ functions_from w 0 (callees w)) (stubs w) (a ++ b) c
-    (join_functions (helpers w) (functions_from w 0 (callees w)) a b (helper_texts (memory_bytes w) (has_long_segments w) (has_memory w)) (callees_texts w 0 (callees w)))
+    (join_functions (helpers w) (functions_from w 0 (callees w)) a b (helper_texts w) (callees_texts w 0 (callees w)))
     (stubs_texts w (masked w) stub_numbers))
     refl
     ∙ ap spellings (append_assoc (a ++ b) c last_names ∙ append_assoc a b (c ++ last_names))
@@ -265,11 +283,20 @@ numbered_rises w =
     places_join 2 0 (2 * length given) (imported_names 0 given) (own_names (length given) w.globals) (omega arith) (imported_rises 0 given)
     (let e : 0 + length given ≡ length given = omega arith in subst (λ n. Reaches 2 (2 * n) (imported_names 0 given)) e (imported_reach 0 given)) (own_rises (length given) w.globals)
 
-helpers_rise : (long b : Bool) → Places 3 0 (helper_names long b)
-helpers_rise true true = search rules depth 60
-helpers_rise false true = search rules depth 60
-helpers_rise true false = search rules depth 60
-helpers_rise false false = search rules depth 60
+offered_rise : (b : Bool) → Places 3 0 (offered_names b)
+offered_rise true = search rules depth 60
+offered_rise false = search rules depth 60
+
+kept_rise : (asked : List ℕ → Bool) (g p : ℕ) (ns : List Name) → Places g p ns → Places g p (kept_names asked ns)
+kept_rise asked g p [] h = tt
+kept_rise asked g p (n ∷ ns) h = by (asked (spelled n)) (kept_rise asked g (suc (rank n).place) ns h.2)
+  where
+    by : (b : Bool) → Places g (suc (rank n).place) (kept_names asked ns) → Places g p (only b n ++ kept_names asked ns)
+    by true rest = (h.0, h.1, rest)
+    by false rest = places_from g (suc (rank n).place) p (kept_names asked ns) (let le = h.1 in omega (arith, le)) rest
+
+helpers_rise : (w : WasmModule) → Places 3 0 (helper_names w)
+helpers_rise w = kept_rise (is_asked w) 3 0 (offered_names (has_memory w)) (offered_rise (has_memory w))
 
 callees_rise : (k : ℕ) (cs : List (Option Callee)) → Places 4 k (callees_names k cs)
 callees_rise k [] = tt
@@ -312,7 +339,7 @@ abbrev later_of : WasmModule → List Name
 later_of w = flat_map (stub_names w (masked w)) stub_numbers ++ (last_names ++ table_names (masked w))
 
 abbrev regrouped : WasmModule → List Name
-regrouped w = head_names (has_memory w) ++ (foreign_names 0 (callees w) ++ (numbered_names w ++ (helper_names (has_long_segments w) (has_memory w) ++ (callees_names 0 (callees w) ++ later_of w))))
+regrouped w = head_names (has_memory w) ++ (foreign_names 0 (callees w) ++ (numbered_names w ++ (helper_names w ++ (callees_names 0 (callees w) ++ later_of w))))
 
 regrouped_rise : (w : WasmModule) → Rises (regrouped w)
 regrouped_rise w =
@@ -320,10 +347,10 @@ regrouped_rise w =
     let last = group_before 5 6 last_names (table_names (masked w)) 0 (omega arith) last_rise tables in
     let further = group_before 4 5 (flat_map (stub_names w (masked w)) stub_numbers) (last_names ++ table_names (masked w)) 0 (omega arith) (stubs_rise w (masked w) 0 4002) last in
     let functions = group_before 3 4 (callees_names 0 (callees w)) (later_of w) 0 (omega arith) (callees_rise 0 (callees w)) further in
-    let helped = group_before 2 3 (helper_names (has_long_segments w) (has_memory w)) (callees_names 0 (callees w) ++ later_of w) 0 (omega arith) (helpers_rise (has_long_segments w) (has_memory w)) functions in
-    let globals = group_before 1 2 (numbered_names w) (helper_names (has_long_segments w) (has_memory w) ++ (callees_names 0 (callees w) ++ later_of w)) 0 (omega arith) (numbered_rises w) helped in
-    let imported = group_before 0 1 (foreign_names 0 (callees w)) (numbered_names w ++ (helper_names (has_long_segments w) (has_memory w) ++ (callees_names 0 (callees w) ++ later_of w))) 0 (omega arith) (foreign_rises 0 (callees w)) globals in
-    first_group 0 0 (head_names (has_memory w)) (foreign_names 0 (callees w) ++ (numbered_names w ++ (helper_names (has_long_segments w) (has_memory w) ++ (callees_names 0 (callees w) ++ later_of w)))) (head_rises (has_memory w)) imported
+    let helped = group_before 2 3 (helper_names w) (callees_names 0 (callees w) ++ later_of w) 0 (omega arith) (helpers_rise w) functions in
+    let globals = group_before 1 2 (numbered_names w) (helper_names w ++ (callees_names 0 (callees w) ++ later_of w)) 0 (omega arith) (numbered_rises w) helped in
+    let imported = group_before 0 1 (foreign_names 0 (callees w)) (numbered_names w ++ (helper_names w ++ (callees_names 0 (callees w) ++ later_of w))) 0 (omega arith) (foreign_rises 0 (callees w)) globals in
+    first_group 0 0 (head_names (has_memory w)) (foreign_names 0 (callees w) ++ (numbered_names w ++ (helper_names w ++ (callees_names 0 (callees w) ++ later_of w)))) (head_rises (has_memory w)) imported
 
 regroup : (a b c d e f g h : List Name) → a ++ (b ++ (c ++ (d ++ (e ++ (f ++ (g ++ h)))))) ≡ (a ++ (b ++ c)) ++ ((d ++ (e ++ (f ++ g))) ++ h)
 regroup a b c d e f g h =
@@ -334,5 +361,5 @@ regroup a b c d e f g h =
 pub declared_names_rise : (w : WasmModule) → Rises (declared_names w)
 declared_names_rise w =
     subst Rises
-    (regroup (head_names (has_memory w)) (foreign_names 0 (callees w)) (numbered_names w) (helper_names (has_long_segments w) (has_memory w)) (callees_names 0 (callees w)) (flat_map (stub_names w (masked w)) stub_numbers) last_names (table_names (masked w)))
+    (regroup (head_names (has_memory w)) (foreign_names 0 (callees w)) (numbered_names w) (helper_names w) (callees_names 0 (callees w)) (flat_map (stub_names w (masked w)) stub_numbers) last_names (table_names (masked w)))
     (regrouped_rise w)

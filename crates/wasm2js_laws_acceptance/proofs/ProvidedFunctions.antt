@@ -19,8 +19,9 @@ use Rattle.wasm2js_translation.specs.Names as names
 use Rattle.wasm2js_translation.specs.Names.{numbered, spelled}
 use Rattle.wasm2js_translation.specs.Words.{Action, simply, either, Simple, put, ask, tell, guard, stop, write_byte, write_whole, stmts_in, statement, statements, simple_statement, simple_statements}
 use Rattle.wasm2js_translation.specs.Actions.{under}
-use Rattle.wasm2js_translation.specs.Bodies.{out, leave_with, jump, switches_from, most_cases, answered, call_stmts, indirect_stmts, after_plain, types_after_call, stmts_of, left_waiting, closing, body_stmts, late_code}
+use Rattle.wasm2js_translation.specs.Bodies.{out, leave_with, jump, switches_from, most_cases, answered, call_stmts, indirect_stmts, after_plain, types_after_call, stmts_of, left_waiting, closing, body_stmts, lean_code}
 use Rattle.wasm2js_translation.specs.Delays.{Delayed, written}
+use Rattle.wasm2js_translation.specs.Known.{Known}
 use Rattle.wasm2js_translation.specs.Helpers.{int_param}
 use Rattle.wasm2js_translation.specs.Modules.{param_names, context_of, own_function, wrapper_body, wrapper, function_for, functions_from, init_function, high_function, helpers, functions_of, translated}
 use Rattle.wasm2js_translation.specs.Tables.{words_of, cell_count, stubs}
@@ -105,31 +106,32 @@ module _ (bytes cells : ℕ) (c : Context) (none : c.returns ≡ None) where
   leave_silent : (d : ℕ) → AreSilent (leave_with c.returns d)
   leave_silent d = subst (λ r. AreSilent (leave_with r d)) (sym none) (refl, tt)
 
-  code_silent : (code : Trees) (b : ℕ) (ts : List ValType) (ds : List Delayed) → AreSilent (stmts_of bytes cells c code (out None ∷ []) b ts ds)
-  code_silent ε b ts ds = written_silent ds
-  code_silent (plain p ▹ is) b ts ds =
-      let x = late_code bytes cells c p b ts ds in silent_join (statements x.now) _ (statements_silent x.now) (code_silent is b (after_plain c p ts) (left_waiting bytes cells c p b ts ds))
-  code_silent (unreachable ▹ is) b ts ds = silent_behind ds _ (refl, tt)
-  code_silent (br k ▹ is) b ts ds = silent_behind ds _ (jump_silent k b ts)
-  code_silent (return ▹ is) b ts ds = silent_behind ds _ (leave_silent (under 1 b ts))
-  code_silent (br_table ks d ▹ is) b ts ds = silent_behind ds _ (switches_silent _ _ _ 0 _ d)
-  code_silent (br_if k ▹ is) b ts ds = silent_behind ds _ (refl, code_silent is b _ [])
-  code_silent (block r body ▹ is) b ts ds = silent_behind ds _ (refl, code_silent is b _ [])
-  code_silent (loop r body ▹ is) b ts ds = silent_behind ds _ (refl, code_silent is b _ [])
-  code_silent (if_block r first second ▹ is) b ts ds = silent_behind ds _ (refl, code_silent is b _ [])
-  code_silent (call f ▹ is) b ts ds =
-      silent_join (simple_statements (written ds) ++ call_stmts f b ts (type_of c f)) _ (silent_behind ds _ (call_silent f b ts (type_of c f))) (code_silent is b (types_after_call (type_of c f) ts) [])
-  code_silent (call_indirect t ▹ is) b ts ds =
-      silent_join (simple_statements (written ds) ++ indirect_stmts cells c.types b ts (slice_get c.types t)) _ (silent_behind ds _ (indirect_silent cells c.types b ts (slice_get c.types t))) (code_silent is b _ [])
+  code_silent : (code : Trees) (b : ℕ) (ts : List ValType) (ds : List Delayed) (ks : List Known) → AreSilent (stmts_of bytes cells c code (out None ∷ []) b ts ds ks)
+  code_silent ε b ts ds ks = written_silent ds
+  code_silent (plain p ▹ is) b ts ds ks =
+      let x = lean_code bytes cells c p b ts ds ks in
+      silent_join (statements x.now) _ (statements_silent x.now) (code_silent is b (after_plain c p ts) (left_waiting bytes cells c p b ts ds) x.known)
+  code_silent (unreachable ▹ is) b ts ds ks = silent_behind ds _ (refl, tt)
+  code_silent (br k ▹ is) b ts ds ks = silent_behind ds _ (jump_silent k b ts)
+  code_silent (return ▹ is) b ts ds ks = silent_behind ds _ (leave_silent (under 1 b ts))
+  code_silent (br_table ns d ▹ is) b ts ds ks = silent_behind ds _ (switches_silent _ _ _ 0 _ d)
+  code_silent (br_if k ▹ is) b ts ds ks = silent_behind ds _ (refl, code_silent is b _ [] [])
+  code_silent (block r body ▹ is) b ts ds ks = silent_behind ds _ (refl, code_silent is b _ [] [])
+  code_silent (loop r body ▹ is) b ts ds ks = silent_behind ds _ (refl, code_silent is b _ [] [])
+  code_silent (if_block r first second ▹ is) b ts ds ks = silent_behind ds _ (refl, code_silent is b _ [] [])
+  code_silent (call f ▹ is) b ts ds ks =
+      silent_join (simple_statements (written ds) ++ call_stmts f b ts (type_of c f)) _ (silent_behind ds _ (call_silent f b ts (type_of c f))) (code_silent is b (types_after_call (type_of c f) ts) [] [])
+  code_silent (call_indirect t ▹ is) b ts ds ks =
+      silent_join (simple_statements (written ds) ++ indirect_stmts cells c.types b ts (slice_get c.types t)) _ (silent_behind ds _ (indirect_silent cells c.types b ts (slice_get c.types t))) (code_silent is b _ [] [])
 
 pub body_gives : (bytes cells : ℕ) (c : Context) (code : Trees) (r : Option ValType) → c.returns ≡ r → last_gives_value (stmts_in (body_stmts bytes cells c code)) ≡ is_some r
 body_gives bytes cells c code r e =
-    ap (λ r. last_gives_value (stmts_in (stmts_of bytes cells c code (out r ∷ []) 0 [] [] ++ closing bytes cells c r))) e ∙ by r e
+    ap (λ r. last_gives_value (stmts_in (stmts_of bytes cells c code (out r ∷ []) 0 [] [] [] ++ closing bytes cells c r))) e ∙ by r e
   where
-    by : (r : Option ValType) → c.returns ≡ r → last_gives_value (stmts_in (stmts_of bytes cells c code (out r ∷ []) 0 [] [] ++ closing bytes cells c r)) ≡ is_some r
-    by None e = last_silent _ (silent_join (stmts_of bytes cells c code (out None ∷ []) 0 [] []) [] (code_silent bytes cells c e code 0 [] []) tt)
-    by (Some I32) e = last_one (stmts_of bytes cells c code (out (Some I32) ∷ []) 0 [] []) _
-    by (Some I64) e = last_two (stmts_of bytes cells c code (out (Some I64) ∷ []) 0 [] []) _ _
+    by : (r : Option ValType) → c.returns ≡ r → last_gives_value (stmts_in (stmts_of bytes cells c code (out r ∷ []) 0 [] [] [] ++ closing bytes cells c r)) ≡ is_some r
+    by None e = last_silent _ (silent_join (stmts_of bytes cells c code (out None ∷ []) 0 [] [] []) [] (code_silent bytes cells c e code 0 [] [] []) tt)
+    by (Some I32) e = last_one (stmts_of bytes cells c code (out (Some I32) ∷ []) 0 [] [] []) _
+    by (Some I64) e = last_two (stmts_of bytes cells c code (out (Some I64) ∷ []) 0 [] [] []) _ _
 
 wrapper_gives : (r : Option ValType) (e : Expr) → last_gives_value (stmts_in (wrapper_body r e)) ≡ is_some r
 wrapper_gives None e = refl

@@ -16,6 +16,7 @@ use Rattle.wasm2js_laws_scopes.proofs.HeadNames.{heads_are_provided, memories_ar
 use Rattle.wasm2js_laws_acceptance.specs.ProvidedLaws.{ModulesProvide}
 use Rattle.wasm2js_laws_acceptance.proofs.ProvidedWithin.{rows_are_within, few_bytes}
 use Rattle.wasm2js_laws_acceptance.proofs.ProvidedSizes.{some_cells, few_cells}
+use Rattle.wasm2js_laws_acceptance.proofs.ProvidedHelpers.{helpers_are_provided, memory_helpers_are_provided}
 use Rattle.wasm2js_laws_acceptance.proofs.ProvidedGlobals.{globals_are_provided}
 use Rattle.wasm2js_laws_acceptance.proofs.ProvidedFunctions.{functions_are_provided}
 use Rattle.wasm2js_laws_acceptance.proofs.ProvidedTables.{tables_are_provided}
@@ -43,6 +44,8 @@ modules_provide w h shaped k t more code =
     record {
       fixed = heads_are_provided w name ps ls ss own.0 own.1;
       memory = memories_are_provided w name ps ls ss own.0 own.1;
+      helpers = helpers_are_provided w name ps ls ss own.0 own.1;
+      memory_helpers = memory_helpers_are_provided w name ps ls ss own.0 own.1;
       globals = globals_are_provided w h name ps ls ss own.0 own.1;
       functions = λ f u e. functions_are_provided w h shaped name ps ls ss own.0 own.1 f u (same_type w t u more f e);
       tables = tables_are_provided w h shaped name ps ls ss own.0 own.1;

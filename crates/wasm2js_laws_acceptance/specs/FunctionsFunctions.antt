@@ -1,5 +1,5 @@
 -- What is asked of a function of a translated module, and of the numbers of the source.
-use Rattle.std.specs.Prelude.{◌≡◌, ℕ, ◌+◌, ◌^◌, ◌<◌, ◌≤◌, true, List, [], ◌∷◌, length, All, Bool, Option, Some, None, is_some}
+use Rattle.std.specs.Prelude.{◌≡◌, ℕ, ◌+◌, ◌^◌, ◌<◌, ◌≤◌, true, List, [], ◌∷◌, length, All, Option, Some, None, is_some}
 use Rattle.std.specs.List.{AllByRecursion}
 use Rattle.wasm_lang.specs.Instructions.{Instruction, plain, const32, const64}
 use Rattle.wasm_lang.specs.Modules.{FunctionType, WasmModule}
@@ -15,9 +15,11 @@ use Rattle.asm_laws_print.specs.Fitting.{FitsFunction}
 use Rattle.asm_lang_valid.specs.Typed.{scope_of, function_typed, functions_typed}
 use Rattle.asm_lang_valid.specs.LimitRows as limits
 use Rattle.asm_lang_valid.specs.LimitRows.{ForeignCall, Mark, a_row, a_use, stmts_marks}
+use Rattle.wasm2js_lang.specs.Parts.Functions.{is_asked}
 use Rattle.wasm2js_translation.specs.Names.{high}
 use Rattle.wasm2js_translation.specs.Words.{name_of}
 use Rattle.wasm2js_laws_terms.specs.Laws.{trap_use}
+use Rattle.wasm2js_laws_scopes.specs.Provided.{Called}
 use Rattle.wasm2js_translation.specs.Tables.{words_of}
 
 -- ---- foreign calls
@@ -84,9 +86,9 @@ HasWord (plain (const32 n)) = n < 2 ^ 32
 HasWord (plain (const64 n)) = n < 2 ^ 64
 HasWord i = Unit {0}
 
--- the calls of entries that a body makes name such a type
-abbrev pub is_called : WasmModule → FunctionType → Bool
-is_called w t = is_among t (called_types w.types w.bodies)
+-- what the bodies call: entries of these types, and helpers
+abbrev pub is_called : WasmModule → Called
+is_called w = record { types = λ t. is_among t (called_types w.types w.bodies); helpers = λ f. is_asked w (name_of f) }
 
 -- A module that may be translated: valid, with a body for each function, of instructions that there are, and within the profile; its
 -- constants are words, and its segments bytes.

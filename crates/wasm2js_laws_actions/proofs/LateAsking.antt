@@ -8,11 +8,11 @@ use Rattle.wasm2js_translation.specs.Delays.{Delayed, those, others, without, wr
 use Rattle.wasm2js_laws_places.specs.Straight.{AsksHelpers, AskHelpers, ActionAsks, ActionsAsk}
 use Rattle.wasm2js_laws_actions.specs.Laws.{LateAsksHelpers, WrittenAsksNone}
 
-simples_ask : (xs : List Simple) → AskHelpers xs → ActionsAsk (simples xs)
+pub simples_ask : (xs : List Simple) → AskHelpers xs → ActionsAsk (simples xs)
 simples_ask [] h = tt
 simples_ask (x ∷ xs) h = (h.0, simples_ask xs h.1)
 
-in_turn_ask : (xs ys : List Action) → ActionsAsk xs → ActionsAsk ys → ActionsAsk (xs ++ ys)
+pub in_turn_ask : (xs ys : List Action) → ActionsAsk xs → ActionsAsk ys → ActionsAsk (xs ++ ys)
 in_turn_ask [] ys h k = k
 in_turn_ask (x ∷ xs) ys h k = (h.0, in_turn_ask xs ys h.1 k)
 

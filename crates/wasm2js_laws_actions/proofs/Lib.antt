@@ -8,3 +8,4 @@ pub mod Simples
 pub mod Parts
 pub mod Executed
 pub mod LateAsking
+pub mod LeanAsking

@@ -9,6 +9,7 @@ use Rattle.asm_laws_continuation.specs.Laws.{AllFollow}
 use Rattle.wasm2js_translation.specs.Words.{Term, Action, expr, int_of, arguments, statements, stmts_in}
 use Rattle.wasm2js_translation.specs.Pairs.{simples}
 use Rattle.wasm2js_translation.specs.Delays.{Delayed, written, late}
+use Rattle.wasm2js_translation.specs.Known.{Known, lean}
 use Rattle.wasm2js_laws_terms.specs.Sound.{IsSound, AllSound, AreSoundActions}
 use Rattle.wasm2js_laws_places.specs.Straight.{value, values, Helping, ActionsAsk, run_actions, actions_units}
 use Rattle.wasm2js_laws_places.specs.Places.{word_at, AreApart, IsHeap}
@@ -43,6 +44,10 @@ ActionsAreFollowed =
 -- code whose words are written late calls no other functions
 abbrev pub LateAsksHelpers : Type 0
 LateAsksHelpers = (ds : List Delayed) (actions : List Action) → ActionsAsk actions → ActionsAsk (late ds actions).now
+
+-- .. nor does code without what is needless
+abbrev pub LeanAsksHelpers : Type 0
+LeanAsksHelpers = (ks : List Known) (actions : List Action) → ActionsAsk actions → ActionsAsk (lean ks actions).now
 
 -- .. and what is written calls none
 abbrev pub WrittenAsksNone : Type 0

@@ -1,7 +1,7 @@
 //! From WebAssembly to asm.js: straight code does on asm.js's places what it does on words.
 #![tactic(auto)]
 
-ghost use Rattle.wasm2js_laws_actions.specs.Laws.{TermsAreRead, IntsAreRead, ArgumentsAreRead, ActionsAreDone, ActionsAreFollowed, LateAsksHelpers, WrittenAsksNone};
+ghost use Rattle.wasm2js_laws_actions.specs.Laws.{TermsAreRead, IntsAreRead, ArgumentsAreRead, ActionsAreDone, ActionsAreFollowed, LateAsksHelpers, LeanAsksHelpers, WrittenAsksNone};
 
 /// A term's value has the term's word.
 pub fn terms()
@@ -16,8 +16,9 @@ pub fn actions()
     ensures followed { ActionsAreFollowed }
 {}
 
-/// Which functions code calls whose words are written late.
+/// Which functions code calls whose words are written late, and code without the tests that are needless.
 pub fn waiting()
     ensures late { LateAsksHelpers }
+    ensures lean { LeanAsksHelpers }
     ensures written { WrittenAsksNone }
 {}

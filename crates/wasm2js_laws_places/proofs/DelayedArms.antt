@@ -24,11 +24,11 @@ module _ (helping : Helping) where
   runs_after a b (goes w h) e = e w h
   runs_after a b (stops kind h) e = refl
 
-  joined_runs : (a b : List Action) (words : Words) (heap : List ℕ) → run_actions helping (a ++ b) words heap ≡ then_do (run_actions helping a words heap) (run_actions helping b)
+  pub joined_runs : (a b : List Action) (words : Words) (heap : List ℕ) → run_actions helping (a ++ b) words heap ≡ then_do (run_actions helping a words heap) (run_actions helping b)
   joined_runs [] b words heap = refl
   joined_runs (x ∷ a) b words heap = runs_after a b (run_action helping x words heap) (λ w h. joined_runs a b w h)
 
-  abbrev Costs : (a b : List Action) → Words → List ℕ → Type 0
+  abbrev pub Costs : (a b : List Action) → Words → List ℕ → Type 0
   Costs a b w h = actions_units helping (a ++ b) w h ≡ actions_units helping a w h + units_after (run_actions helping a w h) (actions_units helping b)
 
   costs_after : (a b : List Action) (o : Outcome) → ((w : Words) (h : List ℕ) → Costs a b w h)
@@ -36,7 +36,7 @@ module _ (helping : Helping) where
   costs_after a b (goes w h) e = e w h
   costs_after a b (stops kind h) e = refl
 
-  joined_costs : (a b : List Action) (words : Words) (heap : List ℕ) → Costs a b words heap
+  pub joined_costs : (a b : List Action) (words : Words) (heap : List ℕ) → Costs a b words heap
   joined_costs [] b words heap = omega arith
   joined_costs (x ∷ a) b words heap = let e = costs_after a b (run_action helping x words heap) (λ w h. joined_costs a b w h) in omega (arith, e)
 

@@ -5,3 +5,6 @@ pub mod DelayedTerms
 pub mod DelayedSteps
 pub mod DelayedArms
 pub mod Delayed
+pub mod KnownTerms
+pub mod KnownSteps
+pub mod Knowing

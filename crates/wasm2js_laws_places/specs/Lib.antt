@@ -5,3 +5,4 @@ pub mod Worked
 pub mod Following
 pub mod PaceLaws
 pub mod Delaying
+pub mod Knowing

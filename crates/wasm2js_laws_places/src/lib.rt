@@ -2,6 +2,7 @@
 #![tactic(auto)]
 
 pub mod delay_laws;
+pub mod knowing_laws;
 pub mod pace_laws;
 
 ghost use Rattle.std.specs.Prelude.{◌≡◌, ◌∷◌, [], false};

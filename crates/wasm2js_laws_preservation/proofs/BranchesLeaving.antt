@@ -112,7 +112,7 @@ module _ (f : Function) (fair : IsFair f) where
       here us p w i stays =
           let ts : List ValType = listed f.context.returns ++ us in
           free_step f fair most w p (operands b ts (word_at p)) (λ t. closed f.home around (Leave t)) (code_sight f around (return ▹ code) b ts p w)
-          (sight f around Leave (operands b ts (word_at p)) p w) (statements_to f (return ▹ code) ls b ts [] next p) i
+          (sight f around Leave (operands b ts (word_at p)) p w) (statements_to f (return ▹ code) ls b ts [] [] next p) i
           (λ n. ap f.watch (return_step f.home around code (state_at f (operands b ts (word_at p)) p w n))) (λ n. refl)
           (leave_followed f fair most around next f.context.returns Leave b us p w i ex.leaves)
 
@@ -139,13 +139,13 @@ module _ (f : Function) (fair : IsFair f) where
       (nested : AreNested ls b) (ex : Exits f most ls b after (comes_to_end code) around before next) (there : slice_get ls k ≡ Some aim) (is : us ≡ listed (carried_by aim) ++ below)
       (rest : IsKept f most code ls b us around before next) (p : Place) (w : List EventPlain) (i : Inside f most w p) (stays : Stays b before (word_at p)) where
     abbrev then_rest : Completion → Part (Unit {0})
-    then_rest d = unless_left_to d (statements_to f code ls b us []) next
+    then_rest d = unless_left_to d (statements_to f code ls b us [] []) next
 
     abbrev jumps : Part (Unit {0})
     jumps = exec_all_to f.calls f.scope f.bound (stmts_in (bodies.jump ls k b us)) then_rest
 
     abbrev goes_further : Part (Unit {0})
-    goes_further = statements_to f code ls b us [] next
+    goes_further = statements_to f code ls b us [] [] next
 
     abbrev values : List Word
     values = operands b us (word_at p)
@@ -154,7 +154,7 @@ module _ (f : Function) (fair : IsFair f) where
     jump_is =
         subst (λ o. IsFollowed f p (sight f around (Branch k) values p w) (exec_all_to f.calls f.scope f.bound (stmts_in (bodies.branch o (label_of ls k) (under 1 b us))) then_rest p)) (sym there)
         (subst (λ us'. IsFollowed f p (sight f around (Branch k) (operands b us' (word_at p)) p w) (exec_all_to f.calls f.scope f.bound (stmts_in (bodies.branch (Some aim) (label_of ls k) (under 1 b us'))) then_rest p)) (sym is)
-        (jump_followed f fair most around then_rest ls b after false before nested (dead_exits f most ls b after around before next (comes_to_end code) ex (statements_to f code ls b us [])) p w i stays aim k below there))
+        (jump_followed f fair most around then_rest ls b after false before nested (dead_exits f most ls b after around before next (comes_to_end code) ex (statements_to f code ls b us [] [])) p w i stays aim k below there))
 
     abbrev either_way : ℕ → Rest
     either_way x n = f.watch (choose x (closed f.home around (Branch k (state_at f values p w n))) (goes_with f.home around code (state_at f values p w n)))
@@ -176,7 +176,7 @@ module _ (f : Function) (fair : IsFair f) where
         (λ n. ap f.watch (br_if_step f.home around k code (state_at f (operands b (I32 ∷ us) (word_at p)) p w n))) (λ n. refl)
         (subst (λ m. IsFollowed f p (either_way m) ((if not (x == 0) then jumps else goes_further) p)) e (chosen x))
 
-    condition_kept : IsFollowed f p start (statements_to f (br_if k ▹ code) ls b (I32 ∷ us) [] next p)
+    condition_kept : IsFollowed f p start (statements_to f (br_if k ▹ code) ls b (I32 ∷ us) [] [] next p)
     condition_kept =
         subst (λ (run : Part (Unit {0})). IsFollowed f p start (run p)) (sym (test_followed f.calls f.scope f.bound then_rest [] (bodies.signed_word (b + length us)) (bodies.jump ls k b us)))
         (decided_by f start (numbered operand_low (b + length us)) p jumps goes_further i.apart by_word)

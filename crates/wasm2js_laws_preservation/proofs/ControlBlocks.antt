@@ -35,7 +35,7 @@ module _ (f : Function) (fair : IsFair f) where
     own = label_name (labels_round ls)
 
     abbrev then_rest : Completion → Part (Unit {0})
-    then_rest d = unless_left_to d (statements_to f code ls b (listed r ++ us) []) next
+    then_rest d = unless_left_to d (statements_to f code ls b (listed r ++ us) [] []) next
 
     -- what comes after the body
     abbrev pub next_inside : Completion → Part (Unit {0})

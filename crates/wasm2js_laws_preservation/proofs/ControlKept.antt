@@ -27,6 +27,7 @@ use Rattle.asm_lang_exec.specs.Meaning.{Completion, normal}
 use Rattle.wasm2js_translation.specs.Names.{Name, numbered, operand_low, spelled}
 use Rattle.wasm2js_translation.specs.Words.{simple_statements}
 use Rattle.wasm2js_translation.specs.Delays.{Delayed, written}
+use Rattle.wasm2js_translation.specs.Known.{Known}
 use Rattle.wasm2js_translation.specs.Bodies.{Aim, past, again, labels_round, label_name, signed_word, comes_to_end, types_after_call, call_stmts, indirect_stmts, stmts_of}
 use Rattle.wasm2js_laws_places.specs.Following.{Rest}
 use Rattle.wasm2js_laws_actions.proofs.Parts.{chosen_followed}
@@ -40,7 +41,7 @@ use Rattle.wasm2js_laws_preservation.specs.ControlLaws.{OpensNone, IsKeptBefore,
 use Rattle.wasm2js_laws_preservation.proofs.ControlStanding.{block_body, after_block, loop_body, after_loop, first_arm, second_arm, after_arms}
 use Rattle.wasm2js_laws_preservation.proofs.ControlStepping.{stays_itself, free_step}
 use Rattle.wasm2js_laws_preservation.proofs.ControlLabels.{nested_past, nested_again}
-use Rattle.wasm2js_laws_preservation.proofs.ControlWritten.{nothing_waits, kept_late}
+use Rattle.wasm2js_laws_preservation.proofs.ControlWritten.{kept_bare, kept_late}
 use Rattle.wasm2js_laws_preservation.proofs.ControlBlocks.{next_inside, block_exits}
 use Rattle.wasm2js_laws_preservation.proofs.ControlLoops.{turns_are_kept}
 
@@ -63,13 +64,13 @@ module _ (f : Function) (r : Rest) (n : Name) (p : Place) (first second : Part (
       (subst (λ c. IsFollowed f p r ((if c then first else second) p)) (sym (is_true (word_at p n) (subst (λ x. x < 2 ^ 32) a (to_uint32_lt v)))) (h (word_at p n) refl)))
 
 module _ (f : Function) (fair : IsFair f) where
-  -- while nothing waits
+  -- while nothing waits and nothing is known
   abbrev KeptBare : Trees → Type 0
   KeptBare code =
       (most : ℕ) (ls : List Aim) (b : ℕ) (ts after : List ValType) (around : List Surrounding) (before : Words) (next : Completion → Part (Unit {0})) → most ≤ f.bound
       → IsTyped (under_aims f.context ls) code ts after → MayStand f code b ts → AreNested ls b → Exits f most ls b after (comes_to_end code) around before next → IsKept f most code ls b ts around before next
 
-  -- whatever waits
+  -- whatever waits and is known
   abbrev pub Kept : Trees → Type 0
   Kept code =
       (most : ℕ) (ls : List Aim) (b : ℕ) (ts after : List ValType) (around : List Surrounding) (before : Words) (next : Completion → Part (Unit {0})) → most ≤ f.bound
@@ -78,8 +79,8 @@ module _ (f : Function) (fair : IsFair f) where
   -- all that waits is written before the code
   abbrev pub WritesFirst : Trees → Type 0
   WritesFirst code =
-      (ls : List Aim) (b : ℕ) (ts : List ValType) (ds : List Delayed)
-      → stmts_of f.setting.bytes f.cells f.context code ls b ts ds ≡ simple_statements (written ds) ++ stmts_of f.setting.bytes f.cells f.context code ls b ts []
+      (ls : List Aim) (b : ℕ) (ts : List ValType) (ds : List Delayed) (ks : List Known)
+      → stmts_of f.setting.bytes f.cells f.context code ls b ts ds ks ≡ simple_statements (written ds) ++ stmts_of f.setting.bytes f.cells f.context code ls b ts [] []
 
   after_written : (code : Trees) → WritesFirst code → KeptBare code → Kept code
   after_written code is bare most ls b ts after around before next le typed stands nested ex =
@@ -90,34 +91,37 @@ module _ (f : Function) (fair : IsFair f) where
       subst (λ us. IsFollowed f p (code_sight f around ε b us p w) (next normal p)) (sym typed) (ex.on refl p w i stays)
 
   pub none_kept : Kept ε
-  none_kept = after_written ε (λ ls b ts ds. sym (append-nil (simple_statements (written ds)))) none_bare
+  none_kept = after_written ε (λ ls b ts ds ks. sym (append-nil (simple_statements (written ds)))) none_bare
 
   block_bare : (r : Option ValType) (body code : Trees) → Kept body → Kept code → KeptBare (block r body ▹ code)
   block_bare r body code inner rest most ls b ts after around before next le typed stands nested ex p w i stays =
       let base : ℕ = b + length ts in
-      let kept = rest most ls b (listed r ++ ts) after around before next le typed.1 (after_block f b r body code ts stands) nested ex [] (nothing_waits f) in
+      let kept = kept_bare f most code ls b (listed r ++ ts) around before next (rest most ls b (listed r ++ ts) after around before next le typed.1 (after_block f b r body code ts stands) nested ex) in
       let round : List Surrounding = in_label (operands b ts (word_at p)) (arity_of r) ε code ∷ around in
       let inside = next_inside f fair most ls b base ts r code around before next p refl stays nested kept in
-      let run = statements_to f body (past base r ∷ ls) base [] [] inside p in
+      let run = statements_to f body (past base r ∷ ls) base [] [] [] inside p in
       free_step f fair most w p (operands b ts (word_at p)) (in_block f.home around (arity_of r) ε body code) (code_sight f around (block r body ▹ code) b ts p w) (code_sight f round body base [] p w) run i
       (λ n. ap f.watch (block_step f.home around r body code (state_at f (operands b ts (word_at p)) p w n))) (λ n. refl)
+      (kept_bare f most body (past base r ∷ ls) base [] round (word_at p) inside
       (inner most (past base r ∷ ls) base [] (listed r) round (word_at p) inside le typed.0 (block_body f b r body code ts stands) (nested_past ls b base (omega arith) nested r)
-      (block_exits f fair most ls b base ts r code around before next p refl stays nested kept after (comes_to_end code) ex (comes_to_end body)) [] (nothing_waits f) p w i (stays_itself base (word_at p)))
+      (block_exits f fair most ls b base ts r code around before next p refl stays nested kept after (comes_to_end code) ex (comes_to_end body))) p w i (stays_itself base (word_at p)))
 
   pub block_kept : (r : Option ValType) (body code : Trees) → Kept body → Kept code → Kept (block r body ▹ code)
-  block_kept r body code inner rest = after_written (block r body ▹ code) (λ ls b ts ds. refl) (block_bare r body code inner rest)
+  block_kept r body code inner rest = after_written (block r body ▹ code) (λ ls b ts ds ks. refl) (block_bare r body code inner rest)
 
   loop_bare : (r : Option ValType) (body code : Trees) → Kept body → Kept code → KeptBare (loop r body ▹ code)
   loop_bare r body code inner rest most ls b ts after around before next le typed stands nested ex p w i stays =
       let base : ℕ = b + length ts in
-      let kept = rest most ls b (listed r ++ ts) after around before next le typed.1 (after_loop f b r body code ts stands) nested ex [] (nothing_waits f) in
+      let kept = kept_bare f most code ls b (listed r ++ ts) around before next (rest most ls b (listed r ++ ts) after around before next le typed.1 (after_loop f b r body code ts stands) nested ex) in
       let few = i.units in
       turns_are_kept f fair most ls b ts after r body code around before next (comes_to_end code) nested ex kept
-      (λ k round words further small exits. inner k (again base ∷ ls) base [] (listed r) round words further small typed.0 (loop_body f b r body code ts stands) (nested_again ls b base (omega arith) nested) exits [] (nothing_waits f))
+      (λ k round words further small exits.
+      kept_bare f k body (again base ∷ ls) base [] round words further
+      (inner k (again base ∷ ls) base [] (listed r) round words further small typed.0 (loop_body f b r body code ts stands) (nested_again ls b base (omega arith) nested) exits))
       f.bound (omega arith) p w i stays (omega (arith, few, le))
 
   pub loop_kept : (r : Option ValType) (body code : Trees) → Kept body → Kept code → Kept (loop r body ▹ code)
-  loop_kept r body code inner rest = after_written (loop r body ▹ code) (λ ls b ts ds. refl) (loop_bare r body code inner rest)
+  loop_kept r body code inner rest = after_written (loop r body ▹ code) (λ ls b ts ds ks. refl) (loop_bare r body code inner rest)
 
   module _ (r : Option ValType) (x y code : Trees) (x_kept : Kept x) (y_kept : Kept y) (rest : Kept code) (most : ℕ) (ls : List Aim) (b : ℕ) (us after : List ValType)
       (around : List Surrounding) (before : Words) (next : Completion → Part (Unit {0})) (le : most ≤ f.bound)
@@ -128,7 +132,7 @@ module _ (f : Function) (fair : IsFair f) where
     base = b + length us
 
     kept : IsKept f most code ls b (listed r ++ us) around before next
-    kept = rest most ls b (listed r ++ us) after around before next le typed (after_arms f b r x y code us stands) nested ex [] (nothing_waits f)
+    kept = kept_bare f most code ls b (listed r ++ us) around before next (rest most ls b (listed r ++ us) after around before next le typed (after_arms f b r x y code us stands) nested ex)
 
     abbrev round : List Surrounding
     round = in_label (operands b us (word_at p)) (arity_of r) ε code ∷ around
@@ -138,18 +142,19 @@ module _ (f : Function) (fair : IsFair f) where
 
     -- one of the two arms
     arm : (z : Trees) → Kept z → IsTyped (under_aims f.context (past base r ∷ ls)) z [] (listed r) → MayStand f z base []
-        → IsFollowed f p (code_sight f round z base [] p w) (statements_to f z (past base r ∷ ls) base [] [] inside p)
+        → IsFollowed f p (code_sight f round z base [] p w) (statements_to f z (past base r ∷ ls) base [] [] [] inside p)
     arm z z_kept z_typed z_stands =
-        z_kept most (past base r ∷ ls) base [] (listed r) round (word_at p) inside le z_typed z_stands (nested_past ls b base (omega arith) nested r)
-        (block_exits f fair most ls b base us r code around before next p refl stays nested kept after (comes_to_end code) ex (comes_to_end z)) [] (nothing_waits f) p w i (stays_itself base (word_at p))
+        kept_bare f most z (past base r ∷ ls) base [] round (word_at p) inside
+        (z_kept most (past base r ∷ ls) base [] (listed r) round (word_at p) inside le z_typed z_stands (nested_past ls b base (omega arith) nested r)
+        (block_exits f fair most ls b base us r code around before next p refl stays nested kept after (comes_to_end code) ex (comes_to_end z))) p w i (stays_itself base (word_at p))
 
     abbrev arms : ℕ → Part (Unit {0})
-    arms n = if not (n == 0) then statements_to f x (past base r ∷ ls) base [] [] inside else statements_to f y (past base r ∷ ls) base [] [] inside
+    arms n = if not (n == 0) then statements_to f x (past base r ∷ ls) base [] [] [] inside else statements_to f y (past base r ∷ ls) base [] [] [] inside
 
     chosen : (n : ℕ) → IsFollowed f p (code_sight f round (choose n x y) base [] p w) (arms n p)
     chosen zero = arm y y_kept y_typed (second_arm f b r x y code us stands)
     chosen (suc n) =
-        subst (λ c. IsFollowed f p (code_sight f round x base [] p w) ((if not c then statements_to f x (past base r ∷ ls) base [] [] inside else statements_to f y (past base r ∷ ls) base [] [] inside) p))
+        subst (λ c. IsFollowed f p (code_sight f round x base [] p w) ((if not c then statements_to f x (past base r ∷ ls) base [] [] [] inside else statements_to f y (past base r ∷ ls) base [] [] [] inside) p))
         (sym (not_zero n)) (arm x x_kept x_typed (first_arm f b r x y code us stands))
 
     abbrev test : ℕ
@@ -164,12 +169,12 @@ module _ (f : Function) (fair : IsFair f) where
         (λ j. ap f.watch (if_step f.home around r x y code (state_at f (operands b (I32 ∷ us) (word_at p)) p w j))) (λ j. refl)
         (subst (λ m. IsFollowed f p (code_sight f round (choose m x y) base [] p w) (arms n p)) e (chosen n))
 
-    arms_kept : IsFollowed f p (code_sight f around (if_block r x y ▹ code) b (I32 ∷ us) p w) (statements_to f (if_block r x y ▹ code) ls b (I32 ∷ us) [] next p)
+    arms_kept : IsFollowed f p (code_sight f around (if_block r x y ▹ code) b (I32 ∷ us) p w) (statements_to f (if_block r x y ▹ code) ls b (I32 ∷ us) [] [] next p)
     arms_kept =
         subst (λ (run : Part (Unit {0})). IsFollowed f p (code_sight f around (if_block r x y ▹ code) b (I32 ∷ us) p w) (run p))
-        (sym (chosen_followed f.calls f.scope f.bound inside (label_name (labels_round ls) ∷ []) (signed_word base) (stmts_of f.setting.bytes f.cells f.context x (past base r ∷ ls) base [] []) (stmts_of f.setting.bytes f.cells f.context y (past base r ∷ ls) base [] [])))
-        (decided_by f (code_sight f around (if_block r x y ▹ code) b (I32 ∷ us) p w) (numbered operand_low base) p (statements_to f x (past base r ∷ ls) base [] [] inside)
-        (statements_to f y (past base r ∷ ls) base [] [] inside) i.apart both_arms)
+        (sym (chosen_followed f.calls f.scope f.bound inside (label_name (labels_round ls) ∷ []) (signed_word base) (stmts_of f.setting.bytes f.cells f.context x (past base r ∷ ls) base [] [] []) (stmts_of f.setting.bytes f.cells f.context y (past base r ∷ ls) base [] [] [])))
+        (decided_by f (code_sight f around (if_block r x y ▹ code) b (I32 ∷ us) p w) (numbered operand_low base) p (statements_to f x (past base r ∷ ls) base [] [] [] inside)
+        (statements_to f y (past base r ∷ ls) base [] [] [] inside) i.apart both_arms)
 
   if_bare : (r : Option ValType) (x y code : Trees) → Kept x → Kept y → Kept code → KeptBare (if_block r x y ▹ code)
   if_bare r x y code x_kept y_kept rest most ls b ts after around before next le typed stands nested ex =
@@ -178,7 +183,7 @@ module _ (f : Function) (fair : IsFair f) where
       (λ p w i stays. arms_kept r x y code x_kept y_kept rest most ls b typed.0 after around before next le typed.2 typed.3 typed.4 stands' nested ex p w i stays)
 
   pub if_kept : (r : Option ValType) (x y code : Trees) → Kept x → Kept y → Kept code → Kept (if_block r x y ▹ code)
-  if_kept r x y code x_kept y_kept rest = after_written (if_block r x y ▹ code) (λ ls b ts ds. refl) (if_bare r x y code x_kept y_kept rest)
+  if_kept r x y code x_kept y_kept rest = after_written (if_block r x y ▹ code) (λ ls b ts ds ks. refl) (if_bare r x y code x_kept y_kept rest)
 
   -- an instruction that opens no block, plain or not
 
@@ -189,7 +194,7 @@ module _ (f : Function) (fair : IsFair f) where
   other_bare : (t : Tree) (code : Trees) → IsKeptBefore IsKept f t → Kept code → KeptBare (t ▹ code)
   other_bare t code first rest most ls b ts after around before next le typed stands nested ex =
       first most code ls b ts after around before next le typed stands nested ex
-      (λ us typed' stands' ex'. rest most ls b us after around before next le typed' stands' nested ex' [] (nothing_waits f))
+      (λ us typed' stands' ex'. kept_bare f most code ls b us around before next (rest most ls b us after around before next le typed' stands' nested ex'))
 
   pub other_kept : (t : Tree) (code : Trees) → WritesFirst (t ▹ code) → IsKeptBefore IsKept f t → Kept code → Kept (t ▹ code)
   other_kept t code is first rest = after_written (t ▹ code) is (other_bare t code first rest)
@@ -198,13 +203,13 @@ module _ (f : Function) (fair : IsFair f) where
   pub call_kept : (g : ℕ) (code : Trees) → IsKeptFirst f (call g) → Kept code → Kept (call g ▹ code)
   call_kept g code first rest =
       other_kept (call g) code
-      (λ ls b ts ds. append_assoc (simple_statements (written ds)) (call_stmts g b ts (type_of f.context g)) (stmts_of f.setting.bytes f.cells f.context code ls b (types_after_call (type_of f.context g) ts) [])) first rest
+      (λ ls b ts ds ks. append_assoc (simple_statements (written ds)) (call_stmts g b ts (type_of f.context g)) (stmts_of f.setting.bytes f.cells f.context code ls b (types_after_call (type_of f.context g) ts) [] [])) first rest
 
   pub entry_kept : (t : ℕ) (code : Trees) → IsKeptFirst f (call_indirect t) → Kept code → Kept (call_indirect t ▹ code)
   entry_kept t code first rest =
       other_kept (call_indirect t) code
-      (λ ls b ts ds. append_assoc (simple_statements (written ds)) (indirect_stmts f.cells f.context.types b ts (slice_get f.context.types t))
-      (stmts_of f.setting.bytes f.cells f.context code ls b (types_after_call (slice_get f.context.types t) (drop 1 ts)) [])) first rest
+      (λ ls b ts ds ks. append_assoc (simple_statements (written ds)) (indirect_stmts f.cells f.context.types b ts (slice_get f.context.types t))
+      (stmts_of f.setting.bytes f.cells f.context code ls b (types_after_call (slice_get f.context.types t) (drop 1 ts)) [] [])) first rest
 
 module _ (f : Function) (fair : IsFair f) (first_kept : (t : Tree) → OpensNone t → IsKeptFirst f t) where
   all_kept : (code : Trees) → Kept f fair code
@@ -212,11 +217,11 @@ module _ (f : Function) (fair : IsFair f) (first_kept : (t : Tree) → OpensNone
   all_kept (block r body ▹ code) = block_kept f fair r body code (all_kept body) (all_kept code)
   all_kept (loop r body ▹ code) = loop_kept f fair r body code (all_kept body) (all_kept code)
   all_kept (if_block r x y ▹ code) = if_kept f fair r x y code (all_kept x) (all_kept y) (all_kept code)
-  all_kept (unreachable ▹ code) = other_kept f fair unreachable code (λ ls b ts ds. refl) (first_kept unreachable tt) (all_kept code)
-  all_kept (br k ▹ code) = other_kept f fair (br k) code (λ ls b ts ds. refl) (first_kept (br k) tt) (all_kept code)
-  all_kept (br_if k ▹ code) = other_kept f fair (br_if k) code (λ ls b ts ds. refl) (first_kept (br_if k) tt) (all_kept code)
-  all_kept (br_table ks d ▹ code) = other_kept f fair (br_table ks d) code (λ ls b ts ds. refl) (first_kept (br_table ks d) tt) (all_kept code)
-  all_kept (return ▹ code) = other_kept f fair return code (λ ls b ts ds. refl) (first_kept return tt) (all_kept code)
+  all_kept (unreachable ▹ code) = other_kept f fair unreachable code (λ ls b ts ds ks. refl) (first_kept unreachable tt) (all_kept code)
+  all_kept (br k ▹ code) = other_kept f fair (br k) code (λ ls b ts ds ks. refl) (first_kept (br k) tt) (all_kept code)
+  all_kept (br_if k ▹ code) = other_kept f fair (br_if k) code (λ ls b ts ds ks. refl) (first_kept (br_if k) tt) (all_kept code)
+  all_kept (br_table ks d ▹ code) = other_kept f fair (br_table ks d) code (λ ls b ts ds ks. refl) (first_kept (br_table ks d) tt) (all_kept code)
+  all_kept (return ▹ code) = other_kept f fair return code (λ ls b ts ds ks. refl) (first_kept return tt) (all_kept code)
   all_kept (call g ▹ code) = call_kept f fair g code (first_kept (call g) tt) (all_kept code)
   all_kept (call_indirect t ▹ code) = entry_kept f fair t code (first_kept (call_indirect t) tt) (all_kept code)
   all_kept (plain p ▹ code) = plain_kept f fair p code (first_kept (plain p) tt) (all_kept code)

@@ -71,7 +71,7 @@ module _ (f : Function) (fair : IsFair f) where
 
     -- what comes after the loop
     abbrev then_rest : Completion → Part (Unit {0})
-    then_rest d = unless_left_to d (statements_to f code ls b (listed r ++ ts) []) next
+    then_rest d = unless_left_to d (statements_to f code ls b (listed r ++ ts) [] []) next
 
     abbrev after_loop : Completion → Part (Unit {0})
     after_loop d = then_rest (label_end (own ∷ []) d)
@@ -80,7 +80,7 @@ module _ (f : Function) (fair : IsFair f) where
     the_test = eval_to f.calls f.scope (natural 1)
 
     abbrev the_body : Before (Unit {0}) Completion
-    the_body = exec_to f.calls f.scope f.bound [] (block_of (stmts_of f.setting.bytes f.cells f.context body inner base [] [] ++ leaves body))
+    the_body = exec_to f.calls f.scope f.bound [] (block_of (stmts_of f.setting.bytes f.cells f.context body inner base [] [] [] ++ leaves body))
 
     abbrev more_turns : ℕ → Part (Unit {0})
     more_turns n = turns_to (own ∷ []) n the_test the_body (λ next. next tt) after_loop
@@ -196,7 +196,7 @@ module _ (f : Function) (fair : IsFair f) where
           let round : List Surrounding = in_label (operands b ts (word_at q)) 0 (loop r body ▹ ε) code ∷ around in
           let same : word_at p ≡ word_at q = units_apart k q in
           let s : Stays base (word_at q) (word_at p) = subst (λ (words : Words). Stays base (word_at q) words) (sym same) (stays_itself base (word_at q)) in
-          let run = appended f.calls f.scope f.bound (stmts_of f.setting.bytes f.cells f.context body inner base [] []) (leaves body) (after_body n) in
+          let run = appended f.calls f.scope f.bound (stmts_of f.setting.bytes f.cells f.context body inner base [] [] []) (leaves body) (after_body n) in
           let h = kept k round (word_at q) (after_code n) le' (loop_exits n k q stays turns_kept le less) p w (inside_still most k w q i) s in
           step f fair most w q p (operands b ts (word_at q)) enters (start q w) (code_sight f round body base [] p w) (the_body (after_body n) p) i (starts q w) 1 fair.some (omega (arith, e)) refl
           (λ j. ap (λ t. f.watch (closed f.home round (onward f.home body t))) (sym (state_apart k [] q w j)))

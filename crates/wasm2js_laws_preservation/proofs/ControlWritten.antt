@@ -1,4 +1,4 @@
--- What waits is written before code that begins with no plain instruction, and that code is kept as if nothing had waited.
+-- What waits is written before code that begins with no plain instruction, and that code is kept as if nothing had waited or been known.
 use Rattle.std.proofs.Common.{◌≡◌, ℕ, true, List, [], ◌∷◌, ◌++◌, None, refl, sym, ap, ◌∙◌, subst, arith}
 use Rattle.std.proofs.Math.Path.{fun_ext}
 use Rattle.sem_words.specs.declared.js_value.JsValue.TheVariants.{Whole}
@@ -14,6 +14,7 @@ use Rattle.asm_laws_continuation.specs.Following.{unless_left_to, exec_to, exec_
 use Rattle.wasm2js_translation.specs.Names.{Name}
 use Rattle.wasm2js_translation.specs.Words.{Term, read, number, both, flip, sum, product, zeros, compare, choose, byte, whole, put, simple_statement, simple_statements, stmts_in}
 use Rattle.wasm2js_translation.specs.Delays.{Delayed, is_light, written}
+use Rattle.wasm2js_translation.specs.Known.{Known}
 use Rattle.wasm2js_translation.specs.Bodies.{Aim, stmts_of}
 use Rattle.wasm2js_laws_places.specs.Following.{Rest}
 use Rattle.wasm2js_laws_places.specs.Straight.{Words, with_word, value, gives, Helping, goes, run_simples}
@@ -30,8 +31,13 @@ use Rattle.wasm2js_laws_preservation.proofs.InstructionsComputing.{inside_on, st
 use Rattle.wasm2js_laws_preservation.proofs.BranchesMoved.{write_then, move_then}
 
 -- nothing waits
-pub nothing_waits : (f : Function) → MayWait f []
+nothing_waits : (f : Function) → MayWait f []
 nothing_waits f = record { waiting = tt; sound = tt }
+
+-- and nothing is known
+pub kept_bare : (f : Function) (most : ℕ) (code : Trees) (ls : List Aim) (b : ℕ) (ts : List ValType) (around : List Surrounding) (before : Words) (next : Completion → Part (Unit {0}))
+    → IsKeptLate f most code ls b ts around before next → IsKept f most code ls b ts around before next
+kept_bare f most code ls b ts around before next kept p w i stays = kept [] [] (nothing_waits f) p w i tt stays
 
 -- ---- words that are written one after the other
 
@@ -89,7 +95,7 @@ module _ (f : Function) (r : Rest) (here : Place) where
 module _ (f : Function) (fair : IsFair f) (most : ℕ) (code : Trees) (ls : List Aim) (b : ℕ) (ts : List ValType) (around : List Surrounding) (before : Words) (next : Completion → Part (Unit {0}))
     (kept : IsKept f most code ls b ts around before next) where
   abbrev bare : List Stmt
-  bare = stmts_of f.setting.bytes f.cells f.context code ls b ts []
+  bare = stmts_of f.setting.bytes f.cells f.context code ls b ts [] []
 
   abbrev then_code : Completion → Part (Unit {0})
   then_code c = unless_left_to c (exec_all_to f.calls f.scope f.bound (stmts_in bare)) next
@@ -119,14 +125,14 @@ module _ (f : Function) (fair : IsFair f) (most : ℕ) (code : Trees) (ls : List
     from_written : (q : Place) → IsOn f.setting.bytes (all_put ds (word_at p) p.heap) p.heap 0 p q → IsFollowed f p start (then_code normal q)
     from_written q on = from_there q (subst (λ (words : Words). IsOn f.setting.bytes words p.heap 0 p q) (put_is_seen ds (word_at p) p.heap may.waiting) on)
 
-    after_written : stmts_of f.setting.bytes f.cells f.context code ls b ts ds ≡ simple_statements (written ds) ++ bare
-        → IsFollowed f p start (statements_to f code ls b ts ds next p)
-    after_written is =
+    after_written : (ks : List Known) → stmts_of f.setting.bytes f.cells f.context code ls b ts ds ks ≡ simple_statements (written ds) ++ bare
+        → IsFollowed f p start (statements_to f code ls b ts ds ks next p)
+    after_written ks is =
         subst (λ run. IsFollowed f p start run)
         (sym (ap (λ ss. exec_all_to f.calls f.scope f.bound (stmts_in ss) next p) is
         ∙ ap (λ (part : Part (Unit {0})). part p) (appended f.calls f.scope f.bound (simple_statements (written ds)) bare next)))
         (written_then f start p ds p then_code may.waiting i.apart i.world.is_heap from_written)
 
-  -- where all is written first, whatever waits
-  pub kept_late : ((ds : List Delayed) → stmts_of f.setting.bytes f.cells f.context code ls b ts ds ≡ simple_statements (written ds) ++ bare) → IsKeptLate f most code ls b ts around before next
-  kept_late is ds may p w i stays = after_written ds may p w i stays (is ds)
+  -- where all is written first, whatever waits and is known
+  pub kept_late : ((ds : List Delayed) (ks : List Known) → stmts_of f.setting.bytes f.cells f.context code ls b ts ds ks ≡ simple_statements (written ds) ++ bare) → IsKeptLate f most code ls b ts around before next
+  kept_late is ds ks may p w i known stays = after_written ds may p w i stays ks (is ds ks)

@@ -27,6 +27,7 @@ use Rattle.asm_laws_continuation.specs.Laws.{AllFollow}
 use Rattle.asm_laws_continuation.specs.Following.{unless_left_to}
 use Rattle.wasm2js_translation.specs.Words.{Action, stmts_in, statements}
 use Rattle.wasm2js_translation.specs.Delays.{Delayed, Late, late, standing}
+use Rattle.wasm2js_translation.specs.Known.{Known, Lean, lean}
 use Rattle.wasm2js_translation.specs.Bodies.{Aim, after_plain, stmts_of}
 use Rattle.wasm2js_laws_terms.specs.Sound.{AreSoundActions}
 use Rattle.wasm2js_laws_places.specs.Following.{Rest}
@@ -34,6 +35,7 @@ use Rattle.wasm2js_laws_places.proofs.Paced.{stands_still}
 use Rattle.wasm2js_laws_places.specs.Straight.{Words, Helping, Outcome, goes, stops, run_actions, actions_units}
 use Rattle.wasm2js_laws_places.specs.Places.{word_at, operands, locals_of, store_with, store_of, IsHeap, IsReply, Stays}
 use Rattle.wasm2js_laws_places.specs.Delaying.{seen, AreWaiting, IsSame}
+use Rattle.wasm2js_laws_places.specs.Knowing.{AreKnown}
 use Rattle.wasm2js_laws_typed.specs.Waiting.{AreSoundWaiting}
 use Rattle.wasm2js_laws_places.specs.Helped.{IsOn, IsTrap, IsShort, Does, AreHelpers}
 use Rattle.wasm2js_laws_actions.proofs.Doing.{apart_kept}
@@ -42,8 +44,12 @@ use Rattle.wasm2js_laws_preservation.specs.ControlControl.{Function, IsFair, May
 use Rattle.wasm2js_laws_typed.specs.Laws.{IsFormed}
 use Rattle.wasm2js_laws_preservation.specs.ControlLaws.{IsKeptFirst}
 use Rattle.wasm2js_laws_places.proofs.Delayed.{late_is_alike, standing_is_seen}
+use Rattle.wasm2js_laws_places.proofs.KnownSteps.{KnownAfter}
+use Rattle.wasm2js_laws_places.proofs.Knowing.{IsLean, code_lean}
 use Rattle.wasm2js_laws_typed.proofs.LateSound.{late_sound, standing_sound}
+use Rattle.wasm2js_laws_typed.proofs.LeanSound.{lean_sound}
 use Rattle.wasm2js_laws_actions.proofs.LateAsking.{late_asks_helpers}
+use Rattle.wasm2js_laws_actions.proofs.LeanAsking.{lean_asks_helpers}
 use Rattle.wasm2js_laws_preservation.proofs.ControlSeen.{seen_are_words, locals_seen, store_seen}
 use Rattle.wasm2js_laws_preservation.proofs.ControlStepping.{appended, stays_on, stands, step, no_step}
 use Rattle.wasm2js_laws_preservation.specs.InstructionsPlain.{IsAlike, IsPlain, PlainIs, code_of}
@@ -88,9 +94,9 @@ seen_is ds (goes words heap) (stops kind heap') h = absurd h
 seen_is ds (stops kind heap) (goes words heap') h = absurd h
 seen_is ds (stops kind heap) (stops kind' heap') h = let e = h.0 in let g = h.1 in cc (e, g)
 
--- from a place with these words to those that wait after the code
+-- from a place with these words to those that wait after the code, where this is known
 module _ (f : Function) (fair : IsFair f) (helping : Helping) (most b : ℕ) (us : List ValType) (code : Trees) (ls : List Aim) (around : List Surrounding) (before words : Words)
-    (next : Completion → Part (Unit {0})) (rest : IsKeptLate f most code ls b us around before next) (later : List Delayed) (may : MayWait f later)
+    (next : Completion → Part (Unit {0})) (rest : IsKeptLate f most code ls b us around before next) (later : List Delayed) (may : MayWait f later) (ks : List Known)
     (p : Place) (w : List EventPlain) (i : Inside f most w p) (stays : Stays b before words) where
   -- what may be read still
   abbrev ds : List Delayed
@@ -100,16 +106,17 @@ module _ (f : Function) (fair : IsFair f) (helping : Helping) (most b : ℕ) (us
   may_stand = record { waiting = (standing_is_seen b us later (word_at p) p.heap may.waiting).0; sound = standing_sound f.scope b us later may.sound }
 
   abbrev then_rest : Completion → Part (Unit {0})
-  then_rest d = unless_left_to d (statements_to f code ls b us ds) next
+  then_rest d = unless_left_to d (statements_to f code ls b us ds ks) next
 
   -- the rest, from the place after the code
-  on_from : (words' : Words) (heap : List ℕ) (u : ℕ) (q : Place) → IsOn f.setting.bytes words' heap u p q → Stays b words (seen later words' heap) → drop f.setting.bytes heap ≡ drop f.setting.bytes p.heap
+  on_from : (words' : Words) (heap : List ℕ) (u : ℕ) (q : Place) → IsOn f.setting.bytes words' heap u p q → AreKnown ks words' → Stays b words (seen later words' heap)
+      → drop f.setting.bytes heap ≡ drop f.setting.bytes p.heap
       → IsFollowed f q (late_sight f around code b us ds q w) (then_rest normal q)
-  on_from words' heap u q on s same =
+  on_from words' heap u q on known s same =
       let z : Words = seen later words' heap in
       let stood = (standing_is_seen b us later words' heap may.waiting).2 in
       let kept = stays_on b b b before z (seen ds words' heap) (omega arith) (omega arith) (stays_on b b b before words z (omega arith) (omega arith) stays s) stood in
-      rest ds may_stand q w (inside_on f most w words' heap u p q on same i)
+      rest ds ks may_stand q w (inside_on f most w words' heap u p q on same i) (subst (λ (v : Words). AreKnown ks v) (sym (fun_ext on.has_words)) known)
       (subst (λ heap. Stays b before (seen ds (word_at q) heap)) (sym on.has_heap) (subst (λ (v : Words). Stays b before (seen ds v heap)) (sym (fun_ext on.has_words)) kept))
 
   -- the operands that stand there
@@ -139,49 +146,49 @@ module _ (f : Function) (fair : IsFair f) (helping : Helping) (most b : ℕ) (us
     abbrev Effects : Effect → Type 0
     Effects e = (n : ℕ) → f.watch (go (state_at f values p w n)) ≡ f.watch (after e (state_at f values p w n) (goes_with f.home around code))
 
-    paid_case : (e : Effect) (o : Outcome) (run : Run Completion) (u : ℕ) → u ≤ f.pace → Effects e → IsAlike f helping b us words p.heap p.replies w e (outcome_seen later o)
+    paid_case : (e : Effect) (o : Outcome) (run : Run Completion) (u : ℕ) → u ≤ f.pace → Effects e → IsAlike f helping b us words p.heap p.replies w e (outcome_seen later o) → KnownAfter ks o
         → Does f.setting.bytes o u p run → IsFollowed f p r (runs.after run then_rest)
-    paid_case (machine.goes vs lo st) (goes words' heap) (runs.goes d q) u le on a x =
+    paid_case (machine.goes vs lo st) (goes words' heap) (runs.goes d q) u le on a known x =
         let left = x.1.left in
         subst (λ d. IsFollowed f p r (then_rest d q)) (sym x.0)
         (step f fair most w p q values go r (late_sight f around code b us ds q w) (then_rest normal q) i starts u le (sym left) x.1.events
-        (λ n. on n ∙ left_at vs lo st words' heap u q x.1 a.0 a.1 a.2 n) (on_from words' heap u q x.1 a.3 a.4))
-    paid_case (machine.goes vs lo st) (goes words' heap) (runs.stops e q) u le on a x = absurd x
-    paid_case (machine.goes vs lo st) (goes words' heap) (spent q) u le on a x = out_of_units u q le x
-    paid_case (machine.goes vs lo st) (goes words' heap) wrong u le on a x = tt
-    paid_case (machine.goes vs lo st) (stops k heap) run u le on a x = absurd a
-    paid_case (machine.traps kind) (goes words' heap) run u le on a x = absurd a
-    paid_case (machine.traps kind) (stops k heap) (runs.goes d q) u le on a x = absurd x
-    paid_case (machine.traps kind) (stops k heap) (runs.stops e q) u le on a x = record {
+        (λ n. on n ∙ left_at vs lo st words' heap u q x.1 a.0 a.1 a.2 n) (on_from words' heap u q x.1 known a.3 a.4))
+    paid_case (machine.goes vs lo st) (goes words' heap) (runs.stops e q) u le on a known x = absurd x
+    paid_case (machine.goes vs lo st) (goes words' heap) (spent q) u le on a known x = out_of_units u q le x
+    paid_case (machine.goes vs lo st) (goes words' heap) wrong u le on a known x = tt
+    paid_case (machine.goes vs lo st) (stops k heap) run u le on a known x = absurd a
+    paid_case (machine.traps kind) (goes words' heap) run u le on a known x = absurd a
+    paid_case (machine.traps kind) (stops k heap) (runs.goes d q) u le on a known x = absurd x
+    paid_case (machine.traps kind) (stops k heap) (runs.stops e q) u le on a known x = record {
       cost = 1;
       same = subst (λ o. IsSameAs f.by o (ended q.events e q.heap)) (sym (starts 1 ∙ on 0 ∙ fair.ended (trapped kind) (store_of f.setting p w)))
           (trap_same f fair most w p i kind k e q a.0 (subst (λ h. IsTrap k h p e q) a.1 x));
     }
-    paid_case (machine.traps kind) (stops k heap) (spent q) u le on a x = out_of_units u q le x
-    paid_case (machine.traps kind) (stops k heap) wrong u le on a x = tt
-    paid_case machine.sticks (goes words' heap) run u le on a x = absurd a
-    paid_case machine.sticks (stops k heap) run u le on a x = absurd a
+    paid_case (machine.traps kind) (stops k heap) (spent q) u le on a known x = out_of_units u q le x
+    paid_case (machine.traps kind) (stops k heap) wrong u le on a known x = tt
+    paid_case machine.sticks (goes words' heap) run u le on a known x = absurd a
+    paid_case machine.sticks (stops k heap) run u le on a known x = absurd a
 
   -- a constant
   free_case : (r : Rest) (vs lo : List Word) (st : Store) (o : Outcome) (run : Run Completion) (u : ℕ) → u ≡ 0
       → ((n : ℕ) → r n ≡ f.watch (goes_with f.home around code (record { values = vs; locals = lo; store = st; left = n })))
-      → IsAlike f helping b us words p.heap p.replies w (machine.goes vs lo st) (outcome_seen later o) → Does f.setting.bytes o u p run → IsFollowed f p r (runs.after run then_rest)
-  free_case r vs lo st (goes words' heap) (runs.goes d q) u none on a x =
+      → IsAlike f helping b us words p.heap p.replies w (machine.goes vs lo st) (outcome_seen later o) → KnownAfter ks o → Does f.setting.bytes o u p run → IsFollowed f p r (runs.after run then_rest)
+  free_case r vs lo st (goes words' heap) (runs.goes d q) u none on a known x =
       let left = x.1.left in
       subst (λ d. IsFollowed f p r (then_rest d q)) (sym x.0)
       (counts_alike f p q r (then_rest normal q) (omega (arith, left, none)) x.1.events
-      (no_step f fair q r (late_sight f around code b us ds q w) (then_rest normal q) (λ n. on n ∙ left_at vs lo st words' heap u q x.1 a.0 a.1 a.2 n) (on_from words' heap u q x.1 a.3 a.4)))
-  free_case r vs lo st (goes words' heap) (runs.stops e q) u none on a x = absurd x
-  free_case r vs lo st (goes words' heap) (spent q) u none on a x = let few = x.few in absurd (omega (arith, few, none))
-  free_case r vs lo st (goes words' heap) wrong u none on a x = tt
-  free_case r vs lo st (stops k heap) run u none on a x = absurd a
+      (no_step f fair q r (late_sight f around code b us ds q w) (then_rest normal q) (λ n. on n ∙ left_at vs lo st words' heap u q x.1 a.0 a.1 a.2 n) (on_from words' heap u q x.1 known a.3 a.4)))
+  free_case r vs lo st (goes words' heap) (runs.stops e q) u none on a known x = absurd x
+  free_case r vs lo st (goes words' heap) (spent q) u none on a known x = let few = x.few in absurd (omega (arith, few, none))
+  free_case r vs lo st (goes words' heap) wrong u none on a known x = tt
+  free_case r vs lo st (stops k heap) run u none on a known x = absurd a
 
 -- ---- the instruction in its code
 
 module _ (f : Function) (fair : IsFair f) (calls : Calls) (follow : AllFollow calls f.calls) (helping : Helping) (helpers : AreHelpers f.scope calls f.bound f.setting.bytes helping)
-    (ins : Plain) (most : ℕ) (code : Trees) (ls : List Aim) (b : ℕ) (ts us : List ValType) (ds : List Delayed) (around : List Surrounding) (before : Words) (next : Completion → Part (Unit {0}))
+    (ins : Plain) (most : ℕ) (code : Trees) (ls : List Aim) (b : ℕ) (ts us : List ValType) (ds : List Delayed) (ks : List Known) (around : List Surrounding) (before : Words) (next : Completion → Part (Unit {0}))
     (small : most ≤ f.bound) (is : IsPlain f helping ins b ts us) (sound : AreSoundActions f.scope (code_of f helping ins b ts)) (may : MayWait f ds) (rest : IsKeptLate f most code ls b us around before next)
-    (p : Place) (w : List EventPlain) (i : Inside f most w p) (stays : Stays b before (seen_at ds p)) where
+    (p : Place) (w : List EventPlain) (i : Inside f most w p) (known : AreKnown ks (word_at p)) (stays : Stays b before (seen_at ds p)) where
   -- the types afterwards, as the translation follows them
   abbrev then_types : List ValType
   then_types = after_plain f.context ins ts
@@ -199,6 +206,10 @@ module _ (f : Function) (fair : IsFair f) (calls : Calls) (follow : AllFollow ca
   abbrev whole : Late
   whole = late ds at_once
 
+  -- what is written
+  abbrev thin : Lean
+  thin = lean ks whole.now
+
   abbrev effect : Effect
   effect = do_plain ins (operands b ts words) (locals_of f.context.locals (word_at p)) (store_of f.setting p w)
 
@@ -214,6 +225,10 @@ module _ (f : Function) (fair : IsFair f) (calls : Calls) (follow : AllFollow ca
 
   sound_late : AreSoundActions f.scope whole.now × AreSoundWaiting f.scope whole.later
   sound_late = late_sound f.scope ds at_once sound may.sound
+
+  -- and so does what is left of it without needless tests
+  alike_lean : IsLean helping thin outcome units (word_at p) p.heap
+  alike_lean = code_lean helping whole.now ks (word_at p) p.heap known
 
   may_later : MayWait f whole.later
   may_later = record { waiting = alike_late.0; sound = sound_late.1 }
@@ -234,21 +249,24 @@ module _ (f : Function) (fair : IsFair f) (calls : Calls) (follow : AllFollow ca
   paid = subst (λ u. u ≤ f.pace) (sym alike_late.2) (is.paid words p.heap)
 
   abbrev ran : Run Completion
-  ran = exec_all false calls f.scope f.bound (stmts_in (statements whole.now)) p
+  ran = exec_all false calls f.scope f.bound (stmts_in (statements thin.now)) p
 
   does : Does f.setting.bytes outcome units p ran
   does =
       let few = i.units in
-      actions_are_done calls f.scope f.bound f.bound f.setting.bytes helping helpers whole.now sound_late.0 (late_asks_helpers ds at_once is.asks) p i.apart i.world.is_heap (omega (arith, few, small))
+      subst (λ o. Does f.setting.bytes o units p ran) alike_lean.same
+      (subst (λ u. Does f.setting.bytes (run_actions helping thin.now (word_at p) p.heap) u p ran) alike_lean.cost
+      (actions_are_done calls f.scope f.bound f.bound f.setting.bytes helping helpers thin.now (lean_sound f.scope ks whole.now sound_late.0)
+      (lean_asks_helpers ks whole.now (late_asks_helpers ds at_once is.asks)) p i.apart i.world.is_heap (omega (arith, few, small))))
 
   abbrev rest_then : Completion → Part (Unit {0})
-  rest_then d = unless_left_to d (statements_to f code ls b then_types (standing b then_types whole.later)) next
+  rest_then d = unless_left_to d (statements_to f code ls b then_types (standing b then_types whole.later) thin.known) next
 
-  runs_on : statements_to f (plain ins ▹ code) ls b ts ds next p ≡ runs.after ran rest_then
+  runs_on : statements_to f (plain ins ▹ code) ls b ts ds ks next p ≡ runs.after ran rest_then
   runs_on =
       ap (λ (part : Part (Unit {0})). part p)
-      (appended f.calls f.scope f.bound (statements whole.now) (stmts_of f.setting.bytes f.cells f.context code ls b then_types (standing b then_types whole.later)) next)
-      ∙ actions_are_followed calls f.calls f.scope f.bound whole.now rest_then p follow
+      (appended f.calls f.scope f.bound (statements thin.now) (stmts_of f.setting.bytes f.cells f.context code ls b then_types (standing b then_types whole.later) thin.known) next)
+      ∙ actions_are_followed calls f.calls f.scope f.bound thin.now rest_then p follow
 
   abbrev start : Rest
   start = late_sight f around (plain ins ▹ code) b ts ds p w
@@ -256,54 +274,56 @@ module _ (f : Function) (fair : IsFair f) (calls : Calls) (follow : AllFollow ca
   abbrev go : State → MachineOutcome
   go t = after (do_plain ins t.values t.locals t.store) t (goes_with f.home around code)
 
-  pub paid_followed : is_constant ins ≡ false → IsFollowed f p start (statements_to f (plain ins ▹ code) ls b ts ds next p)
+  pub paid_followed : is_constant ins ≡ false → IsFollowed f p start (statements_to f (plain ins ▹ code) ls b ts ds ks next p)
   paid_followed e =
       subst (λ run. IsFollowed f p start run) (sym runs_on)
-      (paid_case f fair helping most b then_types code ls around before words next kept whole.later may_later p w i stays (operands b ts words) go start
-      (λ n. ap f.watch (plain_step f.home around ins code (state_at f (operands b ts words) p w n) e)) effect outcome ran units paid (λ n. refl) alike does)
+      (paid_case f fair helping most b then_types code ls around before words next kept whole.later may_later thin.known p w i stays (operands b ts words) go start
+      (λ n. ap f.watch (plain_step f.home around ins code (state_at f (operands b ts words) p w n) e)) effect outcome ran units paid (λ n. refl) alike alike_lean.known does)
 
   pub free_followed : (vs : List Word) → is_constant ins ≡ true → effect ≡ machine.goes vs (locals_of f.context.locals (word_at p)) (store_of f.setting p w)
       → ((n : ℕ) → start n ≡ f.watch (goes_with f.home around code (state_at f vs p w n)))
-      → IsFollowed f p start (statements_to f (plain ins ▹ code) ls b ts ds next p)
-  free_followed vs e known on =
+      → IsFollowed f p start (statements_to f (plain ins ▹ code) ls b ts ds ks next p)
+  free_followed vs e same on =
       subst (λ run. IsFollowed f p start run) (sym runs_on)
-      (free_case f fair helping most b then_types code ls around before words next kept whole.later may_later p w i stays start vs (locals_of f.context.locals (word_at p)) (store_of f.setting p w) outcome ran units
-      (alike_late.2 ∙ is.free e words p.heap) on (subst (λ e. IsAlike f helping b then_types words p.heap p.replies w e (outcome_seen whole.later outcome)) known alike) does)
+      (free_case f fair helping most b then_types code ls around before words next kept whole.later may_later thin.known p w i stays start vs (locals_of f.context.locals (word_at p)) (store_of f.setting p w) outcome ran units
+      (alike_late.2 ∙ is.free e words p.heap) on (subst (λ e. IsAlike f helping b then_types words p.heap p.replies w e (outcome_seen whole.later outcome)) same alike)
+      alike_lean.known does)
 
 module _ (f : Function) (fair : IsFair f) (calls : Calls) (follow : AllFollow calls f.calls) (helping : Helping) (helpers : AreHelpers f.scope calls f.bound f.setting.bytes helping) where
   abbrev IsKeptHere : Plain → Type 0
   IsKeptHere ins =
-      (most : ℕ) (code : Trees) (ls : List Aim) (b : ℕ) (ts us : List ValType) (ds : List Delayed) (around : List Surrounding) (before : Words) (next : Completion → Part (Unit {0})) → most ≤ f.bound
+      (most : ℕ) (code : Trees) (ls : List Aim) (b : ℕ) (ts us : List ValType) (ds : List Delayed) (ks : List Known) (around : List Surrounding) (before : Words) (next : Completion → Part (Unit {0}))
+      → most ≤ f.bound
       → IsPlain f helping ins b ts us → AreSoundActions f.scope (code_of f helping ins b ts) → MayWait f ds → IsKeptLate f most code ls b us around before next
-      → IsKeptWhile ds f most (plain ins ▹ code) ls b ts around before next
+      → IsKeptWhile ds ks f most (plain ins ▹ code) ls b ts around before next
 
   one_kept : (ins : Plain) → (IsFormed ins → PlainIs f helping ins) → IsKeptHere ins → IsKeptFirst f (plain ins)
-  one_kept ins is each most code ls b ts after_types around before next small typed standing nested ex rest ds may =
+  one_kept ins is each most code ls b ts after_types around before next small typed standing nested ex rest ds ks may =
       let stands' = subst (λ ts. MayStand f (plain ins ▹ code) b ts) typed.operands standing in
       let sound = code_sound f fair helping ins code ls b typed.form typed.takes typed.gives typed.below typed.has_form typed.acts stands' in
       let on = rest_stands f fair helping ins code ls b typed.form typed.takes typed.gives typed.below typed.has_form typed.acts stands' in
-      let known = is standing.formed.0 ls b typed.form typed.takes typed.gives typed.below typed.has_form typed.acts in
-      subst (λ ts. IsKeptWhile ds f most (plain ins ▹ code) ls b ts around before next) (sym typed.operands)
-      (each most code ls b (typed.takes ++ typed.below) (typed.gives ++ typed.below) ds around before next small known sound may (rest (typed.gives ++ typed.below) typed.goes_on on ex))
+      let is_plain = is standing.formed.0.0 ls b typed.form typed.takes typed.gives typed.below typed.has_form typed.acts in
+      subst (λ ts. IsKeptWhile ds ks f most (plain ins ▹ code) ls b ts around before next) (sym typed.operands)
+      (each most code ls b (typed.takes ++ typed.below) (typed.gives ++ typed.below) ds ks around before next small is_plain sound may (rest (typed.gives ++ typed.below) typed.goes_on on ex))
 
   paid_kept : (ins : Plain) → is_constant ins ≡ false → (IsFormed ins → PlainIs f helping ins) → IsKeptFirst f (plain ins)
   paid_kept ins e is =
       one_kept ins is
-      (λ most code ls b ts us ds around before next small known sound may rest p w i stays.
-      paid_followed f fair calls follow helping helpers ins most code ls b ts us ds around before next small known sound may rest p w i stays e)
+      (λ most code ls b ts us ds ks around before next small is_plain sound may rest p w i known stays.
+      paid_followed f fair calls follow helping helpers ins most code ls b ts us ds ks around before next small is_plain sound may rest p w i known stays e)
 
   narrow_kept : (n : ℕ) → (IsFormed (const32 n) → PlainIs f helping (const32 n)) → IsKeptFirst f (plain (const32 n))
   narrow_kept n is =
       one_kept (const32 n) is
-      (λ most code ls b ts us ds around before next small known sound may rest p w i stays.
-      free_followed f fair calls follow helping helpers (const32 n) most code ls b ts us ds around before next small known sound may rest p w i stays (W32 n ∷ operands b ts (seen_at ds p)) refl refl
+      (λ most code ls b ts us ds ks around before next small is_plain sound may rest p w i known stays.
+      free_followed f fair calls follow helping helpers (const32 n) most code ls b ts us ds ks around before next small is_plain sound may rest p w i known stays (W32 n ∷ operands b ts (seen_at ds p)) refl refl
       (λ j. ap (λ o. f.watch (closed f.home around o)) (narrow_constant f.home n code (state_at f (operands b ts (seen_at ds p)) p w j))))
 
   wide_kept : (n : ℕ) → (IsFormed (const64 n) → PlainIs f helping (const64 n)) → IsKeptFirst f (plain (const64 n))
   wide_kept n is =
       one_kept (const64 n) is
-      (λ most code ls b ts us ds around before next small known sound may rest p w i stays.
-      free_followed f fair calls follow helping helpers (const64 n) most code ls b ts us ds around before next small known sound may rest p w i stays (W64 n ∷ operands b ts (seen_at ds p)) refl refl
+      (λ most code ls b ts us ds ks around before next small is_plain sound may rest p w i known stays.
+      free_followed f fair calls follow helping helpers (const64 n) most code ls b ts us ds ks around before next small is_plain sound may rest p w i known stays (W64 n ∷ operands b ts (seen_at ds p)) refl refl
       (λ j. ap (λ o. f.watch (closed f.home around o)) (wide_constant f.home n code (state_at f (operands b ts (seen_at ds p)) p w j))))
 
   each_kept : (ins : Plain) → (IsFormed ins → PlainIs f helping ins) → IsKeptFirst f (plain ins)

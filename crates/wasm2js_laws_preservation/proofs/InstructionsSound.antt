@@ -24,5 +24,5 @@ module _ (f : Function) (fair : IsFair f) (helping : Helping) (p : Plain) (code 
 
   pub code_sound : AreSoundActions f.scope (code_of f helping p b (takes ++ below))
   code_sound =
-      plain_is_sound f.scope f.context f.called f.setting.bytes f.cells fair.provides p standing.formed.0 form takes gives below shaped acts b
+      plain_is_sound f.scope f.context f.called f.setting.bytes f.cells fair.provides p standing.formed.0.0 standing.formed.0.1 form takes gives below shaped acts b
       (instruction_room f b p code (takes ++ below) standing) (room_here f.scope f.context code b (gives ++ below) rest_stands.room)

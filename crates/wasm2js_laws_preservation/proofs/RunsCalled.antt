@@ -18,7 +18,7 @@ use Rattle.asm_lang_exec.specs.Runs.{Binding, Place, Run, goes, stops, spent, wr
 use Rattle.asm_lang_exec.specs.Values.{Calls}
 use Rattle.asm_lang_exec.specs.Meaning.{eval, exec, exec_all, Completion, normal, broken, continued, returned, unless_left, first_locals, function_end, call_at}
 use Rattle.wasm2js_translation.specs.Names.{trap}
-use Rattle.wasm2js_translation.specs.Words.{Term, Relation, compare, guard, name_of, natural, expr, int_of, simple_statement, trap_call}
+use Rattle.wasm2js_translation.specs.Words.{Term, Relation, compare, guard, name_of, natural, int_of, simple_statement, trap_call}
 use Rattle.wasm2js_laws_places.specs.Straight.{Words, value, relation_of}
 use Rattle.wasm2js_laws_places.specs.Straight as straight
 use Rattle.wasm2js_laws_places.specs.Places.{names_in, IsHeap}

@@ -9,7 +9,7 @@ use Rattle.sem_words.specs.JsValues.{to_uint32_of}
 use Rattle.sem_words.specs.JsOperators.{js_binary_of, is_zero, are_alike}
 use Rattle.sem_words.specs.Words.{signed_of, mul_of, rel_of}
 use Rattle.heap_lang.specs.Heap.{load}
-use Rattle.asm_lang.specs.Modules.{Expr, index, binary, no_exprs, exprs}
+use Rattle.asm_lang.specs.Modules.{Expr, index, no_exprs, exprs}
 use Rattle.asm_lang_valid.specs.declared.meaning.Builtin.TheVariants.{Imul}
 use Rattle.asm_lang_valid.specs.declared.meaning.Element.TheVariants.{Int32}
 use Rattle.asm_lang_valid.specs.declared.meaning.Element.{Element}
@@ -22,7 +22,7 @@ use Rattle.asm_lang_exec.specs.Meaning.{eval, eval_all, eval_links, link_operato
 use Rattle.wasm2js_translation.specs.Names.{view_of_words, imul, spelled}
 use Rattle.wasm2js_translation.specs.Words.{called, Relation, equal, unequal, less, at_most, greater, at_least, Term, read, number, both, flip, sum, product, zeros, compare, choose, byte, whole, Summands, no_more, further, as_int, as_number, bit_operator, relation_operator, name_of, expr, summands, int_of, byte_view, indexed}
 use Rattle.wasm2js_laws_terms.specs.Sound.{byte_element}
-use Rattle.wasm2js_laws_places.specs.Straight.{Words, value, summed, bits_of, relation_of, truth, added, index_at, element_word}
+use Rattle.wasm2js_laws_places.specs.Straight.{Words, value, summed, bits_of, relation_of, added, index_at, element_word}
 use Rattle.wasm2js_laws_actions.specs.Reads.{Reads, Finds}
 use Rattle.wasm2js_laws_actions.proofs.Numbers.{bits_read, links_read, product_read, number_value}
 use Rattle.wasm2js_laws_actions.proofs.Reading.{read_then, all_then, found_then, one_more}

@@ -153,10 +153,10 @@ module _ (f : Function) (fair : IsFair f) (ks : List ℕ) (d most : ℕ) (code :
   full_room : (n : ℕ) → most_cases * (n / most_cases) ≤ n
   full_room n = omega arith
 
-  table_kept : IsFollowed f p start (statements_to f (br_table ks d ▹ code) ls b (I32 ∷ us) [] next p)
+  table_kept : IsFollowed f p start (statements_to f (br_table ks d ▹ code) ls b (I32 ∷ us) [] [] next p)
   table_kept =
       free_step f fair most w p (operands b (I32 ∷ us) (word_at p)) (λ t. take_number t.values t (λ i t. closed f.home around (Branch (default_to d (slice_get ks i)) t))) start
-      (sight f around (Branch target) values p w) (statements_to f (br_table ks d ▹ code) ls b (I32 ∷ us) [] next p) i
+      (sight f around (Branch target) values p w) (statements_to f (br_table ks d ▹ code) ls b (I32 ∷ us) [] [] next p) i
       (λ n. ap f.watch (br_table_step f.home around ks d code (state_at f (operands b (I32 ∷ us) (word_at p)) p w n))) (λ n. refl)
       (tables_followed f (sight f around (Branch target) values p w) p w most i to depth d next (length near / most_cases) 0 near (omega arith) (full_room (length near))
       (subst (λ k. (others more : Before (Unit {0}) Completion) → IsFollowed f p (sight f around (Branch target) values p w) (exec_all_to f.calls f.scope f.bound (stmts_in (to k)) (after_clause others more) p)) near_same target_goes))

@@ -27,13 +27,15 @@ use Rattle.asm_laws_continuation.specs.Following.{CallsBefore, exec_all_to}
 use Rattle.wasm2js_translation.specs.Names.{fixed, result_high}
 use Rattle.wasm2js_translation.specs.Words.{stmts_in}
 use Rattle.wasm2js_translation.specs.Delays.{Delayed}
+use Rattle.wasm2js_translation.specs.Known.{Known}
 use Rattle.wasm2js_translation.specs.Bodies.{Aim, past, again, out, label_of, stmts_of}
 use Rattle.wasm2js_translation.specs.Rooms.{room_of}
-use Rattle.wasm2js_laws_scopes.specs.Provided.{Provides, HasRoom}
+use Rattle.wasm2js_laws_scopes.specs.Provided.{Called, Provides, HasRoom}
 use Rattle.wasm2js_laws_places.specs.Following.{Rest, Follows}
 use Rattle.wasm2js_laws_places.specs.Straight.{Words}
 use Rattle.wasm2js_laws_places.specs.Places.{Setting, word_at, names_in, AreApart, operands, locals_of, store_of, World, Stays}
 use Rattle.wasm2js_laws_places.specs.Delaying.{seen, AreWaiting}
+use Rattle.wasm2js_laws_places.specs.Knowing.{AreKnown}
 use Rattle.wasm2js_laws_typed.specs.Bodies.{IsFormedCode}
 use Rattle.wasm2js_laws_typed.specs.Waiting.{AreSoundWaiting}
 
@@ -46,9 +48,9 @@ pub record Function : Type 0 where
   pub by : Comparison
   pub pace : ℕ
   pub unpaid : ℕ
-  -- what the code may refer to, the types that calls of entries name, and the cells of each table
+  -- what the code may refer to, what it calls, and the cells of each table
   pub context : Context
-  pub called : FunctionType → Bool
+  pub called : Called
   pub cells : ℕ
   -- the function of asm.js, with what its calls do, how many turns and calls there may be, and the names of its variables
   pub scope : Scope
@@ -116,8 +118,9 @@ module _ (f : Function) where
   abbrev pub IsFollowed : Place → Rest → Run (Unit {0}) → Type 0
   IsFollowed p r run = Follows f.by f.pace f.unpaid p r run
 
-  abbrev pub statements_to : Trees → List Aim → ℕ → List ValType → List Delayed → (Completion → Part (Unit {0})) → Part (Unit {0})
-  statements_to code ls b ts ds next = exec_all_to f.calls f.scope f.bound (stmts_in (stmts_of f.setting.bytes f.cells f.context code ls b ts ds)) next
+  -- and while this is known of variables
+  abbrev pub statements_to : Trees → List Aim → ℕ → List ValType → List Delayed → List Known → (Completion → Part (Unit {0})) → Part (Unit {0})
+  statements_to code ls b ts ds ks next = exec_all_to f.calls f.scope f.bound (stmts_in (stmts_of f.setting.bytes f.cells f.context code ls b ts ds ks)) next
 
 -- ---- labels
 
@@ -159,15 +162,18 @@ pub record Exits (f : Function) (most : ℕ) (ls : List Aim) (b : ℕ) (after : 
   pub leaves : (q : Place) (w : List EventPlain) (v : JsValue) (values : List Word) → Inside f most w q → Gives f.context.returns v q values
       → IsFollowed f q (sight f around Leave values q w) (next (returned v) q)
 
--- from each place in the function what the statements come to follows the code, while these words wait
-abbrev pub IsKeptWhile : List Delayed → (f : Function) (most : ℕ) → Trees → List Aim → (b : ℕ) → List ValType → List Surrounding → (before : Words) → (Completion → Part (Unit {0})) → Type 0
-IsKeptWhile ds f most code ls b ts around before next =
-    (p : Place) (w : List EventPlain) → Inside f most w p → Stays b before (seen_at ds p) → IsFollowed f p (late_sight f around code b ts ds p w) (statements_to f code ls b ts ds next p)
+-- from each place in the function what the statements come to follows the code, while these words wait and this is known of those that
+-- variables hold
+abbrev pub IsKeptWhile : List Delayed → List Known → (f : Function) (most : ℕ) → Trees → List Aim → (b : ℕ) → List ValType → List Surrounding → (before : Words) → (Completion → Part (Unit {0})) → Type 0
+IsKeptWhile ds ks f most code ls b ts around before next =
+    (p : Place) (w : List EventPlain) → Inside f most w p → AreKnown ks (word_at p) → Stays b before (seen_at ds p)
+    → IsFollowed f p (late_sight f around code b ts ds p w) (statements_to f code ls b ts ds ks next p)
 
--- while none do, and whatever waits
+-- while none wait and nothing is known, and whatever waits and is known
 
 abbrev pub IsKept : (f : Function) (most : ℕ) → Trees → List Aim → (b : ℕ) → List ValType → List Surrounding → (before : Words) → (Completion → Part (Unit {0})) → Type 0
-IsKept f most code ls b ts around before next = IsKeptWhile [] f most code ls b ts around before next
+IsKept f most code ls b ts around before next =
+    (p : Place) (w : List EventPlain) → Inside f most w p → Stays b before (word_at p) → IsFollowed f p (code_sight f around code b ts p w) (statements_to f code ls b ts [] [] next p)
 
 abbrev pub IsKeptLate : (f : Function) (most : ℕ) → Trees → List Aim → (b : ℕ) → List ValType → List Surrounding → (before : Words) → (Completion → Part (Unit {0})) → Type 0
-IsKeptLate f most code ls b ts around before next = (ds : List Delayed) → MayWait f ds → IsKeptWhile ds f most code ls b ts around before next
+IsKeptLate f most code ls b ts around before next = (ds : List Delayed) (ks : List Known) → MayWait f ds → IsKeptWhile ds ks f most code ls b ts around before next

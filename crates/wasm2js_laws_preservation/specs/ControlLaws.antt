@@ -29,7 +29,7 @@ IsKeptBefore Kept f t =
     → ((us : List ValType) → IsTyped (under_aims f.context ls) code us after → MayStand f code b us → Exits f most ls b after (comes_to_end code) around before next → Kept f most code ls b us around before next)
     → Kept f most (t ▹ code) ls b ts around before next
 
--- words may wait before a plain one, and after it; all are written before each other one
+-- words may wait before a plain one, and after it, and variables be known there; all are written before each other one, and nothing is known
 abbrev pub IsKeptFirst : (f : Function) → Tree → Type 0
 IsKeptFirst f (plain p) = IsKeptBefore IsKeptLate f (plain p)
 IsKeptFirst f t = IsKeptBefore IsKept f t

@@ -1,4 +1,4 @@
--- What the head and the helpers of a translated module mean.
+-- What the head of a translated module means.
 use Rattle.std.proofs.Common.{◌≡◌, ℕ, suc, Bool, true, false, List, [], ◌∷◌, ◌++◌, length, Option, Some, None, refl, ap, ◌∙◌}
 use Rattle.std.specs.Prelude.{codes, bytes_eq, ◌||◌, if◌then◌else◌}
 use Rattle.std.specs.List.{list_all}
@@ -6,28 +6,25 @@ use Rattle.std.proofs.lemmas.List.{append_assoc}
 use Rattle.wasm_lang.specs.Instructions.{Instruction, plain, const32, const64, global_get}
 use Rattle.wasm_lang.specs.Modules.{GlobalEntry, WasmModule}
 use Rattle.wasm_lang_valid.specs.ModuleRules.{has_memory}
-use Rattle.wasm_lang_valid.specs.Profile.{memory_bytes}
 use Rattle.wasm_lang_exec.specs.Reductions.{Callee, an_import, a_function, callees}
 use Rattle.wasm_lang_exec.specs.Fits.{GlobalImport, global_imports}
-use Rattle.asm_lang.specs.Modules.{Stmt, Variable, Function, Module}
+use Rattle.asm_lang.specs.Modules.{Stmt, Variable, Module}
 use Rattle.asm_lang_valid.specs.declared.meaning.Builtin.TheVariants.{Imul, Clz32}
 use Rattle.asm_lang_valid.specs.declared.meaning.Element.TheVariants.{Int8, Uint8, Int32}
 use Rattle.asm_lang_valid.specs.Scope as scopes
 use Rattle.asm_lang_valid.specs.Scope.{is_in, Meaning, a_parameter, an_int, a_foreign, a_builtin, a_view, init_meaning, among_globals, among_functions, among_tables}
 use Rattle.asm_lang_valid.specs.Typing.{named}
 use Rattle.asm_lang_valid.specs.Typed.{scope_of}
-use Rattle.wasm2js_lang.specs.Parts.Functions.{has_long_segments}
 use Rattle.wasm2js_translation.specs.Names as names
 use Rattle.wasm2js_translation.specs.Names.{Name, Fixed, numbered, fixed, word, spelled}
 use Rattle.wasm2js_translation.proofs.Spelling.{spellings_are_usable}
-use Rattle.wasm2js_translation.specs.Helpers.{function_of, wide_helpers, division_helpers, memory_helpers}
-use Rattle.wasm2js_translation.specs.Modules.{functions_from, init_function, high_function, helpers, functions_of, stdlib_name, foreign_name, heap_name, view_variables, fixed_variables, foreign_variables, given_variable, imported_variables, first_values, own_variables, global_variables, variables_of, translated}
-use Rattle.wasm2js_translation.specs.Tables.{stubs, tables_for}
+use Rattle.wasm2js_translation.specs.Helpers.{function_of}
+use Rattle.wasm2js_translation.specs.Modules.{functions_of, stdlib_name, foreign_name, heap_name, view_variables, fixed_variables, foreign_variables, given_variable, imported_variables, first_values, own_variables, global_variables, variables_of, translated}
+use Rattle.wasm2js_translation.specs.Tables.{tables_for}
 use Rattle.wasm2js_laws_scopes.specs.Provided.{HasFixed, HasMemory}
 use Rattle.wasm2js_laws_scopes.specs.Laws.{is_own, HeadIsProvided, MemoryIsProvided}
 use Rattle.wasm2js_laws_scopes.proofs.Among.{other_spelling}
 use Rattle.wasm2js_laws_scopes.proofs.Declared.{module_names_are_seen}
-use Rattle.wasm2js_laws_scopes.proofs.Helping.{any_helper, no_head, helper_of, wide_found, wide_signature, memory_found, memory_signature, wide_is_helper, memory_is_helper}
 
 -- ---- no numbered variable has a fixed name
 
@@ -127,33 +124,19 @@ module _ (w : WasmModule) (name : Name) (ps ls : List Name) (ss : List Stmt) (p 
   abbrev numbered_variables : List Variable
   numbered_variables = foreign_variables 0 (callees w) ++ global_variables w
 
-  abbrev own_functions : List Function
-  own_functions = functions_from w 0 (callees w) ++ (stubs w ++ init_function w ∷ high_function ∷ [])
-
   abbrev no_variable : Fixed → Meaning
-  no_variable f = among_functions ((wide_helpers ++ (division_helpers ++ (if has_memory w then memory_helpers (memory_bytes w) (has_long_segments w) else []))) ++ own_functions) (word f) (among_tables (tables_for w) (word f))
+  no_variable f = among_functions (functions_of w) (word f) (among_tables (tables_for w) (word f))
 
   in_order : variables_of w ≡ (if has_memory w then view_variables else []) ++ (fixed_variables ++ numbered_variables)
   in_order =
       append_assoc ((if has_memory w then view_variables else []) ++ fixed_variables) (foreign_variables 0 (callees w)) (global_variables w)
       ∙ append_assoc (if has_memory w then view_variables else []) fixed_variables numbered_variables
 
-  functions_in_order : functions_of w ≡ (wide_helpers ++ (division_helpers ++ (if has_memory w then memory_helpers (memory_bytes w) (has_long_segments w) else []))) ++ own_functions
-  functions_in_order =
-      append_assoc (helpers w ++ functions_from w 0 (callees w)) (stubs w) (init_function w ∷ high_function ∷ [])
-      ∙ append_assoc (helpers w) (functions_from w 0 (callees w)) (stubs w ++ init_function w ∷ high_function ∷ [])
-      ∙ ap (λ fs. fs ++ own_functions) (append_assoc wide_helpers division_helpers (if has_memory w then memory_helpers (memory_bytes w) (has_long_segments w) else []))
-
   in_module : (f : Fixed) → named (scope_of (translated w) (function_of name ps ls ss)) (word f) ≡ among_globals (translated w) ((if has_memory w then view_variables else []) ++ (fixed_variables ++ numbered_variables)) (word f) (no_variable f)
   in_module f =
       module_names_are_seen (translated w) name ps ls ss (fixed f) p l refl
-      ∙ ap (λ b. if b then a_parameter else among_globals (translated w) (variables_of w) (word f) (among_functions (functions_of w) (word f) (among_tables (tables_for w) (word f)))) (no_parameter f)
-      ∙ ap (λ fs. among_globals (translated w) (variables_of w) (word f) (among_functions fs (word f) (among_tables (tables_for w) (word f)))) functions_in_order
+      ∙ ap (λ b. if b then a_parameter else among_globals (translated w) (variables_of w) (word f) (no_variable f)) (no_parameter f)
       ∙ ap (λ vs. among_globals (translated w) vs (word f) (no_variable f)) in_order
-
-  helper_place : (f : Fixed) → any_helper f ≡ true → named (scope_of (translated w) (function_of name ps ls ss)) (word f) ≡ no_variable f
-  helper_place f h =
-      in_module f ∙ no_head (translated w) f (has_memory w) numbered_variables (no_variable f) h ∙ missed (translated w) numbered_variables (word f) (no_variable f) (numbered_others f w)
 
   head_is_provided : HasFixed (scope_of (translated w) (function_of name ps ls ss))
   head_is_provided = record {
@@ -162,11 +145,6 @@ module _ (w : WasmModule) (name : Name) (ps ls : List Name) (ss : List Stmt) (p 
     traps = in_module names.trap ∙ trap_is (translated w) numbered_variables (no_variable names.trap) refl (has_memory w);
     spare = in_module names.spare_high ∙ spare_is (translated w) numbered_variables (no_variable names.spare_high) refl (has_memory w);
     high = in_module names.result_high ∙ high_is (translated w) numbered_variables (no_variable names.result_high) refl (has_memory w);
-    helpers = λ f form h. record {
-      function = helper_of (memory_bytes w) f;
-      is_this = helper_place f (wide_is_helper f form h) ∙ wide_found (memory_bytes w) f form (if has_memory w then memory_helpers (memory_bytes w) (has_long_segments w) else []) own_functions (among_tables (tables_for w) (word f)) h;
-      signature = wide_signature (memory_bytes w) f form h;
-    };
   }
 
   memory_is_provided : has_memory w ≡ true → HasMemory (scope_of (translated w) (function_of name ps ls ss))
@@ -174,14 +152,6 @@ module _ (w : WasmModule) (name : Name) (ps ls : List Name) (ss : List Stmt) (p 
     bytes = in_module names.view_of_bytes ∙ bytes_are (translated w) numbered_variables (no_variable names.view_of_bytes) refl (has_memory w) e;
     signed_bytes = in_module names.view_of_signed_bytes ∙ signed_bytes_are (translated w) numbered_variables (no_variable names.view_of_signed_bytes) refl (has_memory w) e;
     words = in_module names.view_of_words ∙ words_are (translated w) numbered_variables (no_variable names.view_of_words) refl (has_memory w) e;
-    helpers = λ f form h. record {
-      function = helper_of (memory_bytes w) f;
-      is_this =
-          helper_place f (memory_is_helper f form h)
-          ∙ ap (λ b. among_functions ((wide_helpers ++ (division_helpers ++ (if b then memory_helpers (memory_bytes w) (has_long_segments w) else []))) ++ own_functions) (word f) (among_tables (tables_for w) (word f))) e
-          ∙ memory_found (memory_bytes w) (has_long_segments w) f form own_functions (among_tables (tables_for w) (word f)) h;
-      signature = memory_signature (memory_bytes w) f form h;
-    };
   }
 
 pub heads_are_provided : HeadIsProvided

@@ -1,4 +1,3 @@
 pub mod Among
 pub mod Declared
-pub mod Helping
 pub mod HeadNames

@@ -43,7 +43,7 @@ abbrev pub VariablesAreOwn : Type 0
 VariablesAreOwn =
     (params more : List ValType) (r : Room) → (list_all is_own (param_names 0 params) ≡ true) × (list_all is_own (declared_names r (length params) more) ≡ true)
 
--- ---- the head of a translated module, its helpers, and its views where the source has a memory
+-- ---- the head of a translated module, and its views where the source has a memory
 
 abbrev pub HeadIsProvided : Type 0
 HeadIsProvided =

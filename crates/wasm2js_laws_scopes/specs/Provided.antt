@@ -3,6 +3,7 @@ use Rattle.std.specs.Prelude.{◌≡◌, ℕ, ◌^◌, ◌≤◌, ◌<◌, Bool,
 use Rattle.std.specs.List.{list_any}
 use Rattle.wasm_lang.specs.declared.types.ValType.{ValType}
 use Rattle.wasm_lang.specs.declared.types.GlobalType.{GlobalType}
+use Rattle.wasm_lang.specs.Instructions.{Plain, Instruction, plain}
 use Rattle.wasm_lang.specs.Modules.{FunctionType}
 use Rattle.wasm_lang_valid.specs.Typing.{Context, type_of, result_of as type_result}
 use Rattle.asm_lang.specs.Modules.{Function, Table}
@@ -10,6 +11,8 @@ use Rattle.asm_lang_valid.specs.declared.meaning.Builtin.TheVariants.{Imul, Clz3
 use Rattle.asm_lang_valid.specs.declared.meaning.Element.TheVariants.{Int8, Uint8, Int32}
 use Rattle.asm_lang_valid.specs.Scope.{a_builtin, a_function, a_table, Signature, signature_of, first_member}
 use Rattle.asm_lang_valid.specs.Typing.{Scope, named}
+use Rattle.wasm2js_lang.specs.Helpers.{is_wide_operator}
+use Rattle.wasm2js_lang.specs.Parts.Functions.{counts_set_bits, is_signed_quotient, is_quotient, is_signed_remainder, is_remainder, is_load, is_store, is_copy, is_fill}
 use Rattle.wasm2js_translation.specs.Names as names
 use Rattle.wasm2js_translation.specs.Names.{Name, Fixed, numbered, fixed, spelled}
 use Rattle.wasm2js_translation.specs.Words.{name_of}
@@ -51,6 +54,36 @@ memory_helper names.copy = Some (signature 3 false)
 memory_helper names.fill = Some (signature 3 false)
 memory_helper f = None
 
+-- the instructions whose code names a helper
+abbrev pub asks : Fixed → Instruction → Bool
+asks names.shift_left i = is_wide_operator i
+asks names.shift_right_signed i = is_wide_operator i
+asks names.shift_right i = is_wide_operator i
+asks names.rotate_left i = is_wide_operator i
+asks names.leading_zeros i = is_wide_operator i
+asks names.trailing_zeros i = is_wide_operator i
+asks names.set_bits i = counts_set_bits i
+asks names.divide_signed i = is_signed_quotient i
+asks names.divide i = is_quotient i
+asks names.remainder_signed i = is_signed_remainder i
+asks names.remainder i = is_remainder i
+asks names.load_32 i = is_load 4 i
+asks names.load_64 i = is_load 8 i
+asks names.store_32 i = is_store 4 i
+asks names.store_64 i = is_store 8 i
+asks names.copy i = is_copy i
+asks names.fill i = is_fill i
+asks f i = false
+
+-- what the source's code calls: entries of these types, and these helpers
+pub record Called : Type 0 where
+  pub types : FunctionType → Bool
+  pub helpers : Fixed → Bool
+
+-- each helper that the code of an instruction names is one of these
+abbrev pub AsksAmong : (Fixed → Bool) → Plain → Type 0
+AsksAmong helpers p = (f : Fixed) → asks f (plain p) ≡ true → helpers f ≡ true
+
 -- a local of the source is among these
 abbrev pub IsNamed : (x : ℕ) → List ℕ → Type 0
 IsNamed x xs = list_any (λ y. x == y) xs ≡ true
@@ -76,29 +109,36 @@ module _ (s : Scope) where
 
   -- ---- what a module gives to each of its functions
 
-  -- the standard library, the trap, the two variables for high words, and helpers
+  -- the standard library, the trap, and the two variables for high words
   pub record HasFixed : Type 0 where
     pub multiplies : named s (name_of names.imul) ≡ a_builtin Imul
     pub counts : named s (name_of names.clz32) ≡ a_builtin Clz32
     pub traps : HasTrap s
     pub spare : IsInt s (fixed names.spare_high)
     pub high : IsInt s (fixed names.result_high)
-    pub helpers : (f : Fixed) (form : Signature) → wide_helper f ≡ Some form → IsHelper s f form.params form.result
 
-  -- where there is a memory: views, and further helpers
+  -- where there is a memory: views
   pub record HasMemory : Type 0 where
     pub bytes : IsView s names.view_of_bytes Uint8
     pub signed_bytes : IsView s names.view_of_signed_bytes Int8
     pub words : IsView s names.view_of_words Int32
-    pub helpers : (f : Fixed) (form : Signature) → memory_helper f ≡ Some form → IsHelper s f form.params form.result
 
-  -- what code in this context may name; calls of entries name these types; the memory and each table have so many bytes and cells
-  pub record Provides (c : Context) (is_called : FunctionType → Bool) (memory_bytes cells : ℕ) : Type 0 where
+  -- the helpers that the code of an instruction names, on words and on the memory
+  abbrev pub WordsHelp : Plain → Type 0
+  WordsHelp p = (f : Fixed) (form : Signature) → wide_helper f ≡ Some form → asks f (plain p) ≡ true → IsHelper s f form.params form.result
+
+  abbrev pub MemoryHelps : Plain → Type 0
+  MemoryHelps p = (f : Fixed) (form : Signature) → memory_helper f ≡ Some form → asks f (plain p) ≡ true → IsHelper s f form.params form.result
+
+  -- what code in this context may name, where it calls these; the memory and each table have so many bytes and cells
+  pub record Provides (c : Context) (is_called : Called) (memory_bytes cells : ℕ) : Type 0 where
     pub fixed : HasFixed
     pub memory : c.memory ≡ true → HasMemory
+    pub helpers : (f : Fixed) (form : Signature) → wide_helper f ≡ Some form → is_called.helpers f ≡ true → IsHelper s f form.params form.result
+    pub memory_helpers : c.memory ≡ true → (f : Fixed) (form : Signature) → memory_helper f ≡ Some form → is_called.helpers f ≡ true → IsHelper s f form.params form.result
     pub globals : (x : ℕ) (g : GlobalType) → slice_get c.globals x ≡ Some g → AreInts (names_of g.kind (global_pair x))
     pub functions : (f : ℕ) (t : FunctionType) → type_of c f ≡ Some t → IsFunction (numbered names.function f) (signature_for t)
-    pub tables : (t : FunctionType) → is_called t ≡ true → IsTable (numbered names.table (form_number c.types t)) cells (signature_for t)
+    pub tables : (t : FunctionType) → is_called.types t ≡ true → IsTable (numbered names.table (form_number c.types t)) cells (signature_for t)
     pub few_bytes : memory_bytes ≤ 2 ^ 28
     pub some_cells : 0 < cells
     pub few_cells : cells ≤ 2 ^ 16

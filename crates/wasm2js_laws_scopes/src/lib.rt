@@ -10,7 +10,7 @@ pub fn variables()
     ensures seen { ModuleNamesAreSeen }
 {}
 
-/// What each function of a translated module may use of its head and its helpers.
+/// What each function of a translated module may use of its head.
 pub fn heads()
     ensures head { HeadIsProvided }
     ensures memory { MemoryIsProvided }

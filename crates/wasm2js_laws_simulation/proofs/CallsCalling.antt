@@ -79,7 +79,7 @@ module _ (f : Function) (fair : IsFair f) (within : IsWithin f) (follow : CallsF
   us = listed (result_of t) ++ below
 
   abbrev then_rest : Completion → Part (Unit {0})
-  then_rest c = unless_left_to c (statements_to f code ls b us []) next
+  then_rest c = unless_left_to c (statements_to f code ls b us [] []) next
 
   abbrev given : JsValue → Part (Unit {0})
   given = given_to f (result_of t) d then_rest
@@ -87,12 +87,12 @@ module _ (f : Function) (fair : IsFair f) (within : IsWithin f) (follow : CallsF
   abbrev the_call : text.Expr
   the_call = text.call (spelled (numbered function g)) (arguments_from d t.params)
 
-  run_is : statements_to f (call g ▹ code) ls b ts [] next p ≡ eval_to f.calls f.scope the_call given p
+  run_is : statements_to f (call g ▹ code) ls b ts [] [] next p ≡ eval_to f.calls f.scope the_call given p
   run_is =
-      ap (λ o. exec_all_to f.calls f.scope f.bound (stmts_in (call_stmts g b ts o ++ stmts_of f.setting.bytes f.cells f.context code ls b (types_after_call o ts) [])) next p) type_is
-      ∙ ap (λ (xs : List ValType). exec_all_to f.calls f.scope f.bound (stmts_in (call_of g (b + length xs) t ++ stmts_of f.setting.bytes f.cells f.context code ls b (listed (result_of t) ++ xs) [])) next p)
+      ap (λ o. exec_all_to f.calls f.scope f.bound (stmts_in (call_stmts g b ts o ++ stmts_of f.setting.bytes f.cells f.context code ls b (types_after_call o ts) [] [])) next p) type_is
+      ∙ ap (λ (xs : List ValType). exec_all_to f.calls f.scope f.bound (stmts_in (call_of g (b + length xs) t ++ stmts_of f.setting.bytes f.cells f.context code ls b (listed (result_of t) ++ xs) [] [])) next p)
       (stay_below t.params below)
-      ∙ ap (λ (part : Part (Unit {0})). part p) (appended f.calls f.scope f.bound (call_of g d t) (stmts_of f.setting.bytes f.cells f.context code ls b us []) next)
+      ∙ ap (λ (part : Part (Unit {0})). part p) (appended f.calls f.scope f.bound (call_of g d t) (stmts_of f.setting.bytes f.cells f.context code ls b us [] []) next)
       ∙ answered_is f (result_of t) d the_call then_rest p
 
   abbrev start : Rest
@@ -115,7 +115,7 @@ module _ (f : Function) (fair : IsFair f) (within : IsWithin f) (follow : CallsF
   provided : IsFunction f.scope (numbered function g) (signature_for t)
   provided = fair.provides.functions g t type_is
 
-  pub one_call_kept : IsFollowed f p start (statements_to f (call g ▹ code) ls b ts [] next p)
+  pub one_call_kept : IsFollowed f p start (statements_to f (call g ▹ code) ls b ts [] [] next p)
   one_call_kept =
       subst (λ run. IsFollowed f p start run) (sym run_is)
       (arguments_then f start p i.apart d t.params (λ vs. call_named_to f.calls (named f.scope (spelled (numbered function g))) vs given)

@@ -80,7 +80,7 @@ module _ (f : Function) (around : List Surrounding) (values : List Word) (p : Pl
   trap_seen (suc n) = ap f.watch (ends_stay f.home around (trapped kind) (store_of f.setting p w))
 
 module _ (f : Function) (fair : IsFair f) (profile : IsInProfile f.home) (shaped : IsShaped f.home) (within : IsWithin f) (follow : CallsFollow f) (n : ℕ) (t : FunctionType)
-    (is_type : slice_get f.context.types n ≡ Some t) (is_called : f.called t ≡ true)
+    (is_type : slice_get f.context.types n ≡ Some t) (is_called : f.called.types t ≡ true)
     (most : ℕ) (code : Trees) (ls : List Aim) (b : ℕ) (below : List ValType) (around : List Surrounding) (before : Words) (next : Completion → Part (Unit {0}))
     (le : most ≤ f.bound) (rest : IsKept f most code ls b (listed (result_of t) ++ below) around before next)
     (p : Place) (w : List EventPlain) (i : Inside f most w p) (stays : Stays b before (word_at p)) where
@@ -101,7 +101,7 @@ module _ (f : Function) (fair : IsFair f) (profile : IsInProfile f.home) (shaped
   x = word_at p (numbered operand_low index)
 
   abbrev then_rest : Completion → Part (Unit {0})
-  then_rest c = unless_left_to c (statements_to f code ls b us []) next
+  then_rest c = unless_left_to c (statements_to f code ls b us [] []) next
 
   abbrev given : JsValue → Part (Unit {0})
   given = given_to f (result_of t) d then_rest
@@ -115,15 +115,15 @@ module _ (f : Function) (fair : IsFair f) (profile : IsInProfile f.home) (shaped
   abbrev after_guard : Completion → Part (Unit {0})
   after_guard c = unless_left_to c (exec_all_to f.calls f.scope f.bound (stmts_in (answered (result_of t) d the_call))) then_rest
 
-  run_is : statements_to f (call_indirect n ▹ code) ls b (I32 ∷ taken) [] next p ≡ exec_to f.calls f.scope f.bound [] (simple_statement (guard (words.read (low index)) (f.cells - 1) 5)) after_guard p
+  run_is : statements_to f (call_indirect n ▹ code) ls b (I32 ∷ taken) [] [] next p ≡ exec_to f.calls f.scope f.bound [] (simple_statement (guard (words.read (low index)) (f.cells - 1) 5)) after_guard p
   run_is =
-      ap (λ o. exec_all_to f.calls f.scope f.bound (stmts_in (indirect_stmts f.cells f.context.types b (I32 ∷ taken) o ++ stmts_of f.setting.bytes f.cells f.context code ls b (types_after_call o taken) [])) next p) is_type
+      ap (λ o. exec_all_to f.calls f.scope f.bound (stmts_in (indirect_stmts f.cells f.context.types b (I32 ∷ taken) o ++ stmts_of f.setting.bytes f.cells f.context code ls b (types_after_call o taken) [] [])) next p) is_type
       ∙ ap (λ (xs : List ValType).
       exec_all_to f.calls f.scope f.bound
-      (stmts_in (table_call_of f.cells (form_number f.context.types t) index (b + length xs) t ++ stmts_of f.setting.bytes f.cells f.context code ls b (listed (result_of t) ++ xs) [])) next p)
+      (stmts_in (table_call_of f.cells (form_number f.context.types t) index (b + length xs) t ++ stmts_of f.setting.bytes f.cells f.context code ls b (listed (result_of t) ++ xs) [] [])) next p)
       (stay_below t.params below)
       ∙ ap (λ (part : Part (Unit {0})). part p)
-      (appended f.calls f.scope f.bound (table_call_of f.cells (form_number f.context.types t) index d t) (stmts_of f.setting.bytes f.cells f.context code ls b us []) next)
+      (appended f.calls f.scope f.bound (table_call_of f.cells (form_number f.context.types t) index d t) (stmts_of f.setting.bytes f.cells f.context code ls b us [] []) next)
 
   -- ---- the reduction
 
@@ -269,7 +269,7 @@ module _ (f : Function) (fair : IsFair f) (profile : IsInProfile f.home) (shaped
       trap_kept f fair most w p i start kinds.TableEntry 5 refl refl fair.provides.fixed.traps
       (starts None (none_past f.home profile t x high) 1 ∙ trap_seen f around values p w kinds.TableEntry 1) after_guard
 
-  pub one_entry_kept : IsFollowed f p start (statements_to f (call_indirect n ▹ code) ls b (I32 ∷ taken) [] next p)
+  pub one_entry_kept : IsFollowed f p start (statements_to f (call_indirect n ▹ code) ls b (I32 ∷ taken) [] [] next p)
   one_entry_kept =
       subst (λ run. IsFollowed f p start run) (sym run_is)
       (guard_then f start p i.apart (low index) (f.cells - 1) 5 after_guard by)

@@ -68,7 +68,7 @@ module _ (f : Function) (fair : IsFair f) (most : ℕ) (ls : List Aim) (b : ℕ)
   d = b + length below
 
   abbrev then_rest : List ValType → Completion → Part (Unit {0})
-  then_rest us c = unless_left_to c (statements_to f code ls b us []) next
+  then_rest us c = unless_left_to c (statements_to f code ls b us [] []) next
 
   -- above what lay below the arguments
   abbrev seen_above : List Word → Rest

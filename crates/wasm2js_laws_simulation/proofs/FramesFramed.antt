@@ -42,7 +42,7 @@ use Rattle.wasm2js_laws_acceptance.proofs.FunctionsRoomy.{two, wide_low, narrow}
 use Rattle.wasm2js_laws_places.specs.Following.{Rest, Stands}
 use Rattle.wasm2js_laws_places.proofs.Paced.{steps_are_paid, stands_still}
 use Rattle.wasm2js_laws_places.specs.Places.{is_own, word_at, names_in, AreApart, locals_of, store_of, World}
-use Rattle.wasm2js_laws_preservation.proofs.ControlWritten.{nothing_waits}
+use Rattle.wasm2js_laws_preservation.proofs.ControlWritten.{kept_bare}
 use Rattle.wasm2js_laws_preservation.specs.ControlControl.{Function, Match, Inside, MayStand, code_sight, IsFollowed, statements_to, IsKept}
 use Rattle.wasm2js_laws_typed.proofs.RoomParts.{right_room}
 use Rattle.wasm2js_laws_preservation.proofs.ControlStepping.{appended, stays_itself}
@@ -222,10 +222,11 @@ module _ (f : Function) (settled : IsSettled f) (ready : AreHelped f) (accesses 
 
       kept : IsKept inner u code (out r ∷ []) 0 [] round (word_at q) closes
       kept =
-          occurring_are_kept inner helped (calls_are_kept inner helped.fair within follow)
+          kept_bare inner u code (out r ∷ []) 0 [] round (word_at q) closes
+          (occurring_are_kept inner helped (calls_are_kept inner helped.fair within follow)
           (indirect_calls_are_kept inner helped.fair (profile_of f.home settled.source) settled.source.shaped within follow) u code (out r ∷ []) 0 [] (listed r) round (word_at q) closes
           (accesses k t more code is_callee d)
-          (omega (arith, units, few, le)) typed.1 standing (nested_out r) (body_exits inner helped.fair u t.results typed.0 around after below locals p next most fewer returns (comes_to_end code) (word_at q)) [] (nothing_waits inner)
+          (omega (arith, units, few, le)) typed.1 standing (nested_out r) (body_exits inner helped.fair u t.results typed.0 around after below locals p next most fewer returns (comes_to_end code) (word_at q)))
 
       -- the reduction
       abbrev state : List Word → List Word → ℕ → State
@@ -247,12 +248,12 @@ module _ (f : Function) (settled : IsSettled f) (ready : AreHelped f) (accesses 
           own_words = same_locals 0 (t.params ++ more) q
 
       body_runs : exec_all_to inner.calls inner.scope d it.body (then_ends inner helped.fair u t.results typed.0 around after below locals p next most fewer returns) q
-          ≡ statements_to inner code (out r ∷ []) 0 [] [] closes q
+          ≡ statements_to inner code (out r ∷ []) 0 [] [] [] closes q
       body_runs =
           ap (λ b. exec_all_to inner.calls inner.scope d (stmts_in (body_stmts b inner.cells inner.context code)) (then_ends inner helped.fair u t.results typed.0 around after below locals p next most fewer returns) q)
           (sym settled.bytes)
           ∙ ap (λ (part : Part (Unit {0})). part q)
-          (appended inner.calls inner.scope d (stmts_of f.setting.bytes inner.cells inner.context code (out r ∷ []) 0 [] []) (closing f.setting.bytes inner.cells inner.context r)
+          (appended inner.calls inner.scope d (stmts_of f.setting.bytes inner.cells inner.context code (out r ∷ []) 0 [] [] []) (closing f.setting.bytes inner.cells inner.context r)
           (then_ends inner helped.fair u t.results typed.0 around after below locals p next most fewer returns))
 
       body_followed : IsFollowed f p start (exec_all_to inner.calls inner.scope d it.body (then_ends inner helped.fair u t.results typed.0 around after below locals p next most fewer returns) q)

@@ -1,6 +1,6 @@
 -- The helpers of translated modules on words of 64 bits: no call of them goes wrong, since the modules are accepted.
-use Rattle.std.proofs.Common.{◌≡◌, ℕ, ◌≤◌, true, false, List, [], ◌∷◌, length, map, Option, pos, refl, sym, ◌∙◌, subst}
-use Rattle.std.specs.List.{AllByRecursion}
+use Rattle.std.proofs.Common.{◌≡◌, ℕ, ◌≤◌, Bool, true, false, ◌||◌, List, [], ◌∷◌, length, map, Option, pos, refl, sym, ap, ◌∙◌, subst}
+use Rattle.std.specs.List.{AllByRecursion, list_any}
 use Rattle.sem_words.specs.declared.js_value.JsValue.{JsValue}
 use Rattle.sem_words.specs.declared.js_value.JsValue.TheVariants.{Whole}
 use Rattle.sem_words.specs.JsValues.{to_uint32_of}
@@ -19,17 +19,23 @@ use Rattle.asm_laws_sound.proofs.Both.{EndsIn}
 use Rattle.asm_laws_sound.proofs.Members.{Typed, accepted_is_typed, Good, good_in_module}
 use Rattle.asm_laws_sound.proofs.Evaluating.{Inv}
 use Rattle.asm_laws_sound.proofs.Executing.{calls_sound}
-use Rattle.wasm_lang.specs.Modules.{WasmModule}
+use Rattle.sem_words.specs.declared.word.Un.TheVariants.{Popcnt}
+use Rattle.wasm_lang.specs.Instructions.{Instruction, plain, un32}
+use Rattle.wasm_lang.specs.Modules.{FunctionBody, WasmModule}
+use Rattle.wasm2js_lang.specs.Parts.Functions.{counts_set_bits, has_instruction}
 use Rattle.wasm2js_translation.specs.Names as names
+use Rattle.wasm2js_translation.specs.Names.{Fixed}
+use Rattle.wasm2js_translation.specs.Words.{name_of}
 use Rattle.wasm2js_translation.specs.Helpers.{shift_left_function, shift_right_signed_function, shift_right_function, rotate_left_function, leading_zeros_function, trailing_zeros_function, set_bits_function}
 use Rattle.wasm2js_translation.specs.Modules.{translated}
-use Rattle.wasm2js_lang.specs.Helpers.{Helper, helper_list, nothing_given, bound_names, ComesBack, IsHelper}
+use Rattle.wasm2js_lang.specs.Helpers.{is_wide_operator, has_wide_operators, Helper, helper_list, nothing_given, bound_names, ComesBack, IsHelper}
 use Rattle.wasm2js_laws_helpers.proofs.Turned.{three_locals, first_shift_left, shift_left_body, first_shift_right_signed, shift_right_signed_body, first_shift_right, shift_right_body}
 use Rattle.wasm2js_laws_helpers.proofs.Rotated.{four_locals, first_rotate, rotate_body}
 use Rattle.wasm2js_laws_helpers.proofs.Zeros.{first_leading, leading_body, first_trailing, trailing_body}
 use Rattle.wasm2js_laws_acceptance.specs.FunctionsFunctions.{IsSource}
 use Rattle.wasm2js_laws_acceptance.specs.AcceptedLaws.{HaveFirstWords}
 use Rattle.wasm2js_laws_acceptance.proofs.AcceptedWhole.{translations_are_accepted}
+use Rattle.wasm2js_laws_simulation.specs.HelpingHelping.{is_there, if_there, fixed_meaning}
 use Rattle.wasm2js_laws_simulation.proofs.HelpingNamed.{fixed_names_mean}
 use Rattle.wasm2js_laws_simulation.proofs.HelpersCalled.{MayComeBack, turned_back, counted_back, bits_back}
 use Rattle.wasm2js_laws_simulation.specs.HelpersLaws.{SourcesHaveHelpers}
@@ -78,6 +84,18 @@ any_fit : (bs : List Binding) → Fitting (kinds_of (caller bs)) bs
 any_fit [] = tt
 any_fit (b ∷ bs) = (refl, λ h. absurd (cc h), any_fit bs)
 
+any_more : {A : Type 0} (p q : A → Bool) → ((x : A) → p x ≡ true → q x ≡ true) → (xs : List A) → list_any p xs ≡ true → list_any q xs ≡ true
+any_more p q k [] h = h
+any_more p q k (x ∷ xs) h = by (p x) refl h (any_more p q k xs)
+  where
+    or_more : (b : Bool) → list_any q xs ≡ true → (b || list_any q xs) ≡ true
+    or_more true e = refl
+    or_more false e = e
+
+    by : (b : Bool) → p x ≡ b → (b || list_any p xs) ≡ true → (list_any p xs ≡ true → list_any q xs ≡ true) → list_any q (x ∷ xs) ≡ true
+    by true e h more = let first = k x e in rw first refl
+    by false e h more = or_more (q x) (more h)
+
 -- ---- no call goes wrong
 
 surely : (I : List Binding → List Binding → Type 0) (P : JsValue → Type 0) (word : ℕ) (high : Option ℕ) (units : ℕ) (p : Place) (r : Run JsValue)
@@ -107,28 +125,45 @@ module _ (a : Module) (ok : Typed a) where
 
 -- ---- the helpers
 
-module _ (w : WasmModule) (source : IsSource w) (words : HaveFirstWords w) where
+-- an operator on words of 64 bits asks for the count of set bits too
+counts_too : (i : Instruction) → is_wide_operator i ≡ true → counts_set_bits i ≡ true
+counts_too (plain (un32 Popcnt)) h = refl
+counts_too (plain (un32 op)) h = absurd (cc h)
+counts_too i h = h
+
+list_counts : (is : List Instruction) → list_any is_wide_operator is ≡ true → list_any counts_set_bits is ≡ true
+list_counts is h = any_more is_wide_operator counts_set_bits counts_too is h
+
+wide_counts : (w : WasmModule) → has_wide_operators w ≡ true → has_instruction counts_set_bits w ≡ true
+wide_counts w h =
+    any_more (λ (b : FunctionBody). list_any is_wide_operator b.code) (λ (b : FunctionBody). list_any counts_set_bits b.code) (λ b. list_counts b.code) w.bodies h
+
+module _ (w : WasmModule) (source : IsSource w) (words : HaveFirstWords w) (wide : has_wide_operators w ≡ true) where
   abbrev a : Module
   a = translated w
 
   ok : Typed a
   ok = accepted_is_typed a (translations_are_accepted w source words)
 
+  -- a helper that is there
+  means : (f : Fixed) (g : Function) → fixed_meaning w f ≡ if_there (is_there w f) (a_function g) → is_there w f ≡ true → module_meaning a (name_of f) ≡ a_function g
+  means f g is there = fixed_names_mean w f ∙ is ∙ ap (λ b. if_there b (a_function g)) there
+
   all : AllByRecursion (IsHelper a) helper_list
   all = (
-    is_helper a ok _ shift_left_function (fixed_names_mean w names.shift_left) refl refl (turned_back a shift_left_function shl_of three_locals (first_shift_left a) (shift_left_body a)),
+    is_helper a ok _ shift_left_function (means names.shift_left shift_left_function refl wide) refl refl (turned_back a shift_left_function shl_of three_locals (first_shift_left a) (shift_left_body a)),
     (
-      is_helper a ok _ shift_right_signed_function (fixed_names_mean w names.shift_right_signed) refl refl (turned_back a shift_right_signed_function shr_s_of three_locals (first_shift_right_signed a) (shift_right_signed_body a)),
+      is_helper a ok _ shift_right_signed_function (means names.shift_right_signed shift_right_signed_function refl wide) refl refl (turned_back a shift_right_signed_function shr_s_of three_locals (first_shift_right_signed a) (shift_right_signed_body a)),
       (
-        is_helper a ok _ shift_right_function (fixed_names_mean w names.shift_right) refl refl (turned_back a shift_right_function shr_u_of three_locals (first_shift_right a) (shift_right_body a)),
+        is_helper a ok _ shift_right_function (means names.shift_right shift_right_function refl wide) refl refl (turned_back a shift_right_function shr_u_of three_locals (first_shift_right a) (shift_right_body a)),
         (
-          is_helper a ok _ rotate_left_function (fixed_names_mean w names.rotate_left) refl refl (turned_back a rotate_left_function rotl_of (four_locals (Whole (pos 0))) (first_rotate a) (rotate_body a)),
+          is_helper a ok _ rotate_left_function (means names.rotate_left rotate_left_function refl wide) refl refl (turned_back a rotate_left_function rotl_of (four_locals (Whole (pos 0))) (first_rotate a) (rotate_body a)),
           (
-            is_helper a ok _ leading_zeros_function (fixed_names_mean w names.leading_zeros) refl refl (counted_back a leading_zeros_function leading_zeros_of (first_leading a) (leading_body a (fixed_names_mean w names.clz32))),
+            is_helper a ok _ leading_zeros_function (means names.leading_zeros leading_zeros_function refl wide) refl refl (counted_back a leading_zeros_function leading_zeros_of (first_leading a) (leading_body a (fixed_names_mean w names.clz32))),
             (
-              is_helper a ok _ trailing_zeros_function (fixed_names_mean w names.trailing_zeros) refl refl (counted_back a trailing_zeros_function trailing_zeros_of (first_trailing a) (trailing_body a (fixed_names_mean w names.clz32))),
+              is_helper a ok _ trailing_zeros_function (means names.trailing_zeros trailing_zeros_function refl wide) refl refl (counted_back a trailing_zeros_function trailing_zeros_of (first_trailing a) (trailing_body a (fixed_names_mean w names.clz32))),
               (
-                is_helper a ok _ set_bits_function (fixed_names_mean w names.set_bits) refl refl (bits_back a),
+                is_helper a ok _ set_bits_function (means names.set_bits set_bits_function refl (wide_counts w wide)) refl refl (bits_back a),
                 tt,
               ),
             ),
@@ -139,4 +174,4 @@ module _ (w : WasmModule) (source : IsSource w) (words : HaveFirstWords w) where
   )
 
 pub sources_have_helpers : SourcesHaveHelpers
-sources_have_helpers w source words = record { spare = λ _. fixed_names_mean w names.spare_high; helpers = λ _. all w source words }
+sources_have_helpers w source words = record { spare = λ _. fixed_names_mean w names.spare_high; helpers = λ wide. all w source words wide }

@@ -21,14 +21,11 @@ use Rattle.wasm_lang.specs.Modules.{DataSegment}
 use Rattle.wasm_lang_valid.specs.Profile.{constant_offset, or_zero, memory_bytes}
 use Rattle.asm_lang.specs.Modules.{Stmt, Module}
 use Rattle.asm_lang_valid.specs.Typing.{Scope, named}
-use Rattle.asm_lang_valid.specs.declared.meaning.Element.TheVariants.{Int32}
-use Rattle.asm_lang_valid.specs.Scope.{a_view, a_function}
-use Rattle.asm_lang_valid.specs.Typed.{scope_of}
-use Rattle.asm_lang_exec.specs.Runs.{Place, Run, Part, spent, and_then}
+use Rattle.asm_lang_exec.specs.Runs.{Place, Run, Part, and_then}
 use Rattle.asm_lang_exec.specs.Values.{write_element}
 use Rattle.asm_lang_exec.specs.Meaning.{Completion, normal}
 use Rattle.asm_laws_continuation.specs.Following.{CallsBefore, call_named_to, eval_all_to, exec_all_to, call_at_to}
-use Rattle.wasm2js_translation.specs.Names.{data_words, data_zeros, view_of_words}
+use Rattle.wasm2js_translation.specs.Names.{data_words, data_zeros}
 use Rattle.wasm2js_translation.specs.Words.{tell, simple_statement, name_of, arguments, stmts_in}
 use Rattle.wasm2js_translation.specs.Pairs.{literal}
 use Rattle.wasm2js_translation.specs.Helpers.{put_function, zero_function}

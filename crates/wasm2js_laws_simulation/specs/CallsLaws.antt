@@ -27,7 +27,7 @@ pub record IsWithin (f : Function) : Type 0 where
   pub seen : (n : Name) → is_own n ≡ false → named f.scope (spelled n) ≡ module_meaning f.scope.home (spelled n)
   pub types : f.context.types ≡ f.home.types
   pub functions : (k : ℕ) (t : FunctionType) → type_of f.context k ≡ Some t → type_of_function f.home k ≡ Some t
-  pub called : (t : FunctionType) → f.called t ≡ true → is_called f.home t ≡ true
+  pub called : (t : FunctionType) → f.called.types t ≡ true → (is_called f.home).types t ≡ true
   pub table : f.setting.table ≡ entries_of f.home
   pub cells : f.cells ≡ cell_count f.home
 

@@ -20,7 +20,7 @@ use Rattle.wasm2js_laws_simulation.specs.HelpingHelping.{helping, fixed_meaning}
 abbrev pub WordsAreUsual : Type 0
 WordsAreUsual = (bytes : ℕ) → AreUsual (helping bytes)
 
--- each name that every module has, or each with a memory
+-- each name, where it is declared
 abbrev pub FixedNamesMean : Type 0
 FixedNamesMean = (w : WasmModule) (f : Fixed) → module_meaning (translated w) (name_of f) ≡ fixed_meaning w f
 

@@ -19,17 +19,20 @@ use Rattle.asm_lang_valid.specs.Typing.{Scope, Around, result_of, in_a_loop, in_
 use Rattle.wasm2js_translation.specs.Words.{Action, simply, stop, simple_statements, statements}
 use Rattle.wasm2js_translation.specs.Pairs.{simples}
 use Rattle.wasm2js_translation.specs.Delays.{Delayed, written, standing}
+use Rattle.wasm2js_translation.specs.Known.{Known}
 use Rattle.wasm2js_laws_terms.specs.Sound.{AreSoundActions, action_depth, actions_depth}
 use Rattle.wasm2js_laws_terms.proofs.FineActions.{action_fine}
-use Rattle.wasm2js_laws_scopes.specs.Provided.{Provides, HasRoom}
+use Rattle.wasm2js_laws_scopes.specs.Provided.{Called, Provides, HasRoom}
 use Rattle.wasm2js_translation.specs.Actions.{under, actions}
-use Rattle.wasm2js_translation.specs.Bodies.{Aim, past, again, out, labels_round, label_name, leave_with, jump, after_plain, comes_to_end, leaves, types_after_call, call_stmts, indirect_stmts, late_code, stmts_of}
+use Rattle.wasm2js_translation.specs.Bodies.{Aim, past, again, out, labels_round, label_name, leave_with, jump, after_plain, comes_to_end, leaves, types_after_call, call_stmts, indirect_stmts, late_code, lean_code, stmts_of}
 use Rattle.wasm2js_translation.specs.Rooms.{here, local_named, room_of, with_room}
 use Rattle.wasm2js_laws_typed.specs.Constructs.{AllFine, EachFine, with_label, AreAims, labels_for}
 use Rattle.wasm2js_laws_typed.specs.Bodies.{IsFormedCode, CodeIsFine}
 use Rattle.wasm2js_laws_typed.specs.Waiting.{AreSoundWaiting, AreLight}
 use Rattle.wasm2js_laws_typed.proofs.LateSound.{simples_sound, late_sound, written_is_sound, standing_sound, simple_actions}
 use Rattle.wasm2js_laws_typed.proofs.LateShallow.{written_deep, late_shallow, standing_light}
+use Rattle.wasm2js_laws_typed.proofs.LeanSound.{lean_sound}
+use Rattle.wasm2js_laws_typed.proofs.LeanShallow.{lean_shallow}
 use Rattle.wasm2js_laws_typed.proofs.SoundPlain.{plain_is_sound, of_fixed}
 use Rattle.wasm2js_laws_typed.proofs.ShallowPlain.{plain_is_shallow}
 use Rattle.wasm2js_laws_typed.proofs.FineBlocks.{all_join, is_higher, all_higher, blocks_are_fine, loops_are_fine, arms_are_fine, tests_are_fine}
@@ -62,22 +65,22 @@ actions_all : (s : Scope) (a : Around) (xs : List Action) → AreSoundActions s 
 actions_all s a [] h le = tt
 actions_all s a (x ∷ xs) h le = (is_higher s a _ _ 30 (depth_low (action_depth x) 8 (omega (arith, le)) (omega arith)) (action_fine s a x h.0), actions_all s a xs h.1 (omega (arith, le)))
 
-module _ (s : Scope) (c : Context) (is_called : FunctionType → Bool) (bytes cells : ℕ) (given : Provides s c is_called bytes cells) (answers : result_of s ≡ is_some c.returns) where
+module _ (s : Scope) (c : Context) (is_called : Called) (bytes cells : ℕ) (given : Provides s c is_called bytes cells) (answers : result_of s ≡ is_some c.returns) where
   abbrev Goal : Trees → Type 0
   Goal code =
       (labels : List (Option ValType)) (ls : List Aim) (b : ℕ) (before after : List ValType) (a : Around) → IsTyped (record c { labels = labels }) code before after
       → IsFormedCode c.types is_called code → AreAims c.returns labels ls b → a.labels ≡ labels_for ls → HasRoom s c (room_of c code b before)
-      → AllFine s a (30 + tree_levels code) (stmts_of bytes cells c code ls b before [])
+      → AllFine s a (30 + tree_levels code) (stmts_of bytes cells c code ls b before [] [])
 
-  -- .. where these words wait before it
+  -- .. where these words wait before it, and this is known of variables
   abbrev Waiting : Trees → Type 0
   Waiting code =
       (labels : List (Option ValType)) (ls : List Aim) (b : ℕ) (before after : List ValType) (a : Around) → IsTyped (record c { labels = labels }) code before after
       → IsFormedCode c.types is_called code → AreAims c.returns labels ls b → a.labels ≡ labels_for ls → HasRoom s c (room_of c code b before)
-      → (ds : List Delayed) → AreSoundWaiting s ds → AreLight ds → AllFine s a (30 + tree_levels code) (stmts_of bytes cells c code ls b before ds)
+      → (ds : List Delayed) → AreSoundWaiting s ds → AreLight ds → (ks : List Known) → AllFine s a (30 + tree_levels code) (stmts_of bytes cells c code ls b before ds ks)
 
   none_waiting : (code : Trees) → Waiting code → Goal code
-  none_waiting code further labels ls b before after a typed formed aims around room = further labels ls b before after a typed formed aims around room [] tt tt
+  none_waiting code further labels ls b before after a typed formed aims around room = further labels ls b before after a typed formed aims around room [] tt tt []
 
   written_all : (a : Around) (ds : List Delayed) → AreSoundWaiting s ds → AreLight ds → AllFine s a 30 (simple_statements (written ds))
   written_all a ds sound light =
@@ -88,36 +91,39 @@ module _ (s : Scope) (c : Context) (is_called : FunctionType → Bool) (bytes ce
 
   -- what waits is written before the code
   behind_written : (code : Trees)
-      → ((ls : List Aim) (b : ℕ) (ts : List ValType) (ds : List Delayed) → stmts_of bytes cells c code ls b ts ds ≡ simple_statements (written ds) ++ stmts_of bytes cells c code ls b ts []) → Goal code
+      → ((ls : List Aim) (b : ℕ) (ts : List ValType) (ds : List Delayed) (ks : List Known)
+      → stmts_of bytes cells c code ls b ts ds ks ≡ simple_statements (written ds) ++ stmts_of bytes cells c code ls b ts [] []) → Goal code
       → Waiting code
-  behind_written code is fine labels ls b before after a typed formed aims around room ds sound light =
-      subst (AllFine s a (30 + tree_levels code)) (sym (is ls b before ds))
+  behind_written code is fine labels ls b before after a typed formed aims around room ds sound light ks =
+      subst (AllFine s a (30 + tree_levels code)) (sym (is ls b before ds ks))
       (all_join s a (30 + tree_levels code) (simple_statements (written ds)) _
       (all_higher s a 30 (30 + tree_levels code) _ (omega arith) (written_all a ds sound light)) (fine labels ls b before after a typed formed aims around room))
 
   short : (h k n : ℕ) → h ≤ 30 → h ≤ 30 + n
   short h k n le = omega (arith, le)
 
-  late_low : {n d : ℕ} → n ≤ max 1 d → d ≤ 8 → n ≤ 8
-  late_low p q = omega (arith, p, q)
+  late_low : {m n d : ℕ} → m ≤ n → n ≤ max 1 d → d ≤ 8 → m ≤ 8
+  late_low o p q = omega (arith, o, p, q)
 
   plain_code : (p : Plain) (code : Trees) → Waiting code → Waiting (plain p ▹ code)
-  plain_code p code further labels ls b before after a typed formed aims around room ds waiting light =
+  plain_code p code further labels ls b before after a typed formed aims around room ds waiting light ks =
       let ts = typed.takes ++ typed.below in
       let is : plain_shape c p ≡ Ok typed.form = sym (same_shape c labels p) ∙ typed.has_form in
       let next = plain_after c p typed.form typed.takes typed.gives typed.below is typed.acts in
       let room2 = subst (λ ts. HasRoom s c (room_of c (plain p ▹ code) b ts)) typed.operands room in
       let first = left_room s c (here b ts (local_named p)) (room_of c code b (after_plain c p ts)) room2 in
       let rest = subst (λ ts. HasRoom s c (room_of c code b ts)) next (right_room s c (here b ts (local_named p)) (room_of c code b (after_plain c p ts)) room2) in
-      let sound = plain_is_sound s c is_called bytes cells given p formed.0 typed.form typed.takes typed.gives typed.below is typed.acts b first (room_here s c code b (typed.gives ++ typed.below) rest) in
+      let sound = plain_is_sound s c is_called bytes cells given p formed.0.0 formed.0.1 typed.form typed.takes typed.gives typed.below is typed.acts b first (room_here s c code b (typed.gives ++ typed.below) rest) in
       let x = late_code bytes cells c p b ts ds in
+      let y = lean_code bytes cells c p b ts ds ks in
       let late = late_sound s ds (actions bytes c p b ts) sound waiting in
       let low = late_shallow ds (actions bytes c p b ts) light in
-      subst (λ ts. AllFine s a (30 + tree_levels code) (stmts_of bytes cells c (plain p ▹ code) ls b ts ds)) (sym typed.operands)
-      (all_join s a (30 + tree_levels code) (statements x.now) _
-      (all_higher s a 30 (30 + tree_levels code) _ (omega arith) (actions_all s a x.now late.0 (late_low low.1 (plain_is_shallow c bytes p b ts))))
-      (subst (λ ts. AllFine s a (30 + tree_levels code) (stmts_of bytes cells c code ls b ts (standing b ts x.later))) (sym next)
-      (further labels ls b (typed.gives ++ typed.below) after a typed.goes_on formed.1 aims around rest _ (standing_sound s b _ x.later late.1) (standing_light b _ x.later low.0))))
+      let deep = lean_shallow ks x.now in
+      subst (λ ts. AllFine s a (30 + tree_levels code) (stmts_of bytes cells c (plain p ▹ code) ls b ts ds ks)) (sym typed.operands)
+      (all_join s a (30 + tree_levels code) (statements y.now) _
+      (all_higher s a 30 (30 + tree_levels code) _ (omega arith) (actions_all s a y.now (lean_sound s ks x.now late.0) (late_low deep low.1 (plain_is_shallow c bytes p b ts))))
+      (subst (λ ts. AllFine s a (30 + tree_levels code) (stmts_of bytes cells c code ls b ts (standing b ts x.later) y.known)) (sym next)
+      (further labels ls b (typed.gives ++ typed.below) after a typed.goes_on formed.1 aims around rest _ (standing_sound s b _ x.later late.1) (standing_light b _ x.later low.0) y.known)))
 
   unreachable_code : (code : Trees) → Goal (unreachable ▹ code)
   unreachable_code code labels ls b before after a typed formed aims around room = (is_higher s a _ 5 (30 + tree_levels code) (omega arith) (action_fine s a (simply (stop 1)) (given.fixed.traps, omega arith)), tt)
@@ -200,9 +206,9 @@ module _ (s : Scope) (c : Context) (is_called : FunctionType → Bool) (bytes ce
       let f = one (r ∷ labels) (past base r ∷ ls) base [] (listed r) a1 typed.2 formed.0 (labels, refl, omega arith, aims1) around1 (left_room s c (room_of c first base []) (room_of c second base []) arms) in
       let g = two (r ∷ labels) (past base r ∷ ls) base [] (listed r) a1 typed.3 formed.1 (labels, refl, omega arith, aims1) around1 (right_room s c (room_of c first base []) (room_of c second base []) arms) in
       let h = 30 + max (tree_levels first) (tree_levels second) in
-      subst (λ ts. AllFine s a (30 + tree_levels (if_block r first second ▹ code)) (stmts_of bytes cells c (if_block r first second ▹ code) ls b ts [])) (sym typed.1) (
+      subst (λ ts. AllFine s a (30 + tree_levels (if_block r first second ▹ code)) (stmts_of bytes cells c (if_block r first second ▹ code) ls b ts [] [])) (sym typed.1) (
         is_higher s a _ _ _ (if_high (tree_levels first) (tree_levels second) (tree_levels code))
-            (arms_are_fine s a (labels_round ls) base h (stmts_of bytes cells c first (past base r ∷ ls) base [] []) (stmts_of bytes cells c second (past base r ∷ ls) base [] []) (new_label labels ls b a aims around) (at.operands base (omega arith)) (omega arith)
+            (arms_are_fine s a (labels_round ls) base h (stmts_of bytes cells c first (past base r ∷ ls) base [] [] []) (stmts_of bytes cells c second (past base r ∷ ls) base [] [] []) (new_label labels ls b a aims around) (at.operands base (omega arith)) (omega arith)
             (all_higher s a1 _ h _ (first_high (tree_levels first) (tree_levels second)) f) (all_higher s a1 _ h _ (rest_high (tree_levels first) (tree_levels second)) g)),
         all_higher s a _ _ _ (rest_high (1 + max (tree_levels first) (tree_levels second)) (tree_levels code))
             (further labels ls b (listed r ++ below) after a typed.4 formed.2 aims around (right_room s c (with_room (room_of c first base []) (room_of c second base [])) (room_of c code b (listed r ++ below)) rooms)),
@@ -217,12 +223,12 @@ module _ (s : Scope) (c : Context) (is_called : FunctionType → Bool) (bytes ce
       → Goal code → slice_get labels k ≡ o → found NoLabel o (λ label. Fixed (I32 ∷ listed label) (listed label)) ≡ Ok form → Acts form takes gives
       → IsFormedCode c.types is_called code → AreAims c.returns labels ls b → a.labels ≡ labels_for ls
       → IsTyped (record c { labels = labels }) code (gives ++ below) after → HasRoom s c (room_of c (br_if k ▹ code) b (takes ++ below))
-      → AllFine s a (30 + tree_levels code) (stmts_of bytes cells c (br_if k ▹ code) ls b (takes ++ below) [])
+      → AllFine s a (30 + tree_levels code) (stmts_of bytes cells c (br_if k ▹ code) ls b (takes ++ below) [] [])
   if_branch k code labels ls b after a None form takes gives below further e is acts formed aims around = absurd (cc is)
   if_branch k code labels ls b after a (Some r) form takes gives below further e is acts formed aims around =
       of_fixed
       (λ takes gives. IsTyped (record c { labels = labels }) code (gives ++ below) after → HasRoom s c (room_of c (br_if k ▹ code) b (takes ++ below))
-      → AllFine s a (30 + tree_levels code) (stmts_of bytes cells c (br_if k ▹ code) ls b (takes ++ below) []))
+      → AllFine s a (30 + tree_levels code) (stmts_of bytes cells c (br_if k ▹ code) ls b (takes ++ below) [] []))
       (I32 ∷ listed r) (listed r) takes gives form is acts
       (λ typed room.
       let at = left_room s c (here b (I32 ∷ (listed r ++ below)) []) (room_of c code b (listed r ++ below)) room in
@@ -235,7 +241,7 @@ module _ (s : Scope) (c : Context) (is_called : FunctionType → Bool) (bytes ce
 
   br_if_code : (k : ℕ) (code : Trees) → Goal code → Goal (br_if k ▹ code)
   br_if_code k code further labels ls b before after a typed formed aims around room =
-      subst (λ ts. AllFine s a (30 + tree_levels code) (stmts_of bytes cells c (br_if k ▹ code) ls b ts [])) (sym typed.operands)
+      subst (λ ts. AllFine s a (30 + tree_levels code) (stmts_of bytes cells c (br_if k ▹ code) ls b ts [] [])) (sym typed.operands)
       (if_branch k code labels ls b after a (slice_get labels k) typed.form typed.takes typed.gives typed.below further refl typed.has_form typed.acts formed aims around typed.goes_on
       (subst (λ ts. HasRoom s c (room_of c (br_if k ▹ code) b ts)) typed.operands room))
 
@@ -266,14 +272,14 @@ module _ (s : Scope) (c : Context) (is_called : FunctionType → Bool) (bytes ce
 
   table_branch : (ks : List ℕ) (d : ℕ) (code : Trees) (labels : List (Option ValType)) (ls : List Aim) (b : ℕ) (before : List ValType) (a : Around) (all : Result (Unit {0}) Rule) (o : Option (Option ValType)) (form : Shape) (takes gives below : List ValType)
       → slice_get labels d ≡ o → onward all (λ _. found NoLabel o (λ label. Leaves (I32 ∷ listed label))) ≡ Ok form → Acts form takes gives → alike labels ks d ≡ true → before ≡ takes ++ below
-      → AreAims c.returns labels ls b → a.labels ≡ labels_for ls → HasRoom s c (here b before []) → AllFine s a (30 + tree_levels code) (stmts_of bytes cells c (br_table ks d ▹ code) ls b before [])
+      → AreAims c.returns labels ls b → a.labels ≡ labels_for ls → HasRoom s c (here b before []) → AllFine s a (30 + tree_levels code) (stmts_of bytes cells c (br_table ks d ▹ code) ls b before [] [])
   table_branch ks d code labels ls b before a (Err rule) o form takes gives below e is acts same operands aims around room = absurd (cc is)
   table_branch ks d code labels ls b before a (Ok x) None form takes gives below e is acts same operands aims around room = absurd (cc is)
   table_branch ks d code labels ls b before a (Ok x) (Some r) form takes gives below e is acts same operands aims around room =
       let f = leaving (I32 ∷ listed r) form takes gives below before is acts operands in
       let at = subst (λ ts. HasRoom s c (here b ts [])) f.1 room in
       let under_it = below_room b (listed r ++ f.0) at in
-      subst (λ ts. AllFine s a (30 + tree_levels code) (stmts_of bytes cells c (br_table ks d ▹ code) ls b ts [])) (sym f.1)
+      subst (λ ts. AllFine s a (30 + tree_levels code) (stmts_of bytes cells c (br_table ks d ▹ code) ls b ts [] [])) (sym f.1)
       (all_higher s a 9 (30 + tree_levels code) _ (omega arith)
       (switches_are_fine s a (b + length (listed r ++ f.0)) (λ k. jump ls k b (listed r ++ f.0)) ks d (at.operands (b + length (listed r ++ f.0)) (omega arith))
       (each_jump labels ls b r f.0 a ks d e same aims around under_it) (jumps_are_fine s (in_a_switch a) c labels ls d b r f.0 [] given.fixed answers aims e around under_it)))
@@ -292,12 +298,12 @@ module _ (s : Scope) (c : Context) (is_called : FunctionType → Bool) (bytes ce
   called_code : (f : ℕ) (code : Trees) (labels : List (Option ValType)) (ls : List Aim) (b : ℕ) (after : List ValType) (a : Around) (o : Option FunctionType) (form : Shape) (takes gives below : List ValType)
       → Goal code → type_of c f ≡ o → found NoFunction o (call_shape []) ≡ Ok form → Acts form takes gives → IsFormedCode c.types is_called code → AreAims c.returns labels ls b → a.labels ≡ labels_for ls
       → IsTyped (record c { labels = labels }) code (gives ++ below) after → HasRoom s c (with_room (here b (takes ++ below) []) (room_of c code b (types_after_call o (takes ++ below))))
-      → AllFine s a (30 + tree_levels code) (call_stmts f b (takes ++ below) o ++ stmts_of bytes cells c code ls b (types_after_call o (takes ++ below)) [])
+      → AllFine s a (30 + tree_levels code) (call_stmts f b (takes ++ below) o ++ stmts_of bytes cells c code ls b (types_after_call o (takes ++ below)) [] [])
   called_code f code labels ls b after a None form takes gives below further e is acts formed aims around = absurd (cc is)
   called_code f code labels ls b after a (Some t) form takes gives below further e is acts formed aims around =
       of_fixed
       (λ takes gives. IsTyped (record c { labels = labels }) code (gives ++ below) after → HasRoom s c (with_room (here b (takes ++ below) []) (room_of c code b (types_after_call (Some t) (takes ++ below))))
-      → AllFine s a (30 + tree_levels code) (call_stmts f b (takes ++ below) (Some t) ++ stmts_of bytes cells c code ls b (types_after_call (Some t) (takes ++ below)) []))
+      → AllFine s a (30 + tree_levels code) (call_stmts f b (takes ++ below) (Some t) ++ stmts_of bytes cells c code ls b (types_after_call (Some t) (takes ++ below)) [] []))
       (reverse t.params) (listed (type_result t)) takes gives form is acts
       (λ typed room.
       let next = call_leaves t below in
@@ -305,11 +311,11 @@ module _ (s : Scope) (c : Context) (is_called : FunctionType → Bool) (bytes ce
       let rest = subst (λ ts. HasRoom s c (room_of c code b ts)) next (right_room s c (here b (reverse t.params ++ below) []) (room_of c code b (types_after_call (Some t) (reverse t.params ++ below))) room) in
       all_join s a (30 + tree_levels code) (call_stmts f b (reverse t.params ++ below) (Some t)) _
       (all_higher s a 8 (30 + tree_levels code) _ (omega arith) (calls_are_fine s a c f b t below [] given.fixed (given.functions f t e) at (room_here s c code b (listed (type_result t) ++ below) rest)))
-      (subst (λ ts. AllFine s a (30 + tree_levels code) (stmts_of bytes cells c code ls b ts [])) (sym next) (further labels ls b (listed (type_result t) ++ below) after a typed formed aims around rest)))
+      (subst (λ ts. AllFine s a (30 + tree_levels code) (stmts_of bytes cells c code ls b ts [] [])) (sym next) (further labels ls b (listed (type_result t) ++ below) after a typed formed aims around rest)))
 
   call_code : (f : ℕ) (code : Trees) → Goal code → Goal (call f ▹ code)
   call_code f code further labels ls b before after a typed formed aims around room =
-      subst (λ ts. AllFine s a (30 + tree_levels code) (stmts_of bytes cells c (call f ▹ code) ls b ts [])) (sym typed.operands)
+      subst (λ ts. AllFine s a (30 + tree_levels code) (stmts_of bytes cells c (call f ▹ code) ls b ts [] [])) (sym typed.operands)
       (called_code f code labels ls b after a (type_of c f) typed.form typed.takes typed.gives typed.below further refl typed.has_form typed.acts formed aims around typed.goes_on
       (subst (λ ts. HasRoom s c (room_of c (call f ▹ code) b ts)) typed.operands room))
 
@@ -319,14 +325,14 @@ module _ (s : Scope) (c : Context) (is_called : FunctionType → Bool) (bytes ce
 
   entry_code : (n : ℕ) (code : Trees) (labels : List (Option ValType)) (ls : List Aim) (b : ℕ) (after : List ValType) (a : Around) (o : Option FunctionType) (form : Shape) (takes gives below : List ValType)
       → Goal code → slice_get c.types n ≡ o → onward (found NoType o (call_shape (I32 ∷ []))) (unless c.table NoTable) ≡ Ok form → Acts form takes gives
-      → ((t : FunctionType) → slice_get c.types n ≡ Some t → is_called t ≡ true) → IsFormedCode c.types is_called code → AreAims c.returns labels ls b → a.labels ≡ labels_for ls
+      → ((t : FunctionType) → slice_get c.types n ≡ Some t → is_called.types t ≡ true) → IsFormedCode c.types is_called code → AreAims c.returns labels ls b → a.labels ≡ labels_for ls
       → IsTyped (record c { labels = labels }) code (gives ++ below) after → HasRoom s c (with_room (here b (takes ++ below) []) (room_of c code b (types_after_call o (drop 1 (takes ++ below)))))
-      → AllFine s a (30 + tree_levels code) (indirect_stmts cells c.types b (takes ++ below) o ++ stmts_of bytes cells c code ls b (types_after_call o (drop 1 (takes ++ below))) [])
+      → AllFine s a (30 + tree_levels code) (indirect_stmts cells c.types b (takes ++ below) o ++ stmts_of bytes cells c code ls b (types_after_call o (drop 1 (takes ++ below))) [] [])
   entry_code n code labels ls b after a None form takes gives below further e is acts called formed aims around = absurd (cc is)
   entry_code n code labels ls b after a (Some t) form takes gives below further e is acts called formed aims around =
       of_fixed
       (λ takes gives. IsTyped (record c { labels = labels }) code (gives ++ below) after → HasRoom s c (with_room (here b (takes ++ below) []) (room_of c code b (types_after_call (Some t) (drop 1 (takes ++ below)))))
-      → AllFine s a (30 + tree_levels code) (indirect_stmts cells c.types b (takes ++ below) (Some t) ++ stmts_of bytes cells c code ls b (types_after_call (Some t) (drop 1 (takes ++ below))) []))
+      → AllFine s a (30 + tree_levels code) (indirect_stmts cells c.types b (takes ++ below) (Some t) ++ stmts_of bytes cells c code ls b (types_after_call (Some t) (drop 1 (takes ++ below))) [] []))
       (I32 ∷ reverse t.params) (listed (type_result t)) takes gives form (has_table c.table _ form is) acts
       (λ typed room.
       let next = call_leaves t below in
@@ -335,31 +341,31 @@ module _ (s : Scope) (c : Context) (is_called : FunctionType → Bool) (bytes ce
       all_join s a (30 + tree_levels code) (indirect_stmts cells c.types b (I32 ∷ (reverse t.params ++ below)) (Some t)) _
       (all_higher s a 8 (30 + tree_levels code) (indirect_stmts cells c.types b (I32 ∷ (reverse t.params ++ below)) (Some t)) (omega arith)
       (entry_calls_are_fine s a c cells b c.types t below [] given.fixed given.some_cells given.few_cells (given.tables t (called t e)) at (room_here s c code b (listed (type_result t) ++ below) rest)))
-      (subst (λ ts. AllFine s a (30 + tree_levels code) (stmts_of bytes cells c code ls b ts [])) (sym next) (further labels ls b (listed (type_result t) ++ below) after a typed formed aims around rest)))
+      (subst (λ ts. AllFine s a (30 + tree_levels code) (stmts_of bytes cells c code ls b ts [] [])) (sym next) (further labels ls b (listed (type_result t) ++ below) after a typed formed aims around rest)))
 
   call_indirect_code : (n : ℕ) (code : Trees) → Goal code → Goal (call_indirect n ▹ code)
   call_indirect_code n code further labels ls b before after a typed formed aims around room =
-      subst (λ ts. AllFine s a (30 + tree_levels code) (stmts_of bytes cells c (call_indirect n ▹ code) ls b ts [])) (sym typed.operands)
+      subst (λ ts. AllFine s a (30 + tree_levels code) (stmts_of bytes cells c (call_indirect n ▹ code) ls b ts [] [])) (sym typed.operands)
       (entry_code n code labels ls b after a (slice_get c.types n) typed.form typed.takes typed.gives typed.below further refl typed.has_form typed.acts formed.0 formed.1 aims around typed.goes_on
       (subst (λ ts. HasRoom s c (room_of c (call_indirect n ▹ code) b ts)) typed.operands room))
 
   -- ---- all code
 
   code_fine : (code : Trees) → Waiting code
-  code_fine ε = λ labels ls b before after a typed formed aims around room ds sound light. written_all a ds sound light
+  code_fine ε = λ labels ls b before after a typed formed aims around room ds sound light ks. written_all a ds sound light
   code_fine (plain p ▹ code) = plain_code p code (code_fine code)
-  code_fine (unreachable ▹ code) = behind_written (unreachable ▹ code) (λ ls b ts ds. refl) (unreachable_code code)
-  code_fine (br k ▹ code) = behind_written (br k ▹ code) (λ ls b ts ds. refl) (branch_code k code)
-  code_fine (return ▹ code) = behind_written (return ▹ code) (λ ls b ts ds. refl) (return_code code)
-  code_fine (br_if k ▹ code) = behind_written (br_if k ▹ code) (λ ls b ts ds. refl) (br_if_code k code (none_waiting code (code_fine code)))
-  code_fine (br_table ks d ▹ code) = behind_written (br_table ks d ▹ code) (λ ls b ts ds. refl) (br_table_code ks d code)
-  code_fine (block r body ▹ code) = behind_written (block r body ▹ code) (λ ls b ts ds. refl) (block_code r body code (none_waiting body (code_fine body)) (none_waiting code (code_fine code)))
-  code_fine (loop r body ▹ code) = behind_written (loop r body ▹ code) (λ ls b ts ds. refl) (loop_code r body code (none_waiting body (code_fine body)) (none_waiting code (code_fine code)))
+  code_fine (unreachable ▹ code) = behind_written (unreachable ▹ code) (λ ls b ts ds ks. refl) (unreachable_code code)
+  code_fine (br k ▹ code) = behind_written (br k ▹ code) (λ ls b ts ds ks. refl) (branch_code k code)
+  code_fine (return ▹ code) = behind_written (return ▹ code) (λ ls b ts ds ks. refl) (return_code code)
+  code_fine (br_if k ▹ code) = behind_written (br_if k ▹ code) (λ ls b ts ds ks. refl) (br_if_code k code (none_waiting code (code_fine code)))
+  code_fine (br_table ks d ▹ code) = behind_written (br_table ks d ▹ code) (λ ls b ts ds ks. refl) (br_table_code ks d code)
+  code_fine (block r body ▹ code) = behind_written (block r body ▹ code) (λ ls b ts ds ks. refl) (block_code r body code (none_waiting body (code_fine body)) (none_waiting code (code_fine code)))
+  code_fine (loop r body ▹ code) = behind_written (loop r body ▹ code) (λ ls b ts ds ks. refl) (loop_code r body code (none_waiting body (code_fine body)) (none_waiting code (code_fine code)))
   code_fine (if_block r first second ▹ code) =
-      behind_written (if_block r first second ▹ code) (λ ls b ts ds. refl) (if_code r first second code (none_waiting first (code_fine first)) (none_waiting second (code_fine second)) (none_waiting code (code_fine code)))
-  code_fine (call f ▹ code) = behind_written (call f ▹ code) (λ ls b ts ds. append_assoc (simple_statements (written ds)) (call_stmts f b ts (type_of c f)) _) (call_code f code (none_waiting code (code_fine code)))
+      behind_written (if_block r first second ▹ code) (λ ls b ts ds ks. refl) (if_code r first second code (none_waiting first (code_fine first)) (none_waiting second (code_fine second)) (none_waiting code (code_fine code)))
+  code_fine (call f ▹ code) = behind_written (call f ▹ code) (λ ls b ts ds ks. append_assoc (simple_statements (written ds)) (call_stmts f b ts (type_of c f)) _) (call_code f code (none_waiting code (code_fine code)))
   code_fine (call_indirect n ▹ code) =
-      behind_written (call_indirect n ▹ code) (λ ls b ts ds. append_assoc (simple_statements (written ds)) (indirect_stmts cells c.types b ts (slice_get c.types n)) _) (call_indirect_code n code (none_waiting code (code_fine code)))
+      behind_written (call_indirect n ▹ code) (λ ls b ts ds ks. append_assoc (simple_statements (written ds)) (indirect_stmts cells c.types b ts (slice_get c.types n)) _) (call_indirect_code n code (none_waiting code (code_fine code)))
 
 pub code_is_fine : CodeIsFine
 code_is_fine s c is_called bytes cells given gives code = none_waiting s c is_called bytes cells given gives code (code_fine s c is_called bytes cells given gives code)

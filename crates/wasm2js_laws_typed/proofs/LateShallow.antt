@@ -94,7 +94,7 @@ late_arm_depth ds (x ∷ xs) h = two (in_place_depth ds h x) (late_arm_depth (ot
 
 -- ---- straight code
 
-simples_deep : (xs : List Simple) → actions_depth (simples xs) ≡ simples_depth xs
+pub simples_deep : (xs : List Simple) → actions_depth (simples xs) ≡ simples_depth xs
 simples_deep [] = refl
 simples_deep (x ∷ xs) = two {a = simple_depth x} refl (simples_deep xs)
 
@@ -102,7 +102,7 @@ one_more_deep : (xs : List Simple) (x : Simple) → simples_depth (xs ++ x ∷ [
 one_more_deep [] x = omega arith
 one_more_deep (y ∷ xs) x = let rest = one_more_deep xs x in omega (arith, rest)
 
-in_turn_deep : (xs ys : List Action) → actions_depth (xs ++ ys) ≤ max (actions_depth xs) (actions_depth ys)
+pub in_turn_deep : (xs ys : List Action) → actions_depth (xs ++ ys) ≤ max (actions_depth xs) (actions_depth ys)
 in_turn_deep [] ys = omega arith
 in_turn_deep (x ∷ xs) ys = let rest = in_turn_deep xs ys in omega (arith, rest)
 

@@ -99,7 +99,7 @@ module _ (s : Scope) where
   one_more_sound [] x h k = (k, tt)
   one_more_sound (y ∷ xs) x h k = (h.0, one_more_sound xs x h.1 k)
 
-  in_turn_sound : (xs ys : List Action) → AreSoundActions s xs → AreSoundActions s ys → AreSoundActions s (xs ++ ys)
+  pub in_turn_sound : (xs ys : List Action) → AreSoundActions s xs → AreSoundActions s ys → AreSoundActions s (xs ++ ys)
   in_turn_sound [] ys h k = k
   in_turn_sound (x ∷ xs) ys h k = (h.0, in_turn_sound xs ys h.1 k)
 

@@ -13,3 +13,5 @@ pub mod TypedShapes
 pub mod FineBodies
 pub mod LateSound
 pub mod LateShallow
+pub mod LeanSound
+pub mod LeanShallow

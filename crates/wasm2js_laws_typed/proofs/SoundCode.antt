@@ -10,12 +10,13 @@ use Rattle.sem_words.specs.declared.word.Rel.{Rel}
 use Rattle.sem_words.specs.declared.word.Rel.TheVariants as rels
 use Rattle.wasm_lang.specs.declared.types.ValType.{ValType}
 use Rattle.wasm_lang.specs.declared.types.ValType.TheVariants.{I32, I64}
+use Rattle.wasm_lang.specs.Instructions.{un32, un64, bin32, bin64}
 use Rattle.asm_lang_valid.specs.Typing.{Scope}
 use Rattle.wasm2js_translation.specs.Names as names
 use Rattle.wasm2js_translation.specs.Names.{Name, Fixed}
 use Rattle.wasm2js_translation.specs.Words.{read, Term, Simple, put, stop, guard, byte, Action, simply}
 use Rattle.wasm2js_laws_terms.specs.Sound.{IsInt, IsHelper, IsSound, AreSoundSimple, AreSoundActions}
-use Rattle.wasm2js_laws_scopes.specs.Provided.{signature, AreInts, HasFixed, HasMemory}
+use Rattle.wasm2js_laws_scopes.specs.Provided.{signature, AreInts, HasFixed, HasMemory, WordsHelp}
 use Rattle.wasm2js_translation.specs.Pairs.{Pair, names_of, simples, moved, literal, plus, minus, sign_of}
 use Rattle.wasm2js_translation.specs.Actions.{narrow_binary, narrow_unary, narrow_relation, selected, moved_if, place, guarded, by_place, half, sign_extended}
 use Rattle.wasm2js_translation.specs.Wide.{wide_binary, wide_unary, wide_relation, wide_extend, wide_turn}
@@ -48,27 +49,27 @@ module _ (s : Scope) where
   -- ---- words of 32 bits
 
   module _ (given : HasFixed s) where
-    pub narrow_binary_sound : (op : Bin) (a b : Name) → IsInt s a → IsInt s b → AreSoundSimple s (narrow_binary op a b)
-    narrow_binary_sound bins.Add a b f g = ((f, (f, (g, tt), refl, omega arith)), tt)
-    narrow_binary_sound bins.Sub a b f g = ((f, (f, (g, tt), refl, omega arith)), tt)
-    narrow_binary_sound bins.Mul a b f g = ((f, (given.multiplies, f, g)), tt)
-    narrow_binary_sound bins.DivS a b f g = ((f, given.helpers names.divide_signed (signature 2 true) refl, (f, (g, tt))), tt)
-    narrow_binary_sound bins.DivU a b f g = ((f, given.helpers names.divide (signature 2 true) refl, (f, (g, tt))), tt)
-    narrow_binary_sound bins.RemS a b f g = ((f, given.helpers names.remainder_signed (signature 2 true) refl, (f, (g, tt))), tt)
-    narrow_binary_sound bins.RemU a b f g = ((f, given.helpers names.remainder (signature 2 true) refl, (f, (g, tt))), tt)
-    narrow_binary_sound bins.And a b f g = ((f, (f, g)), tt)
-    narrow_binary_sound bins.Or a b f g = ((f, (f, g)), tt)
-    narrow_binary_sound bins.Xor a b f g = ((f, (f, g)), tt)
-    narrow_binary_sound bins.Shl a b f g = ((f, (f, g)), tt)
-    narrow_binary_sound bins.ShrS a b f g = ((f, (f, g)), tt)
-    narrow_binary_sound bins.ShrU a b f g = ((f, (f, g)), tt)
-    narrow_binary_sound bins.Rotl a b f g = ((f, ((f, g), (((f, refl), g), tt), refl, omega arith)), tt)
-    narrow_binary_sound bins.Rotr a b f g = ((f, ((f, g), (((f, refl), g), tt), refl, omega arith)), tt)
+    pub narrow_binary_sound : (op : Bin) → WordsHelp s (bin32 op) → (a b : Name) → IsInt s a → IsInt s b → AreSoundSimple s (narrow_binary op a b)
+    narrow_binary_sound bins.Add helped a b f g = ((f, (f, (g, tt), refl, omega arith)), tt)
+    narrow_binary_sound bins.Sub helped a b f g = ((f, (f, (g, tt), refl, omega arith)), tt)
+    narrow_binary_sound bins.Mul helped a b f g = ((f, (given.multiplies, f, g)), tt)
+    narrow_binary_sound bins.DivS helped a b f g = ((f, helped names.divide_signed (signature 2 true) refl refl, (f, (g, tt))), tt)
+    narrow_binary_sound bins.DivU helped a b f g = ((f, helped names.divide (signature 2 true) refl refl, (f, (g, tt))), tt)
+    narrow_binary_sound bins.RemS helped a b f g = ((f, helped names.remainder_signed (signature 2 true) refl refl, (f, (g, tt))), tt)
+    narrow_binary_sound bins.RemU helped a b f g = ((f, helped names.remainder (signature 2 true) refl refl, (f, (g, tt))), tt)
+    narrow_binary_sound bins.And helped a b f g = ((f, (f, g)), tt)
+    narrow_binary_sound bins.Or helped a b f g = ((f, (f, g)), tt)
+    narrow_binary_sound bins.Xor helped a b f g = ((f, (f, g)), tt)
+    narrow_binary_sound bins.Shl helped a b f g = ((f, (f, g)), tt)
+    narrow_binary_sound bins.ShrS helped a b f g = ((f, (f, g)), tt)
+    narrow_binary_sound bins.ShrU helped a b f g = ((f, (f, g)), tt)
+    narrow_binary_sound bins.Rotl helped a b f g = ((f, ((f, g), (((f, refl), g), tt), refl, omega arith)), tt)
+    narrow_binary_sound bins.Rotr helped a b f g = ((f, ((f, g), (((f, refl), g), tt), refl, omega arith)), tt)
 
-    pub narrow_unary_sound : (op : Un) (a : Name) → IsInt s a → AreSoundSimple s (narrow_unary op a)
-    narrow_unary_sound uns.Clz a f = ((f, (given.counts, f)), tt)
-    narrow_unary_sound uns.Ctz a f = ((f, (refl, ((given.counts, (f, (f, (refl, tt), refl, omega arith))), tt), refl, omega arith)), tt)
-    narrow_unary_sound uns.Popcnt a f = ((f, given.helpers names.set_bits (signature 1 true) refl, (f, tt)), tt)
+    pub narrow_unary_sound : (op : Un) → WordsHelp s (un32 op) → (a : Name) → IsInt s a → AreSoundSimple s (narrow_unary op a)
+    narrow_unary_sound uns.Clz helped a f = ((f, (given.counts, f)), tt)
+    narrow_unary_sound uns.Ctz helped a f = ((f, (refl, ((given.counts, (f, (f, (refl, tt), refl, omega arith))), tt), refl, omega arith)), tt)
+    narrow_unary_sound uns.Popcnt helped a f = ((f, helped names.set_bits (signature 1 true) refl refl, (f, tt)), tt)
 
   pub narrow_relation_sound : (op : Rel) (a b : Name) → IsInt s a → IsInt s b → IsSound s (narrow_relation op (read a) (read b))
   narrow_relation_sound rels.Eq a b f g = (f, g)
@@ -91,28 +92,28 @@ module _ (s : Scope) where
     turn_sound : (f : Fixed) (a to : Pair) (count : Term) → IsHelper s f 3 true → IsPair a → IsPair to → IsSound s count → AreSoundSimple s (wide_turn f a to count)
     turn_sound f a to count is p q h = ((q.0, is, (p.0, (p.1, (h, tt)))), ((q.1, given.spare), tt))
 
-    pub wide_binary_sound : (op : Bin) (a b to : Pair) → IsPair a → IsPair b → IsPair to → AreSoundSimple s (wide_binary op a b to)
-    wide_binary_sound bins.Add a b to f g h = ((h.0, (f.0, (g.0, tt), refl, omega arith)), ((h.1, (f.1, (g.1, ((h.0, g.0), tt)), refl, omega arith)), tt))
-    wide_binary_sound bins.Sub a b to f g h = ((h.1, (f.1, (g.1, ((f.0, g.0), tt)), refl, omega arith)), ((h.0, (f.0, (g.0, tt), refl, omega arith)), tt))
-    wide_binary_sound bins.Mul a b to f g h = tt
-    wide_binary_sound bins.DivS a b to f g h = tt
-    wide_binary_sound bins.DivU a b to f g h = tt
-    wide_binary_sound bins.RemS a b to f g h = tt
-    wide_binary_sound bins.RemU a b to f g h = tt
-    wide_binary_sound bins.And a b to f g h = ((h.0, (f.0, g.0)), ((h.1, (f.1, g.1)), tt))
-    wide_binary_sound bins.Or a b to f g h = ((h.0, (f.0, g.0)), ((h.1, (f.1, g.1)), tt))
-    wide_binary_sound bins.Xor a b to f g h = ((h.0, (f.0, g.0)), ((h.1, (f.1, g.1)), tt))
-    wide_binary_sound bins.Shl a b to f g h = turn_sound names.shift_left a to (read b.low) (given.helpers names.shift_left (signature 3 true) refl) f h g.0
-    wide_binary_sound bins.ShrS a b to f g h = turn_sound names.shift_right_signed a to (read b.low) (given.helpers names.shift_right_signed (signature 3 true) refl) f h g.0
-    wide_binary_sound bins.ShrU a b to f g h = turn_sound names.shift_right a to (read b.low) (given.helpers names.shift_right (signature 3 true) refl) f h g.0
-    wide_binary_sound bins.Rotl a b to f g h = turn_sound names.rotate_left a to (read b.low) (given.helpers names.rotate_left (signature 3 true) refl) f h g.0
-    wide_binary_sound bins.Rotr a b to f g h = turn_sound names.rotate_left a to (minus (literal 0) (read b.low)) (given.helpers names.rotate_left (signature 3 true) refl) f h (refl, (g.0, tt), refl, omega arith)
+    pub wide_binary_sound : (op : Bin) → WordsHelp s (bin64 op) → (a b to : Pair) → IsPair a → IsPair b → IsPair to → AreSoundSimple s (wide_binary op a b to)
+    wide_binary_sound bins.Add helped a b to f g h = ((h.0, (f.0, (g.0, tt), refl, omega arith)), ((h.1, (f.1, (g.1, ((h.0, g.0), tt)), refl, omega arith)), tt))
+    wide_binary_sound bins.Sub helped a b to f g h = ((h.1, (f.1, (g.1, ((f.0, g.0), tt)), refl, omega arith)), ((h.0, (f.0, (g.0, tt), refl, omega arith)), tt))
+    wide_binary_sound bins.Mul helped a b to f g h = tt
+    wide_binary_sound bins.DivS helped a b to f g h = tt
+    wide_binary_sound bins.DivU helped a b to f g h = tt
+    wide_binary_sound bins.RemS helped a b to f g h = tt
+    wide_binary_sound bins.RemU helped a b to f g h = tt
+    wide_binary_sound bins.And helped a b to f g h = ((h.0, (f.0, g.0)), ((h.1, (f.1, g.1)), tt))
+    wide_binary_sound bins.Or helped a b to f g h = ((h.0, (f.0, g.0)), ((h.1, (f.1, g.1)), tt))
+    wide_binary_sound bins.Xor helped a b to f g h = ((h.0, (f.0, g.0)), ((h.1, (f.1, g.1)), tt))
+    wide_binary_sound bins.Shl helped a b to f g h = turn_sound names.shift_left a to (read b.low) (helped names.shift_left (signature 3 true) refl refl) f h g.0
+    wide_binary_sound bins.ShrS helped a b to f g h = turn_sound names.shift_right_signed a to (read b.low) (helped names.shift_right_signed (signature 3 true) refl refl) f h g.0
+    wide_binary_sound bins.ShrU helped a b to f g h = turn_sound names.shift_right a to (read b.low) (helped names.shift_right (signature 3 true) refl refl) f h g.0
+    wide_binary_sound bins.Rotl helped a b to f g h = turn_sound names.rotate_left a to (read b.low) (helped names.rotate_left (signature 3 true) refl refl) f h g.0
+    wide_binary_sound bins.Rotr helped a b to f g h = turn_sound names.rotate_left a to (minus (literal 0) (read b.low)) (helped names.rotate_left (signature 3 true) refl refl) f h (refl, (g.0, tt), refl, omega arith)
 
-    pub wide_unary_sound : (op : Un) (a to : Pair) → IsPair a → IsPair to → AreSoundSimple s (wide_unary op a to)
-    wide_unary_sound uns.Clz a to f h = ((h.0, given.helpers names.leading_zeros (signature 2 true) refl, (f.0, (f.1, tt))), ((h.1, refl), tt))
-    wide_unary_sound uns.Ctz a to f h = ((h.0, given.helpers names.trailing_zeros (signature 2 true) refl, (f.0, (f.1, tt))), ((h.1, refl), tt))
-    wide_unary_sound uns.Popcnt a to f h =
-        let is = given.helpers names.set_bits (signature 1 true) refl in
+    pub wide_unary_sound : (op : Un) → WordsHelp s (un64 op) → (a to : Pair) → IsPair a → IsPair to → AreSoundSimple s (wide_unary op a to)
+    wide_unary_sound uns.Clz helped a to f h = ((h.0, helped names.leading_zeros (signature 2 true) refl refl, (f.0, (f.1, tt))), ((h.1, refl), tt))
+    wide_unary_sound uns.Ctz helped a to f h = ((h.0, helped names.trailing_zeros (signature 2 true) refl refl, (f.0, (f.1, tt))), ((h.1, refl), tt))
+    wide_unary_sound uns.Popcnt helped a to f h =
+        let is = helped names.set_bits (signature 1 true) refl refl in
         ((h.0, is, (f.0, tt)), ((h.1, is, (f.1, tt)), ((h.0, (h.0, (h.1, tt), refl, omega arith)), ((h.1, refl), tt))))
 
   pub wide_relation_sound : (op : Rel) (a b : Pair) → IsPair a → IsPair b → IsSound s (wide_relation op a b)

@@ -2,12 +2,11 @@
 use Rattle.std.specs.Prelude.{◌≡◌, ℕ, ◌^◌, ◌<◌, ◌≤◌, Bool, true, false, ◌||◌, ◌==◌, List, [], ◌++◌, Ok}
 use Rattle.wasm_lang.specs.declared.types.ValType.{ValType}
 use Rattle.wasm_lang.specs.Instructions.{Plain, const32, const64, load, store, bin64, sign_extend}
-use Rattle.wasm_lang.specs.Modules.{FunctionType}
 use Rattle.wasm_lang_valid.specs.Measures.{is_mul_div}
 use Rattle.wasm_lang_valid.specs.Typing.{Context, Shape, Acts, plain_shape}
 use Rattle.asm_lang_valid.specs.Typing.{Scope}
 use Rattle.wasm2js_laws_terms.specs.Sound.{AreSoundActions, actions_depth}
-use Rattle.wasm2js_laws_scopes.specs.Provided.{Provides, HasRoom}
+use Rattle.wasm2js_laws_scopes.specs.Provided.{Called, AsksAmong, Provides, HasRoom}
 use Rattle.wasm2js_translation.specs.Actions.{actions}
 use Rattle.wasm2js_translation.specs.Rooms.{here, local_named}
 
@@ -37,12 +36,12 @@ IsFormed (bin64 op) = is_mul_div op ≡ false
 IsFormed (sign_extend wide bits) = is_extended wide bits ≡ true
 IsFormed p = Unit {0}
 
--- The actions of a plain instruction may stand in a function that has room for the operands before and after it, and for the local that
--- it names; operands are those that its type takes, above others.
+-- The actions of a plain instruction may stand in a function that has the helpers that it asks for, and room for the operands before and
+-- after it, and for the local that it names; operands are those that its type takes, above others.
 abbrev pub PlainIsSound : Type 0
 PlainIsSound =
-    (s : Scope) (c : Context) (is_called : FunctionType → Bool) (bytes cells : ℕ) → Provides s c is_called bytes cells
-    → (p : Plain) → IsFormed p → (form : Shape) (takes gives below : List ValType) → plain_shape c p ≡ Ok form → Acts form takes gives
+    (s : Scope) (c : Context) (is_called : Called) (bytes cells : ℕ) → Provides s c is_called bytes cells
+    → (p : Plain) → IsFormed p → AsksAmong is_called.helpers p → (form : Shape) (takes gives below : List ValType) → plain_shape c p ≡ Ok form → Acts form takes gives
     → (b : ℕ) → HasRoom s c (here b (takes ++ below) (local_named p)) → HasRoom s c (here b (gives ++ below) [])
     → AreSoundActions s (actions bytes c p b (takes ++ below))
 

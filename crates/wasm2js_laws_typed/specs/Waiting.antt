@@ -1,9 +1,11 @@
--- Words that wait, and straight code whose words are written late: it may stand where the code may, and is no deeper.
+-- Words that wait, and straight code whose words are written late, or that is without what is needless: it may stand where the code may, and is
+-- no deeper.
 use Rattle.std.specs.Prelude.{◌≡◌, ℕ, ◌≤◌, max, true, List, [], ◌∷◌}
 use Rattle.wasm_lang.specs.declared.types.ValType.{ValType}
 use Rattle.asm_lang_valid.specs.Typing.{Scope}
 use Rattle.wasm2js_translation.specs.Words.{Action}
 use Rattle.wasm2js_translation.specs.Delays.{Delayed, is_light, written, late, standing}
+use Rattle.wasm2js_translation.specs.Known.{Known, lean}
 use Rattle.wasm2js_laws_terms.specs.Sound.{IsInt, IsSound, AreSoundSimple, AreSoundActions, actions_depth}
 
 -- each may be written
@@ -26,6 +28,12 @@ LateIsSound =
 -- what is written has depth 1, and words that stand in the place of variables leave each term as deep as it was
 abbrev pub LateIsShallow : Type 0
 LateIsShallow = (ds : List Delayed) (actions : List Action) → AreLight ds → AreLight (late ds actions).later × (actions_depth (late ds actions).now ≤ max 1 (actions_depth actions))
+
+abbrev pub LeanIsSound : Type 0
+LeanIsSound = (s : Scope) (ks : List Known) (actions : List Action) → AreSoundActions s actions → AreSoundActions s (lean ks actions).now
+
+abbrev pub LeanIsShallow : Type 0
+LeanIsShallow = (ks : List Known) (actions : List Action) → actions_depth (lean ks actions).now ≤ actions_depth actions
 
 abbrev pub WrittenIsSound : Type 0
 WrittenIsSound = (s : Scope) (ds : List Delayed) → AreSoundWaiting s ds → AreSoundSimple s (written ds)

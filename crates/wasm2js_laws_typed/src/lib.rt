@@ -4,7 +4,7 @@
 ghost use Rattle.wasm2js_laws_typed.specs.Laws.{PlainIsSound, PlainIsShallow};
 ghost use Rattle.wasm2js_laws_typed.specs.Constructs.{BlocksAreFine, LoopsAreFine, ArmsAreFine, TestsAreFine, LabelsAreNew, ReturnsAreFine, JumpsAreFine, CallsAreFine, EntryCallsAreFine, SwitchesAreFine};
 ghost use Rattle.wasm2js_laws_typed.specs.Bodies.{CodeIsFine};
-ghost use Rattle.wasm2js_laws_typed.specs.Waiting.{LateIsSound, LateIsShallow, WrittenIsSound, StandingIsSound};
+ghost use Rattle.wasm2js_laws_typed.specs.Waiting.{LateIsSound, LateIsShallow, LeanIsSound, LeanIsShallow, WrittenIsSound, StandingIsSound};
 
 /// Instructions that compute, and read and write locals, globals and the memory.
 pub fn instructions()
@@ -12,10 +12,12 @@ pub fn instructions()
     ensures shallow { PlainIsShallow }
 {}
 
-/// Code whose words are written late, and the words that wait then.
+/// Code whose words are written late, the words that wait then, and code without the tests that are needless.
 pub fn waiting()
     ensures sound { LateIsSound }
     ensures shallow { LateIsShallow }
+    ensures lean_sound { LeanIsSound }
+    ensures lean_shallow { LeanIsShallow }
     ensures written { WrittenIsSound }
     ensures standing { StandingIsSound }
 {}

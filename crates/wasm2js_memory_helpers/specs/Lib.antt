@@ -1,2 +1,2 @@
-pub mod Helpers
 pub mod Pieces
+pub mod Choices

@@ -7,24 +7,99 @@ ghost use Rattle.wasm2js_translation.specs.Words as words;
 ghost use Rattle.wasm2js_translation.specs.Helpers as helpers;
 ghost use Rattle.wasm2js_memory_helpers.specs.Pieces.{bytes_together, word_of, load_32_function, load_64_function, store_32_function, store_64_function};
 ghost use Rattle.wasm2js_nodes.specs.Names.{name_view};
-ghost use Rattle.wasm2js_build.specs.Views.{term_view};
+ghost use Rattle.wasm2js_terms.specs.Views.{term_view};
 ghost use Rattle.wasm2js_build.specs.Blocks.{statements_of};
+ghost use Rattle.wasm2js_helpers.specs.Choices.{choice, chosen};
+ghost use Rattle.wasm2js_memory_helpers.specs.Choices.{load_choices, store_choices, access_choices};
 
 use asm_tree::Function;
 use sem_words::List;
 use std::alloc::{AllocError, Global};
-use wasm2js_build::{BitOp, Block, Term};
+use wasm2js_build::Block;
 use wasm2js_helpers::short::{add, argument, first, of_one, of_three, of_two, second, spare};
+use wasm2js_needs::Needs;
 use wasm2js_nodes::{Fixed, Name};
+use wasm2js_terms::{BitOp, Term};
 
-/// Adds the helpers that read and write words.
-pub fn access_helpers(alloc: Global, functions: &mut List<Function>) -> Result<(), AllocError>
-    ensures { IfOk result (λ _. map function_view (list_items functions.new) ≡ map function_view (list_items functions.old) ++ helpers.access_helpers) }
+/// Adds the helpers that read and write words, where they are asked for.
+#[tactic(auto, using(wasm2js_helpers::proofs::Chosen::one_more))]
+pub fn access_helpers(
+    alloc: Global,
+    needs: &Needs,
+    functions: &mut List<Function>,
+) -> Result<(), AllocError>
+    ensures { IfOk result (λ _. map function_view (list_items functions.new) ≡ map function_view (list_items functions.old) ++ chosen (access_choices needs.now)) }
 {
-    add(functions, load_32(alloc)?)?;
-    add(functions, load_64(alloc)?)?;
-    add(functions, store_32(alloc)?)?;
-    add(functions, store_64(alloc)?)
+    add_loads(alloc, needs, functions)?;
+    add_stores(alloc, needs, functions)
+}
+
+#[tactic(auto, using(wasm2js_helpers::proofs::Chosen::one_more))]
+fn add_loads(alloc: Global, needs: &Needs, functions: &mut List<Function>) -> Result<(), AllocError>
+    ensures { IfOk result (λ _. map function_view (list_items functions.new) ≡ map function_view (list_items functions.old) ++ chosen (load_choices needs.now)) }
+{
+    add_load_32(alloc, needs.load_32, functions)?;
+    add_load_64(alloc, needs.load_64, functions)
+}
+
+#[tactic(auto, using(wasm2js_helpers::proofs::Chosen::one_more))]
+fn add_stores(
+    alloc: Global,
+    needs: &Needs,
+    functions: &mut List<Function>,
+) -> Result<(), AllocError>
+    ensures { IfOk result (λ _. map function_view (list_items functions.new) ≡ map function_view (list_items functions.old) ++ chosen (store_choices needs.now)) }
+{
+    add_store_32(alloc, needs.store_32, functions)?;
+    add_store_64(alloc, needs.store_64, functions)
+}
+
+fn add_load_32(alloc: Global, asked: bool, functions: &mut List<Function>) -> Result<(), AllocError>
+    ensures { IfOk result (λ _. map function_view (list_items functions.new) ≡ map function_view (list_items functions.old) ++ chosen (choice asked load_32_function ∷ [])) }
+{
+    if asked {
+        add(functions, load_32(alloc)?)
+    } else {
+        Ok(())
+    }
+}
+
+fn add_load_64(alloc: Global, asked: bool, functions: &mut List<Function>) -> Result<(), AllocError>
+    ensures { IfOk result (λ _. map function_view (list_items functions.new) ≡ map function_view (list_items functions.old) ++ chosen (choice asked load_64_function ∷ [])) }
+{
+    if asked {
+        add(functions, load_64(alloc)?)
+    } else {
+        Ok(())
+    }
+}
+
+fn add_store_32(
+    alloc: Global,
+    asked: bool,
+    functions: &mut List<Function>,
+) -> Result<(), AllocError>
+    ensures { IfOk result (λ _. map function_view (list_items functions.new) ≡ map function_view (list_items functions.old) ++ chosen (choice asked store_32_function ∷ [])) }
+{
+    if asked {
+        add(functions, store_32(alloc)?)
+    } else {
+        Ok(())
+    }
+}
+
+fn add_store_64(
+    alloc: Global,
+    asked: bool,
+    functions: &mut List<Function>,
+) -> Result<(), AllocError>
+    ensures { IfOk result (λ _. map function_view (list_items functions.new) ≡ map function_view (list_items functions.old) ++ chosen (choice asked store_64_function ∷ [])) }
+{
+    if asked {
+        add(functions, store_64(alloc)?)
+    } else {
+        Ok(())
+    }
 }
 
 // ---- reading

@@ -5,7 +5,7 @@ ghost use Rattle.asm_tree.specs.Views.{function_view};
 ghost use Rattle.wasm2js_translation.specs.Words.{int_of, compare, at_most, read, whole, write_whole, simple_statement};
 ghost use Rattle.wasm2js_translation.specs.Helpers as helpers;
 ghost use Rattle.wasm2js_nodes.specs.Names.{name_view};
-ghost use Rattle.wasm2js_build.specs.Views.{term_view};
+ghost use Rattle.wasm2js_terms.specs.Views.{term_view};
 ghost use Rattle.wasm2js_build.specs.Blocks.{statements_of};
 
 use crate::runs::{
@@ -13,9 +13,10 @@ use crate::runs::{
 };
 use asm_tree::Function;
 use std::alloc::{AllocError, Global};
-use wasm2js_build::{BitOp, Block, Relation, Term};
+use wasm2js_build::Block;
 use wasm2js_helpers::short::{argument, first, of_three, own, second, third};
 use wasm2js_nodes::{Fixed, Name};
+use wasm2js_terms::{BitOp, Relation, Term};
 
 /// The helper, in a memory of so many bytes.
 pub fn copy_function(alloc: Global, bytes: u32) -> Result<Function, AllocError>

@@ -9,9 +9,10 @@ ghost use Rattle.wasm2js_build.specs.Blocks.{statements_of};
 use crate::runs::{rise, test_length, test_start, while_bytes, while_inside, while_more};
 use asm_tree::Function;
 use std::alloc::{AllocError, Global};
-use wasm2js_build::{BitOp, Block, Relation, Term};
+use wasm2js_build::Block;
 use wasm2js_helpers::short::{argument, first, of_three, own, second, third};
 use wasm2js_nodes::Fixed;
+use wasm2js_terms::{BitOp, Relation, Term};
 
 /// The helper, in a memory of so many bytes.
 pub fn fill_function(alloc: Global, bytes: u32) -> Result<Function, AllocError>

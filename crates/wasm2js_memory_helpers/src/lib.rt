@@ -8,4 +8,4 @@ mod putting;
 mod runs;
 mod whole;
 
-pub use whole::{memory_helpers, push_helpers};
+pub use whole::push_helpers;

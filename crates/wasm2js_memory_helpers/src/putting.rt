@@ -8,9 +8,10 @@ ghost use Rattle.wasm2js_build.specs.Blocks.{statements_of};
 
 use asm_tree::Function;
 use std::alloc::{AllocError, Global};
-use wasm2js_build::{Block, Relation, Term, function};
+use wasm2js_build::{Block, function};
 use wasm2js_helpers::short::{argument, first, of_two, second};
 use wasm2js_nodes::{Fixed, Name};
+use wasm2js_terms::{Relation, Term};
 
 /// The helper: its first argument is a place that is a multiple of four, and each further one a word.
 pub fn put_function(alloc: Global) -> Result<Function, AllocError>

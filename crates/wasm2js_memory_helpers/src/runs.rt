@@ -4,13 +4,14 @@ ghost use Rattle.wasm2js_translation.specs.Words.{compare, less, at_most, greate
 ghost use Rattle.wasm2js_translation.specs.Pairs.{plus, minus, literal};
 ghost use Rattle.wasm2js_translation.specs.Helpers as helpers;
 ghost use Rattle.wasm2js_nodes.specs.Names.{name_view};
-ghost use Rattle.wasm2js_build.specs.Views.{term_view};
+ghost use Rattle.wasm2js_terms.specs.Views.{term_view};
 ghost use Rattle.wasm2js_build.specs.Blocks.{statements_of};
 
 use std::alloc::AllocError;
-use wasm2js_build::{BitOp, Block, Relation, Term};
+use wasm2js_build::Block;
 use wasm2js_helpers::short::{argument, own, third};
 use wasm2js_nodes::Name;
+use wasm2js_terms::{BitOp, Relation, Term};
 
 // ---- tests of a run
 

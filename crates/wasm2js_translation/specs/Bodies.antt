@@ -18,6 +18,7 @@ use Rattle.wasm2js_translation.specs.Words.{read, signed_number, natural, put_in
 use Rattle.wasm2js_translation.specs.Pairs.{operand_pair, moved}
 use Rattle.wasm2js_translation.specs.Actions.{under, low, actions}
 use Rattle.wasm2js_translation.specs.Delays.{Delayed, written, Late, late, standing}
+use Rattle.wasm2js_translation.specs.Known.{Known, Lean, lean}
 use Rattle.wasm2js_translation.specs.Helpers.{block_of}
 
 -- ---- the static stack
@@ -187,35 +188,40 @@ module _ (bytes cells : ℕ) (c : Context) where
   abbrev pub left_waiting : Plain → (b : ℕ) → List ValType → List Delayed → List Delayed
   left_waiting p b ts ds = standing b (after_plain c p ts) (late_code p b ts ds).later
 
+  -- without what is needless by what is known where it begins
+  abbrev pub lean_code : Plain → (b : ℕ) → List ValType → List Delayed → List Known → Lean
+  lean_code p b ts ds ks = lean ks (late_code p b ts ds).now
+
   -- under these aims, the innermost first; so many operands lie below the block's, those have these types, and these of their words wait:
-  -- all are written before the next instruction that isn't plain, and at the end
-  abbrev pub stmts_of : Trees → List Aim → (b : ℕ) → List ValType → List Delayed → List Stmt
-  stmts_of ε ls b ts ds = simple_statements (written ds)
-  stmts_of (plain p ▹ is) ls b ts ds = statements (late_code p b ts ds).now ++ stmts_of is ls b (after_plain c p ts) (left_waiting p b ts ds)
-  stmts_of (unreachable ▹ is) ls b ts ds = simple_statements (written ds) ++ trap_call 1 ∷ []
-  stmts_of (br k ▹ is) ls b ts ds = simple_statements (written ds) ++ jump ls k b ts
-  stmts_of (return ▹ is) ls b ts ds = simple_statements (written ds) ++ leave_with c.returns (under 1 b ts)
-  stmts_of (br_table ks d ▹ is) ls b ts ds = simple_statements (written ds) ++ by_index (λ k. jump ls k b (drop 1 ts)) (signed_word (under 1 b ts)) ks d
-  stmts_of (br_if k ▹ is) ls b ts ds =
-      simple_statements (written ds) ++ if_only (signed_word (under 1 b ts)) (part_of (jump ls k b (drop 1 ts))) ∷ stmts_of is ls b (drop 1 ts) []
-  stmts_of (block r body ▹ is) ls b ts ds =
+  -- all are written before the next instruction that isn't plain, and at the end; this is known of variables, until such an instruction
+  abbrev pub stmts_of : Trees → List Aim → (b : ℕ) → List ValType → List Delayed → List Known → List Stmt
+  stmts_of ε ls b ts ds ks = simple_statements (written ds)
+  stmts_of (plain p ▹ is) ls b ts ds ks =
+      statements (lean_code p b ts ds ks).now ++ stmts_of is ls b (after_plain c p ts) (left_waiting p b ts ds) (lean_code p b ts ds ks).known
+  stmts_of (unreachable ▹ is) ls b ts ds ks = simple_statements (written ds) ++ trap_call 1 ∷ []
+  stmts_of (br k ▹ is) ls b ts ds ks = simple_statements (written ds) ++ jump ls k b ts
+  stmts_of (return ▹ is) ls b ts ds ks = simple_statements (written ds) ++ leave_with c.returns (under 1 b ts)
+  stmts_of (br_table ns d ▹ is) ls b ts ds ks = simple_statements (written ds) ++ by_index (λ k. jump ls k b (drop 1 ts)) (signed_word (under 1 b ts)) ns d
+  stmts_of (br_if k ▹ is) ls b ts ds ks =
+      simple_statements (written ds) ++ if_only (signed_word (under 1 b ts)) (part_of (jump ls k b (drop 1 ts))) ∷ stmts_of is ls b (drop 1 ts) [] []
+  stmts_of (block r body ▹ is) ls b ts ds ks =
       let base = under 0 b ts in
       simple_statements (written ds)
-      ++ under_label (labels_round ls) (block_of (stmts_of body (past base r ∷ ls) base [] [])) ∷ stmts_of is ls b (listed r ++ ts) []
-  stmts_of (loop r body ▹ is) ls b ts ds =
+      ++ under_label (labels_round ls) (block_of (stmts_of body (past base r ∷ ls) base [] [] [])) ∷ stmts_of is ls b (listed r ++ ts) [] []
+  stmts_of (loop r body ▹ is) ls b ts ds ks =
       let base = under 0 b ts in
       simple_statements (written ds)
-      ++ under_label (labels_round ls) (endless (stmts_of body (again base ∷ ls) base [] [] ++ leaves body)) ∷ stmts_of is ls b (listed r ++ ts) []
-  stmts_of (if_block r first second ▹ is) ls b ts ds =
+      ++ under_label (labels_round ls) (endless (stmts_of body (again base ∷ ls) base [] [] [] ++ leaves body)) ∷ stmts_of is ls b (listed r ++ ts) [] []
+  stmts_of (if_block r first second ▹ is) ls b ts ds ks =
       let base = under 1 b ts in
       simple_statements (written ds)
       ++ under_label (labels_round ls)
-      (chosen (signed_word base) (stmts_of first (past base r ∷ ls) base [] []) (stmts_of second (past base r ∷ ls) base [] []))
-      ∷ stmts_of is ls b (listed r ++ drop 1 ts) []
-  stmts_of (call f ▹ is) ls b ts ds = simple_statements (written ds) ++ call_stmts f b ts (type_of c f) ++ stmts_of is ls b (types_after_call (type_of c f) ts) []
-  stmts_of (call_indirect t ▹ is) ls b ts ds =
+      (chosen (signed_word base) (stmts_of first (past base r ∷ ls) base [] [] []) (stmts_of second (past base r ∷ ls) base [] [] []))
+      ∷ stmts_of is ls b (listed r ++ drop 1 ts) [] []
+  stmts_of (call f ▹ is) ls b ts ds ks = simple_statements (written ds) ++ call_stmts f b ts (type_of c f) ++ stmts_of is ls b (types_after_call (type_of c f) ts) [] []
+  stmts_of (call_indirect t ▹ is) ls b ts ds ks =
       simple_statements (written ds)
-      ++ indirect_stmts cells c.types b ts (slice_get c.types t) ++ stmts_of is ls b (types_after_call (slice_get c.types t) (drop 1 ts)) []
+      ++ indirect_stmts cells c.types b ts (slice_get c.types t) ++ stmts_of is ls b (types_after_call (slice_get c.types t) (drop 1 ts)) [] []
 
   -- a function with a result ends in a return of it, also where that isn't reached: its last statement says what it gives
   abbrev pub closing : Option ValType → List Stmt
@@ -223,4 +229,4 @@ module _ (bytes cells : ℕ) (c : Context) where
   closing (Some t) = leave_with (Some t) 0
 
   abbrev pub body_stmts : Trees → List Stmt
-  body_stmts code = stmts_of code (out c.returns ∷ []) 0 [] [] ++ closing c.returns
+  body_stmts code = stmts_of code (out c.returns ∷ []) 0 [] [] [] ++ closing c.returns

@@ -306,9 +306,12 @@ zero_body =
 abbrev pub zero_function : Function
 zero_function = function_of (fixed names.data_zeros) two_arguments [] zero_body
 
--- where data segments are long
-abbrev pub data_helpers : (long : Bool) → List Function
-data_helpers long = if long then put_function ∷ zero_function ∷ [] else []
+-- all that a memory of so many bytes may need
+abbrev pub memory_helpers : (bytes : ℕ) → List Function
+memory_helpers bytes = access_helpers ++ copy_function bytes ∷ fill_function bytes ∷ put_function ∷ zero_function ∷ []
 
-abbrev pub memory_helpers : (bytes : ℕ) (long : Bool) → List Function
-memory_helpers bytes long = access_helpers ++ copy_function bytes ∷ fill_function bytes ∷ data_helpers long
+-- ---- of these, those whose names are asked for
+
+abbrev pub kept : (asked : List ℕ → Bool) → List Function → List Function
+kept asked [] = []
+kept asked (f ∷ fs) = (if asked f.name then f ∷ [] else []) ++ kept asked fs

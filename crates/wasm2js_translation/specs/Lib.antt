@@ -3,6 +3,7 @@ pub mod Wide
 pub mod Actions
 pub mod Helpers
 pub mod Delays
+pub mod Known
 pub mod Bodies
 pub mod Rooms
 pub mod Tables

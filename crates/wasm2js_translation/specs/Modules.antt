@@ -20,13 +20,13 @@ use Rattle.wasm_lang_exec.specs.Fits.{GlobalImport, global_imports}
 use Rattle.asm_lang.specs.Trees.{Init, number, foreign_int, member, math, view}
 use Rattle.asm_lang.specs.Modules as text
 use Rattle.asm_lang.specs.Modules.{Expr, lit, call, store, Exprs, no_exprs, exprs, Stmt, returns, Variable, Function, Export, many, Module}
-use Rattle.wasm2js_lang.specs.Parts.Functions.{is_long, has_long_segments}
+use Rattle.wasm2js_lang.specs.Parts.Functions.{is_long, is_asked}
 use Rattle.wasm2js_translation.specs.Names.{Name, numbered, function, foreign, global_low, global_high, fixed, view_of_bytes, view_of_signed_bytes, view_of_words, imul, clz32, trap, high, spare_high, result_high, data_words, data_zeros, init, last_high, spelled}
 use Rattle.wasm2js_translation.specs.Words as terms
 use Rattle.wasm2js_translation.specs.Words.{Term, tell, simple_statement, signed_number, put_in, name_of}
 use Rattle.wasm2js_translation.specs.Pairs.{names_of, local_pair, literal}
 use Rattle.wasm2js_translation.specs.Actions.{low}
-use Rattle.wasm2js_translation.specs.Helpers.{zero_variable, function_of, wide_helpers, division_helpers, memory_helpers}
+use Rattle.wasm2js_translation.specs.Helpers.{zero_variable, function_of, wide_helpers, division_helpers, memory_helpers, kept}
 use Rattle.wasm2js_translation.specs.Bodies.{word_in, signed_word, high_result, body_stmts}
 use Rattle.wasm2js_translation.specs.Rooms.{body_room, declared_names}
 use Rattle.wasm2js_translation.specs.Tables.{cell_count, tables_for, stubs}
@@ -162,8 +162,12 @@ init_function m = function_of (fixed init) [] [] (flat_map segment_stmts m.segme
 abbrev pub high_function : Function
 high_function = function_of (fixed last_high) [] [] (returns (Some (signed_number (word_in high_result))) ∷ [])
 
+-- what a module may have of helpers, and what it has of them
+abbrev pub all_helpers : WasmModule → List Function
+all_helpers m = wide_helpers ++ division_helpers ++ (if has_memory m then memory_helpers (memory_bytes m) else [])
+
 abbrev pub helpers : WasmModule → List Function
-helpers m = wide_helpers ++ division_helpers ++ (if has_memory m then memory_helpers (memory_bytes m) (has_long_segments m) else [])
+helpers m = kept (is_asked m) (all_helpers m)
 
 abbrev pub functions_of : WasmModule → List Function
 functions_of m = helpers m ++ functions_from m 0 (callees m) ++ stubs m ++ init_function m ∷ high_function ∷ []

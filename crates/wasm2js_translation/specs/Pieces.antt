@@ -7,7 +7,7 @@ use Rattle.wasm_lang.specs.declared.types.Limits.{Limits}
 use Rattle.wasm_lang.specs.declared.types.ImportKind.TheVariants as imports
 use Rattle.wasm_lang.specs.declared.types.ExportKind.TheVariants as exports
 use Rattle.wasm_lang.specs.declared.types.MemOp.{MemOp}
-use Rattle.wasm_lang.specs.Instructions.{Instruction, block, end_mark, br_table, call_indirect, plain, const32, const64, local_get, local_set, drop_operand, bin32, bin64, extend_s, load, store}
+use Rattle.wasm_lang.specs.Instructions.{Instruction, unreachable, block, end_mark, br_table, call_indirect, plain, const32, const64, local_get, local_set, drop_operand, bin32, bin64, extend_s, load, store, memory_copy, memory_fill}
 use Rattle.wasm_lang.specs.Modules.{FunctionType, Imported, GlobalEntry, Exported, ElementSegment, DataSegment, FunctionBody, WasmModule}
 
 -- ---- parts of modules
@@ -87,6 +87,13 @@ word_of_64 = record { wide = true; size = 8; signed = false }
 abbrev pub loading : WasmModule
 loading = with_page (type (I32 ∷ []) (I32 ∷ [])) (get 0 ∷ plain (load word_of_32 0 3) ∷ [])
 
+-- the sum of the i32 eight bytes past the argument, of the one before it, and of one at four times a number below 4,096
+abbrev pub summing : WasmModule
+summing =
+    with_page (type (I32 ∷ I32 ∷ []) (I32 ∷ []))
+    (get 0 ∷ plain (load word_of_32 0 8) ∷ get 0 ∷ plain (load word_of_32 0 4) ∷ plain (bin32 bins.Add)
+    ∷ get 1 ∷ int 4095 ∷ plain (bin32 bins.And) ∷ int 2 ∷ plain (bin32 bins.Shl) ∷ plain (load word_of_32 0 16) ∷ plain (bin32 bins.Add) ∷ [])
+
 -- an i64 at the argument
 abbrev pub storing : WasmModule
 storing = with_page (type (I32 ∷ I64 ∷ []) []) (get 0 ∷ get 1 ∷ plain (store word_of_64 0 0) ∷ [])
@@ -105,6 +112,13 @@ choosing = alone (type (I32 ∷ []) (I32 ∷ [])) []
 -- with a segment of 512 bytes
 abbrev pub listing : WasmModule
 listing = record (with_page (type [] []) []) { segments = bytes 0 (replicate 512 1) ∷ [] }
+
+-- with helpers of each kind, asked for by code that isn't reached
+abbrev pub asking_all : WasmModule
+asking_all = with_page (type [] [])
+    (unreachable
+    ∷ plain (bin64 bins.Shl) ∷ plain drop_operand ∷ plain (bin32 bins.DivS) ∷ plain drop_operand
+    ∷ plain (load word_of_64 0 0) ∷ plain drop_operand ∷ plain memory_copy ∷ plain memory_fill ∷ [])
 
 abbrev pub adding : WasmModule
 adding = alone (type (I64 ∷ I64 ∷ []) (I64 ∷ [])) [] (get 0 ∷ get 1 ∷ plain (bin64 bins.Add) ∷ [])

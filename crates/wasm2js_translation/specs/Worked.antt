@@ -1,5 +1,5 @@
 -- What is computed of the small modules: their code, and what is seen of sessions in both languages.
-use Rattle.std.specs.Prelude.{◌≡◌, ℕ, List, [], take, Option, Some, None, option_map, is_some, true, bytes_eq}
+use Rattle.std.specs.Prelude.{◌≡◌, ℕ, List, [], map, take, Option, Some, None, option_map, is_some, true, bytes_eq}
 use Rattle.std.specs.List.{find, flat_map}
 use Rattle.session_lang.specs.Script.{ScriptPlain}
 use Rattle.session_lang.specs.Observation.{EventPlain, ObservationPlain, as_stop}
@@ -14,7 +14,7 @@ use Rattle.asm_lang_exec.specs.Session.{asm}
 use Rattle.asm_lang_exec.specs.Fits as target_fits
 use Rattle.asm_lang_valid.specs.Refusal.{IsAccepted}
 use Rattle.wasm2js_lang.specs.Heaps.{heap_bytes}
-use Rattle.wasm2js_translation.specs.Modules.{translated}
+use Rattle.wasm2js_translation.specs.Modules.{helpers, translated}
 
 -- ---- code
 
@@ -25,6 +25,9 @@ text_if (Some f) = joined [] (function_text f)
 -- the canonical text of the function of this name
 abbrev pub text_of : WasmModule → (name : List ℕ) → List ℕ
 text_of w name = text_if (find (λ f. bytes_eq f.name name) (translated w).functions)
+
+abbrev pub helper_names : WasmModule → List (List ℕ)
+helper_names w = map (λ (f : Function). f.name) (helpers w)
 
 abbrev pub tables_of : WasmModule → List ℕ
 tables_of w = joined [] (tables_text (translated w).tables)

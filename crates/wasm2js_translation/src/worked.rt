@@ -2,15 +2,21 @@
 ghost use Rattle.std.specs.Prelude.{◌≡◌, ◌∷◌, [], pos, negsuc, Some, codes};
 ghost use Rattle.sem_words.specs.declared.word.Word.TheVariants.{W32};
 ghost use Rattle.session_lang.specs.Observation.{done, stopped, running, ended, call_returned, call_gave, import_called};
-ghost use Rattle.wasm2js_translation.specs.Pieces.{loading, storing, choosing, adding, tabled, listing};
+ghost use Rattle.wasm2js_translation.specs.Pieces.{loading, summing, storing, choosing, adding, tabled, listing, asking_all};
 ghost use Rattle.wasm2js_translation.specs.Programs.{adding_shape, adding_script, no_shape, starting, starting_script, asking, asking_shape, asking_script, copying, copying_script, narrow, narrow_script, dividing, by_zero_script, overflow_script, wide, wide_shape, wide_script};
 ghost use Rattle.wasm2js_translation.specs.Sessions.{variables, variables_shape, variables_script, turning, turning_script, branching, branching_script, trapping, trapping_script, calling, calling_shapes, calling_script, entry_script, entry_shape, remembering, memory_shape, memory_script};
-ghost use Rattle.wasm2js_translation.specs.Worked.{text_of, tables_of, variables_of, exports_of, target_seen, events_at, first_bytes, IsAlike};
+ghost use Rattle.wasm2js_translation.specs.Worked.{text_of, helper_names, tables_of, variables_of, exports_of, target_seen, events_at, first_bytes, IsAlike};
 
 /// The four bytes from 3 past the address lie in a page where the address is at most 65529; they are
 /// read as a word where its place is a multiple of four.
 pub fn a_guarded_load()
     ensures { text_of loading (codes "f0") ≡ codes "function f0(x0){x0=x0|0;var s0=0;if(x0>>>0>65529)$trap(2);if(x0+3&3)s0=$load32(x0+3|0)|0;else s0=$w[x0+3>>2]|0;return s0|0;}" }
+{}
+
+/// The second address is in the page since the first one is; the third one is so by its mask, and by its
+/// shift a multiple of four.
+pub fn needless_tests()
+    ensures { text_of summing (codes "f0") ≡ codes "function f0(x0,x1){x0=x0|0;x1=x1|0;var s0=0;var s1=0;var s2=0;if(x0>>>0>65524)$trap(2);if(x0+8&3)s0=$load32(x0+8|0)|0;else s0=$w[x0+8>>2]|0;if(x0+4&3)s1=$load32(x0+4|0)|0;else s1=$w[x0+4>>2]|0;s0=s0+s1|0;s1=x1&4095;s1=s1<<2;s1=$w[s1+16>>2]|0;s0=s0+s1|0;return s0|0;}" }
 {}
 
 /// Both words of a store of 64 bits are written after one test of all eight bytes.
@@ -42,14 +48,23 @@ pub fn a_call_of_an_entry()
 /// Helpers: words of 64 bits as two words, a quotient with its traps, a load at any place, a copy and a
 /// fill of a page.
 pub fn helpers()
-    ensures shift { text_of loading (codes "$shl") ≡ codes "function $shl(x0,x1,x2){x0=x0|0;x1=x1|0;x2=x2|0;if(x2&32){$q=x0<<x2;return 0|0;}$q=(x1<<x2)+(x0>>>1>>>~x2)|0;return x0<<x2|0;}" }
-    ensures rotation { text_of loading (codes "$rotl") ≡ codes "function $rotl(x0,x1,x2){x0=x0|0;x1=x1|0;x2=x2|0;var s0=0;if(x2&32){s0=x0;x0=x1;x1=s0;}$q=(x1<<x2)+(x0>>>1>>>~x2)|0;return(x0<<x2)+(x1>>>1>>>~x2)|0;}" }
-    ensures zeros { text_of loading (codes "$ctz") ≡ codes "function $ctz(x0,x1){x0=x0|0;x1=x1|0;if(x0){return 32-$clz32(~x0&x0-1)|0;}return 64-$clz32(~x1&x1-1)|0;}" }
-    ensures bits { text_of loading (codes "$pop") ≡ codes "function $pop(x0){x0=x0|0;var s0=0;while(x0){s0=s0+(x0&1)|0;x0=x0>>>1;}return s0|0;}" }
-    ensures quotient { text_of loading (codes "$divs") ≡ codes "function $divs(x0,x1){x0=x0|0;x1=x1|0;if((x1|0)==0)$trap(3);if((x0|0)==-2147483648&(x1|0)==-1)$trap(4);return(x0|0)/(x1|0)|0;}" }
-    ensures load { text_of loading (codes "$load64") ≡ codes "function $load64(x0){x0=x0|0;$q=($u8[x0+4>>0]|0)+($u8[x0+5>>0]<<8)+($u8[x0+6>>0]<<16)+($u8[x0+7>>0]<<24)|0;return($u8[x0>>0]|0)+($u8[x0+1>>0]<<8)+($u8[x0+2>>0]<<16)+($u8[x0+3>>0]<<24)|0;}" }
-    ensures copy { text_of loading (codes "$copy") ≡ codes "function $copy(x0,x1,x2){x0=x0|0;x1=x1|0;x2=x2|0;var s0=0;if(x2>>>0>65536)$trap(2);if(x0>>>0>65536-x2>>>0)$trap(2);if(x1>>>0>65536-x2>>>0)$trap(2);if(x0>>>0<=x1>>>0){if(((x0^x1)&3|(x2|0)<4)==0){while((x0+s0&3)!=0){$u8[x0+s0>>0]=$u8[x1+s0>>0]|0;s0=s0+1|0;}while((s0|0)<=(x2-32|0)){$w[x0+s0>>2]=$w[x1+s0>>2]|0;$w[x0+s0+4>>2]=$w[x1+s0+4>>2]|0;$w[x0+s0+8>>2]=$w[x1+s0+8>>2]|0;$w[x0+s0+12>>2]=$w[x1+s0+12>>2]|0;$w[x0+s0+16>>2]=$w[x1+s0+16>>2]|0;$w[x0+s0+20>>2]=$w[x1+s0+20>>2]|0;$w[x0+s0+24>>2]=$w[x1+s0+24>>2]|0;$w[x0+s0+28>>2]=$w[x1+s0+28>>2]|0;s0=s0+32|0;}while((s0|0)<=(x2-4|0)){$w[x0+s0>>2]=$w[x1+s0>>2]|0;s0=s0+4|0;}}while((s0|0)<(x2|0)){$u8[x0+s0>>0]=$u8[x1+s0>>0]|0;s0=s0+1|0;}}else{if(((x0^x1)&3|(x2|0)<4)==0){while((x0+x2&3)!=0){x2=x2-1|0;$u8[x0+x2>>0]=$u8[x1+x2>>0]|0;}while((x2|0)>31){x2=x2-32|0;$w[x0+x2+28>>2]=$w[x1+x2+28>>2]|0;$w[x0+x2+24>>2]=$w[x1+x2+24>>2]|0;$w[x0+x2+20>>2]=$w[x1+x2+20>>2]|0;$w[x0+x2+16>>2]=$w[x1+x2+16>>2]|0;$w[x0+x2+12>>2]=$w[x1+x2+12>>2]|0;$w[x0+x2+8>>2]=$w[x1+x2+8>>2]|0;$w[x0+x2+4>>2]=$w[x1+x2+4>>2]|0;$w[x0+x2>>2]=$w[x1+x2>>2]|0;}while((x2|0)>3){x2=x2-4|0;$w[x0+x2>>2]=$w[x1+x2>>2]|0;}}while((x2|0)>0){x2=x2-1|0;$u8[x0+x2>>0]=$u8[x1+x2>>0]|0;}}}" }
-    ensures fill { text_of loading (codes "$fill") ≡ codes "function $fill(x0,x1,x2){x0=x0|0;x1=x1|0;x2=x2|0;var s0=0;var s1=0;if(x2>>>0>65536)$trap(2);if(x0>>>0>65536-x2>>>0)$trap(2);if((x2|0)>3){s1=$imul(x1&255,16843009);while((x0+s0&3)!=0){$u8[x0+s0>>0]=x1;s0=s0+1|0;}while((s0|0)<=(x2-32|0)){$w[x0+s0>>2]=s1;$w[x0+s0+4>>2]=s1;$w[x0+s0+8>>2]=s1;$w[x0+s0+12>>2]=s1;$w[x0+s0+16>>2]=s1;$w[x0+s0+20>>2]=s1;$w[x0+s0+24>>2]=s1;$w[x0+s0+28>>2]=s1;s0=s0+32|0;}while((s0|0)<=(x2-4|0)){$w[x0+s0>>2]=s1;s0=s0+4|0;}}while((s0|0)<(x2|0)){$u8[x0+s0>>0]=x1;s0=s0+1|0;}}" }
+    ensures shift { text_of asking_all (codes "$shl") ≡ codes "function $shl(x0,x1,x2){x0=x0|0;x1=x1|0;x2=x2|0;if(x2&32){$q=x0<<x2;return 0|0;}$q=(x1<<x2)+(x0>>>1>>>~x2)|0;return x0<<x2|0;}" }
+    ensures rotation { text_of asking_all (codes "$rotl") ≡ codes "function $rotl(x0,x1,x2){x0=x0|0;x1=x1|0;x2=x2|0;var s0=0;if(x2&32){s0=x0;x0=x1;x1=s0;}$q=(x1<<x2)+(x0>>>1>>>~x2)|0;return(x0<<x2)+(x1>>>1>>>~x2)|0;}" }
+    ensures zeros { text_of asking_all (codes "$ctz") ≡ codes "function $ctz(x0,x1){x0=x0|0;x1=x1|0;if(x0){return 32-$clz32(~x0&x0-1)|0;}return 64-$clz32(~x1&x1-1)|0;}" }
+    ensures bits { text_of asking_all (codes "$pop") ≡ codes "function $pop(x0){x0=x0|0;var s0=0;while(x0){s0=s0+(x0&1)|0;x0=x0>>>1;}return s0|0;}" }
+    ensures quotient { text_of asking_all (codes "$divs") ≡ codes "function $divs(x0,x1){x0=x0|0;x1=x1|0;if((x1|0)==0)$trap(3);if((x0|0)==-2147483648&(x1|0)==-1)$trap(4);return(x0|0)/(x1|0)|0;}" }
+    ensures load { text_of asking_all (codes "$load64") ≡ codes "function $load64(x0){x0=x0|0;$q=($u8[x0+4>>0]|0)+($u8[x0+5>>0]<<8)+($u8[x0+6>>0]<<16)+($u8[x0+7>>0]<<24)|0;return($u8[x0>>0]|0)+($u8[x0+1>>0]<<8)+($u8[x0+2>>0]<<16)+($u8[x0+3>>0]<<24)|0;}" }
+    ensures copy { text_of asking_all (codes "$copy") ≡ codes "function $copy(x0,x1,x2){x0=x0|0;x1=x1|0;x2=x2|0;var s0=0;if(x2>>>0>65536)$trap(2);if(x0>>>0>65536-x2>>>0)$trap(2);if(x1>>>0>65536-x2>>>0)$trap(2);if(x0>>>0<=x1>>>0){if(((x0^x1)&3|(x2|0)<4)==0){while((x0+s0&3)!=0){$u8[x0+s0>>0]=$u8[x1+s0>>0]|0;s0=s0+1|0;}while((s0|0)<=(x2-32|0)){$w[x0+s0>>2]=$w[x1+s0>>2]|0;$w[x0+s0+4>>2]=$w[x1+s0+4>>2]|0;$w[x0+s0+8>>2]=$w[x1+s0+8>>2]|0;$w[x0+s0+12>>2]=$w[x1+s0+12>>2]|0;$w[x0+s0+16>>2]=$w[x1+s0+16>>2]|0;$w[x0+s0+20>>2]=$w[x1+s0+20>>2]|0;$w[x0+s0+24>>2]=$w[x1+s0+24>>2]|0;$w[x0+s0+28>>2]=$w[x1+s0+28>>2]|0;s0=s0+32|0;}while((s0|0)<=(x2-4|0)){$w[x0+s0>>2]=$w[x1+s0>>2]|0;s0=s0+4|0;}}while((s0|0)<(x2|0)){$u8[x0+s0>>0]=$u8[x1+s0>>0]|0;s0=s0+1|0;}}else{if(((x0^x1)&3|(x2|0)<4)==0){while((x0+x2&3)!=0){x2=x2-1|0;$u8[x0+x2>>0]=$u8[x1+x2>>0]|0;}while((x2|0)>31){x2=x2-32|0;$w[x0+x2+28>>2]=$w[x1+x2+28>>2]|0;$w[x0+x2+24>>2]=$w[x1+x2+24>>2]|0;$w[x0+x2+20>>2]=$w[x1+x2+20>>2]|0;$w[x0+x2+16>>2]=$w[x1+x2+16>>2]|0;$w[x0+x2+12>>2]=$w[x1+x2+12>>2]|0;$w[x0+x2+8>>2]=$w[x1+x2+8>>2]|0;$w[x0+x2+4>>2]=$w[x1+x2+4>>2]|0;$w[x0+x2>>2]=$w[x1+x2>>2]|0;}while((x2|0)>3){x2=x2-4|0;$w[x0+x2>>2]=$w[x1+x2>>2]|0;}}while((x2|0)>0){x2=x2-1|0;$u8[x0+x2>>0]=$u8[x1+x2>>0]|0;}}}" }
+    ensures fill { text_of asking_all (codes "$fill") ≡ codes "function $fill(x0,x1,x2){x0=x0|0;x1=x1|0;x2=x2|0;var s0=0;var s1=0;if(x2>>>0>65536)$trap(2);if(x0>>>0>65536-x2>>>0)$trap(2);if((x2|0)>3){s1=$imul(x1&255,16843009);while((x0+s0&3)!=0){$u8[x0+s0>>0]=x1;s0=s0+1|0;}while((s0|0)<=(x2-32|0)){$w[x0+s0>>2]=s1;$w[x0+s0+4>>2]=s1;$w[x0+s0+8>>2]=s1;$w[x0+s0+12>>2]=s1;$w[x0+s0+16>>2]=s1;$w[x0+s0+20>>2]=s1;$w[x0+s0+24>>2]=s1;$w[x0+s0+28>>2]=s1;s0=s0+32|0;}while((s0|0)<=(x2-4|0)){$w[x0+s0>>2]=s1;s0=s0+4|0;}}while((s0|0)<(x2|0)){$u8[x0+s0>>0]=x1;s0=s0+1|0;}}" }
+{}
+
+/// Which helpers a module has: only those that its code and its segments ask for.
+pub fn helpers_asked()
+    ensures none { helper_names choosing ≡ [] }
+    ensures wide { helper_names adding ≡ codes "$shl" ∷ codes "$shrs" ∷ codes "$shru" ∷ codes "$rotl" ∷ codes "$clz" ∷ codes "$ctz" ∷ codes "$pop" ∷ [] }
+    ensures load { helper_names loading ≡ codes "$load32" ∷ [] }
+    ensures store { helper_names storing ≡ codes "$store64" ∷ [] }
+    ensures data { helper_names listing ≡ codes "$put" ∷ codes "$zero" ∷ [] }
 {}
 
 /// The helper that writes sixteen words of a long segment.

@@ -1,47 +1,127 @@
 -- The functions of a module of asm.js that stands for one of WebAssembly, and those that it exports.
-use Rattle.std.specs.Prelude.{◌≡◌, ◌⊎◌, ℕ, ◌+◌, ◌-◌, Bool, true, false, List, [], ◌∷◌, ◌++◌, length, map, nat_le, Some, slice_get, option_map, codes, pos, if◌then◌else◌}
+use Rattle.std.specs.Prelude.{◌≡◌, ◌⊎◌, ℕ, ◌+◌, ◌-◌, Bool, true, false, List, [], ◌∷◌, ◌++◌, length, map, nat_le, Some, slice_get, option_map, codes, bytes_eq, pos, ◌==◌, if◌then◌else◌}
 use Rattle.std.specs.List.{AllByRecursion, flat_map, list_any}
 use Rattle.sem_words.specs.declared.word.TrapKind.TheVariants.{TableEntry, OtherType}
+use Rattle.sem_words.specs.declared.word.Bin.TheVariants.{DivS, DivU, RemS, RemU}
+use Rattle.sem_words.specs.declared.word.Un.TheVariants.{Popcnt}
 use Rattle.sem_words.specs.Words.{trap_code}
 use Rattle.session_lang.specs.Names.{export_name}
 use Rattle.session_lang.specs.Observation.{trap_name}
 use Rattle.wasm_lang.specs.declared.types.ExportKind.{ExportKind}
 use Rattle.wasm_lang.specs.declared.types.ExportKind.TheVariants as exports
-use Rattle.wasm_lang.specs.Modules.{FunctionType, Exported as Export, DataSegment, WasmModule}
+use Rattle.wasm_lang.specs.Instructions.{Instruction, plain, un32, bin32, load, store, memory_copy, memory_fill}
+use Rattle.wasm_lang.specs.Modules.{FunctionType, Exported as Export, DataSegment, FunctionBody, WasmModule}
 use Rattle.wasm_lang_valid.specs.ModuleRules.{function_types, has_memory}
 use Rattle.asm_lang.specs.Modules.{lit, call, no_exprs, exprs, Stmt, plain, Stmts, stmts, Function, Table, Module}
 use Rattle.asm_lang_valid.specs.Refusal.{Exported, exported_from}
 use Rattle.asm_lang_valid.specs.Scope.{Signature, signature_of, a_foreign, meaning, is_in}
 use Rattle.wasm2js_lang.specs.Calling.{Entry, entry, words, has_result}
+use Rattle.wasm2js_lang.specs.Helpers.{is_wide_operator, has_wide_operators}
 
--- ---- helpers, by their names: how many ints each takes, and whether it gives one
+-- ---- instructions whose code calls a helper: operators on words of 64 bits and their set bits, and ..
 
--- shifts, a rotation and counts of bits of 64-bit words; quotients and remainders of 32-bit words
-abbrev pub word_helpers : List Entry
-word_helpers =
-    entry (codes "$shl") 3 true ∷ entry (codes "$shrs") 3 true ∷ entry (codes "$shru") 3 true ∷ entry (codes "$rotl") 3 true
-    ∷ entry (codes "$clz") 2 true ∷ entry (codes "$ctz") 2 true ∷ entry (codes "$pop") 1 true
-    ∷ entry (codes "$divs") 2 true ∷ entry (codes "$divu") 2 true ∷ entry (codes "$rems") 2 true ∷ entry (codes "$remu") 2 true ∷ []
+-- set bits are counted in each word of 32 bits
+abbrev pub counts_set_bits : Instruction → Bool
+counts_set_bits (plain (un32 Popcnt)) = true
+counts_set_bits i = is_wide_operator i
 
--- words at any place of the memory, read and written; runs of bytes
-abbrev pub memory_helpers : List Entry
-memory_helpers =
-    entry (codes "$load32") 1 true ∷ entry (codes "$load64") 1 true ∷ entry (codes "$store32") 2 false ∷ entry (codes "$store64") 3 false
-    ∷ entry (codes "$copy") 3 false ∷ entry (codes "$fill") 3 false ∷ []
+abbrev pub is_signed_quotient : Instruction → Bool
+is_signed_quotient (plain (bin32 DivS)) = true
+is_signed_quotient i = false
 
--- a data segment with so many bytes that words of it are written by a call
+abbrev pub is_quotient : Instruction → Bool
+is_quotient (plain (bin32 DivU)) = true
+is_quotient i = false
+
+abbrev pub is_signed_remainder : Instruction → Bool
+is_signed_remainder (plain (bin32 RemS)) = true
+is_signed_remainder i = false
+
+abbrev pub is_remainder : Instruction → Bool
+is_remainder (plain (bin32 RemU)) = true
+is_remainder i = false
+
+-- of so many bytes
+abbrev pub is_load : ℕ → Instruction → Bool
+is_load n (plain (load op align offset)) = op.size == n
+is_load n i = false
+
+abbrev pub is_store : ℕ → Instruction → Bool
+is_store n (plain (store op align offset)) = op.size == n
+is_store n i = false
+
+abbrev pub is_copy : Instruction → Bool
+is_copy (plain memory_copy) = true
+is_copy i = false
+
+abbrev pub is_fill : Instruction → Bool
+is_fill (plain memory_fill) = true
+is_fill i = false
+
+-- some instruction of the module is one of these
+abbrev pub has_instruction : (Instruction → Bool) → WasmModule → Bool
+has_instruction is_one w = list_any (λ (b : FunctionBody). list_any is_one b.code) w.bodies
+
+-- .. and data segments with so many bytes that words of them are written by calls
 abbrev pub is_long : DataSegment → Bool
 is_long d = nat_le 512 (length d.bytes)
 
 abbrev pub has_long_segments : WasmModule → Bool
 has_long_segments w = list_any is_long w.segments
 
--- sixteen words, written from a place of the memory on, and zeros from one place to another
-abbrev pub data_helpers : (long : Bool) → List Entry
-data_helpers long = if long then entry (codes "$put") 17 false ∷ entry (codes "$zero") 2 false ∷ [] else []
+-- ---- helpers, by their names: how many ints each takes, and whether it gives one; and which modules ask for it
+
+pub record Offered : Type 0 where
+  pub entry : Entry
+  pub asked_by : WasmModule → Bool
+
+abbrev pub offered : (name : List ℕ) (params : ℕ) (result : Bool) → (WasmModule → Bool) → Offered
+offered name params result asked_by = record { entry = entry name params result; asked_by = asked_by }
+
+-- shifts, a rotation and counts of bits of 64-bit words; quotients and remainders of 32-bit words
+abbrev pub word_helpers : List Offered
+word_helpers =
+    offered (codes "$shl") 3 true has_wide_operators
+    ∷ offered (codes "$shrs") 3 true has_wide_operators
+    ∷ offered (codes "$shru") 3 true has_wide_operators
+    ∷ offered (codes "$rotl") 3 true has_wide_operators
+    ∷ offered (codes "$clz") 2 true has_wide_operators
+    ∷ offered (codes "$ctz") 2 true has_wide_operators
+    ∷ offered (codes "$pop") 1 true (has_instruction counts_set_bits)
+    ∷ offered (codes "$divs") 2 true (has_instruction is_signed_quotient)
+    ∷ offered (codes "$divu") 2 true (has_instruction is_quotient)
+    ∷ offered (codes "$rems") 2 true (has_instruction is_signed_remainder)
+    ∷ offered (codes "$remu") 2 true (has_instruction is_remainder)
+    ∷ []
+
+-- words at any place of the memory, read and written; runs of bytes; sixteen words from a place on, and zeros from one place to another
+abbrev pub memory_helpers : List Offered
+memory_helpers =
+    offered (codes "$load32") 1 true (has_instruction (is_load 4))
+    ∷ offered (codes "$load64") 1 true (has_instruction (is_load 8))
+    ∷ offered (codes "$store32") 2 false (has_instruction (is_store 4))
+    ∷ offered (codes "$store64") 3 false (has_instruction (is_store 8))
+    ∷ offered (codes "$copy") 3 false (has_instruction is_copy)
+    ∷ offered (codes "$fill") 3 false (has_instruction is_fill)
+    ∷ offered (codes "$put") 17 false has_long_segments
+    ∷ offered (codes "$zero") 2 false has_long_segments
+    ∷ []
+
+-- those that the module asks for, and no other, in this order
+abbrev pub asked_among : WasmModule → List Offered → List Entry
+asked_among w [] = []
+asked_among w (h ∷ hs) = (if h.asked_by w then h.entry ∷ [] else []) ++ asked_among w hs
 
 abbrev pub helpers_asked : WasmModule → List Entry
-helpers_asked w = word_helpers ++ (if has_memory w then memory_helpers ++ data_helpers (has_long_segments w) else [])
+helpers_asked w = asked_among w (word_helpers ++ (if has_memory w then memory_helpers else []))
+
+-- the helper of this name is asked for
+abbrev pub is_asked_among : WasmModule → List Offered → (name : List ℕ) → Bool
+is_asked_among w [] name = false
+is_asked_among w (h ∷ hs) name = if bytes_eq h.entry.key name then h.asked_by w else is_asked_among w hs name
+
+abbrev pub is_asked : WasmModule → (name : List ℕ) → Bool
+is_asked w name = is_asked_among w (word_helpers ++ memory_helpers) name
 
 -- ---- functions of the source: the imported ones first, as WebAssembly numbers them, and all after the helpers
 

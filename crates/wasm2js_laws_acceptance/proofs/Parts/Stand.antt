@@ -2,7 +2,7 @@
 use Rattle.std.proofs.Common.{◌≡◌, ℕ, zero, suc, ◌+◌, ◌<◌, Bool, true, false, List, [], ◌∷◌, ◌++◌, map, length, Option, Some, refl, sym, ap, ◌∙◌, arith, length-append}
 use Rattle.std.specs.Prelude.{◌-◌, slice_get, option_map, nat_lt, codes, if◌then◌else◌}
 use Rattle.std.proofs.lemmas.Bool.Decides.{nat_tests}
-use Rattle.std.proofs.lemmas.List.{length-map}
+use Rattle.std.proofs.lemmas.List.{length-map, map-append}
 use Rattle.std.proofs.lemmas.Option.{slice_get_within}
 use Rattle.wasm_lang.specs.Modules.{FunctionType, FunctionBody, WasmModule}
 use Rattle.wasm_lang.specs.Shape.{IsShaped}
@@ -19,7 +19,7 @@ use Rattle.wasm2js_lang.specs.Calling.{entry}
 use Rattle.wasm2js_translation.specs.Names as names
 use Rattle.wasm2js_translation.specs.Names.{numbered, fixed, spelled}
 use Rattle.wasm2js_translation.specs.Helpers as code
-use Rattle.wasm2js_translation.specs.Modules.{function_for, functions_from, init_function, high_function, helpers, functions_of, translated}
+use Rattle.wasm2js_translation.specs.Modules.{function_for, functions_from, init_function, high_function, all_helpers, helpers, functions_of, translated}
 use Rattle.wasm2js_translation.specs.Tables.{stubs}
 use Rattle.wasm2js_laws_scopes.specs.Provided.{signature_for}
 use Rattle.wasm2js_laws_acceptance.proofs.ProvidedFunctions.{function_at, function_signed, function_named, found_some}
@@ -27,19 +27,36 @@ use Rattle.wasm2js_laws_acceptance.proofs.NamesFresh.{params_of, functions_new}
 use Rattle.wasm2js_laws_acceptance.proofs.NamesKeys.{function_typed}
 use Rattle.wasm2js_laws_acceptance.proofs.LimitsCounting.{imports_long}
 use Rattle.wasm2js_laws_acceptance.proofs.CalledExporting.{same_signature, init_signed}
-use Rattle.wasm2js_lang.specs.Parts.Functions.{word_helpers, memory_helpers, has_long_segments, data_helpers, helpers_asked, signature_asked, place_of, as_entry}
+use Rattle.wasm2js_lang.specs.Parts.Functions.{Offered, word_helpers, memory_helpers, asked_among, helpers_asked, is_asked, signature_asked, place_of, as_entry}
 use Rattle.wasm2js_laws_acceptance.proofs.Parts.Lists.{in_front, behind, number_is}
 
 -- ---- helpers
 
-pub helpers_are : (w : WasmModule) → map as_entry (helpers w) ≡ helpers_asked w
-helpers_are w = by (has_long_segments w) (has_memory w)
+-- each function is offered as its entry says, and asked for as its name is
+abbrev AreOffered : WasmModule → List Function → List Offered → Type 0
+AreOffered w [] [] = Unit {0}
+AreOffered w (f ∷ fs) (h ∷ hs) = (as_entry f ≡ h.entry) × (is_asked w f.name ≡ h.asked_by w) × AreOffered w fs hs
+AreOffered w _ _ = ⊥
+
+asked_are : (w : WasmModule) (fs : List Function) (hs : List Offered) → AreOffered w fs hs → map as_entry (code.kept (is_asked w) fs) ≡ asked_among w hs
+asked_are w [] [] h = refl
+asked_are w [] (x ∷ hs) h = absurd h
+asked_are w (f ∷ fs) [] h = absurd h
+asked_are w (f ∷ fs) (x ∷ hs) h =
+    map-append as_entry (if is_asked w f.name then f ∷ [] else []) (code.kept (is_asked w) fs)
+    ∙ ap (λ es. map as_entry (if is_asked w f.name then f ∷ [] else []) ++ es) (asked_are w fs hs h.2)
+    ∙ ap (λ es. es ++ asked_among w hs) (one (is_asked w f.name) ∙ ap (λ e. if is_asked w f.name then e ∷ [] else []) h.0 ∙ ap (λ b. if b then x.entry ∷ [] else []) h.1)
   where
-    by : (long b : Bool) → map as_entry (code.wide_helpers ++ code.division_helpers ++ (if b then code.memory_helpers (memory_bytes w) long else [])) ≡ word_helpers ++ (if b then memory_helpers ++ data_helpers long else [])
-    by true true = refl
-    by false true = refl
-    by true false = refl
-    by false false = refl
+    one : (b : Bool) → map as_entry (if b then f ∷ [] else []) ≡ (if b then as_entry f ∷ [] else [])
+    one true = refl
+    one false = refl
+
+pub helpers_are : (w : WasmModule) → map as_entry (helpers w) ≡ helpers_asked w
+helpers_are w = asked_are w (all_helpers w) (word_helpers ++ (if has_memory w then memory_helpers else [])) (by (has_memory w))
+  where
+    by : (b : Bool) → AreOffered w (code.wide_helpers ++ code.division_helpers ++ (if b then code.memory_helpers (memory_bytes w) else [])) (word_helpers ++ (if b then memory_helpers else []))
+    by true = (refl, refl, (refl, refl, (refl, refl, (refl, refl, (refl, refl, (refl, refl, (refl, refl, (refl, refl, (refl, refl, (refl, refl, (refl, refl, (refl, refl, (refl, refl, (refl, refl, (refl, refl, (refl, refl, (refl, refl, (refl, refl, (refl, refl, tt)))))))))))))))))))
+    by false = (refl, refl, (refl, refl, (refl, refl, (refl, refl, (refl, refl, (refl, refl, (refl, refl, (refl, refl, (refl, refl, (refl, refl, (refl, refl, tt)))))))))))
 
 pub helpers_long : (w : WasmModule) → length (helpers w) ≡ length (helpers_asked w)
 helpers_long w = sym (length-map (helpers w) as_entry) ∙ ap length (helpers_are w)

@@ -1,7 +1,7 @@
 use Rattle.std.proofs.Common.{◌≡◌, ◌++◌, map, drop}
 use Rattle.asm_tree.specs.Views.{global_view}
 use Rattle.asm2wasm_translation.specs.Numbers.{int_variables}
-use Rattle.asm2wasm_tables.specs.Names.{names_in}
+use Rattle.name_slots.specs.Names.{names_in}
 use Rattle.asm2wasm_numbers.specs.Declarations.{variable_names}
 use Rattle.asm2wasm_numbers.proofs.names.global_slots.Given as goal
 

@@ -1,6 +1,6 @@
 use Rattle.std.proofs.Common.{◌≡◌, ◌++◌, map, drop}
 use Rattle.asm_tree.specs.Views.{param_view}
-use Rattle.asm2wasm_tables.specs.Names.{names_in}
+use Rattle.name_slots.specs.Names.{names_in}
 use Rattle.asm2wasm_numbers.specs.Declarations.{param_names}
 use Rattle.asm2wasm_numbers.proofs.names.push_params.Given as goal
 

@@ -1,6 +1,6 @@
 use Rattle.std.proofs.Common.{◌≡◌, ◌++◌, drop}
 use Rattle.asm_tree.specs.Views.{texts_view}
-use Rattle.asm2wasm_tables.specs.Names.{names_in}
+use Rattle.name_slots.specs.Names.{names_in}
 use Rattle.asm2wasm_numbers.proofs.names.text_slots.Given as goal
 
 abbrev pub invariant-loop-text : goal.invariant-loop-text

@@ -1,6 +1,7 @@
 use Rattle.std.proofs.Common.{◌≡◌, ◌++◌, map, drop}
 use Rattle.asm_tree.specs.Views.{function_view}
-use Rattle.asm2wasm_tables.specs.Names.{names_in, function_names}
+use Rattle.name_slots.specs.Names.{names_in}
+use Rattle.asm2wasm_tables.specs.Names.{function_names}
 use Rattle.asm2wasm_tables.proofs.plan.function_slots.Given as goal
 
 abbrev pub invariant-loop-function : goal.invariant-loop-function

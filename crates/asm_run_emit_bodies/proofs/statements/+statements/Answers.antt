@@ -1,5 +1,5 @@
 -- What each function made is the code of its form.
-use Rattle.std.proofs.Common.{◌-◌, ◌<◌, length, List, [], ◌∷◌, sym, ap, ◌∙◌, arith}
+use Rattle.std.proofs.Common.{◌-◌, ◌<◌, length, List, [], ◌∷◌, refl, sym, ap, ◌∙◌, arith}
 use Rattle.sem_words.specs.declared.text.Text.{Text}
 use Rattle.asm_lang.specs.Modules.{Stmt, labelled}
 use Rattle.asm_lang_valid.specs.Rows.{stmt_count, stmts_count}
@@ -9,131 +9,155 @@ use Rattle.sem_words.specs.Lists.{list_items}
 use Rattle.asm_tree.specs.Views.{texts_view, text_option, expr_view, expr_option, stmt_view, stmts_view, clauses_view}
 use Rattle.asm_run_emit_bodies.proofs.Shapes.{block_is, plain_is, return_is, if_only_is, if_else_is, while_is, do_is, for_is, labelled_is, switch_is, empty_is, break_is, continue_is}
 use Rattle.asm_run_code.specs.declared.op.Op.TheVariants.{Go}
-use Rattle.asm_run_code.specs.Bodies.{stmt}
+use Rattle.asm_run_code.specs.Bodies.{a_loop, a_switch, a_named, stmt}
 use Rattle.asm_run_emit_values.specs.Names.{scope_said}
 use Rattle.asm_run_emit_values.proofs.Codes.{told}
-use Rattle.asm_run_emit_bodies.specs.Around.{around_view}
-use Rattle.asm_run_emit_bodies.proofs.Left.{around_view-Inside}
+use Rattle.asm_run_emit_bodies.specs.Jumps.{around_view}
+use Rattle.asm_run_emit_bodies.proofs.Inside.{held, meets_entered, meets_same}
 use Rattle.asm_run_emit_bodies.proofs.Forms.{block_form, plain_form, empty_form, break_form, continue_form, return_bare, if_only_bare, if_else_bare, labelled_bare, switch_bare}
 use Rattle.asm_run_emit_bodies.proofs.Made.{as_form, if_made, if_else_made, while_made, do_made, for_made, labelled_made, switch_made}
-use Rattle.asm_run_emit_bodies.proofs.Turns.{stmts_begin, stmts_turn, stmts_end, code_begin, starts_begin, code_turn, starts_turn, code_end, starts_end, enough, stmt_within, clause_within}
+use Rattle.asm_run_emit_bodies.proofs.Turns.{stmts_begin, stmts_turn, stmts_end, code_begin, starts_begin, code_turn, starts_turn, code_end, starts_end, stmt_within, clause_within}
 use Rattle.asm_run_emit_bodies.proofs.statements.+statements.Goals as goal
 
-pub emit_stmt-returns-in-Block : goal.emit_stmt-returns-in-Block
-emit_stmt-returns-in-Block t c =
-    as_form c.emit_stmts.result c.emit_stmts.new.output (scope_said c.args.names.now) (around_view c.args.around.now) (texts_view c.args.own.now) c.args.free c.args.output.now (stmt_view c.args.statement.now) _ (block_is c.args.statement.now _ c.as_slice.result.now c.in-Block.is c.as_slice.ensures) (told c.emit_stmts.result c.emit_stmts.new.output _ _ (sym (block_form (scope_said c.args.names.now) (around_view c.args.around.now) (texts_view c.args.own.now) c.args.free c.args.output.now (stmts_view c.as_slice.result.now))) c.emit_stmts.ensures)
+pub emit_stmt-returns-in-Block-clause-code : goal.emit_stmt-returns-in-Block-clause-code
+emit_stmt-returns-in-Block-clause-code t c = λ os m.
+    as_form c.emit_stmts.result c.emit_stmts.new.output (scope_said c.args.names.now) os (texts_view c.args.own.now) c.args.free c.args.output.now (stmt_view c.args.statement.now) _ (block_is c.args.statement.now _ c.as_slice.result.now c.in-Block.is c.as_slice.ensures) (told c.emit_stmts.result c.emit_stmts.new.output _ _ (sym (block_form (scope_said c.args.names.now) os (texts_view c.args.own.now) c.args.free c.args.output.now (stmts_view c.as_slice.result.now))) (c.emit_stmts.ensures.code os m))
 
-pub emit_stmt-returns-in-Plain : goal.emit_stmt-returns-in-Plain
-emit_stmt-returns-in-Plain t c =
-    as_form c.emit_value.result c.emit_value.new.output (scope_said c.args.names.now) (around_view c.args.around.now) (texts_view c.args.own.now) c.args.free c.args.output.now (stmt_view c.args.statement.now) _ (plain_is c.args.statement.now c.in-Plain.expr c.in-Plain.is) (told c.emit_value.result c.emit_value.new.output _ _ (sym (plain_form (scope_said c.args.names.now) (around_view c.args.around.now) (texts_view c.args.own.now) c.args.free c.args.output.now (expr_view c.in-Plain.expr))) c.emit_value.ensures)
+pub emit_stmt-returns-in-Plain-clause-code : goal.emit_stmt-returns-in-Plain-clause-code
+emit_stmt-returns-in-Plain-clause-code t c = λ os m.
+    as_form c.emit_value.result c.emit_value.new.output (scope_said c.args.names.now) os (texts_view c.args.own.now) c.args.free c.args.output.now (stmt_view c.args.statement.now) _ (plain_is c.args.statement.now c.in-Plain.expr c.in-Plain.is) (told c.emit_value.result c.emit_value.new.output _ _ (sym (plain_form (scope_said c.args.names.now) os (texts_view c.args.own.now) c.args.free c.args.output.now (expr_view c.in-Plain.expr))) c.emit_value.ensures)
 
-pub emit_stmt-returns-in-None : goal.emit_stmt-returns-in-None
-emit_stmt-returns-in-None t c =
-    as_form c.emit_if.result c.emit_if.new.output (scope_said c.args.names.now) (around_view c.args.around.now) (texts_view c.args.own.now) c.args.free c.args.output.now (stmt_view c.args.statement.now) _ (if_only_is c.args.statement.now c.in-If.condition _ _ c.deref.result.now c.in-If.is c.in-None.is c.deref.ensures) (told c.emit_if.result c.emit_if.new.output _ _ (sym (if_only_bare (scope_said c.args.names.now) (around_view c.args.around.now) (texts_view c.args.own.now) c.args.free c.args.output.now (expr_view c.in-If.condition) (stmt_view c.deref.result.now))) c.emit_if.ensures)
+pub emit_stmt-returns-in-None-clause-code : goal.emit_stmt-returns-in-None-clause-code
+emit_stmt-returns-in-None-clause-code t c = λ os m.
+    as_form c.emit_if.result c.emit_if.new.output (scope_said c.args.names.now) os (texts_view c.args.own.now) c.args.free c.args.output.now (stmt_view c.args.statement.now) _ (if_only_is c.args.statement.now c.in-If.condition _ _ c.deref.result.now c.in-If.is c.in-None.is c.deref.ensures) (told c.emit_if.result c.emit_if.new.output _ _ (sym (if_only_bare (scope_said c.args.names.now) os (texts_view c.args.own.now) c.args.free c.args.output.now (expr_view c.in-If.condition) (stmt_view c.deref.result.now))) (c.emit_if.ensures.code os m))
 
-pub emit_stmt-returns-in-Some : goal.emit_stmt-returns-in-Some
-emit_stmt-returns-in-Some t c =
-    as_form c.emit_if_else.result c.emit_if_else.new.output (scope_said c.args.names.now) (around_view c.args.around.now) (texts_view c.args.own.now) c.args.free c.args.output.now (stmt_view c.args.statement.now) _ (if_else_is c.args.statement.now c.in-If.condition _ _ _ c.deref-in-Some.result.now c.deref-in-Some-2.result.now c.in-If.is c.in-Some.is c.deref-in-Some.ensures c.deref-in-Some-2.ensures) (told c.emit_if_else.result c.emit_if_else.new.output _ _ (sym (if_else_bare (scope_said c.args.names.now) (around_view c.args.around.now) (texts_view c.args.own.now) c.args.free c.args.output.now (expr_view c.in-If.condition) (stmt_view c.deref-in-Some.result.now) (stmt_view c.deref-in-Some-2.result.now))) c.emit_if_else.ensures)
+pub emit_stmt-returns-in-Some-clause-code : goal.emit_stmt-returns-in-Some-clause-code
+emit_stmt-returns-in-Some-clause-code t c = λ os m.
+    as_form c.emit_if_else.result c.emit_if_else.new.output (scope_said c.args.names.now) os (texts_view c.args.own.now) c.args.free c.args.output.now (stmt_view c.args.statement.now) _ (if_else_is c.args.statement.now c.in-If.condition _ _ _ c.deref-in-Some.result.now c.deref-in-Some-2.result.now c.in-If.is c.in-Some.is c.deref-in-Some.ensures c.deref-in-Some-2.ensures) (told c.emit_if_else.result c.emit_if_else.new.output _ _ (sym (if_else_bare (scope_said c.args.names.now) os (texts_view c.args.own.now) c.args.free c.args.output.now (expr_view c.in-If.condition) (stmt_view c.deref-in-Some.result.now) (stmt_view c.deref-in-Some-2.result.now))) (c.emit_if_else.ensures.code os m))
 
-pub emit_stmt-returns-in-Return : goal.emit_stmt-returns-in-Return
-emit_stmt-returns-in-Return t c =
-    as_form c.emit_return.result c.emit_return.new.output (scope_said c.args.names.now) (around_view c.args.around.now) (texts_view c.args.own.now) c.args.free c.args.output.now (stmt_view c.args.statement.now) _ (return_is c.args.statement.now c.in-Return.value c.in-Return.is) (told c.emit_return.result c.emit_return.new.output _ _ (sym (return_bare (scope_said c.args.names.now) (around_view c.args.around.now) (texts_view c.args.own.now) c.args.free c.args.output.now (expr_option c.in-Return.value))) c.emit_return.ensures)
+pub emit_stmt-returns-in-Return-clause-code : goal.emit_stmt-returns-in-Return-clause-code
+emit_stmt-returns-in-Return-clause-code t c = λ os m.
+    as_form c.emit_return.result c.emit_return.new.output (scope_said c.args.names.now) os (texts_view c.args.own.now) c.args.free c.args.output.now (stmt_view c.args.statement.now) _ (return_is c.args.statement.now c.in-Return.value c.in-Return.is) (told c.emit_return.result c.emit_return.new.output _ _ (sym (return_bare (scope_said c.args.names.now) os (texts_view c.args.own.now) c.args.free c.args.output.now (expr_option c.in-Return.value))) c.emit_return.ensures)
 
-pub emit_stmt-returns-in-While : goal.emit_stmt-returns-in-While
-emit_stmt-returns-in-While t c =
-    as_form c.emit_while.result c.emit_while.new.output (scope_said c.args.names.now) (around_view c.args.around.now) (texts_view c.args.own.now) c.args.free c.args.output.now (stmt_view c.args.statement.now) _ (while_is c.args.statement.now c.in-While.condition _ c.deref-in-While.result.now c.in-While.is c.deref-in-While.ensures) (c.emit_while.ensures)
+pub emit_stmt-returns-in-While-clause-code : goal.emit_stmt-returns-in-While-clause-code
+emit_stmt-returns-in-While-clause-code t c = λ os m.
+    as_form c.emit_while.result c.emit_while.new.output (scope_said c.args.names.now) os (texts_view c.args.own.now) c.args.free c.args.output.now (stmt_view c.args.statement.now) _ (while_is c.args.statement.now c.in-While.condition _ c.deref-in-While.result.now c.in-While.is c.deref-in-While.ensures) (c.emit_while.ensures.code os m)
 
-pub emit_stmt-returns-in-DoWhile : goal.emit_stmt-returns-in-DoWhile
-emit_stmt-returns-in-DoWhile t c =
-    as_form c.emit_do.result c.emit_do.new.output (scope_said c.args.names.now) (around_view c.args.around.now) (texts_view c.args.own.now) c.args.free c.args.output.now (stmt_view c.args.statement.now) _ (do_is c.args.statement.now _ c.in-DoWhile.condition c.deref-in-DoWhile.result.now c.in-DoWhile.is c.deref-in-DoWhile.ensures) (c.emit_do.ensures)
+pub emit_stmt-returns-in-DoWhile-clause-code : goal.emit_stmt-returns-in-DoWhile-clause-code
+emit_stmt-returns-in-DoWhile-clause-code t c = λ os m.
+    as_form c.emit_do.result c.emit_do.new.output (scope_said c.args.names.now) os (texts_view c.args.own.now) c.args.free c.args.output.now (stmt_view c.args.statement.now) _ (do_is c.args.statement.now _ c.in-DoWhile.condition c.deref-in-DoWhile.result.now c.in-DoWhile.is c.deref-in-DoWhile.ensures) (c.emit_do.ensures.code os m)
 
-pub emit_stmt-returns-in-For : goal.emit_stmt-returns-in-For
-emit_stmt-returns-in-For t c =
-    as_form c.emit_for.result c.emit_for.new.output (scope_said c.args.names.now) (around_view c.args.around.now) (texts_view c.args.own.now) c.args.free c.args.output.now (stmt_view c.args.statement.now) _ (for_is c.args.statement.now c.in-For.head _ c.deref-head.result.now c.deref-in-For.result.now c.in-For.is c.deref-head.ensures c.deref-in-For.ensures) (c.emit_for.ensures)
+pub emit_stmt-returns-in-For-clause-code : goal.emit_stmt-returns-in-For-clause-code
+emit_stmt-returns-in-For-clause-code t c = λ os m.
+    as_form c.emit_for.result c.emit_for.new.output (scope_said c.args.names.now) os (texts_view c.args.own.now) c.args.free c.args.output.now (stmt_view c.args.statement.now) _ (for_is c.args.statement.now c.in-For.head _ c.deref-head.result.now c.deref-in-For.result.now c.in-For.is c.deref-head.ensures c.deref-in-For.ensures) (c.emit_for.ensures.code os m)
 
-pub emit_stmt-returns-in-Break : goal.emit_stmt-returns-in-Break
-emit_stmt-returns-in-Break t c =
-    as_form c.put_go.result c.put_go.new.output (scope_said c.args.names.now) (around_view c.args.around.now) (texts_view c.args.own.now) c.args.free c.args.output.now (stmt_view c.args.statement.now) _ (break_is c.args.statement.now c.in-Break.name c.in-Break.is) (told c.put_go.result c.put_go.new.output _ _ (sym (break_form (scope_said c.args.names.now) (around_view c.args.around.now) (texts_view c.args.own.now) c.args.free c.args.output.now (text_option c.in-Break.name))) (told c.put_go.result c.put_go.new.output _ _ (ap (λ a. Go a ∷ c.args.output.now) c.break_address.ensures) c.put_go.ensures))
+pub emit_stmt-returns-in-Break-clause-code : goal.emit_stmt-returns-in-Break-clause-code
+emit_stmt-returns-in-Break-clause-code t c = λ os m.
+    as_form c.put_go.result c.put_go.new.output (scope_said c.args.names.now) os (texts_view c.args.own.now) c.args.free c.args.output.now (stmt_view c.args.statement.now) _ (break_is c.args.statement.now c.in-Break.name c.in-Break.is) (told c.put_go.result c.put_go.new.output _ _ (sym (break_form (scope_said c.args.names.now) os (texts_view c.args.own.now) c.args.free c.args.output.now (text_option c.in-Break.name))) (told c.put_go.result c.put_go.new.output _ _ (ap (λ a. Go a ∷ c.args.output.now) (c.break_address.ensures ∙ m.breaks (text_option c.in-Break.name))) c.put_go.ensures))
 
-pub emit_stmt-returns-in-Continue : goal.emit_stmt-returns-in-Continue
-emit_stmt-returns-in-Continue t c =
-    as_form c.put_go-in-Continue.result c.put_go-in-Continue.new.output (scope_said c.args.names.now) (around_view c.args.around.now) (texts_view c.args.own.now) c.args.free c.args.output.now (stmt_view c.args.statement.now) _ (continue_is c.args.statement.now c.in-Continue.name c.in-Continue.is) (told c.put_go-in-Continue.result c.put_go-in-Continue.new.output _ _ (sym (continue_form (scope_said c.args.names.now) (around_view c.args.around.now) (texts_view c.args.own.now) c.args.free c.args.output.now (text_option c.in-Continue.name))) (told c.put_go-in-Continue.result c.put_go-in-Continue.new.output _ _ (ap (λ a. Go a ∷ c.args.output.now) c.continue_address.ensures) c.put_go-in-Continue.ensures))
+pub emit_stmt-returns-in-Continue-clause-code : goal.emit_stmt-returns-in-Continue-clause-code
+emit_stmt-returns-in-Continue-clause-code t c = λ os m.
+    as_form c.put_go-in-Continue.result c.put_go-in-Continue.new.output (scope_said c.args.names.now) os (texts_view c.args.own.now) c.args.free c.args.output.now (stmt_view c.args.statement.now) _ (continue_is c.args.statement.now c.in-Continue.name c.in-Continue.is) (told c.put_go-in-Continue.result c.put_go-in-Continue.new.output _ _ (sym (continue_form (scope_said c.args.names.now) os (texts_view c.args.own.now) c.args.free c.args.output.now (text_option c.in-Continue.name))) (told c.put_go-in-Continue.result c.put_go-in-Continue.new.output _ _ (ap (λ a. Go a ∷ c.args.output.now) (c.continue_address.ensures ∙ m.continues (text_option c.in-Continue.name))) c.put_go-in-Continue.ensures))
 
-pub emit_stmt-returns-in-Labelled : goal.emit_stmt-returns-in-Labelled
-emit_stmt-returns-in-Labelled t c =
-    as_form c.emit_labelled.result c.emit_labelled.new.output (scope_said c.args.names.now) (around_view c.args.around.now) (texts_view c.args.own.now) c.args.free c.args.output.now (stmt_view c.args.statement.now) _ (labelled_is c.args.statement.now c.in-Labelled.labels _ c.deref-in-Labelled.result.now c.in-Labelled.is c.deref-in-Labelled.ensures ∙ ap (λ (l : List Text). labelled (texts_view l) (stmt_view c.deref-in-Labelled.result.now)) (sym c.as_slice-in-Labelled.ensures)) (told c.emit_labelled.result c.emit_labelled.new.output _ _ (sym (labelled_bare (scope_said c.args.names.now) (around_view c.args.around.now) (texts_view c.args.own.now) c.args.free c.args.output.now (texts_view c.as_slice-in-Labelled.result.now) (stmt_view c.deref-in-Labelled.result.now))) c.emit_labelled.ensures)
+pub emit_stmt-returns-in-Labelled-clause-code : goal.emit_stmt-returns-in-Labelled-clause-code
+emit_stmt-returns-in-Labelled-clause-code t c = λ os m.
+    as_form c.emit_labelled.result c.emit_labelled.new.output (scope_said c.args.names.now) os (texts_view c.args.own.now) c.args.free c.args.output.now (stmt_view c.args.statement.now) _ (labelled_is c.args.statement.now c.in-Labelled.labels _ c.deref-in-Labelled.result.now c.in-Labelled.is c.deref-in-Labelled.ensures ∙ ap (λ (l : List Text). labelled (texts_view l) (stmt_view c.deref-in-Labelled.result.now)) (sym c.as_slice-in-Labelled.ensures)) (told c.emit_labelled.result c.emit_labelled.new.output _ _ (sym (labelled_bare (scope_said c.args.names.now) os (texts_view c.args.own.now) c.args.free c.args.output.now (texts_view c.as_slice-in-Labelled.result.now) (stmt_view c.deref-in-Labelled.result.now))) (c.emit_labelled.ensures.code os m))
 
-pub emit_stmt-returns-in-Switch : goal.emit_stmt-returns-in-Switch
-emit_stmt-returns-in-Switch t c =
-    as_form c.emit_switch.result c.emit_switch.new.output (scope_said c.args.names.now) (around_view c.args.around.now) (texts_view c.args.own.now) c.args.free c.args.output.now (stmt_view c.args.statement.now) _ (switch_is c.args.statement.now c.in-Switch.subject _ c.as_slice-in-Switch.result.now c.in-Switch.is c.as_slice-in-Switch.ensures) (told c.emit_switch.result c.emit_switch.new.output _ _ (sym (switch_bare (scope_said c.args.names.now) (around_view c.args.around.now) (texts_view c.args.own.now) c.args.free c.args.output.now (expr_view c.in-Switch.subject) (clauses_view c.as_slice-in-Switch.result.now))) c.emit_switch.ensures)
+pub emit_stmt-returns-in-Switch-clause-code : goal.emit_stmt-returns-in-Switch-clause-code
+emit_stmt-returns-in-Switch-clause-code t c = λ os m.
+    as_form c.emit_switch.result c.emit_switch.new.output (scope_said c.args.names.now) os (texts_view c.args.own.now) c.args.free c.args.output.now (stmt_view c.args.statement.now) _ (switch_is c.args.statement.now c.in-Switch.subject _ c.as_slice-in-Switch.result.now c.in-Switch.is c.as_slice-in-Switch.ensures) (told c.emit_switch.result c.emit_switch.new.output _ _ (sym (switch_bare (scope_said c.args.names.now) os (texts_view c.args.own.now) c.args.free c.args.output.now (expr_view c.in-Switch.subject) (clauses_view c.as_slice-in-Switch.result.now))) (c.emit_switch.ensures.code os m))
 
-pub emit_stmt-returns-in-Empty : goal.emit_stmt-returns-in-Empty
-emit_stmt-returns-in-Empty t c =
-    sym (ap (λ (s : Stmt). stmt (scope_said c.args.names.now) (around_view c.args.around.now) (texts_view c.args.own.now) c.args.free s c.args.output.now) (empty_is c.args.statement.now c.in-Empty.is) ∙ empty_form (scope_said c.args.names.now) (around_view c.args.around.now) (texts_view c.args.own.now) c.args.free c.args.output.now)
+pub emit_stmt-returns-in-Empty-clause-code : goal.emit_stmt-returns-in-Empty-clause-code
+emit_stmt-returns-in-Empty-clause-code t c = λ os m.
+    sym (ap (λ (s : Stmt). stmt (scope_said c.args.names.now) os (texts_view c.args.own.now) c.args.free s c.args.output.now) (empty_is c.args.statement.now c.in-Empty.is) ∙ empty_form (scope_said c.args.names.now) os (texts_view c.args.own.now) c.args.free c.args.output.now)
 
-pub emit_labelled-returns : goal.emit_labelled-returns
-emit_labelled-returns t c =
-    labelled_made c.emit_stmt.result c.emit_stmt.new.output (scope_said c.args.names.now) (around_view c.args.around.now) [] c.args.free c.args.output.now (texts_view c.args.labels.now) (stmt_view c.args.body.now) c.in_ok-past.past _ c.in_ok-past.ensures (around_view-Inside _ _) c.emit_stmt.ensures
+pub emit_labelled-returns-clause-code : goal.emit_labelled-returns-clause-code
+emit_labelled-returns-clause-code t c = λ os m.
+    labelled_made c.emit_inside.result c.emit_inside.new.output (scope_said c.args.names.now) os [] c.args.free c.args.output.now (texts_view c.args.labels.now) (stmt_view c.args.body.now) c.in_ok-past.past (a_named (texts_view c.args.labels.now) c.in_ok-past.past ∷ os) c.in_ok-past.ensures refl (c.emit_inside.ensures.code os m)
 
-pub emit_if-returns : goal.emit_if-returns
-emit_if-returns t c =
-    if_made c.emit_test.result c.emit_test.new.output (scope_said c.args.names.now) (around_view c.args.around.now) [] c.args.free c.args.output.now (expr_view c.args.condition.now) (stmt_view c.args.yes.now) c.in_ok-past.past c.emit_stmt.new.output c.in_ok-past.ensures c.in_ok-emit_stmt.ensures c.emit_test.ensures
+pub emit_inside-returns-clause-code : goal.emit_inside-returns-clause-code
+emit_inside-returns-clause-code t c = λ os m.
+    c.in_ok-emit_stmt.ensures.code (around_view c.args.around ∷ os) (meets_entered (around_view c.args.around) os _ _ c.in_ok-enter.ensures m)
 
-pub emit_if_else-returns : goal.emit_if_else-returns
-emit_if_else-returns t c =
-    if_else_made c.emit_test.result c.emit_test.new.output (scope_said c.args.names.now) (around_view c.args.around.now) [] c.args.free c.args.output.now (expr_view c.args.condition.now) (stmt_view c.args.yes.now) (stmt_view c.args.no.now) c.in_ok-past.past c.in_ok-at.at c.emit_stmt.new.output c.put.new.self c.emit_stmt-2.new.output c.in_ok-past.ensures c.in_ok-emit_stmt.ensures c.in_ok-at.ensures c.in_ok-put.ensures c.in_ok-emit_stmt-2.ensures c.emit_test.ensures
+pub emit_inside-returns-clause-kept : goal.emit_inside-returns-clause-kept
+emit_inside-returns-clause-kept t c = c.leave.ensures c.args.jumps.now (c.in_ok-emit_stmt.ensures.kept ∙ c.in_ok-enter.ensures)
 
-pub emit_while-returns : goal.emit_while-returns
-emit_while-returns t c =
-    while_made c.put-2.result c.put-2.new.self (scope_said c.args.names.now) (around_view c.args.around.now) (texts_view c.args.own.now) c.args.free c.args.output.now (expr_view c.args.condition.now) (stmt_view c.args.body.now) c.in_ok-past.past c.in_ok-inner.inner c.in_ok-turn.turn _ c.put.new.self c.emit_stmt.new.output c.emit_test.new.output c.in_ok-past.ensures c.in_ok-inner.ensures c.in_ok-put.ensures c.in_ok-turn.ensures (around_view-Inside _ _) c.in_ok-emit_stmt.ensures c.in_ok-emit_test.ensures c.put-2.ensures
+pub emit_if-returns-clause-code : goal.emit_if-returns-clause-code
+emit_if-returns-clause-code t c = λ os m.
+    if_made c.emit_test.result c.emit_test.new.output (scope_said c.args.names.now) os [] c.args.free c.args.output.now (expr_view c.args.condition.now) (stmt_view c.args.yes.now) c.in_ok-past.past c.emit_stmt.new.output c.in_ok-past.ensures (c.in_ok-emit_stmt.ensures.code os m) c.emit_test.ensures
 
-pub emit_do-returns : goal.emit_do-returns
-emit_do-returns t c =
-    do_made c.put-2.result c.put-2.new.self (scope_said c.args.names.now) (around_view c.args.around.now) (texts_view c.args.own.now) c.args.free c.args.output.now (stmt_view c.args.body.now) (expr_view c.args.condition.now) c.in_ok-past.past c.in_ok-inner.inner c.in_ok-turn.turn _ c.put.new.self c.emit_test.new.output c.emit_stmt.new.output c.in_ok-past.ensures c.in_ok-inner.ensures c.in_ok-put.ensures c.in_ok-emit_test.ensures c.in_ok-turn.ensures (around_view-Inside _ _) c.in_ok-emit_stmt.ensures c.put-2.ensures
+pub emit_if_else-returns-clause-code : goal.emit_if_else-returns-clause-code
+emit_if_else-returns-clause-code t c = λ os m.
+    if_else_made c.emit_test.result c.emit_test.new.output (scope_said c.args.names.now) os [] c.args.free c.args.output.now (expr_view c.args.condition.now) (stmt_view c.args.yes.now) (stmt_view c.args.no.now) c.in_ok-past.past c.in_ok-at.at c.emit_stmt.new.output c.put.new.self c.emit_stmt-2.new.output c.in_ok-past.ensures (c.in_ok-emit_stmt.ensures.code os m) c.in_ok-at.ensures c.in_ok-put.ensures (c.in_ok-emit_stmt-2.ensures.code os (meets_same os _ _ c.in_ok-emit_stmt.ensures.kept m)) c.emit_test.ensures
 
-pub emit_for-returns : goal.emit_for-returns
-emit_for-returns t c =
-    for_made c.emit_part-2.result c.emit_part-2.new.output (scope_said c.args.names.now) (around_view c.args.around.now) (texts_view c.args.own.now) c.args.free c.args.output.now (expr_option c.args.head.now.start) (expr_option c.args.head.now.condition) (expr_option c.args.head.now.step) (stmt_view c.args.body.now) c.in_ok-past.past c.in_ok-inner.inner c.in_ok-turn.turn _ c.put.new.self c.emit_part.new.output c.emit_stmt.new.output c.emit_condition.new.output c.put-2.new.self c.in_ok-past.ensures c.in_ok-inner.ensures c.in_ok-put.ensures c.in_ok-emit_part.ensures c.in_ok-turn.ensures (around_view-Inside _ _) c.in_ok-emit_stmt.ensures c.in_ok-emit_condition.ensures c.in_ok-put-2.ensures c.emit_part-2.ensures
+pub emit_while-returns-clause-code : goal.emit_while-returns-clause-code
+emit_while-returns-clause-code t c = λ os m.
+    while_made c.put-2.result c.put-2.new.self (scope_said c.args.names.now) os (texts_view c.args.own.now) c.args.free c.args.output.now (expr_view c.args.condition.now) (stmt_view c.args.body.now) c.in_ok-past.past c.in_ok-inner.inner c.in_ok-turn.turn (a_loop (texts_view c.args.own.now) c.in_ok-turn.turn c.in_ok-past.past ∷ os) c.put.new.self c.emit_inside.new.output c.emit_test.new.output c.in_ok-past.ensures c.in_ok-inner.ensures c.in_ok-put.ensures c.in_ok-turn.ensures refl (c.in_ok-emit_inside.ensures.code os m) c.in_ok-emit_test.ensures c.put-2.ensures
 
-pub emit_switch-returns : goal.emit_switch-returns
-emit_switch-returns t c =
-    switch_made c.emit_operand.result c.emit_operand.new.output (scope_said c.args.names.now) (around_view c.args.around.now) [] c.args.free c.args.output.now (expr_view c.args.subject.now) (clauses_view c.args.clauses.now) c.in_ok-past.past _ c.in_ok-starts.starts c.in_ok-place.place c.into-slot.result c.emit_clauses.new.output c.dispatch.new.output c.in_ok-past.ensures (around_view-Inside _ _) c.in_ok-starts.ensures.code c.in_ok-starts.ensures.starts c.in_ok-place.ensures c.into-slot.ensures c.in_ok-dispatch.ensures c.emit_operand.ensures
+pub emit_do-returns-clause-code : goal.emit_do-returns-clause-code
+emit_do-returns-clause-code t c = λ os m.
+    do_made c.put-2.result c.put-2.new.self (scope_said c.args.names.now) os (texts_view c.args.own.now) c.args.free c.args.output.now (stmt_view c.args.body.now) (expr_view c.args.condition.now) c.in_ok-past.past c.in_ok-inner.inner c.in_ok-turn.turn (a_loop (texts_view c.args.own.now) c.in_ok-turn.turn c.in_ok-past.past ∷ os) c.put.new.self c.emit_test.new.output c.emit_inside.new.output c.in_ok-past.ensures c.in_ok-inner.ensures c.in_ok-put.ensures c.in_ok-emit_test.ensures c.in_ok-turn.ensures refl (c.in_ok-emit_inside.ensures.code os m) c.put-2.ensures
+
+pub emit_for-returns-clause-code : goal.emit_for-returns-clause-code
+emit_for-returns-clause-code t c = λ os m.
+    for_made c.emit_part-2.result c.emit_part-2.new.output (scope_said c.args.names.now) os (texts_view c.args.own.now) c.args.free c.args.output.now (expr_option c.args.head.now.start) (expr_option c.args.head.now.condition) (expr_option c.args.head.now.step) (stmt_view c.args.body.now) c.in_ok-past.past c.in_ok-inner.inner c.in_ok-turn.turn (a_loop (texts_view c.args.own.now) c.in_ok-turn.turn c.in_ok-past.past ∷ os) c.put.new.self c.emit_part.new.output c.emit_inside.new.output c.emit_condition.new.output c.put-2.new.self c.in_ok-past.ensures c.in_ok-inner.ensures c.in_ok-put.ensures c.in_ok-emit_part.ensures c.in_ok-turn.ensures refl (c.in_ok-emit_inside.ensures.code os m) c.in_ok-emit_condition.ensures c.in_ok-put-2.ensures c.emit_part-2.ensures
+
+pub emit_switch-returns-clause-code : goal.emit_switch-returns-clause-code
+emit_switch-returns-clause-code t c = λ os m.
+    switch_made c.emit_operand.result c.emit_operand.new.output (scope_said c.args.names.now) os [] c.args.free c.args.output.now (expr_view c.args.subject.now) (clauses_view c.args.clauses.now) c.in_ok-past.past (a_switch c.in_ok-past.past ∷ os) c.in_ok-starts.starts c.in_ok-place.place c.into-slot.result c.emit_clauses.new.output c.dispatch.new.output c.in_ok-past.ensures refl (c.in_ok-starts.ensures.code (a_switch c.in_ok-past.past ∷ os) (meets_entered (a_switch c.in_ok-past.past) os _ _ c.in_ok-enter.ensures m)) (c.in_ok-starts.ensures.starts (a_switch c.in_ok-past.past ∷ os) (meets_entered (a_switch c.in_ok-past.past) os _ _ c.in_ok-enter.ensures m)) c.in_ok-place.ensures c.into-slot.ensures c.in_ok-dispatch.ensures c.emit_operand.ensures
+
+pub emit_switch-returns-clause-kept : goal.emit_switch-returns-clause-kept
+emit_switch-returns-clause-kept t c = held c.emit_operand.result _ _ (c.leave.ensures c.args.jumps.now (c.in_ok-starts.ensures.kept ∙ c.in_ok-enter.ensures))
 
 pub emit_switch-dispatch-requires : goal.emit_switch-dispatch-requires
-emit_switch-dispatch-requires t c =
-    enough (scope_said c.args.names.now) _ c.args.free c.args.output.now c.args.clauses.now c.in_ok-starts.starts c.in_ok-starts.ensures.starts
+emit_switch-dispatch-requires t c = c.in_ok-starts.ensures.count
 
 pub emit_stmts-loop-i-init : goal.emit_stmts-loop-i-init
-emit_stmts-loop-i-init t c = record { within = omega arith; made = stmts_begin (scope_said c.args.names.now) (around_view c.args.around.now) c.args.free c.args.output.now c.args.body.now }
+emit_stmts-loop-i-init t c = record { within = omega arith; made = λ os m. stmts_begin (scope_said c.args.names.now) os c.args.free c.args.output.now c.args.body.now; kept = refl }
 
 pub emit_stmts-loop-i-preserved : goal.emit_stmts-loop-i-preserved
 emit_stmts-loop-i-preserved t c = record {
   within = omega arith;
-  made = stmts_turn (scope_said c.args.names.now) (around_view c.args.around.now) c.args.free c.args.output.now c.args.body.now c.loop-i.output c.emit_stmt.new.output (c.loop-i.i - 1) c.loop-i.i c.index-body-i.result (omega arith) (omega arith) c.index-body-i.is c.loop-i.invariant.made c.in_ok-emit_stmt.ensures;
+  made = λ os m. stmts_turn (scope_said c.args.names.now) os c.args.free c.args.output.now c.args.body.now c.loop-i.output c.emit_stmt.new.output (c.loop-i.i - 1) c.loop-i.i c.index-body-i.result (omega arith) (omega arith) c.index-body-i.is (c.loop-i.invariant.made os m) (c.in_ok-emit_stmt.ensures.code os (meets_same os _ _ c.loop-i.invariant.kept m));
+  kept = c.in_ok-emit_stmt.ensures.kept ∙ c.loop-i.invariant.kept;
 }
 
-pub emit_stmts-returns : goal.emit_stmts-returns
-emit_stmts-returns t c = stmts_end (scope_said c.args.names.now) (around_view c.args.around.now) c.args.free c.args.output.now c.args.body.now c.loop-i.output c.loop-i.i (omega arith) c.loop-i.invariant.made
+pub emit_stmts-returns-clause-code : goal.emit_stmts-returns-clause-code
+emit_stmts-returns-clause-code t c = λ os m. stmts_end (scope_said c.args.names.now) os c.args.free c.args.output.now c.args.body.now c.loop-i.output c.loop-i.i (omega arith) (c.loop-i.invariant.made os m)
 
 pub emit_clauses-loop-i-init : goal.emit_clauses-loop-i-init
-emit_clauses-loop-i-init t c = record {
-  within = omega arith;
-  made = code_begin (scope_said c.args.names.now) (around_view c.args.around.now) c.args.free c.args.output.now c.args.clauses.now;
-  placed = starts_begin (scope_said c.args.names.now) (around_view c.args.around.now) c.args.free c.args.output.now c.args.clauses.now c.in_ok-past.past c.new-starts.result c.put.new.self c.in_ok-past.ensures c.new-starts.ensures c.in_ok-put.ensures;
-}
+emit_clauses-loop-i-init t c =
+    let put = ap length c.in_ok-put.ensures in
+    let none = ap length c.new-starts.ensures in
+    record {
+      within = omega arith;
+      made = λ os m. code_begin (scope_said c.args.names.now) os c.args.free c.args.output.now c.args.clauses.now;
+      placed = λ os m. starts_begin (scope_said c.args.names.now) os c.args.free c.args.output.now c.args.clauses.now c.in_ok-past.past c.new-starts.result c.put.new.self c.in_ok-past.ensures c.new-starts.ensures c.in_ok-put.ensures;
+      count = omega arith;
+      kept = refl;
+    }
 
 pub emit_clauses-loop-i-preserved : goal.emit_clauses-loop-i-preserved
-emit_clauses-loop-i-preserved t c = record {
-  within = omega arith;
-  made = code_turn (scope_said c.args.names.now) (around_view c.args.around.now) c.args.free c.args.output.now c.args.clauses.now (c.loop-i.i - 1) c.loop-i.i c.index-clauses-i.result (omega arith) (omega arith) c.index-clauses-i.is c.as_slice.result.now c.loop-i.output c.emit_stmts.new.output (c.as_slice.ensures ∙ ap (λ (k : Clause). list_items k.body) (sym c.index-clauses-i.is)) c.loop-i.invariant.made c.in_ok-emit_stmts.ensures;
-  placed = starts_turn (scope_said c.args.names.now) (around_view c.args.around.now) c.args.free c.args.output.now c.args.clauses.now (c.loop-i.i - 1) c.loop-i.i c.index-clauses-i.result (omega arith) (omega arith) c.index-clauses-i.is c.as_slice.result.now c.loop-i.output c.emit_stmts.new.output c.in_ok-at.at c.loop-i.starts c.put-in-loop-i.new.self (c.as_slice.ensures ∙ ap (λ (k : Clause). list_items k.body) (sym c.index-clauses-i.is)) c.loop-i.invariant.made c.in_ok-emit_stmts.ensures c.in_ok-at.ensures c.loop-i.invariant.placed c.in_ok-put-2.ensures;
-}
+emit_clauses-loop-i-preserved t c =
+    let put = ap length c.in_ok-put-2.ensures in
+    record {
+      within = omega arith;
+      made = λ os m. code_turn (scope_said c.args.names.now) os c.args.free c.args.output.now c.args.clauses.now (c.loop-i.i - 1) c.loop-i.i c.index-clauses-i.result (omega arith) (omega arith) c.index-clauses-i.is c.as_slice.result.now c.loop-i.output c.emit_stmts.new.output (c.as_slice.ensures ∙ ap (λ (k : Clause). list_items k.body) (sym c.index-clauses-i.is)) (c.loop-i.invariant.made os m) (c.in_ok-emit_stmts.ensures.code os (meets_same os _ _ c.loop-i.invariant.kept m));
+      placed = λ os m. starts_turn (scope_said c.args.names.now) os c.args.free c.args.output.now c.args.clauses.now (c.loop-i.i - 1) c.loop-i.i c.index-clauses-i.result (omega arith) (omega arith) c.index-clauses-i.is c.as_slice.result.now c.loop-i.output c.emit_stmts.new.output c.in_ok-at.at c.loop-i.starts c.put-in-loop-i.new.self (c.as_slice.ensures ∙ ap (λ (k : Clause). list_items k.body) (sym c.index-clauses-i.is)) (c.loop-i.invariant.made os m) (c.in_ok-emit_stmts.ensures.code os (meets_same os _ _ c.loop-i.invariant.kept m)) c.in_ok-at.ensures (c.loop-i.invariant.placed os m) c.in_ok-put-2.ensures;
+      count = omega arith;
+      kept = c.in_ok-emit_stmts.ensures.kept ∙ c.loop-i.invariant.kept;
+    }
 
 pub emit_clauses-returns-clause-code : goal.emit_clauses-returns-clause-code
-emit_clauses-returns-clause-code t c = code_end (scope_said c.args.names.now) (around_view c.args.around.now) c.args.free c.args.output.now c.args.clauses.now c.loop-i.output c.loop-i.i (omega arith) c.loop-i.invariant.made
+emit_clauses-returns-clause-code t c = λ os m. code_end (scope_said c.args.names.now) os c.args.free c.args.output.now c.args.clauses.now c.loop-i.output c.loop-i.i (omega arith) (c.loop-i.invariant.made os m)
 
 pub emit_clauses-returns-clause-starts : goal.emit_clauses-returns-clause-starts
-emit_clauses-returns-clause-starts t c = starts_end (scope_said c.args.names.now) (around_view c.args.around.now) c.args.free c.args.output.now c.args.clauses.now c.loop-i.starts c.loop-i.i (omega arith) c.loop-i.invariant.placed
+emit_clauses-returns-clause-starts t c = λ os m. starts_end (scope_said c.args.names.now) os c.args.free c.args.output.now c.args.clauses.now c.loop-i.starts c.loop-i.i (omega arith) (c.loop-i.invariant.placed os m)
+
+pub emit_clauses-returns-clause-count : goal.emit_clauses-returns-clause-count
+emit_clauses-returns-clause-count t c =
+    let count = c.loop-i.invariant.count in
+    omega arith
 
 pub emit_stmt-emit_stmts-requires : goal.emit_stmt-emit_stmts-requires
 emit_stmt-emit_stmts-requires t c =
@@ -198,23 +222,28 @@ emit_if_else-emit_stmt-requires-2 t c =
     let d0 = c.decreases in
     (omega arith, tt)
 
-pub emit_while-emit_stmt-requires : goal.emit_while-emit_stmt-requires
-emit_while-emit_stmt-requires t c =
+pub emit_while-emit_inside-requires : goal.emit_while-emit_inside-requires
+emit_while-emit_inside-requires t c =
     let d0 = c.decreases in
     (omega arith, tt)
 
-pub emit_do-emit_stmt-requires : goal.emit_do-emit_stmt-requires
-emit_do-emit_stmt-requires t c =
+pub emit_do-emit_inside-requires : goal.emit_do-emit_inside-requires
+emit_do-emit_inside-requires t c =
     let d0 = c.decreases in
     (omega arith, tt)
 
-pub emit_for-emit_stmt-requires : goal.emit_for-emit_stmt-requires
-emit_for-emit_stmt-requires t c =
+pub emit_for-emit_inside-requires : goal.emit_for-emit_inside-requires
+emit_for-emit_inside-requires t c =
     let d0 = c.decreases in
     (omega arith, tt)
 
-pub emit_labelled-emit_stmt-requires : goal.emit_labelled-emit_stmt-requires
-emit_labelled-emit_stmt-requires t c =
+pub emit_labelled-emit_inside-requires : goal.emit_labelled-emit_inside-requires
+emit_labelled-emit_inside-requires t c =
+    let d0 = c.decreases in
+    (omega arith, tt)
+
+pub emit_inside-emit_stmt-requires : goal.emit_inside-emit_stmt-requires
+emit_inside-emit_stmt-requires t c =
     let d0 = c.decreases in
     (omega arith, tt)
 

@@ -1,16 +1,17 @@
 -- What a pass from the last item to the first keeps: the code so far is that of the items passed, before what was there.
-use Rattle.std.proofs.Common.{◌≡◌, ◌+◌, ◌*◌, ◌≤◌, length, drop}
+use Rattle.std.proofs.Common.{◌≡◌, suc, ◌+◌, ◌*◌, ◌≤◌, List, length, drop}
 use Rattle.asm_tree.specs.Views.{stmt_view, stmts_view, clauses_view}
 use Rattle.asm_lang_valid.specs.Rows.{stmt_count, stmts_count, clauses_count}
-use Rattle.asm_run_code.specs.Bodies.{stmts_code, clauses_code}
+use Rattle.asm_run_code.specs.Bodies.{Around, stmts_code, clauses_code}
 use Rattle.asm_run_emit_values.specs.Names.{scope_said}
-use Rattle.asm_run_emit_bodies.specs.Around.{around_view}
+use Rattle.asm_run_emit_bodies.specs.Jumps.{Meets}
 use Rattle.asm_run_emit_bodies.proofs.statements.+statements.Given as goal
 
 abbrev pub invariant-emit_stmts-loop-i : goal.invariant-emit_stmts-loop-i
 invariant-emit_stmts-loop-i l = record {
   within : l.i ≤ length l.body;
-  made : l.output ≡ stmts_code (scope_said l.names) (around_view l.around) l.free (stmts_view (drop l.i l.body)) l.initial.output;
+  made : (os : List Around) → Meets l.initial.jumps os → l.output ≡ stmts_code (scope_said l.names) os l.free (stmts_view (drop l.i l.body)) l.initial.output;
+  kept : l.jumps ≡ l.initial.jumps;
 }
 
 abbrev pub decreases-emit_stmts-loop-i : goal.decreases-emit_stmts-loop-i
@@ -19,8 +20,10 @@ decreases-emit_stmts-loop-i l = l.i
 abbrev pub invariant-emit_clauses-loop-i : goal.invariant-emit_clauses-loop-i
 invariant-emit_clauses-loop-i l = record {
   within : l.i ≤ length l.clauses;
-  made : l.output ≡ (clauses_code (scope_said l.names) (around_view l.around) l.free (clauses_view (drop l.i l.clauses)) l.initial.output).code;
-  placed : l.starts ≡ (clauses_code (scope_said l.names) (around_view l.around) l.free (clauses_view (drop l.i l.clauses)) l.initial.output).starts;
+  made : (os : List Around) → Meets l.initial.jumps os → l.output ≡ (clauses_code (scope_said l.names) os l.free (clauses_view (drop l.i l.clauses)) l.initial.output).code;
+  placed : (os : List Around) → Meets l.initial.jumps os → l.starts ≡ (clauses_code (scope_said l.names) os l.free (clauses_view (drop l.i l.clauses)) l.initial.output).starts;
+  count : length l.starts + l.i ≡ suc (length l.clauses);
+  kept : l.jumps ≡ l.initial.jumps;
 }
 
 abbrev pub decreases-emit_clauses-loop-i : goal.decreases-emit_clauses-loop-i
@@ -32,7 +35,10 @@ abbrev pub decreases-emit_stmt : goal.decreases-emit_stmt
 decreases-emit_stmt l = 8 * stmt_count (stmt_view l.statement.now)
 
 abbrev pub decreases-emit_labelled : goal.decreases-emit_labelled
-decreases-emit_labelled l = 8 * stmt_count (stmt_view l.body.now) + 1
+decreases-emit_labelled l = 8 * stmt_count (stmt_view l.body.now) + 2
+
+abbrev pub decreases-emit_inside : goal.decreases-emit_inside
+decreases-emit_inside l = 8 * stmt_count (stmt_view l.body.now) + 1
 
 abbrev pub decreases-emit_stmts : goal.decreases-emit_stmts
 decreases-emit_stmts l = 8 * stmts_count (stmts_view l.body.now) + 1
@@ -44,13 +50,13 @@ abbrev pub decreases-emit_if_else : goal.decreases-emit_if_else
 decreases-emit_if_else l = 8 * (stmt_count (stmt_view l.yes.now) + stmt_count (stmt_view l.no.now)) + 1
 
 abbrev pub decreases-emit_while : goal.decreases-emit_while
-decreases-emit_while l = 8 * stmt_count (stmt_view l.body.now) + 1
+decreases-emit_while l = 8 * stmt_count (stmt_view l.body.now) + 2
 
 abbrev pub decreases-emit_do : goal.decreases-emit_do
-decreases-emit_do l = 8 * stmt_count (stmt_view l.body.now) + 1
+decreases-emit_do l = 8 * stmt_count (stmt_view l.body.now) + 2
 
 abbrev pub decreases-emit_for : goal.decreases-emit_for
-decreases-emit_for l = 8 * stmt_count (stmt_view l.body.now) + 1
+decreases-emit_for l = 8 * stmt_count (stmt_view l.body.now) + 2
 
 abbrev pub decreases-emit_switch : goal.decreases-emit_switch
 decreases-emit_switch l = 8 * clauses_count (clauses_view l.clauses.now) + 3

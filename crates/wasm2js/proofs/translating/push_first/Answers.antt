@@ -11,4 +11,4 @@ push_functions-requires c = (limited c.args.valid.now c.requires).products
 pub returns : goal.returns
 returns c =
     first c.args.valid.now (map function_view (list_items c.args.functions.now)) (map function_view (list_items c.push_helpers.new.functions))
-    (map function_view (list_items c.push_functions.new.functions)) (c.in_ok-push_helpers.ensures c.args.valid.now c.memory.ensures c.has_long_segments-long.ensures) c.in_ok-push_functions.ensures
+    (map function_view (list_items c.push_functions.new.functions)) (c.in_ok-push_helpers.ensures c.args.valid.now c.memory.ensures c.in_ok-needs.ensures) c.in_ok-push_functions.ensures

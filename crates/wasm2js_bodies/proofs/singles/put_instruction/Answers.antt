@@ -3,7 +3,7 @@ use Rattle.wasm_lang.specs.declared.types.ValType.{ValType}
 use Rattle.wasm_tree.specs.Views.{instr_of}
 use Rattle.wasm2js_actions.specs.Scopes.{instruction_actions}
 use Rattle.wasm2js_build.specs.Blocks.{statements_of}
-use Rattle.wasm2js_build.specs.Growing.{State, run, waits_of, late_state, state_of}
+use Rattle.wasm2js_build.specs.Growing.{State, run, waits_of, known_of, late_state, state_of}
 use Rattle.wasm2js_operands.specs.Operands.{over}
 use Rattle.wasm2js_operands.specs.Scopes.{context_in}
 use Rattle.wasm2js_bodies.proofs.Lists.{all_above}
@@ -16,7 +16,7 @@ returns c =
     let made = λ (ts : List ValType). run (state_of c.late-straight.result) (instruction_actions c.args.walk.now.sizes.bytes context (instr_of c.args.instr.now) c.args.base ts) in
     let acts = instruction_actions c.args.walk.now.sizes.bytes context (instr_of c.args.instr.now) c.args.base (over c.args.base c.args.types.now.items) in
     ap late_state c.into_late.ensures
-    ∙ late_after c.instruction.new.straight (statements_of c.args.text.now.block) (waits_of c.args.text.now) acts
+    ∙ late_after c.instruction.new.straight (statements_of c.args.text.now.block) (waits_of c.args.text.now) (known_of c.args.text.now) acts
     (c.in_ok-instruction.ensures context (record { locals = refl; globals = refl })
     ∙ ap (λ (ts : List ValType). made (reverse ts)) (all_above c.args.base c.deref.result.now)
     ∙ ap (λ (ts : List ValType). made (over c.args.base ts)) c.deref.ensures.value

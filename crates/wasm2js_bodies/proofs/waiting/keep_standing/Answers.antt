@@ -1,8 +1,8 @@
 use Rattle.std.proofs.Common.{rules, ap, ◌∙◌}
 use Rattle.std.proofs.lemmas.Fn.{filter_same}
 use Rattle.wasm2js_translation.specs.Delays as delays
-use Rattle.wasm2js_build.specs.Waits.{delayed_view, delays_view}
-use Rattle.wasm2js_build.proofs.Waiting.{those_filtered}
+use Rattle.wasm2js_terms.specs.Waits.{delayed_view, delays_view}
+use Rattle.wasm2js_terms.proofs.Waiting.{those_filtered}
 use Rattle.wasm2js_operands.specs.Operands.{over}
 use Rattle.wasm2js_bodies.proofs.waiting.keep_standing.Goals as goal
 

@@ -1,7 +1,7 @@
 -- Each call is of a smaller term, or of the same one by a lower function.
 use Rattle.std.proofs.Common.{◌+◌, ◌*◌}
-use Rattle.wasm2js_build.specs.Views.{term_view}
-use Rattle.wasm2js_build.proofs.Sizes.{size}
+use Rattle.wasm2js_terms.specs.Views.{term_view}
+use Rattle.wasm2js_terms.proofs.Sizes.{size}
 use Rattle.wasm2js_build.proofs.building.+building.Given as goal
 
 abbrev pub decreases-late_expr : goal.decreases-late_expr

@@ -3,7 +3,7 @@ use Rattle.std.proofs.Math.ListN.{drop_of_length-le}
 use Rattle.sem_words.specs.Lists.{list_items}
 use Rattle.asm_tree.specs.Views.{expr_view, exprs_in}
 use Rattle.wasm2js_translation.specs.Words.{int_of}
-use Rattle.wasm2js_build.specs.Waits.{late_terms}
+use Rattle.wasm2js_terms.specs.Waits.{late_terms}
 use Rattle.wasm2js_build.proofs.Lists.{arguments_are}
 use Rattle.wasm2js_build.proofs.building.argument_list.Goals as goal
 

@@ -2,7 +2,7 @@ use Rattle.std.proofs.Common.{◌≡◌, ◌++◌, drop}
 use Rattle.wasm2js_translation.specs.Words.{simple_statements}
 use Rattle.wasm2js_translation.specs.Delays.{late_arm}
 use Rattle.wasm2js_build.specs.Blocks.{statements_of}
-use Rattle.wasm2js_build.specs.Waits.{delays_view}
+use Rattle.wasm2js_terms.specs.Waits.{delays_view}
 use Rattle.wasm2js_build.specs.Steps.{steps_view}
 use Rattle.wasm2js_build.proofs.straight.arm.Given as goal
 

@@ -3,9 +3,9 @@ use Rattle.std.proofs.lemmas.Fn.{filter_same}
 use Rattle.std.specs.Prelude.{not}
 use Rattle.wasm2js_translation.specs.Delays as delays
 use Rattle.wasm2js_translation.specs.Delays.{puts}
-use Rattle.wasm2js_build.specs.Waits.{delayed_view, delays_view}
+use Rattle.wasm2js_terms.specs.Waits.{delayed_view, delays_view}
 use Rattle.wasm2js_build.specs.Steps.{step_view}
-use Rattle.wasm2js_build.proofs.Waiting.{those_filtered}
+use Rattle.wasm2js_terms.proofs.Waiting.{those_filtered}
 use Rattle.wasm2js_build.proofs.straight.drop_put.Goals as goal
 
 pub returns : goal.returns

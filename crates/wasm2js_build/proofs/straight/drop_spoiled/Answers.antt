@@ -1,8 +1,8 @@
 use Rattle.std.proofs.Common.{rules, ap, ◌∙◌}
 use Rattle.std.proofs.lemmas.Fn.{filter_same}
-use Rattle.wasm2js_build.specs.Waits.{delayed_view, delays_view}
+use Rattle.wasm2js_terms.specs.Waits.{delayed_view, delays_view}
 use Rattle.wasm2js_build.specs.Steps.{is_left_in_arms}
-use Rattle.wasm2js_build.proofs.Waiting.{those_filtered}
+use Rattle.wasm2js_terms.proofs.Waiting.{those_filtered}
 use Rattle.wasm2js_build.proofs.straight.drop_spoiled.Goals as goal
 
 pub returns : goal.returns

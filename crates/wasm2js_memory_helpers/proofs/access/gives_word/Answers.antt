@@ -1,7 +1,7 @@
 use Rattle.std.proofs.Common.{◌++◌, [], ◌∷◌, ap}
 use Rattle.std.proofs.lemmas.Result.{IfOk-equal}
 use Rattle.wasm2js_translation.specs.Helpers as helpers
-use Rattle.wasm2js_build.specs.Views.{term_view}
+use Rattle.wasm2js_terms.specs.Views.{term_view}
 use Rattle.wasm2js_build.specs.Blocks.{statements_of}
 use Rattle.wasm2js_memory_helpers.specs.Pieces.{bytes_together, word_of}
 use Rattle.wasm2js_memory_helpers.proofs.Words.{same_word}

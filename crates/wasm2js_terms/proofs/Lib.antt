@@ -1,0 +1,5 @@
+pub mod Views
+pub mod Sizes
+pub mod Waiting
+pub mod Parts
+pub mod Knowing

@@ -1,0 +1,119 @@
+//! Words that wait in place of the variables of operands.
+ghost use Rattle.std.specs.Prelude.{◌≡◌, ◌++◌, ◌∷◌, [], Option, Some, None, option_map, if◌then◌else◌, IfOk};
+ghost use Rattle.wasm2js_translation.specs.Delays as delays;
+ghost use Rattle.wasm2js_nodes.specs.Names.{name_view};
+ghost use Rattle.wasm2js_terms.specs.Views.{term_view};
+ghost use Rattle.wasm2js_terms.specs.Waits.{atom_view, delayed_view, delays_view, late_term, if_atom};
+
+use crate::terms::Term;
+use std::alloc::AllocError;
+use wasm2js_nodes::{Name, Numbered, same_name};
+
+/// A word without operators.
+#[derive(Clone, Copy)]
+pub enum Atom {
+    /// Of a variable.
+    Read(Name),
+    /// A literal of asm.js.
+    Number(i64),
+}
+
+/// A variable of an operand, and the word that it is to have.
+#[derive(Clone, Copy)]
+pub struct Delayed {
+    pub name: Name,
+    pub word: Atom,
+}
+
+/// So many wait at most.
+const MOST_WAITING: usize = 16;
+
+// Whether a variable is of an operand.
+fn is_operand(name: Name) -> bool
+    ensures { result ≡ delays.is_operand (name_view name) }
+{
+    match name {
+        Name::Counted(Numbered::OperandLow | Numbered::OperandHigh, _) => true,
+        _ => false,
+    }
+}
+
+/// The word that stands for a variable.
+pub fn at_hand(waits: &[Delayed], name: Name) -> Atom
+    ensures { atom_view result ≡ delays.at_hand (delays_view waits.now) (name_view name) }
+{
+    for delayed in waits {
+        if same_name(delayed.name, name) {
+            return delayed.word;
+        }
+    }
+    Atom::Read(name)
+}
+
+// A word that may wait.
+fn is_light(word: Atom) -> bool
+    ensures { result ≡ delays.is_light (atom_view word) }
+{
+    match word {
+        Atom::Number(_) => true,
+        Atom::Read(name) => !is_operand(name),
+    }
+}
+
+/// The word of a term that is a variable or a number.
+#[tactic(auto, using(crate::proofs::Views::terms))]
+pub fn atom_of(waits: &[Delayed], term: &Term<'_>) -> Option<Atom>
+    ensures { option_map atom_view result ≡ if_atom (late_term waits.now term.now) (term_view term.now) }
+{
+    match term {
+        Term::Read(name) => Some(at_hand(waits, *name)),
+        Term::Number(value) => Some(Atom::Number(*value)),
+        Term::Both(_, _, _)
+        | Term::BothNumber(_, _, _)
+        | Term::BothRead(_, _, _)
+        | Term::Flip(_)
+        | Term::SumOfTwo(_, _, _)
+        | Term::SumOfThree(_, _, _, _, _)
+        | Term::SumNumber(_, _, _)
+        | Term::SumRead(_, _, _)
+        | Term::SumOfFour(_, _, _, _)
+        | Term::Product(_, _)
+        | Term::Zeros(_)
+        | Term::Compare(_, _, _, _)
+        | Term::CompareNumber(_, _, _, _)
+        | Term::CompareRead(_, _, _, _)
+        | Term::Choose(_, _, _)
+        | Term::Byte(_, _)
+        | Term::Whole(_) => None,
+    }
+}
+
+/// What waits in place of a variable that is to have this word, if that may wait.
+pub fn waiting_word(waits: &[Delayed], name: Name, term: &Term<'_>) -> Option<Delayed>
+    ensures { option_map delayed_view result ≡ (if delays.may_wait (delays_view waits.now) (name_view name) (late_term waits.now term.now) then Some (record { name = name_view name; word = late_term waits.now term.now }) else None) }
+{
+    if !is_operand(name) || waits.len() >= MOST_WAITING {
+        return None;
+    }
+    match atom_of(waits, term) {
+        Some(word) if is_light(word) => Some(Delayed { name, word }),
+        _ => None,
+    }
+}
+
+fn drop_name(waits: &mut Vec<Delayed>, name: Name)
+    ensures { delays_view waits.new.items ≡ delays.without (name_view name) (delays_view waits.old.items) }
+{
+    waits.retain(|delayed| !same_name(delayed.name, name));
+}
+
+/// A word begins to wait in place of a variable.
+pub fn wait(waits: &mut Vec<Delayed>, delayed: Delayed) -> Result<(), AllocError>
+    ensures { IfOk result (λ _. delays_view waits.new.items ≡ delays.without (name_view delayed.name) (delays_view waits.old.items) ++ delayed_view delayed ∷ []) }
+{
+    drop_name(waits, delayed.name);
+    match waits.push(delayed) {
+        Ok(()) => Ok(()),
+        Err(_) => Err(AllocError),
+    }
+}
