@@ -13,8 +13,8 @@ use crate::fault::{JoinFault, of_fault};
 use cmd_check_wasm::check_bytes;
 use std::alloc::Global;
 use std::mem;
-use wasm_binary_write::{spelling_laws, write};
-use wasm_link::{LinkFault, check, lent_with, moved_pair};
+use wasm_binary_write::spelling_laws;
+use wasm_link::{LinkFault, check, written_with};
 use wasm_link_laws_simulation::sessions;
 use wasm_link_laws_writable::writable;
 use wasm_validate::Valid;
@@ -54,14 +54,6 @@ fn linked_bytes<'a>(
     let _first = first.module();
     let _second = second.module();
     let numbers = check(alloc, first, second)?;
-    let moved = moved_pair(alloc, &numbers)?;
-    let module = lent_with(alloc, &numbers, &moved)?;
-    mem::drop(numbers);
-    let output = write(alloc, &module);
-    mem::forget(module);
-    mem::forget(moved);
-    match output {
-        Ok(output) => Ok(output),
-        Err(_) => Err(LinkFault::Memory),
-    }
+    let output = written_with(alloc, &numbers)?;
+    Ok(output)
 }

@@ -71,7 +71,8 @@ fn push_lent(alloc: Global, out: &mut Vec<u8>, bytes: &[u8]) -> Result<(), Alloc
     Ok(())
 }
 
-fn push_locals(alloc: Global, out: &mut Vec<u8>, locals: &[Run]) -> Result<(), AllocError>
+/// Appends the runs of locals, in the longest runs of one type.
+pub fn push_locals(alloc: Global, out: &mut Vec<u8>, locals: &[Run]) -> Result<(), AllocError>
     ensures { OnOk result (out.new.items ≡ out.old.items ++ vector run (runs (locals_in locals.now))) }
 {
     let list = runs_of(alloc, locals)?;

@@ -14,6 +14,9 @@ mod modules;
 mod spell;
 mod types;
 
+pub use code::push_locals;
 pub use instrs::push_instrs;
 pub use laws::spelling_laws;
+pub use leb::push_unsigned;
 pub use modules::{write, write_shared};
+pub use spell::{Spell, push_items, push_sized, put_size};

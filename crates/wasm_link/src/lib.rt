@@ -5,7 +5,6 @@ mod linking;
 mod standing;
 mod validated;
 
-pub use linking::{lent_with, link_module, linked_with};
+pub use linking::{link_module, linked_with, written_with};
 pub use validated::link;
 pub use wasm_link_rows::{LinkFault, check};
-pub use wasm_link_sections::{MovedPair, moved_pair};

@@ -1,18 +1,18 @@
 // The linked module of a pair.
 
-ghost use Rattle.std.specs.Prelude.{◌≡◌, false, None, true, IfOk, MatchResult};
+ghost use Rattle.std.specs.Prelude.{◌≡◌, None, IfOk, MatchResult};
 ghost use Rattle.wasm_tree.specs.Views.{module_of};
+ghost use Rattle.wasm_binary_write.specs.Spelling.{spelling};
 ghost use Rattle.wasm_lang_valid.specs.Validity.{IsValidModule};
 ghost use Rattle.wasm_link_lang.specs.Refusal as plain;
 ghost use Rattle.wasm_link_code.specs.Linked.{linked};
 ghost use Rattle.wasm_link_rows.specs.Faults.{IsLinkFault};
-ghost use Rattle.wasm_link_sections.specs.Lent.{AreKept};
 
 use crate::standing::made_is_linked;
 use std::alloc::{AllocError, Global};
 use wasm_link_bind::Numbers;
 use wasm_link_rows::{LinkFault, check};
-use wasm_link_sections::{MovedPair, lent_module, made};
+use wasm_link_sections::{made, written};
 use wasm_tree::Module;
 use wasm_validate::Valid;
 
@@ -43,20 +43,14 @@ pub fn linked_with<'a>(alloc: Global, numbers: &Numbers<'a>) -> Result<Module<'a
     Ok(module)
 }
 
-/// .. with the code of its bodies lent from what was moved before.
-pub fn lent_with<'a>(
-    alloc: Global,
-    numbers: &Numbers<'a>,
-    moved: &'a MovedPair,
-) -> Result<Module<'a>, AllocError>
+/// The shortest spelling of the module that a pair is linked to, from the numbers of the pair.
+pub fn written_with(alloc: Global, numbers: &Numbers<'_>) -> Result<Vec<u8>, AllocError>
     requires first { IsValidModule numbers.now.first }
     requires second { IsValidModule numbers.now.second }
     requires linked { plain.refusal numbers.now ≡ None }
-    requires first_code { AreKept numbers.now false numbers.now.first moved.now.first }
-    requires second_code { AreKept numbers.now true numbers.now.second moved.now.second }
-    ensures { IfOk result (λ m. module_of m ≡ linked numbers.now) }
+    ensures { IfOk result (λ bytes. bytes.items ≡ spelling (linked numbers.now)) }
 {
     made_is_linked();
-    let module = lent_module(alloc, numbers, moved)?;
-    Ok(module)
+    let bytes = written(alloc, numbers)?;
+    Ok(bytes)
 }

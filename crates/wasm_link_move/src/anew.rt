@@ -1,11 +1,11 @@
-// Instructions whose numbers change, spelled anew.
+// Instructions whose numbers change, each in its shortest spelling.
 
-ghost use Rattle.std.specs.Prelude.{◌≡◌, ◌+◌, [], ◌∷◌, map, IfOk, OnOk};
+ghost use Rattle.std.specs.Prelude.{◌≡◌, ◌+◌, ◌++◌, [], ◌∷◌, map, IfOk, OnOk};
 ghost use Rattle.wasm_tree.specs.Views.{instr_of};
 ghost use Rattle.wasm_lang.specs.Instructions.{call, call_indirect, global_get, global_set, plain};
+ghost use Rattle.wasm_binary_write.specs.Spelling.{instruction, items};
 ghost use Rattle.wasm_link_code.specs.Numbers as numbering;
 ghost use Rattle.wasm_link_code.specs.Numbers.{number};
-ghost use Rattle.wasm_link_move.specs.Kept.{IsPut};
 ghost use Rattle.wasm_link_move.specs.Moved.{bases, pushed, side_of};
 
 use crate::code::{Side, function_number, global_number, push_indirect};
@@ -15,7 +15,6 @@ use wasm_link_bind::Numbers;
 use wasm_tree::Instr;
 
 /// Appends a call.
-#[tactic(auto, using(crate::proofs::SpelledAnew::call_put))]
 pub fn put_call(
     alloc: Global,
     out: &mut Vec<u8>,
@@ -23,14 +22,13 @@ pub fn put_call(
     side: Side,
     function: u32,
 ) -> Result<(), AllocError>
-    ensures { OnOk result (IsPut (call (number numbers.now ((bases numbers.now (side_of side)).functions + function)) ∷ []) out.old.items out.new.items) }
+    ensures { OnOk result (out.new.items ≡ out.old.items ++ items instruction (call (number numbers.now ((bases numbers.now (side_of side)).functions + function)) ∷ [])) }
 {
     let number = function_number(numbers, side, function);
     push_instrs(alloc, out, &[Instr::Call(number)])
 }
 
 /// Appends the reading of a global.
-#[tactic(auto, using(crate::proofs::SpelledAnew::get_put))]
 pub fn put_get(
     alloc: Global,
     out: &mut Vec<u8>,
@@ -38,14 +36,13 @@ pub fn put_get(
     side: Side,
     global: u32,
 ) -> Result<(), AllocError>
-    ensures { OnOk result (IsPut (plain (global_get (numbering.global_number numbers.now ((bases numbers.now (side_of side)).globals + global))) ∷ []) out.old.items out.new.items) }
+    ensures { OnOk result (out.new.items ≡ out.old.items ++ items instruction (plain (global_get (numbering.global_number numbers.now ((bases numbers.now (side_of side)).globals + global))) ∷ [])) }
 {
     let number = global_number(numbers, side, global);
     push_instrs(alloc, out, &[Instr::GlobalGet(number)])
 }
 
 /// Appends the writing of a global.
-#[tactic(auto, using(crate::proofs::SpelledAnew::set_put))]
 pub fn put_set(
     alloc: Global,
     out: &mut Vec<u8>,
@@ -53,14 +50,13 @@ pub fn put_set(
     side: Side,
     global: u32,
 ) -> Result<(), AllocError>
-    ensures { OnOk result (IsPut (plain (global_set (numbering.global_number numbers.now ((bases numbers.now (side_of side)).globals + global))) ∷ []) out.old.items out.new.items) }
+    ensures { OnOk result (out.new.items ≡ out.old.items ++ items instruction (plain (global_set (numbering.global_number numbers.now ((bases numbers.now (side_of side)).globals + global))) ∷ [])) }
 {
     let number = global_number(numbers, side, global);
     push_instrs(alloc, out, &[Instr::GlobalSet(number)])
 }
 
 /// Appends a call by an entry.
-#[tactic(auto, using(crate::proofs::SpelledAnew::indirect_put))]
 pub fn put_indirect(
     alloc: Global,
     out: &mut Vec<u8>,
@@ -69,10 +65,8 @@ pub fn put_indirect(
     scratch: u128,
     function_type: u32,
 ) -> Result<(), AllocError>
-    ensures { OnOk result (IsPut (pushed numbers.now (side_of side) scratch (call_indirect function_type)) out.old.items out.new.items) }
+    ensures { OnOk result (out.new.items ≡ out.old.items ++ items instruction (pushed numbers.now (side_of side) scratch (call_indirect function_type))) }
 {
-    let _first = numbers.first_entries();
-    let _second = numbers.second_entries();
     let code = entry_code(alloc, numbers, side, scratch, function_type)?;
     push_instrs(alloc, out, code.as_slice())
 }

@@ -4,8 +4,7 @@
 mod anew;
 mod calls;
 mod code;
-mod kept;
 mod spelling;
 
 pub use code::{Side, moved_code};
-pub use kept::{MovedBody, MovedCode};
+pub use spelling::push_code;

@@ -1,22 +1,60 @@
-// The bytes of a body, instruction by instruction. Those of an instruction that stays are copied as they are.
+// The moved code of a body, each instruction written in its shortest spelling as soon as it is moved.
 
-ghost use Rattle.std.specs.Prelude.{◌≡◌, ◌||◌, IfOk};
+ghost use Rattle.std.specs.Prelude.{◌≡◌, ◌||◌, ◌++◌, map, IfOk};
 ghost use Rattle.std.specs.List.{flat_map};
 ghost use Rattle.wasm_lang.specs.ReadingCode.{spelled};
-ghost use Rattle.wasm_tree.specs.Views.{instr_of};
+ghost use Rattle.wasm_tree.specs.Views.{code_of, instr_of};
+ghost use Rattle.wasm_binary_write.specs.Spelling.{instruction, items};
 ghost use Rattle.wasm_link_lang.specs.Refusal.{has_indirect, is_indirect};
-ghost use Rattle.wasm_link_move.specs.Kept.{IsPut, IsOne};
 ghost use Rattle.wasm_link_move.specs.Moved.{pushed, side_of};
 
 use crate::anew::{put_call, put_get, put_indirect, put_set};
 use crate::code::Side;
 use std::alloc::{AllocError, Global};
-use wasm_lang::code_laws;
+use wasm_binary_write::Spell;
 use wasm_link_bind::Numbers;
-use wasm_tree::{Input, Instr, ReadError, read_instr};
+use wasm_tree::{Code, Input, Instr, ReadError, read_instr};
 
-/// Appends the moved code of bytes, and says whether a call by an entry is in it.
-pub fn push_spelled(
+/// Appends the moved code of a body with this scratch local, and says whether a call by an entry is in it.
+pub fn push_code(
+    alloc: Global,
+    out: &mut Vec<u8>,
+    numbers: &Numbers<'_>,
+    side: Side,
+    scratch: u128,
+    code: &Code<'_>,
+) -> Result<bool, AllocError>
+    ensures put { IfOk result (λ _. out.new.items ≡ out.old.items ++ items instruction (flat_map (pushed numbers.now (side_of side) scratch) (code_of code.now))) }
+    ensures said { IfOk result (λ indirect. indirect ≡ has_indirect (code_of code.now)) }
+{
+    match code {
+        Code::Own(list) => push_listed(alloc, out, numbers, side, scratch, list.as_slice()),
+        Code::Lent(bytes) => push_lent(alloc, out, numbers, side, scratch, bytes),
+    }
+}
+
+// .. of instructions that the body owns.
+fn push_listed(
+    alloc: Global,
+    out: &mut Vec<u8>,
+    numbers: &Numbers<'_>,
+    side: Side,
+    scratch: u128,
+    code: &[Instr],
+) -> Result<bool, AllocError>
+    ensures put { IfOk result (λ _. out.new.items ≡ out.old.items ++ items instruction (flat_map (pushed numbers.now (side_of side) scratch) (map instr_of code.now))) }
+    ensures said { IfOk result (λ indirect. indirect ≡ has_indirect (map instr_of code.now)) }
+{
+    let mut indirect = false;
+    for instr in code {
+        let found = push_one(alloc, out, numbers, side, scratch, instr)?;
+        indirect = either(indirect, found);
+    }
+    Ok(indirect)
+}
+
+// .. of bytes, up to the end, or up to bytes that are no instruction.
+fn push_lent(
     alloc: Global,
     out: &mut Vec<u8>,
     numbers: &Numbers<'_>,
@@ -24,17 +62,15 @@ pub fn push_spelled(
     scratch: u128,
     bytes: &[u8],
 ) -> Result<bool, AllocError>
-    ensures put { IfOk result (λ _. IsPut (flat_map (pushed numbers.now (side_of side) scratch) (spelled bytes.now)) out.old.items out.new.items) }
+    ensures put { IfOk result (λ _. out.new.items ≡ out.old.items ++ items instruction (flat_map (pushed numbers.now (side_of side) scratch) (spelled bytes.now))) }
     ensures said { IfOk result (λ indirect. indirect ≡ has_indirect (spelled bytes.now)) }
 {
-    code_laws();
     let mut rest = Input::new(bytes);
     let mut indirect = false;
     for _turn in 0..bytes.len() {
         match read_instr(alloc, rest) {
             Ok((instr, after)) => {
-                let own = &rest.bytes[..rest.bytes.len() - after.bytes.len()];
-                let found = push_one(alloc, out, numbers, side, scratch, &instr, own)?;
+                let found = push_one(alloc, out, numbers, side, scratch, &instr)?;
                 indirect = either(indirect, found);
                 rest = after;
             }
@@ -51,8 +87,7 @@ fn either(first: bool, second: bool) -> bool
     first || second
 }
 
-// Appends an instruction, which these bytes spell, and says whether it is a call by an entry.
-#[tactic(auto, using(crate::proofs::Turns::copied))]
+// Appends an instruction, and says whether it is a call by an entry.
 fn push_one(
     alloc: Global,
     out: &mut Vec<u8>,
@@ -60,10 +95,8 @@ fn push_one(
     side: Side,
     scratch: u128,
     instr: &Instr,
-    own: &[u8],
 ) -> Result<bool, AllocError>
-    requires { IsOne (instr_of instr.now) own.now }
-    ensures put { IfOk result (λ _. IsPut (pushed numbers.now (side_of side) scratch (instr_of instr.now)) out.old.items out.new.items) }
+    ensures put { IfOk result (λ _. out.new.items ≡ out.old.items ++ items instruction (pushed numbers.now (side_of side) scratch (instr_of instr.now))) }
     ensures said { IfOk result (λ indirect. indirect ≡ is_indirect (instr_of instr.now)) }
 {
     match instr {
@@ -74,7 +107,7 @@ fn push_one(
             put_indirect(alloc, out, numbers, side, scratch, *t)?;
             return Ok(true);
         }
-        _ => out.extend_from_slice(own)?,
+        _ => instr.push_to(alloc, out)?,
     }
     Ok(false)
 }

@@ -1,3 +1,4 @@
 mod Loops
 mod Scratch
-mod Keeping
+mod Sections
+mod Coded

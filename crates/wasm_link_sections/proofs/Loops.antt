@@ -1,5 +1,5 @@
 -- One body more.
-use Rattle.std.proofs.Common.{◌≡◌, ℕ, suc, ◌+◌, ◌<◌, Bool, List, [], ◌∷◌, ◌++◌, length, map, drop, get_or, refl, sym, ap, ◌∙◌, arith, append_assoc}
+use Rattle.std.proofs.Common.{◌≡◌, ℕ, suc, ◌+◌, ◌<◌, Bool, List, [], ◌∷◌, ◌++◌, length, map, drop, get_or, sym, ap, ◌∙◌, arith, append_assoc}
 use Rattle.std.proofs.Math.Seq.{drop-cons}
 use Rattle.wasm_lang.specs.Modules.{FunctionBody, WasmModule}
 use Rattle.wasm_tree.specs.declared.module.Body.{Body}
@@ -7,7 +7,7 @@ use Rattle.wasm_tree.specs.Views.{body_of}
 use Rattle.wasm_link_lang.specs.Pairs.{Pair}
 use Rattle.wasm_link_sections.specs.Made.{body_made, bodies_made}
 
-one_and_rest : (items : List Body) (i : ℕ) (b : Body) → i < length items → b ≡ get_or items i b → drop i items ≡ b ∷ drop (i + 1) items
+pub one_and_rest : (items : List Body) (i : ℕ) (b : Body) → i < length items → b ≡ get_or items i b → drop i items ≡ b ∷ drop (i + 1) items
 one_and_rest items i b h is =
     let next : suc i ≡ i + 1 = omega arith in
     drop-cons items i b h ∙ ap (λ x. x ∷ drop (suc i) items) (sym is) ∙ ap (λ k. b ∷ drop k items) next

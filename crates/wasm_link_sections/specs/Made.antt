@@ -75,17 +75,16 @@ abbrev pub needs_scratch : (other : ℕ) → List Instruction → Bool
 needs_scratch zero code = false
 needs_scratch (suc other) code = has_indirect code
 
--- .. where it is said whether a call by an entry is in the code
-abbrev pub scratch_needed : (other : ℕ) → (indirect : Bool) → Bool
-scratch_needed zero indirect = false
-scratch_needed (suc other) indirect = indirect
-
 abbrev pub scratch_if : Bool → List ValType
 scratch_if false = []
 scratch_if true = I32 ∷ []
 
+-- with this scratch local
+abbrev pub body_with : Pair → (second : Bool) → (k other : ℕ) → FunctionBody → FunctionBody
+body_with w second k other b = record { locals = b.locals ++ scratch other b.code; code = flat_map (pushed w second k) b.code }
+
 abbrev pub body_made : Pair → (second : Bool) → WasmModule → (other i : ℕ) → FunctionBody → FunctionBody
-body_made w second m other i b = record { locals = b.locals ++ scratch other b.code; code = flat_map (pushed w second (locals_of m i b)) b.code }
+body_made w second m other i b = body_with w second (locals_of m i b) other b
 
 -- from this place on
 abbrev pub bodies_made : Pair → (second : Bool) → WasmModule → (other i : ℕ) → List FunctionBody → List FunctionBody
@@ -126,3 +125,7 @@ module_made w = record {
       ++ (bodies_made w true w.second (entries w.first) 0 w.second.bodies ++ start_bodies_made w w.first.start w.second.start);
   segments = map segment_made w.first.segments ++ map segment_made w.second.segments;
 }
+
+-- a module without what stands behind its globals
+abbrev pub front : WasmModule → WasmModule
+front m = record m { exports = []; start = None; elements = []; bodies = []; segments = [] }

@@ -6,13 +6,11 @@ ghost use Rattle.wasm_tree.specs.Views.{body_of, element_of, export_of, global_o
 ghost use Rattle.wasm_link_lang.specs.Refusal.{least_maximum};
 ghost use Rattle.wasm_link_lang.specs.Session as session;
 ghost use Rattle.wasm_link_code.specs.Linked as linked;
-ghost use Rattle.wasm_link_sections.specs.Lent.{AreKept};
 ghost use Rattle.wasm_link_sections.specs.Made as made;
 
 use crate::back::{push_elements, push_exports, push_globals, push_segments};
 use crate::bodies::push_bodies;
 use crate::front::{push_imports, push_memory, types};
-use crate::lent::{MovedPair, lent_bodies};
 use crate::start::{functions, push_start, start};
 use crate::values::sum_of;
 use sem_words::List;
@@ -28,32 +26,6 @@ pub fn made<'a>(alloc: Global, numbers: &Numbers<'a>) -> Result<Module<'a>, Allo
     ensures { IfOk result (λ m. module_of m ≡ made.module_made numbers.now) }
 {
     let bodies = bodies(alloc, numbers)?;
-    with_bodies(alloc, numbers, bodies)
-}
-
-/// .. with code that is lent from a buffer.
-pub fn lent_module<'a>(
-    alloc: Global,
-    numbers: &Numbers<'a>,
-    moved: &'a MovedPair,
-) -> Result<Module<'a>, AllocError>
-    requires first { AreKept numbers.now false numbers.now.first moved.now.first }
-    requires second { AreKept numbers.now true numbers.now.second moved.now.second }
-    ensures { IfOk result (λ m. module_of m ≡ made.module_made numbers.now) }
-{
-    let bodies = lent_bodies(alloc, numbers, moved)?;
-    with_bodies(alloc, numbers, bodies)
-}
-
-// .. with these bodies.
-fn with_bodies<'a>(
-    alloc: Global,
-    numbers: &Numbers<'a>,
-    bodies: List<Body<'a>>,
-) -> Result<Module<'a>, AllocError>
-    requires { map body_of (list_items bodies) ≡ (made.module_made numbers.now).bodies }
-    ensures { IfOk result (λ m. module_of m ≡ made.module_made numbers.now) }
-{
     let first = numbers.first().valid().module();
     let second = numbers.second().valid().module();
     Ok(Module {
@@ -68,6 +40,27 @@ fn with_bodies<'a>(
         elements: elements(alloc, numbers)?,
         bodies,
         segments: segments(alloc, numbers)?,
+    })
+}
+
+/// .. without what stands behind its globals.
+pub fn front<'a>(alloc: Global, numbers: &Numbers<'a>) -> Result<Module<'a>, AllocError>
+    ensures { IfOk result (λ m. module_of m ≡ made.front (made.module_made numbers.now)) }
+{
+    let first = numbers.first().valid().module();
+    let second = numbers.second().valid().module();
+    Ok(Module {
+        types: types(alloc, first.types.as_slice(), second.types.as_slice())?,
+        imports: imports(alloc, numbers)?,
+        functions: functions(alloc, numbers)?,
+        tables: tables(alloc, numbers)?,
+        memories: List::new(alloc),
+        globals: globals(alloc, numbers)?,
+        exports: List::new(alloc),
+        start: None,
+        elements: List::new(alloc),
+        bodies: List::new(alloc),
+        segments: List::new(alloc),
     })
 }
 
