@@ -13,6 +13,7 @@ ghost use Rattle.wasm_binary_entries.specs.Views.{bodies_of};
 
 use crate::code::code;
 use crate::fields::{count, nothing_left, number, split};
+use crate::room::list_for;
 use sem_words::List;
 use std::alloc::{AllocError, Global};
 use wasm_tree::{Body, Fault, FuncType, Input, ReadError, Row, Run};
@@ -43,7 +44,7 @@ fn runs<'a>(
     ensures value { IsRead (λ l. locals_in (list_items l)) result (modules.runs_field params n (input_of input.entry)) }
     ensures follows { IfOk result (λ x. Continues x.1 input.entry) }
 {
-    let mut list = List::new(alloc);
+    let mut list = list_for(alloc, n.min(1) as usize);
     let mut used = params;
     let mut rest = input;
     for _i in 0..n {

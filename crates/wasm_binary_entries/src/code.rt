@@ -7,6 +7,7 @@ ghost use Rattle.wasm_binary_entries.specs.Views.{instrs_of};
 ghost use Rattle.wasm_binary_entries.specs.Lent.{source_of, IsLentCode};
 ghost use Rattle.wasm_binary_entries.specs.Openings.{openings_of, IsNext, IsTurned};
 
+use crate::room::list_for;
 use sem_words::List;
 use std::alloc::{AllocError, Global};
 use wasm_lang::code_laws;
@@ -14,6 +15,9 @@ use wasm_tree::{Code, Fault, Input, Instr, ReadError, Row, read_instr};
 
 // The most blocks of an expression that stand open at once.
 const MOST_LEVELS: usize = 300_000;
+
+// The instructions of most expressions that are kept: a constant, and the end.
+const LEAST_INSTRS: usize = 2;
 
 /// How a block that stands open was opened: as the first arm of an if, which an else may follow, or in
 /// another way.
@@ -87,7 +91,7 @@ pub fn instrs<'a>(alloc: Global, input: Input<'a>) -> Result<(List<Instr>, Input
 {
     code_laws();
     let mut openings = Vec::new(alloc);
-    let mut list = List::new(alloc);
+    let mut list = list_for(alloc, LEAST_INSTRS);
     let mut rest = input;
     for _turn in 0..input.bytes.len() {
         let (instr, closed, after) = next(alloc, &mut openings, rest)?;

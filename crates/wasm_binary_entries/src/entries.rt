@@ -12,6 +12,7 @@ ghost use Rattle.wasm_binary_entries.specs.Views.{types_of, globals_of, exports_
 
 use crate::code::instrs;
 use crate::fields::{bytes, count, global_type, memory, name, number, table};
+use crate::room::list_for;
 use sem_words::List;
 use std::alloc::Global;
 use wasm_tree::{
@@ -85,7 +86,7 @@ pub fn numbers<'a>(
 ) -> Result<(List<u32>, Input<'a>), ReadError>
     ensures { IsRead list_items result (reading.items_field reading.u32 count (input_of input.entry)) }
 {
-    let mut list = List::new(alloc);
+    let mut list = list_for(alloc, input.bytes.len().min(count as usize));
     let mut rest = input;
     for _i in 0..count {
         let (item, after) = number(rest)?;

@@ -11,3 +11,4 @@ mod code;
 pub mod entries;
 pub mod fields;
 pub mod imports;
+mod room;
