@@ -3,8 +3,7 @@ use crate::modules::{
     ADDING, BLOCKS, EXTENDING, EXTENDING_WIDE, GLOBAL, IMPORTING, LOADING, LOOPING, MANY_PAGES,
     MULTIPLYING, MUTABLE_IMPORT, PADDED, PAGES, POLYMORPHIC, STORING, TABLE, TABLE_IMPORT,
 };
-use crate::program::{Row, ends, prints};
-use std::test::Fail;
+use crate::program::{CHECK_WASM, Row, ends, prints};
 
 pub(crate) const EMPTY: &[u8] = b"\0asm\x01\0\0\0";
 
@@ -201,11 +200,10 @@ static ROWS: [Row; 27] = [
 ];
 
 #[test]
-fn sessions_are_printed(rt: HostRuntime) -> Result<(), Fail> {
+fn sessions_are_printed(rt: HostRuntime) {
     for row in &ROWS {
-        prints(&rt, rt.alloc(), "run-wasm", row)?;
+        prints(&rt, rt.alloc(), "run-wasm", row);
     }
-    Ok(())
 }
 
 /// A command, a module, and what is written.
@@ -233,11 +231,10 @@ static LISTED: [(&str, &[u8], &[u8]); 4] = [
 ];
 
 #[test]
-fn modules_are_counted_and_listed(rt: HostRuntime) -> Result<(), Fail> {
+fn modules_are_counted_and_listed(rt: HostRuntime) {
     for (command, bytes, text) in LISTED.iter() {
-        ends(&rt, rt.alloc(), &[*command, "m"], bytes, b"", 0, text)?;
+        ends(&rt, rt.alloc(), &[*command, "m"], bytes, b"", 0, text);
     }
-    Ok(())
 }
 
 /// The header cut short, and the line that is told of it.
@@ -253,11 +250,10 @@ static FRONTS: [(&[u8], &[u8]); 8] = [
 ];
 
 #[test]
-fn each_prefix_is_truncated(rt: HostRuntime) -> Result<(), Fail> {
+fn each_prefix_is_truncated(rt: HostRuntime) {
     for (bytes, line) in FRONTS.iter() {
-        ends(&rt, rt.alloc(), &["check-wasm", "m"], bytes, b"", 3, line)?;
+        ends(&rt, rt.alloc(), CHECK_WASM, bytes, b"", 3, line);
     }
-    Ok(())
 }
 
 /// A module, a script, the status, and the line that is told of them.
@@ -299,7 +295,7 @@ static REFUSED: [(&[u8], &[u8], u8, &[u8]); 9] = [
 ];
 
 #[test]
-fn modules_and_scripts_are_refused(rt: HostRuntime) -> Result<(), Fail> {
+fn modules_and_scripts_are_refused(rt: HostRuntime) {
     for (bytes, script, code, line) in REFUSED.iter() {
         ends(
             &rt,
@@ -309,7 +305,6 @@ fn modules_and_scripts_are_refused(rt: HostRuntime) -> Result<(), Fail> {
             script,
             *code,
             line,
-        )?;
+        );
     }
-    Ok(())
 }

@@ -1,12 +1,7 @@
 //! Sessions of asm.js, by the whole program.
-use crate::checks::USUAL;
-use crate::program::{Row, ends, prints};
-use std::test::Fail;
-
-const ADD: &[u8] = b"function m(){\"use asm\";function f(a,b){a=a|0;b=b|0;return a+b|0;}return f;}";
-
-const LOOPING: &[u8] =
-    b"function m(s,e){\"use asm\";var g=e.g;function f(){while(1)g();}return f;}";
+use crate::program::{CHECK_ASM, Row, ends, prints};
+use crate::rows::made;
+use crate::texts::{LOOPING, SUM, USUAL};
 
 /// Sessions that end.
 pub(crate) static ROWS: [Row; 24] = [
@@ -19,7 +14,7 @@ pub(crate) static ROWS: [Row; 24] = [
     },
     Row {
         name: "a sum that wraps",
-        module: ADD,
+        module: SUM,
         options: &[],
         script: b"call f 2147483647 1",
         printed: b"result -2147483648\nend done\n",
@@ -166,7 +161,7 @@ pub(crate) static ROWS: [Row; 24] = [
     },
     Row {
         name: "an empty script",
-        module: ADD,
+        module: SUM,
         options: &[],
         script: b"",
         printed: b"end done\n",
@@ -181,11 +176,10 @@ pub(crate) static ROWS: [Row; 24] = [
 ];
 
 #[test]
-fn sessions_are_printed(rt: HostRuntime) -> Result<(), Fail> {
+fn sessions_are_printed(rt: HostRuntime) {
     for row in &ROWS {
-        prints(&rt, rt.alloc(), "run-asm", row)?;
+        prints(&rt, rt.alloc(), "run-asm", row);
     }
-    Ok(())
 }
 
 static OUT_OF_UNITS: Row = Row {
@@ -197,16 +191,16 @@ static OUT_OF_UNITS: Row = Row {
 };
 
 #[test]
-fn units_run_out(rt: HostRuntime) -> Result<(), Fail> {
-    prints(&rt, rt.alloc(), "run-asm", &OUT_OF_UNITS)
+fn units_run_out(rt: HostRuntime) {
+    prints(&rt, rt.alloc(), "run-asm", &OUT_OF_UNITS);
 }
 
 /// A module, a script, and the line that is told of them.
 static REFUSED: [(&[u8], &[u8], &[u8]); 6] = [
-    (ADD, b"call f 1", b"script refused: line 1\n"),
-    (ADD, b"call f 1 4294967296", b"script refused: line 1\n"),
-    (ADD, b"call f 1 2\n\nthrow now", b"script refused: line 3\n"),
-    (ADD, b"call f 1\nthrow now", b"script refused: line 2\n"),
+    (SUM, b"call f 1", b"script refused: line 1\n"),
+    (SUM, b"call f 1 4294967296", b"script refused: line 1\n"),
+    (SUM, b"call f 1 2\n\nthrow now", b"script refused: line 3\n"),
+    (SUM, b"call f 1\nthrow now", b"script refused: line 2\n"),
     (USUAL, b"call stackAlloc 5", b"script refused: line 0\n"),
     (
         USUAL,
@@ -216,7 +210,7 @@ static REFUSED: [(&[u8], &[u8], &[u8]); 6] = [
 ];
 
 #[test]
-fn scripts_are_refused(rt: HostRuntime) -> Result<(), Fail> {
+fn scripts_are_refused(rt: HostRuntime) {
     for (text, script, line) in REFUSED.iter() {
         ends(
             &rt,
@@ -226,29 +220,21 @@ fn scripts_are_refused(rt: HostRuntime) -> Result<(), Fail> {
             script,
             4,
             line,
-        )?;
+        );
     }
-    Ok(())
 }
 
 #[test]
-fn a_module_is_shown(rt: HostRuntime) -> Result<(), Fail> {
+fn a_module_is_shown(rt: HostRuntime) {
     let text = b"function m(){\"use asm\";function f(){return 0;}return f;}";
     let shown = b"function m(){\"use asm\";\nfunction f(){return 0;}\nreturn f;}\n";
-    ends(&rt, rt.alloc(), &["show", "m"], text, b"", 0, shown)
+    ends(&rt, rt.alloc(), &["show", "m"], text, b"", 0, shown);
 }
 
 #[test]
-fn a_long_text_is_refused(rt: HostRuntime) -> Result<(), Fail> {
+fn a_long_text_is_refused(rt: HostRuntime) {
     let alloc = rt.alloc();
-    let spaces = vec![in alloc; b' '; 16_777_217]?;
-    ends(
-        &rt,
-        alloc,
-        &["check-asm", "m"],
-        &spaces,
-        b"",
-        8,
-        b"too large: m\n",
-    )
+    let spaces = made(&rt, vec![in alloc; b' '; 16_777_217]);
+    let line = b"too large: m\n";
+    ends(&rt, alloc, CHECK_ASM, &spaces, b"", 8, line);
 }

@@ -1,6 +1,6 @@
 //! Texts that `check-asm` takes or refuses, by the whole program.
-use crate::program::ends;
-use std::test::Fail;
+use crate::program::{CHECK_ASM, ends};
+use crate::texts::USUAL;
 
 /// A text, and the line that `check-asm` tells of it.
 type Checked = (&'static [u8], &'static [u8]);
@@ -28,29 +28,6 @@ static ACCEPTED: [Checked; 6] = [
     ),
     (USUAL, b"asm.js functions 2 tables 0 exports 2 foreign 1\n"),
 ];
-
-/// A module as a compiler of C writes it.
-pub(crate) const USUAL: &[u8] = b"function asm(global,env,buffer){
-'use asm';
-var HEAP8=new global.Int8Array(buffer);
-var HEAP32=new global.Int32Array(buffer);
-var HEAPF64=new global.Float64Array(buffer);
-var STACKTOP=env.STACKTOP|0;
-var tempInt=0,tempDouble=0.0,nan=global.NaN,inf=global.Infinity;
-var Math_floor=global.Math.floor;
-var Math_imul=global.Math.imul;
-var abort=env.abort;
-function stackAlloc(size){
-size=size|0;
-var ret=0;
-ret=STACKTOP;
-STACKTOP=STACKTOP+size|0;
-STACKTOP=STACKTOP+15&-16;
-return ret|0;
-}
-function _put(p,v){p=p|0;v=v|0;HEAP32[p>>2]=Math_imul(v,3)|0;HEAP8[p+4>>0]=v;if((v|0)<0)abort(v|0);return HEAP8[p>>0]|0;}
-return {stackAlloc:stackAlloc,_put:_put};
-}";
 
 static REFUSED: [Checked; 9] = [
     (b"", b"asm.js refused: A5 Grammar at 0\n"),
@@ -89,17 +66,15 @@ static REFUSED: [Checked; 9] = [
 ];
 
 #[test]
-fn texts_are_accepted(rt: HostRuntime) -> Result<(), Fail> {
+fn texts_are_accepted(rt: HostRuntime) {
     for (text, line) in ACCEPTED.iter() {
-        ends(&rt, rt.alloc(), &["check-asm", "m"], text, b"", 0, line)?;
+        ends(&rt, rt.alloc(), CHECK_ASM, text, b"", 0, line);
     }
-    Ok(())
 }
 
 #[test]
-fn texts_are_refused(rt: HostRuntime) -> Result<(), Fail> {
+fn texts_are_refused(rt: HostRuntime) {
     for (text, line) in REFUSED.iter() {
-        ends(&rt, rt.alloc(), &["check-asm", "m"], text, b"", 2, line)?;
+        ends(&rt, rt.alloc(), CHECK_ASM, text, b"", 2, line);
     }
-    Ok(())
 }

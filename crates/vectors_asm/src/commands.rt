@@ -1,25 +1,16 @@
 //! Whole calls over files and sinks in memory.
-use crate::program::{called, is_ending, same_bytes};
+use crate::modules::SUMMING;
+use crate::program::{Ending, called, is_ending};
+use crate::rows::{holds, made};
+use crate::texts::SUM;
 use bridge_cmd::Status;
 use bridge_io::{MemFiles, MemSink};
 use std::alloc::{AllocError, Global};
 use std::process::Abort;
-use std::test::Fail;
-
-const ADD: &[u8] = b"function m(){\"use asm\";function f(a,b){a=a|0;b=b|0;return a+b|0;}return f;}";
-
-/// The module of `ADD`: a type of two i32 to an i32, a function, its export `f`, and its body.
-const ADD_MODULE: &[u8] = &[
-    0x00, 0x61, 0x73, 0x6d, 0x01, 0x00, 0x00, 0x00, // magic and version
-    0x01, 0x07, 0x01, 0x60, 0x02, 0x7f, 0x7f, 0x01, 0x7f, // type
-    0x03, 0x02, 0x01, 0x00, // function
-    0x07, 0x05, 0x01, 0x01, 0x66, 0x00, 0x00, // export
-    0x0a, 0x09, 0x01, 0x07, 0x00, 0x20, 0x00, 0x20, 0x01, 0x6a, 0x0b, // code
-];
 
 /// Names and contents of the files.
 static FILES: [(&'static str, &'static [u8]); 14] = [
-    ("add.js", ADD),
+    ("add.js", SUM),
     (
         "times.js",
         b"function m(){\"use asm\";function f(a,b){a=a|0;b=b|0;return a*b|0;}return f;}",
@@ -28,7 +19,7 @@ static FILES: [(&'static str, &'static [u8]); 14] = [
         "zero.js",
         b"function m(){\"use asm\";function f(){return -0;}return f;}",
     ),
-    ("add.wasm", ADD_MODULE),
+    ("add.wasm", SUMMING),
     ("cut.wasm", b"\0asm"),
     ("empty.wasm", b"\0asm\x01\0\0\0"),
     (
@@ -99,7 +90,7 @@ static ROWS: [Row; 62] = [
         b"functions 200\nasm 12628\nwasm 8961\njs 40995\n",
         b"",
     ),
-    (&["asm2wasm", "add.js"], 0, ADD_MODULE, b""),
+    (&["asm2wasm", "add.js"], 0, SUMMING, b""),
     (
         &["asm2wasm", "times.js"],
         2,
@@ -168,7 +159,7 @@ static ROWS: [Row; 62] = [
         b"wasm refused: B13 Invalid V1 at section 3 index 0 instruction 0\n",
     ),
     (&["wasm2wat", "--heap", "65536", "add.wasm"], 1, b"", USAGE),
-    (&["wat2wasm", "add.wat"], 0, ADD_MODULE, b""),
+    (&["wat2wasm", "add.wat"], 0, SUMMING, b""),
     (
         &["wat2wasm", "float.wat"],
         10,
@@ -196,7 +187,7 @@ static ROWS: [Row; 62] = [
     ),
     (&["shorten", "add.js", "f.txt"], 1, b"", USAGE),
     (&["link", "add.wasm"], 1, b"", USAGE),
-    (&["link", "add.wasm", "empty.wasm"], 0, ADD_MODULE, b""),
+    (&["link", "add.wasm", "empty.wasm"], 0, SUMMING, b""),
     (
         &["link", "add.wasm", "add.wasm"],
         11,
@@ -316,57 +307,64 @@ fn all_files(alloc: Global) -> Result<MemFiles, AllocError> {
     Ok(files)
 }
 
+/// A call with these words over these files, with this sink as its output.
+fn call(
+    alloc: Global,
+    words: &[&str],
+    files: Result<MemFiles, AllocError>,
+    out: Result<MemSink, AllocError>,
+) -> Result<Ending, AllocError> {
+    match (files, out, MemSink::new(alloc, 1000, 1000)) {
+        (Ok(files), Ok(out), Ok(report)) => called(alloc, words, files, out, report),
+        _ => Err(AllocError),
+    }
+}
+
 /// The call ends as the row says.
-fn ends(rt: &impl Abort, alloc: Global, row: &Row) -> Result<(), Fail> {
+fn ends(rt: &impl Abort, alloc: Global, row: &Row) {
     let (words, code, output, line) = *row;
-    let files = all_files(alloc)?;
-    let out = MemSink::new(alloc, 1000, 1000)?;
-    let report = MemSink::new(alloc, 1000, 1000)?;
-    let Ok(ending) = called(alloc, words, files, out, report) else {
-        return Err(Fail::new("out of memory"));
-    };
+    let out = MemSink::new(alloc, 1000, 1000);
+    let ending = made(rt, call(alloc, words, all_files(alloc), out));
     is_ending(rt, words, &ending, code, output, line);
-    Ok(())
 }
 
 #[test]
-fn calls_end_as_the_table_says(rt: HostRuntime) -> Result<(), Fail> {
+fn calls_end_as_the_table_says(rt: HostRuntime) {
     for row in ROWS.iter() {
-        ends(&rt, rt.alloc(), row)?;
+        ends(&rt, rt.alloc(), row);
     }
-    Ok(())
 }
 
 const ADDING: [&str; 2] = ["asm2wasm", "add.js"];
 
-#[test]
-fn a_failed_read_is_told(rt: HostRuntime) -> Result<(), Fail> {
-    let alloc = rt.alloc();
+/// All files, of which the first read fails.
+fn unread_files(alloc: Global) -> Result<MemFiles, AllocError> {
     let mut files = all_files(alloc)?;
     files.fail_at(1)?;
-    let out = MemSink::new(alloc, 1000, 1)?;
-    let report = MemSink::new(alloc, 1000, 1000)?;
-    let Ok(ending) = called(alloc, &ADDING, files, out, report) else {
-        return Err(Fail::new("out of memory"));
-    };
-    assert!(rt; ending.status == Status::ReadFault);
-    same_bytes(&rt, &ADDING, ending.output(), b"");
-    same_bytes(&rt, &ADDING, ending.reported(), b"read fault\n");
-    Ok(())
+    Ok(files)
 }
 
 #[test]
-fn a_failed_write_is_told(rt: HostRuntime) -> Result<(), Fail> {
+fn a_failed_read_is_told(rt: HostRuntime) {
     let alloc = rt.alloc();
-    let files = all_files(alloc)?;
+    let out = MemSink::new(alloc, 1000, 1);
+    let ending = made(&rt, call(alloc, &ADDING, unread_files(alloc), out));
+    holds(&rt, 0, ending.status == Status::ReadFault);
+    is_ending(&rt, &ADDING, &ending, 5, b"", b"read fault\n");
+}
+
+/// A sink that takes one byte at a time, and fails at the second.
+fn short_sink(alloc: Global) -> Result<MemSink, AllocError> {
     let mut out = MemSink::new(alloc, 1000, 1)?;
     out.fail_at(2)?;
-    let report = MemSink::new(alloc, 1000, 1000)?;
-    let Ok(ending) = called(alloc, &ADDING, files, out, report) else {
-        return Err(Fail::new("out of memory"));
-    };
-    assert!(rt; ending.status == Status::WriteFault);
-    same_bytes(&rt, &ADDING, ending.output(), &[0x00]);
-    same_bytes(&rt, &ADDING, ending.reported(), b"");
-    Ok(())
+    Ok(out)
+}
+
+#[test]
+fn a_failed_write_is_told(rt: HostRuntime) {
+    let alloc = rt.alloc();
+    let files = all_files(alloc);
+    let ending = made(&rt, call(alloc, &ADDING, files, short_sink(alloc)));
+    holds(&rt, 0, ending.status == Status::WriteFault);
+    is_ending(&rt, &ADDING, &ending, 6, &[0x00], b"");
 }

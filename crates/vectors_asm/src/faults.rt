@@ -1,14 +1,12 @@
 //! Reads and writes that fail, one after the other, by the whole program.
-use crate::checks::USUAL;
-use crate::modules::ADDING;
+use crate::modules::{ADDING, SUMMING};
 use crate::program::{Ending, called, is_ending, same_bytes, two_files};
+use crate::rows::{holds, made};
+use crate::texts::{SUM, USUAL};
 use bridge_cmd::Status;
 use bridge_io::{MemFiles, MemSink};
 use std::alloc::{AllocError, Global};
 use std::process::Abort;
-use std::test::Fail;
-
-const SUM: &[u8] = b"function m(){\"use asm\";function f(a,b){a=a|0;b=b|0;return a+b|0;}return f;}";
 
 /// A call over the files `m` and `s`, and all that it writes to its output.
 struct Whole {
@@ -36,7 +34,7 @@ static SUM_TRANSLATED: Whole = Whole {
     words: &["asm2wasm", "m"],
     module: SUM,
     script: b"",
-    written: b"\0asm\x01\0\0\0\x01\x07\x01`\x02\x7f\x7f\x01\x7f\x03\x02\x01\0\x07\x05\x01\x01f\0\0\x0a\x09\x01\x07\0 \0 \x01j\x0b",
+    written: SUMMING,
 };
 
 static ADDING_RUNS: Whole = Whole {
@@ -77,66 +75,76 @@ fn happens(
 }
 
 /// The call with this fault. Its output takes one byte at a time.
-fn call(alloc: Global, whole: &Whole, fault: Fault) -> Result<Ending, Fail> {
+fn call(alloc: Global, whole: &Whole, fault: Fault) -> Result<Ending, AllocError> {
     let mut files = two_files(alloc, whole.module, whole.script)?;
     let mut out = MemSink::new(alloc, 1000, 1)?;
     let mut report = MemSink::new(alloc, 1000, 1000)?;
     happens(fault, &mut files, &mut out, &mut report)?;
-    match called(alloc, whole.words, files, out, report) {
-        Ok(ending) => Ok(ending),
-        Err(_) => Err(Fail::new("out of memory")),
-    }
+    called(alloc, whole.words, files, out, report)
+}
+
+/// The call has this status, and has written this, of which the output is a front of the whole.
+fn is_cut(
+    rt: &impl Abort,
+    whole: &Whole,
+    ending: &Ending,
+    status: Status,
+    len: usize,
+    told: &[u8],
+) {
+    holds(rt, len, ending.status == status);
+    holds(
+        rt,
+        len,
+        ending.output().len() == len && whole.written.starts_with(ending.output()),
+    );
+    same_bytes(rt, whole.words, ending.reported(), told);
 }
 
 /// With a read failing, the first and so on, the call ends with a failed read and an empty output, until it makes fewer reads than that.
-fn reads_fail(rt: &impl Abort, alloc: Global, whole: &Whole) -> Result<(), Fail> {
+fn reads_fail(rt: &impl Abort, alloc: Global, whole: &Whole) {
     for before in 0..10u64 {
-        let ending = call(alloc, whole, Fault::Read(before + 1))?;
+        let ending = made(rt, call(alloc, whole, Fault::Read(before + 1)));
         if ending.status == Status::Done {
             same_bytes(rt, whole.words, ending.output(), whole.written);
             // Each of its two files was read.
-            assert!(rt; 2 <= before);
-            return Ok(());
+            holds(rt, 2, 2 <= before);
+            return;
         }
-        assert!(rt; ending.status == Status::ReadFault);
-        same_bytes(rt, whole.words, ending.output(), b"");
-        same_bytes(rt, whole.words, ending.reported(), b"read fault\n");
+        is_cut(rt, whole, &ending, Status::ReadFault, 0, b"read fault\n");
     }
-    Err(Fail::new("no call ended"))
+    panic!(rt; "no call ended");
 }
 
 #[test]
-fn each_read_in_turn_fails(rt: HostRuntime) -> Result<(), Fail> {
-    reads_fail(&rt, rt.alloc(), &SUM_RUNS)?;
-    reads_fail(&rt, rt.alloc(), &USUAL_RUNS)
+fn each_read_in_turn_fails(rt: HostRuntime) {
+    reads_fail(&rt, rt.alloc(), &SUM_RUNS);
+    reads_fail(&rt, rt.alloc(), &USUAL_RUNS);
 }
 
 /// With a write failing, the first and so on, the bytes before it stand in the output, until the call makes fewer writes than that.
-fn writes_fail(rt: &impl Abort, alloc: Global, whole: &Whole) -> Result<(), Fail> {
+fn writes_fail(rt: &impl Abort, alloc: Global, whole: &Whole) {
     for before in 0..1000usize {
-        let ending = call(alloc, whole, Fault::Output(before as u64 + 1))?;
-        let out = ending.output();
-        assert!(rt; out.len() == before && whole.written.starts_with(out));
-        same_bytes(rt, whole.words, ending.reported(), b"");
+        let ending = made(rt, call(alloc, whole, Fault::Output(before as u64 + 1)));
         if ending.status == Status::Done {
-            same_bytes(rt, whole.words, out, whole.written);
-            return Ok(());
+            is_cut(rt, whole, &ending, Status::Done, before, b"");
+            same_bytes(rt, whole.words, ending.output(), whole.written);
+            return;
         }
-        assert!(rt; ending.status == Status::WriteFault);
+        is_cut(rt, whole, &ending, Status::WriteFault, before, b"");
     }
-    Err(Fail::new("no call ended"))
+    panic!(rt; "no call ended");
 }
 
 #[test]
-fn each_write_in_turn_fails(rt: HostRuntime) -> Result<(), Fail> {
-    writes_fail(&rt, rt.alloc(), &SUM_TRANSLATED)?;
-    writes_fail(&rt, rt.alloc(), &ADDING_RUNS)
+fn each_write_in_turn_fails(rt: HostRuntime) {
+    writes_fail(&rt, rt.alloc(), &SUM_TRANSLATED);
+    writes_fail(&rt, rt.alloc(), &ADDING_RUNS);
 }
 
 #[test]
-fn the_report_fails(rt: HostRuntime) -> Result<(), Fail> {
-    let ending = call(rt.alloc(), &WORDLESS, Fault::Report(1))?;
-    assert!(rt; ending.status == Status::WriteFault);
+fn the_report_fails(rt: HostRuntime) {
+    let ending = made(&rt, call(rt.alloc(), &WORDLESS, Fault::Report(1)));
+    holds(&rt, 0, ending.status == Status::WriteFault);
     is_ending(&rt, &[], &ending, 6, b"", b"");
-    Ok(())
 }

@@ -1,9 +1,9 @@
 //! Large modules, written and read again; `bench/read_write_wasm.py` measures these tests.
+use crate::rows::{holds, made};
 use crate::writing::rewritten;
 use sem_words::{Bin, List};
 use std::alloc::{AllocError, Global};
 use std::process::Abort;
-use std::test::Fail;
 use wasm_binary_write::write;
 use wasm_tree::{Body, Code, FuncType, Instr, Module, ValType};
 
@@ -67,28 +67,25 @@ fn chain(alloc: Global, n: u32) -> Result<Module<'static>, AllocError> {
 }
 
 /// The module of so many functions is written, read, and written again as the same bytes: at least nine for each function.
-fn is_written_and_read(rt: &impl Abort, alloc: Global, n: u32) -> Result<(), Fail> {
-    let Ok(module) = chain(alloc, n) else {
-        return Err(Fail::new("out of memory"));
-    };
-    let written = write(alloc, &module)?;
-    assert!(rt; written.len() / 9 >= n as usize);
-    let again = rewritten(alloc, written.as_slice())?;
-    assert_eq!(rt; again.as_slice(), written.as_slice());
-    Ok(())
+fn is_written_and_read(rt: &impl Abort, alloc: Global, n: u32) {
+    let module = made(rt, chain(alloc, n));
+    let written = made(rt, write(alloc, &module));
+    holds(rt, 0, written.len() / 9 >= n as usize);
+    let again = made(rt, rewritten(alloc, written.as_slice()));
+    holds(rt, 1, again.as_slice() == written.as_slice());
 }
 
 #[test]
-fn functions_10000(rt: HostRuntime) -> Result<(), Fail> {
-    is_written_and_read(&rt, rt.alloc(), 10_000)
+fn functions_10000(rt: HostRuntime) {
+    is_written_and_read(&rt, rt.alloc(), 10_000);
 }
 
 #[test]
-fn functions_20000(rt: HostRuntime) -> Result<(), Fail> {
-    is_written_and_read(&rt, rt.alloc(), 20_000)
+fn functions_20000(rt: HostRuntime) {
+    is_written_and_read(&rt, rt.alloc(), 20_000);
 }
 
 #[test]
-fn functions_40000(rt: HostRuntime) -> Result<(), Fail> {
-    is_written_and_read(&rt, rt.alloc(), 40_000)
+fn functions_40000(rt: HostRuntime) {
+    is_written_and_read(&rt, rt.alloc(), 40_000);
 }

@@ -13,7 +13,7 @@ mod commands;
 #[cfg(test)]
 mod faults;
 #[cfg(test)]
-mod hostile;
+mod fronts;
 #[cfg(test)]
 mod large;
 #[cfg(test)]
@@ -26,6 +26,10 @@ mod program;
 mod recipes;
 #[cfg(test)]
 mod rows;
+#[cfg(test)]
+mod sessions;
+#[cfg(test)]
+mod texts;
 #[cfg(test)]
 mod translations;
 #[cfg(test)]

@@ -1,5 +1,9 @@
 //! Modules of WebAssembly.
 
+/// What `SUM` is translated to: a type of two numbers of 32 bits to one, a function, its export `f`, and its body.
+pub(crate) const SUMMING: &[u8] =
+    b"\0asm\x01\0\0\0\x01\x07\x01`\x02\x7f\x7f\x01\x7f\x03\x02\x01\0\x07\x05\x01\x01f\0\0\x0a\x09\x01\x07\0 \0 \x01j\x0b";
+
 /// It exports `m`, the sum of two numbers of 64 bits.
 pub(crate) const ADDING: &[u8] =
     b"\0asm\x01\0\0\0\x01\x07\x01`\x02~~\x01~\x03\x02\x01\0\x07\x05\x01\x01m\0\0\x0a\x09\x01\x07\0 \0 \x01|\x0b";

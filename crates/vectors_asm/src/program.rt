@@ -1,9 +1,14 @@
 //! The whole program, over files in memory.
+use crate::rows::made;
 use bridge_cmd::{Status, bridge};
 use bridge_io::{MemFiles, MemSink};
 use std::alloc::{AllocError, Global};
 use std::process::Abort;
-use std::test::Fail;
+
+/// The words of a check of the file `m`.
+pub(crate) const CHECK_ASM: &[&str] = &["check-asm", "m"];
+
+pub(crate) const CHECK_WASM: &[&str] = &["check-wasm", "m"];
 
 /// A session: what it shows, the module, the options, the script, and what is printed.
 pub(crate) struct Row {
@@ -26,14 +31,9 @@ pub(crate) fn with_options(
 }
 
 /// What the command prints of the session is the row's.
-pub(crate) fn prints(
-    rt: &impl Abort,
-    alloc: Global,
-    command: &'static str,
-    row: &Row,
-) -> Result<(), Fail> {
-    let words = with_options(alloc, &[command, "m", "s"], row.options)?;
-    ends(rt, alloc, &words, row.module, row.script, 0, row.printed)
+pub(crate) fn prints(rt: &impl Abort, alloc: Global, command: &'static str, row: &Row) {
+    let words = made(rt, with_options(alloc, &[command, "m", "s"], row.options));
+    ends(rt, alloc, &words, row.module, row.script, 0, row.printed);
 }
 
 /// The program's name and these words.
@@ -121,18 +121,17 @@ pub(crate) fn code_of(alloc: Global, words: &[&str], module: &[u8]) -> Option<u8
     }
 }
 
-/// What a call with the file `m` ended as, where that is with the status 0.
-pub(crate) fn done(alloc: Global, words: &[&str], module: &[u8]) -> Option<Ending> {
-    match call(alloc, words, module, b"") {
-        Ok(ending) => {
-            if ending.status == Status::Done {
-                Some(ending)
-            } else {
-                None
-            }
-        }
-        Err(_) => None,
-    }
+/// What a call with the file `m` ended as, for a row of this name: with the status 0.
+pub(crate) fn done(
+    rt: &impl Abort,
+    alloc: Global,
+    name: &str,
+    words: &[&str],
+    module: &[u8],
+) -> Ending {
+    let ending = made(rt, call(alloc, words, module, b""));
+    assert!(rt; ending.status == Status::Done, "{name}: {words:?}");
+    ending
 }
 
 /// These bytes were written of a call with these words.
@@ -163,16 +162,27 @@ pub(crate) fn ends(
     script: &[u8],
     code: u8,
     written: &[u8],
-) -> Result<(), Fail> {
-    let Ok(ending) = call(alloc, words, module, script) else {
-        return Err(Fail::new("out of memory"));
-    };
+) {
+    let ending = made(rt, call(alloc, words, module, script));
     if code == 0 {
         is_ending(rt, words, &ending, code, written, b"");
     } else {
         is_ending(rt, words, &ending, code, b"", written);
     }
-    Ok(())
+}
+
+/// The call ends with this status, and its report is this with the place behind it.
+pub(crate) fn is_told_at(
+    rt: &impl Abort,
+    alloc: Global,
+    words: &[&str],
+    module: &[u8],
+    code: u8,
+    told: &str,
+    place: usize,
+) {
+    let line = made(rt, format!(in alloc; "{told}{place}\n"));
+    ends(rt, alloc, words, module, b"", code, line.as_bytes());
 }
 
 /// The call ends with the status 0, and what it writes to its output begins with this.
@@ -183,13 +193,26 @@ pub(crate) fn begins(
     module: &[u8],
     script: &[u8],
     front: &[u8],
-) -> Result<(), Fail> {
-    let Ok(ending) = call(alloc, words, module, script) else {
-        return Err(Fail::new("out of memory"));
-    };
+) {
+    let ending = made(rt, call(alloc, words, module, script));
     assert!(rt;
         ending.code() == 0 && ending.output().starts_with(front),
         "{words:?}"
     );
-    Ok(())
+}
+
+/// The words of the calls that translate a module, check what it is translated to, and run that.
+#[derive(Drop)]
+pub(crate) struct Translated<'a> {
+    pub(crate) translating: &'a [&'a str],
+    pub(crate) checking: &'a [&'a str],
+    pub(crate) running: &'a [&'a str],
+}
+
+/// What the row's module is translated to is accepted, and prints what the row says.
+pub(crate) fn prints_translated(rt: &impl Abort, alloc: Global, row: &Row, words: &Translated<'_>) {
+    let translated = done(rt, alloc, row.name, words.translating, row.module);
+    let module = translated.output();
+    done(rt, alloc, row.name, words.checking, module);
+    ends(rt, alloc, words.running, module, row.script, 0, row.printed);
 }

@@ -1,8 +1,8 @@
 //! The text that `gen` measures, written from its rule, and its translations, by the whole program.
 use crate::program::{begins, done, ends};
+use crate::rows::{holds, made};
 use std::alloc::{AllocError, Global};
 use std::process::Abort;
-use std::test::Fail;
 
 const HEADING: &str =
     "function gen(stdlib,foreign,heap){\"use asm\";var H=new stdlib.Int32Array(heap);\n";
@@ -26,79 +26,63 @@ fn text_of(alloc: Global, functions: u32) -> Result<String, AllocError> {
 }
 
 /// `gen 200` tells these lengths, of which the two of translations are at most ten and a hundred times that of the text.
-fn are_told(
-    rt: &impl Abort,
-    alloc: Global,
-    text: &[u8],
-    module: &[u8],
-    back: &[u8],
-) -> Result<(), Fail> {
-    assert!(rt; module.len() <= 126_280 && back.len() <= 1_262_800);
+fn are_told(rt: &impl Abort, alloc: Global, text: &[u8], module: &[u8], back: &[u8]) {
+    holds(rt, 0, module.len() <= 126_280 && back.len() <= 1_262_800);
     let lengths = format!(in alloc;
         "functions 200\nasm {}\nwasm {}\njs {}\n",
         text.len(),
         module.len(),
         back.len()
-    )?;
-    ends(rt, alloc, &["gen", "200"], b"", b"", 0, lengths.as_bytes())
+    );
+    let lengths = made(rt, lengths);
+    ends(rt, alloc, &["gen", "200"], b"", b"", 0, lengths.as_bytes());
 }
+
+const RUN_ASM: &[&str] = &["run-asm", "--steps", "1000000000", "m", "s"];
+
+const RUN_WASM: &[&str] = &["run-wasm", "--steps", "1000000000", "m", "s"];
 
 /// The text and its translations give the sum of 1 to 199 for 0.
-fn are_run(
-    rt: &impl Abort,
-    alloc: Global,
-    text: &[u8],
-    module: &[u8],
-    back: &[u8],
-) -> Result<(), Fail> {
+fn are_run(rt: &impl Abort, alloc: Global, text: &[u8], module: &[u8], back: &[u8]) {
     let called = b"call f199 0";
     let sum = b"result 19900\n";
+    begins(rt, alloc, RUN_ASM, text, called, sum);
+    begins(rt, alloc, RUN_WASM, module, called, sum);
+    let called = b"call $init\ncall f199 0";
     begins(
         rt,
         alloc,
-        &["run-asm", "--steps", "1000000000", "m", "s"],
-        text,
-        called,
-        sum,
-    )?;
-    begins(
-        rt,
-        alloc,
-        &["run-wasm", "--steps", "1000000000", "m", "s"],
-        module,
-        called,
-        sum,
-    )?;
-    begins(
-        rt,
-        alloc,
-        &["run-asm", "--steps", "1000000000", "m", "s"],
+        RUN_ASM,
         back,
-        b"call $init\ncall f199 0",
+        called,
         b"returned\nresult 19900\n",
-    )
+    );
 }
 
 #[test]
-fn the_text_of_200_functions_is_translated_and_run(rt: HostRuntime) -> Result<(), Fail> {
+fn the_text_of_200_functions_is_translated_and_run(rt: HostRuntime) {
     let alloc = rt.alloc();
-    let text = text_of(alloc, 200)?;
-    let Some(module) = done(alloc, &["asm2wasm", "m"], text.as_bytes()) else {
-        return Err(Fail::new("no module"));
-    };
-    let Some(back) = done(alloc, &["wasm2js", "m"], module.output()) else {
-        return Err(Fail::new("no text"));
-    };
-    are_told(&rt, alloc, text.as_bytes(), module.output(), back.output())?;
-    are_run(&rt, alloc, text.as_bytes(), module.output(), back.output())
+    let text = made(&rt, text_of(alloc, 200));
+    let text = text.as_bytes();
+    let translated = done(&rt, alloc, "gen 200", &["asm2wasm", "m"], text);
+    let module = translated.output();
+    let translated_back = done(&rt, alloc, "gen 200", &["wasm2js", "m"], module);
+    let back = translated_back.output();
+    are_told(&rt, alloc, text, module, back);
+    are_run(&rt, alloc, text, module, back);
 }
 
 #[test]
-fn the_text_of_three_functions_is_measured(rt: HostRuntime) -> Result<(), Fail> {
+fn the_text_of_three_functions_is_measured(rt: HostRuntime) {
     let alloc = rt.alloc();
-    let front = b"functions 3\nasm 239\n";
-    begins(&rt, alloc, &["gen", "3"], b"", b"", front)?;
-    let text = text_of(alloc, 3)?;
-    assert!(rt; text.len() == 239);
-    Ok(())
+    begins(
+        &rt,
+        alloc,
+        &["gen", "3"],
+        b"",
+        b"",
+        b"functions 3\nasm 239\n",
+    );
+    let text = made(&rt, text_of(alloc, 3));
+    holds(&rt, 1, text.len() == 239);
 }

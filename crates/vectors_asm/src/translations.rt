@@ -1,35 +1,28 @@
 //! Sessions of asm.js, by the modules of WebAssembly that their texts are translated to.
 use crate::calls::ROWS;
-use crate::program::{Row, code_of, done, ends, with_options};
+use crate::program::{CHECK_WASM, Row, Translated, done, ends, prints_translated, with_options};
+use crate::rows::made;
 use std::alloc::{AllocError, Global};
 use std::process::Abort;
-use std::test::Fail;
 
-/// The translated module prints what the row says, also under `check-wasm`.
-fn prints_the_same(rt: &impl Abort, alloc: Global, row: &Row) -> Result<(), Fail> {
-    let words = with_options(alloc, &["asm2wasm", "m"], row.options)?;
-    let Some(ending) = done(alloc, &words, row.module) else {
-        return Err(Fail::new(row.name));
+const RUN_WASM: &[&str] = &["run-wasm", "m", "s"];
+
+/// The translated module is accepted, and prints what the row says.
+fn prints_the_same(rt: &impl Abort, alloc: Global, row: &Row) {
+    let translating = made(rt, with_options(alloc, &["asm2wasm", "m"], row.options));
+    let words = Translated {
+        translating: &translating,
+        checking: CHECK_WASM,
+        running: RUN_WASM,
     };
-    let checked = code_of(alloc, &["check-wasm", "m"], ending.output());
-    assert_eq!(rt; checked, Some(0), "{}", row.name);
-    ends(
-        rt,
-        alloc,
-        &["run-wasm", "m", "s"],
-        ending.output(),
-        row.script,
-        0,
-        row.printed,
-    )
+    prints_translated(rt, alloc, row, &words);
 }
 
 #[test]
-fn translated_sessions_are_printed(rt: HostRuntime) -> Result<(), Fail> {
+fn translated_sessions_are_printed(rt: HostRuntime) {
     for row in &ROWS {
-        prints_the_same(&rt, rt.alloc(), row)?;
+        prints_the_same(&rt, rt.alloc(), row);
     }
-    Ok(())
 }
 
 /// A name of 300 bytes, before the last one.
@@ -42,28 +35,26 @@ fn long_name(alloc: Global, last: char) -> Result<String, AllocError> {
     Ok(name)
 }
 
-/// Members with long names, each called by two shapes: an import has the name of the member that is called.
-#[test]
-fn long_members_keep_their_names(rt: HostRuntime) -> Result<(), Fail> {
-    let alloc = rt.alloc();
-    let a = long_name(alloc, 'a')?;
-    let b = long_name(alloc, 'b')?;
+/// The text of the translated module of these names prints this.
+fn keeps_names(rt: &impl Abort, alloc: Global, a: &str, b: &str) -> Result<(), AllocError> {
     let text = format!(in alloc;
         "function m(s,o){{\"use asm\";var a=o.{a},b=o.{b};function f(){{a(1);b(2);a(3,4);b();}}return f;}}"
     )?;
     let printed = format!(in alloc;
         "import {a} 1\nimport {b} 2\nimport {a} 3 4\nimport {b}\nreturned\nend done\n"
     )?;
-    let Some(ending) = done(alloc, &["asm2wasm", "m"], text.as_bytes()) else {
-        return Err(Fail::new("no module"));
-    };
-    ends(
-        &rt,
-        alloc,
-        &["run-wasm", "m", "s"],
-        ending.output(),
-        b"call f\nreply 0\nreply 0\nreply 0\nreply 0",
-        0,
-        printed.as_bytes(),
-    )
+    let words = ["asm2wasm", "m"];
+    let ending = done(rt, alloc, "long names", &words, text.as_bytes());
+    let script = b"call f\nreply 0\nreply 0\nreply 0\nreply 0";
+    let module = ending.output();
+    ends(rt, alloc, RUN_WASM, module, script, 0, printed.as_bytes());
+    Ok(())
+}
+
+/// Members with long names, each called by two shapes: an import has the name of the member that is called.
+#[test]
+fn long_members_keep_their_names(rt: HostRuntime) {
+    let a = made(&rt, long_name(rt.alloc(), 'a'));
+    let b = made(&rt, long_name(rt.alloc(), 'b'));
+    made(&rt, keeps_names(&rt, rt.alloc(), a.as_str(), b.as_str()));
 }

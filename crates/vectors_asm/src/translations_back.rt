@@ -5,11 +5,11 @@ use crate::modules::{
     LOOPING, MANY_PAGES, MULTIPLYING, MUTABLE_IMPORT, PADDED, PAGES, POLYMORPHIC, ROTATING,
     STORING, TABLE, TABLE_IMPORT,
 };
-use crate::program::{Row, code_of, done, ends, with_options};
+use crate::program::{CHECK_ASM, Row, Translated, done, ends, prints_translated, with_options};
+use crate::rows::{holds, made};
 use cmd_check_wasm::check_bytes;
 use std::alloc::Global;
 use std::process::Abort;
-use std::test::Fail;
 use wasm2js::{profile, translate};
 
 // The scripts are in the calling form of the translation, and what is printed is what node prints of the texts.
@@ -208,39 +208,31 @@ static REFUSED: [Refused; 4] = [
     Refused(MULTIPLYING, b"wasm refused: B24 WideMulDiv 0\n"),
 ];
 
+const WASM2JS: &[&str] = &["wasm2js", "m"];
+
 /// The text of the translated module is accepted, and prints what the row says.
-fn prints_the_same(rt: &impl Abort, alloc: Global, row: &Row) -> Result<(), Fail> {
-    let Some(ending) = done(alloc, &["wasm2js", "m"], row.module) else {
-        return Err(Fail::new(row.name));
+fn prints_the_same(rt: &impl Abort, alloc: Global, row: &Row) {
+    let running = made(rt, with_options(alloc, &["run-asm", "m", "s"], row.options));
+    let words = Translated {
+        translating: WASM2JS,
+        checking: CHECK_ASM,
+        running: &running,
     };
-    let checked = code_of(alloc, &["check-asm", "m"], ending.output());
-    assert_eq!(rt; checked, Some(0), "{}", row.name);
-    let words = with_options(alloc, &["run-asm", "m", "s"], row.options)?;
-    ends(
-        rt,
-        alloc,
-        &words,
-        ending.output(),
-        row.script,
-        0,
-        row.printed,
-    )
+    prints_translated(rt, alloc, row, &words);
 }
 
 #[test]
-fn sessions_translated_back_are_printed(rt: HostRuntime) -> Result<(), Fail> {
+fn sessions_translated_back_are_printed(rt: HostRuntime) {
     for row in &ROWS {
-        prints_the_same(&rt, rt.alloc(), row)?;
+        prints_the_same(&rt, rt.alloc(), row);
     }
-    Ok(())
 }
 
 #[test]
-fn modules_beyond_the_profile_are_refused(rt: HostRuntime) -> Result<(), Fail> {
+fn modules_beyond_the_profile_are_refused(rt: HostRuntime) {
     for row in &REFUSED {
-        ends(&rt, rt.alloc(), &["wasm2js", "m"], row.0, b"", 3, row.1)?;
+        ends(&rt, rt.alloc(), WASM2JS, row.0, b"", 3, row.1);
     }
-    Ok(())
 }
 
 /// Whether a line of the text begins with the front, and has the word in it.
@@ -262,15 +254,11 @@ fn has_line(text: &[u8], front: &[u8], word: &[u8]) -> bool {
 
 /// A function of the module calls a helper, which stands in the text beside it.
 #[test]
-fn a_rotation_is_a_call_of_a_helper(rt: HostRuntime) -> Result<(), Fail> {
-    let Some(text) = done(rt.alloc(), &["wasm2js", "m"], ROTATING) else {
-        return Err(Fail::new("no text"));
-    };
-    let text = text.output();
-    assert!(rt;
-        has_line(text, b"function f", b"$rotl(") && has_line(text, b"function $rotl(", b"return")
-    );
-    Ok(())
+fn a_rotation_is_a_call_of_a_helper(rt: HostRuntime) {
+    let ending = done(&rt, rt.alloc(), "a rotation", WASM2JS, ROTATING);
+    let text = ending.output();
+    holds(&rt, 0, has_line(text, b"function f", b"$rotl("));
+    holds(&rt, 1, has_line(text, b"function $rotl(", b"return"));
 }
 
 /// How many functions the accepted module has that stands for the one that the bytes spell; none where there is none.
@@ -290,7 +278,6 @@ fn functions_of(alloc: Global, bytes: &[u8]) -> usize {
 
 /// A function, the helpers, `$init` and `$hi`.
 #[test]
-fn a_translation_is_given_as_an_accepted_module(rt: HostRuntime) -> Result<(), Fail> {
-    assert!(rt; functions_of(rt.alloc(), ADDING) > 3);
-    Ok(())
+fn a_translation_is_given_as_an_accepted_module(rt: HostRuntime) {
+    holds(&rt, 0, functions_of(rt.alloc(), ADDING) > 3);
 }

@@ -1,7 +1,7 @@
 //! Modules that are read, written, and read again.
 use crate::modules::{ADDING, LOADING, PADDED};
+use crate::rows::holds;
 use std::alloc::{AllocError, Global};
-use std::test::Fail;
 use wasm_binary::read;
 use wasm_binary_write::write;
 
@@ -16,13 +16,17 @@ pub(crate) fn rewritten(alloc: Global, bytes: &[u8]) -> Result<Vec<u8>, AllocErr
 /// A module, and its shortest spelling.
 static SHORTEST: [(&[u8], &[u8]); 3] = [(ADDING, ADDING), (PADDED, ADDING), (LOADING, LOADING)];
 
-#[test]
-fn the_shortest_spelling_is_written_and_read_again(rt: HostRuntime) -> Result<(), Fail> {
-    for (bytes, shortest) in SHORTEST.iter() {
-        let written = rewritten(rt.alloc(), bytes)?;
-        assert_eq!(rt; written.as_slice(), *shortest);
-        let again = rewritten(rt.alloc(), written.as_slice())?;
-        assert!(rt; again.as_slice() == *shortest);
+/// The module is written so, and read and written again as the same bytes.
+fn is_shortest(alloc: Global, bytes: &[u8], shortest: &[u8]) -> bool {
+    match (rewritten(alloc, bytes), rewritten(alloc, shortest)) {
+        (Ok(written), Ok(again)) => written.as_slice() == shortest && again.as_slice() == shortest,
+        _ => false,
     }
-    Ok(())
+}
+
+#[test]
+fn the_shortest_spelling_is_written_and_read_again(rt: HostRuntime) {
+    for (number, (bytes, shortest)) in SHORTEST.iter().enumerate() {
+        holds(&rt, number, is_shortest(rt.alloc(), bytes, shortest));
+    }
 }

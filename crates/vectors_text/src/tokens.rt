@@ -1,5 +1,6 @@
+use crate::rows::holds;
 use js_tokens::*;
-use std::test::Fail;
+use std::alloc::Global;
 
 /// No line ends before the token, which has this text and place.
 fn is_token(token: &Token<'_>, text: &[u8], at: u64) -> bool {
@@ -10,15 +11,16 @@ fn is_token(token: &Token<'_>, text: &[u8], at: u64) -> bool {
 static LONGEST: [(&[u8], u64); 5] = [(b"a", 0), (b">>>=", 1), (b"b", 5), (b"--", 6), (b"c", 8)];
 
 #[test]
-fn longest_tokens(rt: HostRuntime) -> Result<(), Fail> {
-    let Ok(found) = tokens(rt.alloc(), b"a>>>=b--c") else {
-        return Err(Fail::new("the text has tokens"));
-    };
-    assert!(rt; found.len() == 5);
-    for (token, (text, at)) in found.iter().zip(LONGEST.iter()) {
-        assert!(rt; is_token(token, text, *at), "{at}");
+fn longest_tokens(rt: HostRuntime) {
+    match tokens(rt.alloc(), b"a>>>=b--c") {
+        Ok(found) => {
+            holds(&rt, 5, found.len() == 5);
+            for (number, (token, (text, at))) in found.iter().zip(LONGEST.iter()).enumerate() {
+                holds(&rt, number, is_token(token, text, *at));
+            }
+        }
+        Err(_) => holds(&rt, 6, false),
     }
-    Ok(())
 }
 
 /// The kinds of tokens, their places, and whether a line ends before them.
@@ -31,17 +33,22 @@ static KINDS: [(TokenKind, u64, bool); 6] = [
     (TokenKind::Decimal, 37, false),
 ];
 
+fn is_of_kind(token: &Token<'_>, kind: TokenKind, at: u64, line_before: bool) -> bool {
+    token.kind == kind && token.at == at && token.line_before == line_before
+}
+
 #[test]
-fn kinds_and_lines(rt: HostRuntime) -> Result<(), Fail> {
+fn kinds_and_lines(rt: HostRuntime) {
     let text = b"\n0xfF // e\xcc\x81 \x0b\r\n5. /* \n */ .5\x0b\t'a\"b';18446744073709551616.0";
-    let Ok(found) = tokens(rt.alloc(), text) else {
-        return Err(Fail::new("the text has tokens"));
-    };
-    assert!(rt; found.len() == 6);
-    for (token, wanted) in found.iter().zip(KINDS.iter()) {
-        assert_eq!(rt; (token.kind, token.at, token.line_before), *wanted);
+    match tokens(rt.alloc(), text) {
+        Ok(found) => {
+            holds(&rt, 6, found.len() == 6);
+            for (number, (token, (kind, at, line))) in found.iter().zip(KINDS.iter()).enumerate() {
+                holds(&rt, number, is_of_kind(token, *kind, *at, *line));
+            }
+        }
+        Err(_) => holds(&rt, 7, false),
     }
-    Ok(())
 }
 
 static FAULTS: [(&[u8], TokenFault); 16] = [
@@ -63,43 +70,54 @@ static FAULTS: [(&[u8], TokenFault); 16] = [
     (b"/* \xe2\x80\xa9 ", TokenFault::OpenComment { at: 0 }),
 ];
 
-#[test]
-fn faults(rt: HostRuntime) {
-    for (text, fault) in FAULTS.iter() {
-        assert_eq!(rt; tokens(rt.alloc(), text).err(), Some(*fault));
+fn is_refused(alloc: Global, text: &[u8], fault: TokenFault) -> bool {
+    match tokens(alloc, text) {
+        Ok(_) => false,
+        Err(found) => found == fault,
     }
 }
 
-/// The next token has this text.
-fn is_next(scanner: &mut Scanner<'_>, text: &[u8]) -> bool {
-    match scanner.next() {
-        Next::Token(token) => token.text == text,
-        Next::End | Next::Fault(_) => false,
+#[test]
+fn faults(rt: HostRuntime) {
+    for (number, (text, fault)) in FAULTS.iter().enumerate() {
+        holds(&rt, number, is_refused(rt.alloc(), text, *fault));
+    }
+}
+
+/// What stands next in a text.
+enum Coming {
+    Token(&'static [u8]),
+    End,
+    /// A literal of no form, at a place.
+    Literal(u64),
+}
+
+fn is_next(scanner: &mut Scanner<'_>, wanted: &Coming) -> bool {
+    match (scanner.next(), wanted) {
+        (Next::Token(token), Coming::Token(text)) => token.text == *text,
+        (Next::End, Coming::End) => true,
+        (Next::Fault(TokenFault::LiteralForm { at }), Coming::Literal(place)) => at == *place,
+        _ => false,
     }
 }
 
 #[test]
 fn one_by_one(rt: HostRuntime) {
     let mut scanner = Scanner::new(b"a /* b */ -- 08");
-    let fault = TokenFault::LiteralForm { at: 13 };
-    assert_eq!(rt; scanner.fault(), Some(fault));
-    assert!(rt; is_next(&mut scanner, b"a"));
-    assert!(rt; scanner.at == 1);
-    assert!(rt; is_next(&mut scanner, b"--"));
-    assert!(rt;
-        matches!(
-            scanner.next(),
-            Next::Fault(TokenFault::LiteralForm { at: 13 })
-        )
-    );
+    let fault = Some(TokenFault::LiteralForm { at: 13 });
+    holds(&rt, 0, scanner.fault() == fault);
+    holds(&rt, 1, is_next(&mut scanner, &Coming::Token(b"a")));
+    holds(&rt, 2, scanner.at == 1);
+    holds(&rt, 3, is_next(&mut scanner, &Coming::Token(b"--")));
+    holds(&rt, 4, is_next(&mut scanner, &Coming::Literal(13)));
 }
 
 #[test]
 fn to_the_end(rt: HostRuntime) {
     let mut scanner = Scanner::new(b"\n0 // c");
-    assert!(rt; scanner.fault().is_none());
-    assert!(rt; is_next(&mut scanner, b"0"));
-    assert!(rt; matches!(scanner.next(), Next::End));
+    holds(&rt, 0, scanner.fault().is_none());
+    holds(&rt, 1, is_next(&mut scanner, &Coming::Token(b"0")));
+    holds(&rt, 2, is_next(&mut scanner, &Coming::End));
 }
 
 /// Texts, and the length of the token at their front.
@@ -116,7 +134,7 @@ static FRONTS: [(&[u8], usize); 8] = [
 
 #[test]
 fn longest_at_the_front(rt: HostRuntime) {
-    for (text, len) in FRONTS.iter() {
-        assert_eq!(rt; token_len(text), *len);
+    for (number, (text, len)) in FRONTS.iter().enumerate() {
+        holds(&rt, number, token_len(text) == *len);
     }
 }

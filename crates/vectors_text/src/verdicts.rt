@@ -1,11 +1,11 @@
 //! Texts that are accepted, with what is told of their modules, and texts that are refused.
 use crate::pieces::joined;
+use crate::rows::{done, holds};
 use asm_lang_valid::Rule;
 use asm_validate::{Checked, ExportOf, ForeignCall, Signature};
 use cmd_check_asm::{AsmRow, CheckFault, check_text, counts, row_name};
 use std::alloc::{AllocError, Global};
 use std::process::Abort;
-use std::test::Fail;
 
 mod limits;
 
@@ -35,46 +35,41 @@ fn has_fault(rt: &impl Abort, name: &str, alloc: Global, text: &[u8], fault: Opt
     assert_eq!(rt; fault_of(alloc, text), fault, "{name}");
 }
 
-#[test]
-fn an_accepted_module_tells_its_facts(rt: HostRuntime) -> Result<(), Fail> {
-    let Some(module) = checked(rt.alloc(), WHOLE) else {
-        return Err(Fail::new("refused"));
-    };
-    let signatures = [
-        module.signature(0),
-        module.signature(1),
-        module.signature(2),
-    ];
-    let with_result = Signature {
-        params: 1,
-        result: true,
-    };
-    let without = Signature {
-        params: 0,
-        result: false,
-    };
-    assert_eq!(rt; signatures, [Some(with_result), Some(without), None]);
-    assert!(rt; module.has_heap());
-    assert!(rt; module.module().functions.len() == 2);
-    Ok(())
+/// A function's number, and how many parameters it has and whether it has a result, where there is such a function.
+static SIGNATURES: [(usize, Option<Signature>); 3] = [
+    (
+        0,
+        Some(Signature {
+            params: 1,
+            result: true,
+        }),
+    ),
+    (
+        1,
+        Some(Signature {
+            params: 0,
+            result: false,
+        }),
+    ),
+    (2, None),
+];
+
+fn is_signature(found: Option<Signature>, wanted: Option<Signature>) -> bool {
+    match (found, wanted) {
+        (Some(found), Some(wanted)) => found == wanted,
+        (None, None) => true,
+        _ => false,
+    }
 }
 
 fn is_export(export: &ExportOf, key: &[u8], function: u32) -> bool {
     export.key.as_bytes() == key && export.function == function
 }
 
-#[test]
-fn exports_have_the_numbers_of_their_functions(rt: HostRuntime) -> Result<(), Fail> {
-    let Some(module) = checked(rt.alloc(), WHOLE) else {
-        return Err(Fail::new("refused"));
-    };
+fn are_exports(module: &Checked) -> bool {
     match module.exports() {
-        [first, second] => {
-            assert!(rt; is_export(first, b"run", 1));
-            assert!(rt; is_export(second, b"g", 0));
-            Ok(())
-        }
-        _ => Err(Fail::new("exports")),
+        [first, second] => is_export(first, b"run", 1) && is_export(second, b"g", 0),
+        _ => false,
     }
 }
 
@@ -88,50 +83,65 @@ fn is_call(
     call.name(module.module()) == name && call.params == params && call.result == has_result
 }
 
-#[test]
-fn foreign_calls_count_once(rt: HostRuntime) -> Result<(), Fail> {
-    let Some(module) = checked(rt.alloc(), WHOLE) else {
-        return Err(Fail::new("refused"));
-    };
+fn are_calls(module: &Checked) -> bool {
     match module.foreign_calls() {
         [first, second] => {
-            assert!(rt; is_call(&module, first, b"f", 1, false));
-            assert!(rt; is_call(&module, second, b"f", 2, true));
+            is_call(module, first, b"f", 1, false) && is_call(module, second, b"f", 2, true)
         }
-        _ => return Err(Fail::new("calls")),
+        _ => false,
     }
+}
+
+/// The foreign globals have these names; `c` is the member `a` once more.
+fn are_globals(module: &Checked) -> bool {
     match module.foreign_globals() {
-        // `c` is the member `a` once more
         [first, second] => {
-            assert!(rt; first.as_bytes() == b"a".as_slice());
-            assert!(rt; second.as_bytes() == b"b".as_slice());
-            Ok(())
+            first.as_bytes() == b"a".as_slice() && second.as_bytes() == b"b".as_slice()
         }
-        _ => Err(Fail::new("globals")),
+        _ => false,
     }
 }
 
 #[test]
-fn a_text_of_ints_alone_has_no_heap(rt: HostRuntime) -> Result<(), Fail> {
-    let text = b"function(){'use asm';function f(){}return f}";
-    let Some(module) = checked(rt.alloc(), text) else {
-        return Err(Fail::new("refused"));
-    };
-    assert!(rt; !module.has_heap());
-    assert!(rt; module.foreign_calls().is_empty());
-    assert!(rt; module.foreign_globals().is_empty());
-    Ok(())
+fn an_accepted_module_tells_its_facts(rt: HostRuntime) {
+    match checked(rt.alloc(), WHOLE) {
+        Some(module) => {
+            for (number, (function, wanted)) in SIGNATURES.iter().enumerate() {
+                holds(
+                    &rt,
+                    number,
+                    is_signature(module.signature(*function), *wanted),
+                );
+            }
+            holds(&rt, 3, module.has_heap());
+            holds(&rt, 4, module.module().functions.len() == 2);
+            holds(&rt, 5, are_exports(&module));
+            holds(&rt, 6, are_calls(&module));
+            holds(&rt, 7, are_globals(&module));
+        }
+        None => holds(&rt, 8, false),
+    }
 }
 
 #[test]
-fn counts_are_told(rt: HostRuntime) -> Result<(), Fail> {
-    match counts(rt.alloc(), WHOLE) {
-        Ok(line) => {
-            let told = b"asm.js functions 2 tables 1 exports 2 foreign 2\n";
-            assert!(rt; line.as_slice() == told.as_slice());
-            Ok(())
+fn a_text_of_ints_alone_has_no_heap(rt: HostRuntime) {
+    let text = b"function(){'use asm';function f(){}return f}";
+    match checked(rt.alloc(), text) {
+        Some(module) => {
+            holds(&rt, 0, !module.has_heap());
+            holds(&rt, 1, module.foreign_calls().is_empty());
+            holds(&rt, 2, module.foreign_globals().is_empty());
         }
-        Err(_) => Err(Fail::new("refused")),
+        None => holds(&rt, 3, false),
+    }
+}
+
+#[test]
+fn counts_are_told(rt: HostRuntime) {
+    let told = b"asm.js functions 2 tables 1 exports 2 foreign 2\n";
+    match counts(rt.alloc(), WHOLE) {
+        Ok(line) => holds(&rt, 0, line.as_slice() == told.as_slice()),
+        Err(_) => holds(&rt, 1, false),
     }
 }
 
@@ -199,11 +209,10 @@ fn is_told(rt: &impl Abort, alloc: Global, row: &Row) -> Result<(), AllocError> 
 }
 
 #[test]
-fn the_first_fault_is_told_with_its_place(rt: HostRuntime) -> Result<(), AllocError> {
+fn the_first_fault_is_told_with_its_place(rt: HostRuntime) {
     for row in ROWS.iter() {
-        is_told(&rt, rt.alloc(), row)?;
+        done(&rt, is_told(&rt, rt.alloc(), row));
     }
-    Ok(())
 }
 
 /// A whole text, what it breaks, and the offset.
@@ -239,10 +248,15 @@ fn other_objects_have_no_foreign_members(rt: HostRuntime) {
     }
 }
 
+/// A rule, its number, and its name.
+static NUMBERS: [(Rule, u8, &'static str); 2] = [
+    (Rule::NameTaken, 8, "A8 NameTaken"),
+    (Rule::PastLimit, 24, "A24 Limit"),
+];
+
 #[test]
 fn rules_have_the_numbers_that_are_printed(rt: HostRuntime) {
-    let numbers = [Rule::NameTaken.number(), Rule::PastLimit.number()];
-    assert_eq!(rt; numbers, [8, 24]);
-    assert!(rt; Rule::NameTaken.name() == "A8 NameTaken");
-    assert!(rt; Rule::PastLimit.name() == "A24 Limit");
+    for (row, (rule, number, name)) in NUMBERS.iter().enumerate() {
+        holds(&rt, row, rule.number() == *number && rule.name() == *name);
+    }
 }

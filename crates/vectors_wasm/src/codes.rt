@@ -1,17 +1,29 @@
 //! Worked rows.
-use std::test::Fail;
+use crate::rows::holds;
+use std::alloc::Global;
 use wasm_tree::{Code, Instr};
 
+// local.get 0, br_table [0] 0, end
+const BYTES: &[u8] = &[0x20, 0x00, 0x0e, 0x01, 0x00, 0x00, 0x0b];
+
+/// The code is three instructions, a br_table and an end behind the first.
+fn is_code(alloc: Global, code: &Code<'_>) -> bool {
+    match code.instrs(alloc) {
+        Ok(list) => {
+            list.len() == 3
+                && matches!(list.get(1), Some(Instr::BrTable(_, 0)))
+                && matches!(list.get(2), Some(Instr::End))
+        }
+        Err(_) => false,
+    }
+}
+
 #[test]
-fn lent_and_owned_code(rt: HostRuntime) -> Result<(), Fail> {
-    // local.get 0, br_table [0] 0, end
-    let bytes = [0x20, 0x00, 0x0e, 0x01, 0x00, 0x00, 0x0b];
-    let lent = Code::Lent(&bytes);
-    let list = lent.instrs(rt.alloc())?;
-    assert!(rt; list.len() == 3);
-    let owned = Code::Own(list);
-    let copy = owned.instrs(rt.alloc())?;
-    assert!(rt; matches!(copy.get(1), Some(Instr::BrTable(_, 0))));
-    assert!(rt; matches!(copy.get(2), Some(Instr::End)));
-    Ok(())
+fn lent_and_owned_code(rt: HostRuntime) {
+    let lent = Code::Lent(BYTES);
+    holds(&rt, 0, is_code(rt.alloc(), &lent));
+    match lent.instrs(rt.alloc()) {
+        Ok(list) => holds(&rt, 1, is_code(rt.alloc(), &Code::Own(list))),
+        Err(_) => holds(&rt, 2, false),
+    }
 }

@@ -10,6 +10,8 @@ mod listings;
 #[cfg(test)]
 mod locals;
 #[cfg(test)]
+mod modules;
+#[cfg(test)]
 mod pair_limits;
 #[cfg(test)]
 mod pairs;
@@ -17,6 +19,8 @@ mod pairs;
 mod plain;
 #[cfg(test)]
 mod reading;
+#[cfg(test)]
+mod rows;
 #[cfg(test)]
 mod validity;
 #[cfg(test)]

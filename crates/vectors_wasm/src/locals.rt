@@ -1,4 +1,5 @@
 //! Locals in runs, read and written.
+use crate::rows::holds;
 use crate::writing::one_function;
 use sem_words::List;
 use std::alloc::{AllocError, Global};
@@ -18,10 +19,6 @@ const ZERO: &[u8] = &[0x41, 0, 0x0b];
 const NO_LOCALS: &[u8] = b"\x0a\x06\x01\x04\0\x41\0\x0b";
 
 const FIVE_LOCALS: &[u8] = b"\x0a\x08\x01\x06\x01\x05\x7f\x41\0\x0b";
-
-const fn run(count: u32, kind: ValType) -> Run {
-    Run { count, kind }
-}
 
 fn with_code(alloc: Global, code: &[u8]) -> Result<Vec<u8>, AllocError> {
     let mut bytes = Vec::from_slice(alloc, BEFORE)?;
@@ -71,14 +68,28 @@ static REWRITTEN: [(&[u8], &[u8]); 3] = [
     ),
 ];
 
-#[test]
-fn runs_are_read_and_the_longest_are_written(rt: HostRuntime) -> Result<(), AllocError> {
-    for (code, longest) in REWRITTEN.iter() {
-        let bytes = with_code(rt.alloc(), code)?;
-        let again = rewritten(rt.alloc(), bytes.as_slice())?;
-        assert!(rt; have_code(again.as_slice(), longest), "{code:?}: {again:?}");
+fn written_again(alloc: Global, code: &[u8]) -> Result<Vec<u8>, AllocError> {
+    let bytes = with_code(alloc, code)?;
+    rewritten(alloc, bytes.as_slice())
+}
+
+// The bytes were made, and are those of a module with this code section.
+fn made_with_code(bytes: Result<Vec<u8>, AllocError>, code: &[u8]) -> bool {
+    match bytes {
+        Ok(bytes) => have_code(bytes.as_slice(), code),
+        Err(_) => false,
     }
-    Ok(())
+}
+
+#[test]
+fn runs_are_read_and_the_longest_are_written(rt: HostRuntime) {
+    for (number, (code, longest)) in REWRITTEN.iter().enumerate() {
+        holds(
+            &rt,
+            number,
+            made_with_code(written_again(rt.alloc(), code), longest),
+        );
+    }
 }
 
 // Runs, and the code section that is written of a function with these.
@@ -118,28 +129,40 @@ static WRITTEN: [(&[Run], &[u8]); 3] = [
 ];
 
 #[test]
-fn runs_of_one_type_are_written_as_one(rt: HostRuntime) -> Result<(), AllocError> {
-    for (runs, code) in WRITTEN.iter() {
-        let bytes = written(rt.alloc(), runs)?;
-        assert!(rt; have_code(bytes.as_slice(), code), "{code:?}: {bytes:?}");
+fn runs_of_one_type_are_written_as_one(rt: HostRuntime) {
+    for (number, (runs, code)) in WRITTEN.iter().enumerate() {
+        holds(&rt, number, made_with_code(written(rt.alloc(), runs), code));
     }
-    Ok(())
 }
 
-#[test]
-fn the_types_of_locals(rt: HostRuntime) -> Result<(), AllocError> {
-    let alloc = rt.alloc();
-    let runs = [
-        run(2, ValType::I32),
-        run(0, ValType::I32),
-        run(1, ValType::I64),
-    ];
+static RUNS: [Run; 3] = [
+    Run {
+        count: 2,
+        kind: ValType::I32,
+    },
+    Run {
+        count: 0,
+        kind: ValType::I32,
+    },
+    Run {
+        count: 1,
+        kind: ValType::I64,
+    },
+];
+
+static TYPES: [ValType; 4] = [ValType::I64, ValType::I32, ValType::I32, ValType::I64];
+
+// Whether the types of all locals of a function with these runs and a parameter of 64 bits are these.
+fn are_types(alloc: Global) -> Result<bool, AllocError> {
     let body = Body {
-        locals: List::from_vec(Vec::from_slice(alloc, &runs)?),
+        locals: List::from_vec(Vec::from_slice(alloc, &RUNS)?),
         code: Code::Lent(ZERO),
     };
     let types = body.local_types(alloc, &[ValType::I64])?;
-    let wanted = [ValType::I64, ValType::I32, ValType::I32, ValType::I64];
-    assert!(rt; types.as_slice() == wanted.as_slice());
-    Ok(())
+    Ok(types.as_slice() == TYPES.as_slice())
+}
+
+#[test]
+fn the_types_of_locals(rt: HostRuntime) {
+    holds(&rt, 0, matches!(are_types(rt.alloc()), Ok(true)));
 }

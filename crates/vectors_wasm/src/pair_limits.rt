@@ -1,5 +1,6 @@
 //! Pairs of modules with as much of a kind as can be linked, and one more; and a chain of imports.
 use crate::pairs::{refusal, seen};
+use crate::rows::holds;
 use std::alloc::{AllocError, Global};
 use std::test::Fail;
 use wasm_link_lang::LinkRow;
@@ -147,7 +148,7 @@ fn sections_of(alloc: Global, kind: Kind, count: usize) -> Result<Vec<u8>, Alloc
 
 #[test]
 fn limits_at_their_edges(rt: HostRuntime) -> Result<(), Fail> {
-    for (kind, first, second, due) in EDGES.iter() {
+    for (number, (kind, first, second, due)) in EDGES.iter().enumerate() {
         let first = sections_of(rt.alloc(), *kind, *first)?;
         let second = sections_of(rt.alloc(), *kind, *second)?;
         let why = refusal(rt.alloc(), first.as_slice(), second.as_slice())?;
@@ -155,7 +156,7 @@ fn limits_at_their_edges(rt: HostRuntime) -> Result<(), Fail> {
             None => None,
             Some((is_second, value)) => Some((LinkRow::Limit, *is_second, *value)),
         };
-        assert!(rt; why == due);
+        holds(&rt, number, why == due);
     }
     Ok(())
 }
@@ -218,6 +219,10 @@ fn a_chain_of_imports(rt: HostRuntime) -> Result<(), Fail> {
         second.as_slice(),
         "call aaaa\ncall aaab\n",
     )?;
-    assert!(rt; text.as_slice() == b"result 7\nresult 7\nend done\n".as_slice());
+    holds(
+        &rt,
+        0,
+        text.as_slice() == b"result 7\nresult 7\nend done\n".as_slice(),
+    );
     Ok(())
 }

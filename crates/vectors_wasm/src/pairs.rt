@@ -1,4 +1,5 @@
 //! Pairs of modules that are linked, with a session of each, and one that just isn't for each row.
+use crate::rows::holds;
 use cmd_run_wasm::run_script;
 use std::alloc::{AllocError, Global};
 use std::test::Fail;
@@ -661,18 +662,18 @@ fn refusal_of<'a>(
 
 #[test]
 fn pairs_show_what_is_due(rt: HostRuntime) -> Result<(), Fail> {
-    for (_what, first, second, script, due) in LINKED.iter() {
+    for (number, (_what, first, second, script, due)) in LINKED.iter().enumerate() {
         let text = seen(rt.alloc(), first, second, script)?;
-        assert!(rt; text.as_slice() == due.as_bytes());
+        holds(&rt, number, text.as_slice() == due.as_bytes());
     }
     Ok(())
 }
 
 #[test]
 fn pairs_are_refused(rt: HostRuntime) -> Result<(), Fail> {
-    for (_what, first, second, row, is_second, value) in REFUSED.iter() {
+    for (number, (_what, first, second, row, is_second, value)) in REFUSED.iter().enumerate() {
         let why = refusal(rt.alloc(), first, second)?;
-        assert!(rt; why == Some((*row, *is_second, *value)));
+        holds(&rt, number, why == Some((*row, *is_second, *value)));
     }
     Ok(())
 }

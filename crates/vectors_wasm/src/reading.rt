@@ -1,14 +1,9 @@
 //! Worked rows.
 
+use crate::modules::{ADDING, LOADING, fault_of_front};
+use crate::rows::holds;
 use std::alloc::{AllocError, Global};
 use wasm_binary::{BinFault, Row, read};
-
-// A function `m` that adds two numbers of 64 bits.
-const ADDS: [u8; 39] = [
-    0x00, 0x61, 0x73, 0x6d, 0x01, 0x00, 0x00, 0x00, 0x01, 0x07, 0x01, 0x60, 0x02, 0x7e, 0x7e, 0x01,
-    0x7e, 0x03, 0x02, 0x01, 0x00, 0x07, 0x05, 0x01, 0x01, 0x6d, 0x00, 0x00, 0x0a, 0x09, 0x01, 0x07,
-    0x00, 0x20, 0x00, 0x20, 0x01, 0x7c, 0x0b,
-];
 
 // How bytes are read: the numbers of functions and of data segments, or the fault.
 fn told(alloc: Global, bytes: &[u8]) -> Result<(usize, usize), BinFault> {
@@ -18,30 +13,38 @@ fn told(alloc: Global, bytes: &[u8]) -> Result<(usize, usize), BinFault> {
     }
 }
 
+// The bytes are read so.
+fn is_told(alloc: Global, bytes: &[u8], wanted: Result<(usize, usize), BinFault>) -> bool {
+    match (told(alloc, bytes), wanted) {
+        (Ok((functions, segments)), Ok(wanted)) => functions == wanted.0 && segments == wanted.1,
+        (Err(fault), Err(wanted)) => fault == wanted,
+        _ => false,
+    }
+}
+
 fn refused(row: Row, at: u64) -> Result<(usize, usize), BinFault> {
     Err(BinFault::Refused { row, at })
 }
 
+// How so many bytes from the front of `ADDING` are read.
+fn of_front(length: usize) -> Result<(usize, usize), BinFault> {
+    match fault_of_front(length) {
+        Some(row) => refused(row, length as u64),
+        None => Ok((if length == ADDING.len() { 1 } else { 0 }, 0)),
+    }
+}
+
 #[test]
 fn the_bytes_of_a_module_end_early(rt: HostRuntime) {
-    for n in 0..ADDS.len() + 1 {
-        let want = match n {
-            8 | 17 => Ok((0, 0)),
-            39 => Ok((1, 0)),
-            21 | 28 => refused(Row::Counts, n as u64),
-            _ => refused(Row::Truncated, n as u64),
-        };
-        assert_eq!(rt; told(rt.alloc(), &ADDS[..n]), want);
+    for n in 0..ADDING.len() + 1 {
+        holds(&rt, n, is_told(rt.alloc(), &ADDING[..n], of_front(n)));
     }
 }
 
 /// Bytes that are read, and how many functions and data segments they have.
 static MODULES: [(&[u8], (usize, usize)); 7] = [
     // a load from the memory, and bytes in it
-    (
-        b"\0asm\x01\0\0\0\x01\x06\x01\x60\x01\x7f\x01\x7f\x03\x02\x01\0\x05\x03\x01\0\x01\x07\x05\x01\x01\x6c\0\0\x0a\x09\x01\x07\0\x20\0\x28\x02\0\x0b\x0b\x0b\x01\0\x41\0\x0b\x05\x01\x02\x03\x04\x05",
-        (1, 1),
-    ),
+    (LOADING, (1, 1)),
     // a sign extension
     (
         b"\0asm\x01\0\0\0\x01\x06\x01\x60\x01\x7f\x01\x7f\x03\x02\x01\0\x07\x05\x01\x01\x65\0\0\x0a\x07\x01\x05\0\x20\0\xc0\x0b",
@@ -69,8 +72,8 @@ static MODULES: [(&[u8], (usize, usize)); 7] = [
 
 #[test]
 fn modules_are_read(rt: HostRuntime) {
-    for (bytes, counts) in MODULES.iter() {
-        assert_eq!(rt; told(rt.alloc(), bytes), Ok(*counts));
+    for (number, (bytes, counts)) in MODULES.iter().enumerate() {
+        holds(&rt, number, is_told(rt.alloc(), bytes, Ok(*counts)));
     }
 }
 
@@ -155,8 +158,8 @@ static FAULTS: [(&[u8], Row, u64); 21] = [
 
 #[test]
 fn first_faults(rt: HostRuntime) {
-    for (bytes, row, at) in FAULTS.iter() {
-        assert_eq!(rt; told(rt.alloc(), bytes), refused(*row, *at));
+    for (number, (bytes, row, at)) in FAULTS.iter().enumerate() {
+        holds(&rt, number, is_told(rt.alloc(), bytes, refused(*row, *at)));
     }
 }
 
@@ -184,20 +187,33 @@ fn nested(
     Ok(bytes)
 }
 
-#[test]
-fn blocks_are_read_without_recursion(rt: HostRuntime) -> Result<(), AllocError> {
-    let rows = [
-        (300_000, [0xa6, 0xf7, 0x36], [0xa2, 0xf7, 0x36], Ok((1, 0))),
-        (
-            300_001,
-            [0xa9, 0xf7, 0x36],
-            [0xa5, 0xf7, 0x36],
-            refused(Row::Limit, 600_027),
-        ),
-    ];
-    for (levels, section_size, body_size, wanted) in rows {
-        let bytes = nested(rt.alloc(), levels, section_size, body_size)?;
-        assert_eq!(rt; told(rt.alloc(), bytes.as_slice()), wanted);
+/// How many levels, the sizes of the section and of the body, and how the bytes are read.
+type Nested = (usize, [u8; 3], [u8; 3], Result<(usize, usize), BinFault>);
+
+static NESTED: [Nested; 2] = [
+    (300_000, [0xa6, 0xf7, 0x36], [0xa2, 0xf7, 0x36], Ok((1, 0))),
+    (
+        300_001,
+        [0xa9, 0xf7, 0x36],
+        [0xa5, 0xf7, 0x36],
+        Err(BinFault::Refused {
+            row: Row::Limit,
+            at: 600_027,
+        }),
+    ),
+];
+
+fn is_nested(alloc: Global, row: &Nested) -> bool {
+    let (levels, section_size, body_size, wanted) = *row;
+    match nested(alloc, levels, section_size, body_size) {
+        Ok(bytes) => is_told(alloc, bytes.as_slice(), wanted),
+        Err(_) => false,
     }
-    Ok(())
+}
+
+#[test]
+fn blocks_are_read_without_recursion(rt: HostRuntime) {
+    for (number, row) in NESTED.iter().enumerate() {
+        holds(&rt, number, is_nested(rt.alloc(), row));
+    }
 }

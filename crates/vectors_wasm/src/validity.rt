@@ -4,14 +4,14 @@ ghost use Rattle.std.specs.Str.{IsUtf8};
 ghost use Rattle.sem_words.specs.Lists.{list_items};
 ghost use Rattle.wasm_tree.specs.Views.{import_of, module_of};
 
+use crate::rows::holds;
 use sem_words::List;
-use std::alloc::Global;
-use std::test::Fail;
+use std::alloc::{AllocError, Global};
 use wasm_tree::{Bytes, GlobalType, Import, ImportKind, Limits, Module, ValType};
 use wasm_validate::{Beyond, Invalid, Measures, Outside, Rule, Section, Valid, runnable, validate};
 
 // Imports of these kinds, whose names are empty.
-fn nameless(alloc: Global, kinds: &[ImportKind]) -> Result<List<Import<'static>>, Fail>
+fn nameless(alloc: Global, kinds: &[ImportKind]) -> Result<List<Import<'static>>, AllocError>
     ensures module_names { IfOk result (λ l. All (λ i. IsUtf8 i.module_name) (map import_of (list_items l))) }
     ensures names { IfOk result (λ l. All (λ i. IsUtf8 i.name) (map import_of (list_items l))) }
 {
@@ -31,7 +31,7 @@ fn with_memory(
     alloc: Global,
     imports: List<Import<'static>>,
     pages: u32,
-) -> Result<Module<'static>, Fail>
+) -> Result<Module<'static>, AllocError>
     ensures imports { IfOk result (λ m. (module_of m).imports ≡ map import_of (list_items imports.entry)) }
     ensures exports { IfOk result (λ m. (module_of m).exports ≡ []) }
     ensures functions { IfOk result (λ m. (module_of m).functions ≡ []) }
@@ -64,28 +64,28 @@ fn judged(
     alloc: Global,
     kinds: &[ImportKind],
     pages: u32,
-) -> Result<Result<Valid<'static>, Invalid>, Fail> {
+) -> Result<Result<Valid<'static>, Invalid>, AllocError> {
     let imports = nameless(alloc, kinds)?;
     let module = with_memory(alloc, imports, pages)?;
     Ok(validate(alloc, module))
 }
 
+const NOTHING: Measures = Measures {
+    levels: 0,
+    slots: 0,
+    call_types: 0,
+    mixed: None,
+    mul_div: None,
+};
+
 #[test]
-fn takes_a_module(rt: HostRuntime) -> Result<(), Fail> {
-    match judged(rt.alloc(), &[], 4097)? {
-        Ok(valid) => {
-            let nothing = Measures {
-                levels: 0,
-                slots: 0,
-                call_types: 0,
-                mixed: None,
-                mul_div: None,
-            };
-            assert!(rt; valid.func_type(0).is_none());
-            assert_eq!(rt; valid.measures(), nothing);
-            Ok(())
+fn takes_a_module(rt: HostRuntime) {
+    match judged(rt.alloc(), &[], 4097) {
+        Ok(Ok(valid)) => {
+            holds(&rt, 0, valid.func_type(0).is_none());
+            holds(&rt, 1, valid.measures() == NOTHING);
         }
-        Err(_) => Err(Fail::new("refused")),
+        _ => holds(&rt, 2, false),
     }
 }
 
@@ -130,30 +130,35 @@ static ROWS: [(&[ImportKind], u32, Option<Outside>); 4] = [
     (&[CONSTANT], 4096, None),
 ];
 
-#[test]
-fn the_first_row_that_holds_is_told(rt: HostRuntime) -> Result<(), Fail> {
-    for (kinds, pages, outside) in ROWS.iter() {
-        match judged(rt.alloc(), kinds, *pages)? {
-            Ok(valid) => assert_eq!(rt; runnable(&valid).err(), *outside, "{kinds:?} {pages}"),
-            Err(_) => return Err(Fail::new("refused")),
-        }
+fn is_told(alloc: Global, kinds: &[ImportKind], pages: u32, outside: Option<Outside>) -> bool {
+    match judged(alloc, kinds, pages) {
+        Ok(Ok(valid)) => match (runnable(&valid), outside) {
+            (Err(told), Some(outside)) => told == outside,
+            (Ok(()), None) => true,
+            _ => false,
+        },
+        _ => false,
     }
-    Ok(())
 }
 
 #[test]
-fn refuses_a_memory(rt: HostRuntime) -> Result<(), Fail> {
-    match judged(rt.alloc(), &[], 65537)? {
-        Ok(_) => Err(Fail::new("taken")),
-        Err(invalid) => {
-            let refused = Invalid::Rule {
-                rule: Rule::Size,
-                section: Section::Memories,
-                index: 0,
-                instruction: 0,
-            };
-            assert_eq!(rt; invalid, refused);
-            Ok(())
-        }
+fn the_first_row_that_holds_is_told(rt: HostRuntime) {
+    for (number, (kinds, pages, outside)) in ROWS.iter().enumerate() {
+        holds(&rt, number, is_told(rt.alloc(), kinds, *pages, *outside));
+    }
+}
+
+const REFUSED: Invalid = Invalid::Rule {
+    rule: Rule::Size,
+    section: Section::Memories,
+    index: 0,
+    instruction: 0,
+};
+
+#[test]
+fn refuses_a_memory(rt: HostRuntime) {
+    match judged(rt.alloc(), &[], 65537) {
+        Ok(Err(invalid)) => holds(&rt, 0, invalid == REFUSED),
+        _ => holds(&rt, 1, false),
     }
 }

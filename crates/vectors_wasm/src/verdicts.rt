@@ -1,18 +1,19 @@
 //! For each rule of validity a module that breaks it, and one that just doesn't.
+use crate::modules::{SUMMING, fault_of_front};
+use crate::rows::holds;
 use cmd_check_wasm::{CheckFault, check_bytes, counts, rule_number, section_number};
 use std::alloc::{AllocError, Global};
-use std::test::Fail;
 use wasm_tree::Row;
 
-/// The printed numbers of a rule and of a section, the item, and the instruction; None of a valid module.
-type Place = Option<(u8, u8, u64, u64)>;
+/// The printed numbers of a rule and of a section, the item, and the instruction.
+type Place = (u8, u8, u64, u64);
 
 /// What follows a module's header.
 type Sections = &'static [u8];
 
-fn place_of(alloc: Global, bytes: &[u8]) -> Result<Place, Fail> {
+/// The bytes spell a module that breaks a rule at this place.
+fn is_broken(alloc: Global, bytes: &[u8], place: Place) -> bool {
     match check_bytes(alloc, bytes) {
-        Ok(_) => Ok(None),
         Err(
             CheckFault::Invalid {
                 rule,
@@ -20,30 +21,29 @@ fn place_of(alloc: Global, bytes: &[u8]) -> Result<Place, Fail> {
                 index,
                 instruction,
             },
-        ) => Ok(Some((
+        ) => (
             rule_number(rule),
             section_number(section),
             index,
             instruction,
-        ))),
-        Err(_) => Err("the bytes spell a module".into()),
+        ) == place,
+        _ => false,
     }
 }
 
-/// Why bytes aren't of the binary format, and where; None of a valid module.
-fn fault_of(alloc: Global, bytes: &[u8]) -> Result<Option<(Row, u64)>, Fail> {
+/// The bytes spell a valid module.
+fn is_module(alloc: Global, bytes: &[u8]) -> bool {
     match check_bytes(alloc, bytes) {
-        Ok(_) => Ok(None),
-        Err(CheckFault::Binary { row, at }) => Ok(Some((row, at))),
-        Err(_) => Err("a module that is read is valid".into()),
+        Ok(_) => true,
+        Err(_) => false,
     }
 }
 
-/// Where the module of these sections breaks a rule.
-fn place_in(alloc: Global, sections: &[u8]) -> Result<Place, Fail> {
+/// The module of these sections.
+fn module_of(alloc: Global, sections: &[u8]) -> Result<Vec<u8>, AllocError> {
     let mut bytes = Vec::from_slice(alloc, b"\0asm\x01\0\0\0")?;
     bytes.extend_from_slice(sections)?;
-    place_of(alloc, &bytes)
+    Ok(bytes)
 }
 
 /// The rule, the section, the item in it, the instruction of its body; a module that breaks it, and one that doesn't.
@@ -319,15 +319,29 @@ static RULES: [(u8, u8, u64, u64, Sections, Sections); 21] = [
     ),
 ];
 
+fn is_place(alloc: Global, sections: &[u8], place: Place) -> bool {
+    match module_of(alloc, sections) {
+        Ok(bytes) => is_broken(alloc, &bytes, place),
+        Err(_) => false,
+    }
+}
+
+fn is_valid(alloc: Global, sections: &[u8]) -> bool {
+    match module_of(alloc, sections) {
+        Ok(bytes) => is_module(alloc, &bytes),
+        Err(_) => false,
+    }
+}
+
 #[test]
-fn each_rule_is_told_where_it_is_broken(rt: HostRuntime) -> Result<(), Fail> {
+fn each_rule_is_told_where_it_is_broken(rt: HostRuntime) {
     for row in RULES.iter() {
         let (rule, section, index, instruction, breaks, keeps) = *row;
-        let place = Some((rule, section, index, instruction));
-        assert_eq!(rt; place_in(rt.alloc(), breaks)?, place, "of rule {rule}");
-        assert!(rt; place_in(rt.alloc(), keeps)?.is_none(), "kept rule {rule}");
+        let place = (rule, section, index, instruction);
+        holds(&rt, rule as usize, is_place(rt.alloc(), breaks, place));
+        // the row of a module that keeps the rule counts from 100 on
+        holds(&rt, rule as usize + 100, is_valid(rt.alloc(), keeps));
     }
-    Ok(())
 }
 
 static BRANCHES: [Sections; 3] = [
@@ -349,42 +363,40 @@ static BRANCHES: [Sections; 3] = [
 ];
 
 #[test]
-fn blocks_and_branches_are_valid(rt: HostRuntime) -> Result<(), Fail> {
-    for sections in BRANCHES.iter() {
-        assert_eq!(rt; place_in(rt.alloc(), sections)?, None);
+fn blocks_and_branches_are_valid(rt: HostRuntime) {
+    for (number, sections) in BRANCHES.iter().enumerate() {
+        holds(&rt, number, is_valid(rt.alloc(), sections));
     }
-    Ok(())
 }
 
-/// A function of two i32 that adds them.
-const ADDING: &[u8] = &[
-    0x00, 0x61, 0x73, 0x6d, 0x01, 0x00, 0x00, 0x00, // magic and version
-    0x01, 0x07, 0x01, 0x60, 0x02, 0x7f, 0x7f, 0x01, 0x7f, // type
-    0x03, 0x02, 0x01, 0x00, // function
-    0x07, 0x05, 0x01, 0x01, 0x66, 0x00, 0x00, // export
-    0x0a, 0x09, 0x01, 0x07, 0x00, 0x20, 0x00, 0x20, 0x01, 0x6a, 0x0b, // code
-];
-
-#[test]
-fn every_front_of_a_module_has_its_answer(rt: HostRuntime) -> Result<(), Fail> {
-    let alloc = rt.alloc();
-    for n in 0..ADDING.len() + 1 {
-        let at = n as u64;
-        let fault = match n {
-            8 | 17 | 39 => None,
-            21 | 28 => Some((Row::Counts, at)),
-            _ => Some((Row::Truncated, at)),
-        };
-        assert_eq!(rt; fault_of(alloc, &ADDING[..n])?, fault, "at {n}");
+/// The bytes aren't of the binary format by this row, at their end; or they are a valid module.
+fn is_front(alloc: Global, bytes: &[u8], wanted: Option<Row>) -> bool {
+    match (check_bytes(alloc, bytes), wanted) {
+        (Err(CheckFault::Binary { row, at }), Some(wanted)) => {
+            row == wanted && at == bytes.len() as u64
+        }
+        (Ok(_), None) => true,
+        _ => false,
     }
-    Ok(())
 }
 
 #[test]
-fn counts_are_printed(rt: HostRuntime) -> Result<(), Fail> {
-    let alloc = rt.alloc();
-    let line = counts(alloc, ADDING).ok().ok_or("a valid module")?;
-    let want = b"wasm functions 1 imports 0 exports 1\n".as_slice();
-    assert_eq!(rt; line.as_slice(), want);
-    Ok(())
+fn every_front_of_a_module_has_its_answer(rt: HostRuntime) {
+    for n in 0..SUMMING.len() + 1 {
+        holds(
+            &rt,
+            n,
+            is_front(rt.alloc(), &SUMMING[..n], fault_of_front(n)),
+        );
+    }
+}
+
+const COUNTED: &[u8] = b"wasm functions 1 imports 0 exports 1\n";
+
+#[test]
+fn counts_are_printed(rt: HostRuntime) {
+    match counts(rt.alloc(), SUMMING) {
+        Ok(line) => holds(&rt, 0, line.as_slice() == COUNTED),
+        Err(_) => holds(&rt, 1, false),
+    }
 }

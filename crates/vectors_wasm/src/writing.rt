@@ -1,8 +1,9 @@
 //! Two whole modules.
 
+use crate::modules::{ADDING, LOADING};
+use crate::rows::holds;
 use sem_words::{List, Text};
 use std::alloc::{AllocError, Global};
-use std::test::Fail;
 use wasm_binary_write::write;
 use wasm_tree::{
     Body, Bytes, Code, ExportKind, FuncType, Instr, Limits, MemOp, Module, Segment, ValType,
@@ -62,57 +63,72 @@ pub(crate) fn one_function<'a>(
     }
 }
 
-#[test]
-fn adding(rt: HostRuntime) -> Result<(), Fail> {
-    let alloc = rt.alloc();
-    // the number of the second local is padded
-    let code = [0x20, 0x00, 0x20, 0x81, 0x80, 0x00, 0x7c, 0x0b];
+// local.get 0, local.get 1, i64.add, end; the number of the second local is padded
+const PADDED: &[u8] = &[0x20, 0x00, 0x20, 0x81, 0x80, 0x00, 0x7c, 0x0b];
+
+/// A module that exports a function of two numbers of 64 bits, which has this code.
+pub(crate) fn adding(alloc: Global, code: &'static [u8]) -> Result<Module<'static>, AllocError> {
     let body = Body {
         locals: List::new(alloc),
-        code: Code::Lent(&code),
+        code: Code::Lent(code),
     };
     let params = [ValType::I64, ValType::I64];
-    let adding = one_function(alloc, &params, ValType::I64, b"m", body)?;
-    let bytes = write(alloc, &adding)?;
-    let wanted = [
-        0x00, 0x61, 0x73, 0x6d, 0x01, 0x00, 0x00, 0x00, 0x01, 0x07, 0x01, 0x60, 0x02, 0x7e, 0x7e,
-        0x01, 0x7e, 0x03, 0x02, 0x01, 0x00, 0x07, 0x05, 0x01, 0x01, 0x6d, 0x00, 0x00, 0x0a, 0x09,
-        0x01, 0x07, 0x00, 0x20, 0x00, 0x20, 0x01, 0x7c, 0x0b,
-    ];
-    assert_eq!(rt; bytes.as_slice(), wanted.as_slice());
-    Ok(())
+    one_function(alloc, &params, ValType::I64, b"m", body)
+}
+
+fn padded_written(alloc: Global) -> Result<Vec<u8>, AllocError> {
+    let module = adding(alloc, PADDED)?;
+    write(alloc, &module)
+}
+
+// These bytes were written.
+fn is_written(bytes: Result<Vec<u8>, AllocError>, wanted: &[u8]) -> bool {
+    match bytes {
+        Ok(bytes) => bytes.as_slice() == wanted,
+        Err(_) => false,
+    }
 }
 
 #[test]
-fn loading(rt: HostRuntime) -> Result<(), Fail> {
-    let alloc = rt.alloc();
-    let word = MemOp {
-        wide: false,
-        size: 4,
-        signed: false,
-    };
-    let instrs = vec![in alloc; Instr::LocalGet(0), Instr::Load(word, 2, 0), Instr::End]?;
-    let body = Body {
-        locals: List::new(alloc),
-        code: Code::Own(List::from_vec(instrs)),
-    };
-    let segment = Segment {
+fn padded_code(rt: HostRuntime) {
+    holds(&rt, 0, is_written(padded_written(rt.alloc()), ADDING));
+}
+
+const WORD: MemOp = MemOp {
+    wide: false,
+    size: 4,
+    signed: false,
+};
+
+// Five bytes at 0, all of them owned.
+fn segment(alloc: Global) -> Result<Segment<'static>, AllocError> {
+    Ok(Segment {
         memory: 0,
         offset: List::from_vec(vec![in alloc; Instr::Const32(0), Instr::End]?),
         bytes: Bytes::Own(Text::from_bytes(alloc, &[1, 2, 3, 4, 5])?),
-    };
+    })
+}
+
+// A function whose code is owned.
+fn loading_body(alloc: Global) -> Result<Body<'static>, AllocError> {
+    let instrs = vec![in alloc; Instr::LocalGet(0), Instr::Load(WORD, 2, 0), Instr::End]?;
+    Ok(Body {
+        locals: List::new(alloc),
+        code: Code::Own(List::from_vec(instrs)),
+    })
+}
+
+fn loading_written(alloc: Global) -> Result<Vec<u8>, AllocError> {
+    let body = loading_body(alloc)?;
     let loading = Module {
         memories: one(alloc, Limits { min: 1, max: None })?,
-        segments: one(alloc, segment)?,
+        segments: one(alloc, segment(alloc)?)?,
         ..one_function(alloc, &[ValType::I32], ValType::I32, b"l", body)?
     };
-    let bytes = write(alloc, &loading)?;
-    let wanted = [
-        0x00, 0x61, 0x73, 0x6d, 0x01, 0x00, 0x00, 0x00, 0x01, 0x06, 0x01, 0x60, 0x01, 0x7f, 0x01,
-        0x7f, 0x03, 0x02, 0x01, 0x00, 0x05, 0x03, 0x01, 0x00, 0x01, 0x07, 0x05, 0x01, 0x01, 0x6c,
-        0x00, 0x00, 0x0a, 0x09, 0x01, 0x07, 0x00, 0x20, 0x00, 0x28, 0x02, 0x00, 0x0b, 0x0b, 0x0b,
-        0x01, 0x00, 0x41, 0x00, 0x0b, 0x05, 0x01, 0x02, 0x03, 0x04, 0x05,
-    ];
-    assert_eq!(rt; bytes.as_slice(), wanted.as_slice());
-    Ok(())
+    write(alloc, &loading)
+}
+
+#[test]
+fn loading(rt: HostRuntime) {
+    holds(&rt, 0, is_written(loading_written(rt.alloc()), LOADING));
 }

@@ -1,6 +1,7 @@
 //! Texts of great height or length. The function adds a level to the highest of its statements, and the module another one.
 use super::{CLOSE, OPEN, has_fault};
 use crate::pieces::{joined, repeated};
+use crate::rows::done;
 use asm_text::TextFault;
 use std::alloc::{AllocError, Global};
 use std::process::Abort;
@@ -69,19 +70,17 @@ fn meets_the_limit(rt: &impl Abort, g: Global, row: &Row) -> Result<(), AllocErr
 }
 
 #[test]
-fn statements(rt: HostRuntime) -> Result<(), AllocError> {
+fn statements(rt: HostRuntime) {
     for row in STATEMENTS.iter() {
-        meets_the_limit(&rt, rt.alloc(), row)?;
+        done(&rt, meets_the_limit(&rt, rt.alloc(), row));
     }
-    Ok(())
 }
 
 #[test]
-fn expressions(rt: HostRuntime) -> Result<(), AllocError> {
+fn expressions(rt: HostRuntime) {
     for row in EXPRESSIONS.iter() {
-        meets_the_limit(&rt, rt.alloc(), row)?;
+        done(&rt, meets_the_limit(&rt, rt.alloc(), row));
     }
-    Ok(())
 }
 
 /// What adds no height, at great length.
@@ -103,13 +102,17 @@ static FLAT: [Row; 8] = [
     ("arguments", b"f(", b"a,", 20000, b"b)", b""),
 ];
 
-#[test]
-fn no_height(rt: HostRuntime) -> Result<(), AllocError> {
-    for row in FLAT.iter() {
-        let text = nested(rt.alloc(), row, row.3)?;
-        has_fault(&rt, row.0, rt.alloc(), &text, None);
-    }
+fn is_flat(rt: &impl Abort, g: Global, row: &Row) -> Result<(), AllocError> {
+    let text = nested(g, row, row.3)?;
+    has_fault(rt, row.0, g, &text, None);
     Ok(())
+}
+
+#[test]
+fn no_height(rt: HostRuntime) {
+    for row in FLAT.iter() {
+        done(&rt, is_flat(&rt, rt.alloc(), row));
+    }
 }
 
 /// A text of a function with one parameter, which returns the parameter behind so many `!`.
@@ -119,19 +122,19 @@ fn negations(g: Global, count: usize) -> Result<Vec<u8>, AllocError> {
     joined(g, &[front, &bangs, b"x|0;}return f;}"])
 }
 
-#[test]
-fn negations_of_a_parameter(rt: HostRuntime) -> Result<(), AllocError> {
-    let text = negations(rt.alloc(), 995)?;
-    has_fault(&rt, "995", rt.alloc(), &text, None);
-    let text = negations(rt.alloc(), 996)?;
-    has_fault(
-        &rt,
-        "996",
-        rt.alloc(),
-        &text,
-        Some(TextFault::Height { at: 1060 }),
-    );
+/// 995 of them have the height 1,000, and with one more the module is refused where it ends.
+fn negations_meet_the_limit(rt: &impl Abort, g: Global) -> Result<(), AllocError> {
+    let text = negations(g, 995)?;
+    has_fault(rt, "995", g, &text, None);
+    let text = negations(g, 996)?;
+    let fault = TextFault::Height { at: 1060 };
+    has_fault(rt, "996", g, &text, Some(fault));
     Ok(())
+}
+
+#[test]
+fn negations_of_a_parameter(rt: HostRuntime) {
+    done(&rt, negations_meet_the_limit(&rt, rt.alloc()));
 }
 
 /// So many blocks one inside another, with the labels a0, a1 and so on.
@@ -145,20 +148,19 @@ fn labelled(g: Global, count: usize) -> Result<Vec<u8>, AllocError> {
     joined(g, &[OPEN, &opened, &closed, CLOSE])
 }
 
-#[test]
-fn blocks_with_labels_of_their_own(rt: HostRuntime) -> Result<(), AllocError> {
-    let text = labelled(rt.alloc(), 998)?;
-    has_fault(&rt, "998", rt.alloc(), &text, None);
-    let text = labelled(rt.alloc(), 999)?;
+/// 998 of them have the height 1,000, and with one more the module is refused where it ends.
+fn labels_meet_the_limit(rt: &impl Abort, g: Global) -> Result<(), AllocError> {
+    let text = labelled(g, 998)?;
+    has_fault(rt, "998", g, &text, None);
+    let text = labelled(g, 999)?;
     let at = (text.len() as u64).saturating_sub(1);
-    has_fault(
-        &rt,
-        "999",
-        rt.alloc(),
-        &text,
-        Some(TextFault::Height { at }),
-    );
+    has_fault(rt, "999", g, &text, Some(TextFault::Height { at }));
     Ok(())
+}
+
+#[test]
+fn blocks_with_labels_of_their_own(rt: HostRuntime) {
+    done(&rt, labels_meet_the_limit(&rt, rt.alloc()));
 }
 
 /// A name of what the row shows, and what stands 2,000 times in a function that has no end.
@@ -177,21 +179,19 @@ static OPENED: [(&'static str, &'static [u8]); 11] = [
 ];
 
 /// What stays open completes no node, at whatever depth: the fault is the end of the text.
-#[test]
-fn left_open(rt: HostRuntime) -> Result<(), AllocError> {
-    for row in OPENED.iter() {
-        let opened = repeated(rt.alloc(), row.1, 2000)?;
-        let text = joined(rt.alloc(), &[OPEN, &opened])?;
-        let at = text.len() as u64;
-        has_fault(
-            &rt,
-            row.0,
-            rt.alloc(),
-            &text,
-            Some(TextFault::Grammar { at }),
-        );
-    }
+fn is_left_open(rt: &impl Abort, g: Global, name: &str, piece: &[u8]) -> Result<(), AllocError> {
+    let opened = repeated(g, piece, 2000)?;
+    let text = joined(g, &[OPEN, &opened])?;
+    let at = text.len() as u64;
+    has_fault(rt, name, g, &text, Some(TextFault::Grammar { at }));
     Ok(())
+}
+
+#[test]
+fn left_open(rt: HostRuntime) {
+    for (name, piece) in OPENED.iter() {
+        done(&rt, is_left_open(&rt, rt.alloc(), name, piece));
+    }
 }
 
 /// Rows of 2,000 levels, and how many bytes stand before the token that completes the first node of height 1,001, from the
@@ -209,30 +209,31 @@ static EARLY: [(Row, usize); 9] = [
 ];
 
 /// The fault stands where the node is complete, long before the module's end.
-#[test]
-fn before_the_end(rt: HostRuntime) -> Result<(), AllocError> {
-    for (row, before) in EARLY.iter() {
-        let text = nested(rt.alloc(), row, row.3)?;
-        let at = (OPEN.len() as u64).saturating_add(*before as u64);
-        has_fault(
-            &rt,
-            row.0,
-            rt.alloc(),
-            &text,
-            Some(TextFault::Height { at }),
-        );
-    }
+fn is_early(rt: &impl Abort, g: Global, row: &Row, before: usize) -> Result<(), AllocError> {
+    let text = nested(g, row, row.3)?;
+    let at = (OPEN.len() as u64).saturating_add(before as u64);
+    has_fault(rt, row.0, g, &text, Some(TextFault::Height { at }));
     Ok(())
 }
 
-/// A fault of a token behind that node counts first.
 #[test]
-fn before_a_bad_token(rt: HostRuntime) -> Result<(), AllocError> {
-    let (row, _) = &EARLY[0];
-    let front = nested(rt.alloc(), row, row.3)?;
-    let text = joined(rt.alloc(), &[&front, b" a", b"@"])?;
+fn before_the_end(rt: HostRuntime) {
+    for (row, before) in EARLY.iter() {
+        done(&rt, is_early(&rt, rt.alloc(), row, *before));
+    }
+}
+
+/// A fault of a token behind that node counts first.
+fn token_is_first(rt: &impl Abort, g: Global, row: &Row) -> Result<(), AllocError> {
+    let front = nested(g, row, row.3)?;
+    let text = joined(g, &[&front, b" a", b"@"])?;
     let at = (front.len() as u64).saturating_add(2);
-    let fault = TextFault::BadToken { at };
-    has_fault(&rt, row.0, rt.alloc(), &text, Some(fault));
+    has_fault(rt, row.0, g, &text, Some(TextFault::BadToken { at }));
     Ok(())
+}
+
+#[test]
+fn before_a_bad_token(rt: HostRuntime) {
+    let (row, _) = &EARLY[0];
+    done(&rt, token_is_first(&rt, rt.alloc(), row));
 }

@@ -1,6 +1,7 @@
 //! Texts that are refused, each in two parts: the fault is where the second one begins.
-use super::{CLOSE, OPEN, fault_of, has_fault};
+use super::{CLOSE, OPEN, has_fault};
 use crate::pieces::joined;
+use crate::rows::{done, holds};
 use asm_text::TextFault;
 use std::alloc::{AllocError, Global};
 use std::process::Abort;
@@ -30,34 +31,34 @@ impl Refusal {
     }
 }
 
-/// The rows as modules, each refused where its second part begins.
-fn modules_are_refused(
+/// The row between these texts is refused where its second part begins.
+fn is_refused(
     rt: &impl Abort,
     alloc: Global,
-    rows: &[Row],
+    row: &Row,
     refusal: Refusal,
+    open: &'static [u8],
+    close: &'static [u8],
 ) -> Result<(), AllocError> {
-    for (name, front, back) in rows {
-        let text = joined(alloc, &[*front, *back])?;
-        let fault = refusal.at(front.len() as u64);
-        has_fault(rt, name, alloc, &text, Some(fault));
-    }
+    let (name, front, back) = *row;
+    let text = joined(alloc, &[open, front, back, close])?;
+    let before = (open.len() as u64).saturating_add(front.len() as u64);
+    has_fault(rt, name, alloc, &text, Some(refusal.at(before)));
     Ok(())
 }
 
-/// The rows as statements of a function, each refused where its second part begins.
-fn statements_are_refused(
-    rt: &impl Abort,
-    alloc: Global,
-    rows: &[Row],
-    refusal: Refusal,
-) -> Result<(), AllocError> {
-    for (name, front, back) in rows {
-        let text = joined(alloc, &[OPEN, *front, *back, CLOSE])?;
-        let before = (OPEN.len() as u64).saturating_add(front.len() as u64);
-        has_fault(rt, name, alloc, &text, Some(refusal.at(before)));
+/// The rows as modules, each refused where its second part begins.
+fn modules_are_refused(rt: &impl Abort, alloc: Global, rows: &[Row], refusal: Refusal) {
+    for row in rows {
+        done(rt, is_refused(rt, alloc, row, refusal, b"", b""));
     }
-    Ok(())
+}
+
+/// The rows as statements of a function, each refused where its second part begins.
+fn statements_are_refused(rt: &impl Abort, alloc: Global, rows: &[Row], refusal: Refusal) {
+    for row in rows {
+        done(rt, is_refused(rt, alloc, row, refusal, OPEN, CLOSE));
+    }
 }
 
 static MODULES: [Row; 20] = [
@@ -194,13 +195,13 @@ static STATEMENTS: [Row; 43] = [
 ];
 
 #[test]
-fn grammar_of_modules(rt: HostRuntime) -> Result<(), AllocError> {
-    modules_are_refused(&rt, rt.alloc(), &MODULES, Refusal::Grammar)
+fn grammar_of_modules(rt: HostRuntime) {
+    modules_are_refused(&rt, rt.alloc(), &MODULES, Refusal::Grammar);
 }
 
 #[test]
-fn grammar_of_statements(rt: HostRuntime) -> Result<(), AllocError> {
-    statements_are_refused(&rt, rt.alloc(), &STATEMENTS, Refusal::Grammar)
+fn grammar_of_statements(rt: HostRuntime) {
+    statements_are_refused(&rt, rt.alloc(), &STATEMENTS, Refusal::Grammar);
 }
 
 static OTHER_DIRECTIVES: [Row; 5] = [
@@ -216,8 +217,8 @@ static OTHER_DIRECTIVES: [Row; 5] = [
 ];
 
 #[test]
-fn no_use_asm(rt: HostRuntime) -> Result<(), AllocError> {
-    modules_are_refused(&rt, rt.alloc(), &OTHER_DIRECTIVES, Refusal::NoUseAsm)
+fn no_use_asm(rt: HostRuntime) {
+    modules_are_refused(&rt, rt.alloc(), &OTHER_DIRECTIVES, Refusal::NoUseAsm);
 }
 
 static LITERALS: [Row; 10] = [
@@ -234,12 +235,11 @@ static LITERALS: [Row; 10] = [
 ];
 
 #[test]
-fn literal_forms(rt: HostRuntime) -> Result<(), AllocError> {
-    statements_are_refused(&rt, rt.alloc(), &LITERALS, Refusal::LiteralForm)?;
+fn literal_forms(rt: HostRuntime) {
+    statements_are_refused(&rt, rt.alloc(), &LITERALS, Refusal::LiteralForm);
     let text = b"function m(){\"use asm\";function f(){return -0;}return f;}";
     let fault = TextFault::LiteralForm { at: 43 };
     has_fault(&rt, "at 43", rt.alloc(), text, Some(fault));
-    Ok(())
 }
 
 /// Faults of tokens, wherever the grammar has one.
@@ -253,8 +253,8 @@ static BAD_TOKENS: [Row; 6] = [
 ];
 
 #[test]
-fn bad_tokens(rt: HostRuntime) -> Result<(), AllocError> {
-    statements_are_refused(&rt, rt.alloc(), &BAD_TOKENS, Refusal::BadToken)
+fn bad_tokens(rt: HostRuntime) {
+    statements_are_refused(&rt, rt.alloc(), &BAD_TOKENS, Refusal::BadToken);
 }
 
 static NON_ASCII: [Row; 4] = [
@@ -269,8 +269,8 @@ static NON_ASCII: [Row; 4] = [
 ];
 
 #[test]
-fn other_bytes(rt: HostRuntime) -> Result<(), AllocError> {
-    statements_are_refused(&rt, rt.alloc(), &NON_ASCII, Refusal::NonAscii)
+fn other_bytes(rt: HostRuntime) {
+    statements_are_refused(&rt, rt.alloc(), &NON_ASCII, Refusal::NonAscii);
 }
 
 #[test]
@@ -283,20 +283,24 @@ fn an_open_comment(rt: HostRuntime) {
 const WHOLE: &[u8] =
     b"function m(){\"use asm\";function f(a,b){a=a|0;b=b|0;return a+b|0;}return f;}";
 
-/// Each front of a module is refused, at its end, or at a last token that is cut off within.
+/// Why the front of so many bytes is refused: at its end, or at a last token that is cut off within.
+fn fault_of_front(n: usize) -> TextFault {
+    match n {
+        0..=7 => TextFault::Grammar { at: 0 },
+        14..=21 => TextFault::BadToken { at: 13 },
+        24..=30 => TextFault::Grammar { at: 23 },
+        66..=70 => TextFault::Grammar { at: 65 },
+        _ => TextFault::Grammar { at: n as u64 },
+    }
+}
+
+/// Each front of a module is refused.
 #[test]
 fn fronts(rt: HostRuntime) {
-    assert_eq!(rt; WHOLE.len(), 75);
+    holds(&rt, 75, WHOLE.len() == 75);
     has_fault(&rt, "the whole", rt.alloc(), WHOLE, None);
     for n in 0..75 {
         let (front, _) = WHOLE.split_at(n);
-        let fault = match n {
-            0..=7 => TextFault::Grammar { at: 0 },
-            14..=21 => TextFault::BadToken { at: 13 },
-            24..=30 => TextFault::Grammar { at: 23 },
-            66..=70 => TextFault::Grammar { at: 65 },
-            _ => TextFault::Grammar { at: n as u64 },
-        };
-        assert_eq!(rt; fault_of(rt.alloc(), front), Some(fault), "{n} bytes");
+        has_fault(&rt, "a front", rt.alloc(), front, Some(fault_of_front(n)));
     }
 }

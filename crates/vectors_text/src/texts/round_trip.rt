@@ -1,12 +1,12 @@
 //! Texts with the canonical text of their module, which is read as the module again.
 use super::{CLOSE, OPEN};
 use crate::pieces::joined;
+use crate::rows::{done, holds};
 use asm_grammar_print::print;
 use asm_text::{read, reprinted};
 use asm_tree::{Module, Parsed};
 use std::alloc::{AllocError, Global};
 use std::process::Abort;
-use std::test::Fail;
 
 /// A name of what the row shows, a text, and its canonical text.
 type Row = (&'static str, &'static [u8], &'static [u8]);
@@ -177,11 +177,10 @@ static STATEMENTS: [Row; 31] = [
 ];
 
 #[test]
-fn statements(rt: HostRuntime) -> Result<(), AllocError> {
+fn statements(rt: HostRuntime) {
     for row in STATEMENTS.iter() {
-        body_comes_back(&rt, rt.alloc(), row)?;
+        done(&rt, body_comes_back(&rt, rt.alloc(), row));
     }
-    Ok(())
 }
 
 static EXPRESSIONS: [Row; 47] = [
@@ -263,11 +262,10 @@ static EXPRESSIONS: [Row; 47] = [
 ];
 
 #[test]
-fn expressions(rt: HostRuntime) -> Result<(), AllocError> {
+fn expressions(rt: HostRuntime) {
     for row in EXPRESSIONS.iter() {
-        body_comes_back(&rt, rt.alloc(), row)?;
+        done(&rt, body_comes_back(&rt, rt.alloc(), row));
     }
-    Ok(())
 }
 
 static MODULES: [Row; 15] = [
@@ -355,17 +353,16 @@ fn modules(rt: HostRuntime) {
     }
 }
 
-/// Module, function, parameter, statement, `|`, `+`, its operands, `0`, export.
+/// A module with its places: module, function, parameter, statement, `|`, `+`, its operands, `0`, export.
+const WITH_PLACES: &[u8] = b"function m(){\"use asm\";function f(x){x=x|0;return x+1|0;}return f;}";
+
+static OF_ALL: [u64; 10] = [0, 32, 34, 43, 53, 51, 50, 52, 54, 64];
+
 #[test]
-fn places(rt: HostRuntime) -> Result<(), Fail> {
-    let text = b"function m(){\"use asm\";function f(x){x=x|0;return x+1|0;}return f;}";
-    let want = [0, 32, 34, 43, 53, 51, 50, 52, 54, 64];
-    match parsed(rt.alloc(), text) {
-        Some(parsed) => {
-            assert_eq!(rt; parsed.places.as_slice(), want.as_slice());
-            Ok(())
-        }
-        None => Err(Fail::new("the text says a module")),
+fn places(rt: HostRuntime) {
+    match parsed(rt.alloc(), WITH_PLACES) {
+        Some(parsed) => holds(&rt, 0, parsed.places.as_slice() == OF_ALL.as_slice()),
+        None => holds(&rt, 1, false),
     }
 }
 
@@ -397,22 +394,26 @@ static PLACES: [(&'static [u8], &'static [u64]); 18] = [
 /// The places are these, counted from where the statements begin: the module and the function stand before, the export behind.
 fn are_places(found: &[u64], want: &[u64]) -> bool {
     let begin = OPEN.len() as u64;
-    found.len() == want.len().saturating_add(3)
-        && found
-            .iter()
-            .skip(2)
-            .zip(want.iter())
-            .all(|(place, want)| *place == want.saturating_add(begin))
+    let mut are = found.len() == want.len().saturating_add(3);
+    for (place, want) in found.iter().skip(2).zip(want.iter()) {
+        are &= *place == want.saturating_add(begin);
+    }
+    are
+}
+
+fn has_places(alloc: Global, body: &[u8], want: &[u64]) -> bool {
+    let Ok(text) = joined(alloc, &[OPEN, body, CLOSE]) else {
+        return false;
+    };
+    match parsed(alloc, &text) {
+        Some(parsed) => are_places(parsed.places.as_slice(), want),
+        None => false,
+    }
 }
 
 #[test]
-fn places_in_statements(rt: HostRuntime) -> Result<(), Fail> {
-    for (body, want) in PLACES.iter() {
-        let text = joined(rt.alloc(), &[OPEN, body, CLOSE])?;
-        match parsed(rt.alloc(), &text) {
-            Some(parsed) => assert!(rt; are_places(parsed.places.as_slice(), want), "{want:?}"),
-            None => return Err(Fail::new("the text says a module")),
-        }
+fn places_in_statements(rt: HostRuntime) {
+    for (number, (body, want)) in PLACES.iter().enumerate() {
+        holds(&rt, number, has_places(rt.alloc(), body, want));
     }
-    Ok(())
 }

@@ -1,6 +1,7 @@
 //! Each limit is met by its own number, and refused at one more.
 use super::{FRONT, has_fault};
 use crate::pieces::joined;
+use crate::rows::done;
 use asm_lang_valid::Rule;
 use cmd_check_asm::{AsmRow, CheckFault};
 use itoa::Buffer;
@@ -27,6 +28,7 @@ enum Place {
 }
 
 struct Limit {
+    name: &'static str,
     start: [&'static [u8]; 2],
     first: Item,
     between: &'static [u8],
@@ -38,8 +40,79 @@ struct Limit {
     rule: Rule,
 }
 
-/// Functions.
+/// A member of a table.
+const MEMBER: Item = Item {
+    lead: b"",
+    pieces: &[b"f,"],
+};
+
+/// Limits that texts of 100 kB meet.
+static SMALL: [Limit; 4] = [
+    Limit {
+        name: "parameters, the first one apart",
+        start: [FRONT, b"function f(z"],
+        first: Item {
+            lead: b",",
+            pieces: &[b"p", b""],
+        },
+        between: b"){z=z|0;",
+        second: Item {
+            lead: b"",
+            pieces: &[b"p", b"=p", b"|0;"],
+        },
+        end: b"}return f}",
+        counts: (1_999, 2_000),
+        place: Place::First,
+        rule: Rule::PastLimit,
+    },
+    Limit {
+        name: "arguments of a call of a foreign function",
+        start: [FRONT, b"function f(){"],
+        first: NOTHING,
+        between: b"u(",
+        second: Item {
+            lead: b"",
+            pieces: &[b"0,"],
+        },
+        end: b"0);}return f}",
+        counts: (1_999, 2_000),
+        place: Place::Start,
+        rule: Rule::PastLimit,
+    },
+    Limit {
+        name: "cases",
+        start: [FRONT, b"function f(i){i=i|0;"],
+        first: NOTHING,
+        between: b"switch(i|0){",
+        second: Item {
+            lead: b"",
+            pieces: &[b"case ", b":;"],
+        },
+        end: b"}}return f}",
+        counts: (1_000, 1_001),
+        place: Place::Start,
+        rule: Rule::PastLimit,
+    },
+    Limit {
+        name: "bytes of the name of a foreign member",
+        start: [b"function m(stdlib,foreign){'use asm';var ", b""],
+        first: NOTHING,
+        between: b"g=foreign.",
+        second: Item {
+            lead: b"",
+            pieces: &[b"x"],
+        },
+        end: b";function f(){}return f}",
+        counts: (100_000, 100_001),
+        place: Place::Start,
+        rule: Rule::PastLimit,
+    },
+];
+
+// Limits that take texts of up to 2 MB have a test each, so that none takes long.
+
 static FUNCTIONS: Limit = Limit {
+    name: "functions",
     start: [FRONT, b""],
     first: Item {
         lead: b"function ",
@@ -53,26 +126,8 @@ static FUNCTIONS: Limit = Limit {
     rule: Rule::PastLimit,
 };
 
-/// Parameters, the first one apart.
-static PARAMETERS: Limit = Limit {
-    start: [FRONT, b"function f(z"],
-    first: Item {
-        lead: b",",
-        pieces: &[b"p", b""],
-    },
-    between: b"){z=z|0;",
-    second: Item {
-        lead: b"",
-        pieces: &[b"p", b"=p", b"|0;"],
-    },
-    end: b"}return f}",
-    counts: (1_999, 2_000),
-    place: Place::First,
-    rule: Rule::PastLimit,
-};
-
-/// Locals, with one parameter.
 static LOCALS: Limit = Limit {
+    name: "locals, with one parameter",
     start: [FRONT, b"function f(z){z=z|0;"],
     first: Item {
         lead: b"var ",
@@ -86,8 +141,8 @@ static LOCALS: Limit = Limit {
     rule: Rule::PastLimit,
 };
 
-/// Globals, of which two stand in front.
 static GLOBALS: Limit = Limit {
+    name: "globals, of which two stand in front",
     start: [FRONT, b""],
     first: Item {
         lead: b"var ",
@@ -101,8 +156,8 @@ static GLOBALS: Limit = Limit {
     rule: Rule::PastLimit,
 };
 
-/// Distinct calls of foreign functions.
 static FOREIGN_CALLS: Limit = Limit {
+    name: "distinct calls of foreign functions",
     start: [b"function m(stdlib,foreign){'use asm';", b""],
     first: Item {
         lead: b"var ",
@@ -119,68 +174,21 @@ static FOREIGN_CALLS: Limit = Limit {
     rule: Rule::PastLimit,
 };
 
-/// Arguments of a call of a foreign function.
-static ARGUMENTS: Limit = Limit {
-    start: [FRONT, b"function f(){"],
-    first: NOTHING,
-    between: b"u(",
-    second: Item {
-        lead: b"",
-        pieces: &[b"0,"],
-    },
-    end: b"0);}return f}",
-    counts: (1_999, 2_000),
-    place: Place::Start,
-    rule: Rule::PastLimit,
-};
-
-/// Members of a table, whose number has to be a power of two.
 static MEMBERS: Limit = Limit {
+    name: "members of a table, whose number has to be a power of two",
     start: [FRONT, b"function f(){}var "],
     first: NOTHING,
     between: b"t=[",
-    second: Item {
-        lead: b"",
-        pieces: &[b"f,"],
-    },
+    second: MEMBER,
     end: b"f];return f}",
     counts: (65_535, 131_071),
     place: Place::Start,
     rule: Rule::PastLimit,
 };
 
-/// Cases.
-static CASES: Limit = Limit {
-    start: [FRONT, b"function f(i){i=i|0;"],
-    first: NOTHING,
-    between: b"switch(i|0){",
-    second: Item {
-        lead: b"",
-        pieces: &[b"case ", b":;"],
-    },
-    end: b"}}return f}",
-    counts: (1_000, 1_001),
-    place: Place::Start,
-    rule: Rule::PastLimit,
-};
-
-/// Bytes of the name of a foreign member.
-static FOREIGN_NAME: Limit = Limit {
-    start: [b"function m(stdlib,foreign){'use asm';var ", b""],
-    first: NOTHING,
-    between: b"g=foreign.",
-    second: Item {
-        lead: b"",
-        pieces: &[b"x"],
-    },
-    end: b";function f(){}return f}",
-    counts: (100_000, 100_001),
-    place: Place::Start,
-    rule: Rule::PastLimit,
-};
-
-/// Operators of a chain.
+/// The longest text, which has a test for each answer.
 static CHAIN: Limit = Limit {
+    name: "operators of a chain",
     start: [FRONT, b"function f(){return (0"],
     first: NOTHING,
     between: b"",
@@ -252,7 +260,7 @@ fn before(alloc: Global, limit: &Limit) -> Result<Vec<u8>, AllocError> {
 fn is_accepted(rt: &impl Abort, limit: &Limit, alloc: Global) -> Result<(), AllocError> {
     let (most, _) = limit.counts;
     let text = whole(alloc, limit, most)?;
-    has_fault(rt, "at the limit", alloc, &text, None);
+    has_fault(rt, limit.name, alloc, &text, None);
     Ok(())
 }
 
@@ -264,7 +272,7 @@ fn is_refused(rt: &impl Abort, limit: &Limit, alloc: Global) -> Result<(), Alloc
         row: AsmRow::Rule(limit.rule),
         at: before(alloc, limit)?.len() as u64,
     };
-    has_fault(rt, "past the limit", alloc, &text, Some(fault));
+    has_fault(rt, limit.name, alloc, &text, Some(fault));
     Ok(())
 }
 
@@ -273,66 +281,55 @@ fn is_met(rt: &impl Abort, limit: &Limit, alloc: Global) -> Result<(), AllocErro
     is_refused(rt, limit, alloc)
 }
 
-#[test]
-fn functions_have_a_limit(rt: HostRuntime) -> Result<(), AllocError> {
-    is_met(&rt, &FUNCTIONS, rt.alloc())
+fn are_met(rt: &impl Abort, limits: &[Limit], alloc: Global) {
+    for limit in limits {
+        done(rt, is_met(rt, limit, alloc));
+    }
 }
 
 #[test]
-fn parameters_have_a_limit(rt: HostRuntime) -> Result<(), AllocError> {
-    is_met(&rt, &PARAMETERS, rt.alloc())
+fn small_limits_are_met(rt: HostRuntime) {
+    are_met(&rt, &SMALL, rt.alloc());
 }
 
 #[test]
-fn locals_have_a_limit(rt: HostRuntime) -> Result<(), AllocError> {
-    is_met(&rt, &LOCALS, rt.alloc())
+fn functions_have_a_limit(rt: HostRuntime) {
+    done(&rt, is_met(&rt, &FUNCTIONS, rt.alloc()));
 }
 
 #[test]
-fn globals_have_a_limit(rt: HostRuntime) -> Result<(), AllocError> {
-    is_met(&rt, &GLOBALS, rt.alloc())
+fn locals_have_a_limit(rt: HostRuntime) {
+    done(&rt, is_met(&rt, &LOCALS, rt.alloc()));
 }
 
 #[test]
-fn foreign_calls_have_a_limit(rt: HostRuntime) -> Result<(), AllocError> {
-    is_met(&rt, &FOREIGN_CALLS, rt.alloc())
+fn globals_have_a_limit(rt: HostRuntime) {
+    done(&rt, is_met(&rt, &GLOBALS, rt.alloc()));
 }
 
 #[test]
-fn arguments_of_a_foreign_call_have_a_limit(rt: HostRuntime) -> Result<(), AllocError> {
-    is_met(&rt, &ARGUMENTS, rt.alloc())
+fn foreign_calls_have_a_limit(rt: HostRuntime) {
+    done(&rt, is_met(&rt, &FOREIGN_CALLS, rt.alloc()));
 }
 
 #[test]
-fn members_of_a_table_have_a_limit(rt: HostRuntime) -> Result<(), AllocError> {
-    is_met(&rt, &MEMBERS, rt.alloc())
+fn members_of_a_table_have_a_limit(rt: HostRuntime) {
+    done(&rt, is_met(&rt, &MEMBERS, rt.alloc()));
 }
 
 #[test]
-fn cases_have_a_limit(rt: HostRuntime) -> Result<(), AllocError> {
-    is_met(&rt, &CASES, rt.alloc())
+fn the_longest_chain_is_accepted(rt: HostRuntime) {
+    done(&rt, is_accepted(&rt, &CHAIN, rt.alloc()));
 }
 
 #[test]
-fn a_foreign_name_has_a_limit(rt: HostRuntime) -> Result<(), AllocError> {
-    is_met(&rt, &FOREIGN_NAME, rt.alloc())
-}
-
-// The longest texts have a test for each answer, so that none takes long.
-
-#[test]
-fn the_longest_chain_is_accepted(rt: HostRuntime) -> Result<(), AllocError> {
-    is_accepted(&rt, &CHAIN, rt.alloc())
-}
-
-#[test]
-fn a_longer_chain_is_refused(rt: HostRuntime) -> Result<(), AllocError> {
-    is_refused(&rt, &CHAIN, rt.alloc())
+fn a_longer_chain_is_refused(rt: HostRuntime) {
+    done(&rt, is_refused(&rt, &CHAIN, rt.alloc()));
 }
 
 /// So many tables of the greatest size.
 fn full_tables(alloc: Global, count: usize) -> Result<Vec<u8>, AllocError> {
-    let members = items(alloc, &MEMBERS.second, 65_535)?;
+    let members = items(alloc, &MEMBER, 65_535)?;
     let mut text = Vec::new(alloc);
     for number in 0..count {
         let mut digits = Buffer::new();
@@ -351,25 +348,30 @@ fn tables_at_the_limit(alloc: Global) -> Result<Vec<u8>, AllocError> {
     joined(alloc, &[FRONT, b"function f(){}", &tables])
 }
 
-#[test]
-fn all_tables_at_the_limit_are_accepted(rt: HostRuntime) -> Result<(), AllocError> {
-    let alloc = rt.alloc();
+/// The tables alone are accepted, or, with a member more, refused at its place.
+fn tables_are_met(rt: &impl Abort, alloc: Global, has_more: bool) -> Result<(), AllocError> {
     let front = tables_at_the_limit(alloc)?;
-    let text = joined(alloc, &[&front, b"return f}"])?;
-    has_fault(&rt, "all tables", alloc, &text, None);
-    Ok(())
-}
-
-#[test]
-fn a_member_more_of_all_tables_is_refused(rt: HostRuntime) -> Result<(), AllocError> {
-    let alloc = rt.alloc();
-    let front = tables_at_the_limit(alloc)?;
+    if !has_more {
+        let text = joined(alloc, &[&front, b"return f}"])?;
+        has_fault(rt, "all tables", alloc, &text, None);
+        return Ok(());
+    }
     let before = joined(alloc, &[&front, b"var "])?;
     let text = joined(alloc, &[&before, b"t=[f];return f}"])?;
     let fault = CheckFault::Refused {
         row: AsmRow::Rule(Rule::PastLimit),
         at: before.len() as u64,
     };
-    has_fault(&rt, "a member more", alloc, &text, Some(fault));
+    has_fault(rt, "a member more", alloc, &text, Some(fault));
     Ok(())
+}
+
+#[test]
+fn all_tables_at_the_limit_are_accepted(rt: HostRuntime) {
+    done(&rt, tables_are_met(&rt, rt.alloc(), false));
+}
+
+#[test]
+fn a_member_more_of_all_tables_is_refused(rt: HostRuntime) {
+    done(&rt, tables_are_met(&rt, rt.alloc(), true));
 }
