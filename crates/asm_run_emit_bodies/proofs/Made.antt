@@ -10,6 +10,7 @@ use Rattle.asm_run_code.specs.Bodies.{Around, a_loop, a_switch, a_named, dispatc
 use Rattle.asm_run_emit_values.specs.Pieces.{out_of_place}
 use Rattle.asm_run_emit_values.proofs.Codes.{told}
 use Rattle.asm_run_emit_values.proofs.Made.{placed}
+use Rattle.asm_run_emit_bodies.specs.Switches.{chosen}
 use Rattle.asm_run_emit_bodies.proofs.Forms.{if_only_form, if_else_form, return_none, return_some, while_form, do_form, for_form, labelled_form, switch_form}
 
 module _ {E : Type 0} (r : Result (Unit {0}) E) (b : List Op) (c : Scope) (around : List Around) (own : List (List ℕ)) (d : ℕ) (o : List Op) where
@@ -40,36 +41,39 @@ module _ {E : Type 0} (r : Result (Unit {0}) E) (b : List Op) (c : Scope) (aroun
       told r b (out_of_place (local c e) (λ more. value c (Some d) d e more) (Give (into (local c e) d) ∷ o)) (stmt c around own d (returns (Some e)) o) (sym (return_some c around own d o e))
       (placed r b p (local c e) a d (λ more. value c (Some d) d e more) (λ a. Give a) o₁ o hp ha ho h)
 
-  pub while_made : (e : Expr) (s : Stmt) (past inner next : ℕ) (inside : List Around) (o₁ o₂ o₃ : List Op) → past ≡ length o → inner ≡ suc d → o₁ ≡ Again d ∷ o → next ≡ length o₁ → inside ≡ a_loop own next past ∷ around →
-      o₂ ≡ stmt c inside [] inner s o₁ → o₃ ≡ condition c inner e past o₂ → OnOk r (b ≡ Turn d ∷ o₃) → OnOk r (b ≡ stmt c around own d (while_loop e s) o)
-  while_made e s past inner next inside o₁ o₂ o₃ hp hn h₁ ht hi h₂ h₃ h =
-      told r b (Turn d ∷ o₃) (stmt c around own d (while_loop e s) o)
-      (ap (λ l. Turn d ∷ l) (h₃ ∙ ap (condition c inner e past) (h₂ ∙ ap (λ a. stmt c a [] inner s o₁) (hi ∙ ap (λ n. a_loop own n past ∷ around) ht)))
-      ∙ ap (λ l. Turn d ∷ condition c inner e past (stmt c (a_loop own (length l) past ∷ around) [] inner s l)) h₁
-      ∙ ap (λ p. Turn d ∷ condition c inner e p (stmt c (a_loop own (length (Again d ∷ o)) p ∷ around) [] inner s (Again d ∷ o))) hp
-      ∙ ap (λ k. Turn d ∷ condition c k e (length o) (stmt c (a_loop own (length (Again d ∷ o)) (length o) ∷ around) [] k s (Again d ∷ o))) hn
+  -- ---- loops
+
+  -- the body of a loop whose next turn begins with what comes after the body
+  pub turns_made : (s : Stmt) (past inner next : ℕ) (o₁ : List Op) → inner ≡ suc d → next ≡ length o → o₁ ≡ stmt c (a_loop own next past ∷ around) [] inner s o → o₁ ≡ stmt c (a_loop own (length o) past ∷ around) [] (suc d) s o
+  turns_made s past inner next o₁ hn ht h = h ∙ ap (λ k. stmt c (a_loop own next past ∷ around) [] k s o) hn ∙ ap (λ n. stmt c (a_loop own n past ∷ around) [] (suc d) s o) ht
+
+  pub while_made : (e : Expr) (s : Stmt) (past : ℕ) (o₁ o₂ : List Op) → past ≡ length o → o₁ ≡ Again d ∷ o → o₂ ≡ stmt c (a_loop own (length o₁) past ∷ around) [] (suc d) s o₁ →
+      OnOk r (b ≡ Turn d ∷ condition c (suc d) e past o₂) → OnOk r (b ≡ stmt c around own d (while_loop e s) o)
+  while_made e s past o₁ o₂ hp h₁ h₂ h =
+      told r b (Turn d ∷ condition c (suc d) e past o₂) (stmt c around own d (while_loop e s) o)
+      (ap (λ l. Turn d ∷ condition c (suc d) e past l) h₂
+      ∙ ap (λ l. Turn d ∷ condition c (suc d) e past (stmt c (a_loop own (length l) past ∷ around) [] (suc d) s l)) h₁
+      ∙ ap (λ p. Turn d ∷ condition c (suc d) e p (stmt c (a_loop own (length (Again d ∷ o)) p ∷ around) [] (suc d) s (Again d ∷ o))) hp
       ∙ sym (while_form c around own d o e s))
       h
 
-  pub do_made : (s : Stmt) (e : Expr) (past inner next : ℕ) (inside : List Around) (o₁ o₂ o₃ : List Op) → past ≡ length o → inner ≡ suc d → o₁ ≡ Again d ∷ o → o₂ ≡ condition c inner e past o₁ → next ≡ length o₂ → inside ≡ a_loop own next past ∷ around →
-      o₃ ≡ stmt c inside [] inner s o₂ → OnOk r (b ≡ Turn d ∷ o₃) → OnOk r (b ≡ stmt c around own d (do_while s e) o)
-  do_made s e past inner next inside o₁ o₂ o₃ hp hn h₁ h₂ ht hi h₃ h =
-      told r b (Turn d ∷ o₃) (stmt c around own d (do_while s e) o)
-      (ap (λ l. Turn d ∷ l) (h₃ ∙ ap (λ a. stmt c a [] inner s o₂) (hi ∙ ap (λ n. a_loop own n past ∷ around) ht))
-      ∙ ap (λ l. Turn d ∷ stmt c (a_loop own (length l) past ∷ around) [] inner s l) (h₂ ∙ ap (condition c inner e past) h₁)
-      ∙ ap (λ p. Turn d ∷ stmt c (a_loop own (length (condition c inner e p (Again d ∷ o))) p ∷ around) [] inner s (condition c inner e p (Again d ∷ o))) hp
-      ∙ ap (λ k. Turn d ∷ stmt c (a_loop own (length (condition c k e (length o) (Again d ∷ o))) (length o) ∷ around) [] k s (condition c k e (length o) (Again d ∷ o))) hn
+  pub do_made : (s : Stmt) (e : Expr) (past : ℕ) (o₁ o₂ : List Op) → past ≡ length o → o₁ ≡ condition c (suc d) e (length o) (Again d ∷ o) → o₂ ≡ stmt c (a_loop own (length o₁) past ∷ around) [] (suc d) s o₁ →
+      OnOk r (b ≡ Turn d ∷ o₂) → OnOk r (b ≡ stmt c around own d (do_while s e) o)
+  do_made s e past o₁ o₂ hp h₁ h₂ h =
+      told r b (Turn d ∷ o₂) (stmt c around own d (do_while s e) o)
+      (ap (λ l. Turn d ∷ l) h₂
+      ∙ ap (λ l. Turn d ∷ stmt c (a_loop own (length l) past ∷ around) [] (suc d) s l) h₁
+      ∙ ap (λ p. Turn d ∷ stmt c (a_loop own (length (condition c (suc d) e (length o) (Again d ∷ o))) p ∷ around) [] (suc d) s (condition c (suc d) e (length o) (Again d ∷ o))) hp
       ∙ sym (do_form c around own d o s e))
       h
 
-  pub for_made : (x y z : Option Expr) (s : Stmt) (past inner next : ℕ) (inside : List Around) (o₁ o₂ o₃ o₄ o₅ : List Op) → past ≡ length o → inner ≡ suc d → o₁ ≡ Again d ∷ o → o₂ ≡ part c inner z o₁ → next ≡ length o₂ → inside ≡ a_loop own next past ∷ around →
-      o₃ ≡ stmt c inside [] inner s o₂ → o₄ ≡ condition_if c inner y past o₃ → o₅ ≡ Turn d ∷ o₄ → OnOk r (b ≡ part c d x o₅) → OnOk r (b ≡ stmt c around own d (for_loop x y z s) o)
-  for_made x y z s past inner next inside o₁ o₂ o₃ o₄ o₅ hp hn h₁ h₂ ht hi h₃ h₄ h₅ h =
-      told r b (part c d x o₅) (stmt c around own d (for_loop x y z s) o)
-      (ap (part c d x) (h₅ ∙ ap (λ l. Turn d ∷ l) (h₄ ∙ ap (condition_if c inner y past) (h₃ ∙ ap (λ a. stmt c a [] inner s o₂) (hi ∙ ap (λ n. a_loop own n past ∷ around) ht))))
-      ∙ ap (λ l. part c d x (Turn d ∷ condition_if c inner y past (stmt c (a_loop own (length l) past ∷ around) [] inner s l))) (h₂ ∙ ap (part c inner z) h₁)
-      ∙ ap (λ p. part c d x (Turn d ∷ condition_if c inner y p (stmt c (a_loop own (length (part c inner z (Again d ∷ o))) p ∷ around) [] inner s (part c inner z (Again d ∷ o))))) hp
-      ∙ ap (λ k. part c d x (Turn d ∷ condition_if c k y (length o) (stmt c (a_loop own (length (part c k z (Again d ∷ o))) (length o) ∷ around) [] k s (part c k z (Again d ∷ o))))) hn
+  pub for_made : (x y z : Option Expr) (s : Stmt) (past : ℕ) (o₁ o₂ : List Op) → past ≡ length o → o₁ ≡ part c (suc d) z (Again d ∷ o) → o₂ ≡ stmt c (a_loop own (length o₁) past ∷ around) [] (suc d) s o₁ →
+      OnOk r (b ≡ part c d x (Turn d ∷ condition_if c (suc d) y past o₂)) → OnOk r (b ≡ stmt c around own d (for_loop x y z s) o)
+  for_made x y z s past o₁ o₂ hp h₁ h₂ h =
+      told r b (part c d x (Turn d ∷ condition_if c (suc d) y past o₂)) (stmt c around own d (for_loop x y z s) o)
+      (ap (λ l. part c d x (Turn d ∷ condition_if c (suc d) y past l)) h₂
+      ∙ ap (λ l. part c d x (Turn d ∷ condition_if c (suc d) y past (stmt c (a_loop own (length l) past ∷ around) [] (suc d) s l))) h₁
+      ∙ ap (λ p. part c d x (Turn d ∷ condition_if c (suc d) y p (stmt c (a_loop own (length (part c (suc d) z (Again d ∷ o))) p ∷ around) [] (suc d) s (part c (suc d) z (Again d ∷ o))))) hp
       ∙ sym (for_form c around own d o x y z s))
       h
 
@@ -79,14 +83,18 @@ module _ {E : Type 0} (r : Result (Unit {0}) E) (b : List Op) (c : Scope) (aroun
       (ap (λ a. stmt c a ns d s o) (hi ∙ ap (λ p. a_named ns p ∷ around) hp) ∙ sym (labelled_form c around own d o ns s))
       h
 
-  pub switch_made : (e : Expr) (cs : Clauses) (past : ℕ) (inside : List Around) (starts : List ℕ) (p : Option ℕ) (a : ℕ) (o₁ o₂ : List Op) → past ≡ length o → inside ≡ a_switch past ∷ around →
-      o₁ ≡ (clauses_code c inside d cs o).code → starts ≡ (clauses_code c inside d cs o).starts → p ≡ local c e → a ≡ into p d → o₂ ≡ dispatched cs starts a o₁ →
-      OnOk r (b ≡ out_of_place p (λ more. value c (Some d) d e more) o₂) → OnOk r (b ≡ stmt c around own d (switches e cs) o)
-  switch_made e cs past inside starts p a o₁ o₂ hp hi h₁ hs hl ha h₂ h =
-      told r b (out_of_place p (λ more. value c (Some d) d e more) o₂) (stmt c around own d (switches e cs) o)
-      (ap (out_of_place p (λ more. value c (Some d) d e more)) (h₂ ∙ ap (dispatched cs starts a) h₁ ∙ ap (λ l. dispatched cs l a (clauses_code c inside d cs o).code) hs)
-      ∙ ap (λ i. out_of_place p (λ more. value c (Some d) d e more) (dispatched cs (clauses_code c i d cs o).starts a (clauses_code c i d cs o).code)) (hi ∙ ap (λ p. a_switch p ∷ around) hp)
-      ∙ ap (λ a. out_of_place p (λ more. value c (Some d) d e more) (dispatched cs (clauses_code c (a_switch (length o) ∷ around) d cs o).starts a (clauses_code c (a_switch (length o) ∷ around) d cs o).code)) ha
-      ∙ ap (λ p. out_of_place p (λ more. value c (Some d) d e more) (dispatched cs (clauses_code c (a_switch (length o) ∷ around) d cs o).starts (into p d) (clauses_code c (a_switch (length o) ∷ around) d cs o).code)) hl
-      ∙ sym (switch_form c around own d o e cs))
+  pub switch_made : (e : Expr) (cs : Clauses) (starts : List ℕ) (o₁ : List Op) → o₁ ≡ (clauses_code c (a_switch (length o) ∷ around) d cs o).code → starts ≡ (clauses_code c (a_switch (length o) ∷ around) d cs o).starts →
+      OnOk r (b ≡ chosen c d cs starts e o₁) → OnOk r (b ≡ stmt c around own d (switches e cs) o)
+  switch_made e cs starts o₁ h₁ hs h =
+      told r b (chosen c d cs starts e o₁) (stmt c around own d (switches e cs) o)
+      (ap (chosen c d cs starts e) h₁ ∙ ap (λ l. chosen c d cs l e (clauses_code c (a_switch (length o) ∷ around) d cs o).code) hs ∙ sym (switch_form c around own d o e cs))
+      h
+
+module _ {E : Type 0} (r : Result (Unit {0}) E) (b : List Op) (c : Scope) (d : ℕ) (o : List Op) where
+  pub choice_made : (cs : Clauses) (starts : List ℕ) (e : Expr) (p : Option ℕ) (a : ℕ) (o₁ : List Op) → p ≡ local c e → a ≡ into p d → o₁ ≡ dispatched cs starts a o →
+      OnOk r (b ≡ out_of_place p (λ more. value c (Some d) d e more) o₁) → OnOk r (b ≡ chosen c d cs starts e o)
+  choice_made cs starts e p a o₁ hp ha h₁ h =
+      told r b (out_of_place p (λ more. value c (Some d) d e more) o₁) (chosen c d cs starts e o)
+      (ap (out_of_place p (λ more. value c (Some d) d e more)) (h₁ ∙ ap (λ a. dispatched cs starts a o) ha)
+      ∙ ap (λ p. out_of_place p (λ more. value c (Some d) d e more) (dispatched cs starts (into p d) o)) hp)
       h

@@ -64,8 +64,8 @@ module _ (c : Scope) (around : List Around) (d : ℕ) (o : List Op) where
   pub code_begin : (ks : List Clause) → o ≡ (clauses_code c around d (clauses_view (drop (length ks) ks)) o).code
   code_begin ks = ap (λ (p : Placed). p.code) (sym (clause_none ks))
 
-  pub starts_begin : (ks : List Clause) (past : ℕ) (a b : List ℕ) → past ≡ length o → a ≡ [] → b ≡ past ∷ a → b ≡ (clauses_code c around d (clauses_view (drop (length ks) ks)) o).starts
-  starts_begin ks past a b hp ha hb = hb ∙ ap (λ l. past ∷ l) ha ∙ ap (λ k. k ∷ []) hp ∙ ap (λ (p : Placed). p.starts) (sym (clause_none ks))
+  pub starts_begin : (ks : List Clause) (a : List ℕ) → a ≡ length o ∷ [] → a ≡ (clauses_code c around d (clauses_view (drop (length ks) ks)) o).starts
+  starts_begin ks a ha = ha ∙ ap (λ (p : Placed). p.starts) (sym (clause_none ks))
 
   module _ (ks : List Clause) (i j : ℕ) (k : Clause) (hj : j ≡ i + 1) (h : i < length ks) (is : k ≡ get_or ks i k) where
     pub code_turn : (ss : List CodeStmt) (a b : List Op) → ss ≡ list_items k.body → a ≡ (clauses_code c around d (clauses_view (drop j ks)) o).code → b ≡ stmts_code c around d (stmts_view ss) a → b ≡ (clauses_code c around d (clauses_view (drop i ks)) o).code

@@ -18,7 +18,7 @@ use Rattle.asm_run_code.specs.Names.{first_free}
 use Rattle.asm_run_code.specs.Machine as code
 use Rattle.asm_run_code.specs.Bodies.{Around, stmts_code, first_word, body}
 use Rattle.asm_run_code.specs.Modules.{flat}
-use Rattle.asm_run_emit_values.specs.Names.{Within, scope_said}
+use Rattle.asm_run_names.specs.Names.{Within, scope_said}
 use Rattle.asm_run_emit_values.proofs.Codes.{told}
 use Rattle.asm_run_emit_bodies.specs.Flats.{init_word, local_word, whole}
 

@@ -1,18 +1,20 @@
 //! The code of functions and of a module.
 ghost use Rattle.std.specs.Prelude.{◌≡◌, [], map, reverse, OnOk, IfOk};
 ghost use Rattle.sem_words.specs.Lists.{list_items};
-ghost use Rattle.asm_tree.specs.Views.{module_view, function_view, local_view, table_view, init_view, texts_view};
+ghost use Rattle.asm_tree.specs.Views.{module_view, function_view, local_view, table_view, init_view, texts_view, stmts_view};
 ghost use Rattle.asm_lang_valid.specs.Refusal.{function_number};
 ghost use Rattle.asm_lang_valid.specs.Typed.{scope_of};
 ghost use Rattle.asm2wasm_lang.specs.Tables as entries;
+ghost use Rattle.asm_run_code.specs.Bodies.{stmts_code};
 ghost use Rattle.asm_run_code.specs.Modules as code;
-ghost use Rattle.asm_run_emit_values.specs.Names.{scope_said};
+ghost use Rattle.asm_run_names.specs.Names.{scope_said};
 ghost use Rattle.asm_run_emit_bodies.specs.Flats.{flat_view, local_word, init_word, whole};
 
 use crate::jumps::Jumps;
 use crate::statements::emit_stmts;
 use asm_run_code::Op;
-use asm_run_emit_values::{FunctionNames, ModuleNames, Output, small};
+use asm_run_emit_values::Output;
+use asm_run_names::{FunctionNames, ModuleNames, small};
 use asm_tree::{Function, Init, Local, Module, Table};
 use asm_validate_nodes::label_hashes;
 use sem_words::{List, Text};
@@ -41,8 +43,10 @@ pub fn codes_of(alloc: Global, module: &Module) -> Result<Codes, AllocError>
     ensures functions { IfOk result (λ codes. map flat_view (list_items codes.functions) ≡ (code.codes_of (module_view «module».now)).functions) }
     ensures tables { IfOk result (λ codes. map (λ t. list_items t) (list_items codes.tables) ≡ (code.codes_of (module_view «module».now)).tables) }
 {
-    let names = ModuleNames::new(alloc, module)?;
-    codes_by(alloc, &names)
+    match &ModuleNames::new(alloc, module) {
+        Ok(names) => codes_by(alloc, names),
+        Err(error) => Err(*error),
+    }
 }
 
 // .. by the names of the module.
@@ -106,8 +110,10 @@ fn emit_function<'a>(
     requires { output.old ≡ [] }
     ensures { OnOk result (output.new ≡ whole (scope_of (module_view «module».now) (function_view function.now))) }
 {
-    let names = FunctionNames::new(alloc, module, function)?;
-    emit_body(alloc, &names, output)
+    match &FunctionNames::new(alloc, module, function) {
+        Ok(names) => emit_body(alloc, names, output),
+        Err(error) => Err(*error),
+    }
 }
 
 // .. by the names of the function.
@@ -122,6 +128,18 @@ fn emit_body(
     let free = small(names.first_free())?;
     output.put(Op::Give { from: free })?;
     output.put(Op::Number { to: free, word: 0 })?;
+    emit_all(alloc, names, output, free)
+}
+
+// .. before what ends it.
+fn emit_all(
+    alloc: Global,
+    names: &FunctionNames<'_, '_>,
+    output: &mut Output,
+    free: u32,
+) -> Result<(), AllocError>
+    ensures { OnOk result (output.new ≡ stmts_code (scope_said names.now) [] free (stmts_view (list_items names.now.function.body)) output.old) }
+{
     let body = names.function().body.as_slice();
     let mut jumps = Jumps::new(alloc, label_hashes(body));
     emit_stmts(names, output, alloc, &mut jumps, free, body)

@@ -1,19 +1,19 @@
 //! The code of statements, from its end.
-ghost use Rattle.std.specs.Prelude.{◌≡◌, ◌≤◌, List, [], ◌∷◌, length, OnOk, IfOk};
+ghost use Rattle.std.specs.Prelude.{◌≡◌, ◌≤◌, suc, List, [], ◌∷◌, length, OnOk, IfOk};
 ghost use Rattle.asm_lang.specs.Modules as form;
 ghost use Rattle.asm_tree.specs.Views.{texts_view, expr_view, expr_option, stmt_view, stmts_view, clauses_view};
-ghost use Rattle.asm_run_code.specs.declared.op.Op.TheVariants.{Go};
+ghost use Rattle.asm_run_code.specs.declared.op.Op.TheVariants.{Go, Turn, Again};
 ghost use Rattle.asm_run_code.specs.Bodies as code;
 ghost use Rattle.asm_run_code.specs.Bodies.{stmt, stmts_code, clauses_code};
-ghost use Rattle.asm_run_emit_values.specs.Names.{scope_said};
+ghost use Rattle.asm_run_names.specs.Names.{scope_said};
 ghost use Rattle.asm_run_emit_bodies.specs.Jumps.{around_view, Meets};
+ghost use Rattle.asm_run_emit_bodies.specs.Switches.{chosen};
 
 use crate::jumps::{Around, Jumps};
 use crate::switches::{Starts, dispatch};
 use asm_run_code::Op;
-use asm_run_emit_values::{
-    FunctionNames, Output, emit_operand, emit_test, emit_value, into, local, next,
-};
+use asm_run_emit_values::{Output, emit_operand, emit_test, emit_value, into, local};
+use asm_run_names::{FunctionNames, next};
 use asm_tree::{Clause, Expr, ForHead, Stmt};
 use sem_words::Text;
 use std::alloc::{AllocError, Global};
@@ -109,6 +109,22 @@ fn emit_inside<'l>(
     Ok(())
 }
 
+// A statement that has no labels of its own.
+#[cycle(statements)]
+fn emit_bare<'l>(
+    names: &FunctionNames<'_, '_>,
+    output: &mut Output,
+    alloc: Global,
+    jumps: &mut Jumps<'l>,
+    free: u32,
+    body: &'l Stmt,
+) -> Result<(), AllocError>
+    ensures code { (os : List code.Around) → Meets jumps.old os → OnOk result (output.new ≡ stmt (scope_said names.now) os [] free (stmt_view body.now) output.old) }
+    ensures kept { OnOk result (jumps.new ≡ jumps.old) }
+{
+    emit_stmt(names, output, alloc, jumps, &[], free, body)
+}
+
 fn put_go(output: &mut Output, at: u32) -> Result<(), AllocError>
     ensures { OnOk result (output.new ≡ Go at ∷ output.old) }
 {
@@ -131,7 +147,7 @@ pub fn emit_stmts<'l>(
     let mut i = body.len();
     while i > 0 {
         i -= 1;
-        emit_stmt(names, output, alloc, jumps, &[], free, &body[i])?;
+        emit_bare(names, output, alloc, jumps, free, &body[i])?;
     }
     Ok(())
 }
@@ -150,7 +166,7 @@ fn emit_if<'l>(
     ensures kept { OnOk result (jumps.new ≡ jumps.old) }
 {
     let past = output.address()?;
-    emit_stmt(names, output, alloc, jumps, &[], free, yes)?;
+    emit_bare(names, output, alloc, jumps, free, yes)?;
     emit_test(names, output, free, condition, past)
 }
 
@@ -169,11 +185,20 @@ fn emit_if_else<'l>(
     ensures kept { OnOk result (jumps.new ≡ jumps.old) }
 {
     let past = output.address()?;
-    emit_stmt(names, output, alloc, jumps, &[], free, no)?;
+    emit_bare(names, output, alloc, jumps, free, no)?;
+    let at = put_past(output, past)?;
+    emit_bare(names, output, alloc, jumps, free, yes)?;
+    emit_test(names, output, free, condition, at)
+}
+
+// The end of the first arm of a choice, and the address of the second.
+fn put_past(output: &mut Output, past: u32) -> Result<u32, AllocError>
+    ensures at { IfOk result (λ at. at ≡ length output.old) }
+    ensures put { OnOk result (output.new ≡ Go past ∷ output.old) }
+{
     let at = output.address()?;
     output.put(Op::Go { at: past })?;
-    emit_stmt(names, output, alloc, jumps, &[], free, yes)?;
-    emit_test(names, output, free, condition, at)
+    Ok(at)
 }
 
 fn emit_return(
@@ -212,12 +237,55 @@ fn emit_while<'l>(
     ensures code { (os : List code.Around) → Meets jumps.old os → OnOk result (output.new ≡ stmt (scope_said names.now) os (texts_view own.now) free (form.while_loop (expr_view condition.now) (stmt_view body.now)) output.old) }
     ensures kept { OnOk result (jumps.new ≡ jumps.old) }
 {
-    let past = output.address()?;
+    let past = put_again(output, free)?;
+    emit_turns(names, output, alloc, jumps, own, free, past, body)?;
+    end_while(names, output, free, condition, past)
+}
+
+// The body of a loop, before what ends its turns.
+#[cycle(statements)]
+fn emit_turns<'l>(
+    names: &FunctionNames<'_, '_>,
+    output: &mut Output,
+    alloc: Global,
+    jumps: &mut Jumps<'l>,
+    own: &'l [Text],
+    free: u32,
+    past: u32,
+    body: &'l Stmt,
+) -> Result<(), AllocError>
+    ensures code { (os : List code.Around) → Meets jumps.old os → OnOk result (output.new ≡ stmt (scope_said names.now) (code.a_loop (texts_view own.now) (length output.old) past ∷ os) [] (suc free) (stmt_view body.now) output.old) }
+    ensures kept { OnOk result (jumps.new ≡ jumps.old) }
+{
     let inner = next(free)?;
-    output.put(Op::Again { slot: free })?;
     let turn = output.address()?;
     let around = Around::Loop(own, turn, past);
-    emit_inside(names, output, alloc, jumps, around, &[], inner, body)?;
+    jumps.enter(around)?;
+    emit_bare(names, output, alloc, jumps, inner, body)?;
+    jumps.leave(around);
+    Ok(())
+}
+
+// The end of a turn, and the address of what comes after the loop.
+fn put_again(output: &mut Output, free: u32) -> Result<u32, AllocError>
+    ensures past { IfOk result (λ past. past ≡ length output.old) }
+    ensures put { OnOk result (output.new ≡ Again free ∷ output.old) }
+{
+    let past = output.address()?;
+    output.put(Op::Again { slot: free })?;
+    Ok(past)
+}
+
+fn end_while(
+    names: &FunctionNames<'_, '_>,
+    output: &mut Output,
+    free: u32,
+    condition: &Expr,
+    past: u32,
+) -> Result<(), AllocError>
+    ensures { OnOk result (output.new ≡ Turn free ∷ code.condition (scope_said names.now) (suc free) (expr_view condition.now) past output.old) }
+{
+    let inner = next(free)?;
     emit_test(names, output, inner, condition, past)?;
     output.put(Op::Turn { to: free })
 }
@@ -236,14 +304,25 @@ fn emit_do<'l>(
     ensures code { (os : List code.Around) → Meets jumps.old os → OnOk result (output.new ≡ stmt (scope_said names.now) os (texts_view own.now) free (form.do_while (stmt_view body.now) (expr_view condition.now)) output.old) }
     ensures kept { OnOk result (jumps.new ≡ jumps.old) }
 {
-    let past = output.address()?;
-    let inner = next(free)?;
-    output.put(Op::Again { slot: free })?;
-    emit_test(names, output, inner, condition, past)?;
-    let turn = output.address()?;
-    let around = Around::Loop(own, turn, past);
-    emit_inside(names, output, alloc, jumps, around, &[], inner, body)?;
+    let past = start_do(names, output, free, condition)?;
+    emit_turns(names, output, alloc, jumps, own, free, past, body)?;
     output.put(Op::Turn { to: free })
+}
+
+// The end of a turn, and the address of what comes after the loop.
+fn start_do(
+    names: &FunctionNames<'_, '_>,
+    output: &mut Output,
+    free: u32,
+    condition: &Expr,
+) -> Result<u32, AllocError>
+    ensures past { IfOk result (λ past. past ≡ length output.old) }
+    ensures put { OnOk result (output.new ≡ code.condition (scope_said names.now) (suc free) (expr_view condition.now) (length output.old) (Again free ∷ output.old)) }
+{
+    let past = put_again(output, free)?;
+    let inner = next(free)?;
+    emit_test(names, output, inner, condition, past)?;
+    Ok(past)
 }
 
 #[cycle(statements)]
@@ -260,16 +339,41 @@ fn emit_for<'l>(
     ensures code { (os : List code.Around) → Meets jumps.old os → OnOk result (output.new ≡ stmt (scope_said names.now) os (texts_view own.now) free (form.for_loop (expr_option head.now.start) (expr_option head.now.condition) (expr_option head.now.step) (stmt_view body.now)) output.old) }
     ensures kept { OnOk result (jumps.new ≡ jumps.old) }
 {
-    let past = output.address()?;
+    let past = start_for(names, output, free, &head.step)?;
+    emit_turns(names, output, alloc, jumps, own, free, past, body)?;
+    end_for(names, output, free, past, &head.condition, &head.start)
+}
+
+// The end of a turn, and the address of what comes after the loop.
+fn start_for(
+    names: &FunctionNames<'_, '_>,
+    output: &mut Output,
+    free: u32,
+    step: &Option<Expr>,
+) -> Result<u32, AllocError>
+    ensures past { IfOk result (λ past. past ≡ length output.old) }
+    ensures put { OnOk result (output.new ≡ code.part (scope_said names.now) (suc free) (expr_option step.now) (Again free ∷ output.old)) }
+{
+    let past = put_again(output, free)?;
     let inner = next(free)?;
-    output.put(Op::Again { slot: free })?;
-    emit_part(names, output, inner, &head.step)?;
-    let turn = output.address()?;
-    let around = Around::Loop(own, turn, past);
-    emit_inside(names, output, alloc, jumps, around, &[], inner, body)?;
-    emit_condition(names, output, inner, &head.condition, past)?;
+    emit_part(names, output, inner, step)?;
+    Ok(past)
+}
+
+fn end_for(
+    names: &FunctionNames<'_, '_>,
+    output: &mut Output,
+    free: u32,
+    past: u32,
+    condition: &Option<Expr>,
+    start: &Option<Expr>,
+) -> Result<(), AllocError>
+    ensures { OnOk result (output.new ≡ code.part (scope_said names.now) free (expr_option start.now) (Turn free ∷ code.condition_if (scope_said names.now) (suc free) (expr_option condition.now) past output.old)) }
+{
+    let inner = next(free)?;
+    emit_condition(names, output, inner, condition, past)?;
     output.put(Op::Turn { to: free })?;
-    emit_part(names, output, free, &head.start)
+    emit_part(names, output, free, start)
 }
 
 fn emit_part(
@@ -314,18 +418,57 @@ fn emit_switch<'l>(
     ensures code { (os : List code.Around) → Meets jumps.old os → OnOk result (output.new ≡ stmt (scope_said names.now) os [] free (form.switches (expr_view subject.now) (clauses_view clauses.now)) output.old) }
     ensures kept { OnOk result (jumps.new ≡ jumps.old) }
 {
+    let mut starts = Starts::new(alloc);
+    emit_cases(names, output, alloc, jumps, free, clauses, &mut starts)?;
+    emit_choice(names, output, alloc, free, clauses, &starts, subject)
+}
+
+// The clauses, inside of the switch, and their addresses.
+#[cycle(statements)]
+fn emit_cases<'l>(
+    names: &FunctionNames<'_, '_>,
+    output: &mut Output,
+    alloc: Global,
+    jumps: &mut Jumps<'l>,
+    free: u32,
+    clauses: &'l [Clause],
+    starts: &mut Starts,
+) -> Result<(), AllocError>
+    requires { starts.old ≡ [] }
+    ensures code { (os : List code.Around) → Meets jumps.old os → OnOk result (output.new ≡ (clauses_code (scope_said names.now) (code.a_switch (length output.old) ∷ os) free (clauses_view clauses.now) output.old).code) }
+    ensures starts { (os : List code.Around) → Meets jumps.old os → OnOk result (starts.new ≡ (clauses_code (scope_said names.now) (code.a_switch (length output.old) ∷ os) free (clauses_view clauses.now) output.old).starts) }
+    ensures count { OnOk result (length clauses.now ≤ length starts.new) }
+    ensures kept { OnOk result (jumps.new ≡ jumps.old) }
+{
     let past = output.address()?;
+    starts.put(past)?;
     let around = Around::Switch(past);
     jumps.enter(around)?;
-    let starts = emit_clauses(names, output, alloc, jumps, free, clauses)?;
+    emit_clauses(names, output, alloc, jumps, free, clauses, starts)?;
     jumps.leave(around);
+    Ok(())
+}
+
+// The value of a switch, and the way from there to its clause.
+fn emit_choice(
+    names: &FunctionNames<'_, '_>,
+    output: &mut Output,
+    alloc: Global,
+    free: u32,
+    clauses: &[Clause],
+    starts: &Starts,
+    subject: &Expr,
+) -> Result<(), AllocError>
+    requires { length clauses.now ≤ length starts.now }
+    ensures { OnOk result (output.new ≡ chosen (scope_said names.now) free (clauses_view clauses.now) starts.now (expr_view subject.now) output.old) }
+{
     let place = local(names, subject)?;
     let slot = into(place, free);
-    dispatch(output, alloc, clauses, &starts, slot)?;
+    dispatch(output, alloc, clauses, starts, slot)?;
     emit_operand(names, output, place, free, subject)
 }
 
-// The clauses one after another, and their addresses.
+// The clauses one after another, and their addresses before that of what comes after them.
 #[cycle(statements)]
 fn emit_clauses<'l>(
     names: &FunctionNames<'_, '_>,
@@ -334,15 +477,14 @@ fn emit_clauses<'l>(
     jumps: &mut Jumps<'l>,
     free: u32,
     clauses: &'l [Clause],
-) -> Result<Starts, AllocError>
+    starts: &mut Starts,
+) -> Result<(), AllocError>
+    requires { starts.old ≡ length output.old ∷ [] }
     ensures code { (os : List code.Around) → Meets jumps.old os → OnOk result (output.new ≡ (clauses_code (scope_said names.now) os free (clauses_view clauses.now) output.old).code) }
-    ensures starts { (os : List code.Around) → Meets jumps.old os → IfOk result (λ starts. starts ≡ (clauses_code (scope_said names.now) os free (clauses_view clauses.now) output.old).starts) }
-    ensures count { IfOk result (λ starts. length clauses.now ≤ length starts) }
+    ensures starts { (os : List code.Around) → Meets jumps.old os → OnOk result (starts.new ≡ (clauses_code (scope_said names.now) os free (clauses_view clauses.now) output.old).starts) }
+    ensures count { OnOk result (length clauses.now ≤ length starts.new) }
     ensures kept { OnOk result (jumps.new ≡ jumps.old) }
 {
-    let mut starts = Starts::new(alloc);
-    let past = output.address()?;
-    starts.put(past)?;
     let mut i = clauses.len();
     while i > 0 {
         i -= 1;
@@ -357,5 +499,5 @@ fn emit_clauses<'l>(
         let at = output.address()?;
         starts.put(at)?;
     }
-    Ok(starts)
+    Ok(())
 }

@@ -9,7 +9,8 @@ ghost use Rattle.asm_run_code.specs.Bodies as code;
 ghost use Rattle.asm_run_emit_bodies.specs.Switches.{case_before, jumps};
 
 use asm_run_code::Op;
-use asm_run_emit_values::{Output, small};
+use asm_run_emit_values::Output;
+use asm_run_names::small;
 use asm_tree::Clause;
 use std::alloc::{AllocError, Global};
 use std::marker::Model;

@@ -1,19 +1,23 @@
 -- The code of each form of expression, by the parts that an emitter makes.
-use Rattle.std.proofs.Common.{◌≡◌, ℕ, suc, Bool, true, false, List, ◌∷◌, length, Option, Some, None, Result, OnOk, refl, sym, ap, subst, ◌∙◌}
+use Rattle.std.proofs.Common.{◌≡◌, ℕ, suc, Bool, true, false, List, ◌∷◌, length, Option, Some, None, Result, OnOk, refl, sym, ap, subst}
 use Rattle.std.specs.Prelude.{if◌then◌else◌, ◌||◌, ℤ}
 use Rattle.sem_words.specs.declared.js_value.JsOp.{JsOp}
 use Rattle.sem_words.specs.declared.js_value.JsUnary.{JsUnary}
 use Rattle.sem_words.specs.Words.{word_of}
+use Rattle.heap_lang.specs.declared.kind.ViewKind.{ViewKind}
 use Rattle.asm_lang.specs.Modules.{Expr, lit, decimal, var, index, call, table_call, assign, store, unary, binary, chain, cond, comma, Exprs, Links}
-use Rattle.asm_lang_valid.specs.Typing.{Scope, named, or_zero}
+use Rattle.asm_lang_valid.specs.declared.meaning.Builtin.TheVariants.{Imul, Clz32}
+use Rattle.asm_lang_valid.specs.Scope.{Meaning, nothing, an_int, an_outside, a_foreign, a_builtin, a_view, a_function, a_table, a_parameter}
+use Rattle.asm_lang_valid.specs.Typing.{Scope, named, or_zero, exprs_length}
 use Rattle.asm2wasm_translation.specs.Values.{is_unsigned}
 use Rattle.asm_run_code.specs.declared.op.Op.{Op}
-use Rattle.asm_run_code.specs.declared.op.Op.TheVariants.{Number, WriteGlobal, Apply, ApplyNumber, ReadElement, WriteElement, Go, Unless, CallEntry}
+use Rattle.asm_run_code.specs.declared.op.Op.TheVariants.{Number, ReadElement, Go, Unless, CallEntry}
 use Rattle.asm_run_code.specs.declared.op.Operator.{Operator}
 use Rattle.asm_run_code.specs.Operators.{operator_of}
 use Rattle.asm_run_code.specs.Names.{local_slot, global_slot, view_kind, table_number, local, Seat, a_number, a_local, elsewhere, seat}
-use Rattle.asm_run_code.specs.Values.{Before, into, copied, seated, combined, fetched, assigned, stored, prefixed, stays, sum_slot, linked, chained, value, arguments, sums, last}
-use Rattle.asm_run_emit_values.specs.Pieces.{out_of_place, called_as}
+use Rattle.asm_run_code.specs.Values.{Before, into, copied, seated, combined, fetched, assigned, stored, prefixed, stays_by, stays, sum_slot, linked, chained, called, value, arguments, product, zeros, sums, last}
+use Rattle.asm_run_names.specs.Callees.{callee_of}
+use Rattle.asm_run_emit_values.specs.Pieces.{out_of_place, called_as, needed, is_elsewhere, applied, is_far, index_place, written, assigned_slot, assignment}
 
 -- what the last call gave leads on to what is told
 pub told : {E : Type 0} (r : Result (Unit {0}) E) (b x y : List Op) → x ≡ y → OnOk r (b ≡ x) → OnOk r (b ≡ y)
@@ -25,25 +29,29 @@ pub seated_is : (p : Option ℕ) (d : ℕ) (code : Before) (op : ℕ → Op) (o 
 seated_is None d code op o = refl
 seated_is (Some a) d code op o = refl
 
-module _ (p : Option ℕ) (op : Operator) (to d : ℕ) (first second : Before) (o : List Op) where
-  pub with_number : (s : Seat) (n : ℕ) → a_number n ≡ s → combined s p op to d first second o ≡ out_of_place p first (ApplyNumber op to (into p d) n ∷ o)
-  with_number s n e = ap (λ s. combined s p op to d first second o) (sym e) ∙ seated_is p d first (λ a. ApplyNumber op to a n) o
+pub combined_is : (s : Seat) (p : Option ℕ) (op : Operator) (to d : ℕ) (first second : Before) (o : List Op) →
+    combined s p op to d first second o ≡ out_of_place (stays_by s p) first (needed (is_elsewhere s) second (applied s op to (into (stays_by s p) d) d ∷ o))
+combined_is (a_number n) None op to d first second o = refl
+combined_is (a_number n) (Some a) op to d first second o = refl
+combined_is (a_local y) None op to d first second o = refl
+combined_is (a_local y) (Some a) op to d first second o = refl
+combined_is elsewhere p op to d first second o = refl
 
-  pub with_local : (s : Seat) (y : ℕ) → a_local y ≡ s → combined s p op to d first second o ≡ out_of_place p first (Apply op to (into p d) y ∷ o)
-  with_local s y e = ap (λ s. combined s p op to d first second o) (sym e) ∙ seated_is p d first (λ a. Apply op to a y) o
+pub linked_is : (s : Seat) (op : Operator) (to a d : ℕ) (code : Before) (o : List Op) → linked s op to a d code o ≡ needed (is_elsewhere s) code (applied s op to a d ∷ o)
+linked_is (a_number n) op to a d code o = refl
+linked_is (a_local y) op to a d code o = refl
+linked_is elsewhere op to a d code o = refl
 
-  pub with_computed : (s : Seat) → elsewhere ≡ s → combined s p op to d first second o ≡ first (second (Apply op to d (suc d) ∷ o))
-  with_computed s e = ap (λ s. combined s p op to d first second o) (sym e)
+stored_is : (s : Seat) (p : Option ℕ) (kind : ViewKind) (w : Option ℕ) (d : ℕ) (first second : Before) (o : List Op) →
+    stored s p kind w d first second o ≡ out_of_place (index_place s p) first (needed (is_far s) second (written s p kind w d o))
+stored_is (a_number n) p kind w d first second o = refl
+stored_is (a_local y) None kind w d first second o = refl
+stored_is (a_local y) (Some a) kind w d first second o = refl
+stored_is elsewhere p kind w d first second o = refl
 
-module _ (op : Operator) (to a d : ℕ) (code : Before) (o : List Op) where
-  pub link_number : (s : Seat) (n : ℕ) → a_number n ≡ s → linked s op to a d code o ≡ ApplyNumber op to a n ∷ o
-  link_number s n e = ap (λ s. linked s op to a d code o) (sym e)
-
-  pub link_local : (s : Seat) (y : ℕ) → a_local y ≡ s → linked s op to a d code o ≡ Apply op to a y ∷ o
-  link_local s y e = ap (λ s. linked s op to a d code o) (sym e)
-
-  pub link_computed : (s : Seat) → elsewhere ≡ s → linked s op to a d code o ≡ code (Apply op to a (suc d) ∷ o)
-  link_computed s e = ap (λ s. linked s op to a d code o) (sym e)
+assigned_is : (p : Option ℕ) (g : ℕ) (w : Option ℕ) (d : ℕ) (code : ℕ → Before) (o : List Op) → assigned p g w d code o ≡ code (assigned_slot p w d) (assignment p g w d o)
+assigned_is (Some y) g w d code o = refl
+assigned_is None g w d code o = refl
 
 -- ---- forms
 
@@ -64,38 +72,36 @@ module _ (c : Scope) (w : Option ℕ) (d : ℕ) (o : List Op) where
   unfolding value
   index_form n i = seated_is (local c i) d (λ more. value c (Some d) d i more) (λ a. ReadElement (view_kind (named c n)) (into w d) a) o
 
-  pub call_form : (n : List ℕ) (es : Exprs) → value c w d (call n es) o ≡ called_as c (named c n) n es w d o
+  abbrev called_by : Meaning → List ℕ → Exprs → List Op
+  called_by m n es = called c m n (exprs_length es) w d (λ more. arguments c d es more) (λ more. product c (into w d) d es more) (λ more. zeros c (into w d) d es more) o
+
+  called_is : (m : Meaning) (n : List ℕ) (es : Exprs) → called_by m n es ≡ called_as c (callee_of c.home n m) es w d o
+  called_is nothing n es = refl
+  called_is an_int n es = refl
+  called_is an_outside n es = refl
+  called_is (a_foreign p) n es = refl
+  called_is (a_builtin Imul) n es = refl
+  called_is (a_builtin Clz32) n es = refl
+  called_is (a_view v) n es = refl
+  called_is (a_function f) n es = refl
+  called_is (a_table t) n es = refl
+  called_is a_parameter n es = refl
+
+  pub call_form : (n : List ℕ) (es : Exprs) → value c w d (call n es) o ≡ called_as c (callee_of c.home n (named c n)) es w d o
   unfolding value
-  call_form n es = refl
+  call_form n es = called_is (named c n) n es
 
   pub table_call_form : (n : List ℕ) (i : Expr) (es : Exprs) → value c w d (table_call n i es) o ≡ value c (Some d) d i (arguments c (suc d) es (CallEntry (table_number c.home n) d (suc d) ∷ copied w (suc d) o))
   unfolding value
   table_call_form n i es = refl
 
-  pub assign_local : (n : List ℕ) (e : Expr) (y : ℕ) → Some y ≡ local_slot c n → value c w d (assign n e) o ≡ value c (Some y) d e (copied w y o)
+  pub assign_form : (n : List ℕ) (e : Expr) → value c w d (assign n e) o ≡ value c (Some (assigned_slot (local_slot c n) w d)) d e (assignment (local_slot c n) (global_slot c n) w d o)
   unfolding value
-  assign_local n e y h = ap (λ p. assigned p (global_slot c n) w d (λ to more. value c (Some to) d e more) o) (sym h)
+  assign_form n e = assigned_is (local_slot c n) (global_slot c n) w d (λ to more. value c (Some to) d e more) o
 
-  pub assign_global : (n : List ℕ) (e : Expr) → None ≡ local_slot c n → value c w d (assign n e) o ≡ value c (Some (into w d)) d e (WriteGlobal (global_slot c n) (into w d) ∷ o)
+  pub store_form : (n : List ℕ) (i e : Expr) → value c w d (store n i e) o ≡ out_of_place (index_place (seat c e) (local c i)) (λ more. value c (Some d) d i more) (needed (is_far (seat c e)) (λ more. value c (Some (suc d)) (suc d) e more) (written (seat c e) (local c i) (view_kind (named c n)) w d o))
   unfolding value
-  assign_global n e h = ap (λ p. assigned p (global_slot c n) w d (λ to more. value c (Some to) d e more) o) (sym h)
-
-  abbrev store_by : Seat → List ℕ → Expr → Expr → List Op
-  store_by s n i e = stored s (local c i) (view_kind (named c n)) w d (λ more. value c (Some d) d i more) (λ more. value c (Some (suc d)) (suc d) e more) o
-
-  pub store_local : (n : List ℕ) (i e : Expr) (y : ℕ) → a_local y ≡ seat c e → value c w d (store n i e) o ≡ out_of_place (local c i) (λ more. value c (Some d) d i more) (WriteElement (view_kind (named c n)) (into (local c i) d) y ∷ copied w y o)
-  unfolding value
-  store_local n i e y h =
-      ap (λ s. store_by s n i e) (sym h)
-      ∙ seated_is (local c i) d (λ more. value c (Some d) d i more) (λ a. WriteElement (view_kind (named c n)) a y) (copied w y o)
-
-  pub store_number : (n : List ℕ) (i e : Expr) (k : ℕ) → a_number k ≡ seat c e → value c w d (store n i e) o ≡ value c (Some d) d i (value c (Some (suc d)) (suc d) e (WriteElement (view_kind (named c n)) d (suc d) ∷ copied w (suc d) o))
-  unfolding value
-  store_number n i e k h = ap (λ s. store_by s n i e) (sym h)
-
-  pub store_computed : (n : List ℕ) (i e : Expr) → elsewhere ≡ seat c e → value c w d (store n i e) o ≡ value c (Some d) d i (value c (Some (suc d)) (suc d) e (WriteElement (view_kind (named c n)) d (suc d) ∷ copied w (suc d) o))
-  unfolding value
-  store_computed n i e h = ap (λ s. store_by s n i e) (sym h)
+  store_form n i e = stored_is (seat c e) (local c i) (view_kind (named c n)) w d (λ more. value c (Some d) d i more) (λ more. value c (Some (suc d)) (suc d) e more) o
 
   pub unary_form : (op : JsUnary) (e : Expr) → value c w d (unary op e) o ≡ out_of_place (local c e) (λ more. value c (Some d) d e more) (prefixed op (into w d) (into (local c e) d) ∷ o)
   unfolding value

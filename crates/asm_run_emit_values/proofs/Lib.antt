@@ -1,5 +1,3 @@
-pub mod Declarations
-pub mod Found
 pub mod Shapes
 pub mod Signs
 pub mod Reversed

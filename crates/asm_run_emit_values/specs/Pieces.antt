@@ -1,13 +1,18 @@
 -- What the parts of an emitter make.
-use Rattle.std.specs.Prelude.{ℕ, zero, suc, List, ◌∷◌, Option, Some, None}
+use Rattle.std.specs.Prelude.{ℕ, zero, suc, Bool, true, false, ◌∷◌, Option, Some, None}
 use Rattle.heap_lang.specs.declared.kind.ViewKind.{ViewKind}
-use Rattle.asm_lang.specs.Modules.{Expr, Exprs}
-use Rattle.asm_lang_valid.specs.Scope.{Meaning}
+use Rattle.asm_lang.specs.Modules.{Exprs}
 use Rattle.asm_lang_valid.specs.declared.meaning.Builtin.{Builtin}
 use Rattle.asm_lang_valid.specs.declared.meaning.Builtin.TheVariants.{Imul, Clz32}
 use Rattle.asm_lang_valid.specs.Typing.{Scope, exprs_length}
-use Rattle.asm_run_code.specs.declared.op.Op.TheVariants.{WriteElement}
-use Rattle.asm_run_code.specs.Values.{Before, into, copied, called, value, arguments, product, zeros}
+use Rattle.asm_run_code.specs.declared.op.Op.TheVariants.{WriteGlobal, Apply, ApplyNumber, WriteElement, Call, CallImport}
+use Rattle.asm_run_code.specs.declared.op.Op.{Op}
+use Rattle.asm_run_code.specs.declared.op.Operator.{Operator}
+use Rattle.asm_run_code.specs.Names.{Seat, a_number, a_local, elsewhere}
+use Rattle.asm_run_code.specs.Values.{Before, into, copied, arguments, product, zeros}
+use Rattle.asm_run_names.specs.declared.callee.Callee.{Callee}
+use Rattle.asm_run_names.specs.declared.callee.Callee.TheVariants as callees
+use Rattle.asm_run_names.specs.declared.callee.Callee.TheVariants.{Own, Foreign, Nothing}
 
 -- the code of an operand that isn't read where it stands
 abbrev pub out_of_place : Option ℕ → Before → Before
@@ -23,10 +28,62 @@ abbrev pub built_in : Scope → Builtin → (to d : ℕ) → Exprs → Before
 built_in c Imul to d es rest = product c to d es rest
 built_in c Clz32 to d es rest = zeros c to d es rest
 
--- a call of what has this meaning
-abbrev pub called_as : Scope → Meaning → List ℕ → Exprs → (wanted : Option ℕ) → (d : ℕ) → Before
-called_as c m n es wanted d rest = called c m n (exprs_length es) wanted d (λ more. arguments c d es more) (λ more. product c (into wanted d) d es more) (λ more. zeros c (into wanted d) d es more) rest
+-- a call of what a name calls
+abbrev pub called_as : Scope → Callee → Exprs → (wanted : Option ℕ) → (d : ℕ) → Before
+called_as c (Own f) es wanted d rest = arguments c d es (Call f d ∷ copied wanted d rest)
+called_as c (Foreign m) es wanted d rest = arguments c d es (CallImport m (exprs_length es) d ∷ copied wanted d rest)
+called_as c (callees.Builtin b) es wanted d rest = built_in c b (into wanted d) d es rest
+called_as c Nothing es wanted d rest = arguments c d es rest
 
--- a store whose index waits in a slot
-abbrev pub far_store : Scope → ViewKind → (wanted : Option ℕ) → (d : ℕ) → (index value : Expr) → Before
-far_store c kind wanted d i e rest = value c (Some d) d i (value c (Some (suc d)) (suc d) e (WriteElement kind d (suc d) ∷ copied wanted (suc d) rest))
+-- code that is there only where it is needed
+abbrev pub needed : Bool → Before → Before
+needed true code rest = code rest
+needed false code rest = rest
+
+-- ---- the second of two operands
+
+abbrev pub is_elsewhere : Seat → Bool
+is_elsewhere (a_number n) = false
+is_elsewhere (a_local y) = false
+is_elsewhere elsewhere = true
+
+-- an operation whose first operand stands in slot a; the second is read where it stands, or is computed into the slot after d
+abbrev pub applied : Seat → Operator → (to a d : ℕ) → Op
+applied (a_number n) op to a d = ApplyNumber op to a n
+applied (a_local y) op to a d = Apply op to a y
+applied elsewhere op to a d = Apply op to a (suc d)
+
+-- ---- the value of a store
+
+-- the value is computed into the slot after d, unless it is a variable
+abbrev pub is_far : Seat → Bool
+is_far (a_number n) = true
+is_far (a_local y) = false
+is_far elsewhere = true
+
+abbrev pub value_slot : Seat → (d : ℕ) → ℕ
+value_slot (a_number n) d = suc d
+value_slot (a_local y) d = y
+value_slot elsewhere d = suc d
+
+-- where the index stands before the value
+abbrev pub index_place : Seat → Option ℕ → Option ℕ
+index_place (a_number n) place = None
+index_place (a_local y) place = place
+index_place elsewhere place = None
+
+-- the write, and the value in the slot where it is wanted
+abbrev pub written : Seat → Option ℕ → ViewKind → Option ℕ → (d : ℕ) → Before
+written s place kind wanted d rest = WriteElement kind (into (index_place s place) d) (value_slot s d) ∷ copied wanted (value_slot s d) rest
+
+-- ---- an assignment
+
+-- the slot into which the value is put
+abbrev pub assigned_slot : Option ℕ → Option ℕ → (d : ℕ) → ℕ
+assigned_slot (Some y) wanted d = y
+assigned_slot None wanted d = into wanted d
+
+-- what follows the value
+abbrev pub assignment : Option ℕ → (global : ℕ) → Option ℕ → (d : ℕ) → Before
+assignment (Some y) global wanted d rest = copied wanted y rest
+assignment None global wanted d rest = WriteGlobal global (into wanted d) ∷ rest

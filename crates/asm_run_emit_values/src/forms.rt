@@ -21,14 +21,14 @@ pub fn is_unsigned(expr: &Expr) -> bool
             Some(part) => is_unsigned(part),
             None => false,
         },
-        Expr::Decimal(_)
-        | Expr::Var(_)
-        | Expr::Index(_, _)
-        | Expr::Call(_, _)
-        | Expr::TableCall(_, _, _)
-        | Expr::Unary(_, _)
-        | Expr::Chain(_, _)
-        | Expr::Cond(_, _, _) => false,
+        Expr::Decimal(_) => false,
+        Expr::Var(_) => false,
+        Expr::Index(_, _) => false,
+        Expr::Call(_, _) => false,
+        Expr::TableCall(_, _, _) => false,
+        Expr::Unary(_, _) => false,
+        Expr::Chain(_, _) => false,
+        Expr::Cond(_, _, _) => false,
     }
 }
 
@@ -45,17 +45,17 @@ fn is_zero(expr: &Expr) -> bool
 {
     match expr {
         Expr::Lit(value) => *value == 0,
-        Expr::Decimal(_)
-        | Expr::Var(_)
-        | Expr::Index(_, _)
-        | Expr::Call(_, _)
-        | Expr::TableCall(_, _, _)
-        | Expr::Assign(_, _)
-        | Expr::Store(_, _, _)
-        | Expr::Unary(_, _)
-        | Expr::Binary(_, _, _)
-        | Expr::Chain(_, _)
-        | Expr::Cond(_, _, _)
-        | Expr::Comma(_) => false,
+        Expr::Decimal(_) => false,
+        Expr::Var(_) => false,
+        Expr::Index(_, _) => false,
+        Expr::Call(_, _) => false,
+        Expr::TableCall(_, _, _) => false,
+        Expr::Assign(_, _) => false,
+        Expr::Store(_, _, _) => false,
+        Expr::Unary(_, _) => false,
+        Expr::Binary(_, _, _) => false,
+        Expr::Chain(_, _) => false,
+        Expr::Cond(_, _, _) => false,
+        Expr::Comma(_) => false,
     }
 }

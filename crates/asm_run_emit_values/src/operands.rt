@@ -5,14 +5,15 @@ ghost use Rattle.asm2wasm_translation.specs.Values as translation;
 ghost use Rattle.asm_run_code.specs.Names as code;
 ghost use Rattle.asm_run_code.specs.Operators as operators;
 ghost use Rattle.asm_run_code.specs.Values as values;
-ghost use Rattle.asm_run_emit_values.specs.Names.{scope_said};
+ghost use Rattle.asm_run_names.specs.Names.{scope_said};
 ghost use Rattle.asm_run_emit_values.specs.Seats.{seat_view};
+ghost use Rattle.asm_run_emit_values.specs.Pieces as pieces;
 
 use crate::forms::{is_or_zero, is_unsigned};
-use crate::function::FunctionNames;
-use crate::numbers::low_word;
 use crate::output::Output;
+use crate::words::low_word;
 use asm_run_code::{Op, Operator};
+use asm_run_names::{FunctionNames, next};
 use asm_tree::Expr;
 use sem_words::{JsOp, JsUnary};
 use std::alloc::AllocError;
@@ -40,17 +41,17 @@ pub fn local(names: &FunctionNames<'_, '_>, expr: &Expr) -> Result<Option<u32>, 
             }
             local(names, left)
         }
-        Expr::Lit(_)
-        | Expr::Decimal(_)
-        | Expr::Index(_, _)
-        | Expr::Call(_, _)
-        | Expr::TableCall(_, _, _)
-        | Expr::Assign(_, _)
-        | Expr::Store(_, _, _)
-        | Expr::Unary(_, _)
-        | Expr::Chain(_, _)
-        | Expr::Cond(_, _, _)
-        | Expr::Comma(_) => Ok(None),
+        Expr::Lit(_) => Ok(None),
+        Expr::Decimal(_) => Ok(None),
+        Expr::Index(_, _) => Ok(None),
+        Expr::Call(_, _) => Ok(None),
+        Expr::TableCall(_, _, _) => Ok(None),
+        Expr::Assign(_, _) => Ok(None),
+        Expr::Store(_, _, _) => Ok(None),
+        Expr::Unary(_, _) => Ok(None),
+        Expr::Chain(_, _) => Ok(None),
+        Expr::Cond(_, _, _) => Ok(None),
+        Expr::Comma(_) => Ok(None),
     }
 }
 
@@ -84,6 +85,68 @@ fn seat_in(names: &FunctionNames<'_, '_>, expr: &Expr) -> Result<Seat, AllocErro
     match place {
         Some(slot) => Ok(Seat::Local(slot)),
         None => Ok(Seat::Elsewhere),
+    }
+}
+
+/// Whether an operand has to be computed.
+pub fn is_elsewhere(seat: Seat) -> bool
+    ensures { result ≡ pieces.is_elsewhere (seat_view seat) }
+{
+    match seat {
+        Seat::Number(_) => false,
+        Seat::Local(_) => false,
+        Seat::Elsewhere => true,
+    }
+}
+
+/// Whether the value of a store has to be computed: it isn't a variable.
+pub fn is_far(seat: Seat) -> bool
+    ensures { result ≡ pieces.is_far (seat_view seat) }
+{
+    match seat {
+        Seat::Number(_) => true,
+        Seat::Local(_) => false,
+        Seat::Elsewhere => true,
+    }
+}
+
+/// The slot of the value of a store.
+pub fn value_slot(seat: Seat, free: u32) -> Result<u32, AllocError>
+    ensures { IfOk result (λ slot. slot ≡ pieces.value_slot (seat_view seat) free) }
+{
+    match seat {
+        Seat::Number(_) => next(free),
+        Seat::Local(slot) => Ok(slot),
+        Seat::Elsewhere => next(free),
+    }
+}
+
+/// The slot of the first of two operands, where it stays there before the second.
+pub fn place_before(
+    names: &FunctionNames<'_, '_>,
+    first: &Expr,
+    second: Seat,
+) -> Result<Option<u32>, AllocError>
+    ensures { IfOk result (λ slot. slot ≡ values.stays_by (seat_view second) (code.local (scope_said names.now) (expr_view first.now))) }
+{
+    match second {
+        Seat::Elsewhere => Ok(None),
+        Seat::Number(_) => local(names, first),
+        Seat::Local(_) => local(names, first),
+    }
+}
+
+/// The slot of the index of a store, where it stays there before the value.
+pub fn index_place(
+    names: &FunctionNames<'_, '_>,
+    index: &Expr,
+    value: Seat,
+) -> Result<Option<u32>, AllocError>
+    ensures { IfOk result (λ slot. slot ≡ pieces.index_place (seat_view value) (code.local (scope_said names.now) (expr_view index.now))) }
+{
+    match value {
+        Seat::Local(_) => local(names, index),
+        Seat::Elsewhere | Seat::Number(_) => Ok(None),
     }
 }
 

@@ -1,8 +1,8 @@
 //! The code that was made so far.
 ghost use Rattle.std.specs.Prelude.{◌≡◌, [], ◌∷◌, reverse, length, OnOk, IfOk};
 
-use crate::numbers::small;
 use asm_run_code::Op;
+use asm_run_names::small;
 use std::alloc::{AllocError, Global};
 use std::marker::Model;
 

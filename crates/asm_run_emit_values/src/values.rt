@@ -1,30 +1,30 @@
 //! The code of expressions, from its end.
-ghost use Rattle.std.specs.Prelude.{◌≡◌, ◌∷◌, suc, Some, OnOk, IfOk};
+ghost use Rattle.std.specs.Prelude.{◌≡◌, ◌∷◌, suc, length, Some, OnOk, IfOk};
 ghost use Rattle.sem_words.specs.Lists.{text_bytes};
 ghost use Rattle.sem_words.specs.Words.{word_of};
 ghost use Rattle.asm_lang.specs.Modules as form;
 ghost use Rattle.asm_tree.specs.Views.{expr_view, exprs_view, links_view};
-ghost use Rattle.asm_lang_valid.specs.Refusal as refusal;
 ghost use Rattle.asm_lang_valid.specs.Typing.{named, exprs_length};
-ghost use Rattle.asm_lang_exec.specs.Values as exec;
-ghost use Rattle.asm_names.specs.Meanings.{meaning_view};
-ghost use Rattle.asm_names.specs.Members.{IsMember};
-ghost use Rattle.asm_run_code.specs.declared.op.Op.TheVariants.{Number, Call, CallImport};
+ghost use Rattle.asm_run_code.specs.declared.op.Op.TheVariants.{Number, Call, CallEntry, CallImport, Go};
 ghost use Rattle.asm_run_code.specs.Names as code;
 ghost use Rattle.asm_run_code.specs.Operators as operators;
 ghost use Rattle.asm_run_code.specs.Values as values;
 ghost use Rattle.asm_run_code.specs.Values.{value, arguments, product, zeros, sums, last, fetched, combined, linked, tested};
-ghost use Rattle.asm_run_emit_values.specs.Names.{scope_said};
+ghost use Rattle.asm_run_names.specs.Names.{scope_said};
+ghost use Rattle.asm_run_names.specs.Callees.{callee_of};
+ghost use Rattle.asm_run_emit_values.specs.Seats.{seat_view};
 ghost use Rattle.asm_run_emit_values.specs.Pieces as pieces;
 
 use crate::forms::is_or_zero;
-use crate::function::FunctionNames;
-use crate::numbers::{low_word, next, small};
-use crate::operands::{Seat, into, link_operator, local, operator_of, prefixed, put_copy, seat_of};
+use crate::operands::{
+    Seat, index_place, into, is_elsewhere, is_far, link_operator, local, operator_of, place_before,
+    prefixed, put_copy, seat_of, value_slot,
+};
 use crate::output::Output;
-use asm_lang_valid::{Builtin, Element};
-use asm_names::{Meaning, Member};
+use crate::words::low_word;
+use asm_lang_valid::Builtin;
 use asm_run_code::{Op, Operator};
+use asm_run_names::{Callee, FunctionNames, next, small};
 use asm_tree::{Expr, Link};
 use heap_lang::ViewKind;
 use sem_words::{JsOp, JsUnary, Text};
@@ -129,8 +129,7 @@ fn emit_index(
 ) -> Result<(), AllocError>
     ensures { OnOk result (output.new ≡ value (scope_said names.now) wanted free (form.index (text_bytes name.now) (expr_view index.now)) output.old) }
 {
-    let meaning = names.meaning(name);
-    let kind = kind_of(meaning);
+    let kind = names.view_kind(name);
     let place = local(names, index)?;
     let to = into(wanted, free);
     let at = into(place, free);
@@ -142,28 +141,6 @@ fn emit_index(
     emit_operand(names, output, place, free, index)
 }
 
-fn kind_of(meaning: Option<Meaning<'_>>) -> ViewKind
-    ensures { result ≡ code.view_kind (meaning_view meaning.entry) }
-{
-    match meaning {
-        Some(Meaning::View(element)) => view_kind(element),
-        _ => ViewKind::U8,
-    }
-}
-
-fn view_kind(element: Element) -> ViewKind
-    ensures { result ≡ exec.kind_of element }
-{
-    match element {
-        Element::Int8 => ViewKind::I8,
-        Element::Uint8 => ViewKind::U8,
-        Element::Int16 => ViewKind::I16,
-        Element::Uint16 => ViewKind::U16,
-        Element::Int32 => ViewKind::I32,
-        Element::Uint32 => ViewKind::U32,
-    }
-}
-
 #[cycle(values)]
 fn emit_call(
     names: &FunctionNames<'_, '_>,
@@ -173,61 +150,53 @@ fn emit_call(
     name: &Text,
     all: &[Expr],
 ) -> Result<(), AllocError>
-    ensures { OnOk result (output.new ≡ pieces.called_as (scope_said names.now) (named (scope_said names.now) (text_bytes name.now)) (text_bytes name.now) (exprs_view all.now) wanted free output.old) }
+    ensures { OnOk result (output.new ≡ pieces.called_as (scope_said names.now) (callee_of (scope_said names.now).home (text_bytes name.now) (named (scope_said names.now) (text_bytes name.now))) (exprs_view all.now) wanted free output.old) }
 {
-    match names.meaning(name) {
-        Some(Meaning::Function(_)) => emit_own_call(names, output, wanted, free, name, all),
-        Some(Meaning::Foreign(member)) => {
-            emit_foreign_call(names, output, wanted, free, member, all)
+    let callee = names.callee(name)?;
+    match callee {
+        Callee::Own(function) => {
+            put_call(output, wanted, function, free)?;
+            emit_arguments(names, output, free, all)
         }
-        Some(Meaning::Builtin(builtin)) => {
+        Callee::Foreign(member) => {
+            put_foreign_call(output, wanted, member, all, free)?;
+            emit_arguments(names, output, free, all)
+        }
+        Callee::Builtin(builtin) => {
             emit_builtin(names, output, into(wanted, free), free, builtin, all)
         }
-        _ => emit_arguments(names, output, free, all),
+        Callee::Nothing => emit_arguments(names, output, free, all),
     }
 }
 
-#[cycle(values)]
-fn emit_own_call(
-    names: &FunctionNames<'_, '_>,
+fn put_call(
     output: &mut Output,
     wanted: Option<u32>,
-    free: u32,
-    name: &Text,
-    all: &[Expr],
+    function: u32,
+    first: u32,
 ) -> Result<(), AllocError>
-    ensures { OnOk result (output.new ≡ arguments (scope_said names.now) free (exprs_view all.now) (Call (refusal.function_number (scope_said names.now).home.functions (text_bytes name.now)) free ∷ values.copied wanted free output.old)) }
+    ensures { OnOk result (output.new ≡ Call function first ∷ values.copied wanted first output.old) }
 {
-    put_copy(output, wanted, free)?;
-    let function = small(names.module().function_number(name))?;
-    output.put(Op::Call {
-        function,
-        first: free,
-    })?;
-    emit_arguments(names, output, free, all)
+    put_copy(output, wanted, first)?;
+    output.put(Op::Call { function, first })
 }
 
-#[cycle(values)]
-fn emit_foreign_call(
-    names: &FunctionNames<'_, '_>,
+fn put_foreign_call(
     output: &mut Output,
     wanted: Option<u32>,
-    free: u32,
-    member: Member<'_>,
+    member: u32,
     all: &[Expr],
+    first: u32,
 ) -> Result<(), AllocError>
-    requires first { IsMember (scope_said names.now).home (text_bytes member.name.now) member.declaration }
-    ensures { OnOk result (output.new ≡ arguments (scope_said names.now) free (exprs_view all.now) (CallImport (code.member_number (scope_said names.now).home.globals (text_bytes member.entry.name.now)) (exprs_length (exprs_view all.now)) free ∷ values.copied wanted free output.old)) }
+    ensures { OnOk result (output.new ≡ CallImport member (exprs_length (exprs_view all.now)) first ∷ values.copied wanted first output.old) }
 {
-    put_copy(output, wanted, free)?;
-    let number = small(member.declaration)?;
+    put_copy(output, wanted, first)?;
     let count = small(all.len())?;
     output.put(Op::CallImport {
-        member: number,
+        member,
         count,
-        first: free,
-    })?;
-    emit_arguments(names, output, free, all)
+        first,
+    })
 }
 
 #[cycle(values)]
@@ -316,6 +285,22 @@ fn emit_table_call(
 ) -> Result<(), AllocError>
     ensures { OnOk result (output.new ≡ value (scope_said names.now) wanted free (form.table_call (text_bytes name.now) (expr_view index.now) (exprs_view all.now)) output.old) }
 {
+    let first = put_entry_call(names, output, wanted, free, name)?;
+    emit_arguments(names, output, first, all)?;
+    emit_value(names, output, Some(free), free, index)
+}
+
+// The call of an entry whose number waits in the first free slot, and the slot of its first argument.
+fn put_entry_call(
+    names: &FunctionNames<'_, '_>,
+    output: &mut Output,
+    wanted: Option<u32>,
+    free: u32,
+    name: &Text,
+) -> Result<u32, AllocError>
+    ensures first { IfOk result (λ first. first ≡ suc free) }
+    ensures put { OnOk result (output.new ≡ CallEntry (code.table_number (scope_said names.now).home (text_bytes name.now)) free (suc free) ∷ values.copied wanted (suc free) output.old) }
+{
     let first = next(free)?;
     let table = small(names.module().table(name))?;
     put_copy(output, wanted, first)?;
@@ -324,8 +309,7 @@ fn emit_table_call(
         index: free,
         first,
     })?;
-    emit_arguments(names, output, first, all)?;
-    emit_value(names, output, Some(free), free, index)
+    Ok(first)
 }
 
 #[cycle(values)]
@@ -339,17 +323,32 @@ fn emit_assign(
 ) -> Result<(), AllocError>
     ensures { OnOk result (output.new ≡ values.value (scope_said names.now) wanted free (form.assign (text_bytes name.now) (expr_view value.now)) output.old) }
 {
+    let to = put_assign(names, output, wanted, free, name)?;
+    emit_value(names, output, Some(to), free, value)
+}
+
+// What follows the value that a variable gets, and the slot of that value.
+fn put_assign(
+    names: &FunctionNames<'_, '_>,
+    output: &mut Output,
+    wanted: Option<u32>,
+    free: u32,
+    name: &Text,
+) -> Result<u32, AllocError>
+    ensures to { IfOk result (λ to. to ≡ pieces.assigned_slot (code.local_slot (scope_said names.now) (text_bytes name.now)) wanted free) }
+    ensures put { OnOk result (output.new ≡ pieces.assignment (code.local_slot (scope_said names.now) (text_bytes name.now)) (code.global_slot (scope_said names.now) (text_bytes name.now)) wanted free output.old) }
+{
     let slot = names.slot(name)?;
     match slot {
         Some(to) => {
             put_copy(output, wanted, to)?;
-            emit_value(names, output, Some(to), free, value)
+            Ok(to)
         }
         None => {
             let global = names.global(name)?;
             let from = into(wanted, free);
             output.put(Op::WriteGlobal { global, from })?;
-            emit_value(names, output, Some(from), free, value)
+            Ok(from)
         }
     }
 }
@@ -366,48 +365,36 @@ fn emit_store(
 ) -> Result<(), AllocError>
     ensures { OnOk result (output.new ≡ values.value (scope_said names.now) wanted free (form.store (text_bytes name.now) (expr_view index.now) (expr_view value.now)) output.old) }
 {
-    let meaning = names.meaning(name);
-    let kind = kind_of(meaning);
     let seat = seat_of(names, value)?;
-    match seat {
-        Seat::Local(from) => {
-            let place = local(names, index)?;
-            put_copy(output, wanted, from)?;
-            let at = into(place, free);
-            output.put(Op::WriteElement {
-                kind,
-                index: at,
-                from,
-            })?;
-            emit_operand(names, output, place, free, index)
-        }
-        Seat::Number(_) => emit_far_store(names, output, wanted, free, kind, index, value),
-        Seat::Elsewhere => emit_far_store(names, output, wanted, free, kind, index, value),
-    }
+    let place = put_store(names, output, wanted, free, name, index, seat)?;
+    emit_next(names, output, is_far(seat), free, value)?;
+    emit_operand(names, output, place, free, index)
 }
 
-// The index waits in a slot while the value is computed.
-#[cycle(values)]
-fn emit_far_store(
+// The write of a value that stands there, and where the index stands.
+fn put_store(
     names: &FunctionNames<'_, '_>,
     output: &mut Output,
     wanted: Option<u32>,
     free: u32,
-    kind: ViewKind,
+    name: &Text,
     index: &Expr,
-    value: &Expr,
-) -> Result<(), AllocError>
-    ensures { OnOk result (output.new ≡ pieces.far_store (scope_said names.now) kind wanted free (expr_view index.now) (expr_view value.now) output.old) }
+    seat: Seat,
+) -> Result<Option<u32>, AllocError>
+    ensures place { IfOk result (λ place. place ≡ pieces.index_place (seat_view seat) (code.local (scope_said names.now) (expr_view index.now))) }
+    ensures put { OnOk result (output.new ≡ pieces.written (seat_view seat) (code.local (scope_said names.now) (expr_view index.now)) (code.view_kind (named (scope_said names.now) (text_bytes name.now))) wanted free output.old) }
 {
-    let from = next(free)?;
+    let kind = names.view_kind(name);
+    let place = index_place(names, index, seat)?;
+    let from = value_slot(seat, free)?;
     put_copy(output, wanted, from)?;
+    let at = into(place, free);
     output.put(Op::WriteElement {
         kind,
-        index: free,
+        index: at,
         from,
     })?;
-    emit_value(names, output, Some(from), from, value)?;
-    emit_value(names, output, Some(free), free, index)
+    Ok(place)
 }
 
 #[cycle(values)]
@@ -463,41 +450,65 @@ fn emit_combined(
     ensures { OnOk result (output.new ≡ combined (code.seat (scope_said names.now) (expr_view right.now)) (code.local (scope_said names.now) (expr_view left.now)) operator to free (λ more. value (scope_said names.now) (Some free) free (expr_view left.now) more) (λ more. value (scope_said names.now) (Some (suc free)) (suc free) (expr_view right.now) more) output.old) }
 {
     let seat = seat_of(names, right)?;
+    let place = place_before(names, left, seat)?;
+    let at = into(place, free);
+    put_applied(output, operator, to, at, free, seat)?;
+    emit_next(names, output, is_elsewhere(seat), free, right)?;
+    emit_operand(names, output, place, free, left)
+}
+
+// The operation on two operands, of which the first stands in the slot `left`.
+fn put_applied(
+    output: &mut Output,
+    operator: Operator,
+    to: u32,
+    left: u32,
+    free: u32,
+    seat: Seat,
+) -> Result<(), AllocError>
+    ensures { OnOk result (output.new ≡ pieces.applied (seat_view seat) operator to left free ∷ output.old) }
+{
     match seat {
-        Seat::Number(word) => {
-            let place = local(names, left)?;
-            let at = into(place, free);
-            output.put(Op::ApplyNumber {
-                operator,
-                to,
-                left: at,
-                word,
-            })?;
-            emit_operand(names, output, place, free, left)
-        }
-        Seat::Local(slot) => {
-            let place = local(names, left)?;
-            let at = into(place, free);
-            output.put(Op::Apply {
-                operator,
-                to,
-                left: at,
-                right: slot,
-            })?;
-            emit_operand(names, output, place, free, left)
-        }
+        Seat::Number(word) => output.put(Op::ApplyNumber {
+            operator,
+            to,
+            left,
+            word,
+        }),
+        Seat::Local(right) => output.put(Op::Apply {
+            operator,
+            to,
+            left,
+            right,
+        }),
         Seat::Elsewhere => {
-            let second = next(free)?;
+            let right = next(free)?;
             output.put(Op::Apply {
                 operator,
                 to,
-                left: free,
-                right: second,
-            })?;
-            emit_value(names, output, Some(second), second, right)?;
-            emit_value(names, output, Some(free), free, left)
+                left,
+                right,
+            })
         }
     }
+}
+
+// The code of an operand in the slot after the first free one, where that is needed.
+#[cycle(values)]
+fn emit_next(
+    names: &FunctionNames<'_, '_>,
+    output: &mut Output,
+    is_needed: bool,
+    free: u32,
+    operand: &Expr,
+) -> Result<(), AllocError>
+    ensures { OnOk result (output.new ≡ pieces.needed is_needed (λ more. value (scope_said names.now) (Some (suc free)) (suc free) (expr_view operand.now) more) output.old) }
+{
+    if !is_needed {
+        return Ok(());
+    }
+    let slot = next(free)?;
+    emit_value(names, output, Some(slot), slot, operand)
 }
 
 #[cycle(values)]
@@ -545,11 +556,7 @@ fn stays_before(
     ensures { IfOk result (λ slot. slot ≡ values.stays_by (code.seat (scope_said names.now) (expr_view second.now)) (code.local (scope_said names.now) (expr_view first.now))) }
 {
     let seat = seat_of(names, second)?;
-    match seat {
-        Seat::Elsewhere => Ok(None),
-        Seat::Number(_) => local(names, first),
-        Seat::Local(_) => local(names, first),
-    }
+    place_before(names, first, seat)
 }
 
 // Where the sum goes that stands before these further operands.
@@ -604,30 +611,8 @@ fn emit_link(
 {
     let operator = link_operator(link.minus);
     let seat = seat_of(names, &link.operand)?;
-    match seat {
-        Seat::Number(word) => output.put(Op::ApplyNumber {
-            operator,
-            to,
-            left,
-            word,
-        }),
-        Seat::Local(right) => output.put(Op::Apply {
-            operator,
-            to,
-            left,
-            right,
-        }),
-        Seat::Elsewhere => {
-            let second = next(free)?;
-            output.put(Op::Apply {
-                operator,
-                to,
-                left,
-                right: second,
-            })?;
-            emit_value(names, output, Some(second), second, &link.operand)
-        }
-    }
+    put_applied(output, operator, to, left, free, seat)?;
+    emit_next(names, output, is_elsewhere(seat), free, &link.operand)
 }
 
 #[cycle(values)]
@@ -644,10 +629,19 @@ fn emit_cond(
 {
     let past = output.address()?;
     emit_value(names, output, wanted, free, no)?;
-    let at = output.address()?;
-    output.put(Op::Go { at: past })?;
+    let at = put_go(output, past)?;
     emit_value(names, output, wanted, free, yes)?;
     emit_test(names, output, free, condition, at)
+}
+
+// The end of the first arm of a choice, and the address of the second.
+fn put_go(output: &mut Output, past: u32) -> Result<u32, AllocError>
+    ensures at { IfOk result (λ at. at ≡ length output.old) }
+    ensures put { OnOk result (output.new ≡ Go past ∷ output.old) }
+{
+    let at = output.address()?;
+    output.put(Op::Go { at: past })?;
+    Ok(at)
 }
 
 /// A condition: the code that is there goes on where it holds, and that at an address where it doesn't.

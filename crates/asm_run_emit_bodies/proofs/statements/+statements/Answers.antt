@@ -9,13 +9,13 @@ use Rattle.sem_words.specs.Lists.{list_items}
 use Rattle.asm_tree.specs.Views.{texts_view, text_option, expr_view, expr_option, stmt_view, stmts_view, clauses_view}
 use Rattle.asm_run_emit_bodies.proofs.Shapes.{block_is, plain_is, return_is, if_only_is, if_else_is, while_is, do_is, for_is, labelled_is, switch_is, empty_is, break_is, continue_is}
 use Rattle.asm_run_code.specs.declared.op.Op.TheVariants.{Go}
-use Rattle.asm_run_code.specs.Bodies.{a_loop, a_switch, a_named, stmt}
-use Rattle.asm_run_emit_values.specs.Names.{scope_said}
+use Rattle.asm_run_code.specs.Bodies.{a_loop, a_switch, a_named, stmt, clauses_code}
+use Rattle.asm_run_names.specs.Names.{scope_said}
 use Rattle.asm_run_emit_values.proofs.Codes.{told}
 use Rattle.asm_run_emit_bodies.specs.Jumps.{around_view}
 use Rattle.asm_run_emit_bodies.proofs.Inside.{held, meets_entered, meets_same}
 use Rattle.asm_run_emit_bodies.proofs.Forms.{block_form, plain_form, empty_form, break_form, continue_form, return_bare, if_only_bare, if_else_bare, labelled_bare, switch_bare}
-use Rattle.asm_run_emit_bodies.proofs.Made.{as_form, if_made, if_else_made, while_made, do_made, for_made, labelled_made, switch_made}
+use Rattle.asm_run_emit_bodies.proofs.Made.{as_form, if_made, if_else_made, turns_made, while_made, do_made, for_made, labelled_made, switch_made}
 use Rattle.asm_run_emit_bodies.proofs.Turns.{stmts_begin, stmts_turn, stmts_end, code_begin, starts_begin, code_turn, starts_turn, code_end, starts_end, stmt_within, clause_within}
 use Rattle.asm_run_emit_bodies.proofs.statements.+statements.Goals as goal
 
@@ -84,33 +84,68 @@ emit_inside-returns-clause-kept t c = c.leave.ensures c.args.jumps.now (c.in_ok-
 
 pub emit_if-returns-clause-code : goal.emit_if-returns-clause-code
 emit_if-returns-clause-code t c = λ os m.
-    if_made c.emit_test.result c.emit_test.new.output (scope_said c.args.names.now) os [] c.args.free c.args.output.now (expr_view c.args.condition.now) (stmt_view c.args.yes.now) c.in_ok-past.past c.emit_stmt.new.output c.in_ok-past.ensures (c.in_ok-emit_stmt.ensures.code os m) c.emit_test.ensures
+    if_made c.emit_test.result c.emit_test.new.output (scope_said c.args.names.now) os [] c.args.free c.args.output.now (expr_view c.args.condition.now) (stmt_view c.args.yes.now) c.in_ok-past.past c.emit_bare.new.output c.in_ok-past.ensures (c.in_ok-emit_bare.ensures.code os m) c.emit_test.ensures
 
 pub emit_if_else-returns-clause-code : goal.emit_if_else-returns-clause-code
 emit_if_else-returns-clause-code t c = λ os m.
-    if_else_made c.emit_test.result c.emit_test.new.output (scope_said c.args.names.now) os [] c.args.free c.args.output.now (expr_view c.args.condition.now) (stmt_view c.args.yes.now) (stmt_view c.args.no.now) c.in_ok-past.past c.in_ok-at.at c.emit_stmt.new.output c.put.new.self c.emit_stmt-2.new.output c.in_ok-past.ensures (c.in_ok-emit_stmt.ensures.code os m) c.in_ok-at.ensures c.in_ok-put.ensures (c.in_ok-emit_stmt-2.ensures.code os (meets_same os _ _ c.in_ok-emit_stmt.ensures.kept m)) c.emit_test.ensures
+    if_else_made c.emit_test.result c.emit_test.new.output (scope_said c.args.names.now) os [] c.args.free c.args.output.now (expr_view c.args.condition.now) (stmt_view c.args.yes.now) (stmt_view c.args.no.now) c.in_ok-past.past c.in_ok-at.at c.emit_bare.new.output c.put_past.new.output c.emit_bare-2.new.output c.in_ok-past.ensures (c.in_ok-emit_bare.ensures.code os m) c.in_ok-at.ensures.at c.in_ok-at.ensures.put (c.in_ok-emit_bare-2.ensures.code os (meets_same os _ _ c.in_ok-emit_bare.ensures.kept m)) c.emit_test.ensures
 
 pub emit_while-returns-clause-code : goal.emit_while-returns-clause-code
 emit_while-returns-clause-code t c = λ os m.
-    while_made c.put-2.result c.put-2.new.self (scope_said c.args.names.now) os (texts_view c.args.own.now) c.args.free c.args.output.now (expr_view c.args.condition.now) (stmt_view c.args.body.now) c.in_ok-past.past c.in_ok-inner.inner c.in_ok-turn.turn (a_loop (texts_view c.args.own.now) c.in_ok-turn.turn c.in_ok-past.past ∷ os) c.put.new.self c.emit_inside.new.output c.emit_test.new.output c.in_ok-past.ensures c.in_ok-inner.ensures c.in_ok-put.ensures c.in_ok-turn.ensures refl (c.in_ok-emit_inside.ensures.code os m) c.in_ok-emit_test.ensures c.put-2.ensures
+    while_made c.end_while.result c.end_while.new.output (scope_said c.args.names.now) os (texts_view c.args.own.now) c.args.free c.args.output.now (expr_view c.args.condition.now) (stmt_view c.args.body.now) c.in_ok-past.past c.put_again.new.output c.emit_turns.new.output c.in_ok-past.ensures.past c.in_ok-past.ensures.put (c.in_ok-emit_turns.ensures.code os m) c.end_while.ensures
 
 pub emit_do-returns-clause-code : goal.emit_do-returns-clause-code
 emit_do-returns-clause-code t c = λ os m.
-    do_made c.put-2.result c.put-2.new.self (scope_said c.args.names.now) os (texts_view c.args.own.now) c.args.free c.args.output.now (stmt_view c.args.body.now) (expr_view c.args.condition.now) c.in_ok-past.past c.in_ok-inner.inner c.in_ok-turn.turn (a_loop (texts_view c.args.own.now) c.in_ok-turn.turn c.in_ok-past.past ∷ os) c.put.new.self c.emit_test.new.output c.emit_inside.new.output c.in_ok-past.ensures c.in_ok-inner.ensures c.in_ok-put.ensures c.in_ok-emit_test.ensures c.in_ok-turn.ensures refl (c.in_ok-emit_inside.ensures.code os m) c.put-2.ensures
+    do_made c.put.result c.put.new.self (scope_said c.args.names.now) os (texts_view c.args.own.now) c.args.free c.args.output.now (stmt_view c.args.body.now) (expr_view c.args.condition.now) c.in_ok-past.past c.start_do.new.output c.emit_turns.new.output c.in_ok-past.ensures.past c.in_ok-past.ensures.put (c.in_ok-emit_turns.ensures.code os m) c.put.ensures
 
 pub emit_for-returns-clause-code : goal.emit_for-returns-clause-code
 emit_for-returns-clause-code t c = λ os m.
-    for_made c.emit_part-2.result c.emit_part-2.new.output (scope_said c.args.names.now) os (texts_view c.args.own.now) c.args.free c.args.output.now (expr_option c.args.head.now.start) (expr_option c.args.head.now.condition) (expr_option c.args.head.now.step) (stmt_view c.args.body.now) c.in_ok-past.past c.in_ok-inner.inner c.in_ok-turn.turn (a_loop (texts_view c.args.own.now) c.in_ok-turn.turn c.in_ok-past.past ∷ os) c.put.new.self c.emit_part.new.output c.emit_inside.new.output c.emit_condition.new.output c.put-2.new.self c.in_ok-past.ensures c.in_ok-inner.ensures c.in_ok-put.ensures c.in_ok-emit_part.ensures c.in_ok-turn.ensures refl (c.in_ok-emit_inside.ensures.code os m) c.in_ok-emit_condition.ensures c.in_ok-put-2.ensures c.emit_part-2.ensures
+    for_made c.end_for.result c.end_for.new.output (scope_said c.args.names.now) os (texts_view c.args.own.now) c.args.free c.args.output.now (expr_option c.args.head.now.start) (expr_option c.args.head.now.condition) (expr_option c.args.head.now.step) (stmt_view c.args.body.now) c.in_ok-past.past c.start_for.new.output c.emit_turns.new.output c.in_ok-past.ensures.past c.in_ok-past.ensures.put (c.in_ok-emit_turns.ensures.code os m) c.end_for.ensures
+
+pub emit_turns-returns-clause-code : goal.emit_turns-returns-clause-code
+emit_turns-returns-clause-code t c = λ os m.
+    turns_made c.emit_bare.result c.emit_bare.new.output (scope_said c.args.names.now) os (texts_view c.args.own.now) c.args.free c.args.output.now (stmt_view c.args.body.now) c.args.past c.in_ok-inner.inner c.in_ok-turn.turn c.emit_bare.new.output c.in_ok-inner.ensures c.in_ok-turn.ensures
+    (c.in_ok-emit_bare.ensures.code (a_loop (texts_view c.args.own.now) c.in_ok-turn.turn c.args.past ∷ os) (meets_entered (a_loop (texts_view c.args.own.now) c.in_ok-turn.turn c.args.past) os _ _ c.in_ok-enter.ensures m))
+
+pub emit_turns-returns-clause-kept : goal.emit_turns-returns-clause-kept
+emit_turns-returns-clause-kept t c = c.leave.ensures c.args.jumps.now (c.in_ok-emit_bare.ensures.kept ∙ c.in_ok-enter.ensures)
 
 pub emit_switch-returns-clause-code : goal.emit_switch-returns-clause-code
 emit_switch-returns-clause-code t c = λ os m.
-    switch_made c.emit_operand.result c.emit_operand.new.output (scope_said c.args.names.now) os [] c.args.free c.args.output.now (expr_view c.args.subject.now) (clauses_view c.args.clauses.now) c.in_ok-past.past (a_switch c.in_ok-past.past ∷ os) c.in_ok-starts.starts c.in_ok-place.place c.into-slot.result c.emit_clauses.new.output c.dispatch.new.output c.in_ok-past.ensures refl (c.in_ok-starts.ensures.code (a_switch c.in_ok-past.past ∷ os) (meets_entered (a_switch c.in_ok-past.past) os _ _ c.in_ok-enter.ensures m)) (c.in_ok-starts.ensures.starts (a_switch c.in_ok-past.past ∷ os) (meets_entered (a_switch c.in_ok-past.past) os _ _ c.in_ok-enter.ensures m)) c.in_ok-place.ensures c.into-slot.ensures c.in_ok-dispatch.ensures c.emit_operand.ensures
+    switch_made c.emit_choice.result c.emit_choice.new.output (scope_said c.args.names.now) os [] c.args.free c.args.output.now (expr_view c.args.subject.now) (clauses_view c.args.clauses.now) c.emit_cases.new.starts c.emit_cases.new.output (c.in_ok-emit_cases.ensures.code os m) (c.in_ok-emit_cases.ensures.starts os m) c.emit_choice.ensures
 
 pub emit_switch-returns-clause-kept : goal.emit_switch-returns-clause-kept
-emit_switch-returns-clause-kept t c = held c.emit_operand.result _ _ (c.leave.ensures c.args.jumps.now (c.in_ok-starts.ensures.kept ∙ c.in_ok-enter.ensures))
+emit_switch-returns-clause-kept t c = held c.emit_choice.result _ _ c.in_ok-emit_cases.ensures.kept
 
-pub emit_switch-dispatch-requires : goal.emit_switch-dispatch-requires
-emit_switch-dispatch-requires t c = c.in_ok-starts.ensures.count
+pub emit_switch-emit_choice-requires : goal.emit_switch-emit_choice-requires
+emit_switch-emit_choice-requires t c = c.in_ok-emit_cases.ensures.count
+
+pub emit_cases-returns-clause-code : goal.emit_cases-returns-clause-code
+emit_cases-returns-clause-code t c = λ os m.
+    c.in_ok-emit_clauses.ensures.code (a_switch c.in_ok-past.past ∷ os) (meets_entered (a_switch c.in_ok-past.past) os _ _ c.in_ok-enter.ensures m)
+    ∙ ap (λ p. (clauses_code (scope_said c.args.names.now) (a_switch p ∷ os) c.args.free (clauses_view c.args.clauses.now) c.args.output.now).code) c.in_ok-past.ensures
+
+pub emit_cases-returns-clause-starts : goal.emit_cases-returns-clause-starts
+emit_cases-returns-clause-starts t c = λ os m.
+    c.in_ok-emit_clauses.ensures.starts (a_switch c.in_ok-past.past ∷ os) (meets_entered (a_switch c.in_ok-past.past) os _ _ c.in_ok-enter.ensures m)
+    ∙ ap (λ p. (clauses_code (scope_said c.args.names.now) (a_switch p ∷ os) c.args.free (clauses_view c.args.clauses.now) c.args.output.now).starts) c.in_ok-past.ensures
+
+pub emit_cases-returns-clause-kept : goal.emit_cases-returns-clause-kept
+emit_cases-returns-clause-kept t c = c.leave.ensures c.args.jumps.now (c.in_ok-emit_clauses.ensures.kept ∙ c.in_ok-enter.ensures)
+
+pub emit_clauses-loop-i-init : goal.emit_clauses-loop-i-init
+emit_clauses-loop-i-init t c =
+    let one = ap length c.requires in
+    record {
+      within = omega arith;
+      made = λ os m. code_begin (scope_said c.args.names.now) os c.args.free c.args.output.now c.args.clauses.now;
+      placed = λ os m. starts_begin (scope_said c.args.names.now) os c.args.free c.args.output.now c.args.clauses.now c.args.starts.now c.requires;
+      count = omega arith;
+      kept = refl;
+    }
+
+pub emit_clauses-returns-clause-starts : goal.emit_clauses-returns-clause-starts
+emit_clauses-returns-clause-starts t c = λ os m. starts_end (scope_said c.args.names.now) os c.args.free c.args.output.now c.args.clauses.now c.loop-i.starts c.loop-i.i (omega arith) (c.loop-i.invariant.placed os m)
 
 pub emit_stmts-loop-i-init : goal.emit_stmts-loop-i-init
 emit_stmts-loop-i-init t c = record { within = omega arith; made = λ os m. stmts_begin (scope_said c.args.names.now) os c.args.free c.args.output.now c.args.body.now; kept = refl }
@@ -118,41 +153,26 @@ emit_stmts-loop-i-init t c = record { within = omega arith; made = λ os m. stmt
 pub emit_stmts-loop-i-preserved : goal.emit_stmts-loop-i-preserved
 emit_stmts-loop-i-preserved t c = record {
   within = omega arith;
-  made = λ os m. stmts_turn (scope_said c.args.names.now) os c.args.free c.args.output.now c.args.body.now c.loop-i.output c.emit_stmt.new.output (c.loop-i.i - 1) c.loop-i.i c.index-body-i.result (omega arith) (omega arith) c.index-body-i.is (c.loop-i.invariant.made os m) (c.in_ok-emit_stmt.ensures.code os (meets_same os _ _ c.loop-i.invariant.kept m));
-  kept = c.in_ok-emit_stmt.ensures.kept ∙ c.loop-i.invariant.kept;
+  made = λ os m. stmts_turn (scope_said c.args.names.now) os c.args.free c.args.output.now c.args.body.now c.loop-i.output c.emit_bare.new.output (c.loop-i.i - 1) c.loop-i.i c.index-body-i.result (omega arith) (omega arith) c.index-body-i.is (c.loop-i.invariant.made os m) (c.in_ok-emit_bare.ensures.code os (meets_same os _ _ c.loop-i.invariant.kept m));
+  kept = c.in_ok-emit_bare.ensures.kept ∙ c.loop-i.invariant.kept;
 }
 
 pub emit_stmts-returns-clause-code : goal.emit_stmts-returns-clause-code
 emit_stmts-returns-clause-code t c = λ os m. stmts_end (scope_said c.args.names.now) os c.args.free c.args.output.now c.args.body.now c.loop-i.output c.loop-i.i (omega arith) (c.loop-i.invariant.made os m)
 
-pub emit_clauses-loop-i-init : goal.emit_clauses-loop-i-init
-emit_clauses-loop-i-init t c =
-    let put = ap length c.in_ok-put.ensures in
-    let none = ap length c.new-starts.ensures in
-    record {
-      within = omega arith;
-      made = λ os m. code_begin (scope_said c.args.names.now) os c.args.free c.args.output.now c.args.clauses.now;
-      placed = λ os m. starts_begin (scope_said c.args.names.now) os c.args.free c.args.output.now c.args.clauses.now c.in_ok-past.past c.new-starts.result c.put.new.self c.in_ok-past.ensures c.new-starts.ensures c.in_ok-put.ensures;
-      count = omega arith;
-      kept = refl;
-    }
-
 pub emit_clauses-loop-i-preserved : goal.emit_clauses-loop-i-preserved
 emit_clauses-loop-i-preserved t c =
-    let put = ap length c.in_ok-put-2.ensures in
+    let put = ap length c.in_ok-put.ensures in
     record {
       within = omega arith;
       made = λ os m. code_turn (scope_said c.args.names.now) os c.args.free c.args.output.now c.args.clauses.now (c.loop-i.i - 1) c.loop-i.i c.index-clauses-i.result (omega arith) (omega arith) c.index-clauses-i.is c.as_slice.result.now c.loop-i.output c.emit_stmts.new.output (c.as_slice.ensures ∙ ap (λ (k : Clause). list_items k.body) (sym c.index-clauses-i.is)) (c.loop-i.invariant.made os m) (c.in_ok-emit_stmts.ensures.code os (meets_same os _ _ c.loop-i.invariant.kept m));
-      placed = λ os m. starts_turn (scope_said c.args.names.now) os c.args.free c.args.output.now c.args.clauses.now (c.loop-i.i - 1) c.loop-i.i c.index-clauses-i.result (omega arith) (omega arith) c.index-clauses-i.is c.as_slice.result.now c.loop-i.output c.emit_stmts.new.output c.in_ok-at.at c.loop-i.starts c.put-in-loop-i.new.self (c.as_slice.ensures ∙ ap (λ (k : Clause). list_items k.body) (sym c.index-clauses-i.is)) (c.loop-i.invariant.made os m) (c.in_ok-emit_stmts.ensures.code os (meets_same os _ _ c.loop-i.invariant.kept m)) c.in_ok-at.ensures (c.loop-i.invariant.placed os m) c.in_ok-put-2.ensures;
+      placed = λ os m. starts_turn (scope_said c.args.names.now) os c.args.free c.args.output.now c.args.clauses.now (c.loop-i.i - 1) c.loop-i.i c.index-clauses-i.result (omega arith) (omega arith) c.index-clauses-i.is c.as_slice.result.now c.loop-i.output c.emit_stmts.new.output c.in_ok-at.at c.loop-i.starts c.put.new.self (c.as_slice.ensures ∙ ap (λ (k : Clause). list_items k.body) (sym c.index-clauses-i.is)) (c.loop-i.invariant.made os m) (c.in_ok-emit_stmts.ensures.code os (meets_same os _ _ c.loop-i.invariant.kept m)) c.in_ok-at.ensures (c.loop-i.invariant.placed os m) c.in_ok-put.ensures;
       count = omega arith;
       kept = c.in_ok-emit_stmts.ensures.kept ∙ c.loop-i.invariant.kept;
     }
 
 pub emit_clauses-returns-clause-code : goal.emit_clauses-returns-clause-code
 emit_clauses-returns-clause-code t c = λ os m. code_end (scope_said c.args.names.now) os c.args.free c.args.output.now c.args.clauses.now c.loop-i.output c.loop-i.i (omega arith) (c.loop-i.invariant.made os m)
-
-pub emit_clauses-returns-clause-starts : goal.emit_clauses-returns-clause-starts
-emit_clauses-returns-clause-starts t c = λ os m. starts_end (scope_said c.args.names.now) os c.args.free c.args.output.now c.args.clauses.now c.loop-i.starts c.loop-i.i (omega arith) (c.loop-i.invariant.placed os m)
 
 pub emit_clauses-returns-clause-count : goal.emit_clauses-returns-clause-count
 emit_clauses-returns-clause-count t c =
@@ -207,35 +227,55 @@ emit_stmt-emit_switch-requires t c =
     let k = ap stmt_count (switch_is c.args.statement.now c.in-Switch.subject _ c.as_slice-in-Switch.result.now c.in-Switch.is c.as_slice-in-Switch.ensures) in
     (omega arith, tt)
 
-pub emit_if-emit_stmt-requires : goal.emit_if-emit_stmt-requires
-emit_if-emit_stmt-requires t c =
+pub emit_if-emit_bare-requires : goal.emit_if-emit_bare-requires
+emit_if-emit_bare-requires t c =
     let d0 = c.decreases in
     (omega arith, tt)
 
-pub emit_if_else-emit_stmt-requires : goal.emit_if_else-emit_stmt-requires
-emit_if_else-emit_stmt-requires t c =
+pub emit_if_else-emit_bare-requires : goal.emit_if_else-emit_bare-requires
+emit_if_else-emit_bare-requires t c =
     let d0 = c.decreases in
     (omega arith, tt)
 
-pub emit_if_else-emit_stmt-requires-2 : goal.emit_if_else-emit_stmt-requires-2
-emit_if_else-emit_stmt-requires-2 t c =
+pub emit_if_else-emit_bare-requires-2 : goal.emit_if_else-emit_bare-requires-2
+emit_if_else-emit_bare-requires-2 t c =
     let d0 = c.decreases in
     (omega arith, tt)
 
-pub emit_while-emit_inside-requires : goal.emit_while-emit_inside-requires
-emit_while-emit_inside-requires t c =
+pub emit_while-emit_turns-requires : goal.emit_while-emit_turns-requires
+emit_while-emit_turns-requires t c =
     let d0 = c.decreases in
     (omega arith, tt)
 
-pub emit_do-emit_inside-requires : goal.emit_do-emit_inside-requires
-emit_do-emit_inside-requires t c =
+pub emit_do-emit_turns-requires : goal.emit_do-emit_turns-requires
+emit_do-emit_turns-requires t c =
     let d0 = c.decreases in
     (omega arith, tt)
 
-pub emit_for-emit_inside-requires : goal.emit_for-emit_inside-requires
-emit_for-emit_inside-requires t c =
+pub emit_for-emit_turns-requires : goal.emit_for-emit_turns-requires
+emit_for-emit_turns-requires t c =
     let d0 = c.decreases in
     (omega arith, tt)
+
+pub emit_turns-emit_bare-requires : goal.emit_turns-emit_bare-requires
+emit_turns-emit_bare-requires t c =
+    let d0 = c.decreases in
+    (omega arith, tt)
+
+pub emit_bare-emit_stmt-requires : goal.emit_bare-emit_stmt-requires
+emit_bare-emit_stmt-requires t c =
+    let d0 = c.decreases in
+    (omega arith, tt)
+
+pub emit_switch-emit_cases-requires : goal.emit_switch-emit_cases-requires
+emit_switch-emit_cases-requires t c =
+    let d0 = c.decreases in
+    (omega arith, c.new-starts.ensures)
+
+pub emit_cases-emit_clauses-requires : goal.emit_cases-emit_clauses-requires
+emit_cases-emit_clauses-requires t c =
+    let d0 = c.decreases in
+    (omega arith, c.in_ok-put.ensures ∙ ap (λ l. c.in_ok-past.past ∷ l) c.requires ∙ ap (λ n. n ∷ []) c.in_ok-past.ensures)
 
 pub emit_labelled-emit_inside-requires : goal.emit_labelled-emit_inside-requires
 emit_labelled-emit_inside-requires t c =
@@ -247,13 +287,8 @@ emit_inside-emit_stmt-requires t c =
     let d0 = c.decreases in
     (omega arith, tt)
 
-pub emit_switch-emit_clauses-requires : goal.emit_switch-emit_clauses-requires
-emit_switch-emit_clauses-requires t c =
-    let d0 = c.decreases in
-    (omega arith, tt)
-
-pub emit_stmts-emit_stmt-requires : goal.emit_stmts-emit_stmt-requires
-emit_stmts-emit_stmt-requires t c =
+pub emit_stmts-emit_bare-requires : goal.emit_stmts-emit_bare-requires
+emit_stmts-emit_bare-requires t c =
     let d0 = c.decreases in
     let within : c.loop-i.i - 1 < length c.args.body.now = omega arith in
     let k = stmt_within c.args.body.now (c.loop-i.i - 1) c.index-body-i.result within c.index-body-i.is in

@@ -2,7 +2,7 @@ use Rattle.std.proofs.Common.{Option, Some, None, [], ap}
 use Rattle.asm_lang.specs.Modules.{returns}
 use Rattle.asm_tree.specs.declared.tree.Expr.{Expr}
 use Rattle.asm_tree.specs.Views.{expr_view, expr_option}
-use Rattle.asm_run_emit_values.specs.Names.{scope_said}
+use Rattle.asm_run_names.specs.Names.{scope_said}
 use Rattle.asm_run_emit_bodies.proofs.Made.{as_form, none_made, some_made}
 use Rattle.asm_run_emit_bodies.proofs.statements.emit_return.Goals as goal
 

@@ -5,24 +5,24 @@ use Rattle.std.proofs.Common.{FitsSigned, rules, length, ◌≡◌, suc, ◌-◌
 use Rattle.sem_words.specs.Words.{word_of}
 use Rattle.sem_words.specs.Lists.{text_bytes}
 use Rattle.asm_lang.specs.Modules.{Expr}
-use Rattle.asm_tree.specs.declared.tree.Module.{Module as Tree}
-use Rattle.asm_tree.specs.Views.{module_view, expr_view, exprs_view, links_view}
-use Rattle.asm_lang_valid.specs.Refusal.{function_number}
+use Rattle.asm_tree.specs.Views.{expr_view, exprs_view, links_view}
 use Rattle.asm_run_emit_values.proofs.Shapes.{lit_is, decimal_is, var_is, index_is, assign_is, unary_is, call_is, comma_is, table_call_is, store_is, binary_is, chain_is, cond_is}
 use Rattle.asm_run_code.specs.declared.op.Op.{Op}
-use Rattle.asm_run_code.specs.declared.op.Op.TheVariants.{Number, Call, CallImport}
-use Rattle.asm_run_code.specs.Names.{view_kind, table_number, member_number, local, seat}
-use Rattle.asm_run_code.specs.Values.{into, linked, value}
-use Rattle.asm_run_emit_values.specs.Names.{scope_said}
+use Rattle.asm_run_code.specs.declared.op.Op.TheVariants.{Number}
+use Rattle.asm_run_names.specs.declared.callee.Callee.TheVariants as callees
+use Rattle.asm_run_names.specs.declared.callee.Callee.TheVariants.{Own, Foreign, Nothing}
+use Rattle.asm_run_code.specs.Names.{local, seat}
+use Rattle.asm_run_code.specs.Operators.{link_operator}
+use Rattle.asm_run_code.specs.Values.{into, value}
+use Rattle.asm_run_names.specs.Names.{scope_said}
 use Rattle.asm_run_emit_values.specs.Seats.{seat_view}
 use Rattle.asm_run_emit_values.specs.Pieces.{out_of_place, built_in}
 use Rattle.asm_lang_valid.specs.declared.meaning.Builtin.{Builtin}
 use Rattle.asm_run_emit_values.proofs.Turns.{arguments_begin, arguments_turn, arguments_end, links_begin, links_turn, links_end, parts_begin, parts_turn, parts_end}
-use Rattle.asm_run_emit_values.proofs.Found.{same_number}
 use Rattle.asm_run_emit_values.proofs.Codes.{told, lit_form, decimal_form, var_form, comma_form}
-use Rattle.asm_run_emit_values.proofs.Parts.{arguments_length, no_part, no_product, no_zeros, node_within, pair_within, first_within, operand_within}
+use Rattle.asm_run_emit_values.proofs.Parts.{no_part, no_product, no_zeros, node_within, pair_within, first_within, operand_within}
 use Rattle.asm_lang_valid.specs.Rows.{expr_count}
-use Rattle.asm_run_emit_values.proofs.Made.{as_form, call_made, index_made, unary_made, test_made, zeros_made, product_made, entered, table_call_made, assign_local_made, assign_global_made, bare_made, binary_made, number_made, local_made, computed_made, store_local_made, store_number_made, store_computed_made, far_store_made, stays_made, moves_made, link_number_made, link_local_made, link_computed_made, cond_made}
+use Rattle.asm_run_emit_values.proofs.Made.{as_form, call_made, call_of, index_made, unary_made, test_made, zeros_made, product_made, entered, table_call_made, assign_made, bare_made, binary_made, combined_made, store_made, stays_made, moves_made, linked_made, cond_made}
 use Rattle.asm_run_emit_values.proofs.values.+values.Goals as goal
 
 pub emit_value-returns-in-Index : goal.emit_value-returns-in-Index
@@ -81,7 +81,7 @@ emit_value-returns-in-Lit t c =
 
 pub emit_index-returns : goal.emit_index-returns
 emit_index-returns t c =
-    index_made c.emit_operand.result c.emit_operand.new.output (scope_said c.args.names.now) c.args.wanted c.args.free c.args.output.now (text_bytes c.args.name.now) (expr_view c.args.index.now) c.kind_of-kind.result c.in_ok-place.place c.into-to.result c.into-at.result c.put.new.self (c.kind_of-kind.ensures ∙ ap view_kind c.meaning-meaning.ensures.known) c.in_ok-place.ensures c.into-to.ensures c.into-at.ensures c.in_ok-put.ensures c.emit_operand.ensures
+    index_made c.emit_operand.result c.emit_operand.new.output (scope_said c.args.names.now) c.args.wanted c.args.free c.args.output.now (text_bytes c.args.name.now) (expr_view c.args.index.now) c.view_kind-kind.result c.in_ok-place.place c.into-to.result c.into-at.result c.put.new.self c.view_kind-kind.ensures c.in_ok-place.ensures c.into-to.ensures c.into-at.ensures c.in_ok-put.ensures c.emit_operand.ensures
 
 pub emit_unary-returns : goal.emit_unary-returns
 emit_unary-returns t c =
@@ -99,27 +99,45 @@ pub emit_product-returns : goal.emit_product-returns
 emit_product-returns t c =
     product_made c.emit_combined.result c.emit_combined.new.output (scope_said c.args.names.now) None c.args.free c.args.output.now c.args.to c.args.all.now c.index-all-0.result c.index-all-1.result (omega arith) c.index-all-0.is c.index-all-1.is c.emit_combined.ensures
 
-pub emit_own_call-returns : goal.emit_own_call-returns
-emit_own_call-returns t c =
-    entered c.emit_arguments.result c.emit_arguments.new.output (scope_said c.args.names.now) c.args.wanted c.args.free c.args.output.now (exprs_view c.args.all.now) _ _ c.put_copy.new.output c.put.new.self (ap (λ f. Call f c.args.free) (c.in_ok-function.ensures ∙ c.function_number.ensures ∙ ap (λ (m : Tree). function_number (module_view m).functions (text_bytes c.args.name.now)) c.«module».ensures)) c.in_ok-put_copy.ensures c.in_ok-put.ensures c.emit_arguments.ensures
+pub emit_call-returns-in_ok-put_call-in-Own : goal.emit_call-returns-in_ok-put_call-in-Own
+emit_call-returns-in_ok-put_call-in-Own t c =
+    call_of c.emit_arguments.result c.emit_arguments.new.output (scope_said c.args.names.now) c.args.wanted c.args.free c.args.output.now (Own c.in-Own.function) _ (exprs_view c.args.all.now) (sym c.in-Own.is ∙ c.in_ok-callee.ensures) (entered c.emit_arguments.result c.emit_arguments.new.output (scope_said c.args.names.now) c.args.wanted c.args.free c.args.output.now (exprs_view c.args.all.now) c.put_call.new.output _ c.in_ok-put_call-in-Own.ensures c.emit_arguments.ensures)
 
-pub emit_foreign_call-returns : goal.emit_foreign_call-returns
-emit_foreign_call-returns t c =
-    let member = c.in_ok-number.ensures ∙ sym c.requires.first.first ∙ same_number (scope_said c.args.names.now).home.globals (text_bytes c.args.member.name.now) in
-    let count = c.in_ok-count.ensures ∙ sym (arguments_length c.args.all.now) in
-    entered c.emit_arguments.result c.emit_arguments.new.output (scope_said c.args.names.now) c.args.wanted c.args.free c.args.output.now (exprs_view c.args.all.now) _ _ c.put_copy.new.output c.put.new.self (ap (λ m. CallImport m c.in_ok-count.count c.args.free) member ∙ ap (λ k. CallImport (member_number (scope_said c.args.names.now).home.globals (text_bytes c.args.member.name.now)) k c.args.free) count) c.in_ok-put_copy.ensures c.in_ok-put.ensures c.emit_arguments.ensures
+pub emit_call-returns-in_ok-put_foreign_call-in-Foreign : goal.emit_call-returns-in_ok-put_foreign_call-in-Foreign
+emit_call-returns-in_ok-put_foreign_call-in-Foreign t c =
+    call_of c.emit_arguments-in-Foreign.result c.emit_arguments-in-Foreign.new.output (scope_said c.args.names.now) c.args.wanted c.args.free c.args.output.now (Foreign c.in-Foreign.member) _ (exprs_view c.args.all.now) (sym c.in-Foreign.is ∙ c.in_ok-callee.ensures) (entered c.emit_arguments-in-Foreign.result c.emit_arguments-in-Foreign.new.output (scope_said c.args.names.now) c.args.wanted c.args.free c.args.output.now (exprs_view c.args.all.now) c.put_foreign_call.new.output _ c.in_ok-put_foreign_call-in-Foreign.ensures c.emit_arguments-in-Foreign.ensures)
+
+pub emit_call-returns-in-Builtin : goal.emit_call-returns-in-Builtin
+emit_call-returns-in-Builtin t c =
+    call_of c.emit_builtin.result c.emit_builtin.new.output (scope_said c.args.names.now) c.args.wanted c.args.free c.args.output.now (callees.Builtin c.in-Builtin.builtin) _ (exprs_view c.args.all.now) (sym c.in-Builtin.is ∙ c.in_ok-callee.ensures) (told c.emit_builtin.result c.emit_builtin.new.output _ _ (ap (λ to. built_in (scope_said c.args.names.now) c.in-Builtin.builtin to c.args.free (exprs_view c.args.all.now) c.args.output.now) c.into.ensures) c.emit_builtin.ensures)
+
+pub emit_call-returns-in-Nothing : goal.emit_call-returns-in-Nothing
+emit_call-returns-in-Nothing t c =
+    call_of c.emit_arguments-in-Nothing.result c.emit_arguments-in-Nothing.new.output (scope_said c.args.names.now) c.args.wanted c.args.free c.args.output.now Nothing _ (exprs_view c.args.all.now) (sym c.in-Nothing.is ∙ c.in_ok-callee.ensures) c.emit_arguments-in-Nothing.ensures
 
 pub emit_table_call-returns : goal.emit_table_call-returns
 emit_table_call-returns t c =
-    table_call_made c.emit_value.result c.emit_value.new.output (scope_said c.args.names.now) c.args.wanted c.args.free c.args.output.now (text_bytes c.args.name.now) (expr_view c.args.index.now) (exprs_view c.args.all.now) c.in_ok-first.first c.in_ok-table.table c.put_copy.new.output c.put.new.self c.emit_arguments.new.output c.in_ok-first.ensures (c.in_ok-table.ensures ∙ c.table.ensures ∙ ap (λ (m : Tree). table_number (module_view m) (text_bytes c.args.name.now)) c.«module».ensures) c.in_ok-put_copy.ensures c.in_ok-put.ensures c.in_ok-emit_arguments.ensures c.emit_value.ensures
+    table_call_made c.emit_value.result c.emit_value.new.output (scope_said c.args.names.now) c.args.wanted c.args.free c.args.output.now (text_bytes c.args.name.now) (expr_view c.args.index.now) (exprs_view c.args.all.now) c.in_ok-first.first c.put_entry_call.new.output c.emit_arguments.new.output c.in_ok-first.ensures.first c.in_ok-first.ensures.put c.in_ok-emit_arguments.ensures c.emit_value.ensures
 
-pub emit_assign-returns-in_ok-put_copy-in-Some : goal.emit_assign-returns-in_ok-put_copy-in-Some
-emit_assign-returns-in_ok-put_copy-in-Some t c =
-    assign_local_made c.emit_value.result c.emit_value.new.output (scope_said c.args.names.now) c.args.wanted c.args.free c.args.output.now (text_bytes c.args.name.now) (expr_view c.args.value.now) c.in-Some.to c.put_copy.new.output (sym c.in-Some.is ∙ c.in_ok-slot.ensures) c.in_ok-put_copy-in-Some.ensures c.emit_value.ensures
+pub emit_assign-returns : goal.emit_assign-returns
+emit_assign-returns t c =
+    assign_made c.emit_value.result c.emit_value.new.output (scope_said c.args.names.now) c.args.wanted c.args.free c.args.output.now (text_bytes c.args.name.now) (expr_view c.args.value.now) c.in_ok-to.to c.put_assign.new.output c.in_ok-to.ensures.to c.in_ok-to.ensures.put c.emit_value.ensures
 
-pub emit_assign-returns-in_ok-put-in-None : goal.emit_assign-returns-in_ok-put-in-None
-emit_assign-returns-in_ok-put-in-None t c =
-    assign_global_made c.emit_value-in-None.result c.emit_value-in-None.new.output (scope_said c.args.names.now) c.args.wanted c.args.free c.args.output.now (text_bytes c.args.name.now) (expr_view c.args.value.now) c.in_ok-global-in-None.global c.into-from.result c.put.new.self (sym c.in-None.is ∙ c.in_ok-slot.ensures) c.in_ok-global-in-None.ensures c.into-from.ensures c.in_ok-put-in-None.ensures c.emit_value-in-None.ensures
+pub emit_store-returns : goal.emit_store-returns
+emit_store-returns t c =
+    store_made c.emit_operand.result c.emit_operand.new.output (scope_said c.args.names.now) c.args.wanted c.args.free c.args.output.now (text_bytes c.args.name.now) (expr_view c.args.index.now) (expr_view c.args.value.now) (seat_view c.in_ok-seat.seat) c.in_ok-place.place c.is_far.result c.put_store.new.output c.emit_next.new.output c.in_ok-seat.ensures c.in_ok-place.ensures.place c.in_ok-place.ensures.put c.is_far.ensures c.in_ok-emit_next.ensures c.emit_operand.ensures
+
+pub emit_combined-returns : goal.emit_combined-returns
+emit_combined-returns t c =
+    combined_made c.emit_operand.result c.emit_operand.new.output (seat (scope_said c.args.names.now) (expr_view c.args.right.now)) (seat_view c.in_ok-seat.seat) (local (scope_said c.args.names.now) (expr_view c.args.left.now)) c.args.operator c.args.to c.args.free (λ more. value (scope_said c.args.names.now) (Some c.args.free) c.args.free (expr_view c.args.left.now) more) (λ more. value (scope_said c.args.names.now) (Some (suc c.args.free)) (suc c.args.free) (expr_view c.args.right.now) more) c.args.output.now c.in_ok-place.place c.into-at.result c.is_elsewhere.result c.put_applied.new.output c.emit_next.new.output c.in_ok-seat.ensures c.in_ok-place.ensures c.into-at.ensures c.in_ok-put_applied.ensures c.is_elsewhere.ensures c.in_ok-emit_next.ensures c.emit_operand.ensures
+
+pub emit_link-returns : goal.emit_link-returns
+emit_link-returns t c =
+    linked_made c.emit_next.result c.emit_next.new.output (seat (scope_said c.args.names.now) (expr_view c.args.link.now.operand)) (seat_view c.in_ok-seat.seat) (link_operator c.args.link.now.minus) c.link_operator-operator.result c.args.to c.args.left c.args.free (λ more. value (scope_said c.args.names.now) (Some (suc c.args.free)) (suc c.args.free) (expr_view c.args.link.now.operand) more) c.args.output.now c.is_elsewhere.result c.put_applied.new.output c.in_ok-seat.ensures c.link_operator-operator.ensures c.in_ok-put_applied.ensures c.is_elsewhere.ensures c.emit_next.ensures
+
+pub emit_cond-returns : goal.emit_cond-returns
+emit_cond-returns t c =
+    cond_made c.emit_test.result c.emit_test.new.output (scope_said c.args.names.now) c.args.wanted c.args.free c.args.output.now (expr_view c.args.condition.now) (expr_view c.args.yes.now) (expr_view c.args.no.now) c.in_ok-past.past c.in_ok-at.at c.emit_value.new.output c.put_go.new.output c.emit_value-2.new.output c.in_ok-past.ensures c.in_ok-emit_value.ensures c.in_ok-at.ensures.at c.in_ok-at.ensures.put c.in_ok-emit_value-2.ensures c.emit_test.ensures
 
 pub emit_binary-returns-then-bare : goal.emit_binary-returns-then-bare
 emit_binary-returns-then-bare t c =
@@ -129,34 +147,6 @@ pub emit_binary-returns : goal.emit_binary-returns
 emit_binary-returns t c =
     binary_made c.emit_combined.result c.emit_combined.new.output (scope_said c.args.names.now) c.args.wanted c.args.free c.args.output.now c.args.op (expr_view c.args.left.now) (expr_view c.args.right.now) c.operator_of-operator.result c.into-to.result (sym c.if-bare.false ∙ c.is_or_zero-bare.ensures) c.operator_of-operator.ensures c.into-to.ensures c.emit_combined.ensures
 
-pub emit_combined-returns-in_ok-put-in-Number : goal.emit_combined-returns-in_ok-put-in-Number
-emit_combined-returns-in_ok-put-in-Number t c =
-    number_made c.emit_operand.result c.emit_operand.new.output (seat (scope_said c.args.names.now) (expr_view c.args.right.now)) (local (scope_said c.args.names.now) (expr_view c.args.left.now)) c.args.operator c.args.to c.args.free (λ more. value (scope_said c.args.names.now) (Some c.args.free) c.args.free (expr_view c.args.left.now) more) (λ more. value (scope_said c.args.names.now) (Some (suc c.args.free)) (suc c.args.free) (expr_view c.args.right.now) more) c.args.output.now c.in-Number.word c.in_ok-place-in-Number.place c.into-at.result c.put.new.self (sym (ap seat_view c.in-Number.is) ∙ c.in_ok-seat.ensures) c.in_ok-place-in-Number.ensures c.into-at.ensures c.in_ok-put-in-Number.ensures c.emit_operand.ensures
-
-pub emit_combined-returns-in_ok-put-in-Local : goal.emit_combined-returns-in_ok-put-in-Local
-emit_combined-returns-in_ok-put-in-Local t c =
-    local_made c.emit_operand-in-Local.result c.emit_operand-in-Local.new.output (seat (scope_said c.args.names.now) (expr_view c.args.right.now)) (local (scope_said c.args.names.now) (expr_view c.args.left.now)) c.args.operator c.args.to c.args.free (λ more. value (scope_said c.args.names.now) (Some c.args.free) c.args.free (expr_view c.args.left.now) more) (λ more. value (scope_said c.args.names.now) (Some (suc c.args.free)) (suc c.args.free) (expr_view c.args.right.now) more) c.args.output.now c.in-Local.slot c.in_ok-place-in-Local.place c.into-at-in-Local.result c.put-in-Local.new.self (sym (ap seat_view c.in-Local.is) ∙ c.in_ok-seat.ensures) c.in_ok-place-in-Local.ensures c.into-at-in-Local.ensures c.in_ok-put-in-Local.ensures c.emit_operand-in-Local.ensures
-
-pub emit_combined-returns-in_ok-emit_value-in-Elsewhere : goal.emit_combined-returns-in_ok-emit_value-in-Elsewhere
-emit_combined-returns-in_ok-emit_value-in-Elsewhere t c =
-    computed_made c.emit_value-in-Elsewhere.result c.emit_value-in-Elsewhere.new.output (seat (scope_said c.args.names.now) (expr_view c.args.right.now)) (local (scope_said c.args.names.now) (expr_view c.args.left.now)) c.args.operator c.args.to c.args.free (λ more. value (scope_said c.args.names.now) (Some c.args.free) c.args.free (expr_view c.args.left.now) more) (λ s more. value (scope_said c.args.names.now) (Some s) s (expr_view c.args.right.now) more) c.args.output.now c.in_ok-second-in-Elsewhere.second c.put-in-Elsewhere.new.self c.emit_value.new.output (sym (ap seat_view c.in-Elsewhere.is) ∙ c.in_ok-seat.ensures) c.in_ok-second-in-Elsewhere.ensures c.in_ok-put-in-Elsewhere.ensures c.in_ok-emit_value-in-Elsewhere.ensures c.emit_value-in-Elsewhere.ensures
-
-pub emit_store-returns-in_ok-put-in-Local : goal.emit_store-returns-in_ok-put-in-Local
-emit_store-returns-in_ok-put-in-Local t c =
-    store_local_made c.emit_operand.result c.emit_operand.new.output (scope_said c.args.names.now) c.args.wanted c.args.free c.args.output.now (text_bytes c.args.name.now) (expr_view c.args.index.now) (expr_view c.args.value.now) c.kind_of-kind.result c.in-Local.from c.in_ok-place-in-Local.place c.into-at.result c.put_copy.new.output c.put.new.self (c.kind_of-kind.ensures ∙ ap view_kind c.meaning-meaning.ensures.known) (sym (ap seat_view c.in-Local.is) ∙ c.in_ok-seat.ensures) c.in_ok-place-in-Local.ensures c.into-at.ensures c.in_ok-put_copy-in-Local.ensures c.in_ok-put-in-Local.ensures c.emit_operand.ensures
-
-pub emit_store-returns-in-Number : goal.emit_store-returns-in-Number
-emit_store-returns-in-Number t c =
-    store_number_made c.emit_far_store.result c.emit_far_store.new.output (scope_said c.args.names.now) c.args.wanted c.args.free c.args.output.now (text_bytes c.args.name.now) (expr_view c.args.index.now) (expr_view c.args.value.now) c.kind_of-kind.result c.in-Number.field-0 (c.kind_of-kind.ensures ∙ ap view_kind c.meaning-meaning.ensures.known) (sym (ap seat_view c.in-Number.is) ∙ c.in_ok-seat.ensures) c.emit_far_store.ensures
-
-pub emit_store-returns-in-Elsewhere : goal.emit_store-returns-in-Elsewhere
-emit_store-returns-in-Elsewhere t c =
-    store_computed_made c.emit_far_store-in-Elsewhere.result c.emit_far_store-in-Elsewhere.new.output (scope_said c.args.names.now) c.args.wanted c.args.free c.args.output.now (text_bytes c.args.name.now) (expr_view c.args.index.now) (expr_view c.args.value.now) c.kind_of-kind.result (c.kind_of-kind.ensures ∙ ap view_kind c.meaning-meaning.ensures.known) (sym (ap seat_view c.in-Elsewhere.is) ∙ c.in_ok-seat.ensures) c.emit_far_store-in-Elsewhere.ensures
-
-pub emit_far_store-returns : goal.emit_far_store-returns
-emit_far_store-returns t c =
-    far_store_made c.emit_value-2.result c.emit_value-2.new.output (scope_said c.args.names.now) c.args.wanted c.args.free c.args.output.now (expr_view c.args.index.now) (expr_view c.args.value.now) c.args.kind c.in_ok-from.from c.put_copy.new.output c.put.new.self c.emit_value.new.output c.in_ok-from.ensures c.in_ok-put_copy.ensures c.in_ok-put.ensures c.in_ok-emit_value.ensures c.emit_value-2.ensures
-
 pub emit_chain-returns-in-Some : goal.emit_chain-returns-in-Some
 emit_chain-returns-in-Some t c =
     stays_made c.emit_links.result c.emit_links.new.output (scope_said c.args.names.now) c.args.wanted c.args.free c.args.output.now (expr_view c.args.first.now) (links_view c.args.links.now) c.in-Some.slot (sym c.in-Some.is ∙ c.in_ok-place.ensures) c.emit_links.ensures
@@ -164,22 +154,6 @@ emit_chain-returns-in-Some t c =
 pub emit_chain-returns-in_ok-emit_links-in-None : goal.emit_chain-returns-in_ok-emit_links-in-None
 emit_chain-returns-in_ok-emit_links-in-None t c =
     moves_made c.emit_value.result c.emit_value.new.output (scope_said c.args.names.now) c.args.wanted c.args.free c.args.output.now (expr_view c.args.first.now) (links_view c.args.links.now) c.sum_slot-to.result c.emit_links-in-None.new.output (sym c.in-None.is ∙ c.in_ok-place.ensures) c.in_ok-emit_links-in-None.ensures c.sum_slot-to.ensures c.emit_value.ensures
-
-pub emit_link-returns-in-Number : goal.emit_link-returns-in-Number
-emit_link-returns-in-Number t c =
-    subst (λ f. OnOk c.put.result (c.put.new.self ≡ linked (seat (scope_said c.args.names.now) (expr_view c.args.link.now.operand)) f c.args.to c.args.left c.args.free (λ more. value (scope_said c.args.names.now) (Some (suc c.args.free)) (suc c.args.free) (expr_view c.args.link.now.operand) more) c.args.output.now)) c.link_operator-operator.ensures (link_number_made c.put.result c.put.new.self (seat (scope_said c.args.names.now) (expr_view c.args.link.now.operand)) c.link_operator-operator.result c.args.to c.args.left c.args.free (λ more. value (scope_said c.args.names.now) (Some (suc c.args.free)) (suc c.args.free) (expr_view c.args.link.now.operand) more) c.args.output.now c.in-Number.word (sym (ap seat_view c.in-Number.is) ∙ c.in_ok-seat.ensures) c.put.ensures)
-
-pub emit_link-returns-in-Local : goal.emit_link-returns-in-Local
-emit_link-returns-in-Local t c =
-    subst (λ f. OnOk c.put-in-Local.result (c.put-in-Local.new.self ≡ linked (seat (scope_said c.args.names.now) (expr_view c.args.link.now.operand)) f c.args.to c.args.left c.args.free (λ more. value (scope_said c.args.names.now) (Some (suc c.args.free)) (suc c.args.free) (expr_view c.args.link.now.operand) more) c.args.output.now)) c.link_operator-operator.ensures (link_local_made c.put-in-Local.result c.put-in-Local.new.self (seat (scope_said c.args.names.now) (expr_view c.args.link.now.operand)) c.link_operator-operator.result c.args.to c.args.left c.args.free (λ more. value (scope_said c.args.names.now) (Some (suc c.args.free)) (suc c.args.free) (expr_view c.args.link.now.operand) more) c.args.output.now c.in-Local.right (sym (ap seat_view c.in-Local.is) ∙ c.in_ok-seat.ensures) c.put-in-Local.ensures)
-
-pub emit_link-returns-in_ok-put-in-Elsewhere : goal.emit_link-returns-in_ok-put-in-Elsewhere
-emit_link-returns-in_ok-put-in-Elsewhere t c =
-    subst (λ f. OnOk c.emit_value.result (c.emit_value.new.output ≡ linked (seat (scope_said c.args.names.now) (expr_view c.args.link.now.operand)) f c.args.to c.args.left c.args.free (λ more. value (scope_said c.args.names.now) (Some (suc c.args.free)) (suc c.args.free) (expr_view c.args.link.now.operand) more) c.args.output.now)) c.link_operator-operator.ensures (link_computed_made c.emit_value.result c.emit_value.new.output (seat (scope_said c.args.names.now) (expr_view c.args.link.now.operand)) c.link_operator-operator.result c.args.to c.args.left c.args.free (λ s more. value (scope_said c.args.names.now) (Some s) s (expr_view c.args.link.now.operand) more) c.args.output.now c.in_ok-second-in-Elsewhere.second c.put-in-Elsewhere.new.self (sym (ap seat_view c.in-Elsewhere.is) ∙ c.in_ok-seat.ensures) c.in_ok-second-in-Elsewhere.ensures c.in_ok-put-in-Elsewhere.ensures c.emit_value.ensures)
-
-pub emit_cond-returns : goal.emit_cond-returns
-emit_cond-returns t c =
-    cond_made c.emit_test.result c.emit_test.new.output (scope_said c.args.names.now) c.args.wanted c.args.free c.args.output.now (expr_view c.args.condition.now) (expr_view c.args.yes.now) (expr_view c.args.no.now) c.in_ok-past.past c.in_ok-at.at c.emit_value.new.output c.put.new.self c.emit_value-2.new.output c.in_ok-past.ensures c.in_ok-emit_value.ensures c.in_ok-at.ensures c.in_ok-put.ensures c.in_ok-emit_value-2.ensures c.emit_test.ensures
 
 pub emit_arguments-loop-i-init : goal.emit_arguments-loop-i-init
 emit_arguments-loop-i-init t c = record { within = omega arith; made = arguments_begin (scope_said c.args.names.now) c.args.output.now c.args.free c.args.all.now }
@@ -282,8 +256,33 @@ emit_assign-emit_value-requires t c =
     let d0 = c.decreases in
     (omega arith, tt)
 
-pub emit_assign-emit_value-requires-in-None : goal.emit_assign-emit_value-requires-in-None
-emit_assign-emit_value-requires-in-None t c =
+pub emit_store-emit_next-requires : goal.emit_store-emit_next-requires
+emit_store-emit_next-requires t c =
+    let d0 = c.decreases in
+    (omega arith, tt)
+
+pub emit_store-emit_operand-requires : goal.emit_store-emit_operand-requires
+emit_store-emit_operand-requires t c =
+    let d0 = c.decreases in
+    (omega arith, tt)
+
+pub emit_combined-emit_next-requires : goal.emit_combined-emit_next-requires
+emit_combined-emit_next-requires t c =
+    let d0 = c.decreases in
+    (omega arith, tt)
+
+pub emit_combined-emit_operand-requires : goal.emit_combined-emit_operand-requires
+emit_combined-emit_operand-requires t c =
+    let d0 = c.decreases in
+    (omega arith, tt)
+
+pub emit_link-emit_next-requires : goal.emit_link-emit_next-requires
+emit_link-emit_next-requires t c =
+    let d0 = c.decreases in
+    (omega arith, tt)
+
+pub emit_next-emit_value-requires : goal.emit_next-emit_value-requires
+emit_next-emit_value-requires t c =
     let d0 = c.decreases in
     (omega arith, tt)
 
@@ -322,26 +321,6 @@ emit_chain-emit_value-requires t c =
     let d0 = c.decreases in
     (omega arith, tt)
 
-pub emit_combined-emit_operand-requires : goal.emit_combined-emit_operand-requires
-emit_combined-emit_operand-requires t c =
-    let d0 = c.decreases in
-    (omega arith, tt)
-
-pub emit_combined-emit_operand-requires-in-Local : goal.emit_combined-emit_operand-requires-in-Local
-emit_combined-emit_operand-requires-in-Local t c =
-    let d0 = c.decreases in
-    (omega arith, tt)
-
-pub emit_combined-emit_value-requires : goal.emit_combined-emit_value-requires
-emit_combined-emit_value-requires t c =
-    let d0 = c.decreases in
-    (omega arith, tt)
-
-pub emit_combined-emit_value-requires-in-Elsewhere : goal.emit_combined-emit_value-requires-in-Elsewhere
-emit_combined-emit_value-requires-in-Elsewhere t c =
-    let d0 = c.decreases in
-    (omega arith, tt)
-
 pub emit_cond-emit_value-requires : goal.emit_cond-emit_value-requires
 emit_cond-emit_value-requires t c =
     let d0 = c.decreases in
@@ -357,28 +336,8 @@ emit_cond-emit_test-requires t c =
     let d0 = c.decreases in
     (omega arith, tt)
 
-pub emit_far_store-emit_value-requires : goal.emit_far_store-emit_value-requires
-emit_far_store-emit_value-requires t c =
-    let d0 = c.decreases in
-    (omega arith, tt)
-
-pub emit_far_store-emit_value-requires-2 : goal.emit_far_store-emit_value-requires-2
-emit_far_store-emit_value-requires-2 t c =
-    let d0 = c.decreases in
-    (omega arith, tt)
-
-pub emit_link-emit_value-requires : goal.emit_link-emit_value-requires
-emit_link-emit_value-requires t c =
-    let d0 = c.decreases in
-    (omega arith, tt)
-
 pub emit_operand-emit_value-requires : goal.emit_operand-emit_value-requires
 emit_operand-emit_value-requires t c =
-    let d0 = c.decreases in
-    (omega arith, tt)
-
-pub emit_own_call-emit_arguments-requires : goal.emit_own_call-emit_arguments-requires
-emit_own_call-emit_arguments-requires t c =
     let d0 = c.decreases in
     (omega arith, tt)
 
@@ -407,31 +366,6 @@ emit_index-emit_operand-requires t c =
     let d0 = c.decreases in
     (omega arith, tt)
 
-pub emit_store-emit_operand-requires : goal.emit_store-emit_operand-requires
-emit_store-emit_operand-requires t c =
-    let d0 = c.decreases in
-    (omega arith, tt)
-
-pub emit_store-emit_far_store-requires : goal.emit_store-emit_far_store-requires
-emit_store-emit_far_store-requires t c =
-    let d0 = c.decreases in
-    (omega arith, tt)
-
-pub emit_store-emit_far_store-requires-in-Elsewhere : goal.emit_store-emit_far_store-requires-in-Elsewhere
-emit_store-emit_far_store-requires-in-Elsewhere t c =
-    let d0 = c.decreases in
-    (omega arith, tt)
-
-pub emit_foreign_call-emit_arguments-requires : goal.emit_foreign_call-emit_arguments-requires
-emit_foreign_call-emit_arguments-requires t c =
-    let d0 = c.decreases in
-    (omega arith, tt)
-
-pub emit_call-emit_own_call-requires : goal.emit_call-emit_own_call-requires
-emit_call-emit_own_call-requires t c =
-    let d0 = c.decreases in
-    (omega arith, tt)
-
 pub emit_call-emit_builtin-requires : goal.emit_call-emit_builtin-requires
 emit_call-emit_builtin-requires t c =
     let d0 = c.decreases in
@@ -439,6 +373,16 @@ emit_call-emit_builtin-requires t c =
 
 pub emit_call-emit_arguments-requires : goal.emit_call-emit_arguments-requires
 emit_call-emit_arguments-requires t c =
+    let d0 = c.decreases in
+    (omega arith, tt)
+
+pub emit_call-emit_arguments-requires-in-Foreign : goal.emit_call-emit_arguments-requires-in-Foreign
+emit_call-emit_arguments-requires-in-Foreign t c =
+    let d0 = c.decreases in
+    (omega arith, tt)
+
+pub emit_call-emit_arguments-requires-in-Nothing : goal.emit_call-emit_arguments-requires-in-Nothing
+emit_call-emit_arguments-requires-in-Nothing t c =
     let d0 = c.decreases in
     (omega arith, tt)
 

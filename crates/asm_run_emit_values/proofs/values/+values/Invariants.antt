@@ -3,7 +3,7 @@ use Rattle.std.proofs.Common.{◌≡◌, ◌+◌, ◌*◌, ◌<◌, ◌≤◌, l
 use Rattle.asm_tree.specs.Views.{expr_view, exprs_view, links_view}
 use Rattle.asm_lang_valid.specs.Rows.{expr_count, exprs_count, links_count}
 use Rattle.asm_run_code.specs.Values.{arguments, sums, last}
-use Rattle.asm_run_emit_values.specs.Names.{scope_said}
+use Rattle.asm_run_names.specs.Names.{scope_said}
 use Rattle.asm_run_emit_values.specs.Pieces.{sum_before}
 use Rattle.asm_run_emit_values.proofs.values.+values.Given as goal
 
@@ -70,13 +70,13 @@ abbrev pub decreases-emit_combined : goal.decreases-emit_combined
 decreases-emit_combined l = 8 * (expr_count (expr_view l.left.now) + expr_count (expr_view l.right.now)) + 3
 
 abbrev pub decreases-emit_chain : goal.decreases-emit_chain
-decreases-emit_chain l = 8 * (expr_count (expr_view l.first.now) + links_count (links_view l.links.now)) + 3
+decreases-emit_chain l = 8 * (expr_count (expr_view l.first.now) + links_count (links_view l.links.now)) + 4
 
 abbrev pub decreases-emit_links : goal.decreases-emit_links
-decreases-emit_links l = 8 * links_count (links_view l.links.now) + 2
+decreases-emit_links l = 8 * links_count (links_view l.links.now) + 3
 
 abbrev pub decreases-emit_link : goal.decreases-emit_link
-decreases-emit_link l = 8 * expr_count (expr_view l.link.now.operand) + 1
+decreases-emit_link l = 8 * expr_count (expr_view l.link.now.operand) + 2
 
 abbrev pub decreases-emit_cond : goal.decreases-emit_cond
 decreases-emit_cond l = 8 * (expr_count (expr_view l.condition.now) + (expr_count (expr_view l.yes.now) + expr_count (expr_view l.no.now))) + 3
@@ -87,12 +87,6 @@ decreases-emit_test l = 8 * expr_count (expr_view l.condition.now) + 2
 abbrev pub decreases-emit_parts : goal.decreases-emit_parts
 decreases-emit_parts l = 8 * exprs_count (exprs_view l.parts.now) + 2
 
-abbrev pub decreases-emit_own_call : goal.decreases-emit_own_call
-decreases-emit_own_call l = 8 * exprs_count (exprs_view l.all.now) + 3
-
-abbrev pub decreases-emit_foreign_call : goal.decreases-emit_foreign_call
-decreases-emit_foreign_call l = 8 * exprs_count (exprs_view l.all.now) + 3
-
 abbrev pub decreases-emit_product : goal.decreases-emit_product
 decreases-emit_product l = 8 * exprs_count (exprs_view l.all.now) + 4
 
@@ -102,5 +96,5 @@ decreases-emit_zeros l = 8 * exprs_count (exprs_view l.all.now) + 4
 abbrev pub decreases-emit_binary : goal.decreases-emit_binary
 decreases-emit_binary l = 8 * (expr_count (expr_view l.left.now) + expr_count (expr_view l.right.now)) + 4
 
-abbrev pub decreases-emit_far_store : goal.decreases-emit_far_store
-decreases-emit_far_store l = 8 * (expr_count (expr_view l.index.now) + expr_count (expr_view l.value.now)) + 3
+abbrev pub decreases-emit_next : goal.decreases-emit_next
+decreases-emit_next l = 8 * expr_count (expr_view l.operand.now) + 1

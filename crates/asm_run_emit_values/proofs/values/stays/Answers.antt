@@ -2,7 +2,7 @@ use Rattle.std.proofs.Common.{◌≡◌, subst}
 use Rattle.std.specs.Prelude.{IfOk}
 use Rattle.asm_tree.specs.Views.{expr_view}
 use Rattle.asm_run_code.specs.Names.{local}
-use Rattle.asm_run_emit_values.specs.Names.{scope_said}
+use Rattle.asm_run_names.specs.Names.{scope_said}
 use Rattle.asm_run_emit_values.proofs.Parts.{first_stays, none_stays}
 use Rattle.asm_run_emit_values.proofs.values.stays.Goals as goal
 
