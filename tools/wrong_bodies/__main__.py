@@ -33,6 +33,10 @@ OURS = ("what", "crate", "refused", "test", "edit")
 EDITS = ("file", "old", "new")
 FUNCTION = re.compile(r"^\s*(?:pub(?:\(\w+\))? )?(?:const )?(?:unsafe )?fn (\w+)", re.M)
 NOTE = re.compile(r"note: (\S+?):(\d+):\d+: it is not proved that what the function ensures holds when it returns \(`(returns[^`]*)")
+# A written answer to such a goal that doesn't answer it any more: what the wrong body does is not what it says.
+ANSWER = re.compile(
+    r"proofs/(?:[^\s:]*/)?([^/\s:]+)/Answers\.antt:\d+:\d+: error: `(?:(\w+)-)?(returns[^`]*)`: (?:`search`: no proof|as printed, the two types|expected type)"
+)
 
 
 class Unusable(Exception):
@@ -117,16 +121,21 @@ def copy_of_sources(folder):
 
 def clause_of(body, said):
     """The function and the clause that a line of rt names, or None where it names none."""
-    note = NOTE.search(said)
-    if not note:
+    note, answer = NOTE.search(said), ANSWER.search(said)
+    if answer:
+        folder, among, goal = answer.groups()
+        # (functions that call each other share a file, whose folder's name is that of no function)
+        function = [among if folder.startswith("+") else folder]
+    elif note:
+        path, line, goal = note.groups()
+        lines = (ROOT / "crates" / body.crate / path).read_text().split("\n")
+        end = int(line)
+        # (of a function with attributes the note names their line)
+        while lines[end - 1].lstrip().startswith("#[") and end < len(lines):
+            end += 1
+        function = FUNCTION.findall("\n".join(lines[:end]))[-1:]
+    else:
         return None
-    path, line, goal = note.groups()
-    lines = (ROOT / "crates" / body.crate / path).read_text().split("\n")
-    end = int(line)
-    # (of a function with attributes the note names their line)
-    while lines[end - 1].lstrip().startswith("#[") and end < len(lines):
-        end += 1
-    function = FUNCTION.findall("\n".join(lines[:end]))[-1:]
     clause = re.search(r"-clause-(\w+?)(?:-\d+)?$", goal)
     return (*function, clause[1]) if clause else (*function,)
 
@@ -166,7 +175,7 @@ def try_by_check(folder, body, command):
         (folder / path.relative_to(ROOT)).write_text(text)
     if ran.returncode == 0:
         return False, "it is proved"
-    told = [it for it in ran.stdout.split("\n") if NOTE.search(it)]
+    told = [it for it in ran.stdout.split("\n") if NOTE.search(it) or ANSWER.search(it)]
     verdicts = [verdict(body, it) for it in told]
     refused = [it for it in verdicts if it[0]] or verdicts
     return refused[0] if refused else (False, f"not tried: {ran.stdout.strip()[-600:]}")
