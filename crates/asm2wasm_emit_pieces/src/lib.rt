@@ -12,7 +12,7 @@ mod operators;
 mod output;
 mod scratch;
 
-pub use accesses::{load, store};
+pub use accesses::{aligned, exponent_of, load, store};
 pub use calls::{builtin, from_base};
 pub use operands::{after_operand, before_operand, link};
 pub use operators::operator;

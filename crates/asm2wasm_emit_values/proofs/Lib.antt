@@ -1,3 +1,4 @@
 pub mod Steps
 pub mod Lists
 pub mod Signs
+pub mod Indices

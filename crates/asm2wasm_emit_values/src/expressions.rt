@@ -8,17 +8,19 @@ ghost use Rattle.asm_lang.specs.Modules as form;
 ghost use Rattle.asm_tree.specs.Views.{expr_view, exprs_view, links_view};
 ghost use Rattle.asm2wasm_translation.specs.Values.{expr_code, arguments_code, links_code, comma_code};
 ghost use Rattle.asm2wasm_emit_values.specs.Contexts.{scope_in};
+ghost use Rattle.asm2wasm_emit_values.specs.Indices.{index_code};
 
 use crate::context::Context;
-use crate::forms::is_or_zero;
-use crate::leaves::{emit_decimal, emit_literal, emit_variable};
+use crate::forms::{IndexForm, index_form, is_or_zero};
+use crate::leaves::{emit_decimal, emit_literal, emit_literal_place, emit_variable};
 use crate::meanings::{
-    call_entry, call_named, drop_called, load_element, set_entry, store_element, stored_value,
+    call_entry, call_named, drop_called, exponent, load_element, set_entry, store_element,
+    stored_value,
 };
 use crate::operations::operate;
 use crate::variables::{finish, put};
 use asm_tree::{Expr, Link};
-use asm2wasm_emit_pieces::{Output, after_operand, before_operand, link};
+use asm2wasm_emit_pieces::{Output, after_operand, aligned, before_operand, link};
 use sem_words::{JsOp, JsUnary, Text};
 use std::alloc::AllocError;
 use wasm_lang::ValType;
@@ -89,9 +91,32 @@ fn emit_index(
     requires narrow { EachIn IsNarrow (expr_code context.now.size (scope_in context.now) wanted depth (form.index (text_bytes name.now) (expr_view index.now))) }
     ensures { OnOk result (output.new ≡ output.old ++ flat (expr_code context.now.size (scope_in context.now) wanted depth (form.index (text_bytes name.now) (expr_view index.now)))) }
 {
-    emit(context, output, true, depth, index)?;
+    emit_place(context, output, depth, name, index)?;
     load_element(context, output, depth, name)?;
     finish(output, wanted)
+}
+
+// Where the element of an index begins: an index that is a shift is its left operand without the bits that are shifted away.
+#[cycle(expressions)]
+fn emit_place(
+    context: &Context<'_, '_, '_>,
+    output: &mut Output,
+    depth: usize,
+    name: &Text,
+    index: &Expr,
+) -> Result<(), AllocError>
+    requires narrow { EachIn IsNarrow (index_code context.now.size (scope_in context.now) depth (text_bytes name.now) (expr_view index.now)) }
+    ensures { OnOk result (output.new ≡ output.old ++ flat (index_code context.now.size (scope_in context.now) depth (text_bytes name.now) (expr_view index.now))) }
+{
+    let exponent = exponent(context, name);
+    match index_form(index) {
+        IndexForm::Literal(value) => emit_literal_place(output, exponent, value),
+        IndexForm::Shifted(left) => {
+            emit(context, output, true, depth, left)?;
+            aligned(output, exponent)
+        }
+        IndexForm::Other => emit(context, output, true, depth, index),
+    }
 }
 
 #[cycle(expressions)]
@@ -145,7 +170,7 @@ fn emit_store(
     requires narrow { EachIn IsNarrow (expr_code context.now.size (scope_in context.now) wanted depth (form.store (text_bytes name.now) (expr_view index.now) (expr_view value.now))) }
     ensures { OnOk result (output.new ≡ output.old ++ flat (expr_code context.now.size (scope_in context.now) wanted depth (form.store (text_bytes name.now) (expr_view index.now) (expr_view value.now)))) }
 {
-    emit(context, output, true, depth, index)?;
+    emit_place(context, output, depth, name, index)?;
     emit(context, output, true, depth, value)?;
     store_element(context, output, depth, name)?;
     stored_value(context, output, wanted, depth)

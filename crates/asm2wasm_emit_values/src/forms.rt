@@ -3,6 +3,7 @@ ghost use Rattle.std.specs.Prelude.{◌≡◌};
 ghost use Rattle.asm_tree.specs.Views.{expr_view};
 ghost use Rattle.asm_lang_valid.specs.Typing as typing;
 ghost use Rattle.asm2wasm_translation.specs.Values as code;
+ghost use Rattle.asm2wasm_emit_values.specs.Indices.{HasForm};
 
 use asm_tree::Expr;
 use sem_words::JsOp;
@@ -29,6 +30,42 @@ pub fn is_unsigned(expr: &Expr) -> bool
         | Expr::Unary(_, _)
         | Expr::Chain(_, _)
         | Expr::Cond(_, _, _) => false,
+    }
+}
+
+/// What tells where the element of an index begins.
+#[derive(Clone, Copy)]
+pub enum IndexForm<'e> {
+    Literal(i128),
+    /// What an index `e >> k` shifts.
+    Shifted(&'e Expr),
+    Other,
+}
+
+/// The form of an index.
+#[tactic(auto, using(asm_tree::proofs::Views::views))]
+pub fn index_form(index: &Expr) -> IndexForm<'_>
+    ensures { HasForm (expr_view index.now) result }
+{
+    match index {
+        Expr::Lit(value) => IndexForm::Literal(*value),
+        Expr::Binary(op, left, _) => {
+            if *op == JsOp::Sar {
+                return IndexForm::Shifted(left);
+            }
+            IndexForm::Other
+        }
+        Expr::Decimal(_)
+        | Expr::Var(_)
+        | Expr::Index(_, _)
+        | Expr::Call(_, _)
+        | Expr::TableCall(_, _, _)
+        | Expr::Assign(_, _)
+        | Expr::Store(_, _, _)
+        | Expr::Unary(_, _)
+        | Expr::Chain(_, _)
+        | Expr::Cond(_, _, _)
+        | Expr::Comma(_) => IndexForm::Other,
     }
 }
 

@@ -1,5 +1,5 @@
 //! Expressions without parts.
-ghost use Rattle.std.specs.Prelude.{◌≡◌, ◌++◌, OnOk};
+ghost use Rattle.std.specs.Prelude.{◌≡◌, ◌≤◌, ◌++◌, OnOk};
 ghost use Rattle.sem_words.specs.Lists.{text_bytes};
 ghost use Rattle.sem_words.specs.Words.{word_of};
 ghost use Rattle.wasm_lang_exec.specs.Code.{ε, ◌▹◌, unreachable};
@@ -23,6 +23,18 @@ pub fn emit_literal(output: &mut Output, wanted: bool, value: i128) -> Result<()
 {
     output.push(Instr::Const32(low_word(value)))?;
     finish(output, wanted)
+}
+
+/// Where the element of 2 to the exponent bytes begins at an index that is a literal.
+pub fn emit_literal_place(output: &mut Output, exponent: u32, index: i128) -> Result<(), AllocError>
+    requires { exponent ≤ 2 }
+    ensures { OnOk result (output.new ≡ output.old ++ flat (code.one (code.number (code.literal_place exponent index)))) }
+{
+    let word = low_word(index);
+    if index < 0 {
+        return output.push(Instr::Const32(word));
+    }
+    output.push(Instr::Const32(word << exponent))
 }
 
 /// A number with a dot, which no accepted module has.

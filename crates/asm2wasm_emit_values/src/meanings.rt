@@ -1,5 +1,5 @@
 //! What names mean where they are used: elements of views, callees and entries of tables.
-ghost use Rattle.std.specs.Prelude.{◌≡◌, ◌++◌, suc, OnOk};
+ghost use Rattle.std.specs.Prelude.{◌≡◌, ◌≤◌, ◌++◌, suc, OnOk};
 ghost use Rattle.sem_words.specs.Lists.{text_bytes};
 ghost use Rattle.wasm_lang.specs.Instructions.{local_get, local_set};
 ghost use Rattle.wasm_lang_exec.specs.Code.{◌⊕◌};
@@ -13,12 +13,23 @@ ghost use Rattle.asm2wasm_emit_values.specs.Contexts.{scope_in};
 
 use crate::context::Context;
 use asm_names::Meaning;
-use asm2wasm_emit_pieces::{Output, builtin, from_base, load, store};
+use asm2wasm_emit_pieces::{Output, builtin, exponent_of, from_base, load, store};
 use sem_words::Text;
 use std::alloc::AllocError;
 use wasm_tree::Instr;
 
-/// The element of a view at the index on the stack.
+/// The elements of the view of this name have 2 to this number of bytes.
+pub fn exponent(context: &Context<'_, '_, '_>, name: &Text) -> u32
+    ensures exact { result ≡ code.exponent_in (named (scope_in context.now) (text_bytes name.now)) }
+    ensures small { result ≤ 2 }
+{
+    match context.meaning(name) {
+        Some(Meaning::View(element)) => exponent_of(element),
+        _ => 0,
+    }
+}
+
+/// The element of a view whose place is on the stack.
 pub fn load_element(
     context: &Context<'_, '_, '_>,
     output: &mut Output,
@@ -37,7 +48,7 @@ pub fn load_element(
     }
 }
 
-/// Puts the value on the stack into the element of a view at the index below it.
+/// Puts the value on the stack into the element of a view whose place is below it.
 pub fn store_element(
     context: &Context<'_, '_, '_>,
     output: &mut Output,

@@ -1,7 +1,6 @@
 -- Guarded loads and stores.
 use Rattle.std.proofs.Common.{◌≡◌, ℕ, ◌+◌, ◌*◌, ◌^◌, ◌<◌, Bool, true, false, List, ◌++◌, length, take, drop, Some, option_map, ℤ, pos, negsuc, refl, sym, ap, ◌∙◌, subst, arith}
 use Rattle.sem_words.specs.declared.js_value.JsValue.TheVariants.{Whole}
-use Rattle.sem_words.specs.Words.{word_of}
 use Rattle.sem_words.specs.JsValues.{to_uint32_of}
 use Rattle.sem_words.proofs.WordLaws.{word_of-signed_of_32}
 use Rattle.heap_lang.specs.Heap.{IsHeapLength, element_size, element_of, load, store, load_bytes, store_bytes}
@@ -14,8 +13,8 @@ use Rattle.asm_lang_valid.specs.declared.meaning.Element.TheVariants.{Int8, Uint
 use Rattle.asm_lang_valid.specs.Scope.{shift_of}
 use Rattle.asm_lang_exec.specs.Values.{kind_of, element_value}
 use Rattle.asm2wasm_translation.specs.Values.{is_signed_element, access}
-use Rattle.asm2wasm_laws_heap.specs.Guards.{is_within, stored_memory, word_or_zero, loaded_word, is_index, StoresAreGuarded, LoadsAreGuarded}
-use Rattle.asm2wasm_laws_heap.proofs.Places.{Places, places_of, has_size, word_is, negative_is}
+use Rattle.asm2wasm_laws_heap.specs.Guards.{is_within, is_in_heap, IsPlace, stored_memory, word_or_zero, loaded_word, StoresAreGuarded, LoadsAreGuarded}
+use Rattle.asm2wasm_laws_heap.proofs.Places.{Places, places_of, has_size}
 
 module _ (v : Element) (heap past : List ℕ) (long : IsHeapLength (length heap)) where
   abbrev k : ℕ
@@ -26,18 +25,19 @@ module _ (v : Element) (heap past : List ℕ) (long : IsHeapLength (length heap)
 
   -- ---- stores
 
-  stores_at : (i word : ℕ) (inside : Bool) → is_within k (length heap) i ≡ inside → stored_memory k i word inside (heap ++ past) ≡ store_bytes (2 ^ k * i) (2 ^ k) word heap ++ past
+  stores_at : (i word : ℕ) (inside : Bool) → is_within k (length heap) i ≡ inside → stored_memory k (i * 2 ^ k) word inside (heap ++ past) ≡ store_bytes (2 ^ k * i) (2 ^ k) word heap ++ past
   stores_at i word true w =
       ap (λ at. store_bytes at (2 ^ k) word (heap ++ past)) (places.turned i) ∙ store_bytes-append (2 ^ k * i) (2 ^ k) word heap past (places.inside i w)
   stores_at i word false w = ap (λ h. h ++ past) (sym (store_bytes_past (2 ^ k * i) (2 ^ k) word heap (places.outside i w)))
 
-  stores : (z : ℤ) (word : ℕ) → is_index z ≡ true → stored_memory k (word_of 32 z) word (is_within k (length heap) (word_of 32 z)) (heap ++ past) ≡ store (kind_of v) z word heap ++ past
-  stores (pos i) word h =
-      ap (λ n. stored_memory k n word (is_within k (length heap) n) (heap ++ past)) (word_is i h)
+  stores : (z : ℤ) (place word : ℕ) → IsPlace k z place → stored_memory k place word (is_in_heap (length heap) place) (heap ++ past) ≡ store (kind_of v) z word heap ++ past
+  stores (pos i) place word h =
+      ap (λ n. stored_memory k n word (is_in_heap (length heap) n) (heap ++ past)) h
+      ∙ ap (λ b. stored_memory k (i * 2 ^ k) word b (heap ++ past)) (places.begins i)
       ∙ stores_at i word (is_within k (length heap) i) refl
       ∙ ap (λ h. h ++ past) (ap (λ size. store_bytes (size * i) size word heap) (sym (has_size v)) ∙ sym (store_is (kind_of v) i word heap))
-  stores (negsuc n) word h =
-      ap (λ b. stored_memory k (word_of 32 (negsuc n)) word b (heap ++ past)) (places.far n (negative_is n h))
+  stores (negsuc n) place word h =
+      ap (λ b. stored_memory k place word b (heap ++ past)) (places.begins_far place h)
       ∙ ap (λ h. h ++ past) (sym (store_negative (kind_of v) n word heap))
 
   -- ---- loads
@@ -65,21 +65,23 @@ module _ (v : Element) (heap past : List ℕ) (long : IsHeapLength (length heap)
       number Int32 n below = sym (word_of-signed_of_32 n below)
       number Uint32 n below = omega (arith, below)
 
-  loads_at : (i : ℕ) (inside : Bool) → is_within k (length heap) i ≡ inside → IsBytes heap → loaded_word op k i inside (heap ++ past) ≡ to_uint32_of (element_value (load (kind_of v) (pos i) heap))
+  loads_at : (i : ℕ) (inside : Bool) → is_within k (length heap) i ≡ inside → IsBytes heap → loaded_word op k (i * 2 ^ k) inside (heap ++ past) ≡ to_uint32_of (element_value (load (kind_of v) (pos i) heap))
   loads_at i true w bytes = loads_inside i w bytes
   loads_at i false w bytes =
       let beyond : length heap < element_size (kind_of v) * i + element_size (kind_of v) = subst (λ size. length heap < size * i + size) (sym (has_size v)) (places.outside i w) in
       ap (λ o. to_uint32_of (element_value o)) (sym (load_past (kind_of v) i heap beyond))
 
-  loads : (z : ℤ) → IsBytes heap → is_index z ≡ true → loaded_word op k (word_of 32 z) (is_within k (length heap) (word_of 32 z)) (heap ++ past) ≡ to_uint32_of (element_value (load (kind_of v) z heap))
-  loads (pos i) bytes h =
-      ap (λ n. loaded_word op k n (is_within k (length heap) n) (heap ++ past)) (word_is i h) ∙ loads_at i (is_within k (length heap) i) refl bytes
-  loads (negsuc n) bytes h =
-      ap (λ b. loaded_word op k (word_of 32 (negsuc n)) b (heap ++ past)) (places.far n (negative_is n h))
+  loads : (z : ℤ) (place : ℕ) → IsBytes heap → IsPlace k z place → loaded_word op k place (is_in_heap (length heap) place) (heap ++ past) ≡ to_uint32_of (element_value (load (kind_of v) z heap))
+  loads (pos i) place bytes h =
+      ap (λ n. loaded_word op k n (is_in_heap (length heap) n) (heap ++ past)) h
+      ∙ ap (λ b. loaded_word op k (i * 2 ^ k) b (heap ++ past)) (places.begins i)
+      ∙ loads_at i (is_within k (length heap) i) refl bytes
+  loads (negsuc n) place bytes h =
+      ap (λ b. loaded_word op k place b (heap ++ past)) (places.begins_far place h)
       ∙ ap (λ o. to_uint32_of (element_value o)) (sym (load_negative (kind_of v) n heap))
 
 pub stores_are_guarded : StoresAreGuarded
-stores_are_guarded v z word heap past long h = stores v heap past long z word h
+stores_are_guarded v z place word heap past long h = stores v heap past long z place word h
 
 pub loads_are_guarded : LoadsAreGuarded
-loads_are_guarded v z heap past long bytes h = loads v heap past long z bytes h
+loads_are_guarded v z place heap past long bytes h = loads v heap past long z place bytes h

@@ -1,7 +1,6 @@
--- A heap at the front of a memory: elements are read and written under a guard that compares their index, as a word, with the number of
--- elements in the heap, whatever more the memory has.
-use Rattle.std.specs.Prelude.{◌≡◌, ℕ, ◌+◌, ◌-◌, ◌*◌, ◌/◌, ◌^◌, ◌≤◌, min, Bool, true, false, List, ◌++◌, length, take, drop, map, All, Option, Some, None, ℤ, pos, nat_lt}
-use Rattle.sem_words.specs.Words.{word_of}
+-- A heap at the front of a memory: elements are read and written under a guard that compares where they begin with the heap's length,
+-- whatever more the memory has.
+use Rattle.std.specs.Prelude.{◌≡◌, ℕ, ◌+◌, ◌-◌, ◌*◌, ◌/◌, ◌^◌, ◌≤◌, min, Bool, true, false, List, ◌++◌, length, take, drop, map, All, Option, Some, None, ℤ, pos, negsuc, nat_lt}
 use Rattle.sem_words.specs.JsValues.{to_uint32_of}
 use Rattle.heap_lang.specs.Heap.{IsHeapLength, load, store, load_bytes, store_bytes}
 use Rattle.heap_lang.specs.Numbers.{IsBytes}
@@ -19,18 +18,27 @@ use Rattle.asm2wasm_translation.specs.Values.{is_signed_element, access}
 abbrev pub is_within : (k size index : ℕ) → Bool
 is_within k size index = nat_lt index (size / 2 ^ k)
 
-abbrev pub stored_memory : (k index word : ℕ) → Bool → List ℕ → List ℕ
-stored_memory k index word true memory = store_bytes (index * 2 ^ k) (2 ^ k) word memory
-stored_memory k index word false memory = memory
+-- an element that begins there begins in a heap of this length
+abbrev pub is_in_heap : (size place : ℕ) → Bool
+is_in_heap size place = nat_lt place size
+
+-- where the element of 2 ^ k bytes at an index begins; past each heap where the index is negative
+abbrev pub IsPlace : (k : ℕ) → ℤ → (place : ℕ) → Type 0
+IsPlace k (pos i) place = place ≡ i * 2 ^ k
+IsPlace k (negsuc n) place = 2 ^ 31 ≤ place
+
+abbrev pub stored_memory : (k place word : ℕ) → Bool → List ℕ → List ℕ
+stored_memory k place word true memory = store_bytes place (2 ^ k) word memory
+stored_memory k place word false memory = memory
 
 -- the word of the element, or 0
 abbrev pub word_or_zero : MemOp → Option ℕ → ℕ
 word_or_zero op None = 0
 word_or_zero op (Some n) = loaded_number op 32 n
 
-abbrev pub loaded_word : MemOp → (k index : ℕ) → Bool → List ℕ → ℕ
-loaded_word op k index true memory = word_or_zero op (load_bytes (index * 2 ^ k) (2 ^ k) memory)
-loaded_word op k index false memory = 0
+abbrev pub loaded_word : MemOp → (k place : ℕ) → Bool → List ℕ → ℕ
+loaded_word op k place true memory = word_or_zero op (load_bytes place (2 ^ k) memory)
+loaded_word op k place false memory = 0
 
 -- a signed or an unsigned 32-bit number
 abbrev pub is_index : ℤ → Bool
@@ -38,19 +46,20 @@ is_index z = is_between least (pos (2 ^ 32)) z
 
 abbrev pub StoresAreGuarded : Type 0
 StoresAreGuarded =
-    (v : Element) (z : ℤ) (word : ℕ) (heap past : List ℕ) → IsHeapLength (length heap) → is_index z ≡ true
-    → stored_memory (shift_of v) (word_of 32 z) word (is_within (shift_of v) (length heap) (word_of 32 z)) (heap ++ past) ≡ store (kind_of v) z word heap ++ past
+    (v : Element) (z : ℤ) (place word : ℕ) (heap past : List ℕ) → IsHeapLength (length heap) → IsPlace (shift_of v) z place
+    → stored_memory (shift_of v) place word (is_in_heap (length heap) place) (heap ++ past) ≡ store (kind_of v) z word heap ++ past
 
 -- the value of an element outside the heap is undefined, as an int 0
 abbrev pub LoadsAreGuarded : Type 0
 LoadsAreGuarded =
-    (v : Element) (z : ℤ) (heap past : List ℕ) → IsHeapLength (length heap) → IsBytes heap → is_index z ≡ true
-    → loaded_word (access v (is_signed_element v)) (shift_of v) (word_of 32 z) (is_within (shift_of v) (length heap) (word_of 32 z)) (heap ++ past) ≡ to_uint32_of (element_value (load (kind_of v) z heap))
+    (v : Element) (z : ℤ) (place : ℕ) (heap past : List ℕ) → IsHeapLength (length heap) → IsBytes heap → IsPlace (shift_of v) z place
+    → loaded_word (access v (is_signed_element v)) (shift_of v) place (is_in_heap (length heap) place) (heap ++ past) ≡ to_uint32_of (element_value (load (kind_of v) z heap))
 
 -- where the guard holds the bytes are there
 abbrev pub GuardedBytesAreThere : Type 0
 GuardedBytesAreThere =
-    (k index : ℕ) (heap past : List ℕ) → k ≤ 2 → is_within k (length heap) index ≡ true → index * 2 ^ k + 2 ^ k ≤ length (heap ++ past)
+    (v : Element) (z : ℤ) (place : ℕ) (heap past : List ℕ) → IsHeapLength (length heap) → IsPlace (shift_of v) z place → is_in_heap (length heap) place ≡ true
+    → place + 2 ^ shift_of v ≤ length (heap ++ past)
 
 -- byte writes of a host inside the heap
 abbrev pub WritesStayInFront : Type 0

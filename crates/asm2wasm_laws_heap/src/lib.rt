@@ -3,7 +3,7 @@
 
 ghost use Rattle.asm2wasm_laws_heap.specs.Guards.{StoresAreGuarded, LoadsAreGuarded, GuardedBytesAreThere, WritesStayInFront, WritesHaveTwoParts};
 
-/// A guarded access of the memory is the access of the heap, at each index that is a 32-bit number.
+/// A guarded access of the memory is the access of the heap, at each index, where its element begins.
 pub fn guarded_accesses()
     ensures stores { StoresAreGuarded }
     ensures loads { LoadsAreGuarded }

@@ -7,13 +7,13 @@ use Rattle.sem_words.specs.declared.word.Word.TheVariants.{W32}
 use Rattle.sem_words.specs.declared.js_value.JsValue.{JsValue}
 use Rattle.sem_words.specs.declared.js_value.JsValue.TheVariants.{Whole}
 use Rattle.sem_words.specs.declared.js_value.JsOp.{JsOp}
-use Rattle.sem_words.specs.declared.js_value.JsOp.TheVariants.{Or}
+use Rattle.sem_words.specs.declared.js_value.JsOp.TheVariants.{Or, Sar}
 use Rattle.sem_words.specs.Words.{word_of}
 use Rattle.sem_words.specs.JsValues.{to_uint32_of, truthy_of}
 use Rattle.sem_words.specs.JsOperators.{js_binary_of, js_unary_of}
 use Rattle.heap_lang.specs.Heap.{IsHeapLength}
 use Rattle.wasm_lang.specs.declared.types.ValType.TheVariants.{I32}
-use Rattle.wasm_lang.specs.Instructions.{local_get, local_set, bin32, drop_operand}
+use Rattle.wasm_lang.specs.Instructions.{const32, local_get, local_set, bin32, drop_operand}
 use Rattle.wasm_lang_exec.specs.Code.{Trees, ε, ◌▹◌, ◌⊕◌, if_block}
 use Rattle.asm_types.specs.declared.value_type.ValueType.{ValueType}
 use Rattle.asm_types.specs.declared.value_type.ValueType.TheVariants.{Signed, Int, Intish, Extern}
@@ -24,7 +24,7 @@ use Rattle.asm_lang_valid.specs.Scope.{Meaning, first_member, nothing, an_int, a
 use Rattle.asm_lang_valid.specs.Refusal.{foreign_globals, has_heap}
 use Rattle.asm_lang_valid.specs.Rows.{expr_count}
 use Rattle.asm_lang_valid.specs.LimitRows.{Mark, expr_marks, exprs_marks, links_marks, comma_marks, call_marks, callee_marks, foreign_calls}
-use Rattle.asm_lang_valid.specs.Typing.{Scope, named, typed_below, is_int, matches, index_fits, operated, exprs_length, is_call, or_zero, builtin_call, callee_fits, table_fits, mask_fits, type_of, all_below, links_fit, call_fits, last_type}
+use Rattle.asm_lang_valid.specs.Typing.{Scope, named, typed_below, is_int, matches, bare_index, index_form, index_fits, operated, exprs_length, is_call, or_zero, builtin_call, callee_fits, table_fits, mask_fits, type_of, all_below, links_fit, call_fits, last_type}
 use Rattle.asm_lang_valid.specs.Typed.{scope_of}
 use Rattle.asm_lang_exec.specs.Runs.{Run, goes, stops, spent, wrong, Part, after, and_then, gives, goes_wrong, defined, read, write}
 use Rattle.asm_lang_exec.specs.Values.{Calls, read_element, write_element, call_named, entry_of}
@@ -33,27 +33,43 @@ use Rattle.asm_laws_sound.proofs.Members.{Typed, Good, good_name}
 use Rattle.asm_laws_sound.proofs.Expressions.{from_bind, from_if, from_below, from_some, Masks, Valued, known_binary, index_of, operands_of, builtin_of, masked_known}
 use Rattle.asm2wasm_translation.specs.Numbers.{place_of, base_of}
 use Rattle.asm2wasm_translation.specs.Values as translated
-use Rattle.asm2wasm_translation.specs.Values.{plains, one, number, is_unsigned, operator, get_code, put_code, load_code, store_code, stored_code, before_operand, after_operand, callee_code, dropped, from_base, entry_code, finished, expr_code, arguments_code, links_code, comma_code}
+use Rattle.asm2wasm_translation.specs.Values.{plains, one, number, is_unsigned, operator, get_code, put_code, exponent_in, aligned, literal_place, is_shift, place_code, load_code, store_code, stored_code, before_operand, after_operand, callee_code, dropped, from_base, entry_code, finished, expr_code, left_code, arguments_code, links_code, comma_code}
 use Rattle.asm2wasm_laws_words.specs.Laws.{is_unsigned_type}
 use Rattle.asm2wasm_laws_words.proofs.Compared.{words_of_conditions}
 use Rattle.asm2wasm_laws_words.proofs.Formed.{form_says_type}
-use Rattle.asm2wasm_laws_run.specs.State.{AnyValue}
+use Rattle.asm2wasm_laws_run.specs.State.{AnyValue, IsIndex}
 use Rattle.asm2wasm_laws_preservation.specs.Kept.{word, a_value, values, no_value, result, Surroundings, Keeps}
 use Rattle.asm2wasm_laws_preservation.specs.Made.{AllListed, Within, CallsKept}
 use Rattle.asm2wasm_laws_preservation.proofs.Rooms.{first_within, second_within, arms_within, listed_parts}
-use Rattle.asm2wasm_laws_preservation.proofs.Joined.{keeps_then, keeps_weaker, keeps_over, keeps_same, keeps_known, keeps_seen, keeps_none, keeps_gives}
+use Rattle.asm2wasm_laws_preservation.proofs.Joined.{keeps_then, keeps_weaker, keeps_over, keeps_same, keeps_known, keeps_seen, keeps_none, keeps_gives, keeps_operation}
 use Rattle.asm2wasm_laws_preservation.proofs.Operated.{keeps_literal, keeps_unary}
 use Rattle.asm2wasm_laws_preservation.proofs.Variables.{keeps_read, keeps_write}
 use Rattle.asm2wasm_laws_preservation.proofs.Chosen.{keeps_chosen, keeps_finished, keeps_link, keeps_or_zero}
 use Rattle.asm2wasm_laws_preservation.proofs.Meant.{in_module, view_said}
 use Rattle.asm2wasm_laws_preservation.proofs.Scratch.{scratch_x, scratch_y}
-use Rattle.asm2wasm_laws_preservation.proofs.Stepped.{index_is, keeps_operator, keeps_index, keeps_stored}
+use Rattle.asm2wasm_laws_preservation.proofs.Stepped.{index_is, IsIndexAt, keeps_operator, keeps_index, keeps_stored}
+use Rattle.asm2wasm_laws_preservation.proofs.Placed.{few_exponents, form_at, bare_is, literal_is, shifted_place, keeps_shift}
 use Rattle.asm2wasm_laws_preservation.proofs.Called.{values_more, keeps_builtin, keeps_named, keeps_entry, keeps_place, keeps_waiting}
 
 -- a call that isn't one of the standard library has no type
 no_builtin : (mm : Meaning) (result : Bool) (count count' : ℕ) (a b d : Bool) → callee_fits mm result count a b ≡ true → builtin_call mm count' d ≡ None
 no_builtin (a_builtin x) result count count' a b d h = absurd (cc h)
 no_builtin mm result count count' a b d h = refl
+
+shift_isnt_or : (op : JsOp) (r : Expr) (b : Bool) → is_shift op ≡ true → (b && or_zero op r) ≡ false
+shift_isnt_or Sar r true e = refl
+shift_isnt_or Sar r false e = refl
+shift_isnt_or op r b e = absurd (cc e)
+
+shift_operated : (b : Bool) (x y o : Option ValueType) → (if b && false then x else y) ≡ o → y ≡ o
+shift_operated true x y o h = h
+shift_operated false x y o h = h
+
+-- the place on the stack where the code of an index ends
+abbrev place_at : ℕ → Expr → JsValue → ℕ
+place_at k (lit z) v = literal_place k z
+place_at k (binary op l r) v = if is_shift op then shifted_place k v else to_uint32_of v
+place_at k e v = to_uint32_of v
 
 unseen : (o : Run JsValue) → o ≡ after o (λ v. if in_type None v then gives v else goes_wrong)
 unseen (goes v p) = refl
@@ -129,6 +145,43 @@ module _ (s : Surroundings) (limit : ℕ) (calls : Calls) (kept : CallsKept s li
     binary_kept false true z is h room by_call left right = let p = and_parts (is_call c l) false is in absurd (cc p.1)
     binary_kept false false z is h room by_call left right = operated_kept h room (left refl) (right refl)
 
+  -- ---- where the element of an index begins
+
+  abbrev place_of_index : (k d : ℕ) → Expr → Trees
+  place_of_index k d i = place_code k i (code_of true d i) (left_code s.heap c d i)
+
+  -- the left operand of a shift
+  abbrev LeftKept : ℕ → Expr → Type 0
+  LeftKept d (binary op l r) = is_shift op ≡ true → Within s (code_of true d l) → (a : ValueType) → type_of c l ≡ Some a → Keeps s limit d [] (Valued a l) a_value (code_of true d l) (does l)
+  LeftKept d e = Unit {0}
+
+  bare_kept : (k : ℕ) (i : Expr) (t : ValueType) (d : ℕ) → bare_index k (Some t) ≡ true → ((v : JsValue) → Valued t i v → IsIndex v)
+      → Keeps s limit d [] (Valued t i) a_value (code_of true d i) (does i)
+      → Keeps s limit d [] (λ v. IsIndexAt k (to_uint32_of v) v) (λ v. W32 (to_uint32_of v) ∷ []) (code_of true d i) (does i)
+  bare_kept k i t d form whole value =
+      keeps_weaker s limit d [] (Valued t i) (λ v. IsIndexAt k (to_uint32_of v) v) a_value (code_of true d i) (does i)
+      (λ v g. subst (λ k. IsIndexAt k (to_uint32_of v) v) (sym (eqb-true k 0 (and_parts _ _ form).0)) (bare_is v (whole v g))) value
+
+  place_kept : (k : ℕ) → k ≤ 2 → (i : Expr) (t : ValueType) (d : ℕ) → type_of c i ≡ Some t → index_form k i (Some t) ≡ true → ((v : JsValue) → Valued t i v → IsIndex v)
+      → (Within s (code_of true d i) → Keeps s limit d [] (Valued t i) a_value (code_of true d i) (does i)) → LeftKept d i → Within s (place_of_index k d i)
+      → Keeps s limit d [] (λ v. IsIndexAt k (place_at k i v) v) (λ v. W32 (place_at k i v) ∷ []) (place_of_index k d i) (does i)
+  place_kept k few (lit z) t d h form whole value left room =
+      keeps_weaker s limit d [] (Valued t (lit z)) (λ v. IsIndexAt k (literal_place k z) v) (λ v. W32 (literal_place k z) ∷ []) (one (number (literal_place k z))) (does (lit z))
+      (λ v g. literal_is k z few form v (whole v g) g.1)
+      (keeps_seen s limit d [] t (type_of c (lit z)) (λ v. v ≡ Whole z) (λ v. W32 (literal_place k z) ∷ []) (one (number (literal_place k z))) (gives (Whole z)) h
+      (keeps_operation s limit d [] (λ v. v ≡ Whole z) (λ v. W32 (literal_place k z) ∷ []) (const32 (literal_place k z) ∷ []) (Whole z) refl (λ stack locals store. refl)))
+  place_kept k few (binary Sar l r) t d h form whole value left room =
+      let o = operands_of Sar l r (type_of c l) (type_of c r) t (shift_operated (is_call c l) (row (call_fits c true l) Signed) (operated Sar l r (type_of c l) (type_of c r)) (Some t) h) in
+      let at = λ (v : JsValue). IsIndexAt k (shifted_place k v) v in
+      let on = λ (v : JsValue). W32 (shifted_place k v) ∷ [] in
+      let part = and_then (does l) (λ v. and_then (does r) (λ w. defined (js_binary_of Sar v w))) in
+      keeps_weaker s limit d [] (λ v. (in_type (Some t) v ≡ true) × at v) at on (code_of true d l ⊕ plains (aligned k)) (does (binary Sar l r)) (λ v g. g.1)
+      (keeps_seen s limit d [] t (type_of c (binary Sar l r)) at on (code_of true d l ⊕ plains (aligned k)) part h
+      (keeps_then s limit d [] (Valued o.left l) a_value at on (code_of true d l) (plains (aligned k)) (does l) (λ v. and_then (does r) (λ w. defined (js_binary_of Sar v w)))
+      (left refl (first_within s (code_of true d l) (plains (aligned k)) room) o.left o.left_is)
+      (λ v g. keeps_shift s limit d calls c k v r few form)))
+  place_kept k few i t d h form whole value left room = bare_kept k i t d form whole (value room)
+
   -- ---- an expression whose value isn't used
 
   pub effect_kept : (e : Expr) (d : ℕ) (ms ns : List Mark) (b : Bool) → (if b then call_fits c false e else is_some (type_of c e)) ≡ true → Listed (if b then ms else ns)
@@ -202,13 +255,16 @@ module _ (s : Surroundings) (limit : ℕ) (calls : Calls) (kept : CallsKept s li
         let w = from_row (index_fits (named c n) i (type_of c i)) Intish t h in
         let x = index_of c (named c n) i (type_of c i) refl w.0 in
         let has_one = view_said s.home n x.view (in_module s.home s.within n (a_view x.view) x.is_view (λ q. q)) in
+        let k = exponent_in (named c n) in
         let load = load_code s.heap (scratch_x s limit d) (named c n) in
-        let inside = finished_within wanted (code_of true d i ⊕ load) room in
+        let inside = finished_within wanted (place_of_index k d i ⊕ load) room in
         let part = and_then (does i) (λ x. read_element (named c n) x) in
         keeps_seen s limit d [] t (type_of c (index n i)) AnyValue (result wanted) (code_of wanted d (index n i)) part h
-        (keeps_finished s limit d wanted AnyValue (code_of true d i ⊕ load) part
-        (keeps_index s limit d (named c n) x.view x.is_view has_one (long has_one) (Valued x.type i) (code_of true d i) (does i) (index_is c (named c n) i x w.0) (second_within s (code_of true d i) load inside)
-        (value_kept i true x.type d (at + 1) x.has_type (first_within s (code_of true d i) load inside) l)))
+        (keeps_finished s limit d wanted AnyValue (place_of_index k d i ⊕ load) part
+        (keeps_index s limit d (named c n) x.view x.is_view has_one (long has_one) (place_at k i) (λ v. IsIndexAt k (place_at k i v) v) (place_of_index k d i) (does i)
+        (λ v g. subst (λ j. IsIndexAt j (place_at k i v) v) (ap exponent_in x.is_view) g) (second_within s (place_of_index k d i) load inside)
+        (place_kept k (few_exponents (named c n)) i x.type d x.has_type (form_at (named c n) i (type_of c i) x.type x.has_type w.0) (index_is c (named c n) i x w.0)
+        (λ whole. value_kept i true x.type d (at + 1) x.has_type whole l) (left_kept i d (at + 1) l) (first_within s (place_of_index k d i) load inside))))
     value_kept (call n es) wanted t d at h room l =
         let b = builtin_of (named c n) (exprs_length es) (all_below c Int es) t h in
         let more = callee_code c wanted n (exprs_length es) (named c n) ⊕ dropped wanted (named c n) in
@@ -230,14 +286,17 @@ module _ (s : Surroundings) (limit : ℕ) (calls : Calls) (kept : CallsKept s li
         let p = and_parts _ _ w.0 in
         let x = index_of c (named c n) i (type_of c i) refl p.0 in
         let has_one = view_said s.home n x.view (in_module s.home s.within n (a_view x.view) x.is_view (λ q. q)) in
+        let k = exponent_in (named c n) in
         let put = store_code s.heap (scratch_x s limit d) (scratch_y s limit d) (named c n) in
         let last = stored_code wanted (scratch_y s limit d) in
-        let rest = second_within s (code_of true d i) (code_of true d e ⊕ (put ⊕ last)) room in
+        let rest = second_within s (place_of_index k d i) (code_of true d e ⊕ (put ⊕ last)) room in
         let ls = listed_parts (foreign_calls s.home) (expr_marks c (at + 1) i) (expr_marks c (at + 1 + expr_count i) e) l in
         keeps_seen s limit d [] t (type_of c (store n i e)) AnyValue (result wanted) (code_of wanted d (store n i e)) (and_then (does i) (λ x. and_then (does e) (λ v. write_element (named c n) x v))) h
-        (keeps_stored s limit d (named c n) x.view x.is_view has_one (long has_one) wanted (Valued x.type i) (Valued t e) (code_of true d i) (code_of true d e) (does i) (does e) (index_is c (named c n) i x p.0)
+        (keeps_stored s limit d (named c n) x.view x.is_view has_one (long has_one) (place_at k i) wanted (λ v. IsIndexAt k (place_at k i v) v) (Valued t e) (place_of_index k d i) (code_of true d e) (does i) (does e)
+        (λ v g. subst (λ j. IsIndexAt j (place_at k i v) v) (ap exponent_in x.is_view) g)
         (first_within s put last (second_within s (code_of true d e) (put ⊕ last) rest))
-        (value_kept i true x.type d (at + 1) x.has_type (first_within s (code_of true d i) (code_of true d e ⊕ (put ⊕ last)) room) ls.0)
+        (place_kept k (few_exponents (named c n)) i x.type d x.has_type (form_at (named c n) i (type_of c i) x.type x.has_type p.0) (index_is c (named c n) i x p.0)
+        (λ whole. value_kept i true x.type d (at + 1) x.has_type whole ls.0) (left_kept i d (at + 1) ls.0) (first_within s (place_of_index k d i) (code_of true d e ⊕ (put ⊕ last)) room))
         (value_kept e true t d (at + 1 + expr_count i) w.1 (first_within s (code_of true d e) (put ⊕ last) rest) ls.1))
     value_kept (unary op e) wanted t d at h room l =
         let p = from_bind (λ a. unary_row_of op a) (type_of c e) t h in
@@ -295,6 +354,14 @@ module _ (s : Surroundings) (limit : ℕ) (calls : Calls) (kept : CallsKept s li
     value_kept (comma es) wanted t d at h room l =
         keeps_seen s limit d [] t (type_of c (comma es)) AnyValue (result wanted) (code_of wanted d (comma es)) (eval_last true calls c es) h
         (keeps_finished s limit d wanted AnyValue (comma_code s.heap c d es) (eval_last true calls c es) (last_kept es t d (at + 1) h (finished_within wanted (comma_code s.heap c d es) room) l))
+
+    left_kept : (e : Expr) (d at : ℕ) → Listed (expr_marks c at e) → LeftKept d e
+    left_kept (binary op l r) d at ls =
+        λ is inside a has.
+        value_kept l true a d (at + 1) has inside
+        (listed_parts (foreign_calls s.home) (expr_marks c (at + 1) l) (expr_marks c (at + 1 + expr_count l) r)
+        (subst (λ b. Listed (if b then call_marks c true (at + 1) l else expr_marks c (at + 1) l ++ expr_marks c (at + 1 + expr_count l) r)) (shift_isnt_or op r (is_call c l) is) ls)).0
+    left_kept e d at ls = tt
 
     all_kept : (es : Exprs) (top : ValueType) (d at : ℕ) → all_below c top es ≡ true → Within s (arguments_code s.heap c d es) → Listed (exprs_marks c at es)
         → Keeps s limit d [] (λ vs. length vs ≡ exprs_length es) values (arguments_code s.heap c d es) (eval_all true calls c es)

@@ -9,6 +9,7 @@ pub mod Elements
 pub mod Meant
 pub mod Rooms
 pub mod Stepped
+pub mod Placed
 pub mod Called
 pub mod Evaluated
 pub mod Whole

@@ -1,10 +1,12 @@
 -- One construct at a time, where its parts are kept.
-use Rattle.std.proofs.Common.{◌≡◌, ℕ, ◌+◌, ◌≤◌, Bool, true, false, ◌&&◌, ◌||◌, [], ◌∷◌, Some, option_and_then, refl, sym, ap, ◌∙◌, subst, ⊎_elim, arith}
+use Rattle.std.proofs.Common.{◌≡◌, ℕ, ◌+◌, ◌≤◌, Bool, true, false, ◌&&◌, ◌||◌, [], ◌∷◌, Some, option_and_then, ℤ, refl, sym, ap, ◌∙◌, subst, ⊎_elim, arith}
 use Rattle.std.proofs.lemmas.Bool.{and_parts, or_cases}
 use Rattle.std.specs.Prelude.{if◌then◌else◌}
 use Rattle.sem_words.specs.declared.word.Bin.TheVariants as bins
 use Rattle.sem_words.specs.declared.word.Rel.TheVariants as rels
+use Rattle.sem_words.specs.declared.word.Word.TheVariants.{W32}
 use Rattle.sem_words.specs.declared.js_value.JsValue.{JsValue}
+use Rattle.sem_words.specs.declared.js_value.JsValue.TheVariants.{Whole}
 use Rattle.sem_words.specs.declared.js_value.JsOp.{JsOp}
 use Rattle.sem_words.specs.declared.js_value.JsOp.TheVariants.{Add, Sub, Mul, Div, Rem, Or, And, Xor, Shl, Sar, Shr, Lt, Le, Gt, Ge, Eq, Ne}
 use Rattle.sem_words.specs.JsOperators.{js_binary_of}
@@ -25,6 +27,7 @@ use Rattle.asm_lang_exec.specs.Values.{read_element, write_element}
 use Rattle.asm_laws_sound.proofs.Expressions.{from_bind, Valued, IndexOf}
 use Rattle.asm_laws_sound.proofs.Names.{literal_below}
 use Rattle.asm2wasm_translation.specs.Values.{operator, load_code, store_code, stored_code}
+use Rattle.asm2wasm_laws_heap.specs.Guards.{IsPlace}
 use Rattle.asm2wasm_laws_words.specs.Laws.{compared, is_unsigned_type}
 use Rattle.asm2wasm_laws_words.proofs.Formed.{alike_by_one}
 use Rattle.asm2wasm_laws_run.specs.State.{AnyValue, IsIndex}
@@ -76,6 +79,12 @@ index_is c mm i x h v g =
     let int = index_int c (shift_of x.view) i x.type v x.has_type form g in
     record { number = z.0; is = z.1; in_range = subst (λ v. fits_of Int v ≡ true) z.1 int }
 
+-- a whole number, and where its element begins
+pub record IsIndexAt (k at : ℕ) (v : JsValue) : Type 0 where
+  pub number : ℤ
+  pub is : v ≡ Whole number
+  pub place : IsPlace k number at
+
 module _ (s : Surroundings) (limit d : ℕ) where
   abbrev x : ℕ
   x = scratch_x s limit d
@@ -117,15 +126,15 @@ module _ (s : Surroundings) (limit d : ℕ) where
 
   -- ---- elements
 
-  module _ (mm : Meaning) (v : Element) (is_view : mm ≡ a_view v) (has_one : has_heap s.home ≡ true) (long : IsHeapLength s.heap) where
-    pub keeps_index : (has : JsValue → Type 0) (code : Trees) (part : Part JsValue) → ((i : JsValue) → has i → IsIndex i)
-        → Within s (load_code s.heap x mm) → Keeps s limit d [] has a_value code part
+  module _ (mm : Meaning) (v : Element) (is_view : mm ≡ a_view v) (has_one : has_heap s.home ≡ true) (long : IsHeapLength s.heap) (at : JsValue → ℕ) where
+    pub keeps_index : (has : JsValue → Type 0) (code : Trees) (part : Part JsValue) → ((i : JsValue) → has i → IsIndexAt (shift_of v) (at i) i)
+        → Within s (load_code s.heap x mm) → Keeps s limit d [] has (λ i. W32 (at i) ∷ []) code part
         → Keeps s limit d [] AnyValue a_value (code ⊕ load_code s.heap x mm) (and_then part (λ i. read_element mm i))
     keeps_index has code part whole room k =
-        keeps_then s limit d [] has a_value AnyValue a_value code (load_code s.heap x mm) part (λ i. read_element mm i) k
-        (λ i g. subst (λ mm. Keeps s limit d (word i ∷ []) AnyValue a_value (load_code s.heap x mm) (read_element mm i)) (sym is_view)
-        (subst (λ i. Keeps s limit d (word i ∷ []) AnyValue a_value (load_code s.heap x (a_view v)) (read_element (a_view v) i)) (sym (whole i g).is)
-        (keeps_load s limit d some v has_one long (whole i g).number (whole i g).in_range)))
+        keeps_then s limit d [] has (λ i. W32 (at i) ∷ []) AnyValue a_value code (load_code s.heap x mm) part (λ i. read_element mm i) k
+        (λ i g. subst (λ mm. Keeps s limit d (W32 (at i) ∷ []) AnyValue a_value (load_code s.heap x mm) (read_element mm i)) (sym is_view)
+        (subst (λ j. Keeps s limit d (W32 (at i) ∷ []) AnyValue a_value (load_code s.heap x (a_view v)) (read_element (a_view v) j)) (sym (whole i g).is)
+        (keeps_load s limit d some v has_one long (whole i g).number (at i) (whole i g).place)))
       where
         view_room : Within s (load_code s.heap x (a_view v))
         view_room = subst (λ mm. Within s (load_code s.heap x mm)) is_view room
@@ -133,16 +142,16 @@ module _ (s : Surroundings) (limit d : ℕ) where
         some : d + 1 ≤ s.scratch
         some = let room = view_room in omega (arith, room)
 
-    pub keeps_stored : (wanted : Bool) (has has_value : JsValue → Type 0) (index_code code : Trees) (index part : Part JsValue) → ((i : JsValue) → has i → IsIndex i)
-        → Within s (store_code s.heap x y mm) → Keeps s limit d [] has a_value index_code index → Keeps s limit d [] has_value a_value code part
+    pub keeps_stored : (wanted : Bool) (has has_value : JsValue → Type 0) (index_code code : Trees) (index part : Part JsValue) → ((i : JsValue) → has i → IsIndexAt (shift_of v) (at i) i)
+        → Within s (store_code s.heap x y mm) → Keeps s limit d [] has (λ i. W32 (at i) ∷ []) index_code index → Keeps s limit d [] has_value a_value code part
         → Keeps s limit d [] AnyValue (result wanted) (index_code ⊕ (code ⊕ (store_code s.heap x y mm ⊕ stored_code wanted y))) (and_then index (λ i. and_then part (λ e. write_element mm i e)))
     keeps_stored wanted has has_value index_code code index part whole room k l =
-        keeps_then s limit d [] has a_value AnyValue (result wanted) index_code (code ⊕ (store_code s.heap x y mm ⊕ stored_code wanted y)) index (λ i. and_then part (λ e. write_element mm i e)) k
-        (λ i g. keeps_then s limit d (word i ∷ []) has_value (λ e. word e ∷ word i ∷ []) AnyValue (result wanted) code (store_code s.heap x y mm ⊕ stored_code wanted y) part (λ e. write_element mm i e)
-        (keeps_over s limit d (word i ∷ []) has_value a_value code part l)
-        (λ e g'. subst (λ mm. Keeps s limit d (word e ∷ word i ∷ []) AnyValue (result wanted) (store_code s.heap x y mm ⊕ stored_code wanted y) (write_element mm i e)) (sym is_view)
-        (subst (λ i. Keeps s limit d (word e ∷ word i ∷ []) AnyValue (result wanted) (store_code s.heap x y (a_view v) ⊕ stored_code wanted y) (write_element (a_view v) i e)) (sym (whole i g).is)
-        (keeps_store s limit d (omega (arith, enough)) v has_one long enough wanted (whole i g).number e (whole i g).in_range))))
+        keeps_then s limit d [] has (λ i. W32 (at i) ∷ []) AnyValue (result wanted) index_code (code ⊕ (store_code s.heap x y mm ⊕ stored_code wanted y)) index (λ i. and_then part (λ e. write_element mm i e)) k
+        (λ i g. keeps_then s limit d (W32 (at i) ∷ []) has_value (λ e. word e ∷ W32 (at i) ∷ []) AnyValue (result wanted) code (store_code s.heap x y mm ⊕ stored_code wanted y) part (λ e. write_element mm i e)
+        (keeps_over s limit d (W32 (at i) ∷ []) has_value a_value code part l)
+        (λ e g'. subst (λ mm. Keeps s limit d (word e ∷ W32 (at i) ∷ []) AnyValue (result wanted) (store_code s.heap x y mm ⊕ stored_code wanted y) (write_element mm i e)) (sym is_view)
+        (subst (λ j. Keeps s limit d (word e ∷ W32 (at i) ∷ []) AnyValue (result wanted) (store_code s.heap x y (a_view v) ⊕ stored_code wanted y) (write_element (a_view v) j e)) (sym (whole i g).is)
+        (keeps_store s limit d (omega (arith, enough)) v has_one long enough wanted (whole i g).number (at i) e (whole i g).place))))
       where
         view_room : Within s (store_code s.heap x y (a_view v))
         view_room = subst (λ mm. Within s (store_code s.heap x y mm)) is_view room

@@ -8,17 +8,16 @@ use Rattle.sem_words.specs.declared.js_value.JsOp.TheVariants.{Add, Sub, Mul, Di
 use Rattle.sem_words.specs.declared.js_value.JsUnary.{JsUnary}
 use Rattle.sem_words.specs.declared.js_value.JsUnary.TheVariants.{Neg, BitNot, Not, Plus}
 use Rattle.wasm_lang.specs.declared.types.ValType.TheVariants.{I32}
-use Rattle.wasm_lang.specs.Instructions as instructions
 use Rattle.wasm_lang.specs.Instructions.{Plain, bin32, local_get, local_set, drop_operand}
 use Rattle.wasm_lang_exec.specs.Code.{Trees, ε, ◌▹◌, ◌⊕◌, if_block}
 use Rattle.wasm_laws_write.specs.Each.{EachIn}
 use Rattle.wasm_laws_write.proofs.Spelled.{each_joins}
 use Rattle.asm_lang.specs.Modules.{Expr, lit, decimal, var, index, call, table_call, assign, store, unary, binary, chain, cond, comma, Exprs, no_exprs, exprs, Links, no_links, links}
 use Rattle.asm_lang_valid.specs.declared.meaning.Builtin.TheVariants.{Imul, Clz32}
-use Rattle.asm_lang_valid.specs.Scope.{shift_of, Meaning, nothing, an_int, an_outside, a_foreign, a_builtin, a_view, a_function, a_table, a_parameter}
+use Rattle.asm_lang_valid.specs.Scope.{Meaning, nothing, an_int, an_outside, a_foreign, a_builtin, a_view, a_function, a_table, a_parameter}
 use Rattle.asm_lang_valid.specs.Typing.{Scope, named, exprs_length, or_zero}
 use Rattle.asm2wasm_translation.specs.Numbers.{VariablePlace, a_local, a_global, nowhere, place_of, base_of}
-use Rattle.asm2wasm_translation.specs.Values.{plains, one, get_code, put_code, guarded, quotient, operator, before_operand, after_operand, scaled, load_code, store_code, stored_code, callee_code, dropped, from_base, entry_code, finished, access, is_signed_element, is_unsigned, link_operator, scratch, expr_code, arguments_code, links_code, comma_code}
+use Rattle.asm2wasm_translation.specs.Values.{plains, one, get_code, put_code, guarded, quotient, operator, before_operand, after_operand, aligned, is_shift, place_code, exponent_in, load_code, store_code, stored_code, callee_code, dropped, from_base, entry_code, finished, is_unsigned, link_operator, scratch, expr_code, left_code, arguments_code, links_code, comma_code}
 use Rattle.asm2wasm_laws_profile.specs.Light.{IsLight}
 
 -- ---- pieces
@@ -89,17 +88,12 @@ after_light BitNot = (tt, tt)
 after_light Not = (tt, tt)
 after_light Plus = (tt, tt)
 
-element_light : (x k : ℕ) (t : Trees) → Light t → Light (one (local_get x) ⊕ (plains (scaled k) ⊕ t))
-element_light x k t h = (tt, joined (plains (scaled k)) t (plains_or_none (k == 0) _ (tt, (tt, tt))) h)
-
 load_light : (heap x : ℕ) (v : Meaning) → Light (load_code heap x v)
-load_light heap x (a_view v) =
-    (tt, (tt, (tt, (tt, element_light x (shift_of v) (one (instructions.load (access v (is_signed_element v)) (shift_of v) 0)) (tt, tt), (tt, tt), tt))))
+load_light heap x (a_view v) = (tt, (tt, (tt, (tt, (tt, (tt, tt)), (tt, tt), tt))))
 load_light heap x _ = (tt, tt)
 
 store_light : (heap x y : ℕ) (v : Meaning) → Light (store_code heap x y v)
-store_light heap x y (a_view v) =
-    (tt, (tt, (tt, (tt, (tt, element_light x (shift_of v) (plains (local_get y ∷ instructions.store (access v false) (shift_of v) 0 ∷ [])) (tt, (tt, tt)), tt, tt)))))
+store_light heap x y (a_view v) = (tt, (tt, (tt, (tt, (tt, (tt, (tt, (tt, tt))), tt, tt)))))
 store_light heap x y _ = (tt, tt)
 
 stored_light : (wanted : Bool) (y : ℕ) → Light (stored_code wanted y)
@@ -141,6 +135,12 @@ finished_light : (wanted : Bool) (t : Trees) → Light t → Light (finished wan
 finished_light true t h = h
 finished_light false t h = joined t (one drop_operand) h (tt, tt)
 
+place_light : (k : ℕ) (i : Expr) (code left : Trees) → Light code → Light left → Light (place_code k i code left)
+place_light k (lit z) code left h l = (tt, tt)
+place_light k (binary op e s) code left h l =
+    either_light (is_shift op) _ _ (joined left (plains (aligned k)) l (plains_or_none (k == 0) _ (tt, (tt, tt)))) h
+place_light k i code left h l = h
+
 -- ---- expressions
 
 module _ (heap : ℕ) (c : Scope) (none : (n : List ℕ) → NoTable (named c n)) where
@@ -151,7 +151,7 @@ module _ (heap : ℕ) (c : Scope) (none : (n : List ℕ) → NoTable (named c n)
     value_light wanted d (var n) = finished_light wanted _ (get_light (place_of c n))
     value_light wanted d (index n i) =
         let x = scratch heap c d in
-        finished_light wanted _ (joined (expr_code heap c true d i) (load_code heap x (named c n)) (value_light true d i) (load_light heap x (named c n)))
+        finished_light wanted _ (joined (place_code (exponent_in (named c n)) i (expr_code heap c true d i) (left_code heap c d i)) (load_code heap x (named c n)) (place_light (exponent_in (named c n)) i (expr_code heap c true d i) (left_code heap c d i) (value_light true d i) (left_light d i)) (load_light heap x (named c n)))
     value_light wanted d (call n es) =
         let callee = callee_code c wanted n (exprs_length es) (named c n) in
         let ended = joined callee (dropped wanted (named c n)) (callee_light c wanted n (exprs_length es) (named c n)) (dropped_light wanted (named c n)) in
@@ -172,7 +172,7 @@ module _ (heap : ℕ) (c : Scope) (none : (n : List ℕ) → NoTable (named c n)
         let last = stored_code wanted y in
         let ended = joined kept last (store_light heap x y (named c n)) (stored_light wanted y) in
         let further = joined (expr_code heap c true d e) (kept ⊕ last) (value_light true d e) ended in
-        joined (expr_code heap c true d i) (expr_code heap c true d e ⊕ (kept ⊕ last)) (value_light true d i) further
+        joined (place_code (exponent_in (named c n)) i (expr_code heap c true d i) (left_code heap c d i)) (expr_code heap c true d e ⊕ (kept ⊕ last)) (place_light (exponent_in (named c n)) i (expr_code heap c true d i) (left_code heap c d i) (value_light true d i) (left_light d i)) further
     value_light wanted d (unary op e) =
         let ended = joined (expr_code heap c true d e) (after_operand op) (value_light true d e) (after_light op) in
         finished_light wanted _ (joined (before_operand op) (expr_code heap c true d e ⊕ after_operand op) (before_light op) ended)
@@ -186,6 +186,10 @@ module _ (heap : ℕ) (c : Scope) (none : (n : List ℕ) → NoTable (named c n)
         let choice = if_block (Some I32) (expr_code heap c true d a) (expr_code heap c true d b) ▹ ε in
         finished_light wanted _ (joined (expr_code heap c true d e) choice (value_light true d e) (tt, value_light true d a, value_light true d b, tt))
     value_light wanted d (comma es) = finished_light wanted _ (comma_light d es)
+
+    left_light : (d : ℕ) (e : Expr) → Light (left_code heap c d e)
+    left_light d (binary op l r) = value_light true d l
+    left_light d e = tt
 
     arguments_light : (d : ℕ) (es : Exprs) → Light (arguments_code heap c d es)
     arguments_light d no_exprs = tt

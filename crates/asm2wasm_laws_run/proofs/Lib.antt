@@ -2,4 +2,3 @@ pub mod Simulated
 pub mod Straight
 pub mod Guarded
 pub mod Chained
-pub mod Stored

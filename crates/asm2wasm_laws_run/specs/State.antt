@@ -91,15 +91,6 @@ pub record EndsAlike (x : Fixed) (m : Module) (size : ℕ) (e : EndPlain) (p : P
 abbrev pub run_from : WasmModule → Fixed → List Word → Trees → List Word → Place → Steps
 run_from w x stack code scratch p k = drive w k (Code stack code) (words p.locals ++ scratch) (store_of x p)
 
--- a value with this property is on the stack, and the scratch locals below depth d are as they were
-pub record ShowsValue (x : Fixed) (m : Module) (size : ℕ) (f : Function) (has : JsValue → Type 0) (d : ℕ) (scratch stack : List Word) (v : JsValue) (p : Place) (later : Steps) : Type 0 where
-  pub is : has v
-  pub holds : Holds x m size f p
-  pub scratch_then : List Word
-  pub as_many : length scratch_then ≡ length scratch
-  pub kept : take d scratch_then ≡ take d scratch
-  pub shown : (k : ℕ) → later k ≡ Next (at (W32 (to_uint32_of v) ∷ stack) (words p.locals ++ scratch_then) (store_of x p) k)
-
 abbrev pub AnyValue : JsValue → Type 0
 AnyValue v = Unit {0}
 

@@ -2,7 +2,7 @@
 //! straight-line code with its guards.
 #![tactic(auto)]
 
-ghost use Rattle.asm2wasm_laws_run.specs.Laws.{RunsStraight, RunsChoice, StoresGuarded, StoresAreShown};
+ghost use Rattle.asm2wasm_laws_run.specs.Laws.{RunsStraight, RunsChoice, StoresGuarded};
 
 /// Code without blocks, branches and calls, all of it at once; and a choice between two such pieces.
 pub fn straight_code()
@@ -10,12 +10,7 @@ pub fn straight_code()
     ensures chooses { RunsChoice }
 {}
 
-/// A store writes inside the heap alone, and leaves its index and value in two locals.
+/// A store writes inside the heap alone, and leaves the place of its element and its value in two locals.
 pub fn guarded_stores()
     ensures { StoresGuarded }
-{}
-
-/// A store of asm.js is shown by its code, where its index and its value are.
-pub fn stores()
-    ensures { StoresAreShown }
 {}

@@ -6,7 +6,6 @@ use Rattle.sem_words.specs.declared.js_value.JsOp.TheVariants.{Add, Sub, Mul, Di
 use Rattle.sem_words.specs.declared.js_value.JsUnary.{JsUnary}
 use Rattle.sem_words.specs.declared.js_value.JsUnary.TheVariants.{Neg, BitNot, Not, Plus}
 use Rattle.wasm_lang.specs.declared.types.ValType.TheVariants.{I32}
-use Rattle.wasm_lang.specs.Instructions as instructions
 use Rattle.wasm_lang.specs.Instructions.{Plain, bin32, local_get, local_set, drop_operand}
 use Rattle.wasm_lang_exec.specs.Code.{Trees, ε, ◌▹◌, ◌⊕◌, if_block}
 use Rattle.wasm_laws_trees.specs.Spelled.{tree_levels}
@@ -14,10 +13,10 @@ use Rattle.wasm_laws_trees.proofs.Joined.{levels_join}
 use Rattle.asm_lang.specs.Heights.{expr_height, exprs_height, links_height}
 use Rattle.asm_lang.specs.Modules.{Expr, lit, decimal, var, index, call, table_call, assign, store, unary, binary, chain, cond, comma, Exprs, no_exprs, exprs, Links, no_links, links}
 use Rattle.asm_lang_valid.specs.declared.meaning.Builtin.TheVariants.{Imul, Clz32}
-use Rattle.asm_lang_valid.specs.Scope.{shift_of, Meaning, a_foreign, a_builtin, a_view, a_function, a_table}
+use Rattle.asm_lang_valid.specs.Scope.{Meaning, a_foreign, a_builtin, a_view, a_function, a_table}
 use Rattle.asm_lang_valid.specs.Typing.{Scope, named, exprs_length, or_zero}
 use Rattle.asm2wasm_translation.specs.Numbers.{VariablePlace, a_local, a_global, nowhere, place_of, base_of}
-use Rattle.asm2wasm_translation.specs.Values.{plains, one, get_code, put_code, quotient, operator, before_operand, after_operand, scaled, load_code, store_code, stored_code, callee_code, dropped, from_base, entry_code, finished, access, is_signed_element, is_unsigned, link_operator, scratch, expr_code, arguments_code, links_code, comma_code}
+use Rattle.asm2wasm_translation.specs.Values.{plains, one, get_code, put_code, quotient, operator, before_operand, after_operand, aligned, is_shift, place_code, exponent_in, load_code, store_code, stored_code, callee_code, dropped, from_base, entry_code, finished, is_unsigned, link_operator, scratch, expr_code, left_code, arguments_code, links_code, comma_code}
 use Rattle.asm2wasm_laws_typed.specs.Laws.{ExpressionsAreFlat}
 
 -- ---- pieces
@@ -74,15 +73,12 @@ after_levels BitNot = omega arith
 after_levels Not = omega arith
 after_levels Plus = omega arith
 
-element_levels : (x k : ℕ) (t : Trees) → tree_levels (one (local_get x) ⊕ (plains (scaled k) ⊕ t)) ≡ tree_levels t
-element_levels x k t = omega (arith, levels_join (plains (scaled k)) t, plains_levels (scaled k))
-
 load_levels : (heap x : ℕ) (v : Meaning) → tree_levels (load_code heap x v) ≤ 1
-load_levels heap x (a_view v) = omega (arith, element_levels x (shift_of v) (one (instructions.load (access v (is_signed_element v)) (shift_of v) 0)))
+load_levels heap x (a_view v) = omega arith
 load_levels heap x _ = omega arith
 
 store_levels : (heap x y : ℕ) (v : Meaning) → tree_levels (store_code heap x y v) ≤ 1
-store_levels heap x y (a_view v) = omega (arith, element_levels x (shift_of v) (plains (local_get y ∷ instructions.store (access v false) (shift_of v) 0 ∷ [])))
+store_levels heap x y (a_view v) = omega arith
 store_levels heap x y _ = omega arith
 
 stored_levels : (wanted : Bool) (y : ℕ) → tree_levels (stored_code wanted y) ≡ 0
@@ -113,6 +109,11 @@ either_levels : (b : Bool) (x y : Trees) (n : ℕ) → tree_levels x ≤ n → t
 either_levels true x y n h i = h
 either_levels false x y n h i = i
 
+place_levels : (k : ℕ) (i : Expr) (code left : Trees) (n : ℕ) → tree_levels code ≤ n → tree_levels left ≤ n → tree_levels (place_code k i code left) ≤ n
+place_levels k (lit z) code left n h l = omega arith
+place_levels k (binary op e s) code left n h l = either_levels (is_shift op) (left ⊕ plains (aligned k)) code n (omega (arith, l, levels_join left (plains (aligned k)), plains_levels (aligned k))) h
+place_levels k i code left n h l = h
+
 -- ---- expressions
 
 module _ (heap : ℕ) (c : Scope) where
@@ -123,8 +124,8 @@ module _ (heap : ℕ) (c : Scope) where
     value_levels wanted d (var n) = finished_levels wanted _ _ (omega (arith, get_levels (place_of c n)))
     value_levels wanted d (index n i) =
         let x = scratch heap c d in
-        let first = value_levels true d i in
-        let joined = levels_join (expr_code heap c true d i) (load_code heap x (named c n)) in
+        let first = place_levels (exponent_in (named c n)) i (expr_code heap c true d i) (left_code heap c d i) (expr_height i) (value_levels true d i) (left_levels d i) in
+        let joined = levels_join (place_code (exponent_in (named c n)) i (expr_code heap c true d i) (left_code heap c d i)) (load_code heap x (named c n)) in
         finished_levels wanted _ _ (omega (arith, first, joined, load_levels heap x (named c n)))
     value_levels wanted d (call n es) =
         let callee = callee_code c wanted n (exprs_length es) (named c n) in
@@ -152,9 +153,9 @@ module _ (heap : ℕ) (c : Scope) where
         let y = scratch heap c (suc d) in
         let kept = store_code heap x y (named c n) in
         let last = stored_code wanted y in
-        let first = value_levels true d i in
+        let first = place_levels (exponent_in (named c n)) i (expr_code heap c true d i) (left_code heap c d i) (expr_height i) (value_levels true d i) (left_levels d i) in
         let second = value_levels true d e in
-        let joined = levels_join (expr_code heap c true d i) (expr_code heap c true d e ⊕ (kept ⊕ last)) in
+        let joined = levels_join (place_code (exponent_in (named c n)) i (expr_code heap c true d i) (left_code heap c d i)) (expr_code heap c true d e ⊕ (kept ⊕ last)) in
         let further = levels_join (expr_code heap c true d e) (kept ⊕ last) in
         let ended = levels_join kept last in
         omega (arith, first, second, joined, further, ended, store_levels heap x y (named c n), stored_levels wanted y)
@@ -185,6 +186,10 @@ module _ (heap : ℕ) (c : Scope) where
         let joined = levels_join (expr_code heap c true d e) (if_block (Some I32) (expr_code heap c true d a) (expr_code heap c true d b) ▹ ε) in
         finished_levels wanted _ _ (omega (arith, first, second, third, joined))
     value_levels wanted d (comma es) = let first = comma_levels d es in finished_levels wanted _ _ (omega (arith, first))
+
+    left_levels : (d : ℕ) (e : Expr) → tree_levels (left_code heap c d e) ≤ expr_height e
+    left_levels d (binary op l r) = let first = value_levels true d l in omega (arith, first)
+    left_levels d e = omega arith
 
     arguments_levels : (d : ℕ) (es : Exprs) → tree_levels (arguments_code heap c d es) ≤ exprs_height es
     arguments_levels d no_exprs = omega arith

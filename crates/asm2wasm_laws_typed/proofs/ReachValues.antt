@@ -8,7 +8,6 @@ use Rattle.sem_words.specs.declared.js_value.JsOp.TheVariants.{Add, Sub, Mul, Di
 use Rattle.sem_words.specs.declared.js_value.JsUnary.{JsUnary}
 use Rattle.sem_words.specs.declared.js_value.JsUnary.TheVariants.{Neg, BitNot, Not, Plus}
 use Rattle.wasm_lang.specs.declared.types.ValType.TheVariants.{I32}
-use Rattle.wasm_lang.specs.Instructions as instructions
 use Rattle.wasm_lang.specs.Instructions.{Plain, bin32, local_get, local_set, drop_operand}
 use Rattle.wasm_lang_exec.specs.Code.{Trees, ε, ◌▹◌, ◌⊕◌, if_block}
 use Rattle.wasm_laws_trees.specs.Spelled.{reach}
@@ -16,11 +15,11 @@ use Rattle.wasm_laws_trees.proofs.Joined.{reach_joins}
 use Rattle.asm_lang.specs.Heights.{expr_height, exprs_height, links_height}
 use Rattle.asm_lang.specs.Modules.{Expr, lit, decimal, var, index, call, table_call, assign, store, unary, binary, chain, cond, comma, Exprs, no_exprs, exprs, Links, no_links, links, Variable, Param, Function}
 use Rattle.asm_lang_valid.specs.declared.meaning.Builtin.TheVariants.{Imul, Clz32}
-use Rattle.asm_lang_valid.specs.Scope.{shift_of, Meaning, a_foreign, a_builtin, a_view, a_function, a_table}
+use Rattle.asm_lang_valid.specs.Scope.{Meaning, a_foreign, a_builtin, a_view, a_function, a_table}
 use Rattle.asm_lang_valid.specs.Typing.{Scope, named, exprs_length, or_zero}
 use Rattle.asm_lang_valid.specs.Refusal.{foreign_globals}
 use Rattle.asm2wasm_translation.specs.Numbers.{VariablePlace, a_local, a_global, nowhere, slot_of, local_names, place_among, place_of, first_scratch, base_of}
-use Rattle.asm2wasm_translation.specs.Values.{plains, one, get_code, put_code, quotient, operator, before_operand, after_operand, scaled, load_code, store_code, stored_code, callee_code, dropped, from_base, entry_code, finished, access, is_signed_element, is_unsigned, link_operator, scratch, expr_code, arguments_code, links_code, comma_code}
+use Rattle.asm2wasm_translation.specs.Values.{plains, one, get_code, put_code, quotient, operator, before_operand, after_operand, aligned, is_shift, place_code, exponent_in, load_code, store_code, stored_code, callee_code, dropped, from_base, entry_code, finished, is_unsigned, link_operator, scratch, expr_code, left_code, arguments_code, links_code, comma_code}
 use Rattle.asm2wasm_laws_typed.specs.Laws.{ExpressionsReach}
 
 -- ---- pieces
@@ -107,21 +106,18 @@ none_or : (b : Bool) (ps : List Plain) → reach (plains ps) ≡ 0 → reach (pl
 none_or true ps h = omega arith
 none_or false ps h = h
 
-scaled_reach : (k : ℕ) → reach (plains (scaled k)) ≡ 0
-scaled_reach k = none_or (k == 0) _ (omega arith)
+aligned_reach : (k : ℕ) → reach (plains (aligned k)) ≡ 0
+aligned_reach k = none_or (k == 0) _ (omega arith)
 
 base_reach : (base : ℕ) → reach (plains (from_base base)) ≡ 0
 base_reach base = none_or (base == 0) _ (omega arith)
 
-element_reach : (x k : ℕ) (t : Trees) → reach (one (local_get x) ⊕ (plains (scaled k) ⊕ t)) ≡ max (1 + x) (reach t)
-element_reach x k t = omega (arith, reach_joins (plains (scaled k)) t, scaled_reach k)
-
 load_reach : (heap x : ℕ) (v : Meaning) → reach (load_code heap x v) ≤ x + 1
-load_reach heap x (a_view v) = omega (arith, element_reach x (shift_of v) (one (instructions.load (access v (is_signed_element v)) (shift_of v) 0)))
+load_reach heap x (a_view v) = omega arith
 load_reach heap x _ = omega arith
 
 store_reach : (heap x y : ℕ) (v : Meaning) → reach (store_code heap x y v) ≤ max x y + 1
-store_reach heap x y (a_view v) = omega (arith, element_reach x (shift_of v) (plains (local_get y ∷ instructions.store (access v false) (shift_of v) 0 ∷ [])))
+store_reach heap x y (a_view v) = omega arith
 store_reach heap x y _ = omega arith
 
 stored_reach : (wanted : Bool) (y : ℕ) → reach (stored_code wanted y) ≤ y + 1
@@ -152,6 +148,11 @@ either_reach : (b : Bool) (x y : Trees) (n : ℕ) → reach x ≤ n → reach y 
 either_reach true x y n h i = h
 either_reach false x y n h i = i
 
+place_reach : (k : ℕ) (i : Expr) (code left : Trees) (n : ℕ) → reach code ≤ n → reach left ≤ n → reach (place_code k i code left) ≤ n
+place_reach k (lit z) code left n h l = omega arith
+place_reach k (binary op e s) code left n h l = either_reach (is_shift op) (left ⊕ plains (aligned k)) code n (omega (arith, l, reach_joins left (plains (aligned k)), aligned_reach k)) h
+place_reach k i code left n h l = h
+
 -- ---- expressions
 
 module _ (heap : ℕ) (c : Scope) where
@@ -162,8 +163,8 @@ module _ (heap : ℕ) (c : Scope) where
     value_reach wanted d (var n) = finished_reach wanted _ _ (omega (arith, get_reach (first_scratch c.within) (place_of c n) (variable_below c n)))
     value_reach wanted d (index n i) =
         let x = scratch heap c d in
-        let first = value_reach true d i in
-        let joined = reach_joins (expr_code heap c true d i) (load_code heap x (named c n)) in
+        let first = place_reach (exponent_in (named c n)) i (expr_code heap c true d i) (left_code heap c d i) (first_scratch c.within + d + expr_height i + 1) (value_reach true d i) (left_reach d i) in
+        let joined = reach_joins (place_code (exponent_in (named c n)) i (expr_code heap c true d i) (left_code heap c d i)) (load_code heap x (named c n)) in
         finished_reach wanted _ _ (omega (arith, first, joined, load_reach heap x (named c n)))
     value_reach wanted d (call n es) =
         let callee = callee_code c wanted n (exprs_length es) (named c n) in
@@ -191,9 +192,9 @@ module _ (heap : ℕ) (c : Scope) where
         let y = scratch heap c (suc d) in
         let kept = store_code heap x y (named c n) in
         let last = stored_code wanted y in
-        let first = value_reach true d i in
+        let first = place_reach (exponent_in (named c n)) i (expr_code heap c true d i) (left_code heap c d i) (first_scratch c.within + d + expr_height i + 1) (value_reach true d i) (left_reach d i) in
         let second = value_reach true d e in
-        let joined = reach_joins (expr_code heap c true d i) (expr_code heap c true d e ⊕ (kept ⊕ last)) in
+        let joined = reach_joins (place_code (exponent_in (named c n)) i (expr_code heap c true d i) (left_code heap c d i)) (expr_code heap c true d e ⊕ (kept ⊕ last)) in
         let further = reach_joins (expr_code heap c true d e) (kept ⊕ last) in
         let ended = reach_joins kept last in
         omega (arith, first, second, joined, further, ended, store_reach heap x y (named c n), stored_reach wanted y)
@@ -224,6 +225,10 @@ module _ (heap : ℕ) (c : Scope) where
         let joined = reach_joins (expr_code heap c true d e) (if_block (Some I32) (expr_code heap c true d a) (expr_code heap c true d b) ▹ ε) in
         finished_reach wanted _ _ (omega (arith, first, second, third, joined))
     value_reach wanted d (comma es) = let first = comma_reach d es in finished_reach wanted _ _ (omega (arith, first))
+
+    left_reach : (d : ℕ) (e : Expr) → reach (left_code heap c d e) ≤ first_scratch c.within + d + expr_height e + 1
+    left_reach d (binary op l r) = let first = value_reach true d l in omega (arith, first)
+    left_reach d e = omega arith
 
     arguments_reach : (d : ℕ) (es : Exprs) → reach (arguments_code heap c d es) ≤ first_scratch c.within + d + exprs_height es + 1
     arguments_reach d no_exprs = omega arith

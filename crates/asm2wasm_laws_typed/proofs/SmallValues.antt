@@ -6,18 +6,17 @@ use Rattle.sem_words.specs.declared.js_value.JsOp.TheVariants.{Add, Sub, Mul, Di
 use Rattle.sem_words.specs.declared.js_value.JsUnary.{JsUnary}
 use Rattle.sem_words.specs.declared.js_value.JsUnary.TheVariants.{Neg, BitNot, Not, Plus}
 use Rattle.wasm_lang.specs.declared.types.ValType.TheVariants.{I32}
-use Rattle.wasm_lang.specs.Instructions as instructions
 use Rattle.wasm_lang.specs.Instructions.{Plain, bin32, local_get, local_set, drop_operand}
 use Rattle.wasm_lang_exec.specs.Code.{Trees, ε, ◌▹◌, ◌⊕◌, if_block}
 use Rattle.wasm_laws_trees.specs.Spelled.{else_size, size}
 use Rattle.wasm_laws_trees.proofs.Joined.{sizes_add}
 use Rattle.asm_lang.specs.Modules.{Expr, lit, decimal, var, index, call, table_call, assign, store, unary, binary, chain, cond, comma, Exprs, no_exprs, exprs, Links, no_links, links}
 use Rattle.asm_lang_valid.specs.declared.meaning.Builtin.TheVariants.{Imul, Clz32}
-use Rattle.asm_lang_valid.specs.Scope.{shift_of, Meaning, a_foreign, a_builtin, a_view, a_function, a_table}
+use Rattle.asm_lang_valid.specs.Scope.{Meaning, a_foreign, a_builtin, a_view, a_function, a_table}
 use Rattle.asm_lang_valid.specs.Rows.{expr_count, exprs_count, links_count}
 use Rattle.asm_lang_valid.specs.Typing.{Scope, named, exprs_length, or_zero}
 use Rattle.asm2wasm_translation.specs.Numbers.{VariablePlace, a_local, a_global, nowhere, place_of, base_of}
-use Rattle.asm2wasm_translation.specs.Values.{plains, one, get_code, put_code, quotient, operator, before_operand, after_operand, scaled, load_code, store_code, stored_code, callee_code, dropped, from_base, entry_code, finished, access, is_signed_element, is_unsigned, link_operator, scratch, expr_code, arguments_code, links_code, comma_code}
+use Rattle.asm2wasm_translation.specs.Values.{plains, one, get_code, put_code, quotient, operator, before_operand, after_operand, aligned, is_shift, place_code, exponent_in, load_code, store_code, stored_code, callee_code, dropped, from_base, entry_code, finished, is_unsigned, link_operator, scratch, expr_code, left_code, arguments_code, links_code, comma_code}
 use Rattle.asm2wasm_laws_typed.specs.Laws.{ExpressionsAreSmall}
 
 -- ---- pieces
@@ -83,21 +82,18 @@ two_or_none : (b : Bool) (ps : List Plain) → length ps ≡ 2 → size (plains 
 two_or_none true ps h = omega arith
 two_or_none false ps h = omega (arith, h, plains_size ps)
 
-scaled_small : (k : ℕ) → size (plains (scaled k)) ≤ 2
-scaled_small k = two_or_none (k == 0) _ refl
+aligned_small : (k : ℕ) → size (plains (aligned k)) ≤ 2
+aligned_small k = two_or_none (k == 0) _ refl
 
 base_small : (base : ℕ) → size (plains (from_base base)) ≤ 2
 base_small base = two_or_none (base == 0) _ refl
 
-element_small : (x k : ℕ) (t : Trees) → size (one (local_get x) ⊕ (plains (scaled k) ⊕ t)) ≤ 3 + size t
-element_small x k t = omega (arith, sizes_add (plains (scaled k)) t, scaled_small k)
-
-load_small : (heap x : ℕ) (v : Meaning) → size (load_code heap x v) ≤ 11
-load_small heap x (a_view v) = omega (arith, element_small x (shift_of v) (one (instructions.load (access v (is_signed_element v)) (shift_of v) 0)))
+load_small : (heap x : ℕ) (v : Meaning) → size (load_code heap x v) ≤ 9
+load_small heap x (a_view v) = omega arith
 load_small heap x _ = omega arith
 
-store_small : (heap x y : ℕ) (v : Meaning) → size (store_code heap x y v) ≤ 11
-store_small heap x y (a_view v) = omega (arith, element_small x (shift_of v) (plains (local_get y ∷ instructions.store (access v false) (shift_of v) 0 ∷ [])))
+store_small : (heap x y : ℕ) (v : Meaning) → size (store_code heap x y v) ≤ 9
+store_small heap x y (a_view v) = omega arith
 store_small heap x y _ = omega arith
 
 stored_small : (wanted : Bool) (y : ℕ) → size (stored_code wanted y) ≤ 1
@@ -128,6 +124,12 @@ pub either_small : (b : Bool) (x y : Trees) (n k : ℕ) → size x + k ≤ n →
 either_small true x y n k h i = h
 either_small false x y n k h i = i
 
+-- where an element begins: at most two more than the index, or than the operand that is shifted
+place_small : (k : ℕ) (i : Expr) (code left : Trees) (n : ℕ) → 3 ≤ n → size code + 2 ≤ n → size left + 4 ≤ n → size (place_code k i code left) + 2 ≤ n
+place_small k (lit z) code left n few h l = omega (arith, few)
+place_small k (binary op e s) code left n few h l = either_small (is_shift op) (left ⊕ plains (aligned k)) code n 2 (omega (arith, l, sizes_add left (plains (aligned k)), aligned_small k)) h
+place_small k i code left n few h l = h
+
 -- ---- expressions
 
 module _ (heap : ℕ) (c : Scope) where
@@ -138,8 +140,9 @@ module _ (heap : ℕ) (c : Scope) where
     value_small wanted d (var n) = finished_small wanted _ _ (omega (arith, get_small (place_of c n)))
     value_small wanted d (index n i) =
         let x = scratch heap c d in
-        let first = value_small true d i in
-        let joined = sizes_add (expr_code heap c true d i) (load_code heap x (named c n)) in
+        let whole = value_small true d i in
+        let first = place_small (exponent_in (named c n)) i (expr_code heap c true d i) (left_code heap c d i) (14 * expr_count i) (omega (arith, whole)) (omega (arith, whole)) (left_small d i) in
+        let joined = sizes_add (place_code (exponent_in (named c n)) i (expr_code heap c true d i) (left_code heap c d i)) (load_code heap x (named c n)) in
         finished_small wanted _ _ (omega (arith, first, joined, load_small heap x (named c n)))
     value_small wanted d (call n es) =
         let callee = callee_code c wanted n (exprs_length es) (named c n) in
@@ -167,9 +170,10 @@ module _ (heap : ℕ) (c : Scope) where
         let y = scratch heap c (suc d) in
         let kept = store_code heap x y (named c n) in
         let last = stored_code wanted y in
-        let first = value_small true d i in
+        let whole = value_small true d i in
+        let first = place_small (exponent_in (named c n)) i (expr_code heap c true d i) (left_code heap c d i) (14 * expr_count i) (omega (arith, whole)) (omega (arith, whole)) (left_small d i) in
         let second = value_small true d e in
-        let joined = sizes_add (expr_code heap c true d i) (expr_code heap c true d e ⊕ (kept ⊕ last)) in
+        let joined = sizes_add (place_code (exponent_in (named c n)) i (expr_code heap c true d i) (left_code heap c d i)) (expr_code heap c true d e ⊕ (kept ⊕ last)) in
         let further = sizes_add (expr_code heap c true d e) (kept ⊕ last) in
         let ended = sizes_add kept last in
         omega (arith, first, second, joined, further, ended, store_small heap x y (named c n), stored_small wanted y)
@@ -200,6 +204,10 @@ module _ (heap : ℕ) (c : Scope) where
         let joined = sizes_add (expr_code heap c true d e) (if_block (Some I32) (expr_code heap c true d a) (expr_code heap c true d b) ▹ ε) in
         finished_small wanted _ _ (omega (arith, first, second, third, joined, else_small (expr_code heap c true d b)))
     value_small wanted d (comma es) = let first = comma_small d es in finished_small wanted _ _ (omega (arith, first))
+
+    left_small : (d : ℕ) (e : Expr) → size (left_code heap c d e) + 4 ≤ 14 * expr_count e
+    left_small d (binary op l r) = let first = value_small true d l in omega (arith, first)
+    left_small d e = omega arith
 
     arguments_small : (d : ℕ) (es : Exprs) → size (arguments_code heap c d es) ≤ 14 * exprs_count es
     arguments_small d no_exprs = omega arith

@@ -1,5 +1,5 @@
 -- The types of the pieces that the code of an expression is made of.
-use Rattle.std.proofs.Common.{◌≡◌, ℕ, ◌≤◌, Bool, true, false, List, [], ◌∷◌, Option, Some, None, refl, sym, ap, subst, ◌∙◌, arith}
+use Rattle.std.proofs.Common.{◌≡◌, ℕ, ◌-◌, ◌^◌, ◌≤◌, Bool, true, false, List, [], ◌∷◌, Option, Some, None, refl, sym, ap, subst, ◌∙◌, arith}
 use Rattle.std.specs.Prelude.{if◌then◌else◌, ◌==◌, slice_get, nat_le}
 use Rattle.std.specs.Option.{is_some}
 use Rattle.std.proofs.lemmas.Bool.{and_parts, eqb-true}
@@ -27,7 +27,7 @@ use Rattle.asm_lang_valid.specs.Rows.{need}
 use Rattle.asm_lang_valid.specs.Typing.{Scope, named, matches, builtin_arguments, builtin_type, builtin_call, callee_fits, table_fits}
 use Rattle.asm2wasm_translation.specs.Numbers.{VariablePlace, a_local, a_global, nowhere, own_number, import_number}
 use Rattle.asm2wasm_lang.specs.Calling.{int_type}
-use Rattle.asm2wasm_translation.specs.Values.{number, plains, one, get_code, put_code, guarded, quotient, operator, before_operand, after_operand, scaled, from_base, load_code, store_code, stored_code, callee_code, builtin_code, dropped, entry_code, finished, access, is_signed_element}
+use Rattle.asm2wasm_translation.specs.Values.{number, plains, one, get_code, put_code, guarded, quotient, operator, before_operand, after_operand, aligned, from_base, load_code, store_code, stored_code, callee_code, builtin_code, dropped, entry_code, finished, access, is_signed_element}
 use Rattle.asm2wasm_laws_typed.specs.Contexts.{IsContextOf, AreListed, variable_int}
 use Rattle.asm2wasm_laws_typed.specs.Laws.{given}
 use Rattle.asm2wasm_laws_typed.proofs.Steps.{const_step, bin_step, rel_step, un_step, eqz_step, drop_step, get_step, set_step, tee_step, global_get_step, global_set_step, stop_step, load_step, store_step, ints, call_step, entry_step}
@@ -50,8 +50,8 @@ module _ (w : Context) where
   optional_typed true n op before = refl
   optional_typed false n op before = const_step (bin_step refl)
 
-  pub scaled_typed : (k : ℕ) (before : List ValType) → IsTyped w (plains (scaled k)) (I32 ∷ before) (I32 ∷ before)
-  scaled_typed k before = optional_typed (k == 0) k _ before
+  pub aligned_typed : (k : ℕ) (before : List ValType) → IsTyped w (plains (aligned k)) (I32 ∷ before) (I32 ∷ before)
+  aligned_typed k before = optional_typed (k == 0) (2 ^ 32 - 2 ^ k) _ before
 
   pub base_typed : (base : ℕ) (before : List ValType) → IsTyped w (plains (from_base base)) (I32 ∷ before) (I32 ∷ before)
   base_typed base before = optional_typed (base == 0) base _ before
@@ -136,10 +136,7 @@ module _ {c : Scope} {room : ℕ} (w : Context) (k : IsContextOf c room w) where
       → IsTyped w (load_code heap x v) (I32 ∷ before) (I32 ∷ before)
   load_typed heap x (a_view v) before memory r =
       let is_x = k.locals x (omega (arith, r)) in
-      let inner = inside (Some I32) w in
-      let loaded = types_join inner (plains (scaled (shift_of v))) (one (instructions.load (access v (is_signed_element v)) (shift_of v) 0)) (I32 ∷ []) (I32 ∷ []) (I32 ∷ [])
-      (scaled_typed inner (shift_of v) []) (load_step v (memory v refl) refl) in
-      tee_step is_x (const_step (rel_step (before, refl, get_step is_x loaded, const_step refl, refl)))
+      tee_step is_x (const_step (rel_step (before, refl, get_step is_x (load_step v (memory v refl) refl), const_step refl, refl)))
   load_typed heap x _ before memory r = stop_step [] [] (I32 ∷ before) refl
 
   pub store_typed : (heap x y : ℕ) (v : Meaning) (before : List ValType) → ((e : Element) → v ≡ a_view e → w.memory ≡ true) → reach (store_code heap x y v) ≤ room
@@ -147,10 +144,7 @@ module _ {c : Scope} {room : ℕ} (w : Context) (k : IsContextOf c room w) where
   store_typed heap x y (a_view v) before memory r =
       let is_x = k.locals x (omega (arith, r)) in
       let is_y = k.locals y (omega (arith, r)) in
-      let inner = inside None w in
-      let stored = types_join inner (plains (scaled (shift_of v))) (plains (local_get y ∷ instructions.store (access v false) (shift_of v) 0 ∷ [])) (I32 ∷ []) (I32 ∷ []) []
-      (scaled_typed inner (shift_of v) []) (get_step is_y (store_step v (memory v refl) refl)) in
-      set_step is_y (tee_step is_x (const_step (rel_step (before, refl, get_step is_x stored, refl, refl))))
+      set_step is_y (tee_step is_x (const_step (rel_step (before, refl, get_step is_x (get_step is_y (store_step v (memory v refl) refl)), refl, refl))))
   store_typed heap x y _ before memory r = stop_step (I32 ∷ I32 ∷ []) [] before refl
 
   pub stored_typed : (wanted : Bool) (y : ℕ) (before : List ValType) → reach (stored_code wanted y) ≤ room → IsTyped w (stored_code wanted y) before (given wanted before)

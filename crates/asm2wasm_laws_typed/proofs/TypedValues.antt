@@ -3,6 +3,8 @@ use Rattle.std.proofs.Common.{◌≡◌, ℕ, suc, ◌+◌, ◌<◌, ◌≤◌, 
 use Rattle.std.specs.Prelude.{if◌then◌else◌, ◌&&◌, ◌||◌, slice_get}
 use Rattle.std.specs.Option.{is_some, IfSome}
 use Rattle.std.proofs.lemmas.Bool.{and_parts}
+use Rattle.sem_words.specs.declared.js_value.JsOp.{JsOp}
+use Rattle.sem_words.specs.declared.js_value.JsOp.TheVariants.{Sar}
 use Rattle.asm_types.specs.declared.value_type.ValueType.TheVariants.{Signed, Int, Intish, Extern}
 use Rattle.asm_types.specs.Rows.{unary_row_of}
 use Rattle.wasm_lang.specs.declared.types.ValType.{ValType}
@@ -20,13 +22,13 @@ use Rattle.asm_lang_valid.specs.LimitRows.{expr_marks, exprs_marks, links_marks,
 use Rattle.asm_lang_valid.specs.Refusal.{foreign_globals}
 use Rattle.asm_lang_valid.specs.Typing.{Scope, named, typed_below, is_int, index_fits, operated, exprs_length, is_call, or_zero, callee_fits, table_fits, mask_fits, builtin_call, builtin_type, type_of, all_below, links_fit, call_fits, last_type, effect_fits}
 use Rattle.asm2wasm_translation.specs.Numbers.{a_global, slot_of, global_names, local_names, place_among, place_of, base_of}
-use Rattle.asm2wasm_translation.specs.Values.{plains, one, get_code, put_code, operator, before_operand, after_operand, from_base, load_code, store_code, stored_code, callee_code, dropped, entry_code, is_unsigned, link_operator, scratch, expr_code, arguments_code, links_code, comma_code, void_code}
+use Rattle.asm2wasm_translation.specs.Values.{plains, one, get_code, put_code, operator, before_operand, after_operand, from_base, aligned, is_shift, place_code, exponent_in, load_code, store_code, stored_code, callee_code, dropped, entry_code, is_unsigned, link_operator, scratch, expr_code, left_code, arguments_code, links_code, comma_code, void_code}
 use Rattle.asm2wasm_laws_typed.specs.Contexts.{IsContextOf, AreListed, variable_int}
 use Rattle.asm2wasm_laws_typed.specs.Laws.{given, ValuesAreTyped, CallsAreTyped, EffectsAreTyped}
 use Rattle.asm2wasm_laws_typed.proofs.ReachValues.{slot_below}
 use Rattle.asm2wasm_laws_typed.proofs.Steps.{const_step, bin_step, get_step, set_step, stop_step, ints, one_further, reach_left, reach_right}
 use Rattle.asm2wasm_laws_typed.proofs.Known.{row_holds, below_has, if_has, then_has, index_has, operated_has, AllHave, all_have, listed_left, listed_right, either_form, binary_form}
-use Rattle.asm2wasm_laws_typed.proofs.TypedPieces.{inside_context, finished_reach, finished_typed, base_typed, unary_typed, builtin_typed, get_typed, put_typed, operator_typed, load_typed, store_typed, stored_typed, callee_typed, entry_typed}
+use Rattle.asm2wasm_laws_typed.proofs.TypedPieces.{inside_context, aligned_typed, finished_reach, finished_typed, base_typed, unary_typed, builtin_typed, get_typed, put_typed, operator_typed, load_typed, store_typed, stored_typed, callee_typed, entry_typed}
 
 -- one of two pieces, of which both would do, or the first is taken
 pub of_two : (w : Context) {room : ℕ} (b : Bool) (x y : Trees) (before after : List ValType) → (reach x ≤ room → IsTyped w x before after) → (reach y ≤ room → IsTyped w y before after)
@@ -38,6 +40,16 @@ the_first : (w : Context) {room : ℕ} (b : Bool) (x y : Trees) (before after : 
     → reach (if b then x else y) ≤ room → IsTyped w (if b then x else y) before after
 the_first w true x y before after e h r = h r
 the_first w false x y before after e h r = absurd (cc e)
+
+-- .. where the first one would do if it is taken
+of_shift : (w : Context) {room : ℕ} (b : Bool) (x y : Trees) (before after : List ValType) → (b ≡ true → reach x ≤ room → IsTyped w x before after) → (reach y ≤ room → IsTyped w y before after)
+    → reach (if b then x else y) ≤ room → IsTyped w (if b then x else y) before after
+of_shift w true x y before after h i r = h refl r
+of_shift w false x y before after h i r = i r
+
+shift_isnt_or : (op : JsOp) (r : Expr) → is_shift op ≡ true → or_zero op r ≡ false
+shift_isnt_or Sar r e = refl
+shift_isnt_or op r e = absurd (cc e)
 
 among_globals : (w : Context) (imported : ℕ) (names : List (List ℕ)) (o p : Option ℕ) → ((j : ℕ) → j < length names → slice_get w.globals (imported + j) ≡ Some variable_int)
     → IfSome p (λ j. j < length names) → (x : ℕ) → place_among imported o p ≡ a_global x → slice_get w.globals x ≡ Some variable_int
@@ -64,6 +76,20 @@ module _ (heap : ℕ) (c : Scope) (room : ℕ) where
   variable_known w k n x e =
       among_globals w (length (foreign_globals c.home)) (global_names c.home) (slot_of (local_names c.within) n) (slot_of (global_names c.home) n) k.globals (slot_below (global_names c.home) n) x e
 
+  -- the left operand of a shift
+  abbrev LeftIs : Context → (d : ℕ) → Expr → Type 0
+  LeftIs w d (binary op l r) = is_shift op ≡ true → reach (expr_code heap c true d l) ≤ room → (before : List ValType) → IsTyped w (expr_code heap c true d l) before (I32 ∷ before)
+  LeftIs w d e = Unit {0}
+
+  place_typed : (w : Context) (k d : ℕ) (i : Expr) (before : List ValType) → (reach (expr_code heap c true d i) ≤ room → IsTyped w (expr_code heap c true d i) before (I32 ∷ before)) → LeftIs w d i
+      → reach (place_code k i (expr_code heap c true d i) (left_code heap c d i)) ≤ room → IsTyped w (place_code k i (expr_code heap c true d i) (left_code heap c d i)) before (I32 ∷ before)
+  place_typed w k d (lit z) before whole left r = const_step refl
+  place_typed w k d (binary op e s) before whole left r =
+      let first = expr_code heap c true d e in
+      of_shift w (is_shift op) (first ⊕ plains (aligned k)) (expr_code heap c true d (binary op e s)) before (I32 ∷ before)
+      (λ is r. types_join w first (plains (aligned k)) before (I32 ∷ before) (I32 ∷ before) (left is (reach_left first (plains (aligned k)) r) before) (aligned_typed w k before)) whole r
+  place_typed w k d i before whole left r = whole r
+
   mutual
     pub value_typed : (w : Context) → IsContextOf c room w → (wanted : Bool) (d at : ℕ) (e : Expr) → is_some (type_of c e) ≡ true → AreListed c.home (expr_marks c at e)
         → reach (expr_code heap c wanted d e) ≤ room → (before : List ValType) → IsTyped w (expr_code heap c wanted d e) before (given wanted before)
@@ -71,12 +97,13 @@ module _ (heap : ℕ) (c : Scope) (room : ℕ) where
     value_typed w k wanted d at (decimal bs) t m r before = finished_typed w wanted _ before (stop_step [] (I32 ∷ []) before refl)
     value_typed w k wanted d at (var n) t m r before = finished_typed w wanted _ before (get_typed w k (place_of c n) before (variable_known w k n) (finished_reach wanted (get_code (place_of c n)) r))
     value_typed w k wanted d at (index n i) t m r before =
-        let place = expr_code heap c true d i in
+        let place = place_code (exponent_in (named c n)) i (expr_code heap c true d i) (left_code heap c d i) in
         let loaded = load_code heap (scratch heap c d) (named c n) in
         let q = finished_reach wanted (place ⊕ loaded) r in
         let has = index_has (named c n) i (type_of c i) (row_holds _ Intish t) in
         finished_typed w wanted _ before
-        (types_join w place loaded before (I32 ∷ before) (I32 ∷ before) (value_typed w k true d (at + 1) i has m (reach_left place loaded q) before)
+        (types_join w place loaded before (I32 ∷ before) (I32 ∷ before)
+        (place_typed w (exponent_in (named c n)) d i before (λ r. value_typed w k true d (at + 1) i has m r before) (left_typed w k d (at + 1) i has m) (reach_left place loaded q))
         (load_typed w k heap (scratch heap c d) (named c n) before (λ v e. k.memory n v e) (reach_right place loaded q)))
     value_typed w k wanted d at (call n es) t m r before =
         let args = arguments_code heap c d es in
@@ -94,16 +121,17 @@ module _ (heap : ℕ) (c : Scope) (room : ℕ) where
     value_typed w k wanted d at (store n i e) t m r before =
         let x = scratch heap c d in
         let y = scratch heap c (suc d) in
-        let place = expr_code heap c true d i in
+        let place = place_code (exponent_in (named c n)) i (expr_code heap c true d i) (left_code heap c d i) in
         let value = expr_code heap c true d e in
         let kept = store_code heap x y (named c n) in
         let last = stored_code wanted y in
         let fits = if_has (index_fits (named c n) i (type_of c i) && typed_below Intish (type_of c e)) (type_of c e) t in
         let has = index_has (named c n) i (type_of c i) (and_parts _ (typed_below Intish (type_of c e)) fits.0).0 in
+        let index_marks = listed_left c.home (expr_marks c (at + 1) i) (expr_marks c (at + 1 + expr_count i) e) m in
         let r1 = reach_right place (value ⊕ (kept ⊕ last)) r in
         let r2 = reach_right value (kept ⊕ last) r1 in
         types_join w place (value ⊕ (kept ⊕ last)) before (I32 ∷ before) (given wanted before)
-        (value_typed w k true d (at + 1) i has (listed_left c.home (expr_marks c (at + 1) i) (expr_marks c (at + 1 + expr_count i) e) m) (reach_left place (value ⊕ (kept ⊕ last)) r) before)
+        (place_typed w (exponent_in (named c n)) d i before (λ r. value_typed w k true d (at + 1) i has index_marks r before) (left_typed w k d (at + 1) i has index_marks) (reach_left place (value ⊕ (kept ⊕ last)) r))
         (types_join w value (kept ⊕ last) (I32 ∷ before) (I32 ∷ I32 ∷ before) (given wanted before)
         (value_typed w k true d (at + 1 + expr_count i) e fits.1 (listed_right c.home (expr_marks c (at + 1) i) (expr_marks c (at + 1 + expr_count i) e) m) (reach_left value (kept ⊕ last) r1) (I32 ∷ before))
         (types_join w kept last (I32 ∷ I32 ∷ before) before (given wanted before)
@@ -172,6 +200,18 @@ module _ (heap : ℕ) (c : Scope) (room : ℕ) where
           refl,
         ))
     value_typed w k wanted d at (comma es) t m r before = finished_typed w wanted _ before (comma_typed w k d (at + 1) es t m (finished_reach wanted (comma_code heap c d es) r) before)
+
+    left_typed : (w : Context) → IsContextOf c room w → (d at : ℕ) (e : Expr) → is_some (type_of c e) ≡ true → AreListed c.home (expr_marks c at e) → LeftIs w d e
+    left_typed w k d at (binary op l r) t m =
+        λ is reached before.
+        let all = operated op l r (type_of c l) (type_of c r) in
+        let first_marks = expr_marks c (at + 1) l in
+        let second_marks = expr_marks c (at + 1 + expr_count l) r in
+        binary_form c.home (is_call c l) (or_zero op r) (call_fits c true l) Signed all (call_marks c true (at + 1) l) (first_marks ++ second_marks)
+        (λ z fits listed. absurd (cc (shift_isnt_or op r is, z)))
+        (λ has listed. value_typed w k true d (at + 1) l (operated_has op l r (type_of c l) (type_of c r) has).0 (listed_left c.home first_marks second_marks listed) reached before)
+        t m
+    left_typed w k d at e t m = tt
 
     arguments_typed : (w : Context) → IsContextOf c room w → (d at : ℕ) (es : Exprs) → AllHave c es → AreListed c.home (exprs_marks c at es)
         → reach (arguments_code heap c d es) ≤ room → (before : List ValType) → IsTyped w (arguments_code heap c d es) before (ints (exprs_length es) before)

@@ -1,7 +1,7 @@
 -- Constants of the code of an expression are words.
-use Rattle.std.proofs.Common.{ℕ, suc, ◌/◌, ◌^◌, ◌<◌, ◌≤◌, Bool, true, false, List, [], ◌∷◌, Some, arith}
+use Rattle.std.proofs.Common.{ℕ, suc, ◌-◌, ◌^◌, ◌<◌, Bool, true, false, List, [], ◌∷◌, Some, ℤ, pos, negsuc, arith}
 use Rattle.std.specs.Prelude.{if◌then◌else◌, ◌==◌, ◌||◌}
-use Rattle.std.proofs.Math.Nat.{div-le_self}
+use Rattle.std.proofs.lemmas.Nat.{pow_pos}
 use Rattle.sem_words.specs.declared.word.Bin.{Bin}
 use Rattle.sem_words.specs.declared.word.Bin.TheVariants as bins
 use Rattle.sem_words.specs.declared.js_value.JsOp.{JsOp}
@@ -10,19 +10,16 @@ use Rattle.sem_words.specs.declared.js_value.JsUnary.{JsUnary}
 use Rattle.sem_words.specs.declared.js_value.JsUnary.TheVariants.{Neg, BitNot, Not, Plus}
 use Rattle.sem_words.proofs.WordLaws.{word_of-IsWord}
 use Rattle.wasm_lang.specs.declared.types.ValType.TheVariants.{I32}
-use Rattle.wasm_lang.specs.Instructions as instructions
 use Rattle.wasm_lang.specs.Instructions.{Plain, bin32, local_get, local_set, drop_operand}
 use Rattle.wasm_lang_exec.specs.Code.{Trees, ε, ◌▹◌, ◌⊕◌, if_block}
 use Rattle.wasm_laws_write.specs.Each.{EachIn}
 use Rattle.wasm_laws_write.proofs.Spelled.{each_joins}
 use Rattle.asm_lang.specs.Modules.{Expr, lit, decimal, var, index, call, table_call, assign, store, unary, binary, chain, cond, comma, Exprs, no_exprs, exprs, Links, no_links, links}
-use Rattle.asm_lang_valid.specs.declared.meaning.Element.{Element}
-use Rattle.asm_lang_valid.specs.declared.meaning.Element.TheVariants.{Int8, Uint8, Int16, Uint16, Int32, Uint32}
 use Rattle.asm_lang_valid.specs.declared.meaning.Builtin.TheVariants.{Imul, Clz32}
-use Rattle.asm_lang_valid.specs.Scope.{shift_of, Meaning, a_foreign, a_builtin, a_view, a_function, a_table}
+use Rattle.asm_lang_valid.specs.Scope.{Meaning, a_foreign, a_builtin, a_view, a_function, a_table}
 use Rattle.asm_lang_valid.specs.Typing.{Scope, named, exprs_length, or_zero}
 use Rattle.asm2wasm_translation.specs.Numbers.{VariablePlace, a_local, a_global, nowhere, place_of, base_of}
-use Rattle.asm2wasm_translation.specs.Values.{number, plains, one, get_code, put_code, guarded, quotient, operator, before_operand, after_operand, scaled, load_code, store_code, stored_code, callee_code, dropped, from_base, entry_code, finished, access, is_signed_element, is_unsigned, link_operator, scratch, expr_code, arguments_code, links_code, comma_code}
+use Rattle.asm2wasm_translation.specs.Values.{number, plains, one, get_code, put_code, guarded, quotient, operator, before_operand, after_operand, aligned, is_shift, literal_place, place_code, exponent_in, load_code, store_code, stored_code, callee_code, dropped, from_base, entry_code, finished, is_unsigned, link_operator, scratch, expr_code, left_code, arguments_code, links_code, comma_code}
 use Rattle.asm2wasm_laws_writable.specs.Parts.{ConstantFits}
 
 -- ---- pieces
@@ -94,30 +91,19 @@ after_fit Plus = (tt, tt)
 
 -- ---- elements of a view
 
-shift_low : (v : Element) → shift_of v < 2 ^ 32
-shift_low Int8 = omega arith
-shift_low Uint8 = omega arith
-shift_low Int16 = omega arith
-shift_low Uint16 = omega arith
-shift_low Int32 = omega arith
-shift_low Uint32 = omega arith
+aligned_low : (k : ℕ) → 2 ^ 32 - 2 ^ k < 2 ^ 32
+aligned_low k = let some = pow_pos k in omega (arith, some)
 
-elements_low : (heap k : ℕ) → heap < 2 ^ 32 → heap / 2 ^ k < 2 ^ 32
-elements_low heap k low = let le : heap / 2 ^ k ≤ heap = div-le_self heap (2 ^ k) in omega (arith, low, le)
-
-element_fit : (x k : ℕ) (t : Trees) → k < 2 ^ 32 → Fit t → Fit (one (local_get x) ⊕ (plains (scaled k) ⊕ t))
-element_fit x k t low h = (tt, joined (plains (scaled k)) t (plains_or_none (k == 0) (number k ∷ bin32 bins.Shl ∷ []) (low, (tt, tt))) h)
+literal_low : (k : ℕ) (z : ℤ) → literal_place k z < 2 ^ 32
+literal_low k (pos n) = omega arith
+literal_low k (negsuc n) = word_of-IsWord 32 (negsuc n)
 
 load_fit : (heap x : ℕ) → heap < 2 ^ 32 → (v : Meaning) → Fit (load_code heap x v)
-load_fit heap x low (a_view v) =
-    let read = one (instructions.load (access v (is_signed_element v)) (shift_of v) 0) in
-    (tt, (elements_low heap (shift_of v) low, (tt, (tt, element_fit x (shift_of v) read (shift_low v) (omega arith, tt), (omega arith, tt), tt))))
+load_fit heap x low (a_view v) = (tt, (low, (tt, (tt, (tt, (omega arith, tt)), (omega arith, tt), tt))))
 load_fit heap x low _ = (tt, tt)
 
 store_fit : (heap x y : ℕ) → heap < 2 ^ 32 → (v : Meaning) → Fit (store_code heap x y v)
-store_fit heap x y low (a_view v) =
-    let written = plains (local_get y ∷ instructions.store (access v false) (shift_of v) 0 ∷ []) in
-    (tt, (tt, (elements_low heap (shift_of v) low, (tt, (tt, element_fit x (shift_of v) written (shift_low v) (tt, (omega arith, tt)), tt, tt)))))
+store_fit heap x y low (a_view v) = (tt, (tt, (low, (tt, (tt, (tt, (tt, (omega arith, tt))), tt, tt)))))
 store_fit heap x y low _ = (tt, tt)
 
 stored_fit : (wanted : Bool) (y : ℕ) → Fit (stored_code wanted y)
@@ -149,6 +135,12 @@ finished_fit : (wanted : Bool) (t : Trees) → Fit t → Fit (finished wanted t)
 finished_fit true t h = h
 finished_fit false t h = joined t (one drop_operand) h (tt, tt)
 
+place_fit : (k : ℕ) (i : Expr) (code left : Trees) → Fit code → Fit left → Fit (place_code k i code left)
+place_fit k (lit z) code left h l = (literal_low k z, tt)
+place_fit k (binary op e s) code left h l =
+    either_fit (is_shift op) _ _ (joined left (plains (aligned k)) l (plains_or_none (k == 0) _ (aligned_low k, (tt, tt)))) h
+place_fit k i code left h l = h
+
 -- ---- expressions
 
 module _ (heap : ℕ) (c : Scope) (low : heap < 2 ^ 32) (bases : (n : List ℕ) → base_of c.home n < 2 ^ 32) where
@@ -159,7 +151,7 @@ module _ (heap : ℕ) (c : Scope) (low : heap < 2 ^ 32) (bases : (n : List ℕ) 
     value_fit wanted d (var n) = finished_fit wanted _ (get_fit (place_of c n))
     value_fit wanted d (index n i) =
         let x = scratch heap c d in
-        finished_fit wanted _ (joined (expr_code heap c true d i) (load_code heap x (named c n)) (value_fit true d i) (load_fit heap x low (named c n)))
+        finished_fit wanted _ (joined (place_code (exponent_in (named c n)) i (expr_code heap c true d i) (left_code heap c d i)) (load_code heap x (named c n)) (place_fit (exponent_in (named c n)) i (expr_code heap c true d i) (left_code heap c d i) (value_fit true d i) (left_fit d i)) (load_fit heap x low (named c n)))
     value_fit wanted d (call n es) =
         let callee = callee_code c wanted n (exprs_length es) (named c n) in
         let ended = joined callee (dropped wanted (named c n)) (callee_fit c wanted n (exprs_length es) (named c n)) (dropped_fit wanted (named c n)) in
@@ -180,7 +172,7 @@ module _ (heap : ℕ) (c : Scope) (low : heap < 2 ^ 32) (bases : (n : List ℕ) 
         let last = stored_code wanted y in
         let ended = joined kept last (store_fit heap x y low (named c n)) (stored_fit wanted y) in
         let further = joined (expr_code heap c true d e) (kept ⊕ last) (value_fit true d e) ended in
-        joined (expr_code heap c true d i) (expr_code heap c true d e ⊕ (kept ⊕ last)) (value_fit true d i) further
+        joined (place_code (exponent_in (named c n)) i (expr_code heap c true d i) (left_code heap c d i)) (expr_code heap c true d e ⊕ (kept ⊕ last)) (place_fit (exponent_in (named c n)) i (expr_code heap c true d i) (left_code heap c d i) (value_fit true d i) (left_fit d i)) further
     value_fit wanted d (unary op e) =
         let ended = joined (expr_code heap c true d e) (after_operand op) (value_fit true d e) (after_fit op) in
         finished_fit wanted _ (joined (before_operand op) (expr_code heap c true d e ⊕ after_operand op) (before_fit op) ended)
@@ -194,6 +186,10 @@ module _ (heap : ℕ) (c : Scope) (low : heap < 2 ^ 32) (bases : (n : List ℕ) 
         let choice = if_block (Some I32) (expr_code heap c true d a) (expr_code heap c true d b) ▹ ε in
         finished_fit wanted _ (joined (expr_code heap c true d e) choice (value_fit true d e) (tt, value_fit true d a, value_fit true d b, tt))
     value_fit wanted d (comma es) = finished_fit wanted _ (comma_fit d es)
+
+    left_fit : (d : ℕ) (e : Expr) → Fit (left_code heap c d e)
+    left_fit d (binary op l r) = value_fit true d l
+    left_fit d e = tt
 
     arguments_fit : (d : ℕ) (es : Exprs) → Fit (arguments_code heap c d es)
     arguments_fit d no_exprs = tt

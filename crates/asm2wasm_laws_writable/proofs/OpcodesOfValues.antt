@@ -27,7 +27,7 @@ use Rattle.asm_lang_valid.specs.declared.meaning.Builtin.TheVariants.{Imul, Clz3
 use Rattle.asm_lang_valid.specs.Scope.{shift_of, Meaning, a_foreign, a_builtin, a_view, a_function, a_table}
 use Rattle.asm_lang_valid.specs.Typing.{Scope, named, exprs_length, or_zero}
 use Rattle.asm2wasm_translation.specs.Numbers.{VariablePlace, a_local, a_global, nowhere, place_of, base_of}
-use Rattle.asm2wasm_translation.specs.Values.{number, plains, one, get_code, put_code, guarded, quotient, operator, before_operand, after_operand, scaled, load_code, store_code, stored_code, callee_code, dropped, from_base, entry_code, finished, access, is_signed_element, is_unsigned, link_operator, scratch, expr_code, arguments_code, links_code, comma_code}
+use Rattle.asm2wasm_translation.specs.Values.{number, plains, one, get_code, put_code, guarded, quotient, operator, before_operand, after_operand, aligned, is_shift, place_code, exponent_in, load_code, store_code, stored_code, callee_code, dropped, from_base, entry_code, finished, access, is_signed_element, is_unsigned, link_operator, scratch, expr_code, left_code, arguments_code, links_code, comma_code}
 use Rattle.asm2wasm_laws_writable.specs.OpcodesLaws.{ExpressionsHaveOpcodes}
 
 -- ---- single instructions
@@ -227,17 +227,14 @@ after_opcodes BitNot = (bin_opcode bins.Sub, tt)
 after_opcodes Not = (eqz_opcode, tt)
 after_opcodes Plus = (unreachable_opcode, tt)
 
-element_opcodes : (x k : ℕ) (t : Trees) → Opcodes t → Opcodes (one (local_get x) ⊕ (plains (scaled k) ⊕ t))
-element_opcodes x k t h = (get_opcode x, joined (plains (scaled k)) t (plains_or_none (k == 0) _ (number_opcode k, (bin_opcode bins.Shl, tt))) h)
-
 load_opcodes : (heap x : ℕ) (v : Meaning) → Opcodes (load_code heap x v)
 load_opcodes heap x (a_view v) =
-    (tee_opcode x, (number_opcode 0, (rel_opcode rels.LtU, (if_opcode (Some I32), element_opcodes x (shift_of v) (one (instructions.load (access v (is_signed_element v)) (shift_of v) 0)) (load_opcode v (shift_of v) 0, tt), (number_opcode 0, tt), tt))))
+    (tee_opcode x, (number_opcode 0, (rel_opcode rels.LtU, (if_opcode (Some I32), (get_opcode x, (load_opcode v (shift_of v) 0, tt)), (number_opcode 0, tt), tt))))
 load_opcodes heap x _ = (unreachable_opcode, tt)
 
 store_opcodes : (heap x y : ℕ) (v : Meaning) → Opcodes (store_code heap x y v)
 store_opcodes heap x y (a_view v) =
-    (set_opcode y, (tee_opcode x, (number_opcode 0, (rel_opcode rels.LtU, (if_opcode None, element_opcodes x (shift_of v) (plains (local_get y ∷ instructions.store (access v false) (shift_of v) 0 ∷ [])) (get_opcode y, (store_opcode v (shift_of v) 0, tt)), tt, tt)))))
+    (set_opcode y, (tee_opcode x, (number_opcode 0, (rel_opcode rels.LtU, (if_opcode None, (get_opcode x, (get_opcode y, (store_opcode v (shift_of v) 0, tt))), tt, tt)))))
 store_opcodes heap x y _ = (unreachable_opcode, tt)
 
 stored_opcodes : (wanted : Bool) (y : ℕ) → Opcodes (stored_code wanted y)
@@ -267,6 +264,12 @@ finished_opcodes : (wanted : Bool) (t : Trees) → Opcodes t → Opcodes (finish
 finished_opcodes true t h = h
 finished_opcodes false t h = joined t (one drop_operand) h (drop_opcode, tt)
 
+place_opcodes : (k : ℕ) (i : Expr) (code left : Trees) → Opcodes code → Opcodes left → Opcodes (place_code k i code left)
+place_opcodes k (lit z) code left h l = (number_opcode 0, tt)
+place_opcodes k (binary op e s) code left h l =
+    either_opcodes (is_shift op) _ _ (joined left (plains (aligned k)) l (plains_or_none (k == 0) _ (number_opcode 0, (bin_opcode bins.And, tt)))) h
+place_opcodes k i code left h l = h
+
 -- ---- expressions
 
 module _ (heap : ℕ) (c : Scope) where
@@ -277,7 +280,7 @@ module _ (heap : ℕ) (c : Scope) where
     value_opcodes wanted d (var n) = finished_opcodes wanted _ (get_opcodes (place_of c n))
     value_opcodes wanted d (index n i) =
         let x = scratch heap c d in
-        finished_opcodes wanted _ (joined (expr_code heap c true d i) (load_code heap x (named c n)) (value_opcodes true d i) (load_opcodes heap x (named c n)))
+        finished_opcodes wanted _ (joined (place_code (exponent_in (named c n)) i (expr_code heap c true d i) (left_code heap c d i)) (load_code heap x (named c n)) (place_opcodes (exponent_in (named c n)) i (expr_code heap c true d i) (left_code heap c d i) (value_opcodes true d i) (left_opcodes d i)) (load_opcodes heap x (named c n)))
     value_opcodes wanted d (call n es) =
         let callee = callee_code c wanted n (exprs_length es) (named c n) in
         let ended = joined callee (dropped wanted (named c n)) (callee_opcodes c wanted n (exprs_length es) (named c n)) (dropped_opcodes wanted (named c n)) in
@@ -298,7 +301,7 @@ module _ (heap : ℕ) (c : Scope) where
         let last = stored_code wanted y in
         let ended = joined kept last (store_opcodes heap x y (named c n)) (stored_opcodes wanted y) in
         let further = joined (expr_code heap c true d e) (kept ⊕ last) (value_opcodes true d e) ended in
-        joined (expr_code heap c true d i) (expr_code heap c true d e ⊕ (kept ⊕ last)) (value_opcodes true d i) further
+        joined (place_code (exponent_in (named c n)) i (expr_code heap c true d i) (left_code heap c d i)) (expr_code heap c true d e ⊕ (kept ⊕ last)) (place_opcodes (exponent_in (named c n)) i (expr_code heap c true d i) (left_code heap c d i) (value_opcodes true d i) (left_opcodes d i)) further
     value_opcodes wanted d (unary op e) =
         let ended = joined (expr_code heap c true d e) (after_operand op) (value_opcodes true d e) (after_opcodes op) in
         finished_opcodes wanted _ (joined (before_operand op) (expr_code heap c true d e ⊕ after_operand op) (before_opcodes op) ended)
@@ -312,6 +315,10 @@ module _ (heap : ℕ) (c : Scope) where
         let choice = if_block (Some I32) (expr_code heap c true d a) (expr_code heap c true d b) ▹ ε in
         finished_opcodes wanted _ (joined (expr_code heap c true d e) choice (value_opcodes true d e) (if_opcode (Some I32), value_opcodes true d a, value_opcodes true d b, tt))
     value_opcodes wanted d (comma es) = finished_opcodes wanted _ (comma_opcodes d es)
+
+    left_opcodes : (d : ℕ) (e : Expr) → Opcodes (left_code heap c d e)
+    left_opcodes d (binary op l r) = value_opcodes true d l
+    left_opcodes d e = tt
 
     arguments_opcodes : (d : ℕ) (es : Exprs) → Opcodes (arguments_code heap c d es)
     arguments_opcodes d no_exprs = tt

@@ -105,6 +105,11 @@ element n = binary Sar (var n) (int 2)
 abbrev pub storing : Module
 storing = alone (a ∷ b ∷ c ∷ []) [] (plain (store heap (element a) (store heap (element b) (var c))) ∷ [])
 
+-- ---- `H[-1]=H[3]=a;`
+
+abbrev pub literal_indices : Module
+literal_indices = alone (a ∷ []) [] (plain (store heap (lit (negsuc 0)) (store heap (int 3) (var a))) ∷ [])
+
 -- ---- `return (a|0)/(b|0)|0;`
 
 abbrev pub dividing : Module

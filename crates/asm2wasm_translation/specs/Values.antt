@@ -1,7 +1,7 @@
 -- The code of expressions. An int stands as the word of its low 32 bits. Operands wait on the stack; a guard moves them into scratch
 -- locals once both are there, and the index of a table call waits in one while its arguments are computed. At depth d, that is inside
 -- the arguments of d table calls, scratch locals from the d-th on are free.
-use Rattle.std.specs.Prelude.{ℕ, suc, ◌+◌, ◌-◌, ◌/◌, ◌^◌, Bool, true, false, ◌||◌, ◌==◌, nat_le, List, [], ◌∷◌, Some, None, pos, if◌then◌else◌}
+use Rattle.std.specs.Prelude.{ℕ, suc, ◌+◌, ◌-◌, ◌*◌, ◌%◌, ◌^◌, Bool, true, false, ◌||◌, ◌==◌, nat_le, List, [], ◌∷◌, Some, None, ℤ, pos, negsuc, if◌then◌else◌}
 use Rattle.sem_words.specs.declared.word.Bin.{Bin}
 use Rattle.sem_words.specs.declared.word.Bin.TheVariants as bins
 use Rattle.sem_words.specs.declared.word.Un.TheVariants as uns
@@ -138,30 +138,45 @@ is_signed_element _ = false
 abbrev pub access : Element → Bool → MemOp
 access v signed = record { wide = false; size = 2 ^ shift_of v; signed = signed }
 
--- the place of an element of 2 ^ k bytes
-abbrev pub scaled : ℕ → List Plain
-scaled k = if k == 0 then [] else number k ∷ bin32 bins.Shl ∷ []
+-- the elements of a view have 2 to this number of bytes
+abbrev pub exponent_in : Meaning → ℕ
+exponent_in (a_view v) = shift_of v
+exponent_in _ = 0
 
--- is the index on the stack, which stays in x, one of an element of the heap
-abbrev pub within : (size k x : ℕ) → List Plain
-within size k x = local_tee x ∷ number (size / 2 ^ k) ∷ rel32 rels.LtU ∷ []
+-- clears the lowest k bits
+abbrev pub aligned : ℕ → List Plain
+aligned k = if k == 0 then [] else number (2 ^ 32 - 2 ^ k) ∷ bin32 bins.And ∷ []
+
+-- where the element of an index begins that is a literal; one that is negative lies past each heap
+abbrev pub literal_place : ℕ → ℤ → ℕ
+literal_place k (pos n) = word_of 32 (pos n) * 2 ^ k % 2 ^ 32
+literal_place k (negsuc n) = word_of 32 (negsuc n)
+
+abbrev pub is_shift : JsOp → Bool
+is_shift Sar = true
+is_shift op = false
+
+-- where the element of an index begins: that of `e >> k` at e without its lowest k bits. `code` is the index's, and `left` that of e
+abbrev pub place_code : (k : ℕ) → Expr → (code left : Trees) → Trees
+place_code k (lit z) code left = one (number (literal_place k z))
+place_code k (binary op l r) code left = if is_shift op then left ⊕ plains (aligned k) else code
+place_code k e code left = code
+
+-- does the element whose place is on the stack, and stays in x, lie in the heap
+abbrev pub within : (size x : ℕ) → List Plain
+within size x = local_tee x ∷ number size ∷ rel32 rels.LtU ∷ []
 
 abbrev pub load_code : (size x : ℕ) → Meaning → Trees
 load_code size x (a_view v) =
-    plains (within size (shift_of v) x)
-    ⊕ (if_block (Some I32)
-    (one (local_get x) ⊕ (plains (scaled (shift_of v)) ⊕ one (code.load (access v (is_signed_element v)) (shift_of v) 0)))
-    (one (number 0)) ▹ ε)
+    plains (within size x)
+    ⊕ (if_block (Some I32) (plains (local_get x ∷ code.load (access v (is_signed_element v)) (shift_of v) 0 ∷ [])) (one (number 0)) ▹ ε)
 load_code size x _ = unreachable ▹ ε
 
 -- the value is left in y
 abbrev pub store_code : (size x y : ℕ) → Meaning → Trees
 store_code size x y (a_view v) =
     one (local_set y)
-    ⊕ (plains (within size (shift_of v) x)
-    ⊕ (if_block None
-    (one (local_get x) ⊕ (plains (scaled (shift_of v)) ⊕ plains (local_get y ∷ code.store (access v false) (shift_of v) 0 ∷ [])))
-    ε ▹ ε))
+    ⊕ (plains (within size x) ⊕ (if_block None (plains (local_get x ∷ local_get y ∷ code.store (access v false) (shift_of v) 0 ∷ [])) ε ▹ ε))
 store_code size x y _ = unreachable ▹ ε
 
 abbrev pub stored_code : Bool → (y : ℕ) → Trees
@@ -211,7 +226,7 @@ module _ (size : ℕ) (c : Scope) where
     expr_code wanted d (lit z) = finished wanted (one (number (word_of 32 z)))
     expr_code wanted d (decimal bs) = finished wanted (unreachable ▹ ε)
     expr_code wanted d (var n) = finished wanted (get_code (place_of c n))
-    expr_code wanted d (index n i) = finished wanted (expr_code true d i ⊕ load_code size (scratch d) (named c n))
+    expr_code wanted d (index n i) = finished wanted (place_code (exponent_in (named c n)) i (expr_code true d i) (left_code d i) ⊕ load_code size (scratch d) (named c n))
     expr_code wanted d (call n es) = arguments_code d es ⊕ (callee_code c wanted n (exprs_length es) (named c n) ⊕ dropped wanted (named c n))
     -- the index of the entry waits in a scratch local, and the arguments take those after it
     expr_code wanted d (table_call n i es) =
@@ -219,7 +234,8 @@ module _ (size : ℕ) (c : Scope) where
         ⊕ (plains (from_base (base_of c.home n)) ⊕ (one (local_set (scratch d)) ⊕ (arguments_code (suc d) es ⊕ (one (local_get (scratch d)) ⊕ entry_code c (named c n)))))
     expr_code wanted d (assign n e) = expr_code true d e ⊕ put_code wanted (place_of c n)
     expr_code wanted d (store n i e) =
-        expr_code true d i ⊕ (expr_code true d e ⊕ (store_code size (scratch d) (scratch (suc d)) (named c n) ⊕ stored_code wanted (scratch (suc d))))
+        place_code (exponent_in (named c n)) i (expr_code true d i) (left_code d i)
+        ⊕ (expr_code true d e ⊕ (store_code size (scratch d) (scratch (suc d)) (named c n) ⊕ stored_code wanted (scratch (suc d))))
     expr_code wanted d (unary op e) = finished wanted (before_operand op ⊕ (expr_code true d e ⊕ after_operand op))
     expr_code wanted d (binary op l r) =
         finished wanted
@@ -228,6 +244,11 @@ module _ (size : ℕ) (c : Scope) where
     expr_code wanted d (chain e ls) = finished wanted (expr_code true d e ⊕ links_code d ls)
     expr_code wanted d (cond e a b) = finished wanted (expr_code true d e ⊕ (if_block (Some I32) (expr_code true d a) (expr_code true d b) ▹ ε))
     expr_code wanted d (comma es) = finished wanted (comma_code d es)
+
+    -- of the left operand
+    pub left_code : (d : ℕ) → Expr → Trees
+    left_code d (binary op l r) = expr_code true d l
+    left_code d e = ε
 
     -- leaves the values, from left to right
     pub arguments_code : (d : ℕ) → Exprs → Trees

@@ -1,5 +1,5 @@
 -- What is computed of the small modules: their code, and what is seen of sessions in both languages.
-use Rattle.std.specs.Prelude.{◌≡◌, ℕ, pos, false, List, [], ◌∷◌, ◌++◌, Some, None, map, take, replicate}
+use Rattle.std.specs.Prelude.{◌≡◌, ℕ, ◌-◌, ◌^◌, pos, false, List, [], ◌∷◌, ◌++◌, Some, None, map, take, replicate}
 use Rattle.sem_words.specs.declared.word.Word.TheVariants.{W32}
 use Rattle.sem_words.specs.declared.word.Bin.TheVariants as bins
 use Rattle.sem_words.specs.declared.word.Rel.TheVariants as rels
@@ -42,17 +42,22 @@ number n = plain (const32 n)
 abbrev pub word_access : MemOp
 word_access = record { wide = false; size = 4; signed = false }
 
--- y into element x of 32 bits, where it lies in 4,096 bytes
+-- y into the element of 32 bits at the place x, where it lies in 4,096 bytes
 abbrev pub guarded_store : (x y : ℕ) → List Instruction
 guarded_store x y =
-    set y ∷ tee x ∷ number 1024 ∷ plain (rel32 rels.LtU) ∷ if_block None ∷ get x ∷ number 2 ∷ plain (bin32 bins.Shl) ∷ get y ∷ plain (store word_access 2 0) ∷ end_mark ∷ []
+    set y ∷ tee x ∷ number 4096 ∷ plain (rel32 rels.LtU) ∷ if_block None ∷ get x ∷ get y ∷ plain (store word_access 2 0) ∷ end_mark ∷ []
 
-abbrev pub shifted : ℕ → List Instruction
-shifted x = get x ∷ number 2 ∷ plain (bin32 bins.ShrS) ∷ []
+-- without the lowest two bits
+abbrev pub aligned : ℕ → List Instruction
+aligned x = get x ∷ number (2 ^ 32 - 4) ∷ plain (bin32 bins.And) ∷ []
 
--- both indices, the value, the inner store, its value, and the outer store
+-- both places, the value, the inner store, its value, and the outer store
 abbrev pub storing_code : List Instruction
-storing_code = shifted 0 ++ shifted 1 ++ (get 2 ∷ []) ++ guarded_store 3 4 ++ (get 4 ∷ []) ++ guarded_store 3 4
+storing_code = aligned 0 ++ aligned 1 ++ (get 2 ∷ []) ++ guarded_store 3 4 ++ (get 4 ∷ []) ++ guarded_store 3 4
+
+-- element 3 begins at 12, and the word of -1 is past each heap
+abbrev pub literal_indices_code : List Instruction
+literal_indices_code = (number (2 ^ 32 - 1) ∷ number 12 ∷ get 0 ∷ []) ++ guarded_store 1 2 ++ (get 2 ∷ []) ++ guarded_store 1 2
 
 abbrev pub dividing_code : List Instruction
 dividing_code =

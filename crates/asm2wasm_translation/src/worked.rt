@@ -6,12 +6,17 @@ ghost use Rattle.wasm_lang_exec.specs.Fits as machine;
 ghost use Rattle.wasm_lang_exec.specs.Session.{wasm};
 ghost use Rattle.asm2wasm_lang.specs.Calling.{IsCalledAs};
 ghost use Rattle.asm2wasm_translation.specs.Modules.{translation};
-ghost use Rattle.asm2wasm_translation.specs.Pieces.{operating, operating_script, long_switch, long_script, small_elements, small_script, bodies, storing, dividing, continuing, switching, few_cases, dense_cases, tabled, tabled_script, storing_script};
-ghost use Rattle.asm2wasm_translation.specs.Worked.{ShowsSame, body, storing_code, dividing_code, continuing_code, few_code, dense_code, first_code, first_part, all_clauses_code, clauses_part, gave, imported, giving_back, wide_export, of_seven, IsAlike};
+ghost use Rattle.asm2wasm_translation.specs.Pieces.{operating, operating_script, long_switch, long_script, small_elements, small_script, bodies, storing, literal_indices, dividing, continuing, switching, few_cases, dense_cases, tabled, tabled_script, storing_script};
+ghost use Rattle.asm2wasm_translation.specs.Worked.{ShowsSame, body, storing_code, literal_indices_code, dividing_code, continuing_code, few_code, dense_code, first_code, first_part, all_clauses_code, clauses_part, gave, imported, giving_back, wide_export, of_seven, IsAlike};
 
 /// `H[a>>2]=H[b>>2]=c`: both indices wait on the stack, so that two scratch locals serve both stores.
 pub fn a_store_in_a_store()
     ensures { bodies storing ≡ body 2 storing_code ∷ [] }
+{}
+
+/// `H[-1]=H[3]=a`: where an element begins is known of an index that is a literal.
+pub fn literals_as_indices()
+    ensures { bodies literal_indices ≡ body 2 literal_indices_code ∷ [] }
 {}
 
 /// `(a|0)/(b|0)|0`: the divisors 0 and -1 go by the product.

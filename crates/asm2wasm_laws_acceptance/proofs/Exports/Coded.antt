@@ -8,7 +8,7 @@ use Rattle.asm_lang_valid.specs.Scope.{Meaning, nothing, an_int, an_outside, a_f
 use Rattle.asm_lang_valid.specs.Typed.{scope_of}
 use Rattle.asm_lang_valid.specs.Typing.{Scope, named, exprs_length}
 use Rattle.asm2wasm_translation.specs.Numbers.{place_of, import_number, own_number, table_type, base_of}
-use Rattle.asm2wasm_translation.specs.Values.{callee_code, entry_code, expr_code, arguments_code, links_code, comma_code}
+use Rattle.asm2wasm_translation.specs.Values.{callee_code, entry_code, expr_code, left_code, arguments_code, links_code, comma_code}
 use Rattle.asm2wasm_translation.specs.Bodies.{Label, plainly, breakable, named_end, in_body, clauses_count, dispatch, part_code, test_code, value_local, stmt_code, stmts_code, short_code, long_code, locals_code, last_code, body_code, function_code}
 
 pub record CodesAlike (m n : Module) (f : Function) : Type 0 where
@@ -55,7 +55,7 @@ module _ (size : ℕ) (m n : Module) (f : Function) (alike : CodesAlike m n f) w
     expr_same wanted k (lit z) = refl
     expr_same wanted k (decimal bs) = refl
     expr_same wanted k (var name) = let x = alike.places name in rw x refl
-    expr_same wanted k (index name i) = let x = alike.names name in let a = expr_same true k i in rw (x, a) refl
+    expr_same wanted k (index name i) = let x = alike.names name in let a = expr_same true k i in let l = left_same k i in rw (x, a, l) refl
     expr_same wanted k (call name es) =
         let x = alike.names name in
         let a = arguments_same k es in
@@ -69,12 +69,16 @@ module _ (size : ℕ) (m n : Module) (f : Function) (alike : CodesAlike m n f) w
         let b = entry_same (named c name) in
         rw (x, a, g, h) (rw b refl)
     expr_same wanted k (assign name e) = let x = alike.places name in let a = expr_same true k e in rw (x, a) refl
-    expr_same wanted k (store name i e) = let x = alike.names name in let a = expr_same true k i in let b = expr_same true k e in rw (x, a, b) refl
+    expr_same wanted k (store name i e) = let x = alike.names name in let a = expr_same true k i in let b = expr_same true k e in let l = left_same k i in rw (x, a, b, l) refl
     expr_same wanted k (unary op e) = let a = expr_same true k e in rw a refl
     expr_same wanted k (binary op l r) = let a = expr_same true k l in let b = expr_same true k r in rw (a, b) refl
     expr_same wanted k (chain e ls) = let a = expr_same true k e in let b = links_same k ls in rw (a, b) refl
     expr_same wanted k (cond e p q) = let a = expr_same true k e in let b = expr_same true k p in let g = expr_same true k q in rw (a, b, g) refl
     expr_same wanted k (comma es) = let a = comma_same k es in rw a refl
+
+    left_same : (k : ℕ) (e : Expr) → left_code size d k e ≡ left_code size c k e
+    left_same k (binary op l r) = expr_same true k l
+    left_same k e = refl
 
     arguments_same : (k : ℕ) (es : Exprs) → arguments_code size d k es ≡ arguments_code size c k es
     arguments_same k no_exprs = refl

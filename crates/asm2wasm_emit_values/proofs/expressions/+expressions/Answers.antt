@@ -17,12 +17,14 @@ use Rattle.asm_lang_valid.specs.Typing.{named, or_zero, exprs_length}
 use Rattle.asm_validate_limits.proofs.Shapes.{lit_is, decimal_is, var_is, index_is, assign_is, unary_is, call_is, comma_is, table_call_is, store_is, binary_is, chain_is, cond_is}
 use Rattle.asm_validate_limits.proofs.Parts.{arguments_length, nodes_left, operands_left}
 use Rattle.asm2wasm_translation.specs.Numbers.{place_of, base_of}
-use Rattle.asm2wasm_translation.specs.Values.{one, plains, number, link_operator, finished, put_code, before_operand, after_operand, operator, is_unsigned, load_code, store_code, stored_code, callee_code, dropped, from_base, entry_code, scratch, expr_code, arguments_code, links_code, comma_code}
+use Rattle.asm2wasm_translation.specs.Values.{one, plains, number, link_operator, finished, put_code, before_operand, after_operand, operator, is_unsigned, exponent_in, aligned, load_code, store_code, stored_code, callee_code, dropped, from_base, entry_code, scratch, expr_code, arguments_code, links_code, comma_code}
 use Rattle.asm2wasm_emit_pieces.proofs.Joined.{joined}
 use Rattle.asm2wasm_emit_pieces.proofs.Parts.{first_part, second_part}
 use Rattle.asm2wasm_emit_pieces.proofs.Endings.{arms}
 use Rattle.asm2wasm_emit_values.specs.Contexts.{scope_in}
+use Rattle.asm2wasm_emit_values.specs.Indices.{index_code}
 use Rattle.asm2wasm_emit_values.proofs.Steps.{on_ok, given, told, value_part, finished_last, joined_last, left_part, front_part, as_pair}
+use Rattle.asm2wasm_emit_values.proofs.Indices.{shifted_code, shifted_part}
 use Rattle.asm2wasm_emit_values.proofs.Lists.{one_more, none_left, here_narrow, left_narrow, arguments, operands, parts, argument_left, no_argument, operand_left, no_operand, part_left, last_part}
 use Rattle.asm2wasm_emit_values.proofs.expressions.+expressions.Goals as goal
 
@@ -169,18 +171,34 @@ emit-returns-in-Lit t c =
     let emitted = subst (λ z. OnOk c.emit_literal.result (c.emit_literal.new.output ≡ c.args.output.now ++ flat (finished c.args.wanted (one (number (word_of 32 z)))))) (to_z-of_z w128 c.in-Lit.value fits) c.emit_literal.ensures in
     told c.args.context.now.size (scope_in c.args.context.now) c.args.wanted c.args.depth _ _ (lit_is c.args.expr.now c.in-Lit.value c.in-Lit.is) c.emit_literal.result c.args.output.now c.emit_literal.new.output emitted
 
-pub emit_index-emit-requires : goal.emit_index-emit-requires
-emit_index-emit-requires t c =
+pub emit_index-emit_place-requires : goal.emit_index-emit_place-requires
+emit_index-emit_place-requires t c =
     let d0 = c.decreases in
-    (omega arith, first_part IsNarrow (expr_code c.args.context.now.size (scope_in c.args.context.now) true c.args.depth (expr_view c.args.index.now)) (load_code c.args.context.now.size (scratch c.args.context.now.size (scope_in c.args.context.now) c.args.depth) (named (scope_in c.args.context.now) (text_bytes c.args.name.now))) (value_part c.args.wanted ((expr_code c.args.context.now.size (scope_in c.args.context.now) true c.args.depth (expr_view c.args.index.now)) ⊕ (load_code c.args.context.now.size (scratch c.args.context.now.size (scope_in c.args.context.now) c.args.depth) (named (scope_in c.args.context.now) (text_bytes c.args.name.now)))) c.requires.narrow))
+    (omega arith, first_part IsNarrow (index_code c.args.context.now.size (scope_in c.args.context.now) c.args.depth (text_bytes c.args.name.now) (expr_view c.args.index.now)) (load_code c.args.context.now.size (scratch c.args.context.now.size (scope_in c.args.context.now) c.args.depth) (named (scope_in c.args.context.now) (text_bytes c.args.name.now))) (value_part c.args.wanted ((index_code c.args.context.now.size (scope_in c.args.context.now) c.args.depth (text_bytes c.args.name.now) (expr_view c.args.index.now)) ⊕ (load_code c.args.context.now.size (scratch c.args.context.now.size (scope_in c.args.context.now) c.args.depth) (named (scope_in c.args.context.now) (text_bytes c.args.name.now)))) c.requires.narrow))
 
 pub emit_index-load_element-requires : goal.emit_index-load_element-requires
 emit_index-load_element-requires t c =
-    record { narrow = second_part IsNarrow (expr_code c.args.context.now.size (scope_in c.args.context.now) true c.args.depth (expr_view c.args.index.now)) (load_code c.args.context.now.size (scratch c.args.context.now.size (scope_in c.args.context.now) c.args.depth) (named (scope_in c.args.context.now) (text_bytes c.args.name.now))) (value_part c.args.wanted ((expr_code c.args.context.now.size (scope_in c.args.context.now) true c.args.depth (expr_view c.args.index.now)) ⊕ (load_code c.args.context.now.size (scratch c.args.context.now.size (scope_in c.args.context.now) c.args.depth) (named (scope_in c.args.context.now) (text_bytes c.args.name.now)))) c.requires.narrow) }
+    record { narrow = second_part IsNarrow (index_code c.args.context.now.size (scope_in c.args.context.now) c.args.depth (text_bytes c.args.name.now) (expr_view c.args.index.now)) (load_code c.args.context.now.size (scratch c.args.context.now.size (scope_in c.args.context.now) c.args.depth) (named (scope_in c.args.context.now) (text_bytes c.args.name.now))) (value_part c.args.wanted ((index_code c.args.context.now.size (scope_in c.args.context.now) c.args.depth (text_bytes c.args.name.now) (expr_view c.args.index.now)) ⊕ (load_code c.args.context.now.size (scratch c.args.context.now.size (scope_in c.args.context.now) c.args.depth) (named (scope_in c.args.context.now) (text_bytes c.args.name.now)))) c.requires.narrow) }
 
 pub emit_index-returns : goal.emit_index-returns
 emit_index-returns t c =
-    finished_last c.finish.result c.args.wanted c.args.output.now c.load_element.new.output c.finish.new.output ((expr_code c.args.context.now.size (scope_in c.args.context.now) true c.args.depth (expr_view c.args.index.now)) ⊕ (load_code c.args.context.now.size (scratch c.args.context.now.size (scope_in c.args.context.now) c.args.depth) (named (scope_in c.args.context.now) (text_bytes c.args.name.now)))) (joined c.args.output.now c.emit.new.output c.load_element.new.output (expr_code c.args.context.now.size (scope_in c.args.context.now) true c.args.depth (expr_view c.args.index.now)) (load_code c.args.context.now.size (scratch c.args.context.now.size (scope_in c.args.context.now) c.args.depth) (named (scope_in c.args.context.now) (text_bytes c.args.name.now))) c.in_ok-emit.ensures c.in_ok-load_element.ensures) c.finish.ensures
+    finished_last c.finish.result c.args.wanted c.args.output.now c.load_element.new.output c.finish.new.output ((index_code c.args.context.now.size (scope_in c.args.context.now) c.args.depth (text_bytes c.args.name.now) (expr_view c.args.index.now)) ⊕ (load_code c.args.context.now.size (scratch c.args.context.now.size (scope_in c.args.context.now) c.args.depth) (named (scope_in c.args.context.now) (text_bytes c.args.name.now)))) (joined c.args.output.now c.emit_place.new.output c.load_element.new.output (index_code c.args.context.now.size (scope_in c.args.context.now) c.args.depth (text_bytes c.args.name.now) (expr_view c.args.index.now)) (load_code c.args.context.now.size (scratch c.args.context.now.size (scope_in c.args.context.now) c.args.depth) (named (scope_in c.args.context.now) (text_bytes c.args.name.now))) c.in_ok-emit_place.ensures c.in_ok-load_element.ensures) c.finish.ensures
+
+pub emit_place-emit-requires : goal.emit_place-emit-requires
+emit_place-emit-requires t c =
+    let form = c.in-Shifted.ensures in
+    let part = shifted_part (expr_view c.args.index.now) (expr_view c.in-Shifted.left.now) form.0 form.1 in
+    let code = shifted_code (expr_view c.args.index.now) (expr_view c.in-Shifted.left.now) form.0 form.1 c.args.context.now.size (scope_in c.args.context.now) c.args.depth (text_bytes c.args.name.now) in
+    let d0 = c.decreases in
+    (omega arith, first_part IsNarrow (expr_code c.args.context.now.size (scope_in c.args.context.now) true c.args.depth (expr_view c.in-Shifted.left.now)) (plains (aligned (exponent_in (named (scope_in c.args.context.now) (text_bytes c.args.name.now))))) (subst (λ l. EachIn IsNarrow l) code c.requires.narrow))
+
+pub emit_place-returns-in_ok-emit-in-Shifted : goal.emit_place-returns-in_ok-emit-in-Shifted
+emit_place-returns-in_ok-emit-in-Shifted t c =
+    let form = c.in-Shifted.ensures in
+    let code = shifted_code (expr_view c.args.index.now) (expr_view c.in-Shifted.left.now) form.0 form.1 c.args.context.now.size (scope_in c.args.context.now) c.args.depth (text_bytes c.args.name.now) in
+    let cleared = subst (λ k. OnOk c.aligned.result (c.aligned.new.output ≡ c.emit.new.output ++ flat (plains (aligned k)))) c.exponent-exponent.ensures.exact c.aligned.ensures in
+    subst (λ l. OnOk c.aligned.result (c.aligned.new.output ≡ c.args.output.now ++ flat l)) (sym code)
+    (joined_last c.aligned.result c.args.output.now c.emit.new.output c.aligned.new.output (expr_code c.args.context.now.size (scope_in c.args.context.now) true c.args.depth (expr_view c.in-Shifted.left.now)) (plains (aligned (exponent_in (named (scope_in c.args.context.now) (text_bytes c.args.name.now))))) c.in_ok-emit-in-Shifted.ensures cleared)
 
 pub emit_call-emit_arguments-requires : goal.emit_call-emit_arguments-requires
 emit_call-emit_arguments-requires t c =
@@ -226,27 +244,27 @@ emit_table_call-returns t c =
     let inner = subst (λ d. c.emit_arguments.new.output ≡ c.set_entry.new.output ++ flat (arguments_code c.args.context.now.size (scope_in c.args.context.now) d (exprs_view c.args.arguments.now))) (add-one c.args.depth) c.in_ok-emit_arguments.ensures in
     joined_last c.call_entry.result c.args.output.now c.emit.new.output c.call_entry.new.output (expr_code c.args.context.now.size (scope_in c.args.context.now) true c.args.depth (expr_view c.args.index.now)) ((plains (from_base (base_of (scope_in c.args.context.now).home (text_bytes c.args.name.now)))) ⊕ ((one (local_set (scratch c.args.context.now.size (scope_in c.args.context.now) c.args.depth))) ⊕ ((arguments_code c.args.context.now.size (scope_in c.args.context.now) (suc c.args.depth) (exprs_view c.args.arguments.now)) ⊕ (one (local_get (scratch c.args.context.now.size (scope_in c.args.context.now) c.args.depth)) ⊕ entry_code (scope_in c.args.context.now) (named (scope_in c.args.context.now) (text_bytes c.args.name.now)))))) c.in_ok-emit.ensures (as_pair c.call_entry.result c.emit.new.output c.call_entry.new.output (plains (from_base (base_of (scope_in c.args.context.now).home (text_bytes c.args.name.now)))) (one (local_set (scratch c.args.context.now.size (scope_in c.args.context.now) c.args.depth))) ((arguments_code c.args.context.now.size (scope_in c.args.context.now) (suc c.args.depth) (exprs_view c.args.arguments.now)) ⊕ (one (local_get (scratch c.args.context.now.size (scope_in c.args.context.now) c.args.depth)) ⊕ entry_code (scope_in c.args.context.now) (named (scope_in c.args.context.now) (text_bytes c.args.name.now)))) (joined_last c.call_entry.result c.emit.new.output c.set_entry.new.output c.call_entry.new.output ((plains (from_base (base_of (scope_in c.args.context.now).home (text_bytes c.args.name.now)))) ⊕ (one (local_set (scratch c.args.context.now.size (scope_in c.args.context.now) c.args.depth)))) ((arguments_code c.args.context.now.size (scope_in c.args.context.now) (suc c.args.depth) (exprs_view c.args.arguments.now)) ⊕ (one (local_get (scratch c.args.context.now.size (scope_in c.args.context.now) c.args.depth)) ⊕ entry_code (scope_in c.args.context.now) (named (scope_in c.args.context.now) (text_bytes c.args.name.now)))) c.in_ok-set_entry.ensures (joined_last c.call_entry.result c.set_entry.new.output c.emit_arguments.new.output c.call_entry.new.output (arguments_code c.args.context.now.size (scope_in c.args.context.now) (suc c.args.depth) (exprs_view c.args.arguments.now)) (one (local_get (scratch c.args.context.now.size (scope_in c.args.context.now) c.args.depth)) ⊕ entry_code (scope_in c.args.context.now) (named (scope_in c.args.context.now) (text_bytes c.args.name.now))) inner c.call_entry.ensures)))
 
+pub emit_store-emit_place-requires : goal.emit_store-emit_place-requires
+emit_store-emit_place-requires t c =
+    let d0 = c.decreases in
+    (omega arith, first_part IsNarrow (index_code c.args.context.now.size (scope_in c.args.context.now) c.args.depth (text_bytes c.args.name.now) (expr_view c.args.index.now)) ((expr_code c.args.context.now.size (scope_in c.args.context.now) true c.args.depth (expr_view c.args.value.now)) ⊕ ((store_code c.args.context.now.size (scratch c.args.context.now.size (scope_in c.args.context.now) c.args.depth) (scratch c.args.context.now.size (scope_in c.args.context.now) (suc c.args.depth)) (named (scope_in c.args.context.now) (text_bytes c.args.name.now))) ⊕ (stored_code c.args.wanted (scratch c.args.context.now.size (scope_in c.args.context.now) (suc c.args.depth))))) c.requires.narrow)
+
 pub emit_store-emit-requires : goal.emit_store-emit-requires
 emit_store-emit-requires t c =
     let d0 = c.decreases in
-    (omega arith, first_part IsNarrow (expr_code c.args.context.now.size (scope_in c.args.context.now) true c.args.depth (expr_view c.args.index.now)) ((expr_code c.args.context.now.size (scope_in c.args.context.now) true c.args.depth (expr_view c.args.value.now)) ⊕ ((store_code c.args.context.now.size (scratch c.args.context.now.size (scope_in c.args.context.now) c.args.depth) (scratch c.args.context.now.size (scope_in c.args.context.now) (suc c.args.depth)) (named (scope_in c.args.context.now) (text_bytes c.args.name.now))) ⊕ (stored_code c.args.wanted (scratch c.args.context.now.size (scope_in c.args.context.now) (suc c.args.depth))))) c.requires.narrow)
-
-pub emit_store-emit-requires-2 : goal.emit_store-emit-requires-2
-emit_store-emit-requires-2 t c =
-    let d0 = c.decreases in
-    (omega arith, first_part IsNarrow (expr_code c.args.context.now.size (scope_in c.args.context.now) true c.args.depth (expr_view c.args.value.now)) ((store_code c.args.context.now.size (scratch c.args.context.now.size (scope_in c.args.context.now) c.args.depth) (scratch c.args.context.now.size (scope_in c.args.context.now) (suc c.args.depth)) (named (scope_in c.args.context.now) (text_bytes c.args.name.now))) ⊕ (stored_code c.args.wanted (scratch c.args.context.now.size (scope_in c.args.context.now) (suc c.args.depth)))) (second_part IsNarrow (expr_code c.args.context.now.size (scope_in c.args.context.now) true c.args.depth (expr_view c.args.index.now)) ((expr_code c.args.context.now.size (scope_in c.args.context.now) true c.args.depth (expr_view c.args.value.now)) ⊕ ((store_code c.args.context.now.size (scratch c.args.context.now.size (scope_in c.args.context.now) c.args.depth) (scratch c.args.context.now.size (scope_in c.args.context.now) (suc c.args.depth)) (named (scope_in c.args.context.now) (text_bytes c.args.name.now))) ⊕ (stored_code c.args.wanted (scratch c.args.context.now.size (scope_in c.args.context.now) (suc c.args.depth))))) c.requires.narrow))
+    (omega arith, first_part IsNarrow (expr_code c.args.context.now.size (scope_in c.args.context.now) true c.args.depth (expr_view c.args.value.now)) ((store_code c.args.context.now.size (scratch c.args.context.now.size (scope_in c.args.context.now) c.args.depth) (scratch c.args.context.now.size (scope_in c.args.context.now) (suc c.args.depth)) (named (scope_in c.args.context.now) (text_bytes c.args.name.now))) ⊕ (stored_code c.args.wanted (scratch c.args.context.now.size (scope_in c.args.context.now) (suc c.args.depth)))) (second_part IsNarrow (index_code c.args.context.now.size (scope_in c.args.context.now) c.args.depth (text_bytes c.args.name.now) (expr_view c.args.index.now)) ((expr_code c.args.context.now.size (scope_in c.args.context.now) true c.args.depth (expr_view c.args.value.now)) ⊕ ((store_code c.args.context.now.size (scratch c.args.context.now.size (scope_in c.args.context.now) c.args.depth) (scratch c.args.context.now.size (scope_in c.args.context.now) (suc c.args.depth)) (named (scope_in c.args.context.now) (text_bytes c.args.name.now))) ⊕ (stored_code c.args.wanted (scratch c.args.context.now.size (scope_in c.args.context.now) (suc c.args.depth))))) c.requires.narrow))
 
 pub emit_store-store_element-requires : goal.emit_store-store_element-requires
 emit_store-store_element-requires t c =
-    record { narrow = first_part IsNarrow (store_code c.args.context.now.size (scratch c.args.context.now.size (scope_in c.args.context.now) c.args.depth) (scratch c.args.context.now.size (scope_in c.args.context.now) (suc c.args.depth)) (named (scope_in c.args.context.now) (text_bytes c.args.name.now))) (stored_code c.args.wanted (scratch c.args.context.now.size (scope_in c.args.context.now) (suc c.args.depth))) (second_part IsNarrow (expr_code c.args.context.now.size (scope_in c.args.context.now) true c.args.depth (expr_view c.args.value.now)) ((store_code c.args.context.now.size (scratch c.args.context.now.size (scope_in c.args.context.now) c.args.depth) (scratch c.args.context.now.size (scope_in c.args.context.now) (suc c.args.depth)) (named (scope_in c.args.context.now) (text_bytes c.args.name.now))) ⊕ (stored_code c.args.wanted (scratch c.args.context.now.size (scope_in c.args.context.now) (suc c.args.depth)))) (second_part IsNarrow (expr_code c.args.context.now.size (scope_in c.args.context.now) true c.args.depth (expr_view c.args.index.now)) ((expr_code c.args.context.now.size (scope_in c.args.context.now) true c.args.depth (expr_view c.args.value.now)) ⊕ ((store_code c.args.context.now.size (scratch c.args.context.now.size (scope_in c.args.context.now) c.args.depth) (scratch c.args.context.now.size (scope_in c.args.context.now) (suc c.args.depth)) (named (scope_in c.args.context.now) (text_bytes c.args.name.now))) ⊕ (stored_code c.args.wanted (scratch c.args.context.now.size (scope_in c.args.context.now) (suc c.args.depth))))) c.requires.narrow)) }
+    record { narrow = first_part IsNarrow (store_code c.args.context.now.size (scratch c.args.context.now.size (scope_in c.args.context.now) c.args.depth) (scratch c.args.context.now.size (scope_in c.args.context.now) (suc c.args.depth)) (named (scope_in c.args.context.now) (text_bytes c.args.name.now))) (stored_code c.args.wanted (scratch c.args.context.now.size (scope_in c.args.context.now) (suc c.args.depth))) (second_part IsNarrow (expr_code c.args.context.now.size (scope_in c.args.context.now) true c.args.depth (expr_view c.args.value.now)) ((store_code c.args.context.now.size (scratch c.args.context.now.size (scope_in c.args.context.now) c.args.depth) (scratch c.args.context.now.size (scope_in c.args.context.now) (suc c.args.depth)) (named (scope_in c.args.context.now) (text_bytes c.args.name.now))) ⊕ (stored_code c.args.wanted (scratch c.args.context.now.size (scope_in c.args.context.now) (suc c.args.depth)))) (second_part IsNarrow (index_code c.args.context.now.size (scope_in c.args.context.now) c.args.depth (text_bytes c.args.name.now) (expr_view c.args.index.now)) ((expr_code c.args.context.now.size (scope_in c.args.context.now) true c.args.depth (expr_view c.args.value.now)) ⊕ ((store_code c.args.context.now.size (scratch c.args.context.now.size (scope_in c.args.context.now) c.args.depth) (scratch c.args.context.now.size (scope_in c.args.context.now) (suc c.args.depth)) (named (scope_in c.args.context.now) (text_bytes c.args.name.now))) ⊕ (stored_code c.args.wanted (scratch c.args.context.now.size (scope_in c.args.context.now) (suc c.args.depth))))) c.requires.narrow)) }
 
 pub emit_store-stored_value-requires : goal.emit_store-stored_value-requires
 emit_store-stored_value-requires t c =
-    record { narrow = second_part IsNarrow (store_code c.args.context.now.size (scratch c.args.context.now.size (scope_in c.args.context.now) c.args.depth) (scratch c.args.context.now.size (scope_in c.args.context.now) (suc c.args.depth)) (named (scope_in c.args.context.now) (text_bytes c.args.name.now))) (stored_code c.args.wanted (scratch c.args.context.now.size (scope_in c.args.context.now) (suc c.args.depth))) (second_part IsNarrow (expr_code c.args.context.now.size (scope_in c.args.context.now) true c.args.depth (expr_view c.args.value.now)) ((store_code c.args.context.now.size (scratch c.args.context.now.size (scope_in c.args.context.now) c.args.depth) (scratch c.args.context.now.size (scope_in c.args.context.now) (suc c.args.depth)) (named (scope_in c.args.context.now) (text_bytes c.args.name.now))) ⊕ (stored_code c.args.wanted (scratch c.args.context.now.size (scope_in c.args.context.now) (suc c.args.depth)))) (second_part IsNarrow (expr_code c.args.context.now.size (scope_in c.args.context.now) true c.args.depth (expr_view c.args.index.now)) ((expr_code c.args.context.now.size (scope_in c.args.context.now) true c.args.depth (expr_view c.args.value.now)) ⊕ ((store_code c.args.context.now.size (scratch c.args.context.now.size (scope_in c.args.context.now) c.args.depth) (scratch c.args.context.now.size (scope_in c.args.context.now) (suc c.args.depth)) (named (scope_in c.args.context.now) (text_bytes c.args.name.now))) ⊕ (stored_code c.args.wanted (scratch c.args.context.now.size (scope_in c.args.context.now) (suc c.args.depth))))) c.requires.narrow)) }
+    record { narrow = second_part IsNarrow (store_code c.args.context.now.size (scratch c.args.context.now.size (scope_in c.args.context.now) c.args.depth) (scratch c.args.context.now.size (scope_in c.args.context.now) (suc c.args.depth)) (named (scope_in c.args.context.now) (text_bytes c.args.name.now))) (stored_code c.args.wanted (scratch c.args.context.now.size (scope_in c.args.context.now) (suc c.args.depth))) (second_part IsNarrow (expr_code c.args.context.now.size (scope_in c.args.context.now) true c.args.depth (expr_view c.args.value.now)) ((store_code c.args.context.now.size (scratch c.args.context.now.size (scope_in c.args.context.now) c.args.depth) (scratch c.args.context.now.size (scope_in c.args.context.now) (suc c.args.depth)) (named (scope_in c.args.context.now) (text_bytes c.args.name.now))) ⊕ (stored_code c.args.wanted (scratch c.args.context.now.size (scope_in c.args.context.now) (suc c.args.depth)))) (second_part IsNarrow (index_code c.args.context.now.size (scope_in c.args.context.now) c.args.depth (text_bytes c.args.name.now) (expr_view c.args.index.now)) ((expr_code c.args.context.now.size (scope_in c.args.context.now) true c.args.depth (expr_view c.args.value.now)) ⊕ ((store_code c.args.context.now.size (scratch c.args.context.now.size (scope_in c.args.context.now) c.args.depth) (scratch c.args.context.now.size (scope_in c.args.context.now) (suc c.args.depth)) (named (scope_in c.args.context.now) (text_bytes c.args.name.now))) ⊕ (stored_code c.args.wanted (scratch c.args.context.now.size (scope_in c.args.context.now) (suc c.args.depth))))) c.requires.narrow)) }
 
 pub emit_store-returns : goal.emit_store-returns
 emit_store-returns t c =
-    joined_last c.stored_value.result c.args.output.now c.emit.new.output c.stored_value.new.output (expr_code c.args.context.now.size (scope_in c.args.context.now) true c.args.depth (expr_view c.args.index.now)) ((expr_code c.args.context.now.size (scope_in c.args.context.now) true c.args.depth (expr_view c.args.value.now)) ⊕ ((store_code c.args.context.now.size (scratch c.args.context.now.size (scope_in c.args.context.now) c.args.depth) (scratch c.args.context.now.size (scope_in c.args.context.now) (suc c.args.depth)) (named (scope_in c.args.context.now) (text_bytes c.args.name.now))) ⊕ (stored_code c.args.wanted (scratch c.args.context.now.size (scope_in c.args.context.now) (suc c.args.depth))))) c.in_ok-emit.ensures (joined_last c.stored_value.result c.emit.new.output c.emit-2.new.output c.stored_value.new.output (expr_code c.args.context.now.size (scope_in c.args.context.now) true c.args.depth (expr_view c.args.value.now)) ((store_code c.args.context.now.size (scratch c.args.context.now.size (scope_in c.args.context.now) c.args.depth) (scratch c.args.context.now.size (scope_in c.args.context.now) (suc c.args.depth)) (named (scope_in c.args.context.now) (text_bytes c.args.name.now))) ⊕ (stored_code c.args.wanted (scratch c.args.context.now.size (scope_in c.args.context.now) (suc c.args.depth)))) c.in_ok-emit-2.ensures (joined_last c.stored_value.result c.emit-2.new.output c.store_element.new.output c.stored_value.new.output (store_code c.args.context.now.size (scratch c.args.context.now.size (scope_in c.args.context.now) c.args.depth) (scratch c.args.context.now.size (scope_in c.args.context.now) (suc c.args.depth)) (named (scope_in c.args.context.now) (text_bytes c.args.name.now))) (stored_code c.args.wanted (scratch c.args.context.now.size (scope_in c.args.context.now) (suc c.args.depth))) c.in_ok-store_element.ensures c.stored_value.ensures))
+    joined_last c.stored_value.result c.args.output.now c.emit_place.new.output c.stored_value.new.output (index_code c.args.context.now.size (scope_in c.args.context.now) c.args.depth (text_bytes c.args.name.now) (expr_view c.args.index.now)) ((expr_code c.args.context.now.size (scope_in c.args.context.now) true c.args.depth (expr_view c.args.value.now)) ⊕ ((store_code c.args.context.now.size (scratch c.args.context.now.size (scope_in c.args.context.now) c.args.depth) (scratch c.args.context.now.size (scope_in c.args.context.now) (suc c.args.depth)) (named (scope_in c.args.context.now) (text_bytes c.args.name.now))) ⊕ (stored_code c.args.wanted (scratch c.args.context.now.size (scope_in c.args.context.now) (suc c.args.depth))))) c.in_ok-emit_place.ensures (joined_last c.stored_value.result c.emit_place.new.output c.emit.new.output c.stored_value.new.output (expr_code c.args.context.now.size (scope_in c.args.context.now) true c.args.depth (expr_view c.args.value.now)) ((store_code c.args.context.now.size (scratch c.args.context.now.size (scope_in c.args.context.now) c.args.depth) (scratch c.args.context.now.size (scope_in c.args.context.now) (suc c.args.depth)) (named (scope_in c.args.context.now) (text_bytes c.args.name.now))) ⊕ (stored_code c.args.wanted (scratch c.args.context.now.size (scope_in c.args.context.now) (suc c.args.depth)))) c.in_ok-emit.ensures (joined_last c.stored_value.result c.emit.new.output c.store_element.new.output c.stored_value.new.output (store_code c.args.context.now.size (scratch c.args.context.now.size (scope_in c.args.context.now) c.args.depth) (scratch c.args.context.now.size (scope_in c.args.context.now) (suc c.args.depth)) (named (scope_in c.args.context.now) (text_bytes c.args.name.now))) (stored_code c.args.wanted (scratch c.args.context.now.size (scope_in c.args.context.now) (suc c.args.depth))) c.in_ok-store_element.ensures c.stored_value.ensures))
 
 pub emit_unary-emit-requires : goal.emit_unary-emit-requires
 emit_unary-emit-requires t c =

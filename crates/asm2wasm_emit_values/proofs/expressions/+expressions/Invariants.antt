@@ -37,6 +37,9 @@ decreases-emit l = 4 * expr_count (expr_view l.expr.now)
 abbrev pub decreases-emit_index : goal.decreases-emit_index
 decreases-emit_index l = 4 * expr_count (expr_view l.index.now) + 3
 
+abbrev pub decreases-emit_place : goal.decreases-emit_place
+decreases-emit_place l = 4 * expr_count (expr_view l.index.now) + 2
+
 abbrev pub decreases-emit_call : goal.decreases-emit_call
 decreases-emit_call l = 4 * exprs_count (exprs_view l.arguments.now) + 3
 
