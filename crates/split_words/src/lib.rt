@@ -6,6 +6,7 @@
 
 mod pair;
 mod results;
+mod shifts;
 mod truths;
 
 pub use pair::{Pair, global_pair, local_pair, operand_pair};

@@ -1,5 +1,5 @@
 //! Operators whose result has 64 bits.
-ghost use Rattle.std.specs.Prelude.{◌≡◌, false, true, [], ◌∷◌, ◌++◌, IfOk};
+ghost use Rattle.std.specs.Prelude.{◌≡◌, ◌<◌, false, true, [], ◌∷◌, ◌++◌, IfOk};
 ghost use Rattle.sem_words.specs.declared.word.Un.TheVariants as uns;
 ghost use Rattle.wasm_lang_valid.specs.Measures.{is_mul_div};
 ghost use Rattle.wasm2js_lang.specs.SplitWords.{ComputesBinary, ComputesUnary, ComputesExtension, Gains};
@@ -9,6 +9,7 @@ ghost use Rattle.wasm2js_translation.specs.Words.{simple_statements};
 ghost use Rattle.wasm2js_translation.specs.Pairs as pairs;
 ghost use Rattle.wasm2js_translation.specs.Pairs.{simples};
 ghost use Rattle.wasm2js_translation.specs.Wide as wide;
+ghost use Rattle.wasm2js_translation.specs.Delays as delays;
 ghost use Rattle.wasm2js_translation.specs.Helpers.{wide_helpers};
 ghost use Rattle.wasm2js_nodes.specs.Names.{name_view, fixed_view};
 ghost use Rattle.wasm2js_terms.specs.Views.{bit_view, term_view};
@@ -18,12 +19,13 @@ ghost use Rattle.wasm2js_laws_wide.specs.Laws.{is_extension};
 ghost use Rattle.split_words.specs.Views.{pair_view, halves_of};
 
 use crate::pair::Pair;
+use crate::shifts::{put_left, put_right, put_round};
 use sem_words::{Bin, Un};
 use std::alloc::AllocError;
 use wasm_lang::ValType;
 use wasm2js_build::{Block, Straight};
 use wasm2js_nodes::{Fixed, Name};
-use wasm2js_terms::{BitOp, Relation, Term};
+use wasm2js_terms::{BitOp, Relation, Term, word_of_literal};
 
 /// A value of this type from one place to another.
 #[tactic(auto, using(crate::proofs::AtOnce::run_at_once))]
@@ -66,7 +68,7 @@ fn binary_at_once(block: &mut Block, op: Bin, a: Pair, b: Pair, to: Pair) -> Res
     ensures { IfOk result (λ _. statements_of block.new ≡ statements_of block.old ++ simple_statements (wide.wide_binary op (pair_view a) (pair_view b) (pair_view to))) }
 {
     let mut straight = Straight::at_once(block);
-    put_binary(&mut straight, op, a, b, to)?;
+    put_asked(&mut straight, op, a, b, to)?;
     *block = straight.into_block();
     Ok(())
 }
@@ -107,7 +109,7 @@ pub fn put_moved(
     }
 }
 
-/// Where words may wait.
+/// Where words may wait: a shift or a rotation by a number that waits calls no helper.
 pub fn put_binary(
     straight: &mut Straight,
     op: Bin,
@@ -116,6 +118,56 @@ pub fn put_binary(
     to: Pair,
 ) -> Result<(), AllocError>
     requires { is_mul_div op ≡ false }
+    ensures { IfOk result (λ _. state_of straight.new ≡ run (state_of straight.old) (simples (wide.wide_binary_at (delays.number_at (state_of straight.old).waits (pair_view b).low) op (pair_view a) (pair_view b) (pair_view to)))) }
+{
+    let count = straight.number_of(b.low);
+    put_counted(straight, op, count, a, b, to)
+}
+
+// Where the low word of the second operand is this number, if it is one.
+fn put_counted(
+    straight: &mut Straight,
+    op: Bin,
+    count: Option<i64>,
+    a: Pair,
+    b: Pair,
+    to: Pair,
+) -> Result<(), AllocError>
+    requires split { is_mul_div op ≡ false }
+    ensures { IfOk result (λ _. state_of straight.new ≡ run (state_of straight.old) (simples (wide.wide_binary_at count op (pair_view a) (pair_view b) (pair_view to)))) }
+{
+    match count {
+        Some(number) => put_by(straight, op, word_of_literal(number) % 64, a, b, to),
+        None => put_asked(straight, op, a, b, to),
+    }
+}
+
+// By a number of places that is known.
+fn put_by(
+    straight: &mut Straight,
+    op: Bin,
+    places: u32,
+    a: Pair,
+    b: Pair,
+    to: Pair,
+) -> Result<(), AllocError>
+    requires places { places < 64 }
+    requires split { is_mul_div op ≡ false }
+    ensures { IfOk result (λ _. state_of straight.new ≡ run (state_of straight.old) (simples (wide.wide_binary_by op places (pair_view a) (pair_view b) (pair_view to)))) }
+{
+    match op {
+        Bin::Shl => put_left(straight, places, a, to),
+        Bin::ShrS => put_right(straight, true, places, a, to),
+        Bin::ShrU => put_right(straight, false, places, a, to),
+        Bin::Rotl => put_round(straight, places, a, b.low, to),
+        Bin::Rotr => put_round(straight, (64 - places) % 64, a, b.low, to),
+        _ => put_asked(straight, op, a, b, to),
+    }
+}
+
+// By a count that is known as the code runs alone.
+fn put_asked(straight: &mut Straight, op: Bin, a: Pair, b: Pair, to: Pair) -> Result<(), AllocError>
+    requires asked { is_mul_div op ≡ false }
     ensures { IfOk result (λ _. state_of straight.new ≡ run (state_of straight.old) (simples (wide.wide_binary op (pair_view a) (pair_view b) (pair_view to)))) }
 {
     match op {

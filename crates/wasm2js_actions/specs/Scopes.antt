@@ -4,7 +4,8 @@ use Rattle.wasm_lang.specs.declared.types.ValType.{ValType}
 use Rattle.wasm_lang.specs.Instructions.{Instruction, plain}
 use Rattle.wasm_lang_valid.specs.Typing.{Context}
 use Rattle.wasm2js_translation.specs.Words.{Action}
-use Rattle.wasm2js_translation.specs.Actions.{actions}
+use Rattle.wasm2js_translation.specs.Delays.{Delayed}
+use Rattle.wasm2js_translation.specs.Actions.{actions_amid}
 use Rattle.wasm2js_actions.specs.declared.plain.InstructionScope.{InstructionScope}
 
 -- a context has the types of these locals and globals
@@ -16,7 +17,7 @@ pub record Suits (scope : InstructionScope) (c : Context) : Type 0 where
 abbrev pub least_context : InstructionScope → Context
 least_context s = record { types = []; functions = []; table = false; memory = false; globals = s.globals.now; locals = s.locals.now; labels = []; returns = None }
 
--- that of a plain instruction; any other one has none
-abbrev pub instruction_actions : (bytes : ℕ) → Context → Instruction → (b : ℕ) → List ValType → List Action
-instruction_actions bytes c (plain p) b ts = actions bytes c p b ts
-instruction_actions bytes c i b ts = []
+-- that of a plain instruction, where these words wait; any other one has none
+abbrev pub instruction_actions : (bytes : ℕ) → Context → List Delayed → Instruction → (b : ℕ) → List ValType → List Action
+instruction_actions bytes c ds (plain p) b ts = actions_amid bytes c ds p b ts
+instruction_actions bytes c ds i b ts = []

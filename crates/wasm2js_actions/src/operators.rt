@@ -8,6 +8,7 @@ ghost use Rattle.wasm2js_translation.specs.Words as words;
 ghost use Rattle.wasm2js_translation.specs.Pairs as pairs;
 ghost use Rattle.wasm2js_translation.specs.Pairs.{simples};
 ghost use Rattle.wasm2js_translation.specs.Wide as wide;
+ghost use Rattle.wasm2js_translation.specs.Delays as delays;
 ghost use Rattle.wasm2js_translation.specs.Actions as code;
 ghost use Rattle.wasm2js_build.specs.Growing.{run, state_of};
 
@@ -49,7 +50,7 @@ pub fn zero_at(straight: &mut Straight, d: u64) -> Result<(), AllocError>
 pub fn wide_binary_at(straight: &mut Straight, op: Bin, d: u64) -> Result<(), AllocError>
     requires there { d + 1 < 2 ^ 64 }
     requires translated { is_mul_div op ≡ false }
-    ensures { IfOk result (λ _. state_of straight.new ≡ run (state_of straight.old) (simples (wide.wide_binary op (pairs.operand_pair d) (pairs.operand_pair (d + 1)) (pairs.operand_pair d)))) }
+    ensures { IfOk result (λ _. state_of straight.new ≡ run (state_of straight.old) (simples (wide.wide_binary_at (delays.number_at (state_of straight.old).waits (code.low (d + 1))) op (pairs.operand_pair d) (pairs.operand_pair (d + 1)) (pairs.operand_pair d)))) }
 {
     put_binary(
         straight,

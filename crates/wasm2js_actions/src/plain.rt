@@ -40,7 +40,7 @@ pub fn instruction(
 ) -> Result<(), AllocError>
     requires room { below + length stack.now + 2 < 2 ^ 64 }
     requires translated { is_wide_mul_div (instr_of instr.now) ≡ false }
-    ensures { (c : Context) → Suits scope.now c → IfOk result (λ _. state_of straight.new ≡ run (state_of straight.old) (instruction_actions scope.now.bytes c (instr_of instr.now) below (reverse stack.now))) }
+    ensures { (c : Context) → Suits scope.now c → IfOk result (λ _. state_of straight.new ≡ run (state_of straight.old) (instruction_actions scope.now.bytes c (state_of straight.old).waits (instr_of instr.now) below (reverse stack.now))) }
 {
     plain_instruction(straight, scope, instr, below, stack)
 }
@@ -56,7 +56,7 @@ fn plain_instruction(
 ) -> Result<(), AllocError>
     requires room { below + length stack.now + 2 < 2 ^ 64 }
     requires translated { is_wide_mul_div (instr_of instr.now) ≡ false }
-    ensures { IfOk result (λ _. state_of straight.new ≡ run (state_of straight.old) (instruction_actions scope.now.bytes (least_context scope.now) (instr_of instr.now) below (reverse stack.now))) }
+    ensures { IfOk result (λ _. state_of straight.new ≡ run (state_of straight.old) (instruction_actions scope.now.bytes (least_context scope.now) (state_of straight.old).waits (instr_of instr.now) below (reverse stack.now))) }
 {
     let d0 = under(0, below, stack);
     let d1 = under(1, below, stack);

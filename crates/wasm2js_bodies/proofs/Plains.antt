@@ -9,7 +9,7 @@ use Rattle.wasm_lang_valid.specs.Typing.{Context}
 use Rattle.wasm_lang_exec.specs.Code.{plain}
 use Rattle.asm_lang.specs.Modules.{Stmt}
 use Rattle.wasm2js_translation.specs.Words.{Action, statements}
-use Rattle.wasm2js_translation.specs.Actions.{actions}
+use Rattle.wasm2js_translation.specs.Actions.{actions_amid}
 use Rattle.wasm2js_translation.specs.Delays.{Delayed, late, standing}
 use Rattle.wasm2js_translation.specs.Known.{Known, lean}
 use Rattle.wasm2js_build.specs.Growing.{State, Held, run, late_at, late_state, state_of}
@@ -38,7 +38,7 @@ late_after s told ds ks acts e = ap (λ (q : State). late_at q.told q.waits q.kn
 
 pub plain_step : (bytes cells : ℕ) (c : Context) (body : List Instruction) (at place : ℕ) (ls : List Aim) (b : ℕ) (ts us : List ValType) (before made : List Stmt) (i : Instruction) (ds es : Held) (fs : List Delayed)
     → is_plain i ≡ true → IsInside body at → slice_get body at ≡ Some i → place ≡ at + 1
-    → late_at made fs es.known ≡ run (late_at before ds.waits ds.known) (instruction_actions bytes c i b ts) → us ≡ after c i ts → es.waits ≡ standing b us fs
+    → late_at made fs es.known ≡ run (late_at before ds.waits ds.known) (instruction_actions bytes c ds.waits i b ts) → us ≡ after c i ts → es.waits ≡ standing b us fs
     → GoesOn bytes cells c body at place ls b ts us ds es before made
 plain_step bytes cells c body at place ls b ts us before made flat.unreachable ds es fs p s here next m g e = cc
 plain_step bytes cells c body at place ls b ts us before made (flat.block r) ds es fs p s here next m g e = cc
@@ -53,9 +53,9 @@ plain_step bytes cells c body at place ls b ts us before made flat.return ds es 
 plain_step bytes cells c body at place ls b ts us before made (flat.call f) ds es fs p s here next m g e = cc
 plain_step bytes cells c body at place ls b ts us before made (flat.call_indirect t) ds es fs p s here next m g e = cc
 plain_step bytes cells c body at place ls b ts us before made (flat.plain i) ds es fs p s here next m g e =
-    let x = late ds.waits (actions bytes c i b ts) in
+    let x = late ds.waits (actions_amid bytes c ds.waits i b ts) in
     let y = lean ds.known x.now in
-    let all : late_at made fs es.known ≡ late_at (before ++ statements y.now) x.later y.known = m ∙ run_late before ds.waits ds.known (actions bytes c i b ts) in
+    let all : late_at made fs es.known ≡ late_at (before ++ statements y.now) x.later y.known = m ∙ run_late before ds.waits ds.known (actions_amid bytes c ds.waits i b ts) in
     let waits : es.waits ≡ standing b (after_plain c i ts) x.later = e ∙ ap (λ (ws : List ValType). standing b ws fs) g ∙ ap (λ (q : State). standing b (after_plain c i ts) q.waits) all in
     let held : es ≡ record { waits = standing b (after_plain c i ts) x.later; known = y.known } =
     ap (λ (ws : List Delayed). record { waits = ws; known = es.known }) waits

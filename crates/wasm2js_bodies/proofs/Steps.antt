@@ -15,6 +15,7 @@ use Rattle.wasm_run_flat.proofs.Standing.{single_goes_on, end_leaves, else_leave
 use Rattle.asm_lang.specs.Modules.{Stmt}
 use Rattle.wasm2js_translation.specs.Words.{simple_statements}
 use Rattle.wasm2js_translation.specs.Delays.{written}
+use Rattle.wasm2js_translation.specs.Known.{into_block}
 use Rattle.wasm2js_translation.specs.Bodies.{Aim, comes_to_end}
 use Rattle.wasm2js_build.specs.Growing.{Held, nothing_held}
 use Rattle.wasm2js_bodies.specs.Walks.{IsInside, size, stmts_after, GoesOn, IsOver}
@@ -81,6 +82,10 @@ module _ (bytes cells : ℕ) (c : Context) (body : List Instruction) (at : ℕ) 
 
 abbrev pub all_written : Held → List Stmt
 all_written ds = simple_statements (written ds.waits)
+
+-- where a block begins before which so much waits and is known
+abbrev pub begun : Held → Held
+begun ds = record { waits = []; known = into_block ds.known }
 
 pub joined : (before mid after all head : List Stmt) → mid ≡ before ++ all → after ≡ mid ++ head → after ≡ before ++ (all ++ head)
 joined before mid after all head e f = f ∙ ap (λ (ss : List Stmt). ss ++ head) e ∙ append_assoc before all head

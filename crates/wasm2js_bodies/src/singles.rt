@@ -6,7 +6,7 @@ ghost use Rattle.wasm_tree.specs.Views.{instr_of};
 ghost use Rattle.wasm2js_translation.specs.Bodies as bodies;
 ghost use Rattle.wasm2js_actions.specs.Scopes.{instruction_actions};
 ghost use Rattle.wasm2js_build.specs.Blocks.{statements_of};
-ghost use Rattle.wasm2js_build.specs.Growing.{run, held_of, late_state};
+ghost use Rattle.wasm2js_build.specs.Growing.{run, waits_of, held_of, late_state};
 ghost use Rattle.wasm2js_jumps.specs.Aims.{aims_view};
 ghost use Rattle.wasm2js_operands.specs.Operands.{over, IsKept};
 ghost use Rattle.wasm2js_operands.specs.Scopes.{context_in};
@@ -60,7 +60,7 @@ fn put_instruction(
 ) -> Result<(), AllocError>
     requires there { base ≤ vec_len types.now }
     requires translated { is_wide_mul_div (instr_of instr.now) ≡ false }
-    ensures { IfOk result (λ _. late_state text.new ≡ run (late_state text.old) (instruction_actions walk.now.sizes.bytes (context_in walk.now.scope.now) (instr_of instr.now) base (over base types.now.items))) }
+    ensures { IfOk result (λ _. late_state text.new ≡ run (late_state text.old) (instruction_actions walk.now.sizes.bytes (context_in walk.now.scope.now) (waits_of text.old) (instr_of instr.now) base (over base types.now.items))) }
 {
     let scope = InstructionScope {
         bytes: walk.sizes.bytes,

@@ -134,8 +134,7 @@ fn do_block(
     ensures value { IfOk result (λ next. IsStep next walk.now body.now at (aims_view aims.old.items) base (over base types.old.items) (over base types.new.items) (held_of text.old) (held_of text.new) (statements_of text.old.block) (statements_of text.new.block)) }
 {
     let first = place_after(body, at);
-    text.write_all()?;
-    let mut inner = LateBlock::new(walk.alloc);
+    let mut inner = text.begin_block()?;
     let aim = past(types, result_type);
     put_inside(walk, body, types, aims, aim, first, &mut inner)?;
     close_block(
@@ -209,8 +208,7 @@ fn do_if(
     let first = place_after(body, at);
     remove(types, base, 1);
     let aim = past(types, result_type);
-    text.write_all()?;
-    let mut yes = LateBlock::new(walk.alloc);
+    let mut yes = text.begin_block()?;
     put_inside(walk, body, types, aims, aim, first, &mut yes)?;
     let mut no = LateBlock::new(walk.alloc);
     put_inside(walk, body, types, aims, aim, body.other_arm(at), &mut no)?;

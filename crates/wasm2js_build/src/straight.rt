@@ -22,7 +22,9 @@ use asm_tree::Stmt;
 use std::alloc::{AllocError, Global};
 use std::mem;
 use wasm2js_nodes::{Fixed, Name, if_else};
-use wasm2js_terms::{Atom, Delayed, Known, Term, atom_fact, note, wait, waiting_word};
+use wasm2js_terms::{
+    Atom, Delayed, Known, Term, atom_fact, keep_into_block, note, number_at, wait, waiting_word,
+};
 
 /// A list of statements that grows at its end, the words that wait then, and what is known of variables, the oldest first.
 #[derive(Drop)]
@@ -55,6 +57,24 @@ impl LateBlock {
         self.waits.clear();
         self.known.clear();
         Ok(())
+    }
+
+    /// What stands in a block that begins here, after all that waits is written: no statement yet, and it is
+    /// known what was known of variables that are no operands'.
+    pub fn begin_block(&mut self) -> Result<LateBlock, AllocError>
+        ensures statements { IfOk result (λ _. statements_of self.new.block ≡ statements_of self.old.block ++ simple_statements (delays.written (waits_of self.old))) }
+        ensures held { IfOk result (λ _. held_of self.new ≡ nothing_held) }
+        ensures inside { IfOk result (λ inner. late_state inner ≡ late_at [] [] (knowing.into_block (known_of self.old))) }
+    {
+        let alloc = self.block.alloc;
+        let mut known = mem::replace(&mut self.known, Vec::new(alloc));
+        keep_into_block(&mut known);
+        self.write_all()?;
+        Ok(LateBlock {
+            block: Block::new(alloc),
+            waits: Vec::new(alloc),
+            known,
+        })
     }
 
     // What a change spoils is written.
@@ -237,6 +257,13 @@ impl Straight {
         ensures { statements_of result ≡ (state_of self).told }
     {
         self.text.block
+    }
+
+    /// The number that waits in place of a variable.
+    pub fn number_of(&self, name: Name) -> Option<i64>
+        ensures { result ≡ delays.number_at (state_of self.now).waits (name_view name) }
+    {
+        number_at(&self.text.waits, name)
     }
 
     /// One more step.

@@ -5,3 +5,4 @@ pub mod Signed
 pub mod Counted
 pub mod Related
 pub mod Extended
+pub mod Together

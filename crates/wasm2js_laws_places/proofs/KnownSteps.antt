@@ -5,11 +5,13 @@ use Rattle.std.proofs.lemmas.Bool.Decides.{nat_tests}
 use Rattle.std.specs.Prelude.{if◌then◌else◌, nat_lt}
 use Rattle.wasm2js_translation.specs.Names.{Name, fixed, spare_high, same_name}
 use Rattle.wasm2js_translation.specs.Words.{Term, read, Simple, put, ask, tell, guard, stop, write_byte, write_whole}
-use Rattle.wasm2js_translation.specs.Delays.{changes, one_changes}
-use Rattle.wasm2js_translation.specs.Known.{Fact, Known, most_known, fact_of, lesser, term_fact, unchanged, says_something, noted, learned, all_learned}
+use Rattle.wasm2js_translation.specs.Delays.{Delayed, is_operand, changes, one_changes}
+use Rattle.wasm2js_translation.specs.Known.{Fact, Known, most_known, fact_of, lesser, term_fact, unchanged, says_something, into_block, noted, learned, all_learned}
 use Rattle.wasm2js_laws_places.specs.Straight.{Words, with_word, value, values, Answer, gives, traps, Helping, with_high, Outcome, goes, stops, asked, told, then_do, run_simple, run_simples}
+use Rattle.wasm2js_laws_places.specs.Delaying.{seen, AreWaiting}
 use Rattle.wasm2js_laws_places.specs.Knowing.{IsFact, AreKnown}
 use Rattle.wasm2js_laws_places.proofs.SameNames.{same_itself}
+use Rattle.wasm2js_laws_places.proofs.DelayedTerms.{seen_other}
 use Rattle.wasm2js_laws_places.proofs.KnownTerms.{lesser_bound, fact_holds, term_holds}
 
 -- ---- where code goes on
@@ -54,6 +56,10 @@ unchanged_known changed (k ∷ ks) words words' alike h = by (changed k.name) re
     by : (b : Bool) → changed k.name ≡ b → AreKnown (unchanged changed ks) words' → AreKnown (if b then unchanged changed ks else k ∷ unchanged changed ks) words'
     by true e further = further
     by false e further = (subst (IsFact k.fact) (sym (alike k.name e)) h.0, further)
+
+-- where what waits is written, as it is where a block begins
+pub known_inside : (ks : List Known) (ds : List Delayed) (words : Words) (heap : List ℕ) → AreWaiting ds → AreKnown ks words → AreKnown (into_block ks) (seen ds words heap)
+known_inside ks ds words heap waiting h = unchanged_known is_operand ks words (seen ds words heap) (λ n apart. seen_other ds words heap n waiting apart) h
 
 unchanged_after : (changed : Name → Bool) (ks : List Known) (words : Words) (o : Outcome) → AlikeAfter changed words o → AreKnown ks words → KnownAfter (unchanged changed ks) o
 unchanged_after changed ks words (goes w k) alike h = unchanged_known changed ks words w alike h

@@ -24,15 +24,17 @@ use Rattle.wasm_laws_drive.specs.Steps.{in_block}
 use Rattle.wasm_laws_drive.proofs.Stepping.{block_step, if_step}
 use Rattle.asm_lang_exec.specs.Runs.{Place, Part, and_then, defined, read}
 use Rattle.asm_lang_exec.specs.Meaning.{Completion, normal}
+use Rattle.asm_laws_continuation.specs.Following.{exec_all_to}
 use Rattle.wasm2js_translation.specs.Names.{Name, numbered, operand_low, spelled}
-use Rattle.wasm2js_translation.specs.Words.{simple_statements}
+use Rattle.wasm2js_translation.specs.Words.{simple_statements, stmts_in}
 use Rattle.wasm2js_translation.specs.Delays.{Delayed, written}
-use Rattle.wasm2js_translation.specs.Known.{Known}
+use Rattle.wasm2js_translation.specs.Known.{Known, into_block}
 use Rattle.wasm2js_translation.specs.Bodies.{Aim, past, again, labels_round, label_name, signed_word, comes_to_end, types_after_call, call_stmts, indirect_stmts, stmts_of}
 use Rattle.wasm2js_laws_places.specs.Following.{Rest}
 use Rattle.wasm2js_laws_actions.proofs.Parts.{chosen_followed}
 use Rattle.wasm2js_laws_places.specs.Straight.{Words}
 use Rattle.wasm2js_laws_places.specs.Places.{word_at, AreApart, operands, Stays}
+use Rattle.wasm2js_laws_places.specs.Knowing.{AreKnown}
 use Rattle.wasm2js_laws_actions.proofs.Numbers.{is_true}
 use Rattle.wasm2js_laws_actions.proofs.Reading.{read_then}
 use Rattle.wasm2js_laws_actions.proofs.Variables.{variable_read}
@@ -41,7 +43,7 @@ use Rattle.wasm2js_laws_preservation.specs.ControlLaws.{OpensNone, IsKeptBefore,
 use Rattle.wasm2js_laws_preservation.proofs.ControlStanding.{block_body, after_block, loop_body, after_loop, first_arm, second_arm, after_arms}
 use Rattle.wasm2js_laws_preservation.proofs.ControlStepping.{stays_itself, free_step}
 use Rattle.wasm2js_laws_preservation.proofs.ControlLabels.{nested_past, nested_again}
-use Rattle.wasm2js_laws_preservation.proofs.ControlWritten.{kept_bare, kept_late}
+use Rattle.wasm2js_laws_preservation.proofs.ControlWritten.{kept_knowing, kept_bare, IsKeptOpening, kept_late}
 use Rattle.wasm2js_laws_preservation.proofs.ControlBlocks.{next_inside, block_exits}
 use Rattle.wasm2js_laws_preservation.proofs.ControlLoops.{turns_are_kept}
 
@@ -70,6 +72,12 @@ module _ (f : Function) (fair : IsFair f) where
       (most : ℕ) (ls : List Aim) (b : ℕ) (ts after : List ValType) (around : List Surrounding) (before : Words) (next : Completion → Part (Unit {0})) → most ≤ f.bound
       → IsTyped (under_aims f.context ls) code ts after → MayStand f code b ts → AreNested ls b → Exits f most ls b after (comes_to_end code) around before next → IsKept f most code ls b ts around before next
 
+  -- while nothing waits, and that is known which goes into a block
+  abbrev KeptOpening : Trees → Type 0
+  KeptOpening code =
+      (most : ℕ) (ls : List Aim) (b : ℕ) (ts after : List ValType) (around : List Surrounding) (before : Words) (next : Completion → Part (Unit {0})) → most ≤ f.bound
+      → IsTyped (under_aims f.context ls) code ts after → MayStand f code b ts → AreNested ls b → Exits f most ls b after (comes_to_end code) around before next → IsKeptOpening f most code ls b ts around before next
+
   -- whatever waits and is known
   abbrev pub Kept : Trees → Type 0
   Kept code =
@@ -77,14 +85,31 @@ module _ (f : Function) (fair : IsFair f) where
       → IsTyped (under_aims f.context ls) code ts after → MayStand f code b ts → AreNested ls b → Exits f most ls b after (comes_to_end code) around before next → IsKeptLate f most code ls b ts around before next
 
   -- all that waits is written before the code
+  abbrev WritesOnly : Trees → Type 0
+  WritesOnly code =
+      (ls : List Aim) (b : ℕ) (ts : List ValType) (ds : List Delayed) (ks : List Known)
+      → stmts_of f.setting.bytes f.cells f.context code ls b ts ds ks ≡ simple_statements (written ds) ++ stmts_of f.setting.bytes f.cells f.context code ls b ts [] ks
+
+  -- and nothing is known there
   abbrev pub WritesFirst : Trees → Type 0
   WritesFirst code =
       (ls : List Aim) (b : ℕ) (ts : List ValType) (ds : List Delayed) (ks : List Known)
       → stmts_of f.setting.bytes f.cells f.context code ls b ts ds ks ≡ simple_statements (written ds) ++ stmts_of f.setting.bytes f.cells f.context code ls b ts [] []
 
-  after_written : (code : Trees) → WritesFirst code → KeptBare code → Kept code
-  after_written code is bare most ls b ts after around before next le typed stands nested ex =
+  opens_written : (code : Trees) → WritesOnly code → KeptOpening code → Kept code
+  opens_written code is bare most ls b ts after around before next le typed stands nested ex =
       kept_late f fair most code ls b ts around before next (bare most ls b ts after around before next le typed stands nested ex) (is ls b ts)
+
+  after_written : (code : Trees) → WritesFirst code → KeptBare code → Kept code
+  after_written code is bare = opens_written code only opening
+    where
+      only : WritesOnly code
+      only ls b ts ds ks = is ls b ts ds ks ∙ ap (λ ss. simple_statements (written ds) ++ ss) (sym (is ls b ts [] ks))
+
+      opening : KeptOpening code
+      opening most ls b ts after around before next le typed stands nested ex ks p w i known stays =
+          subst (λ ss. IsFollowed f p (code_sight f around code b ts p w) (exec_all_to f.calls f.scope f.bound (stmts_in ss) next p)) (sym (is ls b ts [] ks))
+          (bare most ls b ts after around before next le typed stands nested ex p w i stays)
 
   none_bare : KeptBare ε
   none_bare most ls b ts after around before next le typed stands nested ex p w i stays =
@@ -93,21 +118,21 @@ module _ (f : Function) (fair : IsFair f) where
   pub none_kept : Kept ε
   none_kept = after_written ε (λ ls b ts ds ks. sym (append-nil (simple_statements (written ds)))) none_bare
 
-  block_bare : (r : Option ValType) (body code : Trees) → Kept body → Kept code → KeptBare (block r body ▹ code)
-  block_bare r body code inner rest most ls b ts after around before next le typed stands nested ex p w i stays =
+  block_bare : (r : Option ValType) (body code : Trees) → Kept body → Kept code → KeptOpening (block r body ▹ code)
+  block_bare r body code inner rest most ls b ts after around before next le typed stands nested ex ks p w i known stays =
       let base : ℕ = b + length ts in
       let kept = kept_bare f most code ls b (listed r ++ ts) around before next (rest most ls b (listed r ++ ts) after around before next le typed.1 (after_block f b r body code ts stands) nested ex) in
       let round : List Surrounding = in_label (operands b ts (word_at p)) (arity_of r) ε code ∷ around in
       let inside = next_inside f fair most ls b base ts r code around before next p refl stays nested kept in
-      let run = statements_to f body (past base r ∷ ls) base [] [] [] inside p in
+      let run = statements_to f body (past base r ∷ ls) base [] [] (into_block ks) inside p in
       free_step f fair most w p (operands b ts (word_at p)) (in_block f.home around (arity_of r) ε body code) (code_sight f around (block r body ▹ code) b ts p w) (code_sight f round body base [] p w) run i
       (λ n. ap f.watch (block_step f.home around r body code (state_at f (operands b ts (word_at p)) p w n))) (λ n. refl)
-      (kept_bare f most body (past base r ∷ ls) base [] round (word_at p) inside
+      (kept_knowing f most body (past base r ∷ ls) base [] round (word_at p) inside
       (inner most (past base r ∷ ls) base [] (listed r) round (word_at p) inside le typed.0 (block_body f b r body code ts stands) (nested_past ls b base (omega arith) nested r)
-      (block_exits f fair most ls b base ts r code around before next p refl stays nested kept after (comes_to_end code) ex (comes_to_end body))) p w i (stays_itself base (word_at p)))
+      (block_exits f fair most ls b base ts r code around before next p refl stays nested kept after (comes_to_end code) ex (comes_to_end body))) (into_block ks) p w i known (stays_itself base (word_at p)))
 
   pub block_kept : (r : Option ValType) (body code : Trees) → Kept body → Kept code → Kept (block r body ▹ code)
-  block_kept r body code inner rest = after_written (block r body ▹ code) (λ ls b ts ds ks. refl) (block_bare r body code inner rest)
+  block_kept r body code inner rest = opens_written (block r body ▹ code) (λ ls b ts ds ks. refl) (block_bare r body code inner rest)
 
   loop_bare : (r : Option ValType) (body code : Trees) → Kept body → Kept code → KeptBare (loop r body ▹ code)
   loop_bare r body code inner rest most ls b ts after around before next le typed stands nested ex p w i stays =
@@ -127,7 +152,7 @@ module _ (f : Function) (fair : IsFair f) where
       (around : List Surrounding) (before : Words) (next : Completion → Part (Unit {0})) (le : most ≤ f.bound)
       (x_typed : IsTyped (under_aims f.context (past (b + length us) r ∷ ls)) x [] (listed r)) (y_typed : IsTyped (under_aims f.context (past (b + length us) r ∷ ls)) y [] (listed r))
       (typed : IsTyped (under_aims f.context ls) code (listed r ++ us) after) (stands : MayStand f (if_block r x y ▹ code) b (I32 ∷ us)) (nested : AreNested ls b) (ex : Exits f most ls b after (comes_to_end code) around before next)
-      (p : Place) (w : List EventPlain) (i : Inside f most w p) (stays : Stays b before (word_at p)) where
+      (ks : List Known) (p : Place) (w : List EventPlain) (i : Inside f most w p) (known : AreKnown (into_block ks) (word_at p)) (stays : Stays b before (word_at p)) where
     abbrev base : ℕ
     base = b + length us
 
@@ -140,22 +165,26 @@ module _ (f : Function) (fair : IsFair f) where
     abbrev inside : Completion → Part (Unit {0})
     inside = next_inside f fair most ls b base us r code around before next p refl stays nested kept
 
+    -- an arm in which this is known
+    abbrev arm_run : (z : Trees) → List Known → Part (Unit {0})
+    arm_run z js = statements_to f z (past base r ∷ ls) base [] [] js inside
+
     -- one of the two arms
-    arm : (z : Trees) → Kept z → IsTyped (under_aims f.context (past base r ∷ ls)) z [] (listed r) → MayStand f z base []
-        → IsFollowed f p (code_sight f round z base [] p w) (statements_to f z (past base r ∷ ls) base [] [] [] inside p)
-    arm z z_kept z_typed z_stands =
-        kept_bare f most z (past base r ∷ ls) base [] round (word_at p) inside
+    arm : (z : Trees) (js : List Known) → AreKnown js (word_at p) → Kept z → IsTyped (under_aims f.context (past base r ∷ ls)) z [] (listed r) → MayStand f z base []
+        → IsFollowed f p (code_sight f round z base [] p w) (arm_run z js p)
+    arm z js held z_kept z_typed z_stands =
+        kept_knowing f most z (past base r ∷ ls) base [] round (word_at p) inside
         (z_kept most (past base r ∷ ls) base [] (listed r) round (word_at p) inside le z_typed z_stands (nested_past ls b base (omega arith) nested r)
-        (block_exits f fair most ls b base us r code around before next p refl stays nested kept after (comes_to_end code) ex (comes_to_end z))) p w i (stays_itself base (word_at p))
+        (block_exits f fair most ls b base us r code around before next p refl stays nested kept after (comes_to_end code) ex (comes_to_end z))) js p w i held (stays_itself base (word_at p))
 
     abbrev arms : ℕ → Part (Unit {0})
-    arms n = if not (n == 0) then statements_to f x (past base r ∷ ls) base [] [] [] inside else statements_to f y (past base r ∷ ls) base [] [] [] inside
+    arms n = if not (n == 0) then arm_run x (into_block ks) else arm_run y []
 
     chosen : (n : ℕ) → IsFollowed f p (code_sight f round (choose n x y) base [] p w) (arms n p)
-    chosen zero = arm y y_kept y_typed (second_arm f b r x y code us stands)
+    chosen zero = arm y [] tt y_kept y_typed (second_arm f b r x y code us stands)
     chosen (suc n) =
-        subst (λ c. IsFollowed f p (code_sight f round x base [] p w) ((if not c then statements_to f x (past base r ∷ ls) base [] [] [] inside else statements_to f y (past base r ∷ ls) base [] [] [] inside) p))
-        (sym (not_zero n)) (arm x x_kept x_typed (first_arm f b r x y code us stands))
+        subst (λ c. IsFollowed f p (code_sight f round x base [] p w) ((if not c then arm_run x (into_block ks) else arm_run y []) p))
+        (sym (not_zero n)) (arm x (into_block ks) known x_kept x_typed (first_arm f b r x y code us stands))
 
     abbrev test : ℕ
     test = word_at p (numbered operand_low base)
@@ -169,21 +198,20 @@ module _ (f : Function) (fair : IsFair f) where
         (λ j. ap f.watch (if_step f.home around r x y code (state_at f (operands b (I32 ∷ us) (word_at p)) p w j))) (λ j. refl)
         (subst (λ m. IsFollowed f p (code_sight f round (choose m x y) base [] p w) (arms n p)) e (chosen n))
 
-    arms_kept : IsFollowed f p (code_sight f around (if_block r x y ▹ code) b (I32 ∷ us) p w) (statements_to f (if_block r x y ▹ code) ls b (I32 ∷ us) [] [] next p)
+    arms_kept : IsFollowed f p (code_sight f around (if_block r x y ▹ code) b (I32 ∷ us) p w) (statements_to f (if_block r x y ▹ code) ls b (I32 ∷ us) [] ks next p)
     arms_kept =
         subst (λ (run : Part (Unit {0})). IsFollowed f p (code_sight f around (if_block r x y ▹ code) b (I32 ∷ us) p w) (run p))
-        (sym (chosen_followed f.calls f.scope f.bound inside (label_name (labels_round ls) ∷ []) (signed_word base) (stmts_of f.setting.bytes f.cells f.context x (past base r ∷ ls) base [] [] []) (stmts_of f.setting.bytes f.cells f.context y (past base r ∷ ls) base [] [] [])))
-        (decided_by f (code_sight f around (if_block r x y ▹ code) b (I32 ∷ us) p w) (numbered operand_low base) p (statements_to f x (past base r ∷ ls) base [] [] [] inside)
-        (statements_to f y (past base r ∷ ls) base [] [] [] inside) i.apart both_arms)
+        (sym (chosen_followed f.calls f.scope f.bound inside (label_name (labels_round ls) ∷ []) (signed_word base) (stmts_of f.setting.bytes f.cells f.context x (past base r ∷ ls) base [] [] (into_block ks)) (stmts_of f.setting.bytes f.cells f.context y (past base r ∷ ls) base [] [] [])))
+        (decided_by f (code_sight f around (if_block r x y ▹ code) b (I32 ∷ us) p w) (numbered operand_low base) p (arm_run x (into_block ks)) (arm_run y []) i.apart both_arms)
 
-  if_bare : (r : Option ValType) (x y code : Trees) → Kept x → Kept y → Kept code → KeptBare (if_block r x y ▹ code)
+  if_bare : (r : Option ValType) (x y code : Trees) → Kept x → Kept y → Kept code → KeptOpening (if_block r x y ▹ code)
   if_bare r x y code x_kept y_kept rest most ls b ts after around before next le typed stands nested ex =
       let stands' = subst (λ ts. MayStand f (if_block r x y ▹ code) b ts) typed.1 stands in
-      subst (λ ts. IsKept f most (if_block r x y ▹ code) ls b ts around before next) (sym typed.1)
-      (λ p w i stays. arms_kept r x y code x_kept y_kept rest most ls b typed.0 after around before next le typed.2 typed.3 typed.4 stands' nested ex p w i stays)
+      subst (λ ts. IsKeptOpening f most (if_block r x y ▹ code) ls b ts around before next) (sym typed.1)
+      (λ ks p w i known stays. arms_kept r x y code x_kept y_kept rest most ls b typed.0 after around before next le typed.2 typed.3 typed.4 stands' nested ex ks p w i known stays)
 
   pub if_kept : (r : Option ValType) (x y code : Trees) → Kept x → Kept y → Kept code → Kept (if_block r x y ▹ code)
-  if_kept r x y code x_kept y_kept rest = after_written (if_block r x y ▹ code) (λ ls b ts ds ks. refl) (if_bare r x y code x_kept y_kept rest)
+  if_kept r x y code x_kept y_kept rest = opens_written (if_block r x y ▹ code) (λ ls b ts ds ks. refl) (if_bare r x y code x_kept y_kept rest)
 
   -- an instruction that opens no block, plain or not
 

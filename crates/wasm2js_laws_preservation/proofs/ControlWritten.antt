@@ -1,4 +1,4 @@
--- What waits is written before code that begins with no plain instruction, and that code is kept as if nothing had waited or been known.
+-- What waits is written before code that begins with no plain instruction, and that code is kept as if nothing had waited.
 use Rattle.std.proofs.Common.{◌≡◌, ℕ, true, List, [], ◌∷◌, ◌++◌, None, refl, sym, ap, ◌∙◌, subst, arith}
 use Rattle.std.proofs.Math.Path.{fun_ext}
 use Rattle.sem_words.specs.declared.js_value.JsValue.TheVariants.{Whole}
@@ -14,16 +14,18 @@ use Rattle.asm_laws_continuation.specs.Following.{unless_left_to, exec_to, exec_
 use Rattle.wasm2js_translation.specs.Names.{Name}
 use Rattle.wasm2js_translation.specs.Words.{Term, read, number, both, flip, sum, product, zeros, compare, choose, byte, whole, put, simple_statement, simple_statements, stmts_in}
 use Rattle.wasm2js_translation.specs.Delays.{Delayed, is_light, written}
-use Rattle.wasm2js_translation.specs.Known.{Known}
+use Rattle.wasm2js_translation.specs.Known.{Known, into_block}
 use Rattle.wasm2js_translation.specs.Bodies.{Aim, stmts_of}
 use Rattle.wasm2js_laws_places.specs.Following.{Rest}
 use Rattle.wasm2js_laws_places.specs.Straight.{Words, with_word, value, gives, Helping, goes, run_simples}
 use Rattle.wasm2js_laws_places.specs.Places.{word_at, AreApart, IsHeap, operands, Stays}
 use Rattle.wasm2js_laws_places.specs.Helped.{IsOn}
 use Rattle.wasm2js_laws_places.specs.Delaying.{seen, AreWaiting}
+use Rattle.wasm2js_laws_places.specs.Knowing.{AreKnown}
 use Rattle.wasm2js_laws_actions.proofs.Doing.{apart_kept, still_on, on_further}
-use Rattle.wasm2js_laws_preservation.specs.ControlControl.{Function, IsFair, Inside, MayWait, seen_at, state_at, late_sight, IsFollowed, statements_to, IsKept, IsKeptLate}
+use Rattle.wasm2js_laws_preservation.specs.ControlControl.{Function, IsFair, Inside, MayWait, seen_at, state_at, code_sight, late_sight, IsFollowed, statements_to, IsKept, IsKeptLate}
 use Rattle.wasm2js_laws_places.proofs.Delayed.{written_is_seen}
+use Rattle.wasm2js_laws_places.proofs.KnownSteps.{known_inside}
 use Rattle.wasm2js_laws_preservation.proofs.ControlSeen.{state_seen}
 use Rattle.wasm2js_laws_preservation.proofs.ControlStepping.{appended, no_step}
 use Rattle.wasm2js_laws_preservation.proofs.InstructionsEnding.{counts_alike}
@@ -34,10 +36,22 @@ use Rattle.wasm2js_laws_preservation.proofs.BranchesMoved.{write_then, move_then
 nothing_waits : (f : Function) → MayWait f []
 nothing_waits f = record { waiting = tt; sound = tt }
 
+-- and this is known
+pub kept_knowing : (f : Function) (most : ℕ) (code : Trees) (ls : List Aim) (b : ℕ) (ts : List ValType) (around : List Surrounding) (before : Words) (next : Completion → Part (Unit {0}))
+    → IsKeptLate f most code ls b ts around before next → (ks : List Known) (p : Place) (w : List EventPlain) → Inside f most w p → AreKnown ks (word_at p) → Stays b before (word_at p)
+    → IsFollowed f p (code_sight f around code b ts p w) (statements_to f code ls b ts [] ks next p)
+kept_knowing f most code ls b ts around before next kept ks p w i known stays = kept [] ks (nothing_waits f) p w i known stays
+
 -- and nothing is known
 pub kept_bare : (f : Function) (most : ℕ) (code : Trees) (ls : List Aim) (b : ℕ) (ts : List ValType) (around : List Surrounding) (before : Words) (next : Completion → Part (Unit {0}))
     → IsKeptLate f most code ls b ts around before next → IsKept f most code ls b ts around before next
-kept_bare f most code ls b ts around before next kept p w i stays = kept [] [] (nothing_waits f) p w i tt stays
+kept_bare f most code ls b ts around before next kept p w i stays = kept_knowing f most code ls b ts around before next kept [] p w i tt stays
+
+-- whatever is known, of which no more holds than what goes into a block
+abbrev pub IsKeptOpening : (f : Function) (most : ℕ) → Trees → List Aim → (b : ℕ) → List ValType → List Surrounding → (before : Words) → (Completion → Part (Unit {0})) → Type 0
+IsKeptOpening f most code ls b ts around before next =
+    (ks : List Known) (p : Place) (w : List EventPlain) → Inside f most w p → AreKnown (into_block ks) (word_at p) → Stays b before (word_at p)
+    → IsFollowed f p (code_sight f around code b ts p w) (statements_to f code ls b ts [] ks next p)
 
 -- ---- words that are written one after the other
 
@@ -93,14 +107,14 @@ module _ (f : Function) (r : Rest) (here : Place) where
 -- ---- code after them
 
 module _ (f : Function) (fair : IsFair f) (most : ℕ) (code : Trees) (ls : List Aim) (b : ℕ) (ts : List ValType) (around : List Surrounding) (before : Words) (next : Completion → Part (Unit {0}))
-    (kept : IsKept f most code ls b ts around before next) where
-  abbrev bare : List Stmt
-  bare = stmts_of f.setting.bytes f.cells f.context code ls b ts [] []
+    (kept : IsKeptOpening f most code ls b ts around before next) where
+  abbrev bare : List Known → List Stmt
+  bare ks = stmts_of f.setting.bytes f.cells f.context code ls b ts [] ks
 
-  abbrev then_code : Completion → Part (Unit {0})
-  then_code c = unless_left_to c (exec_all_to f.calls f.scope f.bound (stmts_in bare)) next
+  abbrev then_code : List Known → Completion → Part (Unit {0})
+  then_code ks c = unless_left_to c (exec_all_to f.calls f.scope f.bound (stmts_in (bare ks))) next
 
-  module _ (ds : List Delayed) (may : MayWait f ds) (p : Place) (w : List EventPlain) (i : Inside f most w p) (stays : Stays b before (seen_at ds p)) where
+  module _ (ds : List Delayed) (ks : List Known) (may : MayWait f ds) (p : Place) (w : List EventPlain) (i : Inside f most w p) (known : AreKnown ks (word_at p)) (stays : Stays b before (seen_at ds p)) where
     abbrev start : Rest
     start = late_sight f around code b ts ds p w
 
@@ -115,24 +129,26 @@ module _ (f : Function) (fair : IsFair f) (most : ℕ) (code : Trees) (ls : List
           (sym (state_seen f ds (word_at p) p.heap p.replies w may.waiting (operands b ts (seen_at ds p)) n) ∙ state_on f (seen_at ds p) p.heap 0 p q (operands b ts (seen_at ds p)) w n on)
           ∙ ap (λ (words : Words). f.watch (closed f.home around (onward f.home code (state_at f (operands b ts words) q w n)))) (sym same)
 
-      from_there : IsFollowed f p start (then_code normal q)
+      known_there : AreKnown (into_block ks) (word_at q)
+      known_there = subst (λ (words : Words). AreKnown (into_block ks) words) (sym same) (known_inside ks ds (word_at p) p.heap may.waiting known)
+
+      from_there : IsFollowed f p start (then_code ks normal q)
       from_there =
           let left = on.left in
-          counts_alike f p q start (then_code normal q) (omega (arith, left)) on.events
-          (no_step f fair q start (late_sight f around code b ts [] q w) (then_code normal q) same_sight
-          (kept q w (inside_on f most w (seen_at ds p) p.heap 0 p q on refl i) (subst (λ (words : Words). Stays b before words) (sym same) stays)))
+          counts_alike f p q start (then_code ks normal q) (omega (arith, left)) on.events
+          (no_step f fair q start (late_sight f around code b ts [] q w) (then_code ks normal q) same_sight
+          (kept ks q w (inside_on f most w (seen_at ds p) p.heap 0 p q on refl i) known_there (subst (λ (words : Words). Stays b before words) (sym same) stays)))
 
-    from_written : (q : Place) → IsOn f.setting.bytes (all_put ds (word_at p) p.heap) p.heap 0 p q → IsFollowed f p start (then_code normal q)
+    from_written : (q : Place) → IsOn f.setting.bytes (all_put ds (word_at p) p.heap) p.heap 0 p q → IsFollowed f p start (then_code ks normal q)
     from_written q on = from_there q (subst (λ (words : Words). IsOn f.setting.bytes words p.heap 0 p q) (put_is_seen ds (word_at p) p.heap may.waiting) on)
 
-    after_written : (ks : List Known) → stmts_of f.setting.bytes f.cells f.context code ls b ts ds ks ≡ simple_statements (written ds) ++ bare
-        → IsFollowed f p start (statements_to f code ls b ts ds ks next p)
-    after_written ks is =
+    after_written : stmts_of f.setting.bytes f.cells f.context code ls b ts ds ks ≡ simple_statements (written ds) ++ bare ks → IsFollowed f p start (statements_to f code ls b ts ds ks next p)
+    after_written is =
         subst (λ run. IsFollowed f p start run)
         (sym (ap (λ ss. exec_all_to f.calls f.scope f.bound (stmts_in ss) next p) is
-        ∙ ap (λ (part : Part (Unit {0})). part p) (appended f.calls f.scope f.bound (simple_statements (written ds)) bare next)))
-        (written_then f start p ds p then_code may.waiting i.apart i.world.is_heap from_written)
+        ∙ ap (λ (part : Part (Unit {0})). part p) (appended f.calls f.scope f.bound (simple_statements (written ds)) (bare ks) next)))
+        (written_then f start p ds p (then_code ks) may.waiting i.apart i.world.is_heap from_written)
 
   -- where all is written first, whatever waits and is known
-  pub kept_late : ((ds : List Delayed) (ks : List Known) → stmts_of f.setting.bytes f.cells f.context code ls b ts ds ks ≡ simple_statements (written ds) ++ bare) → IsKeptLate f most code ls b ts around before next
-  kept_late is ds ks may p w i known stays = after_written ds may p w i stays ks (is ds ks)
+  pub kept_late : ((ds : List Delayed) (ks : List Known) → stmts_of f.setting.bytes f.cells f.context code ls b ts ds ks ≡ simple_statements (written ds) ++ bare ks) → IsKeptLate f most code ls b ts around before next
+  kept_late is ds ks may p w i known stays = after_written ds ks may p w i known stays (is ds ks)

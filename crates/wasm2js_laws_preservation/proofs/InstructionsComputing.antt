@@ -52,8 +52,9 @@ use Rattle.wasm2js_laws_actions.proofs.LateAsking.{late_asks_helpers}
 use Rattle.wasm2js_laws_actions.proofs.LeanAsking.{lean_asks_helpers}
 use Rattle.wasm2js_laws_preservation.proofs.ControlSeen.{seen_are_words, locals_seen, store_seen}
 use Rattle.wasm2js_laws_preservation.proofs.ControlStepping.{appended, stays_on, stands, step, no_step}
-use Rattle.wasm2js_laws_preservation.specs.InstructionsPlain.{IsAlike, IsPlain, PlainIs, code_of}
+use Rattle.wasm2js_laws_preservation.specs.InstructionsPlain.{IsAlike, PlainIs, code_amid}
 use Rattle.wasm2js_laws_preservation.specs.InstructionsLaws.{PlainsAreKept}
+use Rattle.wasm2js_laws_preservation.proofs.InstructionsAmid.{IsAmid, numbers_seen, plain_amid}
 use Rattle.wasm2js_laws_preservation.proofs.InstructionsSound.{rest_stands, code_sound}
 use Rattle.wasm2js_laws_preservation.proofs.InstructionsEnding.{counts_alike, are_words, trap_same}
 
@@ -187,7 +188,7 @@ module _ (f : Function) (fair : IsFair f) (helping : Helping) (most b : ℕ) (us
 
 module _ (f : Function) (fair : IsFair f) (calls : Calls) (follow : AllFollow calls f.calls) (helping : Helping) (helpers : AreHelpers f.scope calls f.bound f.setting.bytes helping)
     (ins : Plain) (most : ℕ) (code : Trees) (ls : List Aim) (b : ℕ) (ts us : List ValType) (ds : List Delayed) (ks : List Known) (around : List Surrounding) (before : Words) (next : Completion → Part (Unit {0}))
-    (small : most ≤ f.bound) (is : IsPlain f helping ins b ts us) (sound : AreSoundActions f.scope (code_of f helping ins b ts)) (may : MayWait f ds) (rest : IsKeptLate f most code ls b us around before next)
+    (small : most ≤ f.bound) (is : IsAmid f helping ds ins b ts us) (sound : AreSoundActions f.scope (code_amid f helping ds ins b ts)) (may : MayWait f ds) (rest : IsKeptLate f most code ls b us around before next)
     (p : Place) (w : List EventPlain) (i : Inside f most w p) (known : AreKnown ks (word_at p)) (stays : Stays b before (seen_at ds p)) where
   -- the types afterwards, as the translation follows them
   abbrev then_types : List ValType
@@ -201,7 +202,7 @@ module _ (f : Function) (fair : IsFair f) (calls : Calls) (follow : AllFollow ca
   words = seen_at ds p
 
   abbrev at_once : List Action
-  at_once = code_of f helping ins b ts
+  at_once = code_amid f helping ds ins b ts
 
   abbrev whole : Late
   whole = late ds at_once
@@ -243,7 +244,7 @@ module _ (f : Function) (fair : IsFair f) (calls : Calls) (follow : AllFollow ca
       subst (λ o. IsAlike f helping b then_types words p.heap p.replies w effect o) (seen_is whole.later (run_actions helping at_once words p.heap) outcome alike_late.1)
       (subst (λ e. IsAlike f helping b then_types words p.heap p.replies w e (run_actions helping at_once words p.heap)) same_effect
       (subst (λ us. IsAlike f helping b us words p.heap p.replies w (do_plain ins (operands b ts words) (locals_of f.context.locals words) (store_with f.setting words p.heap p.replies w)) (run_actions helping at_once words p.heap)) (sym is.types)
-      (is.alike words p.heap p.replies w (seen_are_words ds (word_at p) p.heap may.waiting (are_words p)) i.world.is_heap)))
+      (is.alike words p.heap p.replies w (seen_are_words ds (word_at p) p.heap may.waiting (are_words p)) i.world.is_heap (numbers_seen ds (word_at p) p.heap))))
 
   paid : units ≤ f.pace
   paid = subst (λ u. u ≤ f.pace) (sym alike_late.2) (is.paid words p.heap)
@@ -294,15 +295,15 @@ module _ (f : Function) (fair : IsFair f) (calls : Calls) (follow : AllFollow ca
   IsKeptHere ins =
       (most : ℕ) (code : Trees) (ls : List Aim) (b : ℕ) (ts us : List ValType) (ds : List Delayed) (ks : List Known) (around : List Surrounding) (before : Words) (next : Completion → Part (Unit {0}))
       → most ≤ f.bound
-      → IsPlain f helping ins b ts us → AreSoundActions f.scope (code_of f helping ins b ts) → MayWait f ds → IsKeptLate f most code ls b us around before next
+      → IsAmid f helping ds ins b ts us → AreSoundActions f.scope (code_amid f helping ds ins b ts) → MayWait f ds → IsKeptLate f most code ls b us around before next
       → IsKeptWhile ds ks f most (plain ins ▹ code) ls b ts around before next
 
   one_kept : (ins : Plain) → (IsFormed ins → PlainIs f helping ins) → IsKeptHere ins → IsKeptFirst f (plain ins)
   one_kept ins is each most code ls b ts after_types around before next small typed standing nested ex rest ds ks may =
       let stands' = subst (λ ts. MayStand f (plain ins ▹ code) b ts) typed.operands standing in
-      let sound = code_sound f fair helping ins code ls b typed.form typed.takes typed.gives typed.below typed.has_form typed.acts stands' in
+      let sound = code_sound f fair helping ins code ls b typed.form typed.takes typed.gives typed.below typed.has_form typed.acts stands' ds in
       let on = rest_stands f fair helping ins code ls b typed.form typed.takes typed.gives typed.below typed.has_form typed.acts stands' in
-      let is_plain = is standing.formed.0.0 ls b typed.form typed.takes typed.gives typed.below typed.has_form typed.acts in
+      let is_plain = plain_amid f helping ds ins (is standing.formed.0.0) ls b typed.form typed.takes typed.gives typed.below typed.has_form typed.acts in
       subst (λ ts. IsKeptWhile ds ks f most (plain ins ▹ code) ls b ts around before next) (sym typed.operands)
       (each most code ls b (typed.takes ++ typed.below) (typed.gives ++ typed.below) ds ks around before next small is_plain sound may (rest (typed.gives ++ typed.below) typed.goes_on on ex))
 

@@ -8,6 +8,7 @@ pub mod ControlWritten
 pub mod ControlKept
 pub mod InstructionsEnding
 pub mod InstructionsSound
+pub mod InstructionsAmid
 pub mod InstructionsComputing
 pub mod PlainPuts
 pub mod PlainSummed
@@ -22,6 +23,7 @@ pub mod WideSummed
 pub mod WideBitwise
 pub mod WideCompared
 pub mod WideTurned
+pub mod WideTurnedInPlace
 pub mod WideCounted
 pub mod WideExtending
 pub mod VariablesLists

@@ -12,7 +12,7 @@ use Rattle.session_lang.specs.Simulation.{Comparison}
 use Rattle.session_lang.specs.Laws.{KeepsOrder}
 use Rattle.wasm_lang.specs.declared.types.ValType.{ValType}
 use Rattle.wasm_lang.specs.declared.types.ValType.TheVariants.{I32, I64}
-use Rattle.wasm_lang.specs.Modules.{FunctionType, WasmModule}
+use Rattle.wasm_lang.specs.Modules.{WasmModule}
 use Rattle.wasm_lang_valid.specs.Typing.{Context, listed}
 use Rattle.wasm_lang_exec.specs.Code.{Trees, ε}
 use Rattle.wasm_lang_exec.specs.Store.{Store}

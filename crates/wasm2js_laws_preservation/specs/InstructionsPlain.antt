@@ -15,7 +15,8 @@ use Rattle.wasm_laws_drive.specs.Equations.{is_constant}
 use Rattle.wasm2js_translation.specs.Names as names
 use Rattle.wasm2js_translation.specs.Names.{Fixed, Name}
 use Rattle.wasm2js_translation.specs.Words.{Action}
-use Rattle.wasm2js_translation.specs.Actions.{actions}
+use Rattle.wasm2js_translation.specs.Actions.{actions, actions_amid}
+use Rattle.wasm2js_translation.specs.Delays.{Delayed}
 use Rattle.wasm2js_translation.specs.Bodies.{Aim, after_plain}
 use Rattle.wasm2js_laws_places.specs.Straight.{Words, Answer, Helping, ActionsAsk, Outcome, goes, stops, run_actions, actions_units}
 use Rattle.wasm2js_laws_places.specs.Places.{operands, locals_of, store_with, IsHeap, Stays}
@@ -37,6 +38,10 @@ module _ (f : Function) (helping : Helping) where
 
   abbrev pub code_of : Plain → (b : ℕ) → List ValType → List Action
   code_of p b ts = actions f.setting.bytes f.context p b ts
+
+  -- where these words wait
+  abbrev pub code_amid : List Delayed → Plain → (b : ℕ) → List ValType → List Action
+  code_amid ds p b ts = actions_amid f.setting.bytes f.context ds p b ts
 
   -- above b operands, where the block's have the types ts, and us afterwards
   pub record IsPlain (p : Plain) (b : ℕ) (ts us : List ValType) : Type 0 where

@@ -19,11 +19,11 @@ use Rattle.asm_lang_valid.specs.Typing.{Scope, Around, result_of, in_a_loop, in_
 use Rattle.wasm2js_translation.specs.Words.{Action, simply, stop, simple_statements, statements}
 use Rattle.wasm2js_translation.specs.Pairs.{simples}
 use Rattle.wasm2js_translation.specs.Delays.{Delayed, written, standing}
-use Rattle.wasm2js_translation.specs.Known.{Known}
+use Rattle.wasm2js_translation.specs.Known.{Known, into_block}
 use Rattle.wasm2js_laws_terms.specs.Sound.{AreSoundActions, action_depth, actions_depth}
 use Rattle.wasm2js_laws_terms.proofs.FineActions.{action_fine}
 use Rattle.wasm2js_laws_scopes.specs.Provided.{Called, Provides, HasRoom}
-use Rattle.wasm2js_translation.specs.Actions.{under, actions}
+use Rattle.wasm2js_translation.specs.Actions.{under, actions_amid}
 use Rattle.wasm2js_translation.specs.Bodies.{Aim, past, again, out, labels_round, label_name, leave_with, jump, after_plain, comes_to_end, leaves, types_after_call, call_stmts, indirect_stmts, late_code, lean_code, stmts_of}
 use Rattle.wasm2js_translation.specs.Rooms.{here, local_named, room_of, with_room}
 use Rattle.wasm2js_laws_typed.specs.Constructs.{AllFine, EachFine, with_label, AreAims, labels_for}
@@ -72,12 +72,22 @@ module _ (s : Scope) (c : Context) (is_called : Called) (bytes cells : ℕ) (giv
       → IsFormedCode c.types is_called code → AreAims c.returns labels ls b → a.labels ≡ labels_for ls → HasRoom s c (room_of c code b before)
       → AllFine s a (30 + tree_levels code) (stmts_of bytes cells c code ls b before [] [])
 
-  -- .. where these words wait before it, and this is known of variables
+  -- .. where this is known of variables
+  abbrev Knowing : Trees → Type 0
+  Knowing code =
+      (labels : List (Option ValType)) (ls : List Aim) (b : ℕ) (before after : List ValType) (a : Around) → IsTyped (record c { labels = labels }) code before after
+      → IsFormedCode c.types is_called code → AreAims c.returns labels ls b → a.labels ≡ labels_for ls → HasRoom s c (room_of c code b before)
+      → (ks : List Known) → AllFine s a (30 + tree_levels code) (stmts_of bytes cells c code ls b before [] ks)
+
+  -- .. and these words wait before it
   abbrev Waiting : Trees → Type 0
   Waiting code =
       (labels : List (Option ValType)) (ls : List Aim) (b : ℕ) (before after : List ValType) (a : Around) → IsTyped (record c { labels = labels }) code before after
       → IsFormedCode c.types is_called code → AreAims c.returns labels ls b → a.labels ≡ labels_for ls → HasRoom s c (room_of c code b before)
       → (ds : List Delayed) → AreSoundWaiting s ds → AreLight ds → (ks : List Known) → AllFine s a (30 + tree_levels code) (stmts_of bytes cells c code ls b before ds ks)
+
+  only_knowing : (code : Trees) → Waiting code → Knowing code
+  only_knowing code further labels ls b before after a typed formed aims around room ks = further labels ls b before after a typed formed aims around room [] tt tt ks
 
   none_waiting : (code : Trees) → Waiting code → Goal code
   none_waiting code further labels ls b before after a typed formed aims around room = further labels ls b before after a typed formed aims around room [] tt tt []
@@ -90,14 +100,24 @@ module _ (s : Scope) (c : Context) (is_called : Called) (bytes cells : ℕ) (giv
       one_low h = omega (arith, h)
 
   -- what waits is written before the code
+  opens_written : (code : Trees)
+      → ((ls : List Aim) (b : ℕ) (ts : List ValType) (ds : List Delayed) (ks : List Known)
+      → stmts_of bytes cells c code ls b ts ds ks ≡ simple_statements (written ds) ++ stmts_of bytes cells c code ls b ts [] ks) → Knowing code
+      → Waiting code
+  opens_written code is fine labels ls b before after a typed formed aims around room ds sound light ks =
+      subst (AllFine s a (30 + tree_levels code)) (sym (is ls b before ds ks))
+      (all_join s a (30 + tree_levels code) (simple_statements (written ds)) _
+      (all_higher s a 30 (30 + tree_levels code) _ (omega arith) (written_all a ds sound light)) (fine labels ls b before after a typed formed aims around room ks))
+
+  -- and nothing is known there
   behind_written : (code : Trees)
       → ((ls : List Aim) (b : ℕ) (ts : List ValType) (ds : List Delayed) (ks : List Known)
       → stmts_of bytes cells c code ls b ts ds ks ≡ simple_statements (written ds) ++ stmts_of bytes cells c code ls b ts [] []) → Goal code
       → Waiting code
-  behind_written code is fine labels ls b before after a typed formed aims around room ds sound light ks =
-      subst (AllFine s a (30 + tree_levels code)) (sym (is ls b before ds ks))
-      (all_join s a (30 + tree_levels code) (simple_statements (written ds)) _
-      (all_higher s a 30 (30 + tree_levels code) _ (omega arith) (written_all a ds sound light)) (fine labels ls b before after a typed formed aims around room))
+  behind_written code is fine =
+      opens_written code (λ ls b ts ds ks. is ls b ts ds ks ∙ ap (λ ss. simple_statements (written ds) ++ ss) (sym (is ls b ts [] ks)))
+      (λ labels ls b before after a typed formed aims around room ks.
+      subst (AllFine s a (30 + tree_levels code)) (sym (is ls b before [] ks)) (fine labels ls b before after a typed formed aims around room))
 
   short : (h k n : ℕ) → h ≤ 30 → h ≤ 30 + n
   short h k n le = omega (arith, le)
@@ -113,15 +133,15 @@ module _ (s : Scope) (c : Context) (is_called : Called) (bytes cells : ℕ) (giv
       let room2 = subst (λ ts. HasRoom s c (room_of c (plain p ▹ code) b ts)) typed.operands room in
       let first = left_room s c (here b ts (local_named p)) (room_of c code b (after_plain c p ts)) room2 in
       let rest = subst (λ ts. HasRoom s c (room_of c code b ts)) next (right_room s c (here b ts (local_named p)) (room_of c code b (after_plain c p ts)) room2) in
-      let sound = plain_is_sound s c is_called bytes cells given p formed.0.0 formed.0.1 typed.form typed.takes typed.gives typed.below is typed.acts b first (room_here s c code b (typed.gives ++ typed.below) rest) in
+      let sound = plain_is_sound s c is_called bytes cells given ds p formed.0.0 formed.0.1 typed.form typed.takes typed.gives typed.below is typed.acts b first (room_here s c code b (typed.gives ++ typed.below) rest) in
       let x = late_code bytes cells c p b ts ds in
       let y = lean_code bytes cells c p b ts ds ks in
-      let late = late_sound s ds (actions bytes c p b ts) sound waiting in
-      let low = late_shallow ds (actions bytes c p b ts) light in
+      let late = late_sound s ds (actions_amid bytes c ds p b ts) sound waiting in
+      let low = late_shallow ds (actions_amid bytes c ds p b ts) light in
       let deep = lean_shallow ks x.now in
       subst (λ ts. AllFine s a (30 + tree_levels code) (stmts_of bytes cells c (plain p ▹ code) ls b ts ds ks)) (sym typed.operands)
       (all_join s a (30 + tree_levels code) (statements y.now) _
-      (all_higher s a 30 (30 + tree_levels code) _ (omega arith) (actions_all s a y.now (lean_sound s ks x.now late.0) (late_low deep low.1 (plain_is_shallow c bytes p b ts))))
+      (all_higher s a 30 (30 + tree_levels code) _ (omega arith) (actions_all s a y.now (lean_sound s ks x.now late.0) (late_low deep low.1 (plain_is_shallow c bytes ds p b ts))))
       (subst (λ ts. AllFine s a (30 + tree_levels code) (stmts_of bytes cells c code ls b ts (standing b ts x.later) y.known)) (sym next)
       (further labels ls b (typed.gives ++ typed.below) after a typed.goes_on formed.1 aims around rest _ (standing_sound s b _ x.later late.1) (standing_light b _ x.later low.0) y.known)))
 
@@ -155,13 +175,13 @@ module _ (s : Scope) (c : Context) (is_called : Called) (bytes cells : ℕ) (giv
   base_above : (b : ℕ) (ts : List ValType) → b ≤ under 0 b ts
   base_above b ts = omega arith
 
-  block_code : (r : Option ValType) (body code : Trees) → Goal body → Goal code → Goal (block r body ▹ code)
-  block_code r body code inner further labels ls b before after a typed formed aims around room =
+  block_code : (r : Option ValType) (body code : Trees) → Knowing body → Goal code → Knowing (block r body ▹ code)
+  block_code r body code inner further labels ls b before after a typed formed aims around room ks =
       let base = under 0 b before in
       let a1 = with_label false (labels_round ls) a in
       let rooms = right_room s c (here b before []) (with_room (room_of c body base []) (room_of c code b (listed r ++ before))) room in
       let body_fine = inner (r ∷ labels) (past base r ∷ ls) base [] (listed r) a1 typed.0 formed.0 (labels, refl, omega arith, aims_above c.returns labels ls b base (base_above b before) aims)
-      (ap (λ l. record { text = label_name (labels_round ls); of_loop = false } ∷ l) around) (left_room s c _ _ rooms) in (
+      (ap (λ l. record { text = label_name (labels_round ls); of_loop = false } ∷ l) around) (left_room s c _ _ rooms) (into_block ks) in (
         is_higher s a _ _ _ (block_high (tree_levels body) (tree_levels code)) (blocks_are_fine s a (labels_round ls) (30 + tree_levels body) _ (new_label labels ls b a aims around) body_fine),
         all_higher s a _ _ _ (rest_high (1 + tree_levels body) (tree_levels code)) (further labels ls b (listed r ++ before) after a typed.1 formed.1 aims around (right_room s c (room_of c body base []) (room_of c code b (listed r ++ before)) rooms)),
       )
@@ -192,8 +212,8 @@ module _ (s : Scope) (c : Context) (is_called : Called) (bytes cells : ℕ) (giv
   first_high : (m n : ℕ) → 30 + m ≤ 30 + max m n
   first_high m n = omega arith
 
-  if_code : (r : Option ValType) (first second code : Trees) → Goal first → Goal second → Goal code → Goal (if_block r first second ▹ code)
-  if_code r first second code one two further labels ls b before after a typed formed aims around room =
+  if_code : (r : Option ValType) (first second code : Trees) → Knowing first → Goal second → Goal code → Knowing (if_block r first second ▹ code)
+  if_code r first second code one two further labels ls b before after a typed formed aims around room ks =
       let below = typed.0 in
       let base = b + length below in
       let a1 = with_label false (labels_round ls) a in
@@ -203,12 +223,12 @@ module _ (s : Scope) (c : Context) (is_called : Called) (bytes cells : ℕ) (giv
       let arms = left_room s c (with_room (room_of c first base []) (room_of c second base [])) (room_of c code b (listed r ++ below)) rooms in
       let aims1 = aims_above c.returns labels ls b base (omega arith) aims in
       let around1 = ap (λ l. record { text = label_name (labels_round ls); of_loop = false } ∷ l) around in
-      let f = one (r ∷ labels) (past base r ∷ ls) base [] (listed r) a1 typed.2 formed.0 (labels, refl, omega arith, aims1) around1 (left_room s c (room_of c first base []) (room_of c second base []) arms) in
+      let f = one (r ∷ labels) (past base r ∷ ls) base [] (listed r) a1 typed.2 formed.0 (labels, refl, omega arith, aims1) around1 (left_room s c (room_of c first base []) (room_of c second base []) arms) (into_block ks) in
       let g = two (r ∷ labels) (past base r ∷ ls) base [] (listed r) a1 typed.3 formed.1 (labels, refl, omega arith, aims1) around1 (right_room s c (room_of c first base []) (room_of c second base []) arms) in
       let h = 30 + max (tree_levels first) (tree_levels second) in
-      subst (λ ts. AllFine s a (30 + tree_levels (if_block r first second ▹ code)) (stmts_of bytes cells c (if_block r first second ▹ code) ls b ts [] [])) (sym typed.1) (
+      subst (λ ts. AllFine s a (30 + tree_levels (if_block r first second ▹ code)) (stmts_of bytes cells c (if_block r first second ▹ code) ls b ts [] ks)) (sym typed.1) (
         is_higher s a _ _ _ (if_high (tree_levels first) (tree_levels second) (tree_levels code))
-            (arms_are_fine s a (labels_round ls) base h (stmts_of bytes cells c first (past base r ∷ ls) base [] [] []) (stmts_of bytes cells c second (past base r ∷ ls) base [] [] []) (new_label labels ls b a aims around) (at.operands base (omega arith)) (omega arith)
+            (arms_are_fine s a (labels_round ls) base h (stmts_of bytes cells c first (past base r ∷ ls) base [] [] (into_block ks)) (stmts_of bytes cells c second (past base r ∷ ls) base [] [] []) (new_label labels ls b a aims around) (at.operands base (omega arith)) (omega arith)
             (all_higher s a1 _ h _ (first_high (tree_levels first) (tree_levels second)) f) (all_higher s a1 _ h _ (rest_high (tree_levels first) (tree_levels second)) g)),
         all_higher s a _ _ _ (rest_high (1 + max (tree_levels first) (tree_levels second)) (tree_levels code))
             (further labels ls b (listed r ++ below) after a typed.4 formed.2 aims around (right_room s c (with_room (room_of c first base []) (room_of c second base [])) (room_of c code b (listed r ++ below)) rooms)),
@@ -359,10 +379,10 @@ module _ (s : Scope) (c : Context) (is_called : Called) (bytes cells : ℕ) (giv
   code_fine (return ▹ code) = behind_written (return ▹ code) (λ ls b ts ds ks. refl) (return_code code)
   code_fine (br_if k ▹ code) = behind_written (br_if k ▹ code) (λ ls b ts ds ks. refl) (br_if_code k code (none_waiting code (code_fine code)))
   code_fine (br_table ks d ▹ code) = behind_written (br_table ks d ▹ code) (λ ls b ts ds ks. refl) (br_table_code ks d code)
-  code_fine (block r body ▹ code) = behind_written (block r body ▹ code) (λ ls b ts ds ks. refl) (block_code r body code (none_waiting body (code_fine body)) (none_waiting code (code_fine code)))
+  code_fine (block r body ▹ code) = opens_written (block r body ▹ code) (λ ls b ts ds ks. refl) (block_code r body code (only_knowing body (code_fine body)) (none_waiting code (code_fine code)))
   code_fine (loop r body ▹ code) = behind_written (loop r body ▹ code) (λ ls b ts ds ks. refl) (loop_code r body code (none_waiting body (code_fine body)) (none_waiting code (code_fine code)))
   code_fine (if_block r first second ▹ code) =
-      behind_written (if_block r first second ▹ code) (λ ls b ts ds ks. refl) (if_code r first second code (none_waiting first (code_fine first)) (none_waiting second (code_fine second)) (none_waiting code (code_fine code)))
+      opens_written (if_block r first second ▹ code) (λ ls b ts ds ks. refl) (if_code r first second code (only_knowing first (code_fine first)) (none_waiting second (code_fine second)) (none_waiting code (code_fine code)))
   code_fine (call f ▹ code) = behind_written (call f ▹ code) (λ ls b ts ds ks. append_assoc (simple_statements (written ds)) (call_stmts f b ts (type_of c f)) _) (call_code f code (none_waiting code (code_fine code)))
   code_fine (call_indirect n ▹ code) =
       behind_written (call_indirect n ▹ code) (λ ls b ts ds ks. append_assoc (simple_statements (written ds)) (indirect_stmts cells c.types b ts (slice_get c.types n)) _) (call_indirect_code n code (none_waiting code (code_fine code)))

@@ -1,5 +1,6 @@
 pub mod Facts
 pub mod SoundCode
+pub mod SoundTurned
 pub mod SoundAccess
 pub mod SoundPlain
 pub mod ShallowPlain

@@ -1,22 +1,24 @@
 -- The actions of plain instructions aren't deep.
 use Rattle.std.proofs.Common.{◌≡◌, ℕ, ◌+◌, ◌≤◌, max, Bool, true, false, ◌&&◌, List, [], ◌∷◌, ◌++◌, Option, Some, None, refl, arith}
-use Rattle.std.specs.Prelude.{slice_get, nat_le, nat_lt, ◌==◌, if◌then◌else◌}
+use Rattle.std.specs.Prelude.{◌-◌, ◌%◌, ℤ, slice_get, nat_le, nat_lt, ◌==◌, if◌then◌else◌}
 use Rattle.sem_words.specs.declared.word.Bin.{Bin}
 use Rattle.sem_words.specs.declared.word.Bin.TheVariants as bins
 use Rattle.sem_words.specs.declared.word.Un.{Un}
 use Rattle.sem_words.specs.declared.word.Un.TheVariants as uns
 use Rattle.sem_words.specs.declared.word.Rel.{Rel}
 use Rattle.sem_words.specs.declared.word.Rel.TheVariants as rels
+use Rattle.sem_words.specs.Words.{word_of}
 use Rattle.wasm_lang.specs.declared.types.ValType.{ValType}
 use Rattle.wasm_lang.specs.declared.types.ValType.TheVariants.{I32, I64}
 use Rattle.wasm_lang.specs.declared.types.MemOp.{MemOp}
 use Rattle.wasm_lang.specs.Instructions.{nop, drop_operand, select, local_get, local_set, local_tee, global_get, global_set, load, store, memory_size, memory_copy, memory_fill, const32, const64, eqz32, eqz64, rel32, rel64, un32, un64, bin32, bin64, wrap, extend_s, extend_u, sign_extend}
 use Rattle.wasm2js_translation.specs.Names.{Name}
-use Rattle.wasm2js_translation.specs.Words.{read, put, Action}
+use Rattle.wasm2js_translation.specs.Words.{BitOp, shift_left, read, both, Simple, put, Action}
 use Rattle.wasm2js_laws_terms.specs.Sound.{term_depth, actions_depth}
 use Rattle.wasm2js_translation.specs.Pairs.{Pair, operand_pair, local_pair, global_pair, simples, literal, sign_of}
 use Rattle.wasm2js_translation.specs.Actions.{under, low, narrow_binary, narrow_unary, narrow_relation, selected, moved_if, kind_in, place, guarded, load_word, load_high, load_code, store_word, store_code, sign_extended}
-use Rattle.wasm2js_translation.specs.Wide.{wide_binary, wide_unary, wide_relation}
+use Rattle.wasm2js_translation.specs.Wide.{shifted, left_by, emptied, to_right, right_by, turned_from, round_by, wide_binary, wide_binary_by, wide_binary_at, wide_unary, wide_relation}
+use Rattle.wasm2js_translation.specs.Delays.{number_at}
 use Rattle.wasm2js_laws_typed.specs.Laws.{PlainIsShallow}
 
 -- ---- lists
@@ -89,6 +91,52 @@ wide_binary_shallow bins.ShrS a b to = omega arith
 wide_binary_shallow bins.ShrU a b to = omega arith
 wide_binary_shallow bins.Rotl a b to = omega arith
 wide_binary_shallow bins.Rotr a b to = omega arith
+
+if_low : (t : Bool) (x y : List Simple) → actions_depth (simples x) ≤ 8 → actions_depth (simples y) ≤ 8 → actions_depth (simples (if t then x else y)) ≤ 8
+if_low true x y h k = h
+if_low false x y h k = k
+
+shifted_shallow : (op : BitOp) (k : ℕ) (a : Name) → term_depth (shifted op k a) ≤ 2
+shifted_shallow op k a = by (k == 0)
+  where
+    by : (t : Bool) → term_depth (if t then read a else both op (read a) (literal k)) ≤ 2
+    by true = omega arith
+    by false = omega arith
+
+emptied_shallow : (signed : Bool) (a : Name) → term_depth (emptied signed a) ≤ 2
+emptied_shallow true a = omega arith
+emptied_shallow false a = omega arith
+
+left_by_shallow : (k : ℕ) (a to : Pair) → actions_depth (simples (left_by k a to)) ≤ 8
+left_by_shallow k a to =
+    let near = shifted_shallow shift_left k a.low in
+    let far = shifted_shallow shift_left (k - 32) a.low in
+    if_low (k == 0) _ _ (omega arith) (if_low (nat_lt k 32) _ _ (omega (arith, near)) (omega (arith, far)))
+
+right_by_shallow : (signed : Bool) (k : ℕ) (a to : Pair) → actions_depth (simples (right_by signed k a to)) ≤ 8
+right_by_shallow signed k a to =
+    let near = shifted_shallow (to_right signed) k a.high in
+    let far = shifted_shallow (to_right signed) (k - 32) a.high in
+    let rest = emptied_shallow signed a.high in
+    if_low (k == 0) _ _ (omega arith) (if_low (nat_lt k 32) _ _ (omega (arith, near)) (omega (arith, far, rest)))
+
+turned_from_shallow : (k : ℕ) (spare high : Name) (to : Pair) → actions_depth (simples (turned_from k spare high to)) ≤ 8
+turned_from_shallow k spare high to = if_low (k == 32) _ _ (omega arith) (if_low (nat_lt k 32) _ _ (omega arith) (omega arith))
+
+round_by_shallow : (k : ℕ) (a : Pair) (spare : Name) (to : Pair) → actions_depth (simples (round_by k a spare to)) ≤ 8
+round_by_shallow k a spare to = let rest = turned_from_shallow k spare a.high to in if_low (k == 0) _ _ (omega arith) (omega (arith, rest))
+
+wide_binary_by_shallow : (op : Bin) (k : ℕ) (a b to : Pair) → actions_depth (simples (wide_binary_by op k a b to)) ≤ 8
+wide_binary_by_shallow bins.Shl k a b to = left_by_shallow k a to
+wide_binary_by_shallow bins.ShrS k a b to = right_by_shallow true k a to
+wide_binary_by_shallow bins.ShrU k a b to = right_by_shallow false k a to
+wide_binary_by_shallow bins.Rotl k a b to = round_by_shallow k a b.low to
+wide_binary_by_shallow bins.Rotr k a b to = round_by_shallow ((64 - k) % 64) a b.low to
+wide_binary_by_shallow op k a b to = wide_binary_shallow op a b to
+
+wide_binary_at_shallow : (count : Option ℤ) (op : Bin) (a b to : Pair) → actions_depth (simples (wide_binary_at count op a b to)) ≤ 8
+wide_binary_at_shallow None op a b to = wide_binary_shallow op a b to
+wide_binary_at_shallow (Some z) op a b to = wide_binary_by_shallow op (word_of 32 z % 64) a b to
 
 wide_unary_shallow : (op : Un) (a to : Pair) → actions_depth (simples (wide_unary op a to)) ≤ 8
 wide_unary_shallow uns.Clz a to = omega arith
@@ -175,30 +223,30 @@ store_shallow bytes op offset a v = guarded_shallow bytes op.size offset a _ (st
 -- ---- each instruction
 
 pub plain_is_shallow : PlainIsShallow
-plain_is_shallow c bytes nop b ts = omega arith
-plain_is_shallow c bytes drop_operand b ts = omega arith
-plain_is_shallow c bytes select b ts = selected_shallow (slice_get ts 1) (operand_pair (under 3 b ts)) (operand_pair (under 3 b ts + 1)) (low (under 3 b ts + 2))
-plain_is_shallow c bytes (local_get x) b ts = moved_shallow (slice_get c.locals x) (local_pair x) (operand_pair (under 0 b ts))
-plain_is_shallow c bytes (local_set x) b ts = moved_shallow (slice_get c.locals x) (operand_pair (under 1 b ts)) (local_pair x)
-plain_is_shallow c bytes (local_tee x) b ts = moved_shallow (slice_get c.locals x) (operand_pair (under 1 b ts)) (local_pair x)
-plain_is_shallow c bytes (global_get x) b ts = moved_shallow (kind_in (slice_get c.globals x)) (global_pair x) (operand_pair (under 0 b ts))
-plain_is_shallow c bytes (global_set x) b ts = moved_shallow (kind_in (slice_get c.globals x)) (operand_pair (under 1 b ts)) (global_pair x)
-plain_is_shallow c bytes (load op align offset) b ts = load_shallow bytes op offset (operand_pair (under 1 b ts))
-plain_is_shallow c bytes (store op align offset) b ts = store_shallow bytes op offset (low (under 2 b ts)) (operand_pair (under 2 b ts + 1))
-plain_is_shallow c bytes memory_size b ts = omega arith
-plain_is_shallow c bytes memory_copy b ts = omega arith
-plain_is_shallow c bytes memory_fill b ts = omega arith
-plain_is_shallow c bytes (const32 n) b ts = omega arith
-plain_is_shallow c bytes (const64 n) b ts = omega arith
-plain_is_shallow c bytes eqz32 b ts = omega arith
-plain_is_shallow c bytes eqz64 b ts = omega arith
-plain_is_shallow c bytes (rel32 op) b ts = one_shallow _ (narrow_relation_shallow op (low (under 2 b ts)) (low (under 2 b ts + 1)))
-plain_is_shallow c bytes (rel64 op) b ts = one_shallow _ (wide_relation_shallow op (operand_pair (under 2 b ts)) (operand_pair (under 2 b ts + 1)))
-plain_is_shallow c bytes (un32 op) b ts = narrow_unary_shallow op (low (under 1 b ts))
-plain_is_shallow c bytes (un64 op) b ts = wide_unary_shallow op (operand_pair (under 1 b ts)) (operand_pair (under 1 b ts))
-plain_is_shallow c bytes (bin32 op) b ts = narrow_binary_shallow op (low (under 2 b ts)) (low (under 2 b ts + 1))
-plain_is_shallow c bytes (bin64 op) b ts = wide_binary_shallow op (operand_pair (under 2 b ts)) (operand_pair (under 2 b ts + 1)) (operand_pair (under 2 b ts))
-plain_is_shallow c bytes wrap b ts = omega arith
-plain_is_shallow c bytes extend_s b ts = omega arith
-plain_is_shallow c bytes extend_u b ts = omega arith
-plain_is_shallow c bytes (sign_extend wide bits) b ts = sign_extended_shallow wide bits (operand_pair (under 1 b ts))
+plain_is_shallow c bytes ds nop b ts = omega arith
+plain_is_shallow c bytes ds drop_operand b ts = omega arith
+plain_is_shallow c bytes ds select b ts = selected_shallow (slice_get ts 1) (operand_pair (under 3 b ts)) (operand_pair (under 3 b ts + 1)) (low (under 3 b ts + 2))
+plain_is_shallow c bytes ds (local_get x) b ts = moved_shallow (slice_get c.locals x) (local_pair x) (operand_pair (under 0 b ts))
+plain_is_shallow c bytes ds (local_set x) b ts = moved_shallow (slice_get c.locals x) (operand_pair (under 1 b ts)) (local_pair x)
+plain_is_shallow c bytes ds (local_tee x) b ts = moved_shallow (slice_get c.locals x) (operand_pair (under 1 b ts)) (local_pair x)
+plain_is_shallow c bytes ds (global_get x) b ts = moved_shallow (kind_in (slice_get c.globals x)) (global_pair x) (operand_pair (under 0 b ts))
+plain_is_shallow c bytes ds (global_set x) b ts = moved_shallow (kind_in (slice_get c.globals x)) (operand_pair (under 1 b ts)) (global_pair x)
+plain_is_shallow c bytes ds (load op align offset) b ts = load_shallow bytes op offset (operand_pair (under 1 b ts))
+plain_is_shallow c bytes ds (store op align offset) b ts = store_shallow bytes op offset (low (under 2 b ts)) (operand_pair (under 2 b ts + 1))
+plain_is_shallow c bytes ds memory_size b ts = omega arith
+plain_is_shallow c bytes ds memory_copy b ts = omega arith
+plain_is_shallow c bytes ds memory_fill b ts = omega arith
+plain_is_shallow c bytes ds (const32 n) b ts = omega arith
+plain_is_shallow c bytes ds (const64 n) b ts = omega arith
+plain_is_shallow c bytes ds eqz32 b ts = omega arith
+plain_is_shallow c bytes ds eqz64 b ts = omega arith
+plain_is_shallow c bytes ds (rel32 op) b ts = one_shallow _ (narrow_relation_shallow op (low (under 2 b ts)) (low (under 2 b ts + 1)))
+plain_is_shallow c bytes ds (rel64 op) b ts = one_shallow _ (wide_relation_shallow op (operand_pair (under 2 b ts)) (operand_pair (under 2 b ts + 1)))
+plain_is_shallow c bytes ds (un32 op) b ts = narrow_unary_shallow op (low (under 1 b ts))
+plain_is_shallow c bytes ds (un64 op) b ts = wide_unary_shallow op (operand_pair (under 1 b ts)) (operand_pair (under 1 b ts))
+plain_is_shallow c bytes ds (bin32 op) b ts = narrow_binary_shallow op (low (under 2 b ts)) (low (under 2 b ts + 1))
+plain_is_shallow c bytes ds (bin64 op) b ts = wide_binary_at_shallow (number_at ds (low (under 2 b ts + 1))) op (operand_pair (under 2 b ts)) (operand_pair (under 2 b ts + 1)) (operand_pair (under 2 b ts))
+plain_is_shallow c bytes ds wrap b ts = omega arith
+plain_is_shallow c bytes ds extend_s b ts = omega arith
+plain_is_shallow c bytes ds extend_u b ts = omega arith
+plain_is_shallow c bytes ds (sign_extend wide bits) b ts = sign_extended_shallow wide bits (operand_pair (under 1 b ts))

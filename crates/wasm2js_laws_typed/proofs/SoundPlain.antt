@@ -16,12 +16,14 @@ use Rattle.wasm2js_translation.specs.Names as names
 use Rattle.wasm2js_laws_terms.specs.Sound.{IsInt, AllSound, AreSoundSimple, AreSoundActions}
 use Rattle.wasm2js_laws_scopes.specs.Provided.{signature, AreInts, HasRoom, IsNamed, Called, AsksAmong, Provides, WordsHelp, MemoryHelps}
 use Rattle.wasm2js_translation.specs.Pairs.{names_of, local_pair, operand_pair, global_pair}
-use Rattle.wasm2js_translation.specs.Actions.{under, low, three, selected, kind_in, narrow_unary, narrow_binary, sign_extended, actions}
-use Rattle.wasm2js_translation.specs.Wide.{wide_binary, wide_unary}
+use Rattle.wasm2js_translation.specs.Actions.{under, low, three, selected, kind_in, narrow_unary, narrow_binary, sign_extended, actions_amid}
+use Rattle.wasm2js_translation.specs.Wide.{wide_binary_at, wide_unary}
+use Rattle.wasm2js_translation.specs.Delays.{Delayed, number_at}
 use Rattle.wasm2js_translation.specs.Rooms.{here, local_named}
 use Rattle.wasm2js_laws_typed.specs.Laws.{IsFormed, PlainIsSound}
 use Rattle.wasm2js_laws_typed.proofs.Facts.{plain_literal, signed_literal, low_fits, high_fits, first_low, second_low, top_of_two, third_low, middle_of_three, top_of_three, first_high, second_high, top_high_of_two, first_words}
-use Rattle.wasm2js_laws_typed.proofs.SoundCode.{all_simple, moved_if_sound, selected_sound, narrow_binary_sound, narrow_unary_sound, narrow_relation_sound, wide_binary_sound, wide_unary_sound, wide_relation_sound, narrow_extended_sound, wide_extended_sound}
+use Rattle.wasm2js_laws_typed.proofs.SoundCode.{all_simple, moved_if_sound, selected_sound, narrow_binary_sound, narrow_unary_sound, narrow_relation_sound, wide_unary_sound, wide_relation_sound, narrow_extended_sound, wide_extended_sound}
+use Rattle.wasm2js_laws_typed.proofs.SoundTurned.{wide_binary_at_sound}
 use Rattle.wasm2js_laws_typed.proofs.SoundAccess.{loads_access, stores_access, loads_eight, stores_eight, load_sound, store_sound}
 
 -- ---- what a shape takes and gives
@@ -60,7 +62,7 @@ is_self n = grind (arith, nat_tests)
 named_self : (x : ℕ) → IsNamed x (x ∷ [])
 named_self x = rw (is_self x) refl
 
-module _ (s : Scope) (c : Context) (is_called : Called) (bytes cells : ℕ) (given : Provides s c is_called bytes cells) (b : ℕ) (below : List ValType) where
+module _ (s : Scope) (c : Context) (is_called : Called) (bytes cells : ℕ) (given : Provides s c is_called bytes cells) (b : ℕ) (below : List ValType) (ds : List Delayed) where
   next_words : (t : ValType) → HasRoom s c (here b (t ∷ below) []) → AreInts s (names_of t (operand_pair (under 0 b below)))
   next_words t h = subst (λ d. AreInts s (names_of t (operand_pair d))) (sym (under_none b below)) (first_words s c b t below [] h)
 
@@ -68,7 +70,7 @@ module _ (s : Scope) (c : Context) (is_called : Called) (bytes cells : ℕ) (giv
   next_low t h = subst (λ d. IsInt s (low d)) (sym (under_none b below)) (first_low s c b t below [] h)
 
   abbrev Goal : Plain → List ValType → List ValType → Type 0
-  Goal p takes gives = HasRoom s c (here b (takes ++ below) (local_named p)) → HasRoom s c (here b (gives ++ below) []) → AreSoundActions s (actions bytes c p b (takes ++ below))
+  Goal p takes gives = HasRoom s c (here b (takes ++ below) (local_named p)) → HasRoom s c (here b (gives ++ below) []) → AreSoundActions s (actions_amid bytes c ds p b (takes ++ below))
 
   module _ (form : Shape) (takes gives : List ValType) (acts : Acts form takes gives) where
     -- ---- helpers
@@ -152,7 +154,7 @@ module _ (s : Scope) (c : Context) (is_called : Called) (bytes cells : ℕ) (giv
 
     -- ---- select
 
-    select_words : (t : ValType) → HasRoom s c (here b (I32 ∷ t ∷ t ∷ below) []) → AreSoundActions s (actions bytes c select b (I32 ∷ t ∷ t ∷ below))
+    select_words : (t : ValType) → HasRoom s c (here b (I32 ∷ t ∷ t ∷ below) []) → AreSoundActions s (actions_amid bytes c ds select b (I32 ∷ t ∷ t ∷ below))
     select_words I32 h = all_simple s (selected (Some I32) (operand_pair (b + length below)) (operand_pair (b + length below + 1)) (low (b + length below + 2)))
         (selected_sound s I32 (operand_pair (b + length below)) (operand_pair (b + length below + 1)) (low (b + length below + 2)) (top_of_three s c b I32 I32 I32 below [] h)
         (third_low s c b I32 I32 I32 below [] h, tt) (middle_of_three s c b I32 I32 I32 below [] h, tt))
@@ -207,8 +209,9 @@ module _ (s : Scope) (c : Context) (is_called : Called) (bytes cells : ℕ) (giv
         (narrow_binary_sound s given.fixed op (words_help (bin32 op) asked) (low (b + length below)) (low (b + length below + 1)) (second_low s c b I32 I32 below [] before) (top_of_two s c b I32 I32 below [] before)))
     plain_sound (bin64 op) formed asked is = of_fixed (Goal (bin64 op)) (I64 ∷ I64 ∷ []) (I64 ∷ []) takes gives form is acts
         (λ before after. let p = second_pair [] before in
-        all_simple s (wide_binary op (operand_pair (b + length below)) (operand_pair (b + length below + 1)) (operand_pair (b + length below)))
-        (wide_binary_sound s given.fixed op (words_help (bin64 op) asked) (operand_pair (b + length below)) (operand_pair (b + length below + 1)) (operand_pair (b + length below)) p (top_pair [] before) p))
+        let count = number_at ds (low (b + length below + 1)) in
+        all_simple s (wide_binary_at count op (operand_pair (b + length below)) (operand_pair (b + length below + 1)) (operand_pair (b + length below)))
+        (wide_binary_at_sound s given.fixed count op (words_help (bin64 op) asked) (operand_pair (b + length below)) (operand_pair (b + length below + 1)) (operand_pair (b + length below)) p (top_pair [] before) p))
     plain_sound wrap formed asked is = λ before after. tt
     plain_sound extend_s formed asked is = of_fixed (Goal extend_s) (I32 ∷ []) (I64 ∷ []) takes gives form is acts (λ before after. let p = first_pair [] after in ((p.1, (p.0, refl)), tt))
     plain_sound extend_u formed asked is = of_fixed (Goal extend_u) (I32 ∷ []) (I64 ∷ []) takes gives form is acts (λ before after. ((first_high s c b below [] after, refl), tt))
@@ -216,4 +219,4 @@ module _ (s : Scope) (c : Context) (is_called : Called) (bytes cells : ℕ) (giv
         (λ before after. all_simple s (sign_extended wide bits (operand_pair (b + length below))) (extended_is_sound wide bits after))
 
 pub plain_is_sound : PlainIsSound
-plain_is_sound s c is_called bytes cells given p formed asked form takes gives below is acts b before after = plain_sound s c is_called bytes cells given b below form takes gives acts p formed asked is before after
+plain_is_sound s c is_called bytes cells given ds p formed asked form takes gives below is acts b before after = plain_sound s c is_called bytes cells given b below ds form takes gives acts p formed asked is before after

@@ -7,7 +7,8 @@ use Rattle.wasm_lang_valid.specs.Typing.{Context, Shape, Acts, plain_shape}
 use Rattle.asm_lang_valid.specs.Typing.{Scope}
 use Rattle.wasm2js_laws_terms.specs.Sound.{AreSoundActions, actions_depth}
 use Rattle.wasm2js_laws_scopes.specs.Provided.{Called, AsksAmong, Provides, HasRoom}
-use Rattle.wasm2js_translation.specs.Actions.{actions}
+use Rattle.wasm2js_translation.specs.Actions.{actions_amid}
+use Rattle.wasm2js_translation.specs.Delays.{Delayed}
 use Rattle.wasm2js_translation.specs.Rooms.{here, local_named}
 
 -- the bytes of loads and stores, and the bits that are extended with their sign
@@ -37,14 +38,14 @@ IsFormed (sign_extend wide bits) = is_extended wide bits ≡ true
 IsFormed p = Unit {0}
 
 -- The actions of a plain instruction may stand in a function that has the helpers that it asks for, and room for the operands before and
--- after it, and for the local that it names; operands are those that its type takes, above others.
+-- after it, and for the local that it names; operands are those that its type takes, above others. This is so whatever words wait.
 abbrev pub PlainIsSound : Type 0
 PlainIsSound =
     (s : Scope) (c : Context) (is_called : Called) (bytes cells : ℕ) → Provides s c is_called bytes cells
-    → (p : Plain) → IsFormed p → AsksAmong is_called.helpers p → (form : Shape) (takes gives below : List ValType) → plain_shape c p ≡ Ok form → Acts form takes gives
+    → (ds : List Delayed) (p : Plain) → IsFormed p → AsksAmong is_called.helpers p → (form : Shape) (takes gives below : List ValType) → plain_shape c p ≡ Ok form → Acts form takes gives
     → (b : ℕ) → HasRoom s c (here b (takes ++ below) (local_named p)) → HasRoom s c (here b (gives ++ below) [])
-    → AreSoundActions s (actions bytes c p b (takes ++ below))
+    → AreSoundActions s (actions_amid bytes c ds p b (takes ++ below))
 
 -- .. and are no deeper than this
 abbrev pub PlainIsShallow : Type 0
-PlainIsShallow = (c : Context) (bytes : ℕ) (p : Plain) (b : ℕ) (ts : List ValType) → actions_depth (actions bytes c p b ts) ≤ 8
+PlainIsShallow = (c : Context) (bytes : ℕ) (ds : List Delayed) (p : Plain) (b : ℕ) (ts : List ValType) → actions_depth (actions_amid bytes c ds p b ts) ≤ 8

@@ -11,7 +11,7 @@ ghost use Rattle.wasm2js_terms.specs.Waits.{atom_view, late_term};
 ghost use Rattle.wasm2js_terms.specs.Facts.{fact_view, knowns_view, number_fact, truth_fact, are_disjoint, conjunction_fact, shifted_fact, bits_fact, added_fact, product_fact, choice_fact};
 
 use crate::terms::{BitOp, Term};
-use crate::waits::{Atom, Delayed, at_hand, atom_of};
+use crate::waits::{Atom, Delayed, at_hand, atom_of, is_operand};
 use std::alloc::AllocError;
 use wasm2js_nodes::{Name, same_name};
 
@@ -124,8 +124,8 @@ pub fn is_within(bound: Option<u64>, most: u64) -> bool
 
 // ---- terms
 
-// The word of a literal.
-fn word_of_literal(value: i64) -> u32
+/// The word of a literal.
+pub fn word_of_literal(value: i64) -> u32
     ensures { result ≡ word_of 32 value }
 {
     value.rem_euclid(1 << 32) as u32
@@ -397,6 +397,13 @@ fn forget(known: &mut Vec<Known>, name: Name)
     ensures { knowns_view known.new.items ≡ plain.unchanged (names.same_name (name_view name)) (knowns_view known.old.items) }
 {
     known.retain(|entry| !same_name(name, entry.name));
+}
+
+/// What is known where a block begins: of variables that are no operands'.
+pub fn keep_into_block(known: &mut Vec<Known>)
+    ensures { knowns_view known.new.items ≡ plain.into_block (knowns_view known.old.items) }
+{
+    known.retain(|entry| !is_operand(entry.name));
 }
 
 // Whether something is known.

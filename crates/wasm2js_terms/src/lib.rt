@@ -5,6 +5,9 @@ mod facts;
 mod terms;
 mod waits;
 
-pub use facts::{Fact, Known, atom_fact, fact_of, is_within, lesser, note, term_fact};
+pub use facts::{
+    Fact, Known, atom_fact, fact_of, is_within, keep_into_block, lesser, note, term_fact,
+    word_of_literal,
+};
 pub use terms::{BitOp, Relation, Term};
-pub use waits::{Atom, Delayed, at_hand, atom_of, wait, waiting_word};
+pub use waits::{Atom, Delayed, at_hand, atom_of, number_at, wait, waiting_word};

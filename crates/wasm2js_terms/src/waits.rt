@@ -28,8 +28,8 @@ pub struct Delayed {
 /// So many wait at most.
 const MOST_WAITING: usize = 16;
 
-// Whether a variable is of an operand.
-fn is_operand(name: Name) -> bool
+/// Whether a variable is of an operand.
+pub(crate) fn is_operand(name: Name) -> bool
     ensures { result ≡ delays.is_operand (name_view name) }
 {
     match name {
@@ -48,6 +48,16 @@ pub fn at_hand(waits: &[Delayed], name: Name) -> Atom
         }
     }
     Atom::Read(name)
+}
+
+/// The number that waits in place of a variable.
+pub fn number_at(waits: &[Delayed], name: Name) -> Option<i64>
+    ensures { result ≡ delays.number_at (delays_view waits.now) (name_view name) }
+{
+    match at_hand(waits, name) {
+        Atom::Number(value) => Some(value),
+        Atom::Read(_) => None,
+    }
 }
 
 // A word that may wait.

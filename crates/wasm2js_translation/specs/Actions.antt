@@ -20,7 +20,8 @@ use Rattle.wasm2js_translation.specs.Names as names
 use Rattle.wasm2js_translation.specs.Names.{Name, fixed, spare_high}
 use Rattle.wasm2js_translation.specs.Words.{conjunction, disjunction, exclusion, shift_left, shift_right_signed, shift_right, equal, unequal, less, at_most, greater, at_least, Term, read, number, both, flip, product, zeros, compare, choose, byte, whole, Simple, put, ask, tell, guard, stop, write_byte, write_whole, Action, simply, either}
 use Rattle.wasm2js_translation.specs.Pairs.{Pair, local_pair, operand_pair, global_pair, literal, plus, minus, sign_of, funnel_left, funnel_right, extended, simples, moved}
-use Rattle.wasm2js_translation.specs.Wide.{wide_binary, wide_unary, wide_extend, wide_compare, is_wide_zero}
+use Rattle.wasm2js_translation.specs.Wide.{wide_binary, wide_binary_at, wide_unary, wide_extend, wide_compare, is_wide_zero}
+use Rattle.wasm2js_translation.specs.Delays.{Delayed, number_at}
 
 -- how many operands of the function lie below the k topmost ones of a block's, where so many lie below the block's
 abbrev pub under : (k b : ℕ) → List ValType → ℕ
@@ -186,3 +187,9 @@ module _ (bytes : ℕ) (c : Context) where
   actions extend_s b ts = let a = operand_pair (under 1 b ts) in simples (put a.high (sign_of (read a.low)) ∷ [])
   actions extend_u b ts = simples (put (operand_pair (under 1 b ts)).high (literal 0) ∷ [])
   actions (sign_extend wide bits) b ts = simples (sign_extended wide bits (operand_pair (under 1 b ts)))
+
+  -- where these words wait: a shift or a rotation by a number that waits calls no helper
+  abbrev pub actions_amid : List Delayed → Plain → (b : ℕ) → List ValType → List Action
+  actions_amid ds (bin64 op) b ts =
+      let d = under 2 b ts in simples (wide_binary_at (number_at ds (low (d + 1))) op (operand_pair d) (operand_pair (d + 1)) (operand_pair d))
+  actions_amid ds p b ts = actions p b ts

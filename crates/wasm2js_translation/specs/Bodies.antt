@@ -16,9 +16,9 @@ use Rattle.asm_lang.specs.Modules.{Expr, var, table_call, binary, Exprs, no_expr
 use Rattle.wasm2js_translation.specs.Names.{Name, numbered, function, table, label, fixed, result_high, spelled}
 use Rattle.wasm2js_translation.specs.Words.{read, signed_number, natural, put_in, guard, simple_statement, simple_statements, statements, trap_call, stmts_in, part_of}
 use Rattle.wasm2js_translation.specs.Pairs.{operand_pair, moved}
-use Rattle.wasm2js_translation.specs.Actions.{under, low, actions}
+use Rattle.wasm2js_translation.specs.Actions.{under, low, actions_amid}
 use Rattle.wasm2js_translation.specs.Delays.{Delayed, written, Late, late, standing}
-use Rattle.wasm2js_translation.specs.Known.{Known, Lean, lean}
+use Rattle.wasm2js_translation.specs.Known.{Known, Lean, lean, into_block}
 use Rattle.wasm2js_translation.specs.Helpers.{block_of}
 
 -- ---- the static stack
@@ -182,7 +182,7 @@ chosen test first (s ∷ ss) = if_else test (part_of first) (part_of (s ∷ ss))
 -- the memory has so many bytes, and each table so many cells
 module _ (bytes cells : ℕ) (c : Context) where
   abbrev pub late_code : Plain → (b : ℕ) → List ValType → List Delayed → Late
-  late_code p b ts ds = late ds (actions bytes c p b ts)
+  late_code p b ts ds = late ds (actions_amid bytes c ds p b ts)
 
   -- the words that wait after a plain instruction
   abbrev pub left_waiting : Plain → (b : ℕ) → List ValType → List Delayed → List Delayed
@@ -193,7 +193,8 @@ module _ (bytes cells : ℕ) (c : Context) where
   lean_code p b ts ds ks = lean ks (late_code p b ts ds).now
 
   -- under these aims, the innermost first; so many operands lie below the block's, those have these types, and these of their words wait:
-  -- all are written before the next instruction that isn't plain, and at the end; this is known of variables, until such an instruction
+  -- all are written before the next instruction that isn't plain, and at the end; this is known of variables, until such an instruction, and
+  -- within a block, or the first arm of an if, that is this instruction
   abbrev pub stmts_of : Trees → List Aim → (b : ℕ) → List ValType → List Delayed → List Known → List Stmt
   stmts_of ε ls b ts ds ks = simple_statements (written ds)
   stmts_of (plain p ▹ is) ls b ts ds ks =
@@ -207,7 +208,7 @@ module _ (bytes cells : ℕ) (c : Context) where
   stmts_of (block r body ▹ is) ls b ts ds ks =
       let base = under 0 b ts in
       simple_statements (written ds)
-      ++ under_label (labels_round ls) (block_of (stmts_of body (past base r ∷ ls) base [] [] [])) ∷ stmts_of is ls b (listed r ++ ts) [] []
+      ++ under_label (labels_round ls) (block_of (stmts_of body (past base r ∷ ls) base [] [] (into_block ks))) ∷ stmts_of is ls b (listed r ++ ts) [] []
   stmts_of (loop r body ▹ is) ls b ts ds ks =
       let base = under 0 b ts in
       simple_statements (written ds)
@@ -216,7 +217,7 @@ module _ (bytes cells : ℕ) (c : Context) where
       let base = under 1 b ts in
       simple_statements (written ds)
       ++ under_label (labels_round ls)
-      (chosen (signed_word base) (stmts_of first (past base r ∷ ls) base [] [] []) (stmts_of second (past base r ∷ ls) base [] [] []))
+      (chosen (signed_word base) (stmts_of first (past base r ∷ ls) base [] [] (into_block ks)) (stmts_of second (past base r ∷ ls) base [] [] []))
       ∷ stmts_of is ls b (listed r ++ drop 1 ts) [] []
   stmts_of (call f ▹ is) ls b ts ds ks = simple_statements (written ds) ++ call_stmts f b ts (type_of c f) ++ stmts_of is ls b (types_after_call (type_of c f) ts) [] []
   stmts_of (call_indirect t ▹ is) ls b ts ds ks =

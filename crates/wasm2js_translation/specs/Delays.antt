@@ -1,8 +1,8 @@
 -- Words that wait: what an instruction puts into a variable of an operand is not written where it is a number or another variable. It stands for
 -- the operand until that is put anew, and is written before that other variable changes.
-use Rattle.std.specs.Prelude.{ℕ, Bool, true, false, not, ◌&&◌, ◌||◌, nat_lt, List, [], ◌∷◌, ◌++◌, length, Option, Some, None, slice_get, ◌==◌, ◌-◌, ◌+◌, suc, if◌then◌else◌}
+use Rattle.std.specs.Prelude.{ℕ, Bool, true, false, not, ◌&&◌, ◌||◌, nat_lt, List, [], ◌∷◌, ◌++◌, length, Option, Some, None, slice_get, ◌-◌, ◌+◌, suc, if◌then◌else◌, ℤ}
 use Rattle.wasm_lang.specs.declared.types.ValType.{ValType}
-use Rattle.wasm_lang.specs.declared.types.ValType.TheVariants.{I32, I64}
+use Rattle.wasm_lang.specs.declared.types.ValType.TheVariants.{I64}
 use Rattle.wasm2js_translation.specs.Names.{Name, numbered, operand_low, operand_high, fixed, spare_high, same_name}
 use Rattle.wasm2js_translation.specs.Words.{Term, read, number, both, flip, sum, product, zeros, compare, choose, byte, whole, Summands, no_more, further, Simple, put, ask, tell, guard, stop, write_byte, write_whole, Action, simply, either}
 use Rattle.wasm2js_translation.specs.Pairs.{simples}
@@ -56,6 +56,14 @@ word_or (Some t) n = t
 
 abbrev pub at_hand : List Delayed → Name → Term
 at_hand ds n = word_or (waiting ds n) n
+
+abbrev pub number_in : Term → Option ℤ
+number_in (number z) = Some z
+number_in t = None
+
+-- the number that waits for a variable
+abbrev pub number_at : List Delayed → Name → Option ℤ
+number_at ds n = number_in (at_hand ds n)
 
 module _ (ds : List Delayed) where
   abbrev mutual

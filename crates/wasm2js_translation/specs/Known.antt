@@ -5,7 +5,7 @@ use Rattle.sem_words.specs.Words.{word_of}
 use Rattle.wasm2js_translation.specs.Names.{Name, same_name}
 use Rattle.wasm2js_translation.specs.Words.{conjunction, disjunction, exclusion, shift_left, Term, read, number, both, sum, product, compare, choose, Summands, no_more, further, Simple, put, guard, Action, simply, either}
 use Rattle.wasm2js_translation.specs.Pairs.{simples}
-use Rattle.wasm2js_translation.specs.Delays.{changes, one_changes}
+use Rattle.wasm2js_translation.specs.Delays.{is_operand, changes, one_changes}
 
 -- the word is at most this, if something is known of that; and it is known to be a multiple of four
 pub record Fact : Type 0 where
@@ -113,6 +113,10 @@ module _ (ks : List Known) where
 abbrev pub unchanged : (Name → Bool) → List Known → List Known
 unchanged changed [] = []
 unchanged changed (k ∷ ks) = if changed k.name then unchanged changed ks else k ∷ unchanged changed ks
+
+-- where a block begins: what waits is written before it, so this holds of variables that are no operands'
+abbrev pub into_block : List Known → List Known
+into_block ks = unchanged is_operand ks
 
 abbrev pub says_something : Fact → Bool
 says_something f = is_some f.most || f.by_four

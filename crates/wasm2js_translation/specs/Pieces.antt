@@ -1,5 +1,6 @@
 -- Small modules of WebAssembly, with scripts for them.
 use Rattle.std.specs.Prelude.{ℕ, false, true, List, [], ◌∷◌, ◌++◌, replicate, Some, None, codes}
+use Rattle.sem_words.specs.declared.word.Bin.{Bin}
 use Rattle.sem_words.specs.declared.word.Bin.TheVariants as bins
 use Rattle.wasm_lang.specs.declared.types.ValType.{ValType}
 use Rattle.wasm_lang.specs.declared.types.ValType.TheVariants.{I32, I64}
@@ -7,7 +8,7 @@ use Rattle.wasm_lang.specs.declared.types.Limits.{Limits}
 use Rattle.wasm_lang.specs.declared.types.ImportKind.TheVariants as imports
 use Rattle.wasm_lang.specs.declared.types.ExportKind.TheVariants as exports
 use Rattle.wasm_lang.specs.declared.types.MemOp.{MemOp}
-use Rattle.wasm_lang.specs.Instructions.{Instruction, unreachable, block, end_mark, br_table, call_indirect, plain, const32, const64, local_get, local_set, drop_operand, bin32, bin64, extend_s, load, store, memory_copy, memory_fill}
+use Rattle.wasm_lang.specs.Instructions.{Instruction, unreachable, block, loop, if_block, else_mark, end_mark, br_table, call_indirect, plain, const32, const64, local_get, local_set, drop_operand, bin32, bin64, extend_s, load, store, memory_copy, memory_fill}
 use Rattle.wasm_lang.specs.Modules.{FunctionType, Imported, GlobalEntry, Exported, ElementSegment, DataSegment, FunctionBody, WasmModule}
 
 -- ---- parts of modules
@@ -94,6 +95,13 @@ summing =
     (get 0 ∷ plain (load word_of_32 0 8) ∷ get 0 ∷ plain (load word_of_32 0 4) ∷ plain (bin32 bins.Add)
     ∷ get 1 ∷ int 4095 ∷ plain (bin32 bins.And) ∷ int 2 ∷ plain (bin32 bins.Shl) ∷ plain (load word_of_32 0 16) ∷ plain (bin32 bins.Add) ∷ [])
 
+-- the i32 at the multiple of four that is next below the argument, loaded where this opens a block
+abbrev pub rounding_down : List Instruction → WasmModule
+rounding_down opens =
+    with_page (type (I32 ∷ []) (I32 ∷ []))
+    (get 0 ∷ int 4294967292 ∷ plain (bin32 bins.And) ∷ set 0 ∷ opens
+    ++ get 0 ∷ plain (load word_of_32 0 0) ∷ set 0 ∷ end_mark ∷ get 0 ∷ [])
+
 -- an i64 at the argument
 abbrev pub storing : WasmModule
 storing = with_page (type (I32 ∷ I64 ∷ []) []) (get 0 ∷ get 1 ∷ plain (store word_of_64 0 0) ∷ [])
@@ -122,6 +130,10 @@ asking_all = with_page (type [] [])
 
 abbrev pub adding : WasmModule
 adding = alone (type (I64 ∷ I64 ∷ []) (I64 ∷ [])) [] (get 0 ∷ get 1 ∷ plain (bin64 bins.Add) ∷ [])
+
+-- the argument shifted or rotated by a constant
+abbrev pub turning_by : Bin → ℕ → WasmModule
+turning_by op n = alone (type (I64 ∷ []) (I64 ∷ [])) [] (get 0 ∷ long n ∷ plain (bin64 op) ∷ [])
 
 -- three functions, a table of three entries, and calls of an entry by two types of one form and by a further type
 abbrev pub tabled : WasmModule

@@ -1,8 +1,10 @@
 //! Worked code and sessions. Each function does nothing, and its contract is what the check computes of small modules.
-ghost use Rattle.std.specs.Prelude.{◌≡◌, ◌∷◌, [], pos, negsuc, Some, codes};
+ghost use Rattle.std.specs.Prelude.{◌≡◌, ◌∷◌, [], pos, negsuc, None, Some, codes};
+ghost use Rattle.sem_words.specs.declared.word.Bin.TheVariants.{Shl, ShrS, ShrU, Rotl, Rotr};
 ghost use Rattle.sem_words.specs.declared.word.Word.TheVariants.{W32};
 ghost use Rattle.session_lang.specs.Observation.{done, stopped, running, ended, call_returned, call_gave, import_called};
-ghost use Rattle.wasm2js_translation.specs.Pieces.{loading, summing, storing, choosing, adding, tabled, listing, asking_all};
+ghost use Rattle.wasm_lang.specs.Instructions.{block, loop, if_block, else_mark};
+ghost use Rattle.wasm2js_translation.specs.Pieces.{loading, get, summing, rounding_down, storing, choosing, adding, turning_by, tabled, listing, asking_all};
 ghost use Rattle.wasm2js_translation.specs.Programs.{adding_shape, adding_script, no_shape, starting, starting_script, asking, asking_shape, asking_script, copying, copying_script, narrow, narrow_script, dividing, by_zero_script, overflow_script, wide, wide_shape, wide_script};
 ghost use Rattle.wasm2js_translation.specs.Sessions.{variables, variables_shape, variables_script, turning, turning_script, branching, branching_script, trapping, trapping_script, calling, calling_shapes, calling_script, entry_script, entry_shape, remembering, memory_shape, memory_script};
 ghost use Rattle.wasm2js_translation.specs.Worked.{text_of, helper_names, tables_of, variables_of, exports_of, target_seen, events_at, first_bytes, IsAlike};
@@ -19,6 +21,15 @@ pub fn needless_tests()
     ensures { text_of summing (codes "f0") ≡ codes "function f0(x0,x1){x0=x0|0;x1=x1|0;var s0=0;var s1=0;var s2=0;if(x0>>>0>65524)$trap(2);if(x0+8&3)s0=$load32(x0+8|0)|0;else s0=$w[x0+8>>2]|0;if(x0+4&3)s1=$load32(x0+4|0)|0;else s1=$w[x0+4>>2]|0;s0=s0+s1|0;s1=x1&4095;s1=s1<<2;s1=$w[s1+16>>2]|0;s0=s0+s1|0;return s0|0;}" }
 {}
 
+/// What is known of a local goes into a block and into the first arm of an `if`, where it is known that
+/// the place is a multiple of four; not into the second arm, nor into a loop.
+pub fn known_inside()
+    ensures in_a_block { text_of (rounding_down (block None ∷ [])) (codes "f0") ≡ codes "function f0(x0){x0=x0|0;var s0=0;var s1=0;s0=x0&-4;x0=s0;L0:{if(x0>>>0>65532)$trap(2);s0=$w[x0>>2]|0;x0=s0;}s0=x0;return s0|0;}" }
+    ensures in_an_arm { text_of (rounding_down (get 0 ∷ if_block None ∷ [])) (codes "f0") ≡ codes "function f0(x0){x0=x0|0;var s0=0;var s1=0;s0=x0&-4;x0=s0;s0=x0;L0:if(s0|0){if(x0>>>0>65532)$trap(2);s0=$w[x0>>2]|0;x0=s0;}s0=x0;return s0|0;}" }
+    ensures in_the_other_arm { text_of (rounding_down (get 0 ∷ if_block None ∷ else_mark ∷ [])) (codes "f0") ≡ codes "function f0(x0){x0=x0|0;var s0=0;var s1=0;s0=x0&-4;x0=s0;s0=x0;L0:if(s0|0){}else{if(x0>>>0>65532)$trap(2);if(x0&3)s0=$load32(x0)|0;else s0=$w[x0>>2]|0;x0=s0;}s0=x0;return s0|0;}" }
+    ensures in_a_loop { text_of (rounding_down (loop None ∷ [])) (codes "f0") ≡ codes "function f0(x0){x0=x0|0;var s0=0;var s1=0;s0=x0&-4;x0=s0;L0:while(1){if(x0>>>0>65532)$trap(2);if(x0&3)s0=$load32(x0)|0;else s0=$w[x0>>2]|0;x0=s0;break;}s0=x0;return s0|0;}" }
+{}
+
 /// Both words of a store of 64 bits are written after one test of all eight bytes.
 pub fn an_unaligned_store()
     ensures { text_of storing (codes "f0") ≡ codes "function f0(x0,x1,X1){x0=x0|0;x1=x1|0;X1=X1|0;var s0=0;var S0=0;var s1=0;var S1=0;if(x0>>>0>65528)$trap(2);if(x0&3)$store64(x0,x1,X1);else{$w[x0>>2]=x1;$w[x0+4>>2]=X1;}}" }
@@ -33,6 +44,19 @@ pub fn a_branch_by_an_index()
 /// A sum of words of 64 bits with its carry; the high word of the result is left in `$h`.
 pub fn a_wide_sum()
     ensures { text_of adding (codes "f0") ≡ codes "function f0(x0,X0,x1,X1){x0=x0|0;X0=X0|0;x1=x1|0;X1=X1|0;var s0=0;var S0=0;var s1=0;var S1=0;s0=x0+x1|0;S0=X0+X1+(s0>>>0<x1>>>0)|0;$h=S0;return s0|0;}" }
+{}
+
+/// Shifts and rotations by a constant, which counts modulo 64: the count's low variable holds the low
+/// word of a rotation where that cannot wait.
+pub fn turns_by_a_constant()
+    ensures left { text_of (turning_by Shl 5) (codes "f0") ≡ codes "function f0(x0,X0){x0=x0|0;X0=X0|0;var s0=0;var S0=0;var s1=0;var S1=0;S0=X0<<5|x0>>>27;s0=x0<<5;$h=S0;return s0|0;}" }
+    ensures far_left { text_of (turning_by Shl 40) (codes "f0") ≡ codes "function f0(x0,X0){x0=x0|0;X0=X0|0;var s0=0;var S0=0;var s1=0;var S1=0;S0=x0<<8;s0=0;$h=S0;return s0|0;}" }
+    ensures signed { text_of (turning_by ShrS 69) (codes "f0") ≡ codes "function f0(x0,X0){x0=x0|0;X0=X0|0;var s0=0;var S0=0;var s1=0;var S1=0;s0=X0<<27|x0>>>5;S0=X0>>5;$h=S0;return s0|0;}" }
+    ensures far_signed { text_of (turning_by ShrS 32) (codes "f0") ≡ codes "function f0(x0,X0){x0=x0|0;X0=X0|0;var s0=0;var S0=0;var s1=0;var S1=0;S0=X0>>31;s0=X0;$h=S0;return s0|0;}" }
+    ensures far_right { text_of (turning_by ShrU 63) (codes "f0") ≡ codes "function f0(x0,X0){x0=x0|0;X0=X0|0;var s0=0;var S0=0;var s1=0;var S1=0;s0=X0>>>31;S0=0;$h=S0;return s0|0;}" }
+    ensures round_left { text_of (turning_by Rotl 5) (codes "f0") ≡ codes "function f0(x0,X0){x0=x0|0;X0=X0|0;var s0=0;var S0=0;var s1=0;var S1=0;s0=x0<<5|X0>>>27;S0=X0<<5|x0>>>27;$h=S0;return s0|0;}" }
+    ensures round_right { text_of (turning_by Rotr 5) (codes "f0") ≡ codes "function f0(x0,X0){x0=x0|0;X0=X0|0;var s0=0;var S0=0;var s1=0;var S1=0;s0=X0<<27|x0>>>5;S0=x0<<27|X0>>>5;$h=S0;return s0|0;}" }
+    ensures by_none { text_of (turning_by Rotl 64) (codes "f0") ≡ codes "function f0(x0,X0){x0=x0|0;X0=X0|0;var s0=0;var S0=0;var s1=0;var S1=0;s0=x0;S0=X0;$h=S0;return s0|0;}" }
 {}
 
 /// Calls of an entry: types of one form share a table, an entry of another type and one that isn't there

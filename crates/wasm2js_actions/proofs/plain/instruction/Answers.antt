@@ -12,5 +12,5 @@ pub returns : goal.returns
 returns c = λ context suits.
     IfOk-weaker c.plain_instruction.result _ _ (λ _ h.
     h ∙ ap (λ (acts : List Action). run (state_of c.args.straight.now) acts)
-    (sym (same_instruction c.args.scope.now.bytes context (least_context c.args.scope.now) (instr_of c.args.instr.now) c.args.below (reverse c.args.stack.now) suits.locals suits.globals)))
+    (sym (same_instruction c.args.scope.now.bytes context (least_context c.args.scope.now) (state_of c.args.straight.now).waits (instr_of c.args.instr.now) c.args.below (reverse c.args.stack.now) suits.locals suits.globals)))
     c.plain_instruction.ensures

@@ -52,8 +52,8 @@ do_block-returns-clause-value t c =
     block_done c.args.walk.now.sizes.bytes c.args.walk.now.sizes.cells (context_in c.args.walk.now.scope.now) c.args.body.now c.args.at (aims_view c.args.aims.now.items) c.args.base c.args.result_type
     c.place_after-first.result c.past_end.result (vec_len c.args.types.now) c.in_ok-put_inside.field-0 (aims_view c.put_inside.new.aims.items) (aim_view c.past-aim.result)
     c.args.types.now.items c.put_inside.new.types.items c.close_block.new.types.items
-    (held_of c.args.text.now) (held_of c.write_all.new.self) (statements_of c.args.text.now.block) (statements_of c.write_all.new.self.block) (statements_of c.close_block.new.block) (statements_of c.put_inside.new.text.block) (late_state c.new-inner.result)
-    c.requires.inside c.in_ok-write_all.ensures.statements c.in_ok-write_all.ensures.held c.requires.here (omega (arith, count)) count c.place_after-first.ensures c.past_end.ensures c.past-aim.ensures c.new-inner.ensures
+    (held_of c.args.text.now) (held_of c.begin_block.new.self) (statements_of c.args.text.now.block) (statements_of c.begin_block.new.self.block) (statements_of c.close_block.new.block) (statements_of c.put_inside.new.text.block) (late_state c.in_ok-inner.inner)
+    c.requires.inside c.in_ok-inner.ensures.statements c.in_ok-inner.ensures.held c.requires.here (omega (arith, count)) count c.place_after-first.ensures c.past_end.ensures c.past-aim.ensures c.in_ok-inner.ensures.inside
     c.in_ok-put_inside.ensures.value c.in_ok-put_inside.ensures.types (ap aims_view c.in_ok-put_inside.ensures.aims) c.in_ok-close_block.ensures.types c.in_ok-close_block.ensures.statements
 
 pub do_loop-returns-clause-value : goal.do_loop-returns-clause-value
@@ -75,9 +75,9 @@ do_if-returns-clause-value t c =
     c.place_after-first.result c.other_arm.result c.past_end.result (vec_len c.remove.new.types) (vec_len c.put_inside.new.types) (vec_len c.put_inside-2.new.types)
     c.in_ok-put_inside.field-0 c.in_ok-put_inside-2.field-0 (aims_view c.put_inside.new.aims.items) (aims_view c.put_inside-2.new.aims.items) (aim_view c.past-aim.result)
     c.args.types.now.items c.remove.new.types.items c.put_inside.new.types.items c.put_inside-2.new.types.items c.close_if.new.types.items
-    (held_of c.args.text.now) (held_of c.write_all.new.self) (statements_of c.args.text.now.block) (statements_of c.write_all.new.self.block) (statements_of c.close_if.new.block) (statements_of c.put_inside.new.text.block) (statements_of c.put_inside-2.new.text.block) (late_state c.new-yes.result) (late_state c.new-no.result)
-    c.requires.inside c.in_ok-write_all.ensures.statements c.in_ok-write_all.ensures.held c.requires.here c.remove.ensures.kept.there c.remove.ensures.value n m d
-    c.place_after-first.ensures c.other_arm.ensures c.past_end.ensures c.past-aim.ensures c.new-yes.ensures c.new-no.ensures
+    (held_of c.args.text.now) (held_of c.begin_block.new.self) (statements_of c.args.text.now.block) (statements_of c.begin_block.new.self.block) (statements_of c.close_if.new.block) (statements_of c.put_inside.new.text.block) (statements_of c.put_inside-2.new.text.block) (late_state c.in_ok-yes.yes) (late_state c.new-no.result)
+    c.requires.inside c.in_ok-yes.ensures.statements c.in_ok-yes.ensures.held c.requires.here c.remove.ensures.kept.there c.remove.ensures.value n m d
+    c.place_after-first.ensures c.other_arm.ensures c.past_end.ensures c.past-aim.ensures c.in_ok-yes.ensures.inside c.new-no.ensures
     c.in_ok-put_inside.ensures.value c.in_ok-put_inside.ensures.types (ap aims_view c.in_ok-put_inside.ensures.aims)
     c.in_ok-put_inside-2.ensures.value c.in_ok-put_inside-2.ensures.types (ap aims_view c.in_ok-put_inside-2.ensures.aims)
     c.in_ok-close_if.ensures.types c.in_ok-close_if.ensures.statements
