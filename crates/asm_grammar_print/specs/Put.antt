@@ -1,7 +1,7 @@
--- Writing pieces one after the other. Only private contracts name these.
+-- Writing pieces one after the other, and a module in three parts: what stands before its functions, these, and what stands behind them.
 use Rattle.std.specs.Prelude.{ℕ, List, [], ◌∷◌, ◌++◌, Option, codes, false}
-use Rattle.asm_lang.specs.Modules.{Expr}
-use Rattle.asm_lang.specs.Printing.{Piece, word, line_feed, between, gap_between, option_text, module_name_text, names_text}
+use Rattle.asm_lang.specs.Modules.{Expr, Module}
+use Rattle.asm_lang.specs.Printing.{Piece, word, line_feed, between, gap_between, option_text, module_name_text, names_text, globals_text, tables_text, exports_text}
 use Rattle.asm_grammar_print.specs.declared.output.Output.{Output}
 
 -- the bytes so far, and the last token of them, or nothing after a line feed
@@ -36,3 +36,10 @@ directive_text = word (codes "{") ∷ word (codes "\"use asm\"") ∷ word (codes
 -- a module's first line
 abbrev pub heading_text : Option (List ℕ) → List (List ℕ) → List Piece
 heading_text name params = word (codes "function") ∷ (module_name_text name ++ (between (codes "(") (names_text false params) (codes ")") ++ directive_text))
+
+-- what stands before a module's functions, and behind them
+abbrev pub front_text : Module → List Piece
+front_text m = heading_text m.name m.params ++ globals_text m.globals
+
+abbrev pub back_text : Module → List Piece
+back_text m = tables_text m.tables ++ (exports_text m.exports ++ word (codes "}") ∷ line_feed ∷ [])

@@ -6,7 +6,7 @@ ghost use Rattle.asm_lang.specs.Heights.{IsWellFormed};
 ghost use Rattle.asm_lang.specs.Texts.{IsTextOf};
 ghost use Rattle.asm_lang.specs.Printing.{globals_text, functions_text, table_text, tables_text, export_pieces, exports_text, module_name_text, module_pieces, canonical_text};
 ghost use Rattle.asm_tree.specs.Views.{text_option, texts_view, global_view, function_view, table_view, export_view, exports_view, module_view};
-ghost use Rattle.asm_grammar_print.specs.Put.{written, put, directive_text, heading_text};
+ghost use Rattle.asm_grammar_print.specs.Put.{written, put, directive_text, heading_text, front_text, back_text};
 
 use crate::declarations::{put_function, put_names, put_variable};
 use crate::output::Output;
@@ -25,8 +25,9 @@ fn put_globals(out: &mut Output, globals: &[Global_]) -> Result<(), AllocError>
     Ok(())
 }
 
+/// Functions, each with the end of its line.
 #[tactic(auto, using(crate::proofs::Puts::puts, crate::proofs::ModulePuts::puts))]
-fn put_functions(out: &mut Output, functions: &[Function]) -> Result<(), AllocError>
+pub fn put_functions(out: &mut Output, functions: &[Function]) -> Result<(), AllocError>
     ensures { OnOk result (written out.new ≡ put (written out.old) (functions_text (map function_view functions.now))) }
 {
     for function in functions {
@@ -140,17 +141,32 @@ fn put_directive(out: &mut Output) -> Result<(), AllocError>
     out.line_feed()
 }
 
+/// What stands before a module's functions: its first line and its variables. The functions themselves aren't looked at.
 #[tactic(auto, using(crate::proofs::Puts::puts, crate::proofs::ModulePuts::puts))]
-fn put_module(out: &mut Output, module: &Module) -> Result<(), AllocError>
-    ensures { OnOk result (written out.new ≡ put (written out.old) (module_pieces (module_view «module».now))) }
+pub fn put_front(out: &mut Output, module: &Module) -> Result<(), AllocError>
+    ensures { OnOk result (written out.new ≡ put (written out.old) (front_text (module_view «module».now))) }
 {
     put_heading(out, module)?;
-    put_globals(out, module.globals.as_slice())?;
-    put_functions(out, module.functions.as_slice())?;
+    put_globals(out, module.globals.as_slice())
+}
+
+/// What stands behind a module's functions: its tables, its exports and its end.
+#[tactic(auto, using(crate::proofs::Puts::puts, crate::proofs::ModulePuts::puts))]
+pub fn put_back(out: &mut Output, module: &Module) -> Result<(), AllocError>
+    ensures { OnOk result (written out.new ≡ put (written out.old) (back_text (module_view «module».now))) }
+{
     put_tables(out, module.tables.as_slice())?;
     put_exports(out, &module.exports)?;
     out.word(b"}")?;
     out.line_feed()
+}
+
+fn put_module(out: &mut Output, module: &Module) -> Result<(), AllocError>
+    ensures { OnOk result (written out.new ≡ put (written out.old) (module_pieces (module_view «module».now))) }
+{
+    put_front(out, module)?;
+    put_functions(out, module.functions.as_slice())?;
+    put_back(out, module)
 }
 
 /// The bytes of the canonical text.

@@ -10,7 +10,6 @@ ghost use Rattle.gen_lang.specs.Recipe as spec;
 ghost use Rattle.gen_laws.specs.Modules.{recipe_module};
 ghost use Rattle.bridge_lang.specs.Job.{IsSummarized};
 
-use crate::making::text_of;
 use asm_text::printed_texts_are_read;
 use asm_validate::Checked;
 use asm2wasm::translate;
@@ -76,7 +75,7 @@ fn summed(
         ≡ spec.summary functions text (length (spelling valid.now)) (length (canonical_text (asm_js_for valid.now)))) }
 {
     let bytes = write(alloc, valid.module())?;
-    let back = text_of(alloc, valid)?;
+    let back = wasm2js::print_module(alloc, valid)?;
     let lengths = Lengths {
         text,
         wasm: bytes.len(),

@@ -5,9 +5,6 @@ ghost use Rattle.bridge_lang.specs.declared.making.Making.TheVariants.{CheckAsm,
 ghost use Rattle.asm_tree.specs.Views.{module_view};
 ghost use Rattle.wasm_binary_write.specs.Spelling.{spelling};
 ghost use Rattle.asm2wasm_translation.specs.Modules.{translation};
-ghost use Rattle.asm_lang.specs.Printing.{canonical_text};
-ghost use Rattle.wasm_lang_valid.specs.Profile.{outside_profile};
-ghost use Rattle.wasm2js_translation.specs.Modules.{translated as asm_js_for};
 ghost use Rattle.bridge_lang.specs.Job.{file_limit, IsMade};
 ghost use Rattle.bridge_lang.specs.Answers.{IsAnswered};
 ghost use Rattle.bridge_cmd.specs.Refused.{reason_of};
@@ -82,23 +79,11 @@ fn translated_back(alloc: Global, bytes: &[u8]) -> Result<SharedBytes, Refusal>
         Err(outside) => return Err(of_outside(outside)),
     }
     let _home = valid.module();
-    let output = text_of(alloc, &valid);
+    let output = wasm2js::print_module(alloc, &valid);
     mem::forget(valid);
     match output {
         Ok(output) => Ok(SharedBytes::from_vec(alloc, output)),
         Err(_) => Err(Refusal::OutOfMemory),
-    }
-}
-
-/// The text of the translation.
-pub(crate) fn text_of(alloc: Global, valid: &Valid<'_>) -> Result<Vec<u8>, AllocError>
-    requires { outside_profile valid.now ≡ None }
-    ensures { IfOk result (λ output. output.items ≡ canonical_text (asm_js_for valid.now)) }
-{
-    let module = wasm2js::translate_module(alloc, valid)?;
-    match print(alloc, &module) {
-        Ok(output) => Ok(output),
-        Err(_) => Err(AllocError),
     }
 }
 

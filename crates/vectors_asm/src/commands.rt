@@ -81,13 +81,13 @@ static ROWS: [Row; 62] = [
     (
         &["gen", "2"],
         0,
-        b"functions 2\nasm 182\nwasm 97\njs 735\n",
+        b"functions 2\nasm 182\nwasm 94\njs 699\n",
         b"",
     ),
     (
         &["gen", "200"],
         0,
-        b"functions 200\nasm 12628\nwasm 8961\njs 40995\n",
+        b"functions 200\nasm 12628\nwasm 8412\njs 33995\n",
         b"",
     ),
     (&["asm2wasm", "add.js"], 0, SUMMING, b""),

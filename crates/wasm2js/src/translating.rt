@@ -18,7 +18,7 @@ ghost use Rattle.wasm2js_lang.specs.Parts.Imports.{HasImports};
 ghost use Rattle.wasm2js_lang.specs.Parts.Tables.{HasTables};
 ghost use Rattle.wasm2js_translation.specs.Modules as code;
 ghost use Rattle.wasm2js_tables.specs.Views.{masked_view};
-ghost use Rattle.wasm2js.specs.Parts.{first_functions, last_functions};
+ghost use Rattle.wasm2js.specs.Parts.{first_functions, last_functions, without_functions};
 
 use crate::memory::{memory, needs};
 use crate::properties::properties;
@@ -73,14 +73,29 @@ fn translated(
     requires tables { map masked_view masked.now ≡ plain.masked valid.now }
     ensures { IfOk result (λ m. module_view m ≡ code.translated valid.now) }
 {
+    let functions = functions(alloc, valid, masked)?;
+    let mut module = frame(alloc, valid, masked)?;
+    module.functions = functions;
+    Ok(module)
+}
+
+/// The module without its functions.
+pub(crate) fn frame(
+    alloc: Global,
+    valid: &Valid<'_>,
+    masked: &[MaskedTable],
+) -> Result<Module, AllocError>
+    requires within { outside_profile valid.now ≡ None }
+    requires tables { map masked_view masked.now ≡ plain.masked valid.now }
+    ensures { IfOk result (λ m. module_view m ≡ without_functions valid.now) }
+{
     let name = Text::from_bytes(alloc, b"wasm")?;
     let params = params(alloc)?;
-    let functions = functions(alloc, valid, masked)?;
     Ok(Module {
         name: Some(name),
         params,
         globals: variables(alloc, valid)?,
-        functions,
+        functions: List::new(alloc),
         tables: tables(alloc, valid, masked)?,
         exports: exports(alloc, valid)?,
     })
@@ -143,8 +158,8 @@ fn push_ends(
     push(functions, high_function(alloc)?)
 }
 
-// What stands for missing entries of tables, and the last two functions.
-fn push_last(
+/// What stands for missing entries of tables, and the last two functions.
+pub(crate) fn push_last(
     alloc: Global,
     valid: &Valid<'_>,
     masked: &[MaskedTable],

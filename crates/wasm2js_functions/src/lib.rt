@@ -5,6 +5,8 @@ mod facts;
 mod forms;
 mod listing;
 mod own;
+mod printing;
 mod wrappers;
 
 pub use listing::push_functions;
+pub use printing::print_functions;

@@ -29,7 +29,7 @@ fn push(functions: &mut List<Function>, function: Function) -> Result<(), AllocE
 }
 
 // A function of no type has no wrapper.
-fn push_wrapper(
+pub(crate) fn push_wrapper(
     alloc: Global,
     module: &Module<'_>,
     number: u64,
@@ -62,7 +62,7 @@ fn push_wrappers(
 }
 
 // A function of no type, or with no body, is none.
-fn push_own(
+pub(crate) fn push_own(
     alloc: Global,
     module: &Module<'_>,
     facts: &Facts,
