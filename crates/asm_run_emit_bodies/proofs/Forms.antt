@@ -10,6 +10,7 @@ use Rattle.asm_run_code.specs.Values.{Before, into, value}
 use Rattle.asm_run_code.specs.Bodies.{Around, a_loop, a_switch, a_named, break_address, continue_address, Placed, dispatched, switched, part, condition, condition_if, stmt, stmts_code, clauses_code}
 use Rattle.asm_run_emit_values.specs.Pieces.{out_of_place}
 use Rattle.asm_run_emit_values.proofs.Codes.{seated_is}
+use Rattle.asm_run_emit_bodies.specs.Choices.{choice}
 
 switched_is : (p : Option ℕ) (d : ℕ) (code : Before) (cs : Clauses) (placed : Placed) → switched p d code cs placed ≡ out_of_place p code (dispatched cs placed.starts (into p d) placed.code)
 switched_is None d code cs placed = refl
@@ -80,13 +81,17 @@ module _ (c : Scope) (around : List Around) (own : List (List ℕ)) (d : ℕ) (o
   return_bare None = refl
   return_bare (Some e) = refl
 
-  pub if_only_bare : (e : Expr) (s : Stmt) → stmt c around own d (if_only e s) o ≡ stmt c around [] d (if_only e s) o
+  if_only_bare : (e : Expr) (s : Stmt) → stmt c around own d (if_only e s) o ≡ stmt c around [] d (if_only e s) o
   unfolding stmt
   if_only_bare e s = refl
 
-  pub if_else_bare : (e : Expr) (s r : Stmt) → stmt c around own d (if_else e s r) o ≡ stmt c around [] d (if_else e s r) o
+  if_else_bare : (e : Expr) (s r : Stmt) → stmt c around own d (if_else e s r) o ≡ stmt c around [] d (if_else e s r) o
   unfolding stmt
   if_else_bare e s r = refl
+
+  pub choice_bare : (e : Expr) (s : Stmt) (x : Option Stmt) → stmt c around own d (choice e s x) o ≡ stmt c around [] d (choice e s x) o
+  choice_bare e s None = if_only_bare e s
+  choice_bare e s (Some r) = if_else_bare e s r
 
   pub labelled_bare : (ns : List (List ℕ)) (s : Stmt) → stmt c around own d (labelled ns s) o ≡ stmt c around [] d (labelled ns s) o
   unfolding stmt

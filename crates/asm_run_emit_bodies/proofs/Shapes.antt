@@ -1,5 +1,5 @@
 -- What statements are, by their form in the code.
-use Rattle.std.proofs.Common.{◌≡◌, List, Option, Some, None, sym, ap, ◌∙◌}
+use Rattle.std.proofs.Common.{◌≡◌, List, Option, Some, None, refl, sym, ap, ◌∙◌}
 use Rattle.std.specs.Global.{Global}
 use Rattle.std.specs.declared.boxed.Box.{Box}
 use Rattle.sem_words.specs.Lists.{list_items}
@@ -13,6 +13,7 @@ use Rattle.asm_tree.specs.declared.tree.Stmt.TheVariants as variants
 use Rattle.asm_tree.specs.declared.tree.Clause.{Clause as CodeClause}
 use Rattle.asm_tree.specs.Views.{texts_view, text_option, expr_view, expr_option, stmt_view, stmts_view, clauses_view}
 use Rattle.asm_tree.proofs.Views.{stmt_view-Block, stmt_view-Plain, stmt_view-Empty, stmt_view-If_only, stmt_view-If_else, stmt_view-Return, stmt_view-While, stmt_view-DoWhile, stmt_view-For, stmt_view-Break, stmt_view-Continue, stmt_view-Labelled, stmt_view-Switch}
+use Rattle.asm_run_emit_bodies.specs.Choices.{choice, stmt_option}
 
 module _ (s : CodeStmt) where
   pub block_is : (l : Listed CodeStmt) (ss : List CodeStmt) → s ≡ variants.Block l → ss ≡ list_items l → stmt_view s ≡ block (stmts_view ss)
@@ -24,13 +25,17 @@ module _ (s : CodeStmt) where
   pub return_is : (o : Option CodeExpr) → s ≡ variants.Return o → stmt_view s ≡ returns (expr_option o)
   return_is o h = ap stmt_view h ∙ stmt_view-Return o
 
-  pub if_only_is : (c : CodeExpr) (b : Box CodeStmt Global) (o : Option (Box CodeStmt Global)) (y : CodeStmt) → s ≡ variants.If b o c → o ≡ None → y ≡ b.value → stmt_view s ≡ if_only (expr_view c) (stmt_view y)
+  if_only_is : (c : CodeExpr) (b : Box CodeStmt Global) (o : Option (Box CodeStmt Global)) (y : CodeStmt) → s ≡ variants.If b o c → o ≡ None → y ≡ b.value → stmt_view s ≡ if_only (expr_view c) (stmt_view y)
   if_only_is c b o y h n k = ap stmt_view (h ∙ ap (λ o. variants.If b o c) n) ∙ stmt_view-If_only c b ∙ ap (λ x. if_only (expr_view c) (stmt_view x)) (sym k)
 
-  pub if_else_is : (c : CodeExpr) (b d : Box CodeStmt Global) (o : Option (Box CodeStmt Global)) (y z : CodeStmt) → s ≡ variants.If b o c → o ≡ Some d → y ≡ b.value → z ≡ d.value → stmt_view s ≡ if_else (expr_view c) (stmt_view y) (stmt_view z)
+  if_else_is : (c : CodeExpr) (b d : Box CodeStmt Global) (o : Option (Box CodeStmt Global)) (y z : CodeStmt) → s ≡ variants.If b o c → o ≡ Some d → y ≡ b.value → z ≡ d.value → stmt_view s ≡ if_else (expr_view c) (stmt_view y) (stmt_view z)
   if_else_is c b d o y z h n k m =
       ap stmt_view (h ∙ ap (λ o. variants.If b o c) n) ∙ stmt_view-If_else c b d
       ∙ ap (λ x. if_else (expr_view c) (stmt_view x) (stmt_view d.value)) (sym k) ∙ ap (λ x. if_else (expr_view c) (stmt_view y) (stmt_view x)) (sym m)
+
+  pub choice_is : (c : CodeExpr) (b : Box CodeStmt Global) (o : Option (Box CodeStmt Global)) (y : CodeStmt) → s ≡ variants.If b o c → y ≡ b.value → stmt_view s ≡ choice (expr_view c) (stmt_view y) (stmt_option o)
+  choice_is c b None y h k = if_only_is c b None y h refl k
+  choice_is c b (Some d) y h k = if_else_is c b d (Some d) y d.value h refl k refl
 
   pub while_is : (c : CodeExpr) (b : Box CodeStmt Global) (y : CodeStmt) → s ≡ variants.While c b → y ≡ b.value → stmt_view s ≡ while_loop (expr_view c) (stmt_view y)
   while_is c b y h k = ap stmt_view h ∙ stmt_view-While c b ∙ ap (λ x. while_loop (expr_view c) (stmt_view x)) (sym k)

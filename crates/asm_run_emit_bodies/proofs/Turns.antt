@@ -1,7 +1,8 @@
 -- Statements and clauses, from the last one to the first.
-use Rattle.std.proofs.Common.{◌≡◌, ℕ, zero, suc, ◌+◌, ◌<◌, ◌≤◌, List, [], ◌∷◌, length, drop, get_or, sym, ap, ◌∙◌, arith}
+use Rattle.std.proofs.Common.{◌≡◌, ℕ, zero, suc, ◌+◌, ◌<◌, ◌≤◌, List, [], ◌∷◌, length, drop, get_or, Option, Some, None, sym, ap, ◌∙◌, arith}
 use Rattle.std.proofs.lemmas.List.{at_drop_more, at_drop_all}
 use Rattle.sem_words.specs.Lists.{list_items}
+use Rattle.asm_lang.specs.Modules.{Expr, Stmt}
 use Rattle.asm_lang_valid.specs.Typing.{Scope}
 use Rattle.asm_lang_valid.specs.Rows.{stmt_count, stmts_count, clauses_count}
 use Rattle.asm_tree.specs.declared.tree.Stmt.{Stmt as CodeStmt}
@@ -11,6 +12,7 @@ use Rattle.asm_tree.proofs.Views.{clause_view-is}
 use Rattle.switch_cases.proofs.CaseValues.{clauses_put}
 use Rattle.asm_run_code.specs.declared.op.Op.{Op}
 use Rattle.asm_run_code.specs.Bodies.{Around, Placed, placed_before, stmt, stmts_code, clauses_code}
+use Rattle.asm_run_emit_bodies.specs.Choices.{choice, otherwise_count}
 
 -- ---- an item has at most as many nodes as all
 
@@ -26,6 +28,11 @@ pub clause_within : (ks : List Clause) (i : ℕ) (k : Clause) → i < length ks 
 clause_within [] i k h is = absurd (omega arith)
 clause_within (x ∷ xs) zero k h is = omega (arith, clause_count x xs, ap (λ (y : Clause). stmts_count (stmts_view (list_items y.body))) is)
 clause_within (x ∷ xs) (suc i) k h is = omega (arith, clause_count x xs, clause_within xs i k (omega arith) is)
+
+-- the arms of a choice are in it
+pub choice_count : (e : Expr) (s : Stmt) (x : Option Stmt) → stmt_count s + otherwise_count x < stmt_count (choice e s x)
+choice_count e s None = omega arith
+choice_count e s (Some r) = omega arith
 
 -- ---- code
 

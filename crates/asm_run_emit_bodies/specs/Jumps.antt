@@ -1,18 +1,10 @@
 -- What stands round a statement, and where jumps go from it, as the code holds them.
 use Rattle.std.specs.Prelude.{◌≡◌, ℕ, List, ◌∷◌, Option, None}
 use Rattle.std.specs.Option.{unwrap_or}
-use Rattle.asm_tree.specs.Views.{texts_view}
 use Rattle.jump_targets.specs.Targets.{Target, found, those}
 use Rattle.asm_run_code.specs.Bodies as code
 use Rattle.asm_run_code.specs.Bodies.{Around, a_loop, a_switch, a_named}
 use Rattle.asm_run_emit_bodies.specs.declared.jumps.Jumps.{Jumps}
-use Rattle.asm_run_emit_bodies.specs.declared.jumps.Around as declared
-use Rattle.asm_run_emit_bodies.specs.declared.jumps.Around.TheVariants.{Loop, Switch, Named}
-
-abbrev pub around_view : declared.Around → Around
-around_view (Loop own next past) = a_loop (texts_view own.now) next past
-around_view (Switch past) = a_switch past
-around_view (Named ns past) = a_named (texts_view ns.now) past
 
 -- the place where a jump without a label goes
 abbrev pub unlabelled : ℕ → Target

@@ -1,3 +1,5 @@
 pub mod Jumps
+pub mod Loops
+pub mod Choices
 pub mod Switches
 pub mod Flats

@@ -1,25 +1,15 @@
 //! Where breaks and continues go from a statement.
-ghost use Rattle.std.specs.Prelude.{◌≡◌, [], OnOk};
-ghost use Rattle.asm_tree.specs.Views.{text_option};
+ghost use Rattle.std.specs.Prelude.{◌≡◌, ℕ, [], OnOk};
+ghost use Rattle.asm_tree.specs.Views.{texts_view, text_option};
 ghost use Rattle.jump_targets.specs.Targets.{bytes_option};
 ghost use Rattle.asm_run_emit_bodies.specs.declared.jumps.Jumps as declared;
-ghost use Rattle.asm_run_emit_bodies.specs.Jumps.{around_view, inside, address};
+ghost use Rattle.asm_run_code.specs.Bodies.{a_loop, a_switch, a_named};
+ghost use Rattle.asm_run_emit_bodies.specs.Jumps.{inside, address};
 
 use jump_targets::Targets;
 use key_hashes::KeyHashes;
 use sem_words::Text;
 use std::alloc::{AllocError, Global};
-
-/// What a break or a continue may mean.
-#[derive(Clone, Copy)]
-pub enum Around<'l> {
-    /// A loop with these labels: its next turn, and what comes after it.
-    Loop(&'l [Text], u32, u32),
-    /// What comes after a switch.
-    Switch(u32),
-    /// A statement with these labels, and what comes after it.
-    Named(&'l [Text], u32),
-}
 
 /// Where breaks and continues go, by what stands round a statement.
 #[derive(Drop)]
@@ -39,34 +29,50 @@ impl<'l> Jumps<'l> {
         }
     }
 
-    /// Inside one more.
-    pub fn enter(&mut self, around: Around<'l>) -> Result<(), AllocError>
-        ensures { OnOk result (self.new ≡ inside (around_view around.entry) self.old) }
+    /// Inside a loop with these labels: its next turn, and what comes after it.
+    pub fn enter_loop(&mut self, own: &'l [Text], next: u32, past: u32) -> Result<(), AllocError>
+        ensures { OnOk result (self.new ≡ inside (a_loop (texts_view own.now) next past) self.old) }
     {
-        match around {
-            Around::Loop(own, next, past) => {
-                self.continues.open_all(own, next)?;
-                self.continues.open(None, next)?;
-                self.breaks.open(None, past)
-            }
-            Around::Switch(past) => self.breaks.open(None, past),
-            Around::Named(labels, past) => self.breaks.open_all(labels, past),
-        }
+        self.continues.open_all(own, next)?;
+        self.continues.open(None, next)?;
+        self.breaks.open(None, past)
     }
 
     /// Outside of it again.
-    pub fn leave(&mut self, around: Around<'l>)
-        ensures { (outside : declared.Jumps) → self.old ≡ inside (around_view around.entry) outside → self.new ≡ outside }
+    pub fn leave_loop(&mut self, own: &[Text])
+        ensures { (outside : declared.Jumps) (next past : ℕ) → self.old ≡ inside (a_loop (texts_view own.now) next past) outside → self.new ≡ outside }
     {
-        match around {
-            Around::Loop(own, _, _) => {
-                self.breaks.close(1);
-                self.continues.close(1);
-                self.continues.close(own.len());
-            }
-            Around::Switch(_) => self.breaks.close(1),
-            Around::Named(labels, _) => self.breaks.close(labels.len()),
-        }
+        self.breaks.close(1);
+        self.continues.close(1);
+        self.continues.close(own.len());
+    }
+
+    /// Inside a switch: what comes after it.
+    pub fn enter_switch(&mut self, past: u32) -> Result<(), AllocError>
+        ensures { OnOk result (self.new ≡ inside (a_switch past) self.old) }
+    {
+        self.breaks.open(None, past)
+    }
+
+    /// Outside of it again.
+    pub fn leave_switch(&mut self)
+        ensures { (outside : declared.Jumps) (past : ℕ) → self.old ≡ inside (a_switch past) outside → self.new ≡ outside }
+    {
+        self.breaks.close(1);
+    }
+
+    /// Inside a statement with these labels: what comes after it.
+    pub fn enter_labelled(&mut self, labels: &'l [Text], past: u32) -> Result<(), AllocError>
+        ensures { OnOk result (self.new ≡ inside (a_named (texts_view labels.now) past) self.old) }
+    {
+        self.breaks.open_all(labels, past)
+    }
+
+    /// Outside of it again.
+    pub fn leave_labelled(&mut self, labels: &[Text])
+        ensures { (outside : declared.Jumps) (past : ℕ) → self.old ≡ inside (a_named (texts_view labels.now) past) outside → self.new ≡ outside }
+    {
+        self.breaks.close(labels.len());
     }
 
     /// Where a break goes, or 0 where nothing is meant.

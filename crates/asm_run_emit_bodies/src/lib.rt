@@ -2,6 +2,7 @@
 #![tactic(auto)]
 
 mod jumps;
+mod loops;
 mod modules;
 mod statements;
 mod switches;

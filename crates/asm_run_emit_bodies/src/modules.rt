@@ -43,9 +43,9 @@ pub fn codes_of(alloc: Global, module: &Module) -> Result<Codes, AllocError>
     ensures functions { IfOk result (λ codes. map flat_view (list_items codes.functions) ≡ (code.codes_of (module_view «module».now)).functions) }
     ensures tables { IfOk result (λ codes. map (λ t. list_items t) (list_items codes.tables) ≡ (code.codes_of (module_view «module».now)).tables) }
 {
-    match &ModuleNames::new(alloc, module) {
-        Ok(names) => codes_by(alloc, names),
-        Err(error) => Err(*error),
+    match ModuleNames::new(alloc, module) {
+        Ok(names) => codes_by(alloc, &names),
+        Err(error) => Err(error),
     }
 }
 
@@ -110,9 +110,9 @@ fn emit_function<'a>(
     requires { output.old ≡ [] }
     ensures { OnOk result (output.new ≡ whole (scope_of (module_view «module».now) (function_view function.now))) }
 {
-    match &FunctionNames::new(alloc, module, function) {
-        Ok(names) => emit_body(alloc, names, output),
-        Err(error) => Err(*error),
+    match FunctionNames::new(alloc, module, function) {
+        Ok(names) => emit_body(alloc, &names, output),
+        Err(error) => Err(error),
     }
 }
 

@@ -6,8 +6,11 @@ ghost use Rattle.asm_lang_valid.specs.Typing as typing;
 ghost use Rattle.asm2wasm_translation.specs.Bodies as shapes;
 ghost use Rattle.asm_run_code.specs.declared.op.Op.TheVariants.{Choose};
 ghost use Rattle.asm_run_code.specs.Bodies as code;
+ghost use Rattle.asm_run_code.specs.Bodies.{a_switch};
+ghost use Rattle.asm_run_emit_bodies.specs.Jumps.{inside};
 ghost use Rattle.asm_run_emit_bodies.specs.Switches.{case_before, jumps};
 
+use crate::jumps::Jumps;
 use asm_run_code::Op;
 use asm_run_emit_values::Output;
 use asm_run_names::small;
@@ -60,6 +63,21 @@ impl Starts {
             0
         }
     }
+}
+
+/// Into a switch, which ends with the code that is there. Jumps out of it go there.
+pub fn start_switch(
+    output: &Output,
+    jumps: &mut Jumps<'_>,
+    starts: &mut Starts,
+) -> Result<(), AllocError>
+    requires { starts.old ≡ [] }
+    ensures start { OnOk result (starts.new ≡ length output.now ∷ []) }
+    ensures entered { OnOk result (jumps.new ≡ inside (a_switch (length output.now)) jumps.old) }
+{
+    let past = output.address()?;
+    starts.put(past)?;
+    jumps.enter_switch(past)
 }
 
 /// To the clause of the value in a slot, before the code of the clauses.

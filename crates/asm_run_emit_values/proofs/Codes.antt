@@ -68,9 +68,9 @@ module _ (c : Scope) (w : Option ℕ) (d : ℕ) (o : List Op) where
   unfolding value
   var_form n = refl
 
-  pub index_form : (n : List ℕ) (i : Expr) → value c w d (index n i) o ≡ out_of_place (local c i) (λ more. value c (Some d) d i more) (ReadElement (view_kind (named c n)) (into w d) (into (local c i) d) ∷ o)
+  pub index_form : (n : List ℕ) (i : Expr) → value c w d (index n i) o ≡ seated (local c i) d (λ more. value c (Some d) d i more) (λ a. ReadElement (view_kind (named c n)) (into w d) a) o
   unfolding value
-  index_form n i = seated_is (local c i) d (λ more. value c (Some d) d i more) (λ a. ReadElement (view_kind (named c n)) (into w d) a) o
+  index_form n i = refl
 
   abbrev called_by : Meaning → List ℕ → Exprs → List Op
   called_by m n es = called c m n (exprs_length es) w d (λ more. arguments c d es more) (λ more. product c (into w d) d es more) (λ more. zeros c (into w d) d es more) o
@@ -103,9 +103,9 @@ module _ (c : Scope) (w : Option ℕ) (d : ℕ) (o : List Op) where
   unfolding value
   store_form n i e = stored_is (seat c e) (local c i) (view_kind (named c n)) w d (λ more. value c (Some d) d i more) (λ more. value c (Some (suc d)) (suc d) e more) o
 
-  pub unary_form : (op : JsUnary) (e : Expr) → value c w d (unary op e) o ≡ out_of_place (local c e) (λ more. value c (Some d) d e more) (prefixed op (into w d) (into (local c e) d) ∷ o)
+  pub unary_form : (op : JsUnary) (e : Expr) → value c w d (unary op e) o ≡ seated (local c e) d (λ more. value c (Some d) d e more) (λ a. prefixed op (into w d) a) o
   unfolding value
-  unary_form op e = seated_is (local c e) d (λ more. value c (Some d) d e more) (λ a. prefixed op (into w d) a) o
+  unary_form op e = refl
 
   -- two operands, of which the second isn't that of `|0`
   abbrev pub both : Operator → (to : ℕ) → Expr → Expr → List Op

@@ -10,12 +10,12 @@ use Rattle.asm_tree.specs.Views.{expr_view, exprs_view}
 use Rattle.asm_lang_valid.specs.Typing.{Scope, named, or_zero}
 use Rattle.asm2wasm_translation.specs.Values.{is_unsigned}
 use Rattle.asm_run_code.specs.declared.op.Op.{Op}
-use Rattle.asm_run_code.specs.declared.op.Op.TheVariants.{Zeros, ReadElement, WriteElement, Go, Unless, CallEntry}
+use Rattle.asm_run_code.specs.declared.op.Op.TheVariants.{Zeros, ReadElement, WriteElement, Go, CallEntry}
 use Rattle.asm_run_code.specs.declared.op.Operator.{Operator}
 use Rattle.asm_run_code.specs.declared.op.Operator.TheVariants.{Mul}
 use Rattle.asm_run_code.specs.Operators.{operator_of}
 use Rattle.asm_run_code.specs.Names.{local_slot, global_slot, view_kind, table_number, local, Seat, seat}
-use Rattle.asm_run_code.specs.Values.{Before, into, copied, combined, linked, prefixed, stays_by, stays, sum_slot, tested, value, arguments, product, zeros, sums}
+use Rattle.asm_run_code.specs.Values.{Before, into, copied, seated, combined, linked, prefixed, stays_by, stays, sum_slot, tested, value, arguments, product, zeros, sums}
 use Rattle.asm_run_names.specs.declared.callee.Callee.{Callee}
 use Rattle.asm_run_names.specs.Callees.{callee_of}
 use Rattle.asm_run_emit_values.specs.Pieces.{out_of_place, called_as, needed, is_elsewhere, applied, is_far, index_place, value_slot, written, assigned_slot, assignment}
@@ -55,28 +55,27 @@ module _ {E : Type 0} (r : Result (Unit {0}) E) (b : List Op) where
   -- ---- forms
 
   module _ (c : Scope) (w : Option ℕ) (d : ℕ) (o : List Op) where
-    pub index_made : (n : List ℕ) (i : Expr) (kind : ViewKind) (p : Option ℕ) (t a : ℕ) (o₁ : List Op) → kind ≡ view_kind (named c n) → p ≡ local c i → t ≡ into w d → a ≡ into p d → o₁ ≡ ReadElement kind t a ∷ o →
-        OnOk r (b ≡ out_of_place p (λ more. value c (Some d) d i more) o₁) → OnOk r (b ≡ value c w d (index n i) o)
-    index_made n i kind p t a o₁ hk hp ht ha ho h =
-        told r b (out_of_place (local c i) (λ more. value c (Some d) d i more) (ReadElement kind t (into (local c i) d) ∷ o)) (value c w d (index n i) o)
-        (ap (λ k. out_of_place (local c i) (λ more. value c (Some d) d i more) (ReadElement k t (into (local c i) d) ∷ o)) hk
-        ∙ ap (λ t. out_of_place (local c i) (λ more. value c (Some d) d i more) (ReadElement (view_kind (named c n)) t (into (local c i) d) ∷ o)) ht
+    pub single_made : (e : Expr) (op : ℕ → Op) (p : Option ℕ) (a : ℕ) (o₁ : List Op) → p ≡ local c e → a ≡ into p d → o₁ ≡ op a ∷ o →
+        OnOk r (b ≡ out_of_place p (λ more. value c (Some d) d e more) o₁) → OnOk r (b ≡ seated (local c e) d (λ more. value c (Some d) d e more) op o)
+    single_made e op p a o₁ hp ha ho h =
+        told r b (out_of_place (local c e) (λ more. value c (Some d) d e more) (op (into (local c e) d) ∷ o)) (seated (local c e) d (λ more. value c (Some d) d e more) op o)
+        (sym (seated_is (local c e) d (λ more. value c (Some d) d e more) op o))
+        (placed p (local c e) a d (λ more. value c (Some d) d e more) op o₁ o hp ha ho h)
+
+    pub index_made : (n : List ℕ) (i : Expr) (kind : ViewKind) (t : ℕ) → kind ≡ view_kind (named c n) → t ≡ into w d →
+        OnOk r (b ≡ seated (local c i) d (λ more. value c (Some d) d i more) (λ a. ReadElement kind t a) o) → OnOk r (b ≡ value c w d (index n i) o)
+    index_made n i kind t hk ht h =
+        told r b (seated (local c i) d (λ more. value c (Some d) d i more) (λ a. ReadElement kind t a) o) (value c w d (index n i) o)
+        (ap (λ k. seated (local c i) d (λ more. value c (Some d) d i more) (λ a. ReadElement k t a) o) hk
+        ∙ ap (λ t. seated (local c i) d (λ more. value c (Some d) d i more) (λ a. ReadElement (view_kind (named c n)) t a) o) ht
         ∙ sym (index_form c w d o n i))
-        (placed p (local c i) a d (λ more. value c (Some d) d i more) (λ a. ReadElement kind t a) o₁ o hp ha ho h)
+        h
 
-    pub unary_made : (op : JsUnary) (e : Expr) (p : Option ℕ) (t a : ℕ) (o₁ : List Op) → p ≡ local c e → t ≡ into w d → a ≡ into p d → o₁ ≡ prefixed op t a ∷ o →
-        OnOk r (b ≡ out_of_place p (λ more. value c (Some d) d e more) o₁) → OnOk r (b ≡ value c w d (unary op e) o)
-    unary_made op e p t a o₁ hp ht ha ho h =
-        told r b (out_of_place (local c e) (λ more. value c (Some d) d e more) (prefixed op t (into (local c e) d) ∷ o)) (value c w d (unary op e) o)
-        (ap (λ t. out_of_place (local c e) (λ more. value c (Some d) d e more) (prefixed op t (into (local c e) d) ∷ o)) ht ∙ sym (unary_form c w d o op e))
-        (placed p (local c e) a d (λ more. value c (Some d) d e more) (λ a. prefixed op t a) o₁ o hp ha ho h)
-
-    pub test_made : (e : Expr) (at : ℕ) (p : Option ℕ) (a : ℕ) (o₁ : List Op) → p ≡ local c e → a ≡ into p d → o₁ ≡ Unless a at ∷ o →
-        OnOk r (b ≡ out_of_place p (λ more. value c (Some d) d e more) o₁) → OnOk r (b ≡ tested (local c e) d (λ more. value c (Some d) d e more) at o)
-    test_made e at p a o₁ hp ha ho h =
-        told r b (out_of_place (local c e) (λ more. value c (Some d) d e more) (Unless (into (local c e) d) at ∷ o)) (tested (local c e) d (λ more. value c (Some d) d e more) at o)
-        (sym (seated_is (local c e) d (λ more. value c (Some d) d e more) (λ a. Unless a at) o))
-        (placed p (local c e) a d (λ more. value c (Some d) d e more) (λ a. Unless a at) o₁ o hp ha ho h)
+    pub unary_made : (op : JsUnary) (e : Expr) (t : ℕ) → t ≡ into w d → OnOk r (b ≡ seated (local c e) d (λ more. value c (Some d) d e more) (λ a. prefixed op t a) o) → OnOk r (b ≡ value c w d (unary op e) o)
+    unary_made op e t ht h =
+        told r b (seated (local c e) d (λ more. value c (Some d) d e more) (λ a. prefixed op t a) o) (value c w d (unary op e) o)
+        (ap (λ t. seated (local c e) d (λ more. value c (Some d) d e more) (λ a. prefixed op t a) o) ht ∙ sym (unary_form c w d o op e))
+        h
 
     pub table_call_made : (n : List ℕ) (i : Expr) (es : Exprs) (e : ℕ) (o₁ o₂ : List Op) → e ≡ suc d → o₁ ≡ CallEntry (table_number c.home n) d (suc d) ∷ copied w (suc d) o → o₂ ≡ arguments c e es o₁ →
         OnOk r (b ≡ value c (Some d) d i o₂) → OnOk r (b ≡ value c w d (table_call n i es) o)
@@ -149,12 +148,10 @@ module _ {E : Type 0} (r : Result (Unit {0}) E) (b : List Op) where
     pub product_made : (to : ℕ) (es : List CodeExpr) (l x : CodeExpr) → 2 ≤ length es → l ≡ get_or es 0 l → x ≡ get_or es 1 x → OnOk r (b ≡ both c w d o Mul to (expr_view l) (expr_view x)) → OnOk r (b ≡ product c to d (exprs_view es) o)
     product_made to es l x k hl hx h = told r b (both c w d o Mul to (expr_view l) (expr_view x)) (product c to d (exprs_view es) o) (sym (product_form c o to d es l x k hl hx)) h
 
-    pub zeros_made : (to : ℕ) (es : List CodeExpr) (e : CodeExpr) (p : Option ℕ) (a : ℕ) (o₁ : List Op) → Some e ≡ slice_get es 0 → p ≡ local c (expr_view e) → a ≡ into p d → o₁ ≡ Zeros to a ∷ o →
-        OnOk r (b ≡ out_of_place p (λ more. value c (Some d) d (expr_view e) more) o₁) → OnOk r (b ≡ zeros c to d (exprs_view es) o)
-    zeros_made to es e p a o₁ is hp ha ho h =
-        told r b (out_of_place (local c (expr_view e)) (λ more. value c (Some d) d (expr_view e) more) (Zeros to (into (local c (expr_view e)) d) ∷ o)) (zeros c to d (exprs_view es) o)
-        (sym (zeros_form c o to d es e is ∙ seated_is (local c (expr_view e)) d (λ more. value c (Some d) d (expr_view e) more) (λ a. Zeros to a) o))
-        (placed p (local c (expr_view e)) a d (λ more. value c (Some d) d (expr_view e) more) (λ a. Zeros to a) o₁ o hp ha ho h)
+    pub zeros_made : (to : ℕ) (es : List CodeExpr) (e : CodeExpr) → Some e ≡ slice_get es 0 →
+        OnOk r (b ≡ seated (local c (expr_view e)) d (λ more. value c (Some d) d (expr_view e) more) (λ a. Zeros to a) o) → OnOk r (b ≡ zeros c to d (exprs_view es) o)
+    zeros_made to es e is h =
+        told r b (seated (local c (expr_view e)) d (λ more. value c (Some d) d (expr_view e) more) (λ a. Zeros to a) o) (zeros c to d (exprs_view es) o) (sym (zeros_form c o to d es e is)) h
 
 -- ---- the write of a store
 

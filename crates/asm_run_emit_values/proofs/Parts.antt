@@ -104,10 +104,9 @@ module _ (c : Scope) (w : Option ℕ) (d : ℕ) (o : List Op) where
 
   -- ---- the parts of a comma expression
 
-  pub no_part : (es : List CodeExpr) → length es ≡ 0 → o ≡ last c w d (exprs_view es) o
+  pub no_part : (es : List CodeExpr) → last c w d (exprs_view (drop (length es) es)) o ≡ o
   unfolding last
-  no_part [] h = refl
-  no_part (x ∷ xs) h = absurd (omega arith)
+  no_part es = at_drop_all (λ l. last c w d (exprs_view l) o) es (length es) (omega arith)
 
   part_first : (e : CodeExpr) (es : List CodeExpr) → 0 < length es → last c w d (exprs_view (e ∷ es)) o ≡ value c None d (expr_view e) (last c w d (exprs_view es) o)
   unfolding last

@@ -1,5 +1,5 @@
 -- A pass over a list of expressions, from the last item to the first: the code so far is that of the items passed.
-use Rattle.std.proofs.Common.{◌≡◌, ℕ, suc, ◌+◌, ◌-◌, ◌<◌, List, length, take, drop, get_or, Option, Some, None, sym, ap, ◌∙◌, add-one, add-zero, length-drop, arith}
+use Rattle.std.proofs.Common.{◌≡◌, ℕ, zero, suc, ◌+◌, ◌-◌, ◌<◌, ◌≤◌, List, length, take, drop, get_or, Option, Some, None, refl, sym, ap, ◌∙◌, add-one, add-zero, length-drop, arith}
 use Rattle.std.proofs.Math.Seq.{take-length}
 use Rattle.asm_tree.specs.declared.tree.Expr.{Expr as CodeExpr}
 use Rattle.asm_tree.specs.declared.tree.Link.{Link as CodeLink}
@@ -9,8 +9,8 @@ use Rattle.asm_run_code.specs.declared.op.Op.{Op}
 use Rattle.asm_run_code.specs.Operators.{link_operator}
 use Rattle.asm_run_code.specs.Names.{seat}
 use Rattle.asm_run_code.specs.Values.{sum_slot, linked, value, arguments, sums, last}
-use Rattle.asm_run_emit_values.specs.Pieces.{sum_before}
-use Rattle.asm_run_emit_values.proofs.Parts.{argument_left, no_argument, operand_left, no_operand, part_left, last_part}
+use Rattle.asm_run_emit_values.specs.Pieces.{sum_before, part_wanted}
+use Rattle.asm_run_emit_values.proofs.Parts.{argument_left, no_argument, operand_left, no_operand, no_part, part_left, last_part}
 
 -- what is left of a list, taken whole
 whole_rest : (ls : List CodeLink) (k : ℕ) → take (length ls - k) (drop k ls) ≡ drop k ls
@@ -55,15 +55,23 @@ module _ (c : Scope) (w : Option ℕ) (d : ℕ) (o : List Op) where
     links_end a i hi ha = ha ∙ ap (λ i. sums c w (sum_before i slot d) d (links_view (drop i ls)) o) hi
 
   module _ (es : List CodeExpr) where
-    pub parts_begin : (a : List Op) (i : ℕ) (e : CodeExpr) → i + 1 ≡ length es → e ≡ get_or es i e → a ≡ value c w d (expr_view e) o → a ≡ last c w d (exprs_view (drop i es)) o
-    parts_begin a i e h is ha = ha ∙ sym (last_part c w d o es i e h is)
+    pub parts_begin : o ≡ last c w d (exprs_view (drop (length es) es)) o
+    parts_begin = sym (no_part c w d o es)
 
-    pub parts_turn : (a b : List Op) (i j : ℕ) (e : CodeExpr) → j ≡ i + 1 → j < length es → e ≡ get_or es i e → a ≡ last c w d (exprs_view (drop j es)) o → b ≡ value c None d (expr_view e) a → b ≡ last c w d (exprs_view (drop i es)) o
-    parts_turn a b i j e hj h is ha hb =
+    -- of a part after which n more come
+    parts_more : (n : ℕ) (a b : List Op) (i j : ℕ) (to : Option ℕ) (e : CodeExpr) → n ≡ length es - j → j ≡ i + 1 → j ≤ length es → e ≡ get_or es i e → to ≡ part_wanted n w → a ≡ last c w d (exprs_view (drop j es)) o → b ≡ value c to d (expr_view e) a → b ≡ last c w d (exprs_view (drop i es)) o
+    parts_more zero a b i j to e hn hj h is ht ha hb =
+        let at_end : j ≡ length es = omega arith in
+        let one_less : i + 1 ≡ length es = omega arith in
+        hb ∙ ap (λ to. value c to d (expr_view e) a) ht ∙ ap (value c w d (expr_view e)) (ha ∙ ap (λ m. last c w d (exprs_view (drop m es)) o) at_end ∙ no_part c w d o es)
+        ∙ sym (last_part c w d o es i e one_less is)
+    parts_more (suc n) a b i j to e hn hj h is ht ha hb =
         let more : i + 1 < length es = omega arith in
-        hb ∙ ap (value c None d (expr_view e)) ha
-        ∙ ap (λ m. value c None d (expr_view e) (last c w d (exprs_view (drop m es)) o)) hj
+        hb ∙ ap (λ to. value c to d (expr_view e) a) ht ∙ ap (value c None d (expr_view e)) (ha ∙ ap (λ m. last c w d (exprs_view (drop m es)) o) hj)
         ∙ sym (part_left c w d o es i e more is)
+
+    pub parts_turn : (a b : List Op) (i j : ℕ) (to : Option ℕ) (e : CodeExpr) → j ≡ i + 1 → j ≤ length es → e ≡ get_or es i e → to ≡ part_wanted (length es - j) w → a ≡ last c w d (exprs_view (drop j es)) o → b ≡ value c to d (expr_view e) a → b ≡ last c w d (exprs_view (drop i es)) o
+    parts_turn a b i j to e hj h is ht ha hb = parts_more (length es - j) a b i j to e refl hj h is ht ha hb
 
     pub parts_end : (a : List Op) (i : ℕ) → i ≡ 0 → a ≡ last c w d (exprs_view (drop i es)) o → a ≡ last c w d (exprs_view es) o
     parts_end a i hi ha = ha ∙ ap (λ i. last c w d (exprs_view (drop i es)) o) hi

@@ -87,3 +87,10 @@ assigned_slot None wanted d = into wanted d
 abbrev pub assignment : Option ℕ → (global : ℕ) → Option ℕ → (d : ℕ) → Before
 assignment (Some y) global wanted d rest = copied wanted y rest
 assignment None global wanted d rest = WriteGlobal global (into wanted d) ∷ rest
+
+-- ---- the parts of a comma expression
+
+-- where the value of a part is wanted, by how many come after it
+abbrev pub part_wanted : (after : ℕ) → Option ℕ → Option ℕ
+part_wanted zero wanted = wanted
+part_wanted (suc n) wanted = None

@@ -7,6 +7,7 @@ ghost use Rattle.asm_run_code.specs.Operators as operators;
 ghost use Rattle.asm_run_code.specs.Values as values;
 ghost use Rattle.asm_run_names.specs.Names.{scope_said};
 ghost use Rattle.asm_run_emit_values.specs.Seats.{seat_view};
+ghost use Rattle.asm_run_emit_values.specs.Singles as singles;
 ghost use Rattle.asm_run_emit_values.specs.Pieces as pieces;
 
 use crate::forms::{is_or_zero, is_unsigned};
@@ -15,6 +16,7 @@ use crate::words::low_word;
 use asm_run_code::{Op, Operator};
 use asm_run_names::{FunctionNames, next};
 use asm_tree::Expr;
+use heap_lang::ViewKind;
 use sem_words::{JsOp, JsUnary};
 use std::alloc::AllocError;
 
@@ -64,16 +66,16 @@ pub fn seat_of(names: &FunctionNames<'_, '_>, expr: &Expr) -> Result<Seat, Alloc
         Expr::Lit(value) => Ok(Seat::Number(low_word(*value))),
         Expr::Var(_) => seat_in(names, expr),
         Expr::Binary(_, _, _) => seat_in(names, expr),
-        Expr::Decimal(_)
-        | Expr::Index(_, _)
-        | Expr::Call(_, _)
-        | Expr::TableCall(_, _, _)
-        | Expr::Assign(_, _)
-        | Expr::Store(_, _, _)
-        | Expr::Unary(_, _)
-        | Expr::Chain(_, _)
-        | Expr::Cond(_, _, _)
-        | Expr::Comma(_) => Ok(Seat::Elsewhere),
+        Expr::Decimal(_) => Ok(Seat::Elsewhere),
+        Expr::Index(_, _) => Ok(Seat::Elsewhere),
+        Expr::Call(_, _) => Ok(Seat::Elsewhere),
+        Expr::TableCall(_, _, _) => Ok(Seat::Elsewhere),
+        Expr::Assign(_, _) => Ok(Seat::Elsewhere),
+        Expr::Store(_, _, _) => Ok(Seat::Elsewhere),
+        Expr::Unary(_, _) => Ok(Seat::Elsewhere),
+        Expr::Chain(_, _) => Ok(Seat::Elsewhere),
+        Expr::Cond(_, _, _) => Ok(Seat::Elsewhere),
+        Expr::Comma(_) => Ok(Seat::Elsewhere),
     }
 }
 
@@ -213,8 +215,33 @@ fn either(unsigned: bool, first: Operator, second: Operator) -> Operator
     if unsigned { first } else { second }
 }
 
-/// The operation of a prefix operator.
-pub fn prefixed(op: JsUnary, to: u32, from: u32) -> Op
+/// An operation on one operand, as far as it is known before the slot of that operand.
+#[derive(Clone, Copy)]
+pub enum Single {
+    Element { kind: ViewKind, to: u32 },
+    Prefix { op: JsUnary, to: u32 },
+    Zeros { to: u32 },
+    /// Goes there where the operand is 0.
+    Unless { at: u32 },
+}
+
+/// The operation on what stands in a slot.
+pub fn single_op(single: Single, from: u32) -> Op
+    ensures { result ≡ singles.single_op single from }
+{
+    match single {
+        Single::Element { kind, to } => Op::ReadElement {
+            kind,
+            to,
+            index: from,
+        },
+        Single::Prefix { op, to } => prefixed(op, to, from),
+        Single::Zeros { to } => Op::Zeros { to, from },
+        Single::Unless { at } => Op::Unless { slot: from, at },
+    }
+}
+
+fn prefixed(op: JsUnary, to: u32, from: u32) -> Op
     ensures { result ≡ values.prefixed op to from }
 {
     match op {
@@ -235,4 +262,11 @@ pub fn link_operator(minus: bool) -> Operator
     ensures { result ≡ operators.link_operator minus }
 {
     if minus { Operator::Sub } else { Operator::Add }
+}
+
+/// Where the value of a part of a comma expression is wanted, by how many come after it: that of the last alone.
+pub fn part_wanted(after: usize, wanted: Option<u32>) -> Option<u32>
+    ensures { result ≡ pieces.part_wanted after wanted }
+{
+    if after == 0 { wanted } else { None }
 }

@@ -13,12 +13,13 @@ ghost use Rattle.asm_run_code.specs.Values.{value, arguments, product, zeros, su
 ghost use Rattle.asm_run_names.specs.Names.{scope_said};
 ghost use Rattle.asm_run_names.specs.Callees.{callee_of};
 ghost use Rattle.asm_run_emit_values.specs.Seats.{seat_view};
+ghost use Rattle.asm_run_emit_values.specs.Singles.{single_op};
 ghost use Rattle.asm_run_emit_values.specs.Pieces as pieces;
 
 use crate::forms::is_or_zero;
 use crate::operands::{
-    Seat, index_place, into, is_elsewhere, is_far, link_operator, local, operator_of, place_before,
-    prefixed, put_copy, seat_of, value_slot,
+    Seat, Single, index_place, into, is_elsewhere, is_far, link_operator, local, operator_of,
+    part_wanted, place_before, put_copy, seat_of, single_op, value_slot,
 };
 use crate::output::Output;
 use crate::words::low_word;
@@ -130,15 +131,25 @@ fn emit_index(
     ensures { OnOk result (output.new ≡ value (scope_said names.now) wanted free (form.index (text_bytes name.now) (expr_view index.now)) output.old) }
 {
     let kind = names.view_kind(name);
-    let place = local(names, index)?;
     let to = into(wanted, free);
-    let at = into(place, free);
-    output.put(Op::ReadElement {
-        kind,
-        to,
-        index: at,
-    })?;
-    emit_operand(names, output, place, free, index)
+    emit_single(names, output, free, Single::Element { kind, to }, index)
+}
+
+// An operation on an operand, which is read where it stands, or else in the first free slot.
+#[cycle(values)]
+fn emit_single(
+    names: &FunctionNames<'_, '_>,
+    output: &mut Output,
+    free: u32,
+    single: Single,
+    operand: &Expr,
+) -> Result<(), AllocError>
+    ensures { OnOk result (output.new ≡ values.seated (code.local (scope_said names.now) (expr_view operand.now)) free (λ more. value (scope_said names.now) (Some free) free (expr_view operand.now) more) (λ a. single_op single a) output.old) }
+{
+    let place = local(names, operand)?;
+    let from = into(place, free);
+    output.put(single_op(single, from))?;
+    emit_operand(names, output, place, free, operand)
 }
 
 #[cycle(values)]
@@ -244,12 +255,7 @@ fn emit_zeros(
 {
     match all.first() {
         None => Ok(()),
-        Some(operand) => {
-            let place = local(names, operand)?;
-            let from = into(place, free);
-            output.put(Op::Zeros { to, from })?;
-            emit_operand(names, output, place, free, operand)
-        }
+        Some(operand) => emit_single(names, output, free, Single::Zeros { to }, operand),
     }
 }
 
@@ -408,11 +414,8 @@ fn emit_unary(
 ) -> Result<(), AllocError>
     ensures { OnOk result (output.new ≡ value (scope_said names.now) wanted free (form.unary op (expr_view operand.now)) output.old) }
 {
-    let place = local(names, operand)?;
     let to = into(wanted, free);
-    let from = into(place, free);
-    output.put(prefixed(op, to, from))?;
-    emit_operand(names, output, place, free, operand)
+    emit_single(names, output, free, Single::Prefix { op, to }, operand)
 }
 
 #[cycle(values)]
@@ -655,10 +658,7 @@ pub fn emit_test(
 ) -> Result<(), AllocError>
     ensures { OnOk result (output.new ≡ tested (code.local (scope_said names.now) (expr_view condition.now)) free (λ more. value (scope_said names.now) (Some free) free (expr_view condition.now) more) at output.old) }
 {
-    let place = local(names, condition)?;
-    let slot = into(place, free);
-    output.put(Op::Unless { slot, at })?;
-    emit_operand(names, output, place, free, condition)
+    emit_single(names, output, free, Single::Unless { at }, condition)
 }
 
 // All parts, and the value of the last one.
@@ -673,14 +673,11 @@ fn emit_parts(
     ensures { OnOk result (output.new ≡ last (scope_said names.now) wanted free (exprs_view parts.now) output.old) }
 {
     let count = parts.len();
-    if count == 0 {
-        return Ok(());
-    }
-    let mut i = count - 1;
-    emit_value(names, output, wanted, free, &parts[i])?;
+    let mut i = count;
     while i > 0 {
+        let to = part_wanted(count - i, wanted);
         i -= 1;
-        emit_value(names, output, None, free, &parts[i])?;
+        emit_value(names, output, to, free, &parts[i])?;
     }
     Ok(())
 }

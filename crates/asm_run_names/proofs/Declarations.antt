@@ -86,3 +86,6 @@ pub no_variable : (bs : List (Bor (List ℕ))) (vs : List Global_) (i : ℕ) (v 
 no_variable bs vs i v h is k =
     ap (λ b. names_in bs ++ variable_names (if b then global_view v ∷ int_variables (map global_view (drop (i + 1) vs)) else int_variables (map global_view (drop (i + 1) vs)))) k
     ∙ ap (λ l. names_in bs ++ l) (sym (variables_step vs i v h is))
+
+pub no_global : (bs : List (List ℕ)) (vs : List Global_) (i : ℕ) (all : List (List ℕ)) → length vs ≤ i → bs ++ variable_names (int_variables (map global_view (drop i vs))) ≡ all → bs ≡ all
+no_global bs vs i all h k = none_more variables bs vs i all refl h k

@@ -22,13 +22,24 @@ use std::alloc::{AllocError, Global};
 use std::marker::Model;
 
 /// The slots of the variables of one function, and what names mean in it. Its contracts see the module and the function.
-#[derive(Drop)]
 pub struct FunctionNames<'m, 'a> {
     module: &'m ModuleNames<'a>,
     function: &'a Function,
     scope: Scope<'m, 'a>,
     // parameters and locals
     slots: Slots<'a>,
+}
+
+/// By hand, so that their end is one call wherever they are let go.
+impl Drop for FunctionNames<'_, '_> {
+    fn drop(self) {
+        let FunctionNames {
+            module: _,
+            function: _,
+            scope: _,
+            slots: _,
+        } = self;
+    }
 }
 
 impl<'m, 'a> Model for FunctionNames<'m, 'a> {
@@ -57,13 +68,15 @@ impl<'m, 'a> FunctionNames<'m, 'a> {
         ensures function { IfOk result (λ names. names.function ≡ function.now) }
     {
         let slots = local_slots(alloc, function)?;
-        let scope = Scope::new(alloc, module.environment(), function)?;
-        Ok(FunctionNames {
-            module,
-            function,
-            scope,
-            slots,
-        })
+        match Scope::new(alloc, module.environment(), function) {
+            Ok(scope) => Ok(FunctionNames {
+                module,
+                function,
+                scope,
+                slots,
+            }),
+            Err(error) => Err(error),
+        }
     }
 
     /// What a name means in the function, or None where it isn't declared.

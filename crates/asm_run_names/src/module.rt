@@ -17,11 +17,21 @@ use std::marker::Model;
 
 /// The numbers of a module's functions, int variables and tables, each found by a map, and what its names mean. Its contracts see
 /// the module itself.
-#[derive(Drop)]
 pub struct ModuleNames<'a> {
     module: &'a Module,
     environment: Environment<'a>,
     places: Places<'a>,
+}
+
+/// By hand, so that their end is one call wherever they are let go.
+impl Drop for ModuleNames<'_> {
+    fn drop(self) {
+        let ModuleNames {
+            module: _,
+            environment: _,
+            places: _,
+        } = self;
+    }
 }
 
 impl<'a> Model for ModuleNames<'a> {
@@ -46,12 +56,14 @@ impl<'a> ModuleNames<'a> {
         ensures { IfOk result (λ names. names ≡ «module».now) }
     {
         let places = places_of(alloc, module)?;
-        let environment = Environment::new(alloc, module)?;
-        Ok(ModuleNames {
-            module,
-            environment,
-            places,
-        })
+        match Environment::new(alloc, module) {
+            Ok(environment) => Ok(ModuleNames {
+                module,
+                environment,
+                places,
+            }),
+            Err(error) => Err(error),
+        }
     }
 
     /// The module.

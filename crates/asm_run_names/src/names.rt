@@ -10,11 +10,21 @@ use name_slots::Slots;
 use std::alloc::{AllocError, Global};
 
 /// The functions, int variables and tables of a module, each by its place.
-#[derive(Drop)]
 pub struct Places<'a> {
     pub functions: Slots<'a>,
     pub globals: Slots<'a>,
     pub tables: Slots<'a>,
+}
+
+/// By hand, so that their end is one call.
+impl Drop for Places<'_> {
+    fn drop(self) {
+        let Places {
+            functions: _,
+            globals: _,
+            tables: _,
+        } = self;
+    }
 }
 
 /// Those of a module.

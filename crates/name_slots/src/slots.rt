@@ -10,10 +10,16 @@ use std::alloc::{AllocError, Global};
 use std::marker::Model;
 
 /// Names in order, each found by a map. Of equal names the first counts.
-#[derive(Drop)]
 pub struct Slots<'a> {
     names: Vec<&'a [u8]>,
     slots: IndexMap<NameKey<'a>, usize, KeyHashes>,
+}
+
+/// By hand, so that the end of the names is one call wherever they are let go.
+impl Drop for Slots<'_> {
+    fn drop(self) {
+        let Slots { names: _, slots: _ } = self;
+    }
 }
 
 impl<'a> Model for Slots<'a> {

@@ -1,5 +1,7 @@
 -- What each function made is the code of its form.
-use Rattle.std.proofs.Common.{◌-◌, ◌<◌, length, List, [], ◌∷◌, refl, sym, ap, ◌∙◌, arith}
+use Rattle.std.proofs.Common.{◌-◌, ◌<◌, length, List, [], ◌∷◌, Option, refl, sym, ap, ◌∙◌, arith}
+use Rattle.std.specs.Global.{Global}
+use Rattle.std.specs.declared.boxed.Box.{Box}
 use Rattle.sem_words.specs.declared.text.Text.{Text}
 use Rattle.asm_lang.specs.Modules.{Stmt, labelled}
 use Rattle.asm_lang_valid.specs.Rows.{stmt_count, stmts_count}
@@ -7,16 +9,16 @@ use Rattle.asm_tree.specs.declared.tree.Stmt.{Stmt as CodeStmt}
 use Rattle.asm_tree.specs.declared.tree.Clause.{Clause}
 use Rattle.sem_words.specs.Lists.{list_items}
 use Rattle.asm_tree.specs.Views.{texts_view, text_option, expr_view, expr_option, stmt_view, stmts_view, clauses_view}
-use Rattle.asm_run_emit_bodies.proofs.Shapes.{block_is, plain_is, return_is, if_only_is, if_else_is, while_is, do_is, for_is, labelled_is, switch_is, empty_is, break_is, continue_is}
+use Rattle.asm_run_emit_bodies.proofs.Shapes.{block_is, plain_is, return_is, choice_is, while_is, do_is, for_is, labelled_is, switch_is, empty_is, break_is, continue_is}
 use Rattle.asm_run_code.specs.declared.op.Op.TheVariants.{Go}
-use Rattle.asm_run_code.specs.Bodies.{a_loop, a_switch, a_named, stmt, clauses_code}
+use Rattle.asm_run_code.specs.Bodies.{a_loop, a_switch, a_named, stmt}
 use Rattle.asm_run_names.specs.Names.{scope_said}
 use Rattle.asm_run_emit_values.proofs.Codes.{told}
-use Rattle.asm_run_emit_bodies.specs.Jumps.{around_view}
+use Rattle.asm_run_emit_bodies.specs.Choices.{stmt_option, otherwise, otherwise_at, otherwise_count}
 use Rattle.asm_run_emit_bodies.proofs.Inside.{held, meets_entered, meets_same}
-use Rattle.asm_run_emit_bodies.proofs.Forms.{block_form, plain_form, empty_form, break_form, continue_form, return_bare, if_only_bare, if_else_bare, labelled_bare, switch_bare}
-use Rattle.asm_run_emit_bodies.proofs.Made.{as_form, if_made, if_else_made, turns_made, while_made, do_made, for_made, labelled_made, switch_made}
-use Rattle.asm_run_emit_bodies.proofs.Turns.{stmts_begin, stmts_turn, stmts_end, code_begin, starts_begin, code_turn, starts_turn, code_end, starts_end, stmt_within, clause_within}
+use Rattle.asm_run_emit_bodies.proofs.Forms.{block_form, plain_form, empty_form, break_form, continue_form, return_bare, choice_bare, labelled_bare, switch_bare}
+use Rattle.asm_run_emit_bodies.proofs.Made.{as_form, told_at, told_put, choice_made, loop_made, body_put, labelled_put, switch_made}
+use Rattle.asm_run_emit_bodies.proofs.Turns.{stmts_begin, stmts_turn, stmts_end, code_begin, starts_begin, code_turn, starts_turn, code_end, starts_end, stmt_within, clause_within, choice_count}
 use Rattle.asm_run_emit_bodies.proofs.statements.+statements.Goals as goal
 
 pub emit_stmt-returns-in-Block-clause-code : goal.emit_stmt-returns-in-Block-clause-code
@@ -27,29 +29,9 @@ pub emit_stmt-returns-in-Plain-clause-code : goal.emit_stmt-returns-in-Plain-cla
 emit_stmt-returns-in-Plain-clause-code t c = λ os m.
     as_form c.emit_value.result c.emit_value.new.output (scope_said c.args.names.now) os (texts_view c.args.own.now) c.args.free c.args.output.now (stmt_view c.args.statement.now) _ (plain_is c.args.statement.now c.in-Plain.expr c.in-Plain.is) (told c.emit_value.result c.emit_value.new.output _ _ (sym (plain_form (scope_said c.args.names.now) os (texts_view c.args.own.now) c.args.free c.args.output.now (expr_view c.in-Plain.expr))) c.emit_value.ensures)
 
-pub emit_stmt-returns-in-None-clause-code : goal.emit_stmt-returns-in-None-clause-code
-emit_stmt-returns-in-None-clause-code t c = λ os m.
-    as_form c.emit_if.result c.emit_if.new.output (scope_said c.args.names.now) os (texts_view c.args.own.now) c.args.free c.args.output.now (stmt_view c.args.statement.now) _ (if_only_is c.args.statement.now c.in-If.condition _ _ c.deref.result.now c.in-If.is c.in-None.is c.deref.ensures) (told c.emit_if.result c.emit_if.new.output _ _ (sym (if_only_bare (scope_said c.args.names.now) os (texts_view c.args.own.now) c.args.free c.args.output.now (expr_view c.in-If.condition) (stmt_view c.deref.result.now))) (c.emit_if.ensures.code os m))
-
-pub emit_stmt-returns-in-Some-clause-code : goal.emit_stmt-returns-in-Some-clause-code
-emit_stmt-returns-in-Some-clause-code t c = λ os m.
-    as_form c.emit_if_else.result c.emit_if_else.new.output (scope_said c.args.names.now) os (texts_view c.args.own.now) c.args.free c.args.output.now (stmt_view c.args.statement.now) _ (if_else_is c.args.statement.now c.in-If.condition _ _ _ c.deref-in-Some.result.now c.deref-in-Some-2.result.now c.in-If.is c.in-Some.is c.deref-in-Some.ensures c.deref-in-Some-2.ensures) (told c.emit_if_else.result c.emit_if_else.new.output _ _ (sym (if_else_bare (scope_said c.args.names.now) os (texts_view c.args.own.now) c.args.free c.args.output.now (expr_view c.in-If.condition) (stmt_view c.deref-in-Some.result.now) (stmt_view c.deref-in-Some-2.result.now))) (c.emit_if_else.ensures.code os m))
-
 pub emit_stmt-returns-in-Return-clause-code : goal.emit_stmt-returns-in-Return-clause-code
 emit_stmt-returns-in-Return-clause-code t c = λ os m.
     as_form c.emit_return.result c.emit_return.new.output (scope_said c.args.names.now) os (texts_view c.args.own.now) c.args.free c.args.output.now (stmt_view c.args.statement.now) _ (return_is c.args.statement.now c.in-Return.value c.in-Return.is) (told c.emit_return.result c.emit_return.new.output _ _ (sym (return_bare (scope_said c.args.names.now) os (texts_view c.args.own.now) c.args.free c.args.output.now (expr_option c.in-Return.value))) c.emit_return.ensures)
-
-pub emit_stmt-returns-in-While-clause-code : goal.emit_stmt-returns-in-While-clause-code
-emit_stmt-returns-in-While-clause-code t c = λ os m.
-    as_form c.emit_while.result c.emit_while.new.output (scope_said c.args.names.now) os (texts_view c.args.own.now) c.args.free c.args.output.now (stmt_view c.args.statement.now) _ (while_is c.args.statement.now c.in-While.condition _ c.deref-in-While.result.now c.in-While.is c.deref-in-While.ensures) (c.emit_while.ensures.code os m)
-
-pub emit_stmt-returns-in-DoWhile-clause-code : goal.emit_stmt-returns-in-DoWhile-clause-code
-emit_stmt-returns-in-DoWhile-clause-code t c = λ os m.
-    as_form c.emit_do.result c.emit_do.new.output (scope_said c.args.names.now) os (texts_view c.args.own.now) c.args.free c.args.output.now (stmt_view c.args.statement.now) _ (do_is c.args.statement.now _ c.in-DoWhile.condition c.deref-in-DoWhile.result.now c.in-DoWhile.is c.deref-in-DoWhile.ensures) (c.emit_do.ensures.code os m)
-
-pub emit_stmt-returns-in-For-clause-code : goal.emit_stmt-returns-in-For-clause-code
-emit_stmt-returns-in-For-clause-code t c = λ os m.
-    as_form c.emit_for.result c.emit_for.new.output (scope_said c.args.names.now) os (texts_view c.args.own.now) c.args.free c.args.output.now (stmt_view c.args.statement.now) _ (for_is c.args.statement.now c.in-For.head _ c.deref-head.result.now c.deref-in-For.result.now c.in-For.is c.deref-head.ensures c.deref-in-For.ensures) (c.emit_for.ensures.code os m)
 
 pub emit_stmt-returns-in-Break-clause-code : goal.emit_stmt-returns-in-Break-clause-code
 emit_stmt-returns-in-Break-clause-code t c = λ os m.
@@ -70,68 +52,6 @@ emit_stmt-returns-in-Switch-clause-code t c = λ os m.
 pub emit_stmt-returns-in-Empty-clause-code : goal.emit_stmt-returns-in-Empty-clause-code
 emit_stmt-returns-in-Empty-clause-code t c = λ os m.
     sym (ap (λ (s : Stmt). stmt (scope_said c.args.names.now) os (texts_view c.args.own.now) c.args.free s c.args.output.now) (empty_is c.args.statement.now c.in-Empty.is) ∙ empty_form (scope_said c.args.names.now) os (texts_view c.args.own.now) c.args.free c.args.output.now)
-
-pub emit_labelled-returns-clause-code : goal.emit_labelled-returns-clause-code
-emit_labelled-returns-clause-code t c = λ os m.
-    labelled_made c.emit_inside.result c.emit_inside.new.output (scope_said c.args.names.now) os [] c.args.free c.args.output.now (texts_view c.args.labels.now) (stmt_view c.args.body.now) c.in_ok-past.past (a_named (texts_view c.args.labels.now) c.in_ok-past.past ∷ os) c.in_ok-past.ensures refl (c.emit_inside.ensures.code os m)
-
-pub emit_inside-returns-clause-code : goal.emit_inside-returns-clause-code
-emit_inside-returns-clause-code t c = λ os m.
-    c.in_ok-emit_stmt.ensures.code (around_view c.args.around ∷ os) (meets_entered (around_view c.args.around) os _ _ c.in_ok-enter.ensures m)
-
-pub emit_inside-returns-clause-kept : goal.emit_inside-returns-clause-kept
-emit_inside-returns-clause-kept t c = c.leave.ensures c.args.jumps.now (c.in_ok-emit_stmt.ensures.kept ∙ c.in_ok-enter.ensures)
-
-pub emit_if-returns-clause-code : goal.emit_if-returns-clause-code
-emit_if-returns-clause-code t c = λ os m.
-    if_made c.emit_test.result c.emit_test.new.output (scope_said c.args.names.now) os [] c.args.free c.args.output.now (expr_view c.args.condition.now) (stmt_view c.args.yes.now) c.in_ok-past.past c.emit_bare.new.output c.in_ok-past.ensures (c.in_ok-emit_bare.ensures.code os m) c.emit_test.ensures
-
-pub emit_if_else-returns-clause-code : goal.emit_if_else-returns-clause-code
-emit_if_else-returns-clause-code t c = λ os m.
-    if_else_made c.emit_test.result c.emit_test.new.output (scope_said c.args.names.now) os [] c.args.free c.args.output.now (expr_view c.args.condition.now) (stmt_view c.args.yes.now) (stmt_view c.args.no.now) c.in_ok-past.past c.in_ok-at.at c.emit_bare.new.output c.put_past.new.output c.emit_bare-2.new.output c.in_ok-past.ensures (c.in_ok-emit_bare.ensures.code os m) c.in_ok-at.ensures.at c.in_ok-at.ensures.put (c.in_ok-emit_bare-2.ensures.code os (meets_same os _ _ c.in_ok-emit_bare.ensures.kept m)) c.emit_test.ensures
-
-pub emit_while-returns-clause-code : goal.emit_while-returns-clause-code
-emit_while-returns-clause-code t c = λ os m.
-    while_made c.end_while.result c.end_while.new.output (scope_said c.args.names.now) os (texts_view c.args.own.now) c.args.free c.args.output.now (expr_view c.args.condition.now) (stmt_view c.args.body.now) c.in_ok-past.past c.put_again.new.output c.emit_turns.new.output c.in_ok-past.ensures.past c.in_ok-past.ensures.put (c.in_ok-emit_turns.ensures.code os m) c.end_while.ensures
-
-pub emit_do-returns-clause-code : goal.emit_do-returns-clause-code
-emit_do-returns-clause-code t c = λ os m.
-    do_made c.put.result c.put.new.self (scope_said c.args.names.now) os (texts_view c.args.own.now) c.args.free c.args.output.now (stmt_view c.args.body.now) (expr_view c.args.condition.now) c.in_ok-past.past c.start_do.new.output c.emit_turns.new.output c.in_ok-past.ensures.past c.in_ok-past.ensures.put (c.in_ok-emit_turns.ensures.code os m) c.put.ensures
-
-pub emit_for-returns-clause-code : goal.emit_for-returns-clause-code
-emit_for-returns-clause-code t c = λ os m.
-    for_made c.end_for.result c.end_for.new.output (scope_said c.args.names.now) os (texts_view c.args.own.now) c.args.free c.args.output.now (expr_option c.args.head.now.start) (expr_option c.args.head.now.condition) (expr_option c.args.head.now.step) (stmt_view c.args.body.now) c.in_ok-past.past c.start_for.new.output c.emit_turns.new.output c.in_ok-past.ensures.past c.in_ok-past.ensures.put (c.in_ok-emit_turns.ensures.code os m) c.end_for.ensures
-
-pub emit_turns-returns-clause-code : goal.emit_turns-returns-clause-code
-emit_turns-returns-clause-code t c = λ os m.
-    turns_made c.emit_bare.result c.emit_bare.new.output (scope_said c.args.names.now) os (texts_view c.args.own.now) c.args.free c.args.output.now (stmt_view c.args.body.now) c.args.past c.in_ok-inner.inner c.in_ok-turn.turn c.emit_bare.new.output c.in_ok-inner.ensures c.in_ok-turn.ensures
-    (c.in_ok-emit_bare.ensures.code (a_loop (texts_view c.args.own.now) c.in_ok-turn.turn c.args.past ∷ os) (meets_entered (a_loop (texts_view c.args.own.now) c.in_ok-turn.turn c.args.past) os _ _ c.in_ok-enter.ensures m))
-
-pub emit_turns-returns-clause-kept : goal.emit_turns-returns-clause-kept
-emit_turns-returns-clause-kept t c = c.leave.ensures c.args.jumps.now (c.in_ok-emit_bare.ensures.kept ∙ c.in_ok-enter.ensures)
-
-pub emit_switch-returns-clause-code : goal.emit_switch-returns-clause-code
-emit_switch-returns-clause-code t c = λ os m.
-    switch_made c.emit_choice.result c.emit_choice.new.output (scope_said c.args.names.now) os [] c.args.free c.args.output.now (expr_view c.args.subject.now) (clauses_view c.args.clauses.now) c.emit_cases.new.starts c.emit_cases.new.output (c.in_ok-emit_cases.ensures.code os m) (c.in_ok-emit_cases.ensures.starts os m) c.emit_choice.ensures
-
-pub emit_switch-returns-clause-kept : goal.emit_switch-returns-clause-kept
-emit_switch-returns-clause-kept t c = held c.emit_choice.result _ _ c.in_ok-emit_cases.ensures.kept
-
-pub emit_switch-emit_choice-requires : goal.emit_switch-emit_choice-requires
-emit_switch-emit_choice-requires t c = c.in_ok-emit_cases.ensures.count
-
-pub emit_cases-returns-clause-code : goal.emit_cases-returns-clause-code
-emit_cases-returns-clause-code t c = λ os m.
-    c.in_ok-emit_clauses.ensures.code (a_switch c.in_ok-past.past ∷ os) (meets_entered (a_switch c.in_ok-past.past) os _ _ c.in_ok-enter.ensures m)
-    ∙ ap (λ p. (clauses_code (scope_said c.args.names.now) (a_switch p ∷ os) c.args.free (clauses_view c.args.clauses.now) c.args.output.now).code) c.in_ok-past.ensures
-
-pub emit_cases-returns-clause-starts : goal.emit_cases-returns-clause-starts
-emit_cases-returns-clause-starts t c = λ os m.
-    c.in_ok-emit_clauses.ensures.starts (a_switch c.in_ok-past.past ∷ os) (meets_entered (a_switch c.in_ok-past.past) os _ _ c.in_ok-enter.ensures m)
-    ∙ ap (λ p. (clauses_code (scope_said c.args.names.now) (a_switch p ∷ os) c.args.free (clauses_view c.args.clauses.now) c.args.output.now).starts) c.in_ok-past.ensures
-
-pub emit_cases-returns-clause-kept : goal.emit_cases-returns-clause-kept
-emit_cases-returns-clause-kept t c = c.leave.ensures c.args.jumps.now (c.in_ok-emit_clauses.ensures.kept ∙ c.in_ok-enter.ensures)
 
 pub emit_clauses-loop-i-init : goal.emit_clauses-loop-i-init
 emit_clauses-loop-i-init t c =
@@ -185,36 +105,6 @@ emit_stmt-emit_stmts-requires t c =
     let k = ap stmt_count (block_is c.args.statement.now _ c.as_slice.result.now c.in-Block.is c.as_slice.ensures) in
     (omega arith, tt)
 
-pub emit_stmt-emit_if-requires : goal.emit_stmt-emit_if-requires
-emit_stmt-emit_if-requires t c =
-    let d0 = c.decreases in
-    let k = ap stmt_count (if_only_is c.args.statement.now c.in-If.condition _ _ c.deref.result.now c.in-If.is c.in-None.is c.deref.ensures) in
-    (omega arith, tt)
-
-pub emit_stmt-emit_if_else-requires : goal.emit_stmt-emit_if_else-requires
-emit_stmt-emit_if_else-requires t c =
-    let d0 = c.decreases in
-    let k = ap stmt_count (if_else_is c.args.statement.now c.in-If.condition _ _ _ c.deref-in-Some.result.now c.deref-in-Some-2.result.now c.in-If.is c.in-Some.is c.deref-in-Some.ensures c.deref-in-Some-2.ensures) in
-    (omega arith, tt)
-
-pub emit_stmt-emit_while-requires : goal.emit_stmt-emit_while-requires
-emit_stmt-emit_while-requires t c =
-    let d0 = c.decreases in
-    let k = ap stmt_count (while_is c.args.statement.now c.in-While.condition _ c.deref-in-While.result.now c.in-While.is c.deref-in-While.ensures) in
-    (omega arith, tt)
-
-pub emit_stmt-emit_do-requires : goal.emit_stmt-emit_do-requires
-emit_stmt-emit_do-requires t c =
-    let d0 = c.decreases in
-    let k = ap stmt_count (do_is c.args.statement.now _ c.in-DoWhile.condition c.deref-in-DoWhile.result.now c.in-DoWhile.is c.deref-in-DoWhile.ensures) in
-    (omega arith, tt)
-
-pub emit_stmt-emit_for-requires : goal.emit_stmt-emit_for-requires
-emit_stmt-emit_for-requires t c =
-    let d0 = c.decreases in
-    let k = ap stmt_count (for_is c.args.statement.now c.in-For.head _ c.deref-head.result.now c.deref-in-For.result.now c.in-For.is c.deref-head.ensures c.deref-in-For.ensures) in
-    (omega arith, tt)
-
 pub emit_stmt-emit_labelled-requires : goal.emit_stmt-emit_labelled-requires
 emit_stmt-emit_labelled-requires t c =
     let d0 = c.decreases in
@@ -227,63 +117,8 @@ emit_stmt-emit_switch-requires t c =
     let k = ap stmt_count (switch_is c.args.statement.now c.in-Switch.subject _ c.as_slice-in-Switch.result.now c.in-Switch.is c.as_slice-in-Switch.ensures) in
     (omega arith, tt)
 
-pub emit_if-emit_bare-requires : goal.emit_if-emit_bare-requires
-emit_if-emit_bare-requires t c =
-    let d0 = c.decreases in
-    (omega arith, tt)
-
-pub emit_if_else-emit_bare-requires : goal.emit_if_else-emit_bare-requires
-emit_if_else-emit_bare-requires t c =
-    let d0 = c.decreases in
-    (omega arith, tt)
-
-pub emit_if_else-emit_bare-requires-2 : goal.emit_if_else-emit_bare-requires-2
-emit_if_else-emit_bare-requires-2 t c =
-    let d0 = c.decreases in
-    (omega arith, tt)
-
-pub emit_while-emit_turns-requires : goal.emit_while-emit_turns-requires
-emit_while-emit_turns-requires t c =
-    let d0 = c.decreases in
-    (omega arith, tt)
-
-pub emit_do-emit_turns-requires : goal.emit_do-emit_turns-requires
-emit_do-emit_turns-requires t c =
-    let d0 = c.decreases in
-    (omega arith, tt)
-
-pub emit_for-emit_turns-requires : goal.emit_for-emit_turns-requires
-emit_for-emit_turns-requires t c =
-    let d0 = c.decreases in
-    (omega arith, tt)
-
-pub emit_turns-emit_bare-requires : goal.emit_turns-emit_bare-requires
-emit_turns-emit_bare-requires t c =
-    let d0 = c.decreases in
-    (omega arith, tt)
-
 pub emit_bare-emit_stmt-requires : goal.emit_bare-emit_stmt-requires
 emit_bare-emit_stmt-requires t c =
-    let d0 = c.decreases in
-    (omega arith, tt)
-
-pub emit_switch-emit_cases-requires : goal.emit_switch-emit_cases-requires
-emit_switch-emit_cases-requires t c =
-    let d0 = c.decreases in
-    (omega arith, c.new-starts.ensures)
-
-pub emit_cases-emit_clauses-requires : goal.emit_cases-emit_clauses-requires
-emit_cases-emit_clauses-requires t c =
-    let d0 = c.decreases in
-    (omega arith, c.in_ok-put.ensures ∙ ap (λ l. c.in_ok-past.past ∷ l) c.requires ∙ ap (λ n. n ∷ []) c.in_ok-past.ensures)
-
-pub emit_labelled-emit_inside-requires : goal.emit_labelled-emit_inside-requires
-emit_labelled-emit_inside-requires t c =
-    let d0 = c.decreases in
-    (omega arith, tt)
-
-pub emit_inside-emit_stmt-requires : goal.emit_inside-emit_stmt-requires
-emit_inside-emit_stmt-requires t c =
     let d0 = c.decreases in
     (omega arith, tt)
 
@@ -301,3 +136,131 @@ emit_clauses-emit_stmts-requires t c =
     let k = clause_within c.args.clauses.now (c.loop-i.i - 1) c.index-clauses-i.result within c.index-clauses-i.is in
     let e = ap (λ (l : List CodeStmt). stmts_count (stmts_view l)) (c.as_slice.ensures ∙ ap (λ (k : Clause). list_items k.body) (sym c.index-clauses-i.is)) in
     (omega arith, tt)
+
+pub emit_stmt-returns-in-If-clause-code : goal.emit_stmt-returns-in-If-clause-code
+emit_stmt-returns-in-If-clause-code t c = λ os m.
+    as_form c.emit_if.result c.emit_if.new.output (scope_said c.args.names.now) os (texts_view c.args.own.now) c.args.free c.args.output.now (stmt_view c.args.statement.now) _ (choice_is c.args.statement.now c.in-If.condition _ c.in-If.no c.deref.result.now c.in-If.is c.deref.ensures) (told c.emit_if.result c.emit_if.new.output _ _ (sym (choice_bare (scope_said c.args.names.now) os (texts_view c.args.own.now) c.args.free c.args.output.now (expr_view c.in-If.condition) (stmt_view c.deref.result.now) (stmt_option c.in-If.no))) (c.emit_if.ensures.code os m))
+
+pub emit_stmt-returns-in-While-clause-code : goal.emit_stmt-returns-in-While-clause-code
+emit_stmt-returns-in-While-clause-code t c = λ os m.
+    as_form c.emit_loop.result c.emit_loop.new.output (scope_said c.args.names.now) os (texts_view c.args.own.now) c.args.free c.args.output.now (stmt_view c.args.statement.now) _ (while_is c.args.statement.now c.in-While.condition _ c.deref-in-While.result.now c.in-While.is c.deref-in-While.ensures) (c.emit_loop.ensures.code os m)
+
+pub emit_stmt-returns-in-DoWhile-clause-code : goal.emit_stmt-returns-in-DoWhile-clause-code
+emit_stmt-returns-in-DoWhile-clause-code t c = λ os m.
+    as_form c.emit_loop-in-DoWhile.result c.emit_loop-in-DoWhile.new.output (scope_said c.args.names.now) os (texts_view c.args.own.now) c.args.free c.args.output.now (stmt_view c.args.statement.now) _ (do_is c.args.statement.now _ c.in-DoWhile.condition c.deref-in-DoWhile.result.now c.in-DoWhile.is c.deref-in-DoWhile.ensures) (c.emit_loop-in-DoWhile.ensures.code os m)
+
+pub emit_stmt-returns-in-For-clause-code : goal.emit_stmt-returns-in-For-clause-code
+emit_stmt-returns-in-For-clause-code t c = λ os m.
+    as_form c.emit_loop-in-For.result c.emit_loop-in-For.new.output (scope_said c.args.names.now) os (texts_view c.args.own.now) c.args.free c.args.output.now (stmt_view c.args.statement.now) _ (for_is c.args.statement.now c.in-For.head _ c.deref-head.result.now c.deref-in-For.result.now c.in-For.is c.deref-head.ensures c.deref-in-For.ensures) (c.emit_loop-in-For.ensures.code os m)
+
+pub emit_labelled-returns-clause-code : goal.emit_labelled-returns-clause-code
+emit_labelled-returns-clause-code t c = λ os m.
+    labelled_put (scope_said c.args.names.now) os [] c.args.free c.args.output.now (texts_view c.args.labels.now) (stmt_view c.args.body.now) c.in_ok-past.past c.emit_stmt.new.output c.in_ok-past.ensures
+    (c.in_ok-emit_stmt.ensures.code (a_named (texts_view c.args.labels.now) c.in_ok-past.past ∷ os) (meets_entered (a_named (texts_view c.args.labels.now) c.in_ok-past.past) os _ _ c.in_ok-enter_labelled.ensures m))
+
+pub emit_labelled-returns-clause-kept : goal.emit_labelled-returns-clause-kept
+emit_labelled-returns-clause-kept t c = c.leave_labelled.ensures c.args.jumps.now c.in_ok-past.past (c.in_ok-emit_stmt.ensures.kept ∙ c.in_ok-enter_labelled.ensures)
+
+pub emit_if-returns-clause-code : goal.emit_if-returns-clause-code
+emit_if-returns-clause-code t c = λ os m.
+    choice_made c.emit_test.result c.emit_test.new.output (scope_said c.args.names.now) os [] c.args.free c.args.output.now (expr_view c.args.condition.now) (stmt_view c.args.yes.now) (stmt_option c.args.no.now) c.in_ok-at.at c.emit_else.new.output c.emit_bare.new.output (c.in_ok-at.ensures.at os m) (c.in_ok-at.ensures.code os m)
+    (c.in_ok-emit_bare.ensures.code os (meets_same os _ _ c.in_ok-at.ensures.kept m)) c.emit_test.ensures
+
+pub emit_else-returns-in-None-clause-at : goal.emit_else-returns-in-None-clause-at
+emit_else-returns-in-None-clause-at t c = λ os m. c.in_ok-past.ensures ∙ sym (ap (λ (x : Option (Box CodeStmt Global)). otherwise_at (scope_said c.args.names.now) os c.args.free (stmt_option x) c.args.output.now) c.in-None.is)
+
+pub emit_else-returns-in-None-clause-code : goal.emit_else-returns-in-None-clause-code
+emit_else-returns-in-None-clause-code t c = λ os m. sym (ap (λ (x : Option (Box CodeStmt Global)). otherwise (scope_said c.args.names.now) os c.args.free (stmt_option x) c.args.output.now) c.in-None.is)
+
+pub emit_else-returns-in_ok-emit_bare-in-Some-clause-at : goal.emit_else-returns-in_ok-emit_bare-in-Some-clause-at
+emit_else-returns-in_ok-emit_bare-in-Some-clause-at t c = λ os m.
+    told_at c.put_past.result _ _
+    (ap length (c.in_ok-emit_bare-in-Some.ensures.code os m ∙ ap (λ (s : CodeStmt). stmt (scope_said c.args.names.now) os [] c.args.free (stmt_view s) c.args.output.now) c.deref.ensures) ∙ sym (ap (λ (x : Option (Box CodeStmt Global)). otherwise_at (scope_said c.args.names.now) os c.args.free (stmt_option x) c.args.output.now) c.in-Some.is))
+    c.put_past.ensures.at
+
+pub emit_else-returns-in_ok-emit_bare-in-Some-clause-code : goal.emit_else-returns-in_ok-emit_bare-in-Some-clause-code
+emit_else-returns-in_ok-emit_bare-in-Some-clause-code t c = λ os m.
+    told_put c.put_past.result c.put_past.new.output _ _
+    (ap (λ l. Go c.in_ok-past.past ∷ l) (c.in_ok-emit_bare-in-Some.ensures.code os m ∙ ap (λ (s : CodeStmt). stmt (scope_said c.args.names.now) os [] c.args.free (stmt_view s) c.args.output.now) c.deref.ensures)
+    ∙ ap (λ p. Go p ∷ stmt (scope_said c.args.names.now) os [] c.args.free (stmt_view c.in-Some.no.value) c.args.output.now) c.in_ok-past.ensures ∙ sym (ap (λ (x : Option (Box CodeStmt Global)). otherwise (scope_said c.args.names.now) os c.args.free (stmt_option x) c.args.output.now) c.in-Some.is))
+    c.put_past.ensures.put
+
+pub emit_loop-returns-clause-code : goal.emit_loop-returns-clause-code
+emit_loop-returns-clause-code t c = λ os m.
+    loop_made c.begin_turns.result c.begin_turns.new.output (scope_said c.args.names.now) os (texts_view c.args.own.now) c.args.free c.args.output.now c.args.turns (stmt_view c.args.body.now) c.in_ok-past.past c.end_turns.new.output c.emit_bare.new.output c.in_ok-past.ensures.past c.in_ok-past.ensures.put
+    (body_put (scope_said c.args.names.now) os (texts_view c.args.own.now) c.args.free c.end_turns.new.output (stmt_view c.args.body.now) c.in_ok-past.past c.in_ok-inner.inner c.emit_bare.new.output c.in_ok-inner.ensures.inner (c.in_ok-emit_bare.ensures.code (a_loop (texts_view c.args.own.now) (length c.end_turns.new.output) c.in_ok-past.past ∷ os) (meets_entered (a_loop (texts_view c.args.own.now) (length c.end_turns.new.output) c.in_ok-past.past) os _ _ c.in_ok-inner.ensures.entered m)))
+    c.begin_turns.ensures
+
+pub emit_loop-returns-clause-kept : goal.emit_loop-returns-clause-kept
+emit_loop-returns-clause-kept t c = held c.begin_turns.result _ _ (c.leave_loop.ensures c.args.jumps.now (length c.end_turns.new.output) c.in_ok-past.past (c.in_ok-emit_bare.ensures.kept ∙ c.in_ok-inner.ensures.entered))
+
+pub emit_switch-returns-clause-code : goal.emit_switch-returns-clause-code
+emit_switch-returns-clause-code t c = λ os m.
+    switch_made c.emit_choice.result c.emit_choice.new.output (scope_said c.args.names.now) os [] c.args.free c.args.output.now (expr_view c.args.subject.now) (clauses_view c.args.clauses.now) c.emit_clauses.new.starts c.emit_clauses.new.output
+    (c.in_ok-emit_clauses.ensures.code (a_switch (length c.args.output.now) ∷ os) (meets_entered (a_switch (length c.args.output.now)) os _ _ c.in_ok-start_switch.ensures.entered m)) (c.in_ok-emit_clauses.ensures.starts (a_switch (length c.args.output.now) ∷ os) (meets_entered (a_switch (length c.args.output.now)) os _ _ c.in_ok-start_switch.ensures.entered m)) c.emit_choice.ensures
+
+pub emit_switch-returns-clause-kept : goal.emit_switch-returns-clause-kept
+emit_switch-returns-clause-kept t c = held c.emit_choice.result _ _ (c.leave_switch.ensures c.args.jumps.now (length c.args.output.now) (c.in_ok-emit_clauses.ensures.kept ∙ c.in_ok-start_switch.ensures.entered))
+
+pub emit_switch-start_switch-requires : goal.emit_switch-start_switch-requires
+emit_switch-start_switch-requires t c = c.new-starts.ensures
+
+pub emit_switch-emit_choice-requires : goal.emit_switch-emit_choice-requires
+emit_switch-emit_choice-requires t c = c.in_ok-emit_clauses.ensures.count
+
+pub emit_stmt-emit_if-requires : goal.emit_stmt-emit_if-requires
+emit_stmt-emit_if-requires t c =
+    let d0 = c.decreases in
+    let k = ap stmt_count (choice_is c.args.statement.now c.in-If.condition _ c.in-If.no c.deref.result.now c.in-If.is c.deref.ensures) in
+    let n = choice_count (expr_view c.in-If.condition) (stmt_view c.deref.result.now) (stmt_option c.in-If.no) in
+    (omega arith, tt)
+
+pub emit_stmt-emit_loop-requires : goal.emit_stmt-emit_loop-requires
+emit_stmt-emit_loop-requires t c =
+    let d0 = c.decreases in
+    let k = ap stmt_count (while_is c.args.statement.now c.in-While.condition _ c.deref-in-While.result.now c.in-While.is c.deref-in-While.ensures) in
+    (omega arith, tt)
+
+pub emit_stmt-emit_loop-requires-in-DoWhile : goal.emit_stmt-emit_loop-requires-in-DoWhile
+emit_stmt-emit_loop-requires-in-DoWhile t c =
+    let d0 = c.decreases in
+    let k = ap stmt_count (do_is c.args.statement.now _ c.in-DoWhile.condition c.deref-in-DoWhile.result.now c.in-DoWhile.is c.deref-in-DoWhile.ensures) in
+    (omega arith, tt)
+
+pub emit_stmt-emit_loop-requires-in-For : goal.emit_stmt-emit_loop-requires-in-For
+emit_stmt-emit_loop-requires-in-For t c =
+    let d0 = c.decreases in
+    let k = ap stmt_count (for_is c.args.statement.now c.in-For.head _ c.deref-head.result.now c.deref-in-For.result.now c.in-For.is c.deref-head.ensures c.deref-in-For.ensures) in
+    (omega arith, tt)
+
+pub emit_if-emit_else-requires : goal.emit_if-emit_else-requires
+emit_if-emit_else-requires t c =
+    let d0 = c.decreases in
+    (omega arith, tt)
+
+pub emit_if-emit_bare-requires : goal.emit_if-emit_bare-requires
+emit_if-emit_bare-requires t c =
+    let d0 = c.decreases in
+    (omega arith, tt)
+
+pub emit_loop-emit_bare-requires : goal.emit_loop-emit_bare-requires
+emit_loop-emit_bare-requires t c =
+    let d0 = c.decreases in
+    (omega arith, tt)
+
+pub emit_labelled-emit_stmt-requires : goal.emit_labelled-emit_stmt-requires
+emit_labelled-emit_stmt-requires t c =
+    let d0 = c.decreases in
+    (omega arith, tt)
+
+pub emit_else-emit_bare-requires : goal.emit_else-emit_bare-requires
+emit_else-emit_bare-requires t c =
+    let d0 = c.decreases in
+    let k = ap (λ (x : Option (Box CodeStmt Global)). otherwise_count (stmt_option x)) c.in-Some.is in
+    let e = ap (λ (s : CodeStmt). stmt_count (stmt_view s)) c.deref.ensures in
+    (omega arith, tt)
+
+pub emit_switch-emit_clauses-requires : goal.emit_switch-emit_clauses-requires
+emit_switch-emit_clauses-requires t c =
+    let d0 = c.decreases in
+    (omega arith, c.in_ok-start_switch.ensures.start)

@@ -5,6 +5,7 @@ use Rattle.asm_lang_valid.specs.Rows.{stmt_count, stmts_count, clauses_count}
 use Rattle.asm_run_code.specs.Bodies.{Around, stmts_code, clauses_code}
 use Rattle.asm_run_names.specs.Names.{scope_said}
 use Rattle.asm_run_emit_bodies.specs.Jumps.{Meets}
+use Rattle.asm_run_emit_bodies.specs.Choices.{stmt_option, otherwise_count}
 use Rattle.asm_run_emit_bodies.proofs.statements.+statements.Given as goal
 
 abbrev pub invariant-emit_stmts-loop-i : goal.invariant-emit_stmts-loop-i
@@ -34,41 +35,26 @@ decreases-emit_clauses-loop-i l = l.i
 abbrev pub decreases-emit_stmt : goal.decreases-emit_stmt
 decreases-emit_stmt l = 8 * stmt_count (stmt_view l.statement.now)
 
-abbrev pub decreases-emit_labelled : goal.decreases-emit_labelled
-decreases-emit_labelled l = 8 * stmt_count (stmt_view l.body.now) + 2
-
-abbrev pub decreases-emit_inside : goal.decreases-emit_inside
-decreases-emit_inside l = 8 * stmt_count (stmt_view l.body.now) + 1
-
 abbrev pub decreases-emit_stmts : goal.decreases-emit_stmts
 decreases-emit_stmts l = 8 * stmts_count (stmts_view l.body.now) + 2
-
-abbrev pub decreases-emit_if : goal.decreases-emit_if
-decreases-emit_if l = 8 * stmt_count (stmt_view l.yes.now) + 2
-
-abbrev pub decreases-emit_if_else : goal.decreases-emit_if_else
-decreases-emit_if_else l = 8 * (stmt_count (stmt_view l.yes.now) + stmt_count (stmt_view l.no.now)) + 2
-
-abbrev pub decreases-emit_while : goal.decreases-emit_while
-decreases-emit_while l = 8 * stmt_count (stmt_view l.body.now) + 3
-
-abbrev pub decreases-emit_do : goal.decreases-emit_do
-decreases-emit_do l = 8 * stmt_count (stmt_view l.body.now) + 3
-
-abbrev pub decreases-emit_for : goal.decreases-emit_for
-decreases-emit_for l = 8 * stmt_count (stmt_view l.body.now) + 3
-
-abbrev pub decreases-emit_switch : goal.decreases-emit_switch
-decreases-emit_switch l = 8 * clauses_count (clauses_view l.clauses.now) + 5
 
 abbrev pub decreases-emit_clauses : goal.decreases-emit_clauses
 decreases-emit_clauses l = 8 * clauses_count (clauses_view l.clauses.now) + 3
 
-abbrev pub decreases-emit_turns : goal.decreases-emit_turns
-decreases-emit_turns l = 8 * stmt_count (stmt_view l.body.now) + 2
-
-abbrev pub decreases-emit_cases : goal.decreases-emit_cases
-decreases-emit_cases l = 8 * clauses_count (clauses_view l.clauses.now) + 4
-
 abbrev pub decreases-emit_bare : goal.decreases-emit_bare
 decreases-emit_bare l = 8 * stmt_count (stmt_view l.body.now) + 1
+
+abbrev pub decreases-emit_labelled : goal.decreases-emit_labelled
+decreases-emit_labelled l = 8 * stmt_count (stmt_view l.body.now) + 1
+
+abbrev pub decreases-emit_if : goal.decreases-emit_if
+decreases-emit_if l = 8 * (stmt_count (stmt_view l.yes.now) + otherwise_count (stmt_option l.no.now)) + 3
+
+abbrev pub decreases-emit_else : goal.decreases-emit_else
+decreases-emit_else l = 8 * otherwise_count (stmt_option l.no.now) + 2
+
+abbrev pub decreases-emit_loop : goal.decreases-emit_loop
+decreases-emit_loop l = 8 * stmt_count (stmt_view l.body.now) + 2
+
+abbrev pub decreases-emit_switch : goal.decreases-emit_switch
+decreases-emit_switch l = 8 * clauses_count (clauses_view l.clauses.now) + 4

@@ -16,13 +16,14 @@ use Rattle.asm_run_code.specs.Operators.{link_operator}
 use Rattle.asm_run_code.specs.Values.{into, value}
 use Rattle.asm_run_names.specs.Names.{scope_said}
 use Rattle.asm_run_emit_values.specs.Seats.{seat_view}
+use Rattle.asm_run_emit_values.specs.Singles.{single_op}
 use Rattle.asm_run_emit_values.specs.Pieces.{out_of_place, built_in}
 use Rattle.asm_lang_valid.specs.declared.meaning.Builtin.{Builtin}
 use Rattle.asm_run_emit_values.proofs.Turns.{arguments_begin, arguments_turn, arguments_end, links_begin, links_turn, links_end, parts_begin, parts_turn, parts_end}
 use Rattle.asm_run_emit_values.proofs.Codes.{told, lit_form, decimal_form, var_form, comma_form}
-use Rattle.asm_run_emit_values.proofs.Parts.{no_part, no_product, no_zeros, node_within, pair_within, first_within, operand_within}
+use Rattle.asm_run_emit_values.proofs.Parts.{no_product, no_zeros, node_within, pair_within, first_within, operand_within}
 use Rattle.asm_lang_valid.specs.Rows.{expr_count}
-use Rattle.asm_run_emit_values.proofs.Made.{as_form, call_made, call_of, index_made, unary_made, test_made, zeros_made, product_made, entered, table_call_made, assign_made, bare_made, binary_made, combined_made, store_made, stays_made, moves_made, linked_made, cond_made}
+use Rattle.asm_run_emit_values.proofs.Made.{as_form, call_made, call_of, single_made, index_made, unary_made, zeros_made, product_made, entered, table_call_made, assign_made, bare_made, binary_made, combined_made, store_made, stays_made, moves_made, linked_made, cond_made}
 use Rattle.asm_run_emit_values.proofs.values.+values.Goals as goal
 
 pub emit_value-returns-in-Index : goal.emit_value-returns-in-Index
@@ -79,21 +80,24 @@ emit_value-returns-in-Lit t c =
     let put = subst (λ z. OnOk c.put_number.result (c.put_number.new.output ≡ Number (into c.args.wanted c.args.free) (word_of 32 z) ∷ c.args.output.now)) (to_z-of_z w128 c.in-Lit.z fits) c.put_number.ensures in
     as_form c.put_number.result c.put_number.new.output (scope_said c.args.names.now) c.args.wanted c.args.free c.args.output.now _ _ (lit_is c.args.expr.now c.in-Lit.z c.in-Lit.is) (told c.put_number.result c.put_number.new.output _ _ (sym (lit_form (scope_said c.args.names.now) c.args.wanted c.args.free c.args.output.now c.in-Lit.z)) put)
 
+pub emit_single-returns : goal.emit_single-returns
+emit_single-returns t c =
+    single_made c.emit_operand.result c.emit_operand.new.output (scope_said c.args.names.now) None c.args.free c.args.output.now (expr_view c.args.operand.now) (single_op c.args.single) c.in_ok-place.place c.into-from.result c.put.new.self c.in_ok-place.ensures c.into-from.ensures (c.in_ok-put.ensures ∙ ap (λ (x : Op). x ∷ c.args.output.now) c.single_op.ensures) c.emit_operand.ensures
+
 pub emit_index-returns : goal.emit_index-returns
 emit_index-returns t c =
-    index_made c.emit_operand.result c.emit_operand.new.output (scope_said c.args.names.now) c.args.wanted c.args.free c.args.output.now (text_bytes c.args.name.now) (expr_view c.args.index.now) c.view_kind-kind.result c.in_ok-place.place c.into-to.result c.into-at.result c.put.new.self c.view_kind-kind.ensures c.in_ok-place.ensures c.into-to.ensures c.into-at.ensures c.in_ok-put.ensures c.emit_operand.ensures
+    index_made c.emit_single.result c.emit_single.new.output (scope_said c.args.names.now) c.args.wanted c.args.free c.args.output.now (text_bytes c.args.name.now) (expr_view c.args.index.now) c.view_kind-kind.result c.into-to.result c.view_kind-kind.ensures c.into-to.ensures c.emit_single.ensures
 
 pub emit_unary-returns : goal.emit_unary-returns
 emit_unary-returns t c =
-    unary_made c.emit_operand.result c.emit_operand.new.output (scope_said c.args.names.now) c.args.wanted c.args.free c.args.output.now c.args.op (expr_view c.args.operand.now) c.in_ok-place.place c.into-to.result c.into-from.result c.put.new.self c.in_ok-place.ensures c.into-to.ensures c.into-from.ensures (c.in_ok-put.ensures ∙ ap (λ (x : Op). x ∷ c.args.output.now) c.prefixed.ensures) c.emit_operand.ensures
+    unary_made c.emit_single.result c.emit_single.new.output (scope_said c.args.names.now) c.args.wanted c.args.free c.args.output.now c.args.op (expr_view c.args.operand.now) c.into-to.result c.into-to.ensures c.emit_single.ensures
 
 pub emit_test-returns : goal.emit_test-returns
-emit_test-returns t c =
-    test_made c.emit_operand.result c.emit_operand.new.output (scope_said c.args.names.now) None c.args.free c.args.output.now (expr_view c.args.condition.now) c.args.at c.in_ok-place.place c.into-slot.result c.put.new.self c.in_ok-place.ensures c.into-slot.ensures c.in_ok-put.ensures c.emit_operand.ensures
+emit_test-returns t c = c.emit_single.ensures
 
-pub emit_zeros-returns-in_ok-put-in-Some : goal.emit_zeros-returns-in_ok-put-in-Some
-emit_zeros-returns-in_ok-put-in-Some t c =
-    zeros_made c.emit_operand.result c.emit_operand.new.output (scope_said c.args.names.now) None c.args.free c.args.output.now c.args.to c.args.all.now c.in-Some.operand.now c.in_ok-place-in-Some.place c.into-from.result c.put.new.self c.in-Some.ensures.value c.in_ok-place-in-Some.ensures c.into-from.ensures c.in_ok-put-in-Some.ensures c.emit_operand.ensures
+pub emit_zeros-returns-in-Some : goal.emit_zeros-returns-in-Some
+emit_zeros-returns-in-Some t c =
+    zeros_made c.emit_single.result c.emit_single.new.output (scope_said c.args.names.now) None c.args.free c.args.output.now c.args.to c.args.all.now c.in-Some.operand.now c.in-Some.ensures.value c.emit_single.ensures
 
 pub emit_product-returns : goal.emit_product-returns
 emit_product-returns t c =
@@ -180,12 +184,12 @@ pub emit_links-returns : goal.emit_links-returns
 emit_links-returns t c = links_end (scope_said c.args.names.now) c.args.wanted c.args.free c.args.output.now c.args.slot c.args.links.now c.loop-i.output c.loop-i.i (omega arith) c.loop-i.invariant.made
 
 pub emit_parts-loop-i-init : goal.emit_parts-loop-i-init
-emit_parts-loop-i-init t c = record { within = omega arith; made = parts_begin (scope_said c.args.names.now) c.args.wanted c.args.free c.args.output.now c.args.parts.now c.emit_value.new.output (length c.args.parts.now - 1) c.index-parts-i.result (omega arith) c.index-parts-i.is c.in_ok-emit_value.ensures }
+emit_parts-loop-i-init t c = record { within = omega arith; made = parts_begin (scope_said c.args.names.now) c.args.wanted c.args.free c.args.output.now c.args.parts.now }
 
 pub emit_parts-loop-i-preserved : goal.emit_parts-loop-i-preserved
 emit_parts-loop-i-preserved t c = record {
   within = omega arith;
-  made = parts_turn (scope_said c.args.names.now) c.args.wanted c.args.free c.args.output.now c.args.parts.now c.loop-i.output c.emit_value-in-loop-i.new.output (c.loop-i.i - 1) c.loop-i.i c.index-parts-i-in-loop-i.result (omega arith) (omega arith) c.index-parts-i-in-loop-i.is c.loop-i.invariant.made c.in_ok-emit_value-2.ensures;
+  made = parts_turn (scope_said c.args.names.now) c.args.wanted c.args.free c.args.output.now c.args.parts.now c.loop-i.output c.emit_value.new.output (c.loop-i.i - 1) c.loop-i.i c.part_wanted-to.result c.index-parts-i.result (omega arith) (omega arith) c.index-parts-i.is c.part_wanted-to.ensures c.loop-i.invariant.made c.in_ok-emit_value.ensures;
 }
 
 pub emit_parts-returns : goal.emit_parts-returns
@@ -351,18 +355,23 @@ emit_table_call-emit_value-requires t c =
     let d0 = c.decreases in
     (omega arith, tt)
 
-pub emit_test-emit_operand-requires : goal.emit_test-emit_operand-requires
-emit_test-emit_operand-requires t c =
+pub emit_single-emit_operand-requires : goal.emit_single-emit_operand-requires
+emit_single-emit_operand-requires t c =
     let d0 = c.decreases in
     (omega arith, tt)
 
-pub emit_unary-emit_operand-requires : goal.emit_unary-emit_operand-requires
-emit_unary-emit_operand-requires t c =
+pub emit_test-emit_single-requires : goal.emit_test-emit_single-requires
+emit_test-emit_single-requires t c =
     let d0 = c.decreases in
     (omega arith, tt)
 
-pub emit_index-emit_operand-requires : goal.emit_index-emit_operand-requires
-emit_index-emit_operand-requires t c =
+pub emit_unary-emit_single-requires : goal.emit_unary-emit_single-requires
+emit_unary-emit_single-requires t c =
+    let d0 = c.decreases in
+    (omega arith, tt)
+
+pub emit_index-emit_single-requires : goal.emit_index-emit_single-requires
+emit_index-emit_single-requires t c =
     let d0 = c.decreases in
     (omega arith, tt)
 
@@ -386,8 +395,8 @@ emit_call-emit_arguments-requires-in-Nothing t c =
     let d0 = c.decreases in
     (omega arith, tt)
 
-pub emit_zeros-emit_operand-requires : goal.emit_zeros-emit_operand-requires
-emit_zeros-emit_operand-requires t c =
+pub emit_zeros-emit_single-requires : goal.emit_zeros-emit_single-requires
+emit_zeros-emit_single-requires t c =
     let d0 = c.decreases in
     let k = first_within c.args.all.now c.in-Some.operand.now c.in-Some.ensures.value in
     (omega arith, tt)
@@ -416,15 +425,8 @@ emit_links-emit_link-requires t c =
 pub emit_parts-emit_value-requires : goal.emit_parts-emit_value-requires
 emit_parts-emit_value-requires t c =
     let d0 = c.decreases in
-    let within : length c.args.parts.now - 1 < length c.args.parts.now = omega arith in
-    let k = node_within c.args.parts.now (length c.args.parts.now - 1) c.index-parts-i.result within c.index-parts-i.is in
-    (omega arith, tt)
-
-pub emit_parts-emit_value-requires-in-loop-i : goal.emit_parts-emit_value-requires-in-loop-i
-emit_parts-emit_value-requires-in-loop-i t c =
-    let d0 = c.decreases in
     let within : c.loop-i.i - 1 < length c.args.parts.now = omega arith in
-    let k = node_within c.args.parts.now (c.loop-i.i - 1) c.index-parts-i-in-loop-i.result within c.index-parts-i-in-loop-i.is in
+    let k = node_within c.args.parts.now (c.loop-i.i - 1) c.index-parts-i.result within c.index-parts-i.is in
     (omega arith, tt)
 
 pub emit_operand-returns-in-Some : goal.emit_operand-returns-in-Some
@@ -442,10 +444,6 @@ emit_builtin-returns-in-Imul t c =
 pub emit_builtin-returns-in-Clz32 : goal.emit_builtin-returns-in-Clz32
 emit_builtin-returns-in-Clz32 t c =
     told c.emit_zeros.result c.emit_zeros.new.output _ _ (ap (λ (b : Builtin). built_in (scope_said c.args.names.now) b c.args.to c.args.free (exprs_view c.args.all.now) c.args.output.now) (sym c.in-Clz32.is)) c.emit_zeros.ensures
-
-pub emit_parts-returns-then-count-eq0 : goal.emit_parts-returns-then-count-eq0
-emit_parts-returns-then-count-eq0 t c =
-    no_part (scope_said c.args.names.now) c.args.wanted c.args.free c.args.output.now c.args.parts.now (omega arith)
 
 pub emit_product-returns-then-all-lt2 : goal.emit_product-returns-then-all-lt2
 emit_product-returns-then-all-lt2 t c =

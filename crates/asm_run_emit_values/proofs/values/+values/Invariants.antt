@@ -27,8 +27,8 @@ decreases-emit_links-loop-i l = l.i
 
 abbrev pub invariant-emit_parts-loop-i : goal.invariant-emit_parts-loop-i
 invariant-emit_parts-loop-i l = record {
-  within : l.i < length l.parts;
-  made : l.output ≡ last (scope_said l.names) l.fn.wanted l.free (exprs_view (drop l.i l.parts)) l.fn.output;
+  within : l.i ≤ length l.parts;
+  made : l.output ≡ last (scope_said l.names) l.wanted l.free (exprs_view (drop l.i l.parts)) l.initial.output;
 }
 
 abbrev pub decreases-emit_parts-loop-i : goal.decreases-emit_parts-loop-i
@@ -41,6 +41,9 @@ decreases-emit_value l = 8 * expr_count (expr_view l.expr.now)
 
 abbrev pub decreases-emit_operand : goal.decreases-emit_operand
 decreases-emit_operand l = 8 * expr_count (expr_view l.operand.now) + 1
+
+abbrev pub decreases-emit_single : goal.decreases-emit_single
+decreases-emit_single l = 8 * expr_count (expr_view l.operand.now) + 2
 
 abbrev pub decreases-emit_index : goal.decreases-emit_index
 decreases-emit_index l = 8 * expr_count (expr_view l.index.now) + 3
@@ -79,10 +82,10 @@ abbrev pub decreases-emit_link : goal.decreases-emit_link
 decreases-emit_link l = 8 * expr_count (expr_view l.link.now.operand) + 2
 
 abbrev pub decreases-emit_cond : goal.decreases-emit_cond
-decreases-emit_cond l = 8 * (expr_count (expr_view l.condition.now) + (expr_count (expr_view l.yes.now) + expr_count (expr_view l.no.now))) + 3
+decreases-emit_cond l = 8 * (expr_count (expr_view l.condition.now) + (expr_count (expr_view l.yes.now) + expr_count (expr_view l.no.now))) + 4
 
 abbrev pub decreases-emit_test : goal.decreases-emit_test
-decreases-emit_test l = 8 * expr_count (expr_view l.condition.now) + 2
+decreases-emit_test l = 8 * expr_count (expr_view l.condition.now) + 3
 
 abbrev pub decreases-emit_parts : goal.decreases-emit_parts
 decreases-emit_parts l = 8 * exprs_count (exprs_view l.parts.now) + 2
