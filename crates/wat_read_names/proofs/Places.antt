@@ -42,7 +42,7 @@ place_put ns u i j p b n x y ej ep lt is e k =
     ∙ sym (at_drop_more (λ cs. moved (u + i) (place_of_id n (names_in cs))) ns i b lt)
 
 -- no id stands in front
-behind_none : (u : ℕ) (n : List ℕ) (ms : Names) → place_of_id n (replicate u None ++ ms) ≡ moved u (place_of_id n ms)
+pub behind_none : (u : ℕ) (n : List ℕ) (ms : Names) → place_of_id n (replicate u None ++ ms) ≡ moved u (place_of_id n ms)
 behind_none zero n ms = by (place_of_id n ms)
   where
     by : (o : Option ℕ) → o ≡ moved zero o
@@ -123,7 +123,7 @@ written_front p id m ms = by (types_part p m.mark)
     by true = refl
     by false = refl
 
-not_0 : (k : ℕ) → (suc k == 0) ≡ false
+pub not_0 : (k : ℕ) → (suc k == 0) ≡ false
 not_0 k = by (suc k == 0) refl
   where
     by : (b : Bool) → (suc k == 0) ≡ b → b ≡ false

@@ -1,11 +1,14 @@
 //! The ids of parameters and locals.
 
-ghost use Rattle.std.specs.Prelude.{◌≡◌, ◌-◌, ◌^◌, ◌++◌, IfOk, OnOk, None, length, min, unwrap_or, ◌==◌, if◌then◌else◌};
+ghost use Rattle.std.specs.Prelude.{◌≡◌, ◌-◌, ◌^◌, ◌++◌, IfOk, OnOk, IfSome, None, replicate, length, min, unwrap_or, ◌==◌, if◌then◌else◌};
 ghost use Rattle.wat_lang.specs.Names as spec;
+ghost use Rattle.wat_lang.specs.declared.parts.Space.TheVariants as spaces;
 ghost use Rattle.wat_lang.specs.Rows.{known_use};
+ghost use Rattle.wat_grammar.specs.Views.{mark_of};
 ghost use Rattle.wat_marks.specs.Views.{marked_of};
 ghost use Rattle.wat_read_tokens.specs.Marks.{marks_of, only};
 ghost use Rattle.wat_read_names.specs.Named.{name_of, names_in};
+ghost use Rattle.wat_read_names.specs.Counted.{HasCounts};
 
 use crate::ids::Ids;
 use key_hashes::KeyHashes;
@@ -64,8 +67,67 @@ fn unnamed_of(written: &[Option<&[u8]>], params: usize) -> usize
     if written.is_empty() { params } else { 0 }
 }
 
-/// The parameters, and the locals behind them, of a function whose type has so many parameters.
-pub fn local_names<'a>(
+fn binds_local(mark: Mark) -> bool
+    ensures { result ≡ spec.binds_in spaces.Local (mark_of mark) }
+{
+    Wanted::Binds(Space::Local).is(mark)
+}
+
+/// How many types of the part a token with the mark writes.
+fn count_of(part: Part, mark: Mark) -> usize
+    ensures { result ≡ (if spec.types_part part (mark_of mark) then 1 else 0) }
+{
+    if Wanted::Type(part).is(mark) { 1 } else { 0 }
+}
+
+/// How many parameters and locals are written.
+#[derive(Clone, Copy)]
+struct Counts {
+    params: usize,
+    locals: usize,
+}
+
+/// How many parameters and locals are written, or nothing where one has an id.
+fn counts_of(parts: &[MarkedToken<'_>]) -> Option<Counts>
+    ensures { IfSome result (λ n. HasCounts n (marks_of parts.now)) }
+{
+    let mut params = 0;
+    let mut locals = 0;
+    for token in parts {
+        if binds_local(token.mark) {
+            return None;
+        }
+        params += count_of(Part::Param, token.mark);
+        locals += count_of(Part::Local, token.mark);
+    }
+    Some(Counts { params, locals })
+}
+
+impl Counts {
+    /// The parameters of a function whose type has so many: those that are written, unless none are.
+    fn params_or(self, params: usize) -> usize
+        ensures { result ≡ (if self.params == 0 then params else self.params) }
+    {
+        if self.params == 0 {
+            params
+        } else {
+            self.params
+        }
+    }
+}
+
+/// How many parameters and locals a function has whose type has so many parameters, or nothing where one has an id.
+fn unnamed_in(params: usize, parts: &[MarkedToken<'_>]) -> Option<usize>
+    ensures { IfSome result (λ n. spec.local_names params (marks_of parts.now) ≡ replicate n None) }
+{
+    match counts_of(parts) {
+        Some(counts) => counts.params_or(params).checked_add(counts.locals),
+        None => None,
+    }
+}
+
+/// The parameters, and the locals behind them, by their ids.
+fn named_locals<'a>(
     alloc: Global,
     hashes: KeyHashes,
     params: usize,
@@ -79,6 +141,21 @@ pub fn local_names<'a>(
     push_ids(&mut names, Part::Local, parts)?;
     let ids = Ids::new(alloc, hashes, unnamed, names)?;
     Ok(ids)
+}
+
+/// The parameters, and the locals behind them, of a function whose type has so many parameters.
+pub fn local_names<'a>(
+    alloc: Global,
+    hashes: KeyHashes,
+    params: usize,
+    parts: &[MarkedToken<'a>],
+) -> Result<Ids<'a>, AllocError>
+    ensures { IfOk result (λ ids. ids ≡ spec.local_names params (marks_of parts.now)) }
+{
+    match unnamed_in(params, parts) {
+        Some(count) => Ok(Ids::unnamed(alloc, hashes, count)),
+        None => named_locals(alloc, hashes, params, parts),
+    }
 }
 
 /// The number of the type that a function names, if it has one below 2^32.

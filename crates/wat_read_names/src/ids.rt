@@ -18,11 +18,21 @@ use wat_read_tokens::{Between, atom, capped_in, is_id, is_number, is_out, natura
 
 /// The ids of a space by number: none for the first ones, and then those that are given, found by a map. Of equal ids the first
 /// counts.
-#[derive(Drop)]
 pub struct Ids<'a> {
     unnamed: usize,
     names: Vec<Option<&'a [u8]>>,
     places: IndexMap<NameKey<'a>, u32, KeyHashes>,
+}
+
+/// By hand, so that the end of the ids is one call wherever they are let go.
+impl Drop for Ids<'_> {
+    fn drop(self) {
+        let Ids {
+            unnamed: _,
+            names: _,
+            places: _,
+        } = self;
+    }
 }
 
 impl<'a> Model for Ids<'a> {
@@ -82,6 +92,17 @@ fn places_of<'a>(
 }
 
 impl<'a> Ids<'a> {
+    /// So many numbers that have no ids.
+    pub fn unnamed(alloc: Global, hashes: KeyHashes, count: usize) -> Ids<'a>
+        ensures { result ≡ replicate count None }
+    {
+        Ids {
+            unnamed: count,
+            names: Vec::new(alloc),
+            places: IndexMap::with_hasher(alloc, hashes),
+        }
+    }
+
     /// These ids, behind so many numbers that have none.
     pub fn new(
         alloc: Global,

@@ -1,6 +1,6 @@
 //! The ids of the spaces of a module.
 
-ghost use Rattle.std.specs.Prelude.{◌≡◌, ◌&&◌, ◌++◌, IfOk, OnOk, map, fold};
+ghost use Rattle.std.specs.Prelude.{◌≡◌, ◌&&◌, ◌++◌, [], IfOk, OnOk, map, fold};
 ghost use Rattle.key_hashes.specs.Hashes as made;
 ghost use Rattle.wat_lang.specs.Names as spec;
 ghost use Rattle.wat_read_tokens.specs.Marks.{marks_of, only};
@@ -19,7 +19,6 @@ use wat_marks::MarkedToken;
 use wat_read_tokens::{Wanted, atom, first};
 
 /// The ids of each space of a module.
-#[derive(Drop)]
 pub struct Spaces<'a> {
     pub types: Ids<'a>,
     pub functions: Ids<'a>,
@@ -28,6 +27,21 @@ pub struct Spaces<'a> {
     pub globals: Ids<'a>,
     pub elements: Ids<'a>,
     pub segments: Ids<'a>,
+}
+
+/// By hand, so that the end of all ids is one call.
+impl Drop for Spaces<'_> {
+    fn drop(self) {
+        let Spaces {
+            types: _,
+            functions: _,
+            tables: _,
+            memories: _,
+            globals: _,
+            elements: _,
+            segments: _,
+        } = self;
+    }
 }
 
 fn add_id(seed: &mut Seed, token: &MarkedToken<'_>)
@@ -106,23 +120,57 @@ fn push_all_bound<'a>(
     Ok(())
 }
 
-/// The ids of a space, those of imports first.
-fn ids_of<'a>(
+/// Puts the ids of a space in, those of imports first.
+fn bind<'a>(
+    ids: &mut Ids<'a>,
     alloc: Global,
     hashes: KeyHashes,
     fields: &[Field<'_, 'a>],
     space: Space,
-) -> Result<Ids<'a>, AllocError>
-    ensures { IfOk result (λ ids. ids ≡ spec.names_of (map field_of fields.now) space) }
+) -> Result<(), AllocError>
+    ensures { OnOk result (ids.new ≡ spec.names_of (map field_of fields.now) space) }
 {
     let mut names = Vec::new(alloc);
     push_all_bound(&mut names, space, true, fields)?;
     push_all_bound(&mut names, space, false, fields)?;
-    let ids = Ids::new(alloc, hashes, 0, names)?;
-    Ok(ids)
+    *ids = Ids::new(alloc, hashes, 0, names)?;
+    Ok(())
 }
 
 impl<'a> Spaces<'a> {
+    /// Spaces without ids.
+    fn empty(alloc: Global, hashes: KeyHashes) -> Spaces<'a>
+        ensures { HasNames result [] }
+    {
+        Spaces {
+            types: Ids::unnamed(alloc, hashes, 0),
+            functions: Ids::unnamed(alloc, hashes, 0),
+            tables: Ids::unnamed(alloc, hashes, 0),
+            memories: Ids::unnamed(alloc, hashes, 0),
+            globals: Ids::unnamed(alloc, hashes, 0),
+            elements: Ids::unnamed(alloc, hashes, 0),
+            segments: Ids::unnamed(alloc, hashes, 0),
+        }
+    }
+
+    /// Puts the ids of each space in.
+    fn bind(
+        &mut self,
+        alloc: Global,
+        hashes: KeyHashes,
+        fields: &[Field<'_, 'a>],
+    ) -> Result<(), AllocError>
+        ensures { OnOk result (HasNames self.new (map field_of fields.now)) }
+    {
+        bind(&mut self.types, alloc, hashes, fields, Space::Type)?;
+        bind(&mut self.functions, alloc, hashes, fields, Space::Func)?;
+        bind(&mut self.tables, alloc, hashes, fields, Space::Table)?;
+        bind(&mut self.memories, alloc, hashes, fields, Space::Memory)?;
+        bind(&mut self.globals, alloc, hashes, fields, Space::Global)?;
+        bind(&mut self.elements, alloc, hashes, fields, Space::Elem)?;
+        bind(&mut self.segments, alloc, hashes, fields, Space::Data)
+    }
+
     /// The ids of each space of the module with these fields.
     pub fn of(
         alloc: Global,
@@ -131,21 +179,8 @@ impl<'a> Spaces<'a> {
     ) -> Result<Spaces<'a>, AllocError>
         ensures { IfOk result (λ spaces. HasNames spaces (map field_of fields.now)) }
     {
-        let types = ids_of(alloc, hashes, fields, Space::Type)?;
-        let functions = ids_of(alloc, hashes, fields, Space::Func)?;
-        let tables = ids_of(alloc, hashes, fields, Space::Table)?;
-        let memories = ids_of(alloc, hashes, fields, Space::Memory)?;
-        let globals = ids_of(alloc, hashes, fields, Space::Global)?;
-        let elements = ids_of(alloc, hashes, fields, Space::Elem)?;
-        let segments = ids_of(alloc, hashes, fields, Space::Data)?;
-        Ok(Spaces {
-            types,
-            functions,
-            tables,
-            memories,
-            globals,
-            elements,
-            segments,
-        })
+        let mut spaces = Spaces::empty(alloc, hashes);
+        spaces.bind(alloc, hashes, fields)?;
+        Ok(spaces)
     }
 }

@@ -5,7 +5,7 @@ use Rattle.wat_lang.specs.Names.{written_ids}
 use Rattle.wat_read_tokens.specs.Marks.{marks_of}
 use Rattle.wat_read_names.specs.Named.{name_of, names_in}
 use Rattle.wat_read_names.proofs.Places.{locals_named}
-use Rattle.wat_read_names.proofs.heads.local_names.Goals as goal
+use Rattle.wat_read_names.proofs.heads.named_locals.Goals as goal
 
 pub returns : goal.returns
 returns c =

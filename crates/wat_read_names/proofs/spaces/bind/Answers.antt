@@ -3,7 +3,7 @@ use Rattle.wat_lang.specs.Names.{Names}
 use Rattle.wat_read_names.specs.Fields.{field_of}
 use Rattle.wat_read_names.specs.Named.{names_in}
 use Rattle.wat_read_names.specs.Bound.{bound_in}
-use Rattle.wat_read_names.proofs.spaces.ids_of.Goals as goal
+use Rattle.wat_read_names.proofs.spaces.bind.Goals as goal
 
 pub returns : goal.returns
 returns c =
