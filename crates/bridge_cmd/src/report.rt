@@ -90,9 +90,9 @@ pub(crate) fn write_line<E: Sink>(report: &mut E, refusal: &Refusal) -> Result<(
 /// The line of a row, behind what is refused, and of a number.
 fn put_row<E: Sink>(
     report: &mut E,
-    subject: &str,
-    row: &str,
-    between: &str,
+    subject: &'static str,
+    row: &'static str,
+    between: &'static str,
     number: u64,
 ) -> Result<(), Failed>
     requires { (n : ℕ) → E.takes report.old n }
