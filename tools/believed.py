@@ -27,7 +27,7 @@ CALLS = [
     ("bridge_cmd/src/top.rt", "bridge", ()),
     ("bridge_cmd/src/composed.rt", "round_trips", ()),
     ("asm2wasm/src/validated.rt", "translate", ("exact",)),
-    ("wasm2js/src/checking.rt", "translate", ("exact",)),
+    ("wasm2js/src/translating.rt", "translate", ("exact",)),
     ("asm_run/src/session.rt", "run", ()),
     ("wasm_run/src/instance.rt", "run", ("typed",)),
 ]

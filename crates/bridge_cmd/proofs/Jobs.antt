@@ -5,7 +5,7 @@ use Rattle.bridge_io.specs.Outside.{Told}
 use Rattle.cmd_check_asm.specs.declared.fault.CheckFault.{CheckFault as TextFault}
 use Rattle.cmd_check_asm.specs.declared.fault.CheckFault.TheVariants as text_faults
 use Rattle.cmd_check_asm.specs.Verdicts as texts
-use Rattle.bridge_lang.specs.declared.row.AsmRow.{AsmRow}
+use Rattle.bridge_lang.specs.declared.asm_rows.AsmRow.{AsmRow}
 use Rattle.wasm_lang.specs.declared.fault.Row.{Row}
 use Rattle.wasm_lang_valid.specs.declared.rule.Rule.{Rule}
 use Rattle.wasm_lang_valid.specs.declared.section.Section.{Section}
@@ -19,8 +19,8 @@ use Rattle.cmd_check_wasm.specs.declared.fault.CheckFault.{CheckFault}
 use Rattle.cmd_check_wasm.specs.declared.fault.CheckFault.TheVariants as checks
 use Rattle.cmd_check_wasm.specs.Verdicts.{IsRefused}
 use Rattle.cmd_check_wasm.proofs.Once.{not_both, one_fault}
-use Rattle.cmd_wat2wasm.specs.declared.fault.CheckFault.{CheckFault as WatFault}
-use Rattle.cmd_wat2wasm.specs.declared.fault.CheckFault.TheVariants as wat_faults
+use Rattle.cmd_wat2wasm.specs.declared.fault.TextFault.{TextFault as WatFault}
+use Rattle.cmd_wat2wasm.specs.declared.fault.TextFault.TheVariants as wat_faults
 use Rattle.cmd_wat2wasm.specs.Verdicts as wats
 use Rattle.cmd_wat2wasm.proofs.Once.{one_refusal, not_both as said_once}
 use Rattle.bridge_lang.specs.WatVerdicts.{says_none, says_invalid}
@@ -314,8 +314,9 @@ check_answer a bytes checks.Memory x i = want_of_memory
 
 pub wat_answer : (a : Action) (text : List ℕ) (fault : WatFault) → read_as a text ≡ wat → wats.IsRefused text fault → IsAnswered a text (reason_of_wat fault)
 wat_answer a text (wat_faults.Unsaid row at) x i = a_bar (unsaid (not_wat row at) x i)
-wat_answer a text (wat_faults.Invalid rule section index instruction) x i = a_bar (unsaid (not_valid rule section index instruction) x i)
-wat_answer a text wat_faults.Memory x i = want_of_memory
+wat_answer a text (wat_faults.Check (checks.Invalid rule section index instruction)) x i = a_bar (unsaid (not_valid rule section index instruction) x i)
+wat_answer a text (wat_faults.Check (checks.Binary row at)) x i = absurd i
+wat_answer a text (wat_faults.Check checks.Memory) x i = want_of_memory
 
 pub run_answer : (script bytes : List ℕ) (steps : ℕ) (fault : RunFault) → IsNotRun bytes fault → IsAnswered (run as_binary script steps) bytes (reason_of_run fault)
 run_answer script bytes steps (run_faults.Check fault) i = check_answer (run as_binary script steps) bytes fault refl i

@@ -9,7 +9,7 @@ use Rattle.cmd_check_asm.specs.declared.fault.CheckFault as texts
 use Rattle.cmd_check_wasm.specs.declared.fault.CheckFault as checks
 use Rattle.cmd_run_wasm.specs.declared.fault.RunFault as runs
 use Rattle.cmd_link.specs.declared.fault.JoinFault as joins
-use Rattle.cmd_wat2wasm.specs.declared.fault.CheckFault as wats
+use Rattle.cmd_wat2wasm.specs.declared.fault.TextFault as wats
 use Rattle.script_read.specs.declared.fault.ScriptFault as scripts
 
 abbrev pub reason_of : Refusal → Reason
@@ -41,10 +41,9 @@ reason_of_check (checks.TheVariants.Binary row at) = not_a_binary row at
 reason_of_check (checks.TheVariants.Invalid rule section index instruction) = not_valid rule section index instruction
 reason_of_check checks.TheVariants.Memory = out_of_memory
 
-abbrev pub reason_of_wat : wats.CheckFault → Reason
+abbrev pub reason_of_wat : wats.TextFault → Reason
 reason_of_wat (wats.TheVariants.Unsaid row at) = not_wat row at
-reason_of_wat (wats.TheVariants.Invalid rule section index instruction) = not_valid rule section index instruction
-reason_of_wat wats.TheVariants.Memory = out_of_memory
+reason_of_wat (wats.TheVariants.Check fault) = reason_of_check fault
 
 abbrev pub reason_of_words : words.WordsFault → Reason
 reason_of_words words.TheVariants.Usage = faulty_words

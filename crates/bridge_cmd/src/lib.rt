@@ -13,8 +13,7 @@ mod runner;
 mod top;
 
 pub use asm_validate::Rule as AsmRule;
-pub use bridge_lang::{Status, WasmFault};
-pub use cmd_check_asm::{AsmRow, row_number as asm_row_number};
+pub use bridge_lang::{AsmRow, Status, WasmFault, asm_row_number};
 pub use composed::round_trips;
 pub use top::bridge;
 pub use wasm_lang::{Row, row_number};

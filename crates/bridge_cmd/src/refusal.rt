@@ -6,11 +6,11 @@ ghost use Rattle.bridge_lang.specs.Statuses.{status_of};
 
 use bridge_args::WordsFault;
 use bridge_io::GatherFault;
-use bridge_lang::{Status, WasmFault};
-use cmd_check_asm::AsmRow;
+use bridge_lang::{AsmRow, Status, WasmFault};
 use cmd_check_wasm::CheckFault;
 use cmd_link::{JoinFault, LinkRow};
 use cmd_run_wasm::RunFault;
+use cmd_wat2wasm::TextFault;
 use script_read::ScriptFault;
 use wasm_tree::Row;
 use wasm_validate::{Beyond, Outside, Rule, Section};
@@ -142,23 +142,12 @@ pub(crate) fn of_text(fault: cmd_check_asm::CheckFault) -> Refusal
 }
 
 /// Why a text says no valid module of WebAssembly.
-pub(crate) fn of_wat(fault: cmd_wat2wasm::CheckFault) -> Refusal
+pub(crate) fn of_wat(fault: TextFault) -> Refusal
     ensures { reason_of result ≡ reason_of_wat fault }
 {
     match fault {
-        cmd_wat2wasm::CheckFault::Unsaid { row, at } => Refusal::NotWat { row, at },
-        cmd_wat2wasm::CheckFault::Invalid {
-            rule,
-            section,
-            index,
-            instruction,
-        } => Refusal::NotValid {
-            rule,
-            section,
-            index,
-            instruction,
-        },
-        cmd_wat2wasm::CheckFault::Memory => Refusal::OutOfMemory,
+        TextFault::Unsaid { row, at } => Refusal::NotWat { row, at },
+        TextFault::Check(fault) => of_check(fault),
     }
 }
 

@@ -2,10 +2,6 @@
 ghost use Rattle.std.specs.Prelude.{ℕ, ◌≤◌, ◌∷◌, [], OnOk, OnErr, map, codes, decimal};
 ghost use Rattle.std.specs.List.{concat};
 ghost use Rattle.bridge_lang.specs.Reason.{line_of};
-ghost use Rattle.bridge_lang.specs.AsmRows as texts;
-ghost use Rattle.bridge_lang.specs.WasmRows as names;
-ghost use Rattle.bridge_lang.specs.LinkRows as links;
-ghost use Rattle.bridge_lang.specs.WatRows as wat;
 ghost use Rattle.wasm_lang_valid.specs.Rules.{number};
 ghost use Rattle.wasm_lang_valid.specs.Validity.{id};
 ghost use Rattle.bridge_cmd.specs.Refused.{reason_of};
@@ -14,15 +10,11 @@ ghost use Rattle.bridge_cmd.specs.Slices.{now_of};
 
 use crate::refusal::Refusal;
 use bridge_io::{Failed, Sink, put_all};
-use cmd_check_asm::{AsmRow, row_name as asm_row_name};
-use cmd_check_wasm::{row_name, rule_number, section_number};
-use cmd_link::{LinkRow, link_row_name, side_name};
-use cmd_run_wasm::outside_name;
-use cmd_wat2wasm::row_name as wat_row_name;
+use bridge_lang::{
+    asm_row_name, beyond_name, binary_row_name, link_row_name, side_name, wat_row_name,
+};
 use itoa::Buffer;
-use wasm_tree::Row;
-use wasm_validate::{Beyond, Rule, Section};
-use wat_lang::Row as WatRow;
+use wasm_validate::{Rule, Section, rule_number, section_number};
 
 /// Writes pieces, one after the other.
 fn put_pieces<E: Sink>(report: &mut E, pieces: &[&str]) -> Result<(), Failed>
@@ -64,9 +56,15 @@ pub(crate) fn write_line<E: Sink>(report: &mut E, refusal: &Refusal) -> Result<(
                 "\n",
             ],
         ),
-        Refusal::NotAsm { row, at } => put_text(report, *row, *at),
-        Refusal::NotABinary { row, at } => put_binary(report, *row, *at),
-        Refusal::NotWat { row, at } => put_wat(report, *row, *at),
+        Refusal::NotAsm { row, at } => put_row(report, "asm.js", asm_row_name(*row), " at ", *at),
+        Refusal::NotABinary { row, at } => put_row(
+            report,
+            "wasm",
+            binary_row_name(*row),
+            " at ",
+            *at,
+        ),
+        Refusal::NotWat { row, at } => put_row(report, "wat", wat_row_name(*row), " at ", *at),
         Refusal::NotValid {
             rule,
             section,
@@ -74,8 +72,14 @@ pub(crate) fn write_line<E: Sink>(report: &mut E, refusal: &Refusal) -> Result<(
             instruction,
         } => put_invalid(report, *rule, *section, *index, *instruction),
         Refusal::ReadFault => put_pieces(report, &["read fault", "\n"]),
-        Refusal::NotRun { row, value } => put_outside(report, *row, *value),
-        Refusal::NotLinked { row, second, value } => put_link(report, *row, *second, *value),
+        Refusal::NotRun { row, value } => put_row(report, "wasm", beyond_name(*row), " ", *value),
+        Refusal::NotLinked { row, second, value } => put_row(
+            report,
+            "link",
+            link_row_name(*row),
+            side_name(*second),
+            *value,
+        ),
         Refusal::BadScript { line } => put_script(report, *line),
         Refusal::Missing(_, file) => put_pieces(report, &["missing: ", file.as_str(), "\n"]),
         Refusal::TooLarge(_, file) => put_pieces(report, &["too large: ", file.as_str(), "\n"]),
@@ -83,58 +87,26 @@ pub(crate) fn write_line<E: Sink>(report: &mut E, refusal: &Refusal) -> Result<(
     }
 }
 
-/// The line of a text that isn't accepted.
-fn put_text<E: Sink>(report: &mut E, row: AsmRow, at: u64) -> Result<(), Failed>
+/// The line of a row, behind what is refused, and of a number.
+fn put_row<E: Sink>(
+    report: &mut E,
+    subject: &'static str,
+    row: &'static str,
+    between: &'static str,
+    number: u64,
+) -> Result<(), Failed>
     requires { (n : ℕ) → E.takes report.old n }
 
     ensures takes { (n : ℕ) → E.takes report.new n }
     ensures never_falls { E.faults report.old ≤ E.faults report.new }
-    ensures whole { OnOk result (Gains (concat (codes "asm.js refused: " ∷ texts.row_name row ∷ codes " at " ∷ decimal at ∷ codes "\n" ∷ []))
+    ensures whole { OnOk result (Gains (concat (subject.now ∷ codes " refused: " ∷ row.now ∷ between.now ∷ decimal number ∷ codes "\n" ∷ []))
         (seen (E.told report.old) (E.faults report.old)) (seen (E.told report.new) (E.faults report.new))) }
-    ensures front { OnErr result (GainsFront (concat (codes "asm.js refused: " ∷ texts.row_name row ∷ codes " at " ∷ decimal at ∷ codes "\n" ∷ []))
-        (seen (E.told report.old) (E.faults report.old)) (seen (E.told report.new) (E.faults report.new))) }
-{
-    let mut digits = Buffer::new();
-    let at = digits.format(at);
-    put_pieces(
-        report,
-        &["asm.js refused: ", asm_row_name(row), " at ", at, "\n"],
-    )
-}
-
-/// The line of bytes that aren't of the binary format.
-fn put_binary<E: Sink>(report: &mut E, row: Row, at: u64) -> Result<(), Failed>
-    requires { (n : ℕ) → E.takes report.old n }
-
-    ensures takes { (n : ℕ) → E.takes report.new n }
-    ensures never_falls { E.faults report.old ≤ E.faults report.new }
-    ensures whole { OnOk result (Gains (concat (codes "wasm refused: " ∷ names.row_name row ∷ codes " at " ∷ decimal at ∷ codes "\n" ∷ []))
-        (seen (E.told report.old) (E.faults report.old)) (seen (E.told report.new) (E.faults report.new))) }
-    ensures front { OnErr result (GainsFront (concat (codes "wasm refused: " ∷ names.row_name row ∷ codes " at " ∷ decimal at ∷ codes "\n" ∷ []))
+    ensures front { OnErr result (GainsFront (concat (subject.now ∷ codes " refused: " ∷ row.now ∷ between.now ∷ decimal number ∷ codes "\n" ∷ []))
         (seen (E.told report.old) (E.faults report.old)) (seen (E.told report.new) (E.faults report.new))) }
 {
     let mut digits = Buffer::new();
-    let at = digits.format(at);
-    put_pieces(report, &["wasm refused: ", row_name(row), " at ", at, "\n"])
-}
-
-/// The line of a text that says no module of WebAssembly.
-fn put_wat<E: Sink>(report: &mut E, row: WatRow, at: u64) -> Result<(), Failed>
-    requires { (n : ℕ) → E.takes report.old n }
-
-    ensures takes { (n : ℕ) → E.takes report.new n }
-    ensures never_falls { E.faults report.old ≤ E.faults report.new }
-    ensures whole { OnOk result (Gains (concat (codes "wat refused: " ∷ wat.row_name row ∷ codes " at " ∷ decimal at ∷ codes "\n" ∷ []))
-        (seen (E.told report.old) (E.faults report.old)) (seen (E.told report.new) (E.faults report.new))) }
-    ensures front { OnErr result (GainsFront (concat (codes "wat refused: " ∷ wat.row_name row ∷ codes " at " ∷ decimal at ∷ codes "\n" ∷ []))
-        (seen (E.told report.old) (E.faults report.old)) (seen (E.told report.new) (E.faults report.new))) }
-{
-    let mut digits = Buffer::new();
-    let at = digits.format(at);
-    put_pieces(
-        report,
-        &["wat refused: ", wat_row_name(row), " at ", at, "\n"],
-    )
+    let number = digits.format(number);
+    put_pieces(report, &[subject, " refused: ", row, between, number, "\n"])
 }
 
 /// The line of a module that isn't valid.
@@ -171,50 +143,6 @@ fn put_invalid<E: Sink>(
             index_digits.format(index),
             " instruction ",
             instruction_digits.format(instruction),
-            "\n",
-        ],
-    )
-}
-
-/// The line of a module that isn't run.
-fn put_outside<E: Sink>(report: &mut E, row: Beyond, value: u64) -> Result<(), Failed>
-    requires { (n : ℕ) → E.takes report.old n }
-
-    ensures takes { (n : ℕ) → E.takes report.new n }
-    ensures never_falls { E.faults report.old ≤ E.faults report.new }
-    ensures whole { OnOk result (Gains (concat (codes "wasm refused: " ∷ names.beyond_name row ∷ codes " " ∷ decimal value ∷ codes "\n" ∷ []))
-        (seen (E.told report.old) (E.faults report.old)) (seen (E.told report.new) (E.faults report.new))) }
-    ensures front { OnErr result (GainsFront (concat (codes "wasm refused: " ∷ names.beyond_name row ∷ codes " " ∷ decimal value ∷ codes "\n" ∷ []))
-        (seen (E.told report.old) (E.faults report.old)) (seen (E.told report.new) (E.faults report.new))) }
-{
-    let mut digits = Buffer::new();
-    let value = digits.format(value);
-    put_pieces(
-        report,
-        &["wasm refused: ", outside_name(row), " ", value, "\n"],
-    )
-}
-
-/// The line of two modules that aren't linked.
-fn put_link<E: Sink>(report: &mut E, row: LinkRow, second: bool, value: u64) -> Result<(), Failed>
-    requires { (n : ℕ) → E.takes report.old n }
-
-    ensures takes { (n : ℕ) → E.takes report.new n }
-    ensures never_falls { E.faults report.old ≤ E.faults report.new }
-    ensures whole { OnOk result (Gains (concat (codes "link refused: " ∷ links.link_row_name row ∷ links.side_name second ∷ decimal value ∷ codes "\n" ∷ []))
-        (seen (E.told report.old) (E.faults report.old)) (seen (E.told report.new) (E.faults report.new))) }
-    ensures front { OnErr result (GainsFront (concat (codes "link refused: " ∷ links.link_row_name row ∷ links.side_name second ∷ decimal value ∷ codes "\n" ∷ []))
-        (seen (E.told report.old) (E.faults report.old)) (seen (E.told report.new) (E.faults report.new))) }
-{
-    let mut digits = Buffer::new();
-    let value = digits.format(value);
-    put_pieces(
-        report,
-        &[
-            "link refused: ",
-            link_row_name(row),
-            side_name(second),
-            value,
             "\n",
         ],
     )

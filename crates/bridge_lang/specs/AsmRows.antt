@@ -1,8 +1,8 @@
--- What a text breaks, by number and name, as it is printed.
+-- What a text of asm.js breaks, by number and name, as it is printed.
 use Rattle.std.specs.Prelude.{ℕ, List, codes}
 use Rattle.asm_lang_valid.specs.RuleNames.{rule_name, rule_number}
-use Rattle.bridge_lang.specs.declared.row.AsmRow.{AsmRow}
-use Rattle.bridge_lang.specs.declared.row.AsmRow.TheVariants as rows
+use Rattle.bridge_lang.specs.declared.asm_rows.AsmRow.{AsmRow}
+use Rattle.bridge_lang.specs.declared.asm_rows.AsmRow.TheVariants as rows
 
 unfoldable pub row_name : AsmRow → List ℕ
 row_name rows.NonAscii = codes "A1 NonAscii"

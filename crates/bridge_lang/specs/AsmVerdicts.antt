@@ -6,8 +6,8 @@ use Rattle.asm_lang.specs.Texts as texts
 use Rattle.asm_lang_valid.specs.Rows.{exports_count}
 use Rattle.asm_lang_valid.specs.LimitRows.{foreign_calls}
 use Rattle.asm_lang_valid.specs.Texts.{IsAcceptedText, IsRefusedModule}
-use Rattle.bridge_lang.specs.declared.row.AsmRow.{AsmRow}
-use Rattle.bridge_lang.specs.declared.row.AsmRow.TheVariants as rows
+use Rattle.bridge_lang.specs.declared.asm_rows.AsmRow.{AsmRow}
+use Rattle.bridge_lang.specs.declared.asm_rows.AsmRow.TheVariants as rows
 
 -- the functions, the tables, the exports, and the calls of foreign functions
 abbrev pub counts_line : Module → List ℕ

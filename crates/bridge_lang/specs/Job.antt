@@ -7,7 +7,7 @@ use Rattle.asm_lang.specs.Printing.{canonical_text}
 use Rattle.asm_lang_valid.specs.Texts.{IsAcceptedText}
 use Rattle.bridge_lang.specs.AsmVerdicts.{counts_line as text_counts_line, IsRefusedText}
 use Rattle.bridge_lang.specs.Shortening.{IsShortened}
-use Rattle.bridge_lang.specs.declared.row.AsmRow.{AsmRow}
+use Rattle.bridge_lang.specs.declared.asm_rows.AsmRow.{AsmRow}
 use Rattle.wasm_lang.specs.Modules.{WasmModule}
 use Rattle.wasm_lang.specs.declared.fault.Row.{Row}
 use Rattle.wasm_lang.specs.Bytes.{IsFirstFault}

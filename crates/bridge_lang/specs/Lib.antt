@@ -5,8 +5,6 @@ pub mod Words
 pub mod Listing
 pub mod AsmRows
 pub mod WasmRows
-pub mod LinkRows
-pub mod WatRows
 pub mod AsmVerdicts
 pub mod WasmVerdicts
 pub mod Shortening

@@ -1,7 +1,7 @@
 -- Why there is no output, and the line that says so.
 use Rattle.std.specs.Prelude.{ℕ, Bool, List, [], ◌∷◌, ◌++◌, codes, decimal}
 use Rattle.std.specs.List.{concat}
-use Rattle.bridge_lang.specs.declared.row.AsmRow.{AsmRow}
+use Rattle.bridge_lang.specs.declared.asm_rows.AsmRow.{AsmRow}
 use Rattle.bridge_lang.specs.AsmRows as texts
 use Rattle.wasm_lang.specs.declared.fault.Row.{Row}
 use Rattle.wasm_lang_valid.specs.declared.rule.Rule.{Rule}
@@ -9,12 +9,9 @@ use Rattle.wasm_lang_valid.specs.declared.section.Section.{Section}
 use Rattle.wasm_lang_valid.specs.declared.profile.Beyond.{Beyond}
 use Rattle.wasm_lang_valid.specs.Rules.{number}
 use Rattle.wasm_lang_valid.specs.Validity.{id}
-use Rattle.bridge_lang.specs.WasmRows.{row_name}
-use Rattle.bridge_lang.specs.WasmRows as outsiders
-use Rattle.bridge_lang.specs.LinkRows.{link_row_name, side_name}
+use Rattle.bridge_lang.specs.WasmRows.{binary_row_name, wat_row_name, beyond_name, link_row_name, side_name}
 use Rattle.wasm_link_lang.specs.declared.rows.LinkRow.{LinkRow}
 use Rattle.wat_lang.specs.declared.fault.Row.{Row as WatRow}
-use Rattle.bridge_lang.specs.WatRows as wat
 
 pub data Reason : Type 0 where
   faulty_words : Reason
@@ -41,12 +38,12 @@ pub data Reason : Type 0 where
 abbrev pub parts_of : Reason → List (List ℕ)
 parts_of faulty_words = codes "usage: bridge COMMAND [--heap N] [--steps N] [FILE] [SCRIPT]" ∷ []
 parts_of (not_asm row at) = codes "asm.js refused: " ∷ texts.row_name row ∷ codes " at " ∷ decimal at ∷ []
-parts_of (not_a_binary row at) = codes "wasm refused: " ∷ row_name row ∷ codes " at " ∷ decimal at ∷ []
-parts_of (not_wat row at) = codes "wat refused: " ∷ wat.row_name row ∷ codes " at " ∷ decimal at ∷ []
+parts_of (not_a_binary row at) = codes "wasm refused: " ∷ binary_row_name row ∷ codes " at " ∷ decimal at ∷ []
+parts_of (not_wat row at) = codes "wat refused: " ∷ wat_row_name row ∷ codes " at " ∷ decimal at ∷ []
 parts_of (not_valid rule section index instruction) =
     codes "wasm refused: B13 Invalid V" ∷ decimal (number rule) ∷ codes " at section " ∷ decimal (id section)
     ∷ codes " index " ∷ decimal index ∷ codes " instruction " ∷ decimal instruction ∷ []
-parts_of (not_run row value) = codes "wasm refused: " ∷ outsiders.beyond_name row ∷ codes " " ∷ decimal value ∷ []
+parts_of (not_run row value) = codes "wasm refused: " ∷ beyond_name row ∷ codes " " ∷ decimal value ∷ []
 parts_of (not_linked row second value) = codes "link refused: " ∷ link_row_name row ∷ side_name second ∷ decimal value ∷ []
 parts_of (bad_script line) = codes "script refused: line " ∷ decimal line ∷ []
 parts_of read_fault = codes "read fault" ∷ []

@@ -2,7 +2,7 @@
 ghost use Rattle.std.specs.Prelude.{◌≡◌};
 ghost use Rattle.bridge_lang.specs.Statuses.{code_of};
 
-use crate::row::AsmRow;
+use crate::asm_rows::AsmRow;
 use wasm_lang::Row;
 use wasm_lang_valid::{Beyond, Rule, Section};
 use wasm_link_lang::LinkRow;

@@ -22,7 +22,7 @@ use Rattle.asm_text.specs.Said.{IsAnswer}
 use Rattle.asm_validate_names.specs.declared.refusal.AsmRefusal.{AsmRefusal}
 use Rattle.asm_validate_names.specs.declared.refusal.AsmRefusal.TheVariants as refusals
 use Rattle.asm_validate.specs.Refusals.{IsRefused}
-use Rattle.bridge_lang.specs.declared.row.AsmRow.TheVariants as rows
+use Rattle.bridge_lang.specs.declared.asm_rows.AsmRow.TheVariants as rows
 use Rattle.cmd_check_asm.specs.declared.fault.CheckFault.{CheckFault}
 use Rattle.cmd_check_asm.specs.declared.fault.CheckFault.TheVariants.{Refused, Memory}
 use Rattle.cmd_check_asm.specs.Refusals.{of_text, of_module, IsWithin}

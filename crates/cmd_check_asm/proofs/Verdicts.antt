@@ -19,8 +19,8 @@ use Rattle.asm_lang_valid.specs.Texts.{IsAcceptedText, IsRefusedModule}
 use Rattle.asm_lang_valid.proofs.Places.{module_counted}
 use Rattle.asm_laws_fault.specs.TextOutcomes.{TextOutcome, says, a_fault}
 use Rattle.asm_laws_fault.proofs.Told.{same, not_both, some}
-use Rattle.bridge_lang.specs.declared.row.AsmRow.{AsmRow}
-use Rattle.bridge_lang.specs.declared.row.AsmRow.TheVariants as rows
+use Rattle.bridge_lang.specs.declared.asm_rows.AsmRow.{AsmRow}
+use Rattle.bridge_lang.specs.declared.asm_rows.AsmRow.TheVariants as rows
 use Rattle.cmd_check_asm.specs.declared.fault.CheckFault.{CheckFault}
 use Rattle.cmd_check_asm.specs.declared.fault.CheckFault.TheVariants.{Refused, Memory}
 use Rattle.bridge_lang.specs.AsmVerdicts.{IsRefusedText}

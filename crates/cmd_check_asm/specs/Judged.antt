@@ -5,7 +5,7 @@ use Rattle.asm_tree.specs.declared.tree.Module.{Module as Tree}
 use Rattle.asm_tree.specs.Views.{module_view}
 use Rattle.asm_lang_valid.specs.declared.rule.Rule.{Rule}
 use Rattle.asm_lang_valid.specs.Refusal.{refusal, IsAccepted}
-use Rattle.bridge_lang.specs.declared.row.AsmRow.TheVariants as rows
+use Rattle.bridge_lang.specs.declared.asm_rows.AsmRow.TheVariants as rows
 use Rattle.cmd_check_asm.specs.declared.fault.CheckFault.{CheckFault}
 use Rattle.cmd_check_asm.specs.declared.fault.CheckFault.TheVariants.{Refused, Memory}
 

@@ -5,7 +5,7 @@ use Rattle.asm_text.specs.declared.fault.TextFault.{TextFault}
 use Rattle.asm_text.specs.declared.fault.TextFault.TheVariants as texts
 use Rattle.asm_validate_names.specs.declared.refusal.AsmRefusal.{AsmRefusal}
 use Rattle.asm_validate_names.specs.declared.refusal.AsmRefusal.TheVariants as refusals
-use Rattle.bridge_lang.specs.declared.row.AsmRow.TheVariants as rows
+use Rattle.bridge_lang.specs.declared.asm_rows.AsmRow.TheVariants as rows
 use Rattle.cmd_check_asm.specs.declared.fault.CheckFault.{CheckFault}
 use Rattle.cmd_check_asm.specs.declared.fault.CheckFault.TheVariants.{Refused, Memory}
 

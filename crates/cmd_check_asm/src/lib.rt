@@ -5,11 +5,9 @@ mod checking;
 mod counting;
 mod fault;
 mod laws;
-mod names;
 
-pub use bridge_lang::AsmRow;
+pub use bridge_lang::{AsmRow, asm_row_name as row_name};
 pub use checking::check_text;
 pub use counting::{counts, counts_line};
 pub use fault::CheckFault;
 pub use laws::one_verdict_of_a_text;
-pub use names::{row_name, row_number};

@@ -29,7 +29,7 @@ pub enum CheckFault {
 }
 
 /// The fault of bytes that aren't of the binary format.
-pub fn of_binary(fault: BinFault) -> CheckFault
+pub(crate) fn of_binary(fault: BinFault) -> CheckFault
     ensures { result ≡ spec.of_binary fault }
 {
     match fault {

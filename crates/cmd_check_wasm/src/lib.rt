@@ -5,11 +5,9 @@ mod checking;
 mod counting;
 mod fault;
 mod laws;
-mod names;
 
 pub use checking::check_bytes;
 pub use counting::counts;
-pub use fault::CheckFault;
+pub use fault::{CheckFault, of_invalid};
 pub use laws::one_verdict;
-pub use names::row_name;
 pub use wasm_validate::{rule_number, section_number};

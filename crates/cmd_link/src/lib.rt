@@ -3,9 +3,7 @@
 
 mod fault;
 mod linking;
-mod names;
 
 pub use fault::JoinFault;
 pub use linking::linked_file;
-pub use names::{link_row_name, side_name};
 pub use wasm_link_lang::{LinkRow, Refused};

@@ -3,10 +3,8 @@
 
 mod fault;
 mod modules;
-mod names;
 mod runs;
 
 pub use fault::RunFault;
 pub use modules::runnable_module;
-pub use names::outside_name;
 pub use runs::run_script;

@@ -16,14 +16,16 @@ use Rattle.wat_marks.specs.declared.fault.WatFault.TheVariants as texts
 use Rattle.asm2wasm_lang.specs.Allowed.{IsShortest}
 use Rattle.bridge_lang.specs.Job.{file_limit}
 use Rattle.bridge_lang.specs.WatVerdicts.{IsValidWat, says_none, says_invalid}
-use Rattle.cmd_wat2wasm.specs.Faults.{of_wat, of_invalid}
+use Rattle.cmd_check_wasm.specs.Faults.{of_invalid}
+use Rattle.cmd_wat2wasm.specs.declared.fault.TextFault.TheVariants.{Check}
+use Rattle.cmd_wat2wasm.specs.Faults.{of_wat}
 use Rattle.cmd_wat2wasm.specs.Verdicts.{IsRefused, IsSpelledFor}
 
 pub unsaid : (text : List ℕ) (fault : WatFault) → IsFaultOf text fault → IsRefused text (of_wat fault)
 unsaid text (texts.Refused row at) i = says_none row at i
 unsaid text texts.Memory i = tt
 
-pub invalid : (text : List ℕ) (m : WasmModule) (fault : validity.Invalid) → SaysModule text m → IsInvalid m fault → IsRefused text (of_invalid fault)
+pub invalid : (text : List ℕ) (m : WasmModule) (fault : validity.Invalid) → SaysModule text m → IsInvalid m fault → IsRefused text (Check (of_invalid fault))
 invalid text m (validity.TheVariants.Rule rule section index instruction) says i = says_invalid m rule section index instruction says i
 invalid text m validity.TheVariants.Memory says i = tt
 

@@ -5,10 +5,8 @@ mod checking;
 mod fault;
 mod laws;
 mod making;
-mod names;
 
 pub use checking::check_wat;
-pub use fault::CheckFault;
+pub use fault::TextFault;
 pub use laws::one_verdict;
 pub use making::spelled;
-pub use names::row_name;

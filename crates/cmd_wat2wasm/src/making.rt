@@ -4,13 +4,14 @@ ghost use Rattle.bridge_lang.specs.Job.{file_limit};
 ghost use Rattle.cmd_wat2wasm.specs.Verdicts.{IsRefused, IsSpelledFor};
 
 use crate::checking::check_wat;
-use crate::fault::CheckFault;
+use crate::fault::TextFault;
+use cmd_check_wasm::CheckFault;
 use std::alloc::Global;
 use std::mem;
 use wasm_binary_write::{spelling_laws, write};
 
 /// The shortest spelling of the valid module that a text says.
-pub fn spelled(alloc: Global, text: &[u8]) -> Result<Vec<u8>, CheckFault>
+pub fn spelled(alloc: Global, text: &[u8]) -> Result<Vec<u8>, TextFault>
     requires { length text.now ≤ file_limit }
     ensures made { IfOk result (λ bytes. IsSpelledFor text.now bytes.items) }
     ensures refused { IfErr result (λ fault. IsRefused text.now fault) }
@@ -22,6 +23,6 @@ pub fn spelled(alloc: Global, text: &[u8]) -> Result<Vec<u8>, CheckFault>
     mem::forget(valid);
     match bytes {
         Ok(bytes) => Ok(bytes),
-        Err(_) => Err(CheckFault::Memory),
+        Err(_) => Err(TextFault::Check(CheckFault::Memory)),
     }
 }

@@ -12,10 +12,6 @@ use Rattle.wasm2js_translation.specs.Modules.{helpers, functions_from, init_func
 use Rattle.wasm2js_translation.specs.Tables.{stubs, tables_for}
 use Rattle.wasm2js.specs.Parts.{last_functions, without_functions}
 
--- functions that were made are printed
-pub printed : (w new : Written) (none made fs : List Function) → none ≡ [] → made ≡ none ++ fs → new ≡ put w (functions_text made) → new ≡ put w (functions_text fs)
-printed w new none made fs e m n = n ∙ ap (λ gs. put w (functions_text gs)) (m ∙ ap (λ gs. gs ++ fs) e)
-
 three : (w a b c : Written) (fs gs hs : List Function) → a ≡ put w (functions_text fs) → b ≡ put a (functions_text gs) → c ≡ put b (functions_text hs) → c ≡ put w (functions_text (fs ++ (gs ++ hs)))
 three w a b c fs gs hs x y z =
     z ∙ ap (λ s. put s (functions_text hs)) (y ∙ ap (λ s. put s (functions_text gs)) x)

@@ -21,16 +21,63 @@ ghost use Rattle.wasm2js_tables.specs.Views.{masked_view};
 ghost use Rattle.wasm2js.specs.Parts.{first_functions, last_functions, without_functions};
 
 use crate::memory::{memory, needs};
-use crate::properties::properties;
 use asm_tree::{Function, Module};
+use asm_validate::{AsmRefusal, Checked, validate};
 use sem_words::{List, Text};
 use std::alloc::{AllocError, Global};
 use wasm_validate::Valid;
 use wasm2js_functions::push_functions;
+use wasm2js_laws_acceptance::accepted_laws::acceptance;
+use wasm2js_laws_acceptance::called_laws::calling;
+use wasm2js_laws_acceptance::parts_laws::parts;
 use wasm2js_memory_helpers::push_helpers;
 use wasm2js_sections::{exports, high_function, init_function, variables};
+use wasm2js_source::source;
 use wasm2js_stubs::{push_stubs, tables};
 use wasm2js_tables::{MaskedTable, masked};
+
+/// The module of asm.js for a valid module of WebAssembly that can be translated. The validator passes over it once more, and never
+/// refuses it, so that an interpreter of asm.js and the other translation take it.
+pub fn translate(alloc: Global, valid: &Valid<'_>) -> Result<Checked, AllocError>
+    requires { outside_profile valid.now ≡ None }
+    ensures exact { IfOk result (λ m. module_view m ≡ code.translated valid.now) }
+    ensures accepted { IfOk result (λ m. IsAccepted (module_view m)) }
+    ensures well_formed { IfOk result (λ m. IsWellFormed (module_view m)) }
+    ensures called { IfOk result (λ m. IsCalledAs valid.now (module_view m)) }
+    ensures fits { IfOk result (λ m. (s : ScriptPlain) → machine.misfit valid.now s ≡ None → misfit (module_view m) (heap_bytes valid.now) (script_for valid.now s) ≡ None) }
+    ensures allowed { IfOk result (λ m. IsAllowed valid.now (module_view m)) }
+    ensures traps { IfOk result (λ m. TrapsAreCalls valid.now (module_view m)) }
+    ensures bounded { IfOk result (λ m. IsBounded valid.now (module_view m)) }
+    ensures functions { IfOk result (λ m. HasFunctions valid.now (module_view m)) }
+    ensures tables { IfOk result (λ m. HasTables valid.now (module_view m)) }
+    ensures imports { IfOk result (λ m. HasImports valid.now (module_view m)) }
+    ensures helpers { IfOk result (λ m. HasHelpers valid.now (module_view m)) }
+{
+    let made = translate_module(alloc, valid)?;
+    checked(alloc, made)
+}
+
+// A module that the validator doesn't refuse.
+fn checked(alloc: Global, made: Module) -> Result<Checked, AllocError>
+    requires well_formed { IsWellFormed (module_view made) }
+    requires accepted { IsAccepted (module_view made) }
+    ensures { IfOk result (λ checked. checked ≡ made) }
+{
+    match validate(alloc, made) {
+        Ok(checked) => Ok(checked),
+        Err(refusal) => Err(want_of_memory(refusal)),
+    }
+}
+
+// The one fault of a module that is accepted.
+fn want_of_memory(refusal: AsmRefusal) -> AllocError
+    requires { refusal ≡ AsmRefusal.Memory }
+{
+    match refusal {
+        AsmRefusal::Memory => AllocError,
+        AsmRefusal::Refused { .. } => unreachable!(),
+    }
+}
 
 /// The tree of a module of asm.js for a valid module of WebAssembly that can be translated: it is accepted, some text says it, it is
 /// called as asked, and it takes each script that its source takes. With each of them the two show the same, and it calls the
@@ -53,6 +100,33 @@ pub fn translate_module(alloc: Global, valid: &Valid<'_>) -> Result<Module, Allo
 {
     properties(valid);
     exactly(alloc, valid)
+}
+
+// What a module is translated to is accepted and well formed, is called as asked, and takes each script of its source; its
+// sessions show what those of the source show, where those trap it calls the trap import,
+// and a reduction is worth at most 256 units. Its functions, tables and imports are those that are asked for,
+// and it has the helpers for words of 64 bits.
+fn properties(valid: &Valid<'_>)
+    requires { outside_profile valid.now ≡ None }
+    ensures accepted { IsAccepted (code.translated valid.now) }
+    ensures well_formed { IsWellFormed (code.translated valid.now) }
+    ensures called { IsCalledAs valid.now (code.translated valid.now) }
+    ensures fits { (s : ScriptPlain) → machine.misfit valid.now s ≡ None → misfit (code.translated valid.now) (heap_bytes valid.now) (script_for valid.now s) ≡ None }
+    ensures allowed { IsAllowed valid.now (code.translated valid.now) }
+    ensures traps { TrapsAreCalls valid.now (code.translated valid.now) }
+    ensures bounded { IsBounded valid.now (code.translated valid.now) }
+    ensures functions { HasFunctions valid.now (code.translated valid.now) }
+    ensures tables { HasTables valid.now (code.translated valid.now) }
+    ensures imports { HasImports valid.now (code.translated valid.now) }
+    ensures helpers { HasHelpers valid.now (code.translated valid.now) }
+{
+    acceptance();
+    calling();
+    parts();
+    wasm2js_laws_simulation::whole_laws::translations();
+    wasm2js_laws_simulation::bounded_laws::translations();
+    wasm2js_laws_simulation::helping_laws::wide_helpers();
+    source(valid);
 }
 
 fn exactly(alloc: Global, valid: &Valid<'_>) -> Result<Module, AllocError>

@@ -5,7 +5,7 @@ use Rattle.asm_lang.specs.Printing.{functions_text}
 use Rattle.asm_tree.specs.Views.{function_view}
 use Rattle.asm_grammar_print.specs.Put.{written, put}
 use Rattle.wasm2js_translation.specs.Modules.{helpers}
-use Rattle.wasm2js.proofs.Printed.{printed}
+use Rattle.wasm2js_functions.proofs.Printed.{printed}
 use Rattle.wasm2js.proofs.printing.print_helpers.Goals as goal
 
 pub returns : goal.returns

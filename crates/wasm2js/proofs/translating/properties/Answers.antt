@@ -1,5 +1,5 @@
 use Rattle.wasm2js.proofs.Told.{in_profile}
-use Rattle.wasm2js.proofs.properties.properties.Goals as goal
+use Rattle.wasm2js.proofs.translating.properties.Goals as goal
 
 pub returns-clause-accepted : goal.returns-clause-accepted
 returns-clause-accepted c = c.acceptance.ensures.accepted c.args.valid.now c.source.ensures.source c.source.ensures.first

@@ -14,7 +14,7 @@ use Rattle.wasm2js_lang.specs.Parts.Imports.{HasImports}
 use Rattle.wasm2js_lang.specs.Parts.Tables.{HasTables}
 use Rattle.wasm2js_translation.specs.Modules.{translated}
 use Rattle.wasm2js.proofs.Told.{same}
-use Rattle.wasm2js.proofs.checking.translate.Goals as goal
+use Rattle.wasm2js.proofs.translating.translate.Goals as goal
 
 pub checked-requires-clause-well_formed : goal.checked-requires-clause-well_formed
 checked-requires-clause-well_formed c = c.in_ok-made.ensures.well_formed
