@@ -5,8 +5,8 @@ use Rattle.std.specs.Prelude.{if◌then◌else◌, IsSome, is_some, IsOk, is_ok}
 use Rattle.std.specs.Option.{option_to_list}
 use Rattle.std.specs.Cmp.Lexicographic.{nat_list_eq_equiv, bytes_decides}
 use Rattle.indexmap.specs.IndexMap.{IndexMap, get}
-use Rattle.jump_targets.specs.Targets.{Target, is_label, found, bytes_option, targets_of, AreInnermost}
-use Rattle.jump_targets.specs.declared.targets.Opened.{Opened}
+use Rattle.asm_run_emit_bodies.specs.Targets.{Target, is_label, found, bytes_option, targets_of, AreInnermost}
+use Rattle.asm_run_emit_bodies.specs.declared.targets.Opened.{Opened}
 
 same_label : (a b : Option (List ℕ)) → is_label a b ≡ is_label b a
 same_label None None = refl

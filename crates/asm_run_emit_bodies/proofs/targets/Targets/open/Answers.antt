@@ -1,6 +1,6 @@
 use Rattle.std.proofs.Common.{arith}
-use Rattle.jump_targets.proofs.Places.{opened_made}
-use Rattle.jump_targets.proofs.targets.Targets.open.Goals as goal
+use Rattle.asm_run_emit_bodies.proofs.Places.{opened_made}
+use Rattle.asm_run_emit_bodies.proofs.targets.Targets.open.Goals as goal
 
 pub invariant_of-self-2 : goal.invariant_of-self-2
 invariant_of-self-2 c =

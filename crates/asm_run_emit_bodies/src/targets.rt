@@ -2,7 +2,7 @@
 ghost use Rattle.std.specs.Prelude.{◌≡◌, ℕ, List, [], ◌∷◌, Option, drop, map, OnOk, IsSome, if◌then◌else◌};
 ghost use Rattle.sem_words.specs.Lists.{text_bytes};
 ghost use Rattle.indexmap.specs.IndexMap.{get};
-ghost use Rattle.jump_targets.specs.Targets.{bytes_option, is_label, found, those};
+ghost use Rattle.asm_run_emit_bodies.specs.Targets.{bytes_option, is_label, found, those};
 
 use indexmap::IndexMap;
 use key_hashes::{KeyHashes, NameKey};
@@ -28,7 +28,7 @@ pub struct Targets<'l> {
 
 impl<'l> Model for Targets<'l> {
     ghost use Rattle.std.specs.Prelude.{List, reverse};
-    ghost use Rattle.jump_targets.specs.Targets.{Target, targets_of, AreInnermost};
+    ghost use Rattle.asm_run_emit_bodies.specs.Targets.{Target, targets_of, AreInnermost};
 
     ghost Value = { List Target };
 

@@ -1,5 +1,5 @@
-use Rattle.jump_targets.proofs.Places.{own_some, closed_made}
-use Rattle.jump_targets.proofs.targets.Targets.close_one.Goals as goal
+use Rattle.asm_run_emit_bodies.proofs.Places.{own_some, closed_made}
+use Rattle.asm_run_emit_bodies.proofs.targets.Targets.close_one.Goals as goal
 
 pub restore-requires : goal.restore-requires
 restore-requires c = own_some c.self.inside.innermost c.self.inside.innermost c.in-Some.last c.self.inside.opened.items c.pop.new.self.items c.pop.result c.pop.ensures.items c.in-Some.is c.self.invariant

@@ -4,7 +4,7 @@ use Rattle.std.specs.Borrow.{Bor}
 use Rattle.std.specs.Option.{option_eq}
 use Rattle.std.specs.Str.{bytes_eq}
 use Rattle.indexmap.specs.IndexMap.{IndexMap, get}
-use Rattle.jump_targets.specs.declared.targets.Opened.{Opened}
+use Rattle.asm_run_emit_bodies.specs.declared.targets.Opened.{Opened}
 
 -- where jumps with a label go, or those without one
 pub record Target : Type 0 where

@@ -1,8 +1,8 @@
 use Rattle.std.proofs.Common.{ℕ, List, Option, Some, None, sym, ap, subst, ◌∙◌}
 use Rattle.std.specs.Prelude.{if◌then◌else◌, IsSome}
 use Rattle.indexmap.specs.IndexMap.{get}
-use Rattle.jump_targets.specs.Targets.{bytes_option, is_label}
-use Rattle.jump_targets.proofs.targets.restore.Goals as goal
+use Rattle.asm_run_emit_bodies.specs.Targets.{bytes_option, is_label}
+use Rattle.asm_run_emit_bodies.proofs.targets.restore.Goals as goal
 
 pub returns-in-Some-get_mut : goal.returns-in-Some-get_mut
 returns-in-Some-get_mut c =

@@ -1,7 +1,7 @@
 -- A label that stands twice, and jumps without one.
 use Rattle.std.proofs.Common.{◌≡◌, List, [], ◌∷◌, drop, Some, None, refl}
 use Rattle.std.specs.Prelude.{codes}
-use Rattle.jump_targets.specs.Targets.{Target, found, those}
+use Rattle.asm_run_emit_bodies.specs.Targets.{Target, found, those}
 
 abbrev nested : List Target
 nested = record { label = None; at = 9 } ∷ those (codes "a" ∷ codes "b" ∷ []) 5 (record { label = Some (codes "a"); at = 2 } ∷ [])
