@@ -1,4 +1,4 @@
-use Rattle.std.proofs.Common.{[], refl, ◌∙◌}
+use Rattle.std.proofs.Common.{[], refl}
 use Rattle.sem_words.specs.Lists.{list_items}
 use Rattle.asm_run_emit_bodies.proofs.Whole.{whole_made}
 use Rattle.asm_run_emit_bodies.proofs.modules.emit_body.Goals as goal

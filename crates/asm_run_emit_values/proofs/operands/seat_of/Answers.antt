@@ -4,7 +4,6 @@ use Rattle.asm_tree.specs.Views.{expr_view}
 use Rattle.asm_tree.proofs.Views.{expr_view-Var, expr_view-Binary, expr_view-Decimal, expr_view-Index, expr_view-Call, expr_view-TableCall, expr_view-Assign, expr_view-Store, expr_view-Unary, expr_view-Chain, expr_view-Cond, expr_view-Comma}
 use Rattle.asm_run_code.specs.Names.{seat_at, seat, local}
 use Rattle.asm_run_names.specs.Names.{scope_said}
-use Rattle.asm_run_emit_values.specs.Seats.{seat_view}
 use Rattle.asm_run_emit_values.proofs.operands.seat_of.Goals as goal
 
 pub returns-in-Var : goal.returns-in-Var
