@@ -13,7 +13,7 @@ use Rattle.asm_lang_valid.specs.TypeRows.{type_rows}
 use Rattle.asm_lang_valid.specs.LimitRows.{limit_rows}
 use Rattle.asm_lang_valid.specs.Refusal.{Exported, exported, exported_from, IsAccepted}
 use Rattle.asm_lang_exec.specs.Session.{export_number}
-use Rattle.asm_run_state.specs.Names.{slot_of}
+use Rattle.asm2wasm_translation.specs.Numbers.{slot_of}
 use Rattle.asm_run.specs.Exports.{keys_in, is_key_at, EachIsFirst}
 
 -- ---- the number of a function, by the place of its key

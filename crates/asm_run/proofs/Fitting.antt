@@ -17,11 +17,11 @@ use Rattle.asm_run_code.specs.Modules as code
 use Rattle.asm_run_code.specs.Sessions.{flat_calls}
 use Rattle.asm_run_emit_bodies.specs.declared.modules.Codes.{Codes}
 use Rattle.asm_run_laws.specs.Laws.{SessionsDo}
-use Rattle.asm_run_words.specs.declared.world.World.{World}
-use Rattle.asm_run_words.specs.Worlds.{WorldPlain, world_of}
+use Rattle.asm_run_steps.specs.declared.world.World.{World}
+use Rattle.asm_run_steps.specs.Worlds.{WorldPlain, world_of}
 use Rattle.asm_run_state.specs.Globals.{first_world}
 use Rattle.asm_run.specs.Linked.{SessionPlain, IsLinked}
-use Rattle.asm_run_calls.specs.Session.{seen_option, resting, IsSession}
+use Rattle.asm_run_state.specs.Session.{seen_option, resting, IsSession}
 
 not_none : (r : Option ObservationPlain) → (seen : ObservationPlain) × (r ≡ Some seen) → None ≡ r → ⊥
 not_none r h e = cc (e, h.1)

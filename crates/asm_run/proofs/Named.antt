@@ -2,7 +2,7 @@
 use Rattle.std.proofs.Common.{◌≡◌, ℕ, suc, Bool, true, false, List, [], ◌∷◌, Option, Some, None, bytes_eq, ◌||◌, refl, ap, ◌∙◌}
 use Rattle.std.specs.Prelude.{if◌then◌else◌, option_map, is_some}
 use Rattle.asm_lang_valid.specs.Scope.{is_in}
-use Rattle.asm_run_state.specs.Names.{slot_of}
+use Rattle.asm2wasm_translation.specs.Numbers.{slot_of}
 
 either_is : (b c : Bool) (o : Option ℕ) → c ≡ is_some o → (b || c) ≡ is_some (if b then Some 0 else option_map (λ i. suc i) o)
 either_is true c o e = refl

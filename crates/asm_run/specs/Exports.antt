@@ -2,7 +2,7 @@
 use Rattle.std.specs.Prelude.{◌≡◌, ℕ, Bool, true, false, List, map, Option, Some, None, slice_get}
 use Rattle.std.specs.Str.{bytes_eq}
 use Rattle.asm_lang_valid.specs.Refusal.{Exported}
-use Rattle.asm_run_state.specs.Names.{slot_of}
+use Rattle.asm2wasm_translation.specs.Numbers.{slot_of}
 
 abbrev pub keys_in : List Exported → List (List ℕ)
 keys_in es = map (λ (e : Exported). e.key) es

@@ -11,11 +11,11 @@ use Rattle.asm_lang_exec.specs.Fits.{misfit}
 use Rattle.asm_run_code.specs.Modules as code
 use Rattle.asm_run_emit_bodies.specs.Flats.{flat_view}
 use Rattle.asm_run_emit_bodies.specs.declared.modules.Codes.{Codes}
-use Rattle.asm_run_words.specs.Worlds.{world_of}
-use Rattle.asm_run_words.specs.declared.world.World.{World}
+use Rattle.asm_run_steps.specs.Worlds.{world_of}
+use Rattle.asm_run_steps.specs.declared.world.World.{World}
 use Rattle.asm_run_steps.specs.Linked.{names_of}
 use Rattle.asm_run_state.specs.Globals.{first_world}
-use Rattle.asm_run_calls.specs.Session.{callees_of}
+use Rattle.asm_run_state.specs.Session.{callees_of}
 
 -- a module, the length of its heap, and the script that it is run with
 pub record SessionPlain : Type 0 where

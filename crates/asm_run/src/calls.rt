@@ -8,7 +8,7 @@ ghost use Rattle.asm_tree.specs.Views.{function_view, module_view};
 ghost use Rattle.session_lang.specs.Fits as parts;
 ghost use Rattle.asm_lang_exec.specs.Fits;
 ghost use Rattle.asm_run_code.specs.Sessions.{key_number};
-ghost use Rattle.asm_run_calls.specs.Session.{callees_of};
+ghost use Rattle.asm_run_state.specs.Session.{callees_of};
 
 use crate::exports::numbered;
 use crate::ranges::in_range;

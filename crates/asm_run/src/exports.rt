@@ -6,14 +6,14 @@ ghost use Rattle.asm_tree.specs.Views.{function_view, module_view};
 ghost use Rattle.asm_lang_valid.specs.Refusal.{Exported, exported_from};
 ghost use Rattle.asm_lang_exec.specs.Session as session;
 ghost use Rattle.asm_validate_facts.specs.Numbers.{export_said};
-ghost use Rattle.asm_run_state.specs.Names.{slot_of};
+ghost use Rattle.asm2wasm_translation.specs.Numbers.{slot_of};
 ghost use Rattle.asm_run.specs.Exports.{EachIsFirst, is_key_at, keys_in};
-ghost use Rattle.asm_run_calls.specs.Session.{callees_of, function_seen};
+ghost use Rattle.asm_run_state.specs.Session.{callees_of, function_seen};
 
-use asm_run_state::Layout;
 use asm_tree::Function;
 use asm_validate::Checked;
 use asm_validate_facts::ExportOf;
+use name_slots::Slots;
 use session_lang::CallLine;
 use std::alloc::{AllocError, Global};
 use std::marker::Model;
@@ -25,7 +25,7 @@ pub struct Exports<'a> {
     // the place after that of the export that was found last, where a key is looked for first
     next: usize,
     // the keys with their places, once a key wasn't found there
-    keys: Option<Layout<'a>>,
+    keys: Option<Slots<'a>>,
 }
 
 impl<'a> Model for Exports<'a> {
@@ -77,7 +77,7 @@ impl<'a> Exports<'a> {
         }
         let keys = match self.keys.take() {
             Some(keys) => keys,
-            None => layout_of(alloc, self.exports)?,
+            None => keys_of(alloc, self.exports)?,
         };
         let place = keys.slot(key);
         self.keys = Some(keys);
@@ -106,14 +106,14 @@ fn number_at(exports: &[ExportOf], place: usize) -> Option<u32>
 }
 
 // The keys of exports, each found by a map.
-fn layout_of<'a>(alloc: Global, exports: &'a [ExportOf]) -> Result<Layout<'a>, AllocError>
-    ensures { IfOk result (λ layout. layout ≡ keys_in (map export_said exports.now)) }
+fn keys_of<'a>(alloc: Global, exports: &'a [ExportOf]) -> Result<Slots<'a>, AllocError>
+    ensures { IfOk result (λ keys. keys ≡ keys_in (map export_said exports.now)) }
 {
     let mut keys = Vec::with_capacity(alloc, exports.len())?;
     for export in exports {
         keys.push(export.key.as_bytes())?;
     }
-    Layout::new(alloc, keys)
+    Slots::new(alloc, keys)
 }
 
 // The exports of an accepted module.

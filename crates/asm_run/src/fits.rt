@@ -6,14 +6,14 @@ ghost use Rattle.asm_tree.specs.Views.{module_view};
 ghost use Rattle.asm_lang_valid.specs.Refusal.{foreign_globals};
 ghost use Rattle.session_lang.specs.Fits.{least, unfit_lines};
 ghost use Rattle.asm_lang_exec.specs.Fits.{tests, misfit};
-ghost use Rattle.asm_run_calls.specs.Session.{callees_of};
+ghost use Rattle.asm_run_state.specs.Session.{callees_of};
 
 use crate::calls::first_call;
 use crate::exports::callees;
 use crate::globals::{are_given, first_global, imported_globals};
 use crate::writes::{first_reply, first_write};
-use asm_run_state::Layout;
 use asm_validate::Checked;
+use name_slots::Slots;
 use script_lines::Lines;
 use session_lang::{Misfit, Script, earlier};
 use std::alloc::{AllocError, Global};
@@ -23,7 +23,7 @@ fn first_unfit(
     checked: &Checked,
     heap_len: u32,
     script: &Script,
-    imported: &Layout<'_>,
+    imported: &Slots<'_>,
     lines: &Lines<'_>,
     callees: &[Option<u32>],
 ) -> Option<u64>
@@ -44,7 +44,7 @@ fn fits_by(
     checked: &Checked,
     heap_len: u32,
     script: &Script,
-    imported: &Layout<'_>,
+    imported: &Slots<'_>,
     lines: &Lines<'_>,
     callees: &[Option<u32>],
 ) -> Result<(), Misfit>

@@ -6,24 +6,23 @@ ghost use Rattle.asm_tree.specs.Views.{module_view, texts_view};
 ghost use Rattle.asm_lang_valid.specs.Refusal.{foreign_globals};
 ghost use Rattle.asm_lang_valid.specs.Scope.{is_in};
 ghost use Rattle.session_lang.specs.Fits as parts;
-ghost use Rattle.asm_run_state.specs.Names.{names_in};
+ghost use Rattle.name_slots.specs.Names.{names_in};
 ghost use Rattle.asm_run.specs.Globals.{fits_line};
 
 use crate::ranges::in_range;
-use asm_run_state::Layout;
 use asm_validate::Checked;
+use name_slots::Slots;
 use script_lines::Lines;
 use sem_words::Text;
 use session_lang::{GlobalLine, lesser};
 use std::alloc::{AllocError, Global};
 
 /// The names of the imported globals, each found by a map.
-pub fn imported_globals<'a>(alloc: Global, checked: &'a Checked) -> Result<Layout<'a>, AllocError>
+pub fn imported_globals<'a>(alloc: Global, checked: &'a Checked) -> Result<Slots<'a>, AllocError>
     ensures { IfOk result (λ imported. imported ≡ foreign_globals (module_view checked.now)) }
 {
     let names = names_of(alloc, checked.foreign_globals())?;
-    let imported = Layout::new(alloc, names)?;
-    Ok(imported)
+    Slots::new(alloc, names)
 }
 
 fn names_of<'a>(alloc: Global, texts: &'a [Text]) -> Result<Vec<&'a [u8]>, AllocError>
@@ -38,7 +37,7 @@ fn names_of<'a>(alloc: Global, texts: &'a [Text]) -> Result<Vec<&'a [u8]>, Alloc
 
 // Whether a global of this name is imported.
 #[tactic(auto, using(crate::proofs::Named::named_here, crate::proofs::Named::named_nowhere))]
-fn is_imported(imported: &Layout<'_>, name: &[u8]) -> bool
+fn is_imported(imported: &Slots<'_>, name: &[u8]) -> bool
     ensures { result ≡ is_in name.now imported.now }
 {
     match imported.slot(name) {
@@ -48,7 +47,7 @@ fn is_imported(imported: &Layout<'_>, name: &[u8]) -> bool
 }
 
 // Whether a line names an imported global, with a value in range, and no line before this place does.
-fn fits_global(imported: &Layout<'_>, lines: &Lines<'_>, place: usize, line: &GlobalLine) -> bool
+fn fits_global(imported: &Slots<'_>, lines: &Lines<'_>, place: usize, line: &GlobalLine) -> bool
     ensures { result ≡ fits_line imported.now (take place lines.now) (global_of line.now) }
 {
     let name = line.name.as_bytes();
@@ -57,7 +56,7 @@ fn fits_global(imported: &Layout<'_>, lines: &Lines<'_>, place: usize, line: &Gl
 
 /// The first line of a global that doesn't fit.
 #[tactic(auto, using(session_lang::proofs::FirstLines::earlier_none))]
-pub fn first_global(imported: &Layout<'_>, lines: &Lines<'_>) -> Option<u64>
+pub fn first_global(imported: &Slots<'_>, lines: &Lines<'_>) -> Option<u64>
     ensures { result ≡ parts.least (parts.global_lines (fits_line imported.now) [] lines.now) }
 {
     let globals = lines.as_slice();

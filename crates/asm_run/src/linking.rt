@@ -8,14 +8,13 @@ ghost use Rattle.asm_tree.specs.Views.{global_view, init_view, module_view};
 ghost use Rattle.asm_run_code.specs.Modules.{codes_of};
 ghost use Rattle.asm_run_code.specs.Names.{member_name};
 ghost use Rattle.asm_run_emit_bodies.specs.Flats.{flat_view};
-ghost use Rattle.asm_run_words.specs.Worlds.{world_of};
+ghost use Rattle.asm_run_steps.specs.Worlds.{world_of};
 ghost use Rattle.asm_run_steps.specs.Linked.{flat_of, names_of};
-ghost use Rattle.asm_run_calls.specs.Session.{callees_of, IsSession};
+ghost use Rattle.asm_run_state.specs.Session.{callees_of, IsSession};
 
-use asm_run_calls::run;
 use asm_run_emit_bodies::Flat;
-use asm_run_steps::{Function, Linked};
-use asm_run_words::World;
+use asm_run_state::run;
+use asm_run_steps::{Function, Linked, World};
 use asm_tree::{Global_, Init, Module};
 use sem_words::List;
 use session_lang::CallLine;
@@ -86,6 +85,5 @@ pub fn run_linked(
         tables,
         members,
     };
-    let seen = run(alloc, module, linked, callees, world, calls)?;
-    Ok(seen)
+    run(alloc, module, linked, callees, world, calls)
 }

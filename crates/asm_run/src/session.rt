@@ -8,12 +8,12 @@ ghost use Rattle.session_replies.specs.Views.{seen_of};
 ghost use Rattle.asm_tree.specs.Views.{module_view};
 ghost use Rattle.asm_lang_exec.specs.Session.{asm, checked_asm};
 ghost use Rattle.asm_lang_exec.specs.Fits.{misfit};
-ghost use Rattle.asm_run_calls.specs.Session.{callees_of};
+ghost use Rattle.asm_run_state.specs.Session.{callees_of};
 
 use crate::linking::{functions_of, members_of, run_linked};
 use asm_run_emit_bodies::{Codes, codes_of};
 use asm_run_state::first_world;
-use asm_run_words::World;
+use asm_run_steps::World;
 use asm_validate::Checked;
 use session_lang::Script;
 use session_replies::Seen;

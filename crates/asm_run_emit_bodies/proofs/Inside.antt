@@ -9,7 +9,7 @@ use Rattle.sem_words.specs.declared.text.Text.{Text}
 use Rattle.sem_words.specs.Lists.{text_bytes}
 use Rattle.asm_lang_valid.specs.Scope.{is_in}
 use Rattle.asm_tree.specs.Views.{texts_view}
-use Rattle.jump_targets.specs.Targets.{Target, found, those}
+use Rattle.asm_run_emit_bodies.specs.Targets.{Target, found, those}
 use Rattle.asm_run_code.specs.Bodies as code
 use Rattle.asm_run_code.specs.Bodies.{Around, a_loop, a_switch, a_named}
 use Rattle.asm_run_emit_bodies.specs.declared.jumps.Jumps.{Jumps}

@@ -1,3 +1,5 @@
+mod Examples
+pub mod Places
 pub mod Inside
 pub mod Cases
 pub mod Shapes

@@ -1,7 +1,7 @@
 -- What stands round a statement, and where jumps go from it, as the code holds them.
 use Rattle.std.specs.Prelude.{◌≡◌, ℕ, List, ◌∷◌, Option, None}
 use Rattle.std.specs.Option.{unwrap_or}
-use Rattle.jump_targets.specs.Targets.{Target, found, those}
+use Rattle.asm_run_emit_bodies.specs.Targets.{Target, found, those}
 use Rattle.asm_run_code.specs.Bodies as code
 use Rattle.asm_run_code.specs.Bodies.{Around, a_loop, a_switch, a_named}
 use Rattle.asm_run_emit_bodies.specs.declared.jumps.Jumps.{Jumps}

@@ -1,3 +1,4 @@
+pub mod Targets
 pub mod Jumps
 pub mod Loops
 pub mod Choices

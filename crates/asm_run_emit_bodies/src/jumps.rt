@@ -1,12 +1,12 @@
 //! Where breaks and continues go from a statement.
 ghost use Rattle.std.specs.Prelude.{◌≡◌, ℕ, [], OnOk};
 ghost use Rattle.asm_tree.specs.Views.{texts_view, text_option};
-ghost use Rattle.jump_targets.specs.Targets.{bytes_option};
+ghost use Rattle.asm_run_emit_bodies.specs.Targets.{bytes_option};
 ghost use Rattle.asm_run_emit_bodies.specs.declared.jumps.Jumps as declared;
 ghost use Rattle.asm_run_code.specs.Bodies.{a_loop, a_switch, a_named};
 ghost use Rattle.asm_run_emit_bodies.specs.Jumps.{inside, address};
 
-use jump_targets::Targets;
+use crate::targets::Targets;
 use key_hashes::KeyHashes;
 use sem_words::Text;
 use std::alloc::{AllocError, Global};

@@ -6,5 +6,6 @@ mod loops;
 mod modules;
 mod statements;
 mod switches;
+mod targets;
 
 pub use modules::{Codes, Flat, codes_of};

@@ -36,7 +36,7 @@ pub fn end_turns(
     ensures past { IfOk result (λ past. past ≡ length output.old) }
     ensures put { OnOk result (output.new ≡ tail (scope_said names.now) (suc free) (length output.old) turns.entry (Again free ∷ output.old)) }
 {
-    let past = output.address()?;
+    let past = output.address();
     output.put(Op::Again { slot: free })?;
     let inner = next(free)?;
     put_tail(names, output, inner, past, turns)?;
@@ -70,7 +70,7 @@ pub fn enter_body<'l>(
     ensures inner { IfOk result (λ inner. inner ≡ suc free) }
     ensures entered { OnOk result (jumps.new ≡ inside (a_loop (texts_view own.now) (length output.now) past) jumps.old) }
 {
-    let turn = output.address()?;
+    let turn = output.address();
     jumps.enter_loop(own, turn, past)?;
     next(free)
 }

@@ -111,38 +111,29 @@ fn emit_function<'a>(
     ensures { OnOk result (output.new ≡ whole (scope_of (module_view «module».now) (function_view function.now))) }
 {
     match FunctionNames::new(alloc, module, function) {
-        Ok(names) => emit_body(alloc, &names, output),
+        Ok(names) => emit_body(&names, output),
         Err(error) => Err(error),
     }
 }
 
 // .. by the names of the function.
-fn emit_body(
-    alloc: Global,
-    names: &FunctionNames<'_, '_>,
-    output: &mut Output,
-) -> Result<(), AllocError>
+fn emit_body(names: &FunctionNames<'_, '_>, output: &mut Output) -> Result<(), AllocError>
     requires { output.old ≡ [] }
     ensures { OnOk result (output.new ≡ whole (scope_said names.now)) }
 {
-    let free = small(names.first_free())?;
+    let free = names.first_free();
     output.put(Op::Give { from: free })?;
     output.put(Op::Number { to: free, word: 0 })?;
-    emit_all(alloc, names, output, free)
+    emit_all(names, output, free)
 }
 
 // .. before what ends it.
-fn emit_all(
-    alloc: Global,
-    names: &FunctionNames<'_, '_>,
-    output: &mut Output,
-    free: u32,
-) -> Result<(), AllocError>
+fn emit_all(names: &FunctionNames<'_, '_>, output: &mut Output, free: u32) -> Result<(), AllocError>
     ensures { OnOk result (output.new ≡ stmts_code (scope_said names.now) [] free (stmts_view (list_items names.now.function.body)) output.old) }
 {
     let body = names.function().body.as_slice();
-    let mut jumps = Jumps::new(alloc, label_hashes(body));
-    emit_stmts(names, output, alloc, &mut jumps, free, body)
+    let mut jumps = Jumps::new(output.alloc(), label_hashes(body));
+    emit_stmts(names, output, &mut jumps, free, body)
 }
 
 fn stored_code(alloc: Global, output: &Output) -> Result<Vec<Op>, AllocError>

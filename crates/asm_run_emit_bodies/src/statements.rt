@@ -19,14 +19,13 @@ use asm_run_emit_values::{Output, emit_operand, emit_test, emit_value, into, loc
 use asm_run_names::FunctionNames;
 use asm_tree::{Clause, Expr, ForHead, Stmt};
 use sem_words::Text;
-use std::alloc::{AllocError, Global};
+use std::alloc::AllocError;
 
 /// The code of a statement before the code that is there. A loop has the labels of `own`. Slots from `free` on are free.
 #[cycle(statements)]
 pub fn emit_stmt<'l>(
     names: &FunctionNames<'_, '_>,
     output: &mut Output,
-    alloc: Global,
     jumps: &mut Jumps<'l>,
     own: &'l [Text],
     free: u32,
@@ -37,32 +36,30 @@ pub fn emit_stmt<'l>(
 {
     match statement {
         Stmt::Empty => Ok(()),
-        Stmt::Block(body) => emit_stmts(names, output, alloc, jumps, free, body.as_slice()),
+        Stmt::Block(body) => emit_stmts(names, output, jumps, free, body.as_slice()),
         Stmt::Plain(expr) => emit_value(names, output, None, free, expr),
-        Stmt::If(yes, no, condition) => {
-            emit_if(names, output, alloc, jumps, free, condition, yes, no)
-        }
+        Stmt::If(yes, no, condition) => { emit_if(names, output, jumps, free, condition, yes, no) }
         Stmt::Return(value) => emit_return(names, output, free, value),
         Stmt::While(condition, body) => {
             let turns = Turns::While(condition);
-            emit_loop(names, output, alloc, jumps, own, free, turns, body)
+            emit_loop(names, output, jumps, own, free, turns, body)
         }
         Stmt::DoWhile(body, condition) => {
             let turns = Turns::DoWhile(condition);
-            emit_loop(names, output, alloc, jumps, own, free, turns, body)
+            emit_loop(names, output, jumps, own, free, turns, body)
         }
         Stmt::For(head, body) => {
             let head: &ForHead = head;
             let turns = Turns::For(head);
-            emit_loop(names, output, alloc, jumps, own, free, turns, body)
+            emit_loop(names, output, jumps, own, free, turns, body)
         }
         Stmt::Break(name) => put_go(output, jumps.break_address(name)),
         Stmt::Continue(name) => put_go(output, jumps.continue_address(name)),
         Stmt::Labelled(labels, body) => {
-            emit_labelled(names, output, alloc, jumps, labels.as_slice(), free, body)
+            emit_labelled(names, output, jumps, labels.as_slice(), free, body)
         }
         Stmt::Switch(cases, subject) => {
-            emit_switch(names, output, alloc, jumps, free, cases.as_slice(), subject)
+            emit_switch(names, output, jumps, free, cases.as_slice(), subject)
         }
     }
 }
@@ -71,7 +68,6 @@ pub fn emit_stmt<'l>(
 fn emit_labelled<'l>(
     names: &FunctionNames<'_, '_>,
     output: &mut Output,
-    alloc: Global,
     jumps: &mut Jumps<'l>,
     labels: &'l [Text],
     free: u32,
@@ -80,9 +76,9 @@ fn emit_labelled<'l>(
     ensures code { (os : List code.Around) → Meets jumps.old os → OnOk result (output.new ≡ stmt (scope_said names.now) os [] free (form.labelled (texts_view labels.now) (stmt_view body.now)) output.old) }
     ensures kept { OnOk result (jumps.new ≡ jumps.old) }
 {
-    let past = output.address()?;
+    let past = output.address();
     jumps.enter_labelled(labels, past)?;
-    emit_stmt(names, output, alloc, jumps, labels, free, body)?;
+    emit_stmt(names, output, jumps, labels, free, body)?;
     jumps.leave_labelled(labels);
     Ok(())
 }
@@ -92,7 +88,6 @@ fn emit_labelled<'l>(
 fn emit_bare<'l>(
     names: &FunctionNames<'_, '_>,
     output: &mut Output,
-    alloc: Global,
     jumps: &mut Jumps<'l>,
     free: u32,
     body: &'l Stmt,
@@ -100,7 +95,7 @@ fn emit_bare<'l>(
     ensures code { (os : List code.Around) → Meets jumps.old os → OnOk result (output.new ≡ stmt (scope_said names.now) os [] free (stmt_view body.now) output.old) }
     ensures kept { OnOk result (jumps.new ≡ jumps.old) }
 {
-    emit_stmt(names, output, alloc, jumps, &[], free, body)
+    emit_stmt(names, output, jumps, &[], free, body)
 }
 
 fn put_go(output: &mut Output, at: u32) -> Result<(), AllocError>
@@ -114,7 +109,6 @@ fn put_go(output: &mut Output, at: u32) -> Result<(), AllocError>
 pub fn emit_stmts<'l>(
     names: &FunctionNames<'_, '_>,
     output: &mut Output,
-    alloc: Global,
     jumps: &mut Jumps<'l>,
     free: u32,
     body: &'l [Stmt],
@@ -125,7 +119,7 @@ pub fn emit_stmts<'l>(
     let mut i = body.len();
     while i > 0 {
         i -= 1;
-        emit_bare(names, output, alloc, jumps, free, &body[i])?;
+        emit_bare(names, output, jumps, free, &body[i])?;
     }
     Ok(())
 }
@@ -134,7 +128,6 @@ pub fn emit_stmts<'l>(
 fn emit_if<'l>(
     names: &FunctionNames<'_, '_>,
     output: &mut Output,
-    alloc: Global,
     jumps: &mut Jumps<'l>,
     free: u32,
     condition: &'l Expr,
@@ -144,8 +137,8 @@ fn emit_if<'l>(
     ensures code { (os : List code.Around) → Meets jumps.old os → OnOk result (output.new ≡ stmt (scope_said names.now) os [] free (choice (expr_view condition.now) (stmt_view yes.now) (stmt_option no.now)) output.old) }
     ensures kept { OnOk result (jumps.new ≡ jumps.old) }
 {
-    let at = emit_else(names, output, alloc, jumps, free, no)?;
-    emit_bare(names, output, alloc, jumps, free, yes)?;
+    let at = emit_else(names, output, jumps, free, no)?;
+    emit_bare(names, output, jumps, free, yes)?;
     emit_test(names, output, free, condition, at)
 }
 
@@ -154,7 +147,6 @@ fn emit_if<'l>(
 fn emit_else<'l>(
     names: &FunctionNames<'_, '_>,
     output: &mut Output,
-    alloc: Global,
     jumps: &mut Jumps<'l>,
     free: u32,
     no: &'l Option<Box<Stmt>>,
@@ -163,11 +155,11 @@ fn emit_else<'l>(
     ensures code { (os : List code.Around) → Meets jumps.old os → OnOk result (output.new ≡ otherwise (scope_said names.now) os free (stmt_option no.now) output.old) }
     ensures kept { OnOk result (jumps.new ≡ jumps.old) }
 {
-    let past = output.address()?;
+    let past = output.address();
     match no {
         None => Ok(past),
         Some(no) => {
-            emit_bare(names, output, alloc, jumps, free, no)?;
+            emit_bare(names, output, jumps, free, no)?;
             put_past(output, past)
         }
     }
@@ -178,7 +170,7 @@ fn put_past(output: &mut Output, past: u32) -> Result<u32, AllocError>
     ensures at { IfOk result (λ at. at ≡ length output.old) }
     ensures put { OnOk result (output.new ≡ Go past ∷ output.old) }
 {
-    let at = output.address()?;
+    let at = output.address();
     output.put(Op::Go { at: past })?;
     Ok(at)
 }
@@ -197,7 +189,7 @@ fn emit_return(
             output.put(Op::Number { to: free, word: 0 })
         }
         Some(value) => {
-            let place = local(names, value)?;
+            let place = local(names, value);
             let from = into(place, free);
             output.put(Op::Give { from })?;
             emit_operand(names, output, place, free, value)
@@ -209,7 +201,6 @@ fn emit_return(
 fn emit_loop<'l>(
     names: &FunctionNames<'_, '_>,
     output: &mut Output,
-    alloc: Global,
     jumps: &mut Jumps<'l>,
     own: &'l [Text],
     free: u32,
@@ -221,7 +212,7 @@ fn emit_loop<'l>(
 {
     let past = end_turns(names, output, free, turns)?;
     let inner = enter_body(output, jumps, own, free, past)?;
-    emit_bare(names, output, alloc, jumps, inner, body)?;
+    emit_bare(names, output, jumps, inner, body)?;
     jumps.leave_loop(own);
     begin_turns(names, output, free, past, turns)
 }
@@ -230,7 +221,6 @@ fn emit_loop<'l>(
 fn emit_switch<'l>(
     names: &FunctionNames<'_, '_>,
     output: &mut Output,
-    alloc: Global,
     jumps: &mut Jumps<'l>,
     free: u32,
     clauses: &'l [Clause],
@@ -239,18 +229,17 @@ fn emit_switch<'l>(
     ensures code { (os : List code.Around) → Meets jumps.old os → OnOk result (output.new ≡ stmt (scope_said names.now) os [] free (form.switches (expr_view subject.now) (clauses_view clauses.now)) output.old) }
     ensures kept { OnOk result (jumps.new ≡ jumps.old) }
 {
-    let mut starts = Starts::new(alloc);
+    let mut starts = Starts::new(output.alloc());
     start_switch(output, jumps, &mut starts)?;
-    emit_clauses(names, output, alloc, jumps, free, clauses, &mut starts)?;
+    emit_clauses(names, output, jumps, free, clauses, &mut starts)?;
     jumps.leave_switch();
-    emit_choice(names, output, alloc, free, clauses, &starts, subject)
+    emit_choice(names, output, free, clauses, &starts, subject)
 }
 
 // The value of a switch, and the way from there to its clause.
 fn emit_choice(
     names: &FunctionNames<'_, '_>,
     output: &mut Output,
-    alloc: Global,
     free: u32,
     clauses: &[Clause],
     starts: &Starts,
@@ -259,9 +248,9 @@ fn emit_choice(
     requires { length clauses.now ≤ length starts.now }
     ensures { OnOk result (output.new ≡ chosen (scope_said names.now) free (clauses_view clauses.now) starts.now (expr_view subject.now) output.old) }
 {
-    let place = local(names, subject)?;
+    let place = local(names, subject);
     let slot = into(place, free);
-    dispatch(output, alloc, clauses, starts, slot)?;
+    dispatch(output, clauses, starts, slot)?;
     emit_operand(names, output, place, free, subject)
 }
 
@@ -270,7 +259,6 @@ fn emit_choice(
 fn emit_clauses<'l>(
     names: &FunctionNames<'_, '_>,
     output: &mut Output,
-    alloc: Global,
     jumps: &mut Jumps<'l>,
     free: u32,
     clauses: &'l [Clause],
@@ -285,15 +273,8 @@ fn emit_clauses<'l>(
     let mut i = clauses.len();
     while i > 0 {
         i -= 1;
-        emit_stmts(
-            names,
-            output,
-            alloc,
-            jumps,
-            free,
-            clauses[i].body.as_slice(),
-        )?;
-        let at = output.address()?;
+        emit_stmts(names, output, jumps, free, clauses[i].body.as_slice())?;
+        let at = output.address();
         starts.put(at)?;
     }
     Ok(())

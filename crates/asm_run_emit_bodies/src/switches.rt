@@ -75,7 +75,7 @@ pub fn start_switch(
     ensures start { OnOk result (starts.new ≡ length output.now ∷ []) }
     ensures entered { OnOk result (jumps.new ≡ inside (a_switch (length output.now)) jumps.old) }
 {
-    let past = output.address()?;
+    let past = output.address();
     starts.put(past)?;
     jumps.enter_switch(past)
 }
@@ -83,7 +83,6 @@ pub fn start_switch(
 /// To the clause of the value in a slot, before the code of the clauses.
 pub fn dispatch(
     output: &mut Output,
-    alloc: Global,
     clauses: &[Clause],
     starts: &Starts,
     slot: u32,
@@ -95,7 +94,7 @@ pub fn dispatch(
     output.put(Op::Go { at: default })?;
     let range = CaseRange::of(clauses);
     if range.is_dense() {
-        put_table(output, alloc, clauses, starts, slot)
+        put_table(output, clauses, starts, slot)
     } else {
         put_cases(output, clauses, starts, slot)
     }
@@ -134,7 +133,6 @@ fn put_case(output: &mut Output, value: Option<i64>, at: u32, slot: u32) -> Resu
 // A jump for each value from the least to the greatest.
 fn put_table(
     output: &mut Output,
-    alloc: Global,
     clauses: &[Clause],
     starts: &Starts,
     slot: u32,
@@ -145,7 +143,7 @@ fn put_table(
 {
     // the labels of clauses have 32 bits
     small(clauses.len())?;
-    let targets = target_labels(alloc, clauses)?;
+    let targets = target_labels(output.alloc(), clauses)?;
     put_jumps(output, targets.as_slice(), starts)?;
     let range = CaseRange::of(clauses);
     output.put(Op::Choose {

@@ -32,61 +32,60 @@ pub enum Seat {
 
 /// The slot of an expression that is a local variable, also under `|0`.
 #[tactic(auto, using(asm_tree::proofs::Views::views))]
-pub fn local(names: &FunctionNames<'_, '_>, expr: &Expr) -> Result<Option<u32>, AllocError>
-    ensures { IfOk result (λ slot. slot ≡ code.local (scope_said names.now) (expr_view expr.now)) }
+pub fn local(names: &FunctionNames<'_, '_>, expr: &Expr) -> Option<u32>
+    ensures { result ≡ code.local (scope_said names.now) (expr_view expr.now) }
 {
     match expr {
         Expr::Var(name) => names.slot(name),
         Expr::Binary(op, left, right) => {
             if !is_or_zero(*op, right) {
-                return Ok(None);
+                return None;
             }
             local(names, left)
         }
-        Expr::Lit(_) => Ok(None),
-        Expr::Decimal(_) => Ok(None),
-        Expr::Index(_, _) => Ok(None),
-        Expr::Call(_, _) => Ok(None),
-        Expr::TableCall(_, _, _) => Ok(None),
-        Expr::Assign(_, _) => Ok(None),
-        Expr::Store(_, _, _) => Ok(None),
-        Expr::Unary(_, _) => Ok(None),
-        Expr::Chain(_, _) => Ok(None),
-        Expr::Cond(_, _, _) => Ok(None),
-        Expr::Comma(_) => Ok(None),
+        Expr::Lit(_) => None,
+        Expr::Decimal(_) => None,
+        Expr::Index(_, _) => None,
+        Expr::Call(_, _) => None,
+        Expr::TableCall(_, _, _) => None,
+        Expr::Assign(_, _) => None,
+        Expr::Store(_, _, _) => None,
+        Expr::Unary(_, _) => None,
+        Expr::Chain(_, _) => None,
+        Expr::Cond(_, _, _) => None,
+        Expr::Comma(_) => None,
     }
 }
 
 /// Where an expression stands as an operand.
 #[tactic(auto, using(asm_tree::proofs::Views::views))]
-pub fn seat_of(names: &FunctionNames<'_, '_>, expr: &Expr) -> Result<Seat, AllocError>
-    ensures { IfOk result (λ s. seat_view s ≡ code.seat (scope_said names.now) (expr_view expr.now)) }
+pub fn seat_of(names: &FunctionNames<'_, '_>, expr: &Expr) -> Seat
+    ensures { seat_view result ≡ code.seat (scope_said names.now) (expr_view expr.now) }
 {
     match expr {
-        Expr::Lit(value) => Ok(Seat::Number(low_word(*value))),
+        Expr::Lit(value) => Seat::Number(low_word(*value)),
         Expr::Var(_) => seat_in(names, expr),
         Expr::Binary(_, _, _) => seat_in(names, expr),
-        Expr::Decimal(_) => Ok(Seat::Elsewhere),
-        Expr::Index(_, _) => Ok(Seat::Elsewhere),
-        Expr::Call(_, _) => Ok(Seat::Elsewhere),
-        Expr::TableCall(_, _, _) => Ok(Seat::Elsewhere),
-        Expr::Assign(_, _) => Ok(Seat::Elsewhere),
-        Expr::Store(_, _, _) => Ok(Seat::Elsewhere),
-        Expr::Unary(_, _) => Ok(Seat::Elsewhere),
-        Expr::Chain(_, _) => Ok(Seat::Elsewhere),
-        Expr::Cond(_, _, _) => Ok(Seat::Elsewhere),
-        Expr::Comma(_) => Ok(Seat::Elsewhere),
+        Expr::Decimal(_) => Seat::Elsewhere,
+        Expr::Index(_, _) => Seat::Elsewhere,
+        Expr::Call(_, _) => Seat::Elsewhere,
+        Expr::TableCall(_, _, _) => Seat::Elsewhere,
+        Expr::Assign(_, _) => Seat::Elsewhere,
+        Expr::Store(_, _, _) => Seat::Elsewhere,
+        Expr::Unary(_, _) => Seat::Elsewhere,
+        Expr::Chain(_, _) => Seat::Elsewhere,
+        Expr::Cond(_, _, _) => Seat::Elsewhere,
+        Expr::Comma(_) => Seat::Elsewhere,
     }
 }
 
 // That of an expression that may be a local variable.
-fn seat_in(names: &FunctionNames<'_, '_>, expr: &Expr) -> Result<Seat, AllocError>
-    ensures { IfOk result (λ s. seat_view s ≡ code.seat_at (code.local (scope_said names.now) (expr_view expr.now))) }
+fn seat_in(names: &FunctionNames<'_, '_>, expr: &Expr) -> Seat
+    ensures { seat_view result ≡ code.seat_at (code.local (scope_said names.now) (expr_view expr.now)) }
 {
-    let place = local(names, expr)?;
-    match place {
-        Some(slot) => Ok(Seat::Local(slot)),
-        None => Ok(Seat::Elsewhere),
+    match local(names, expr) {
+        Some(slot) => Seat::Local(slot),
+        None => Seat::Elsewhere,
     }
 }
 
@@ -124,31 +123,23 @@ pub fn value_slot(seat: Seat, free: u32) -> Result<u32, AllocError>
 }
 
 /// The slot of the first of two operands, where it stays there before the second.
-pub fn place_before(
-    names: &FunctionNames<'_, '_>,
-    first: &Expr,
-    second: Seat,
-) -> Result<Option<u32>, AllocError>
-    ensures { IfOk result (λ slot. slot ≡ values.stays_by (seat_view second) (code.local (scope_said names.now) (expr_view first.now))) }
+pub fn place_before(names: &FunctionNames<'_, '_>, first: &Expr, second: Seat) -> Option<u32>
+    ensures { result ≡ values.stays_by (seat_view second) (code.local (scope_said names.now) (expr_view first.now)) }
 {
     match second {
-        Seat::Elsewhere => Ok(None),
+        Seat::Elsewhere => None,
         Seat::Number(_) => local(names, first),
         Seat::Local(_) => local(names, first),
     }
 }
 
 /// The slot of the index of a store, where it stays there before the value.
-pub fn index_place(
-    names: &FunctionNames<'_, '_>,
-    index: &Expr,
-    value: Seat,
-) -> Result<Option<u32>, AllocError>
-    ensures { IfOk result (λ slot. slot ≡ pieces.index_place (seat_view value) (code.local (scope_said names.now) (expr_view index.now))) }
+pub fn index_place(names: &FunctionNames<'_, '_>, index: &Expr, value: Seat) -> Option<u32>
+    ensures { result ≡ pieces.index_place (seat_view value) (code.local (scope_said names.now) (expr_view index.now)) }
 {
     match value {
         Seat::Local(_) => local(names, index),
-        Seat::Elsewhere | Seat::Number(_) => Ok(None),
+        Seat::Elsewhere | Seat::Number(_) => None,
     }
 }
 

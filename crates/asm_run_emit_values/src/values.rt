@@ -92,8 +92,7 @@ fn put_variable(
     ensures { OnOk result (output.new ≡ fetched (code.local_slot (scope_said names.now) (text_bytes name.now)) (code.global_slot (scope_said names.now) (text_bytes name.now)) (values.into wanted free) ∷ output.old) }
 {
     let to = into(wanted, free);
-    let slot = names.slot(name)?;
-    match slot {
+    match names.slot(name) {
         Some(from) => output.put(Op::Copy { to, from }),
         None => {
             let global = names.global(name)?;
@@ -146,7 +145,7 @@ fn emit_single(
 ) -> Result<(), AllocError>
     ensures { OnOk result (output.new ≡ values.seated (code.local (scope_said names.now) (expr_view operand.now)) free (λ more. value (scope_said names.now) (Some free) free (expr_view operand.now) more) (λ a. single_op single a) output.old) }
 {
-    let place = local(names, operand)?;
+    let place = local(names, operand);
     let from = into(place, free);
     output.put(single_op(single, from))?;
     emit_operand(names, output, place, free, operand)
@@ -344,8 +343,7 @@ fn put_assign(
     ensures to { IfOk result (λ to. to ≡ pieces.assigned_slot (code.local_slot (scope_said names.now) (text_bytes name.now)) wanted free) }
     ensures put { OnOk result (output.new ≡ pieces.assignment (code.local_slot (scope_said names.now) (text_bytes name.now)) (code.global_slot (scope_said names.now) (text_bytes name.now)) wanted free output.old) }
 {
-    let slot = names.slot(name)?;
-    match slot {
+    match names.slot(name) {
         Some(to) => {
             put_copy(output, wanted, to)?;
             Ok(to)
@@ -371,7 +369,7 @@ fn emit_store(
 ) -> Result<(), AllocError>
     ensures { OnOk result (output.new ≡ values.value (scope_said names.now) wanted free (form.store (text_bytes name.now) (expr_view index.now) (expr_view value.now)) output.old) }
 {
-    let seat = seat_of(names, value)?;
+    let seat = seat_of(names, value);
     let place = put_store(names, output, wanted, free, name, index, seat)?;
     emit_next(names, output, is_far(seat), free, value)?;
     emit_operand(names, output, place, free, index)
@@ -391,7 +389,7 @@ fn put_store(
     ensures put { OnOk result (output.new ≡ pieces.written (seat_view seat) (code.local (scope_said names.now) (expr_view index.now)) (code.view_kind (named (scope_said names.now) (text_bytes name.now))) wanted free output.old) }
 {
     let kind = names.view_kind(name);
-    let place = index_place(names, index, seat)?;
+    let place = index_place(names, index, seat);
     let from = value_slot(seat, free)?;
     put_copy(output, wanted, from)?;
     let at = into(place, free);
@@ -452,8 +450,8 @@ fn emit_combined(
 ) -> Result<(), AllocError>
     ensures { OnOk result (output.new ≡ combined (code.seat (scope_said names.now) (expr_view right.now)) (code.local (scope_said names.now) (expr_view left.now)) operator to free (λ more. value (scope_said names.now) (Some free) free (expr_view left.now) more) (λ more. value (scope_said names.now) (Some (suc free)) (suc free) (expr_view right.now) more) output.old) }
 {
-    let seat = seat_of(names, right)?;
-    let place = place_before(names, left, seat)?;
+    let seat = seat_of(names, right);
+    let place = place_before(names, left, seat);
     let at = into(place, free);
     put_applied(output, operator, to, at, free, seat)?;
     emit_next(names, output, is_elsewhere(seat), free, right)?;
@@ -525,7 +523,7 @@ fn emit_chain(
 ) -> Result<(), AllocError>
     ensures { OnOk result (output.new ≡ value (scope_said names.now) wanted free (form.chain (expr_view first.now) (links_view links.now)) output.old) }
 {
-    let place = stays(names, first, links)?;
+    let place = stays(names, first, links);
     match place {
         Some(slot) => emit_links(names, output, wanted, slot, free, links),
         None => {
@@ -537,28 +535,20 @@ fn emit_chain(
 }
 
 // The slot of the first operand of a chain, where it stays there.
-fn stays(
-    names: &FunctionNames<'_, '_>,
-    first: &Expr,
-    links: &[Link],
-) -> Result<Option<u32>, AllocError>
-    ensures { IfOk result (λ slot. slot ≡ values.stays (scope_said names.now) (code.local (scope_said names.now) (expr_view first.now)) (links_view links.now)) }
+fn stays(names: &FunctionNames<'_, '_>, first: &Expr, links: &[Link]) -> Option<u32>
+    ensures { result ≡ values.stays (scope_said names.now) (code.local (scope_said names.now) (expr_view first.now)) (links_view links.now) }
 {
     match links.first() {
         Some(link) => stays_before(names, first, &link.operand),
-        None => Ok(None),
+        None => None,
     }
 }
 
 // .. before this second operand.
-fn stays_before(
-    names: &FunctionNames<'_, '_>,
-    first: &Expr,
-    second: &Expr,
-) -> Result<Option<u32>, AllocError>
-    ensures { IfOk result (λ slot. slot ≡ values.stays_by (code.seat (scope_said names.now) (expr_view second.now)) (code.local (scope_said names.now) (expr_view first.now))) }
+fn stays_before(names: &FunctionNames<'_, '_>, first: &Expr, second: &Expr) -> Option<u32>
+    ensures { result ≡ values.stays_by (code.seat (scope_said names.now) (expr_view second.now)) (code.local (scope_said names.now) (expr_view first.now)) }
 {
-    let seat = seat_of(names, second)?;
+    let seat = seat_of(names, second);
     place_before(names, first, seat)
 }
 
@@ -613,7 +603,7 @@ fn emit_link(
     ensures { OnOk result (output.new ≡ linked (code.seat (scope_said names.now) (expr_view link.now.operand)) (operators.link_operator link.now.minus) to left free (λ more. value (scope_said names.now) (Some (suc free)) (suc free) (expr_view link.now.operand) more) output.old) }
 {
     let operator = link_operator(link.minus);
-    let seat = seat_of(names, &link.operand)?;
+    let seat = seat_of(names, &link.operand);
     put_applied(output, operator, to, left, free, seat)?;
     emit_next(names, output, is_elsewhere(seat), free, &link.operand)
 }
@@ -630,7 +620,7 @@ fn emit_cond(
 ) -> Result<(), AllocError>
     ensures { OnOk result (output.new ≡ value (scope_said names.now) wanted free (form.cond (expr_view condition.now) (expr_view yes.now) (expr_view no.now)) output.old) }
 {
-    let past = output.address()?;
+    let past = output.address();
     emit_value(names, output, wanted, free, no)?;
     let at = put_go(output, past)?;
     emit_value(names, output, wanted, free, yes)?;
@@ -642,7 +632,7 @@ fn put_go(output: &mut Output, past: u32) -> Result<u32, AllocError>
     ensures at { IfOk result (λ at. at ≡ length output.old) }
     ensures put { OnOk result (output.new ≡ Go past ∷ output.old) }
 {
-    let at = output.address()?;
+    let at = output.address();
     output.put(Op::Go { at: past })?;
     Ok(at)
 }

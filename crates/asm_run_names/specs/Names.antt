@@ -11,6 +11,7 @@ use Rattle.asm_names.specs.Environments.{IsComplete}
 use Rattle.asm_names.specs.declared.scope.Scope.{Scope}
 use Rattle.asm_names.specs.Scopes.{scope_view, IsCompleteScope}
 use Rattle.asm2wasm_translation.specs.Numbers.{local_names, global_names}
+use Rattle.asm_run_code.specs.Names.{first_free}
 
 abbrev pub function_names : List Function → List (List ℕ)
 function_names fs = map (λ (f : Function). f.name) fs
@@ -40,8 +41,9 @@ pub record Within : Type 0 where
 abbrev pub scope_said : Within → PlainScope
 scope_said w = scope_of (module_view w.home) (function_view w.function)
 
--- names mean what they mean in the function, and its variables have their slots
-pub record IsWithin (home : Tree) (function : FunctionTree) (scope : Scope) (slots : List (List ℕ)) : Type 0 where
+-- names mean what they mean in the function, and its variables have their slots, before the first that is free
+pub record IsWithin (home : Tree) (function : FunctionTree) (scope : Scope) (slots : List (List ℕ)) (free : ℕ) : Type 0 where
   pub scope_is : scope_view scope ≡ scope_of (module_view home) (function_view function)
   pub complete : IsCompleteScope scope
   pub slots_are : slots ≡ local_names (function_view function)
+  pub free_is : free ≡ first_free (function_view function)

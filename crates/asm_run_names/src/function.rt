@@ -1,6 +1,7 @@
 //! The names of one function.
 ghost use Rattle.std.specs.Prelude.{◌≡◌, IfOk};
 ghost use Rattle.sem_words.specs.Lists.{text_bytes};
+ghost use Rattle.asm_tree.specs.Views.{function_view};
 ghost use Rattle.asm_lang_valid.specs.Typing.{named};
 ghost use Rattle.asm_names.specs.Meanings.{meaning_view};
 ghost use Rattle.asm_names.specs.Members.{IsNumbered};
@@ -28,6 +29,8 @@ pub struct FunctionNames<'m, 'a> {
     scope: Scope<'m, 'a>,
     // parameters and locals
     slots: Slots<'a>,
+    // the first slot after theirs
+    free: u32,
 }
 
 /// By hand, so that their end is one call wherever they are let go.
@@ -38,6 +41,7 @@ impl Drop for FunctionNames<'_, '_> {
             function: _,
             scope: _,
             slots: _,
+            free: _,
         } = self;
     }
 }
@@ -54,11 +58,11 @@ impl<'m, 'a> Model for FunctionNames<'m, 'a> {
 
     ghost view = { λ n. record { home = n.«module».now; function = n.function.now } };
 
-    ghost invariant = { λ n. IsWithin n.«module».now n.function.now n.scope n.slots };
+    ghost invariant = { λ n. IsWithin n.«module».now n.function.now n.scope n.slots n.free };
 }
 
 impl<'m, 'a> FunctionNames<'m, 'a> {
-    /// The names of a function of the module.
+    /// The names of a function of the module. That its variables have slots of 32 bits is tested here once.
     pub fn new(
         alloc: Global,
         module: &'m ModuleNames<'a>,
@@ -67,6 +71,7 @@ impl<'m, 'a> FunctionNames<'m, 'a> {
         ensures home { IfOk result (λ names. names.home ≡ «module».now) }
         ensures function { IfOk result (λ names. names.function ≡ function.now) }
     {
+        let free = free_slot(function)?;
         let slots = local_slots(alloc, function)?;
         match Scope::new(alloc, module.environment(), function) {
             Ok(scope) => Ok(FunctionNames {
@@ -74,6 +79,7 @@ impl<'m, 'a> FunctionNames<'m, 'a> {
                 function,
                 scope,
                 slots,
+                free,
             }),
             Err(error) => Err(error),
         }
@@ -102,12 +108,14 @@ impl<'m, 'a> FunctionNames<'m, 'a> {
     }
 
     /// The slot of a local variable.
-    pub fn slot(&self, name: &Text) -> Result<Option<u32>, AllocError>
-        ensures { IfOk result (λ slot. slot ≡ code.local_slot (scope_said self.now) (text_bytes name.now)) }
+    pub fn slot(&self, name: &Text) -> Option<u32>
+        ensures { result ≡ code.local_slot (scope_said self.now) (text_bytes name.now) }
     {
+        // it has 32 bits, and the slots of variables lie below it
+        let _free = self.free;
         match self.slots.slot(name.as_bytes()) {
-            Some(slot) => Ok(Some(small(slot)?)),
-            None => Ok(None),
+            Some(slot) => Some(slot as u32),
+            None => None,
         }
     }
 
@@ -119,12 +127,10 @@ impl<'m, 'a> FunctionNames<'m, 'a> {
     }
 
     /// The first slot after those of the variables.
-    pub fn first_free(&self) -> usize
+    pub fn first_free(&self) -> u32
         ensures { result ≡ code.first_free (scope_said self.now).within }
     {
-        let params = self.function.params.as_slice();
-        let locals = self.function.locals.as_slice();
-        params.len() + locals.len()
+        self.free
     }
 
     /// The names of the module.
@@ -140,4 +146,13 @@ impl<'m, 'a> FunctionNames<'m, 'a> {
     {
         self.function
     }
+}
+
+// The first slot after those of the variables of a function.
+fn free_slot(function: &Function) -> Result<u32, AllocError>
+    ensures { IfOk result (λ free. free ≡ code.first_free (function_view function.now)) }
+{
+    let params = function.params.as_slice();
+    let locals = function.locals.as_slice();
+    small(params.len() + locals.len())
 }

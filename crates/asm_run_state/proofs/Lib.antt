@@ -1,4 +1,6 @@
 pub mod GivenValues
 pub mod Lasts
-pub mod Slots
 pub mod Words
+pub mod Hosting
+pub mod Numbers
+pub mod Whole

@@ -8,7 +8,7 @@ use Rattle.asm_lang.specs.Modules.{Module}
 use Rattle.asm_lang_exec.specs.Session as session
 use Rattle.asm_lang_exec.specs.Session.{first_heap}
 use Rattle.asm_run_code.specs.Sessions.{words_of}
-use Rattle.asm_run_words.specs.Worlds.{WorldPlain}
+use Rattle.asm_run_steps.specs.Worlds.{WorldPlain}
 
 -- the script that has these lines of globals and nothing else
 abbrev pub only_globals : List GlobalPlain → ScriptPlain

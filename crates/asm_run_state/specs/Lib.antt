@@ -1,2 +1,2 @@
 pub mod Globals
-pub mod Names
+pub mod Session

@@ -8,11 +8,11 @@ ghost use Rattle.asm_tree.specs.Views.{init_view, module_view};
 ghost use Rattle.asm_lang_valid.specs.Refusal as refusal;
 ghost use Rattle.asm_lang_valid.specs.Scope.{init_meaning, constructors, constructor_in, viewed};
 ghost use Rattle.asm_lang_exec.specs.Session.{first_heap};
-ghost use Rattle.asm_run_words.specs.Worlds.{world_of};
+ghost use Rattle.asm_run_steps.specs.Worlds.{world_of};
 ghost use Rattle.asm_run_state.specs.Globals.{first_world};
 
 use crate::globals::first_globals;
-use asm_run_words::World;
+use asm_run_steps::World;
 use asm_tree::{Init, Module};
 use heap_views::Heap;
 use sem_words::List;
@@ -45,7 +45,7 @@ pub fn first_world<'a>(
 }
 
 // The heap with the script's bytes; a module without a view of integers has none.
-#[tactic(auto, using(asm_run_words::proofs::Writes::puts_are_writes))]
+#[tactic(auto, using(asm_run_steps::proofs::Writes::puts_are_writes))]
 fn first_heap(
     alloc: Global,
     module: &Module,

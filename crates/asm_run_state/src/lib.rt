@@ -1,11 +1,13 @@
-//! Where a session of asm.js begins, names by their places, and which functions have results.
+//! Sessions of asm.js by flat code: where they begin, and the calls of a script.
 #![tactic(auto)]
 
 mod first;
 mod globals;
-mod layout;
+mod host_calls;
 mod results;
+mod running;
 
 pub use first::{first_world, has_heap};
-pub use layout::Layout;
+pub use host_calls::{Hosted, host_call};
 pub use results::has_result;
+pub use running::run;

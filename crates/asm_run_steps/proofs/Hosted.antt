@@ -5,9 +5,9 @@ use Rattle.std.specs.Prelude.{slice_get}
 use Rattle.asm_run_code.specs.Slots.{put, put_all}
 use Rattle.asm_run_code.specs.Machine.{Flat, Codes, State, Came, paid, enters}
 use Rattle.asm_run_code.specs.Sessions.{begins}
-use Rattle.asm_run_words.specs.Plain.{WordsPlain, with_words}
-use Rattle.asm_run_words.specs.Worlds.{WorldPlain}
-use Rattle.asm_run_words.proofs.Slots.{put_end}
+use Rattle.asm_run_steps.specs.Plain.{WordsPlain, with_words}
+use Rattle.asm_run_steps.specs.Worlds.{WorldPlain}
+use Rattle.asm_run_steps.proofs.Slots.{put_end}
 use Rattle.asm_run_steps.specs.States.{Callers, state_in}
 
 put_all_end : (vs ws : List ℕ) (i : ℕ) → i ≡ length ws → put_all ws i vs ≡ ws ++ vs

@@ -4,8 +4,8 @@ use Rattle.std.specs.Prelude.{slice_get}
 use Rattle.session_lang.specs.Observation.{EndPlain}
 use Rattle.asm_run_code.specs.declared.op.Op.{Op}
 use Rattle.asm_run_code.specs.Machine.{Flat, Codes, State, Came, going, lost, does, does_one, step_in, step, and_on, followed, Leads}
-use Rattle.asm_run_words.specs.Plain.{WordsPlain}
-use Rattle.asm_run_words.specs.Worlds.{WorldPlain}
+use Rattle.asm_run_steps.specs.Plain.{WordsPlain}
+use Rattle.asm_run_steps.specs.Worlds.{WorldPlain}
 use Rattle.asm_run_steps.specs.States.{Callers, state_in}
 use Rattle.asm_run_steps.specs.declared.flow.Flow.{Flow}
 use Rattle.asm_run_steps.specs.declared.flow.Leaving.{Leaving}

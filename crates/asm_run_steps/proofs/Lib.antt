@@ -1,3 +1,5 @@
+pub mod Slots
+pub mod Writes
 pub mod Led
 pub mod Operations
 pub mod Arguments

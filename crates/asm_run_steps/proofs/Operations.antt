@@ -6,8 +6,8 @@ use Rattle.session_lang.specs.Imports.{ImportAnswer, goes_on, ends}
 use Rattle.session_lang.specs.Observation.{EndPlain}
 use Rattle.asm_run_code.specs.Machine as code
 use Rattle.asm_run_code.specs.Machine.{Codes, State, Came, going, halts, unpaid, writes, jumps, paid, pays, answers}
-use Rattle.asm_run_words.specs.Plain.{WordsPlain, with_word}
-use Rattle.asm_run_words.specs.Worlds.{WorldPlain, Asked, goes, stops, answered}
+use Rattle.asm_run_steps.specs.Plain.{WordsPlain, with_word}
+use Rattle.asm_run_steps.specs.Worlds.{WorldPlain, Asked, goes, stops, answered}
 use Rattle.asm_run_steps.specs.declared.flow.Flow.TheVariants.{On, Off}
 use Rattle.asm_run_steps.specs.declared.flow.Leaving.TheVariants.{Lost}
 use Rattle.asm_run_steps.specs.States.{Callers, state_in}

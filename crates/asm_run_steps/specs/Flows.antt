@@ -4,8 +4,8 @@ use Rattle.session_lang.specs.Observation.{EndPlain}
 use Rattle.asm_run_code.specs.declared.op.Op.{Op}
 use Rattle.asm_run_code.specs.Machine as code
 use Rattle.asm_run_code.specs.Machine.{Codes, State, Came, going, back, halts, unpaid, does, enters, gives_back}
-use Rattle.asm_run_words.specs.Plain.{WordsPlain}
-use Rattle.asm_run_words.specs.Worlds.{WorldPlain}
+use Rattle.asm_run_steps.specs.Plain.{WordsPlain}
+use Rattle.asm_run_steps.specs.Worlds.{WorldPlain}
 use Rattle.asm_run_steps.specs.States.{Callers, state_in}
 use Rattle.asm_run_steps.specs.declared.ended.Ended.{Ended}
 use Rattle.asm_run_steps.specs.declared.ended.Ended.TheVariants as ends

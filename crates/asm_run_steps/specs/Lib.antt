@@ -1,3 +1,5 @@
+pub mod Plain
+pub mod Worlds
 pub mod Linked
 pub mod States
 pub mod Flows

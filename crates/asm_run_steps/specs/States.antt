@@ -2,8 +2,8 @@
 use Rattle.std.specs.Prelude.{ℕ, List, map, reverse}
 use Rattle.asm_run_code.specs.Machine as code
 use Rattle.asm_run_code.specs.Machine.{State}
-use Rattle.asm_run_words.specs.Plain.{WordsPlain}
-use Rattle.asm_run_words.specs.Worlds.{WorldPlain, world_of}
+use Rattle.asm_run_steps.specs.Plain.{WordsPlain}
+use Rattle.asm_run_steps.specs.Worlds.{WorldPlain, world_of}
 use Rattle.asm_run_steps.specs.declared.machine.Caller.{Caller}
 use Rattle.asm_run_steps.specs.declared.machine.Machine.{Machine}
 

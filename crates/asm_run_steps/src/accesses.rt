@@ -3,10 +3,11 @@ ghost use Rattle.std.specs.Prelude.{◌≡◌, OnOk, pos};
 ghost use Rattle.heap_lang.specs.Heap.{load, store};
 ghost use Rattle.asm_run_code.specs.Machine.{element_word};
 ghost use Rattle.asm_run_code.specs.Slots as slots;
-ghost use Rattle.asm_run_words.specs.Plain.{slot_word, with_word};
-ghost use Rattle.asm_run_words.specs.Worlds.{world_of};
+ghost use Rattle.asm_run_steps.specs.Plain.{slot_word, with_word};
+ghost use Rattle.asm_run_steps.specs.Worlds.{world_of};
 
-use asm_run_words::{Words, World};
+use crate::words::Words;
+use crate::world::World;
 use heap_lang::ViewKind;
 use std::alloc::AllocError;
 

@@ -2,7 +2,7 @@
 ghost use Rattle.std.specs.Prelude.{◌≡◌, ℕ, Some, IfOk, slice_get};
 ghost use Rattle.session_lang.specs.Views.{end_of};
 ghost use Rattle.asm_run_code.specs.Machine.{Flat, Came, Leads};
-ghost use Rattle.asm_run_words.specs.Worlds.{world_of};
+ghost use Rattle.asm_run_steps.specs.Worlds.{world_of};
 ghost use Rattle.asm_run_steps.specs.Linked.{codes_in};
 ghost use Rattle.asm_run_steps.specs.States.{Callers, state_in};
 ghost use Rattle.asm_run_steps.specs.Flows.{left_to, LeftUnits};
@@ -11,8 +11,9 @@ ghost use Rattle.asm_run_steps.specs.Runs.{HasEnded, Comes};
 use crate::flow::{Flow, Leaving};
 use crate::linked::Linked;
 use crate::steps::step;
+use crate::words::Words;
+use crate::world::World;
 use asm_run_code::Op;
-use asm_run_words::{Words, World};
 use std::alloc::{AllocError, Global};
 
 /// Why a function left off, and the address that followed there.

@@ -4,14 +4,15 @@ ghost use Rattle.sem_words.specs.Lists.{list_items};
 ghost use Rattle.session_lang.specs.Views.{end_of};
 ghost use Rattle.asm_run_code.specs.Machine.{Codes, words_from};
 ghost use Rattle.asm_run_code.specs.declared.op.Op.TheVariants as ops;
-ghost use Rattle.asm_run_words.specs.Plain.{WordsPlain, slot_word};
-ghost use Rattle.asm_run_words.specs.Worlds.{world_of};
+ghost use Rattle.asm_run_steps.specs.Plain.{WordsPlain, slot_word};
+ghost use Rattle.asm_run_steps.specs.Worlds.{world_of};
 ghost use Rattle.asm_run_steps.specs.Linked.{codes_in};
 ghost use Rattle.asm_run_steps.specs.Flows.{Does, Falls};
 
 use crate::flow::{Flow, Leaving};
 use crate::linked::Linked;
-use asm_run_words::{Words, World};
+use crate::words::Words;
+use crate::world::World;
 use sem_words::{List, Word};
 use std::alloc::{AllocError, Global};
 

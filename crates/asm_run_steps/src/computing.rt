@@ -2,10 +2,11 @@
 ghost use Rattle.std.specs.Prelude.{◌≡◌, OnOk};
 ghost use Rattle.sem_words.specs.Words.{sub_of, leading_zeros_of};
 ghost use Rattle.asm_run_code.specs.Operators as operators;
-ghost use Rattle.asm_run_words.specs.Plain.{slot_word, with_word};
+ghost use Rattle.asm_run_steps.specs.Plain.{slot_word, with_word};
 
+use crate::operators::{complement, negated, word_op, zeros};
+use crate::words::Words;
 use asm_run_code::Operator;
-use asm_run_words::{Words, complement, negated, word_op, zeros};
 use std::alloc::AllocError;
 
 #[inline(always)]

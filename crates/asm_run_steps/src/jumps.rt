@@ -4,13 +4,14 @@ ghost use Rattle.session_lang.specs.Views.{end_of};
 ghost use Rattle.sem_words.specs.Words.{sub_of};
 ghost use Rattle.asm_run_code.specs.Machine.{Codes, lesser};
 ghost use Rattle.asm_run_code.specs.declared.op.Op.TheVariants as ops;
-ghost use Rattle.asm_run_words.specs.Plain.{slot_word};
-ghost use Rattle.asm_run_words.specs.Worlds.{world_of};
+ghost use Rattle.asm_run_steps.specs.Plain.{slot_word};
+ghost use Rattle.asm_run_steps.specs.Worlds.{world_of};
 ghost use Rattle.asm_run_steps.specs.Flows.{Does, Falls, jumped};
 ghost use Rattle.asm_run_steps.specs.declared.flow.Flow.TheVariants as flows;
 
 use crate::flow::{Flow, Leaving};
-use asm_run_words::{Words, World};
+use crate::words::Words;
+use crate::world::World;
 use std::alloc::AllocError;
 
 /// To an address, which isn't above the one that follows the jump.

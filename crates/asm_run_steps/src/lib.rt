@@ -1,4 +1,5 @@
-//! The machine that runs flat code of asm.js.
+//! The machine that runs flat code of asm.js: the words of the functions that run, what a session changes beside them, and what
+//! operations do to both.
 #![tactic(auto)]
 
 mod accesses;
@@ -10,8 +11,13 @@ mod flow;
 mod jumps;
 mod linked;
 mod machine;
+mod operators;
 mod steps;
+mod words;
+mod world;
 
 pub use ended::Ended;
 pub use linked::{Function, Linked};
 pub use machine::{Caller, Machine};
+pub use words::Words;
+pub use world::World;

@@ -4,7 +4,7 @@ ghost use Rattle.std.specs.Bool.{OnTrue};
 ghost use Rattle.session_lang.specs.Views.{end_of};
 ghost use Rattle.asm_run_code.specs.Machine.{Came, Leads, enters, gives_back};
 ghost use Rattle.asm_run_code.specs.Sessions.{begins};
-ghost use Rattle.asm_run_words.specs.Worlds.{world_of};
+ghost use Rattle.asm_run_steps.specs.Worlds.{world_of};
 ghost use Rattle.asm_run_steps.specs.Linked.{codes_in};
 ghost use Rattle.asm_run_steps.specs.States.{callers_of, state_in, state_of};
 ghost use Rattle.asm_run_steps.specs.Flows.{entered_as, given_as, left_to, resumed, ResumedCallers};
@@ -15,7 +15,8 @@ use crate::bodies::run_ops;
 use crate::ended::Ended;
 use crate::flow::Leaving;
 use crate::linked::Linked;
-use asm_run_words::{Words, World};
+use crate::words::Words;
+use crate::world::World;
 use std::alloc::{AllocError, Global};
 
 /// Where a function goes on once the one that it called has ended.

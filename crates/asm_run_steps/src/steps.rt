@@ -1,7 +1,7 @@
 //! Single operations.
 ghost use Rattle.std.specs.Prelude.{IfOk};
 ghost use Rattle.session_lang.specs.Views.{end_of};
-ghost use Rattle.asm_run_words.specs.Worlds.{world_of};
+ghost use Rattle.asm_run_steps.specs.Worlds.{world_of};
 ghost use Rattle.asm_run_steps.specs.Linked.{codes_in};
 ghost use Rattle.asm_run_steps.specs.Flows.{Does, Falls};
 
@@ -11,8 +11,9 @@ use crate::computing::{apply, apply_number, copy, count_zeros, negate, turn_over
 use crate::flow::{Flow, Leaving};
 use crate::jumps::{again, chosen, jump, jump_at, turn};
 use crate::linked::Linked;
+use crate::words::Words;
+use crate::world::World;
 use asm_run_code::Op;
-use asm_run_words::{Words, World};
 use std::alloc::{AllocError, Global};
 
 /// Does an operation, where the address that follows is `at`.

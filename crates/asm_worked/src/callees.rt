@@ -1,8 +1,8 @@
 //! Exports by their keys, and the functions that calls name. The function does nothing, and its contract is what the check computes.
 ghost use Rattle.std.specs.Prelude.{◌≡◌, ◌∷◌, [], Some, None, true, false, codes};
-ghost use Rattle.asm_run_state.specs.Names.{slot_of};
+ghost use Rattle.asm2wasm_translation.specs.Numbers.{slot_of};
 ghost use Rattle.asm_run.specs.Exports.{is_key_at, keys_in};
-ghost use Rattle.asm_run_calls.specs.Session.{callees_of};
+ghost use Rattle.asm_run_state.specs.Session.{callees_of};
 ghost use Rattle.asm_worked.specs.Callees.{asked, keyed};
 ghost use Rattle.asm_worked.specs.Rows as rows;
 

@@ -4,7 +4,7 @@ ghost use Rattle.heap_lang.specs.Heap.{IsHeapLength};
 ghost use Rattle.session_lang.specs.Views.{script_of};
 ghost use Rattle.asm_tree.specs.Views.{module_view};
 ghost use Rattle.asm_lang_exec.specs.Fits.{misfit};
-ghost use Rattle.asm_run_calls.specs.Session.{callees_of};
+ghost use Rattle.asm_run_state.specs.Session.{callees_of};
 ghost use Rattle.bridge_lang.specs.AsmRuns.{Prints, Shows};
 ghost use Rattle.cmd_run_asm.specs.Runs.{IsScriptRefusal};
 

@@ -1,12 +1,12 @@
-//! Worked rows of the text of asm.js: tokens, texts that are read and printed, verdicts with their places, tables, layouts.
+//! Worked rows of the text of asm.js: tokens, texts that are read and printed, verdicts with their places, tables, slots of names.
 #![tactic(auto)]
 
-#[cfg(test)]
-mod layouts;
 #[cfg(test)]
 mod pieces;
 #[cfg(test)]
 mod rows;
+#[cfg(test)]
+mod slots;
 #[cfg(test)]
 mod texts;
 #[cfg(test)]

@@ -1,5 +1,5 @@
 use Rattle.asm_tree.specs.Views.{module_view}
-use Rattle.asm_run_calls.proofs.Numbers.{callee_at}
+use Rattle.asm_run_state.proofs.Numbers.{callee_at}
 use Rattle.asm_run.proofs.calls.first_call.Goals as goal
 
 pub fits_call-requires : goal.fits_call-requires

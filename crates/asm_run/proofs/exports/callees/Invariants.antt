@@ -2,7 +2,7 @@ use Rattle.std.proofs.Common.{◌≡◌, take, map}
 use Rattle.session_lang.specs.Views.{call_of}
 use Rattle.asm_tree.specs.Views.{module_view}
 use Rattle.asm_lang_valid.specs.Refusal.{exported_from}
-use Rattle.asm_run_calls.specs.Session.{callees_of}
+use Rattle.asm_run_state.specs.Session.{callees_of}
 use Rattle.asm_run.proofs.exports.callees.Given as goal
 
 abbrev pub invariant-loop-call : goal.invariant-loop-call

@@ -1,6 +1,6 @@
 use Rattle.std.proofs.Common.{◌≡◌, ◌++◌, drop}
 use Rattle.asm_tree.specs.Views.{texts_view}
-use Rattle.asm_run_state.specs.Names.{names_in}
+use Rattle.name_slots.specs.Names.{names_in}
 use Rattle.asm_run.proofs.globals.names_of.Given as goal
 
 abbrev pub invariant-loop-text : goal.invariant-loop-text

@@ -86,7 +86,7 @@ emit_clauses-loop-i-preserved t c =
     record {
       within = omega arith;
       made = λ os m. code_turn (scope_said c.args.names.now) os c.args.free c.args.output.now c.args.clauses.now (c.loop-i.i - 1) c.loop-i.i c.index-clauses-i.result (omega arith) (omega arith) c.index-clauses-i.is c.as_slice.result.now c.loop-i.output c.emit_stmts.new.output (c.as_slice.ensures ∙ ap (λ (k : Clause). list_items k.body) (sym c.index-clauses-i.is)) (c.loop-i.invariant.made os m) (c.in_ok-emit_stmts.ensures.code os (meets_same os _ _ c.loop-i.invariant.kept m));
-      placed = λ os m. starts_turn (scope_said c.args.names.now) os c.args.free c.args.output.now c.args.clauses.now (c.loop-i.i - 1) c.loop-i.i c.index-clauses-i.result (omega arith) (omega arith) c.index-clauses-i.is c.as_slice.result.now c.loop-i.output c.emit_stmts.new.output c.in_ok-at.at c.loop-i.starts c.put.new.self (c.as_slice.ensures ∙ ap (λ (k : Clause). list_items k.body) (sym c.index-clauses-i.is)) (c.loop-i.invariant.made os m) (c.in_ok-emit_stmts.ensures.code os (meets_same os _ _ c.loop-i.invariant.kept m)) c.in_ok-at.ensures (c.loop-i.invariant.placed os m) c.in_ok-put.ensures;
+      placed = λ os m. starts_turn (scope_said c.args.names.now) os c.args.free c.args.output.now c.args.clauses.now (c.loop-i.i - 1) c.loop-i.i c.index-clauses-i.result (omega arith) (omega arith) c.index-clauses-i.is c.as_slice.result.now c.loop-i.output c.emit_stmts.new.output c.address-at.result c.loop-i.starts c.put.new.self (c.as_slice.ensures ∙ ap (λ (k : Clause). list_items k.body) (sym c.index-clauses-i.is)) (c.loop-i.invariant.made os m) (c.in_ok-emit_stmts.ensures.code os (meets_same os _ _ c.loop-i.invariant.kept m)) c.address-at.ensures (c.loop-i.invariant.placed os m) c.in_ok-put.ensures;
       count = omega arith;
       kept = c.in_ok-emit_stmts.ensures.kept ∙ c.loop-i.invariant.kept;
     }
@@ -155,11 +155,11 @@ emit_stmt-returns-in-For-clause-code t c = λ os m.
 
 pub emit_labelled-returns-clause-code : goal.emit_labelled-returns-clause-code
 emit_labelled-returns-clause-code t c = λ os m.
-    labelled_put (scope_said c.args.names.now) os [] c.args.free c.args.output.now (texts_view c.args.labels.now) (stmt_view c.args.body.now) c.in_ok-past.past c.emit_stmt.new.output c.in_ok-past.ensures
-    (c.in_ok-emit_stmt.ensures.code (a_named (texts_view c.args.labels.now) c.in_ok-past.past ∷ os) (meets_entered (a_named (texts_view c.args.labels.now) c.in_ok-past.past) os _ _ c.in_ok-enter_labelled.ensures m))
+    labelled_put (scope_said c.args.names.now) os [] c.args.free c.args.output.now (texts_view c.args.labels.now) (stmt_view c.args.body.now) c.address-past.result c.emit_stmt.new.output c.address-past.ensures
+    (c.in_ok-emit_stmt.ensures.code (a_named (texts_view c.args.labels.now) c.address-past.result ∷ os) (meets_entered (a_named (texts_view c.args.labels.now) c.address-past.result) os _ _ c.in_ok-enter_labelled.ensures m))
 
 pub emit_labelled-returns-clause-kept : goal.emit_labelled-returns-clause-kept
-emit_labelled-returns-clause-kept t c = c.leave_labelled.ensures c.args.jumps.now c.in_ok-past.past (c.in_ok-emit_stmt.ensures.kept ∙ c.in_ok-enter_labelled.ensures)
+emit_labelled-returns-clause-kept t c = c.leave_labelled.ensures c.args.jumps.now c.address-past.result (c.in_ok-emit_stmt.ensures.kept ∙ c.in_ok-enter_labelled.ensures)
 
 pub emit_if-returns-clause-code : goal.emit_if-returns-clause-code
 emit_if-returns-clause-code t c = λ os m.
@@ -167,7 +167,7 @@ emit_if-returns-clause-code t c = λ os m.
     (c.in_ok-emit_bare.ensures.code os (meets_same os _ _ c.in_ok-at.ensures.kept m)) c.emit_test.ensures
 
 pub emit_else-returns-in-None-clause-at : goal.emit_else-returns-in-None-clause-at
-emit_else-returns-in-None-clause-at t c = λ os m. c.in_ok-past.ensures ∙ sym (ap (λ (x : Option (Box CodeStmt Global)). otherwise_at (scope_said c.args.names.now) os c.args.free (stmt_option x) c.args.output.now) c.in-None.is)
+emit_else-returns-in-None-clause-at t c = λ os m. c.address-past.ensures ∙ sym (ap (λ (x : Option (Box CodeStmt Global)). otherwise_at (scope_said c.args.names.now) os c.args.free (stmt_option x) c.args.output.now) c.in-None.is)
 
 pub emit_else-returns-in-None-clause-code : goal.emit_else-returns-in-None-clause-code
 emit_else-returns-in-None-clause-code t c = λ os m. sym (ap (λ (x : Option (Box CodeStmt Global)). otherwise (scope_said c.args.names.now) os c.args.free (stmt_option x) c.args.output.now) c.in-None.is)
@@ -181,8 +181,8 @@ emit_else-returns-in_ok-emit_bare-in-Some-clause-at t c = λ os m.
 pub emit_else-returns-in_ok-emit_bare-in-Some-clause-code : goal.emit_else-returns-in_ok-emit_bare-in-Some-clause-code
 emit_else-returns-in_ok-emit_bare-in-Some-clause-code t c = λ os m.
     told_put c.put_past.result c.put_past.new.output _ _
-    (ap (λ l. Go c.in_ok-past.past ∷ l) (c.in_ok-emit_bare-in-Some.ensures.code os m ∙ ap (λ (s : CodeStmt). stmt (scope_said c.args.names.now) os [] c.args.free (stmt_view s) c.args.output.now) c.deref.ensures)
-    ∙ ap (λ p. Go p ∷ stmt (scope_said c.args.names.now) os [] c.args.free (stmt_view c.in-Some.no.value) c.args.output.now) c.in_ok-past.ensures ∙ sym (ap (λ (x : Option (Box CodeStmt Global)). otherwise (scope_said c.args.names.now) os c.args.free (stmt_option x) c.args.output.now) c.in-Some.is))
+    (ap (λ l. Go c.address-past.result ∷ l) (c.in_ok-emit_bare-in-Some.ensures.code os m ∙ ap (λ (s : CodeStmt). stmt (scope_said c.args.names.now) os [] c.args.free (stmt_view s) c.args.output.now) c.deref.ensures)
+    ∙ ap (λ p. Go p ∷ stmt (scope_said c.args.names.now) os [] c.args.free (stmt_view c.in-Some.no.value) c.args.output.now) c.address-past.ensures ∙ sym (ap (λ (x : Option (Box CodeStmt Global)). otherwise (scope_said c.args.names.now) os c.args.free (stmt_option x) c.args.output.now) c.in-Some.is))
     c.put_past.ensures.put
 
 pub emit_loop-returns-clause-code : goal.emit_loop-returns-clause-code

@@ -5,4 +5,4 @@ use Rattle.asm_run_emit_bodies.proofs.statements.emit_choice.Goals as goal
 
 pub returns : goal.returns
 returns c =
-    chosen_made c.emit_operand.result c.emit_operand.new.output (scope_said c.args.names.now) c.args.free c.args.output.now (clauses_view c.args.clauses.now) c.args.starts.now (expr_view c.args.subject.now) c.in_ok-place.place c.into-slot.result c.dispatch.new.output c.in_ok-place.ensures c.into-slot.ensures c.in_ok-dispatch.ensures c.emit_operand.ensures
+    chosen_made c.emit_operand.result c.emit_operand.new.output (scope_said c.args.names.now) c.args.free c.args.output.now (clauses_view c.args.clauses.now) c.args.starts.now (expr_view c.args.subject.now) c.local-place.result c.into-slot.result c.dispatch.new.output c.local-place.ensures c.into-slot.ensures c.in_ok-dispatch.ensures c.emit_operand.ensures

@@ -14,4 +14,4 @@ returns-in_ok-put-in-None c =
 pub returns-in_ok-put-in-Some : goal.returns-in_ok-put-in-Some
 returns-in_ok-put-in-Some c =
     as_form c.emit_operand.result c.emit_operand.new.output (scope_said c.args.names.now) [] [] c.args.free c.args.output.now (returns (expr_option c.args.value.now)) (returns (Some (expr_view c.in-Some.value))) (ap (λ (v : Option Expr). returns (expr_option v)) c.in-Some.is)
-    (some_made c.emit_operand.result c.emit_operand.new.output (scope_said c.args.names.now) [] [] c.args.free c.args.output.now (expr_view c.in-Some.value) c.in_ok-place-in-Some.place c.into-from.result c.put-in-Some.new.self c.in_ok-place-in-Some.ensures c.into-from.ensures c.in_ok-put-in-Some.ensures c.emit_operand.ensures)
+    (some_made c.emit_operand.result c.emit_operand.new.output (scope_said c.args.names.now) [] [] c.args.free c.args.output.now (expr_view c.in-Some.value) c.local-place.result c.into-from.result c.put-in-Some.new.self c.local-place.ensures c.into-from.ensures c.in_ok-put-in-Some.ensures c.emit_operand.ensures)

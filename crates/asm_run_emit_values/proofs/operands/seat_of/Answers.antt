@@ -1,22 +1,20 @@
-use Rattle.std.proofs.Common.{◌≡◌, ap, sym, subst, ◌∙◌}
-use Rattle.std.specs.Prelude.{IfOk}
+use Rattle.std.proofs.Common.{ap, sym, ◌∙◌}
 use Rattle.asm_lang.specs.Modules.{Expr}
 use Rattle.asm_tree.specs.Views.{expr_view}
 use Rattle.asm_tree.proofs.Views.{expr_view-Var, expr_view-Binary, expr_view-Decimal, expr_view-Index, expr_view-Call, expr_view-TableCall, expr_view-Assign, expr_view-Store, expr_view-Unary, expr_view-Chain, expr_view-Cond, expr_view-Comma}
-use Rattle.asm_run_code.specs.Names.{Seat, seat_at, seat, local}
+use Rattle.asm_run_code.specs.Names.{seat_at, seat, local}
 use Rattle.asm_run_names.specs.Names.{scope_said}
-use Rattle.asm_run_emit_values.specs.Seats.{seat_view}
 use Rattle.asm_run_emit_values.proofs.operands.seat_of.Goals as goal
 
 pub returns-in-Var : goal.returns-in-Var
 returns-in-Var c =
     let form = ap expr_view c.in-Var.is ∙ expr_view-Var _ in
-    subst (λ (x : Seat). IfOk c.seat_in.result (λ s. seat_view s ≡ x)) (ap (λ (e : Expr). seat_at (local (scope_said c.args.names.now) e)) form ∙ sym (ap (seat (scope_said c.args.names.now)) form)) c.seat_in.ensures
+    c.seat_in.ensures ∙ ap (λ (e : Expr). seat_at (local (scope_said c.args.names.now) e)) form ∙ sym (ap (seat (scope_said c.args.names.now)) form)
 
 pub returns-in-Binary : goal.returns-in-Binary
 returns-in-Binary c =
     let form = ap expr_view c.in-Binary.is ∙ expr_view-Binary _ _ _ in
-    subst (λ (x : Seat). IfOk c.seat_in-in-Binary.result (λ s. seat_view s ≡ x)) (ap (λ (e : Expr). seat_at (local (scope_said c.args.names.now) e)) form ∙ sym (ap (seat (scope_said c.args.names.now)) form)) c.seat_in-in-Binary.ensures
+    c.seat_in-in-Binary.ensures ∙ ap (λ (e : Expr). seat_at (local (scope_said c.args.names.now) e)) form ∙ sym (ap (seat (scope_said c.args.names.now)) form)
 
 pub returns-in-Decimal : goal.returns-in-Decimal
 returns-in-Decimal c = sym (ap (seat (scope_said c.args.names.now)) (ap expr_view c.in-Decimal.is ∙ expr_view-Decimal _))

@@ -82,7 +82,7 @@ emit_value-returns-in-Lit t c =
 
 pub emit_single-returns : goal.emit_single-returns
 emit_single-returns t c =
-    single_made c.emit_operand.result c.emit_operand.new.output (scope_said c.args.names.now) None c.args.free c.args.output.now (expr_view c.args.operand.now) (single_op c.args.single) c.in_ok-place.place c.into-from.result c.put.new.self c.in_ok-place.ensures c.into-from.ensures (c.in_ok-put.ensures ∙ ap (λ (x : Op). x ∷ c.args.output.now) c.single_op.ensures) c.emit_operand.ensures
+    single_made c.emit_operand.result c.emit_operand.new.output (scope_said c.args.names.now) None c.args.free c.args.output.now (expr_view c.args.operand.now) (single_op c.args.single) c.local-place.result c.into-from.result c.put.new.self c.local-place.ensures c.into-from.ensures (c.in_ok-put.ensures ∙ ap (λ (x : Op). x ∷ c.args.output.now) c.single_op.ensures) c.emit_operand.ensures
 
 pub emit_index-returns : goal.emit_index-returns
 emit_index-returns t c =
@@ -129,19 +129,19 @@ emit_assign-returns t c =
 
 pub emit_store-returns : goal.emit_store-returns
 emit_store-returns t c =
-    store_made c.emit_operand.result c.emit_operand.new.output (scope_said c.args.names.now) c.args.wanted c.args.free c.args.output.now (text_bytes c.args.name.now) (expr_view c.args.index.now) (expr_view c.args.value.now) (seat_view c.in_ok-seat.seat) c.in_ok-place.place c.is_far.result c.put_store.new.output c.emit_next.new.output c.in_ok-seat.ensures c.in_ok-place.ensures.place c.in_ok-place.ensures.put c.is_far.ensures c.in_ok-emit_next.ensures c.emit_operand.ensures
+    store_made c.emit_operand.result c.emit_operand.new.output (scope_said c.args.names.now) c.args.wanted c.args.free c.args.output.now (text_bytes c.args.name.now) (expr_view c.args.index.now) (expr_view c.args.value.now) (seat_view c.seat_of-seat.result) c.in_ok-place.place c.is_far.result c.put_store.new.output c.emit_next.new.output c.seat_of-seat.ensures c.in_ok-place.ensures.place c.in_ok-place.ensures.put c.is_far.ensures c.in_ok-emit_next.ensures c.emit_operand.ensures
 
 pub emit_combined-returns : goal.emit_combined-returns
 emit_combined-returns t c =
-    combined_made c.emit_operand.result c.emit_operand.new.output (seat (scope_said c.args.names.now) (expr_view c.args.right.now)) (seat_view c.in_ok-seat.seat) (local (scope_said c.args.names.now) (expr_view c.args.left.now)) c.args.operator c.args.to c.args.free (λ more. value (scope_said c.args.names.now) (Some c.args.free) c.args.free (expr_view c.args.left.now) more) (λ more. value (scope_said c.args.names.now) (Some (suc c.args.free)) (suc c.args.free) (expr_view c.args.right.now) more) c.args.output.now c.in_ok-place.place c.into-at.result c.is_elsewhere.result c.put_applied.new.output c.emit_next.new.output c.in_ok-seat.ensures c.in_ok-place.ensures c.into-at.ensures c.in_ok-put_applied.ensures c.is_elsewhere.ensures c.in_ok-emit_next.ensures c.emit_operand.ensures
+    combined_made c.emit_operand.result c.emit_operand.new.output (seat (scope_said c.args.names.now) (expr_view c.args.right.now)) (seat_view c.seat_of-seat.result) (local (scope_said c.args.names.now) (expr_view c.args.left.now)) c.args.operator c.args.to c.args.free (λ more. value (scope_said c.args.names.now) (Some c.args.free) c.args.free (expr_view c.args.left.now) more) (λ more. value (scope_said c.args.names.now) (Some (suc c.args.free)) (suc c.args.free) (expr_view c.args.right.now) more) c.args.output.now c.place_before-place.result c.into-at.result c.is_elsewhere.result c.put_applied.new.output c.emit_next.new.output c.seat_of-seat.ensures c.place_before-place.ensures c.into-at.ensures c.in_ok-put_applied.ensures c.is_elsewhere.ensures c.in_ok-emit_next.ensures c.emit_operand.ensures
 
 pub emit_link-returns : goal.emit_link-returns
 emit_link-returns t c =
-    linked_made c.emit_next.result c.emit_next.new.output (seat (scope_said c.args.names.now) (expr_view c.args.link.now.operand)) (seat_view c.in_ok-seat.seat) (link_operator c.args.link.now.minus) c.link_operator-operator.result c.args.to c.args.left c.args.free (λ more. value (scope_said c.args.names.now) (Some (suc c.args.free)) (suc c.args.free) (expr_view c.args.link.now.operand) more) c.args.output.now c.is_elsewhere.result c.put_applied.new.output c.in_ok-seat.ensures c.link_operator-operator.ensures c.in_ok-put_applied.ensures c.is_elsewhere.ensures c.emit_next.ensures
+    linked_made c.emit_next.result c.emit_next.new.output (seat (scope_said c.args.names.now) (expr_view c.args.link.now.operand)) (seat_view c.seat_of-seat.result) (link_operator c.args.link.now.minus) c.link_operator-operator.result c.args.to c.args.left c.args.free (λ more. value (scope_said c.args.names.now) (Some (suc c.args.free)) (suc c.args.free) (expr_view c.args.link.now.operand) more) c.args.output.now c.is_elsewhere.result c.put_applied.new.output c.seat_of-seat.ensures c.link_operator-operator.ensures c.in_ok-put_applied.ensures c.is_elsewhere.ensures c.emit_next.ensures
 
 pub emit_cond-returns : goal.emit_cond-returns
 emit_cond-returns t c =
-    cond_made c.emit_test.result c.emit_test.new.output (scope_said c.args.names.now) c.args.wanted c.args.free c.args.output.now (expr_view c.args.condition.now) (expr_view c.args.yes.now) (expr_view c.args.no.now) c.in_ok-past.past c.in_ok-at.at c.emit_value.new.output c.put_go.new.output c.emit_value-2.new.output c.in_ok-past.ensures c.in_ok-emit_value.ensures c.in_ok-at.ensures.at c.in_ok-at.ensures.put c.in_ok-emit_value-2.ensures c.emit_test.ensures
+    cond_made c.emit_test.result c.emit_test.new.output (scope_said c.args.names.now) c.args.wanted c.args.free c.args.output.now (expr_view c.args.condition.now) (expr_view c.args.yes.now) (expr_view c.args.no.now) c.address-past.result c.in_ok-at.at c.emit_value.new.output c.put_go.new.output c.emit_value-2.new.output c.address-past.ensures c.in_ok-emit_value.ensures c.in_ok-at.ensures.at c.in_ok-at.ensures.put c.in_ok-emit_value-2.ensures c.emit_test.ensures
 
 pub emit_binary-returns-then-bare : goal.emit_binary-returns-then-bare
 emit_binary-returns-then-bare t c =
@@ -153,11 +153,11 @@ emit_binary-returns t c =
 
 pub emit_chain-returns-in-Some : goal.emit_chain-returns-in-Some
 emit_chain-returns-in-Some t c =
-    stays_made c.emit_links.result c.emit_links.new.output (scope_said c.args.names.now) c.args.wanted c.args.free c.args.output.now (expr_view c.args.first.now) (links_view c.args.links.now) c.in-Some.slot (sym c.in-Some.is ∙ c.in_ok-place.ensures) c.emit_links.ensures
+    stays_made c.emit_links.result c.emit_links.new.output (scope_said c.args.names.now) c.args.wanted c.args.free c.args.output.now (expr_view c.args.first.now) (links_view c.args.links.now) c.in-Some.slot (sym c.in-Some.is ∙ c.stays-place.ensures) c.emit_links.ensures
 
 pub emit_chain-returns-in_ok-emit_links-in-None : goal.emit_chain-returns-in_ok-emit_links-in-None
 emit_chain-returns-in_ok-emit_links-in-None t c =
-    moves_made c.emit_value.result c.emit_value.new.output (scope_said c.args.names.now) c.args.wanted c.args.free c.args.output.now (expr_view c.args.first.now) (links_view c.args.links.now) c.sum_slot-to.result c.emit_links-in-None.new.output (sym c.in-None.is ∙ c.in_ok-place.ensures) c.in_ok-emit_links-in-None.ensures c.sum_slot-to.ensures c.emit_value.ensures
+    moves_made c.emit_value.result c.emit_value.new.output (scope_said c.args.names.now) c.args.wanted c.args.free c.args.output.now (expr_view c.args.first.now) (links_view c.args.links.now) c.sum_slot-to.result c.emit_links-in-None.new.output (sym c.in-None.is ∙ c.stays-place.ensures) c.in_ok-emit_links-in-None.ensures c.sum_slot-to.ensures c.emit_value.ensures
 
 pub emit_arguments-loop-i-init : goal.emit_arguments-loop-i-init
 emit_arguments-loop-i-init t c = record { within = omega arith; made = arguments_begin (scope_said c.args.names.now) c.args.output.now c.args.free c.args.all.now }

@@ -1,5 +1,5 @@
 -- What a pass from the last item to the first keeps: the code so far is that of the items passed, before what was there.
-use Rattle.std.proofs.Common.{◌≡◌, ◌+◌, ◌*◌, ◌<◌, ◌≤◌, length, drop}
+use Rattle.std.proofs.Common.{◌≡◌, ◌+◌, ◌*◌, ◌≤◌, length, drop}
 use Rattle.asm_tree.specs.Views.{expr_view, exprs_view, links_view}
 use Rattle.asm_lang_valid.specs.Rows.{expr_count, exprs_count, links_count}
 use Rattle.asm_run_code.specs.Values.{arguments, sums, last}

@@ -1,5 +1,4 @@
-use Rattle.std.proofs.Common.{◌≡◌, subst}
-use Rattle.std.specs.Prelude.{IfOk}
+use Rattle.std.proofs.Common.{ap, ◌∙◌}
 use Rattle.asm_tree.specs.Views.{expr_view}
 use Rattle.asm_run_code.specs.Names.{local}
 use Rattle.asm_run_code.specs.Values.{stays_by}
@@ -7,4 +6,4 @@ use Rattle.asm_run_names.specs.Names.{scope_said}
 use Rattle.asm_run_emit_values.proofs.values.stays_before.Goals as goal
 
 pub returns : goal.returns
-returns c = subst (λ s. IfOk c.place_before.result (λ slot. slot ≡ stays_by s (local (scope_said c.args.names.now) (expr_view c.args.first.now)))) c.in_ok-seat.ensures c.place_before.ensures
+returns c = c.place_before.ensures ∙ ap (λ s. stays_by s (local (scope_said c.args.names.now) (expr_view c.args.first.now))) c.seat_of-seat.ensures

@@ -1,7 +1,7 @@
 use Rattle.std.proofs.Common.{◌≡◌, suc, ◌-◌, ◌<◌, length, refl, subst, arith}
 use Rattle.std.proofs.lemmas.Option.{slice_get_read, slice_get_past}
 use Rattle.session_lang.specs.Views.{end_of}
-use Rattle.asm_run_words.specs.Worlds.{world_of}
+use Rattle.asm_run_steps.specs.Worlds.{world_of}
 use Rattle.asm_run_steps.specs.declared.flow.Flow.{Flow}
 use Rattle.asm_run_steps.specs.Linked.{codes_in}
 use Rattle.asm_run_steps.specs.States.{state_in}

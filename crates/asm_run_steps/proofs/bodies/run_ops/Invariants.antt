@@ -1,7 +1,7 @@
 use Rattle.std.proofs.Common.{◌≡◌, ℕ, ◌+◌, ◌*◌, ◌≤◌, Some}
 use Rattle.std.specs.Prelude.{slice_get}
 use Rattle.asm_run_code.specs.Machine.{Flat, Came, Leads}
-use Rattle.asm_run_words.specs.Worlds.{world_of}
+use Rattle.asm_run_steps.specs.Worlds.{world_of}
 use Rattle.asm_run_steps.specs.Linked.{codes_in}
 use Rattle.asm_run_steps.specs.States.{Callers, state_in}
 use Rattle.asm_run_steps.specs.Runs.{HasEnded}

@@ -5,11 +5,11 @@ use Rattle.asm_tree.specs.declared.tree.Module.{Module as Tree}
 use Rattle.asm_tree.specs.Views.{module_view}
 use Rattle.sem_words.specs.Lists.{list_items}
 use Rattle.asm_run_code.specs.Modules.{codes_of}
-use Rattle.asm_run_words.specs.declared.world.World.{World}
-use Rattle.asm_run_words.specs.Worlds.{world_of}
+use Rattle.asm_run_steps.specs.declared.world.World.{World}
+use Rattle.asm_run_steps.specs.Worlds.{world_of}
 use Rattle.asm_run_emit_bodies.specs.Flats.{flat_view}
 use Rattle.asm_run_steps.specs.Linked.{flat_of, names_of}
-use Rattle.asm_run_calls.specs.Session.{callees_of, seen_option, IsSession}
+use Rattle.asm_run_state.specs.Session.{callees_of, seen_option, IsSession}
 use Rattle.asm_run.proofs.Fitting.{never_wrong_here, types_hold_here, means, is_one}
 use Rattle.asm_run.proofs.session.Session.run.Goals as goal
 

@@ -1,6 +1,6 @@
 use Rattle.std.proofs.Common.{◌≡◌, Bool, List, [], sym, ap, ◌∙◌}
 use Rattle.asm_run_code.specs.Sessions.{begins}
-use Rattle.asm_run_words.specs.Worlds.{world_of}
+use Rattle.asm_run_steps.specs.Worlds.{world_of}
 use Rattle.asm_run_steps.specs.declared.machine.Caller.{Caller}
 use Rattle.asm_run_steps.specs.Linked.{codes_in}
 use Rattle.asm_run_steps.specs.States.{callers_of, state_of}

@@ -2,8 +2,8 @@ use Rattle.std.proofs.Common.{◌≡◌, length, Option, Some, None, refl, sym, 
 use Rattle.std.proofs.lemmas.Option.{slice_get-map, slice_get_read, slice_get_past}
 use Rattle.std.specs.Prelude.{slice_get, option_map}
 use Rattle.session_lang.specs.Views.{end_of}
-use Rattle.asm_run_words.specs.declared.world.World.{World}
-use Rattle.asm_run_words.specs.Worlds.{world_of}
+use Rattle.asm_run_steps.specs.declared.world.World.{World}
+use Rattle.asm_run_steps.specs.Worlds.{world_of}
 use Rattle.asm_run_steps.specs.declared.ended.Ended.{Ended}
 use Rattle.asm_run_steps.specs.Linked.{codes_in, flat_of}
 use Rattle.asm_run_steps.specs.States.{callers_of, state_in, state_of}

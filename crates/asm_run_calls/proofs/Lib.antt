@@ -1,3 +1,0 @@
-pub mod Hosting
-pub mod Numbers
-pub mod Whole

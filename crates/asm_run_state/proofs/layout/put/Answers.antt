@@ -1,4 +1,0 @@
-use Rattle.asm_run_state.proofs.layout.put.Goals as goal
-
-pub returns : goal.returns
-returns c = λ n. c.in_ok-insert.ensures.updates.0 (record { ref_ptr = (0, 0); now = n })

@@ -1,6 +1,0 @@
-use Rattle.std.proofs.Common.{drop, ap, ◌∙◌}
-use Rattle.jump_targets.proofs.Places.{one_less}
-use Rattle.jump_targets.proofs.targets.Targets.close.Goals as goal
-
-pub loop-preserved : goal.loop-preserved
-loop-preserved c = c.close_one.ensures ∙ ap (drop 1) c.loop.invariant ∙ one_less c.loop.counter c.args.self.now

@@ -1,8 +1,0 @@
-use Rattle.std.proofs.Common.{◌≡◌, drop, map}
-use Rattle.sem_words.specs.declared.text.Text.{Text}
-use Rattle.sem_words.specs.Lists.{text_bytes}
-use Rattle.jump_targets.specs.Targets.{those}
-use Rattle.jump_targets.proofs.targets.Targets.open_all.Given as goal
-
-abbrev pub invariant-loop-label : goal.invariant-loop-label
-invariant-loop-label l = those (map (λ (t : Text). text_bytes t) (drop l.label-index l.labels)) l.at l.self ≡ those (map (λ (t : Text). text_bytes t) l.labels) l.at l.initial.self
