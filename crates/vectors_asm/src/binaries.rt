@@ -3,7 +3,7 @@ use crate::modules::{
     ADDING, BLOCKS, EXTENDING, EXTENDING_WIDE, GLOBAL, IMPORTING, LOADING, LOOPING, MANY_PAGES,
     MULTIPLYING, MUTABLE_IMPORT, PADDED, PAGES, POLYMORPHIC, STORING, TABLE, TABLE_IMPORT,
 };
-use crate::program::{CHECK_WASM, Row, ends, prints};
+use crate::program::{CHECK_WASM, End, RUN_WASM, Row, all_end, all_print};
 
 pub(crate) const EMPTY: &[u8] = b"\0asm\x01\0\0\0";
 
@@ -201,63 +201,67 @@ static ROWS: [Row; 27] = [
 
 #[test]
 fn sessions_are_printed(rt: HostRuntime) {
-    for row in &ROWS {
-        prints(&rt, rt.alloc(), "run-wasm", row);
-    }
+    all_print(&rt, rt.alloc(), RUN_WASM, &ROWS);
 }
 
-/// A command, a module, and what is written.
-static LISTED: [(&str, &[u8], &[u8]); 4] = [
+static COUNTED: [End; 2] = [
+    (EMPTY, b"", 0, b"wasm functions 0 imports 0 exports 0\n"),
     (
-        "check-wasm",
-        EMPTY,
-        b"wasm functions 0 imports 0 exports 0\n",
-    ),
-    (
-        "check-wasm",
         b"\0asm\x01\0\0\0\x01\x05\x80\x80\x80\x80\0",
+        b"",
+        0,
         b"wasm functions 0 imports 0 exports 0\n",
     ),
+];
+
+#[test]
+fn modules_are_counted(rt: HostRuntime) {
+    all_end(&rt, rt.alloc(), CHECK_WASM, &COUNTED);
+}
+
+static LISTED: [End; 2] = [
     (
-        "show",
         ADDING,
+        b"",
+        0,
         b"wasm functions 1 imports 0 exports 1\nfunc 0 (i64 i64) i64 4\n",
     ),
     (
-        "show",
         IMPORTING,
+        b"",
+        0,
         b"wasm functions 0 imports 1 exports 1\nimport 0 p (i32) -\n",
     ),
 ];
 
 #[test]
-fn modules_are_counted_and_listed(rt: HostRuntime) {
-    for (command, bytes, text) in LISTED.iter() {
-        ends(&rt, rt.alloc(), &[*command, "m"], bytes, b"", 0, text);
-    }
+fn modules_are_listed(rt: HostRuntime) {
+    all_end(&rt, rt.alloc(), &["show", "m"], &LISTED);
 }
 
-/// The header cut short, and the line that is told of it.
-static FRONTS: [(&[u8], &[u8]); 8] = [
-    (b"", b"wasm refused: B3 Truncated at 0\n"),
-    (b"\0", b"wasm refused: B3 Truncated at 1\n"),
-    (b"\0a", b"wasm refused: B3 Truncated at 2\n"),
-    (b"\0as", b"wasm refused: B3 Truncated at 3\n"),
-    (b"\0asm", b"wasm refused: B3 Truncated at 4\n"),
-    (b"\0asm\x01", b"wasm refused: B3 Truncated at 5\n"),
-    (b"\0asm\x01\0", b"wasm refused: B3 Truncated at 6\n"),
-    (b"\0asm\x01\0\0", b"wasm refused: B3 Truncated at 7\n"),
+/// The header cut short.
+static FRONTS: [End; 8] = [
+    (b"", b"", 3, b"wasm refused: B3 Truncated at 0\n"),
+    (b"\0", b"", 3, b"wasm refused: B3 Truncated at 1\n"),
+    (b"\0a", b"", 3, b"wasm refused: B3 Truncated at 2\n"),
+    (b"\0as", b"", 3, b"wasm refused: B3 Truncated at 3\n"),
+    (b"\0asm", b"", 3, b"wasm refused: B3 Truncated at 4\n"),
+    (b"\0asm\x01", b"", 3, b"wasm refused: B3 Truncated at 5\n"),
+    (b"\0asm\x01\0", b"", 3, b"wasm refused: B3 Truncated at 6\n"),
+    (
+        b"\0asm\x01\0\0",
+        b"",
+        3,
+        b"wasm refused: B3 Truncated at 7\n",
+    ),
 ];
 
 #[test]
 fn each_prefix_is_truncated(rt: HostRuntime) {
-    for (bytes, line) in FRONTS.iter() {
-        ends(&rt, rt.alloc(), CHECK_WASM, bytes, b"", 3, line);
-    }
+    all_end(&rt, rt.alloc(), CHECK_WASM, &FRONTS);
 }
 
-/// A module, a script, the status, and the line that is told of them.
-static REFUSED: [(&[u8], &[u8], u8, &[u8]); 9] = [
+static REFUSED: [End; 9] = [
     (EMPTY, b"call f", 4, b"script refused: line 1\n"),
     (
         b"\0asm\x01\0\0\0\x01\x05\x80\x80\x80\x80\x10",
@@ -296,15 +300,5 @@ static REFUSED: [(&[u8], &[u8], u8, &[u8]); 9] = [
 
 #[test]
 fn modules_and_scripts_are_refused(rt: HostRuntime) {
-    for (bytes, script, code, line) in REFUSED.iter() {
-        ends(
-            &rt,
-            rt.alloc(),
-            &["run-wasm", "m", "s"],
-            bytes,
-            script,
-            *code,
-            line,
-        );
-    }
+    all_end(&rt, rt.alloc(), RUN_WASM, &REFUSED);
 }

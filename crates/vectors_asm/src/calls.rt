@@ -1,6 +1,6 @@
 //! Sessions of asm.js, by the whole program.
-use crate::program::{CHECK_ASM, Row, ends, prints};
-use crate::rows::made;
+use crate::program::{CHECK_ASM, End, RUN_ASM, Row, all_end, all_print, over};
+use crate::rows::holds;
 use crate::texts::{LOOPING, SUM, USUAL};
 
 /// Sessions that end.
@@ -177,64 +177,66 @@ pub(crate) static ROWS: [Row; 24] = [
 
 #[test]
 fn sessions_are_printed(rt: HostRuntime) {
-    for row in &ROWS {
-        prints(&rt, rt.alloc(), "run-asm", row);
-    }
+    all_print(&rt, rt.alloc(), RUN_ASM, &ROWS);
 }
 
-static OUT_OF_UNITS: Row = Row {
+static OUT_OF_UNITS: [Row; 1] = [Row {
     name: "units that run out",
     module: LOOPING,
     options: &["--steps", "2"],
     script: b"call f\nreply 0\nreply 0\nreply 0",
     printed: b"import g\nstill running\n",
-};
+}];
 
 #[test]
 fn units_run_out(rt: HostRuntime) {
-    prints(&rt, rt.alloc(), "run-asm", &OUT_OF_UNITS);
+    all_print(&rt, rt.alloc(), RUN_ASM, &OUT_OF_UNITS);
 }
 
-/// A module, a script, and the line that is told of them.
-static REFUSED: [(&[u8], &[u8], &[u8]); 6] = [
-    (SUM, b"call f 1", b"script refused: line 1\n"),
-    (SUM, b"call f 1 4294967296", b"script refused: line 1\n"),
-    (SUM, b"call f 1 2\n\nthrow now", b"script refused: line 3\n"),
-    (SUM, b"call f 1\nthrow now", b"script refused: line 2\n"),
-    (USUAL, b"call stackAlloc 5", b"script refused: line 0\n"),
+static REFUSED: [End; 6] = [
+    (SUM, b"call f 1", 4, b"script refused: line 1\n"),
+    (SUM, b"call f 1 4294967296", 4, b"script refused: line 1\n"),
+    (
+        SUM,
+        b"call f 1 2\n\nthrow now",
+        4,
+        b"script refused: line 3\n",
+    ),
+    (SUM, b"call f 1\nthrow now", 4, b"script refused: line 2\n"),
+    (USUAL, b"call stackAlloc 5", 4, b"script refused: line 0\n"),
     (
         USUAL,
         b"global STACKTOP 1000\nglobal STACKTOP 1",
+        4,
         b"script refused: line 2\n",
     ),
 ];
 
 #[test]
 fn scripts_are_refused(rt: HostRuntime) {
-    for (text, script, line) in REFUSED.iter() {
-        ends(
-            &rt,
-            rt.alloc(),
-            &["run-asm", "m", "s"],
-            text,
-            script,
-            4,
-            line,
-        );
-    }
+    all_end(&rt, rt.alloc(), RUN_ASM, &REFUSED);
 }
+
+static SHOWN: [End; 1] = [(
+    b"function m(){\"use asm\";function f(){return 0;}return f;}",
+    b"",
+    0,
+    b"function m(){\"use asm\";\nfunction f(){return 0;}\nreturn f;}\n",
+)];
 
 #[test]
 fn a_module_is_shown(rt: HostRuntime) {
-    let text = b"function m(){\"use asm\";function f(){return 0;}return f;}";
-    let shown = b"function m(){\"use asm\";\nfunction f(){return 0;}\nreturn f;}\n";
-    ends(&rt, rt.alloc(), &["show", "m"], text, b"", 0, shown);
+    all_end(&rt, rt.alloc(), &["show", "m"], &SHOWN);
 }
 
 #[test]
 fn a_long_text_is_refused(rt: HostRuntime) {
     let alloc = rt.alloc();
-    let spaces = made(&rt, vec![in alloc; b' '; 16_777_217]);
-    let line = b"too large: m\n";
-    ends(&rt, alloc, CHECK_ASM, &spaces, b"", 8, line);
+    match vec![in alloc; b' '; 16_777_217] {
+        Ok(spaces) => {
+            let told = over(alloc, CHECK_ASM, &[], &spaces, b"");
+            holds(&rt, 0, told.is(8, b"too large: m\n"));
+        }
+        Err(_) => holds(&rt, 1, false),
+    }
 }

@@ -1,6 +1,6 @@
 //! Modules and texts that are cut short, by the whole program.
 use crate::modules::{ADDING, LOADING, TABLE};
-use crate::program::{CHECK_ASM, CHECK_WASM, code_of, ends, is_told_at};
+use crate::program::{CHECK_ASM, CHECK_WASM, End, Told, all_end, over};
 use crate::rows::holds;
 use crate::texts::{SUM, USUAL};
 use std::alloc::Global;
@@ -58,26 +58,35 @@ fn counted(cut: &Cut, length: usize) -> Option<&'static [u8]> {
     None
 }
 
-/// `check-wasm` of the first bytes of the module.
-fn front_of_a_module(rt: &impl Abort, alloc: Global, cut: &Cut, front: &[u8]) {
-    match counted(cut, front.len()) {
-        Some(line) => ends(rt, alloc, CHECK_WASM, front, b"", 0, line),
+/// The module is refused for this, at this place.
+fn is_refused_at(alloc: Global, told: &Told, why: &str, place: usize) -> bool {
+    match format!(in alloc; "wasm refused: {why} at {place}\n") {
+        Ok(line) => told.is(3, line.as_bytes()),
+        Err(_) => false,
+    }
+}
+
+/// `check-wasm` tells this of the first bytes of the module, so many.
+fn is_told(alloc: Global, cut: &Cut, told: &Told, length: usize) -> bool {
+    match counted(cut, length) {
+        Some(line) => told.is(0, line),
         None => {
-            let told = if cut.bodiless.contains(&front.len()) {
-                "wasm refused: B9 Counts at "
+            let is_bodiless = cut.bodiless.contains(&length);
+            let why = if is_bodiless {
+                "B9 Counts"
             } else {
-                "wasm refused: B3 Truncated at "
+                "B3 Truncated"
             };
-            is_told_at(rt, alloc, CHECK_WASM, front, 3, told, front.len());
+            is_refused_at(alloc, told, why, length)
         }
     }
 }
 
 fn fronts_of_a_module(rt: &impl Abort, alloc: Global, cut: &Cut) {
-    for n in 0..cut.module.len() {
-        front_of_a_module(rt, alloc, cut, &cut.module[..n]);
+    for length in 0..cut.module.len() + 1 {
+        let told = over(alloc, CHECK_WASM, &[], &cut.module[..length], b"");
+        holds(rt, length, is_told(alloc, cut, &told, length));
     }
-    front_of_a_module(rt, alloc, cut, cut.module);
 }
 
 #[test]
@@ -97,32 +106,47 @@ fn line_of_front(n: usize) -> Option<&'static [u8]> {
     }
 }
 
-fn is_refused(alloc: Global, text: &[u8]) -> bool {
-    matches!(code_of(alloc, CHECK_ASM, text), Some(2))
-}
-
-/// `check-asm` of the first bytes of `SUM`, which aren't all: they are refused.
-fn front_of_a_text(rt: &impl Abort, alloc: Global, front: &[u8]) {
-    match line_of_front(front.len()) {
-        Some(line) => ends(rt, alloc, CHECK_ASM, front, b"", 2, line),
-        None => holds(rt, front.len(), is_refused(alloc, front)),
+/// `check-asm` refuses the first bytes of `SUM`, by this line where one is known.
+fn is_refused(told: &Told, line: Option<&[u8]>) -> bool {
+    match line {
+        Some(line) => told.is(2, line),
+        None => told.status == 2,
     }
 }
 
 #[test]
 fn fronts_of_a_sum(rt: HostRuntime) {
     for n in 0..SUM.len() {
-        front_of_a_text(&rt, rt.alloc(), &SUM[..n]);
+        let told = over(rt.alloc(), CHECK_ASM, &[], &SUM[..n], b"");
+        holds(&rt, n, is_refused(&told, line_of_front(n)));
     }
-    let line = b"asm.js functions 1 tables 0 exports 1 foreign 0\n";
-    ends(&rt, rt.alloc(), CHECK_ASM, SUM, b"", 0, line);
 }
 
 #[test]
 fn fronts_of_a_usual_text(rt: HostRuntime) {
     for n in 0..USUAL.len() {
-        holds(&rt, n, is_refused(rt.alloc(), &USUAL[..n]));
+        let told = over(rt.alloc(), CHECK_ASM, &[], &USUAL[..n], b"");
+        holds(&rt, n, told.status == 2);
     }
-    let line = b"asm.js functions 2 tables 0 exports 2 foreign 1\n";
-    ends(&rt, rt.alloc(), CHECK_ASM, USUAL, b"", 0, line);
+}
+
+/// Whole texts.
+static WHOLE_TEXTS: [End; 2] = [
+    (
+        SUM,
+        b"",
+        0,
+        b"asm.js functions 1 tables 0 exports 1 foreign 0\n",
+    ),
+    (
+        USUAL,
+        b"",
+        0,
+        b"asm.js functions 2 tables 0 exports 2 foreign 1\n",
+    ),
+];
+
+#[test]
+fn whole_texts(rt: HostRuntime) {
+    all_end(&rt, rt.alloc(), CHECK_ASM, &WHOLE_TEXTS);
 }

@@ -1,11 +1,15 @@
 //! Large modules, written and read again; `bench/read_write_wasm.py` measures these tests.
-use crate::rows::{holds, made};
-use crate::writing::rewritten;
+use crate::rows::holds;
+use crate::writing::is_rewritten;
 use sem_words::{Bin, List};
 use std::alloc::{AllocError, Global};
 use std::process::Abort;
+use wasm_binary::read;
 use wasm_binary_write::write;
-use wasm_tree::{Body, Code, FuncType, Instr, Module, ValType};
+use wasm_tree::{Body, Code, Instr, Module};
+
+/// A module with the type of each function alone: from a number of 32 bits to one.
+const TYPES: &[u8] = b"\0asm\x01\0\0\0\x01\x06\x01`\x01\x7f\x01\x7f";
 
 /// A function adds its number to what the function before it gives.
 fn body(alloc: Global, number: u32) -> Result<Body<'static>, AllocError> {
@@ -22,57 +26,41 @@ fn body(alloc: Global, number: u32) -> Result<Body<'static>, AllocError> {
     })
 }
 
-fn bodies(alloc: Global, n: u32) -> Result<List<Body<'static>>, AllocError> {
+/// The module gets so many functions.
+fn put_functions(
+    module: &mut Module<'static>,
+    alloc: Global,
+    count: u32,
+) -> Result<(), AllocError> {
     let mut bodies = Vec::new(alloc);
-    for number in 0..n {
+    for number in 0..count {
         bodies.push(body(alloc, number)?)?;
     }
-    Ok(List::from_vec(bodies))
+    module.functions = List::from_vec(vec![in alloc; 0u32; count as usize]?);
+    module.bodies = List::from_vec(bodies);
+    Ok(())
 }
 
-/// A number of 32 bits, alone.
-fn one_number(alloc: Global) -> Result<List<ValType>, AllocError> {
-    Ok(List::from_vec(Vec::from_slice(alloc, &[ValType::I32])?))
-}
-
-/// The type of each function.
-fn types(alloc: Global) -> Result<List<FuncType>, AllocError> {
-    let mut types = Vec::new(alloc);
-    types.push(FuncType {
-        params: one_number(alloc)?,
-        results: one_number(alloc)?,
-    })?;
-    Ok(List::from_vec(types))
-}
-
-/// A module of so many functions.
-fn chain(alloc: Global, n: u32) -> Result<Module<'static>, AllocError> {
-    let functions = vec![in alloc; 0u32; n as usize];
-    match (types(alloc), functions, bodies(alloc, n)) {
-        (Ok(types), Ok(functions), Ok(bodies)) => Ok(Module {
-            types,
-            imports: List::new(alloc),
-            functions: List::from_vec(functions),
-            tables: List::new(alloc),
-            memories: List::new(alloc),
-            globals: List::new(alloc),
-            exports: List::new(alloc),
-            start: None,
-            elements: List::new(alloc),
-            bodies,
-            segments: List::new(alloc),
-        }),
-        _ => Err(AllocError),
+/// What is written of a module of so many functions; nothing where memory runs out.
+fn written(alloc: Global, count: u32) -> Vec<u8> {
+    let Ok(mut module) = read(alloc, TYPES) else {
+        return Vec::new(alloc);
+    };
+    match put_functions(&mut module, alloc, count) {
+        Ok(()) => {}
+        Err(_) => return Vec::new(alloc),
+    }
+    match write(alloc, &module) {
+        Ok(bytes) => bytes,
+        Err(_) => Vec::new(alloc),
     }
 }
 
 /// The module of so many functions is written, read, and written again as the same bytes: at least nine for each function.
-fn is_written_and_read(rt: &impl Abort, alloc: Global, n: u32) {
-    let module = made(rt, chain(alloc, n));
-    let written = made(rt, write(alloc, &module));
-    holds(rt, 0, written.len() / 9 >= n as usize);
-    let again = made(rt, rewritten(alloc, written.as_slice()));
-    holds(rt, 1, again.as_slice() == written.as_slice());
+fn is_written_and_read(rt: &impl Abort, alloc: Global, count: u32) {
+    let bytes = written(alloc, count);
+    holds(rt, 0, bytes.len() / 9 >= count as usize);
+    holds(rt, 1, is_rewritten(alloc, &bytes, &bytes));
 }
 
 #[test]

@@ -1,5 +1,5 @@
-//! Worked rows of both languages: modules that are taken or refused, and scripts with what is seen of their sessions, by the whole
-//! program; sessions of asm.js by the interpreter; modules of WebAssembly that are read and written.
+//! Worked rows of both languages: modules that are taken or refused, linked, and run with scripts, by the whole program; modules of
+//! WebAssembly that are read and written.
 #![tactic(auto)]
 
 #[cfg(test)]
@@ -19,7 +19,13 @@ mod large;
 #[cfg(test)]
 mod limits;
 #[cfg(test)]
+mod link_limits;
+#[cfg(test)]
+mod links;
+#[cfg(test)]
 mod modules;
+#[cfg(test)]
+mod pieces;
 #[cfg(test)]
 mod program;
 #[cfg(test)]

@@ -1,6 +1,8 @@
 //! The whole program, over files in memory.
-use crate::rows::made;
-use bridge_cmd::{Status, bridge};
+ghost use Rattle.std.specs.Prelude.{◌<◌};
+
+use crate::rows::holds;
+use bridge_cmd::bridge;
 use bridge_io::{MemFiles, MemSink};
 use std::alloc::{AllocError, Global};
 use std::process::Abort;
@@ -9,6 +11,11 @@ use std::process::Abort;
 pub(crate) const CHECK_ASM: &[&str] = &["check-asm", "m"];
 
 pub(crate) const CHECK_WASM: &[&str] = &["check-wasm", "m"];
+
+/// The words of a run of the script `s` on the file `m`.
+pub(crate) const RUN_ASM: &[&str] = &["run-asm", "m", "s"];
+
+pub(crate) const RUN_WASM: &[&str] = &["run-wasm", "m", "s"];
 
 /// A session: what it shows, the module, the options, the script, and what is printed.
 pub(crate) struct Row {
@@ -19,200 +26,155 @@ pub(crate) struct Row {
     pub(crate) printed: &'static [u8],
 }
 
-/// The words of a command and these options.
-pub(crate) fn with_options(
-    alloc: Global,
-    words: &[&'static str],
-    options: &[&'static str],
-) -> Result<Vec<&'static str>, AllocError> {
-    let mut all = Vec::from_slice(alloc, words)?;
-    all.extend_from_slice(options)?;
-    Ok(all)
+/// The files `m` and `s`, the status of a call, and what it writes.
+pub(crate) type End = (&'static [u8], &'static [u8], u8, &'static [u8]);
+
+/// A call of the program: the words after its name, options behind them, and the files by their names.
+#[derive(Clone, Copy)]
+pub(crate) struct Call<'a> {
+    pub(crate) words: &'a [&'a str],
+    pub(crate) options: &'a [&'a str],
+    pub(crate) files: &'a [(&'a str, &'a [u8])],
+    /// Which read fails, which write of the output and which of the report: the first is 1, and 0 none. Where one does, the output
+    /// takes one byte at a time.
+    pub(crate) faults: [u64; 3],
 }
 
-/// What the command prints of the session is the row's.
-pub(crate) fn prints(rt: &impl Abort, alloc: Global, command: &'static str, row: &Row) {
-    let words = made(rt, with_options(alloc, &[command, "m", "s"], row.options));
-    ends(rt, alloc, &words, row.module, row.script, 0, row.printed);
+/// The faults of a call that has none.
+pub(crate) const NO_FAULTS: [u64; 3] = [0, 0, 0];
+
+/// The status of a call, and what it wrote: to its output where it was done or a write failed, and else to its report.
+#[derive(Drop)]
+pub(crate) struct Told {
+    pub(crate) status: u8,
+    pub(crate) written: Vec<u8>,
 }
 
-/// The program's name and these words.
-fn all_words(alloc: Global, words: &[&str]) -> Result<Vec<String>, AllocError> {
-    let mut all = Vec::new(alloc);
-    all.push(String::from_str(alloc, "bridge")?)?;
+impl Told {
+    /// The call ended with this status, and wrote this.
+    pub(crate) fn is(&self, status: u8, written: &[u8]) -> bool {
+        self.status == status && self.written.as_slice() == written
+    }
+}
+
+fn push_words(all: &mut Vec<String>, alloc: Global, words: &[&str]) -> Result<(), AllocError> {
     for word in words {
         all.push(String::from_str(alloc, word)?)?;
     }
+    Ok(())
+}
+
+/// The program's name, the words and the options.
+fn all_words(alloc: Global, call: &Call<'_>) -> Result<Vec<String>, AllocError> {
+    let mut all = Vec::new(alloc);
+    push_words(&mut all, alloc, &["bridge"])?;
+    push_words(&mut all, alloc, call.words)?;
+    push_words(&mut all, alloc, call.options)?;
     Ok(all)
 }
 
-/// The files `m` and `s`.
-pub(crate) fn two_files(
-    alloc: Global,
-    module: &[u8],
-    script: &[u8],
-) -> Result<MemFiles, AllocError> {
+fn all_files(alloc: Global, call: &Call<'_>) -> Result<MemFiles, AllocError> {
     let mut files = MemFiles::new(alloc);
-    files.add("m", module)?;
-    files.add("s", script)?;
+    files.fail_at(call.faults[0])?;
+    for (name, content) in call.files {
+        files.add(name, content)?;
+    }
     Ok(files)
 }
 
-/// How a call of the program ended, and what it wrote.
-#[derive(Drop)]
-pub(crate) struct Ending {
-    pub(crate) status: Status,
-    out: MemSink,
-    report: MemSink,
+/// How many bytes the output takes at a time.
+fn piece(faults: &[u64; 3]) -> usize
+    ensures { 0 < result }
+{
+    if *faults == NO_FAULTS { 1000 } else { 1 }
 }
 
-impl Ending {
-    /// The exit status.
-    pub(crate) fn code(&self) -> u8 {
-        self.status.code()
-    }
+/// How many bytes a sink has room for.
+const ROOM: usize = 4_000_000;
 
-    /// What was written to the output.
-    pub(crate) fn output(&self) -> &[u8] {
-        self.out.bytes()
-    }
-
-    /// What was written to the report.
-    pub(crate) fn reported(&self) -> &[u8] {
-        self.report.bytes()
-    }
+/// A sink that takes so many bytes at a time, and of which this write fails.
+fn sink(alloc: Global, piece: usize, fault: u64) -> Result<MemSink, AllocError>
+    requires { 0 < piece }
+{
+    let mut sink = MemSink::new(alloc, ROOM, piece)?;
+    sink.fail_at(fault)?;
+    Ok(sink)
 }
 
-/// A call of the program with these words after its name, over these files and sinks.
-pub(crate) fn called(
+/// The status of the call, which writes to these sinks.
+fn run(
     alloc: Global,
-    words: &[&str],
-    mut files: MemFiles,
-    mut out: MemSink,
-    mut report: MemSink,
-) -> Result<Ending, AllocError> {
-    let Ok(words) = all_words(alloc, words) else {
-        return Err(AllocError);
+    call: &Call<'_>,
+    out: &mut MemSink,
+    report: &mut MemSink,
+) -> Result<u8, AllocError> {
+    let words = all_words(alloc, call)?;
+    let mut files = all_files(alloc, call)?;
+    Ok(bridge(alloc, &words, &mut files, out, report).code())
+}
+
+/// What is told of a call that ended so and wrote this; the status is 255 where it wrote to the sink that isn't the status's.
+fn of_sinks(alloc: Global, status: u8, out: &[u8], report: &[u8]) -> Result<Told, AllocError> {
+    let is_output = status == 0 || status == 6;
+    let (written, other) = if is_output {
+        (out, report)
+    } else {
+        (report, out)
     };
-    let status = bridge(alloc, &words, &mut files, &mut out, &mut report);
-    Ok(Ending {
-        status,
-        out,
-        report,
+    Ok(Told {
+        status: if other.is_empty() { status } else { 255 },
+        written: Vec::from_slice(alloc, written)?,
     })
 }
 
-/// A call of the program with these words after its name, and the files `m` and `s`.
-fn call(alloc: Global, words: &[&str], module: &[u8], script: &[u8]) -> Result<Ending, AllocError> {
-    let files = two_files(alloc, module, script);
-    let out = MemSink::new(alloc, 100_000, 1000);
-    let report = MemSink::new(alloc, 1000, 1000);
-    match (files, out, report) {
-        (Ok(files), Ok(out), Ok(report)) => called(alloc, words, files, out, report),
-        _ => Err(AllocError),
+fn try_told(alloc: Global, call: &Call<'_>) -> Result<Told, AllocError> {
+    let mut out = sink(alloc, piece(&call.faults), call.faults[1])?;
+    let mut report = sink(alloc, 1000, call.faults[2])?;
+    let status = run(alloc, call, &mut out, &mut report)?;
+    of_sinks(alloc, status, out.bytes(), report.bytes())
+}
+
+/// What is told of the call; the status is 255 where there is no memory for it.
+pub(crate) fn told(alloc: Global, call: &Call<'_>) -> Told {
+    match try_told(alloc, call) {
+        Ok(told) => told,
+        Err(_) => Told {
+            status: 255,
+            written: Vec::new(alloc),
+        },
     }
 }
 
-/// The status of a call with the file `m`.
-pub(crate) fn code_of(alloc: Global, words: &[&str], module: &[u8]) -> Option<u8> {
-    match call(alloc, words, module, b"") {
-        Ok(ending) => Some(ending.code()),
-        Err(_) => None,
-    }
-}
-
-/// What a call with the file `m` ended as, for a row of this name: with the status 0.
-pub(crate) fn done(
-    rt: &impl Abort,
-    alloc: Global,
-    name: &str,
-    words: &[&str],
-    module: &[u8],
-) -> Ending {
-    let ending = made(rt, call(alloc, words, module, b""));
-    assert!(rt; ending.status == Status::Done, "{name}: {words:?}");
-    ending
-}
-
-/// These bytes were written of a call with these words.
-pub(crate) fn same_bytes(rt: &impl Abort, words: &[&str], seen: &[u8], wanted: &[u8]) {
-    assert_eq!(rt; seen, wanted, "{words:?}");
-}
-
-/// The call has this status, and has written this to its output and to its report.
-pub(crate) fn is_ending(
-    rt: &impl Abort,
-    words: &[&str],
-    ending: &Ending,
-    code: u8,
-    output: &[u8],
-    line: &[u8],
-) {
-    assert_eq!(rt; ending.code(), code, "{words:?}");
-    same_bytes(rt, words, ending.output(), output);
-    same_bytes(rt, words, ending.reported(), line);
-}
-
-/// The call ends with this status, and writes this: to its output where the status is 0, and else to its report.
-pub(crate) fn ends(
-    rt: &impl Abort,
+/// What is told of a call with these words and options over the files `m` and `s`.
+pub(crate) fn over(
     alloc: Global,
     words: &[&str],
+    options: &[&str],
     module: &[u8],
     script: &[u8],
-    code: u8,
-    written: &[u8],
-) {
-    let ending = made(rt, call(alloc, words, module, script));
-    if code == 0 {
-        is_ending(rt, words, &ending, code, written, b"");
-    } else {
-        is_ending(rt, words, &ending, code, b"", written);
+) -> Told {
+    let files = [("m", module), ("s", script)];
+    let call = Call {
+        words,
+        options,
+        files: &files,
+        faults: NO_FAULTS,
+    };
+    told(alloc, &call)
+}
+
+/// Calls with these words end as the rows say.
+pub(crate) fn all_end(rt: &impl Abort, alloc: Global, words: &[&str], rows: &[End]) {
+    for (number, (module, script, status, written)) in rows.iter().enumerate() {
+        let told = over(alloc, words, &[], module, script);
+        holds(rt, number, told.is(*status, written));
     }
 }
 
-/// The call ends with this status, and its report is this with the place behind it.
-pub(crate) fn is_told_at(
-    rt: &impl Abort,
-    alloc: Global,
-    words: &[&str],
-    module: &[u8],
-    code: u8,
-    told: &str,
-    place: usize,
-) {
-    let line = made(rt, format!(in alloc; "{told}{place}\n"));
-    ends(rt, alloc, words, module, b"", code, line.as_bytes());
-}
-
-/// The call ends with the status 0, and what it writes to its output begins with this.
-pub(crate) fn begins(
-    rt: &impl Abort,
-    alloc: Global,
-    words: &[&str],
-    module: &[u8],
-    script: &[u8],
-    front: &[u8],
-) {
-    let ending = made(rt, call(alloc, words, module, script));
-    assert!(rt;
-        ending.code() == 0 && ending.output().starts_with(front),
-        "{words:?}"
-    );
-}
-
-/// The words of the calls that translate a module, check what it is translated to, and run that.
-#[derive(Drop)]
-pub(crate) struct Translated<'a> {
-    pub(crate) translating: &'a [&'a str],
-    pub(crate) checking: &'a [&'a str],
-    pub(crate) running: &'a [&'a str],
-}
-
-/// What the row's module is translated to is accepted, and prints what the row says.
-pub(crate) fn prints_translated(rt: &impl Abort, alloc: Global, row: &Row, words: &Translated<'_>) {
-    let translated = done(rt, alloc, row.name, words.translating, row.module);
-    let module = translated.output();
-    done(rt, alloc, row.name, words.checking, module);
-    ends(rt, alloc, words.running, module, row.script, 0, row.printed);
+/// Calls with these words print the rows' sessions.
+pub(crate) fn all_print(rt: &impl Abort, alloc: Global, words: &[&str], rows: &[Row]) {
+    for (number, row) in rows.iter().enumerate() {
+        let told = over(alloc, words, row.options, row.module, row.script);
+        holds(rt, number, told.is(0, row.printed));
+    }
 }

@@ -1,8 +1,7 @@
 //! The text that `gen` measures, written from its rule, and its translations, by the whole program.
-use crate::program::{begins, done, ends};
-use crate::rows::{holds, made};
+use crate::program::over;
+use crate::rows::holds;
 use std::alloc::{AllocError, Global};
-use std::process::Abort;
 
 const HEADING: &str =
     "function gen(stdlib,foreign,heap){\"use asm\";var H=new stdlib.Int32Array(heap);\n";
@@ -25,64 +24,52 @@ fn text_of(alloc: Global, functions: u32) -> Result<String, AllocError> {
     Ok(text)
 }
 
-/// `gen 200` tells these lengths, of which the two of translations are at most ten and a hundred times that of the text.
-fn are_told(rt: &impl Abort, alloc: Global, text: &[u8], module: &[u8], back: &[u8]) {
-    holds(rt, 0, module.len() <= 126_280 && back.len() <= 1_262_800);
-    let lengths = format!(in alloc;
-        "functions 200\nasm {}\nwasm {}\njs {}\n",
-        text.len(),
-        module.len(),
-        back.len()
-    );
-    let lengths = made(rt, lengths);
-    ends(rt, alloc, &["gen", "200"], b"", b"", 0, lengths.as_bytes());
+/// The command, the module `m`, the script, and what its output begins with.
+fn begins(alloc: Global, command: &str, module: &[u8], script: &[u8], front: &[u8]) -> bool {
+    let words = [command, "--steps", "1000000000", "m", "s"];
+    let told = over(alloc, &words, &[], module, script);
+    told.status == 0 && told.written.starts_with(front)
 }
 
-const RUN_ASM: &[&str] = &["run-asm", "--steps", "1000000000", "m", "s"];
-
-const RUN_WASM: &[&str] = &["run-wasm", "--steps", "1000000000", "m", "s"];
-
-/// The text and its translations give the sum of 1 to 199 for 0.
-fn are_run(rt: &impl Abort, alloc: Global, text: &[u8], module: &[u8], back: &[u8]) {
+/// The text and its translations give the sum of 1 to 199 for 0. They have these lengths, of which those of the translations are at
+/// most ten and a hundred times that of the text.
+fn are_run(alloc: Global, text: &[u8]) -> bool {
+    let module = over(alloc, &["asm2wasm", "m"], &[], text, b"").written;
+    let back = over(alloc, &["wasm2js", "m"], &[], &module, b"").written;
     let called = b"call f199 0";
     let sum = b"result 19900\n";
-    begins(rt, alloc, RUN_ASM, text, called, sum);
-    begins(rt, alloc, RUN_WASM, module, called, sum);
-    let called = b"call $init\ncall f199 0";
-    begins(
-        rt,
-        alloc,
-        RUN_ASM,
-        back,
-        called,
-        b"returned\nresult 19900\n",
-    );
+    text.len() == 12_628
+        && module.len() == 8_412
+        && back.len() == 33_995
+        && begins(alloc, "run-asm", text, called, sum)
+        && begins(alloc, "run-wasm", &module, called, sum)
+        && begins(
+            alloc,
+            "run-asm",
+            &back,
+            b"call $init\ncall f199 0",
+            b"returned\nresult 19900\n",
+        )
 }
 
 #[test]
 fn the_text_of_200_functions_is_translated_and_run(rt: HostRuntime) {
-    let alloc = rt.alloc();
-    let text = made(&rt, text_of(alloc, 200));
-    let text = text.as_bytes();
-    let translated = done(&rt, alloc, "gen 200", &["asm2wasm", "m"], text);
-    let module = translated.output();
-    let translated_back = done(&rt, alloc, "gen 200", &["wasm2js", "m"], module);
-    let back = translated_back.output();
-    are_told(&rt, alloc, text, module, back);
-    are_run(&rt, alloc, text, module, back);
+    match text_of(rt.alloc(), 200) {
+        Ok(text) => holds(&rt, 0, are_run(rt.alloc(), text.as_bytes())),
+        Err(_) => holds(&rt, 1, false),
+    }
+    let told = over(rt.alloc(), &["gen", "200"], &[], b"", b"");
+    let lengths = b"functions 200\nasm 12628\nwasm 8412\njs 33995\n";
+    holds(&rt, 2, told.is(0, lengths));
 }
 
 #[test]
 fn the_text_of_three_functions_is_measured(rt: HostRuntime) {
-    let alloc = rt.alloc();
-    begins(
-        &rt,
-        alloc,
-        &["gen", "3"],
-        b"",
-        b"",
-        b"functions 3\nasm 239\n",
-    );
-    let text = made(&rt, text_of(alloc, 3));
-    holds(&rt, 1, text.len() == 239);
+    let told = over(rt.alloc(), &["gen", "3"], &[], b"", b"");
+    let front = b"functions 3\nasm 239\n".as_slice();
+    holds(&rt, 0, told.status == 0 && told.written.starts_with(front));
+    match text_of(rt.alloc(), 3) {
+        Ok(text) => holds(&rt, 1, text.len() == 239),
+        Err(_) => holds(&rt, 2, false),
+    }
 }

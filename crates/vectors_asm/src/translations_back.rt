@@ -5,11 +5,10 @@ use crate::modules::{
     LOOPING, MANY_PAGES, MULTIPLYING, MUTABLE_IMPORT, PADDED, PAGES, POLYMORPHIC, ROTATING,
     STORING, TABLE, TABLE_IMPORT,
 };
-use crate::program::{CHECK_ASM, Row, Translated, done, ends, prints_translated, with_options};
-use crate::rows::{holds, made};
+use crate::program::{CHECK_ASM, End, RUN_ASM, Row, all_end, over};
+use crate::rows::holds;
 use cmd_check_wasm::check_bytes;
 use std::alloc::Global;
-use std::process::Abort;
 use wasm2js::{profile, translate};
 
 // The scripts are in the calling form of the translation, and what is printed is what node prints of the texts.
@@ -198,41 +197,39 @@ static ROWS: [Row; 26] = [
     },
 ];
 
-// A module that isn't translated, and why.
-struct Refused(&'static [u8], &'static [u8]);
-
-static REFUSED: [Refused; 4] = [
-    Refused(TABLE_IMPORT, b"wasm refused: B14 ImportedTable 0\n"),
-    Refused(MUTABLE_IMPORT, b"wasm refused: B15 MutableImport 0\n"),
-    Refused(MANY_PAGES, b"wasm refused: B19 MemoryLarge 4097\n"),
-    Refused(MULTIPLYING, b"wasm refused: B24 WideMulDiv 0\n"),
+static REFUSED: [End; 4] = [
+    (TABLE_IMPORT, b"", 3, b"wasm refused: B14 ImportedTable 0\n"),
+    (
+        MUTABLE_IMPORT,
+        b"",
+        3,
+        b"wasm refused: B15 MutableImport 0\n",
+    ),
+    (MANY_PAGES, b"", 3, b"wasm refused: B19 MemoryLarge 4097\n"),
+    (MULTIPLYING, b"", 3, b"wasm refused: B24 WideMulDiv 0\n"),
 ];
 
 const WASM2JS: &[&str] = &["wasm2js", "m"];
 
 /// The text of the translated module is accepted, and prints what the row says.
-fn prints_the_same(rt: &impl Abort, alloc: Global, row: &Row) {
-    let running = made(rt, with_options(alloc, &["run-asm", "m", "s"], row.options));
-    let words = Translated {
-        translating: WASM2JS,
-        checking: CHECK_ASM,
-        running: &running,
-    };
-    prints_translated(rt, alloc, row, &words);
+fn prints_the_same(alloc: Global, row: &Row) -> bool {
+    let translated = over(alloc, WASM2JS, &[], row.module, b"");
+    let text = translated.written.as_slice();
+    translated.status == 0
+        && over(alloc, CHECK_ASM, &[], text, b"").status == 0
+        && over(alloc, RUN_ASM, row.options, text, row.script).is(0, row.printed)
 }
 
 #[test]
 fn sessions_translated_back_are_printed(rt: HostRuntime) {
-    for row in &ROWS {
-        prints_the_same(&rt, rt.alloc(), row);
+    for (number, row) in ROWS.iter().enumerate() {
+        holds(&rt, number, prints_the_same(rt.alloc(), row));
     }
 }
 
 #[test]
 fn modules_beyond_the_profile_are_refused(rt: HostRuntime) {
-    for row in &REFUSED {
-        ends(&rt, rt.alloc(), WASM2JS, row.0, b"", 3, row.1);
-    }
+    all_end(&rt, rt.alloc(), WASM2JS, &REFUSED);
 }
 
 /// Whether a line of the text begins with the front, and has the word in it.
@@ -255,10 +252,9 @@ fn has_line(text: &[u8], front: &[u8], word: &[u8]) -> bool {
 /// A function of the module calls a helper, which stands in the text beside it.
 #[test]
 fn a_rotation_is_a_call_of_a_helper(rt: HostRuntime) {
-    let ending = done(&rt, rt.alloc(), "a rotation", WASM2JS, ROTATING);
-    let text = ending.output();
-    holds(&rt, 0, has_line(text, b"function f", b"$rotl("));
-    holds(&rt, 1, has_line(text, b"function $rotl(", b"return"));
+    let text = over(rt.alloc(), WASM2JS, &[], ROTATING, b"").written;
+    holds(&rt, 0, has_line(&text, b"function f", b"$rotl("));
+    holds(&rt, 1, has_line(&text, b"function $rotl(", b"return"));
 }
 
 /// How many functions the accepted module has that stands for the one that the bytes spell; none where there is none.

@@ -3,9 +3,9 @@ mod heights;
 mod refusals;
 mod round_trip;
 
+use crate::pieces::{Part, joined};
 use asm_text::{TextFault, read};
 use std::alloc::Global;
-use std::process::Abort;
 
 /// A module up to the statements of its one function.
 pub(crate) const OPEN: &[u8] = b"function m(){\"use asm\";function f(){";
@@ -20,7 +20,10 @@ fn fault_of(alloc: Global, text: &[u8]) -> Option<TextFault> {
     }
 }
 
-/// The text of this name has this fault, or none.
-fn has_fault(rt: &impl Abort, name: &str, alloc: Global, text: &[u8], fault: Option<TextFault>) {
-    assert_eq!(rt; fault_of(alloc, text), fault, "{name}");
+/// The text of these parts has this fault, or says a module.
+fn has_fault(alloc: Global, parts: &[Part<'_>], fault: Option<TextFault>) -> bool {
+    match joined(alloc, parts) {
+        Ok(text) => fault_of(alloc, &text) == fault,
+        Err(_) => false,
+    }
 }

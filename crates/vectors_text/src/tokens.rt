@@ -2,85 +2,84 @@ use crate::rows::holds;
 use js_tokens::*;
 use std::alloc::Global;
 
-/// No line ends before the token, which has this text and place.
-fn is_token(token: &Token<'_>, text: &[u8], at: u64) -> bool {
-    token.text == text && token.at == at && !token.line_before
-}
+/// A token, its place, and whether a line ends before it.
+type Row = (TokenKind, &'static [u8], u64, bool);
 
-/// The tokens of `a>>>=b--c`, and their places.
-static LONGEST: [(&[u8], u64); 5] = [(b"a", 0), (b">>>=", 1), (b"b", 5), (b"--", 6), (b"c", 8)];
-
-#[test]
-fn longest_tokens(rt: HostRuntime) {
-    match tokens(rt.alloc(), b"a>>>=b--c") {
-        Ok(found) => {
-            holds(&rt, 5, found.len() == 5);
-            for (number, (token, (text, at))) in found.iter().zip(LONGEST.iter()).enumerate() {
-                holds(&rt, number, is_token(token, text, *at));
-            }
-        }
-        Err(_) => holds(&rt, 6, false),
-    }
-}
-
-/// The kinds of tokens, their places, and whether a line ends before them.
-static KINDS: [(TokenKind, u64, bool); 6] = [
-    (TokenKind::Number(255), 1, true),
-    (TokenKind::Decimal, 16, true),
-    (TokenKind::Decimal, 27, true),
-    (TokenKind::Quoted, 31, false),
-    (TokenKind::Punct, 36, false),
-    (TokenKind::Decimal, 37, false),
+/// The tokens of `a>>>=b--c`.
+const LONGEST: &[Row] = &[
+    (TokenKind::Name, b"a", 0, false),
+    (TokenKind::Punct, b">>>=", 1, false),
+    (TokenKind::Name, b"b", 5, false),
+    (TokenKind::Punct, b"--", 6, false),
+    (TokenKind::Name, b"c", 8, false),
 ];
 
-fn is_of_kind(token: &Token<'_>, kind: TokenKind, at: u64, line_before: bool) -> bool {
-    token.kind == kind && token.at == at && token.line_before == line_before
-}
-
-#[test]
-fn kinds_and_lines(rt: HostRuntime) {
-    let text = b"\n0xfF // e\xcc\x81 \x0b\r\n5. /* \n */ .5\x0b\t'a\"b';18446744073709551616.0";
-    match tokens(rt.alloc(), text) {
-        Ok(found) => {
-            holds(&rt, 6, found.len() == 6);
-            for (number, (token, (kind, at, line))) in found.iter().zip(KINDS.iter()).enumerate() {
-                holds(&rt, number, is_of_kind(token, *kind, *at, *line));
-            }
-        }
-        Err(_) => holds(&rt, 7, false),
-    }
-}
-
-static FAULTS: [(&[u8], TokenFault); 16] = [
-    (b"08", TokenFault::LiteralForm { at: 0 }),
-    (b"18446744073709551616", TokenFault::LiteralForm { at: 0 }),
-    (b"0x", TokenFault::LiteralForm { at: 0 }),
-    (b"0x10000000000000000", TokenFault::LiteralForm { at: 0 }),
-    (b"1.5.2", TokenFault::LiteralForm { at: 0 }),
-    (b"1e5", TokenFault::LiteralForm { at: 0 }),
-    (b"a 5.e", TokenFault::LiteralForm { at: 2 }),
-    (b"x='ab", TokenFault::BadToken { at: 2 }),
-    (b"'a\\n'", TokenFault::BadToken { at: 0 }),
-    (b"'\xc3\xa9'", TokenFault::BadToken { at: 0 }),
-    (b"a @", TokenFault::BadToken { at: 2 }),
-    (b"a /*/", TokenFault::OpenComment { at: 2 }),
-    (b"a \xc3\xa9", TokenFault::NonAscii { at: 2 }),
-    (b"// \xe2\x80\xa8", TokenFault::NonAscii { at: 3 }),
-    (b"/* \xe2\x80\xa9 */", TokenFault::NonAscii { at: 3 }),
-    (b"/* \xe2\x80\xa9 ", TokenFault::OpenComment { at: 0 }),
+/// Tokens of other kinds, between lines and comments.
+const KINDS: &[Row] = &[
+    (TokenKind::Number(255), b"0xfF", 1, true),
+    (TokenKind::Decimal, b"5.", 16, true),
+    (TokenKind::Decimal, b".5", 27, true),
+    (TokenKind::Quoted, b"'a\"b'", 31, false),
+    (TokenKind::Punct, b";", 36, false),
+    (TokenKind::Decimal, b"18446744073709551616.0", 37, false),
 ];
 
-fn is_refused(alloc: Global, text: &[u8], fault: TokenFault) -> bool {
-    match tokens(alloc, text) {
-        Ok(_) => false,
-        Err(found) => found == fault,
+fn is_token(token: &Token<'_>, row: &Row) -> bool {
+    let (kind, text, at, line_before) = *row;
+    token.kind == kind && token.text == text && token.at == at && token.line_before == line_before
+}
+
+fn are_tokens(found: &[Token<'_>], rows: &[Row]) -> bool {
+    let mut are = found.len() == rows.len();
+    for (token, row) in found.iter().zip(rows) {
+        are &= is_token(token, row);
+    }
+    are
+}
+
+fn has_tokens(alloc: Global, text: &[u8], wanted: Result<&[Row], TokenFault>) -> bool {
+    match (tokens(alloc, text), wanted) {
+        (Ok(found), Ok(rows)) => are_tokens(found.as_slice(), rows),
+        (Err(found), Err(fault)) => found == fault,
+        _ => false,
     }
 }
 
+/// Texts, and their tokens or their first fault.
+static TEXTS: [(&[u8], Result<&[Row], TokenFault>); 18] = [
+    (b"a>>>=b--c", Ok(LONGEST)),
+    (
+        b"\n0xfF // e\xcc\x81 \x0b\r\n5. /* \n */ .5\x0b\t'a\"b';18446744073709551616.0",
+        Ok(KINDS),
+    ),
+    (b"08", Err(TokenFault::LiteralForm { at: 0 })),
+    (
+        b"18446744073709551616",
+        Err(TokenFault::LiteralForm { at: 0 }),
+    ),
+    (b"0x", Err(TokenFault::LiteralForm { at: 0 })),
+    (
+        b"0x10000000000000000",
+        Err(TokenFault::LiteralForm { at: 0 }),
+    ),
+    (b"1.5.2", Err(TokenFault::LiteralForm { at: 0 })),
+    (b"1e5", Err(TokenFault::LiteralForm { at: 0 })),
+    (b"a 5.e", Err(TokenFault::LiteralForm { at: 2 })),
+    (b"x='ab", Err(TokenFault::BadToken { at: 2 })),
+    (b"'a\\n'", Err(TokenFault::BadToken { at: 0 })),
+    (b"'\xc3\xa9'", Err(TokenFault::BadToken { at: 0 })),
+    (b"a @", Err(TokenFault::BadToken { at: 2 })),
+    (b"a /*/", Err(TokenFault::OpenComment { at: 2 })),
+    (b"a \xc3\xa9", Err(TokenFault::NonAscii { at: 2 })),
+    (b"// \xe2\x80\xa8", Err(TokenFault::NonAscii { at: 3 })),
+    (b"/* \xe2\x80\xa9 */", Err(TokenFault::NonAscii { at: 3 })),
+    (b"/* \xe2\x80\xa9 ", Err(TokenFault::OpenComment { at: 0 })),
+];
+
 #[test]
-fn faults(rt: HostRuntime) {
-    for (number, (text, fault)) in FAULTS.iter().enumerate() {
-        holds(&rt, number, is_refused(rt.alloc(), text, *fault));
+fn tokens_and_faults(rt: HostRuntime) {
+    for (number, (text, wanted)) in TEXTS.iter().enumerate() {
+        holds(&rt, number, has_tokens(rt.alloc(), text, *wanted));
     }
 }
 

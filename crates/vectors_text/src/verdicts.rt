@@ -1,10 +1,10 @@
 //! Texts that are accepted, with what is told of their modules, and texts that are refused.
-use crate::pieces::joined;
-use crate::rows::{done, holds};
+use crate::pieces::{Part, joined};
+use crate::rows::holds;
 use asm_lang_valid::Rule;
 use asm_validate::{Checked, ExportOf, ForeignCall, Signature};
-use cmd_check_asm::{AsmRow, CheckFault, check_text, counts, row_name};
-use std::alloc::{AllocError, Global};
+use cmd_check_asm::{AsmRow, CheckFault, check_text, counts};
+use std::alloc::Global;
 use std::process::Abort;
 
 mod limits;
@@ -16,23 +16,26 @@ function h(){c=1;}\
 var t=[g,g];\
 return{run:h,g:g};}";
 
-fn checked(alloc: Global, text: &[u8]) -> Option<Checked> {
-    match check_text(alloc, text) {
-        Ok(checked) => Some(checked),
-        Err(_) => None,
-    }
-}
-
+/// Why the text says no accepted module, where it says none.
 fn fault_of(alloc: Global, text: &[u8]) -> Option<CheckFault> {
-    match check_text(alloc, text) {
+    match counts(alloc, text) {
         Ok(_) => None,
         Err(fault) => Some(fault),
     }
 }
 
-/// The text of this name has this fault, or none.
-fn has_fault(rt: &impl Abort, name: &str, alloc: Global, text: &[u8], fault: Option<CheckFault>) {
-    assert_eq!(rt; fault_of(alloc, text), fault, "{name}");
+/// The text of these parts says no accepted module, by this row and at this place, or says one.
+fn is_told(alloc: Global, parts: &[Part<'_>], refusal: Option<(AsmRow, u64)>) -> bool {
+    let Ok(text) = joined(alloc, parts) else {
+        return false;
+    };
+    match (fault_of(alloc, &text), refusal) {
+        (Some(CheckFault::Refused { row, at }), Some((broken, place))) => {
+            row == broken && at == place
+        }
+        (None, None) => true,
+        _ => false,
+    }
 }
 
 /// A function's number, and how many parameters it has and whether it has a result, where there is such a function.
@@ -102,37 +105,36 @@ fn are_globals(module: &Checked) -> bool {
     }
 }
 
+/// What an accepted module tells is `WHOLE`'s.
+fn are_facts(rt: &impl Abort, module: &Checked) {
+    for (number, (function, wanted)) in SIGNATURES.iter().enumerate() {
+        let found = module.signature(*function);
+        holds(rt, number, is_signature(found, *wanted));
+    }
+    holds(rt, 3, module.has_heap());
+    holds(rt, 4, module.module().functions.len() == 2);
+    holds(rt, 5, are_exports(module));
+    holds(rt, 6, are_calls(module));
+    holds(rt, 7, are_globals(module));
+}
+
 #[test]
 fn an_accepted_module_tells_its_facts(rt: HostRuntime) {
-    match checked(rt.alloc(), WHOLE) {
-        Some(module) => {
-            for (number, (function, wanted)) in SIGNATURES.iter().enumerate() {
-                holds(
-                    &rt,
-                    number,
-                    is_signature(module.signature(*function), *wanted),
-                );
-            }
-            holds(&rt, 3, module.has_heap());
-            holds(&rt, 4, module.module().functions.len() == 2);
-            holds(&rt, 5, are_exports(&module));
-            holds(&rt, 6, are_calls(&module));
-            holds(&rt, 7, are_globals(&module));
-        }
-        None => holds(&rt, 8, false),
+    match check_text(rt.alloc(), WHOLE) {
+        Ok(module) => are_facts(&rt, &module),
+        Err(_) => holds(&rt, 8, false),
     }
+}
+
+fn has_ints_alone(module: &Checked) -> bool {
+    !module.has_heap() && module.foreign_calls().is_empty() && module.foreign_globals().is_empty()
 }
 
 #[test]
 fn a_text_of_ints_alone_has_no_heap(rt: HostRuntime) {
-    let text = b"function(){'use asm';function f(){}return f}";
-    match checked(rt.alloc(), text) {
-        Some(module) => {
-            holds(&rt, 0, !module.has_heap());
-            holds(&rt, 1, module.foreign_calls().is_empty());
-            holds(&rt, 2, module.foreign_globals().is_empty());
-        }
-        None => holds(&rt, 3, false),
+    match check_text(rt.alloc(), b"function(){'use asm';function f(){}return f}") {
+        Ok(module) => holds(&rt, 0, has_ints_alone(&module)),
+        Err(_) => holds(&rt, 1, false),
     }
 }
 
@@ -196,22 +198,17 @@ static ROWS: [Row; 9] = [
     (b"function f(){", b"default:;}return f}", AsmRow::Grammar),
 ];
 
-/// The row's text is refused for what it breaks, where its second part begins.
-fn is_told(rt: &impl Abort, alloc: Global, row: &Row) -> Result<(), AllocError> {
-    let (front, back, broken) = *row;
-    let text = joined(alloc, &[FRONT, front, back])?;
-    let fault = CheckFault::Refused {
-        row: broken,
-        at: (FRONT.len() as u64).saturating_add(front.len() as u64),
-    };
-    has_fault(rt, row_name(broken), alloc, &text, Some(fault));
-    Ok(())
-}
-
+/// Each row's text is refused for what it breaks, where its second part begins.
 #[test]
 fn the_first_fault_is_told_with_its_place(rt: HostRuntime) {
-    for row in ROWS.iter() {
-        done(&rt, is_told(&rt, rt.alloc(), row));
+    for (number, (front, back, broken)) in ROWS.iter().enumerate() {
+        let parts: [Part<'_>; 3] = [(FRONT, b"", 0), (*front, b"", 0), (*back, b"", 0)];
+        let at = (FRONT.len() as u64).saturating_add(front.len() as u64);
+        holds(
+            &rt,
+            number,
+            is_told(rt.alloc(), &parts, Some((*broken, at))),
+        );
     }
 }
 
@@ -239,12 +236,13 @@ static MEMBERS: [Refusal; 3] = [
 
 #[test]
 fn other_objects_have_no_foreign_members(rt: HostRuntime) {
-    for (text, broken, at) in MEMBERS.iter() {
-        let fault = CheckFault::Refused {
-            row: *broken,
-            at: *at,
-        };
-        has_fault(&rt, row_name(*broken), rt.alloc(), text, Some(fault));
+    for (number, (text, broken, at)) in MEMBERS.iter().enumerate() {
+        let parts: [Part<'_>; 1] = [(*text, b"", 0)];
+        holds(
+            &rt,
+            number,
+            is_told(rt.alloc(), &parts, Some((*broken, *at))),
+        );
     }
 }
 

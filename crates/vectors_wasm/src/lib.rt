@@ -1,4 +1,4 @@
-//! Worked rows of modules of WebAssembly: read, written, listed, judged, linked, and what single instructions do.
+//! Worked rows of modules of WebAssembly: read, written, listed, judged, and what single instructions do.
 #![tactic(auto)]
 
 #[cfg(test)]
@@ -11,10 +11,6 @@ mod listings;
 mod locals;
 #[cfg(test)]
 mod modules;
-#[cfg(test)]
-mod pair_limits;
-#[cfg(test)]
-mod pairs;
 #[cfg(test)]
 mod plain;
 #[cfg(test)]

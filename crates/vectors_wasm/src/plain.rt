@@ -5,7 +5,7 @@ ghost use Rattle.wasm_run_plain.specs.Forms.{IsForm};
 use crate::rows::holds;
 use heap_views::Heap;
 use sem_words::{Bin, Rel, TrapKind, Word};
-use std::alloc::{AllocError, Global};
+use std::alloc::Global;
 use std::process::Abort;
 use wasm_lang::MemOp;
 use wasm_run_plain::{Effect, Operands, State, do_plain};
@@ -97,22 +97,13 @@ enum Step {
     Run(u32, u32, &'static [u8]),
 }
 
-// One page of zeros, and nothing else.
-fn one_page(alloc: Global) -> Result<State, AllocError> {
-    Ok(State {
-        memory: Heap::new(alloc, 65536)?,
-        globals: Vec::new(alloc),
-        table: Vec::new(alloc),
-    })
-}
-
-// These operands, the topmost last.
-fn operands_of(alloc: Global, words: &[Word]) -> Result<Operands, AllocError> {
-    let mut operands = Operands::new(alloc);
+// These operands are put on top, the topmost last.
+fn are_put(operands: &mut Operands, words: &[Word]) -> bool {
+    let mut are = true;
     for word in words {
-        operands.push(*word)?;
+        are &= operands.push(*word).is_ok();
     }
-    Ok(operands)
+    are
 }
 
 // The instruction has this effect.
@@ -138,16 +129,13 @@ fn ends(
     wanted: Effect,
     top: Option<Option<Word>>,
 ) -> bool {
-    match operands_of(alloc, words) {
-        Ok(mut operands) => {
-            does(named, &mut operands, &mut [], state, wanted)
-                && match top {
-                    Some(top) => operands.pop() == top,
-                    None => true,
-                }
+    let mut operands = Operands::new(alloc);
+    are_put(&mut operands, words)
+        && does(named, &mut operands, &mut [], state, wanted)
+        && match top {
+            Some(top) => operands.pop() == top,
+            None => true,
         }
-        Err(_) => false,
-    }
 }
 
 fn run_is(state: &State, at: u32, len: u32, wanted: &[u8]) -> bool {
@@ -166,15 +154,20 @@ fn is_step(alloc: Global, step: &Step, state: &mut State) -> bool {
     }
 }
 
-/// A run with one page comes to all of this, step by step.
+/// A run with one page of zeros, and nothing else, comes to all of this, step by step.
 fn plays(rt: &impl Abort, alloc: Global, steps: &[Step]) {
-    match one_page(alloc) {
-        Ok(mut state) => {
+    match Heap::new(alloc, 65536) {
+        Ok(memory) => {
+            let mut state = State {
+                memory,
+                globals: Vec::new(alloc),
+                table: Vec::new(alloc),
+            };
             for (number, step) in steps.iter().enumerate() {
                 holds(rt, number, is_step(alloc, step, &mut state));
             }
         }
-        Err(_) => panic!(rt; "out of memory"),
+        Err(_) => holds(rt, 0, false),
     }
 }
 
@@ -352,15 +345,6 @@ static STUCK: [(Named, Effect); 2] = [
     (Named::LocalGet(2), Effect::Sticks),
 ];
 
-// One page, and a global with 5.
-fn with_global(alloc: Global) -> Result<State, AllocError> {
-    let mut state = one_page(alloc)?;
-    match state.globals.push(Word::W32(5)) {
-        Ok(()) => Ok(state),
-        Err(_) => Err(AllocError),
-    }
-}
-
 /// All instructions have the effects of their rows, which count from `first` on.
 fn all_do(
     rt: &impl Abort,
@@ -381,18 +365,27 @@ fn all_do(
 
 #[test]
 fn variables(rt: HostRuntime) {
+    let alloc = rt.alloc();
     let mut locals = [Word::W32(0), Word::W64(0)];
+    let mut operands = Operands::new(alloc);
+    holds(&rt, 8, are_put(&mut operands, &[Word::W64(9)]));
     match (
-        with_global(rt.alloc()),
-        operands_of(rt.alloc(), &[Word::W64(9)]),
+        Heap::new(alloc, 65536),
+        Vec::from_slice(alloc, &[Word::W32(5)]),
     ) {
-        (Ok(mut state), Ok(mut operands)) => {
+        (Ok(memory), Ok(globals)) => {
+            let table = Vec::new(alloc);
+            let mut state = State {
+                memory,
+                globals,
+                table,
+            };
             all_do(&rt, &mut operands, &mut locals, &mut state, &VARIABLES, 0);
             holds(&rt, 4, locals == [Word::W32(0), Word::W64(9)]);
             holds(&rt, 5, operands.pop() == Some(Word::W64(9)));
             operands.enter();
             all_do(&rt, &mut operands, &mut locals, &mut state, &STUCK, 6);
         }
-        _ => holds(&rt, 8, false),
+        _ => holds(&rt, 9, false),
     }
 }

@@ -1,74 +1,10 @@
 //! Modules that are valid or not, and which of them are run.
-ghost use Rattle.std.specs.Prelude.{◌≡◌, [], map, All, IfOk};
-ghost use Rattle.std.specs.Str.{IsUtf8};
-ghost use Rattle.sem_words.specs.Lists.{list_items};
-ghost use Rattle.wasm_tree.specs.Views.{import_of, module_of};
-
 use crate::rows::holds;
-use sem_words::List;
-use std::alloc::{AllocError, Global};
-use wasm_tree::{Bytes, GlobalType, Import, ImportKind, Limits, Module, ValType};
-use wasm_validate::{Beyond, Invalid, Measures, Outside, Rule, Section, Valid, runnable, validate};
-
-// Imports of these kinds, whose names are empty.
-fn nameless(alloc: Global, kinds: &[ImportKind]) -> Result<List<Import<'static>>, AllocError>
-    ensures module_names { IfOk result (λ l. All (λ i. IsUtf8 i.module_name) (map import_of (list_items l))) }
-    ensures names { IfOk result (λ l. All (λ i. IsUtf8 i.name) (map import_of (list_items l))) }
-{
-    let mut imports = Vec::new(alloc);
-    for kind in kinds {
-        imports.push(Import {
-            module: Bytes::Lent(b""),
-            field: Bytes::Lent(b""),
-            kind: *kind,
-        })?;
-    }
-    Ok(List::from_vec(imports))
-}
-
-// A module with these imports and a memory of so many pages, and nothing else.
-fn with_memory(
-    alloc: Global,
-    imports: List<Import<'static>>,
-    pages: u32,
-) -> Result<Module<'static>, AllocError>
-    ensures imports { IfOk result (λ m. (module_of m).imports ≡ map import_of (list_items imports.entry)) }
-    ensures exports { IfOk result (λ m. (module_of m).exports ≡ []) }
-    ensures functions { IfOk result (λ m. (module_of m).functions ≡ []) }
-    ensures bodies { IfOk result (λ m. (module_of m).bodies ≡ []) }
-    ensures globals { IfOk result (λ m. (module_of m).globals ≡ []) }
-    ensures elements { IfOk result (λ m. (module_of m).elements ≡ []) }
-    ensures segments { IfOk result (λ m. (module_of m).segments ≡ []) }
-{
-    let limits = Limits {
-        min: pages,
-        max: None,
-    };
-    Ok(Module {
-        types: List::new(alloc),
-        imports,
-        functions: List::new(alloc),
-        tables: List::new(alloc),
-        memories: List::from_vec(vec![in alloc; limits]?),
-        globals: List::new(alloc),
-        exports: List::new(alloc),
-        start: None,
-        elements: List::new(alloc),
-        bodies: List::new(alloc),
-        segments: List::new(alloc),
-    })
-}
-
-// The verdict on a module with these imports and a memory of so many pages, and nothing else.
-fn judged(
-    alloc: Global,
-    kinds: &[ImportKind],
-    pages: u32,
-) -> Result<Result<Valid<'static>, Invalid>, AllocError> {
-    let imports = nameless(alloc, kinds)?;
-    let module = with_memory(alloc, imports, pages)?;
-    Ok(validate(alloc, module))
-}
+use crate::verdicts::fault_of;
+use cmd_check_wasm::{CheckFault, check_bytes};
+use cmd_run_wasm::{RunFault, runnable_module};
+use std::alloc::Global;
+use wasm_validate::{Beyond, Measures, Outside, Rule, Section};
 
 const NOTHING: Measures = Measures {
     levels: 0,
@@ -78,87 +14,76 @@ const NOTHING: Measures = Measures {
     mul_div: None,
 };
 
+// A memory of 4,097 pages, and nothing else.
 #[test]
 fn takes_a_module(rt: HostRuntime) {
-    match judged(rt.alloc(), &[], 4097) {
-        Ok(Ok(valid)) => {
+    match check_bytes(rt.alloc(), b"\0asm\x01\0\0\0\x05\x04\x01\0\x81\x20") {
+        Ok(valid) => {
             holds(&rt, 0, valid.func_type(0).is_none());
             holds(&rt, 1, valid.measures() == NOTHING);
         }
-        _ => holds(&rt, 2, false),
+        Err(_) => holds(&rt, 2, false),
     }
 }
 
-const TABLE: ImportKind = ImportKind::Table(Limits { min: 0, max: None });
-
-const CONSTANT: ImportKind = ImportKind::Global(GlobalType {
-    kind: ValType::I32,
-    mutable: false,
-});
-
-const MUTABLE: ImportKind = ImportKind::Global(GlobalType {
-    kind: ValType::I32,
-    mutable: true,
-});
-
-// Imports, the pages of the memory, and why the module isn't run.
-static ROWS: [(&[ImportKind], u32, Option<Outside>); 4] = [
+// A module, and why it isn't run. Its imports have empty names.
+static ROWS: [(&[u8], Option<Outside>); 4] = [
+    // a constant, a global that may change, and a table are imported, and there are 4,097 pages
     (
-        &[CONSTANT, MUTABLE, TABLE],
-        4097,
+        b"\0asm\x01\0\0\0\x02\x11\x03\0\0\x03\x7f\0\0\0\x03\x7f\x01\0\0\x01\x70\0\0\x05\x04\x01\0\x81\x20",
         Some(Outside {
             row: Beyond::ImportedTable,
             value: 2,
         }),
     ),
+    // a constant and a global that may change, and 4,097 pages
     (
-        &[CONSTANT, MUTABLE],
-        4097,
+        b"\0asm\x01\0\0\0\x02\x0b\x02\0\0\x03\x7f\0\0\0\x03\x7f\x01\x05\x04\x01\0\x81\x20",
         Some(Outside {
             row: Beyond::MutableImport,
             value: 1,
         }),
     ),
+    // a constant and 4,097 pages
     (
-        &[CONSTANT],
-        4097,
+        b"\0asm\x01\0\0\0\x02\x06\x01\0\0\x03\x7f\0\x05\x04\x01\0\x81\x20",
         Some(Outside {
             row: Beyond::MemoryLarge,
             value: 4097,
         }),
     ),
-    (&[CONSTANT], 4096, None),
+    // a constant and 4,096 pages
+    (
+        b"\0asm\x01\0\0\0\x02\x06\x01\0\0\x03\x7f\0\x05\x04\x01\0\x80\x20",
+        None,
+    ),
 ];
 
-fn is_told(alloc: Global, kinds: &[ImportKind], pages: u32, outside: Option<Outside>) -> bool {
-    match judged(alloc, kinds, pages) {
-        Ok(Ok(valid)) => match (runnable(&valid), outside) {
-            (Err(told), Some(outside)) => told == outside,
-            (Ok(()), None) => true,
-            _ => false,
-        },
+fn is_told(alloc: Global, bytes: &[u8], outside: Option<Outside>) -> bool {
+    match (runnable_module(alloc, bytes), outside) {
+        (Err(RunFault::Outside(told)), Some(outside)) => told == outside,
+        (Ok(_), None) => true,
         _ => false,
     }
 }
 
 #[test]
 fn the_first_row_that_holds_is_told(rt: HostRuntime) {
-    for (number, (kinds, pages, outside)) in ROWS.iter().enumerate() {
-        holds(&rt, number, is_told(rt.alloc(), kinds, *pages, *outside));
+    for (number, (bytes, outside)) in ROWS.iter().enumerate() {
+        holds(&rt, number, is_told(rt.alloc(), bytes, *outside));
     }
 }
 
-const REFUSED: Invalid = Invalid::Rule {
+const REFUSED: CheckFault = CheckFault::Invalid {
     rule: Rule::Size,
     section: Section::Memories,
     index: 0,
     instruction: 0,
 };
 
+// A memory of 65,537 pages.
 #[test]
 fn refuses_a_memory(rt: HostRuntime) {
-    match judged(rt.alloc(), &[], 65537) {
-        Ok(Err(invalid)) => holds(&rt, 0, invalid == REFUSED),
-        _ => holds(&rt, 1, false),
-    }
+    let fault = fault_of(rt.alloc(), b"\0asm\x01\0\0\0\x05\x05\x01\0\x81\x80\x04");
+    holds(&rt, 0, fault == Some(REFUSED));
 }

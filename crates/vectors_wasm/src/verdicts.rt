@@ -1,20 +1,25 @@
 //! For each rule of validity a module that breaks it, and one that just doesn't.
 use crate::modules::{SUMMING, fault_of_front};
 use crate::rows::holds;
-use cmd_check_wasm::{CheckFault, check_bytes, counts, rule_number, section_number};
-use std::alloc::{AllocError, Global};
+use cmd_check_wasm::{CheckFault, counts, rule_number, section_number};
+use std::alloc::Global;
 use wasm_tree::Row;
 
 /// The printed numbers of a rule and of a section, the item, and the instruction.
 type Place = (u8, u8, u64, u64);
 
-/// What follows a module's header.
-type Sections = &'static [u8];
+/// Why the bytes spell no valid module, where they don't.
+pub(crate) fn fault_of(alloc: Global, bytes: &[u8]) -> Option<CheckFault> {
+    match counts(alloc, bytes) {
+        Ok(_) => None,
+        Err(fault) => Some(fault),
+    }
+}
 
 /// The bytes spell a module that breaks a rule at this place.
 fn is_broken(alloc: Global, bytes: &[u8], place: Place) -> bool {
-    match check_bytes(alloc, bytes) {
-        Err(
+    match fault_of(alloc, bytes) {
+        Some(
             CheckFault::Invalid {
                 rule,
                 section,
@@ -31,34 +36,16 @@ fn is_broken(alloc: Global, bytes: &[u8], place: Place) -> bool {
     }
 }
 
-/// The bytes spell a valid module.
-fn is_module(alloc: Global, bytes: &[u8]) -> bool {
-    match check_bytes(alloc, bytes) {
-        Ok(_) => true,
-        Err(_) => false,
-    }
-}
-
-/// The module of these sections.
-fn module_of(alloc: Global, sections: &[u8]) -> Result<Vec<u8>, AllocError> {
-    let mut bytes = Vec::from_slice(alloc, b"\0asm\x01\0\0\0")?;
-    bytes.extend_from_slice(sections)?;
-    Ok(bytes)
-}
-
 /// The rule, the section, the item in it, the instruction of its body; a module that breaks it, and one that doesn't.
-static RULES: [(u8, u8, u64, u64, Sections, Sections); 21] = [
+static RULES: [(u8, u8, u64, u64, &[u8], &[u8]); 21] = [
     // a function of no type
     (
         1,
         3,
         0,
         0,
-        &[0x03, 0x02, 0x01, 0x00, 0x0a, 0x04, 0x01, 0x02, 0x00, 0x0b],
-        &[
-            0x01, 0x04, 0x01, 0x60, 0x00, 0x00, 0x03, 0x02, 0x01, 0x00, 0x0a, 0x04, 0x01, 0x02,
-            0x00, 0x0b,
-        ],
+        b"\0asm\x01\0\0\0\x03\x02\x01\0\x0a\x04\x01\x02\0\x0b",
+        b"\0asm\x01\0\0\0\x01\x04\x01`\0\0\x03\x02\x01\0\x0a\x04\x01\x02\0\x0b",
     ),
     // an export of no function
     (
@@ -66,11 +53,8 @@ static RULES: [(u8, u8, u64, u64, Sections, Sections); 21] = [
         7,
         0,
         0,
-        &[0x07, 0x05, 0x01, 0x01, 0x66, 0x00, 0x00],
-        &[
-            0x01, 0x04, 0x01, 0x60, 0x00, 0x00, 0x03, 0x02, 0x01, 0x00, 0x07, 0x05, 0x01, 0x01,
-            0x66, 0x00, 0x00, 0x0a, 0x04, 0x01, 0x02, 0x00, 0x0b,
-        ],
+        b"\0asm\x01\0\0\0\x07\x05\x01\x01f\0\0",
+        b"\0asm\x01\0\0\0\x01\x04\x01`\0\0\x03\x02\x01\0\x07\x05\x01\x01f\0\0\x0a\x04\x01\x02\0\x0b",
     ),
     // elements without a table
     (
@@ -78,10 +62,8 @@ static RULES: [(u8, u8, u64, u64, Sections, Sections); 21] = [
         9,
         0,
         0,
-        &[0x09, 0x06, 0x01, 0x00, 0x41, 0x00, 0x0b, 0x00],
-        &[
-            0x04, 0x04, 0x01, 0x70, 0x00, 0x00, 0x09, 0x06, 0x01, 0x00, 0x41, 0x00, 0x0b, 0x00,
-        ],
+        b"\0asm\x01\0\0\0\x09\x06\x01\0A\0\x0b\0",
+        b"\0asm\x01\0\0\0\x04\x04\x01p\0\0\x09\x06\x01\0A\0\x0b\0",
     ),
     // data without a memory
     (
@@ -89,10 +71,8 @@ static RULES: [(u8, u8, u64, u64, Sections, Sections); 21] = [
         11,
         0,
         0,
-        &[0x0b, 0x06, 0x01, 0x00, 0x41, 0x00, 0x0b, 0x00],
-        &[
-            0x05, 0x03, 0x01, 0x00, 0x00, 0x0b, 0x06, 0x01, 0x00, 0x41, 0x00, 0x0b, 0x00,
-        ],
+        b"\0asm\x01\0\0\0\x0b\x06\x01\0A\0\x0b\0",
+        b"\0asm\x01\0\0\0\x05\x03\x01\0\0\x0b\x06\x01\0A\0\x0b\0",
     ),
     // an export of no global
     (
@@ -100,11 +80,8 @@ static RULES: [(u8, u8, u64, u64, Sections, Sections); 21] = [
         7,
         0,
         0,
-        &[0x07, 0x05, 0x01, 0x01, 0x67, 0x03, 0x00],
-        &[
-            0x06, 0x06, 0x01, 0x7f, 0x00, 0x41, 0x00, 0x0b, 0x07, 0x05, 0x01, 0x01, 0x67, 0x03,
-            0x00,
-        ],
+        b"\0asm\x01\0\0\0\x07\x05\x01\x01g\x03\0",
+        b"\0asm\x01\0\0\0\x06\x06\x01\x7f\0A\0\x0b\x07\x05\x01\x01g\x03\0",
     ),
     // local.get of no local
     (
@@ -112,14 +89,8 @@ static RULES: [(u8, u8, u64, u64, Sections, Sections); 21] = [
         10,
         0,
         0,
-        &[
-            0x01, 0x04, 0x01, 0x60, 0x00, 0x00, 0x03, 0x02, 0x01, 0x00, 0x0a, 0x07, 0x01, 0x05,
-            0x00, 0x20, 0x00, 0x1a, 0x0b,
-        ],
-        &[
-            0x01, 0x04, 0x01, 0x60, 0x00, 0x00, 0x03, 0x02, 0x01, 0x00, 0x0a, 0x09, 0x01, 0x07,
-            0x01, 0x01, 0x7f, 0x20, 0x00, 0x1a, 0x0b,
-        ],
+        b"\0asm\x01\0\0\0\x01\x04\x01`\0\0\x03\x02\x01\0\x0a\x07\x01\x05\0 \0\x1a\x0b",
+        b"\0asm\x01\0\0\0\x01\x04\x01`\0\0\x03\x02\x01\0\x0a\x09\x01\x07\x01\x01\x7f \0\x1a\x0b",
     ),
     // a branch past the outermost label
     (
@@ -127,14 +98,8 @@ static RULES: [(u8, u8, u64, u64, Sections, Sections); 21] = [
         10,
         0,
         0,
-        &[
-            0x01, 0x04, 0x01, 0x60, 0x00, 0x00, 0x03, 0x02, 0x01, 0x00, 0x0a, 0x06, 0x01, 0x04,
-            0x00, 0x0c, 0x01, 0x0b,
-        ],
-        &[
-            0x01, 0x04, 0x01, 0x60, 0x00, 0x00, 0x03, 0x02, 0x01, 0x00, 0x0a, 0x06, 0x01, 0x04,
-            0x00, 0x0c, 0x00, 0x0b,
-        ],
+        b"\0asm\x01\0\0\0\x01\x04\x01`\0\0\x03\x02\x01\0\x0a\x06\x01\x04\0\x0c\x01\x0b",
+        b"\0asm\x01\0\0\0\x01\x04\x01`\0\0\x03\x02\x01\0\x0a\x06\x01\x04\0\x0c\0\x0b",
     ),
     // i32.add of an i64
     (
@@ -142,14 +107,8 @@ static RULES: [(u8, u8, u64, u64, Sections, Sections); 21] = [
         10,
         0,
         2,
-        &[
-            0x01, 0x04, 0x01, 0x60, 0x00, 0x00, 0x03, 0x02, 0x01, 0x00, 0x0a, 0x0a, 0x01, 0x08,
-            0x00, 0x42, 0x00, 0x41, 0x00, 0x6a, 0x1a, 0x0b,
-        ],
-        &[
-            0x01, 0x04, 0x01, 0x60, 0x00, 0x00, 0x03, 0x02, 0x01, 0x00, 0x0a, 0x0a, 0x01, 0x08,
-            0x00, 0x41, 0x00, 0x41, 0x00, 0x6a, 0x1a, 0x0b,
-        ],
+        b"\0asm\x01\0\0\0\x01\x04\x01`\0\0\x03\x02\x01\0\x0a\x0a\x01\x08\0B\0A\0j\x1a\x0b",
+        b"\0asm\x01\0\0\0\x01\x04\x01`\0\0\x03\x02\x01\0\x0a\x0a\x01\x08\0A\0A\0j\x1a\x0b",
     ),
     // drop of nothing
     (
@@ -157,14 +116,8 @@ static RULES: [(u8, u8, u64, u64, Sections, Sections); 21] = [
         10,
         0,
         0,
-        &[
-            0x01, 0x04, 0x01, 0x60, 0x00, 0x00, 0x03, 0x02, 0x01, 0x00, 0x0a, 0x05, 0x01, 0x03,
-            0x00, 0x1a, 0x0b,
-        ],
-        &[
-            0x01, 0x04, 0x01, 0x60, 0x00, 0x00, 0x03, 0x02, 0x01, 0x00, 0x0a, 0x07, 0x01, 0x05,
-            0x00, 0x41, 0x00, 0x1a, 0x0b,
-        ],
+        b"\0asm\x01\0\0\0\x01\x04\x01`\0\0\x03\x02\x01\0\x0a\x05\x01\x03\0\x1a\x0b",
+        b"\0asm\x01\0\0\0\x01\x04\x01`\0\0\x03\x02\x01\0\x0a\x07\x01\x05\0A\0\x1a\x0b",
     ),
     // an operand left at the end
     (
@@ -172,14 +125,8 @@ static RULES: [(u8, u8, u64, u64, Sections, Sections); 21] = [
         10,
         0,
         1,
-        &[
-            0x01, 0x04, 0x01, 0x60, 0x00, 0x00, 0x03, 0x02, 0x01, 0x00, 0x0a, 0x06, 0x01, 0x04,
-            0x00, 0x41, 0x00, 0x0b,
-        ],
-        &[
-            0x01, 0x05, 0x01, 0x60, 0x00, 0x01, 0x7f, 0x03, 0x02, 0x01, 0x00, 0x0a, 0x06, 0x01,
-            0x04, 0x00, 0x41, 0x00, 0x0b,
-        ],
+        b"\0asm\x01\0\0\0\x01\x04\x01`\0\0\x03\x02\x01\0\x0a\x06\x01\x04\0A\0\x0b",
+        b"\0asm\x01\0\0\0\x01\x05\x01`\0\x01\x7f\x03\x02\x01\0\x0a\x06\x01\x04\0A\0\x0b",
     ),
     // i32.load aligned to eight bytes
     (
@@ -187,14 +134,8 @@ static RULES: [(u8, u8, u64, u64, Sections, Sections); 21] = [
         10,
         0,
         1,
-        &[
-            0x01, 0x04, 0x01, 0x60, 0x00, 0x00, 0x03, 0x02, 0x01, 0x00, 0x05, 0x03, 0x01, 0x00,
-            0x01, 0x0a, 0x0a, 0x01, 0x08, 0x00, 0x41, 0x00, 0x28, 0x03, 0x00, 0x1a, 0x0b,
-        ],
-        &[
-            0x01, 0x04, 0x01, 0x60, 0x00, 0x00, 0x03, 0x02, 0x01, 0x00, 0x05, 0x03, 0x01, 0x00,
-            0x01, 0x0a, 0x0a, 0x01, 0x08, 0x00, 0x41, 0x00, 0x28, 0x02, 0x00, 0x1a, 0x0b,
-        ],
+        b"\0asm\x01\0\0\0\x01\x04\x01`\0\0\x03\x02\x01\0\x05\x03\x01\0\x01\x0a\x0a\x01\x08\0A\0(\x03\0\x1a\x0b",
+        b"\0asm\x01\0\0\0\x01\x04\x01`\0\0\x03\x02\x01\0\x05\x03\x01\0\x01\x0a\x0a\x01\x08\0A\0(\x02\0\x1a\x0b",
     ),
     // global.set of a constant
     (
@@ -202,14 +143,8 @@ static RULES: [(u8, u8, u64, u64, Sections, Sections); 21] = [
         10,
         0,
         1,
-        &[
-            0x01, 0x04, 0x01, 0x60, 0x00, 0x00, 0x03, 0x02, 0x01, 0x00, 0x06, 0x06, 0x01, 0x7f,
-            0x00, 0x41, 0x00, 0x0b, 0x0a, 0x08, 0x01, 0x06, 0x00, 0x41, 0x00, 0x24, 0x00, 0x0b,
-        ],
-        &[
-            0x01, 0x04, 0x01, 0x60, 0x00, 0x00, 0x03, 0x02, 0x01, 0x00, 0x06, 0x06, 0x01, 0x7f,
-            0x01, 0x41, 0x00, 0x0b, 0x0a, 0x08, 0x01, 0x06, 0x00, 0x41, 0x00, 0x24, 0x00, 0x0b,
-        ],
+        b"\0asm\x01\0\0\0\x01\x04\x01`\0\0\x03\x02\x01\0\x06\x06\x01\x7f\0A\0\x0b\x0a\x08\x01\x06\0A\0$\0\x0b",
+        b"\0asm\x01\0\0\0\x01\x04\x01`\0\0\x03\x02\x01\0\x06\x06\x01\x7f\x01A\0\x0b\x0a\x08\x01\x06\0A\0$\0\x0b",
     ),
     // an i32 that begins as an i64
     (
@@ -217,8 +152,8 @@ static RULES: [(u8, u8, u64, u64, Sections, Sections); 21] = [
         6,
         0,
         0,
-        &[0x06, 0x06, 0x01, 0x7f, 0x00, 0x42, 0x00, 0x0b],
-        &[0x06, 0x06, 0x01, 0x7e, 0x00, 0x42, 0x00, 0x0b],
+        b"\0asm\x01\0\0\0\x06\x06\x01\x7f\0B\0\x0b",
+        b"\0asm\x01\0\0\0\x06\x06\x01~\0B\0\x0b",
     ),
     // a memory of at least two pages and at most one
     (
@@ -226,8 +161,8 @@ static RULES: [(u8, u8, u64, u64, Sections, Sections); 21] = [
         5,
         0,
         0,
-        &[0x05, 0x04, 0x01, 0x01, 0x02, 0x01],
-        &[0x05, 0x04, 0x01, 0x01, 0x01, 0x01],
+        b"\0asm\x01\0\0\0\x05\x04\x01\x01\x02\x01",
+        b"\0asm\x01\0\0\0\x05\x04\x01\x01\x01\x01",
     ),
     // two memories
     (
@@ -235,8 +170,8 @@ static RULES: [(u8, u8, u64, u64, Sections, Sections); 21] = [
         5,
         1,
         0,
-        &[0x05, 0x05, 0x02, 0x00, 0x01, 0x00, 0x01],
-        &[0x05, 0x03, 0x01, 0x00, 0x01],
+        b"\0asm\x01\0\0\0\x05\x05\x02\0\x01\0\x01",
+        b"\0asm\x01\0\0\0\x05\x03\x01\0\x01",
     ),
     // two tables
     (
@@ -244,8 +179,8 @@ static RULES: [(u8, u8, u64, u64, Sections, Sections); 21] = [
         4,
         1,
         0,
-        &[0x04, 0x07, 0x02, 0x70, 0x00, 0x01, 0x70, 0x00, 0x01],
-        &[0x04, 0x04, 0x01, 0x70, 0x00, 0x01],
+        b"\0asm\x01\0\0\0\x04\x07\x02p\0\x01p\0\x01",
+        b"\0asm\x01\0\0\0\x04\x04\x01p\0\x01",
     ),
     // a name exported twice
     (
@@ -253,14 +188,8 @@ static RULES: [(u8, u8, u64, u64, Sections, Sections); 21] = [
         7,
         1,
         0,
-        &[
-            0x01, 0x04, 0x01, 0x60, 0x00, 0x00, 0x03, 0x02, 0x01, 0x00, 0x07, 0x09, 0x02, 0x01,
-            0x61, 0x00, 0x00, 0x01, 0x61, 0x00, 0x00, 0x0a, 0x04, 0x01, 0x02, 0x00, 0x0b,
-        ],
-        &[
-            0x01, 0x04, 0x01, 0x60, 0x00, 0x00, 0x03, 0x02, 0x01, 0x00, 0x07, 0x09, 0x02, 0x01,
-            0x61, 0x00, 0x00, 0x01, 0x62, 0x00, 0x00, 0x0a, 0x04, 0x01, 0x02, 0x00, 0x0b,
-        ],
+        b"\0asm\x01\0\0\0\x01\x04\x01`\0\0\x03\x02\x01\0\x07\x09\x02\x01a\0\0\x01a\0\0\x0a\x04\x01\x02\0\x0b",
+        b"\0asm\x01\0\0\0\x01\x04\x01`\0\0\x03\x02\x01\0\x07\x09\x02\x01a\0\0\x01b\0\0\x0a\x04\x01\x02\0\x0b",
     ),
     // a start function with a parameter
     (
@@ -268,14 +197,8 @@ static RULES: [(u8, u8, u64, u64, Sections, Sections); 21] = [
         8,
         0,
         0,
-        &[
-            0x01, 0x06, 0x01, 0x60, 0x01, 0x7f, 0x01, 0x7f, 0x03, 0x02, 0x01, 0x00, 0x08, 0x01,
-            0x00, 0x0a, 0x06, 0x01, 0x04, 0x00, 0x20, 0x00, 0x0b,
-        ],
-        &[
-            0x01, 0x04, 0x01, 0x60, 0x00, 0x00, 0x03, 0x02, 0x01, 0x00, 0x08, 0x01, 0x00, 0x0a,
-            0x04, 0x01, 0x02, 0x00, 0x0b,
-        ],
+        b"\0asm\x01\0\0\0\x01\x06\x01`\x01\x7f\x01\x7f\x03\x02\x01\0\x08\x01\0\x0a\x06\x01\x04\0 \0\x0b",
+        b"\0asm\x01\0\0\0\x01\x04\x01`\0\0\x03\x02\x01\0\x08\x01\0\x0a\x04\x01\x02\0\x0b",
     ),
     // br_table with labels of two types
     (
@@ -283,15 +206,8 @@ static RULES: [(u8, u8, u64, u64, Sections, Sections); 21] = [
         10,
         0,
         3,
-        &[
-            0x01, 0x05, 0x01, 0x60, 0x00, 0x01, 0x7f, 0x03, 0x02, 0x01, 0x00, 0x0a, 0x11, 0x01,
-            0x0f, 0x00, 0x02, 0x40, 0x41, 0x01, 0x41, 0x00, 0x0e, 0x01, 0x00, 0x01, 0x0b, 0x41,
-            0x00, 0x0b,
-        ],
-        &[
-            0x01, 0x04, 0x01, 0x60, 0x00, 0x00, 0x03, 0x02, 0x01, 0x00, 0x0a, 0x0d, 0x01, 0x0b,
-            0x00, 0x02, 0x40, 0x41, 0x00, 0x0e, 0x01, 0x00, 0x01, 0x0b, 0x0b,
-        ],
+        b"\0asm\x01\0\0\0\x01\x05\x01`\0\x01\x7f\x03\x02\x01\0\x0a\x11\x01\x0f\0\x02@A\x01A\0\x0e\x01\0\x01\x0bA\0\x0b",
+        b"\0asm\x01\0\0\0\x01\x04\x01`\0\0\x03\x02\x01\0\x0a\x0d\x01\x0b\0\x02@A\0\x0e\x01\0\x01\x0b\x0b",
     ),
     // an if with a result and without else
     (
@@ -299,14 +215,8 @@ static RULES: [(u8, u8, u64, u64, Sections, Sections); 21] = [
         10,
         0,
         3,
-        &[
-            0x01, 0x05, 0x01, 0x60, 0x00, 0x01, 0x7f, 0x03, 0x02, 0x01, 0x00, 0x0a, 0x0b, 0x01,
-            0x09, 0x00, 0x41, 0x00, 0x04, 0x7f, 0x41, 0x00, 0x0b, 0x0b,
-        ],
-        &[
-            0x01, 0x05, 0x01, 0x60, 0x00, 0x01, 0x7f, 0x03, 0x02, 0x01, 0x00, 0x0a, 0x0e, 0x01,
-            0x0c, 0x00, 0x41, 0x00, 0x04, 0x7f, 0x41, 0x00, 0x05, 0x41, 0x00, 0x0b, 0x0b,
-        ],
+        b"\0asm\x01\0\0\0\x01\x05\x01`\0\x01\x7f\x03\x02\x01\0\x0a\x0b\x01\x09\0A\0\x04\x7fA\0\x0b\x0b",
+        b"\0asm\x01\0\0\0\x01\x05\x01`\0\x01\x7f\x03\x02\x01\0\x0a\x0e\x01\x0c\0A\0\x04\x7fA\0\x05A\0\x0b\x0b",
     ),
     // a function type of two results
     (
@@ -314,68 +224,46 @@ static RULES: [(u8, u8, u64, u64, Sections, Sections); 21] = [
         1,
         0,
         0,
-        &[0x01, 0x06, 0x01, 0x60, 0x00, 0x02, 0x7f, 0x7f],
-        &[0x01, 0x05, 0x01, 0x60, 0x00, 0x01, 0x7f],
+        b"\0asm\x01\0\0\0\x01\x06\x01`\0\x02\x7f\x7f",
+        b"\0asm\x01\0\0\0\x01\x05\x01`\0\x01\x7f",
     ),
 ];
-
-fn is_place(alloc: Global, sections: &[u8], place: Place) -> bool {
-    match module_of(alloc, sections) {
-        Ok(bytes) => is_broken(alloc, &bytes, place),
-        Err(_) => false,
-    }
-}
-
-fn is_valid(alloc: Global, sections: &[u8]) -> bool {
-    match module_of(alloc, sections) {
-        Ok(bytes) => is_module(alloc, &bytes),
-        Err(_) => false,
-    }
-}
 
 #[test]
 fn each_rule_is_told_where_it_is_broken(rt: HostRuntime) {
     for row in RULES.iter() {
         let (rule, section, index, instruction, breaks, keeps) = *row;
         let place = (rule, section, index, instruction);
-        holds(&rt, rule as usize, is_place(rt.alloc(), breaks, place));
+        holds(&rt, rule as usize, is_broken(rt.alloc(), breaks, place));
         // the row of a module that keeps the rule counts from 100 on
-        holds(&rt, rule as usize + 100, is_valid(rt.alloc(), keeps));
+        let fault = fault_of(rt.alloc(), keeps);
+        holds(&rt, rule as usize + 100, fault.is_none());
     }
 }
 
-static BRANCHES: [Sections; 3] = [
+static BRANCHES: [&[u8]; 3] = [
     // a sum after a branch, where the stack is open below
-    &[
-        0x01, 0x04, 0x01, 0x60, 0x00, 0x00, 0x03, 0x02, 0x01, 0x00, 0x0a, 0x0b, 0x01, 0x09, 0x00,
-        0x02, 0x40, 0x0c, 0x00, 0x6a, 0x1a, 0x0b, 0x0b,
-    ],
+    b"\0asm\x01\0\0\0\x01\x04\x01`\0\0\x03\x02\x01\0\x0a\x0b\x01\x09\0\x02@\x0c\0j\x1a\x0b\x0b",
     // a branch to a loop
-    &[
-        0x01, 0x04, 0x01, 0x60, 0x00, 0x00, 0x03, 0x02, 0x01, 0x00, 0x0a, 0x09, 0x01, 0x07, 0x00,
-        0x03, 0x40, 0x0c, 0x00, 0x0b, 0x0b,
-    ],
+    b"\0asm\x01\0\0\0\x01\x04\x01`\0\0\x03\x02\x01\0\x0a\x09\x01\x07\0\x03@\x0c\0\x0b\x0b",
     // an if with both arms
-    &[
-        0x01, 0x05, 0x01, 0x60, 0x00, 0x01, 0x7f, 0x03, 0x02, 0x01, 0x00, 0x0a, 0x0d, 0x01, 0x0b,
-        0x00, 0x41, 0x00, 0x04, 0x7f, 0x41, 0x00, 0x05, 0x00, 0x0b, 0x0b,
-    ],
+    b"\0asm\x01\0\0\0\x01\x05\x01`\0\x01\x7f\x03\x02\x01\0\x0a\x0d\x01\x0b\0A\0\x04\x7fA\0\x05\0\x0b\x0b",
 ];
 
 #[test]
 fn blocks_and_branches_are_valid(rt: HostRuntime) {
-    for (number, sections) in BRANCHES.iter().enumerate() {
-        holds(&rt, number, is_valid(rt.alloc(), sections));
+    for (number, bytes) in BRANCHES.iter().enumerate() {
+        holds(&rt, number, fault_of(rt.alloc(), bytes).is_none());
     }
 }
 
 /// The bytes aren't of the binary format by this row, at their end; or they are a valid module.
 fn is_front(alloc: Global, bytes: &[u8], wanted: Option<Row>) -> bool {
-    match (check_bytes(alloc, bytes), wanted) {
-        (Err(CheckFault::Binary { row, at }), Some(wanted)) => {
+    match (fault_of(alloc, bytes), wanted) {
+        (Some(CheckFault::Binary { row, at }), Some(wanted)) => {
             row == wanted && at == bytes.len() as u64
         }
-        (Ok(_), None) => true,
+        (None, None) => true,
         _ => false,
     }
 }

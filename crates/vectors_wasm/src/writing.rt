@@ -1,97 +1,55 @@
-//! Two whole modules.
-
+//! Modules that are written: of bytes that they were read of, and of what they own.
 use crate::modules::{ADDING, LOADING};
 use crate::rows::holds;
 use sem_words::{List, Text};
 use std::alloc::{AllocError, Global};
+use wasm_binary::read;
 use wasm_binary_write::write;
-use wasm_tree::{
-    Body, Bytes, Code, ExportKind, FuncType, Instr, Limits, MemOp, Module, Segment, ValType,
-    WasmExport,
-};
+use wasm_tree::{Body, Bytes, Code, Instr, MemOp, Module, Segment};
 
-/// A list of this item.
-pub(crate) fn one<T: Drop>(alloc: Global, item: T) -> Result<List<T>, AllocError> {
-    let mut items = Vec::new(alloc);
-    match items.push(item) {
-        Ok(()) => Ok(List::from_vec(items)),
-        Err(_) => Err(AllocError),
-    }
-}
-
-// The type of a function that gives one number.
-fn function_type(
-    alloc: Global,
-    params: &[ValType],
-    answer: ValType,
-) -> Result<FuncType, AllocError> {
-    Ok(FuncType {
-        params: List::from_vec(Vec::from_slice(alloc, params)?),
-        results: one(alloc, answer)?,
-    })
-}
-
-// A module of one exported function, without memory.
-pub(crate) fn one_function<'a>(
-    alloc: Global,
-    params: &[ValType],
-    answer: ValType,
-    name: &'a [u8],
-    body: Body<'a>,
-) -> Result<Module<'a>, AllocError> {
-    let function = function_type(alloc, params, answer)?;
-    let export = WasmExport {
-        name: Bytes::Lent(name),
-        kind: ExportKind::Func(0),
+/// These bytes are written of the module that the bytes spell.
+pub(crate) fn is_rewritten(alloc: Global, bytes: &[u8], wanted: &[u8]) -> bool {
+    let Ok(module) = read(alloc, bytes) else {
+        return false;
     };
-    let types = one(alloc, function);
-    match (types, one(alloc, 0), one(alloc, export), one(alloc, body)) {
-        (Ok(types), Ok(functions), Ok(exports), Ok(bodies)) => Ok(Module {
-            types,
-            imports: List::new(alloc),
-            functions,
-            tables: List::new(alloc),
-            memories: List::new(alloc),
-            globals: List::new(alloc),
-            exports,
-            start: None,
-            elements: List::new(alloc),
-            bodies,
-            segments: List::new(alloc),
-        }),
-        _ => Err(AllocError),
-    }
-}
-
-// local.get 0, local.get 1, i64.add, end; the number of the second local is padded
-const PADDED: &[u8] = &[0x20, 0x00, 0x20, 0x81, 0x80, 0x00, 0x7c, 0x0b];
-
-/// A module that exports a function of two numbers of 64 bits, which has this code.
-pub(crate) fn adding(alloc: Global, code: &'static [u8]) -> Result<Module<'static>, AllocError> {
-    let body = Body {
-        locals: List::new(alloc),
-        code: Code::Lent(code),
-    };
-    let params = [ValType::I64, ValType::I64];
-    one_function(alloc, &params, ValType::I64, b"m", body)
-}
-
-fn padded_written(alloc: Global) -> Result<Vec<u8>, AllocError> {
-    let module = adding(alloc, PADDED)?;
-    write(alloc, &module)
-}
-
-// These bytes were written.
-fn is_written(bytes: Result<Vec<u8>, AllocError>, wanted: &[u8]) -> bool {
-    match bytes {
-        Ok(bytes) => bytes.as_slice() == wanted,
+    match write(alloc, &module) {
+        Ok(written) => written.as_slice() == wanted,
         Err(_) => false,
     }
 }
 
+/// These bytes are written of the module that the bytes spell, with this body and these segments in place of its own.
+pub(crate) fn is_written(
+    alloc: Global,
+    bytes: &'static [u8],
+    body: Body<'static>,
+    segments: List<Segment<'static>>,
+    wanted: &[u8],
+) -> bool {
+    let Ok(module) = read(alloc, bytes) else {
+        return false;
+    };
+    let Ok(bodies) = vec![in alloc; body] else {
+        return false;
+    };
+    let module = Module {
+        bodies: List::from_vec(bodies),
+        segments,
+        ..module
+    };
+    match write(alloc, &module) {
+        Ok(written) => written.as_slice() == wanted,
+        Err(_) => false,
+    }
+}
+
+/// `ADDING`, in whose code the number of the second local is padded: local.get 0, local.get 1, i64.add, end.
+const PADDED: &[u8] =
+    b"\0asm\x01\0\0\0\x01\x07\x01`\x02~~\x01~\x03\x02\x01\0\x07\x05\x01\x01m\0\0\x0a\x0b\x01\x09\0\x20\0\x20\x81\x80\0\x7c\x0b";
+
 #[test]
 fn padded_code(rt: HostRuntime) {
-    holds(&rt, 0, is_written(padded_written(rt.alloc()), ADDING));
+    holds(&rt, 0, is_rewritten(rt.alloc(), PADDED, ADDING));
 }
 
 const WORD: MemOp = MemOp {
@@ -101,12 +59,13 @@ const WORD: MemOp = MemOp {
 };
 
 // Five bytes at 0, all of them owned.
-fn segment(alloc: Global) -> Result<Segment<'static>, AllocError> {
-    Ok(Segment {
+fn segments(alloc: Global) -> Result<List<Segment<'static>>, AllocError> {
+    let segment = Segment {
         memory: 0,
         offset: List::from_vec(vec![in alloc; Instr::Const32(0), Instr::End]?),
         bytes: Bytes::Own(Text::from_bytes(alloc, &[1, 2, 3, 4, 5])?),
-    })
+    };
+    Ok(List::from_vec(vec![in alloc; segment]?))
 }
 
 // A function whose code is owned.
@@ -118,17 +77,13 @@ fn loading_body(alloc: Global) -> Result<Body<'static>, AllocError> {
     })
 }
 
-fn loading_written(alloc: Global) -> Result<Vec<u8>, AllocError> {
+fn is_loading(alloc: Global) -> Result<bool, AllocError> {
     let body = loading_body(alloc)?;
-    let loading = Module {
-        memories: one(alloc, Limits { min: 1, max: None })?,
-        segments: one(alloc, segment(alloc)?)?,
-        ..one_function(alloc, &[ValType::I32], ValType::I32, b"l", body)?
-    };
-    write(alloc, &loading)
+    let segments = segments(alloc)?;
+    Ok(is_written(alloc, LOADING, body, segments, LOADING))
 }
 
 #[test]
 fn loading(rt: HostRuntime) {
-    holds(&rt, 0, is_written(loading_written(rt.alloc()), LOADING));
+    holds(&rt, 0, matches!(is_loading(rt.alloc()), Ok(true)));
 }

@@ -56,17 +56,6 @@ fn wide_sum(alloc: Global) -> Result<CallShape, AllocError> {
     })
 }
 
-/// The script of a module with this sum, in the calling form of asm.js.
-fn split(alloc: Global, text: &[u8]) -> Option<Script> {
-    match (read_script(alloc, text), wide_sum(alloc)) {
-        (Ok(script), Ok(shape)) => match split_script(alloc, &script, &[shape]) {
-            Ok(split) => Some(split),
-            Err(_) => None,
-        },
-        _ => None,
-    }
-}
-
 /// The name, the arguments and the line of each call.
 static CALLS: [(&[u8], &[i128], u64); 3] = [
     (b"$init", &[], 0),
@@ -86,16 +75,24 @@ fn are_calls(calls: &[CallLine]) -> bool {
     are
 }
 
+/// The script, in the calling form of asm.js for a module with this sum, has these calls and one reply.
+fn is_split(alloc: Global, script: &Script) -> bool {
+    let Ok(shape) = wide_sum(alloc) else {
+        return false;
+    };
+    match split_script(alloc, script, &[shape]) {
+        Ok(split) => are_calls(split.calls.as_slice()) && split.replies.len() == 1,
+        Err(_) => false,
+    }
+}
+
 #[test]
 fn wide_sum_is_split(rt: HostRuntime) {
     // a line of each kind
     let text = b"global g -1\nheap 4 7879\ncall m 4294967295 4294967295\nreply 7";
-    match split(rt.alloc(), text) {
-        Some(split) => {
-            holds(&rt, 0, are_calls(split.calls.as_slice()));
-            holds(&rt, 1, split.replies.len() == 1);
-        }
-        None => holds(&rt, 2, false),
+    match read_script(rt.alloc(), text) {
+        Ok(script) => holds(&rt, 0, is_split(rt.alloc(), &script)),
+        Err(_) => holds(&rt, 1, false),
     }
 }
 
@@ -141,9 +138,12 @@ fn observed(alloc: Global, returned: Returned) -> Result<Observation, AllocError
 }
 
 fn is_below(alloc: Global, first: Returned, second: Returned, wanted: bool) -> bool {
-    match (observed(alloc, first), observed(alloc, second)) {
-        (Ok(first), Ok(second)) => below(&first, &second) == wanted,
-        _ => false,
+    let Ok(first) = observed(alloc, first) else {
+        return false;
+    };
+    match observed(alloc, second) {
+        Ok(second) => below(&first, &second) == wanted,
+        Err(_) => false,
     }
 }
 

@@ -32,22 +32,17 @@ struct Row {
     written: &'static [u8],
 }
 
-fn event_of(alloc: Global, event: Shown) -> Result<Event, AllocError> {
+fn put_event(events: &mut Vec<Event>, alloc: Global, event: Shown) -> Result<(), AllocError> {
     match event {
         Shown::Import(name, words) => {
             let name = Text::from_bytes(alloc, name)?;
             let words = Vec::from_slice(alloc, words)?;
-            Ok(Event::Import(name, List::from_vec(words)))
+            events.push(Event::Import(name, List::from_vec(words)))?;
         }
-        Shown::Result(word) => Ok(Event::Result(word)),
-        Shown::Returned => Ok(Event::Returned),
+        Shown::Result(word) => events.push(Event::Result(word))?,
+        Shown::Returned => events.push(Event::Returned)?,
     }
-}
-
-fn events_of(alloc: Global, event: Shown) -> Result<List<Event>, AllocError> {
-    let mut events = Vec::new(alloc);
-    events.push(event_of(alloc, event)?)?;
-    Ok(List::from_vec(events))
+    Ok(())
 }
 
 fn end_of(last: Last) -> Option<End> {
@@ -66,22 +61,15 @@ fn are_put(heap: &mut Heap, puts: &[(u32, &[u8])]) -> bool {
     are_inside
 }
 
-/// What is seen of the row with this heap of zeros.
-fn seen(alloc: Global, heap: Result<Heap, AllocError>, row: &Row) -> Option<Seen> {
-    match (heap, events_of(alloc, row.event)) {
-        (Ok(mut heap), Ok(events)) => {
-            if are_put(&mut heap, row.puts) {
-                Some(Seen {
-                    events,
-                    end: end_of(row.last),
-                    heap,
-                })
-            } else {
-                None
-            }
-        }
-        _ => None,
-    }
+/// What is seen of the row with this heap.
+fn seen(alloc: Global, heap: Heap, row: &Row) -> Result<Seen, AllocError> {
+    let mut events = Vec::new(alloc);
+    put_event(&mut events, alloc, row.event)?;
+    Ok(Seen {
+        events: List::from_vec(events),
+        end: end_of(row.last),
+        heap,
+    })
 }
 
 fn text_is(alloc: Global, seen: &Seen, written: &[u8]) -> bool {
@@ -93,9 +81,13 @@ fn text_is(alloc: Global, seen: &Seen, written: &[u8]) -> bool {
 
 /// So is printed what is seen of the row with this heap of zeros.
 fn prints(rt: &impl Abort, alloc: Global, heap: Result<Heap, AllocError>, row: &Row) {
+    let Ok(mut heap) = heap else {
+        return holds(rt, 0, false);
+    };
+    holds(rt, 1, are_put(&mut heap, row.puts));
     match seen(alloc, heap, row) {
-        Some(seen) => holds(rt, 0, text_is(alloc, &seen, row.written)),
-        None => holds(rt, 1, false),
+        Ok(seen) => holds(rt, 2, text_is(alloc, &seen, row.written)),
+        Err(_) => holds(rt, 3, false),
     }
 }
 
@@ -153,15 +145,11 @@ fn an_import_with_words(rt: HostRuntime) {
     prints(&rt, rt.alloc(), Heap::new(rt.alloc(), 0), &WITH_WORDS);
 }
 
-/// What is seen is observed with these bytes of the heap.
-fn observes(alloc: Global, seen: Option<Seen>, wanted: &[u8]) -> bool {
-    match seen {
-        Some(seen) => match seen.observation(alloc) {
-            Ok(observation) => observation.heap.as_bytes() == wanted,
-            Err(_) => false,
-        },
-        None => false,
-    }
+/// What is seen of the row with this heap of zeros is observed with its bytes.
+fn observes(alloc: Global, mut heap: Heap, row: &Row) -> Result<bool, AllocError> {
+    let are_inside = are_put(&mut heap, row.puts);
+    let observation = seen(alloc, heap, row)?.observation(alloc)?;
+    Ok(are_inside && observation.heap.as_bytes() == row.written)
 }
 
 static AT_AN_END: Row = Row {
@@ -183,7 +171,9 @@ static BEFORE_AN_END: Row = Row {
 fn an_observation_with_the_heap(rt: HostRuntime) {
     let alloc = rt.alloc();
     for (number, row) in [&AT_AN_END, &BEFORE_AN_END].iter().enumerate() {
-        let seen = seen(alloc, Heap::new(alloc, 4), row);
-        holds(&rt, number, observes(alloc, seen, row.written));
+        match Heap::new(alloc, 4) {
+            Ok(heap) => holds(&rt, number, matches!(observes(alloc, heap, row), Ok(true))),
+            Err(_) => holds(&rt, 2, false),
+        }
     }
 }

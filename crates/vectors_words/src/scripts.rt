@@ -75,44 +75,40 @@ fn has_nothing(script: &Script) -> bool {
 const ALL_KINDS: &[u8] =
     b"# all kinds\r\nglobal g -1\r\n\r\n\theap 16 0aFF \r\ncall f  1 -2\r\ncall %6a4B\r\n  # replies\nreply -1 4=00 8=01\nthrow";
 
-#[test]
-fn each_kind(rt: HostRuntime) {
-    match read_script(rt.alloc(), ALL_KINDS) {
-        Ok(script) => holds(&rt, 0, has_all(&script)),
-        Err(_) => holds(&rt, 1, false),
-    }
+/// What is read of a text: all lines above, nothing, or a line that is refused.
+#[derive(Clone, Copy)]
+enum Read {
+    All,
+    Nothing,
+    Refused(u64),
 }
 
-#[test]
-fn no_text(rt: HostRuntime) {
-    match read_script(rt.alloc(), b"") {
-        Ok(script) => holds(&rt, 0, has_nothing(&script)),
-        Err(_) => holds(&rt, 1, false),
-    }
-}
-
-static REFUSED: [(&[u8], u64); 9] = [
-    (b"global a\x01 1", 1),
-    (b"throw\ncall f 18446744073709551616", 2),
-    (b"call f -0", 1),
-    (b"\n# x\ncall f 01", 3),
-    (b"heap 268435456 00", 1),
-    (b"heap 0 0", 1),
-    (b"global g 1 2", 1),
-    (b"reply 0 4", 1),
-    (b"throw\r\nthrow now", 2),
-];
-
-fn is_refused(alloc: Global, text: &[u8], line: u64) -> bool {
-    match read_script(alloc, text) {
-        Err(ScriptFault::Refused { line: at }) => at == line,
+fn is_read(alloc: Global, text: &[u8], wanted: Read) -> bool {
+    match (read_script(alloc, text), wanted) {
+        (Ok(script), Read::All) => has_all(&script),
+        (Ok(script), Read::Nothing) => has_nothing(&script),
+        (Err(ScriptFault::Refused { line: at }), Read::Refused(line)) => at == line,
         _ => false,
     }
 }
 
+static TEXTS: [(&[u8], Read); 11] = [
+    (ALL_KINDS, Read::All),
+    (b"", Read::Nothing),
+    (b"global a\x01 1", Read::Refused(1)),
+    (b"throw\ncall f 18446744073709551616", Read::Refused(2)),
+    (b"call f -0", Read::Refused(1)),
+    (b"\n# x\ncall f 01", Read::Refused(3)),
+    (b"heap 268435456 00", Read::Refused(1)),
+    (b"heap 0 0", Read::Refused(1)),
+    (b"global g 1 2", Read::Refused(1)),
+    (b"reply 0 4", Read::Refused(1)),
+    (b"throw\r\nthrow now", Read::Refused(2)),
+];
+
 #[test]
-fn refused_lines(rt: HostRuntime) {
-    for (number, (text, line)) in REFUSED.iter().enumerate() {
-        holds(&rt, number, is_refused(rt.alloc(), text, *line));
+fn texts_are_read_or_a_line_is_refused(rt: HostRuntime) {
+    for (number, (text, wanted)) in TEXTS.iter().enumerate() {
+        holds(&rt, number, is_read(rt.alloc(), text, *wanted));
     }
 }

@@ -1,9 +1,9 @@
 //! Texts of great height or length. The function adds a level to the highest of its statements, and the module another one.
-use super::{CLOSE, OPEN, has_fault};
-use crate::pieces::{joined, repeated};
-use crate::rows::done;
+use super::{CLOSE, OPEN, fault_of};
+use crate::pieces::{Part, joined};
+use crate::rows::holds;
 use asm_text::TextFault;
-use std::alloc::{AllocError, Global};
+use std::alloc::Global;
 use std::process::Abort;
 
 /// A name of what the row shows, what stands in front, what opens a level, how often, what stands inside, and what closes a level.
@@ -16,11 +16,49 @@ type Row = (
     &'static [u8],
 );
 
-fn nested(g: Global, row: &Row, count: usize) -> Result<Vec<u8>, AllocError> {
+/// A text has no fault, a node that is too high where it ends or at a place, or nothing but its end where more is due.
+#[derive(Clone, Copy)]
+enum Due {
+    Module,
+    HighAtEnd,
+    HighAt(u64),
+    Open,
+    /// A byte that begins no token, its last one.
+    LastByte,
+}
+
+impl Due {
+    /// The fault of a text of this length.
+    fn fault(self, length: u64) -> Option<TextFault> {
+        let last = length.saturating_sub(1);
+        match self {
+            Due::Module => None,
+            Due::HighAtEnd => Some(TextFault::Height { at: last }),
+            Due::HighAt(at) => Some(TextFault::Height { at }),
+            Due::Open => Some(TextFault::Grammar { at: length }),
+            Due::LastByte => Some(TextFault::BadToken { at: last }),
+        }
+    }
+}
+
+/// The text of these parts is as is due.
+fn is_due(alloc: Global, parts: &[Part<'_>], due: Due) -> bool {
+    match joined(alloc, parts) {
+        Ok(text) => fault_of(alloc, &text) == due.fault(text.len() as u64),
+        Err(_) => false,
+    }
+}
+
+/// The row, with so many levels, is as is due.
+fn is_row(alloc: Global, row: &Row, count: usize, due: Due) -> bool {
     let (_, front, open, _, inside, close) = *row;
-    let opened = repeated(g, open, count)?;
-    let closed = repeated(g, close, count)?;
-    joined(g, &[OPEN, front, &opened, inside, &closed, CLOSE])
+    let parts: [Part<'_>; 4] = [
+        (OPEN, b"", 0),
+        (front, open, count),
+        (inside, close, count),
+        (CLOSE, b"", 0),
+    ];
+    is_due(alloc, &parts, due)
 }
 
 /// The counts with which the module has the height 1,000. At one more it is refused, where it ends.
@@ -60,27 +98,24 @@ static EXPRESSIONS: [Row; 13] = [
     ("sums to the right", b"", b"a+(", 996, b"b", b")"),
 ];
 
-fn meets_the_limit(rt: &impl Abort, g: Global, row: &Row) -> Result<(), AllocError> {
-    let text = nested(g, row, row.3)?;
-    has_fault(rt, row.0, g, &text, None);
-    let text = nested(g, row, row.3.saturating_add(1))?;
-    let at = (text.len() as u64).saturating_sub(1);
-    has_fault(rt, row.0, g, &text, Some(TextFault::Height { at }));
-    Ok(())
+/// The rows' counts are accepted, and one more is refused; the rows of these count from 100 on.
+fn meet_the_limit(rt: &impl Abort, alloc: Global, rows: &[Row]) {
+    for (number, row) in rows.iter().enumerate() {
+        let more = row.3.saturating_add(1);
+        holds(rt, number, is_row(alloc, row, row.3, Due::Module));
+        let number = number.saturating_add(100);
+        holds(rt, number, is_row(alloc, row, more, Due::HighAtEnd));
+    }
 }
 
 #[test]
 fn statements(rt: HostRuntime) {
-    for row in STATEMENTS.iter() {
-        done(&rt, meets_the_limit(&rt, rt.alloc(), row));
-    }
+    meet_the_limit(&rt, rt.alloc(), &STATEMENTS);
 }
 
 #[test]
 fn expressions(rt: HostRuntime) {
-    for row in EXPRESSIONS.iter() {
-        done(&rt, meets_the_limit(&rt, rt.alloc(), row));
-    }
+    meet_the_limit(&rt, rt.alloc(), &EXPRESSIONS);
 }
 
 /// What adds no height, at great length.
@@ -102,65 +137,42 @@ static FLAT: [Row; 8] = [
     ("arguments", b"f(", b"a,", 20000, b"b)", b""),
 ];
 
-fn is_flat(rt: &impl Abort, g: Global, row: &Row) -> Result<(), AllocError> {
-    let text = nested(g, row, row.3)?;
-    has_fault(rt, row.0, g, &text, None);
-    Ok(())
-}
-
 #[test]
 fn no_height(rt: HostRuntime) {
-    for row in FLAT.iter() {
-        done(&rt, is_flat(&rt, rt.alloc(), row));
+    for (number, row) in FLAT.iter().enumerate() {
+        holds(&rt, number, is_row(rt.alloc(), row, row.3, Due::Module));
     }
 }
 
-/// A text of a function with one parameter, which returns the parameter behind so many `!`.
-fn negations(g: Global, count: usize) -> Result<Vec<u8>, AllocError> {
-    let bangs = repeated(g, b"!", count)?;
-    let front = b"function m(){\"use asm\";function f(x){x=x|0;return ";
-    joined(g, &[front, &bangs, b"x|0;}return f;}"])
-}
+/// A function with one parameter, up to what it returns.
+const NEGATING: &[u8] = b"function m(){\"use asm\";function f(x){x=x|0;return ";
 
-/// 995 of them have the height 1,000, and with one more the module is refused where it ends.
-fn negations_meet_the_limit(rt: &impl Abort, g: Global) -> Result<(), AllocError> {
-    let text = negations(g, 995)?;
-    has_fault(rt, "995", g, &text, None);
-    let text = negations(g, 996)?;
-    let fault = TextFault::Height { at: 1060 };
-    has_fault(rt, "996", g, &text, Some(fault));
-    Ok(())
-}
+/// How many `!` the parameter is returned behind, and what is due: with 995 of them the height is 1,000, and with one more the module
+/// is refused where it ends.
+static NEGATIONS: [(usize, Due); 2] = [(995, Due::Module), (996, Due::HighAt(1060))];
 
 #[test]
 fn negations_of_a_parameter(rt: HostRuntime) {
-    done(&rt, negations_meet_the_limit(&rt, rt.alloc()));
-}
-
-/// So many blocks one inside another, with the labels a0, a1 and so on.
-fn labelled(g: Global, count: usize) -> Result<Vec<u8>, AllocError> {
-    let mut opened = Vec::new(g);
-    for label in 0..count {
-        let block = format!(in g; "a{label}:{{")?;
-        opened.extend_from_slice(block.as_bytes())?;
+    for (number, (count, due)) in NEGATIONS.iter().enumerate() {
+        let parts: [Part<'_>; 2] = [(NEGATING, b"!", *count), (b"x|0;}return f;}", b"", 0)];
+        holds(&rt, number, is_due(rt.alloc(), &parts, *due));
     }
-    let closed = repeated(g, b"}", count)?;
-    joined(g, &[OPEN, &opened, &closed, CLOSE])
 }
 
-/// 998 of them have the height 1,000, and with one more the module is refused where it ends.
-fn labels_meet_the_limit(rt: &impl Abort, g: Global) -> Result<(), AllocError> {
-    let text = labelled(g, 998)?;
-    has_fault(rt, "998", g, &text, None);
-    let text = labelled(g, 999)?;
-    let at = (text.len() as u64).saturating_sub(1);
-    has_fault(rt, "999", g, &text, Some(TextFault::Height { at }));
-    Ok(())
-}
+/// How many blocks stand one inside another, with the labels a0, a1 and so on: with 998 of them the height is 1,000, and with one more
+/// the module is refused where it ends.
+static LABELLED: [(usize, Due); 2] = [(998, Due::Module), (999, Due::HighAtEnd)];
 
 #[test]
 fn blocks_with_labels_of_their_own(rt: HostRuntime) {
-    done(&rt, labels_meet_the_limit(&rt, rt.alloc()));
+    for (number, (count, due)) in LABELLED.iter().enumerate() {
+        let parts: [Part<'_>; 3] = [
+            (OPEN, b"a#:{", *count),
+            (b"", b"}", *count),
+            (CLOSE, b"", 0),
+        ];
+        holds(&rt, number, is_due(rt.alloc(), &parts, *due));
+    }
 }
 
 /// A name of what the row shows, and what stands 2,000 times in a function that has no end.
@@ -179,18 +191,11 @@ static OPENED: [(&'static str, &'static [u8]); 11] = [
 ];
 
 /// What stays open completes no node, at whatever depth: the fault is the end of the text.
-fn is_left_open(rt: &impl Abort, g: Global, name: &str, piece: &[u8]) -> Result<(), AllocError> {
-    let opened = repeated(g, piece, 2000)?;
-    let text = joined(g, &[OPEN, &opened])?;
-    let at = text.len() as u64;
-    has_fault(rt, name, g, &text, Some(TextFault::Grammar { at }));
-    Ok(())
-}
-
 #[test]
 fn left_open(rt: HostRuntime) {
-    for (name, piece) in OPENED.iter() {
-        done(&rt, is_left_open(&rt, rt.alloc(), name, piece));
+    for (number, (_name, piece)) in OPENED.iter().enumerate() {
+        let parts: [Part<'_>; 1] = [(OPEN, *piece, 2000)];
+        holds(&rt, number, is_due(rt.alloc(), &parts, Due::Open));
     }
 }
 
@@ -209,31 +214,22 @@ static EARLY: [(Row, usize); 9] = [
 ];
 
 /// The fault stands where the node is complete, long before the module's end.
-fn is_early(rt: &impl Abort, g: Global, row: &Row, before: usize) -> Result<(), AllocError> {
-    let text = nested(g, row, row.3)?;
-    let at = (OPEN.len() as u64).saturating_add(before as u64);
-    has_fault(rt, row.0, g, &text, Some(TextFault::Height { at }));
-    Ok(())
-}
-
 #[test]
 fn before_the_end(rt: HostRuntime) {
-    for (row, before) in EARLY.iter() {
-        done(&rt, is_early(&rt, rt.alloc(), row, *before));
+    for (number, (row, before)) in EARLY.iter().enumerate() {
+        let at = (OPEN.len() as u64).saturating_add(*before as u64);
+        holds(&rt, number, is_row(rt.alloc(), row, row.3, Due::HighAt(at)));
     }
 }
 
-/// A fault of a token behind that node counts first.
-fn token_is_first(rt: &impl Abort, g: Global, row: &Row) -> Result<(), AllocError> {
-    let front = nested(g, row, row.3)?;
-    let text = joined(g, &[&front, b" a", b"@"])?;
-    let at = (front.len() as u64).saturating_add(2);
-    has_fault(rt, row.0, g, &text, Some(TextFault::BadToken { at }));
-    Ok(())
-}
+/// Blocks of 2,000 levels, and a fault of a token behind them, which counts first.
+static WITH_A_BAD_TOKEN: [Part<'static>; 3] = [
+    (OPEN, b"{", 2000),
+    (b"", b"}", 2000),
+    (b"}return f;} a@", b"", 0),
+];
 
 #[test]
 fn before_a_bad_token(rt: HostRuntime) {
-    let (row, _) = &EARLY[0];
-    done(&rt, token_is_first(&rt, rt.alloc(), row));
+    holds(&rt, 0, is_due(rt.alloc(), &WITH_A_BAD_TOKEN, Due::LastByte));
 }

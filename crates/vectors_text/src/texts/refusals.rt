@@ -1,9 +1,9 @@
 //! Texts that are refused, each in two parts: the fault is where the second one begins.
-use super::{CLOSE, OPEN, has_fault};
-use crate::pieces::joined;
-use crate::rows::{done, holds};
+use super::{CLOSE, OPEN, fault_of, has_fault};
+use crate::pieces::Part;
+use crate::rows::holds;
 use asm_text::TextFault;
-use std::alloc::{AllocError, Global};
+use std::alloc::Global;
 use std::process::Abort;
 
 /// A name of what the row shows, and the text before the fault and from it on.
@@ -31,34 +31,39 @@ impl Refusal {
     }
 }
 
-/// The row between these texts is refused where its second part begins.
-fn is_refused(
+/// The rows between these texts are refused, each where its second part begins.
+fn are_refused(
     rt: &impl Abort,
     alloc: Global,
-    row: &Row,
+    rows: &[Row],
     refusal: Refusal,
-    open: &'static [u8],
-    close: &'static [u8],
-) -> Result<(), AllocError> {
-    let (name, front, back) = *row;
-    let text = joined(alloc, &[open, front, back, close])?;
-    let before = (open.len() as u64).saturating_add(front.len() as u64);
-    has_fault(rt, name, alloc, &text, Some(refusal.at(before)));
-    Ok(())
+    open: &[u8],
+    close: &[u8],
+) {
+    for (number, (_name, front, back)) in rows.iter().enumerate() {
+        let parts: [Part<'_>; 4] = [
+            (open, b"", 0),
+            (*front, b"", 0),
+            (*back, b"", 0),
+            (close, b"", 0),
+        ];
+        let before = (open.len() as u64).saturating_add(front.len() as u64);
+        holds(
+            rt,
+            number,
+            has_fault(alloc, &parts, Some(refusal.at(before))),
+        );
+    }
 }
 
 /// The rows as modules, each refused where its second part begins.
 fn modules_are_refused(rt: &impl Abort, alloc: Global, rows: &[Row], refusal: Refusal) {
-    for row in rows {
-        done(rt, is_refused(rt, alloc, row, refusal, b"", b""));
-    }
+    are_refused(rt, alloc, rows, refusal, b"", b"");
 }
 
 /// The rows as statements of a function, each refused where its second part begins.
 fn statements_are_refused(rt: &impl Abort, alloc: Global, rows: &[Row], refusal: Refusal) {
-    for row in rows {
-        done(rt, is_refused(rt, alloc, row, refusal, OPEN, CLOSE));
-    }
+    are_refused(rt, alloc, rows, refusal, OPEN, CLOSE);
 }
 
 static MODULES: [Row; 20] = [
@@ -237,9 +242,13 @@ static LITERALS: [Row; 10] = [
 #[test]
 fn literal_forms(rt: HostRuntime) {
     statements_are_refused(&rt, rt.alloc(), &LITERALS, Refusal::LiteralForm);
+}
+
+#[test]
+fn a_negated_zero(rt: HostRuntime) {
     let text = b"function m(){\"use asm\";function f(){return -0;}return f;}";
-    let fault = TextFault::LiteralForm { at: 43 };
-    has_fault(&rt, "at 43", rt.alloc(), text, Some(fault));
+    let fault = Some(TextFault::LiteralForm { at: 43 });
+    holds(&rt, 0, fault_of(rt.alloc(), text) == fault);
 }
 
 /// Faults of tokens, wherever the grammar has one.
@@ -276,8 +285,8 @@ fn other_bytes(rt: HostRuntime) {
 #[test]
 fn an_open_comment(rt: HostRuntime) {
     let text = b"function m(){}/*/ * /";
-    let fault = TextFault::OpenComment { at: 14 };
-    has_fault(&rt, "an open comment", rt.alloc(), text, Some(fault));
+    let fault = Some(TextFault::OpenComment { at: 14 });
+    holds(&rt, 0, fault_of(rt.alloc(), text) == fault);
 }
 
 const WHOLE: &[u8] =
@@ -298,9 +307,10 @@ fn fault_of_front(n: usize) -> TextFault {
 #[test]
 fn fronts(rt: HostRuntime) {
     holds(&rt, 75, WHOLE.len() == 75);
-    has_fault(&rt, "the whole", rt.alloc(), WHOLE, None);
+    holds(&rt, 76, fault_of(rt.alloc(), WHOLE).is_none());
     for n in 0..75 {
         let (front, _) = WHOLE.split_at(n);
-        has_fault(&rt, "a front", rt.alloc(), front, Some(fault_of_front(n)));
+        let fault = fault_of(rt.alloc(), front);
+        holds(&rt, n, fault == Some(fault_of_front(n)));
     }
 }

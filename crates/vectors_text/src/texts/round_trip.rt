@@ -1,73 +1,75 @@
 //! Texts with the canonical text of their module, which is read as the module again.
 use super::{CLOSE, OPEN};
 use crate::pieces::joined;
-use crate::rows::{done, holds};
+use crate::rows::holds;
 use asm_grammar_print::print;
 use asm_text::{read, reprinted};
 use asm_tree::{Module, Parsed};
-use std::alloc::{AllocError, Global};
+use std::alloc::Global;
 use std::process::Abort;
 
 /// A name of what the row shows, a text, and its canonical text.
 type Row = (&'static str, &'static [u8], &'static [u8]);
 
-/// What the text says, if it says a module.
-fn parsed(alloc: Global, text: &[u8]) -> Option<Parsed> {
-    match read(alloc, text) {
-        Ok(parsed) => Some(parsed),
-        Err(_) => None,
-    }
-}
-
 /// The module is printed as `want`.
-fn prints(rt: &impl Abort, name: &str, alloc: Global, module: &Module, want: &[u8]) {
+fn is_printed(alloc: Global, module: &Module, want: &[u8]) -> bool {
     match print(alloc, module) {
-        Ok(text) => assert_eq!(rt; text.as_slice(), want, "{name}"),
-        Err(_) => panic!(rt; "{name}: out of memory"),
+        Ok(text) => text.as_slice() == want,
+        Err(_) => false,
     }
 }
 
-/// What is printed of the module is read as the same module, which is printed as `want`, at the places of what `want` says.
-fn is_read_again(
-    rt: &impl Abort,
-    name: &str,
-    alloc: Global,
-    module: &Module,
-    want: &[u8],
-    there: &Parsed,
-) {
+/// What is printed of the module is read as the same module, which is printed as `want`, at these places.
+fn is_read_again(alloc: Global, module: &Module, want: &[u8], places: &[u64]) -> bool {
     match reprinted(alloc, module) {
-        Ok(again) => {
-            prints(rt, name, alloc, &again.module, want);
-            assert!(rt;
-                again.places.as_slice() == there.places.as_slice(),
-                "{name}: places"
-            );
-        }
-        Err(_) => panic!(rt; "{name}: what is printed says a module"),
+        Ok(again) => { is_printed(alloc, &again.module, want) && again.places.as_slice() == places }
+        Err(_) => false,
     }
 }
 
-/// The text's module prints as `want`, and what is printed is read as the same module, at the same places.
-fn comes_back(rt: &impl Abort, name: &str, alloc: Global, text: &[u8], want: &[u8]) {
-    match (parsed(alloc, text), parsed(alloc, want)) {
-        (Some(said), Some(there)) => {
-            prints(rt, name, alloc, &said.module, want);
-            prints(rt, name, alloc, &there.module, want);
-            is_read_again(rt, name, alloc, &said.module, want, &there);
+/// The text's module is printed as `want`, and what is printed is read as the same module, at the places of what `want` says.
+fn is_said(alloc: Global, text: &[u8], want: &[u8], there: &Parsed) -> bool {
+    match read(alloc, text) {
+        Ok(said) => {
+            is_printed(alloc, &said.module, want)
+                && is_read_again(alloc, &said.module, want, there.places.as_slice())
         }
-        _ => panic!(rt; "{name}: the text says a module"),
+        Err(_) => false,
+    }
+}
+
+/// The text's module and that of `want` are printed as `want`, and what is printed is read as the same module, at the same places.
+fn comes_back(alloc: Global, text: &[u8], want: &[u8]) -> bool {
+    match read(alloc, want) {
+        Ok(there) => is_printed(alloc, &there.module, want) && is_said(alloc, text, want, &there),
+        Err(_) => false,
     }
 }
 
 /// The same for statements, alone in a function.
-fn body_comes_back(rt: &impl Abort, alloc: Global, row: &Row) -> Result<(), AllocError> {
-    let (name, body, want) = *row;
-    let text = joined(alloc, &[OPEN, body, CLOSE])?;
-    let front = b"function m(){\"use asm\";\nfunction f(){";
-    let want = joined(alloc, &[front, want, b"}\nreturn f;}\n"])?;
-    comes_back(rt, name, alloc, &text, &want);
-    Ok(())
+fn body_comes_back(alloc: Global, body: &[u8], want: &[u8]) -> bool {
+    let front = b"function m(){\"use asm\";\nfunction f(){".as_slice();
+    let Ok(text) = joined(alloc, &[(OPEN, b"", 0), (body, b"", 0), (CLOSE, b"", 0)]) else {
+        return false;
+    };
+    match joined(
+        alloc,
+        &[
+            (front, b"", 0),
+            (want, b"", 0),
+            (b"}\nreturn f;}\n", b"", 0),
+        ],
+    ) {
+        Ok(want) => comes_back(alloc, &text, &want),
+        Err(_) => false,
+    }
+}
+
+/// The rows as statements.
+fn bodies_come_back(rt: &impl Abort, alloc: Global, rows: &[Row]) {
+    for (number, (_name, body, want)) in rows.iter().enumerate() {
+        holds(rt, number, body_comes_back(alloc, body, want));
+    }
 }
 
 static STATEMENTS: [Row; 31] = [
@@ -178,9 +180,7 @@ static STATEMENTS: [Row; 31] = [
 
 #[test]
 fn statements(rt: HostRuntime) {
-    for row in STATEMENTS.iter() {
-        done(&rt, body_comes_back(&rt, rt.alloc(), row));
-    }
+    bodies_come_back(&rt, rt.alloc(), &STATEMENTS);
 }
 
 static EXPRESSIONS: [Row; 47] = [
@@ -263,9 +263,7 @@ static EXPRESSIONS: [Row; 47] = [
 
 #[test]
 fn expressions(rt: HostRuntime) {
-    for row in EXPRESSIONS.iter() {
-        done(&rt, body_comes_back(&rt, rt.alloc(), row));
-    }
+    bodies_come_back(&rt, rt.alloc(), &EXPRESSIONS);
 }
 
 static MODULES: [Row; 15] = [
@@ -348,8 +346,8 @@ static MODULES: [Row; 15] = [
 
 #[test]
 fn modules(rt: HostRuntime) {
-    for (name, text, want) in MODULES.iter() {
-        comes_back(&rt, name, rt.alloc(), text, want);
+    for (number, (_name, text, want)) in MODULES.iter().enumerate() {
+        holds(&rt, number, comes_back(rt.alloc(), text, want));
     }
 }
 
@@ -360,9 +358,9 @@ static OF_ALL: [u64; 10] = [0, 32, 34, 43, 53, 51, 50, 52, 54, 64];
 
 #[test]
 fn places(rt: HostRuntime) {
-    match parsed(rt.alloc(), WITH_PLACES) {
-        Some(parsed) => holds(&rt, 0, parsed.places.as_slice() == OF_ALL.as_slice()),
-        None => holds(&rt, 1, false),
+    match read(rt.alloc(), WITH_PLACES) {
+        Ok(parsed) => holds(&rt, 0, parsed.places.as_slice() == OF_ALL.as_slice()),
+        Err(_) => holds(&rt, 1, false),
     }
 }
 
@@ -402,12 +400,12 @@ fn are_places(found: &[u64], want: &[u64]) -> bool {
 }
 
 fn has_places(alloc: Global, body: &[u8], want: &[u64]) -> bool {
-    let Ok(text) = joined(alloc, &[OPEN, body, CLOSE]) else {
+    let Ok(text) = joined(alloc, &[(OPEN, b"", 0), (body, b"", 0), (CLOSE, b"", 0)]) else {
         return false;
     };
-    match parsed(alloc, &text) {
-        Some(parsed) => are_places(parsed.places.as_slice(), want),
-        None => false,
+    match read(alloc, &text) {
+        Ok(parsed) => are_places(parsed.places.as_slice(), want),
+        Err(_) => false,
     }
 }
 

@@ -1,377 +1,343 @@
 //! Each limit is met by its own number, and refused at one more.
-use super::{FRONT, has_fault};
-use crate::pieces::joined;
-use crate::rows::done;
+use super::{FRONT, is_told};
+use crate::pieces::Part;
+use crate::rows::holds;
 use asm_lang_valid::Rule;
-use cmd_check_asm::{AsmRow, CheckFault};
-use itoa::Buffer;
-use std::alloc::{AllocError, Global};
+use cmd_check_asm::AsmRow;
+use std::alloc::Global;
 use std::process::Abort;
 
-/// An item that is repeated: what stands before its place, and its pieces, between which its number stands.
-struct Item {
-    lead: &'static [u8],
-    pieces: &'static [&'static [u8]],
+/// What a text has so many of, its parts, and which rule refuses it and where: at the node that passes the limit, where the items begin
+/// or at the last of them.
+type Row = (&'static str, &'static [Part<'static>], Option<(Rule, u64)>);
+
+fn are_told(rt: &impl Abort, alloc: Global, rows: &[Row]) {
+    for (number, (_name, parts, refusal)) in rows.iter().enumerate() {
+        let refusal = match *refusal {
+            Some((rule, at)) => Some((AsmRow::Rule(rule), at)),
+            None => None,
+        };
+        holds(rt, number, is_told(alloc, parts, refusal));
+    }
 }
-
-const NOTHING: Item = Item {
-    lead: b"",
-    pieces: &[],
-};
-
-/// Where the node stands that passes the limit: where the items begin, or at the last of the first or of the second.
-#[derive(Clone, Copy)]
-enum Place {
-    Start,
-    First,
-    Second,
-}
-
-struct Limit {
-    name: &'static str,
-    start: [&'static [u8]; 2],
-    first: Item,
-    between: &'static [u8],
-    second: Item,
-    end: &'static [u8],
-    /// How many items are accepted, and how many are refused.
-    counts: (usize, usize),
-    place: Place,
-    rule: Rule,
-}
-
-/// A member of a table.
-const MEMBER: Item = Item {
-    lead: b"",
-    pieces: &[b"f,"],
-};
 
 /// Limits that texts of 100 kB meet.
-static SMALL: [Limit; 4] = [
-    Limit {
-        name: "parameters, the first one apart",
-        start: [FRONT, b"function f(z"],
-        first: Item {
-            lead: b",",
-            pieces: &[b"p", b""],
-        },
-        between: b"){z=z|0;",
-        second: Item {
-            lead: b"",
-            pieces: &[b"p", b"=p", b"|0;"],
-        },
-        end: b"}return f}",
-        counts: (1_999, 2_000),
-        place: Place::First,
-        rule: Rule::PastLimit,
-    },
-    Limit {
-        name: "arguments of a call of a foreign function",
-        start: [FRONT, b"function f(){"],
-        first: NOTHING,
-        between: b"u(",
-        second: Item {
-            lead: b"",
-            pieces: &[b"0,"],
-        },
-        end: b"0);}return f}",
-        counts: (1_999, 2_000),
-        place: Place::Start,
-        rule: Rule::PastLimit,
-    },
-    Limit {
-        name: "cases",
-        start: [FRONT, b"function f(i){i=i|0;"],
-        first: NOTHING,
-        between: b"switch(i|0){",
-        second: Item {
-            lead: b"",
-            pieces: &[b"case ", b":;"],
-        },
-        end: b"}}return f}",
-        counts: (1_000, 1_001),
-        place: Place::Start,
-        rule: Rule::PastLimit,
-    },
-    Limit {
-        name: "bytes of the name of a foreign member",
-        start: [b"function m(stdlib,foreign){'use asm';var ", b""],
-        first: NOTHING,
-        between: b"g=foreign.",
-        second: Item {
-            lead: b"",
-            pieces: &[b"x"],
-        },
-        end: b";function f(){}return f}",
-        counts: (100_000, 100_001),
-        place: Place::Start,
-        rule: Rule::PastLimit,
-    },
+static SMALL: [Row; 8] = [
+    (
+        "parameters, the first one apart",
+        &[
+            (FRONT, b"", 0),
+            (b"function f(z", b",p#", 1999),
+            (b"){z=z|0;", b"p#=p#|0;", 1999),
+            (b"}return f}", b"", 0),
+        ],
+        None,
+    ),
+    (
+        "one more",
+        &[
+            (FRONT, b"", 0),
+            (b"function f(z", b",p#", 2000),
+            (b"){z=z|0;", b"p#=p#|0;", 2000),
+            (b"}return f}", b"", 0),
+        ],
+        Some((Rule::PastLimit, 10985)),
+    ),
+    (
+        "arguments of a call of a foreign function",
+        &[
+            (FRONT, b"", 0),
+            (b"function f(){u(", b"0,", 1999),
+            (b"0);}return f}", b"", 0),
+        ],
+        None,
+    ),
+    (
+        "one more",
+        &[
+            (FRONT, b"", 0),
+            (b"function f(){u(", b"0,", 2000),
+            (b"0);}return f}", b"", 0),
+        ],
+        Some((Rule::PastLimit, 101)),
+    ),
+    (
+        "cases",
+        &[
+            (FRONT, b"", 0),
+            (b"function f(i){i=i|0;switch(i|0){", b"case #:;", 1000),
+            (b"}}return f}", b"", 0),
+        ],
+        None,
+    ),
+    (
+        "one more",
+        &[
+            (FRONT, b"", 0),
+            (b"function f(i){i=i|0;switch(i|0){", b"case #:;", 1001),
+            (b"}}return f}", b"", 0),
+        ],
+        Some((Rule::PastLimit, 108)),
+    ),
+    (
+        "bytes of the name of a foreign member",
+        &[
+            (
+                b"function m(stdlib,foreign){'use asm';var g=foreign.",
+                b"x",
+                100_000,
+            ),
+            (b";function f(){}return f}", b"", 0),
+        ],
+        None,
+    ),
+    (
+        "one more",
+        &[
+            (
+                b"function m(stdlib,foreign){'use asm';var g=foreign.",
+                b"x",
+                100_001,
+            ),
+            (b";function f(){}return f}", b"", 0),
+        ],
+        Some((Rule::PastLimit, 41)),
+    ),
 ];
 
 // Limits that take texts of up to 2 MB have a test each, so that none takes long.
 
-static FUNCTIONS: Limit = Limit {
-    name: "functions",
-    start: [FRONT, b""],
-    first: Item {
-        lead: b"function ",
-        pieces: &[b"f", b"(){}"],
-    },
-    between: b"",
-    second: NOTHING,
-    end: b"return f0}",
-    counts: (50_000, 50_001),
-    place: Place::First,
-    rule: Rule::PastLimit,
-};
+static FUNCTIONS: [Row; 2] = [
+    (
+        "functions",
+        &[
+            (FRONT, b"", 0),
+            (b"", b"function f#(){}", 50_000),
+            (b"return f0}", b"", 0),
+        ],
+        None,
+    ),
+    (
+        "one more",
+        &[
+            (FRONT, b"", 0),
+            (b"", b"function f#(){}", 50_001),
+            (b"return f0}", b"", 0),
+        ],
+        Some((Rule::PastLimit, 938987)),
+    ),
+];
 
-static LOCALS: Limit = Limit {
-    name: "locals, with one parameter",
-    start: [FRONT, b"function f(z){z=z|0;"],
-    first: Item {
-        lead: b"var ",
-        pieces: &[b"l", b"=0;"],
-    },
-    between: b"",
-    second: NOTHING,
-    end: b"}return f}",
-    counts: (49_999, 50_000),
-    place: Place::First,
-    rule: Rule::PastLimit,
-};
+static LOCALS: [Row; 2] = [
+    (
+        "locals, with one parameter",
+        &[
+            (FRONT, b"", 0),
+            (b"function f(z){z=z|0;", b"var l#=0;", 49_999),
+            (b"}return f}", b"", 0),
+        ],
+        None,
+    ),
+    (
+        "one more",
+        &[
+            (FRONT, b"", 0),
+            (b"function f(z){z=z|0;", b"var l#=0;", 50_000),
+            (b"}return f}", b"", 0),
+        ],
+        Some((Rule::PastLimit, 638989)),
+    ),
+];
 
-static GLOBALS: Limit = Limit {
-    name: "globals, of which two stand in front",
-    start: [FRONT, b""],
-    first: Item {
-        lead: b"var ",
-        pieces: &[b"g", b"=0;"],
-    },
-    between: b"",
-    second: NOTHING,
-    end: b"function f(){}return f}",
-    counts: (99_998, 99_999),
-    place: Place::First,
-    rule: Rule::PastLimit,
-};
+static GLOBALS: [Row; 2] = [
+    (
+        "globals, of which two stand in front",
+        &[
+            (FRONT, b"", 0),
+            (b"", b"var g#=0;", 99_998),
+            (b"function f(){}return f}", b"", 0),
+        ],
+        None,
+    ),
+    (
+        "one more",
+        &[
+            (FRONT, b"", 0),
+            (b"", b"var g#=0;", 99_999),
+            (b"function f(){}return f}", b"", 0),
+        ],
+        Some((Rule::PastLimit, 1288956)),
+    ),
+];
 
-static FOREIGN_CALLS: Limit = Limit {
-    name: "distinct calls of foreign functions",
-    start: [b"function m(stdlib,foreign){'use asm';", b""],
-    first: Item {
-        lead: b"var ",
-        pieces: &[b"u", b"=foreign.u", b";"],
-    },
-    between: b"function f(){",
-    second: Item {
-        lead: b"",
-        pieces: &[b"u", b"();"],
-    },
-    end: b"}return f}",
-    counts: (25_000, 25_001),
-    place: Place::Second,
-    rule: Rule::PastLimit,
-};
+static FOREIGN_CALLS: [Row; 2] = [
+    (
+        "distinct calls of foreign functions",
+        &[
+            (
+                b"function m(stdlib,foreign){'use asm';",
+                b"var u#=foreign.u#;",
+                25_000,
+            ),
+            (b"function f(){", b"u#();", 25_000),
+            (b"}return f}", b"", 0),
+        ],
+        None,
+    ),
+    (
+        "one more",
+        &[
+            (
+                b"function m(stdlib,foreign){'use asm';",
+                b"var u#=foreign.u#;",
+                25_001,
+            ),
+            (b"function f(){", b"u#();", 25_001),
+            (b"}return f}", b"", 0),
+        ],
+        Some((Rule::PastLimit, 841746)),
+    ),
+];
 
-static MEMBERS: Limit = Limit {
-    name: "members of a table, whose number has to be a power of two",
-    start: [FRONT, b"function f(){}var "],
-    first: NOTHING,
-    between: b"t=[",
-    second: MEMBER,
-    end: b"f];return f}",
-    counts: (65_535, 131_071),
-    place: Place::Start,
-    rule: Rule::PastLimit,
-};
+static MEMBERS: [Row; 2] = [
+    (
+        "members of a table, whose number has to be a power of two",
+        &[
+            (FRONT, b"", 0),
+            (b"function f(){}var t=[", b"f,", 65_535),
+            (b"f];return f}", b"", 0),
+        ],
+        None,
+    ),
+    (
+        "one more",
+        &[
+            (FRONT, b"", 0),
+            (b"function f(){}var t=[", b"f,", 131_071),
+            (b"f];return f}", b"", 0),
+        ],
+        Some((Rule::PastLimit, 106)),
+    ),
+];
 
-/// The longest text, which has a test for each answer.
-static CHAIN: Limit = Limit {
-    name: "operators of a chain",
-    start: [FRONT, b"function f(){return (0"],
-    first: NOTHING,
-    between: b"",
-    second: Item {
-        lead: b"",
-        pieces: &[b"+0"],
-    },
-    end: b")|0;}return f}",
-    counts: (1_048_576, 1_048_577),
-    place: Place::Start,
-    rule: Rule::ChainLong,
-};
+// The longest text has a test for each answer.
 
-/// An item of this number, without its lead.
-fn put_item(text: &mut Vec<u8>, item: &Item, number: usize) -> Result<(), AllocError> {
-    let mut digits = Buffer::new();
-    let digits = digits.format(number);
-    let mut is_first = true;
-    for piece in item.pieces {
-        if !is_first {
-            text.extend_from_slice(digits.as_bytes())?;
-        }
-        text.extend_from_slice(piece)?;
-        is_first = false;
-    }
-    Ok(())
-}
+static LONGEST_CHAIN: [Row; 1] = [(
+    "operators of a chain",
+    &[
+        (FRONT, b"", 0),
+        (b"function f(){return (0", b"+0", 1_048_576),
+        (b")|0;}return f}", b"", 0),
+    ],
+    None,
+)];
 
-/// So many items.
-fn items(alloc: Global, item: &Item, count: usize) -> Result<Vec<u8>, AllocError> {
-    let mut text = Vec::new(alloc);
-    for number in 0..count {
-        text.extend_from_slice(item.lead)?;
-        put_item(&mut text, item, number)?;
-    }
-    Ok(text)
-}
+static LONGER_CHAIN: [Row; 1] = [(
+    "one more",
+    &[
+        (FRONT, b"", 0),
+        (b"function f(){return (0", b"+0", 1_048_577),
+        (b")|0;}return f}", b"", 0),
+    ],
+    Some((Rule::ChainLong, 110)),
+)];
 
-/// The text with so many items.
-fn whole(alloc: Global, limit: &Limit, count: usize) -> Result<Vec<u8>, AllocError> {
-    let [one, two] = limit.start;
-    let first = items(alloc, &limit.first, count)?;
-    let second = items(alloc, &limit.second, count)?;
-    joined(
-        alloc,
-        &[one, two, &first, limit.between, &second, limit.end],
-    )
-}
+static ALL_TABLES: [Row; 1] = [(
+    "tables of the greatest size, as many as there may be",
+    &[
+        (FRONT, b"", 0),
+        (b"function f(){}var t0=[", b"f,", 65_535),
+        (b"f];var t1=[", b"f,", 65_535),
+        (b"f];var t2=[", b"f,", 65_535),
+        (b"f];var t3=[", b"f,", 65_535),
+        (b"f];var t4=[", b"f,", 65_535),
+        (b"f];var t5=[", b"f,", 65_535),
+        (b"f];var t6=[", b"f,", 65_535),
+        (b"f];var t7=[", b"f,", 65_535),
+        (b"f];var t8=[", b"f,", 65_535),
+        (b"f];var t9=[", b"f,", 65_535),
+        (b"f];var t10=[", b"f,", 65_535),
+        (b"f];var t11=[", b"f,", 65_535),
+        (b"f];var t12=[", b"f,", 65_535),
+        (b"f];var t13=[", b"f,", 65_535),
+        (b"f];var t14=[", b"f,", 65_535),
+        (b"f];var t15=[", b"f,", 65_535),
+        (b"f];return f}", b"", 0),
+    ],
+    None,
+)];
 
-/// What stands before the node that passes the limit, where so many items are accepted and so many aren't.
-fn before(alloc: Global, limit: &Limit) -> Result<Vec<u8>, AllocError> {
-    let [one, two] = limit.start;
-    let (most, more) = limit.counts;
-    match limit.place {
-        Place::Start => joined(alloc, &[one, two]),
-        Place::First => {
-            let first = items(alloc, &limit.first, most)?;
-            joined(alloc, &[one, two, &first, limit.first.lead])
-        }
-        Place::Second => {
-            let first = items(alloc, &limit.first, more)?;
-            let second = items(alloc, &limit.second, most)?;
-            joined(alloc, &[one, two, &first, limit.between, &second])
-        }
-    }
-}
-
-/// So many items are accepted.
-fn is_accepted(rt: &impl Abort, limit: &Limit, alloc: Global) -> Result<(), AllocError> {
-    let (most, _) = limit.counts;
-    let text = whole(alloc, limit, most)?;
-    has_fault(rt, limit.name, alloc, &text, None);
-    Ok(())
-}
-
-/// So many items are refused, at the node's place.
-fn is_refused(rt: &impl Abort, limit: &Limit, alloc: Global) -> Result<(), AllocError> {
-    let (_, more) = limit.counts;
-    let text = whole(alloc, limit, more)?;
-    let fault = CheckFault::Refused {
-        row: AsmRow::Rule(limit.rule),
-        at: before(alloc, limit)?.len() as u64,
-    };
-    has_fault(rt, limit.name, alloc, &text, Some(fault));
-    Ok(())
-}
-
-fn is_met(rt: &impl Abort, limit: &Limit, alloc: Global) -> Result<(), AllocError> {
-    is_accepted(rt, limit, alloc)?;
-    is_refused(rt, limit, alloc)
-}
-
-fn are_met(rt: &impl Abort, limits: &[Limit], alloc: Global) {
-    for limit in limits {
-        done(rt, is_met(rt, limit, alloc));
-    }
-}
+static MORE_THAN_ALL_TABLES: [Row; 1] = [(
+    "a member more",
+    &[
+        (FRONT, b"", 0),
+        (b"function f(){}var t0=[", b"f,", 65_535),
+        (b"f];var t1=[", b"f,", 65_535),
+        (b"f];var t2=[", b"f,", 65_535),
+        (b"f];var t3=[", b"f,", 65_535),
+        (b"f];var t4=[", b"f,", 65_535),
+        (b"f];var t5=[", b"f,", 65_535),
+        (b"f];var t6=[", b"f,", 65_535),
+        (b"f];var t7=[", b"f,", 65_535),
+        (b"f];var t8=[", b"f,", 65_535),
+        (b"f];var t9=[", b"f,", 65_535),
+        (b"f];var t10=[", b"f,", 65_535),
+        (b"f];var t11=[", b"f,", 65_535),
+        (b"f];var t12=[", b"f,", 65_535),
+        (b"f];var t13=[", b"f,", 65_535),
+        (b"f];var t14=[", b"f,", 65_535),
+        (b"f];var t15=[", b"f,", 65_535),
+        (b"f];var t=[f];return f}", b"", 0),
+    ],
+    Some((Rule::PastLimit, 2097408)),
+)];
 
 #[test]
 fn small_limits_are_met(rt: HostRuntime) {
-    are_met(&rt, &SMALL, rt.alloc());
+    are_told(&rt, rt.alloc(), &SMALL);
 }
 
 #[test]
 fn functions_have_a_limit(rt: HostRuntime) {
-    done(&rt, is_met(&rt, &FUNCTIONS, rt.alloc()));
+    are_told(&rt, rt.alloc(), &FUNCTIONS);
 }
 
 #[test]
 fn locals_have_a_limit(rt: HostRuntime) {
-    done(&rt, is_met(&rt, &LOCALS, rt.alloc()));
+    are_told(&rt, rt.alloc(), &LOCALS);
 }
 
 #[test]
 fn globals_have_a_limit(rt: HostRuntime) {
-    done(&rt, is_met(&rt, &GLOBALS, rt.alloc()));
+    are_told(&rt, rt.alloc(), &GLOBALS);
 }
 
 #[test]
 fn foreign_calls_have_a_limit(rt: HostRuntime) {
-    done(&rt, is_met(&rt, &FOREIGN_CALLS, rt.alloc()));
+    are_told(&rt, rt.alloc(), &FOREIGN_CALLS);
 }
 
 #[test]
 fn members_of_a_table_have_a_limit(rt: HostRuntime) {
-    done(&rt, is_met(&rt, &MEMBERS, rt.alloc()));
+    are_told(&rt, rt.alloc(), &MEMBERS);
 }
 
 #[test]
 fn the_longest_chain_is_accepted(rt: HostRuntime) {
-    done(&rt, is_accepted(&rt, &CHAIN, rt.alloc()));
+    are_told(&rt, rt.alloc(), &LONGEST_CHAIN);
 }
 
 #[test]
 fn a_longer_chain_is_refused(rt: HostRuntime) {
-    done(&rt, is_refused(&rt, &CHAIN, rt.alloc()));
-}
-
-/// So many tables of the greatest size.
-fn full_tables(alloc: Global, count: usize) -> Result<Vec<u8>, AllocError> {
-    let members = items(alloc, &MEMBER, 65_535)?;
-    let mut text = Vec::new(alloc);
-    for number in 0..count {
-        let mut digits = Buffer::new();
-        text.extend_from_slice(b"var t")?;
-        text.extend_from_slice(digits.format(number).as_bytes())?;
-        text.extend_from_slice(b"=[")?;
-        text.extend_from_slice(&members)?;
-        text.extend_from_slice(b"f];")?;
-    }
-    Ok(text)
-}
-
-/// A module up to all the tables that it may have.
-fn tables_at_the_limit(alloc: Global) -> Result<Vec<u8>, AllocError> {
-    let tables = full_tables(alloc, 16)?;
-    joined(alloc, &[FRONT, b"function f(){}", &tables])
-}
-
-/// The tables alone are accepted, or, with a member more, refused at its place.
-fn tables_are_met(rt: &impl Abort, alloc: Global, has_more: bool) -> Result<(), AllocError> {
-    let front = tables_at_the_limit(alloc)?;
-    if !has_more {
-        let text = joined(alloc, &[&front, b"return f}"])?;
-        has_fault(rt, "all tables", alloc, &text, None);
-        return Ok(());
-    }
-    let before = joined(alloc, &[&front, b"var "])?;
-    let text = joined(alloc, &[&before, b"t=[f];return f}"])?;
-    let fault = CheckFault::Refused {
-        row: AsmRow::Rule(Rule::PastLimit),
-        at: before.len() as u64,
-    };
-    has_fault(rt, "a member more", alloc, &text, Some(fault));
-    Ok(())
+    are_told(&rt, rt.alloc(), &LONGER_CHAIN);
 }
 
 #[test]
 fn all_tables_at_the_limit_are_accepted(rt: HostRuntime) {
-    done(&rt, tables_are_met(&rt, rt.alloc(), false));
+    are_told(&rt, rt.alloc(), &ALL_TABLES);
 }
 
 #[test]
 fn a_member_more_of_all_tables_is_refused(rt: HostRuntime) {
-    done(&rt, tables_are_met(&rt, rt.alloc(), true));
+    are_told(&rt, rt.alloc(), &MORE_THAN_ALL_TABLES);
 }
