@@ -1,6 +1,6 @@
 //! Whole calls over files and sinks in memory.
 use crate::modules::SUMMING;
-use crate::program::{Call, NO_FAULTS, Told, told};
+use crate::program::{Call, NO_FAULTS, Told, called};
 use crate::rows::holds;
 use crate::texts::SUM;
 use std::alloc::Global;
@@ -248,7 +248,7 @@ fn with_faults(alloc: Global, words: &[&str], faults: [u64; 3]) -> Told {
         files: &FILES,
         faults,
     };
-    told(alloc, &call)
+    called(alloc, &call)
 }
 
 #[test]

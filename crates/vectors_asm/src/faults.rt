@@ -1,6 +1,6 @@
 //! Reads and writes that fail, one after the other, by the whole program.
 use crate::modules::{ADDING, SUMMING};
-use crate::program::{Call, Told, told};
+use crate::program::{Call, Told, called};
 use crate::rows::holds;
 use crate::texts::{SUM, USUAL};
 use std::alloc::Global;
@@ -30,7 +30,7 @@ fn with_faults(alloc: Global, whole: &Whole, faults: [u64; 3]) -> Told {
         files: &files,
         faults,
     };
-    told(alloc, &call)
+    called(alloc, &call)
 }
 
 /// With a read failing, the first and so on, the call ends with a failed read and an empty output, until it makes fewer reads than that.

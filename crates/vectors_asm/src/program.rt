@@ -135,7 +135,7 @@ fn try_told(alloc: Global, call: &Call<'_>) -> Result<Told, AllocError> {
 }
 
 /// What is told of the call; the status is 255 where there is no memory for it.
-pub(crate) fn told(alloc: Global, call: &Call<'_>) -> Told {
+pub(crate) fn called(alloc: Global, call: &Call<'_>) -> Told {
     match try_told(alloc, call) {
         Ok(told) => told,
         Err(_) => Told {
@@ -146,12 +146,12 @@ pub(crate) fn told(alloc: Global, call: &Call<'_>) -> Told {
 }
 
 /// What is told of a call with these words and options over the files `m` and `s`.
-pub(crate) fn over(
+pub(crate) fn over<'a>(
     alloc: Global,
     words: &[&str],
     options: &[&str],
-    module: &[u8],
-    script: &[u8],
+    module: &'a [u8],
+    script: &'a [u8],
 ) -> Told {
     let files = [("m", module), ("s", script)];
     let call = Call {
@@ -160,7 +160,7 @@ pub(crate) fn over(
         files: &files,
         faults: NO_FAULTS,
     };
-    told(alloc, &call)
+    called(alloc, &call)
 }
 
 /// Calls with these words end as the rows say.

@@ -1,11 +1,10 @@
 //! Texts with the canonical text of their module, which is read as the module again.
 use super::{CLOSE, OPEN};
-use crate::pieces::joined;
 use crate::rows::holds;
 use asm_grammar_print::print;
 use asm_text::{read, reprinted};
 use asm_tree::{Module, Parsed};
-use std::alloc::Global;
+use std::alloc::{AllocError, Global};
 use std::process::Abort;
 
 /// A name of what the row shows, a text, and its canonical text.
@@ -46,19 +45,24 @@ fn comes_back(alloc: Global, text: &[u8], want: &[u8]) -> bool {
     }
 }
 
+/// The pieces of a text, one after the other.
+fn between(alloc: Global, front: &[u8], body: &[u8], end: &[u8]) -> Result<Vec<u8>, AllocError> {
+    let mut text = Vec::from_slice(alloc, front)?;
+    text.extend_from_slice(body)?;
+    text.extend_from_slice(end)?;
+    Ok(text)
+}
+
 /// The same for statements, alone in a function.
 fn body_comes_back(alloc: Global, body: &[u8], want: &[u8]) -> bool {
-    let front = b"function m(){\"use asm\";\nfunction f(){".as_slice();
-    let Ok(text) = joined(alloc, &[(OPEN, b"", 0), (body, b"", 0), (CLOSE, b"", 0)]) else {
+    let Ok(text) = between(alloc, OPEN, body, CLOSE) else {
         return false;
     };
-    match joined(
+    match between(
         alloc,
-        &[
-            (front, b"", 0),
-            (want, b"", 0),
-            (b"}\nreturn f;}\n", b"", 0),
-        ],
+        b"function m(){\"use asm\";\nfunction f(){",
+        want,
+        b"}\nreturn f;}\n",
     ) {
         Ok(want) => comes_back(alloc, &text, &want),
         Err(_) => false,
@@ -400,7 +404,7 @@ fn are_places(found: &[u64], want: &[u64]) -> bool {
 }
 
 fn has_places(alloc: Global, body: &[u8], want: &[u64]) -> bool {
-    let Ok(text) = joined(alloc, &[(OPEN, b"", 0), (body, b"", 0), (CLOSE, b"", 0)]) else {
+    let Ok(text) = between(alloc, OPEN, body, CLOSE) else {
         return false;
     };
     match read(alloc, &text) {
