@@ -241,7 +241,7 @@ static ROWS: [Row; 62] = [
 ];
 
 /// What is told of a call with these words and these faults over all files.
-fn with_faults(alloc: Global, words: &[&str], faults: [u64; 3]) -> Told {
+fn with_faults<'w>(alloc: Global, words: &'w [&'w str], faults: [u64; 3]) -> Told {
     let call = Call {
         words,
         options: &[],

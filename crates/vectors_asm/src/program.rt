@@ -31,10 +31,10 @@ pub(crate) type End = (&'static [u8], &'static [u8], u8, &'static [u8]);
 
 /// A call of the program: the words after its name, options behind them, and the files by their names.
 #[derive(Clone, Copy)]
-pub(crate) struct Call<'a> {
-    pub(crate) words: &'a [&'a str],
-    pub(crate) options: &'a [&'a str],
-    pub(crate) files: &'a [(&'a str, &'a [u8])],
+pub(crate) struct Call<'w, 'o, 'f> {
+    pub(crate) words: &'w [&'w str],
+    pub(crate) options: &'o [&'o str],
+    pub(crate) files: &'f [(&'f str, &'f [u8])],
     /// Which read fails, which write of the output and which of the report: the first is 1, and 0 none. Where one does, the output
     /// takes one byte at a time.
     pub(crate) faults: [u64; 3],
@@ -65,7 +65,7 @@ fn push_words(all: &mut Vec<String>, alloc: Global, words: &[&str]) -> Result<()
 }
 
 /// The program's name, the words and the options.
-fn all_words(alloc: Global, call: &Call<'_>) -> Result<Vec<String>, AllocError> {
+fn all_words(alloc: Global, call: &Call<'_, '_, '_>) -> Result<Vec<String>, AllocError> {
     let mut all = Vec::new(alloc);
     push_words(&mut all, alloc, &["bridge"])?;
     push_words(&mut all, alloc, call.words)?;
@@ -73,7 +73,7 @@ fn all_words(alloc: Global, call: &Call<'_>) -> Result<Vec<String>, AllocError> 
     Ok(all)
 }
 
-fn all_files(alloc: Global, call: &Call<'_>) -> Result<MemFiles, AllocError> {
+fn all_files(alloc: Global, call: &Call<'_, '_, '_>) -> Result<MemFiles, AllocError> {
     let mut files = MemFiles::new(alloc);
     files.fail_at(call.faults[0])?;
     for (name, content) in call.files {
@@ -104,7 +104,7 @@ fn sink(alloc: Global, piece: usize, fault: u64) -> Result<MemSink, AllocError>
 /// The status of the call, which writes to these sinks.
 fn run(
     alloc: Global,
-    call: &Call<'_>,
+    call: &Call<'_, '_, '_>,
     out: &mut MemSink,
     report: &mut MemSink,
 ) -> Result<u8, AllocError> {
@@ -127,7 +127,7 @@ fn of_sinks(alloc: Global, status: u8, out: &[u8], report: &[u8]) -> Result<Told
     })
 }
 
-fn try_told(alloc: Global, call: &Call<'_>) -> Result<Told, AllocError> {
+fn try_told(alloc: Global, call: &Call<'_, '_, '_>) -> Result<Told, AllocError> {
     let mut out = sink(alloc, piece(&call.faults), call.faults[1])?;
     let mut report = sink(alloc, 1000, call.faults[2])?;
     let status = run(alloc, call, &mut out, &mut report)?;
@@ -135,7 +135,7 @@ fn try_told(alloc: Global, call: &Call<'_>) -> Result<Told, AllocError> {
 }
 
 /// What is told of the call; the status is 255 where there is no memory for it.
-pub(crate) fn called(alloc: Global, call: &Call<'_>) -> Told {
+pub(crate) fn called(alloc: Global, call: &Call<'_, '_, '_>) -> Told {
     match try_told(alloc, call) {
         Ok(told) => told,
         Err(_) => Told {
@@ -146,12 +146,12 @@ pub(crate) fn called(alloc: Global, call: &Call<'_>) -> Told {
 }
 
 /// What is told of a call with these words and options over the files `m` and `s`.
-pub(crate) fn over<'a>(
+pub(crate) fn over<'w, 'o, 'f>(
     alloc: Global,
-    words: &[&str],
-    options: &[&str],
-    module: &'a [u8],
-    script: &'a [u8],
+    words: &'w [&'w str],
+    options: &'o [&'o str],
+    module: &'f [u8],
+    script: &'f [u8],
 ) -> Told {
     let files = [("m", module), ("s", script)];
     let call = Call {
@@ -164,7 +164,7 @@ pub(crate) fn over<'a>(
 }
 
 /// Calls with these words end as the rows say.
-pub(crate) fn all_end(rt: &impl Abort, alloc: Global, words: &[&str], rows: &[End]) {
+pub(crate) fn all_end<'w>(rt: &impl Abort, alloc: Global, words: &'w [&'w str], rows: &[End]) {
     for (number, (module, script, status, written)) in rows.iter().enumerate() {
         let told = over(alloc, words, &[], module, script);
         holds(rt, number, told.is(*status, written));
@@ -172,7 +172,7 @@ pub(crate) fn all_end(rt: &impl Abort, alloc: Global, words: &[&str], rows: &[En
 }
 
 /// Calls with these words print the rows' sessions.
-pub(crate) fn all_print(rt: &impl Abort, alloc: Global, words: &[&str], rows: &[Row]) {
+pub(crate) fn all_print<'w>(rt: &impl Abort, alloc: Global, words: &'w [&'w str], rows: &[Row]) {
     for (number, row) in rows.iter().enumerate() {
         let told = over(alloc, words, row.options, row.module, row.script);
         holds(rt, number, told.is(0, row.printed));
