@@ -233,26 +233,26 @@ fn limits_at_their_edges(rt: HostRuntime) {
 /// A name of four letters, for the digits of a number below 10,000.
 fn push_name(out: &mut Vec<u8>, number: u16) -> Result<(), AllocError> {
     out.push(4)?;
-    for place in [1_000, 100, 10, 1] {
-        out.push(b'a' + (number / place % 10) as u8)?;
+    for digits in [number / 1_000, number / 100, number / 10, number] {
+        out.push(b'a' + (digits % 10) as u8)?;
     }
     Ok(())
 }
 
 /// Imports of 300 functions of `env`, by every second number behind this one.
-fn push_imports(out: &mut Vec<u8>, begin: u16) -> Result<(), AllocError> {
+fn push_imports(out: &mut Vec<u8>, begin: u8) -> Result<(), AllocError> {
     for k in 0..300u16 {
         out.extend_from_slice(b"\x03env")?;
-        push_name(out, begin + 2 * k + 1)?;
+        push_name(out, begin as u16 + 2 * k + 1)?;
         out.extend_from_slice(b"\0\0")?;
     }
     Ok(())
 }
 
 /// Exports of these imports, by every second number from this one on.
-fn push_exports(out: &mut Vec<u8>, begin: u16) -> Result<(), AllocError> {
+fn push_exports(out: &mut Vec<u8>, begin: u8) -> Result<(), AllocError> {
     for k in 0..300u16 {
-        push_name(out, begin + 2 * k)?;
+        push_name(out, begin as u16 + 2 * k)?;
         out.push(0)?;
         if k < 128 {
             out.push(k as u8)?;
@@ -265,7 +265,7 @@ fn push_exports(out: &mut Vec<u8>, begin: u16) -> Result<(), AllocError> {
 
 /// A module that imports each of 300 names by the number after its own, and exports it by its own; its own function, which gives
 /// 7, has the name of the last number.
-fn link_of_chain(alloc: Global, begin: u16, last: u16) -> Result<Vec<u8>, AllocError> {
+fn link_of_chain(alloc: Global, begin: u8, last: u16) -> Result<Vec<u8>, AllocError> {
     let mut out = Vec::from_slice(
         alloc,
         b"\0asm\x01\0\0\0\x01\x05\x01`\0\x01\x7f\x02\xe6\x19\xac\x02".as_slice(),
