@@ -31,7 +31,8 @@ use Rattle.wasm2js_translation.specs.Tables.{words_of, stubs}
 use Rattle.wasm2js_laws_scopes.specs.Provided.{signature, signature_for}
 use Rattle.wasm2js_laws_acceptance.proofs.ProvidedEntries.{in_right}
 use Rattle.wasm2js_laws_acceptance.proofs.ProvidedFound.{function_found}
-use Rattle.wasm2js_laws_acceptance.proofs.ProvidedFunctions.{AreSilent, silent_join, last_silent, function_declared}
+use Rattle.wasm2js_laws_acceptance.proofs.FunctionsSigned.{AreSilent, silent_join, last_silent}
+use Rattle.wasm2js_laws_acceptance.proofs.ProvidedFunctions.{function_declared}
 use Rattle.wasm2js_laws_acceptance.proofs.NamesFresh.{all_places}
 use Rattle.wasm2js_laws_acceptance.proofs.NamesKeys.{function_typed}
 use Rattle.wasm2js_laws_acceptance.proofs.CalledNumbers.{function_stands}

@@ -1,9 +1,10 @@
 -- The functions that the source defines are fine.
-use Rattle.std.proofs.Common.{◌≡◌, ℕ, ◌+◌, ◌*◌, ◌≤◌, max, List, [], ◌∷◌, ◌++◌, length, Option, Some, None, refl, sym, ap, subst, arith, length-append}
+use Rattle.std.proofs.Common.{◌≡◌, ℕ, ◌+◌, ◌*◌, ◌≤◌, max, Bool, true, false, List, [], ◌∷◌, ◌++◌, length, Option, Some, None, refl, sym, ap, subst, arith, length-append}
 use Rattle.std.specs.Prelude.{slice_get, is_some}
 use Rattle.std.specs.List.{flat_map, range_with_len}
 use Rattle.std.proofs.lemmas.Option.{slice_get_within}
 use Rattle.wasm_lang.specs.declared.types.ValType.{ValType}
+use Rattle.wasm_lang.specs.declared.types.ValType.TheVariants.{I32, I64}
 use Rattle.wasm_lang.specs.Modules.{FunctionType, WasmModule}
 use Rattle.wasm_lang_valid.specs.declared.section.Section.TheVariants as sections
 use Rattle.wasm_lang_valid.specs.Measures.{measures_of}
@@ -22,7 +23,7 @@ use Rattle.asm_lang_valid.specs.Typing.{Scope, Around, at_top}
 use Rattle.asm_lang_valid.specs.Typed.{scope_of}
 use Rattle.wasm2js_translation.specs.Names.{numbered, function}
 use Rattle.wasm2js_translation.specs.Actions.{under}
-use Rattle.wasm2js_translation.specs.Bodies.{out, leave_with, stmts_of, closing, body_stmts}
+use Rattle.wasm2js_translation.specs.Bodies.{out, leave_with, comes_to_end, stmts_of, closing, body_stmts}
 use Rattle.wasm2js_translation.specs.Modules.{param_names, context_of, own_function, translated}
 use Rattle.wasm2js_translation.specs.Rooms.{Room, here, room_of, body_room, local_names, operand_names, declared_names}
 use Rattle.wasm2js_translation.specs.Tables.{cell_count}
@@ -67,9 +68,11 @@ declared_few r n more =
 
 -- ---- the return at the end
 
-closing_fine : (s : Scope) (a : Around) (bytes cells : ℕ) (c : Context) (r : Option ValType) → AllFine s a 8 (leave_with r (under 1 0 (listed r ++ []))) → AllFine s a 8 (closing bytes cells c r)
-closing_fine s a bytes cells c None h = tt
-closing_fine s a bytes cells c (Some t) h = h
+closing_fine : (s : Scope) (a : Around) (bytes cells : ℕ) (c : Context) (r : Option ValType) (reached : Bool) → AllFine s a 8 (leave_with r (under 1 0 (listed r ++ []))) → AllFine s a 8 (closing bytes cells c r reached)
+closing_fine s a bytes cells c None reached h = tt
+closing_fine s a bytes cells c (Some I32) true h = tt
+closing_fine s a bytes cells c (Some I32) false h = h
+closing_fine s a bytes cells c (Some I64) reached h = h
 
 module _ (w : WasmModule) (t : FunctionType) (more : List ValType) (code : Trees) where
   abbrev c : Context
@@ -112,13 +115,13 @@ module _ (w : WasmModule) (t : FunctionType) (more : List ValType) (code : Trees
     all_fine source there i own given =
         let typed = (functions_are_typed w source.whole).are_typed k (a_function t more code) (ap found there) in
         let formed = body_is_formed w i own.body code source.shaped.bodies source.words (limited w source.within).products own.is_body own.has_tree in
-        let answers : target.result_of s ≡ is_some c.returns = body_gives (memory_bytes w) (cell_count w) c code in
+        let answers : target.result_of s ≡ is_some c.returns = body_gives (memory_bytes w) (cell_count w) c code c.returns refl in
         let first = left_room s c (here 0 (listed c.returns) []) (room_of c code 0 []) has_room in
         let rest = right_room s c (here 0 (listed c.returns) []) (room_of c code 0 []) has_room in
         all_join s at_top (30 + tree_levels code) (stmts_of (memory_bytes w) (cell_count w) c code (out c.returns ∷ []) 0 [] [] []) _
-        (code_is_fine s c (is_called w) (memory_bytes w) (cell_count w) given answers code (result_of t ∷ []) (out c.returns ∷ []) 0 [] (listed (result_of t)) at_top typed.1 formed (refl, refl, refl) refl rest)
+        (code_is_fine s c (is_called w) (memory_bytes w) (cell_count w) given answers code (result_of t ∷ []) (out c.returns ∷ []) 0 [] (listed (result_of t)) at_top typed.1 formed (refl, refl, refl) refl refl rest)
         (all_higher s at_top 8 (30 + tree_levels code) _ (omega arith)
-        (closing_fine s at_top (memory_bytes w) (cell_count w) c c.returns
+        (closing_fine s at_top (memory_bytes w) (cell_count w) c c.returns (comes_to_end code)
         (returns_are_fine s at_top c 0 [] [] given.fixed answers (subst (λ ts. HasRoom s c (here 0 ts [])) (sym (append_none (listed c.returns))) first))))
       where
         append_none : (ts : List ValType) → ts ++ [] ≡ ts

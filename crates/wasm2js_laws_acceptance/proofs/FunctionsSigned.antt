@@ -1,120 +1,173 @@
--- A function has a result exactly where its type has one.
-use Rattle.std.proofs.Common.{◌≡◌, ℕ, zero, suc, ◌+◌, false, List, [], ◌∷◌, ◌++◌, drop, Option, Some, None, refl, sym, ap, ◌∙◌, subst}
-use Rattle.std.specs.Prelude.{is_some, slice_get}
+-- A function has a result exactly where its type has one: its last statement says what it gives.
+use Rattle.std.proofs.Common.{◌≡◌, ℕ, zero, suc, ◌+◌, Bool, true, false, List, [], ◌∷◌, ◌++◌, drop, Option, Some, None, is_some, refl, sym, ap, ◌∙◌, subst, append_assoc}
+use Rattle.std.specs.Prelude.{slice_get}
 use Rattle.wasm_lang.specs.declared.types.ValType.{ValType}
 use Rattle.wasm_lang.specs.declared.types.ValType.TheVariants.{I32, I64}
 use Rattle.wasm_lang.specs.Modules.{FunctionType}
-use Rattle.wasm_lang_valid.specs.Typing.{Context, listed, result_of as type_result, type_of}
+use Rattle.wasm_lang_valid.specs.Typing.{Context, listed, result_of, type_of}
 use Rattle.wasm_lang_exec.specs.Code.{unreachable, block, loop, if_block, br, br_if, br_table, return, call, call_indirect, plain, Trees, ε, ◌▹◌}
 use Rattle.asm_lang.specs.Modules.{Expr, Stmt, returns}
 use Rattle.asm_lang_valid.specs.Scope.{gives_value, last_gives_value}
-use Rattle.wasm2js_translation.specs.Words.{Simple, put, ask, tell, guard, stop, write_byte, write_whole, Action, simply, either, simple_statement, simple_statements, statements, stmts_in}
-use Rattle.wasm2js_translation.specs.Bodies.{out, signed_word, leave_with, jump, switches_from, answered, call_stmts, indirect_stmts, types_after_call, after_plain, stmts_of, left_waiting, closing, body_stmts, lean_code}
-use Rattle.wasm2js_translation.specs.Delays.{Delayed, written}
+use Rattle.wasm2js_translation.specs.Names.{Name}
+use Rattle.wasm2js_translation.specs.Words.{Action, simply, either, Simple, put, ask, tell, guard, stop, write_byte, write_whole, stmts_in, statement, statements, simple_statement, simple_statements}
+use Rattle.wasm2js_translation.specs.Actions.{under, low}
+use Rattle.wasm2js_translation.specs.Bodies.{out, jump, switches_from, most_cases, answered, call_stmts, indirect_stmts, after_plain, types_after_call, written_but, leave_late, comes_to_end, stmts_of, left_waiting, closing, body_stmts, lean_code}
+use Rattle.wasm2js_translation.specs.Delays.{Delayed, without, written}
 use Rattle.wasm2js_translation.specs.Known.{Known}
 
 -- ---- the last statement
 
-pub last_is : (xs : List Stmt) (x : Stmt) → last_gives_value (stmts_in (xs ++ x ∷ [])) ≡ gives_value x
-last_is [] x = refl
-last_is (y ∷ []) x = refl
-last_is (y ∷ z ∷ xs) x = last_is (z ∷ xs) x
+-- none of them is a return of a value
+abbrev pub AreSilent : List Stmt → Type 0
+AreSilent [] = Unit {0}
+AreSilent (s ∷ ss) = (gives_value s ≡ false) × AreSilent ss
 
-abbrev NoneGive : List Stmt → Type 0
-NoneGive [] = Unit {0}
-NoneGive (x ∷ xs) = (gives_value x ≡ false) × NoneGive xs
+pub silent_join : (xs ys : List Stmt) → AreSilent xs → AreSilent ys → AreSilent (xs ++ ys)
+silent_join [] ys h k = k
+silent_join (x ∷ xs) ys h k = (h.0, silent_join xs ys h.1 k)
 
-none_give : (xs : List Stmt) → NoneGive xs → last_gives_value (stmts_in xs) ≡ false
-none_give [] h = refl
-none_give (x ∷ []) h = h.0
-none_give (x ∷ y ∷ xs) h = none_give (y ∷ xs) h.1
+pub last_silent : (ss : List Stmt) → AreSilent ss → last_gives_value (stmts_in ss) ≡ false
+last_silent [] h = refl
+last_silent (s ∷ []) h = h.0
+last_silent (s ∷ t ∷ ss) h = last_silent (t ∷ ss) h.1
 
-none_join : (xs ys : List Stmt) → NoneGive xs → NoneGive ys → NoneGive (xs ++ ys)
-none_join [] ys h k = k
-none_join (x ∷ xs) ys h k = (h.0, none_join xs ys h.1 k)
+pub last_one : (ss : List Stmt) (s : Stmt) → last_gives_value (stmts_in (ss ++ s ∷ [])) ≡ gives_value s
+last_one [] s = refl
+last_one (x ∷ []) s = refl
+last_one (x ∷ y ∷ ss) s = last_one (y ∷ ss) s
 
--- ---- pieces
+last_two : (ss : List Stmt) (r s : Stmt) → last_gives_value (stmts_in (ss ++ r ∷ s ∷ [])) ≡ gives_value s
+last_two [] r s = refl
+last_two (x ∷ []) r s = refl
+last_two (x ∷ y ∷ ss) r s = last_two (y ∷ ss) r s
 
-simple_gives : (s : Simple) → gives_value (simple_statement s) ≡ false
-simple_gives (put n t) = refl
-simple_gives (ask n f ts) = refl
-simple_gives (tell f ts) = refl
-simple_gives (guard t most kind) = refl
-simple_gives (stop kind) = refl
-simple_gives (write_byte at t) = refl
-simple_gives (write_whole at t) = refl
+simple_silent : (s : Simple) → gives_value (simple_statement s) ≡ false
+simple_silent (put n t) = refl
+simple_silent (ask n helper ts) = refl
+simple_silent (tell helper ts) = refl
+simple_silent (guard t most kind) = refl
+simple_silent (stop kind) = refl
+simple_silent (write_byte at t) = refl
+simple_silent (write_whole at t) = refl
 
-actions_give : (xs : List Action) → NoneGive (statements xs)
-actions_give [] = tt
-actions_give (simply s ∷ xs) = (simple_gives s, actions_give xs)
-actions_give (either t first second ∷ xs) = (refl, actions_give xs)
+statement_silent : (a : Action) → gives_value (statement a) ≡ false
+statement_silent (simply s) = simple_silent s
+statement_silent (either test first second) = refl
 
-written_gives : (ds : List Delayed) → NoneGive (simple_statements (written ds))
-written_gives [] = tt
-written_gives (d ∷ ds) = (refl, written_gives ds)
+statements_silent : (xs : List Action) → AreSilent (statements xs)
+statements_silent [] = tt
+statements_silent (a ∷ xs) = (statement_silent a, statements_silent xs)
 
-none_behind : (ds : List Delayed) (ss : List Stmt) → NoneGive ss → NoneGive (simple_statements (written ds) ++ ss)
-none_behind ds ss h = none_join (simple_statements (written ds)) ss (written_gives ds) h
+written_silent : (ds : List Delayed) → AreSilent (simple_statements (written ds))
+written_silent [] = tt
+written_silent (d ∷ ds) = (refl, written_silent ds)
 
-switches_give : (to : ℕ → List Stmt) (e : Expr) (full i : ℕ) (ks : List ℕ) (d : ℕ) → NoneGive (switches_from to e full i ks d)
-switches_give to e zero i ks d = (refl, tt)
-switches_give to e (suc full) i ks d = (refl, switches_give to e full (i + 512) (drop 512 ks) d)
+silent_behind : (ds : List Delayed) (ss : List Stmt) → AreSilent ss → AreSilent (simple_statements (written ds) ++ ss)
+silent_behind ds ss h = silent_join (simple_statements (written ds)) ss (written_silent ds) h
 
-answered_gives : (r : Option ValType) (d : ℕ) (e : Expr) → NoneGive (answered r d e)
-answered_gives None d e = (refl, tt)
-answered_gives (Some I32) d e = (refl, tt)
-answered_gives (Some I64) d e = (refl, (refl, tt))
+answered_silent : (r : Option ValType) (d : ℕ) (e : Expr) → AreSilent (answered r d e)
+answered_silent None d e = (refl, tt)
+answered_silent (Some I32) d e = (refl, tt)
+answered_silent (Some I64) d e = (refl, (refl, tt))
 
-call_gives : (f b : ℕ) (ts : List ValType) (o : Option FunctionType) → NoneGive (call_stmts f b ts o)
-call_gives f b ts None = tt
-call_gives f b ts (Some t) = answered_gives (type_result t) _ _
+call_silent : (f b : ℕ) (ts : List ValType) (o : Option FunctionType) → AreSilent (call_stmts f b ts o)
+call_silent f b ts None = tt
+call_silent f b ts (Some t) = answered_silent (result_of t) _ _
 
-entry_gives : (cells : ℕ) (types : List FunctionType) (b : ℕ) (ts : List ValType) (o : Option FunctionType) → NoneGive (indirect_stmts cells types b ts o)
-entry_gives cells types b ts None = tt
-entry_gives cells types b ts (Some t) = (refl, answered_gives (type_result t) _ _)
+indirect_silent : (cells : ℕ) (types : List FunctionType) (b : ℕ) (ts : List ValType) (o : Option FunctionType) → AreSilent (indirect_stmts cells types b ts o)
+indirect_silent cells types b ts None = tt
+indirect_silent cells types b ts (Some t) = (refl, answered_silent (result_of t) _ _)
 
-leave_gives : (r : Option ValType) (d : ℕ) → r ≡ None → NoneGive (leave_with r d)
-leave_gives r d e = subst (λ r. NoneGive (leave_with r d)) (sym e) (refl, tt)
+switches_silent : (to : ℕ → List Stmt) (subject : Expr) (full i : ℕ) (ks : List ℕ) (d : ℕ) → AreSilent (switches_from to subject full i ks d)
+switches_silent to subject zero i ks d = (refl, tt)
+switches_silent to subject (suc full) i ks d = (refl, switches_silent to subject full (i + most_cases) _ d)
 
-jump_gives : (r : Option ValType) (k b : ℕ) (ts : List ValType) → r ≡ None → NoneGive (jump (out r ∷ []) k b ts)
-jump_gives r zero b ts e = leave_gives r _ e
-jump_gives r (suc k) b ts e = tt
+silent_but : (n : Name) (ds : List Delayed) (ss : List Stmt) → AreSilent ss → AreSilent (written_but n ds ++ ss)
+silent_but n ds ss h = silent_behind (without n ds) ss h
+
+-- ---- code of a function without a result
+
+jump_silent : (k b : ℕ) (ts : List ValType) → AreSilent (jump (out None ∷ []) k b ts)
+jump_silent zero b ts = (refl, tt)
+jump_silent (suc k) b ts = tt
+
+module _ (bytes cells : ℕ) (c : Context) (none : c.returns ≡ None) where
+  leave_silent : (d : ℕ) (ds : List Delayed) → AreSilent (leave_late c.returns d ds)
+  leave_silent d ds = subst (λ r. AreSilent (leave_late r d ds)) (sym none) (silent_behind ds _ (refl, tt))
+
+  code_silent : (code : Trees) (b : ℕ) (ts : List ValType) (ds : List Delayed) (ks : List Known) → AreSilent (stmts_of bytes cells c code (out None ∷ []) b ts ds ks)
+  code_silent ε b ts ds ks = written_silent ds
+  code_silent (plain p ▹ is) b ts ds ks =
+      let x = lean_code bytes cells c p b ts ds ks in
+      silent_join (statements x.now) _ (statements_silent x.now) (code_silent is b (after_plain c p ts) (left_waiting bytes cells c p b ts ds) x.known)
+  code_silent (unreachable ▹ is) b ts ds ks = silent_behind ds _ (refl, tt)
+  code_silent (br k ▹ is) b ts ds ks = silent_behind ds _ (jump_silent k b ts)
+  code_silent (return ▹ is) b ts ds ks = leave_silent (under 1 b ts) ds
+  code_silent (br_table ns d ▹ is) b ts ds ks = silent_behind ds _ (switches_silent _ _ _ 0 _ d)
+  code_silent (br_if k ▹ is) b ts ds ks = silent_but (low (under 1 b ts)) ds _ (refl, code_silent is b _ [] [])
+  code_silent (block r body ▹ is) b ts ds ks = silent_behind ds _ (refl, code_silent is b _ [] [])
+  code_silent (loop r body ▹ is) b ts ds ks = silent_behind ds _ (refl, code_silent is b _ [] [])
+  code_silent (if_block r first second ▹ is) b ts ds ks = silent_but (low (under 1 b ts)) ds _ (refl, code_silent is b _ [] [])
+  code_silent (call f ▹ is) b ts ds ks =
+      silent_join (simple_statements (written ds) ++ call_stmts f b ts (type_of c f)) _ (silent_behind ds _ (call_silent f b ts (type_of c f))) (code_silent is b (types_after_call (type_of c f) ts) [] [])
+  code_silent (call_indirect t ▹ is) b ts ds ks =
+      silent_join (simple_statements (written ds) ++ indirect_stmts cells c.types b ts (slice_get c.types t)) _ (silent_behind ds _ (indirect_silent cells c.types b ts (slice_get c.types t))) (code_silent is b _ [] [])
+
+-- ---- code of a function that gives a word of 32 bits
+
+-- the last one is a return of a value
+pub record Answers (ss : List Stmt) : Type 0 where
+  pub before : List Stmt
+  pub value : Expr
+  pub is : ss ≡ before ++ returns (Some value) ∷ []
+
+answers_behind : (xs ss : List Stmt) → Answers ss → Answers (xs ++ ss)
+answers_behind xs ss h = record { before = xs ++ h.before; value = h.value; is = ap (λ ys. xs ++ ys) h.is ∙ sym (append_assoc xs h.before (returns (Some h.value) ∷ [])) }
+
+answers_give : (ss : List Stmt) → Answers ss → last_gives_value (stmts_in ss) ≡ true
+answers_give ss h = ap (λ ss. last_gives_value (stmts_in ss)) h.is ∙ last_one h.before (returns (Some h.value))
+
+module _ (bytes cells : ℕ) (c : Context) where
+  -- behind words that are written, and one statement
+  behind_two : (xs : List Stmt) (x : Stmt) (ss : List Stmt) → Answers ss → Answers (xs ++ x ∷ ss)
+  behind_two xs x ss h = answers_behind xs (x ∷ ss) (answers_behind (x ∷ []) ss h)
+
+  pub code_answers : (code : Trees) (b : ℕ) (ts : List ValType) (ds : List Delayed) (ks : List Known) → comes_to_end code ≡ true → Answers (stmts_of bytes cells c code (out (Some I32) ∷ []) b ts ds ks)
+  code_answers ε b ts ds ks e = record { before = written_but (low (under 1 b ts)) ds; value = _; is = refl }
+  code_answers (plain p ▹ is) b ts ds ks e =
+      let x = lean_code bytes cells c p b ts ds ks in
+      answers_behind (statements x.now) _ (code_answers is b (after_plain c p ts) (left_waiting bytes cells c p b ts ds) x.known e)
+  code_answers (unreachable ▹ is) b ts ds ks e = absurd (cc e)
+  code_answers (br k ▹ is) b ts ds ks e = absurd (cc e)
+  code_answers (return ▹ is) b ts ds ks e = absurd (cc e)
+  code_answers (br_table ns d ▹ is) b ts ds ks e = absurd (cc e)
+  code_answers (br_if k ▹ is) b ts ds ks e = behind_two (written_but (low (under 1 b ts)) ds) _ _ (code_answers is b (drop 1 ts) [] [] e)
+  code_answers (block r body ▹ is) b ts ds ks e = behind_two (simple_statements (written ds)) _ _ (code_answers is b (listed r ++ ts) [] [] e)
+  code_answers (loop r body ▹ is) b ts ds ks e = behind_two (simple_statements (written ds)) _ _ (code_answers is b (listed r ++ ts) [] [] e)
+  code_answers (if_block r first second ▹ is) b ts ds ks e = behind_two (written_but (low (under 1 b ts)) ds) _ _ (code_answers is b (listed r ++ drop 1 ts) [] [] e)
+  code_answers (call f ▹ is) b ts ds ks e =
+      answers_behind (simple_statements (written ds) ++ call_stmts f b ts (type_of c f)) _ (code_answers is b (types_after_call (type_of c f) ts) [] [] e)
+  code_answers (call_indirect t ▹ is) b ts ds ks e =
+      answers_behind (simple_statements (written ds) ++ indirect_stmts cells c.types b ts (slice_get c.types t)) _ (code_answers is b (types_after_call (slice_get c.types t) (drop 1 ts)) [] [] e)
 
 -- ---- bodies
 
-module _ (bytes cells : ℕ) (c : Context) where
-  code_gives : c.returns ≡ None → (code : Trees) (b : ℕ) (ts : List ValType) (ds : List Delayed) (ks : List Known) → NoneGive (stmts_of bytes cells c code (out c.returns ∷ []) b ts ds ks)
-  code_gives none ε b ts ds ks = written_gives ds
-  code_gives none (plain p ▹ code) b ts ds ks =
-      let x = lean_code bytes cells c p b ts ds ks in
-      none_join (statements x.now) _ (actions_give x.now) (code_gives none code b (after_plain c p ts) (left_waiting bytes cells c p b ts ds) x.known)
-  code_gives none (unreachable ▹ code) b ts ds ks = none_behind ds _ (refl, tt)
-  code_gives none (br k ▹ code) b ts ds ks = none_behind ds _ (jump_gives c.returns k b ts none)
-  code_gives none (return ▹ code) b ts ds ks = none_behind ds _ (leave_gives c.returns _ none)
-  code_gives none (br_table ns d ▹ code) b ts ds ks = none_behind ds _ (switches_give _ _ _ 0 _ d)
-  code_gives none (br_if k ▹ code) b ts ds ks = none_behind ds _ (refl, code_gives none code b (drop 1 ts) [] [])
-  code_gives none (block r body ▹ code) b ts ds ks = none_behind ds _ (refl, code_gives none code b (listed r ++ ts) [] [])
-  code_gives none (loop r body ▹ code) b ts ds ks = none_behind ds _ (refl, code_gives none code b (listed r ++ ts) [] [])
-  code_gives none (if_block r first second ▹ code) b ts ds ks = none_behind ds _ (refl, code_gives none code b (listed r ++ drop 1 ts) [] [])
-  code_gives none (call f ▹ code) b ts ds ks =
-      none_join (simple_statements (written ds) ++ call_stmts f b ts (type_of c f)) _ (none_behind ds _ (call_gives f b ts (type_of c f)))
-      (code_gives none code b (types_after_call (type_of c f) ts) [] [])
-  code_gives none (call_indirect t ▹ code) b ts ds ks =
-      none_join (simple_statements (written ds) ++ indirect_stmts cells c.types b ts (slice_get c.types t)) _ (none_behind ds _ (entry_gives cells c.types b ts (slice_get c.types t)))
-      (code_gives none code b (types_after_call (slice_get c.types t) (drop 1 ts)) [] [])
+append_none : (ss : List Stmt) → ss ++ [] ≡ ss
+append_none [] = refl
+append_none (s ∷ ss) = ap (λ xs. s ∷ xs) (append_none ss)
 
-  append_none : (xs : List Stmt) → xs ++ [] ≡ xs
-  append_none [] = refl
-  append_none (x ∷ xs) = ap (λ ys. x ∷ ys) (append_none xs)
+module _ (bytes cells : ℕ) (c : Context) (code : Trees) where
+  abbrev own_code : Option ValType → List Stmt
+  own_code r = stmts_of bytes cells c code (out r ∷ []) 0 [] [] []
 
-  append_two : (xs : List Stmt) (x y : Stmt) → xs ++ x ∷ y ∷ [] ≡ (xs ++ x ∷ []) ++ y ∷ []
-  append_two [] x y = refl
-  append_two (z ∷ xs) x y = ap (λ ys. z ∷ ys) (append_two xs x y)
+  reached_gives : (reached : Bool) → comes_to_end code ≡ reached → last_gives_value (stmts_in (own_code (Some I32) ++ closing bytes cells c (Some I32) reached)) ≡ true
+  reached_gives true e = ap (λ ss. last_gives_value (stmts_in ss)) (append_none (own_code (Some I32))) ∙ answers_give (own_code (Some I32)) (code_answers bytes cells c code 0 [] [] [] e)
+  reached_gives false e = last_one (own_code (Some I32)) _
 
-  closed_gives : (r : Option ValType) (xs : List Stmt) → (r ≡ None → NoneGive xs) → last_gives_value (stmts_in (xs ++ closing bytes cells c r)) ≡ is_some r
-  closed_gives None xs h = ap (λ xs. last_gives_value (stmts_in xs)) (append_none xs) ∙ none_give xs (h refl)
-  closed_gives (Some I32) xs h = last_is xs (returns (Some (signed_word 0)))
-  closed_gives (Some I64) xs h = ap (λ xs. last_gives_value (stmts_in xs)) (append_two xs _ (returns (Some (signed_word 0)))) ∙ last_is (xs ++ _ ∷ []) (returns (Some (signed_word 0)))
+  closed_gives : (r : Option ValType) → c.returns ≡ r → last_gives_value (stmts_in (own_code r ++ closing bytes cells c r (comes_to_end code))) ≡ is_some r
+  closed_gives None e = last_silent _ (silent_join (own_code None) [] (code_silent bytes cells c e code 0 [] [] []) tt)
+  closed_gives (Some I32) e = reached_gives (comes_to_end code) refl
+  closed_gives (Some I64) e = last_two (own_code (Some I64)) _ _
 
-  pub body_gives : (code : Trees) → last_gives_value (stmts_in (body_stmts bytes cells c code)) ≡ is_some c.returns
-  body_gives code = closed_gives c.returns (stmts_of bytes cells c code (out c.returns ∷ []) 0 [] [] []) (λ none. code_gives none code 0 [] [] [])
+  pub body_gives : (r : Option ValType) → c.returns ≡ r → last_gives_value (stmts_in (body_stmts bytes cells c code)) ≡ is_some r
+  body_gives r e = ap (λ r. last_gives_value (stmts_in (own_code r ++ closing bytes cells c r (comes_to_end code)))) e ∙ closed_gives r e

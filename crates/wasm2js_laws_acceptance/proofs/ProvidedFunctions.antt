@@ -1,5 +1,5 @@
 -- The functions of a module, by their numbers, and their signatures.
-use Rattle.std.proofs.Common.{◌≡◌, ℕ, zero, suc, ◌+◌, Bool, false, List, [], ◌∷◌, ◌++◌, map, length, Option, Some, None, is_some, inl, refl, sym, ap, ◌∙◌, subst, arith}
+use Rattle.std.proofs.Common.{◌≡◌, ℕ, zero, suc, ◌+◌, Bool, List, [], ◌∷◌, ◌++◌, map, length, Option, Some, None, is_some, inl, refl, ap, ◌∙◌, subst, arith}
 use Rattle.std.specs.Prelude.{slice_get}
 use Rattle.wasm_lang.specs.declared.types.ValType.{ValType}
 use Rattle.wasm_lang.specs.declared.types.ValType.TheVariants.{I32, I64}
@@ -7,131 +7,26 @@ use Rattle.wasm_lang.specs.Modules.{FunctionType, WasmModule}
 use Rattle.wasm_lang.specs.Shape.{IsShaped}
 use Rattle.wasm_lang_valid.specs.ModuleRules.{type_of_function}
 use Rattle.wasm_lang_valid.specs.Profile.{memory_bytes, IsInProfile}
-use Rattle.wasm_lang_valid.specs.Typing.{Context, result_of, type_of}
-use Rattle.wasm_lang_exec.specs.Code.{unreachable, block, loop, if_block, br, br_if, br_table, return, call, call_indirect, plain, Trees, ε, ◌▹◌}
+use Rattle.wasm_lang_valid.specs.Typing.{result_of}
 use Rattle.wasm_lang_exec.specs.Reductions as machine
 use Rattle.wasm_lang_exec.specs.Reductions.{Callee, an_import, a_function, callees, callee_at, found}
 use Rattle.wasm_laws_sound.proofs.Functions.{typed_functions}
-use Rattle.asm_lang.specs.Modules.{Expr, Stmt, Function}
+use Rattle.asm_lang.specs.Modules.{Expr, Function}
 use Rattle.asm_lang_valid.specs.Scope as scopes
 use Rattle.asm_lang_valid.specs.Scope.{gives_value, last_gives_value, signature_of}
 use Rattle.wasm2js_translation.specs.Names as names
 use Rattle.wasm2js_translation.specs.Names.{numbered, spelled}
-use Rattle.wasm2js_translation.specs.Words.{Action, simply, either, Simple, put, ask, tell, guard, stop, write_byte, write_whole, stmts_in, statement, statements, simple_statement, simple_statements}
-use Rattle.wasm2js_translation.specs.Actions.{under}
-use Rattle.wasm2js_translation.specs.Bodies.{out, leave_with, jump, switches_from, most_cases, answered, call_stmts, indirect_stmts, after_plain, types_after_call, stmts_of, left_waiting, closing, body_stmts, lean_code}
-use Rattle.wasm2js_translation.specs.Delays.{Delayed, written}
-use Rattle.wasm2js_translation.specs.Known.{Known}
+use Rattle.wasm2js_translation.specs.Words.{stmts_in}
 use Rattle.wasm2js_translation.specs.Helpers.{int_param}
 use Rattle.wasm2js_translation.specs.Modules.{param_names, context_of, own_function, wrapper_body, wrapper, function_for, functions_from, init_function, high_function, helpers, functions_of, translated}
 use Rattle.wasm2js_translation.specs.Tables.{words_of, cell_count, stubs}
 use Rattle.wasm2js_laws_scopes.specs.Provided.{signature, signature_for}
 use Rattle.wasm2js_laws_acceptance.specs.ProvidedLaws.{FunctionsAreProvided}
+use Rattle.wasm2js_laws_acceptance.proofs.FunctionsSigned.{body_gives}
 use Rattle.wasm2js_laws_acceptance.proofs.ProvidedEntries.{In, in_left, in_right}
 use Rattle.wasm2js_laws_acceptance.proofs.ProvidedFound.{function_found, is_seen}
 
--- ---- the last statement
-
--- none of them is a return of a value
-abbrev pub AreSilent : List Stmt → Type 0
-AreSilent [] = Unit {0}
-AreSilent (s ∷ ss) = (gives_value s ≡ false) × AreSilent ss
-
-pub silent_join : (xs ys : List Stmt) → AreSilent xs → AreSilent ys → AreSilent (xs ++ ys)
-silent_join [] ys h k = k
-silent_join (x ∷ xs) ys h k = (h.0, silent_join xs ys h.1 k)
-
-pub last_silent : (ss : List Stmt) → AreSilent ss → last_gives_value (stmts_in ss) ≡ false
-last_silent [] h = refl
-last_silent (s ∷ []) h = h.0
-last_silent (s ∷ t ∷ ss) h = last_silent (t ∷ ss) h.1
-
-pub last_one : (ss : List Stmt) (s : Stmt) → last_gives_value (stmts_in (ss ++ s ∷ [])) ≡ gives_value s
-last_one [] s = refl
-last_one (x ∷ []) s = refl
-last_one (x ∷ y ∷ ss) s = last_one (y ∷ ss) s
-
-last_two : (ss : List Stmt) (r s : Stmt) → last_gives_value (stmts_in (ss ++ r ∷ s ∷ [])) ≡ gives_value s
-last_two [] r s = refl
-last_two (x ∷ []) r s = refl
-last_two (x ∷ y ∷ ss) r s = last_two (y ∷ ss) r s
-
-simple_silent : (s : Simple) → gives_value (simple_statement s) ≡ false
-simple_silent (put n t) = refl
-simple_silent (ask n helper ts) = refl
-simple_silent (tell helper ts) = refl
-simple_silent (guard t most kind) = refl
-simple_silent (stop kind) = refl
-simple_silent (write_byte at t) = refl
-simple_silent (write_whole at t) = refl
-
-statement_silent : (a : Action) → gives_value (statement a) ≡ false
-statement_silent (simply s) = simple_silent s
-statement_silent (either test first second) = refl
-
-statements_silent : (xs : List Action) → AreSilent (statements xs)
-statements_silent [] = tt
-statements_silent (a ∷ xs) = (statement_silent a, statements_silent xs)
-
-written_silent : (ds : List Delayed) → AreSilent (simple_statements (written ds))
-written_silent [] = tt
-written_silent (d ∷ ds) = (refl, written_silent ds)
-
-silent_behind : (ds : List Delayed) (ss : List Stmt) → AreSilent ss → AreSilent (simple_statements (written ds) ++ ss)
-silent_behind ds ss h = silent_join (simple_statements (written ds)) ss (written_silent ds) h
-
-answered_silent : (r : Option ValType) (d : ℕ) (e : Expr) → AreSilent (answered r d e)
-answered_silent None d e = (refl, tt)
-answered_silent (Some I32) d e = (refl, tt)
-answered_silent (Some I64) d e = (refl, (refl, tt))
-
-call_silent : (f b : ℕ) (ts : List ValType) (o : Option FunctionType) → AreSilent (call_stmts f b ts o)
-call_silent f b ts None = tt
-call_silent f b ts (Some t) = answered_silent (result_of t) _ _
-
-indirect_silent : (cells : ℕ) (types : List FunctionType) (b : ℕ) (ts : List ValType) (o : Option FunctionType) → AreSilent (indirect_stmts cells types b ts o)
-indirect_silent cells types b ts None = tt
-indirect_silent cells types b ts (Some t) = (refl, answered_silent (result_of t) _ _)
-
-switches_silent : (to : ℕ → List Stmt) (subject : Expr) (full i : ℕ) (ks : List ℕ) (d : ℕ) → AreSilent (switches_from to subject full i ks d)
-switches_silent to subject zero i ks d = (refl, tt)
-switches_silent to subject (suc full) i ks d = (refl, switches_silent to subject full (i + most_cases) _ d)
-
--- a branch out of a function without a result
-jump_silent : (k b : ℕ) (ts : List ValType) → AreSilent (jump (out None ∷ []) k b ts)
-jump_silent zero b ts = (refl, tt)
-jump_silent (suc k) b ts = tt
-
-module _ (bytes cells : ℕ) (c : Context) (none : c.returns ≡ None) where
-  leave_silent : (d : ℕ) → AreSilent (leave_with c.returns d)
-  leave_silent d = subst (λ r. AreSilent (leave_with r d)) (sym none) (refl, tt)
-
-  code_silent : (code : Trees) (b : ℕ) (ts : List ValType) (ds : List Delayed) (ks : List Known) → AreSilent (stmts_of bytes cells c code (out None ∷ []) b ts ds ks)
-  code_silent ε b ts ds ks = written_silent ds
-  code_silent (plain p ▹ is) b ts ds ks =
-      let x = lean_code bytes cells c p b ts ds ks in
-      silent_join (statements x.now) _ (statements_silent x.now) (code_silent is b (after_plain c p ts) (left_waiting bytes cells c p b ts ds) x.known)
-  code_silent (unreachable ▹ is) b ts ds ks = silent_behind ds _ (refl, tt)
-  code_silent (br k ▹ is) b ts ds ks = silent_behind ds _ (jump_silent k b ts)
-  code_silent (return ▹ is) b ts ds ks = silent_behind ds _ (leave_silent (under 1 b ts))
-  code_silent (br_table ns d ▹ is) b ts ds ks = silent_behind ds _ (switches_silent _ _ _ 0 _ d)
-  code_silent (br_if k ▹ is) b ts ds ks = silent_behind ds _ (refl, code_silent is b _ [] [])
-  code_silent (block r body ▹ is) b ts ds ks = silent_behind ds _ (refl, code_silent is b _ [] [])
-  code_silent (loop r body ▹ is) b ts ds ks = silent_behind ds _ (refl, code_silent is b _ [] [])
-  code_silent (if_block r first second ▹ is) b ts ds ks = silent_behind ds _ (refl, code_silent is b _ [] [])
-  code_silent (call f ▹ is) b ts ds ks =
-      silent_join (simple_statements (written ds) ++ call_stmts f b ts (type_of c f)) _ (silent_behind ds _ (call_silent f b ts (type_of c f))) (code_silent is b (types_after_call (type_of c f) ts) [] [])
-  code_silent (call_indirect t ▹ is) b ts ds ks =
-      silent_join (simple_statements (written ds) ++ indirect_stmts cells c.types b ts (slice_get c.types t)) _ (silent_behind ds _ (indirect_silent cells c.types b ts (slice_get c.types t))) (code_silent is b _ [] [])
-
-pub body_gives : (bytes cells : ℕ) (c : Context) (code : Trees) (r : Option ValType) → c.returns ≡ r → last_gives_value (stmts_in (body_stmts bytes cells c code)) ≡ is_some r
-body_gives bytes cells c code r e =
-    ap (λ r. last_gives_value (stmts_in (stmts_of bytes cells c code (out r ∷ []) 0 [] [] [] ++ closing bytes cells c r))) e ∙ by r e
-  where
-    by : (r : Option ValType) → c.returns ≡ r → last_gives_value (stmts_in (stmts_of bytes cells c code (out r ∷ []) 0 [] [] [] ++ closing bytes cells c r)) ≡ is_some r
-    by None e = last_silent _ (silent_join (stmts_of bytes cells c code (out None ∷ []) 0 [] [] []) [] (code_silent bytes cells c e code 0 [] [] []) tt)
-    by (Some I32) e = last_one (stmts_of bytes cells c code (out (Some I32) ∷ []) 0 [] [] []) _
-    by (Some I64) e = last_two (stmts_of bytes cells c code (out (Some I64) ∷ []) 0 [] [] []) _ _
+-- ---- what a wrapper gives
 
 wrapper_gives : (r : Option ValType) (e : Expr) → last_gives_value (stmts_in (wrapper_body r e)) ≡ is_some r
 wrapper_gives None e = refl

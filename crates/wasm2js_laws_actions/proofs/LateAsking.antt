@@ -1,10 +1,10 @@
 -- Code whose words are written late calls the helpers that the code calls.
-use Rattle.std.proofs.Common.{Bool, true, false, List, [], ◌∷◌, ◌++◌}
+use Rattle.std.proofs.Common.{◌≡◌, Bool, true, false, List, [], ◌∷◌, ◌++◌, refl}
 use Rattle.std.specs.Prelude.{if◌then◌else◌}
 use Rattle.wasm2js_translation.specs.Names.{Name}
-use Rattle.wasm2js_translation.specs.Words.{Term, Simple, put, ask, tell, guard, stop, write_byte, write_whole, Action, simply, either}
+use Rattle.wasm2js_translation.specs.Words.{Term, read, Simple, put, ask, tell, guard, stop, write_byte, write_whole, Action, simply, either}
 use Rattle.wasm2js_translation.specs.Pairs.{simples}
-use Rattle.wasm2js_translation.specs.Delays.{Delayed, those, others, without, written, replaced, in_place, puts, may_wait, at_once, late_simple, late_arm, late_action, late}
+use Rattle.wasm2js_translation.specs.Delays.{Delayed, those, others, without, written, replaced, in_place, puts, Late, may_wait, at_once, late_among, late_arm, late_either, light, held, behind, takes, taken, late_simple, late_action, late}
 use Rattle.wasm2js_laws_places.specs.Straight.{AsksHelpers, AskHelpers, ActionAsks, ActionsAsk}
 use Rattle.wasm2js_laws_actions.specs.Laws.{LateAsksHelpers, WrittenAsksNone}
 
@@ -37,16 +37,30 @@ in_place_asks ds (write_whole at t) h = tt
 at_once_asks : (ds : List Delayed) (x : Simple) → AsksHelpers x → ActionsAsk (at_once ds x).now
 at_once_asks ds x h = one_more_asks (those _ ds) (in_place ds x) (in_place_asks ds x h)
 
-put_asks : (ds : List Delayed) (n : Name) (t : Term) → ActionsAsk (late_simple ds (put n t)).now
+put_asks : (ds : List Delayed) (n : Name) (t : Term) → ActionsAsk (late_among ds (put n t)).now
 put_asks ds n t = by (may_wait ds n (replaced ds t))
   where
     by : (b : Bool) → ActionsAsk (if b then record { now = []; later = without n ds ++ record { name = n; word = replaced ds t } ∷ [] } else at_once ds (put n t)).now
     by true = tt
     by false = at_once_asks ds (put n t) tt
 
+late_among_asks : (ds : List Delayed) (x : Simple) → AsksHelpers x → ActionsAsk (late_among ds x).now
+late_among_asks ds (put n t) h = put_asks ds n t
+late_among_asks ds x h = at_once_asks ds x h
+
+behind_asks : (ds : List Delayed) (l : Late) → ActionsAsk l.now → ActionsAsk (behind ds l).now
+behind_asks ds l h = in_turn_ask (simples (written (held ds))) l.now (written_ask (held ds)) h
+
+taken_asks : (hs ls : List Delayed) (x : Simple) → takes hs ls x ≡ true → ActionsAsk (taken hs ls x).now
+taken_asks (d ∷ []) ls (put n (read m)) e = one_more_asks (those _ ls) (put n d.word) tt
+taken_asks hs ls x e = absurd (cc e)
+
 late_simple_asks : (ds : List Delayed) (x : Simple) → AsksHelpers x → ActionsAsk (late_simple ds x).now
-late_simple_asks ds (put n t) h = put_asks ds n t
-late_simple_asks ds x h = at_once_asks ds x h
+late_simple_asks ds x h = by (takes (held ds) (light ds) x) refl
+  where
+    by : (b : Bool) → takes (held ds) (light ds) x ≡ b → ActionsAsk (if b then taken (held ds) (light ds) x else behind ds (late_among (light ds) x)).now
+    by true e = taken_asks (held ds) (light ds) x e
+    by false e = behind_asks ds (late_among (light ds) x) (late_among_asks (light ds) x h)
 
 late_arm_asks : (ds : List Delayed) (xs : List Simple) → AskHelpers xs → AskHelpers (late_arm ds xs)
 late_arm_asks ds [] h = tt
@@ -54,7 +68,9 @@ late_arm_asks ds (x ∷ xs) h = (in_place_asks ds x h.0, late_arm_asks (others (
 
 late_action_asks : (ds : List Delayed) (a : Action) → ActionAsks a → ActionsAsk (late_action ds a).now
 late_action_asks ds (simply x) h = late_simple_asks ds x h
-late_action_asks ds (either t first second) h = in_turn_ask (simples (written (those _ ds))) _ (written_ask (those _ ds)) ((late_arm_asks _ first h.0, late_arm_asks _ second h.1), tt)
+late_action_asks ds (either t first second) h =
+    behind_asks ds (late_either (light ds) t first second)
+    (in_turn_ask (simples (written (those _ (light ds)))) _ (written_ask (those _ (light ds))) ((late_arm_asks _ first h.0, late_arm_asks _ second h.1), tt))
 
 late_asks : (actions : List Action) (ds : List Delayed) → ActionsAsk actions → ActionsAsk (late ds actions).now
 late_asks [] ds h = tt

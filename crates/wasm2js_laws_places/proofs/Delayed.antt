@@ -24,7 +24,7 @@ late_is_alike helping ds actions words heap h = let x = code_alike helping actio
 pub written_is_seen : WrittenIsSeen
 written_is_seen helping [] words heap h = (refl, refl)
 written_is_seen helping (d ∷ ds) words heap h =
-    let k = written_is_seen helping ds (with_word d.name (value d.word words heap) words) heap h.3 in
+    let k = written_is_seen helping ds (with_word d.name (value d.word words heap) words) heap h.4 in
     let units = k.1 in
     (k.0 ∙ ap (λ w. goes w heap) (written_first d ds words heap h), omega (arith, units))
 

@@ -3,8 +3,8 @@ use Rattle.std.proofs.Common.{◌≡◌, Bool, true, false, not, ◌||◌, List,
 use Rattle.std.specs.Prelude.{if◌then◌else◌}
 use Rattle.wasm2js_translation.specs.Names.{Name, same_name}
 use Rattle.wasm2js_translation.specs.Words.{Term}
-use Rattle.wasm2js_translation.specs.Delays.{Delayed, is_operand, is_light, waiting, those, others, without, differ}
-use Rattle.wasm2js_laws_places.specs.Delaying.{AreWaiting}
+use Rattle.wasm2js_translation.specs.Delays.{Delayed, is_operand, is_light, waiting, those, others, without, differ, light, held}
+use Rattle.wasm2js_laws_places.specs.Delaying.{IsUnread, AreWaiting}
 use Rattle.wasm2js_laws_places.proofs.SameNames.{same_is, same_itself, same_back}
 
 -- ---- one of them
@@ -23,20 +23,12 @@ none_waits d ds n h = by (same_name d.name n) refl
     by true e = let k = waits_here d ds n e in absurd (cc (k, h))
     by false e = (e, sym (waits_further d ds n e) ∙ h)
 
--- what waits is light, and an operand's
-pub record Waits (n : Name) (t : Term) : Type 0 where
-  pub operand : is_operand n ≡ true
-  pub light : is_light t ≡ true
-
-pub waits_as : (ds : List Delayed) (n : Name) (t : Term) → AreWaiting ds → waiting ds n ≡ Some t → Waits n t
-waits_as [] n t h e = absurd (cc e)
-waits_as (d ∷ ds) n t h e = by (same_name d.name n) refl (waits_as ds n t h.3)
+pub operand_waits : (ds : List Delayed) (n : Name) (t : Term) → AreWaiting ds → waiting ds n ≡ Some t → is_operand n ≡ true
+operand_waits [] n t h e = absurd (cc e)
+operand_waits (d ∷ ds) n t h e = by (same_name d.name n) refl (operand_waits ds n t h.4)
   where
-    by : (b : Bool) → same_name d.name n ≡ b → (waiting ds n ≡ Some t → Waits n t) → Waits n t
-    by true f again =
-        let word : Some d.word ≡ Some t = sym (waits_here d ds n f) ∙ e in
-        let same : d.word ≡ t = cc word in
-        record { operand = subst (λ x. is_operand x ≡ true) (same_is d.name n f) h.0; light = subst (λ x. is_light x ≡ true) same h.1 }
+    by : (b : Bool) → same_name d.name n ≡ b → (waiting ds n ≡ Some t → is_operand n ≡ true) → is_operand n ≡ true
+    by true f again = subst (λ x. is_operand x ≡ true) (same_is d.name n f) h.0
     by false f again = again (sym (waits_further d ds n f) ∙ e)
 
 pub no_operand_waits : (ds : List Delayed) (n : Name) → AreWaiting ds → is_operand n ≡ false → waiting ds n ≡ None
@@ -44,7 +36,7 @@ no_operand_waits ds n h apart = by (waiting ds n) refl
   where
     by : (o : Option Term) → waiting ds n ≡ o → waiting ds n ≡ None
     by None e = e
-    by (Some t) e = let k = (waits_as ds n t h e).operand in absurd (cc (k, apart))
+    by (Some t) e = let k = operand_waits ds n t h e in absurd (cc (k, apart))
 
 -- ---- those that are asked for
 
@@ -54,13 +46,13 @@ kept asked n (Some t) = if asked (record { name = n; word = t }) then Some t els
 
 pub those_by_name : (asked : Delayed → Bool) (ds : List Delayed) (n : Name) → AreWaiting ds → waiting (those asked ds) n ≡ kept asked n (waiting ds n)
 those_by_name asked [] n h = refl
-those_by_name asked (d ∷ ds) n h = by (same_name d.name n) (asked d) refl refl (those_by_name asked ds n h.3)
+those_by_name asked (d ∷ ds) n h = by (same_name d.name n) (asked d) refl refl (those_by_name asked ds n h.4)
   where
     at_name : same_name d.name n ≡ true → asked (record { name = n; word = d.word }) ≡ asked d
     at_name e = ap (λ x. asked (record { name = x; word = d.word })) (sym (same_is d.name n e))
 
     none_else : same_name d.name n ≡ true → waiting ds n ≡ None
-    none_else e = subst (λ x. waiting ds x ≡ None) (same_is d.name n e) h.2
+    none_else e = subst (λ x. waiting ds x ≡ None) (same_is d.name n e) h.1
 
     by : (s a : Bool) → same_name d.name n ≡ s → asked d ≡ a → waiting (those asked ds) n ≡ kept asked n (waiting ds n)
         → waiting (those asked (d ∷ ds)) n ≡ kept asked n (waiting (d ∷ ds) n)
@@ -72,12 +64,23 @@ those_by_name asked (d ∷ ds) n h = by (same_name d.name n) (asked d) refl refl
 pub none_left : (asked : Delayed → Bool) (ds : List Delayed) (n : Name) → AreWaiting ds → waiting ds n ≡ None → waiting (those asked ds) n ≡ None
 none_left asked ds n h e = those_by_name asked ds n h ∙ ap (kept asked n) e
 
+pub still_waits : (asked : Delayed → Bool) (ds : List Delayed) (n : Name) (t : Term) → AreWaiting ds → waiting (those asked ds) n ≡ Some t → waiting ds n ≡ Some t
+still_waits asked ds n t h e = by (waiting ds n) (sym (those_by_name asked ds n h) ∙ e)
+  where
+    by : (o : Option Term) → kept asked n o ≡ Some t → o ≡ Some t
+    by None f = f
+    by (Some u) f = cases (asked (record { name = n; word = u })) f
+      where
+        cases : (a : Bool) → (if a then Some u else None) ≡ Some t → Some u ≡ Some t
+        cases true g = g
+        cases false g = absurd (cc g)
+
 pub those_wait : (asked : Delayed → Bool) (ds : List Delayed) → AreWaiting ds → AreWaiting (those asked ds)
 those_wait asked [] h = tt
-those_wait asked (d ∷ ds) h = by (asked d) refl (those_wait asked ds h.3)
+those_wait asked (d ∷ ds) h = by (asked d) refl (those_wait asked ds h.4)
   where
     by : (a : Bool) → asked d ≡ a → AreWaiting (those asked ds) → AreWaiting (those asked (d ∷ ds))
-    by true e again = rw e (h.0, h.1, none_left asked ds d.name h.3 h.2, again)
+    by true e again = rw e (h.0, none_left asked ds d.name h.4 h.1, (λ f. ap (those asked) (h.2 f)), (λ n t f. h.3 n t (still_waits asked ds n t h.4 f)), again)
     by false e again = rw e again
 
 pub none_without : (n : Name) (ds : List Delayed) → AreWaiting ds → waiting (without n ds) n ≡ None
@@ -124,6 +127,29 @@ none_of_those asked other (d ∷ ds) h = by (other d) refl (none_of_those asked 
     by true e again = rw e (h.0, again)
     by false e again = rw e again
 
+-- ---- where only light words wait
+
+abbrev pub AllLight : List Delayed → Type 0
+AllLight ds = NoneIs (λ d. not (is_light d.word)) ds
+
+abbrev pub AreWaitingLight : List Delayed → Type 0
+AreWaitingLight ds = AreWaiting ds × AllLight ds
+
+-- a word that waits there, and its variable
+pub record Waits (n : Name) (t : Term) : Type 0 where
+  pub operand : is_operand n ≡ true
+  pub light : is_light t ≡ true
+
+not_heavy : (b : Bool) → not b ≡ false → b ≡ true
+not_heavy true h = refl
+not_heavy false h = absurd (cc h)
+
+pub waits_as : (ds : List Delayed) (n : Name) (t : Term) → AreWaitingLight ds → waiting ds n ≡ Some t → Waits n t
+waits_as ds n t h e = record { operand = operand_waits ds n t h.0 e; light = not_heavy (is_light t) (none_is (λ d. not (is_light d.word)) ds n t h.1 e) }
+
+pub those_light : (asked : Delayed → Bool) (ds : List Delayed) → AreWaitingLight ds → AreWaitingLight (those asked ds)
+those_light asked ds h = (those_wait asked ds h.0, none_of_those (λ d. not (is_light d.word)) asked ds h.1)
+
 -- ---- others of others
 
 pub all_others : (ds : List Delayed) → others (λ d. false) ds ≡ ds
@@ -166,11 +192,88 @@ joined_by_name (d ∷ ds) es n = by (same_name d.name n) refl (joined_by_name ds
     by true e again = rw e refl
     by false e again = rw e again
 
-pub one_more_waits : (ds : List Delayed) (e : Delayed) → AreWaiting ds → is_operand e.name ≡ true → is_light e.word ≡ true → waiting ds e.name ≡ None → AreWaiting (ds ++ e ∷ [])
-one_more_waits [] e h operand light none = (operand, light, refl, tt)
-one_more_waits (d ∷ ds) e h operand light none =
+pub one_more_waits : (ds : List Delayed) (e : Delayed) → AreWaitingLight ds → is_operand e.name ≡ true → waiting ds e.name ≡ None
+    → ((n : Name) (t : Term) → waiting ds n ≡ Some t → IsUnread n e.word) → AreWaiting (ds ++ e ∷ [])
+one_more_waits [] e h operand none apart = (operand, refl, (λ f. refl), (λ n t f. absurd (cc f)), tt)
+one_more_waits (d ∷ ds) e h operand none apart =
     let parts = none_waits d ds e.name none in
-    let apart = same_back d.name e.name parts.0 in
-    let last : waiting (e ∷ []) d.name ≡ None = waits_further e [] d.name apart in
-    let new : waiting (ds ++ e ∷ []) d.name ≡ None = joined_by_name ds (e ∷ []) d.name ∙ ap (λ x. or_else x (waiting (e ∷ []) d.name)) h.2 ∙ last in
-    (h.0, h.1, new, one_more_waits ds e h.3 operand light parts.1)
+    let last : waiting (e ∷ []) d.name ≡ None = waits_further e [] d.name (same_back d.name e.name parts.0) in
+    let new : waiting (ds ++ e ∷ []) d.name ≡ None = joined_by_name ds (e ∷ []) d.name ∙ ap (λ x. or_else x (waiting (e ∷ []) d.name)) h.0.1 ∙ last in
+    (h.0.0, new, heavy, further, one_more_waits ds e (h.0.4, h.1.1) operand parts.1 (λ n t f. still n t f (same_name d.name n) refl))
+  where
+    heavy : is_light d.word ≡ false → ds ++ e ∷ [] ≡ []
+    heavy f = let k = not_heavy (is_light d.word) h.1.0 in absurd (cc (k, f))
+
+    still : (n : Name) (t : Term) → waiting ds n ≡ Some t → (b : Bool) → same_name d.name n ≡ b → IsUnread n e.word
+    still n t f true g = apart n d.word (waits_here d ds n g)
+    still n t f false g = apart n t (waits_further d ds n g ∙ f)
+
+    at_last : (n : Name) (t : Term) → (b : Bool) → same_name e.name n ≡ b → waiting (e ∷ []) n ≡ Some t → IsUnread d.name t
+    at_last n t true g f =
+        let word : Some e.word ≡ Some t = sym (waits_here e [] n g) ∙ f in
+        let same : e.word ≡ t = cc word in
+        subst (λ x. IsUnread d.name x) same (apart d.name d.word (waits_here d ds d.name (same_itself d.name)))
+    at_last n t false g f = let none : None ≡ Some t = sym (waits_further e [] n g) ∙ f in absurd (cc none)
+
+    further : (n : Name) (t : Term) → waiting (ds ++ e ∷ []) n ≡ Some t → IsUnread d.name t
+    further n t f = by (waiting ds n) refl (sym (joined_by_name ds (e ∷ []) n) ∙ f)
+      where
+        by : (o : Option Term) → waiting ds n ≡ o → or_else o (waiting (e ∷ []) n) ≡ Some t → IsUnread d.name t
+        by None g k = at_last n t (same_name e.name n) refl k
+        by (Some u) g k = h.0.3 n t (g ∙ k)
+
+-- ---- the light ones, and the one that is held
+
+pub all_light : (ds : List Delayed) → AllLight (light ds)
+all_light [] = tt
+all_light (d ∷ ds) = by (is_light d.word) refl (all_light ds)
+  where
+    by : (b : Bool) → is_light d.word ≡ b → AllLight (light ds) → AllLight (light (d ∷ ds))
+    by true e again = rw e (ap not e, again)
+    by false e again = rw e again
+
+pub light_wait : (ds : List Delayed) → AreWaiting ds → AreWaitingLight (light ds)
+light_wait ds h = (those_wait (λ d. is_light d.word) ds h, all_light ds)
+
+pub held_waits : (ds : List Delayed) → AreWaiting ds → AreWaiting (held ds)
+held_waits ds h = those_wait (λ d. not (is_light d.word)) ds h
+
+-- it is the last, behind light ones
+pub record IsHeld (ds : List Delayed) (ls : List Delayed) (d : Delayed) : Type 0 where
+  pub whole : ds ≡ ls ++ d ∷ []
+  pub operand : is_operand d.name ≡ true
+  pub new : waiting ls d.name ≡ None
+  pub apart : (n : Name) (t : Term) → waiting ls n ≡ Some t → IsUnread n d.word
+
+module _ (d : Delayed) where
+  waits_last : (ds ls : List Delayed) → IsHeld ds ls d → waiting ds d.name ≡ Some d.word
+  waits_last ds ls k =
+      ap (λ x. waiting x d.name) k.whole ∙ joined_by_name ls (d ∷ []) d.name ∙ ap (λ x. or_else x (waiting (d ∷ []) d.name)) k.new ∙ waits_here d [] d.name (same_itself d.name)
+
+  held_further : (e : Delayed) (ds : List Delayed) → AreWaiting (e ∷ ds) → (ls : List Delayed) → IsHeld ds ls d → IsHeld (e ∷ ds) (e ∷ ls) d
+  held_further e ds h ls k =
+      record { whole = ap (λ x. e ∷ x) k.whole; operand = k.operand; new = new (same_name e.name d.name) refl; apart = λ n t f. apart n t f (same_name e.name n) refl }
+    where
+      new : (b : Bool) → same_name e.name d.name ≡ b → waiting (e ∷ ls) d.name ≡ None
+      new true g =
+          let none : waiting ds d.name ≡ None = subst (λ x. waiting ds x ≡ None) (same_is e.name d.name g) h.1 in
+          let some = waits_last ds ls k in
+          absurd (cc (none, some))
+      new false g = waits_further e ls d.name g ∙ k.new
+
+      apart : (n : Name) (t : Term) → waiting (e ∷ ls) n ≡ Some t → (b : Bool) → same_name e.name n ≡ b → IsUnread n d.word
+      apart n t f true g = subst (λ x. IsUnread x d.word) (same_is e.name n g) (h.3 d.name d.word (waits_last ds ls k))
+      apart n t f false g = k.apart n t (sym (waits_further e ls n g) ∙ f)
+
+  held_alone : (e : Delayed) → is_operand e.name ≡ true → e ∷ [] ≡ d ∷ [] → IsHeld (e ∷ []) [] d
+  held_alone e h f =
+      let same : e ≡ d = cc f in
+      record { whole = f; operand = subst (λ x. is_operand x.name ≡ true) same h; new = refl; apart = λ n t g. absurd (cc g) }
+
+  pub held_last : (ds : List Delayed) → AreWaiting ds → held ds ≡ d ∷ [] → IsHeld ds (light ds) d
+  held_last [] h f = absurd (cc f)
+  held_last (e ∷ ds) h f = by (is_light e.word) refl f (held_last ds h.4)
+    where
+      by : (b : Bool) → is_light e.word ≡ b → held (e ∷ ds) ≡ d ∷ [] → (held ds ≡ d ∷ [] → IsHeld ds (light ds) d) → IsHeld (e ∷ ds) (light (e ∷ ds)) d
+      by true g k again = rw g (held_further e ds h (light ds) (again (rw g at k)))
+      by false g k again = let none = h.2 g in rw (g, none) (held_alone e h.0 (rw (g, none) at k))

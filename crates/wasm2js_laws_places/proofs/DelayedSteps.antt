@@ -6,9 +6,9 @@ use Rattle.wasm2js_translation.specs.Names.{Name, fixed, spare_high, same_name}
 use Rattle.wasm2js_translation.specs.Words.{Term, read, number, both, flip, sum, product, zeros, compare, choose, byte, whole, Simple, put, ask, tell, guard, stop, write_byte, write_whole}
 use Rattle.wasm2js_translation.specs.Delays.{Delayed, is_operand, others, replaced, all_replaced, in_place, puts, changes, one_changes, one_puts, reads_one, late_arm}
 use Rattle.wasm2js_laws_places.specs.Straight.{Words, with_word, value, values, Answer, gives, traps, Helping, with_high, Outcome, goes, stops, asked, told, then_do, units_after, run_simple, run_simples, simple_units, simples_units}
-use Rattle.wasm2js_laws_places.specs.Delaying.{seen, AreWaiting, IsSame}
+use Rattle.wasm2js_laws_places.specs.Delaying.{seen, IsSame}
 use Rattle.wasm2js_laws_places.proofs.SameNames.{same_is}
-use Rattle.wasm2js_laws_places.proofs.DelayedLists.{those_wait, NoneIs, none_of_less, none_of_those, all_others, others_of_others}
+use Rattle.wasm2js_laws_places.proofs.DelayedLists.{NoneIs, none_of_less, none_of_those, AreWaitingLight, those_light, all_others, others_of_others}
 use Rattle.wasm2js_laws_places.proofs.DelayedTerms.{replaced_value, replaced_values, Changing, seen_next}
 
 -- ---- one after another
@@ -53,6 +53,19 @@ nothing_changes = record { elsewhere = λ w m e. refl; there = λ w v m e. absur
 one_puts_it : (n : Name) (x : ℕ) → Changing (same_name n) (same_name n) (with_word n x)
 one_puts_it n x = record { elsewhere = λ w m e. rw e refl; there = λ w v m e. rw e refl; alike = λ w v m e. ap (λ y. if same_name n m then x else y) e; operand = λ w m o e. rw e refl }
 
+-- a variable of no operand
+pub one_puts_beside : (n : Name) (x : ℕ) → is_operand n ≡ false → Changing (same_name n) (λ m. false) (with_word n x)
+one_puts_beside n x beside = record {
+  elsewhere = λ w m e. rw e refl;
+  there = λ w v m e. absurd (cc e);
+  alike = λ w v m e. ap (λ y. if same_name n m then x else y) e;
+  operand = λ w m o e. apart w m o (same_name n m) refl;
+}
+  where
+    apart : (w : Words) (m : Name) → is_operand m ≡ true → (b : Bool) → same_name n m ≡ b → with_word n x w m ≡ w m
+    apart w m o true e = let k : is_operand n ≡ true = subst (λ r. is_operand r ≡ true) (sym (same_is n m e)) o in absurd (cc (k, beside))
+    apart w m o false e = rw e refl
+
 one_tells : (high : Option ℕ) → Changing at_spare (λ m. false) (with_high high)
 one_tells None = record { elsewhere = λ w m e. refl; there = λ w v m e. absurd (cc e); alike = λ w v m e. e; operand = λ w m o e. refl }
 one_tells (Some x) = record {
@@ -73,7 +86,7 @@ one_asks n x high = record {
 -- ---- one statement
 
 -- these stand for their variables, of which those that still wait read nothing that changes
-module _ (helping : Helping) (es ds : List Delayed) (words : Words) (heap : List ℕ) (h : AreWaiting ds) (same : seen es words heap ≡ seen ds words heap) where
+module _ (helping : Helping) (es ds : List Delayed) (words : Words) (heap : List ℕ) (h : AreWaitingLight ds) (same : seen es words heap ≡ seen ds words heap) where
   abbrev before : Words
   before = seen ds words heap
 
@@ -165,7 +178,7 @@ module _ (s : Simple) (ss : List Simple) (ds : List Delayed) (none : Untouched (
       (none_of_less (λ d. reads_one (one_changes (s ∷ ss)) d.word) (λ d. reads_one (one_changes ss) d.word) ds (λ d e. (reads_neither (changes s) (one_changes ss) d.word e).1) none)
 
 module _ (helping : Helping) where
-  pub arm_same : (ss : List Simple) (ds : List Delayed) (words : Words) (heap : List ℕ) → AreWaiting ds → Untouched ss ds
+  pub arm_same : (ss : List Simple) (ds : List Delayed) (words : Words) (heap : List ℕ) → AreWaitingLight ds → Untouched ss ds
       → IsSame (others (λ d. one_puts ss d.name) ds) (run_simples helping ss (seen ds words heap) heap) (run_simples helping (late_arm ds ss) words heap)
   arm_same [] ds words heap h none = (ap (λ x. seen x words heap) (all_others ds), refl)
   arm_same (s ∷ ss) ds words heap h none =
@@ -174,9 +187,9 @@ module _ (helping : Helping) where
       (sym (others_of_others (λ d. puts s d.name) (λ d. one_puts ss d.name) ds))
       (same_then es (others (λ d. one_puts ss d.name) es) (run_simple helping s (seen ds words heap) heap) (run_simple helping (in_place ds s) words heap) (run_simples helping ss)
       (run_simples helping (late_arm es ss)) (one_step helping ds ds words heap h refl s (none_first s ss ds none))
-      (λ w k. arm_same ss es w k (those_wait (λ d. not (puts s d.name)) ds h) (none_later s ss ds none)))
+      (λ w k. arm_same ss es w k (those_light (λ d. not (puts s d.name)) ds h) (none_later s ss ds none)))
 
-  pub arm_units : (ss : List Simple) (ds : List Delayed) (words : Words) (heap : List ℕ) → AreWaiting ds → Untouched ss ds
+  pub arm_units : (ss : List Simple) (ds : List Delayed) (words : Words) (heap : List ℕ) → AreWaitingLight ds → Untouched ss ds
       → simples_units helping (late_arm ds ss) words heap ≡ simples_units helping ss (seen ds words heap) heap
   arm_units [] ds words heap h none = refl
   arm_units (s ∷ ss) ds words heap h none =
@@ -186,6 +199,6 @@ module _ (helping : Helping) where
       ≡ units_after (run_simple helping s (seen ds words heap) heap) (simples_units helping ss) =
       same_after es (run_simple helping s (seen ds words heap) heap) (run_simple helping (in_place ds s) words heap) (simples_units helping ss) (simples_units helping (late_arm es ss))
       (one_step helping ds ds words heap h refl s (none_first s ss ds none))
-      (λ w k. arm_units ss es w k (those_wait (λ d. not (puts s d.name)) ds h) (none_later s ss ds none))
+      (λ w k. arm_units ss es w k (those_light (λ d. not (puts s d.name)) ds h) (none_later s ss ds none))
       in
       cc (one, more)

@@ -3,11 +3,11 @@ use Rattle.std.proofs.Common.{◌≡◌, ℕ, Bool, true, false, not, List, [], 
 use Rattle.std.proofs.Math.Path.{fun_ext}
 use Rattle.wasm2js_translation.specs.Names.{Name, same_name}
 use Rattle.wasm2js_translation.specs.Words.{Term, read, number, both, flip, sum, product, zeros, compare, choose, byte, whole, Summands, no_more, further}
-use Rattle.wasm2js_translation.specs.Delays.{Delayed, is_operand, is_light, waiting, those, others, word_or, at_hand, replaced, replaced_summands, all_replaced, reads_one, without}
+use Rattle.wasm2js_translation.specs.Delays.{Delayed, is_operand, is_light, waiting, those, others, word_or, at_hand, replaced, replaced_summands, all_replaced, reads_one, without, light, held}
 use Rattle.wasm2js_laws_places.specs.Straight.{Words, with_word, value, summed, values, added}
-use Rattle.wasm2js_laws_places.specs.Delaying.{seen, AreWaiting}
+use Rattle.wasm2js_laws_places.specs.Delaying.{seen, IsUnread, AreWaiting}
 use Rattle.wasm2js_laws_places.proofs.SameNames.{same_is, same_itself, same_back}
-use Rattle.wasm2js_laws_places.proofs.DelayedLists.{waits_here, waits_further, Waits, waits_as, no_operand_waits, kept, those_by_name, those_wait, NoneIs, none_is, or_else, joined_by_name}
+use Rattle.wasm2js_laws_places.proofs.DelayedLists.{waits_here, waits_further, operand_waits, no_operand_waits, kept, those_by_name, those_wait, NoneIs, none_is, AreWaitingLight, Waits, waits_as, or_else, joined_by_name, held_waits}
 
 -- ---- what a variable's word counts as
 
@@ -86,21 +86,25 @@ written_first d ds words heap h = fun_ext (λ m. by m (same_name d.name m) (wait
     elsewhere : (m : Name) → same_name d.name m ≡ false → now m ≡ words m
     elsewhere m e = rw e refl
 
-    apart : (r : Name) → is_operand r ≡ false → now r ≡ words r
-    apart r e = by (same_name d.name r) refl
-      where
-        by : (b : Bool) → same_name d.name r ≡ b → now r ≡ words r
-        by true f = let k : is_operand r ≡ true = subst (λ x. is_operand x ≡ true) (same_is d.name r f) h.0 in absurd (cc (k, e))
-        by false f = elsewhere r f
-
     by : (m : Name) (b : Bool) (o : Option Term) → same_name d.name m ≡ b → waiting ds m ≡ o → seen ds now heap m ≡ seen (d ∷ ds) words heap m
     by m true o e f =
-        let none : waiting ds m ≡ None = subst (λ x. waiting ds x ≡ None) (same_is d.name m e) h.2 in
+        let none : waiting ds m ≡ None = subst (λ x. waiting ds x ≡ None) (same_is d.name m e) h.1 in
         seen_as ds now heap m None none ∙ rw e refl
     by m false None e f = seen_as ds now heap m None f ∙ elsewhere m e ∙ sym (seen_as ds words heap m None f) ∙ rw e refl
-    by m false (Some t) e f =
-        let light = (waits_as ds m t h.3 f).light in
-        seen_as ds now heap m (Some t) f ∙ light_same t words now heap heap light (λ r s g. apart r g) ∙ sym (seen_as ds words heap m (Some t) f) ∙ rw e refl
+    by m false (Some t) e f = seen_as ds now heap m (Some t) f ∙ h.3 m t f (value d.word words heap) words heap ∙ sym (seen_as ds words heap m (Some t) f) ∙ rw e refl
+
+-- a term that reads none of the variables that are written
+pub unread_seen : (ds : List Delayed) (t : Term) (words : Words) (heap : List ℕ) → AreWaiting ds → ((n : Name) (u : Term) → waiting ds n ≡ Some u → IsUnread n t)
+    → value t (seen ds words heap) heap ≡ value t words heap
+unread_seen [] t words heap h unread = refl
+unread_seen (d ∷ ds) t words heap h unread =
+    ap (λ w. value t w heap) (sym (written_first d ds words heap h))
+    ∙ unread_seen ds t (with_word d.name (value d.word words heap) words) heap h.4 (λ n u e. further n u e (same_name d.name n) refl)
+    ∙ unread d.name d.word (waits_here d ds d.name (same_itself d.name)) (value d.word words heap) words heap
+  where
+    further : (n : Name) (u : Term) → waiting ds n ≡ Some u → (b : Bool) → same_name d.name n ≡ b → IsUnread n t
+    further n u e true f = unread n d.word (waits_here d ds n f)
+    further n u e false f = unread n u (waits_further d ds n f ∙ e)
 
 -- where some are written, and those that aren't still wait
 module _ (fs es ds : List Delayed) (written_too still : Delayed → Bool) (words : Words) (heap : List ℕ) (wait : AreWaiting fs)
@@ -135,18 +139,18 @@ not_false : (b : Bool) → not b ≡ false → b ≡ true
 not_false true h = refl
 not_false false h = absurd (cc h)
 
-module _ (asked : Delayed → Bool) (ds : List Delayed) (words : Words) (heap : List ℕ) (h : AreWaiting ds) where
+module _ (asked : Delayed → Bool) (ds : List Delayed) (words : Words) (heap : List ℕ) (h : AreWaitingLight ds) where
   -- all still count as before after some are written
   pub all_seen_again : seen ds (seen (those asked ds) words heap) heap ≡ seen ds words heap
   all_seen_again =
-      seen_again (those asked ds) ds ds asked (λ d. true) words heap (those_wait asked ds h) (λ m. those_by_name asked ds m h) (λ m. kept_all m (waiting ds m)) (λ d e. absurd (cc e))
+      seen_again (those asked ds) ds ds asked (λ d. true) words heap (those_wait asked ds h.0) (λ m. those_by_name asked ds m h.0) (λ m. kept_all m (waiting ds m)) (λ d e. absurd (cc e))
       (λ m t e. (waits_as ds m t h e).light)
 
   -- and so do the others alone
   pub others_seen_again : seen (others asked ds) (seen (those asked ds) words heap) heap ≡ seen ds words heap
   others_seen_again =
-      seen_again (those asked ds) (others asked ds) ds asked (λ d. not (asked d)) words heap (those_wait asked ds h) (λ m. those_by_name asked ds m h)
-      (λ m. those_by_name (λ d. not (asked d)) ds m h) (λ d e. not_false (asked d) e) (λ m t e. (waits_as ds m t h e).light)
+      seen_again (those asked ds) (others asked ds) ds asked (λ d. not (asked d)) words heap (those_wait asked ds h.0) (λ m. those_by_name asked ds m h.0)
+      (λ m. those_by_name (λ d. not (asked d)) ds m h.0) (λ d e. not_false (asked d) e) (λ m t e. (waits_as ds m t h e).light)
 
 -- ---- variables that change
 
@@ -159,7 +163,7 @@ pub record Changing (changed over : Name → Bool) (next : Words → Words) : Ty
   pub operand : (words : Words) (n : Name) → is_operand n ≡ true → over n ≡ false → next words n ≡ words n
 
 module _ (changed over : Name → Bool) (next : Words → Words) (how : Changing changed over next) (ds : List Delayed) (words : Words) (heap heap' : List ℕ)
-    (h : AreWaiting ds) (none : NoneIs (λ d. reads_one changed d.word) ds) where
+    (h : AreWaitingLight ds) (none : NoneIs (λ d. reads_one changed d.word) ds) where
   pub seen_next : seen (others (λ d. over d.name) ds) (next words) heap' ≡ next (seen ds words heap)
   seen_next = fun_ext (λ m. by m (waiting ds m) refl)
     where
@@ -167,7 +171,7 @@ module _ (changed over : Name → Bool) (next : Words → Words) (how : Changing
       es = others (λ d. over d.name) ds
 
       later : (m : Name) → waiting es m ≡ kept (λ d. not (over d.name)) m (waiting ds m)
-      later m = those_by_name (λ d. not (over d.name)) ds m h
+      later m = those_by_name (λ d. not (over d.name)) ds m h.0
 
       by : (m : Name) (o : Option Term) → waiting ds m ≡ o → seen es (next words) heap' m ≡ next (seen ds words heap) m
       by m None e =
@@ -226,3 +230,64 @@ seen_put n t ds words heap h = fun_ext (λ m. by m (same_name n m) refl)
         later m ∙ ap (λ x. or_else x (waiting (new ∷ []) m)) (there m (waiting ds m) back) ∙ ap (or_else (waiting ds m)) (waits_further new [] m e) ∙ nothing (waiting ds m)
         in
         seen_as es words heap m (waiting ds m) is ∙ sym (seen_at_hand ds words heap m) ∙ rw e refl
+
+-- ---- words behind light ones
+
+-- a light word reads no variable of an operand
+pub light_unread : (n : Name) (t : Term) → is_operand n ≡ true → is_light t ≡ true → IsUnread n t
+light_unread n t h light x words heap = light_same t words (with_word n x words) heap heap light (λ r e apart. elsewhere r apart (same_name n r) refl)
+  where
+    elsewhere : (r : Name) → is_operand r ≡ false → (b : Bool) → same_name n r ≡ b → with_word n x words r ≡ words r
+    elsewhere r apart true e = let k : is_operand r ≡ true = subst (λ m. is_operand m ≡ true) (same_is n r e) h in absurd (cc (k, apart))
+    elsewhere r apart false e = rw e refl
+
+-- nor does a term in which such words stand for their variables read one of these
+module _ (ds : List Delayed) (h : AreWaitingLight ds) (n : Name) (u : Term) (there : waiting ds n ≡ Some u) where
+  seen_whatever : (x : ℕ) (words : Words) (heap : List ℕ) → seen ds (with_word n x words) heap ≡ seen ds words heap
+  seen_whatever x words heap = fun_ext (λ m. by m (waiting ds m) refl)
+    where
+      elsewhere : (m : Name) → waiting ds m ≡ None → (b : Bool) → same_name n m ≡ b → with_word n x words m ≡ words m
+      elsewhere m none true e = let k : waiting ds m ≡ Some u = subst (λ r. waiting ds r ≡ Some u) (same_is n m e) there in absurd (cc (k, none))
+      elsewhere m none false e = rw e refl
+
+      by : (m : Name) (o : Option Term) → waiting ds m ≡ o → seen ds (with_word n x words) heap m ≡ seen ds words heap m
+      by m None e = seen_as ds (with_word n x words) heap m None e ∙ elsewhere m e (same_name n m) refl ∙ sym (seen_as ds words heap m None e)
+      by m (Some t) e =
+          seen_as ds (with_word n x words) heap m (Some t) e ∙ light_unread n t (operand_waits ds n u h.0 there) (waits_as ds m t h e).light x words heap
+          ∙ sym (seen_as ds words heap m (Some t) e)
+
+  pub replaced_unread : (t : Term) → IsUnread n (replaced ds t)
+  replaced_unread t x words heap = replaced_value ds (with_word n x words) heap t ∙ ap (λ w. value t w heap) (seen_whatever x words heap) ∙ sym (replaced_value ds words heap t)
+
+-- the last word of a list
+pub seen_last : (ds : List Delayed) (d : Delayed) (words : Words) (heap : List ℕ) → waiting ds d.name ≡ None
+    → seen (ds ++ d ∷ []) words heap ≡ with_word d.name (value d.word words heap) (seen ds words heap)
+seen_last ds d words heap none = fun_ext (λ m. by m (same_name d.name m) refl)
+  where
+    nothing : (o : Option Term) → or_else o None ≡ o
+    nothing None = refl
+    nothing (Some u) = refl
+
+    by : (m : Name) (b : Bool) → same_name d.name m ≡ b → seen (ds ++ d ∷ []) words heap m ≡ with_word d.name (value d.word words heap) (seen ds words heap) m
+    by m true e =
+        let gone : waiting ds m ≡ None = subst (λ x. waiting ds x ≡ None) (same_is d.name m e) none in
+        let is : waiting (ds ++ d ∷ []) m ≡ Some d.word = joined_by_name ds (d ∷ []) m ∙ ap (λ x. or_else x (waiting (d ∷ []) m)) gone ∙ waits_here d [] m e in
+        seen_as (ds ++ d ∷ []) words heap m (Some d.word) is ∙ rw e refl
+    by m false e =
+        let is : waiting (ds ++ d ∷ []) m ≡ waiting ds m = joined_by_name ds (d ∷ []) m ∙ ap (or_else (waiting ds m)) (waits_further d [] m e) ∙ nothing (waiting ds m) in
+        seen_as (ds ++ d ∷ []) words heap m (waiting ds m) is ∙ sym (seen_at_hand ds words heap m) ∙ rw e refl
+
+-- where the word that is held is written, the light ones count as before
+pub held_first : (ds : List Delayed) (words : Words) (heap : List ℕ) → AreWaiting ds → seen (light ds) (seen (held ds) words heap) heap ≡ seen ds words heap
+held_first [] words heap h = refl
+held_first (d ∷ ds) words heap h = by (is_light d.word) refl (held_first ds words heap h.4)
+  where
+    unmoved : is_light d.word ≡ true → value d.word (seen (held ds) words heap) heap ≡ value d.word words heap
+    unmoved e = light_same d.word words (seen (held ds) words heap) heap heap e (λ r f apart. seen_other (held ds) words heap r (held_waits ds h.4) apart)
+
+    by : (b : Bool) → is_light d.word ≡ b → seen (light ds) (seen (held ds) words heap) heap ≡ seen ds words heap
+        → seen (light (d ∷ ds)) (seen (held (d ∷ ds)) words heap) heap ≡ seen (d ∷ ds) words heap
+    by true e again =
+        rw e
+        (ap (λ (x : ℕ). with_word d.name x (seen (light ds) (seen (held ds) words heap) heap)) (unmoved e) ∙ ap (with_word d.name (value d.word words heap)) again)
+    by false e again = let none = h.2 e in rw (e, none) refl

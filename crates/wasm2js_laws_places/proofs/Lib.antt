@@ -2,6 +2,7 @@ pub mod Paced
 pub mod SameNames
 pub mod DelayedLists
 pub mod DelayedTerms
+pub mod DelayedBeside
 pub mod DelayedSteps
 pub mod DelayedArms
 pub mod Delayed

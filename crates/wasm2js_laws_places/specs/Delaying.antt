@@ -1,10 +1,10 @@
 -- What words come to while some of them wait: straight code whose words are written late does what the code does that writes each at once.
-use Rattle.std.specs.Prelude.{◌≡◌, ℕ, true, List, [], ◌∷◌, None, if◌then◌else◌}
+use Rattle.std.specs.Prelude.{◌≡◌, ℕ, true, false, List, [], ◌∷◌, Some, None, if◌then◌else◌}
 use Rattle.wasm_lang.specs.declared.types.ValType.{ValType}
-use Rattle.wasm2js_translation.specs.Names.{same_name}
-use Rattle.wasm2js_translation.specs.Words.{Action}
-use Rattle.wasm2js_translation.specs.Delays.{Delayed, is_operand, is_light, waiting, written, late, standing}
-use Rattle.wasm2js_laws_places.specs.Straight.{Words, value, Helping, Outcome, goes, stops, run_simples, simples_units, run_actions, actions_units}
+use Rattle.wasm2js_translation.specs.Names.{Name, same_name}
+use Rattle.wasm2js_translation.specs.Words.{Term, Action}
+use Rattle.wasm2js_translation.specs.Delays.{Delayed, is_operand, is_light, waiting, without, at_hand, written, late, standing}
+use Rattle.wasm2js_laws_places.specs.Straight.{Words, with_word, value, Helping, Outcome, goes, stops, run_simples, simples_units, run_actions, actions_units}
 use Rattle.wasm2js_laws_places.specs.Places.{operands, locals_of, globals_of, Stays}
 
 -- the word of each variable, where these words count as written
@@ -12,10 +12,16 @@ abbrev pub seen : List Delayed → Words → (heap : List ℕ) → Words
 seen [] words heap = words
 seen (d ∷ ds) words heap = λ n. if same_name d.name n then value d.word words heap else seen ds words heap n
 
--- only operands wait, each once, and only words that may wait
+-- whatever word that variable has, the term has the same
+abbrev pub IsUnread : Name → Term → Type 0
+IsUnread n t = (x : ℕ) (words : Words) (heap : List ℕ) → value t (with_word n x words) heap ≡ value t words heap
+
+-- only operands wait, each once; only the last one's word may be none of the light ones; and none reads the variable of one that waits before it
 abbrev pub AreWaiting : List Delayed → Type 0
 AreWaiting [] = Unit {0}
-AreWaiting (d ∷ ds) = (is_operand d.name ≡ true) × (is_light d.word ≡ true) × (waiting ds d.name ≡ None) × AreWaiting ds
+AreWaiting (d ∷ ds) =
+    (is_operand d.name ≡ true) × (waiting ds d.name ≡ None) × (is_light d.word ≡ false → ds ≡ [])
+    × ((n : Name) (t : Term) → waiting ds n ≡ Some t → IsUnread d.name t) × AreWaiting ds
 
 -- what code comes to that writes each word at once, and what it comes to where these still wait at the end
 abbrev pub IsSame : List Delayed → Outcome → Outcome → Type 0
@@ -51,3 +57,11 @@ abbrev pub OthersAreSeen : Type 0
 OthersAreSeen =
     (ts : List ValType) (ds : List Delayed) (words : Words) (heap : List ℕ) → AreWaiting ds
     → (locals_of ts (seen ds words heap) ≡ locals_of ts words) × (globals_of ts (seen ds words heap) ≡ globals_of ts words)
+
+-- without what one operand is to have, all else is the same, and the word that stands for the operand comes to what it was to have
+abbrev pub BesideIsSeen : Type 0
+BesideIsSeen =
+    (n : Name) (ds : List Delayed) (words : Words) (heap : List ℕ) → AreWaiting ds
+    → AreWaiting (without n ds)
+    × ((m : Name) → same_name n m ≡ false → seen (without n ds) words heap m ≡ seen ds words heap m)
+    × (value (at_hand ds n) (seen (without n ds) words heap) heap ≡ seen ds words heap n)

@@ -1,12 +1,12 @@
 -- Straight code that is worked out: sums of two words, loads from a memory of eight bytes, and words that wait.
-use Rattle.std.specs.Prelude.{ℕ, false, List, [], ◌∷◌, None}
+use Rattle.std.specs.Prelude.{ℕ, false, List, [], ◌∷◌, ◌++◌, None}
 use Rattle.wasm_lang.specs.declared.types.MemOp.{MemOp}
 use Rattle.wasm2js_translation.specs.Names.{Name, numbered, local_low, operand_low, operand_high}
-use Rattle.wasm2js_translation.specs.Words.{read, byte, Simple, put, Action, simply, either}
-use Rattle.wasm2js_translation.specs.Pairs.{literal, operand_pair, simples}
+use Rattle.wasm2js_translation.specs.Words.{Term, read, byte, Simple, put, Action, simply, either}
+use Rattle.wasm2js_translation.specs.Pairs.{literal, plus, operand_pair, simples}
 use Rattle.wasm2js_translation.specs.Wide.{wide_sum}
 use Rattle.wasm2js_translation.specs.Actions.{load_code}
-use Rattle.wasm2js_translation.specs.Delays.{late}
+use Rattle.wasm2js_translation.specs.Delays.{written, Late, late}
 use Rattle.wasm2js_laws_places.specs.Straight.{Words, with_word, gives, Helping, Outcome, goes, stops, run_actions}
 
 -- each helper gives 77, for three units
@@ -55,13 +55,25 @@ changed_and_read = put a_local (literal 5) ∷ put second_operand (read first_op
 abbrev pub local_to_operand : Simple
 local_to_operand = put first_operand (read a_local)
 
+-- what is written at once, and then all that waits
+abbrev pub all_written : Late → List Action
+all_written l = l.now ++ simples (written l.later)
+
 abbrev pub changed_later : List Action
-changed_later = (late [] (simples (local_to_operand ∷ changed_and_read))).now
+changed_later = all_written (late [] (simples (local_to_operand ∷ changed_and_read)))
 
 -- likewise where the local changes in an arm
 abbrev pub changed_in_an_arm : List Action
-changed_in_an_arm = (late [] (simply local_to_operand ∷ either (read second_operand) changed_and_read [] ∷ [])).now
+changed_in_an_arm = all_written (late [] (simply local_to_operand ∷ either (read second_operand) changed_and_read [] ∷ []))
 
 -- of what is read at an address, nothing is written before it
 abbrev pub byte_at_a_constant : List Action
-byte_at_a_constant = (late [] (simples (put first_operand (literal 4) ∷ put first_operand (byte false (read first_operand)) ∷ []))).now
+byte_at_a_constant = all_written (late [] (simples (put first_operand (literal 4) ∷ put first_operand (byte false (read first_operand)) ∷ [])))
+
+-- the local's word and one more
+abbrev pub one_more : Term
+one_more = plus (read a_local) (literal 1)
+
+-- an operand that has it, and these statements
+abbrev pub one_more_and : List Simple → List Action
+one_more_and ss = all_written (late [] (simples (put second_operand one_more ∷ ss)))

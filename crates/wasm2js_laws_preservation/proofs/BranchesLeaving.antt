@@ -6,40 +6,47 @@ use Rattle.std.proofs.lemmas.Option.{slice_get-map}
 use Rattle.std.proofs.lemmas.Bool.Decides.{nat_tests}
 use Rattle.sem_words.specs.declared.word.Word.{Word}
 use Rattle.sem_words.specs.declared.word.TrapKind.TheVariants as kinds
+use Rattle.sem_words.specs.declared.js_value.JsValue.{JsValue}
 use Rattle.sem_words.specs.declared.js_value.JsValue.TheVariants.{Whole}
 use Rattle.sem_words.specs.declared.word.Word.TheVariants.{W32}
+use Rattle.sem_words.specs.JsValues.{to_uint32_of}
 use Rattle.session_lang.specs.Observation.{EventPlain, trapped, stopped, trap_name, ended}
 use Rattle.session_lang.specs.Simulation.{IsSameAs}
 use Rattle.wasm_lang.specs.declared.types.ValType.{ValType}
-use Rattle.wasm_lang.specs.declared.types.ValType.TheVariants.{I32}
+use Rattle.wasm_lang.specs.declared.types.ValType.TheVariants.{I32, I64}
 use Rattle.wasm_lang_valid.specs.declared.rule.Rule.TheVariants.{NoLabel}
 use Rattle.wasm_lang_valid.specs.Typing.{listed, Shape, Fixed, Leaves, Acts, fixed as fixed_acts, leaves as leaves_acts, found}
 use Rattle.wasm_lang_exec.specs.Code.{unreachable, br, br_if, return, Trees, ◌▹◌}
 use Rattle.wasm_lang_exec.specs.Reductions.{choose}
 use Rattle.wasm_laws_sound.specs.Trees.{IsTyped}
-use Rattle.wasm_laws_drive.specs.Drive.{Branch, Leave, Ended}
+use Rattle.wasm_laws_drive.specs.Drive.{Branch, Leave, Ended, onward}
 use Rattle.wasm_laws_drive.specs.Equations.{take_number}
 use Rattle.wasm_laws_drive.specs.Contexts.{Surrounding, closed}
 use Rattle.wasm_laws_drive.specs.Steps.{goes_with}
 use Rattle.wasm_laws_drive.proofs.Stepping.{unreachable_step, br_step, br_if_step, return_step}
+use Rattle.asm_lang.specs.Modules.{Stmt, if_only}
 use Rattle.asm_lang_exec.specs.Runs.{Place, Part}
-use Rattle.asm_lang_exec.specs.Meaning.{Completion, normal}
+use Rattle.asm_lang_exec.specs.Meaning.{Completion, normal, returned}
 use Rattle.asm_laws_continuation.specs.Following.{call_named_to, exec_all_to, unless_left_to}
-use Rattle.wasm2js_translation.specs.Names.{numbered, operand_low}
-use Rattle.wasm2js_translation.specs.Words.{stmts_in}
-use Rattle.wasm2js_translation.specs.Actions.{under}
+use Rattle.wasm2js_translation.specs.Words.{Term, test_of, simple_statements, stmts_in, part_of}
+use Rattle.wasm2js_translation.specs.Delays.{Delayed, at_hand, written}
+use Rattle.wasm2js_translation.specs.Actions.{under, low}
 use Rattle.wasm2js_translation.specs.Bodies as bodies
-use Rattle.wasm2js_translation.specs.Bodies.{Aim, label_of, comes_to_end}
-use Rattle.wasm2js_laws_terms.specs.Sound.{HasTrap}
+use Rattle.wasm2js_translation.specs.Bodies.{Aim, label_of, leave_with, leave_late, comes_to_end, stmts_of}
+use Rattle.wasm2js_translation.specs.Rooms.{here}
+use Rattle.wasm2js_laws_terms.specs.Sound.{HasTrap, IsSound}
+use Rattle.wasm2js_laws_scopes.specs.Provided.{HasRoom}
 use Rattle.wasm2js_laws_places.specs.Following.{Rest}
-use Rattle.wasm2js_laws_places.specs.Straight.{Words}
+use Rattle.wasm2js_laws_places.specs.Straight.{Words, value}
 use Rattle.wasm2js_laws_places.specs.Places.{word_at, operands, store_of, Stays}
-use Rattle.wasm2js_laws_preservation.specs.ControlControl.{Function, IsFair, Inside, state_at, sight, code_sight, IsFollowed, statements_to, MayStand, carried_by, under_aims, AreNested, Exits, IsKept}
+use Rattle.wasm2js_laws_preservation.specs.ControlControl.{Function, IsFair, Inside, MayWait, seen_at, state_at, sight, code_sight, late_sight, IsFollowed, statements_to, MayStand, carried_by, under_aims, AreNested, Gives, Exits, IsKept, IsKeptLate}
 use Rattle.wasm2js_laws_preservation.specs.ControlLaws.{IsKeptFirst}
-use Rattle.wasm2js_laws_preservation.proofs.ControlStanding.{after_condition}
-use Rattle.wasm2js_laws_preservation.proofs.ControlStepping.{free_step}
+use Rattle.wasm2js_laws_preservation.proofs.ControlStanding.{top_int, after_condition}
+use Rattle.wasm2js_laws_preservation.proofs.ControlStepping.{appended, stays_on, free_step}
 use Rattle.wasm2js_laws_actions.proofs.Parts.{test_followed}
-use Rattle.wasm2js_laws_preservation.proofs.ControlKept.{decided_by}
+use Rattle.wasm2js_laws_preservation.proofs.ControlTerms.{tested_then}
+use Rattle.wasm2js_laws_preservation.proofs.ControlWritten.{kept_bare}
+use Rattle.wasm2js_laws_preservation.proofs.ControlAsked.{all_then, word_sound, asked_before, late_given}
 use Rattle.wasm2js_laws_preservation.proofs.InstructionsEnding.{trap_same}
 use Rattle.wasm2js_laws_preservation.specs.BranchesLaws.{BranchesAreKept}
 use Rattle.wasm2js_laws_preservation.proofs.BranchesJumps.{leave_followed, jump_followed}
@@ -78,6 +85,7 @@ module _ (f : Function) (most : ℕ) (ls : List Aim) (b : ℕ) (after : List Val
     turns = ex.turns;
     outs = ex.outs;
     leaves = ex.leaves;
+    ends = λ e. record { types = (ex.ends e).types; gives = (ex.ends e).gives };
   }
 
 module _ (f : Function) (fair : IsFair f) where
@@ -99,6 +107,30 @@ module _ (f : Function) (fair : IsFair f) where
           (λ n. ap f.watch (br_step f.home around k code (state_at f (operands b ts (word_at p)) p w n))) (λ n. refl)
           (jump_followed f fair most around next ls b after (comes_to_end (br k ▹ code)) before nested ex p w i stays aim k us there))
 
+  -- a return of the topmost operand, of this type, while these words wait
+  module _ (ds : List Delayed) (may : MayWait f ds) (most b : ℕ) (us : List ValType) (around : List Surrounding) (next : Completion → Part (Unit {0})) (p : Place) (w : List EventPlain) (i : Inside f most w p) where
+    abbrev IsLeft : Option ValType → Type 0
+    IsLeft t = (q : Place) (w : List EventPlain) (v : JsValue) (values : List Word) → Inside f most w q → Gives t v q values → IsFollowed f q (sight f around Leave values q w) (next (returned v) q)
+
+    abbrev from_here : Option ValType → Rest
+    from_here t = sight f around Leave (operands b (listed t ++ us) (seen_at ds p)) p w
+
+    -- all is written before
+    written_left : (t : Option ValType) → IsLeft t
+        → IsFollowed f p (from_here t) (exec_all_to f.calls f.scope f.bound (stmts_in (simple_statements (written ds) ++ leave_with t (under 1 b (listed t ++ us)))) next p)
+    written_left t exit =
+        subst (λ (part : Part (Unit {0})). IsFollowed f p (from_here t) (part p))
+        (sym (appended f.calls f.scope f.bound (simple_statements (written ds)) (leave_with t (under 1 b (listed t ++ us))) next))
+        (all_then f fair most ds may b p w i (listed t ++ us) around Leave (λ c. unless_left_to c (exec_all_to f.calls f.scope f.bound (stmts_in (leave_with t (under 1 b (listed t ++ us))))) next)
+        (λ q j. leave_followed f fair most around next t Leave b us q w j exit))
+
+    late_left : (t : Option ValType) → HasRoom f.scope f.context (here b (listed t ++ us) []) → IsLeft t
+        → IsFollowed f p (from_here t) (exec_all_to f.calls f.scope f.bound (stmts_in (leave_late t (under 1 b (listed t ++ us)) ds)) next p)
+    late_left None room exit = written_left None exit
+    late_left (Some I32) room exit =
+        late_given f fair most ds may b p w i us (room.operands (b + length us) (omega arith)) around Leave next (λ q v j. exit q w v (W32 (to_uint32_of v) ∷ operands b us (word_at q)) j refl)
+    late_left (Some I64) room exit = written_left (Some I64) exit
+
   return_kept : IsKeptFirst f return
   return_kept most code ls b ts after around before next small typed standing nested ex rest =
       let shaped : Leaves (listed f.context.returns) ≡ typed.form = cc typed.has_form in
@@ -106,15 +138,15 @@ module _ (f : Function) (fair : IsFair f) where
       let takes = leaves_take (listed f.context.returns) typed.takes typed.gives acts in
       let us : List ValType = takes.0 ++ typed.below in
       let is : ts ≡ listed f.context.returns ++ us = typed.operands ∙ ap (λ x. x ++ typed.below) takes.1 ∙ append_assoc (listed f.context.returns) takes.0 typed.below in
-      subst (λ ts. IsKept f most (return ▹ code) ls b ts around before next) (sym is) (λ p w i stays. here us p w i stays)
+      subst (λ ts. IsKeptLate f most (return ▹ code) ls b ts around before next) (sym is) (at_types us (subst (λ ts. MayStand f (return ▹ code) b ts) is standing))
     where
-      here : (us : List ValType) → IsKept f most (return ▹ code) ls b (listed f.context.returns ++ us) around before next
-      here us p w i stays =
+      at_types : (us : List ValType) → MayStand f (return ▹ code) b (listed f.context.returns ++ us) → IsKeptLate f most (return ▹ code) ls b (listed f.context.returns ++ us) around before next
+      at_types us stands ds ks may p w i known stays =
           let ts : List ValType = listed f.context.returns ++ us in
-          free_step f fair most w p (operands b ts (word_at p)) (λ t. closed f.home around (Leave t)) (code_sight f around (return ▹ code) b ts p w)
-          (sight f around Leave (operands b ts (word_at p)) p w) (statements_to f (return ▹ code) ls b ts [] [] next p) i
-          (λ n. ap f.watch (return_step f.home around code (state_at f (operands b ts (word_at p)) p w n))) (λ n. refl)
-          (leave_followed f fair most around next f.context.returns Leave b us p w i ex.leaves)
+          free_step f fair most w p (operands b ts (seen_at ds p)) (λ t. closed f.home around (Leave t)) (late_sight f around (return ▹ code) b ts ds p w)
+          (sight f around Leave (operands b ts (seen_at ds p)) p w) (statements_to f (return ▹ code) ls b ts ds ks next p) i
+          (λ n. ap f.watch (return_step f.home around code (state_at f (operands b ts (seen_at ds p)) p w n))) (λ n. refl)
+          (late_left ds may most b us around next p w i f.context.returns stands.room ex.leaves)
 
   unreachable_kept : HasTrap f.scope → IsKeptFirst f unreachable
   unreachable_kept has most code ls b ts after around before next small typed standing nested ex rest p w i stays =
@@ -134,10 +166,10 @@ module _ (f : Function) (fair : IsFair f) where
       starts : code_sight f around (unreachable ▹ code) b ts p w 1 ≡ f.watch (Ended (trapped kinds.Unreachable) (store_of f.setting p w))
       starts = ap f.watch (unreachable_step f.home around code (state_at f (operands b ts (word_at p)) p w 1))
 
-  -- a branch on a condition
+  -- a branch on a condition, which is this term
   module _ (k most : ℕ) (code : Trees) (ls : List Aim) (b : ℕ) (us below after : List ValType) (aim : Aim) (around : List Surrounding) (before : Words) (next : Completion → Part (Unit {0}))
       (nested : AreNested ls b) (ex : Exits f most ls b after (comes_to_end code) around before next) (there : slice_get ls k ≡ Some aim) (is : us ≡ listed (carried_by aim) ++ below)
-      (rest : IsKept f most code ls b us around before next) (p : Place) (w : List EventPlain) (i : Inside f most w p) (stays : Stays b before (word_at p)) where
+      (rest : IsKept f most code ls b us around before next) (t : Term) (sound : IsSound f.scope t) (p : Place) (w : List EventPlain) (i : Inside f most w p) (stays : Stays b before (word_at p)) where
     abbrev then_rest : Completion → Part (Unit {0})
     then_rest d = unless_left_to d (statements_to f code ls b us [] []) next
 
@@ -164,22 +196,25 @@ module _ (f : Function) (fair : IsFair f) where
     chosen (suc x) = let e : (suc x == 0) ≡ false = grind (arith, nat_tests) in subst (λ c. IsFollowed f p (sight f around (Branch k) values p w) ((if not c then jumps else goes_further) p)) (sym e) jump_is
 
     abbrev test : ℕ
-    test = word_at p (numbered operand_low (b + length us))
+    test = value t (word_at p) p.heap
 
     abbrev start : Rest
-    start = code_sight f around (br_if k ▹ code) b (I32 ∷ us) p w
+    start = sight f around (onward f.home (br_if k ▹ code)) (W32 test ∷ values) p w
 
     by_word : (x : ℕ) → x ≡ test → IsFollowed f p start ((if not (x == 0) then jumps else goes_further) p)
     by_word x e =
-        free_step f fair most w p (operands b (I32 ∷ us) (word_at p)) (λ t. take_number t.values t (λ c t. choose c (closed f.home around (Branch k t)) (goes_with f.home around code t))) start
+        free_step f fair most w p (W32 test ∷ values) (λ t. take_number t.values t (λ c t. choose c (closed f.home around (Branch k t)) (goes_with f.home around code t))) start
         (either_way test) ((if not (x == 0) then jumps else goes_further) p) i
-        (λ n. ap f.watch (br_if_step f.home around k code (state_at f (operands b (I32 ∷ us) (word_at p)) p w n))) (λ n. refl)
+        (λ n. ap f.watch (br_if_step f.home around k code (state_at f (W32 test ∷ values) p w n))) (λ n. refl)
         (subst (λ m. IsFollowed f p (either_way m) ((if not (x == 0) then jumps else goes_further) p)) e (chosen x))
 
-    condition_kept : IsFollowed f p start (statements_to f (br_if k ▹ code) ls b (I32 ∷ us) [] [] next p)
+    abbrev tests : List Stmt
+    tests = if_only (test_of t) (part_of (bodies.jump ls k b us)) ∷ stmts_of f.setting.bytes f.cells f.context code ls b us [] []
+
+    condition_kept : IsFollowed f p start (exec_all_to f.calls f.scope f.bound (stmts_in tests) next p)
     condition_kept =
-        subst (λ (run : Part (Unit {0})). IsFollowed f p start (run p)) (sym (test_followed f.calls f.scope f.bound then_rest [] (bodies.signed_word (b + length us)) (bodies.jump ls k b us)))
-        (decided_by f start (numbered operand_low (b + length us)) p jumps goes_further i.apart by_word)
+        subst (λ (run : Part (Unit {0})). IsFollowed f p start (run p)) (sym (test_followed f.calls f.scope f.bound then_rest [] (test_of t) (bodies.jump ls k b us)))
+        (tested_then f start p t p jumps goes_further sound i.apart by_word)
 
   br_if_kept : (k : ℕ) → IsKeptFirst f (br_if k)
   br_if_kept k most code ls b ts after around before next small typed standing nested ex rest =
@@ -190,9 +225,16 @@ module _ (f : Function) (fair : IsFair f) where
       let us : List ValType = label ++ typed.below in
       let is : ts ≡ I32 ∷ us = typed.operands ∙ ap (λ x. x ++ typed.below) parts.0 in
       let further : IsTyped (under_aims f.context ls) code us after = subst (λ x. IsTyped (under_aims f.context ls) code (x ++ typed.below) after) parts.1 typed.goes_on in
-      let on : MayStand f code b us = after_condition f b k code (I32 ∷ us) (subst (λ ts. MayStand f (br_if k ▹ code) b ts) is standing) in
-      subst (λ ts. IsKept f most (br_if k ▹ code) ls b ts around before next) (sym is)
-      (λ p w i stays. condition_kept k most code ls b us typed.below after found.aim around before next nested ex found.there refl (rest us further on ex) p w i stays)
+      let stands = subst (λ ts. MayStand f (br_if k ▹ code) b ts) is standing in
+      let kept = kept_bare f most code ls b us around before next (rest us further (after_condition f b k code (I32 ∷ us) stands) ex) in
+      subst (λ ts. IsKeptLate f most (br_if k ▹ code) ls b ts around before next) (sym is)
+      (λ ds ks may p w i known stays.
+      let word = at_hand ds (low (b + length us)) in
+      asked_before f fair most ds may b p w i us around (onward f.home (br_if k ▹ code))
+      (if_only (test_of word) (part_of (bodies.jump ls k b us)) ∷ stmts_of f.setting.bytes f.cells f.context code ls b us [] []) next
+      (λ q beside. condition_kept k most code ls b us typed.below after found.aim around before next nested ex found.there refl kept word
+      (word_sound f fair most ds may b p w i us (top_int f b (br_if k ▹ code) us stands)) q w beside.inside
+      (stays_on b b (b + length us) before (seen_at ds p) (word_at q) (omega arith) (omega arith) stays beside.below)))
 
 pub branches_are_kept : BranchesAreKept
 branches_are_kept f fair has unreachable h = unreachable_kept f fair has

@@ -114,6 +114,7 @@ module _ (f : Function) (fair : IsFair f) where
         turns = turns;
         outs = outs;
         leaves = λ q w v values i g. leaves_out ε (arity_of r) q w v values i g;
+        ends = λ e. absurd (cc e);
       }
         where
           breaks : (k to : ℕ) (t : Option ValType) → slice_get (past base r ∷ ls) k ≡ Some (past to t) → (q : Place) (w : List EventPlain) (values : List Word) → Inside f most w q

@@ -160,6 +160,7 @@ module _ (f : Function) (fair : IsFair f) where
         turns = turns;
         outs = outs;
         leaves = λ q w v values i g. leaves_out f fair most ls b base ts r code around before next p refl stays nested rest after_types reached ex (loop r body ▹ ε) 0 q w v values (inside_more k most w q less i) g;
+        ends = λ e. absurd (cc e);
       }
 
     abbrev BodyIsKept : Type 0

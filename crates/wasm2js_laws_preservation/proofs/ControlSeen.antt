@@ -1,40 +1,26 @@
 -- The words of a place while some wait: they are words, and no local and no global waits.
 use Rattle.std.proofs.Common.{◌≡◌, ℕ, ◌^◌, ◌<◌, Bool, true, false, List, [], ◌∷◌, take, ap, ◌∙◌}
 use Rattle.std.specs.Prelude.{if◌then◌else◌}
-use Rattle.sem_words.proofs.WordLaws.{word_of-IsWord}
 use Rattle.sem_words.specs.declared.word.Word.{Word}
 use Rattle.session_lang.specs.Imports.{Replies}
 use Rattle.session_lang.specs.Observation.{EventPlain}
 use Rattle.wasm_laws_drive.specs.Drive.{at}
 use Rattle.wasm2js_translation.specs.Names.{same_name}
-use Rattle.wasm2js_translation.specs.Words.{Term, read, number, both, flip, sum, product, zeros, compare, choose, byte, whole}
-use Rattle.wasm2js_translation.specs.Delays.{Delayed, is_light}
+use Rattle.wasm2js_translation.specs.Delays.{Delayed}
 use Rattle.wasm2js_laws_places.specs.Straight.{Words, value}
 use Rattle.wasm2js_laws_places.specs.Places.{locals_of, store_with}
 use Rattle.wasm2js_laws_places.specs.Delaying.{seen, AreWaiting}
 use Rattle.wasm2js_laws_preservation.specs.ControlControl.{Function}
 use Rattle.wasm2js_laws_preservation.specs.InstructionsPlain.{AreWords}
 use Rattle.wasm2js_laws_places.proofs.Delayed.{others_are_seen}
+use Rattle.wasm2js_laws_preservation.proofs.ControlTerms.{term_is_word}
 
-light_is_word : (t : Term) (words : Words) (heap : List ℕ) → is_light t ≡ true → AreWords words → value t words heap < 2 ^ 32
-light_is_word (read n) words heap h are = are n
-light_is_word (number z) words heap h are = word_of-IsWord 32 z
-light_is_word (both op a b) words heap h are = absurd (cc h)
-light_is_word (flip a) words heap h are = absurd (cc h)
-light_is_word (sum a ts) words heap h are = absurd (cc h)
-light_is_word (product a b) words heap h are = absurd (cc h)
-light_is_word (zeros a) words heap h are = absurd (cc h)
-light_is_word (compare signed r a b) words heap h are = absurd (cc h)
-light_is_word (choose t a b) words heap h are = absurd (cc h)
-light_is_word (byte signed t) words heap h are = absurd (cc h)
-light_is_word (whole t) words heap h are = absurd (cc h)
-
-pub seen_are_words : (ds : List Delayed) (words : Words) (heap : List ℕ) → AreWaiting ds → AreWords words → AreWords (seen ds words heap)
-seen_are_words [] words heap h are n = are n
-seen_are_words (d ∷ ds) words heap h are n = by (same_name d.name n) (seen_are_words ds words heap h.3 are n)
+pub seen_are_words : (ds : List Delayed) (words : Words) (heap : List ℕ) → AreWords words → AreWords (seen ds words heap)
+seen_are_words [] words heap are n = are n
+seen_are_words (d ∷ ds) words heap are n = by (same_name d.name n) (seen_are_words ds words heap are n)
   where
     by : (b : Bool) → seen ds words heap n < 2 ^ 32 → (if b then value d.word words heap else seen ds words heap n) < 2 ^ 32
-    by true k = light_is_word d.word words heap h.1 are
+    by true k = term_is_word words heap are d.word
     by false k = k
 
 module _ (f : Function) (ds : List Delayed) (words : Words) (heap : List ℕ) (replies : Replies) (events : List EventPlain) (waiting : AreWaiting ds) where

@@ -1,19 +1,25 @@
 -- Code that may stand somewhere: so may its parts.
-use Rattle.std.proofs.Common.{ℕ, ◌+◌, List, [], ◌∷◌, ◌++◌, length, drop, Option}
+use Rattle.std.proofs.Common.{ℕ, ◌+◌, List, [], ◌∷◌, ◌++◌, length, drop, Option, arith}
 use Rattle.wasm_lang.specs.declared.types.ValType.{ValType}
 use Rattle.wasm_lang.specs.declared.types.ValType.TheVariants.{I32}
 use Rattle.wasm_lang.specs.Instructions.{Plain}
 use Rattle.wasm_lang_valid.specs.Typing.{listed}
 use Rattle.wasm_lang_exec.specs.Code.{block, loop, if_block, br_if, plain, Trees, ◌▹◌}
+use Rattle.wasm2js_translation.specs.Actions.{low}
 use Rattle.wasm2js_translation.specs.Bodies.{after_plain}
 use Rattle.wasm2js_translation.specs.Rooms.{Room, with_room, here, local_named, room_of}
+use Rattle.wasm2js_laws_terms.specs.Sound.{IsInt}
 use Rattle.wasm2js_laws_scopes.specs.Provided.{HasRoom}
-use Rattle.wasm2js_laws_typed.proofs.RoomParts.{left_room, right_room}
+use Rattle.wasm2js_laws_typed.proofs.RoomParts.{left_room, right_room, room_here}
 use Rattle.wasm2js_laws_preservation.specs.ControlControl.{Function, MayStand}
 
 module _ (f : Function) (b : ℕ) where
   abbrev room : Trees → ℕ → List ValType → Room
   room code b ts = room_of f.context code b ts
+
+  -- the topmost operand has a variable
+  pub top_int : (code : Trees) (us : List ValType) → MayStand f code b (I32 ∷ us) → IsInt f.scope (low (b + length us))
+  top_int code us h = (room_here f.scope f.context code b (I32 ∷ us) h.room).operands (b + length us) (omega arith)
 
   -- ---- what opens a block
 

@@ -1,7 +1,7 @@
--- What waits is written before code that begins with no plain instruction, and that code is kept as if nothing had waited.
-use Rattle.std.proofs.Common.{◌≡◌, ℕ, true, List, [], ◌∷◌, ◌++◌, None, refl, sym, ap, ◌∙◌, subst, arith}
+-- What waits is written before code that begins with neither a plain instruction nor one that reads an operand's word where it waits, and that code
+-- is kept as if nothing had waited.
+use Rattle.std.proofs.Common.{◌≡◌, ℕ, List, [], ◌∷◌, ◌++◌, None, refl, sym, ap, ◌∙◌, subst, arith}
 use Rattle.std.proofs.Math.Path.{fun_ext}
-use Rattle.sem_words.specs.declared.js_value.JsValue.TheVariants.{Whole}
 use Rattle.session_lang.specs.Observation.{EventPlain}
 use Rattle.wasm_lang.specs.declared.types.ValType.{ValType}
 use Rattle.wasm_lang_exec.specs.Code.{Trees}
@@ -10,10 +10,9 @@ use Rattle.wasm_laws_drive.specs.Contexts.{Surrounding, closed}
 use Rattle.asm_lang.specs.Modules.{Stmt}
 use Rattle.asm_lang_exec.specs.Runs.{Place, Part}
 use Rattle.asm_lang_exec.specs.Meaning.{Completion, normal}
-use Rattle.asm_laws_continuation.specs.Following.{unless_left_to, exec_to, exec_all_to}
-use Rattle.wasm2js_translation.specs.Names.{Name}
-use Rattle.wasm2js_translation.specs.Words.{Term, read, number, both, flip, sum, product, zeros, compare, choose, byte, whole, put, simple_statement, simple_statements, stmts_in}
-use Rattle.wasm2js_translation.specs.Delays.{Delayed, is_light, written}
+use Rattle.asm_laws_continuation.specs.Following.{unless_left_to, exec_all_to}
+use Rattle.wasm2js_translation.specs.Words.{simple_statements, stmts_in}
+use Rattle.wasm2js_translation.specs.Delays.{Delayed, written}
 use Rattle.wasm2js_translation.specs.Known.{Known, into_block}
 use Rattle.wasm2js_translation.specs.Bodies.{Aim, stmts_of}
 use Rattle.wasm2js_laws_places.specs.Following.{Rest}
@@ -22,6 +21,7 @@ use Rattle.wasm2js_laws_places.specs.Places.{word_at, AreApart, IsHeap, operands
 use Rattle.wasm2js_laws_places.specs.Helped.{IsOn}
 use Rattle.wasm2js_laws_places.specs.Delaying.{seen, AreWaiting}
 use Rattle.wasm2js_laws_places.specs.Knowing.{AreKnown}
+use Rattle.wasm2js_laws_typed.specs.Waiting.{AreSoundWaiting}
 use Rattle.wasm2js_laws_actions.proofs.Doing.{apart_kept, still_on, on_further}
 use Rattle.wasm2js_laws_preservation.specs.ControlControl.{Function, IsFair, Inside, MayWait, seen_at, state_at, code_sight, late_sight, IsFollowed, statements_to, IsKept, IsKeptLate}
 use Rattle.wasm2js_laws_places.proofs.Delayed.{written_is_seen}
@@ -30,7 +30,7 @@ use Rattle.wasm2js_laws_preservation.proofs.ControlSeen.{state_seen}
 use Rattle.wasm2js_laws_preservation.proofs.ControlStepping.{appended, no_step}
 use Rattle.wasm2js_laws_preservation.proofs.InstructionsEnding.{counts_alike}
 use Rattle.wasm2js_laws_preservation.proofs.InstructionsComputing.{inside_on, state_on}
-use Rattle.wasm2js_laws_preservation.proofs.BranchesMoved.{write_then, move_then}
+use Rattle.wasm2js_laws_preservation.proofs.ControlTerms.{put_then}
 
 -- nothing waits
 nothing_waits : (f : Function) → MayWait f []
@@ -74,28 +74,13 @@ put_is_seen ds words heap waiting =
 -- ---- their statements at p, seen from another place
 
 module _ (f : Function) (r : Rest) (here : Place) where
-  put_then : (n : Name) (t : Term) (p : Place) (next : Completion → Part (Unit {0})) → is_light t ≡ true → AreApart p → IsHeap f.setting.bytes p.heap
-      → ((q : Place) → IsOn f.setting.bytes (with_word n (value t (word_at p) p.heap) (word_at p)) p.heap 0 p q → IsFollowed f here r (next normal q))
-      → IsFollowed f here r (exec_to f.calls f.scope f.bound [] (simple_statement (put n t)) next p)
-  put_then n (read m) p next h apart heap k = move_then f r here p n m next apart heap k
-  put_then n (number z) p next h apart heap k = write_then f r here p n (Whole z) next apart heap k
-  put_then n (both op a b) p next h apart heap k = absurd (cc h)
-  put_then n (flip a) p next h apart heap k = absurd (cc h)
-  put_then n (sum a ts) p next h apart heap k = absurd (cc h)
-  put_then n (product a b) p next h apart heap k = absurd (cc h)
-  put_then n (zeros a) p next h apart heap k = absurd (cc h)
-  put_then n (compare signed s a b) p next h apart heap k = absurd (cc h)
-  put_then n (choose t a b) p next h apart heap k = absurd (cc h)
-  put_then n (byte signed t) p next h apart heap k = absurd (cc h)
-  put_then n (whole t) p next h apart heap k = absurd (cc h)
-
-  written_then : (ds : List Delayed) (p : Place) (next : Completion → Part (Unit {0})) → AreWaiting ds → AreApart p → IsHeap f.setting.bytes p.heap
+  written_then : (ds : List Delayed) (p : Place) (next : Completion → Part (Unit {0})) → AreSoundWaiting f.scope ds → AreApart p → IsHeap f.setting.bytes p.heap
       → ((q : Place) → IsOn f.setting.bytes (all_put ds (word_at p) p.heap) p.heap 0 p q → IsFollowed f here r (next normal q))
       → IsFollowed f here r (exec_all_to f.calls f.scope f.bound (stmts_in (simple_statements (written ds))) next p)
-  written_then [] p next waiting apart heap k = k p (still_on f.setting.bytes p heap)
-  written_then (d ∷ ds) p next waiting apart heap k =
-      put_then d.name d.word p (λ c. unless_left_to c (exec_all_to f.calls f.scope f.bound (stmts_in (simple_statements (written ds)))) next) waiting.1 apart heap
-      (λ q on. written_then ds q next waiting.3 (apart_kept p q on.locals on.globals apart) (subst (IsHeap f.setting.bytes) (sym on.has_heap) on.is_heap) (λ q' on'. k q' (further q q' on on')))
+  written_then [] p next sound apart heap k = k p (still_on f.setting.bytes p heap)
+  written_then (d ∷ ds) p next sound apart heap k =
+      put_then f r here d.name d.word p (λ c. unless_left_to c (exec_all_to f.calls f.scope f.bound (stmts_in (simple_statements (written ds)))) next) sound.1 apart heap
+      (λ q on. written_then ds q next sound.2 (apart_kept p q on.locals on.globals apart) (subst (IsHeap f.setting.bytes) (sym on.has_heap) on.is_heap) (λ q' on'. k q' (further q q' on on')))
     where
       further : (q q' : Place) → IsOn f.setting.bytes (with_word d.name (value d.word (word_at p) p.heap) (word_at p)) p.heap 0 p q
           → IsOn f.setting.bytes (all_put ds (word_at q) q.heap) q.heap 0 q q' → IsOn f.setting.bytes (all_put (d ∷ ds) (word_at p) p.heap) p.heap 0 p q'
@@ -103,6 +88,12 @@ module _ (f : Function) (r : Rest) (here : Place) where
           on_further f.setting.bytes (with_word d.name (value d.word (word_at p) p.heap) (word_at p)) (all_put (d ∷ ds) (word_at p) p.heap) p.heap p.heap 0 0 p q q' on
           (subst (λ (words : Words). IsOn f.setting.bytes (all_put ds words p.heap) p.heap 0 q q') (fun_ext on.has_words)
           (subst (λ heap. IsOn f.setting.bytes (all_put ds (word_at q) heap) heap 0 q q') on.has_heap on'))
+
+  pub seen_then : (ds : List Delayed) (p : Place) (next : Completion → Part (Unit {0})) → MayWait f ds → AreApart p → IsHeap f.setting.bytes p.heap
+      → ((q : Place) → IsOn f.setting.bytes (seen_at ds p) p.heap 0 p q → IsFollowed f here r (next normal q))
+      → IsFollowed f here r (exec_all_to f.calls f.scope f.bound (stmts_in (simple_statements (written ds))) next p)
+  seen_then ds p next may apart heap k =
+      written_then ds p next may.sound apart heap (λ q on. k q (subst (λ (words : Words). IsOn f.setting.bytes words p.heap 0 p q) (put_is_seen ds (word_at p) p.heap may.waiting) on))
 
 -- ---- code after them
 
@@ -139,15 +130,12 @@ module _ (f : Function) (fair : IsFair f) (most : ℕ) (code : Trees) (ls : List
           (no_step f fair q start (late_sight f around code b ts [] q w) (then_code ks normal q) same_sight
           (kept ks q w (inside_on f most w (seen_at ds p) p.heap 0 p q on refl i) known_there (subst (λ (words : Words). Stays b before words) (sym same) stays)))
 
-    from_written : (q : Place) → IsOn f.setting.bytes (all_put ds (word_at p) p.heap) p.heap 0 p q → IsFollowed f p start (then_code ks normal q)
-    from_written q on = from_there q (subst (λ (words : Words). IsOn f.setting.bytes words p.heap 0 p q) (put_is_seen ds (word_at p) p.heap may.waiting) on)
-
     after_written : stmts_of f.setting.bytes f.cells f.context code ls b ts ds ks ≡ simple_statements (written ds) ++ bare ks → IsFollowed f p start (statements_to f code ls b ts ds ks next p)
     after_written is =
         subst (λ run. IsFollowed f p start run)
         (sym (ap (λ ss. exec_all_to f.calls f.scope f.bound (stmts_in ss) next p) is
         ∙ ap (λ (part : Part (Unit {0})). part p) (appended f.calls f.scope f.bound (simple_statements (written ds)) (bare ks) next)))
-        (written_then f start p ds p (then_code ks) may.waiting i.apart i.world.is_heap from_written)
+        (seen_then f start p ds p (then_code ks) may i.apart i.world.is_heap from_there)
 
   -- where all is written first, whatever waits and is known
   pub kept_late : ((ds : List Delayed) (ks : List Known) → stmts_of f.setting.bytes f.cells f.context code ls b ts ds ks ≡ simple_statements (written ds) ++ bare ks) → IsKeptLate f most code ls b ts around before next

@@ -244,7 +244,7 @@ module _ (f : Function) (fair : IsFair f) (calls : Calls) (follow : AllFollow ca
       subst (λ o. IsAlike f helping b then_types words p.heap p.replies w effect o) (seen_is whole.later (run_actions helping at_once words p.heap) outcome alike_late.1)
       (subst (λ e. IsAlike f helping b then_types words p.heap p.replies w e (run_actions helping at_once words p.heap)) same_effect
       (subst (λ us. IsAlike f helping b us words p.heap p.replies w (do_plain ins (operands b ts words) (locals_of f.context.locals words) (store_with f.setting words p.heap p.replies w)) (run_actions helping at_once words p.heap)) (sym is.types)
-      (is.alike words p.heap p.replies w (seen_are_words ds (word_at p) p.heap may.waiting (are_words p)) i.world.is_heap (numbers_seen ds (word_at p) p.heap))))
+      (is.alike words p.heap p.replies w (seen_are_words ds (word_at p) p.heap (are_words p)) i.world.is_heap (numbers_seen ds (word_at p) p.heap))))
 
   paid : units ≤ f.pace
   paid = subst (λ u. u ≤ f.pace) (sym alike_late.2) (is.paid words p.heap)

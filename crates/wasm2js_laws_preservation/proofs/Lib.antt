@@ -3,8 +3,10 @@ pub mod ControlStepping
 pub mod ControlLabels
 pub mod ControlBlocks
 pub mod ControlLoops
+pub mod ControlTerms
 pub mod ControlSeen
 pub mod ControlWritten
+pub mod ControlAsked
 pub mod ControlKept
 pub mod InstructionsEnding
 pub mod InstructionsSound

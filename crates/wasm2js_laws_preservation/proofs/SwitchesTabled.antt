@@ -127,7 +127,7 @@ module _ (f : Function) (fair : IsFair f) (ks : List ℕ) (d most : ℕ) (code :
   not_here h = cc h
 
   clause_exits : (others more : Before (Unit {0}) Completion) → Exits f most ls b after false around before (after_clause others more)
-  clause_exits others more = record { on = λ h. absurd (not_here h); breaks = ex.breaks; turns = ex.turns; outs = ex.outs; leaves = ex.leaves }
+  clause_exits others more = record { on = λ h. absurd (not_here h); breaks = ex.breaks; turns = ex.turns; outs = ex.outs; leaves = ex.leaves; ends = λ e. record { types = (ex.ends e).types; gives = (ex.ends e).gives } }
 
   target_goes : (others more : Before (Unit {0}) Completion)
       → IsFollowed f p (sight f around (Branch target) values p w) (exec_all_to f.calls f.scope f.bound (stmts_in (to target)) (after_clause others more) p)

@@ -147,6 +147,12 @@ Gives None v q values = Unit {0}
 Gives (Some I32) v q values = top_of 1 values ≡ Some (W32 (to_uint32_of v) ∷ [])
 Gives (Some I64) v q values = top_of 1 values ≡ Some (W64 (to_uint32_of v + 2 ^ 32 * word_at q (fixed result_high)) ∷ [])
 
+-- where the function's own code ends it gives its one operand, a word of 32 bits
+pub record EndsWith (f : Function) (most : ℕ) (after : List ValType) (around : List Surrounding) (next : Completion → Part (Unit {0})) : Type 0 where
+  pub types : after ≡ I32 ∷ []
+  pub gives : (q : Place) (w : List EventPlain) (v : JsValue) → Inside f most w q
+      → IsFollowed f q (sight f around (onward f.home ε) (W32 (to_uint32_of v) ∷ []) q w) (next (returned v) q)
+
 -- ---- how code may be left, each with what comes next on both sides: at its end, where that can be reached; to a block's end, with the
 -- operands that its result is; to a loop's start; and from the function
 
@@ -161,6 +167,7 @@ pub record Exits (f : Function) (most : ℕ) (ls : List Aim) (b : ℕ) (after : 
       → IsFollowed f q (sight f around (Branch k) values q w) (next (returned v) q)
   pub leaves : (q : Place) (w : List EventPlain) (v : JsValue) (values : List Word) → Inside f most w q → Gives f.context.returns v q values
       → IsFollowed f q (sight f around Leave values q w) (next (returned v) q)
+  pub ends : ls ≡ out (Some I32) ∷ [] → EndsWith f most after around next
 
 -- from each place in the function what the statements come to follows the code, while these words wait and this is known of those that
 -- variables hold

@@ -32,7 +32,7 @@ use Rattle.asm_laws_continuation.specs.Following.{call_at_to, exec_all_to, with_
 use Rattle.wasm2js_translation.specs.Names.{Name, numbered, local_low, local_high, operand_low, operand_high, global_low, global_high, function, foreign, table, no_entry, other_entry, label, fixed, spelled}
 use Rattle.wasm2js_translation.specs.Words.{stmts_in}
 use Rattle.wasm2js_translation.proofs.Spelling.{spellings_differ}
-use Rattle.wasm2js_translation.specs.Bodies.{out, closing, body_stmts, stmts_of, comes_to_end}
+use Rattle.wasm2js_translation.specs.Bodies.{out, body_stmts, stmts_of, comes_to_end}
 use Rattle.wasm2js_translation.specs.Modules.{param_names, context_of, own_function, translated}
 use Rattle.wasm2js_translation.specs.Rooms.{here, room_of, body_room, declared_names}
 use Rattle.wasm2js_translation.specs.Tables.{cell_count}
@@ -55,7 +55,8 @@ use Rattle.wasm2js_laws_simulation.proofs.CallsEntries.{indirect_calls_are_kept}
 use Rattle.wasm2js_laws_simulation.specs.FramesFrames.{at_depth, in_body, IsSettled, AreHelped, AccessesAreKept}
 use Rattle.wasm2js_laws_simulation.proofs.FramesHelped.{profile_of, body_formed, bodies_are_helped}
 use Rattle.wasm2js_laws_simulation.proofs.FramesEntered.{bound_from, parameters_are, as_many, names_bound, zero_bindings, zero_words, zero_names, words_in, locals_entered, same_locals}
-use Rattle.wasm2js_laws_simulation.proofs.FramesLeft.{store_same, nested_out, then_ends, then_closes, body_exits}
+use Rattle.wasm2js_laws_simulation.proofs.FramesLeft.{store_same, nested_out, last_of, then_ends, then_closes, body_exits}
+use Rattle.wasm2js_laws_simulation.proofs.FramesClosed.{closed_alike}
 
 -- ---- lists
 
@@ -253,7 +254,8 @@ module _ (f : Function) (settled : IsSettled f) (ready : AreHelped f) (accesses 
           ap (λ b. exec_all_to inner.calls inner.scope d (stmts_in (body_stmts b inner.cells inner.context code)) (then_ends inner helped.fair u t.results typed.0 around after below locals p next most fewer returns) q)
           (sym settled.bytes)
           ∙ ap (λ (part : Part (Unit {0})). part q)
-          (appended inner.calls inner.scope d (stmts_of f.setting.bytes inner.cells inner.context code (out r ∷ []) 0 [] [] []) (closing f.setting.bytes inner.cells inner.context r)
+          (closed_alike inner.calls inner.scope d (then_ends inner helped.fair u t.results typed.0 around after below locals p next most fewer returns) f.setting.bytes inner.cells inner.context code r
+          ∙ appended inner.calls inner.scope d (stmts_of f.setting.bytes inner.cells inner.context code (out r ∷ []) 0 [] [] []) (last_of r)
           (then_ends inner helped.fair u t.results typed.0 around after below locals p next most fewer returns))
 
       body_followed : IsFollowed f p start (exec_all_to inner.calls inner.scope d it.body (then_ends inner helped.fair u t.results typed.0 around after below locals p next most fewer returns) q)

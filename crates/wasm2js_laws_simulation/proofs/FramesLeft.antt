@@ -2,8 +2,10 @@
 use Rattle.std.proofs.Common.{◌≡◌, ℕ, zero, suc, ◌<◌, ◌≤◌, Bool, List, [], ◌∷◌, ◌++◌, length, take, Option, Some, None, refl, sym, ap, ◌∙◌, subst, arith}
 use Rattle.std.specs.Prelude.{slice_get}
 use Rattle.sem_words.specs.declared.word.Word.{Word}
+use Rattle.sem_words.specs.declared.word.Word.TheVariants.{W32}
 use Rattle.sem_words.specs.declared.js_value.JsValue.{JsValue}
 use Rattle.sem_words.specs.declared.js_value.JsValue.TheVariants.{Undef}
+use Rattle.sem_words.specs.JsValues.{to_uint32_of}
 use Rattle.session_lang.specs.Observation.{EventPlain}
 use Rattle.wasm_lang.specs.declared.types.ValType.{ValType}
 use Rattle.wasm_lang.specs.declared.types.ValType.TheVariants.{I32, I64}
@@ -15,17 +17,18 @@ use Rattle.wasm_laws_drive.specs.Equations.{take_values}
 use Rattle.wasm_laws_drive.specs.Contexts.{Surrounding, in_frame, closed}
 use Rattle.wasm_laws_drive.specs.Steps.{to_caller}
 use Rattle.wasm_laws_drive.proofs.Stepping.{end_of_frame, branch_out_of_frame, return_out_of_frame}
+use Rattle.asm_lang.specs.Modules.{Stmt}
 use Rattle.asm_lang_exec.specs.Runs.{Place, Part, and_then, back_to}
 use Rattle.asm_lang_exec.specs.Meaning.{Completion, broken, continued, returned, function_end}
 use Rattle.asm_laws_continuation.specs.Following.{exec_all_to, unless_left_to}
 use Rattle.wasm2js_translation.specs.Names.{numbered, global_low, global_high}
 use Rattle.wasm2js_translation.specs.Words.{stmts_in}
-use Rattle.wasm2js_translation.specs.Bodies.{past, again, out, label_of, closing}
+use Rattle.wasm2js_translation.specs.Bodies.{past, again, out, label_of, leave_with}
 use Rattle.wasm2js_laws_places.specs.Following.{Rest}
 use Rattle.wasm2js_laws_places.proofs.Paced.{same_is_followed}
 use Rattle.wasm2js_laws_places.specs.Straight.{Words}
 use Rattle.wasm2js_laws_places.specs.Places.{word_at, operands, globals_from, globals_of, Setting, store_of, World, Stays}
-use Rattle.wasm2js_laws_preservation.specs.ControlControl.{Function, IsFair, Match, Inside, state_at, sight, code_sight, IsFollowed, AreNested, Gives, Exits}
+use Rattle.wasm2js_laws_preservation.specs.ControlControl.{Function, IsFair, Match, Inside, state_at, sight, code_sight, IsFollowed, AreNested, Gives, EndsWith, Exits}
 use Rattle.wasm2js_laws_preservation.proofs.ControlStepping.{free_step, no_step}
 use Rattle.wasm2js_laws_preservation.proofs.InstructionsEnding.{counts_alike}
 use Rattle.wasm2js_laws_preservation.proofs.BranchesJumps.{leave_followed}
@@ -128,13 +131,18 @@ module _ (f : Function) (fair : IsFair f) (few : ℕ) (r : Option ValType) (type
       (λ n. ap f.watch (end_of_frame f.home around below (length types) code locals (state_at f values q w n)))
       (λ n. ap (λ vs. resumed vs q w n) is) (goes_back q w v i)
 
+-- a return of the result behind all code, also where its end gives the result itself
+abbrev pub last_of : Option ValType → List Stmt
+last_of None = []
+last_of (Some t) = leave_with (Some t) 0
+
 module _ (f : Function) (fair : IsFair f) (few : ℕ) (types : List ValType) (around : List Surrounding) (code : Trees) (below locals : List Word)
     (p : Place) (next : JsValue → Part (Unit {0})) (most : ℕ) (le : few ≤ most) where
   abbrev after_body : (r : Option ValType) → listed r ≡ types → IsReturn f most r around code below locals p next → Completion → Part (Unit {0})
   after_body r results returns = ends f fair few r types results around code below locals p next most le returns
 
   abbrev closes : (r : Option ValType) → listed r ≡ types → IsReturn f most r around code below locals p next → Part (Unit {0})
-  closes r results returns = exec_all_to f.calls f.scope f.bound (stmts_in (closing f.setting.bytes f.cells f.context r)) (after_body r results returns)
+  closes r results returns = exec_all_to f.calls f.scope f.bound (stmts_in (last_of r)) (after_body r results returns)
 
   at_end : (r : Option ValType) (results : listed r ≡ types) (returns : IsReturn f most r around code below locals p next) (q : Place) (w : List EventPlain) → Inside f few w q
       → IsFollowed f q (code_sight f (in_frame below (length types) code locals ∷ around) ε 0 (listed r) q w) (closes r results returns q)
@@ -180,7 +188,7 @@ module _ (f : Function) (fair : IsFair f) (few : ℕ) (types : List ValType) (re
   then_ends = ends f fair few r types results around code below locals p next most le returns
 
   abbrev pub then_closes : Completion → Part (Unit {0})
-  then_closes c = unless_left_to c (exec_all_to f.calls f.scope f.bound (stmts_in (closing f.setting.bytes f.cells f.context r))) then_ends
+  then_closes c = unless_left_to c (exec_all_to f.calls f.scope f.bound (stmts_in (last_of r))) then_ends
 
   pub body_exits : (reached : Bool) (before : Words) → Exits f few (out r ∷ []) 0 (listed r) reached round before then_closes
   body_exits reached before = record {
@@ -191,6 +199,7 @@ module _ (f : Function) (fair : IsFair f) (few : ℕ) (types : List ValType) (re
     leaves = λ q w v values i g.
         leaving f fair few r types results around code below locals p next most le returns Leave q w v values i g
         (λ n. return_out_of_frame f.home around below (length types) code locals (state_at f values q w n));
+    ends = answers;
   }
     where
       breaks : (k base : ℕ) (t : Option ValType) → slice_get (out r ∷ []) k ≡ Some (past base t) → (q : Place) (w : List EventPlain) (values : List Word) → Inside f few w q
@@ -211,3 +220,12 @@ module _ (f : Function) (fair : IsFair f) (few : ℕ) (types : List ValType) (re
           leaving f fair few r types results around code below locals p next most le returns (Branch 0) q w v values i (subst (λ t. Gives t v q values) (sym same) g)
           (λ n. branch_out_of_frame f.home around below (length types) code locals (state_at f values q w n))
       outs (suc k) t e q w v values i g = absurd (cc e)
+
+      answers : out r ∷ [] ≡ out (Some I32) ∷ [] → EndsWith f few (listed r) round then_closes
+      answers e =
+          let is : r ≡ Some I32 = cc e in
+          record {
+            types = ap listed is;
+            gives = λ q w v i.
+                ended_with f fair few r types results around code below locals p next most le returns (W32 (to_uint32_of v) ∷ []) q w v i (ap (λ r. given_back r v q) (sym is));
+          }

@@ -9,6 +9,7 @@ pub mod CallsEntries
 pub mod FramesHelped
 pub mod FramesEntered
 pub mod FramesLeft
+pub mod FramesClosed
 pub mod FramesFramed
 pub mod FramesDepths
 pub mod ImportsAnswering

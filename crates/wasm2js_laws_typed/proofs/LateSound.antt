@@ -5,7 +5,7 @@ use Rattle.asm_lang_valid.specs.Typing.{Scope, most_operators}
 use Rattle.wasm2js_translation.specs.Names.{Name, same_name}
 use Rattle.wasm2js_translation.specs.Words.{Term, read, number, both, flip, sum, product, zeros, compare, choose, byte, whole, Summands, no_more, further, Simple, put, ask, tell, guard, stop, write_byte, write_whole, Action, simply, either, simple_statement, simple_statements, statements}
 use Rattle.wasm2js_translation.specs.Pairs.{simples}
-use Rattle.wasm2js_translation.specs.Delays.{Delayed, waiting, those, others, without, written, word_or, at_hand, replaced, replaced_summands, all_replaced, in_place, puts, Late, may_wait, at_once, late_simple, late_arm, late_action, late, stands}
+use Rattle.wasm2js_translation.specs.Delays.{Delayed, is_light, waiting, those, others, without, written, word_or, at_hand, replaced, replaced_summands, all_replaced, in_place, puts, Late, may_wait, at_once, late_among, late_arm, late_either, light, held, behind, takes, taken, late_simple, late_action, late, stands}
 use Rattle.wasm2js_laws_terms.specs.Sound.{IsInt, IsSound, AreSound, AllSound, IsHelper, IsSoundSimple, AreSoundSimple, IsSoundAction, AreSoundActions, some_summands, summands_length}
 use Rattle.wasm2js_laws_typed.specs.Waiting.{AreSoundWaiting, LateIsSound, WrittenIsSound, StandingIsSound}
 
@@ -44,7 +44,7 @@ module _ (s : Scope) where
 
   -- ---- terms
 
-  at_hand_sound : (ds : List Delayed) (n : Name) → AreSoundWaiting s ds → IsInt s n → IsSound s (at_hand ds n)
+  pub at_hand_sound : (ds : List Delayed) (n : Name) → AreSoundWaiting s ds → IsInt s n → IsSound s (at_hand ds n)
   at_hand_sound [] n h k = k
   at_hand_sound (d ∷ ds) n h k = by (at_hand_sound ds n h.2 k) (same_name d.name n)
     where
@@ -112,16 +112,33 @@ module _ (s : Scope) where
     those_sound _ ds h,
   )
 
-  put_sound : (ds : List Delayed) (n : Name) (t : Term) → IsSoundSimple s (put n t) → AreSoundWaiting s ds → IsSoundLate (late_simple ds (put n t))
+  put_sound : (ds : List Delayed) (n : Name) (t : Term) → IsSoundSimple s (put n t) → AreSoundWaiting s ds → IsSoundLate (late_among ds (put n t))
   put_sound ds n t k h = by (may_wait ds n (replaced ds t))
     where
       by : (b : Bool) → IsSoundLate (if b then record { now = []; later = without n ds ++ record { name = n; word = replaced ds t } ∷ [] } else at_once ds (put n t))
       by true = (tt, joined_sound (without n ds) _ (those_sound _ ds h) (k.0, replaced_sound ds h t k.1, tt))
       by false = at_once_sound ds (put n t) k h
 
+  late_among_sound : (ds : List Delayed) (x : Simple) → IsSoundSimple s x → AreSoundWaiting s ds → IsSoundLate (late_among ds x)
+  late_among_sound ds (put n t) k h = put_sound ds n t k h
+  late_among_sound ds x k h = at_once_sound ds x k h
+
+  behind_sound : (ds : List Delayed) (l : Late) → AreSoundWaiting s ds → IsSoundLate l → IsSoundLate (behind ds l)
+  behind_sound ds l h k = (in_turn_sound (simples (written (held ds))) l.now (simples_sound _ (written_sound _ (those_sound _ ds h))) k.0, k.1)
+
+  taken_sound : (hs ls : List Delayed) (x : Simple) → takes hs ls x ≡ true → IsSoundSimple s x → AreSoundWaiting s hs → AreSoundWaiting s ls → IsSoundLate (taken hs ls x)
+  taken_sound (d ∷ []) ls (put n (read m)) e k h l = (
+    simples_sound _ (one_more_sound (written (those _ ls)) (put n d.word) (written_sound _ (those_sound _ ls l)) (k.0, h.1)),
+    joined_sound (others _ ls) _ (those_sound _ ls l) (h.0, k.0, tt),
+  )
+  taken_sound hs ls x e k h l = absurd (cc e)
+
   late_simple_sound : (ds : List Delayed) (x : Simple) → IsSoundSimple s x → AreSoundWaiting s ds → IsSoundLate (late_simple ds x)
-  late_simple_sound ds (put n t) k h = put_sound ds n t k h
-  late_simple_sound ds x k h = at_once_sound ds x k h
+  late_simple_sound ds x k h = by (takes (held ds) (light ds) x) refl
+    where
+      by : (b : Bool) → takes (held ds) (light ds) x ≡ b → IsSoundLate (if b then taken (held ds) (light ds) x else behind ds (late_among (light ds) x))
+      by true e = taken_sound (held ds) (light ds) x e k (those_sound _ ds h) (those_sound _ ds h)
+      by false e = behind_sound ds (late_among (light ds) x) h (late_among_sound (light ds) x k (those_sound _ ds h))
 
   late_arm_sound : (ds : List Delayed) (xs : List Simple) → AreSoundSimple s xs → AreSoundWaiting s ds → AreSoundSimple s (late_arm ds xs)
   late_arm_sound ds [] k h = tt
@@ -129,11 +146,13 @@ module _ (s : Scope) where
 
   late_action_sound : (ds : List Delayed) (a : Action) → IsSoundAction s a → AreSoundWaiting s ds → IsSoundLate (late_action ds a)
   late_action_sound ds (simply x) k h = late_simple_sound ds x k h
-  late_action_sound ds (either t first second) k h = (
-    in_turn_sound (simples (written (those _ ds))) _ (simples_sound _ (written_sound _ (those_sound _ ds h)))
-        ((replaced_sound ds h t k.0, late_arm_sound _ first k.1 (those_sound _ ds h), late_arm_sound _ second k.2 (those_sound _ ds h)), tt),
-    those_sound _ ds h,
-  )
+  late_action_sound ds (either t first second) k h =
+      let l = those_sound (λ d. is_light d.word) ds h in
+      behind_sound ds (late_either (light ds) t first second) h (
+        in_turn_sound (simples (written (those _ (light ds)))) _ (simples_sound _ (written_sound _ (those_sound _ (light ds) l)))
+            ((replaced_sound (light ds) l t k.0, late_arm_sound _ first k.1 (those_sound _ (light ds) l), late_arm_sound _ second k.2 (those_sound _ (light ds) l)), tt),
+        those_sound _ (light ds) l,
+      )
 
   actions_sound : (actions : List Action) (ds : List Delayed) → AreSoundActions s actions → AreSoundWaiting s ds → IsSoundLate (late ds actions)
   actions_sound [] ds k h = (tt, h)

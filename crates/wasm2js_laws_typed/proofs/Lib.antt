@@ -11,6 +11,7 @@ pub mod Cases
 pub mod FineSwitches
 pub mod RoomParts
 pub mod TypedShapes
+pub mod FineWaiting
 pub mod FineBodies
 pub mod LateSound
 pub mod LateShallow

@@ -11,7 +11,7 @@ use Rattle.wasm2js_laws_scopes.specs.Provided.{Called, AsksAmong, Provides, HasR
 use Rattle.wasm2js_translation.specs.Bodies.{Aim, stmts_of}
 use Rattle.wasm2js_translation.specs.Rooms.{room_of}
 use Rattle.wasm2js_laws_typed.specs.Laws.{IsFormed}
-use Rattle.wasm2js_laws_typed.specs.Constructs.{AllFine, AreAims, labels_for}
+use Rattle.wasm2js_laws_typed.specs.Constructs.{AllFine, AreAims, LeavesResult, labels_for}
 
 -- instructions are formed, and the types that calls of entries name, and the helpers, are among those that are called
 module _ (types : List FunctionType) (is_called : Called) where
@@ -34,5 +34,5 @@ abbrev pub CodeIsFine : Type 0
 CodeIsFine =
     (s : Scope) (c : Context) (is_called : Called) (bytes cells : ℕ) → Provides s c is_called bytes cells → result_of s ≡ is_some c.returns
     → (code : Trees) (labels : List (Option ValType)) (ls : List Aim) (b : ℕ) (before after : List ValType) (a : Around) → IsTyped (record c { labels = labels }) code before after
-    → IsFormedCode c.types is_called code → AreAims c.returns labels ls b → a.labels ≡ labels_for ls → HasRoom s c (room_of c code b before)
+    → IsFormedCode c.types is_called code → AreAims c.returns labels ls b → LeavesResult ls after → a.labels ≡ labels_for ls → HasRoom s c (room_of c code b before)
     → AllFine s a (30 + tree_levels code) (stmts_of bytes cells c code ls b before [] [])

@@ -4,11 +4,12 @@ use Rattle.wasm_lang.specs.declared.types.ValType.{ValType}
 use Rattle.wasm_lang.specs.declared.types.ValType.TheVariants.{I32}
 use Rattle.wasm_lang.specs.Modules.{FunctionType}
 use Rattle.wasm_lang_valid.specs.Typing.{Context, listed, result_of as type_result}
-use Rattle.asm_lang.specs.Modules.{Stmt, if_only}
+use Rattle.asm_types.specs.declared.value_type.ValueType.TheVariants.{Int}
+use Rattle.asm_lang.specs.Modules.{Expr, Stmt, if_only}
 use Rattle.asm_lang_valid.specs.Typing.{Scope, Label, Around, result_of, in_a_loop, in_a_switch, has_label}
 use Rattle.wasm2js_translation.specs.Names.{numbered, function, table}
 use Rattle.wasm2js_laws_terms.specs.Sound.{IsInt}
-use Rattle.wasm2js_laws_terms.specs.Laws.{IsFine}
+use Rattle.wasm2js_laws_terms.specs.Laws.{IsFineExpr, IsFine}
 use Rattle.wasm2js_laws_scopes.specs.Provided.{HasFixed, HasRoom, IsFunction, IsTable, signature_for}
 use Rattle.wasm2js_translation.specs.Words.{part_of}
 use Rattle.wasm2js_translation.specs.Actions.{under, low}
@@ -38,16 +39,16 @@ LoopsAreFine =
     (s : Scope) (a : Around) (n h : ℕ) (ss : List Stmt) → has_label a.labels (label_name n) ≡ false → 1 ≤ h → AllFine s (in_a_loop (with_label true n a)) h ss
     → IsFine s a (under_label n (endless ss)) (1 + h)
 
--- .. two arms, by the word of an operand
+-- .. two arms, by a condition that is no higher
 abbrev pub ArmsAreFine : Type 0
 ArmsAreFine =
-    (s : Scope) (a : Around) (n d h : ℕ) (first second : List Stmt) → has_label a.labels (label_name n) ≡ false → IsInt s (low d) → 2 ≤ h → AllFine s (with_label false n a) h first
-    → AllFine s (with_label false n a) h second
-    → IsFine s a (under_label n (chosen (signed_word d) first second)) (1 + h)
+    (s : Scope) (a : Around) (n h : ℕ) (e : Expr) (first second : List Stmt) → has_label a.labels (label_name n) ≡ false → IsFineExpr s e Int h → 1 ≤ h
+    → AllFine s (with_label false n a) h first → AllFine s (with_label false n a) h second
+    → IsFine s a (under_label n (chosen e first second)) (1 + h)
 
 -- .. one arm without a label
 abbrev pub TestsAreFine : Type 0
-TestsAreFine = (s : Scope) (a : Around) (d h : ℕ) (ss : List Stmt) → IsInt s (low d) → 2 ≤ h → AllFine s a h ss → IsFine s a (if_only (signed_word d) (part_of ss)) (1 + h)
+TestsAreFine = (s : Scope) (a : Around) (h : ℕ) (e : Expr) (ss : List Stmt) → IsFineExpr s e Int h → 1 ≤ h → AllFine s a h ss → IsFine s a (if_only e (part_of ss)) (1 + h)
 
 -- ---- branches
 
@@ -64,6 +65,11 @@ AreAims result labels [] b = ⊥
 AreAims result labels (out q ∷ ls) b = (labels ≡ result ∷ []) × (q ≡ result) × (ls ≡ [])
 AreAims result labels (past base q ∷ ls) b = (further : List (Option ValType)) × (labels ≡ q ∷ further) × (base ≤ b) × AreAims result further ls base
 AreAims result labels (again base ∷ ls) b = (further : List (Option ValType)) × (labels ≡ None ∷ further) × (base ≤ b) × AreAims result further ls base
+
+-- at the end of its own code a function leaves what it gives
+abbrev pub LeavesResult : List Aim → (after : List ValType) → Type 0
+LeavesResult (out r ∷ []) after = after ≡ listed r
+LeavesResult ls after = Unit {0}
 
 -- a new label is none of those round it
 abbrev pub LabelsAreNew : Type 0

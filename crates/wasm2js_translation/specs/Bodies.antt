@@ -14,10 +14,10 @@ use Rattle.wasm_lang_exec.specs.Code.{unreachable, block, loop, if_block, br, br
 use Rattle.asm_lang.specs.Modules as text
 use Rattle.asm_lang.specs.Modules.{Expr, var, table_call, binary, Exprs, no_exprs, exprs, Stmt, if_only, if_else, returns, while_loop, breaks, continues, labelled, switches, Clauses, no_clauses, clauses}
 use Rattle.wasm2js_translation.specs.Names.{Name, numbered, function, table, label, fixed, result_high, spelled}
-use Rattle.wasm2js_translation.specs.Words.{read, signed_number, natural, put_in, guard, simple_statement, simple_statements, statements, trap_call, stmts_in, part_of}
+use Rattle.wasm2js_translation.specs.Words.{read, signed_number, natural, expr, test_of, put_in, guard, simple_statement, simple_statements, statements, trap_call, stmts_in, part_of}
 use Rattle.wasm2js_translation.specs.Pairs.{operand_pair, moved}
 use Rattle.wasm2js_translation.specs.Actions.{under, low, actions_amid}
-use Rattle.wasm2js_translation.specs.Delays.{Delayed, written, Late, late, standing}
+use Rattle.wasm2js_translation.specs.Delays.{Delayed, written, without, at_hand, Late, late, standing}
 use Rattle.wasm2js_translation.specs.Known.{Known, Lean, lean, into_block}
 use Rattle.wasm2js_translation.specs.Helpers.{block_of}
 
@@ -174,6 +174,25 @@ under_label n s = labelled (label_name n ∷ []) s
 abbrev pub endless : List Stmt → Stmt
 endless ss = while_loop (natural 1) (block_of ss)
 
+-- ---- what waits where an operand is asked for: all else is written, and then that operand's word stands where it is read
+
+abbrev pub written_but : Name → List Delayed → List Stmt
+written_but n ds = simple_statements (written (without n ds))
+
+-- the operand of number d as a condition
+abbrev pub asked : ℕ → List Delayed → Expr
+asked d ds = test_of (at_hand ds (low d))
+
+-- the operand of number d to the caller
+abbrev pub leave_late : Option ValType → ℕ → List Delayed → List Stmt
+leave_late (Some I32) d ds = written_but (low d) ds ++ returns (Some (signed_number (expr (at_hand ds (low d))))) ∷ []
+leave_late r d ds = simple_statements (written ds) ++ leave_with r d
+
+-- where code ends: the function's gives its result at once, where that is a word of 32 bits
+abbrev pub ended : List Aim → (b : ℕ) → List ValType → List Delayed → List Stmt
+ended (out (Some I32) ∷ []) b ts ds = leave_late (Some I32) (under 1 b ts) ds
+ended ls b ts ds = simple_statements (written ds)
+
 -- without an `else` where nothing would stand behind it
 abbrev pub chosen : Expr → (first second : List Stmt) → Stmt
 chosen test first [] = if_only test (part_of first)
@@ -193,18 +212,19 @@ module _ (bytes cells : ℕ) (c : Context) where
   lean_code p b ts ds ks = lean ks (late_code p b ts ds).now
 
   -- under these aims, the innermost first; so many operands lie below the block's, those have these types, and these of their words wait:
-  -- all are written before the next instruction that isn't plain, and at the end; this is known of variables, until such an instruction, and
-  -- within a block, or the first arm of an if, that is this instruction
+  -- all are written before the next instruction that isn't plain, and at the end, but for a condition and for what a function gives; this is
+  -- known of variables, until such an instruction, and within a block, or the first arm of an if, that is this instruction
   abbrev pub stmts_of : Trees → List Aim → (b : ℕ) → List ValType → List Delayed → List Known → List Stmt
-  stmts_of ε ls b ts ds ks = simple_statements (written ds)
+  stmts_of ε ls b ts ds ks = ended ls b ts ds
   stmts_of (plain p ▹ is) ls b ts ds ks =
       statements (lean_code p b ts ds ks).now ++ stmts_of is ls b (after_plain c p ts) (left_waiting p b ts ds) (lean_code p b ts ds ks).known
   stmts_of (unreachable ▹ is) ls b ts ds ks = simple_statements (written ds) ++ trap_call 1 ∷ []
   stmts_of (br k ▹ is) ls b ts ds ks = simple_statements (written ds) ++ jump ls k b ts
-  stmts_of (return ▹ is) ls b ts ds ks = simple_statements (written ds) ++ leave_with c.returns (under 1 b ts)
+  stmts_of (return ▹ is) ls b ts ds ks = leave_late c.returns (under 1 b ts) ds
   stmts_of (br_table ns d ▹ is) ls b ts ds ks = simple_statements (written ds) ++ by_index (λ k. jump ls k b (drop 1 ts)) (signed_word (under 1 b ts)) ns d
   stmts_of (br_if k ▹ is) ls b ts ds ks =
-      simple_statements (written ds) ++ if_only (signed_word (under 1 b ts)) (part_of (jump ls k b (drop 1 ts))) ∷ stmts_of is ls b (drop 1 ts) [] []
+      let d = under 1 b ts in
+      written_but (low d) ds ++ if_only (asked d ds) (part_of (jump ls k b (drop 1 ts))) ∷ stmts_of is ls b (drop 1 ts) [] []
   stmts_of (block r body ▹ is) ls b ts ds ks =
       let base = under 0 b ts in
       simple_statements (written ds)
@@ -215,9 +235,9 @@ module _ (bytes cells : ℕ) (c : Context) where
       ++ under_label (labels_round ls) (endless (stmts_of body (again base ∷ ls) base [] [] [] ++ leaves body)) ∷ stmts_of is ls b (listed r ++ ts) [] []
   stmts_of (if_block r first second ▹ is) ls b ts ds ks =
       let base = under 1 b ts in
-      simple_statements (written ds)
+      written_but (low base) ds
       ++ under_label (labels_round ls)
-      (chosen (signed_word base) (stmts_of first (past base r ∷ ls) base [] [] (into_block ks)) (stmts_of second (past base r ∷ ls) base [] [] []))
+      (chosen (asked base ds) (stmts_of first (past base r ∷ ls) base [] [] (into_block ks)) (stmts_of second (past base r ∷ ls) base [] [] []))
       ∷ stmts_of is ls b (listed r ++ drop 1 ts) [] []
   stmts_of (call f ▹ is) ls b ts ds ks = simple_statements (written ds) ++ call_stmts f b ts (type_of c f) ++ stmts_of is ls b (types_after_call (type_of c f) ts) [] []
   stmts_of (call_indirect t ▹ is) ls b ts ds ks =
@@ -225,9 +245,10 @@ module _ (bytes cells : ℕ) (c : Context) where
       ++ indirect_stmts cells c.types b ts (slice_get c.types t) ++ stmts_of is ls b (types_after_call (slice_get c.types t) (drop 1 ts)) [] []
 
   -- a function with a result ends in a return of it, also where that isn't reached: its last statement says what it gives
-  abbrev pub closing : Option ValType → List Stmt
-  closing None = []
-  closing (Some t) = leave_with (Some t) 0
+  abbrev pub closing : Option ValType → (reached : Bool) → List Stmt
+  closing None reached = []
+  closing (Some I32) true = []
+  closing (Some t) reached = leave_with (Some t) 0
 
   abbrev pub body_stmts : Trees → List Stmt
-  body_stmts code = stmts_of code (out c.returns ∷ []) 0 [] [] [] ++ closing c.returns
+  body_stmts code = stmts_of code (out c.returns ∷ []) 0 [] [] [] ++ closing c.returns (comes_to_end code)

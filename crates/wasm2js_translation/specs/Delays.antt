@@ -1,5 +1,6 @@
 -- Words that wait: what an instruction puts into a variable of an operand is not written where it is a number or another variable. It stands for
--- the operand until that is put anew, and is written before that other variable changes.
+-- the operand until that is put anew, and is written before that other variable changes. A word of one operator on two such words waits too, but
+-- only until what comes next: where that puts the operand into a variable, the word goes there at once; else it is written before.
 use Rattle.std.specs.Prelude.{ℕ, Bool, true, false, not, ◌&&◌, ◌||◌, nat_lt, List, [], ◌∷◌, ◌++◌, length, Option, Some, None, slice_get, ◌-◌, ◌+◌, suc, if◌then◌else◌, ℤ}
 use Rattle.wasm_lang.specs.declared.types.ValType.{ValType}
 use Rattle.wasm_lang.specs.declared.types.ValType.TheVariants.{I64}
@@ -23,7 +24,21 @@ is_light (number z) = true
 is_light (read n) = not (is_operand n)
 is_light t = false
 
--- so many wait at most
+-- a word without operators
+abbrev pub is_atom : Term → Bool
+is_atom (read n) = true
+is_atom (number z) = true
+is_atom t = false
+
+-- a word of one operator on two words without operators
+abbrev pub is_of_two : Term → Bool
+is_of_two (both op a b) = is_atom a && is_atom b
+is_of_two (sum a (further minus b no_more)) = is_atom a && is_atom b
+is_of_two (product a b) = is_atom a && is_atom b
+is_of_two (compare signed r a b) = is_atom a && is_atom b
+is_of_two t = false
+
+-- so many light words wait at most
 abbrev pub most_waiting : ℕ
 most_waiting = 16
 
@@ -131,7 +146,7 @@ pub record Late : Type 0 where
   pub later : List Delayed
 
 abbrev pub may_wait : List Delayed → Name → Term → Bool
-may_wait ds n t = is_operand n && (is_light t && nat_lt (length ds) most_waiting)
+may_wait ds n t = is_operand n && (is_of_two t || (is_light t && nat_lt (length ds) most_waiting))
 
 -- what reads a variable that it changes is written before it
 abbrev pub at_once : List Delayed → Simple → Late
@@ -139,10 +154,11 @@ at_once ds s =
     let spoiled = λ (d : Delayed). reads_one (changes s) d.word in
     record { now = simples (written (those spoiled ds) ++ in_place ds s ∷ []); later = others (λ d. spoiled d || puts s d.name) ds }
 
-abbrev pub late_simple : List Delayed → Simple → Late
-late_simple ds (put n t) =
+-- where only light words wait
+abbrev pub late_among : List Delayed → Simple → Late
+late_among ds (put n t) =
     if may_wait ds n (replaced ds t) then record { now = []; later = without n ds ++ record { name = n; word = replaced ds t } ∷ [] } else at_once ds (put n t)
-late_simple ds s = at_once ds s
+late_among ds s = at_once ds s
 
 -- an arm: nothing begins to wait there
 abbrev pub late_arm : List Delayed → List Simple → List Simple
@@ -163,9 +179,39 @@ late_either ds t first second =
       later = others (λ d. spoiled d || one_puts first d.name) ds;
     }
 
+-- ---- the newest word, which may be one of two others
+
+abbrev pub light : List Delayed → List Delayed
+light ds = those (λ d. is_light d.word) ds
+
+abbrev pub held : List Delayed → List Delayed
+held ds = others (λ d. is_light d.word) ds
+
+-- what is held is written, and then this is done
+abbrev pub behind : List Delayed → Late → Late
+behind ds l = record { now = simples (written (held ds)) ++ l.now; later = l.later }
+
+-- the operand of the word that is held is what is put into a variable of no operand
+abbrev pub takes : List Delayed → List Delayed → Simple → Bool
+takes (d ∷ []) ds (put n (read m)) = same_name d.name m && (not (is_operand n) && nat_lt (length ds) most_waiting)
+takes hs ds s = false
+
+-- that variable has the word, and stands for the operand
+abbrev pub taken : List Delayed → List Delayed → Simple → Late
+taken (d ∷ []) ds (put n t) =
+    let spoiled = λ (e : Delayed). reads_one (same_name n) e.word in
+    record {
+      now = simples (written (those spoiled ds) ++ put n d.word ∷ []);
+      later = others spoiled ds ++ record { name = d.name; word = read n } ∷ [];
+    }
+taken hs ds s = late_among ds s
+
+abbrev pub late_simple : List Delayed → Simple → Late
+late_simple ds s = if takes (held ds) (light ds) s then taken (held ds) (light ds) s else behind ds (late_among (light ds) s)
+
 abbrev pub late_action : List Delayed → Action → Late
 late_action ds (simply s) = late_simple ds s
-late_action ds (either t first second) = late_either ds t first second
+late_action ds (either t first second) = behind ds (late_either (light ds) t first second)
 
 abbrev pub late : List Delayed → List Action → Late
 late ds [] = record { now = []; later = ds }

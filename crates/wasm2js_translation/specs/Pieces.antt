@@ -2,13 +2,14 @@
 use Rattle.std.specs.Prelude.{ℕ, false, true, List, [], ◌∷◌, ◌++◌, replicate, Some, None, codes}
 use Rattle.sem_words.specs.declared.word.Bin.{Bin}
 use Rattle.sem_words.specs.declared.word.Bin.TheVariants as bins
+use Rattle.sem_words.specs.declared.word.Rel.TheVariants as rels
 use Rattle.wasm_lang.specs.declared.types.ValType.{ValType}
 use Rattle.wasm_lang.specs.declared.types.ValType.TheVariants.{I32, I64}
 use Rattle.wasm_lang.specs.declared.types.Limits.{Limits}
 use Rattle.wasm_lang.specs.declared.types.ImportKind.TheVariants as imports
 use Rattle.wasm_lang.specs.declared.types.ExportKind.TheVariants as exports
 use Rattle.wasm_lang.specs.declared.types.MemOp.{MemOp}
-use Rattle.wasm_lang.specs.Instructions.{Instruction, unreachable, block, loop, if_block, else_mark, end_mark, br_table, call_indirect, plain, const32, const64, local_get, local_set, drop_operand, bin32, bin64, extend_s, load, store, memory_copy, memory_fill}
+use Rattle.wasm_lang.specs.Instructions.{Instruction, unreachable, block, loop, if_block, else_mark, end_mark, br_if, br_table, return, call_indirect, plain, const32, const64, local_get, local_set, local_tee, drop_operand, eqz32, rel32, bin32, bin64, extend_s, load, store, memory_copy, memory_fill}
 use Rattle.wasm_lang.specs.Modules.{FunctionType, Imported, GlobalEntry, Exported, ElementSegment, DataSegment, FunctionBody, WasmModule}
 
 -- ---- parts of modules
@@ -24,6 +25,9 @@ get x = plain (local_get x)
 
 abbrev pub set : ℕ → Instruction
 set x = plain (local_set x)
+
+abbrev pub tee : ℕ → Instruction
+tee x = plain (local_tee x)
 
 abbrev pub int : ℕ → Instruction
 int n = plain (const32 n)
@@ -134,6 +138,28 @@ adding = alone (type (I64 ∷ I64 ∷ []) (I64 ∷ [])) [] (get 0 ∷ get 1 ∷ 
 -- the argument shifted or rotated by a constant
 abbrev pub turning_by : Bin → ℕ → WasmModule
 turning_by op n = alone (type (I64 ∷ []) (I64 ∷ [])) [] (get 0 ∷ long n ∷ plain (bin64 op) ∷ [])
+
+-- a word made of the argument
+abbrev pub of_the_argument : List Instruction → WasmModule
+of_the_argument code = alone (type (I32 ∷ []) (I32 ∷ [])) [] code
+
+abbrev pub sum_of_two : Instruction
+sum_of_two = plain (bin32 bins.Add)
+
+-- the argument's word and two
+abbrev pub two_more : List Instruction
+two_more = get 0 ∷ int 2 ∷ sum_of_two ∷ []
+
+abbrev pub leave : Instruction
+leave = return
+
+-- a block that is left where the argument is below five, and else sets it to one
+abbrev pub leaving_a_block : List Instruction
+leaving_a_block = block None ∷ get 0 ∷ int 5 ∷ plain (rel32 rels.LtU) ∷ br_if 0 ∷ int 1 ∷ set 0 ∷ end_mark ∷ []
+
+-- gives the argument, at a branch that is taken where it is 0, and else at its end
+abbrev pub leaving_with_zero : List Instruction
+leaving_with_zero = get 0 ∷ get 0 ∷ plain eqz32 ∷ br_if 0 ∷ []
 
 -- three functions, a table of three entries, and calls of an entry by two types of one form and by a further type
 abbrev pub tabled : WasmModule
