@@ -13,8 +13,8 @@ use Rattle.wasm_run_flat.proofs.Standing.{block_opens, loop_opens, first_arm_ope
 use Rattle.wasm_run_flat.proofs.Past.{past_block, past_loop, past_if}
 use Rattle.asm_lang.specs.Modules.{Stmt, breaks}
 use Rattle.wasm2js_translation.specs.Helpers.{block_of}
-use Rattle.wasm2js_translation.specs.Actions.{under}
-use Rattle.wasm2js_translation.specs.Bodies.{Aim, past, again, comes_to_end, labels_round, under_label, endless, chosen, signed_word}
+use Rattle.wasm2js_translation.specs.Actions.{under, low}
+use Rattle.wasm2js_translation.specs.Bodies.{Aim, past, again, comes_to_end, labels_round, under_label, endless, chosen, written_but, asked}
 use Rattle.wasm2js_build.specs.Growing.{Held, nothing_held}
 use Rattle.wasm2js_bodies.specs.Walks.{IsInside, size, stmts_after, GoesOn, IsOver}
 use Rattle.wasm2js_bodies.proofs.Steps.{all_written, begun, written_goes_on}
@@ -70,7 +70,7 @@ module _ (bytes cells : ℕ) (c : Context) (body : List Instruction) (at : ℕ) 
       let d = under 0 b ts in
       let is : inner ≡ stmts_after bytes cells c code (past d r ∷ ls) d [] (begun ds) = o.statements ∙ ap (λ (m : ℕ). stmts_after bytes cells c code (past m r ∷ ls) m [] (begun ds)) base in
       subst (λ (vs : List ValType). GoesOn bytes cells c body at (past_end body at) ls b ts vs ds es before after) (sym gives)
-      (written_goes_on bytes cells c body at ls b ts ds before mid after (under_label (labels_round ls) (block_of (stmts_after bytes cells c code (past d r ∷ ls) d [] (begun ds))) ∷ [])
+      (written_goes_on bytes cells c body at ls b ts ds before mid after (all_written ds) (under_label (labels_round ls) (block_of (stmts_after bytes cells c code (past d r ∷ ls) d [] (begun ds))) ∷ [])
       w (listed r ++ ts) es waits (past_end body at) s.targets (block r code) (past_block body at s.targets r s.stands here) s.translated
       (made ∙ ap (λ (ss : List Stmt). mid ++ under_label (labels_round ls) (block_of ss) ∷ []) is)
       (λ is. refl) (λ is. refl))
@@ -84,29 +84,30 @@ module _ (bytes cells : ℕ) (c : Context) (body : List Instruction) (at : ℕ) 
       let d = under 0 b ts in
       let is : inner ≡ stmts_after bytes cells c code (again d ∷ ls) d [] nothing_held = o.statements ∙ ap (λ (m : ℕ). stmts_after bytes cells c code (again m ∷ ls) m [] nothing_held) base in
       subst (λ (vs : List ValType). GoesOn bytes cells c body at (past_end body at) ls b ts vs ds es before after) (sym gives)
-      (written_goes_on bytes cells c body at ls b ts ds before mid after
+      (written_goes_on bytes cells c body at ls b ts ds before mid after (all_written ds)
       (under_label (labels_round ls) (endless (stmts_after bytes cells c code (again d ∷ ls) d [] nothing_held ++ (if comes_to_end code then breaks None ∷ [] else []))) ∷ [])
       w (listed r ++ ts) es waits (past_end body at) s.targets (loop r code) (past_loop body at s.targets r s.stands here) s.translated
       (made ∙ ap (λ (ss : List Stmt). mid ++ under_label (labels_round ls) (endless (ss ++ (if reached then breaks None ∷ [] else []))) ∷ []) is
       ∙ ap (λ (e : Bool). mid ++ under_label (labels_round ls) (endless (stmts_after bytes cells c code (again d ∷ ls) d [] nothing_held ++ (if e then breaks None ∷ [] else []))) ∷ []) o.ending)
       (λ is. refl) (λ is. refl))
 
-  pub if_step : (other : List Stmt) → slice_get body at ≡ Some (flat.if_block r) → n ≡ under 1 b ts → us ≡ listed r ++ drop 1 ts
+module _ (bytes cells : ℕ) (c : Context) (body : List Instruction) (at : ℕ) (ls : List Aim) (b n : ℕ) (r : Option ValType) (ts us : List ValType) (ds es : Held) (before mid after inner other : List Stmt) (s : IsInside body at) (w : mid ≡ before ++ written_but (low (under 1 b ts)) ds.waits) (waits : es ≡ nothing_held) where
+  pub if_step : slice_get body at ≡ Some (flat.if_block r) → n ≡ under 1 b ts → us ≡ listed r ++ drop 1 ts
       → (first second : Bool) → IsOver bytes cells c body (at + 1) first (past n r ∷ ls) n [] (begun ds) [] inner
       → IsOver bytes cells c body (other_arm body at) second (past n r ∷ ls) n [] nothing_held [] other
-      → after ≡ mid ++ under_label (labels_round ls) (chosen (signed_word n) inner other) ∷ []
+      → after ≡ mid ++ under_label (labels_round ls) (chosen (asked (under 1 b ts) ds.waits) inner other) ∷ []
       → GoesOn bytes cells c body at (past_end body at) ls b ts us ds es before after
-  if_step other here base gives first second o p made =
+  if_step here base gives first second o p made =
       let code = code_at body (at + 1) in
       let more = code_at body (other_arm body at) in
       let d = under 1 b ts in
+      let test = asked d ds.waits in
       let is : inner ≡ stmts_after bytes cells c code (past d r ∷ ls) d [] (begun ds) = o.statements ∙ ap (λ (m : ℕ). stmts_after bytes cells c code (past m r ∷ ls) m [] (begun ds)) base in
       let are : other ≡ stmts_after bytes cells c more (past d r ∷ ls) d [] nothing_held = p.statements ∙ ap (λ (m : ℕ). stmts_after bytes cells c more (past m r ∷ ls) m [] nothing_held) base in
       subst (λ (vs : List ValType). GoesOn bytes cells c body at (past_end body at) ls b ts vs ds es before after) (sym gives)
-      (written_goes_on bytes cells c body at ls b ts ds before mid after
-      (under_label (labels_round ls) (chosen (signed_word d) (stmts_after bytes cells c code (past d r ∷ ls) d [] (begun ds)) (stmts_after bytes cells c more (past d r ∷ ls) d [] nothing_held)) ∷ [])
+      (written_goes_on bytes cells c body at ls b ts ds before mid after (written_but (low d) ds.waits)
+      (under_label (labels_round ls) (chosen test (stmts_after bytes cells c code (past d r ∷ ls) d [] (begun ds)) (stmts_after bytes cells c more (past d r ∷ ls) d [] nothing_held)) ∷ [])
       w (listed r ++ drop 1 ts) es waits (past_end body at) s.targets (if_block r code more) (past_if body at s.targets r s.stands here) s.translated
-      (made ∙ ap (λ (m : ℕ). mid ++ under_label (labels_round ls) (chosen (signed_word m) inner other) ∷ []) base
-      ∙ ap (λ (ss : List Stmt). mid ++ under_label (labels_round ls) (chosen (signed_word d) ss other) ∷ []) is
-      ∙ ap (λ (ss : List Stmt). mid ++ under_label (labels_round ls) (chosen (signed_word d) (stmts_after bytes cells c code (past d r ∷ ls) d [] (begun ds)) ss) ∷ []) are)
+      (made ∙ ap (λ (ss : List Stmt). mid ++ under_label (labels_round ls) (chosen test ss other) ∷ []) is
+      ∙ ap (λ (ss : List Stmt). mid ++ under_label (labels_round ls) (chosen test (stmts_after bytes cells c code (past d r ∷ ls) d [] (begun ds)) ss) ∷ []) are)
       (λ is. refl) (λ is. refl))

@@ -6,10 +6,11 @@ use Rattle.wasm_lang.specs.Instructions as flat
 use Rattle.wasm_lang.specs.Instructions.{Instruction}
 use Rattle.wasm_lang_valid.specs.Typing.{Context, listed}
 use Rattle.wasm_run_flat.specs.Jumps.{past_end, other_arm}
-use Rattle.asm_lang.specs.Modules.{Stmt, breaks}
+use Rattle.asm_lang.specs.Modules.{Expr, Stmt, breaks}
 use Rattle.wasm2js_translation.specs.Helpers.{block_of}
+use Rattle.wasm2js_translation.specs.Actions.{under, low}
 use Rattle.wasm2js_translation.specs.Known.{Known, into_block}
-use Rattle.wasm2js_translation.specs.Bodies.{Aim, past, again, labels_round, under_label, endless, chosen, signed_word}
+use Rattle.wasm2js_translation.specs.Bodies.{Aim, past, again, labels_round, under_label, endless, chosen, written_but, asked}
 use Rattle.wasm2js_operands.specs.Operands.{over}
 use Rattle.wasm2js_bodies.specs.Walks.{IsInside, GoesOn, IsOver}
 use Rattle.wasm2js_build.specs.Growing.{State, Held, nothing_held, late_at}
@@ -63,22 +64,22 @@ module _ (bytes cells : ℕ) (c : Context) (body : List Instruction) (at : ℕ) 
       (made ∙ ap (λ (ks : List Aim). mid ++ under_label (labels_round ks) (endless (inner ++ (if reached then breaks None ∷ [] else []))) ∷ []) outer))
 
   -- the operands ws as the if is reached, xs without the topmost one, ys and vs as the arms end and zs after it
-  pub if_done : (first second place n m d : ℕ) (reached also : Bool) (ks ms : List Aim) (aim : Aim) (ws xs ys vs zs : List ValType) (ds es : Held) (before mid after inner more : List Stmt) (empty other : State)
-      → IsInside body at → mid ≡ before ++ all_written ds → es ≡ nothing_held → slice_get body at ≡ Some (flat.if_block r) → b ≤ length xs → over b xs ≡ drop 1 (over b ws)
-      → n ≡ length xs → m ≡ length ys → d ≡ length vs
+  pub if_done : (first second place n m : ℕ) (reached also : Bool) (ks ms : List Aim) (aim : Aim) (ws xs ys vs zs : List ValType) (ds es : Held) (before mid after inner more : List Stmt) (empty other : State) (test : Expr)
+      → IsInside body at → mid ≡ before ++ written_but (low (under 1 b (over b ws))) ds.waits → es ≡ nothing_held → slice_get body at ≡ Some (flat.if_block r) → b ≤ length xs → over b xs ≡ drop 1 (over b ws)
+      → n ≡ length xs → m ≡ length ys
       → first ≡ at + 1 → second ≡ other_arm body at → place ≡ past_end body at → aim ≡ past n r → empty ≡ late_at [] [] (into_block ds.known) → other ≡ late_at [] [] []
       → IsOver bytes cells c body first reached (aim ∷ ls) n [] (held_in empty) empty.told inner → ys ≡ xs → ks ≡ ls
       → IsOver bytes cells c body second also (aim ∷ ks) m [] (held_in other) other.told more → vs ≡ ys → ms ≡ ks
       → over b zs ≡ listed r ++ over b vs
-      → after ≡ mid ++ under_label (labels_round ms) (chosen (signed_word d) inner more) ∷ []
+      → test ≡ asked (under 1 b (over b ws)) ds.waits
+      → after ≡ mid ++ under_label (labels_round ms) (chosen test inner more) ∷ []
       → GoesOn bytes cells c body at place ls b (over b ws) (over b zs) ds es before after
-  if_done first second place n m d reached also ks ms aim ws xs ys vs zs ds es before mid after inner more empty other s w waits here h left n-is m-is d-is begins turns ends aimed none nothing o same outer p alike around gives made =
+  if_done first second place n m reached also ks ms aim ws xs ys vs zs ds es before mid after inner more empty other test s w waits here h left n-is m-is begins turns ends aimed none nothing o same outer p alike around gives asks made =
       let m-n : m ≡ n = m-is ∙ ap length same ∙ sym n-is in
-      let d-n : d ≡ n = d-is ∙ ap length (alike ∙ same) ∙ sym n-is in
       subst (λ (q : ℕ). GoesOn bytes cells c body at q ls b (over b ws) (over b zs) ds es before after) (sym ends)
-      (if_step bytes cells c body at ls b n r (over b ws) (over b zs) ds es before mid after inner s w waits more here (n-is ∙ left_under b ws xs h left)
+      (if_step bytes cells c body at ls b n r (over b ws) (over b zs) ds es before mid after inner more s w waits here (n-is ∙ left_under b ws xs h left)
       (gives ∙ ap (λ (us : List ValType). listed r ++ over b us) (alike ∙ same) ∙ ap (λ (us : List ValType). listed r ++ us) left) reached also
       (moved (at + 1) first n n reached ls aim (past n r) inner empty (into_block ds.known) o begins aimed refl refl none)
       (moved (other_arm body at) second m n also ks aim (past n r) more other [] p turns aimed outer m-n nothing)
-      (made ∙ ap (λ (js : List Aim). mid ++ under_label (labels_round js) (chosen (signed_word d) inner more) ∷ []) (around ∙ outer)
-      ∙ ap (λ (e : ℕ). mid ++ under_label (labels_round ls) (chosen (signed_word e) inner more) ∷ []) d-n))
+      (made ∙ ap (λ (js : List Aim). mid ++ under_label (labels_round js) (chosen test inner more) ∷ []) (around ∙ outer)
+      ∙ ap (λ (e : Expr). mid ++ under_label (labels_round ls) (chosen e inner more) ∷ []) asks))

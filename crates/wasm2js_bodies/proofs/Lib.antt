@@ -4,3 +4,4 @@ pub mod Lists
 pub mod Done
 pub mod Plains
 pub mod Whole
+pub mod Endings

@@ -12,7 +12,7 @@ use Rattle.wasm2js_translation.specs.Words.{Action, statements}
 use Rattle.wasm2js_translation.specs.Actions.{actions_amid}
 use Rattle.wasm2js_translation.specs.Delays.{Delayed, late, standing}
 use Rattle.wasm2js_translation.specs.Known.{Known, lean}
-use Rattle.wasm2js_build.specs.Growing.{State, Held, run, late_at, late_state, state_of}
+use Rattle.wasm2js_build.specs.Growing.{State, Held, run, late_at, state_of, late_of}
 use Rattle.wasm2js_build.specs.declared.straight.Straight.{Straight}
 use Rattle.wasm2js_build.proofs.Growing.{run_late}
 use Rattle.wasm2js_translation.specs.Bodies.{Aim, after_plain}
@@ -33,7 +33,7 @@ is_translated (j ∷ js) zero i h here = let same : j ≡ i = cc here in subst (
 is_translated (j ∷ js) (suc at) i h here = is_translated js at i (either_false (is_wide_mul_div j) (has_mul_div js) h).1 here
 
 -- where words may wait before straight code they may wait after it
-pub late_after : (s : Straight) (told : List Stmt) (ds : List Delayed) (ks : List Known) (acts : List Action) → state_of s ≡ run (late_at told ds ks) acts → late_state s.text ≡ run (late_at told ds ks) acts
+pub late_after : (s : Straight) (told : List Stmt) (ds : List Delayed) (ks : List Known) (acts : List Action) → state_of s ≡ run (late_at told ds ks) acts → late_of s ≡ run (late_at told ds ks) acts
 late_after s told ds ks acts e = ap (λ (q : State). late_at q.told q.waits q.known) (e ∙ run_late told ds ks acts) ∙ sym (run_late told ds ks acts)
 
 pub plain_step : (bytes cells : ℕ) (c : Context) (body : List Instruction) (at place : ℕ) (ls : List Aim) (b : ℕ) (ts us : List ValType) (before made : List Stmt) (i : Instruction) (ds es : Held) (fs : List Delayed)

@@ -14,9 +14,10 @@ use Rattle.wasm_run_flat.specs.declared.target.Target.{Target}
 use Rattle.wasm_run_flat.proofs.Standing.{single_goes_on, end_leaves, else_leaves, last_ends, else_stands_inside}
 use Rattle.asm_lang.specs.Modules.{Stmt}
 use Rattle.wasm2js_translation.specs.Words.{simple_statements}
-use Rattle.wasm2js_translation.specs.Delays.{written}
+use Rattle.wasm2js_translation.specs.Names.{Name}
+use Rattle.wasm2js_translation.specs.Delays.{Delayed, written, without}
 use Rattle.wasm2js_translation.specs.Known.{into_block}
-use Rattle.wasm2js_translation.specs.Bodies.{Aim, comes_to_end}
+use Rattle.wasm2js_translation.specs.Bodies.{Aim, comes_to_end, written_but, ended}
 use Rattle.wasm2js_build.specs.Growing.{Held, nothing_held}
 use Rattle.wasm2js_bodies.specs.Walks.{IsInside, size, stmts_after, GoesOn, IsOver}
 
@@ -78,7 +79,7 @@ module _ (bytes cells : ℕ) (c : Context) (body : List Instruction) (at : ℕ) 
         ending = sym (ap comes_to_end n.code ∙ last rest);
       }
 
--- ---- an instruction before which all that waits is written
+-- ---- an instruction before which what waits is written: all, or all but what one operand is to have
 
 abbrev pub all_written : Held → List Stmt
 all_written ds = simple_statements (written ds.waits)
@@ -87,34 +88,40 @@ all_written ds = simple_statements (written ds.waits)
 abbrev pub begun : Held → Held
 begun ds = record { waits = []; known = into_block ds.known }
 
+pub beside : (told start mid : List Stmt) (n m : Name) (ds es : List Delayed) → start ≡ told → es ≡ without n ds → n ≡ m → mid ≡ start ++ simple_statements (written es) → mid ≡ told ++ written_but m ds
+beside told start mid n m ds es begins left same made =
+    made ∙ ap (λ (ss : List Stmt). ss ++ simple_statements (written es)) begins
+    ∙ ap (λ (fs : List Delayed). told ++ simple_statements (written fs)) left
+    ∙ ap (λ (x : Name). told ++ written_but x ds) same
+
 pub joined : (before mid after all head : List Stmt) → mid ≡ before ++ all → after ≡ mid ++ head → after ≡ before ++ (all ++ head)
 joined before mid after all head e f = f ∙ ap (λ (ss : List Stmt). ss ++ head) e ∙ append_assoc before all head
 
-module _ (bytes cells : ℕ) (c : Context) (body : List Instruction) (at : ℕ) (ls : List Aim) (b : ℕ) (ts : List ValType) (ds : Held) (before mid after head : List Stmt) where
-  pub written_goes_on : mid ≡ before ++ all_written ds → (us : List ValType) (es : Held) → es ≡ nothing_held → (place : ℕ) (targets : List Target) (x : Tree) → IsNext body at place targets x → has_mul_div body ≡ false → after ≡ mid ++ head
-      → ((is : Trees) → stmts_after bytes cells c (x ▹ is) ls b ts ds ≡ all_written ds ++ (head ++ stmts_after bytes cells c is ls b us nothing_held))
+module _ (bytes cells : ℕ) (c : Context) (body : List Instruction) (at : ℕ) (ls : List Aim) (b : ℕ) (ts : List ValType) (ds : Held) (before mid after all head : List Stmt) where
+  pub written_goes_on : mid ≡ before ++ all → (us : List ValType) (es : Held) → es ≡ nothing_held → (place : ℕ) (targets : List Target) (x : Tree) → IsNext body at place targets x → has_mul_div body ≡ false → after ≡ mid ++ head
+      → ((is : Trees) → stmts_after bytes cells c (x ▹ is) ls b ts ds ≡ all ++ (head ++ stmts_after bytes cells c is ls b us nothing_held))
       → ((is : Trees) → comes_to_end (x ▹ is) ≡ comes_to_end is)
       → GoesOn bytes cells c body at place ls b ts us ds es before after
   written_goes_on w us es waits place targets x n translated made first last =
       subst (λ (gs : Held). GoesOn bytes cells c body at place ls b ts us ds gs before after) (sym waits)
-      (goes_on bytes cells c body at ls b ts ds before after (all_written ds ++ head) us nothing_held place targets x n translated (joined before mid after (all_written ds) head w made)
-      (λ is. first is ∙ sym (append_assoc (all_written ds) head (stmts_after bytes cells c is ls b us nothing_held))) last)
+      (goes_on bytes cells c body at ls b ts ds before after (all ++ head) us nothing_held place targets x n translated (joined before mid after all head w made)
+      (λ is. first is ∙ sym (append_assoc all head (stmts_after bytes cells c is ls b us nothing_held))) last)
 
-  pub written_step : mid ≡ before ++ all_written ds → (place : ℕ) (us vs : List ValType) (es : Held) → es ≡ nothing_held → (i : Instruction) (x : Tree) → IsInside body at → slice_get body at ≡ Some i → single i ≡ Some x → place ≡ at + 1
+  pub written_step : mid ≡ before ++ all → (place : ℕ) (us vs : List ValType) (es : Held) → es ≡ nothing_held → (i : Instruction) (x : Tree) → IsInside body at → slice_get body at ≡ Some i → single i ≡ Some x → place ≡ at + 1
       → after ≡ mid ++ head → us ≡ vs
-      → ((is : Trees) → stmts_after bytes cells c (x ▹ is) ls b ts ds ≡ all_written ds ++ (head ++ stmts_after bytes cells c is ls b vs nothing_held))
+      → ((is : Trees) → stmts_after bytes cells c (x ▹ is) ls b ts ds ≡ all ++ (head ++ stmts_after bytes cells c is ls b vs nothing_held))
       → ((is : Trees) → comes_to_end (x ▹ is) ≡ comes_to_end is)
       → GoesOn bytes cells c body at place ls b ts us ds es before after
   written_step w place us vs es waits i x s here same next made gives first last =
-      single_step bytes cells c body at ls b ts ds before after (all_written ds ++ head) place us vs es nothing_held i x s here same next (joined before mid after (all_written ds) head w made) gives waits
-      (λ is. first is ∙ sym (append_assoc (all_written ds) head (stmts_after bytes cells c is ls b vs nothing_held))) last
+      single_step bytes cells c body at ls b ts ds before after (all ++ head) place us vs es nothing_held i x s here same next (joined before mid after all head w made) gives waits
+      (λ is. first is ∙ sym (append_assoc all head (stmts_after bytes cells c is ls b vs nothing_held))) last
 
-  pub written_last_step : mid ≡ before ++ all_written ds → (i : Instruction) (x : Tree) → IsInside body at → slice_get body at ≡ Some i → single i ≡ Some x → after ≡ mid ++ head
-      → ((is : Trees) → stmts_after bytes cells c (x ▹ is) ls b ts ds ≡ all_written ds ++ head)
+  pub written_last_step : mid ≡ before ++ all → (i : Instruction) (x : Tree) → IsInside body at → slice_get body at ≡ Some i → single i ≡ Some x → after ≡ mid ++ head
+      → ((is : Trees) → stmts_after bytes cells c (x ▹ is) ls b ts ds ≡ all ++ head)
       → ((is : Trees) → comes_to_end (x ▹ is) ≡ false)
       → IsOver bytes cells c body at false ls b ts ds before after
   written_last_step w i x s here same made first last =
-      last_step bytes cells c body at ls b ts ds before after (all_written ds ++ head) i x s here same (joined before mid after (all_written ds) head w made) first last
+      last_step bytes cells c body at ls b ts ds before after (all ++ head) i x s here same (joined before mid after all head w made) first last
 
 no_code_at_end : (body : List Instruction) (at : ℕ) (targets : List Target) → Stands body at targets → slice_get body at ≡ Some flat.end_mark → code_at body at ≡ ε
 no_code_at_end body at [] s here = (last_ends body at s here).code
@@ -130,7 +137,7 @@ no_code body at s (inr here) = no_code_at_end body at s.targets s.stands here
 
 -- at an else or an end
 pub end_step : (bytes cells : ℕ) (c : Context) (body : List Instruction) (at : ℕ) (ls : List Aim) (b : ℕ) (ts : List ValType) (ds : Held) (before after : List Stmt)
-    → IsInside body at → (slice_get body at ≡ Some flat.else_mark) ⊎ (slice_get body at ≡ Some flat.end_mark) → after ≡ before ++ all_written ds → IsOver bytes cells c body at true ls b ts ds before after
+    → IsInside body at → (slice_get body at ≡ Some flat.else_mark) ⊎ (slice_get body at ≡ Some flat.end_mark) → after ≡ before ++ ended ls b ts ds.waits → IsOver bytes cells c body at true ls b ts ds before after
 end_step bytes cells c body at ls b ts ds before after s here made =
     let e = no_code body at s here in
     record {

@@ -17,10 +17,11 @@ use wasm2js_build::{Block, LateBlock};
 use wasm2js_jumps::Aim;
 use wasm2js_operands::BodyScope;
 
-// The statements of the code of a body. A branch to its label leaves the function.
-fn all_statements(walk: &Walk<'_>, body: &Body) -> Result<Block, AllocError>
+// The statements of the code of a body, and whether its end is reached. A branch to its label leaves the function.
+fn all_statements(walk: &Walk<'_>, body: &Body) -> Result<(Block, bool), AllocError>
     requires { IsInside body.now 0 }
-    ensures { IfOk result (λ block. statements_of block ≡ bodies.stmts_of walk.now.sizes.bytes walk.now.sizes.cells (context_in walk.now.scope.now) (code_at body.now 0) (bodies.out walk.now.scope.now.returns ∷ []) 0 [] [] []) }
+    ensures statements { IfOk result (λ made. statements_of made.0 ≡ bodies.stmts_of walk.now.sizes.bytes walk.now.sizes.cells (context_in walk.now.scope.now) (code_at body.now 0) (bodies.out walk.now.scope.now.returns ∷ []) 0 [] [] []) }
+    ensures reached { IfOk result (λ made. made.1 ≡ bodies.comes_to_end (code_at body.now 0)) }
 {
     let mut types = Vec::new(walk.alloc);
     let mut aims = Vec::new(walk.alloc);
@@ -29,8 +30,8 @@ fn all_statements(walk: &Walk<'_>, body: &Body) -> Result<Block, AllocError>
     };
     enter(&mut aims, leaves)?;
     let mut text = LateBlock::new(walk.alloc);
-    put_code(walk, body, &mut types, &mut aims, 0, 0, &mut text)?;
-    Ok(text.block)
+    let reached = put_code(walk, body, &mut types, &mut aims, 0, 0, &mut text)?;
+    Ok((text.block, reached))
 }
 
 /// The statements of the body of a function, which is an expression without products, quotients and remainders of words of 64 bits: its blocks are closed and it ends with its own end.
@@ -49,7 +50,7 @@ pub fn body_statements(
         sizes,
         scope,
     };
-    let mut block = all_statements(&walk, body)?;
-    close(alloc, scope.returns, &mut block)?;
+    let (mut block, reached) = all_statements(&walk, body)?;
+    close(alloc, scope.returns, reached, &mut block)?;
     Ok(block)
 }

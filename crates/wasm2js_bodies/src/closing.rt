@@ -1,9 +1,12 @@
 //! Blocks as statements, and the end of a body.
-ghost use Rattle.std.specs.Prelude.{◌≡◌, ◌≤◌, ◌∷◌, [], ◌++◌, ℕ, None, vec_len, IfOk, if◌then◌else◌};
+ghost use Rattle.std.specs.Prelude.{◌≡◌, ◌≤◌, ◌∷◌, [], ◌++◌, ℕ, Some, None, vec_len, IfOk, if◌then◌else◌};
 ghost use Rattle.asm_lang.specs.Modules as plain;
+ghost use Rattle.wasm_lang.specs.declared.types.ValType.TheVariants.{I32};
 ghost use Rattle.wasm_lang_valid.specs.Typing.{Context, listed};
 ghost use Rattle.wasm2js_translation.specs.Bodies as bodies;
 ghost use Rattle.wasm2js_translation.specs.Helpers as helpers;
+ghost use Rattle.wasm2js_translation.specs.Words.{test_of};
+ghost use Rattle.wasm2js_terms.specs.Held.{word_view};
 ghost use Rattle.wasm2js_build.specs.Blocks.{statements_of};
 ghost use Rattle.wasm2js_jumps.specs.Aims.{aim_view, aims_view};
 ghost use Rattle.wasm2js_operands.specs.Operands.{over, IsKept};
@@ -12,12 +15,11 @@ ghost use Rattle.asm_tree.specs.Views.{stmt_view};
 use asm_tree::Stmt;
 use std::alloc::{AllocError, Global};
 use wasm_lang::ValType;
-use wasm2js_build::Block;
-use wasm2js_jumps::{
-    Aim, bare_break, block_of, chosen, endless, labelled, leave_with, signed_word,
-};
+use wasm2js_build::{Block, condition};
+use wasm2js_jumps::{Aim, bare_break, block_of, chosen, endless, labelled, leave_with};
 use wasm2js_nodes::{Name, Numbered};
 use wasm2js_operands::add;
+use wasm2js_terms::Word;
 
 /// What a branch past a block does that begins above these operands.
 pub fn past(types: &Vec<ValType>, result_type: Option<ValType>) -> Aim
@@ -89,18 +91,18 @@ fn put_loop(alloc: Global, aims: &[Aim], inner: Block, block: &mut Block) -> Res
     put_labelled(alloc, aims, stmt, block)
 }
 
-// An `if` by the operand above so many others, with these statements in its arms.
+// An `if` by a word, with these statements in its arms.
 fn put_if(
     alloc: Global,
     aims: &[Aim],
-    subject: u64,
+    word: Word,
     first: Block,
     second: Block,
     block: &mut Block,
 ) -> Result<(), AllocError>
-    ensures { IfOk result (λ _. statements_of block.new ≡ statements_of block.old ++ bodies.under_label (bodies.labels_round (aims_view aims.now)) (bodies.chosen (bodies.signed_word subject) (statements_of first) (statements_of second)) ∷ []) }
+    ensures { IfOk result (λ _. statements_of block.new ≡ statements_of block.old ++ bodies.under_label (bodies.labels_round (aims_view aims.now)) (bodies.chosen (test_of (word_view word)) (statements_of first) (statements_of second)) ∷ []) }
 {
-    let test = signed_word(alloc, subject)?;
+    let test = condition(alloc, word)?;
     let stmt = chosen(alloc, test, first, second)?;
     put_labelled(alloc, aims, stmt, block)
 }
@@ -166,13 +168,14 @@ pub fn close_loop(
     Ok(())
 }
 
-/// An `if` by the operand above those that are left, with these statements in its arms, and its result.
+/// An `if` by a word, with these statements in its arms, and its result.
 pub fn close_if(
     alloc: Global,
     aims: &Vec<Aim>,
     types: &mut Vec<ValType>,
     base: usize,
     result_type: Option<ValType>,
+    word: Word,
     first: Block,
     second: Block,
     block: &mut Block,
@@ -180,20 +183,50 @@ pub fn close_if(
     requires { base ≤ vec_len types.old }
     ensures kept { IfOk result (λ _. IsKept base types.old.items types.new.items) }
     ensures types { IfOk result (λ _. over base types.new.items ≡ listed result_type ++ over base types.old.items) }
-    ensures statements { IfOk result (λ _. statements_of block.new ≡ statements_of block.old ++ bodies.under_label (bodies.labels_round (aims_view aims.now.items)) (bodies.chosen (bodies.signed_word (vec_len types.old)) (statements_of first) (statements_of second)) ∷ []) }
+    ensures statements { IfOk result (λ _. statements_of block.new ≡ statements_of block.old ++ bodies.under_label (bodies.labels_round (aims_view aims.now.items)) (bodies.chosen (test_of (word_view word)) (statements_of first) (statements_of second)) ∷ []) }
 {
-    let subject = types.len() as u64;
-    put_if(alloc, aims, subject, first, second, block)?;
+    put_if(alloc, aims, word, first, second, block)?;
     give(types, base, result_type)?;
     Ok(())
 }
 
-/// The end of the body of a function.
-pub fn close(alloc: Global, returns: Option<ValType>, block: &mut Block) -> Result<(), AllocError>
-    ensures { (bytes cells : ℕ) (c : Context) → IfOk result (λ _. statements_of block.new ≡ statements_of block.old ++ bodies.closing bytes cells c returns) }
+// The end of a function that gives a word of 32 bits.
+fn close_word(alloc: Global, reached: bool, block: &mut Block) -> Result<(), AllocError>
+    ensures { (bytes cells : ℕ) (c : Context) → IfOk result (λ _. statements_of block.new ≡ statements_of block.old ++ bodies.closing bytes cells c (Some I32) reached) }
+{
+    if reached {
+        Ok(())
+    } else {
+        leave_with(alloc, Some(ValType::I32), 0, block)
+    }
+}
+
+// The end of a function that gives a word of this type.
+fn close_with(
+    alloc: Global,
+    value_type: ValType,
+    reached: bool,
+    block: &mut Block,
+) -> Result<(), AllocError>
+    ensures { (bytes cells : ℕ) (c : Context) → IfOk result (λ _. statements_of block.new ≡ statements_of block.old ++ bodies.closing bytes cells c (Some value_type) reached) }
+{
+    match value_type {
+        ValType::I32 => close_word(alloc, reached, block),
+        ValType::I64 => leave_with(alloc, Some(value_type), 0, block),
+    }
+}
+
+/// The end of the body of a function, which may be reached.
+pub fn close(
+    alloc: Global,
+    returns: Option<ValType>,
+    reached: bool,
+    block: &mut Block,
+) -> Result<(), AllocError>
+    ensures { (bytes cells : ℕ) (c : Context) → IfOk result (λ _. statements_of block.new ≡ statements_of block.old ++ bodies.closing bytes cells c returns reached) }
 {
     match returns {
         None => Ok(()),
-        Some(_) => leave_with(alloc, returns, 0, block),
+        Some(value_type) => close_with(alloc, value_type, reached, block),
     }
 }

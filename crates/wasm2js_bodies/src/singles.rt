@@ -14,7 +14,7 @@ ghost use Rattle.wasm2js_bodies.specs.Kinds.{is_plain};
 ghost use Rattle.wasm2js_bodies.specs.Walks.{IsInside};
 ghost use Rattle.wasm2js_bodies.specs.Steps.{IsStep};
 
-use crate::branches::{branch_by_index, branch_if, branch_to, give_back};
+use crate::branches::{branch_by_index, branch_if, branch_to, end_code, give_back, topmost};
 use crate::calls::{put_call, put_call_indirect};
 use crate::waiting::keep_standing;
 use std::alloc::{AllocError, Global};
@@ -94,7 +94,7 @@ pub fn do_plain(
     let place = place_after(body, at);
     put_instruction(walk, types, base, instr, text)?;
     after_plain(walk.scope, types, base, instr)?;
-    keep_standing(types, base, &mut text.waits);
+    keep_standing(types, base, text);
     Ok(Next::At(place))
 }
 
@@ -184,8 +184,9 @@ pub fn do_branch_if(
     ensures step { IfOk result (λ next. IsStep next walk.now body.now at (aims_view aims.now) base (over base types.old.items) (over base types.new.items) (held_of text.old) (held_of text.new) (statements_of text.old.block) (statements_of text.new.block)) }
 {
     let place = place_after(body, at);
+    let word = text.take_out(topmost(types, base));
     text.write_all()?;
-    branch_if(walk.alloc, aims, types, base, label, &mut text.block)?;
+    branch_if(walk.alloc, aims, types, base, label, word, &mut text.block)?;
     Ok(Next::At(place))
 }
 
@@ -271,8 +272,7 @@ pub fn do_return(
     requires here { slice_get body.now at ≡ Some flat.return }
     ensures { (ls : List bodies.Aim) (us : List ValType) → IfOk result (λ next. IsStep next walk.now body.now at ls base (over base types.now.items) us (held_of text.old) (held_of text.new) (statements_of text.old.block) (statements_of text.new.block)) }
 {
-    text.write_all()?;
-    give_back(walk.alloc, walk.scope.returns, types, base, &mut text.block)?;
+    give_back(walk.alloc, walk.scope.returns, types, base, text)?;
     Ok(Next::Over(false))
 }
 
@@ -280,13 +280,17 @@ pub fn do_return(
 pub fn do_end(
     walk: &Walk<'_>,
     body: &Body,
+    types: &Vec<ValType>,
+    aims: &[Aim],
+    base: usize,
     at: usize,
     text: &mut LateBlock,
 ) -> Result<Next, AllocError>
     requires inside { IsInside body.now at }
+    requires there { base ≤ vec_len types.now }
     requires here { (slice_get body.now at ≡ Some flat.else_mark) ⊎ (slice_get body.now at ≡ Some flat.end_mark) }
-    ensures { (ls : List bodies.Aim) (b : ℕ) (ts us : List ValType) → IfOk result (λ next. IsStep next walk.now body.now at ls b ts us (held_of text.old) (held_of text.new) (statements_of text.old.block) (statements_of text.new.block)) }
+    ensures { (us : List ValType) → IfOk result (λ next. IsStep next walk.now body.now at (aims_view aims.now) base (over base types.now.items) us (held_of text.old) (held_of text.new) (statements_of text.old.block) (statements_of text.new.block)) }
 {
-    text.write_all()?;
+    end_code(walk.alloc, aims, types, base, text)?;
     Ok(Next::Over(true))
 }

@@ -8,6 +8,7 @@ ghost use Rattle.wasm2js_operands.specs.Operands.{over, IsKept};
 ghost use Rattle.wasm2js_bodies.specs.Walks.{IsInside};
 ghost use Rattle.wasm2js_bodies.specs.Steps.{Ends, IsStep};
 
+use crate::branches::topmost;
 use crate::closing::{again, close_block, close_if, close_loop, enter, past};
 use crate::kinds::{Kind, kind_of};
 use crate::singles::{
@@ -73,8 +74,8 @@ fn step(
         Kind::Block(result) => Ok(do_block(walk, body, types, aims, base, at, result, text)?),
         Kind::Loop(result) => Ok(do_loop(walk, body, types, aims, base, at, result, text)?),
         Kind::If(result) => Ok(do_if(walk, body, types, aims, base, at, result, text)?),
-        Kind::Else => Ok(do_end(walk, body, at, text)?),
-        Kind::End => Ok(do_end(walk, body, at, text)?),
+        Kind::Else => Ok(do_end(walk, body, types, aims, base, at, text)?),
+        Kind::End => Ok(do_end(walk, body, types, aims, base, at, text)?),
         Kind::Br(label) => Ok(do_branch(walk, body, types, aims, base, at, label, text)?),
         Kind::BrIf(label) => Ok(do_branch_if(walk, body, types, aims, base, at, label, text)?),
         Kind::BrTable(labels, default) => {
@@ -206,6 +207,7 @@ fn do_if(
     ensures value { IfOk result (λ next. IsStep next walk.now body.now at (aims_view aims.old.items) base (over base types.old.items) (over base types.new.items) (held_of text.old) (held_of text.new) (statements_of text.old.block) (statements_of text.new.block)) }
 {
     let first = place_after(body, at);
+    let word = text.take_out(topmost(types, base));
     remove(types, base, 1);
     let aim = past(types, result_type);
     let mut yes = text.begin_block()?;
@@ -218,6 +220,7 @@ fn do_if(
         types,
         base,
         result_type,
+        word,
         yes.block,
         no.block,
         &mut text.block,

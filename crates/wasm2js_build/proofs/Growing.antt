@@ -5,9 +5,9 @@ use Rattle.asm_lang.specs.Modules.{Stmt}
 use Rattle.wasm2js_translation.specs.Names.{Name}
 use Rattle.wasm2js_translation.specs.Words.{Term, Simple, put, ask, tell, guard, stop, write_byte, write_whole, Action, simply, either, simple_statement, simple_statements, statement, statements}
 use Rattle.wasm2js_translation.specs.Pairs.{simples}
-use Rattle.wasm2js_translation.specs.Delays.{Delayed, Late, replaced, may_wait, without, those, others, written, puts, changes, one_changes, in_place, at_once, late, late_action, late_arm, late_either}
+use Rattle.wasm2js_translation.specs.Delays.{Delayed, Late, replaced, may_wait, without, those, others, written, puts, changes, one_changes, in_place, at_once, late_among, late, late_action, late_arm}
 use Rattle.wasm2js_translation.specs.Known.{Known, Lean, bound, is_within, unchanged, lean, lean_action, all_learned, learned}
-use Rattle.wasm2js_build.specs.Growing.{State, one, run, late_at, after_late, state_at_once, begins_to_wait}
+use Rattle.wasm2js_build.specs.Growing.{State, one, run, late_at, grown, after_late, state_at_once, begins_to_wait}
 use Rattle.wasm2js_build.proofs.Replacing.{nothing_waits, nothing_in_place}
 
 pub one_at_once : (told : List Stmt) (s : Simple) → one (state_at_once told) (simply s) ≡ state_at_once (told ++ simple_statement s ∷ [])
@@ -56,10 +56,6 @@ run_late told ds ks (a ∷ acts) =
 
 -- ---- one more action
 
--- what is written is left out where it is needless
-abbrev pub grown : List Stmt → List Known → Late → State
-grown told ks x = late_at (told ++ statements (lean ks x.now).now) x.later (lean ks x.now).known
-
 put_waits : (b : Bool) (told : List Stmt) (ds : List Delayed) (ks : List Known) (n : Name) (u : Term) (x : Late) (d : Delayed)
     → (if b then Some (record { name = n; word = u }) else None) ≡ Some d
     → grown told ks (if b then record { now = []; later = without n ds ++ record { name = n; word = u } ∷ [] } else x) ≡ late_at told (without d.name ds ++ d ∷ []) ks
@@ -69,15 +65,9 @@ put_waits true told ds ks n u x d e =
     ∙ ap (λ (y : Delayed). late_at told (without y.name ds ++ y ∷ []) ks) same
 put_waits false told ds ks n u x d e = absurd (cc e)
 
-put_goes : (b : Bool) (told : List Stmt) (ks : List Known) (d : Delayed) (x y : Late) → (if b then Some d else None) ≡ None
-    → grown told ks (if b then y else x) ≡ grown told ks x
-put_goes true told ks d x y e = absurd (cc e)
-put_goes false told ks d x y e = refl
-
 -- a word that begins to wait
 pub begins : (told : List Stmt) (ds : List Delayed) (ks : List Known) (s : Simple) (d : Delayed) → begins_to_wait ds s ≡ Some d
-    → one (late_at told ds ks) (simply s) ≡ late_at told (without d.name ds ++ d ∷ []) ks
-unfolding one
+    → grown told ks (late_among ds s) ≡ late_at told (without d.name ds ++ d ∷ []) ks
 begins told ds ks (put n t) d e = put_waits (may_wait ds n (replaced ds t)) told ds ks n (replaced ds t) (at_once ds (put n t)) d e
 begins told ds ks (ask n helper ts) d e = absurd (cc e)
 begins told ds ks (tell helper ts) d e = absurd (cc e)
@@ -85,23 +75,6 @@ begins told ds ks (guard t most kind) d e = absurd (cc e)
 begins told ds ks (stop kind) d e = absurd (cc e)
 begins told ds ks (write_byte at t) d e = absurd (cc e)
 begins told ds ks (write_whole at t) d e = absurd (cc e)
-
--- a step that doesn't wait
-pub goes : (told : List Stmt) (ds : List Delayed) (ks : List Known) (s : Simple) → begins_to_wait ds s ≡ None → one (late_at told ds ks) (simply s) ≡ grown told ks (at_once ds s)
-unfolding one
-goes told ds ks (put n t) e =
-    put_goes (may_wait ds n (replaced ds t)) told ks (record { name = n; word = replaced ds t }) (at_once ds (put n t)) (record { now = []; later = without n ds ++ record { name = n; word = replaced ds t } ∷ [] }) e
-goes told ds ks (ask n helper ts) e = refl
-goes told ds ks (tell helper ts) e = refl
-goes told ds ks (guard t most kind) e = refl
-goes told ds ks (stop kind) e = refl
-goes told ds ks (write_byte at t) e = refl
-goes told ds ks (write_whole at t) e = refl
-
-pub goes_either : (told : List Stmt) (ds : List Delayed) (ks : List Known) (t : Term) (first second : List Simple)
-    → one (late_at told ds ks) (either t first second) ≡ grown told ks (late_either ds t first second)
-unfolding one
-goes_either told ds ks t first second = refl
 
 -- where nothing waits
 pub as_it_is : (told : List Stmt) (ds : List Delayed) (ks : List Known) (a : Action)
@@ -116,7 +89,7 @@ simples_joined [] s = refl
 simples_joined (x ∷ xs) s = ap (λ (acts : List Action). simply x ∷ acts) (simples_joined xs s)
 
 -- what was to wait is no test
-lean_written : (ks : List Known) (ds : List Delayed) → lean ks (simples (written ds)) ≡ record { now = simples (written ds); known = all_learned ks (written ds) }
+pub lean_written : (ks : List Known) (ds : List Delayed) → lean ks (simples (written ds)) ≡ record { now = simples (written ds); known = all_learned ks (written ds) }
 lean_written ks [] = refl
 lean_written ks (d ∷ ds) =
     ap (λ (l : Lean). record { now = simply (put d.name d.word) ∷ l.now; known = l.known }) (lean_written (learned ks (put d.name d.word)) ds)
@@ -238,29 +211,20 @@ either_stays told after ks js ds t first second ever made knows =
 
 -- ---- the same of the code, of which `vs` are the words that wait as it reads them
 
-pub act_waits : (late : Bool) (told : List Stmt) (ds vs ws : List Delayed) (ks : List Known) (s : Simple) (o : Option Delayed) (d : Delayed) → late ≡ true → vs ≡ ds → o ≡ begins_to_wait vs s → o ≡ Some d
-    → ws ≡ without d.name ds ++ d ∷ []
-    → record { is_late = late; told = told; waits = ws; known = ks } ≡ one (record { is_late = late; told = told; waits = ds; known = ks }) (simply s)
-act_waits late told ds vs ws ks s o d is_so same asked is after =
+-- a word begins to wait, where none is held
+pub among_waits : (told : List Stmt) (ds vs ws : List Delayed) (ks : List Known) (s : Simple) (o : Option Delayed) (d : Delayed) → vs ≡ ds → o ≡ begins_to_wait vs s → o ≡ Some d
+    → ws ≡ without d.name ds ++ d ∷ [] → late_at told ws ks ≡ grown told ks (late_among ds s)
+among_waits told ds vs ws ks s o d same asked is after =
     let e : begins_to_wait ds s ≡ Some d = ap (λ (x : List Delayed). begins_to_wait x s) (sym same) ∙ sym asked ∙ is in
-    subst (λ (x : Bool). record { is_late = x; told = told; waits = ws; known = ks } ≡ one (record { is_late = x; told = told; waits = ds; known = ks }) (simply s)) (sym is_so)
-    (ap (λ (x : List Delayed). late_at told x ks) after ∙ sym (begins told ds ks s d e))
+    ap (λ (x : List Delayed). late_at told x ks) after ∙ sym (begins told ds ks s d e)
 
 -- where `x` is what is written and what waits then
-grew : (told after : List Stmt) (ws : List Delayed) (ks js : List Known) (x : Late) → after ≡ told ++ statements (lean ks x.now).now → ws ≡ x.later → js ≡ (lean ks x.now).known
+pub grew : (told after : List Stmt) (ws : List Delayed) (ks js : List Known) (x : Late) → after ≡ told ++ statements (lean ks x.now).now → ws ≡ x.later → js ≡ (lean ks x.now).known
     → late_at after ws js ≡ grown told ks x
 grew told after ws ks js x made waits knows =
     ap (λ (y : List Stmt). late_at y ws js) made
     ∙ ap (λ (y : List Delayed). late_at (told ++ statements (lean ks x.now).now) y js) waits
     ∙ ap (λ (y : List Known). late_at (told ++ statements (lean ks x.now).now) x.later y) knows
-
-pub act_goes : (late : Bool) (told after : List Stmt) (ds vs ws : List Delayed) (ks js : List Known) (s : Simple) (o : Option Delayed) → late ≡ true → vs ≡ ds → o ≡ begins_to_wait vs s → o ≡ None
-    → after ≡ told ++ statements (lean ks (at_once ds s).now).now → ws ≡ (at_once ds s).later → js ≡ (lean ks (at_once ds s).now).known
-    → record { is_late = late; told = after; waits = ws; known = js } ≡ one (record { is_late = late; told = told; waits = ds; known = ks }) (simply s)
-act_goes late told after ds vs ws ks js s o is_so same asked is made waits knows =
-    let e : begins_to_wait ds s ≡ None = ap (λ (x : List Delayed). begins_to_wait x s) (sym same) ∙ sym asked ∙ is in
-    subst (λ (x : Bool). record { is_late = x; told = after; waits = ws; known = js } ≡ one (record { is_late = x; told = told; waits = ds; known = ks }) (simply s)) (sym is_so)
-    (grew told after ws ks js (at_once ds s) made waits knows ∙ sym (goes told ds ks s e))
 
 pub act_at_once : (late : Bool) (told after : List Stmt) (ds ws : List Delayed) (ks js : List Known) (a : Action) → late ≡ false → after ≡ told ++ statement a ∷ [] → ws ≡ ds → js ≡ ks
     → record { is_late = late; told = after; waits = ws; known = js } ≡ one (record { is_late = late; told = told; waits = ds; known = ks }) a
@@ -271,12 +235,13 @@ act_at_once late told after ds ws ks js a is_so made waits knows =
     ∙ ap (λ (x : List Known). record { is_late = false; told = told ++ statement a ∷ []; waits = ds; known = x }) knows
     ∙ sym (as_it_is told ds ks a))
 
-pub act_either : (late : Bool) (told after : List Stmt) (ds ws : List Delayed) (ks js : List Known) (t : Term) (first second : List Simple) → late ≡ true
-    → after ≡ told ++ statements (lean ks (late_either ds t first second).now).now → ws ≡ (late_either ds t first second).later → js ≡ (lean ks (late_either ds t first second).now).known
-    → record { is_late = late; told = after; waits = ws; known = js } ≡ one (record { is_late = late; told = told; waits = ds; known = ks }) (either t first second)
-act_either late told after ds ws ks js t first second is_so made waits knows =
-    subst (λ (x : Bool). record { is_late = x; told = after; waits = ws; known = js } ≡ one (record { is_late = x; told = told; waits = ds; known = ks }) (either t first second)) (sym is_so)
-    (grew told after ws ks js (late_either ds t first second) made waits knows ∙ sym (goes_either told ds ks t first second))
+pub act_late : (late : Bool) (told after : List Stmt) (ds ws : List Delayed) (ks js : List Known) (a : Action) (new : Bool) → late ≡ true → new ≡ late
+    → late_at after ws js ≡ after_late (late_at told ds ks) a
+    → record { is_late = new; told = after; waits = ws; known = js } ≡ one (record { is_late = late; told = told; waits = ds; known = ks }) a
+unfolding one
+act_late late told after ds ws ks js a new is_so stays made =
+    ap (λ (x : Bool). record { is_late = x; told = after; waits = ws; known = js }) (stays ∙ is_so)
+    ∙ subst (λ (x : Bool). late_at after ws js ≡ one (record { is_late = x; told = told; waits = ds; known = ks }) a) (sym is_so) made
 
 -- an arm in which nothing waits
 pub nothing_in_arm : (ss : List Simple) → late_arm [] ss ≡ ss

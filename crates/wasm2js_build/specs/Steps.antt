@@ -1,5 +1,5 @@
 -- What steps of straight code say, as plain data.
-use Rattle.std.specs.Prelude.{ℕ, Bool, not, Option, Some, List, [], ◌∷◌, map, ◌||◌}
+use Rattle.std.specs.Prelude.{ℕ, Bool, not, Option, Some, None, List, [], ◌∷◌, map, ◌||◌}
 use Rattle.wasm2js_translation.specs.Words as words
 use Rattle.wasm2js_translation.specs.Names.{Name, same_name}
 use Rattle.wasm2js_translation.specs.Delays.{Delayed, puts, changes, one_puts, one_changes, reads_one, differ, others}
@@ -47,3 +47,8 @@ abbrev pub learned_bound : List Known → Option words.Term → (most : ℕ) →
 learned_bound ks (Some (words.read n)) most =
     let f = fact_of ks n in noted n (record { most = lesser f.most (Some most); by_four = f.by_four }) (unchanged (same_name n) ks)
 learned_bound ks o most = ks
+
+-- the name of a term that is a variable
+abbrev pub name_in : words.Term → Option Name
+name_in (words.read n) = Some n
+name_in t = None

@@ -10,7 +10,8 @@ ghost use Rattle.wasm2js_translation.specs.Words.{bit_operator, relation_operato
 ghost use Rattle.wasm2js_nodes.specs.Names.{name_view};
 ghost use Rattle.wasm2js_translation.specs.Delays.{at_hand as at_hand_view};
 ghost use Rattle.wasm2js_terms.specs.Views.{bit_view, relation_view, term_view};
-ghost use Rattle.wasm2js_terms.specs.Waits.{atom_view, delays_view, late_term, late_terms};
+ghost use Rattle.wasm2js_terms.specs.Atoms.{atom_view};
+ghost use Rattle.wasm2js_terms.specs.Waits.{delays_view, late_term, late_terms};
 
 use crate::forms::{Form, atom_form, int_form, number_form, own_form, test_form};
 use asm_tree::{Expr, Link};
@@ -328,8 +329,8 @@ pub(crate) fn late_number(
     number_form(alloc, own_form(waits, term), e, is_signed)
 }
 
-// A variable or a literal, which is of type int.
-fn atom_expr(alloc: Global, atom: Atom) -> Result<Expr, AllocError>
+/// A variable or a literal, which is of type int.
+pub(crate) fn atom_expr(alloc: Global, atom: Atom) -> Result<Expr, AllocError>
     ensures bare { IfOk result (λ e. expr_view e ≡ expr_for (atom_view atom)) }
     ensures int { IfOk result (λ e. expr_view e ≡ int_of (atom_view atom)) }
 {

@@ -6,13 +6,15 @@ ghost use Rattle.asm_tree.specs.Views.{expr_view};
 ghost use Rattle.wasm2js_translation.specs.Words as words;
 ghost use Rattle.wasm2js_translation.specs.Words.{as_signed, as_unsigned};
 ghost use Rattle.wasm2js_terms.specs.Views.{bit_view};
-ghost use Rattle.wasm2js_terms.specs.Waits.{atom_view, late_term};
+ghost use Rattle.wasm2js_terms.specs.Atoms.{atom_view};
+ghost use Rattle.wasm2js_terms.specs.Waits.{late_term};
+ghost use Rattle.wasm2js_terms.specs.Held.{of_two_view, word_view};
 ghost use Rattle.wasm2js_build.specs.OwnForms.{bits_form, form_of, signed_by, unsigned_by, number_by, int_by, test_by};
 
 use asm_tree::Expr;
 use std::alloc::{AllocError, Global};
 use wasm2js_nodes::{signed, unsigned};
-use wasm2js_terms::{Atom, BitOp, Delayed, Term, at_hand};
+use wasm2js_terms::{Atom, BitOp, Delayed, OfTwo, Term, Word, at_hand};
 
 /// The type of an expression, as far as it decides where the expression is converted.
 #[derive(Clone, Copy)]
@@ -47,6 +49,27 @@ pub(crate) fn atom_form(atom: Atom) -> Form
     match atom {
         Atom::Read(_) => Form::Int,
         Atom::Number(value) => Form::Literal(value),
+    }
+}
+
+fn of_two_form(word: OfTwo) -> Form
+    ensures { result ≡ form_of (of_two_view word) }
+{
+    match word {
+        OfTwo::Bits(operator, _, _) => bits(operator),
+        OfTwo::Sum(_, _, _) => Form::Intish,
+        OfTwo::Product(_, _) => Form::Signed,
+        OfTwo::Compare(_, _, _, _) => Form::Truth,
+    }
+}
+
+/// What the expression of a word is that stands for a variable.
+pub(crate) fn word_form(word: Word) -> Form
+    ensures { result ≡ form_of (word_view word) }
+{
+    match word {
+        Word::Atom(atom) => atom_form(atom),
+        Word::OfTwo(word) => of_two_form(word),
     }
 }
 

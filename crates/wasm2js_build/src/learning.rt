@@ -5,7 +5,8 @@ ghost use Rattle.wasm2js_translation.specs.Known as plain;
 ghost use Rattle.wasm2js_translation.specs.Names as plain_names;
 ghost use Rattle.wasm2js_translation.specs.Words as words;
 ghost use Rattle.wasm2js_nodes.specs.Names.{name_view};
-ghost use Rattle.wasm2js_terms.specs.Waits.{atom_view, delays_view, late_term};
+ghost use Rattle.wasm2js_terms.specs.Atoms.{atom_view};
+ghost use Rattle.wasm2js_terms.specs.Waits.{delays_view, late_term};
 ghost use Rattle.wasm2js_terms.specs.Facts.{fact_view, knowns_view};
 ghost use Rattle.wasm2js_build.specs.Steps.{step_view, steps_view, learned_bound};
 
@@ -51,8 +52,8 @@ pub(crate) fn learn(
     }
 }
 
-// What is known of a word is known of the variable into which it is put.
-fn learn_word(
+/// What is known of a word is known of the variable into which it is put.
+pub(crate) fn learn_word(
     known: &mut Vec<Known>,
     waits: &[Delayed],
     to: Name,

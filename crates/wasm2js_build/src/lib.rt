@@ -5,10 +5,13 @@ mod block;
 mod building;
 mod forms;
 mod learning;
+mod light;
+mod standing;
 mod steps;
 mod straight;
 
 pub use block::{Block, function};
 pub use building::{expr, int_expr};
+pub use standing::{condition, result_number};
 pub use steps::Step;
 pub use straight::{LateBlock, Straight};

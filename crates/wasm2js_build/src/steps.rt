@@ -7,7 +7,8 @@ ghost use Rattle.wasm2js_translation.specs.Names as names;
 ghost use Rattle.wasm2js_translation.specs.Words as words;
 ghost use Rattle.wasm2js_translation.specs.Words.{simple_statement, signed_number};
 ghost use Rattle.wasm2js_nodes.specs.Names.{name_view, fixed_view};
-ghost use Rattle.wasm2js_terms.specs.Waits.{atom_view, delayed_view, delays_view, late_term, late_terms};
+ghost use Rattle.wasm2js_terms.specs.Atoms.{atom_view};
+ghost use Rattle.wasm2js_terms.specs.Waits.{delayed_view, delays_view, late_term, late_terms};
 ghost use Rattle.wasm2js_build.specs.Steps.{step_view, steps_view, is_spoiled, is_put};
 
 use crate::building::{argument_list, late_expr, late_int, late_number};

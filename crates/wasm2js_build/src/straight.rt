@@ -1,36 +1,36 @@
-//! Straight code whose numbers and variables wait in place of the variables of operands.
-ghost use Rattle.std.specs.Prelude.{◌≡◌, true, [], ◌∷◌, ◌++◌, ◌||◌, option_map, IfOk};
-ghost use Rattle.asm_tree.specs.Views.{stmt_view};
+//! Straight code whose words may wait in place of the variables of operands.
+ghost use Rattle.std.specs.Prelude.{◌≡◌, ◌&&◌, not, false, [], ◌∷◌, ◌++◌, Some, None, length, nat_lt, option_map, IfOk};
 ghost use Rattle.wasm2js_translation.specs.Words as words;
 ghost use Rattle.wasm2js_translation.specs.Words.{simple_statements, statements};
 ghost use Rattle.wasm2js_translation.specs.Delays as delays;
 ghost use Rattle.wasm2js_translation.specs.Known as knowing;
 ghost use Rattle.wasm2js_nodes.specs.Names.{name_view, fixed_view};
 ghost use Rattle.wasm2js_terms.specs.Views.{term_view, terms_view};
+ghost use Rattle.wasm2js_terms.specs.Atoms.{atom_view};
+ghost use Rattle.wasm2js_terms.specs.Waits.{delays_view};
+ghost use Rattle.wasm2js_terms.specs.Held.{held_view, all_held, word_view};
 ghost use Rattle.wasm2js_build.specs.Blocks.{statements_of};
-ghost use Rattle.wasm2js_terms.specs.Waits.{atom_view, delayed_view, delays_view, late_term};
-ghost use Rattle.wasm2js_terms.specs.Facts.{knowns_view};
-ghost use Rattle.wasm2js_build.specs.declared.steps.Change.TheVariants.{Either};
-ghost use Rattle.wasm2js_build.specs.Steps.{step_view, steps_view, is_spoiled, is_put, is_left_in_arms, left_in_arms};
-ghost use Rattle.wasm2js_build.specs.Growing.{one, waits_of, known_of, held_of, nothing_held, late_at, late_state, state_of, state_at_once, begins_to_wait};
+ghost use Rattle.wasm2js_build.specs.Steps.{step_view, steps_view, name_in};
+ghost use Rattle.wasm2js_build.specs.Growing.{one, waits_of, known_of, held_of, nothing_held, late_at, late_state, late_of, after_late, state_of, state_at_once, taking, lights_in};
 
 use crate::block::Block;
-use crate::building::late_test;
-use crate::learning::{is_needless, is_never, learn, unlearn};
-use crate::steps::{Change, Step, puts, replaces, spoils, statement};
-use asm_tree::Stmt;
+use crate::light::{LightBlock, put_held, term_of};
+use crate::steps::Step;
 use std::alloc::{AllocError, Global};
 use std::mem;
-use wasm2js_nodes::{Fixed, Name, if_else};
+use wasm2js_nodes::{Fixed, Name, same_name};
 use wasm2js_terms::{
-    Atom, Delayed, Known, Term, atom_fact, keep_into_block, note, number_at, wait, waiting_word,
+    Atom, Delayed, Held, Known, Term, Word, atom_of, drop_name, has_room, held_without, is_operand,
+    keep_into_block, number_at, word_at,
 };
 
-/// A list of statements that grows at its end, the words that wait then, and what is known of variables, the oldest first.
+/// A list of statements that grows at its end, the words that wait then, the light ones and the one that is held, and what is known of
+/// variables, the oldest first.
 #[derive(Drop)]
 pub struct LateBlock {
     pub block: Block,
     pub waits: Vec<Delayed>,
+    pub held: Option<Held>,
     pub known: Vec<Known>,
 }
 
@@ -42,7 +42,29 @@ impl LateBlock {
         LateBlock {
             block: Block::new(alloc),
             waits: Vec::new(alloc),
+            held: None,
             known: Vec::new(alloc),
+        }
+    }
+
+    // The light words that wait are written.
+    fn write_lights(&mut self) -> Result<(), AllocError>
+        ensures statements { IfOk result (λ _. statements_of self.new.block ≡ statements_of self.old.block ++ simple_statements (delays.written (lights_in self.old))) }
+        ensures held { self.new.held ≡ self.old.held }
+    {
+        for delayed in &self.waits {
+            self.block.put(delayed.name, &term_of(delayed.word))?;
+        }
+        Ok(())
+    }
+
+    // The word that is held is written.
+    fn write_held(&mut self) -> Result<(), AllocError>
+        ensures statements { IfOk result (λ _. statements_of self.new.block ≡ statements_of self.old.block ++ simple_statements (delays.written (all_held self.old.held))) }
+    {
+        match self.held {
+            Some(held) => put_held(&mut self.block, &mut self.known, held.name, held.word),
+            None => Ok(()),
         }
     }
 
@@ -51,12 +73,25 @@ impl LateBlock {
         ensures statements { IfOk result (λ _. statements_of self.new.block ≡ statements_of self.old.block ++ simple_statements (delays.written (waits_of self.old))) }
         ensures held { IfOk result (λ _. held_of self.new ≡ nothing_held) }
     {
-        for delayed in &self.waits {
-            self.block.put(delayed.name, &term_of(delayed.word))?;
-        }
+        self.write_lights()?;
+        self.write_held()?;
         self.waits.clear();
+        self.held = None;
         self.known.clear();
         Ok(())
+    }
+
+    /// The word that stands for a variable, and no longer waits for it.
+    pub fn take_out(&mut self, name: Name) -> Word
+        ensures word { word_view result ≡ delays.at_hand (waits_of self.old) (name_view name) }
+        ensures waits { waits_of self.new ≡ delays.without (name_view name) (waits_of self.old) }
+        ensures block { self.new.block ≡ self.old.block }
+        ensures known { self.new.known ≡ self.old.known }
+    {
+        let word = word_at(&self.waits, self.held, name);
+        drop_name(&mut self.waits, name);
+        self.held = held_without(self.held, name);
+        word
     }
 
     /// What stands in a block that begins here, after all that waits is written: no statement yet, and it is
@@ -73,148 +108,17 @@ impl LateBlock {
         Ok(LateBlock {
             block: Block::new(alloc),
             waits: Vec::new(alloc),
+            held: None,
             known,
         })
-    }
-
-    // What a change spoils is written.
-    fn write_spoiled(&mut self, change: Change<'_, '_>) -> Result<(), AllocError>
-        ensures statements { IfOk result (λ _. statements_of self.new.block ≡ statements_of self.old.block ++ simple_statements (delays.written (delays.those (is_spoiled change.entry) (waits_of self.old)))) }
-        ensures waits { self.new.waits ≡ self.old.waits }
-        ensures known { IfOk result (λ _. known_of self.new ≡ knowing.all_learned (known_of self.old) (delays.written (delays.those (is_spoiled change.entry) (waits_of self.old)))) }
-    {
-        for delayed in &self.waits {
-            if spoils(change, *delayed) {
-                put_waiting(&mut self.block, &mut self.known, *delayed)?;
-            }
-        }
-        Ok(())
-    }
-
-    // A step, unless it is needless.
-    fn put_lean(&mut self, step: &Step<'_>) -> Result<(), AllocError>
-        ensures statements { IfOk result (λ _. statements_of self.new.block ≡ statements_of self.old.block ++ statements (knowing.lean_action (known_of self.old) (words.simply (delays.in_place (waits_of self.old) (step_view step.now)))).now) }
-        ensures waits { self.new.waits ≡ self.old.waits }
-        ensures known { IfOk result (λ _. known_of self.new ≡ (knowing.lean_action (known_of self.old) (words.simply (delays.in_place (waits_of self.old) (step_view step.now)))).known) }
-    {
-        if !is_needless(&self.known, &self.waits, step) {
-            let statement = statement(self.block.alloc, &self.waits, step)?;
-            self.block.push(statement)?;
-        }
-        learn(&mut self.known, &self.waits, step)
-    }
-
-    // A step that doesn't wait.
-    fn act_late(&mut self, step: &Step<'_>) -> Result<(), AllocError>
-        ensures statements { IfOk result (λ _. statements_of self.new.block ≡ statements_of self.old.block ++ statements (knowing.lean (known_of self.old) (delays.at_once (waits_of self.old) (step_view step.now)).now).now) }
-        ensures waits { IfOk result (λ _. waits_of self.new ≡ (delays.at_once (waits_of self.old) (step_view step.now)).later) }
-        ensures known { IfOk result (λ _. known_of self.new ≡ (knowing.lean (known_of self.old) (delays.at_once (waits_of self.old) (step_view step.now)).now).known) }
-    {
-        let change = Change::One(step);
-        self.write_spoiled(change)?;
-        self.put_lean(step)?;
-        drop_changed(&mut self.waits, change);
-        Ok(())
-    }
-
-    // The second steps alone, where the test is never met.
-    #[tactic(auto, using(crate::proofs::Waiting::left_are))]
-    fn put_second<'a, 's>(
-        &mut self,
-        first: &'a [Step<'s>],
-        second: &'a [Step<'s>],
-    ) -> Result<(), AllocError>
-        ensures statements { IfOk result (λ _. statements_of self.new.block ≡ statements_of self.old.block ++ simple_statements (delays.late_arm (left_in_arms (Either first.entry second.entry) (waits_of self.old)) (steps_view second.now))) }
-        ensures waits { self.new.waits ≡ self.old.waits }
-        ensures known { IfOk result (λ _. known_of self.new ≡ knowing.all_learned (known_of self.old) (delays.late_arm (left_in_arms (Either first.entry second.entry) (waits_of self.old)) (steps_view second.now))) }
-    {
-        let mut left = Vec::from_slice(self.block.alloc, &self.waits)?;
-        drop_spoiled(&mut left, Change::Either(first, second));
-        put_steps(&mut self.block, &mut self.known, left, second)
-    }
-
-    // The first steps where the test holds, and else the second ones.
-    fn put_choice<'a, 's>(
-        &mut self,
-        test: &Term<'_>,
-        first: &'a [Step<'s>],
-        second: &'a [Step<'s>],
-    ) -> Result<(), AllocError>
-        ensures statements { IfOk result (λ _. statements_of self.new.block ≡ statements_of self.old.block ++ words.statement (words.either (late_term self.old.waits.items test.now) (delays.late_arm (left_in_arms (Either first.entry second.entry) (waits_of self.old)) (steps_view first.now)) (delays.late_arm (left_in_arms (Either first.entry second.entry) (waits_of self.old)) (steps_view second.now))) ∷ []) }
-        ensures waits { self.new.waits ≡ self.old.waits }
-        ensures known { IfOk result (λ _. known_of self.new ≡ knowing.unchanged (λ n. delays.one_changes (steps_view first.now) n || delays.one_changes (steps_view second.now) n) (known_of self.old)) }
-    {
-        let statement = choice(self.block.alloc, &self.waits, test, first, second)?;
-        self.block.push(statement)?;
-        unlearn(&mut self.known, first, second);
-        Ok(())
-    }
-
-    fn put_lean_choice<'a, 's>(
-        &mut self,
-        test: &Term<'_>,
-        first: &'a [Step<'s>],
-        second: &'a [Step<'s>],
-    ) -> Result<(), AllocError>
-        ensures statements { IfOk result (λ _. statements_of self.new.block ≡ statements_of self.old.block ++ statements (knowing.lean_action (known_of self.old) (words.either (late_term self.old.waits.items test.now) (delays.late_arm (left_in_arms (Either first.entry second.entry) (waits_of self.old)) (steps_view first.now)) (delays.late_arm (left_in_arms (Either first.entry second.entry) (waits_of self.old)) (steps_view second.now)))).now) }
-        ensures waits { self.new.waits ≡ self.old.waits }
-        ensures known { IfOk result (λ _. known_of self.new ≡ (knowing.lean_action (known_of self.old) (words.either (late_term self.old.waits.items test.now) (delays.late_arm (left_in_arms (Either first.entry second.entry) (waits_of self.old)) (steps_view first.now)) (delays.late_arm (left_in_arms (Either first.entry second.entry) (waits_of self.old)) (steps_view second.now)))).known) }
-    {
-        if is_never(&self.known, &self.waits, test) {
-            self.put_second(first, second)
-        } else {
-            self.put_choice(test, first, second)
-        }
-    }
-
-    fn either_late<'a, 's>(
-        &mut self,
-        test: &Term<'_>,
-        first: &'a [Step<'s>],
-        second: &'a [Step<'s>],
-    ) -> Result<(), AllocError>
-        ensures statements { IfOk result (λ _. statements_of self.new.block ≡ statements_of self.old.block ++ statements (knowing.lean (known_of self.old) (delays.late_either (waits_of self.old) (term_view test.now) (steps_view first.now) (steps_view second.now)).now).now) }
-        ensures waits { IfOk result (λ _. waits_of self.new ≡ (delays.late_either (waits_of self.old) (term_view test.now) (steps_view first.now) (steps_view second.now)).later) }
-        ensures known { IfOk result (λ _. known_of self.new ≡ (knowing.lean (known_of self.old) (delays.late_either (waits_of self.old) (term_view test.now) (steps_view first.now) (steps_view second.now)).now).known) }
-    {
-        let change = Change::Either(first, second);
-        self.write_spoiled(change)?;
-        self.put_lean_choice(test, first, second)?;
-        drop_changed(&mut self.waits, change);
-        Ok(())
-    }
-
-    // A step where nothing waits.
-    #[tactic(auto, using(crate::proofs::Replacing::nothing_in_place))]
-    fn act_at_once(&mut self, step: &Step<'_>) -> Result<(), AllocError>
-        ensures statements { IfOk result (λ _. statements_of self.new.block ≡ statements_of self.old.block ++ words.simple_statement (step_view step.now) ∷ []) }
-        ensures waits { self.new.waits ≡ self.old.waits }
-        ensures known { self.new.known ≡ self.old.known }
-    {
-        let statement = statement(self.block.alloc, &[], step)?;
-        self.block.push(statement)
-    }
-
-    #[tactic(auto, using(crate::proofs::Growing::either_is))]
-    fn either_at_once<'a, 's>(
-        &mut self,
-        test: &Term<'_>,
-        first: &'a [Step<'s>],
-        second: &'a [Step<'s>],
-    ) -> Result<(), AllocError>
-        ensures statements { IfOk result (λ _. statements_of self.new.block ≡ statements_of self.old.block ++ words.statement (words.either (term_view test.now) (steps_view first.now) (steps_view second.now)) ∷ []) }
-        ensures waits { self.new.waits ≡ self.old.waits }
-        ensures known { self.new.known ≡ self.old.known }
-    {
-        let statement = choice(self.block.alloc, &[], test, first, second)?;
-        self.block.push(statement)
     }
 }
 
 /// Straight code: where words may wait, and where each is written at once.
 #[derive(Drop)]
 pub struct Straight {
-    text: LateBlock,
+    text: LightBlock,
+    held: Option<Held>,
     is_late: bool,
 }
 
@@ -225,7 +129,12 @@ impl Straight {
     {
         let alloc = text.block.alloc;
         Straight {
-            text: mem::replace(text, LateBlock::new(alloc)),
+            text: LightBlock {
+                block: mem::replace(&mut text.block, Block::new(alloc)),
+                waits: mem::replace(&mut text.waits, Vec::new(alloc)),
+                known: mem::replace(&mut text.known, Vec::new(alloc)),
+            },
+            held: text.held,
             is_late: true,
         }
     }
@@ -236,20 +145,32 @@ impl Straight {
     {
         let alloc = block.alloc;
         Straight {
-            text: LateBlock {
+            text: LightBlock {
                 block: mem::replace(block, Block::new(alloc)),
                 waits: Vec::new(alloc),
                 known: Vec::new(alloc),
             },
+            held: None,
             is_late: false,
         }
     }
 
     /// The code, and what still waits.
     pub fn into_late(self) -> LateBlock
-        ensures { result ≡ self.text }
+        ensures { late_state result ≡ late_of self }
     {
-        self.text
+        let Straight { text, held, .. } = self;
+        let LightBlock {
+            block,
+            waits,
+            known,
+        } = text;
+        LateBlock {
+            block,
+            waits,
+            held,
+            known,
+        }
     }
 
     /// The code.
@@ -266,15 +187,67 @@ impl Straight {
         number_at(&self.text.waits, name)
     }
 
+    // A step behind the word that is held.
+    fn act_behind(&mut self, step: &Step<'_>) -> Result<(), AllocError>
+        requires { taking (all_held self.old.held) (delays_view self.old.text.waits.items) (step_view step.now) ≡ None }
+        ensures late { self.new.is_late ≡ self.old.is_late }
+        ensures state { IfOk result (λ _. late_of self.new ≡ after_late (late_of self.old) (words.simply (step_view step.now))) }
+    {
+        let held = self.held;
+        self.held = None;
+        self.text.write_held(held)?;
+        self.held = self.text.act_among(step)?;
+        Ok(())
+    }
+
+    // A step where this word is held.
+    fn act_on(&mut self, held: Held, step: &Step<'_>) -> Result<(), AllocError>
+        requires { self.old.held ≡ Some held }
+        ensures late { self.new.is_late ≡ self.old.is_late }
+        ensures state { IfOk result (λ _. late_of self.new ≡ after_late (late_of self.old) (words.simply (step_view step.now))) }
+    {
+        match taken_by(held, &self.text.waits, step) {
+            Some(to) => {
+                self.held = None;
+                self.text.take(to, held)
+            }
+            None => self.act_behind(step),
+        }
+    }
+
+    // A step where words may wait.
+    fn act_late(&mut self, step: &Step<'_>) -> Result<(), AllocError>
+        ensures late { self.new.is_late ≡ self.old.is_late }
+        ensures state { IfOk result (λ _. late_of self.new ≡ after_late (late_of self.old) (words.simply (step_view step.now))) }
+    {
+        match self.held {
+            Some(held) => self.act_on(held, step),
+            None => self.act_behind(step),
+        }
+    }
+
+    // A choice where words may wait.
+    fn either_late<'a, 's>(
+        &mut self,
+        test: &Term<'_>,
+        first: &'a [Step<'s>],
+        second: &'a [Step<'s>],
+    ) -> Result<(), AllocError>
+        ensures late { self.new.is_late ≡ self.old.is_late }
+        ensures state { IfOk result (λ _. late_of self.new ≡ after_late (late_of self.old) (words.either (term_view test.now) (steps_view first.now) (steps_view second.now))) }
+    {
+        let held = self.held;
+        self.held = None;
+        self.text.write_held(held)?;
+        self.text.either_late(test, first, second)
+    }
+
     /// One more step.
     pub fn act(&mut self, step: &Step<'_>) -> Result<(), AllocError>
         ensures { IfOk result (λ _. state_of self.new ≡ one (state_of self.old) (words.simply (step_view step.now))) }
     {
         if self.is_late {
-            match waiting_step(&self.text.waits, step) {
-                Some(delayed) => wait(&mut self.text.waits, delayed),
-                None => self.text.act_late(step),
-            }
+            self.act_late(step)
         } else {
             self.text.act_at_once(step)
         }
@@ -290,7 +263,7 @@ impl Straight {
         ensures { IfOk result (λ _. state_of self.new ≡ one (state_of self.old) (words.either (term_view test.now) (steps_view first.now) (steps_view second.now))) }
     {
         if self.is_late {
-            self.text.either_late(test, first, second)
+            self.either_late(test, first, second)
         } else {
             self.text.either_at_once(test, first, second)
         }
@@ -339,115 +312,48 @@ impl Straight {
     }
 }
 
-fn term_of(word: Atom) -> Term<'static>
-    ensures { term_view result ≡ atom_view word }
+fn name_of_atom(atom: Atom) -> Option<Name>
+    ensures { option_map name_view result ≡ name_in (atom_view atom) }
 {
-    match word {
-        Atom::Read(name) => Term::read(name),
-        Atom::Number(value) => Term::number(value),
+    match atom {
+        Atom::Read(name) => Some(name),
+        Atom::Number(_) => None,
     }
 }
 
-// What a step puts that may wait.
-fn waiting_step(waits: &[Delayed], step: &Step<'_>) -> Option<Delayed>
-    ensures { option_map delayed_view result ≡ begins_to_wait (delays_view waits.now) (step_view step.now) }
+// The name of a term that is a variable.
+fn name_of(term: &Term<'_>) -> Option<Name>
+    ensures { option_map name_view result ≡ name_in (term_view term.now) }
+{
+    match atom_of(&[], term) {
+        Some(atom) => name_of_atom(atom),
+        None => None,
+    }
+}
+
+// Whether a variable may stand for one of an operand.
+fn may_stand_in(waits: &[Delayed], name: Name) -> bool
+    ensures { result ≡ (not (delays.is_operand (name_view name)) && nat_lt (length (delays_view waits.now)) delays.most_waiting) }
+{
+    !is_operand(name) && has_room(waits)
+}
+
+// Whether the operand of the word that is held is what is put into a variable of no operand.
+fn takes(held: Held, waits: &[Delayed], to: Name, value: &Term<'_>) -> bool
+    ensures { result ≡ delays.takes (held_view held ∷ []) (delays_view waits.now) (words.put (name_view to) (term_view value.now)) }
+{
+    match name_of(value) {
+        Some(name) => same_name(held.name, name) && may_stand_in(waits, to),
+        None => false,
+    }
+}
+
+// The variable that gets the word that is held.
+fn taken_by(held: Held, waits: &[Delayed], step: &Step<'_>) -> Option<Name>
+    ensures { option_map (λ n. (name_view n, held_view held)) result ≡ taking (held_view held ∷ []) (delays_view waits.now) (step_view step.now) }
 {
     match step {
-        Step::Put(to, value) => waiting_word(waits, *to, value),
+        Step::Put(to, value) if takes(held, waits, *to, value) => Some(*to),
         _ => None,
     }
-}
-
-// What a change spoils is written by now, and what it replaces is gone.
-fn drop_changed(waits: &mut Vec<Delayed>, change: Change<'_, '_>)
-    ensures { delays_view waits.new.items ≡ delays.others (λ d. is_spoiled change.entry d || is_put change.entry d.name) (delays_view waits.old.items) }
-{
-    waits.retain(|delayed| !(spoils(change, *delayed) || replaces(change, delayed.name)));
-}
-
-// What a step of an arm replaces is gone.
-fn drop_put(waits: &mut Vec<Delayed>, step: &Step<'_>)
-    ensures { delays_view waits.new.items ≡ delays.others (λ d. delays.puts (step_view step.now) d.name) (delays_view waits.old.items) }
-{
-    waits.retain(|delayed| !puts(step, delayed.name));
-}
-
-// A word that waited is written.
-fn put_waiting(
-    block: &mut Block,
-    known: &mut Vec<Known>,
-    delayed: Delayed,
-) -> Result<(), AllocError>
-    ensures statements { IfOk result (λ _. statements_of block.new ≡ statements_of block.old ++ words.simple_statement (words.put (name_view delayed.name) (atom_view delayed.word)) ∷ []) }
-    ensures known { IfOk result (λ _. knowns_view known.new.items ≡ knowing.learned (knowns_view known.old.items) (words.put (name_view delayed.name) (atom_view delayed.word))) }
-{
-    block.put(delayed.name, &term_of(delayed.word))?;
-    let fact = atom_fact(known, delayed.word);
-    note(known, delayed.name, fact)
-}
-
-// Steps one after the other, of which none begins to wait.
-fn put_steps(
-    block: &mut Block,
-    known: &mut Vec<Known>,
-    waits: Vec<Delayed>,
-    steps: &[Step<'_>],
-) -> Result<(), AllocError>
-    ensures statements { IfOk result (λ _. statements_of block.new ≡ statements_of block.old ++ simple_statements (delays.late_arm (delays_view waits.items) (steps_view steps.now))) }
-    ensures known { IfOk result (λ _. knowns_view known.new.items ≡ knowing.all_learned (knowns_view known.old.items) (delays.late_arm (delays_view waits.items) (steps_view steps.now))) }
-{
-    let mut waits = waits;
-    for step in steps {
-        let statement = statement(block.alloc, &waits, step)?;
-        block.push(statement)?;
-        learn(known, &waits, step)?;
-        drop_put(&mut waits, step);
-    }
-    Ok(())
-}
-
-// The steps of an arm: nothing begins to wait there.
-fn arm(alloc: Global, waits: &[Delayed], steps: &[Step<'_>]) -> Result<Block, AllocError>
-    ensures { IfOk result (λ b. statements_of b ≡ simple_statements (delays.late_arm (delays_view waits.now) (steps_view steps.now))) }
-{
-    let mut waits = Vec::from_slice(alloc, waits)?;
-    let mut block = Block::new(alloc);
-    for step in steps {
-        let statement = statement(alloc, &waits, step)?;
-        block.push(statement)?;
-        drop_put(&mut waits, step);
-    }
-    Ok(block)
-}
-
-fn is_kept(change: Change<'_, '_>, delayed: Delayed) -> bool
-    ensures { result ≡ is_left_in_arms change.entry (delayed_view delayed) }
-{
-    !spoils(change, delayed)
-}
-
-// What a change spoils is written by now.
-fn drop_spoiled(waits: &mut Vec<Delayed>, change: Change<'_, '_>)
-    ensures { delays_view waits.new.items ≡ delays.those (is_left_in_arms change.entry) (delays_view waits.old.items) }
-{
-    waits.retain(|delayed| is_kept(change, *delayed));
-}
-
-// In the arms nothing waits that is written before both.
-#[tactic(auto, using(crate::proofs::Waiting::left_are))]
-fn choice<'a, 's>(
-    alloc: Global,
-    waits: &[Delayed],
-    test: &Term<'_>,
-    first: &'a [Step<'s>],
-    second: &'a [Step<'s>],
-) -> Result<Stmt, AllocError>
-    ensures { IfOk result (λ s. stmt_view s ≡ words.statement (words.either (late_term waits.now test.now) (delays.late_arm (left_in_arms (Either first.entry second.entry) (delays_view waits.now)) (steps_view first.now)) (delays.late_arm (left_in_arms (Either first.entry second.entry) (delays_view waits.now)) (steps_view second.now)))) }
-{
-    let test = late_test(alloc, waits, test)?;
-    let mut left = Vec::from_slice(alloc, waits)?;
-    drop_spoiled(&mut left, Change::Either(first, second));
-    let yes = arm(alloc, &left, first)?;
-    let no = arm(alloc, &left, second)?;
-    if_else(alloc, test, yes.into_part(), no.into_part())
 }

@@ -1,9 +1,9 @@
 //! What branches do.
-ghost use Rattle.std.specs.Prelude.{◌≡◌, suc, drop, option_map, slice_get};
+ghost use Rattle.std.specs.Prelude.{◌≡◌, ◌∷◌, [], suc, drop, option_map, slice_get};
 ghost use Rattle.wasm2js_translation.specs.Names.{numbered, label as label_kind};
 ghost use Rattle.wasm2js_translation.specs.Bodies.{labels_round};
 ghost use Rattle.wasm2js_nodes.specs.Names.{name_view};
-ghost use Rattle.wasm2js_jumps.specs.Aims.{aim_view, aims_view};
+ghost use Rattle.wasm2js_jumps.specs.Aims.{aim_view, aims_view, gives_a_word};
 
 use wasm_lang::ValType;
 use wasm2js_nodes::{Name, Numbered};
@@ -43,4 +43,25 @@ pub fn label_of(aims: &[Aim], label: u32) -> Name
         0
     };
     Name::Counted(Numbered::Label, round as u64)
+}
+
+/// Whether the only aim leaves the function with a word of 32 bits.
+pub fn gives_word(aims: &[Aim]) -> bool
+    ensures { result ≡ gives_a_word (aims_view aims.now) }
+{
+    match aims {
+        [aim] => leaves_with_word(*aim),
+        _ => false,
+    }
+}
+
+fn leaves_with_word(aim: Aim) -> bool
+    ensures { result ≡ gives_a_word (aim_view aim ∷ []) }
+{
+    match aim {
+        Aim::Out {
+            result: Some(ValType::I32),
+        } => true,
+        _ => false,
+    }
 }

@@ -4,8 +4,9 @@ ghost use Rattle.asm_lang.specs.Modules as plain;
 ghost use Rattle.wasm2js_translation.specs.Bodies as bodies;
 ghost use Rattle.wasm2js_translation.specs.Pairs.{moved, operand_pair};
 ghost use Rattle.wasm2js_translation.specs.Names.{numbered, spelled};
-ghost use Rattle.wasm2js_translation.specs.Words.{simple_statement, simple_statements, put, read};
+ghost use Rattle.wasm2js_translation.specs.Words.{simple_statement, simple_statements, signed_number, expr, put, read};
 ghost use Rattle.wasm2js_nodes.specs.Names.{name_view, numbered_view};
+ghost use Rattle.wasm2js_terms.specs.Held.{word_view};
 ghost use Rattle.wasm2js_build.specs.Blocks.{statements_of};
 ghost use Rattle.wasm2js_jumps.specs.Aims.{aim_view, aims_view};
 
@@ -14,9 +15,9 @@ use crate::nodes::{break_to, continue_to, give, leave};
 use crate::values::{keep_high, signed_word};
 use std::alloc::{AllocError, Global};
 use wasm_lang::ValType;
-use wasm2js_build::Block;
+use wasm2js_build::{Block, result_number};
 use wasm2js_nodes::{Name, Numbered};
-use wasm2js_terms::Term;
+use wasm2js_terms::{Term, Word};
 
 fn give_word(alloc: Global, depth: u64, block: &mut Block) -> Result<(), AllocError>
     ensures { IfOk result (λ _. statements_of block.new ≡ statements_of block.old ++ plain.returns (Some (bodies.signed_word depth)) ∷ []) }
@@ -42,6 +43,14 @@ pub fn leave_with(
             give_word(alloc, depth, block)
         }
     }
+}
+
+/// A word that stands for a variable is given to the caller.
+pub fn give_at_hand(alloc: Global, word: Word, block: &mut Block) -> Result<(), AllocError>
+    ensures { IfOk result (λ _. statements_of block.new ≡ statements_of block.old ++ plain.returns (Some (signed_number (expr (word_view word)))) ∷ []) }
+{
+    let value = result_number(alloc, word)?;
+    block.push(give(value))
 }
 
 fn move_word(kind: Numbered, from: u64, to: u64, block: &mut Block) -> Result<(), AllocError>

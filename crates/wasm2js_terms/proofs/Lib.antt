@@ -1,5 +1,6 @@
 pub mod Views
 pub mod Sizes
 pub mod Waiting
+pub mod Two
 pub mod Parts
 pub mod Knowing

@@ -5,14 +5,9 @@ use Rattle.wasm2js_translation.specs.Delays as delays
 use Rattle.wasm2js_translation.specs.Delays.{replaced, all_replaced}
 use Rattle.wasm2js_nodes.specs.Names.{name_view}
 use Rattle.wasm2js_terms.specs.Views.{term_view, terms_view}
+use Rattle.wasm2js_terms.specs.Atoms.{atom_view}
 use Rattle.wasm2js_terms.specs.declared.terms.Term.{Term}
-use Rattle.wasm2js_terms.specs.declared.waits.Atom.{Atom}
-use Rattle.wasm2js_terms.specs.declared.waits.Atom.TheVariants as atoms
-use Rattle.wasm2js_terms.specs.declared.waits.Delayed.{Delayed}
-
-abbrev pub atom_view : Atom → words.Term
-atom_view (atoms.Read n) = words.read (name_view n)
-atom_view (atoms.Number z) = words.number z
+use Rattle.wasm2js_terms.specs.declared.atoms.Delayed.{Delayed}
 
 abbrev pub delayed_view : Delayed → delays.Delayed
 delayed_view d = record { name = name_view d.name; word = atom_view d.word }

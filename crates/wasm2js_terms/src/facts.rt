@@ -7,11 +7,13 @@ ghost use Rattle.wasm2js_translation.specs.Words as words;
 ghost use Rattle.wasm2js_translation.specs.Words.{no_more, further};
 ghost use Rattle.wasm2js_nodes.specs.Names.{name_view};
 ghost use Rattle.wasm2js_terms.specs.Views.{bit_view, term_view};
-ghost use Rattle.wasm2js_terms.specs.Waits.{atom_view, late_term};
+ghost use Rattle.wasm2js_terms.specs.Atoms.{atom_view};
+ghost use Rattle.wasm2js_terms.specs.Waits.{late_term};
 ghost use Rattle.wasm2js_terms.specs.Facts.{fact_view, knowns_view, number_fact, truth_fact, are_disjoint, conjunction_fact, shifted_fact, bits_fact, added_fact, product_fact, choice_fact};
 
+use crate::atoms::{Atom, Delayed};
 use crate::terms::{BitOp, Term};
-use crate::waits::{Atom, Delayed, at_hand, atom_of, is_operand};
+use crate::waits::{at_hand, atom_of, is_operand};
 use std::alloc::AllocError;
 use wasm2js_nodes::{Name, same_name};
 

@@ -1,35 +1,22 @@
 //! Words that wait in place of the variables of operands.
-ghost use Rattle.std.specs.Prelude.{◌≡◌, ◌++◌, ◌∷◌, [], Option, Some, None, option_map, if◌then◌else◌, IfOk};
+ghost use Rattle.std.specs.Prelude.{◌≡◌, ◌++◌, ◌∷◌, ◌&&◌, [], Option, Some, None, false, length, nat_lt, option_map, if◌then◌else◌, IfOk};
 ghost use Rattle.wasm2js_translation.specs.Delays as delays;
+ghost use Rattle.wasm2js_translation.specs.Words as words;
 ghost use Rattle.wasm2js_nodes.specs.Names.{name_view};
+ghost use Rattle.wasm2js_terms.specs.Atoms.{atom_view};
 ghost use Rattle.wasm2js_terms.specs.Views.{term_view};
-ghost use Rattle.wasm2js_terms.specs.Waits.{atom_view, delayed_view, delays_view, late_term, if_atom};
+ghost use Rattle.wasm2js_terms.specs.Waits.{delayed_view, delays_view, late_term, if_atom};
 
+use crate::atoms::{Atom, Delayed};
 use crate::terms::Term;
 use std::alloc::AllocError;
 use wasm2js_nodes::{Name, Numbered, same_name};
 
-/// A word without operators.
-#[derive(Clone, Copy)]
-pub enum Atom {
-    /// Of a variable.
-    Read(Name),
-    /// A literal of asm.js.
-    Number(i64),
-}
-
-/// A variable of an operand, and the word that it is to have.
-#[derive(Clone, Copy)]
-pub struct Delayed {
-    pub name: Name,
-    pub word: Atom,
-}
-
-/// So many wait at most.
+/// So many light words wait at most.
 const MOST_WAITING: usize = 16;
 
 /// Whether a variable is of an operand.
-pub(crate) fn is_operand(name: Name) -> bool
+pub fn is_operand(name: Name) -> bool
     ensures { result ≡ delays.is_operand (name_view name) }
 {
     match name {
@@ -38,16 +25,26 @@ pub(crate) fn is_operand(name: Name) -> bool
     }
 }
 
+/// The word that waits in place of a variable.
+pub(crate) fn waiting_atom(waits: &[Delayed], name: Name) -> Option<Atom>
+    ensures { option_map atom_view result ≡ delays.waiting (delays_view waits.now) (name_view name) }
+{
+    for delayed in waits {
+        if same_name(delayed.name, name) {
+            return Some(delayed.word);
+        }
+    }
+    None
+}
+
 /// The word that stands for a variable.
 pub fn at_hand(waits: &[Delayed], name: Name) -> Atom
     ensures { atom_view result ≡ delays.at_hand (delays_view waits.now) (name_view name) }
 {
-    for delayed in waits {
-        if same_name(delayed.name, name) {
-            return delayed.word;
-        }
+    match waiting_atom(waits, name) {
+        Some(word) => word,
+        None => Atom::Read(name),
     }
-    Atom::Read(name)
 }
 
 /// The number that waits in place of a variable.
@@ -98,11 +95,11 @@ pub fn atom_of(waits: &[Delayed], term: &Term<'_>) -> Option<Atom>
     }
 }
 
-/// What waits in place of a variable that is to have this word, if that may wait.
-pub fn waiting_word(waits: &[Delayed], name: Name, term: &Term<'_>) -> Option<Delayed>
-    ensures { option_map delayed_view result ≡ (if delays.may_wait (delays_view waits.now) (name_view name) (late_term waits.now term.now) then Some (record { name = name_view name; word = late_term waits.now term.now }) else None) }
+/// What waits in place of a variable of an operand that is to have this word, if that is light and so may wait.
+pub(crate) fn light_word(waits: &[Delayed], name: Name, term: &Term<'_>) -> Option<Delayed>
+    ensures { option_map delayed_view result ≡ (if delays.is_light (late_term waits.now term.now) && nat_lt (length (delays_view waits.now)) delays.most_waiting then Some (record { name = name_view name; word = late_term waits.now term.now }) else None) }
 {
-    if !is_operand(name) || waits.len() >= MOST_WAITING {
+    if !has_room(waits) {
         return None;
     }
     match atom_of(waits, term) {
@@ -111,19 +108,42 @@ pub fn waiting_word(waits: &[Delayed], name: Name, term: &Term<'_>) -> Option<De
     }
 }
 
-fn drop_name(waits: &mut Vec<Delayed>, name: Name)
+/// Whether one more light word may wait.
+pub fn has_room(waits: &[Delayed]) -> bool
+    ensures { result ≡ nat_lt (length (delays_view waits.now)) delays.most_waiting }
+{
+    waits.len() < MOST_WAITING
+}
+
+/// What waited in place of a variable is dropped.
+pub fn drop_name(waits: &mut Vec<Delayed>, name: Name)
     ensures { delays_view waits.new.items ≡ delays.without (name_view name) (delays_view waits.old.items) }
 {
     waits.retain(|delayed| !same_name(delayed.name, name));
 }
 
-/// A word begins to wait in place of a variable.
+/// A light word begins to wait in place of a variable.
 pub fn wait(waits: &mut Vec<Delayed>, delayed: Delayed) -> Result<(), AllocError>
     ensures { IfOk result (λ _. delays_view waits.new.items ≡ delays.without (name_view delayed.name) (delays_view waits.old.items) ++ delayed_view delayed ∷ []) }
 {
     drop_name(waits, delayed.name);
+    push_waiting(waits, delayed)
+}
+
+fn push_waiting(waits: &mut Vec<Delayed>, delayed: Delayed) -> Result<(), AllocError>
+    ensures { IfOk result (λ _. delays_view waits.new.items ≡ delays_view waits.old.items ++ delayed_view delayed ∷ []) }
+{
     match waits.push(delayed) {
         Ok(()) => Ok(()),
         Err(_) => Err(AllocError),
     }
+}
+
+/// A variable of no operand stands for one of an operand from now on.
+pub fn stand_in(waits: &mut Vec<Delayed>, name: Name, other: Name) -> Result<(), AllocError>
+    requires { delays.is_operand (name_view other) ≡ false }
+    ensures { IfOk result (λ _. delays_view waits.new.items ≡ delays_view waits.old.items ++ record { name = name_view name; word = words.read (name_view other) } ∷ []) }
+{
+    let word = Atom::Read(other);
+    push_waiting(waits, Delayed { name, word })
 }

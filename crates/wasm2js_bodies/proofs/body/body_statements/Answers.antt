@@ -11,5 +11,5 @@ all_statements-requires c = begins_inside c.args.body.now c.requires.expression 
 pub returns : goal.returns
 returns c = λ tree is.
     let context = context_in c.args.scope.now in
-    closed c.args.sizes.bytes c.args.sizes.cells context (code_at c.args.body.now 0) tree (statements_of c.in_ok-block.block) (statements_of c.close.new.block)
-    (tree_stands c.args.body.now tree is).code c.in_ok-block.ensures (c.in_ok-close.ensures c.args.sizes.bytes c.args.sizes.cells context)
+    closed c.args.sizes.bytes c.args.sizes.cells context (code_at c.args.body.now 0) tree (statements_of c.in_ok-block.block) (statements_of c.close.new.block) c.in_ok-block.reached
+    (tree_stands c.args.body.now tree is).code c.in_ok-block.ensures.statements c.in_ok-block.ensures.reached (c.in_ok-close.ensures c.args.sizes.bytes c.args.sizes.cells context)

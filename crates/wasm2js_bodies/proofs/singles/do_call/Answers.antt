@@ -14,7 +14,7 @@ pub returns-clause-step : goal.returns-clause-step
 returns-clause-step c = λ ls.
     let ts = over c.args.base c.args.types.now.items in
     let callee = type_of (context_in c.args.walk.now.scope.now) c.args.function in
-    written_step c.args.walk.now.sizes.bytes c.args.walk.now.sizes.cells (context_in c.args.walk.now.scope.now) c.args.body.now c.args.at ls c.args.base ts (held_of c.args.text.now) (statements_of c.args.text.now.block) (statements_of c.write_all.new.self.block) (statements_of c.put_call.new.block) (call_stmts c.args.function c.args.base ts callee)
+    written_step c.args.walk.now.sizes.bytes c.args.walk.now.sizes.cells (context_in c.args.walk.now.scope.now) c.args.body.now c.args.at ls c.args.base ts (held_of c.args.text.now) (statements_of c.args.text.now.block) (statements_of c.write_all.new.self.block) (statements_of c.put_call.new.block) (all_written (held_of c.args.text.now)) (call_stmts c.args.function c.args.base ts callee)
     c.in_ok-write_all.ensures.statements c.place_after-place.result (over c.args.base c.put_call.new.types.items) (types_after_call callee ts) (held_of c.write_all.new.self) c.in_ok-write_all.ensures.held (flat.call c.args.function) (call c.args.function)
     c.requires.inside c.requires.here refl c.place_after-place.ensures c.in_ok-put_call.ensures.statements c.in_ok-put_call.ensures.types
     (λ is. append_assoc (all_written (held_of c.args.text.now)) (call_stmts c.args.function c.args.base ts callee) (stmts_of c.args.walk.now.sizes.bytes c.args.walk.now.sizes.cells (context_in c.args.walk.now.scope.now) is ls c.args.base (types_after_call callee ts) [] [])) (λ is. refl)

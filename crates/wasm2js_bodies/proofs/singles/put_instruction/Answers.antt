@@ -16,7 +16,7 @@ returns c =
     let acts = λ (s : State) (ts : List ValType). instruction_actions c.args.walk.now.sizes.bytes context s.waits (instr_of c.args.instr.now) c.args.base ts in
     let made = λ (ts : List ValType). run (state_of c.late-straight.result) (acts (state_of c.late-straight.result) ts) in
     let all = over c.args.base c.args.types.now.items in
-    ap late_state c.into_late.ensures
+    c.into_late.ensures
     ∙ late_after c.instruction.new.straight (statements_of c.args.text.now.block) (waits_of c.args.text.now) (known_of c.args.text.now) (acts (late_state c.args.text.now) all)
     (c.in_ok-instruction.ensures context (record { locals = refl; globals = refl })
     ∙ ap (λ (ts : List ValType). made (reverse ts)) (all_above c.args.base c.deref.result.now)

@@ -1,7 +1,8 @@
 use Rattle.std.specs.Prelude.{option_map}
 use Rattle.std.proofs.lemmas.Result.{IfOk-weaker}
 use Rattle.wasm2js_terms.specs.Views.{term_view}
-use Rattle.wasm2js_terms.specs.Waits.{atom_view, delays_view}
+use Rattle.wasm2js_terms.specs.Atoms.{atom_view}
+use Rattle.wasm2js_terms.specs.Waits.{delays_view}
 use Rattle.wasm2js_terms.specs.Facts.{knowns_view}
 use Rattle.wasm2js_build.proofs.Bounds.{bound_learned}
 use Rattle.wasm2js_build.proofs.learning.learn_bound.Goals as goal

@@ -4,7 +4,8 @@ use Rattle.wasm2js_translation.specs.Words.{Term}
 use Rattle.wasm2js_translation.specs.Delays.{replaced}
 use Rattle.wasm2js_translation.specs.Known.{term_fact}
 use Rattle.wasm2js_terms.specs.Views.{bit_view, term_view}
-use Rattle.wasm2js_terms.specs.Waits.{atom_view, delays_view, late_term}
+use Rattle.wasm2js_terms.specs.Atoms.{atom_view}
+use Rattle.wasm2js_terms.specs.Waits.{delays_view, late_term}
 use Rattle.wasm2js_terms.specs.Facts.{fact_view, knowns_view}
 use Rattle.wasm2js_terms.proofs.Views.{term_view-BothNumber, term_view-Choose}
 use Rattle.wasm2js_terms.proofs.Parts.{bits_of_number, late_number, bits_are, two_are, three_are, four_are}

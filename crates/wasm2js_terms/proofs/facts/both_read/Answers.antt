@@ -1,5 +1,5 @@
 use Rattle.wasm2js_terms.specs.Views.{bit_view}
-use Rattle.wasm2js_terms.specs.Waits.{atom_view}
+use Rattle.wasm2js_terms.specs.Atoms.{atom_view}
 use Rattle.wasm2js_terms.specs.Facts.{fact_view, knowns_view}
 use Rattle.wasm2js_terms.proofs.Parts.{bits_of_atoms}
 use Rattle.wasm2js_terms.proofs.facts.both_read.Goals as goal
