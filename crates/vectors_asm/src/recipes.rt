@@ -59,7 +59,7 @@ fn the_text_of_200_functions_is_translated_and_run(rt: HostRuntime) {
         Err(_) => holds(&rt, 1, false),
     }
     let told = over(rt.alloc(), &["gen", "200"], &[], b"", b"");
-    let lengths = b"functions 200\nasm 12628\nwasm 8412\njs 33995\n";
+    let lengths = b"functions 200\nasm 12628\nwasm 8412\njs 30009\n";
     holds(&rt, 2, told.is(0, lengths));
 }
 
