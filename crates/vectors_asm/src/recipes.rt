@@ -40,7 +40,7 @@ fn are_run(alloc: Global, text: &[u8]) -> bool {
     let sum = b"result 19900\n";
     text.len() == 12_628
         && module.len() == 8_412
-        && back.len() == 33_995
+        && back.len() == 30_009
         && begins(alloc, "run-asm", text, called, sum)
         && begins(alloc, "run-wasm", &module, called, sum)
         && begins(
