@@ -1,3 +1,5 @@
 pub mod Keys
 pub mod Digits
 pub mod Rows
+pub mod Same
+pub mod Tops

@@ -11,33 +11,31 @@ use Rattle.wat_lang.specs.Words.{instruction_names, form_named}
 use Rattle.wat_lang.specs.Grammar as grammar
 use Rattle.wat_lang.specs.Grammar.{Item, Row, meets, rows, may_end, begins_instruction, instruction_row, instruction_rows}
 use Rattle.wat_laws_grammar.specs.Machine.{Taken, taken, if_true, pick, pick_by, by_row, feed}
-use Rattle.wat_grammar.specs.Views.{next_in, next_instruction, behind_if}
+use Rattle.wat_grammar.specs.Views.{next_in, next_instruction, behind_if, is_code, over}
 
 -- ---- the machine's step
-
-abbrev after : List Item → Taken → Taken
-after is t = taken t.mark (t.left ++ is)
 
 abbrev or_else : Option Taken → Option Taken → Option Taken
 or_else others (Some t) = Some t
 or_else others None = others
 
-picked_next : (is : List Item) (others : Option Taken) (ws : List Row) (c : Class) → by_row is others (pick ws c) ≡ or_else others (option_map (after is) (next_in ws c))
+picked_next : (is : List Item) (others : Option Taken) (ws : List Row) (c : Class) → by_row is others (pick ws c) ≡ or_else others (over is (next_in ws c))
 picked_next is others [] c = refl
 picked_next is others (w ∷ ws) c = by (picked_next is others ws c) (meets w.want c)
   where
-    by : by_row is others (pick ws c) ≡ or_else others (option_map (after is) (next_in ws c)) → (t : Bool) → by_row is others (pick_by w (pick ws c) t) ≡ or_else others (option_map (after is) (if t then Some (taken w.mark w.next) else next_in ws c))
+    by : by_row is others (pick ws c) ≡ or_else others (over is (next_in ws c)) → (t : Bool) → by_row is others (pick_by w (pick ws c) t) ≡ or_else others (over is (if t then Some (taken w.mark w.next) else next_in ws c))
     by below true = refl
     by below false = below
 
-pub feeds_row : (r : Rule) (is : List Item) (c : Class) (t : Taken) → next_in (rows r) c ≡ Some t → feed (grammar.rule r ∷ is) c ≡ Some (taken t.mark (t.left ++ is))
-feeds_row r is c t e = picked_next is (if_true (feed is c) (may_end r)) (rows r) c ∙ ap (λ x. or_else (if_true (feed is c) (may_end r)) (option_map (after is) x)) e
+-- the top of the machine gives way to what a token begins, or goes on below a rule that may end
+pub feeds_begun : (r : Rule) (is : List Item) (c : Class) (t : Taken) → over is (next_in (rows r) c) ≡ Some t → feed (grammar.rule r ∷ is) c ≡ Some t
+feeds_begun r is c t e = picked_next is (if_true (feed is c) (may_end r)) (rows r) c ∙ ap (or_else (if_true (feed is c) (may_end r))) e
 
-pub feeds_below : (r : Rule) (is : List Item) (c : Class) → next_in (rows r) c ≡ None → may_end r ≡ true → feed (grammar.rule r ∷ is) c ≡ feed is c
-feeds_below r is c e m = picked_next is (if_true (feed is c) (may_end r)) (rows r) c ∙ ap (λ x. or_else (if_true (feed is c) (may_end r)) (option_map (after is) x)) e ∙ ap (if_true (feed is c)) m
+pub feeds_below : (r : Rule) (is : List Item) (c : Class) → over is (next_in (rows r) c) ≡ None → may_end r ≡ true → feed (grammar.rule r ∷ is) c ≡ feed is c
+feeds_below r is c e m = picked_next is (if_true (feed is c) (may_end r)) (rows r) c ∙ ap (or_else (if_true (feed is c) (may_end r))) e ∙ ap (if_true (feed is c)) m
 
-pub feeds_nothing : (r : Rule) (is : List Item) (c : Class) → next_in (rows r) c ≡ None → may_end r ≡ false → feed (grammar.rule r ∷ is) c ≡ None
-feeds_nothing r is c e m = picked_next is (if_true (feed is c) (may_end r)) (rows r) c ∙ ap (λ x. or_else (if_true (feed is c) (may_end r)) (option_map (after is) x)) e ∙ ap (if_true (feed is c)) m
+pub feeds_nothing : (r : Rule) (is : List Item) (c : Class) → over is (next_in (rows r) c) ≡ None → may_end r ≡ false → feed (grammar.rule r ∷ is) c ≡ None
+feeds_nothing r is c e m = picked_next is (if_true (feed is c) (may_end r)) (rows r) c ∙ ap (or_else (if_true (feed is c) (may_end r))) e ∙ ap (if_true (feed is c)) m
 
 -- ---- instructions by their names
 
@@ -118,3 +116,31 @@ none_closes = no_word closes (λ w. refl) instruction_names
 
 pub none_text : next_in (instruction_rows instruction_names) (string []) ≡ None
 none_text = no_word (string []) (λ w. refl) instruction_names
+
+pub code_rows : (r : Rule) → is_code r ≡ true → rows r ≡ instruction_rows instruction_names
+unfolding rows
+code_rows rules.Grammar h = absurd cc
+code_rows rules.Name h = absurd cc
+code_rows (rules.Bound x) h = absurd cc
+code_rows rules.Fields h = absurd cc
+code_rows rules.Field h = absurd cc
+code_rows rules.Described h = absurd cc
+code_rows rules.Exported h = absurd cc
+code_rows (rules.Heads x y) h = absurd cc
+code_rows (rules.Head x y) h = absurd cc
+code_rows (rules.Types x) h = absurd cc
+code_rows (rules.More x) h = absurd cc
+code_rows rules.TableEnd h = absurd cc
+code_rows rules.Maximum h = absurd cc
+code_rows rules.Kind h = absurd cc
+code_rows rules.Constant h = absurd cc
+code_rows rules.Functions h = absurd cc
+code_rows rules.Labels h = absurd cc
+code_rows rules.Strings h = absurd cc
+code_rows rules.FuncWord h = absurd cc
+code_rows rules.Code h = refl
+code_rows rules.Label h = absurd cc
+code_rows rules.BlockResult h = absurd cc
+code_rows rules.Arms h = absurd cc
+code_rows rules.Offset h = absurd cc
+code_rows rules.Align h = absurd cc

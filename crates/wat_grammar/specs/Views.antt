@@ -1,8 +1,8 @@
 -- What the values of this crate stand for.
-use Rattle.std.specs.Prelude.{ℕ, Bool, true, false, List, [], ◌∷◌, ◌++◌, map, Option, Some, None, option_map, ◌==◌, ◌||◌, if◌then◌else◌}
+use Rattle.std.specs.Prelude.{ℕ, Bool, true, false, List, [], ◌∷◌, ◌++◌, map, Option, Some, None, option_map, ◌==◌, ◌&&◌, ◌||◌, if◌then◌else◌}
+use Rattle.wat_lang.specs.declared.parts.Rule.{Rule}
 use Rattle.wat_lang.specs.declared.parts.Rule.TheVariants as rules
 use Rattle.wat_lang.specs.Tokens.{Class, opens, closes, string, atom, is_digit, is_hexadecimal_digit}
-use Rattle.wat_lang.specs.Words.{instruction_names}
 use Rattle.wat_lang.specs.Grammar as grammar
 use Rattle.wat_laws_grammar.specs.Machine.{Taken, taken}
 use Rattle.wat_grammar.specs.declared.parts.Lexeme.{Lexeme}
@@ -75,6 +75,16 @@ abbrev pub digit_test : (hexadecimal : Bool) → ℕ → Bool
 digit_test true = is_hexadecimal_digit
 digit_test false = is_digit
 
+-- decimal digits alone
+abbrev pub all_digits : List ℕ → Bool
+all_digits [] = true
+all_digits (b ∷ bs) = is_digit b && all_digits bs
+
+-- the same, where there is one or more
+abbrev pub are_plain_digits : List ℕ → Bool
+are_plain_digits [] = false
+are_plain_digits (b ∷ bs) = is_digit b && all_digits bs
+
 -- where one `_` stands first, what follows it
 abbrev pub behind_underscore : List ℕ → List ℕ
 behind_underscore [] = []
@@ -140,7 +150,6 @@ row_of row = record { want = want_of row.want; mark = mark_of row.mark; next = s
 abbrev pub rows_of : Rows → List grammar.Row
 rows_of (choices.One row) = row_of row ∷ []
 rows_of (choices.Table rows) = map row_of rows.now
-rows_of choices.Instructions = grammar.instruction_rows instruction_names
 
 abbrev pub next_of : Next → Taken
 next_of next = taken (mark_of next.mark) (sequence_of next.items)
@@ -158,9 +167,21 @@ behind_if i false = None
 abbrev pub behind_form : Instruction → Option (List grammar.Item)
 behind_form i = behind_if i (grammar.begins_instruction i)
 
+-- an instruction's immediates come, and then more code
+abbrev pub code_behind : Form → Taken
+code_behind form = taken (grammar.an_instruction (form_of form)) (grammar.immediates (form_of form) ++ grammar.rule rules.Code ∷ [])
+
+abbrev pub is_code : Rule → Bool
+is_code rules.Code = true
+is_code rule = false
+
 -- what an instruction leads to
 abbrev pub next_instruction : Instruction → Option Taken
 next_instruction i = option_map (λ is. taken (grammar.an_instruction i) is) (behind_form i)
+
+-- what a token leads to where more is left below
+abbrev pub over : List grammar.Item → Option Taken → Option Taken
+over is next = option_map (λ t. taken t.mark (t.left ++ is)) next
 
 -- what a token leads to: its mark and what is left, where it is taken
 abbrev pub fed_to : Option Mark → List grammar.Item → Option Taken

@@ -3,7 +3,7 @@
 ghost use Rattle.std.specs.Prelude.{◌≡◌, Bool, is_some, codes};
 ghost use Rattle.wat_lang.specs.Tokens.{is_digit, is_hexadecimal_digit};
 ghost use Rattle.wat_lang.specs.Numbers.{access_of, digits_in, is_id, natural_of, number_of};
-ghost use Rattle.wat_grammar.specs.Views.{behind_underscore, digit_test, is_sign};
+ghost use Rattle.wat_grammar.specs.Views.{are_plain_digits, behind_underscore, digit_test, is_sign};
 
 fn is_digit(hexadecimal: bool, byte: u8) -> bool
     ensures { result ≡ digit_test hexadecimal byte }
@@ -57,10 +57,25 @@ fn is_sign(byte: u8) -> bool
     byte == b'-' || byte == b'+'
 }
 
-#[tactic(auto, using(crate::proofs::Digits::signed_number, crate::proofs::Digits::unsigned_number))]
+/// Whether the bytes are decimal digits and no more, as most numbers are.
+fn are_plain_digits(bytes: &[u8]) -> bool
+    ensures { result ≡ are_plain_digits bytes.now }
+{
+    for byte in bytes {
+        if !byte.is_ascii_digit() {
+            return false;
+        }
+    }
+    !bytes.is_empty()
+}
+
+#[tactic(auto, using(crate::proofs::Digits::plain_number, crate::proofs::Digits::signed_number, crate::proofs::Digits::unsigned_number))]
 pub fn is_number(bytes: &[u8]) -> bool
     ensures { result ≡ is_some (number_of bytes.now) }
 {
+    if are_plain_digits(bytes) {
+        return true;
+    }
     match bytes {
         [first, digits @ ..] => {
             if is_sign(*first) {

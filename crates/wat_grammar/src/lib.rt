@@ -2,6 +2,7 @@
 #![tactic(auto)]
 
 mod atoms;
+mod bytes;
 mod form;
 mod keyword;
 mod names;

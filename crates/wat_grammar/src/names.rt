@@ -6,6 +6,7 @@ ghost use Rattle.wat_lang.specs.Words.{form_named, instruction_names};
 ghost use Rattle.wat_grammar.specs.Tables.{entries, key_of, with_key};
 ghost use Rattle.wat_grammar.specs.Views.{form_of};
 
+use crate::bytes::same_bytes;
 use crate::form::{Access, Form};
 use sem_words::{Bin, Rel, Un};
 
@@ -423,7 +424,7 @@ fn form_in(table: &[Entry], word: &[u8]) -> Option<Form>
     ensures { option_map form_of result ≡ lookup (bytes_eq word.now) (entries table.now) }
 {
     for (name, form) in table {
-        if word == *name {
+        if same_bytes(word, name) {
             return Some(*form);
         }
     }

@@ -6,6 +6,7 @@ ghost use Rattle.wat_lang.specs.Grammar.{meets, value_type_of};
 ghost use Rattle.wat_grammar.specs.Views.{class_of, want_of};
 
 use crate::atoms::{is_align, is_id, is_number, is_offset};
+use crate::bytes::same_bytes;
 use crate::form::Form;
 use crate::keyword::Keyword;
 use crate::sequences::Sequence;
@@ -94,18 +95,20 @@ pub struct Next {
 fn is_value_type(bytes: &[u8]) -> bool
     ensures { result ≡ is_some (value_type_of bytes.now) }
 {
-    bytes == b"i32".as_slice() || bytes == b"i64".as_slice()
+    same_bytes(b"i32", bytes) || same_bytes(b"i64", bytes)
 }
 
 /// Whether the token may stand where this is wanted.
+#[inline(always)]
 pub fn meets(want: Want, lexeme: Lexeme<'_>) -> bool
     ensures { result ≡ meets (want_of want) (class_of lexeme.entry) }
 {
-    match lexeme {
-        Lexeme::Open => matches!(want, Want::Open),
-        Lexeme::Close => matches!(want, Want::Close),
-        Lexeme::Text => matches!(want, Want::Text),
-        Lexeme::Atom(bytes) => atom_meets(want, bytes),
+    match (lexeme, want) {
+        (Lexeme::Atom(bytes), Want::Word(word)) => same_bytes(word.text(), bytes),
+        (Lexeme::Atom(bytes), _) => atom_meets(want, bytes),
+        (Lexeme::Open, Want::Open) | (Lexeme::Close, Want::Close) | (Lexeme::Text, Want::Text) =>
+            true,
+        _ => false,
     }
 }
 
@@ -116,10 +119,10 @@ fn atom_meets(want: Want, bytes: &[u8]) -> bool
         Want::Open | Want::Close | Want::Text => false,
         Want::Number => is_number(bytes),
         Want::Id => is_id(bytes),
-        Want::Index => is_number(bytes) || is_id(bytes),
+        Want::Index => is_id(bytes) || is_number(bytes),
         Want::ValueType => is_value_type(bytes),
         Want::Offset => is_offset(bytes),
         Want::Align => is_align(bytes),
-        Want::Word(word) => word.text() == bytes,
+        Want::Word(word) => same_bytes(word.text(), bytes),
     }
 }

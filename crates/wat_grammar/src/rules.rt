@@ -1,11 +1,10 @@
 //! The table of rules.
 
-ghost use Rattle.std.specs.Prelude.{[], ◌∷◌, ◌≡◌, map, option_and_then, option_map};
+ghost use Rattle.std.specs.Prelude.{[], ◌∷◌, ◌≡◌, false, map, option_map};
 ghost use Rattle.wat_lang.specs.declared.parts.Rule.TheVariants as rules;
-ghost use Rattle.wat_lang.specs.Grammar.{head_rows, instruction_rows, may_end, rows};
-ghost use Rattle.wat_lang.specs.Words.{form_named, instruction_names};
-ghost use Rattle.wat_grammar.specs.Views.{behind_form, class_of, form_of, next_in, next_instruction, next_of, row_of, rows_of};
-ghost use Rattle.wat_grammar.specs.Sequences.{sequence_of};
+ghost use Rattle.wat_lang.specs.Grammar.{begins_instruction, head_rows, instruction_rows, may_end, rows};
+ghost use Rattle.wat_lang.specs.Words.{instruction_names};
+ghost use Rattle.wat_grammar.specs.Views.{class_of, code_behind, form_of, is_code, next_in, next_of, row_of, rows_of};
 
 use crate::form::Form;
 use crate::keyword::Keyword;
@@ -19,8 +18,6 @@ use wat_lang::{FieldKind, Part, Rule, Space};
 pub enum Rows {
     One(Row),
     Table(&'static [Row]),
-    /// A row for each name of an instruction.
-    Instructions,
 }
 
 static FIELDS: [Row; 10] = [
@@ -297,9 +294,10 @@ fn type_rows(part: Part) -> Rows
     }
 }
 
-/// What a rule may begin with.
+/// What a rule other than code may begin with.
 #[tactic(auto, unfolding(wat_lang::specs::Grammar::rows))]
 fn table(rule: Rule) -> Rows
+    requires { is_code rule ≡ false }
     ensures { rows_of result ≡ rows rule }
 {
     match rule {
@@ -322,7 +320,7 @@ fn table(rule: Rule) -> Rows
         Rule::Labels => one(Want::Index, Mark::Uses(Space::Label), Sequence::Labels),
         Rule::Strings => one(Want::Text, Mark::Bytes, Sequence::Strings),
         Rule::FuncWord => one(Want::Word(Keyword::Func), Mark::Nothing, Sequence::Empty),
-        Rule::Code => Rows::Instructions,
+        Rule::Code => Rows::Table(&[]),
         Rule::Label => one(Want::Id, Mark::Binds(Space::Label), Sequence::Empty),
         Rule::BlockResult => one(Want::Open, Mark::Nothing, Sequence::ResultType),
         Rule::Arms => Rows::Table(&ARMS),
@@ -331,36 +329,18 @@ fn table(rule: Rule) -> Rows
     }
 }
 
-/// What follows the name of an instruction. None exactly for `else` and `end`.
-fn behind_name(form: Form) -> Option<Sequence>
-    ensures { option_map sequence_of result ≡ behind_form (form_of form) }
+/// The next of the row, where the token begins it.
+fn begun(row: Row, lexeme: Lexeme<'_>) -> Option<Next>
+    ensures { option_map next_of result ≡ next_in (row_of row ∷ []) (class_of lexeme.entry) }
 {
-    Some(match form {
-        Form::Else | Form::End => return None,
-        Form::Block | Form::Loop => Sequence::Block,
-        Form::If => Sequence::If,
-        Form::Br | Form::BrIf => Sequence::Branch,
-        Form::BrTable => Sequence::BranchTable,
-        Form::Call => Sequence::Call,
-        Form::CallIndirect => Sequence::CallIndirect,
-        Form::LocalGet | Form::LocalSet | Form::LocalTee => Sequence::Local,
-        Form::GlobalGet | Form::GlobalSet => Sequence::Global,
-        Form::Load(_) | Form::Store(_) => Sequence::Access,
-        Form::Const32 => Sequence::Word32,
-        Form::Const64 => Sequence::Word64,
-        _ => Sequence::Code,
-    })
-}
-
-fn instruction(word: &[u8]) -> Option<Next>
-    ensures { option_map next_of result ≡ option_and_then next_instruction (form_named word.now) }
-{
-    let form = form_named(word)?;
-    let items = behind_name(form)?;
-    Some(Next {
-        mark: Mark::Instruction(form),
-        items,
-    })
+    if meets(row.want, lexeme) {
+        Some(Next {
+            mark: row.mark,
+            items: row.next,
+        })
+    } else {
+        None
+    }
 }
 
 fn row_that_begins(rows: &[Row], lexeme: Lexeme<'_>) -> Option<Next>
@@ -377,24 +357,44 @@ fn row_that_begins(rows: &[Row], lexeme: Lexeme<'_>) -> Option<Next>
     None
 }
 
-#[tactic(auto, using(crate::proofs::Rows::named_row, crate::proofs::Rows::none_opens, crate::proofs::Rows::none_closes, crate::proofs::Rows::none_text))]
-fn instruction_or_none(lexeme: Lexeme<'_>) -> Option<Next>
-    ensures { option_map next_of result ≡ next_in (instruction_rows instruction_names) (class_of lexeme.entry) }
-{
-    match lexeme {
-        Lexeme::Atom(word) => instruction(word),
-        _ => None,
-    }
-}
-
-/// The mark of a token that begins a rule, and what follows it.
+/// The mark of a token that begins a rule other than code, and what follows it.
 pub fn pick(rule: Rule, lexeme: Lexeme<'_>) -> Option<Next>
+    requires { is_code rule ≡ false }
     ensures { option_map next_of result ≡ next_in (rows rule) (class_of lexeme.entry) }
 {
     match table(rule) {
-        Rows::One(row) => row_that_begins(&[row], lexeme),
+        Rows::One(row) => begun(row, lexeme),
         Rows::Table(rows) => row_that_begins(rows, lexeme),
-        Rows::Instructions => instruction_or_none(lexeme),
+    }
+}
+
+pub fn is_code(rule: Rule) -> bool
+    ensures { result ≡ is_code rule }
+{
+    matches!(rule, Rule::Code)
+}
+
+/// Whether an instruction of the form may begin, where code stands.
+fn begins_instruction(form: Form) -> bool
+    ensures { result ≡ begins_instruction (form_of form) }
+{
+    !matches!(form, Form::Else | Form::End)
+}
+
+/// The instruction that a token begins: its row is found by its name.
+#[tactic(auto, using(crate::proofs::Rows::named_row, crate::proofs::Rows::none_opens, crate::proofs::Rows::none_closes, crate::proofs::Rows::none_text))]
+#[inline(always)]
+pub fn instruction(lexeme: Lexeme<'_>) -> Option<Form>
+    ensures { option_map code_behind result ≡ next_in (instruction_rows instruction_names) (class_of lexeme.entry) }
+{
+    let Lexeme::Atom(word) = lexeme else {
+        return None;
+    };
+    let form = form_named(word)?;
+    if begins_instruction(form) {
+        Some(form)
+    } else {
+        None
     }
 }
 

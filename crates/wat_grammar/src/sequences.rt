@@ -1,7 +1,8 @@
 //! What follows a token: the sequences of items that the table names.
 
 ghost use Rattle.std.specs.Prelude.{◌≡◌};
-ghost use Rattle.wat_grammar.specs.Views.{items_of};
+ghost use Rattle.wat_lang.specs.Grammar.{immediates};
+ghost use Rattle.wat_grammar.specs.Views.{form_of, items_of};
 ghost use Rattle.wat_grammar.specs.declared.sequences.Sequence.TheVariants as sequences;
 ghost use Rattle.wat_grammar.specs.Sequences.{sequence_of};
 
@@ -41,18 +42,6 @@ pub enum Sequence {
     Strings,
     ResultType,
     ElseArm,
-    Code,
-    Block,
-    If,
-    Branch,
-    BranchTable,
-    Call,
-    CallIndirect,
-    Local,
-    Global,
-    Access,
-    Word32,
-    Word64,
     /// A list of a head that is of this part or a later one, where locals may stand or not.
     Head(bool, Part),
     /// The types of a list of this part, and the lists behind it.
@@ -194,73 +183,41 @@ static ELSE_ARM: [Item; 2] = [
     Item::Token(Want::Word(Keyword::End), Mark::Instruction(Form::End)),
 ];
 
-static CODE: [Item; 1] = [Item::Rule(Rule::Code)];
-
-static BLOCK: [Item; 5] = [
+static BLOCK: [Item; 4] = [
     Item::Rule(Rule::Label),
     Item::Rule(Rule::BlockResult),
     Item::Rule(Rule::Code),
     Item::Token(Want::Word(Keyword::End), Mark::Instruction(Form::End)),
-    Item::Rule(Rule::Code),
 ];
 
-static IF: [Item; 5] = [
+static IF: [Item; 4] = [
     Item::Rule(Rule::Label),
     Item::Rule(Rule::BlockResult),
     Item::Rule(Rule::Code),
     Item::Rule(Rule::Arms),
-    Item::Rule(Rule::Code),
 ];
 
-static BRANCH: [Item; 2] = [
-    Item::Token(Want::Index, Mark::Uses(Space::Label)),
-    Item::Rule(Rule::Code),
-];
+static USES_LABEL: [Item; 1] = [Item::Token(Want::Index, Mark::Uses(Space::Label))];
 
-static BRANCH_TABLE: [Item; 3] = [
+static USES_LABELS: [Item; 2] = [
     Item::Token(Want::Index, Mark::Uses(Space::Label)),
     Item::Rule(Rule::Labels),
-    Item::Rule(Rule::Code),
 ];
 
-static CALL: [Item; 2] = [
-    Item::Token(Want::Index, Mark::Uses(Space::Func)),
-    Item::Rule(Rule::Code),
-];
-
-static CALL_INDIRECT: [Item; 5] = [
+static USES_TYPE: [Item; 4] = [
     OPEN,
     Item::Token(Want::Word(Keyword::Type), Mark::Nothing),
     Item::Token(Want::Index, Mark::Uses(Space::Type)),
     CLOSE,
-    Item::Rule(Rule::Code),
 ];
 
-static LOCAL: [Item; 2] = [
-    Item::Token(Want::Index, Mark::Uses(Space::Local)),
-    Item::Rule(Rule::Code),
-];
+static USES_LOCAL: [Item; 1] = [Item::Token(Want::Index, Mark::Uses(Space::Local))];
 
-static GLOBAL: [Item; 2] = [
-    Item::Token(Want::Index, Mark::Uses(Space::Global)),
-    Item::Rule(Rule::Code),
-];
+static ACCESS: [Item; 2] = [Item::Rule(Rule::Offset), Item::Rule(Rule::Align)];
 
-static ACCESS: [Item; 3] = [
-    Item::Rule(Rule::Offset),
-    Item::Rule(Rule::Align),
-    Item::Rule(Rule::Code),
-];
+static WORD32: [Item; 1] = [Item::Token(Want::Number, Mark::Word32)];
 
-static WORD32: [Item; 2] = [
-    Item::Token(Want::Number, Mark::Word32),
-    Item::Rule(Rule::Code),
-];
-
-static WORD64: [Item; 2] = [
-    Item::Token(Want::Number, Mark::Word64),
-    Item::Rule(Rule::Code),
-];
+static WORD64: [Item; 1] = [Item::Token(Want::Number, Mark::Word64)];
 
 static HEAD_WITH_PARAM: [Item; 1] = [Item::Rule(Rule::Head(true, Part::Param))];
 
@@ -401,21 +358,29 @@ pub fn items(sequence: Sequence) -> &'static [Item]
         Sequence::Strings => &STRINGS,
         Sequence::ResultType => &RESULT_TYPE,
         Sequence::ElseArm => &ELSE_ARM,
-        Sequence::Code => &CODE,
-        Sequence::Block => &BLOCK,
-        Sequence::If => &IF,
-        Sequence::Branch => &BRANCH,
-        Sequence::BranchTable => &BRANCH_TABLE,
-        Sequence::Call => &CALL,
-        Sequence::CallIndirect => &CALL_INDIRECT,
-        Sequence::Local => &LOCAL,
-        Sequence::Global => &GLOBAL,
-        Sequence::Access => &ACCESS,
-        Sequence::Word32 => &WORD32,
-        Sequence::Word64 => &WORD64,
         Sequence::Head(locals, part) => head(locals, part),
         Sequence::HeadList(locals, part) => head_list(locals, part),
         Sequence::MoreTypes(part) => more_types(part),
         Sequence::OneType(part) => one_type(part),
+    }
+}
+
+/// The immediates of an instruction, and those of a block with all up to its end, the first first.
+pub fn immediates(form: Form) -> &'static [Item]
+    ensures { items_of result.now ≡ immediates (form_of form) }
+{
+    match form {
+        Form::Block | Form::Loop => &BLOCK,
+        Form::If => &IF,
+        Form::Br | Form::BrIf => &USES_LABEL,
+        Form::BrTable => &USES_LABELS,
+        Form::Call => &USES_FUNC,
+        Form::CallIndirect => &USES_TYPE,
+        Form::LocalGet | Form::LocalSet | Form::LocalTee => &USES_LOCAL,
+        Form::GlobalGet | Form::GlobalSet => &USES_GLOBAL,
+        Form::Load(_) | Form::Store(_) => &ACCESS,
+        Form::Const32 => &WORD32,
+        Form::Const64 => &WORD64,
+        _ => &[],
     }
 }

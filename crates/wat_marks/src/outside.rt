@@ -10,10 +10,15 @@ ghost use Rattle.wat_marks.specs.Views.{outside_after};
 
 use wat_tokens::{Class, Next, Scanner, Token};
 
+// Most words begin with another byte than `f` or `m`, and the rest of them isn't looked at.
 fn is_outside(word: &[u8]) -> bool
     ensures { result ≡ is_outside word.now }
 {
-    word.starts_with(b"f32") || word.starts_with(b"f64") || word == b"memory.grow".as_slice()
+    match word {
+        [b'f', ..] => word.starts_with(b"f32") || word.starts_with(b"f64"),
+        [b'm', ..] => word == b"memory.grow".as_slice(),
+        _ => false,
+    }
 }
 
 /// Whether it is a word that is no part of the integer profile.

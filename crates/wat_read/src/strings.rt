@@ -54,15 +54,18 @@ pub fn string_in<'a>(
     }
 }
 
-fn push_bytes(alloc: Global, all: &mut Vec<u8>, token: &MarkedToken<'_>) -> Result<(), AllocError>
+fn push_bytes(all: &mut Vec<u8>, token: &MarkedToken<'_>) -> Result<(), AllocError>
     ensures { OnOk result (all.new.items ≡ all.old.items ++ (if spec.is_bytes (marked_of token.now).mark then text_of (marked_of token.now) else [])) }
 {
     if !Wanted::Bytes.is(token.mark) {
         return Ok(());
     }
-    let bytes = token_bytes(alloc, token)?;
-    all.extend_from_slice(bytes.as_bytes())?;
-    Ok(())
+    match token.token.class {
+        Class::String(string) => string.push_to(all),
+        Class::Atom(bytes) => all.extend_from_slice(bytes),
+        Class::Opens => Ok(()),
+        Class::Closes => Ok(()),
+    }
 }
 
 /// The bytes of all strings of a data segment, one after another.
@@ -71,7 +74,7 @@ pub fn segment_bytes<'a>(alloc: Global, parts: &[MarkedToken<'_>]) -> Result<Byt
 {
     let mut all = Vec::new(alloc);
     for token in parts {
-        push_bytes(alloc, &mut all, token)?;
+        push_bytes(&mut all, token)?;
     }
     let text = Text::from_bytes(alloc, all.as_slice())?;
     Ok(Bytes::Own(text))

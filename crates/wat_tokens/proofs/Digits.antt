@@ -1,9 +1,11 @@
 -- Digits with single marks between them, byte by byte.
 use Rattle.std.proofs.Common.{◌≡◌, ℕ, zero, suc, ◌+◌, ◌*◌, ◌^◌, ◌<◌, ◌≤◌, Bool, true, false, ◌&&◌, List, [], ◌∷◌, length, get_or, drop, Option, Some, None, refl, sym, ap, subst, ◌∙◌, arith, drop-cons}
-use Rattle.std.specs.Prelude.{◌==◌, if◌then◌else◌, option_map}
+use Rattle.std.specs.Prelude.{◌-◌, ◌==◌, if◌then◌else◌, option_map, codes, pos}
+use Rattle.std.proofs.Math.Nat.{pow-le-pow_right, pow-succ'}
+use Rattle.std.proofs.lemmas.Bool.Decides.{nat_tests}
 use Rattle.std.proofs.lemmas.Bool.{eqb-true, false≢true}
-use Rattle.wat_lang.specs.Tokens.{digit_value, value_in}
-use Rattle.wat_lang.specs.Numbers.{digits_in}
+use Rattle.wat_lang.specs.Tokens.{is_digit, digit_value, value_in}
+use Rattle.wat_lang.specs.Numbers.{digits_in, begins_text, natural_of, number_of}
 use Rattle.wat_tokens.specs.declared.numbers.Base.{Base}
 use Rattle.wat_tokens.specs.declared.numbers.Base.TheVariants.{Ten, Sixteen}
 use Rattle.wat_tokens.specs.Natural.{base_of, is_digit_of, natural_in, IsCapped, IsNatural}
@@ -122,3 +124,73 @@ pub near_more : (base : Base) (v w n d : ℕ) → v ≤ 2 ^ 64 → w ≡ base_of
 near_more base v w n d le is c =
     let same : w ≡ base_of base * n + d = is ∙ ap (λ m. base_of base * m + d) (c.near le) in
     record { near = λ h. same; far = λ lt. subst (λ m. 2 ^ 64 < m) same lt }
+
+-- ---- a few decimal digits
+
+pow_next : (n : ℕ) → 10 ^ (n + 1) ≡ 10 * 10 ^ n
+pow_next n = ap (λ k. 10 ^ k) (let e : n + 1 ≡ suc n = omega arith in e) ∙ pow-succ' 10 n
+
+pub digit_is : (d : ℕ) → is_digit d ≡ true → (48 ≤ d) × (d ≤ 57) × (digit_value d ≡ d - 48)
+digit_is d e = grind (arith, nat_tests)
+
+pub bounded : (v n : ℕ) → v < 10 ^ n → n ≤ 18 → v < 10 ^ 18
+bounded v n lt le = let grows = pow-le-pow_right {n = 10} (omega arith) le in omega (arith, lt, grows)
+
+pub room_for_one : (v n : ℕ) → v < 10 ^ n → n < 18 → v ≤ 1000000000000000000
+room_for_one v n lt less = let all = bounded v n lt (omega (arith, less)) in omega (arith, all)
+
+pub one_more_below : (v w d n : ℕ) → v < 10 ^ n → is_digit d ≡ true → w ≡ 10 * v + digit_value d → w < 10 ^ (n + 1)
+one_more_below v w d n lt is e =
+    let digit = digit_is d is in
+    let next : 10 ^ (n + 1) ≡ 10 * 10 ^ n = pow_next n in
+    omega (arith, lt, digit.0, digit.1, digit.2, e, next)
+
+-- ---- decimal digits alone write the number with no sign
+
+no_such : (b n : ℕ) → is_digit b ≡ true → is_digit n ≡ false → (b == n) ≡ false
+no_such b n is other = by (b == n) refl
+  where
+    by : (t : Bool) → (b == n) ≡ t → t ≡ false
+    by true e = absurd (false≢true (sym (ap is_digit (eqb-true b n e) ∙ other) ∙ is))
+    by false e = refl
+
+first_digit : (d : ℕ) (ds : List ℕ) (v : ℕ) → natural_in Ten (d ∷ ds) ≡ Some v → is_digit d ≡ true
+first_digit d ds v e = by (is_digit d) refl
+  where
+    by : (t : Bool) → is_digit d ≡ t → t ≡ true
+    by true is = refl
+    by false is = let none : None ≡ Some v = sym (ap (λ o. option_map (value_in 10 0) o) (first_eq is_digit d ds ∙ second_is (is_digit d) _ None is)) ∙ e in absurd cc
+
+second_no_x : (d c : ℕ) (cs : List ℕ) (v : ℕ) → natural_in Ten (d ∷ c ∷ cs) ≡ Some v → (c == 120) ≡ false
+second_no_x d c cs v e = by (c == 120) refl
+  where
+    is : is_digit d ≡ true
+    is = first_digit d (c ∷ cs) v e
+
+    none_after : digits_after is_digit true (120 ∷ cs) ≡ None
+    none_after = first_eq is_digit 120 cs
+
+    by : (t : Bool) → (c == 120) ≡ t → t ≡ false
+    by true x =
+        let after : digits_after is_digit true (c ∷ cs) ≡ None = ap (λ n. digits_after is_digit true (n ∷ cs)) (eqb-true c 120 x) ∙ none_after in
+        let whole : digits_in is_digit (d ∷ c ∷ cs) ≡ onto d (digits_after is_digit true (c ∷ cs)) = first_eq is_digit d (c ∷ cs) ∙ first_is (is_digit d) _ None is in
+        let none : None ≡ Some v = sym (ap (λ o. option_map (value_in 10 0) o) (whole ∙ ap (onto d) after)) ∙ e in
+        absurd cc
+    by false x = refl
+
+no_prefix : (bs : List ℕ) (v : ℕ) → natural_in Ten bs ≡ Some v → begins_text (codes "0x") bs ≡ false
+no_prefix [] v e = refl
+no_prefix (d ∷ []) v e = elim (d == 48) as (λ t. (t && false) ≡ false) [ true ↦ refl | false ↦ refl ]
+no_prefix (d ∷ c ∷ cs) v e = rw (second_no_x d c cs v e) (elim (d == 48) as (λ t. (t && (false && true)) ≡ false) [ true ↦ refl | false ↦ refl ])
+
+natural_is : (bs : List ℕ) (v : ℕ) → natural_in Ten bs ≡ Some v → natural_of bs ≡ Some v
+natural_is bs v e = second_is (begins_text (codes "0x") bs) _ _ (no_prefix bs v e) ∙ e
+
+pub number_is : (bs : List ℕ) (v : ℕ) → natural_in Ten bs ≡ Some v → number_of bs ≡ Some (pos v)
+number_is [] v e = absurd cc
+number_is (b ∷ bs) v e =
+    let is = first_digit b bs v e in
+    rw (no_such b 45 is refl, no_such b 43 is refl) (ap (λ o. option_map pos o) (natural_is (b ∷ bs) v e))
+
+pub exactly : (v : ℕ) (o : Option ℕ) → v < 10 ^ 18 → IsNatural (Some v) o → o ≡ Some v
+exactly v o lt p = p.1 ∙ ap (λ (n : ℕ). let x : Option ℕ = Some n in x) (sym (p.2.near (omega (arith, lt))))

@@ -1,10 +1,11 @@
 -- Fronts of a text take some of its bytes.
-use Rattle.std.proofs.Common.{◌≡◌, ℕ, ◌+◌, ◌-◌, ◌<◌, ◌≤◌, Bool, true, false, List, [], ◌∷◌, length, drop, Option, Some, None, refl, sym, ap, arith}
+use Rattle.std.proofs.Common.{◌≡◌, ℕ, ◌+◌, ◌-◌, ◌<◌, ◌≤◌, Bool, true, false, List, [], ◌∷◌, length, get_or, suc, take, drop, Option, Some, None, refl, sym, ap, ◌∙◌, arith, drop-cons}
 use Rattle.std.specs.Prelude.{◌==◌, if◌then◌else◌}
 use Rattle.std.specs.List.{prefix_len}
 use Rattle.std.proofs.lemmas.List.{length-drop}
-use Rattle.std.proofs.lemmas.List.Sums.{prefix_len-le-length}
-use Rattle.wat_lang.specs.Tokens.{Front, gap, token, no_front, Class, string, is_blank, is_atom_byte, is_no_line_feed, begins_with, comment_rest, string_from, comment_front, open_front, string_front, semicolon_front, atom_front, front_of}
+use Rattle.std.proofs.lemmas.List.Sums.{prefix_len-le-length, prefix_len-drop_yes}
+use Rattle.std.proofs.lemmas.Bool.{eqb-true, false≢true}
+use Rattle.wat_lang.specs.Tokens.{Front, gap, token, no_front, Class, opens, closes, string, atom, is_blank, is_atom_byte, is_no_line_feed, begins_with, comment_rest, string_from, comment_front, open_front, string_front, semicolon_front, atom_front, front_of}
 use Rattle.wat_tokens.specs.declared.pieces.Piece.{Piece}
 use Rattle.wat_tokens.specs.declared.pieces.Piece.TheVariants as pieces
 use Rattle.wat_tokens.specs.declared.front.Front.{Front as CodeFront}
@@ -73,6 +74,45 @@ view_inside (fronts.Token class n) bs e = token_inside bs (class_of class) n e
 view_inside fronts.Nothing bs e = tt
 
 -- ---- what the code finds
+
+one_front : (s : List ℕ) (n : ℕ) → n < length s → drop n s ≡ get_or s n 0 ∷ drop (n + 1) s
+one_front s n lt = let next : suc n ≡ n + 1 = omega arith in drop-cons s n 0 lt ∙ ap (λ j. get_or s n 0 ∷ drop j s) next
+
+atom_no_blank : (b : ℕ) → is_atom_byte b ≡ true → is_blank b ≡ false
+atom_no_blank b is = by (b == 32) (b == 9) (b == 10) (b == 13) refl refl refl refl
+  where
+    none : (n : ℕ) → (b == n) ≡ true → is_atom_byte n ≡ false → is_blank b ≡ false
+    none n e other = absurd (false≢true (sym (ap is_atom_byte (eqb-true b n e) ∙ other) ∙ is))
+
+    by : (t u v w : Bool) → (b == 32) ≡ t → (b == 9) ≡ u → (b == 10) ≡ v → (b == 13) ≡ w → is_blank b ≡ false
+    by true u v w e f g h = none 32 e refl
+    by false true v w e f g h = none 9 f refl
+    by false false true w e f g h = none 10 g refl
+    by false false false true e f g h = none 13 h refl
+    by false false false false e f g h = rw (e, f, g, h) refl
+
+atom_begins : (b : ℕ) (bs : List ℕ) → is_atom_byte b ≡ true → atom_front (prefix_len is_atom_byte (b ∷ bs)) (b ∷ bs) ≡ front_of (b ∷ bs)
+atom_begins b bs is = rw (atom_no_blank b is) (rw is refl)
+
+pub atom_up_to : (s : List ℕ) (n end : ℕ) → n < length s → is_atom_byte (get_or s n 0) ≡ true → end ≡ (n + 1) + prefix_len is_atom_byte (drop (n + 1) s)
+    → token (atom (take (end - n) (drop n s))) (end - n) ≡ front_of (drop n s)
+atom_up_to s n end lt is e =
+    let first = prefix_len-drop_yes is_atom_byte s n 0 lt is in
+    let len : end - n ≡ prefix_len is_atom_byte (drop n s) = omega (arith, first, e) in
+    let here = one_front s n lt in
+    ap (λ k. atom_front k (drop n s)) len ∙ (ap (λ bs. atom_front (prefix_len is_atom_byte bs) bs) here ∙ (atom_begins (get_or s n 0) (drop (n + 1) s) is ∙ ap front_of (sym here)))
+
+opens_here : (bs : List ℕ) → begins_with 59 bs ≡ false → token opens 1 ≡ front_of (40 ∷ bs)
+opens_here bs e = rw e refl
+
+pub opens_at : (s : List ℕ) (n : ℕ) → n < length s → get_or s n 0 ≡ 40 → begins_with 59 (drop (n + 1) s) ≡ false → token opens 1 ≡ front_of (drop n s)
+opens_at s n lt is e = opens_here (drop (n + 1) s) e ∙ ap front_of (sym (one_front s n lt ∙ ap (λ b. b ∷ drop (n + 1) s) is))
+
+closes_here : (bs : List ℕ) → token closes 1 ≡ front_of (41 ∷ bs)
+closes_here bs = refl
+
+pub closes_at : (s : List ℕ) (n : ℕ) → n < length s → get_or s n 0 ≡ 41 → token closes 1 ≡ front_of (drop n s)
+closes_at s n lt is = closes_here (drop (n + 1) s) ∙ ap front_of (sym (one_front s n lt ∙ ap (λ b. b ∷ drop (n + 1) s) is))
 
 -- a comment of n bytes behind `(;`
 pub commented : (bs : List ℕ) (n : ℕ) → n ≤ length bs → comment_rest 0 bs ≡ Some (drop n bs) → gap (n + 2) ≡ open_front (59 ∷ bs)

@@ -1,12 +1,15 @@
 -- Reading on from where a loop stands.
-use Rattle.std.proofs.Common.{◌≡◌, ℕ, ◌+◌, ◌<◌, ◌≤◌, List, [], ◌∷◌, ◌++◌, length, drop, Ok, Err, refl, sym, ap, subst, append_assoc, arith, length-drop}
-use Rattle.std.proofs.lemmas.List.{append-nil}
+use Rattle.std.proofs.Common.{◌≡◌, ℕ, ◌+◌, ◌<◌, ◌≤◌, List, [], ◌∷◌, ◌++◌, length, drop, Ok, Err, zero, suc, ◌-◌, true, get_or, refl, sym, ap, subst, ◌∙◌, append_assoc, arith, length-drop, drop-cons}
+use Rattle.std.specs.List.{prefix_len}
+use Rattle.std.proofs.lemmas.List.{append-nil, drop-drop}
+use Rattle.std.proofs.lemmas.List.Sums.{prefix_len-le-length, prefix_len_passes}
 use Rattle.wat_lang.specs.Tokens as spec
-use Rattle.wat_lang.specs.Tokens.{Class, gap, token, no_front, front_of, Reading, with_first, Reads, the_end, a_fault, a_gap, a_token}
+use Rattle.wat_lang.specs.Tokens.{is_blank, Class, gap, token, no_front, front_of, Reading, with_first, Reads, the_end, a_fault, a_gap, a_token}
 use Rattle.wat_tokens.specs.declared.token.Token.{Token}
 use Rattle.wat_tokens.specs.declared.scanner.Scanner.{Scanner}
 use Rattle.wat_tokens.specs.declared.scanner.Next.TheVariants as nexts
-use Rattle.wat_tokens.specs.Views.{token_of}
+use Rattle.wat_tokens.specs.declared.token.Class.{Class as CodeClass}
+use Rattle.wat_tokens.specs.Views.{class_of, token_of}
 use Rattle.wat_tokens.specs.Left.{IsLeft, IsFirstFault, IsNext}
 
 -- ---- from a token to the next
@@ -50,6 +53,59 @@ at_fault s at rest p lt e = p.reads (Err at) (fault_at at rest lt e)
 pub at_the_end : (s : Scanner) (at : ℕ) (rest : List ℕ) → Passed s at rest → length rest ≡ 0 → IsLeft s (Ok [])
 at_the_end s at [] p e = p.reads (Ok []) the_end
 at_the_end s at (b ∷ bs) p e = absurd (omega arith)
+
+-- ---- behind a run of blanks
+
+one_front : (s : List ℕ) (n : ℕ) → n < length s → drop n s ≡ get_or s n 0 ∷ drop (n + 1) s
+one_front s n lt = let next : suc n ≡ n + 1 = omega arith in drop-cons s n 0 lt ∙ ap (λ j. get_or s n 0 ∷ drop j s) next
+
+blank_gap : (b : ℕ) (bs : List ℕ) → is_blank b ≡ true → gap 1 ≡ front_of (b ∷ bs)
+blank_gap b bs e = rw e refl
+
+pub blanks_passed : (s : Scanner) (k : ℕ) → k ≤ prefix_len is_blank s.rest.now → Passed s (s.at + k) (drop k s.rest.now)
+blanks_passed s zero le = subst (λ at. Passed s at s.rest.now) (let e : s.at ≡ s.at + 0 = omega arith in e) (nothing_passed s)
+blanks_passed s (suc k) le =
+    let text = s.rest.now in
+    let bound = prefix_len-le-length is_blank text in
+    let inside : k < length text = omega (arith, le, bound) in
+    let len = length-drop k text in
+    let blank : gap 1 ≡ front_of (drop k text) = blank_gap (get_or text k 0) (drop (k + 1) text) (prefix_len_passes is_blank text k 0 (omega (arith, le))) ∙ ap front_of (sym (one_front text k inside)) in
+    let before = blanks_passed s k (omega (arith, le)) in
+    let after = after_gap s (s.at + k) 1 (drop k text) before (omega (arith, inside, len)) (omega (arith, inside, len)) blank in
+    let place : (s.at + k) + 1 ≡ s.at + suc k = omega arith in
+    let there : drop 1 (drop k text) ≡ drop (suc k) text = drop-drop 1 k text ∙ ap (λ j. drop j text) (let e : k + 1 ≡ suc k = omega arith in e) in
+    subst (λ at. Passed s at (drop (suc k) text)) place (subst (λ (rest : List ℕ). Passed s ((s.at + k) + 1) rest) there after)
+
+-- ---- at an offset into the text
+
+pub gap_at : (s : Scanner) (n len : ℕ) → Passed s (s.at + n) (drop n s.rest.now) → n < length s.rest.now → n + len ≤ length s.rest.now → gap len ≡ front_of (drop n s.rest.now)
+    → Passed s (s.at + (n + len)) (drop (n + len) s.rest.now)
+gap_at s n len p lt le e =
+    let text = s.rest.now in
+    let long = length-drop n text in
+    let after = after_gap s (s.at + n) len (drop n text) p (omega (arith, lt, long)) (omega (arith, le, long)) e in
+    let place : (s.at + n) + len ≡ s.at + (n + len) = omega arith in
+    subst (λ at. Passed s at (drop (n + len) text)) place (subst (λ (rest : List ℕ). Passed s ((s.at + n) + len) rest) (drop-drop len n text) after)
+
+pub cut_at : (s m : Scanner) (n end : ℕ) (c : CodeClass) → Passed s (s.at + n) (drop n s.rest.now) → token (class_of c) (end - n) ≡ front_of (drop n s.rest.now) → n < end → end ≤ length s.rest.now
+    → m.at ≡ s.at + end → m.rest.now ≡ drop end s.rest.now → IsNext (nexts.Token (record { class = c; at = s.at + n })) s m
+cut_at s m n end c p e lt le at rest =
+    let text = s.rest.now in
+    let long = length-drop n text in
+    let left = length-drop end text in
+    let shorter : length m.rest.now ≡ length (drop end text) = ap length rest in
+    let place : (s.at + n) + (end - n) ≡ m.at = omega (arith, at, lt) in
+    let there : drop (end - n) (drop n text) ≡ m.rest.now = drop-drop (end - n) n text ∙ (ap (λ j. drop j text) (let e : n + (end - n) ≡ end = omega (arith, lt) in e) ∙ sym rest) in (
+      omega (arith, shorter, left, lt, le),
+      λ r h. at_token s (s.at + n) (end - n) (class_of c) (drop n text) p (omega (arith, long, lt, le)) e r
+          (subst (λ j. Reads j (drop (end - n) (drop n text)) r) (sym place) (subst (λ (bs : List ℕ). Reads m.at bs r) (sym there) h)),
+    )
+
+pub fault_there : (s : Scanner) (n : ℕ) → Passed s (s.at + n) (drop n s.rest.now) → n < length s.rest.now → no_front ≡ front_of (drop n s.rest.now) → IsFirstFault s (s.at + n)
+fault_there s n p lt e = let long = length-drop n s.rest.now in at_fault s (s.at + n) (drop n s.rest.now) p (omega (arith, lt, long)) e
+
+pub end_there : (s : Scanner) (n : ℕ) → Passed s (s.at + n) (drop n s.rest.now) → length s.rest.now ≤ n → IsLeft s (Ok [])
+end_there s n p le = let long = length-drop n s.rest.now in at_the_end s (s.at + n) (drop n s.rest.now) p (omega (arith, le, long))
 
 -- ---- from one end of the text to the other
 

@@ -1,4 +1,5 @@
-pub mod Ranges
+pub mod Tables
+pub mod LaneRuns
 pub mod Pairs
 pub mod PieceSteps
 pub mod Fronts

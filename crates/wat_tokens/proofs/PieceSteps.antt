@@ -1,7 +1,9 @@
 -- Strings, piece by piece.
-use Rattle.std.proofs.Common.{◌≡◌, ℕ, zero, suc, ◌+◌, ◌-◌, ◌<◌, ◌≤◌, Bool, true, false, List, [], ◌∷◌, ◌++◌, length, get_or, take, drop, Option, Some, None, refl, sym, ap, ◌∙◌, arith, append_assoc, append-nil, drop-cons, length-append}
+use Rattle.std.proofs.Common.{◌≡◌, ℕ, zero, suc, ◌+◌, ◌-◌, ◌<◌, ◌≤◌, Bool, true, false, List, [], ◌∷◌, ◌++◌, length, get_or, take, drop, Option, Some, None, refl, sym, ap, subst, ◌∙◌, arith, append_assoc, append-nil, drop-cons, length-append}
 use Rattle.std.specs.Prelude.{◌&&◌, not, ◌==◌, if◌then◌else◌, option_map, encode_utf8}
-use Rattle.std.proofs.lemmas.List.{take_more, length-drop, length-take-le, drop-drop}
+use Rattle.std.specs.List.{prefix_len}
+use Rattle.std.proofs.lemmas.List.{take_more, length-drop, length-take-le, drop-drop, get_or-drop}
+use Rattle.std.proofs.lemmas.List.Sums.{prefix_len-drop_yes, prefix_len_passes}
 use Rattle.std.proofs.lemmas.Str.{length-encode, len_utf8_bounds}
 use Rattle.wat_lang.specs.Tokens.{Piece, quote, character, no_piece, piece_of, escape_piece, is_string_byte, string_from, put_value}
 use Rattle.wat_tokens.specs.Fronts.{is_plain}
@@ -209,8 +211,87 @@ plain_at s n lt e = plain_piece (get_or s n 0) (drop (n + 1) s) e ∙ ap piece_o
 plain_front : (s : List ℕ) (n : ℕ) → n < length s → drop n s ≡ get_or s n 0 ∷ drop 1 (drop n s)
 plain_front s n lt = one_front s n lt ∙ ap (λ xs. get_or s n 0 ∷ xs) (sym (drop-drop 1 n s))
 
-pub plain_turn : (s : List ℕ) (n : ℕ) (plain : Bool) → Scanned s n plain → n < length s → is_plain (get_or s n 0) ≡ true → Scanned s (n + 1) plain
+plain_turn : (s : List ℕ) (n : ℕ) (plain : Bool) → Scanned s n plain → n < length s → is_plain (get_or s n 0) ≡ true → Scanned s (n + 1) plain
 plain_turn s n plain p lt e = scanned_byte s n (get_or s n 0) plain p lt (plain_at s n lt e) (plain_front s n lt)
 
-pub plain_passed : (s so_far : List ℕ) (n : ℕ) → Passed s n so_far → n < length s → is_plain (get_or s n 0) ≡ true → Passed s (n + 1) (so_far ++ get_or s n 0 ∷ [])
+plain_passed : (s so_far : List ℕ) (n : ℕ) → Passed s n so_far → n < length s → is_plain (get_or s n 0) ≡ true → Passed s (n + 1) (so_far ++ get_or s n 0 ∷ [])
 plain_passed s so_far n p lt e = passed_more s so_far (get_or s n 0 ∷ []) n 0 p lt (plain_at s n lt e) (let len = length-drop n s in omega (arith, lt, len))
+
+-- ---- runs of bytes that stand for themselves
+
+plain_there : (s : List ℕ) (n k : ℕ) → k < prefix_len is_plain (drop n s) → is_plain (get_or s (n + k) 0) ≡ true
+plain_there s n k lt = ap is_plain (sym (get_or-drop n s k 0)) ∙ prefix_len_passes is_plain (drop n s) k 0 lt
+
+scanned_run : (s : List ℕ) (n k j : ℕ) (plain : Bool) → Scanned s n plain → j ≡ n + k → j ≤ length s → k ≤ prefix_len is_plain (drop n s) → Scanned s j plain
+scanned_run s n zero j plain p is fits le = let same : n ≡ j = omega (arith, is) in subst (λ i. Scanned s i plain) same p
+scanned_run s n (suc k) j plain p is fits le =
+    let before = scanned_run s n k (n + k) plain p refl (omega (arith, is, fits)) (omega (arith, le)) in
+    let next : (n + k) + 1 ≡ j = omega (arith, is) in
+    subst (λ i. Scanned s i plain) next (plain_turn s (n + k) plain before (omega (arith, is, fits)) (plain_there s n k (omega (arith, le))))
+
+passed_run : (s so_far : List ℕ) (n k j : ℕ) → Passed s n so_far → j ≡ n + k → j ≤ length s → k ≤ prefix_len is_plain (drop n s) → Passed s j (so_far ++ take k (drop n s))
+passed_run s so_far n zero j p is fits le =
+    let same : n ≡ j = omega (arith, is) in
+    subst (λ (v : List ℕ). Passed s j v) (sym (append-nil so_far)) (subst (λ i. Passed s i so_far) same p)
+passed_run s so_far n (suc k) j p is fits le =
+    let run = drop n s in
+    let before = passed_run s so_far n k (n + k) p refl (omega (arith, is, fits)) (omega (arith, le)) in
+    let next : (n + k) + 1 ≡ j = omega (arith, is) in
+    let here = plain_passed s (so_far ++ take k run) (n + k) before (omega (arith, is, fits)) (plain_there s n k (omega (arith, le))) in
+    let inside : k < length run = omega (arith, is, fits, length-drop n s) in
+    let last : take k run ++ get_or s (n + k) 0 ∷ [] ≡ take (suc k) run =
+    ap (λ (b : ℕ). take k run ++ b ∷ []) (sym (get_or-drop n s k 0)) ∙ (sym (take_more run k 0 inside) ∙ ap (λ (m : ℕ). take m run) (let e : k + 1 ≡ suc k = omega arith in e)) in
+    let value : (so_far ++ take k run) ++ get_or s (n + k) 0 ∷ [] ≡ so_far ++ take (suc k) run = append_assoc so_far (take k run) (get_or s (n + k) 0 ∷ []) ∙ ap (λ (v : List ℕ). so_far ++ v) last in
+    subst (λ (v : List ℕ). Passed s j v) value (subst (λ i. Passed s i ((so_far ++ take k run) ++ get_or s (n + k) 0 ∷ [])) next here)
+
+-- so many bytes of the run
+run_len : (s : List ℕ) (n end : ℕ) → n < length s → is_plain (get_or s n 0) ≡ true → end ≡ (n + 1) + prefix_len is_plain (drop (n + 1) s) → prefix_len is_plain (drop n s) ≡ end - n
+run_len s n end lt is e = let first = prefix_len-drop_yes is_plain s n 0 lt is in omega (arith, first, e)
+
+pub run_scanned : (s : List ℕ) (n end : ℕ) (plain : Bool) → Scanned s n plain → n < length s → is_plain (get_or s n 0) ≡ true → end ≡ (n + 1) + prefix_len is_plain (drop (n + 1) s)
+    → end ≤ length s → Scanned s end plain
+run_scanned s n end plain p lt is e fits =
+    let len = run_len s n end lt is e in
+    scanned_run s n (end - n) end plain p (omega (arith, e)) fits (omega (arith, len))
+
+pub run_passed : (s so_far : List ℕ) (n end : ℕ) → Passed s n so_far → n < length s → is_plain (get_or s n 0) ≡ true → end ≡ (n + 1) + prefix_len is_plain (drop (n + 1) s)
+    → end ≤ length s → Passed s end (so_far ++ take (end - n) (drop n s))
+run_passed s so_far n end p lt is e fits =
+    let len = run_len s n end lt is e in
+    passed_run s so_far n (end - n) end p (omega (arith, e)) fits (omega (arith, len))
+
+-- ---- an escape of two digits
+
+pub escape_scanned : (s : List ℕ) (n v : ℕ) (plain : Bool) → Scanned s n plain → n < length s → character (v ∷ []) 2 ≡ piece_of (drop n s) → n + 3 ≤ length s → Scanned s (n + 3) false
+escape_scanned s n v plain p lt e fits =
+    let len = length-drop n s in
+    scanned_more s (v ∷ []) n 2 plain p lt e (omega (arith, fits, len)) (omega arith)
+
+pub escape_passed : (s so_far : List ℕ) (n v : ℕ) → Passed s n so_far → n < length s → character (v ∷ []) 2 ≡ piece_of (drop n s) → n + 3 ≤ length s → Passed s (n + 3) (so_far ++ v ∷ [])
+escape_passed s so_far n v p lt e fits = let len = length-drop n s in passed_more s so_far (v ∷ []) n 2 p lt e (omega (arith, fits, len))
+
+-- ---- a vector to which the value so far was pushed
+
+pub record Pushed (s old : List ℕ) (n : ℕ) (items : List ℕ) : Type 0 where
+  pub so_far : List ℕ
+  pub passed : Passed s n so_far
+  pub is : items ≡ old ++ so_far
+
+pub none_pushed : (s old : List ℕ) → Pushed s old 0 old
+none_pushed s old = record { so_far = []; passed = start s; is = sym (append-nil old) }
+
+pub pushed_more : (s old items more v : List ℕ) (n m : ℕ) → Pushed s old n items → more ≡ items ++ v → ((so_far : List ℕ) → Passed s n so_far → Passed s m (so_far ++ v)) → Pushed s old m more
+pushed_more s old items more v n m p e turn = record {
+  so_far = p.so_far ++ v;
+  passed = turn p.so_far p.passed;
+  is = e ∙ (ap (λ (xs : List ℕ). xs ++ v) p.is ∙ append_assoc old p.so_far v);
+}
+
+pub all_pushed : (s old items t : List ℕ) (n : ℕ) → Pushed s old n items → n < length s → t ≡ drop n s → quote ≡ piece_of t → items ≡ old ++ value_of s
+all_pushed s old items t n p lt is e = p.is ∙ ap (λ (xs : List ℕ). old ++ xs) (value_at_quote s p.so_far n p.passed lt (e ∙ ap piece_of is))
+
+pub none_refused : (s old items t : List ℕ) (n : ℕ) → IsClosedSomewhere s → Pushed s old n items → n < length s → t ≡ drop n s → no_piece ≡ piece_of t → items ≡ old ++ value_of s
+none_refused s old items t n closed p lt is e = absurd (closed (refused s p.so_far n p.passed lt (e ∙ ap piece_of is)))
+
+pub never_at_end : (s old items : List ℕ) (n : ℕ) → IsClosedSomewhere s → Pushed s old n items → length s ≤ n → items ≡ old ++ value_of s
+never_at_end s old items n closed p le = absurd (closed (at_the_end s p.so_far n p.passed le))

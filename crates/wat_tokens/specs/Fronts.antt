@@ -1,5 +1,5 @@
 -- What the scanning functions find. Only private contracts name these.
-use Rattle.std.specs.Prelude.{◌≡◌, ℕ, ◌+◌, ◌<◌, ◌≤◌, Bool, true, ◌&&◌, ◌||◌, not, List, [], ◌∷◌, length, drop, encode_utf8, nat_le, nat_lt, ◌==◌, if◌then◌else◌}
+use Rattle.std.specs.Prelude.{◌≡◌, ℕ, ◌+◌, ◌<◌, ◌≤◌, Bool, true, ◌&&◌, not, List, [], ◌∷◌, length, drop, encode_utf8, nat_le, ◌==◌, if◌then◌else◌}
 use Rattle.wat_lang.specs.Tokens as spec
 use Rattle.wat_lang.specs.Tokens.{is_scalar}
 use Rattle.wat_tokens.specs.declared.comments.Pair.{Pair}
@@ -7,12 +7,9 @@ use Rattle.wat_tokens.specs.declared.comments.Pair.TheVariants as pairs
 use Rattle.wat_tokens.specs.declared.pieces.Piece.{Piece}
 use Rattle.wat_tokens.specs.declared.pieces.Piece.TheVariants as pieces
 
--- the bytes from `!` to `~`, but for quotes, commas, semicolons, parentheses, brackets and braces
-abbrev pub in_atom_ranges : ℕ → Bool
-in_atom_ranges b =
-    if nat_le 94 b then nat_le b 122 || ((b == 124) || (b == 126))
-    else (if nat_le 45 b then (nat_le b 90 || (b == 92)) && not (b == 59)
-    else ((b == 33) || (nat_le 35 b && nat_le b 39)) || ((b == 42) || (b == 43)))
+-- what a hexadecimal digit counts, or 16 where it is none
+abbrev pub value_or_more : ℕ → ℕ
+value_or_more b = if spec.is_hexadecimal_digit b then spec.digit_value b else 16
 
 -- a byte that stands in a string for itself: no quote and no backslash
 abbrev pub is_plain : ℕ → Bool

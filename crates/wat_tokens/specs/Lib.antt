@@ -4,3 +4,4 @@ pub mod Views
 pub mod Left
 pub mod Natural
 pub mod Numbers
+pub mod Runs

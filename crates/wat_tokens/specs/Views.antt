@@ -1,5 +1,5 @@
 -- Tokens of the code as those of the text form.
-use Rattle.std.specs.Prelude.{ℕ, ◌<◌, ◌≤◌, List}
+use Rattle.std.specs.Prelude.{◌≡◌, ℕ, ◌-◌, ◌<◌, ◌≤◌, List, length, drop}
 use Rattle.wat_lang.specs.Tokens as spec
 use Rattle.wat_lang.specs.Tokens.{string_from}
 use Rattle.wat_tokens.specs.declared.strings.StringText.{StringText}
@@ -37,3 +37,7 @@ abbrev pub IsInside : Front → ℕ → Type 0
 IsInside (fronts.Gap n) len = (0 < n) × (n ≤ len)
 IsInside (fronts.Token class n) len = (0 < n) × (n ≤ len)
 IsInside fronts.Nothing len = Unit {0}
+
+-- this token stands at n and ends there
+abbrev pub IsTokenUpTo : List ℕ → ℕ → Class × ℕ → Type 0
+IsTokenUpTo bs n x = (spec.token (class_of x.0) (x.1 - n) ≡ spec.front_of (drop n bs)) × (n < x.1) × (x.1 ≤ length bs)

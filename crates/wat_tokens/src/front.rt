@@ -1,12 +1,13 @@
 //! What stands at the front of a text.
 
-ghost use Rattle.std.specs.Prelude.{◌≡◌, ◌≤◌, ◌+◌, ◌∷◌, false, length};
+ghost use Rattle.std.specs.Prelude.{◌≡◌, ◌<◌, ◌≤◌, ◌+◌, ◌∷◌, false, IfSome, length, drop};
 ghost use Rattle.std.specs.List.{prefix_len};
 ghost use Rattle.wat_lang.specs.Tokens as spec;
-ghost use Rattle.wat_tokens.specs.Views.{front_view, IsInside};
+ghost use Rattle.wat_tokens.specs.Views.{class_of, front_view, IsInside, IsTokenUpTo};
 
-use crate::bytes::{is_atom_byte, is_blank};
+use crate::bytes::{begins_with, is_atom_byte, is_blank};
 use crate::comments::{comment_len, line_len};
+use crate::runs::atom_end;
 use crate::strings::StringText;
 use crate::token::Class;
 
@@ -18,22 +19,59 @@ pub enum Front<'a> {
     Nothing,
 }
 
-/// How many bytes of an atom stand at the front.
-fn atom_len(s: &[u8]) -> usize
-    ensures value { result ≡ prefix_len spec.is_atom_byte s.now }
+/// How many blanks stand at the front.
+#[inline(always)]
+pub fn blank_len(s: &[u8]) -> usize
+    ensures value { result ≡ prefix_len spec.is_blank s.now }
     ensures within { result ≤ length s.now }
 {
     let mut n = 0;
-    while n < s.len() && is_atom_byte(s[n]) {
+    while n < s.len() && is_blank(s[n]) {
         n += 1;
     }
     n
 }
 
+/// A parenthesis that begins no comment.
+#[inline(always)]
+fn parenthesis(s: &[u8], n: usize) -> Option<Class<'static>>
+    requires { n < length s.now }
+    ensures { IfSome result (λ class. spec.token (class_of class) 1 ≡ spec.front_of (drop n s.now)) }
+{
+    match s[n] {
+        b'(' => {
+            if begins_with(b';', &s[n + 1..]) {
+                None
+            } else {
+                Some(Class::Opens)
+            }
+        }
+        b')' => Some(Class::Closes),
+        _ => None,
+    }
+}
+
+/// The atom or parenthesis that stands at n, if one does, and where it ends. Most tokens are of these.
+#[inline(always)]
+pub fn short_token(s: &[u8], n: usize) -> Option<(Class<'_>, usize)>
+    requires { n ≤ length s.now }
+    ensures { IfSome result (λ x. IsTokenUpTo s.now n x) }
+{
+    if n == s.len() {
+        return None;
+    }
+    if is_atom_byte(s[n]) {
+        let end = atom_end(s, n + 1);
+        return Some((Class::Atom(&s[n..end]), end));
+    }
+    let class = parenthesis(s, n)?;
+    Some((class, n + 1))
+}
+
 fn atom_front(s: &[u8]) -> Front<'_>
     ensures { front_view result ≡ spec.atom_front (prefix_len spec.is_atom_byte s.now) s.now }
 {
-    let n = atom_len(s);
+    let n = atom_end(s, 0);
     Front::Token(Class::Atom(&s[..n]), n)
 }
 

@@ -4,8 +4,10 @@
 mod bytes;
 mod comments;
 mod front;
+mod lanes;
 mod numbers;
 mod pieces;
+mod runs;
 mod scanner;
 mod strings;
 mod token;

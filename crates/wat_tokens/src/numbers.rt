@@ -1,6 +1,6 @@
 //! The numbers that atoms write.
 
-ghost use Rattle.std.specs.Prelude.{◌≡◌, ℕ, ◌+◌, ◌*◌, ◌^◌, ◌<◌, ◌≤◌, ◌&&◌, ◌==◌, codes, pos, IfSome, Some};
+ghost use Rattle.std.specs.Prelude.{◌≡◌, ℕ, ◌+◌, ◌*◌, ◌^◌, ◌<◌, ◌≤◌, true, ◌&&◌, ◌==◌, codes, pos, IfSome, Some};
 ghost use Rattle.wat_tokens.specs.declared.numbers.Base.TheVariants.{Ten};
 ghost use Rattle.wat_lang.specs.Tokens as tokens;
 ghost use Rattle.wat_lang.specs.Numbers as spec;
@@ -23,8 +23,8 @@ pub enum Base {
     Sixteen,
 }
 
-/// A number that is below it has room for another decimal digit in 64 bits.
-const LONGEST_SHORT: u64 = 1_000_000_000_000_000_000;
+/// So many decimal digits fit into 64 bits, and one more.
+const MOST_SHORT: usize = 18;
 
 /// The greatest natural number that is told exactly.
 const FARTHEST: u128 = 18_446_744_073_709_551_616;
@@ -92,30 +92,34 @@ fn natural_in(base: Base, s: &[u8]) -> Option<u128>
 }
 
 /// The number with one more decimal digit.
+#[inline(always)]
 fn with_short_digit(value: u64, b: u8) -> u64
-    requires { value ≤ 1000000000000000000 }
-    ensures { (n : ℕ) → IsCapped value n → IsCapped result (base_of Ten * n + tokens.digit_value b) }
+    requires room { value ≤ 1000000000000000000 }
+    requires digit { tokens.is_digit b ≡ true }
+    ensures { result ≡ 10 * value + tokens.digit_value b }
 {
-    10 * value + u64::from(digit_value(b))
+    10 * value + u64::from(b - b'0')
 }
 
 /// The natural number of decimal digits alone, where they are few.
+#[inline(always)]
 #[tactic(auto, using(crate::proofs::Digits::turns))]
 fn short_natural(s: &[u8]) -> Option<u64>
-    ensures { IfSome result (λ v. IsNatural (Some v) (natural_in Ten s.now)) }
+    ensures { IfSome result (λ v. (natural_in Ten s.now ≡ Some v) × (v < 10 ^ 18)) }
 {
+    if s.len() > MOST_SHORT {
+        return None;
+    }
     let mut n = 0;
     let mut value = 0u64;
-    let mut after_digit = false;
     while n < s.len() {
-        if value > LONGEST_SHORT || !is_digit_of(Base::Ten, s[n]) {
+        if !is_digit(s[n]) {
             return None;
         }
         value = with_short_digit(value, s[n]);
-        after_digit = true;
         n += 1;
     }
-    if after_digit { Some(value) } else { None }
+    if n > 0 { Some(value) } else { None }
 }
 
 /// The natural number of decimal digits.
@@ -168,6 +172,17 @@ fn minus(n: u128) -> Number
 
 /// The number that an atom writes, if it writes one.
 pub fn number_of(s: &[u8]) -> Option<Number>
+    ensures { IsNumberOf result (spec.number_of s.now) }
+{
+    let Some(value) = short_natural(s) else {
+        return any_number(s);
+    };
+    Some(Number::Whole(i128::from(value)))
+}
+
+/// The same with signs, marks, hexadecimal digits and numbers of any length.
+#[inline(never)]
+fn any_number(s: &[u8]) -> Option<Number>
     ensures { IsNumberOf result (spec.number_of s.now) }
 {
     match s {

@@ -1,12 +1,12 @@
 //! What stands next in a string.
 
-ghost use Rattle.std.specs.Prelude.{◌≡◌, ◌≤◌, ◌+◌, ◌*◌, true, false, MatchOption, length};
+ghost use Rattle.std.specs.Prelude.{◌≡◌, ◌<◌, ◌≤◌, ◌+◌, ◌*◌, ◌∷◌, [], true, false, IfSome, MatchOption, length, drop};
 ghost use Rattle.std.specs.List.{prefix_len};
 ghost use Rattle.wat_lang.specs.Tokens as spec;
 ghost use Rattle.wat_lang.specs.Tokens.{is_scalar, value_in};
-ghost use Rattle.wat_tokens.specs.Fronts.{is_plain, piece_view, Fits};
+ghost use Rattle.wat_tokens.specs.Fronts.{piece_view, Fits};
 
-use crate::bytes::{begins_with, digit_value, is_hexadecimal_digit};
+use crate::bytes::{begins_with, digit_value, is_hexadecimal_digit, value_or_more};
 
 /// What stands next in a string. The numbers say how many bytes a character takes besides its first.
 #[derive(Clone, Copy)]
@@ -116,6 +116,24 @@ fn two_digits(a: u8, b: u8) -> u8
     16 * digit_value(a) + digit_value(b)
 }
 
+/// The byte that two hexadecimal digits behind a backslash stand for, where those three stand at n.
+#[inline(always)]
+pub fn byte_escape(s: &[u8], n: usize) -> Option<u8>
+    requires { n < length s.now }
+    ensures { IfSome result (λ value. (spec.character (value ∷ []) 2 ≡ spec.piece_of (drop n s.now)) × (n + 3 ≤ length s.now)) }
+{
+    if s[n] != b'\\' || s.len() - n < 3 {
+        return None;
+    }
+    let high = value_or_more(s[n + 1]);
+    let low = value_or_more(s[n + 2]);
+    if high < 16 && low < 16 {
+        Some(16 * high + low)
+    } else {
+        None
+    }
+}
+
 /// The byte that a letter or sign behind a backslash stands for.
 fn escaped(b: u8) -> Option<u8>
     ensures { result ≡ spec.escaped b }
@@ -149,14 +167,8 @@ fn escape_piece(s: &[u8]) -> Piece
     }
 }
 
-/// Whether it is a byte that stands in a string for itself.
-pub fn is_plain(b: u8) -> bool
-    ensures { result ≡ is_plain b }
-{
-    (b >= b' ' && b != 127) && (b != b'"' && b != b'\\')
-}
-
 /// What stands next in a string.
+#[inline(never)]
 pub fn piece_of(s: &[u8]) -> Piece
     ensures view { piece_view result ≡ spec.piece_of s.now }
     ensures fits { Fits result 0 s.now }

@@ -4,7 +4,9 @@ ghost use Rattle.std.specs.Prelude.{◌≡◌, ◌+◌, ◌++◌, true, None, If
 ghost use Rattle.wat_lang.specs.Tokens as spec;
 ghost use Rattle.wat_tokens.specs.Closed.{EndsAt, IsClosed, IsClosedSomewhere, value_of};
 
-use crate::pieces::{Piece, is_plain, piece_of};
+use crate::bytes::is_plain;
+use crate::pieces::{Piece, byte_escape, piece_of};
+use crate::runs::plain_end;
 use std::alloc::{AllocError, Global};
 
 /// A string of a text. Where its closing quote stands is looked for again when that is asked, since most strings are short.
@@ -42,7 +44,16 @@ impl<'a> StringText<'a> {
     pub fn bytes(self, alloc: Global) -> Result<Vec<u8>, AllocError>
         ensures { IfOk result (λ bytes. bytes.items ≡ string_value self.entry) }
     {
-        decoded(alloc, self.behind)
+        let mut bytes = Vec::new(alloc);
+        self.push_to(&mut bytes)?;
+        Ok(bytes)
+    }
+
+    /// Appends what it stands for.
+    pub fn push_to(self, bytes: &mut Vec<u8>) -> Result<(), AllocError>
+        ensures { OnOk result (bytes.new.items ≡ bytes.old.items ++ string_value self.entry) }
+    {
+        push_value(bytes, self.behind)
     }
 }
 
@@ -53,8 +64,11 @@ fn closing_quote(s: &[u8]) -> Option<(usize, bool)>
     let mut n = 0;
     let mut plain = true;
     while n < s.len() {
-        if is_plain(s[n]) {
-            n += 1;
+        if let Some(_) = byte_escape(s, n) {
+            plain = false;
+            n += 3;
+        } else if is_plain(s[n]) {
+            n = plain_end(s, n + 1);
         } else {
             match piece_of(&s[n..]) {
                 Piece::Quote => return Some((n, plain)),
@@ -74,17 +88,20 @@ fn closing_quote(s: &[u8]) -> Option<(usize, bool)>
     None
 }
 
-/// What a string stands for, from behind its opening quote on.
-fn decoded(alloc: Global, s: &[u8]) -> Result<Vec<u8>, AllocError>
+/// Appends what a string stands for, from behind its opening quote on.
+fn push_value(bytes: &mut Vec<u8>, s: &[u8]) -> Result<(), AllocError>
     requires { IsClosedSomewhere s.now }
-    ensures { IfOk result (λ bytes. bytes.items ≡ value_of s.now) }
+    ensures { OnOk result (bytes.new.items ≡ bytes.old.items ++ value_of s.now) }
 {
-    let mut bytes = Vec::new(alloc);
     let mut n = 0;
     while n < s.len() {
-        if is_plain(s[n]) {
-            bytes.push(s[n])?;
-            n += 1;
+        if let Some(value) = byte_escape(s, n) {
+            bytes.push(value)?;
+            n += 3;
+        } else if is_plain(s[n]) {
+            let end = plain_end(s, n + 1);
+            bytes.extend_from_slice(&s[n..end])?;
+            n = end;
         } else {
             match piece_of(&s[n..]) {
                 Piece::Byte(value) => {
@@ -96,15 +113,15 @@ fn decoded(alloc: Global, s: &[u8]) -> Result<Vec<u8>, AllocError>
                     n += more + 1;
                 }
                 Piece::Scalar(c, more) => {
-                    push_scalar(&mut bytes, c)?;
+                    push_scalar(bytes, c)?;
                     n += more + 1;
                 }
-                Piece::Quote => return Ok(bytes),
-                Piece::Bad => return Ok(bytes),
+                Piece::Quote => return Ok(()),
+                Piece::Bad => return Ok(()),
             }
         }
     }
-    Ok(bytes)
+    Ok(())
 }
 
 /// Appends the UTF-8 of a scalar value.

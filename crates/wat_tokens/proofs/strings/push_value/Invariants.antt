@@ -1,9 +1,9 @@
 use Rattle.std.proofs.Common.{◌-◌, length}
-use Rattle.wat_tokens.specs.Closed.{Passed}
-use Rattle.wat_tokens.proofs.strings.decoded.Given as goal
+use Rattle.wat_tokens.proofs.PieceSteps.{Pushed}
+use Rattle.wat_tokens.proofs.strings.push_value.Given as goal
 
 abbrev pub invariant-loop-n : goal.invariant-loop-n
-invariant-loop-n l = Passed l.s l.n l.bytes.items
+invariant-loop-n l = Pushed l.s l.fn.bytes.items l.n l.bytes.items
 
 abbrev pub decreases-loop-n : goal.decreases-loop-n
 decreases-loop-n l = length l.s - l.n
