@@ -23,7 +23,7 @@ use crate::facts::Facts;
 use crate::fault::CodeFault;
 use std::alloc::{AllocError, Global};
 use wasm_lang::ValType;
-use wasm_tree::{Body, FuncType, Instr, Module};
+use wasm_tree::{Body, Code, FuncType, Instr, Module};
 use wasm_validate_bodies::{BodyFault, Scope, check_body, result_of};
 
 /// Finds the first body that isn't valid, or counts of all bodies.
@@ -72,19 +72,35 @@ fn check_code(
     ensures counts { IfOk result (λ _. IsCounted counts.old counts.new (module_of «module».now) i (body_of body.now)) }
     ensures exactly { MatchResult result (λ _. IsValid (body_context (module_of «module».now) i (body_of body.now)) (body_of body.now).code) (λ e. IsRefusal (body_context (module_of «module».now) i (body_of body.now)) (body_of body.now).code e) }
 {
-    let code = match body.code.instrs(alloc) {
-        Ok(code) => code,
-        Err(_) => return Err(BodyFault::Memory),
-    };
-    let slots = check_slots(alloc, module, facts, i, body, code.as_slice())?;
+    match &body.code {
+        Code::Own(list) => check_instrs(alloc, module, facts, i, body, list.as_slice(), counts),
+        Code::Lent(_) => match body.code.instrs(alloc) {
+            Ok(list) => check_instrs(alloc, module, facts, i, body, list.as_slice(), counts),
+            Err(_) => Err(BodyFault::Memory),
+        },
+    }
+}
+
+// One body, of this code.
+fn check_instrs(
+    alloc: Global,
+    module: &Module<'_>,
+    facts: &Facts,
+    i: usize,
+    body: &Body<'_>,
+    code: &[Instr],
+    counts: &mut Counts,
+) -> Result<(), BodyFault>
+    requires facts_of { FactsOf facts.now (module_of «module».now) }
+    requires expression { IsExpression (body_of body.now).code }
+    requires code { map instr_of code.now ≡ (body_of body.now).code }
+    requires place { i < 2 ^ 63 }
+    ensures counts { IfOk result (λ _. IsCounted counts.old counts.new (module_of «module».now) i (body_of body.now)) }
+    ensures exactly { MatchResult result (λ _. IsValid (body_context (module_of «module».now) i (body_of body.now)) (body_of body.now).code) (λ e. IsRefusal (body_context (module_of «module».now) i (body_of body.now)) (body_of body.now).code e) }
+{
+    let slots = check_slots(alloc, module, facts, i, body, code)?;
     let function = imported_count(module, facts) + i;
-    match counts.add(
-        alloc,
-        module.types.as_slice(),
-        function,
-        slots,
-        code.as_slice(),
-    ) {
+    match counts.add(alloc, module.types.as_slice(), function, slots, code) {
         Ok(()) => Ok(()),
         Err(_) => Err(BodyFault::Memory),
     }

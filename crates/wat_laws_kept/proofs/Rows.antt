@@ -10,7 +10,7 @@ use Rattle.wat_lang.specs.declared.parts.Part.TheVariants.{Param, Local}
 use Rattle.wat_lang.specs.declared.parts.FieldKind.TheVariants as kinds
 use Rattle.wat_lang.specs.declared.fault.Row.TheVariants as rows
 use Rattle.wat_lang.specs.Grammar.{Marked}
-use Rattle.wat_lang.specs.Names.{text_of, same_space, binds_in, types_part, Field, Entry, described, is_import, Names, names_of, types_of, type_use, names_at}
+use Rattle.wat_lang.specs.Names.{text_of, same_space, binds_in, types_part, Field, Entry, described, is_import, Names, names_of, signature_of, types_of, type_use, names_at}
 use Rattle.wat_lang.specs.Modules.{function_type_in}
 use Rattle.wat_lang.specs.Rows as r
 use Rattle.wat_lang.specs.Rows.{Refusal, rows_of}
@@ -38,20 +38,25 @@ same_entry_rows {ks = ks} {ms = ms} d = rw (same_all r.is_table_minimum refl d) 
 same_local_spaces : (g f : Field) → Thins g f → r.local_spaces g ≡ r.local_spaces f
 same_local_spaces g f (thins kind at d) = rw (same_taken spaces.Local d) refl
 
-same_bad_use : (types : List FunctionType) (o : Option ℕ) {ks ms : List Marked} → Drops ks ms → r.is_bad_use types ks o ≡ r.is_bad_use types ms o
-same_bad_use types None d = refl
-same_bad_use types (Some n) {ks = ks} {ms = ms} d = by (slice_get types n) refl
+-- A head is judged by the type that it names and the types that are written.
+bad_use_by : (types : List FunctionType) (o : Option ℕ) (ks ms : List Marked) → signature_of ks ≡ signature_of ms → r.is_bad_use types ks o ≡ r.is_bad_use types ms o
+bad_use_by types None ks ms e = refl
+bad_use_by types (Some n) ks ms e = by (slice_get types n) refl
   where
     by : (x : Option FunctionType) → slice_get types n ≡ x → r.is_bad_use types ks (Some n) ≡ r.is_bad_use types ms (Some n)
     by None q = rw (r.is_bad_use, q) refl
     by (Some type) q =
         let empty : FunctionType = record { params = []; results = [] } in
-        rw (r.is_bad_use, q) (ap (λ (s : FunctionType). not (r.same_signature s empty) && not (r.same_signature s type)) (same_signature ks ms d))
+        rw (r.is_bad_use, q) (ap (λ (s : FunctionType). not (r.same_signature s empty) && not (r.same_signature s type)) e)
+
+pub head_by : (names : Space → Names) (types : List FunctionType) (at : ℕ) (ks ms : List Marked) → type_use (names spaces.Type) ks ≡ type_use (names spaces.Type) ms → signature_of ks ≡ signature_of ms
+    → r.head_rows names types at ks ≡ r.head_rows names types at ms
+head_by names types at ks ms u e =
+    ap (λ (b : Bool). r.where_holds b rows.TypeUse at)
+    (ap (λ (o : Option ℕ). r.is_bad_use types ks (r.known_use o)) u ∙ bad_use_by types (r.known_use (type_use (names spaces.Type) ms)) ks ms e)
 
 same_head : (names : Space → Names) (types : List FunctionType) (at : ℕ) {ks ms : List Marked} → Drops ks ms → r.head_rows names types at ks ≡ r.head_rows names types at ms
-same_head names types at {ks = ks} {ms = ms} d =
-    ap (λ (b : Bool). r.where_holds b rows.TypeUse at)
-    (ap (λ (o : Option ℕ). r.is_bad_use types ks (r.known_use o)) (same_type_use (names spaces.Type) d) ∙ same_bad_use types (r.known_use (type_use (names spaces.Type) ms)) d)
+same_head names types at {ks = ks} {ms = ms} d = head_by names types at ks ms (same_type_use (names spaces.Type) d) (same_signature ks ms d)
 
 same_function : (names : Space → Names) (types : List FunctionType) (at : ℕ) {ks ms : List Marked} → Drops ks ms → r.function_rows names types at ks ≡ r.function_rows names types at ms
 same_function names types at {ks = ks} {ms = ms} d = rw (same_head names types at d, same_function_type names d, same_all (types_part Local) refl d) refl

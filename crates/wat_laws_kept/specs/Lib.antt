@@ -1,1 +1,4 @@
 pub mod Kept
+pub mod Heads
+pub mod FieldByField
+pub mod Groups

@@ -1,4 +1,4 @@
-//! The text form of WebAssembly: marks that stand for the form alone say nothing, so a reader need not keep them.
+//! The text form of WebAssembly: marks that stand for the form alone say nothing, so a reader need not keep them; and what marks that come one by one say.
 #![tactic(auto)]
 
 ghost use Rattle.std.specs.Prelude.{◌≡◌, List};

@@ -1,5 +1,6 @@
 -- A token that the grammar marks is a string exactly where its mark is that of one.
-use Rattle.std.proofs.Common.{◌≡◌, ℕ, Bool, true, false, ◌&&◌, List, [], ◌∷◌, ◌++◌, Option, Some, None, refl, ap, ◌∙◌, subst}
+use Rattle.std.proofs.Common.{◌≡◌, ℕ, Bool, true, false, ◌&&◌, List, [], ◌∷◌, ◌++◌, Option, Some, None, refl, ◌∙◌, subst}
+use Rattle.std.specs.List.{list_all}
 use Rattle.std.proofs.lemmas.Bool.{and_parts}
 use Rattle.wasm_lang.specs.Instructions.{Plain, local_get, local_set, local_tee, global_get, global_set, load, store, const32, const64, Instruction, block, loop, if_block, br, br_if, br_table, call, call_indirect, plain}
 use Rattle.wat_lang.specs.declared.parts.Rule.{Rule}
@@ -7,33 +8,13 @@ use Rattle.wat_lang.specs.declared.parts.Rule.TheVariants as rules
 use Rattle.wat_lang.specs.declared.parts.Part.TheVariants.{Param, Result, Local}
 use Rattle.wat_lang.specs.Tokens.{Class, string}
 use Rattle.wat_lang.specs.Words.{instruction_names}
-use Rattle.wat_lang.specs.Grammar.{Want, a_string, Mark, Item, token, rule, Row, rows, may_end, meets, is_string, immediates, plain_immediates, begins_instruction, instruction_row, instruction_rows}
-use Rattle.wat_laws_grammar.specs.Machine.{pick, pick_by, Taken, taken, if_true, by_row, feed}
-use Rattle.wat_marks.specs.Strings.{reads_string}
-
-abbrev wants_string : Want → Bool
-wants_string a_string = true
-wants_string _ = false
-
-abbrev same : Bool → Bool → Bool
-same true true = true
-same false false = true
-same _ _ = false
-
-abbrev item_fits : Item → Bool
-item_fits (token w m) = same (wants_string w) (reads_string m)
-item_fits (rule r) = true
-
-abbrev pub all_fit : List Item → Bool
-all_fit [] = true
-all_fit (i ∷ is) = item_fits i && all_fit is
+use Rattle.wat_lang.specs.Grammar.{Want, a_string, Mark, Item, token, rule, Row, rows, may_end, meets, is_string, immediates, plain_immediates, instruction_row}
+use Rattle.wat_laws_grammar.specs.Machine.{pick, Taken, taken, if_true, by_row, feed}
+use Rattle.wat_marks.specs.Strings.{reads_string, wants_string, same, item_fits, all_fit}
+use Rattle.wat_marks.proofs.Rows.{all_on, picked, named_rows}
 
 abbrev row_fits : Row → Bool
 row_fits w = same (wants_string w.want) (reads_string w.mark) && all_fit w.next
-
-abbrev rows_fit : List Row → Bool
-rows_fit [] = true
-rows_fit (w ∷ ws) = row_fits w && rows_fit ws
 
 same_is : (a b : Bool) → same a b ≡ true → a ≡ b
 same_is true true h = refl
@@ -46,13 +27,6 @@ meets_string a_string (string v) h = refl
 meets_string a_string c h = absurd cc
 meets_string w (string v) h = absurd cc
 meets_string w c h = refl
-
-both : (a b : Bool) → a ≡ true → b ≡ true → (a && b) ≡ true
-both a b h k = ap (λ x. x && b) h ∙ k
-
-all_fit_on : (is js : List Item) → all_fit is ≡ true → all_fit js ≡ true → all_fit (is ++ js) ≡ true
-all_fit_on [] js h k = k
-all_fit_on (i ∷ is) js h k = let parts = and_parts (item_fits i) (all_fit is) h in both (item_fits i) (all_fit (is ++ js)) parts.0 (all_fit_on is js parts.1 k)
 
 -- ---- the table
 
@@ -80,15 +54,10 @@ immediates_fit (call_indirect t) = refl
 immediates_fit (plain p) = plain_fit p
 immediates_fit i = refl
 
-names_fit : (ws : List (List ℕ × Instruction)) → rows_fit (instruction_rows ws) ≡ true
-names_fit [] = refl
-names_fit (w ∷ ws) = by (names_fit ws) (begins_instruction w.1)
-  where
-    by : rows_fit (instruction_rows ws) ≡ true → (b : Bool) → rows_fit (elim b [ true ↦ instruction_row w ∷ instruction_rows ws | false ↦ instruction_rows ws ]) ≡ true
-    by below true = both (row_fits (instruction_row w)) (rows_fit (instruction_rows ws)) (all_fit_on (immediates w.1) (rule rules.Code ∷ []) (immediates_fit w.1) refl) below
-    by below false = below
+named_fits : (w : List ℕ × Instruction) → row_fits (instruction_row w) ≡ true
+named_fits w = all_on item_fits (immediates w.1) (rule rules.Code ∷ []) (immediates_fit w.1) refl
 
-table_fits : (r : Rule) → rows_fit (rows r) ≡ true
+table_fits : (r : Rule) → list_all row_fits (rows r) ≡ true
 unfolding rows
 table_fits rules.Grammar = refl
 table_fits rules.Name = refl
@@ -116,7 +85,7 @@ table_fits rules.Functions = refl
 table_fits rules.Labels = refl
 table_fits rules.Strings = refl
 table_fits rules.FuncWord = refl
-table_fits rules.Code = names_fit instruction_names
+table_fits rules.Code = named_rows row_fits named_fits instruction_names
 table_fits rules.Label = refl
 table_fits rules.BlockResult = refl
 table_fits rules.Arms = refl
@@ -129,17 +98,6 @@ table_fits rules.Align = refl
 pub record Fits (c : Class) (f : Taken) : Type 0 where
   pub mark : is_string c ≡ reads_string f.mark
   pub left : all_fit f.left ≡ true
-
-picked_fits : (ws : List Row) (c : Class) (w : Row) → rows_fit ws ≡ true → pick ws c ≡ Some w → (row_fits w ≡ true) × (meets w.want c ≡ true)
-picked_fits [] c w h e = absurd cc
-picked_fits (v ∷ ws) c w h e = by (and_parts (row_fits v) (rows_fit ws) h).0 (picked_fits ws c w (and_parts (row_fits v) (rows_fit ws) h).1) (meets v.want c) refl e
-  where
-    by : row_fits v ≡ true → (pick ws c ≡ Some w → (row_fits w ≡ true) × (meets w.want c ≡ true)) → (t : Bool) → meets v.want c ≡ t → pick_by v (pick ws c) t ≡ Some w
-        → (row_fits w ≡ true) × (meets w.want c ≡ true)
-    by fits below true et e =
-        let is : v ≡ w = cc in
-        subst (λ (x : Row). (row_fits x ≡ true) × (meets x.want c ≡ true)) is (fits, et)
-    by fits below false et e = below e
 
 at_mark : (w : Want) (m : Mark) (c : Class) → same (wants_string w) (reads_string m) ≡ true → meets w c ≡ true → is_string c ≡ reads_string m
 at_mark w m c h e = meets_string w c e ∙ same_is (wants_string w) (reads_string m) h
@@ -158,9 +116,9 @@ feed_fits (rule r ∷ is) c f h e = by (feed_fits is c f h) (pick (rows r) c) (m
   where
     by : (feed is c ≡ Some f → Fits c f) → (x : Option Row) (b : Bool) → pick (rows r) c ≡ x → by_row is (if_true (feed is c) b) x ≡ Some f → Fits c f
     by below (Some w) b ep e =
-        let at = picked_fits (rows r) c w (table_fits r) ep in
+        let at = picked row_fits (rows r) c w (table_fits r) ep in
         let parts = and_parts (same (wants_string w.want) (reads_string w.mark)) (all_fit w.next) at.0 in
         let is_that : taken w.mark (w.next ++ is) ≡ f = cc in
-        subst (Fits c) is_that (record { mark = at_mark w.want w.mark c parts.0 at.1; left = all_fit_on w.next is parts.1 h })
+        subst (Fits c) is_that (record { mark = at_mark w.want w.mark c parts.0 at.1; left = all_on item_fits w.next is parts.1 h })
     by below None true ep e = below e
     by below None false ep e = absurd cc

@@ -5,12 +5,9 @@ use Rattle.wat_lang.specs.Tokens.{Reading, with_first, Reads, IsReading}
 use Rattle.wat_tokens.specs.declared.token.Token.{Token}
 use Rattle.wat_tokens.specs.declared.scanner.Scanner.{Scanner}
 use Rattle.wat_tokens.specs.declared.scanner.Next.TheVariants as nexts
-use Rattle.wat_tokens.specs.Left.{IsLeft, IsNext}
+use Rattle.wat_tokens.specs.Left.{IsNext}
 use Rattle.wat_tokens.specs.Views.{token_of}
-
-abbrev pub with_front : List spec.Token → Reading → Reading
-with_front [] r = r
-with_front (t ∷ ts) r = with_first t (with_front ts r)
+use Rattle.wat_marks.specs.Readings.{with_front, GoesOn}
 
 front_more : (ts : List spec.Token) (t : spec.Token) (r : Reading) → with_front (ts ++ t ∷ []) r ≡ with_front ts (with_first t r)
 front_more [] t r = refl
@@ -23,10 +20,6 @@ front_ok (t ∷ ts) us = ap (with_first t) (front_ok ts us)
 pub front_fault : (ts : List spec.Token) (at : ℕ) → with_front ts (Err at) ≡ Err at
 front_fault [] at = refl
 front_fault (t ∷ ts) at = ap (with_first t) (front_fault ts at)
-
--- what is left, behind these tokens, is what the text reads as
-abbrev pub GoesOn : List ℕ → List spec.Token → Scanner → Type 0
-GoesOn source so_far s = (r : Reading) → IsLeft s r → IsReading source (with_front so_far r)
 
 pub begins_whole : (source : List ℕ) (s : Scanner) → s.at ≡ 0 → s.rest.now ≡ source → GoesOn source [] s
 begins_whole source s at is = λ r left. subst (λ (bs : List ℕ). Reads 0 bs r) is (subst (λ (n : ℕ). Reads n s.rest.now r) at left)

@@ -2,5 +2,8 @@ pub mod GoingOn
 pub mod ReadingOn
 pub mod Words
 pub mod SoFar
+pub mod Rows
 pub mod Fitting
+pub mod Marks
+pub mod Heads
 pub mod Keeping

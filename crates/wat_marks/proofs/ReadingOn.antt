@@ -1,8 +1,9 @@
 -- Where reading stands behind some tokens.
-use Rattle.std.proofs.Common.{◌≡◌, ℕ, suc, ◌+◌, true, false, List, [], ◌∷◌, ◌++◌, drop, Option, Some, None, option_map, refl, sym, ap, ◌∙◌, append_assoc, append-nil, arith, drop-drop}
+use Rattle.std.proofs.Common.{◌≡◌, ℕ, suc, ◌+◌, true, false, List, [], ◌∷◌, ◌++◌, length, drop, Option, Some, None, option_map, refl, sym, ap, ◌∙◌, subst, append_assoc, append-nil, length-append, arith, drop-drop}
 use Rattle.wat_lang.specs.Tokens.{Token}
 use Rattle.wat_lang.specs.Grammar.{Item, Mark, Marked, marked}
 use Rattle.wat_laws_grammar.specs.Machine.{Taken, taken, feed, may_stop, if_true, run_on, run, fed_on, fed, start}
+use Rattle.wat_marks.specs.Readings.{AreTaken, none_taken, one_taken}
 
 pub record ReadsOn (ts : List Token) (ms : List Marked) (s : List Item) (rest : List Token) (i : ℕ) : Type 0 where
   pub runs : run start ts ≡ option_map (λ (ns : List Marked). ms ++ ns) (run s rest)
@@ -29,6 +30,14 @@ reads_more ts ms s next t rest i m h e = record {
   counts = h.counts ∙ ap (λ (x : Option Taken). i + fed_on x (λ js. fed js rest)) e ∙ (let q : i + suc (fed next rest) ≡ i + 1 + fed next rest = omega arith in q);
   stands = dropped_more i ts rest t h.stands;
 }
+
+-- reading goes on behind tokens that are taken
+pub reads_on : (ts : List Token) (ms : List Marked) (s : List Item) → AreTaken ts ms s → (rest : List Token) → ReadsOn (ts ++ rest) ms s rest (length ts)
+reads_on ts ms s none_taken rest = reads_start rest
+reads_on us ns next (one_taken {ts = ts} {ms = ms} {is = s} {m = m} t h e) rest =
+    subst (λ (k : ℕ). ReadsOn ((ts ++ t ∷ []) ++ rest) (ms ++ marked m t ∷ []) next rest k) (sym (length-append ts (t ∷ [])))
+    (subst (λ (us : List Token). ReadsOn us (ms ++ marked m t ∷ []) next rest (length ts + 1)) (sym (append_assoc ts (t ∷ []) rest))
+    (reads_more (ts ++ t ∷ rest) ms s next t rest (length ts) m (reads_on ts ms s h (t ∷ rest)) e))
 
 pub record Stops (ts : List Token) (i : ℕ) : Type 0 where
   pub none : run start ts ≡ None

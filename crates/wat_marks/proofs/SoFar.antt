@@ -1,10 +1,10 @@
 -- Reading a text token by token, and why it is refused where it stops.
-use Rattle.std.proofs.Common.{◌≡◌, ℕ, ◌+◌, true, false, List, [], ◌∷◌, ◌++◌, length, map, Ok, Err, Some, None, refl, sym, ap, ◌∙◌, subst, append_assoc, append-nil, length-append, slice_get}
+use Rattle.std.proofs.Common.{◌≡◌, ℕ, true, false, List, [], ◌∷◌, ◌++◌, length, Ok, Err, Some, None, refl, sym, ap, ◌∙◌, subst, append-nil, slice_get}
 use Rattle.wat_lang.specs.declared.fault.Row.TheVariants as rows
 use Rattle.wat_lang.specs.Tokens as spec
 use Rattle.wat_lang.specs.Tokens.{IsReading, HasTokens}
 use Rattle.wat_lang.specs.Grammar.{Item, Mark, Marked, marked, Derives, IsFirstFault}
-use Rattle.wat_lang.specs.Texts.{outside_at, stands_outside, at_or, IsMarked, IsFault, a_bad_token, a_word_outside, a_break}
+use Rattle.wat_lang.specs.Texts.{stands_outside, at_or, IsMarked, IsFault, a_bad_token, a_word_outside, a_break}
 use Rattle.wat_laws_grammar.specs.Machine.{feed, taken, may_stop, run, fed, start}
 use Rattle.wat_tokens.specs.declared.token.Token.{Token}
 use Rattle.wat_tokens.specs.declared.scanner.Scanner.{Scanner}
@@ -13,27 +13,18 @@ use Rattle.wat_tokens.specs.Left as left
 use Rattle.wat_tokens.specs.Left.{IsLeft, IsNext}
 use Rattle.wat_tokens.specs.Views.{class_of, token_of}
 use Rattle.wat_marks.specs.declared.fault.WatFault.{WatFault}
+use Rattle.wat_marks.specs.Readings.{GoesOn, AreTaken, none_taken, one_taken, Reading}
 use Rattle.wat_marks.specs.Views.{IsFaultOf, LooksBehind, fault_behind, word_behind, break_there, IsWordOrToken, first_fault, word_there}
-use Rattle.wat_marks.proofs.GoingOn.{GoesOn, begins_whole, goes_more, front_ok, front_fault}
+use Rattle.wat_marks.proofs.GoingOn.{begins_whole, goes_more, front_ok, front_fault}
 use Rattle.wat_marks.proofs.Words.{outside_join, outside_past, outside_here}
-use Rattle.wat_marks.proofs.ReadingOn.{ReadsOn, reads_start, reads_more, reads_no_more, reads_all, reads_short}
-use Rattle.wat_marks.proofs.Fitting.{all_fit, feed_fits}
-
--- Some tokens are read with these marks, all of them words of the integers, and this may still come.
-pub record Reading (source : List ℕ) (s : Scanner) (ms : List Marked) (is : List Item) : Type 0 where
-  pub so_far : List spec.Token
-  pub goes : GoesOn source so_far s
-  pub inside : outside_at so_far ≡ None
-  pub reads : (rest : List spec.Token) → ReadsOn (so_far ++ rest) ms is rest (length so_far)
-  pub fits : all_fit is ≡ true
+use Rattle.wat_marks.proofs.ReadingOn.{ReadsOn, reads_on, reads_no_more, reads_all, reads_short}
 
 pub begins : (source : List ℕ) (s : Scanner) (is : List Item) → s.at ≡ 0 → s.rest.now ≡ source → is ≡ start → Reading source s [] is
 begins source s is at whole e = subst (Reading source s []) (sym e) (record {
   so_far = [];
   goes = begins_whole source s at whole;
   inside = refl;
-  reads = λ rest. reads_start rest;
-  fits = refl;
+  are_taken = none_taken;
 })
 
 pub one_more : (source : List ℕ) (s n : Scanner) (t : Token) (ms : List Marked) (is js : List Item) (m : Mark) → Reading source s ms is → IsNext (nexts.Token t) s n
@@ -42,11 +33,7 @@ one_more source s n t ms is js m h next inner fed = record {
   so_far = h.so_far ++ token_of t ∷ [];
   goes = goes_more source h.so_far t s n h.goes next;
   inside = outside_join h.so_far (token_of t ∷ []) h.inside ∙ outside_past (token_of t) [] inner;
-  reads = λ rest.
-      subst (λ (k : ℕ). ReadsOn ((h.so_far ++ token_of t ∷ []) ++ rest) (ms ++ marked m (token_of t) ∷ []) js rest k) (sym (length-append h.so_far (token_of t ∷ [])))
-      (subst (λ (ts : List spec.Token). ReadsOn ts (ms ++ marked m (token_of t) ∷ []) js rest (length h.so_far + 1)) (sym (append_assoc h.so_far (token_of t ∷ []) rest))
-      (reads_more (h.so_far ++ token_of t ∷ rest) ms is js (token_of t) rest (length h.so_far) m (h.reads (token_of t ∷ rest)) fed));
-  fits = (feed_fits is (class_of t.class) (taken m js) h.fits fed).left;
+  are_taken = one_taken (token_of t) h.are_taken fed;
 }
 
 -- ---- at the end
@@ -54,8 +41,8 @@ one_more source s n t ms is js m h next inner fed = record {
 at_end : (source : List ℕ) (s : Scanner) (ts : List spec.Token) → GoesOn source ts s → IsLeft s (Ok []) → HasTokens source ts
 at_end source s ts g l = subst (λ (us : List spec.Token). HasTokens source us) (append-nil ts) (subst (IsReading source) (front_ok ts []) (g (Ok []) l))
 
-all_of : (ts : List spec.Token) (ms : List Marked) (is : List Item) → ((rest : List spec.Token) → ReadsOn (ts ++ rest) ms is rest (length ts)) → ReadsOn ts ms is [] (length ts)
-all_of ts ms is reads = subst (λ (us : List spec.Token). ReadsOn us ms is [] (length ts)) (append-nil ts) (reads [])
+all_of : (ts : List spec.Token) (ms : List Marked) (is : List Item) → AreTaken ts ms is → ReadsOn ts ms is [] (length ts)
+all_of ts ms is h = subst (λ (us : List spec.Token). ReadsOn us ms is [] (length ts)) (append-nil ts) (reads_on ts ms is h [])
 
 pub ends_whole : (source : List ℕ) (s : Scanner) (ms : List Marked) (is : List Item) → ((js : List Item) (ns : List Marked) (us : List spec.Token) → run js us ≡ Some ns → Derives js ns us)
     → Reading source s ms is → IsLeft s (Ok []) → may_stop is ≡ true → IsMarked source ms
@@ -63,7 +50,7 @@ ends_whole source s ms is sound h l e = record {
   tokens = h.so_far;
   is_reading = at_end source s h.so_far h.goes l;
   is_inside = h.inside;
-  is_grammatical = sound start ms h.so_far (reads_all h.so_far ms is (length h.so_far) (all_of h.so_far ms is h.reads) e);
+  is_grammatical = sound start ms h.so_far (reads_all h.so_far ms is (length h.so_far) (all_of h.so_far ms is h.are_taken) e);
 }
 
 none_past : (ts : List spec.Token) → slice_get ts (length ts) ≡ None
@@ -77,7 +64,7 @@ here (u ∷ ts) us t = here ts us t
 pub ends_short : (source : List ℕ) (s : Scanner) (ms : List Marked) (is : List Item) → ((us : List spec.Token) → run start us ≡ None → IsFirstFault us (fed start us))
     → Reading source s ms is → IsLeft s (Ok []) → may_stop is ≡ false → IsFault source rows.Grammar (length source)
 ends_short source s ms is first h l e =
-    let stop = reads_short h.so_far ms is (length h.so_far) (all_of h.so_far ms is h.reads) e in
+    let stop = reads_short h.so_far ms is (length h.so_far) (all_of h.so_far ms is h.are_taken) e in
     a_break (record {
       tokens = h.so_far;
       is_reading = at_end source s h.so_far h.goes l;
@@ -108,7 +95,7 @@ breaks source s n t ms is e first h next inner stuck (word_behind {ts = ts} l o)
 })
 breaks source s n t ms is e first h next inner stuck (break_there {ts = ts} l o) =
     let all = h.so_far ++ token_of t ∷ ts in
-    let stop = reads_no_more all ms is (token_of t) ts (length h.so_far) (h.reads (token_of t ∷ ts)) stuck in
+    let stop = reads_no_more all ms is (token_of t) ts (length h.so_far) (reads_on h.so_far ms is h.are_taken (token_of t ∷ ts)) stuck in
     a_break (record {
       tokens = all;
       is_reading = all_tokens source s n t h.so_far ts h.goes next l;
@@ -126,7 +113,3 @@ leaves_integers source s n t ms is e h next outer (word_there {ts = ts} l) = a_w
   is_reading = all_tokens source s n t h.so_far ts h.goes next l;
   is_first = outside_join h.so_far (token_of t ∷ ts) h.inside ∙ outside_here (token_of t) ts outer;
 })
-
-pub map_more : {X Y : Type 0} (f : X → Y) (xs : List X) (x : X) → map f (xs ++ x ∷ []) ≡ map f xs ++ f x ∷ []
-map_more f [] x = refl
-map_more f (y ∷ xs) x = ap (λ ys. f y ∷ ys) (map_more f xs x)

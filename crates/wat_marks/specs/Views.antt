@@ -6,6 +6,7 @@ use Rattle.wat_lang.specs.Grammar as grammar
 use Rattle.wat_lang.specs.Modules.{module_of}
 use Rattle.wat_lang.specs.Rows.{rows_of}
 use Rattle.wat_lang.specs.Texts.{IsFault, IsMarked, outside_at, stands_outside}
+use Rattle.wat_laws_kept.specs.Kept.{kept}
 use Rattle.wat_grammar.specs.Views.{mark_of}
 use Rattle.wat_tokens.specs.declared.scanner.Scanner.{Scanner}
 use Rattle.wat_tokens.specs.Left.{IsLeft, IsFirstFault}
@@ -17,10 +18,11 @@ use Rattle.wat_marks.specs.declared.marked.MarkedToken.{MarkedToken}
 abbrev pub marked_of : MarkedToken → grammar.Marked
 marked_of m = grammar.marked (mark_of m.mark) (tokens.token_of m.token)
 
--- the text has marks, and these have their rows and their module
+-- the text has marks of which these are kept, and these have their rows and their module
 pub record IsMarkedAs (text : List ℕ) (ks : List grammar.Marked) : Type 0 where
   pub all : List grammar.Marked
   pub is_marked : IsMarked text all
+  pub is_kept : ks ≡ kept all
   pub same_rows : rows_of ks ≡ rows_of all
   pub same_module : module_of ks ≡ module_of all
 

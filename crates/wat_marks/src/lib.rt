@@ -1,4 +1,4 @@
-//! A text of WebAssembly as tokens with their marks: what each token is in the module.
+//! A text of WebAssembly as tokens with their marks, one after another: what each token is in the module.
 #![tactic(auto)]
 
 mod fault;
@@ -8,4 +8,4 @@ mod reading;
 
 pub use fault::WatFault;
 pub use marked::MarkedToken;
-pub use reading::marks;
+pub use reading::MarkReader;

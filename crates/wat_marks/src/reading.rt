@@ -1,14 +1,15 @@
-//! The marks of the tokens of a text.
+//! The marks of the tokens of a text, one by one.
 
-ghost use Rattle.std.specs.Prelude.{◌≡◌, [], ◌∷◌, ◌++◌, IfOk, IfErr, OnOk, List, map};
-ghost use Rattle.wat_lang.specs.Grammar.{Item, is_string, marked};
-ghost use Rattle.wat_laws_kept.specs.Kept.{kept, says_something};
-ghost use Rattle.wat_laws_grammar.specs.Machine.{feed};
+ghost use Rattle.std.specs.Prelude.{◌≡◌, ℕ, true, [], Err, IfOk, List, None, Some};
+ghost use Rattle.wat_lang.specs.Grammar.{Item, Marked};
+ghost use Rattle.wat_laws_kept.specs.Kept.{says_something};
+ghost use Rattle.wat_laws_grammar.specs.Machine.{feed, may_stop};
 ghost use Rattle.wat_grammar.specs.Views as grammar;
 ghost use Rattle.wat_grammar.specs.Views.{mark_of};
-ghost use Rattle.wat_tokens.specs.Views.{class_of, token_of};
-ghost use Rattle.wat_marks.specs.Strings.{reads_string};
-ghost use Rattle.wat_marks.specs.Views.{IsFaultOf, IsMarkedAs, IsWordOrToken, LooksBehind, marked_of};
+ghost use Rattle.wat_tokens.specs.Views.{class_of};
+ghost use Rattle.wat_marks.specs.declared.fault.WatFault.TheVariants.{Refused};
+ghost use Rattle.wat_marks.specs.Strings.{stack_fits};
+ghost use Rattle.wat_marks.specs.Views.{IsWordOrToken, LooksBehind};
 
 use crate::fault::WatFault;
 use crate::marked::MarkedToken;
@@ -18,7 +19,7 @@ use wat_grammar::{Lexeme, Mark, Stack};
 use wat_lang::Row;
 use wat_laws_grammar::{derivations_are_runs, first_faults};
 use wat_laws_kept::kept_marks;
-use wat_tokens::{Class, Next, Scanner, Token};
+use wat_tokens::{Class, Next, Scanner};
 
 fn lexeme_of<'a>(class: Class<'a>) -> Lexeme<'a>
     ensures { (is : List Item) → feed is (grammar.class_of result) ≡ feed is (class_of class.entry) }
@@ -68,66 +69,105 @@ fn outside_cause(scanner: Scanner<'_>, at: u64) -> WatFault
     }
 }
 
-/// Appends a token with its mark, unless it stands for the form alone.
-fn keep<'a>(
-    marks: &mut Vec<MarkedToken<'a>>,
-    mark: Mark,
-    token: Token<'a>,
-) -> Result<(), AllocError>
-    requires { is_string (class_of token.class) ≡ reads_string (mark_of mark) }
-    ensures { OnOk result (map marked_of marks.new.items ≡ map marked_of marks.old.items ++ kept (marked (mark_of mark) (token_of token.entry) ∷ [])) }
-{
-    if says_something(mark) {
-        marks.push(MarkedToken { mark, token })?;
-    }
-    Ok(())
-}
-
 fn says_something(mark: Mark) -> bool
     ensures { result ≡ says_something (mark_of mark) }
 {
     !matches!(mark, Mark::Nothing)
 }
 
-/// The tokens of a text that aren't there for its form alone, each with what it is in the module.
-///
-/// The refusal is the row that counts first, of those for tokens, for words outside the integers and for the grammar.
-pub fn marks<'a>(alloc: Global, source: &'a [u8]) -> Result<Vec<MarkedToken<'a>>, WatFault>
-    ensures found { IfOk result (λ v. IsMarkedAs source.now (map marked_of v.items)) }
-    ensures fault { IfErr result (λ e. IsFaultOf source.now e) }
+fn refused(row: Row, at: u64) -> WatFault
+    ensures { result ≡ Refused row at }
 {
-    derivations_are_runs();
-    first_faults();
-    kept_marks();
-    let mut stack = Stack::new(alloc)?;
-    let mut marks = Vec::new(alloc);
-    let mut scanner = Scanner::new(source);
-    loop {
-        match scanner.next() {
-            Next::Token(token) => {
-                if stands_outside(token.class) {
-                    return Err(outside_cause(scanner, token.at));
+    WatFault::Refused { row, at }
+}
+
+/// A refusal, behind which nothing is read.
+fn refuse<'a>(
+    stack: &mut Option<Stack>,
+    fault: WatFault,
+) -> Result<Option<MarkedToken<'a>>, WatFault>
+    ensures fault { result ≡ Err fault }
+    ensures closed { stack.new ≡ None }
+{
+    *stack = None;
+    Err(fault)
+}
+
+/// A text whose tokens are marked one by one, from its front. Tokens that stand for the form alone are passed over.
+#[derive(Drop)]
+pub struct MarkReader<'a> {
+    source: &'a [u8],
+    scanner: Scanner<'a>,
+    /// What may still come: None behind the end of the text, and behind a refusal.
+    stack: Option<Stack>,
+    ghost fits: { stack_fits stack ≡ true },
+}
+
+impl<'a> MarkReader<'a> {
+    ghost use Rattle.std.specs.Prelude.{◌<◌, IfSome};
+    ghost use Rattle.wat_marks.specs.Readings.{HasRead, IsNextMark, left_of};
+
+    /// The whole text.
+    pub fn new(alloc: Global, source: &'a [u8]) -> Result<MarkReader<'a>, AllocError>
+        ensures { IfOk result (λ r. HasRead source.now r []) }
+    {
+        Ok(MarkReader {
+            source,
+            scanner: Scanner::new(source),
+            stack: Some(Stack::new(alloc)?),
+        })
+    }
+
+    /// Reads on to the next token that says something. None at the end of a text of the grammar, and when it is called again behind that
+    /// or behind a refusal.
+    ///
+    /// The refusal is the row that counts first, of those for tokens, for words outside the integers and for the grammar.
+    pub fn next(&mut self) -> Result<Option<MarkedToken<'a>>, WatFault>
+        ensures marks { (source : List ℕ) (ks : List Marked) → HasRead source self.old ks → IsNextMark source ks self.new result }
+        ensures shorter { IfOk result (λ o. IfSome o (λ _. left_of self.new < left_of self.old)) }
+    {
+        derivations_are_runs();
+        first_faults();
+        kept_marks();
+        loop {
+            let Some(stack) = &mut self.stack else {
+                return Ok(None);
+            };
+            match self.scanner.next() {
+                Next::Token(token) => {
+                    if stands_outside(token.class) {
+                        return refuse(&mut self.stack, outside_cause(self.scanner, token.at));
+                    }
+                    match stack.feed(lexeme_of(token.class)) {
+                        Ok(Some(mark)) => {
+                            if says_something(mark) {
+                                return Ok(Some(MarkedToken { mark, token }));
+                            }
+                        }
+                        Ok(None) => return refuse(&mut self.stack, cause(self.scanner, token.at)),
+                        Err(error) => return refuse(&mut self.stack, error.into()),
+                    }
                 }
-                match stack.feed(lexeme_of(token.class))? {
-                    Some(mark) => keep(&mut marks, mark, token)?,
-                    None => return Err(cause(scanner, token.at)),
+                Next::End => {
+                    if self.may_stop() {
+                        return Ok(None);
+                    }
+                    let at = self.source.len() as u64;
+                    return refuse(&mut self.stack, refused(Row::Grammar, at));
                 }
+                Next::Fault(at) => return refuse(&mut self.stack, refused(Row::Token, at)),
             }
-            Next::End => {
-                if stack.may_stop() {
-                    return Ok(marks);
-                }
-                return Err(WatFault::Refused {
-                    row: Row::Grammar,
-                    at: source.len() as u64,
-                });
-            }
-            Next::Fault(at) => {
-                return Err(WatFault::Refused {
-                    row: Row::Token,
-                    at,
-                });
-            }
+        }
+    }
+
+    /// Whether the text may end here. Nothing is read behind that.
+    fn may_stop(&mut self) -> bool
+        ensures may { (is : List Item) → self.old.stack ≡ Some is → result ≡ may_stop is }
+        ensures source { self.new.source ≡ self.old.source }
+    {
+        match self.stack.take() {
+            Some(stack) => stack.may_stop(),
+            None => true,
         }
     }
 }

@@ -1,4 +1,7 @@
 pub mod Parts
 pub mod Same
 pub mod Said
-pub mod Exported
+pub mod Judged
+pub mod JudgedTexts
+pub mod OpenFunctions
+pub mod OpenFields

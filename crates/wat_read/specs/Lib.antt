@@ -1,3 +1,3 @@
-pub mod Kinds
-pub mod Fit
 pub mod Said
+pub mod Judged
+pub mod Making

@@ -1,10 +1,9 @@
-//! The module that the marks of a text say, or the first row that refuses it.
+//! The module that a text of WebAssembly says, or the first row that refuses it, by two readings of the text.
 #![tactic(auto)]
 
-mod fields;
-mod kinds;
-mod lists;
+mod functions;
+mod judging;
+mod making;
 mod reading;
-mod strings;
 
 pub use reading::module;

@@ -1,6 +1,6 @@
 -- Numbers that are in their ranges.
-use Rattle.std.proofs.Common.{◌≡◌, ℕ, zero, suc, ◌+◌, ◌-◌, ◌<◌, ◌≤◌, Bool, true, false, cond, List, [], ◌∷◌, ◌++◌, map, filter, length, get_or, take, drop, Option, Some, None, refl, sym, ap, ◌∙◌, not, append-nil}
-use Rattle.std.proofs.lemmas.List.{drop_all}
+use Rattle.std.proofs.Common.{◌≡◌, ℕ, zero, suc, ◌+◌, ◌-◌, ◌<◌, ◌≤◌, Bool, true, false, cond, List, [], ◌∷◌, ◌++◌, map, filter, length, get_or, take, drop, Option, Some, None, refl, sym, ap, ◌∙◌, not, append_assoc, append-nil}
+use Rattle.std.proofs.lemmas.List.{map_more, drop_all}
 use Rattle.std.proofs.lemmas.List.Sums.{take_while-cons}
 use Rattle.std.specs.Prelude.{find}
 use Rattle.wat_lang.specs.declared.parts.Space.{Space}
@@ -16,7 +16,6 @@ use Rattle.wat_marks.specs.Views.{marked_of}
 use Rattle.wat_read_tokens.specs.Marks.{marks_of}
 use Rattle.wat_grammar.specs.Views.{mark_of}
 use Rattle.wat_read_tokens.proofs.Steps.{front}
-use Rattle.wat_read_names.proofs.Cuts.{one_more}
 use Rattle.wat_read_tokens.proofs.Tests.{first_fits}
 use Rattle.wat_read_bodies.specs.Naturals.{number_named}
 
@@ -51,6 +50,12 @@ unfolding by_first
 no_number names s ms e = ap (by_first (number_named names)) e ∙ sym (first_of (number_named names) (λ (k : Marked). uses_in s k.mark) ms)
 
 -- ---- parts of a list
+
+one_more : (ts : List MarkedToken) (n : ℕ) (t : MarkedToken) (xs : List Marked) → n < length ts → t ≡ get_or ts n t → marks_of (take n ts) ++ marked_of t ∷ xs ≡ marks_of (take (n + 1) ts) ++ xs
+one_more ts n t xs lt is =
+    sym (append_assoc (marks_of (take n ts)) (marked_of t ∷ []) xs)
+    ∙ ap (λ (y : MarkedToken). (marks_of (take n ts) ++ marked_of y ∷ []) ++ xs) is
+    ∙ ap (λ ys. ys ++ xs) (sym (map_more marked_of ts n t lt))
 
 dropped : (k : ℕ) (ts : List MarkedToken) → number_rows (marks_of ts) ≡ [] → number_rows (marks_of (drop k ts)) ≡ []
 dropped zero ts h = h

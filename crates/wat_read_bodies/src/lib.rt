@@ -10,5 +10,6 @@ mod words;
 
 pub use expressions::code;
 pub use immediates::{natural_by, optional_by};
+pub use instrs::push_instr;
 pub use locals::local_runs;
 pub use uses::{first_used, used};

@@ -3,7 +3,7 @@ use Rattle.std.proofs.Common.{◌≡◌, ℕ, zero, suc, ◌+◌, ◌≤◌, Boo
 use Rattle.std.specs.Prelude.{◌==◌, if◌then◌else◌, SomeIff, IfSome}
 use Rattle.wat_lang.specs.declared.parts.Space.TheVariants as spaces
 use Rattle.wat_lang.specs.declared.parts.Part.{Part}
-use Rattle.wat_lang.specs.declared.parts.Part.TheVariants.{Param, Local}
+use Rattle.wat_lang.specs.declared.parts.Part.TheVariants.{Local}
 use Rattle.wat_lang.specs.Tokens.{Token}
 use Rattle.wat_lang.specs.Grammar.{Mark, binds, Marked, marked}
 use Rattle.wat_lang.specs.Names.{Names, binds_in, types_part, place_of_id, id_after, written_ids, param_ids, local_names}

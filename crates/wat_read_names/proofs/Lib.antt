@@ -1,3 +1,3 @@
-pub mod Cuts
 pub mod Places
 pub mod Counts
+pub mod Passing

@@ -1,11 +1,14 @@
 -- The ids that fields bind in the spaces of a module.
 use Rattle.std.specs.Prelude.{◌≡◌, Bool, true, false, ◌&&◌, not, List, [], map, filter, Option, Some, None}
+use Rattle.wasm_tree.specs.Views.{type_of}
 use Rattle.wat_lang.specs.declared.parts.Space.{Space}
 use Rattle.wat_lang.specs.declared.parts.Space.TheVariants as spaces
 use Rattle.wat_lang.specs.Grammar.{Mark, binds, Marked}
-use Rattle.wat_lang.specs.Names.{Field, enters, is_import, id_bound, Names, names_of, text_of}
+use Rattle.wat_lang.specs.Names.{Field, same_space, enters, is_import, id_bound, Names, names_of, types_of, text_of}
 use Rattle.key_hashes.specs.declared.seed.Seed.{Seed}
 use Rattle.key_hashes.specs.Hashes.{with_key}
+use Rattle.wat_read_names.specs.declared.lists.Bound.{Bound}
+use Rattle.wat_read_names.specs.declared.naming.Naming.{Naming}
 use Rattle.wat_read_names.specs.declared.spaces.Spaces.{Spaces}
 
 abbrev pub is_of : (imported : Bool) → Field → Bool
@@ -52,3 +55,23 @@ pub record HasNames (n : Spaces) (fs : List Field) : Type 0 where
   pub globals : n.globals ≡ names_of fs spaces.Global
   pub elements : n.elements ≡ names_of fs spaces.Elem
   pub segments : n.segments ≡ names_of fs spaces.Data
+
+-- the field enters this space, and no other
+abbrev pub EntersOnly : Field → Space → Type 0
+EntersOnly f s = (t : Space) → enters t f ≡ same_space t s
+
+-- the ids of a space of the module, of what is imported and of what is defined there
+pub record IsBound (b : Bound) (s : Space) (fs : List Field) : Type 0 where
+  pub imported : b.imported ≡ bound_in s true fs
+  pub defined : b.defined ≡ bound_in s false fs
+
+-- the ids that fields put into each space, and their types
+pub record HasNamed (n : Naming) (fs : List Field) : Type 0 where
+  pub types : IsBound n.types spaces.Type fs
+  pub functions : IsBound n.functions spaces.Func fs
+  pub tables : IsBound n.tables spaces.Table fs
+  pub memories : IsBound n.memories spaces.Memory fs
+  pub globals : IsBound n.globals spaces.Global fs
+  pub elements : IsBound n.elements spaces.Elem fs
+  pub segments : IsBound n.segments spaces.Data fs
+  pub signatures : map type_of n.signatures.items ≡ types_of fs

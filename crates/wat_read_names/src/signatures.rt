@@ -1,21 +1,18 @@
 //! The types of functions.
 
-ghost use Rattle.std.specs.Prelude.{◌≡◌, IfOk, OnOk, map, length, ◌++◌};
+ghost use Rattle.std.specs.Prelude.{◌≡◌, IfOk, OnOk, map, length, ◌++◌, [], ◌∷◌};
 ghost use Rattle.sem_words.specs.Lists.{list_items};
 ghost use Rattle.wasm_lang.specs.Limits as limits;
 ghost use Rattle.wasm_tree.specs.Views.{type_of};
 ghost use Rattle.wat_lang.specs.Names as spec;
 ghost use Rattle.wat_marks.specs.Views.{marked_of};
 ghost use Rattle.wat_read_tokens.specs.Marks.{marks_of, only};
-ghost use Rattle.wat_lang.specs.declared.parts.Space.TheVariants as spaces;
-ghost use Rattle.wat_read_names.specs.Fields.{field_of};
 
-use crate::field::Field;
 use sem_words::List;
 use std::alloc::{AllocError, Global};
 use wasm_lang::ValType;
 use wasm_tree::FuncType;
-use wat_lang::{Part, Space};
+use wat_lang::Part;
 use wat_marks::MarkedToken;
 use wat_read_tokens::{Wanted, value_type};
 
@@ -57,29 +54,16 @@ pub fn signature(alloc: Global, parts: &[MarkedToken<'_>]) -> Result<FuncType, A
     Ok(FuncType { params, results })
 }
 
-fn push_signature(
+/// Appends the type that a field of these parts defines.
+pub fn push_signature(
     alloc: Global,
     types: &mut Vec<FuncType>,
-    field: &Field<'_, '_>,
+    parts: &[MarkedToken<'_>],
 ) -> Result<(), AllocError>
-    ensures { OnOk result (map type_of types.new.items ≡ map type_of types.old.items ++ only (spec.enters spaces.Type (field_of field.now)) (spec.signature_of (field_of field.now).parts)) }
+    ensures { OnOk result (map type_of types.new.items ≡ map type_of types.old.items ++ spec.signature_of (marks_of parts.now) ∷ []) }
 {
-    if !field.enters(Space::Type) {
-        return Ok(());
-    }
-    types.push(signature(alloc, field.parts)?)?;
+    types.push(signature(alloc, parts)?)?;
     Ok(())
-}
-
-/// The types of the module.
-pub fn types(alloc: Global, fields: &[Field<'_, '_>]) -> Result<Vec<FuncType>, AllocError>
-    ensures { IfOk result (λ types. map type_of types.items ≡ spec.types_of (map field_of fields.now)) }
-{
-    let mut types = Vec::new(alloc);
-    for field in fields {
-        push_signature(alloc, &mut types, field)?;
-    }
-    Ok(types)
 }
 
 /// How many parameters the type with the number has.

@@ -1,4 +1,5 @@
 pub mod Joins
+pub mod ByToken
 pub mod Alignments
 pub mod Fronts
 pub mod Seens

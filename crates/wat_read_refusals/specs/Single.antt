@@ -9,7 +9,10 @@ use Rattle.wat_lang.specs.declared.parts.Space.TheVariants as spaces
 use Rattle.wat_lang.specs.Grammar.{Mark, binds, Marked}
 use Rattle.wat_lang.specs.Names.{text_of, same_space, binds_in}
 use Rattle.wat_lang.specs.Modules.{natural_or_0}
-use Rattle.wat_lang.specs.Rows.{Refusal, where_holds, is_name, is_taken, is_table_minimum}
+use Rattle.wat_lang.specs.Rows.{Refusal, where_holds, is_bad_number, is_name, is_taken, is_table_minimum}
+
+abbrev pub number_row : Marked → List Refusal
+number_row m = where_holds (is_bad_number m) rows.Number m.token.at
 
 abbrev pub name_row : Marked → List Refusal
 name_row m = if is_name m.mark then where_holds (not (is_utf8 (text_of m))) rows.Utf8 m.token.at else []

@@ -63,6 +63,17 @@ impl Least {
         }
     }
 
+    #[tactic(auto, using(crate::proofs::Joins::join_none))]
+    /// Notes the first refusal of another register.
+    pub fn join(&mut self, other: Least)
+        ensures { self.new ≡ join self.old other }
+    {
+        match other.found {
+            Some(refusal) => self.found = Some(lesser(self.found, refusal)),
+            None => {}
+        }
+    }
+
     /// The first refusal.
     pub fn found(self) -> Option<Refusal>
         ensures { option_map refusal_of result ≡ self }

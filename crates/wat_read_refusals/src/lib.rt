@@ -8,5 +8,5 @@ mod taken;
 
 pub use counts::{from_count, room_after};
 pub use least::{Least, Refusal};
-pub use numbers::{entry_rows, number_rows, utf8_rows};
-pub use taken::{bindings, taken_in};
+pub use numbers::{note_entries, note_name, number_rows};
+pub use taken::{module_taken, push_binding, taken_in};

@@ -1,6 +1,6 @@
 //! Rows of one token: its number, its name.
 
-ghost use Rattle.std.specs.Prelude.{◌≡◌, IfOk, OnOk, false};
+ghost use Rattle.std.specs.Prelude.{◌≡◌, ◌↔◌, ◌&&◌, IsTrue, IfOk, OnOk, [], false, not};
 ghost use Rattle.std.specs.Str.{is_utf8};
 ghost use Rattle.wat_lang.specs.Rows as spec;
 ghost use Rattle.wat_lang.specs.Names.{text_of};
@@ -10,7 +10,7 @@ ghost use Rattle.wat_marks.specs.Views.{marked_of};
 ghost use Rattle.wat_tokens.specs.Views.{string_value};
 ghost use Rattle.wat_read_tokens.specs.Marks.{marks_of};
 ghost use Rattle.wat_read_refusals.specs.Joined.{join};
-ghost use Rattle.wat_read_refusals.specs.Single.{name_row, entries_row};
+ghost use Rattle.wat_read_refusals.specs.Single.{number_row, name_row, entries_row};
 
 use crate::least::Least;
 use std::alloc::{AllocError, Global};
@@ -39,13 +39,26 @@ fn is_bad_number(token: &MarkedToken<'_>) -> bool
     }
 }
 
-/// Notes the numbers that are out of their range.
-pub fn number_rows(least: &mut Least, marks: &[MarkedToken<'_>])
-    ensures { least.new ≡ join least.old (spec.least (spec.number_rows (marks_of marks.now))) }
+/// Notes a number that is out of its range, and says whether neither it nor one before it is.
+fn note_number(least: &mut Least, fit: bool, token: &MarkedToken<'_>) -> bool
+    ensures noted { least.new ≡ join least.old (spec.least (number_row (marked_of token.now))) }
+    ensures fits { result ≡ (fit && not (spec.is_bad_number (marked_of token.now))) }
 {
+    let bad = is_bad_number(token);
+    least.note(bad, Row::Number, token.token.at);
+    fit && !bad
+}
+
+/// Notes the numbers that are out of their range, and says whether there are none.
+pub fn number_rows(least: &mut Least, marks: &[MarkedToken<'_>]) -> bool
+    ensures noted { least.new ≡ join least.old (spec.least (spec.number_rows (marks_of marks.now))) }
+    ensures fit { IsTrue result ↔ (spec.number_rows (marks_of marks.now) ≡ []) }
+{
+    let mut fit = true;
     for token in marks {
-        least.note(is_bad_number(token), Row::Number, token.token.at);
+        fit = note_number(least, fit, token);
     }
+    fit
 }
 
 fn is_utf8(bytes: &[u8]) -> bool
@@ -86,7 +99,12 @@ fn is_name(mark: Mark) -> bool
     matches!(mark, Mark::ModuleName | Mark::FieldName | Mark::ExportName)
 }
 
-fn note_name(alloc: Global, least: &mut Least, token: &MarkedToken<'_>) -> Result<(), AllocError>
+/// Notes a name that isn't UTF-8.
+pub fn note_name(
+    alloc: Global,
+    least: &mut Least,
+    token: &MarkedToken<'_>,
+) -> Result<(), AllocError>
     ensures { OnOk result (least.new ≡ join least.old (spec.least (name_row (marked_of token.now)))) }
 {
     if !is_name(token.mark) {
@@ -97,27 +115,14 @@ fn note_name(alloc: Global, least: &mut Least, token: &MarkedToken<'_>) -> Resul
     Ok(())
 }
 
-/// Notes the names that aren't UTF-8.
-pub fn utf8_rows(
-    alloc: Global,
-    least: &mut Least,
-    marks: &[MarkedToken<'_>],
-) -> Result<(), AllocError>
-    ensures { OnOk result (least.new ≡ join least.old (spec.least (spec.utf8_rows (marks_of marks.now)))) }
-{
-    for token in marks {
-        note_name(alloc, least, token)?;
-    }
-    Ok(())
-}
-
 fn is_table_minimum(mark: Mark) -> bool
     ensures { result ≡ spec.is_table_minimum (mark_of mark) }
 {
     matches!(mark, Mark::Minimum(Space::Table))
 }
 
-fn note_entries(least: &mut Least, token: &MarkedToken<'_>)
+/// Notes a minimum of a table that passes the limit.
+pub fn note_entries(least: &mut Least, token: &MarkedToken<'_>)
     ensures { least.new ≡ join least.old (spec.least (entries_row (marked_of token.now))) }
 {
     if !is_table_minimum(token.mark) {
@@ -125,13 +130,4 @@ fn note_entries(least: &mut Least, token: &MarkedToken<'_>)
     }
     let many = capped_in(atom(token)) > MOST_ENTRIES;
     least.note(many, Row::Limit, token.token.at);
-}
-
-/// Notes the minima of tables that pass the limit.
-pub fn entry_rows(least: &mut Least, marks: &[MarkedToken<'_>])
-    ensures { least.new ≡ join least.old (spec.least (spec.entry_rows (marks_of marks.now))) }
-{
-    for token in marks {
-        note_entries(least, token);
-    }
 }

@@ -1,14 +1,15 @@
 //! Ids that are bound again in a space.
 
-ghost use Rattle.std.specs.Prelude.{◌≡◌, ◌++◌, ◌||◌, ℕ, List, IfOk, OnOk, bytes_eq};
+ghost use Rattle.std.specs.Prelude.{◌≡◌, ◌++◌, ◌||◌, ℕ, List, IfOk, OnOk, bytes_eq, flat_map};
 ghost use Rattle.wat_lang.specs.Rows as spec;
 ghost use Rattle.wat_lang.specs.Names.{all_with};
+ghost use Rattle.wat_lang.specs.Grammar.{Marked};
 ghost use Rattle.wat_grammar.specs.Views.{mark_of};
 ghost use Rattle.wat_read_tokens.specs.Marks.{marks_of, only};
 ghost use Rattle.wat_marks.specs.Views.{marked_of};
 ghost use Rattle.wat_read_refusals.specs.Joined.{join};
 ghost use Rattle.wat_read_refusals.specs.Seen.{has_seen, HasSeen};
-ghost use Rattle.wat_read_refusals.specs.Single.{before_next, binds_in_module, taken_row};
+ghost use Rattle.wat_read_refusals.specs.Single.{before_next, binds_in_module, module_spaces, taken_row};
 
 use crate::least::Least;
 use indexmap::IndexSet;
@@ -59,7 +60,8 @@ fn binds_in_module(mark: Mark) -> bool
     }
 }
 
-fn push_binding<'a>(
+/// Appends a token that binds an id in a space of the module, so that the others are passed over once.
+pub fn push_binding<'a>(
     found: &mut Vec<MarkedToken<'a>>,
     token: &MarkedToken<'a>,
 ) -> Result<(), AllocError>
@@ -70,20 +72,6 @@ fn push_binding<'a>(
     }
     found.push(*token)?;
     Ok(())
-}
-
-/// The tokens that bind ids in spaces of the module, so that the others are passed over once.
-pub fn bindings<'a>(
-    alloc: Global,
-    marks: &[MarkedToken<'a>],
-) -> Result<Vec<MarkedToken<'a>>, AllocError>
-    ensures { IfOk result (λ v. marks_of v.items ≡ all_with binds_in_module (marks_of marks.now)) }
-{
-    let mut found = Vec::new(alloc);
-    for token in marks {
-        push_binding(&mut found, token)?;
-    }
-    Ok(found)
 }
 
 /// Notes the ids that are bound again in the space.
@@ -100,5 +88,24 @@ pub fn taken_in<'a>(
     for token in marks {
         note_taken(least, &mut seen, space, token)?;
     }
+    Ok(())
+}
+
+/// Notes the ids that are bound again in the spaces of the module, of whose marks these are the ones that bind ids there.
+pub fn module_taken(
+    alloc: Global,
+    hashes: KeyHashes,
+    least: &mut Least,
+    bindings: &[MarkedToken<'_>],
+) -> Result<(), AllocError>
+    ensures { (ms : List Marked) → marks_of bindings.now ≡ all_with binds_in_module ms → OnOk result (least.new ≡ join least.old (spec.least (flat_map (λ s. spec.taken_in s ms) module_spaces))) }
+{
+    taken_in(alloc, hashes, least, Space::Type, bindings)?;
+    taken_in(alloc, hashes, least, Space::Func, bindings)?;
+    taken_in(alloc, hashes, least, Space::Table, bindings)?;
+    taken_in(alloc, hashes, least, Space::Memory, bindings)?;
+    taken_in(alloc, hashes, least, Space::Global, bindings)?;
+    taken_in(alloc, hashes, least, Space::Elem, bindings)?;
+    taken_in(alloc, hashes, least, Space::Data, bindings)?;
     Ok(())
 }

@@ -28,7 +28,7 @@ at_each n fs h locals labels spaces.Data = h.segments
 pub same_scope : (n : Spaces) (fs : List Field) → HasNames n fs → (let f : Scope = names_at (space_names n) in f) ≡ names_at (names_of fs)
 same_scope n fs h = fun_ext (λ locals. fun_ext (λ labels. fun_ext (at_each n fs h locals labels)))
 
-by_kinds : (names : Space → Names) (types : List FunctionType) (f : Field) → field_rows names types f ≡ use_rows (names_at names (locals_of names types f)) [] f.parts ++ rows_by_kind names types f
+pub by_kinds : (names : Space → Names) (types : List FunctionType) (f : Field) → field_rows names types f ≡ use_rows (names_at names (locals_of names types f)) [] f.parts ++ rows_by_kind names types f
 by_kinds names types f = refl
 
 -- Heads are looked at with the ids of types alone.
@@ -38,7 +38,7 @@ heads_same names others types f e = ap (λ (ids : Names). rows_by_kind (λ _. id
 locals_same : (names others : Space → Names) (types : List FunctionType) (f : Field) → names spaces.Type ≡ others spaces.Type → locals_of names types f ≡ locals_of others types f
 locals_same names others types f e = ap (λ (ids : Names). locals_of (λ _. ids) types f) e
 
-field_same : (n : Spaces) (fs : List Field) → HasNames n fs → (types : List FunctionType) (f : Field) → field_rows (space_names n) types f ≡ field_rows (names_of fs) types f
+pub field_same : (n : Spaces) (fs : List Field) → HasNames n fs → (types : List FunctionType) (f : Field) → field_rows (space_names n) types f ≡ field_rows (names_of fs) types f
 field_same n fs h types f =
     ap (λ (scope : Scope). use_rows (scope (locals_of (space_names n) types f)) [] f.parts ++ rows_by_kind (space_names n) types f) (same_scope n fs h)
     ∙ ap (λ (locals : Names). use_rows (names_at (names_of fs) locals) [] f.parts ++ rows_by_kind (space_names n) types f) (locals_same (space_names n) (names_of fs) types f h.types)

@@ -1,6 +1,6 @@
 //! Rows of fields.
 
-ghost use Rattle.std.specs.Prelude.{◌≡◌, IfOk, OnOk, map, flat_map};
+ghost use Rattle.std.specs.Prelude.{◌≡◌, IfOk, OnOk, map};
 ghost use Rattle.wasm_tree.specs.Views.{type_of};
 ghost use Rattle.wasm_lang.specs.Limits.{params_of};
 ghost use Rattle.wat_lang.specs.Modules.{function_type_in};
@@ -13,7 +13,6 @@ ghost use Rattle.wat_read_refusals.specs.Joined.{join};
 ghost use Rattle.wat_read_rows.specs.Heads.{rows_by_kind};
 
 use crate::heads::head_rows;
-use crate::uses::use_rows;
 use key_hashes::KeyHashes;
 use std::alloc::{AllocError, Global};
 use wasm_tree::FuncType;
@@ -37,7 +36,7 @@ fn params_in(spaces: &Spaces<'_>, types: &[FuncType], parts: &[MarkedToken<'_>])
 }
 
 /// The parameters and locals that may be named in a field.
-fn locals_of<'a>(
+pub fn locals_of<'a>(
     alloc: Global,
     hashes: KeyHashes,
     spaces: &Spaces<'_>,
@@ -98,8 +97,8 @@ fn imported_rows(
     }
 }
 
-/// The rows of what a field of its kind says.
-fn rows_by_kind(
+/// Notes the rows of what a field of its kind says.
+pub fn rows_by_kind(
     alloc: Global,
     least: &mut Least,
     spaces: &Spaces<'_>,
@@ -123,37 +122,4 @@ fn rows_by_kind(
         }
         _ => Ok(()),
     }
-}
-
-fn field_rows(
-    alloc: Global,
-    hashes: KeyHashes,
-    least: &mut Least,
-    spaces: &Spaces<'_>,
-    types: &[FuncType],
-    field: &Field<'_, '_>,
-) -> Result<(), AllocError>
-    ensures { OnOk result (least.new ≡ join least.old (spec.least (spec.field_rows (space_names spaces.now) (map type_of types.now) (field_of field.now)))) }
-{
-    let locals = locals_of(alloc, hashes, spaces, types, field)?;
-    use_rows(alloc, hashes, least, spaces, &locals, field.parts)?;
-    rows_by_kind(alloc, least, spaces, types, field)?;
-    Ok(())
-}
-
-/// Notes the rows of fields.
-pub fn all_field_rows(
-    alloc: Global,
-    hashes: KeyHashes,
-    least: &mut Least,
-    spaces: &Spaces<'_>,
-    types: &[FuncType],
-    fields: &[Field<'_, '_>],
-) -> Result<(), AllocError>
-    ensures { OnOk result (least.new ≡ join least.old (spec.least (flat_map (spec.field_rows (space_names spaces.now) (map type_of types.now)) (map field_of fields.now)))) }
-{
-    for field in fields {
-        field_rows(alloc, hashes, least, spaces, types, field)?;
-    }
-    Ok(())
 }

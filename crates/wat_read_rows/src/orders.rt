@@ -1,10 +1,11 @@
 //! The order of fields, and their counts.
 
-ghost use Rattle.std.specs.Prelude.{◌≡◌, ℕ, ◌-◌, ◌&&◌, ◌||◌, map, false};
+ghost use Rattle.std.specs.Prelude.{◌≡◌, ℕ, ◌-◌, ◌&&◌, ◌||◌, List, [], ◌∷◌, ◌++◌, false};
 ghost use Rattle.wat_lang.specs.Rows as spec;
 ghost use Rattle.wat_read_names.specs.Fields.{field_of};
 ghost use Rattle.wat_lang.specs.Names as names;
 ghost use Rattle.wat_read_refusals.specs.Joined.{join};
+ghost use Rattle.wat_read_rows.specs.Ordered.{HasCount, HasOrder};
 ghost use Rattle.wat_read_rows.specs.Single.{place_in, over_row};
 
 use wat_lang::{FieldKind, Row, Space};
@@ -54,19 +55,6 @@ fn or_starts(started: bool, kind: FieldKind) -> bool
     started || starts(kind)
 }
 
-/// Notes imports behind what is defined, and a second start.
-pub fn order_rows(least: &mut Least, fields: &[Field<'_, '_>])
-    ensures { least.new ≡ join least.old (spec.least (spec.order_rows false false (map field_of fields.now))) }
-{
-    let mut defined = false;
-    let mut started = false;
-    for field in fields {
-        least.note(is_late(field, defined, started), Row::Order, field.at);
-        defined = or_defines(defined, field.kind);
-        started = or_starts(started, field.kind);
-    }
-}
-
 /// The place of what a field puts into the space.
 fn place_in(space: Space, field: &Field<'_, '_>) -> Option<u64>
     ensures { result ≡ place_in space (names.entry_of (field_of field.now)) }
@@ -92,23 +80,81 @@ fn note_over(least: &mut Least, room: usize, place: Option<u64>)
     }
 }
 
-/// Notes what is put into the space past the limit.
-fn entries_from(least: &mut Least, most: usize, space: Space, fields: &[Field<'_, '_>])
-    ensures { least.new ≡ join least.old (spec.least (spec.entries_from most 0 (spec.entries_in space (map field_of fields.now)))) }
-{
-    let mut room = most;
-    for field in fields {
+/// How many more a space has room for, and the first that had none.
+#[derive(Drop)]
+struct Count {
+    room: usize,
+    least: Least,
+}
+
+impl Count {
+    /// Nothing stands in the space, which has room for so many.
+    fn new(most: usize) -> Count
+        ensures { (space : Space) → HasCount result most space [] }
+    {
+        Count {
+            room: most,
+            least: Least::new(),
+        }
+    }
+
+    /// Notes what a field puts into the space.
+    fn note(&mut self, space: Space, field: &Field<'_, '_>)
+        ensures { (most : ℕ) (fs : List names.Field) → HasCount self.old most space fs → HasCount self.new most space (fs ++ field_of field.now ∷ []) }
+    {
         let place = place_in(space, field);
-        note_over(least, room, place);
-        room = room_after(place.is_some(), room);
+        note_over(&mut self.least, self.room, place);
+        self.room = room_after(place.is_some(), self.room);
     }
 }
 
-/// Notes types, functions and globals past their limits.
-pub fn count_rows(least: &mut Least, fields: &[Field<'_, '_>])
-    ensures { least.new ≡ join least.old (spec.least (spec.count_rows (map field_of fields.now))) }
-{
-    entries_from(least, MOST_TYPES, Space::Type, fields);
-    entries_from(least, MOST_FUNCTIONS, Space::Func, fields);
-    entries_from(least, MOST_GLOBALS, Space::Global, fields);
+/// The order of the fields so far, and how many stand in the spaces that have a limit.
+#[derive(Drop)]
+pub struct Orders {
+    defined: bool,
+    started: bool,
+    order: Least,
+    types: Count,
+    functions: Count,
+    globals: Count,
+}
+
+impl Orders {
+    /// There are no fields.
+    pub fn new() -> Orders
+        ensures { HasOrder result [] }
+    {
+        Orders {
+            defined: false,
+            started: false,
+            order: Least::new(),
+            types: Count::new(MOST_TYPES),
+            functions: Count::new(MOST_FUNCTIONS),
+            globals: Count::new(MOST_GLOBALS),
+        }
+    }
+
+    /// Notes an import behind what is defined, a second start, and types, functions and globals past their limits.
+    pub fn note(&mut self, field: &Field<'_, '_>)
+        ensures { (fs : List names.Field) → HasOrder self.old fs → HasOrder self.new (fs ++ field_of field.now ∷ []) }
+    {
+        let late = is_late(field, self.defined, self.started);
+        self.order.note(late, Row::Order, field.at);
+        self.defined = or_defines(self.defined, field.kind);
+        self.started = or_starts(self.started, field.kind);
+        self.types.note(Space::Type, field);
+        self.functions.note(Space::Func, field);
+        self.globals.note(Space::Global, field);
+    }
+
+    /// The first refusal by the order of the fields or by their counts.
+    pub fn found(self) -> Least
+        ensures { (fs : List names.Field) → HasOrder self fs → result ≡ spec.least (spec.order_rows false false fs ++ spec.count_rows fs) }
+    {
+        let mut least = self.order;
+        least.join(self.types.least);
+        least.join(self.functions.least);
+        least.join(self.globals.least);
+        least
+    }
 }

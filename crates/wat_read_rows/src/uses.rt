@@ -1,8 +1,9 @@
 //! Ids that nothing binds, and blocks that are too deep.
 
-ghost use Rattle.std.specs.Prelude.{◌≡◌, ◌&&◌, [], OnOk, length, nat_le, false};
+ghost use Rattle.std.specs.Prelude.{◌≡◌, OnOk, length, nat_le, false};
 ghost use Rattle.wasm_lang.specs.Limits.{most_levels};
-ghost use Rattle.wat_lang.specs.Names.{names_at};
+ghost use Rattle.wat_lang.specs.declared.fault.Row.TheVariants as rows;
+ghost use Rattle.wat_lang.specs.Names.{labels_after, names_at};
 ghost use Rattle.wat_lang.specs.Rows as spec;
 ghost use Rattle.wat_grammar.specs.Views.{mark_of};
 ghost use Rattle.wat_marks.specs.Strings.{reads_string};
@@ -10,9 +11,10 @@ ghost use Rattle.wat_marks.specs.Views.{marked_of};
 ghost use Rattle.wat_read_names.specs.Bound.{space_names};
 ghost use Rattle.wat_read_tokens.specs.Marks.{marks_of};
 ghost use Rattle.wat_read_refusals.specs.Joined.{join};
+ghost use Rattle.wat_read_rows.specs.Single.{use_row};
+ghost use Rattle.wat_laws_kept.specs.Groups.{labels_behind};
 
-use key_hashes::KeyHashes;
-use std::alloc::{AllocError, Global};
+use std::alloc::AllocError;
 use wat_grammar::{Form, Mark};
 use wat_lang::{Row, Space};
 use wat_marks::MarkedToken;
@@ -46,56 +48,76 @@ fn is_unknown(
     }
 }
 
-fn is_unknown_use(
-    spaces: &Spaces<'_>,
-    locals: &Ids<'_>,
-    labels: &Labels<'_>,
-    token: &MarkedToken<'_>,
-) -> bool
-    ensures { result ≡ spec.is_unknown_use (names_at (space_names spaces.now) locals.now labels.now) (marked_of token.now) }
-{
-    match token.mark {
-        Mark::Uses(space) => is_unknown(spaces, locals, labels, space, token),
-        Mark::TypeUse => is_unknown(spaces, locals, labels, Space::Type, token),
-        _ => false,
-    }
-}
-
-fn opens_block(mark: Mark) -> bool
-    ensures { result ≡ spec.opens_block (mark_of mark) }
-{
-    match mark {
-        Mark::Instruction(form) => matches!(form, Form::Block | Form::Loop | Form::If),
-        _ => false,
-    }
-}
-
-fn is_too_deep(labels: &Labels<'_>, mark: Mark) -> bool
-    ensures { result ≡ (spec.opens_block (mark_of mark) && nat_le most_levels (length labels.now)) }
-{
-    opens_block(mark) && MOST_LEVELS <= labels.len()
-}
-
-/// Notes the ids of a field that nothing binds, and the blocks past the limit.
-pub fn use_rows<'a>(
-    alloc: Global,
-    hashes: KeyHashes,
+/// Notes a use that nothing binds.
+fn note_unknown(
     least: &mut Least,
     spaces: &Spaces<'_>,
     locals: &Ids<'_>,
+    labels: &Labels<'_>,
+    space: Space,
+    token: &MarkedToken<'_>,
+)
+    requires { reads_string (mark_of token.now.mark) ≡ false }
+    ensures { least.new ≡ join least.old (spec.least (spec.where_holds (spec.is_unknown (names_at (space_names spaces.now) locals.now labels.now space) (marked_of token.now)) rows.IdUnknown token.now.token.at)) }
+{
+    let unknown = is_unknown(spaces, locals, labels, space, token);
+    least.note(unknown, Row::IdUnknown, token.token.at);
+}
+
+/// Notes a block past the limit. It is open behind the token.
+fn open_block<'a>(
+    least: &mut Least,
+    labels: &mut Labels<'a>,
+    token: &MarkedToken<'a>,
+) -> Result<(), AllocError>
+    ensures noted { OnOk result (least.new ≡ join least.old (spec.least (spec.where_holds (nat_le most_levels (length labels.old)) rows.Limit token.now.token.at))) }
+    ensures labels { OnOk result (labels.new ≡ labels_after labels.old (marked_of token.now)) }
+{
+    let deep = MOST_LEVELS <= labels.len();
+    least.note(deep, Row::Limit, token.token.at);
+    labels.after(token)
+}
+
+/// Notes the row of a token's use. Most tokens neither use an id nor open, close or name a block.
+fn use_row<'a>(
+    least: &mut Least,
+    spaces: &Spaces<'_>,
+    locals: &Ids<'_>,
+    labels: &mut Labels<'a>,
+    token: &MarkedToken<'a>,
+) -> Result<(), AllocError>
+    ensures noted { OnOk result (least.new ≡ join least.old (spec.least (use_row (names_at (space_names spaces.now) locals.now) labels.old (marked_of token.now)))) }
+    ensures labels { OnOk result (labels.new ≡ labels_after labels.old (marked_of token.now)) }
+{
+    match token.mark {
+        Mark::Uses(space) => {
+            note_unknown(least, spaces, locals, labels, space, token);
+            Ok(())
+        }
+        Mark::TypeUse => {
+            note_unknown(least, spaces, locals, labels, Space::Type, token);
+            Ok(())
+        }
+        Mark::Instruction(Form::Block | Form::Loop | Form::If) => open_block(least, labels, token),
+        Mark::Instruction(Form::End) => labels.after(token),
+        Mark::Binds(Space::Label) => labels.after(token),
+        _ => Ok(()),
+    }
+}
+
+/// Notes the ids of tokens that nothing binds, and the blocks past the limit, where these labels are open; then those behind the tokens are.
+pub fn use_rows<'a>(
+    least: &mut Least,
+    spaces: &Spaces<'_>,
+    locals: &Ids<'_>,
+    labels: &mut Labels<'a>,
     parts: &[MarkedToken<'a>],
 ) -> Result<(), AllocError>
-    ensures { OnOk result (least.new ≡ join least.old (spec.least (spec.use_rows (names_at (space_names spaces.now) locals.now) [] (marks_of parts.now)))) }
+    ensures noted { OnOk result (least.new ≡ join least.old (spec.least (spec.use_rows (names_at (space_names spaces.now) locals.now) labels.old (marks_of parts.now)))) }
+    ensures labels { OnOk result (labels.new ≡ labels_behind labels.old (marks_of parts.now)) }
 {
-    let mut labels = Labels::new(alloc, hashes);
     for token in parts {
-        least.note(
-            is_unknown_use(spaces, locals, &labels, token),
-            Row::IdUnknown,
-            token.token.at,
-        );
-        least.note(is_too_deep(&labels, token.mark), Row::Limit, token.token.at);
-        labels.after(token)?;
+        use_row(least, spaces, locals, labels, token)?;
     }
     Ok(())
 }

@@ -11,19 +11,8 @@ use std::alloc::Global;
 use wasm_tree::Module;
 use wat_laws_read::said_modules;
 use wat_laws_writable::writable;
-use wat_marks::{WatFault, marks};
+use wat_marks::WatFault;
 use wat_read::module;
-
-#[tactic(auto, using(crate::proofs::Said::says, crate::proofs::Said::refused))]
-fn said<'a>(alloc: Global, bytes: &'a [u8]) -> Result<Module<'a>, WatFault>
-    ensures found { IfOk result (λ m. SaysModule bytes.now (module_of m)) }
-    ensures fault { IfErr result (λ e. IsFaultOf bytes.now e) }
-{
-    match marks(alloc, bytes) {
-        Ok(marks) => module(alloc, marks.as_slice()),
-        Err(fault) => Err(fault),
-    }
-}
 
 /// The module that a text says, or the row that refuses it and its place.
 ///
@@ -37,7 +26,7 @@ pub fn read<'a>(alloc: Global, bytes: &'a [u8]) -> Result<Module<'a>, WatFault>
 {
     said_modules();
     writable();
-    match said(alloc, bytes) {
+    match module(alloc, bytes) {
         Ok(module) => Ok(module),
         Err(refusal) => Err(refusal),
     }

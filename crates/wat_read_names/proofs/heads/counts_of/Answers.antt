@@ -1,4 +1,4 @@
-use Rattle.std.proofs.Common.{◌≡◌, ◌+◌, ◌≤◌, List, None, refl, sym, ap, ◌∙◌, arith, replicate}
+use Rattle.std.proofs.Common.{List, None, refl, sym, ◌∙◌, arith, replicate}
 use Rattle.wat_lang.specs.declared.parts.Part.{Part}
 use Rattle.wat_lang.specs.declared.parts.Part.TheVariants.{Param, Local}
 use Rattle.wat_lang.specs.Names.{Names, types_part, written_ids}

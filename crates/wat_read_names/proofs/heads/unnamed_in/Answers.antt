@@ -1,4 +1,4 @@
-use Rattle.std.proofs.Common.{sym, ap, ◌∙◌, ◌+◌, ℕ}
+use Rattle.std.proofs.Common.{ap, ◌∙◌, ◌+◌, ℕ}
 use Rattle.std.proofs.lemmas.Option.{IfSome_then}
 use Rattle.wat_read_tokens.specs.Marks.{marks_of}
 use Rattle.wat_read_names.proofs.Counts.{sum_of, none_named}

@@ -1,0 +1,3 @@
+pub mod Exported
+pub mod OneMore
+pub mod AddedFunction

@@ -1,0 +1,4 @@
+pub mod Contexts
+pub mod Kinds
+pub mod Fit
+pub mod Lists
