@@ -1,7 +1,7 @@
 -- Writing pieces one after the other, and a module in three parts: what stands before its functions, these, and what stands behind them.
 use Rattle.std.specs.Prelude.{ℕ, List, [], ◌∷◌, ◌++◌, Option, codes, false}
-use Rattle.asm_lang.specs.Modules.{Expr, Module}
-use Rattle.asm_lang.specs.Printing.{Piece, word, line_feed, between, gap_between, option_text, module_name_text, names_text, globals_text, tables_text, exports_text}
+use Rattle.asm_lang.specs.Modules.{Expr, Variable, Module}
+use Rattle.asm_lang.specs.Printing.{Piece, word, line_feed, between, gap_between, option_text, binding_text, module_name_text, names_text, globals_text, tables_text, exports_text}
 use Rattle.asm_grammar_print.specs.declared.output.Output.{Output}
 
 -- the bytes so far, and the last token of them, or nothing after a line feed
@@ -24,6 +24,11 @@ put w [] = w
 put w (p ∷ ps) = put (put_piece w p) ps
 
 -- ---- parts of trees
+
+-- variables of a function after the first one, each after a comma
+abbrev pub bindings_text : List Variable → List Piece
+bindings_text [] = []
+bindings_text (v ∷ vs) = word (codes ",") ∷ (binding_text v ++ bindings_text vs)
 
 -- a `for` up to its `)`
 abbrev pub for_heading : Option Expr → Option Expr → Option Expr → List Piece

@@ -2,7 +2,7 @@
 
 ghost use Rattle.std.specs.Prelude.{◌≡◌, [], OnOk, map, false};
 ghost use Rattle.sem_words.specs.Lists.{text_bytes};
-ghost use Rattle.asm_lang.specs.Printing.{decimal_pieces, member_text, init_text, variable_text, locals_text, names_text, mark_text, marks_text, param_names, function_text};
+ghost use Rattle.asm_lang.specs.Printing.{decimal_pieces, member_text, init_text, binding_text, variable_text, locals_text, names_text, mark_text, marks_text, param_names, function_text};
 ghost use Rattle.asm_tree.specs.Views.{init_view, local_view, param_view, texts_view, function_view};
 ghost use Rattle.asm_grammar_print.specs.Put.{written, put};
 
@@ -69,26 +69,44 @@ fn put_init(out: &mut Output, init: &Init) -> Result<(), AllocError>
     }
 }
 
+/// A name, and what it is given.
+#[tactic(auto, using(crate::proofs::Puts::puts, crate::proofs::DeclarationPuts::puts))]
+fn put_binding(out: &mut Output, name: &Text, init: &Init) -> Result<(), AllocError>
+    ensures { OnOk result (written out.new
+        ≡ put (written out.old) (binding_text (record { name = text_bytes name.now; init = init_view init.now }))) }
+{
+    out.word(name.as_bytes())?;
+    out.word(b"=")?;
+    put_init(out, init)
+}
+
 #[tactic(auto, using(crate::proofs::Puts::puts, crate::proofs::DeclarationPuts::puts))]
 pub fn put_variable(out: &mut Output, name: &Text, init: &Init) -> Result<(), AllocError>
     ensures { OnOk result (written out.new
         ≡ put (written out.old) (variable_text (record { name = text_bytes name.now; init = init_view init.now }))) }
 {
     out.word(b"var")?;
-    out.word(name.as_bytes())?;
-    out.word(b"=")?;
-    put_init(out, init)?;
+    put_binding(out, name, init)?;
     out.word(b";")
 }
 
+/// All in one statement.
 #[tactic(auto, using(crate::proofs::Puts::puts, crate::proofs::DeclarationPuts::puts))]
 fn put_locals(out: &mut Output, locals: &[Local]) -> Result<(), AllocError>
     ensures { OnOk result (written out.new ≡ put (written out.old) (locals_text (map local_view locals.now))) }
 {
-    for local in locals {
-        put_variable(out, &local.name, &local.init)?;
+    match locals {
+        [] => Ok(()),
+        [first, others @ ..] => {
+            out.word(b"var")?;
+            put_binding(out, &first.name, &first.init)?;
+            for local in others {
+                out.word(b",")?;
+                put_binding(out, &local.name, &local.init)?;
+            }
+            out.word(b";")
+        }
     }
-    Ok(())
 }
 
 /// Names with commas between.

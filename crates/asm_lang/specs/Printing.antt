@@ -176,12 +176,21 @@ init_text (trees.member f p) = member_text f p
 init_text (trees.math f p) = member_text f (codes "Math") ++ word (codes ".") ∷ word p ∷ []
 init_text (trees.view f p h) = word (codes "new") ∷ (member_text f p ++ between (codes "(") (word h ∷ []) (codes ")"))
 
-abbrev pub variable_text : Variable → List Piece
-variable_text v = word (codes "var") ∷ word v.name ∷ word (codes "=") ∷ (init_text v.init ++ a_semicolon)
+abbrev pub binding_text : Variable → List Piece
+binding_text v = word v.name ∷ word (codes "=") ∷ init_text v.init
 
+abbrev pub variable_text : Variable → List Piece
+variable_text v = word (codes "var") ∷ (binding_text v ++ a_semicolon)
+
+-- further variables of a statement, each after a comma, and its end
+abbrev pub further_text : List Variable → List Piece
+further_text [] = a_semicolon
+further_text (v ∷ vs) = word (codes ",") ∷ (binding_text v ++ further_text vs)
+
+-- the variables of a function stand in one statement
 abbrev pub locals_text : List Variable → List Piece
 locals_text [] = []
-locals_text (v ∷ vs) = variable_text v ++ locals_text vs
+locals_text (v ∷ vs) = word (codes "var") ∷ (binding_text v ++ further_text vs)
 
 abbrev pub globals_text : List Variable → List Piece
 globals_text [] = []

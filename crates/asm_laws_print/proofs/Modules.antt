@@ -7,9 +7,9 @@ use Rattle.sem_words.specs.declared.js_value.JsOp.TheVariants.{Add, Or}
 use Rattle.asm_lang.specs.Lexemes.{identifier, directive, function_word, var_word, new_word, return_word, open_brace, close_brace, open_paren, close_paren, open_bracket, close_bracket, dot, comma, colon, equals, operator, Lexeme, is_word, a_property, named, a_zero, Is}
 use Rattle.asm_lang.specs.Trees as trees
 use Rattle.asm_lang.specs.Trees.{Init, VariableTree, ParamTree, FunctionTree, TableTree, ExportTree, ExportsTree}
-use Rattle.asm_lang.specs.Grammar.{a_member, an_int, a_math, IsInit, of_literal, of_member, of_double, of_view, IsNames, no_names, more_names, texts, IsMembers, members_of, IsGlobal, a_global, IsLocal, a_local, IsTable, a_table, IsDeclared, no_var, a_var, an_end, IsMarks, no_marks, an_int_mark, a_double_mark, IsParams, no_params, some_params, IsFunction, a_function, IsFunctions, no_functions, more_functions, an_export, IsExports, no_export, next_export, after_comma, export_one, export_many, IsExported, an_exported, IsName, unnamed, a_name, IsModuleParams, params_0, params_1, params_2, params_3, a_heading, IsLast, nothing_more, a_module}
+use Rattle.asm_lang.specs.Grammar.{a_member, an_int, a_math, IsInit, of_literal, of_member, of_double, of_view, IsNames, no_names, more_names, texts, IsMembers, members_of, IsGlobal, a_global, IsLocal, a_local, IsTable, a_table, IsDeclared, no_var, a_var, a_comma, an_end, IsMarks, no_marks, an_int_mark, a_double_mark, IsParams, no_params, some_params, IsFunction, a_function, IsFunctions, no_functions, more_functions, an_export, IsExports, no_export, next_export, after_comma, export_one, export_many, IsExported, an_exported, IsName, unnamed, a_name, IsModuleParams, params_0, params_1, params_2, params_3, a_heading, IsLast, nothing_more, a_module}
 use Rattle.asm_lang.specs.Modules.{Variable, Param, Function, Table, Export, Exports, one, many, Module, init_of, variable_of, param_of, function_of, table_of, export_of, exports_of}
-use Rattle.asm_lang.specs.Printing.{Piece, word, line_feed, between, a_semicolon, init_text, variable_text, locals_text, globals_text, names_text, param_names, mark_text, marks_text, stmts_text, function_text, functions_text, table_text, tables_text, export_pieces, exports_text, module_name_text, module_pieces}
+use Rattle.asm_lang.specs.Printing.{Piece, word, line_feed, between, a_semicolon, init_text, variable_text, further_text, locals_text, globals_text, names_text, param_names, mark_text, marks_text, stmts_text, function_text, functions_text, table_text, tables_text, export_pieces, exports_text, module_name_text, module_pieces}
 use Rattle.asm_laws_print.specs.Spelled.{Spells, no_piece, a_line_feed, HasClass}
 use Rattle.asm_laws_print.specs.Fitting.{FitsName, AreNames, IsProperty, some_names, FitsLiteral, FitsInit, FitsGlobal, FitsLocal, FitsParam, FitsFunction, FitsTable, FitsExport, FitsExports, FitsModule, IsModuleRead}
 use Rattle.asm_laws_print.proofs.Literals.{literal_read}
@@ -123,19 +123,38 @@ record AreLocalsRead (vs : List Variable) (xs ys : List Lexeme) : Type 0 where
   are_locals : IsDeclared IsLocal false trees_of xs ys
   is_this : map variable_of trees_of ≡ vs
 
+record AreFurtherRead (vs : List Variable) (xs ys : List Lexeme) : Type 0 where
+  trees_of : List VariableTree
+  are_locals : IsDeclared IsLocal true trees_of xs ys
+  is_this : map variable_of trees_of ≡ vs
+
+further_locals_read : (vs : List Variable) → AllByRecursion FitsLocal vs → {b c : Bool} {xs ys : List Lexeme} → Spells b (further_text vs) c xs ys → AreFurtherRead vs xs ys
+further_locals_read [] fits s = record { trees_of = []; are_locals = an_end (end_read s) no_var; is_this = refl }
+further_locals_read (v ∷ vs) fits s =
+    let comma_sign = first s in
+    let name = first comma_sign.back in
+    let sign = first name.back in
+    let two = parts (init_text v.init) (further_text vs) sign.back in
+    let value = literal_read v.init fits.0.1 two.front in
+    let others = further_locals_read vs fits.1 two.back in
+    record {
+      trees_of = record { at = name.token.at; name = name.token.text; init = value.init } ∷ others.trees_of;
+      are_locals = a_comma (comma_sign.is_at comma refl) (a_local (name.is_at identifier fits.0.0) (sign.is_at equals refl) value.is_literal) others.are_locals;
+      is_this = rw (name.says.text, value.is_this, others.is_this) refl;
+    }
+
 locals_read : (vs : List Variable) → AllByRecursion FitsLocal vs → {b c : Bool} {xs ys : List Lexeme} → Spells b (locals_text vs) c xs ys → AreLocalsRead vs xs ys
 locals_read [] fits no_piece = record { trees_of = []; are_locals = no_var; is_this = refl }
 locals_read (v ∷ vs) fits s =
-    let all = parts (variable_text v) (locals_text vs) s in
-    let others = locals_read vs fits.1 all.back in
-    let key = first all.front in
+    let key = first s in
     let name = first key.back in
     let sign = first name.back in
-    let two = parts (init_text v.init) a_semicolon sign.back in
+    let two = parts (init_text v.init) (further_text vs) sign.back in
     let value = literal_read v.init fits.0.1 two.front in
+    let others = further_locals_read vs fits.1 two.back in
     record {
       trees_of = record { at = name.token.at; name = name.token.text; init = value.init } ∷ others.trees_of;
-      are_locals = a_var (key.is_at var_word refl) (a_local (name.is_at identifier fits.0.0) (sign.is_at equals refl) value.is_literal) (an_end (end_read two.back) others.are_locals);
+      are_locals = a_var (key.is_at var_word refl) (a_local (name.is_at identifier fits.0.0) (sign.is_at equals refl) value.is_literal) others.are_locals;
       is_this = rw (name.says.text, value.is_this, others.is_this) refl;
     }
 

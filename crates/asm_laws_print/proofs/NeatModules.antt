@@ -6,13 +6,13 @@ use Rattle.asm_lang.specs.Lexemes.{identifier, a_decimal}
 use Rattle.asm_lang.specs.Trees as trees
 use Rattle.asm_lang.specs.Trees.{Init}
 use Rattle.asm_lang.specs.Modules.{Variable, Param, Function, Table, Export, Exports, one, many, Module}
-use Rattle.asm_lang.specs.Printing.{Piece, word, between, a_semicolon, decimal_pieces, init_text, locals_text, globals_text, names_text, param_names, mark_text, marks_text, function_text, functions_text, tables_text, export_pieces, exports_text, module_name_text, module_pieces}
+use Rattle.asm_lang.specs.Printing.{Piece, word, between, a_semicolon, decimal_pieces, init_text, further_text, locals_text, globals_text, names_text, param_names, mark_text, marks_text, function_text, functions_text, tables_text, export_pieces, exports_text, module_name_text, module_pieces}
 use Rattle.asm_laws_print.specs.Spelled.{HasClass}
 use Rattle.asm_laws_print.specs.Fitting.{FitsName, AreNames, IsProperty, unsigned, FitsLiteral, FitsInit, FitsGlobal, FitsLocal, FitsParam, FitsFunction, FitsTable, FitsExport, FitsExports, FitsModule}
 use Rattle.asm_laws_print.proofs.TokenKinds.{word_is_name}
 use Rattle.asm_laws_print.proofs.Neat.{IsNoNumber, First, Operand, Line, Neat, calm_start, empty_line, line_append, word_line, feed_line, one_word, word_operand}
 use Rattle.asm_laws_print.proofs.NeatExprs.{name_token, name_calm, decimal_first}
-use Rattle.asm_laws_print.proofs.NeatStmts.{a_word_line, ended_line, semicolon_end, colon_end, open_paren_end, close_paren_end, open_brace_end, close_brace_end, end_line, Keyword, keyword_line, return_key, name_line, number_neat, in_braces, stmts_neat}
+use Rattle.asm_laws_print.proofs.NeatStmts.{Ender, a_word_line, ended_line, semicolon_end, colon_end, open_paren_end, close_paren_end, open_brace_end, close_brace_end, end_line, Keyword, keyword_line, return_key, name_line, number_neat, in_braces, stmts_neat}
 
 -- ---- signs and words
 
@@ -43,6 +43,10 @@ equals_key = record { is = refl; calm = record { number = refl; slash = refl } }
 comma_key : Keyword (codes ",")
 unfolding is_punctuator
 comma_key = record { is = refl; calm = record { number = refl; slash = refl } }
+
+comma_end : Ender (codes ",")
+unfolding is_punctuator
+comma_end = record { sign = record { is = refl; runs = refl; number = refl }; slash = refl }
 
 plus_key : Keyword (codes "+")
 unfolding is_punctuator
@@ -86,14 +90,18 @@ decimal_neat (d ∷ bs) fits =
     ] in
     both fits
 
+-- what ends it, and what follows
+literal_line : (i : Init) → FitsLiteral i → {w : List ℕ} {ps : List Piece} → Ender w → Line ps → Line (init_text i ++ word w ∷ ps)
+literal_line (trees.number v) fits e l = ended_line (number_neat v fits) e l
+literal_line (trees.decimal bs) fits e l = ended_line (decimal_neat bs fits) e l
+literal_line (trees.foreign_int f p) fits e l = absurd fits
+literal_line (trees.foreign_double f p) fits e l = absurd fits
+literal_line (trees.member f p) fits e l = absurd fits
+literal_line (trees.math f p) fits e l = absurd fits
+literal_line (trees.view f p h) fits e l = absurd fits
+
 literal_neat : (i : Init) → FitsLiteral i → Line (init_text i ++ a_semicolon)
-literal_neat (trees.number v) fits = ended_line (number_neat v fits) semicolon_end empty_line
-literal_neat (trees.decimal bs) fits = ended_line (decimal_neat bs fits) semicolon_end empty_line
-literal_neat (trees.foreign_int f p) fits = absurd fits
-literal_neat (trees.foreign_double f p) fits = absurd fits
-literal_neat (trees.member f p) fits = absurd fits
-literal_neat (trees.math f p) fits = absurd fits
-literal_neat (trees.view f p h) fits = absurd fits
+literal_neat i fits = literal_line i fits semicolon_end empty_line
 
 -- `f.p`, and what follows
 member_line : {f p : List ℕ} {ps : List Piece} → HasClass identifier f → IsProperty p → Line ps → Line (word f ∷ word (codes ".") ∷ word p ∷ ps)
@@ -114,9 +122,13 @@ globals_neat : (vs : List Variable) → AllByRecursion FitsGlobal vs → Line (g
 globals_neat [] fits = empty_line
 globals_neat (v ∷ vs) fits = line_append (keyword_line var_key (name_line fits.0.0 (keyword_line equals_key (init_neat v.init fits.0.1)))) (feed_line (globals_neat vs fits.1))
 
+further_neat : (i : Init) → FitsLiteral i → (vs : List Variable) → AllByRecursion FitsLocal vs → Line (init_text i ++ further_text vs)
+further_neat i fit [] fits = literal_neat i fit
+further_neat i fit (v ∷ vs) fits = literal_line i fit comma_end (name_line fits.0.0 (keyword_line equals_key (further_neat v.init fits.0.1 vs fits.1)))
+
 locals_neat : (vs : List Variable) → AllByRecursion FitsLocal vs → Line (locals_text vs)
 locals_neat [] fits = empty_line
-locals_neat (v ∷ vs) fits = line_append (keyword_line var_key (name_line fits.0.0 (keyword_line equals_key (literal_neat v.init fits.0.1)))) (locals_neat vs fits.1)
+locals_neat (v ∷ vs) fits = keyword_line var_key (name_line fits.0.0 (keyword_line equals_key (further_neat v.init fits.0.1 vs fits.1)))
 
 further_names_neat : (ns : List (List ℕ)) → AreNames ns → Line (names_text true ns)
 further_names_neat [] fits = empty_line

@@ -70,11 +70,11 @@ static ROWS: [Row; 62] = [
     (&["gen", "010"], 1, USAGE),
     (&["gen", "10001"], 1, USAGE),
     (&["gen", "2", "--heap", "65536"], 1, USAGE),
-    (&["gen", "2"], 0, b"functions 2\nasm 182\nwasm 94\njs 673\n"),
+    (&["gen", "2"], 0, b"functions 2\nasm 182\nwasm 94\njs 655\n"),
     (
         &["gen", "200"],
         0,
-        b"functions 200\nasm 12628\nwasm 8412\njs 30009\n",
+        b"functions 200\nasm 12628\nwasm 8412\njs 26427\n",
     ),
     (&["asm2wasm", "add.js"], 0, SUMMING),
     (

@@ -40,7 +40,7 @@ fn are_run(alloc: Global, text: &[u8]) -> bool {
     let sum = b"result 19900\n";
     text.len() == 12_628
         && module.len() == 8_412
-        && back.len() == 30_009
+        && back.len() == 26_427
         && begins(alloc, "run-asm", text, called, sum)
         && begins(alloc, "run-wasm", &module, called, sum)
         && begins(
@@ -59,7 +59,7 @@ fn the_text_of_200_functions_is_translated_and_run(rt: HostRuntime) {
         Err(_) => holds(&rt, 1, false),
     }
     let told = over(rt.alloc(), &["gen", "200"], &[], b"", b"");
-    let lengths = b"functions 200\nasm 12628\nwasm 8412\njs 30009\n";
+    let lengths = b"functions 200\nasm 12628\nwasm 8412\njs 26427\n";
     holds(&rt, 2, told.is(0, lengths));
 }
 

@@ -36,7 +36,7 @@ static ROWS: [Row; 8] = [
     },
     Row {
         text: b"function m(){\"use asm\";var g=0,h=0;function f(x){x=x|0;var h=0,k=0;g=h;return h|0;}return {f:f};}",
-        short: b"function m(){\"use asm\";\nvar a=0;\nvar b=0;\nfunction c(b){b=b|0;var c=0;var d=0;a=c;return c|0;}\nreturn{f:c};}\n",
+        short: b"function m(){\"use asm\";\nvar a=0;\nvar b=0;\nfunction c(b){b=b|0;var c=0,d=0;a=c;return c|0;}\nreturn{f:c};}\n",
     },
     Row {
         text: b"function m(){\"use asm\";function k(){}function f(k){k=k|0;return k|0;}return {f:f};}",

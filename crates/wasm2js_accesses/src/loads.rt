@@ -130,30 +130,36 @@ fn load_narrow(straight: &mut Straight, offset: u64, p: Pair) -> Result<(), Allo
     ensures { IfOk result (λ _. state_of straight.new ≡ run (state_of straight.old) (code.by_place (name_view p.low) offset (words.ask (name_view p.low) names.load_32 (code.place (name_view p.low) offset ∷ []) ∷ []) (words.put (name_view p.low) (words.whole (code.place (name_view p.low) offset)) ∷ []))) }
 {
     let address = Term::read(p.low);
+    let test = place(&address, offset % 4);
     let at = place(&address, offset);
-    load_whole(straight, &at, p.low)
+    load_whole(straight, &test, &at, p.low)
 }
 
-// The word at a place.
-fn load_whole<'a>(straight: &mut Straight, at: &'a Term<'a>, p: Name) -> Result<(), AllocError>
-    ensures { IfOk result (λ _. state_of straight.new ≡ one (state_of straight.old) (words.either (words.both words.conjunction (term_view at.now) (pairs.literal 3)) (words.ask (name_view p) names.load_32 (term_view at.now ∷ []) ∷ []) (words.put (name_view p) (words.whole (term_view at.now)) ∷ []))) }
+// The word at a place, which is a multiple of four where the test is.
+fn load_whole<'a>(
+    straight: &mut Straight,
+    test: &Term<'_>,
+    at: &'a Term<'a>,
+    p: Name,
+) -> Result<(), AllocError>
+    ensures { IfOk result (λ _. state_of straight.new ≡ one (state_of straight.old) (words.either (words.both words.conjunction (term_view test.now) (pairs.literal 3)) (words.ask (name_view p) names.load_32 (term_view at.now ∷ []) ∷ []) (words.put (name_view p) (words.whole (term_view at.now)) ∷ []))) }
 {
-    ask_or_put(straight, at, &[*at], &Term::whole(at), p)
+    ask_or_put(straight, test, &[*at], &Term::whole(at), p)
 }
 
-// By a helper, or the word where the place is a multiple of four.
+// By a helper, or the word where the test is a multiple of four.
 fn ask_or_put<'a>(
     straight: &mut Straight,
-    at: &Term<'_>,
+    test: &Term<'_>,
     arguments: &'a [Term<'a>],
     word: &'a Term<'a>,
     p: Name,
 ) -> Result<(), AllocError>
-    ensures { IfOk result (λ _. state_of straight.new ≡ one (state_of straight.old) (words.either (words.both words.conjunction (term_view at.now) (pairs.literal 3)) (words.ask (name_view p) names.load_32 (terms_view arguments.now) ∷ []) (words.put (name_view p) (term_view word.now) ∷ []))) }
+    ensures { IfOk result (λ _. state_of straight.new ≡ one (state_of straight.old) (words.either (words.both words.conjunction (term_view test.now) (pairs.literal 3)) (words.ask (name_view p) names.load_32 (terms_view arguments.now) ∷ []) (words.put (name_view p) (term_view word.now) ∷ []))) }
 {
     let apart = [Step::Ask(p, Fixed::Load32, arguments)];
     let together = [Step::Put(p, word)];
-    by_place(straight, at, &apart, &together)
+    by_place(straight, test, &apart, &together)
 }
 
 // The address stands until the low word is loaded.
@@ -162,42 +168,44 @@ fn load_wide(straight: &mut Straight, offset: u64, p: Pair) -> Result<(), AllocE
     ensures { IfOk result (λ _. state_of straight.new ≡ run (state_of straight.old) (code.by_place (name_view p.low) offset (words.ask (name_view p.low) names.load_64 (code.place (name_view p.low) offset ∷ []) ∷ words.put (name_view p.high) (words.read (names.fixed names.spare_high)) ∷ []) (words.put (name_view p.high) (words.whole (code.place (name_view p.low) (offset + 4))) ∷ words.put (name_view p.low) (words.whole (code.place (name_view p.low) offset)) ∷ []))) }
 {
     let address = Term::read(p.low);
+    let test = place(&address, offset % 4);
     let at = place(&address, offset);
     let after = place(&address, offset + 4);
-    load_words(straight, &at, &after, p)
+    load_words(straight, &test, &at, &after, p)
 }
 
-// The words at two places, the first one as the low word.
+// The words at two places, the first one as the low word; they are multiples of four where the test is.
 fn load_words<'a>(
     straight: &mut Straight,
+    test: &Term<'_>,
     at: &'a Term<'a>,
     after: &'a Term<'a>,
     p: Pair,
 ) -> Result<(), AllocError>
-    ensures { IfOk result (λ _. state_of straight.new ≡ one (state_of straight.old) (words.either (words.both words.conjunction (term_view at.now) (pairs.literal 3)) (words.ask (name_view p.low) names.load_64 (term_view at.now ∷ []) ∷ words.put (name_view p.high) (words.read (names.fixed names.spare_high)) ∷ []) (words.put (name_view p.high) (words.whole (term_view after.now)) ∷ words.put (name_view p.low) (words.whole (term_view at.now)) ∷ []))) }
+    ensures { IfOk result (λ _. state_of straight.new ≡ one (state_of straight.old) (words.either (words.both words.conjunction (term_view test.now) (pairs.literal 3)) (words.ask (name_view p.low) names.load_64 (term_view at.now ∷ []) ∷ words.put (name_view p.high) (words.read (names.fixed names.spare_high)) ∷ []) (words.put (name_view p.high) (words.whole (term_view after.now)) ∷ words.put (name_view p.low) (words.whole (term_view at.now)) ∷ []))) }
 {
     let spare = Term::read(Name::Always(Fixed::SpareHigh));
     let low = Term::whole(at);
     let high = Term::whole(after);
-    ask_or_put_both(straight, at, &[*at], &spare, &low, &high, p)
+    ask_or_put_both(straight, test, &[*at], &spare, &low, &high, p)
 }
 
-// By a helper of the place, or the words where it is a multiple of four.
+// By a helper of the place, or the words where the test is a multiple of four.
 fn ask_or_put_both<'a>(
     straight: &mut Straight,
-    at: &Term<'_>,
+    test: &Term<'_>,
     arguments: &'a [Term<'a>],
     spare: &'a Term<'a>,
     low: &'a Term<'a>,
     high: &'a Term<'a>,
     p: Pair,
 ) -> Result<(), AllocError>
-    ensures { IfOk result (λ _. state_of straight.new ≡ one (state_of straight.old) (words.either (words.both words.conjunction (term_view at.now) (pairs.literal 3)) (words.ask (name_view p.low) names.load_64 (terms_view arguments.now) ∷ words.put (name_view p.high) (term_view spare.now) ∷ []) (words.put (name_view p.high) (term_view high.now) ∷ words.put (name_view p.low) (term_view low.now) ∷ []))) }
+    ensures { IfOk result (λ _. state_of straight.new ≡ one (state_of straight.old) (words.either (words.both words.conjunction (term_view test.now) (pairs.literal 3)) (words.ask (name_view p.low) names.load_64 (terms_view arguments.now) ∷ words.put (name_view p.high) (term_view spare.now) ∷ []) (words.put (name_view p.high) (term_view high.now) ∷ words.put (name_view p.low) (term_view low.now) ∷ []))) }
 {
     let apart = [
         Step::Ask(p.low, Fixed::Load64, arguments),
         Step::Put(p.high, spare),
     ];
     let together = [Step::Put(p.high, high), Step::Put(p.low, low)];
-    by_place(straight, at, &apart, &together)
+    by_place(straight, test, &apart, &together)
 }

@@ -22,14 +22,14 @@ pub fn place<'a>(address: &'a Term<'a>, offset: u64) -> Term<'a>
     }
 }
 
-/// The second steps where the place is a multiple of four, and else the first.
+/// The second steps where this is a multiple of four, and else the first.
 pub fn by_place<'a, 's>(
     straight: &mut Straight,
-    at: &Term<'_>,
+    test: &Term<'_>,
     apart: &'a [Step<'s>],
     together: &'a [Step<'s>],
 ) -> Result<(), AllocError>
-    ensures { IfOk result (λ _. state_of straight.new ≡ one (state_of straight.old) (either (both conjunction (term_view at.now) (pairs.literal 3)) (steps_view apart.now) (steps_view together.now))) }
+    ensures { IfOk result (λ _. state_of straight.new ≡ one (state_of straight.old) (either (both conjunction (term_view test.now) (pairs.literal 3)) (steps_view apart.now) (steps_view together.now))) }
 {
-    straight.either(&Term::both_number(BitOp::And, at, 3), apart, together)
+    straight.either(&Term::both_number(BitOp::And, test, 3), apart, together)
 }

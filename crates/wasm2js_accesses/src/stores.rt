@@ -112,33 +112,36 @@ fn store_narrow(straight: &mut Straight, offset: u64, a: Name, v: Name) -> Resul
     ensures { IfOk result (λ _. state_of straight.new ≡ run (state_of straight.old) (code.by_place (name_view a) offset (words.tell names.store_32 (code.place (name_view a) offset ∷ words.read (name_view v) ∷ []) ∷ []) (words.write_whole (code.place (name_view a) offset) (words.read (name_view v)) ∷ []))) }
 {
     let address = Term::read(a);
+    let test = place(&address, offset % 4);
     let at = place(&address, offset);
-    store_whole(straight, &at, &Term::read(v))
+    store_whole(straight, &test, &at, &Term::read(v))
 }
 
-// A word to a place.
+// A word to a place, which is a multiple of four where the test is.
 fn store_whole<'a>(
     straight: &mut Straight,
+    test: &Term<'_>,
     at: &'a Term<'a>,
     word: &'a Term<'a>,
 ) -> Result<(), AllocError>
-    ensures { IfOk result (λ _. state_of straight.new ≡ one (state_of straight.old) (words.either (words.both words.conjunction (term_view at.now) (pairs.literal 3)) (words.tell names.store_32 (term_view at.now ∷ term_view word.now ∷ []) ∷ []) (words.write_whole (term_view at.now) (term_view word.now) ∷ []))) }
+    ensures { IfOk result (λ _. state_of straight.new ≡ one (state_of straight.old) (words.either (words.both words.conjunction (term_view test.now) (pairs.literal 3)) (words.tell names.store_32 (term_view at.now ∷ term_view word.now ∷ []) ∷ []) (words.write_whole (term_view at.now) (term_view word.now) ∷ []))) }
 {
-    tell_or_write(straight, &[*at, *word], at, word)
+    tell_or_write(straight, test, &[*at, *word], at, word)
 }
 
-// By a helper, or where the place is a multiple of four at once.
+// By a helper, or where the test is a multiple of four at once.
 fn tell_or_write<'a>(
     straight: &mut Straight,
+    test: &Term<'_>,
     arguments: &'a [Term<'a>],
     at: &'a Term<'a>,
     word: &'a Term<'a>,
 ) -> Result<(), AllocError>
-    ensures { IfOk result (λ _. state_of straight.new ≡ one (state_of straight.old) (words.either (words.both words.conjunction (term_view at.now) (pairs.literal 3)) (words.tell names.store_32 (terms_view arguments.now) ∷ []) (words.write_whole (term_view at.now) (term_view word.now) ∷ []))) }
+    ensures { IfOk result (λ _. state_of straight.new ≡ one (state_of straight.old) (words.either (words.both words.conjunction (term_view test.now) (pairs.literal 3)) (words.tell names.store_32 (terms_view arguments.now) ∷ []) (words.write_whole (term_view at.now) (term_view word.now) ∷ []))) }
 {
     let apart = [Step::Tell(Fixed::Store32, arguments)];
     let together = [Step::WriteWhole(at, word)];
-    by_place(straight, at, &apart, &together)
+    by_place(straight, test, &apart, &together)
 }
 
 fn store_wide(straight: &mut Straight, offset: u64, a: Name, v: Pair) -> Result<(), AllocError>
@@ -146,10 +149,12 @@ fn store_wide(straight: &mut Straight, offset: u64, a: Name, v: Pair) -> Result<
     ensures { IfOk result (λ _. state_of straight.new ≡ run (state_of straight.old) (code.by_place (name_view a) offset (words.tell names.store_64 (code.place (name_view a) offset ∷ words.read (name_view v.low) ∷ words.read (name_view v.high) ∷ []) ∷ []) (words.write_whole (code.place (name_view a) offset) (words.read (name_view v.low)) ∷ words.write_whole (code.place (name_view a) (offset + 4)) (words.read (name_view v.high)) ∷ []))) }
 {
     let address = Term::read(a);
+    let test = place(&address, offset % 4);
     let at = place(&address, offset);
     let after = place(&address, offset + 4);
     store_words(
         straight,
+        &test,
         &at,
         &after,
         &Term::read(v.low),
@@ -157,31 +162,33 @@ fn store_wide(straight: &mut Straight, offset: u64, a: Name, v: Pair) -> Result<
     )
 }
 
-// Two words to two places.
+// Two words to two places, which are multiples of four where the test is.
 fn store_words<'a>(
     straight: &mut Straight,
+    test: &Term<'_>,
     at: &'a Term<'a>,
     after: &'a Term<'a>,
     low: &'a Term<'a>,
     high: &'a Term<'a>,
 ) -> Result<(), AllocError>
-    ensures { IfOk result (λ _. state_of straight.new ≡ one (state_of straight.old) (words.either (words.both words.conjunction (term_view at.now) (pairs.literal 3)) (words.tell names.store_64 (term_view at.now ∷ term_view low.now ∷ term_view high.now ∷ []) ∷ []) (words.write_whole (term_view at.now) (term_view low.now) ∷ words.write_whole (term_view after.now) (term_view high.now) ∷ []))) }
+    ensures { IfOk result (λ _. state_of straight.new ≡ one (state_of straight.old) (words.either (words.both words.conjunction (term_view test.now) (pairs.literal 3)) (words.tell names.store_64 (term_view at.now ∷ term_view low.now ∷ term_view high.now ∷ []) ∷ []) (words.write_whole (term_view at.now) (term_view low.now) ∷ words.write_whole (term_view after.now) (term_view high.now) ∷ []))) }
 {
-    tell_or_write_both(straight, &[*at, *low, *high], at, after, low, high)
+    tell_or_write_both(straight, test, &[*at, *low, *high], at, after, low, high)
 }
 
-// By a helper, or where the first place is a multiple of four at once.
+// By a helper, or where the test is a multiple of four at once.
 fn tell_or_write_both<'a>(
     straight: &mut Straight,
+    test: &Term<'_>,
     arguments: &'a [Term<'a>],
     at: &'a Term<'a>,
     after: &'a Term<'a>,
     low: &'a Term<'a>,
     high: &'a Term<'a>,
 ) -> Result<(), AllocError>
-    ensures { IfOk result (λ _. state_of straight.new ≡ one (state_of straight.old) (words.either (words.both words.conjunction (term_view at.now) (pairs.literal 3)) (words.tell names.store_64 (terms_view arguments.now) ∷ []) (words.write_whole (term_view at.now) (term_view low.now) ∷ words.write_whole (term_view after.now) (term_view high.now) ∷ []))) }
+    ensures { IfOk result (λ _. state_of straight.new ≡ one (state_of straight.old) (words.either (words.both words.conjunction (term_view test.now) (pairs.literal 3)) (words.tell names.store_64 (terms_view arguments.now) ∷ []) (words.write_whole (term_view at.now) (term_view low.now) ∷ words.write_whole (term_view after.now) (term_view high.now) ∷ []))) }
 {
     let apart = [Step::Tell(Fixed::Store64, arguments)];
     let together = [Step::WriteWhole(at, low), Step::WriteWhole(after, high)];
-    by_place(straight, at, &apart, &together)
+    by_place(straight, test, &apart, &together)
 }

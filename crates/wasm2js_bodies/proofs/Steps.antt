@@ -1,5 +1,5 @@
 -- One instruction, and the walk at the next place.
-use Rattle.std.proofs.Common.{◌≡◌, ℕ, ◌+◌, ◌<◌, true, false, List, [], ◌∷◌, ◌++◌, Some, sym, ap, subst, ◌∙◌, ◌⊎◌, inl, inr, arith, append_assoc}
+use Rattle.std.proofs.Common.{◌≡◌, ℕ, ◌+◌, ◌<◌, true, false, List, [], ◌∷◌, ◌++◌, drop, Some, sym, ap, subst, ◌∙◌, ◌⊎◌, inl, inr, arith, append_assoc}
 use Rattle.std.specs.Prelude.{slice_get}
 use Rattle.wasm_lang.specs.declared.types.ValType.{ValType}
 use Rattle.wasm_lang.specs.Instructions as flat
@@ -15,7 +15,7 @@ use Rattle.wasm_run_flat.proofs.Standing.{single_goes_on, end_leaves, else_leave
 use Rattle.asm_lang.specs.Modules.{Stmt}
 use Rattle.wasm2js_translation.specs.Words.{simple_statements}
 use Rattle.wasm2js_translation.specs.Names.{Name}
-use Rattle.wasm2js_translation.specs.Delays.{Delayed, written, without}
+use Rattle.wasm2js_translation.specs.Delays.{Delayed, written, without, standing}
 use Rattle.wasm2js_translation.specs.Known.{into_block}
 use Rattle.wasm2js_translation.specs.Bodies.{Aim, comes_to_end, written_but, ended}
 use Rattle.wasm2js_build.specs.Growing.{Held, nothing_held}
@@ -93,6 +93,14 @@ beside told start mid n m ds es begins left same made =
     made ∙ ap (λ (ss : List Stmt). ss ++ simple_statements (written es)) begins
     ∙ ap (λ (fs : List Delayed). told ++ simple_statements (written fs)) left
     ∙ ap (λ (x : Name). told ++ written_but x ds) same
+
+-- all but what waits for operands that are gone
+pub beside_gone : (told start mid : List Stmt) (ds es : List Delayed) (b n : ℕ) (ts us : List ValType) → start ≡ told → us ≡ drop n ts → es ≡ standing b us ds → mid ≡ start ++ simple_statements (written es)
+    → mid ≡ told ++ simple_statements (written (standing b (drop n ts) ds))
+beside_gone told start mid ds es b n ts us begins left waits made =
+    made ∙ ap (λ (ss : List Stmt). ss ++ simple_statements (written es)) begins
+    ∙ ap (λ (fs : List Delayed). told ++ simple_statements (written fs)) waits
+    ∙ ap (λ (vs : List ValType). told ++ simple_statements (written (standing b vs ds))) left
 
 pub joined : (before mid after all head : List Stmt) → mid ≡ before ++ all → after ≡ mid ++ head → after ≡ before ++ (all ++ head)
 joined before mid after all head e f = f ∙ ap (λ (ss : List Stmt). ss ++ head) e ∙ append_assoc before all head

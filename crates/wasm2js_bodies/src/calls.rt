@@ -1,36 +1,47 @@
 //! Calls.
-ghost use Rattle.std.specs.Prelude.{◌≡◌, ◌≤◌, ◌+◌, ◌++◌, suc, length, drop, slice_get, vec_len, IfOk};
+ghost use Rattle.std.specs.Prelude.{◌≡◌, ◌≤◌, ◌+◌, ◌++◌, suc, length, drop, slice_get, vec_len, Some, IfOk};
 ghost use Rattle.wasm_lang_valid.specs.Typing as typing;
 ghost use Rattle.wasm_tree.specs.Views.{type_of};
 ghost use Rattle.wasm2js_translation.specs.Actions as actions;
 ghost use Rattle.wasm2js_translation.specs.Bodies as bodies;
 ghost use Rattle.wasm2js_build.specs.Blocks.{statements_of};
+ghost use Rattle.wasm2js_build.specs.Growing.{waits_of, held_of, nothing_held};
 ghost use Rattle.wasm2js_operands.specs.Operands.{over, IsKept};
 ghost use Rattle.wasm2js_operands.specs.Scopes.{context_in};
 
+use crate::closing::give;
+use crate::waiting::keep_standing;
 use std::alloc::{AllocError, Global};
 use wasm_lang::ValType;
 use wasm_tree::FuncType;
-use wasm2js_build::Block;
-use wasm2js_jumps::{CalledTable, call_entry, call_function};
+use wasm2js_build::{Block, LateBlock};
+use wasm2js_jumps::{CalledTable, answered, call_entry, function_call, result_type};
 use wasm2js_operands::{BodyScope, after_call, remove, under};
 
+// A call of a function of this type. What waits below its arguments is written before it.
 fn call_with(
     alloc: Global,
     types: &mut Vec<ValType>,
     base: usize,
     function: u32,
     function_type: &FuncType,
-    block: &mut Block,
+    text: &mut LateBlock,
 ) -> Result<(), AllocError>
     requires { base ≤ vec_len types.old }
     ensures kept { IfOk result (λ _. IsKept base types.old.items types.new.items) }
     ensures types { IfOk result (λ _. over base types.new.items ≡ bodies.after_call (type_of function_type.now) (over base types.old.items)) }
-    ensures statements { IfOk result (λ _. statements_of block.new ≡ statements_of block.old ++ bodies.call_of function (actions.under (length (type_of function_type.now).params) base (over base types.old.items)) (type_of function_type.now)) }
+    ensures held { IfOk result (λ _. held_of text.new ≡ nothing_held) }
+    ensures statements { IfOk result (λ _. statements_of text.new.block ≡ statements_of text.old.block ++ bodies.call_stmts (waits_of text.old) function base (over base types.old.items) (Some (type_of function_type.now))) }
 {
-    let depth = under(types, base, function_type.params.len());
-    call_function(alloc, function, depth, function_type, block)?;
-    after_call(types, base, function_type)?;
+    let count = function_type.params.len();
+    let depth = under(types, base, count);
+    let made = function_call(alloc, text, function, depth, function_type)?;
+    remove(types, base, count);
+    keep_standing(types, base, text);
+    text.write_all()?;
+    let gives = result_type(function_type);
+    answered(alloc, gives, depth, made, &mut text.block)?;
+    give(types, base, gives)?;
     Ok(())
 }
 
@@ -41,17 +52,21 @@ pub fn put_call(
     types: &mut Vec<ValType>,
     base: usize,
     function: u32,
-    block: &mut Block,
+    text: &mut LateBlock,
 ) -> Result<(), AllocError>
     requires { base ≤ vec_len types.old }
     ensures kept { IfOk result (λ _. IsKept base types.old.items types.new.items) }
     ensures types { IfOk result (λ _. over base types.new.items ≡ bodies.types_after_call (typing.type_of (context_in scope.now) function) (over base types.old.items)) }
-    ensures statements { IfOk result (λ _. statements_of block.new ≡ statements_of block.old ++ bodies.call_stmts function base (over base types.old.items) (typing.type_of (context_in scope.now) function)) }
+    ensures held { IfOk result (λ _. held_of text.new ≡ nothing_held) }
+    ensures statements { IfOk result (λ _. statements_of text.new.block ≡ statements_of text.old.block ++ bodies.call_stmts (waits_of text.old) function base (over base types.old.items) (typing.type_of (context_in scope.now) function)) }
 {
     match scope.function_type(function) {
-        None => Ok(()),
+        None => {
+            text.forget();
+            Ok(())
+        }
         Some(function_type) => {
-            call_with(alloc, types, base, function, function_type, block)?;
+            call_with(alloc, types, base, function, function_type, text)?;
             Ok(())
         }
     }

@@ -107,8 +107,8 @@ fn put_if(
     put_labelled(alloc, aims, stmt, block)
 }
 
-// The result of a block.
-fn give(
+/// The result of a block or of a call.
+pub fn give(
     types: &mut Vec<ValType>,
     base: usize,
     result_type: Option<ValType>,

@@ -124,15 +124,7 @@ pub fn do_call(
     ensures step { (ls : List bodies.Aim) → IfOk result (λ next. IsStep next walk.now body.now at ls base (over base types.old.items) (over base types.new.items) (held_of text.old) (held_of text.new) (statements_of text.old.block) (statements_of text.new.block)) }
 {
     let place = place_after(body, at);
-    text.write_all()?;
-    put_call(
-        walk.alloc,
-        walk.scope,
-        types,
-        base,
-        function,
-        &mut text.block,
-    )?;
+    put_call(walk.alloc, walk.scope, types, base, function, text)?;
     Ok(Next::At(place))
 }
 

@@ -12,6 +12,6 @@ mod straight;
 
 pub use block::{Block, function};
 pub use building::{expr, int_expr};
-pub use standing::{condition, result_number};
+pub use standing::{argument, condition, result_number};
 pub use steps::Step;
 pub use straight::{LateBlock, Straight};

@@ -1,11 +1,11 @@
 //! Expressions of words that stand for variables.
 ghost use Rattle.std.specs.Prelude.{◌≡◌, IfOk};
 ghost use Rattle.asm_tree.specs.Views.{expr_view};
-ghost use Rattle.wasm2js_translation.specs.Words.{test_of, signed_number, expr as expr_for};
+ghost use Rattle.wasm2js_translation.specs.Words.{int_of, test_of, signed_number, expr as expr_for};
 ghost use Rattle.wasm2js_terms.specs.Held.{of_two_view, word_view};
 
 use crate::building::{atom_expr, expr};
-use crate::forms::{test_form, word_form};
+use crate::forms::{int_form, test_form, word_form};
 use crate::light::{sum_of_two, term_of};
 use asm_tree::Expr;
 use std::alloc::{AllocError, Global};
@@ -56,6 +56,15 @@ pub fn condition(alloc: Global, word: Word) -> Result<Expr, AllocError>
 {
     let e = word_expr(alloc, word)?;
     test_form(alloc, word_form(word), e)
+}
+
+/// A word that stands for a variable, as what a call passes.
+#[tactic(auto, using(crate::proofs::OwnForms::int_is))]
+pub fn argument(alloc: Global, word: Word) -> Result<Expr, AllocError>
+    ensures { IfOk result (λ e. expr_view e ≡ int_of (word_view word)) }
+{
+    let e = word_expr(alloc, word)?;
+    int_form(alloc, word_form(word), e)
 }
 
 /// A word that stands for a variable, as what a function gives.

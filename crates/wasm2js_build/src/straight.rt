@@ -75,10 +75,25 @@ impl LateBlock {
     {
         self.write_lights()?;
         self.write_held()?;
+        self.forget();
+        Ok(())
+    }
+
+    /// All that waits is let go unwritten, and nothing is known then.
+    pub fn forget(&mut self)
+        ensures held { held_of self.new ≡ nothing_held }
+        ensures block { self.new.block ≡ self.old.block }
+    {
         self.waits.clear();
         self.held = None;
         self.known.clear();
-        Ok(())
+    }
+
+    /// The word that stands for a variable.
+    pub fn word_at(&self, name: Name) -> Word
+        ensures { word_view result ≡ delays.at_hand (waits_of self.now) (name_view name) }
+    {
+        word_at(&self.waits, self.held, name)
     }
 
     /// The word that stands for a variable, and no longer waits for it.
@@ -88,7 +103,7 @@ impl LateBlock {
         ensures block { self.new.block ≡ self.old.block }
         ensures known { self.new.known ≡ self.old.known }
     {
-        let word = word_at(&self.waits, self.held, name);
+        let word = self.word_at(name);
         drop_name(&mut self.waits, name);
         self.held = held_without(self.held, name);
         word

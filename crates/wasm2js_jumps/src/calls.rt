@@ -8,11 +8,13 @@ ghost use Rattle.wasm_tree.specs.Views.{type_of};
 ghost use Rattle.wasm_lang_valid.specs.Typing.{result_of};
 ghost use Rattle.wasm2js_translation.specs.Bodies as bodies;
 ghost use Rattle.wasm2js_translation.specs.Actions.{low};
+ghost use Rattle.wasm2js_translation.specs.Delays.{at_hand};
 ghost use Rattle.wasm2js_translation.specs.Words as words;
-ghost use Rattle.wasm2js_translation.specs.Names.{numbered, table as table_kind, spelled};
+ghost use Rattle.wasm2js_translation.specs.Names.{numbered, function as function_kind, table as table_kind, spelled};
 ghost use Rattle.wasm2js_nodes.specs.Names.{numbered_view};
 ghost use Rattle.wasm2js_build.specs.Blocks.{statements_of};
-ghost use Rattle.wasm2js_jumps.specs.Arguments.{words_at, words_from};
+ghost use Rattle.wasm2js_build.specs.Growing.{waits_of};
+ghost use Rattle.wasm2js_jumps.specs.Arguments.{given_at, given_from};
 
 use crate::nodes::{effect, masked, table_call};
 use crate::values::take_high;
@@ -21,19 +23,22 @@ use sem_words::List;
 use std::alloc::{AllocError, Global};
 use wasm_lang::ValType;
 use wasm_tree::FuncType;
-use wasm2js_build::Block;
+use wasm2js_build::{Block, LateBlock, argument};
 use wasm2js_nodes::{Name, Numbered, call, natural, put_in, signed, variable};
 use wasm2js_terms::Term;
 
+// The word that stands for a variable after this text.
 fn add_word(
     alloc: Global,
+    text: &LateBlock,
     kind: Numbered,
     depth: u64,
     values: &mut List<Expr>,
 ) -> Result<(), AllocError>
-    ensures { IfOk result (λ _. map expr_view (list_items values.new) ≡ map expr_view (list_items values.old) ++ bodies.word_in (numbered (numbered_view kind) depth) ∷ []) }
+    ensures { IfOk result (λ _. map expr_view (list_items values.new) ≡ map expr_view (list_items values.old) ++ words.int_of (at_hand (waits_of text.now) (numbered (numbered_view kind) depth)) ∷ []) }
 {
-    let value = variable(alloc, Name::Counted(kind, depth))?;
+    let word = text.word_at(Name::Counted(kind, depth));
+    let value = argument(alloc, word)?;
     match values.push(value) {
         Ok(()) => Ok(()),
         Err(_) => Err(AllocError),
@@ -43,39 +48,50 @@ fn add_word(
 // The words of the operand above so many others.
 fn add_words(
     alloc: Global,
+    text: &LateBlock,
     value_type: ValType,
     depth: u64,
     values: &mut List<Expr>,
 ) -> Result<(), AllocError>
-    ensures { IfOk result (λ _. map expr_view (list_items values.new) ≡ map expr_view (list_items values.old) ++ words_at depth value_type) }
+    ensures { IfOk result (λ _. map expr_view (list_items values.new) ≡ map expr_view (list_items values.old) ++ given_at (waits_of text.now) depth value_type) }
 {
     match value_type {
-        ValType::I32 => add_word(alloc, Numbered::OperandLow, depth, values),
+        ValType::I32 => add_word(alloc, text, Numbered::OperandLow, depth, values),
         ValType::I64 => {
-            add_word(alloc, Numbered::OperandLow, depth, values)?;
-            add_word(alloc, Numbered::OperandHigh, depth, values)
+            add_word(alloc, text, Numbered::OperandLow, depth, values)?;
+            add_word(alloc, text, Numbered::OperandHigh, depth, values)
         }
     }
 }
 
 // The words of operands of these types, of which the first is above so many others.
-fn words_of(alloc: Global, depth: u64, types: &[ValType]) -> Result<List<Expr>, AllocError>
+fn words_of(
+    alloc: Global,
+    text: &LateBlock,
+    depth: u64,
+    types: &[ValType],
+) -> Result<List<Expr>, AllocError>
     requires { depth + length types.now < 2 ^ 64 }
-    ensures { IfOk result (λ es. map expr_view (list_items es) ≡ words_from depth types.now) }
+    ensures { IfOk result (λ es. map expr_view (list_items es) ≡ given_from (waits_of text.now) depth types.now) }
 {
     let mut values = List::new(alloc);
     for (i, value_type) in types.iter().enumerate() {
-        add_words(alloc, *value_type, depth + i as u64, &mut values)?;
+        add_words(alloc, text, *value_type, depth + i as u64, &mut values)?;
     }
     Ok(values)
 }
 
 #[tactic(auto, using(crate::proofs::CallLemmas::words_are))]
-fn arguments(alloc: Global, depth: u64, types: &[ValType]) -> Result<List<Expr>, AllocError>
+fn arguments(
+    alloc: Global,
+    text: &LateBlock,
+    depth: u64,
+    types: &[ValType],
+) -> Result<List<Expr>, AllocError>
     requires { depth + length types.now < 2 ^ 64 }
-    ensures { IfOk result (λ es. exprs_view (list_items es) ≡ bodies.arguments_from depth types.now) }
+    ensures { IfOk result (λ es. exprs_view (list_items es) ≡ bodies.arguments_from (waits_of text.now) depth types.now) }
 {
-    words_of(alloc, depth, types)
+    words_of(alloc, text, depth, types)
 }
 
 fn word_answered(alloc: Global, depth: u64, call: Expr, block: &mut Block) -> Result<(), AllocError>
@@ -86,8 +102,8 @@ fn word_answered(alloc: Global, depth: u64, call: Expr, block: &mut Block) -> Re
     block.push(stmt)
 }
 
-// The result of a call becomes the operand above so many others.
-fn answered(
+/// The result of a call becomes the operand above so many others.
+pub fn answered(
     alloc: Global,
     result_type: Option<ValType>,
     depth: u64,
@@ -118,21 +134,21 @@ pub fn result_type(function_type: &FuncType) -> Option<ValType>
     }
 }
 
-/// A call of a function, whose first argument is the operand above so many others.
-pub fn call_function(
+/// The call of a function after this text, whose first argument is the operand above so many others: the words that
+/// wait for its operands stand in it.
+pub fn function_call(
     alloc: Global,
+    text: &LateBlock,
     function: u32,
     depth: u64,
     function_type: &FuncType,
-    block: &mut Block,
-) -> Result<(), AllocError>
+) -> Result<Expr, AllocError>
     requires { depth + length (type_of function_type.now).params < 2 ^ 64 }
-    ensures { IfOk result (λ _. statements_of block.new ≡ statements_of block.old ++ bodies.call_of function depth (type_of function_type.now)) }
+    ensures { IfOk result (λ e. expr_view e ≡ plain.call (spelled (numbered function_kind function)) (bodies.arguments_from (waits_of text.now) depth (type_of function_type.now).params)) }
 {
-    let values = arguments(alloc, depth, function_type.params.as_slice())?;
+    let values = arguments(alloc, text, depth, function_type.params.as_slice())?;
     let name = Name::Counted(Numbered::Function, function as u64);
-    let made = call(alloc, name, values)?;
-    answered(alloc, result_type(function_type), depth, made, block)
+    call(alloc, name, values)
 }
 
 /// A table as it is called through: its number, and how many cells it has.
@@ -158,6 +174,7 @@ fn cell_index(alloc: Global, cells: u64, index: u64) -> Result<Expr, AllocError>
     masked(alloc, read, natural(most))
 }
 
+// The call of an entry, where nothing waits.
 fn entry_call(
     alloc: Global,
     table: CalledTable,
@@ -166,9 +183,10 @@ fn entry_call(
     types: &[ValType],
 ) -> Result<Expr, AllocError>
     requires { depth + length types.now < 2 ^ 64 }
-    ensures { IfOk result (λ e. expr_view e ≡ plain.table_call (spelled (numbered table_kind table.number)) (plain.binary And (bodies.word_in (low index)) (words.natural (table.cells - 1))) (bodies.arguments_from depth types.now)) }
+    ensures { IfOk result (λ e. expr_view e ≡ plain.table_call (spelled (numbered table_kind table.number)) (plain.binary And (bodies.word_in (low index)) (words.natural (table.cells - 1))) (bodies.arguments_from [] depth types.now)) }
 {
-    let values = arguments(alloc, depth, types)?;
+    let nothing_waits = LateBlock::new(alloc);
+    let values = arguments(alloc, &nothing_waits, depth, types)?;
     let cell = cell_index(alloc, table.cells, index)?;
     table_call(
         alloc,

@@ -9,7 +9,7 @@ mod switches;
 mod values;
 
 pub use aims::{Aim, aim_at, gives_word, label_of};
-pub use calls::{CalledTable, call_entry, call_function, result_type};
+pub use calls::{CalledTable, answered, call_entry, function_call, result_type};
 pub use jumps::{give_at_hand, jump, leave_with};
 pub use nodes::{
     bare_break, block_of, break_to, chosen, continue_to, endless, if_only, labelled, part_of,

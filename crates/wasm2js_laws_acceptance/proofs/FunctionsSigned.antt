@@ -1,5 +1,5 @@
 -- A function has a result exactly where its type has one: its last statement says what it gives.
-use Rattle.std.proofs.Common.{◌≡◌, ℕ, zero, suc, ◌+◌, Bool, true, false, List, [], ◌∷◌, ◌++◌, drop, Option, Some, None, is_some, refl, sym, ap, ◌∙◌, subst, append_assoc}
+use Rattle.std.proofs.Common.{◌≡◌, ℕ, zero, suc, ◌+◌, Bool, true, false, List, [], ◌∷◌, ◌++◌, length, drop, Option, Some, None, is_some, refl, sym, ap, ◌∙◌, subst, append_assoc}
 use Rattle.std.specs.Prelude.{slice_get}
 use Rattle.wasm_lang.specs.declared.types.ValType.{ValType}
 use Rattle.wasm_lang.specs.declared.types.ValType.TheVariants.{I32, I64}
@@ -12,7 +12,7 @@ use Rattle.wasm2js_translation.specs.Names.{Name}
 use Rattle.wasm2js_translation.specs.Words.{Action, simply, either, Simple, put, ask, tell, guard, stop, write_byte, write_whole, stmts_in, statement, statements, simple_statement, simple_statements}
 use Rattle.wasm2js_translation.specs.Actions.{under, low}
 use Rattle.wasm2js_translation.specs.Bodies.{out, jump, switches_from, most_cases, answered, call_stmts, indirect_stmts, after_plain, types_after_call, written_but, leave_late, comes_to_end, stmts_of, left_waiting, closing, body_stmts, lean_code}
-use Rattle.wasm2js_translation.specs.Delays.{Delayed, without, written}
+use Rattle.wasm2js_translation.specs.Delays.{Delayed, without, written, standing}
 use Rattle.wasm2js_translation.specs.Known.{Known}
 
 -- ---- the last statement
@@ -70,9 +70,9 @@ answered_silent None d e = (refl, tt)
 answered_silent (Some I32) d e = (refl, tt)
 answered_silent (Some I64) d e = (refl, (refl, tt))
 
-call_silent : (f b : ℕ) (ts : List ValType) (o : Option FunctionType) → AreSilent (call_stmts f b ts o)
-call_silent f b ts None = tt
-call_silent f b ts (Some t) = answered_silent (result_of t) _ _
+call_silent : (ds : List Delayed) (f b : ℕ) (ts : List ValType) (o : Option FunctionType) → AreSilent (call_stmts ds f b ts o)
+call_silent ds f b ts None = tt
+call_silent ds f b ts (Some t) = silent_behind (standing b (drop (length t.params) ts) ds) _ (answered_silent (result_of t) _ _)
 
 indirect_silent : (cells : ℕ) (types : List FunctionType) (b : ℕ) (ts : List ValType) (o : Option FunctionType) → AreSilent (indirect_stmts cells types b ts o)
 indirect_silent cells types b ts None = tt
@@ -109,7 +109,7 @@ module _ (bytes cells : ℕ) (c : Context) (none : c.returns ≡ None) where
   code_silent (loop r body ▹ is) b ts ds ks = silent_behind ds _ (refl, code_silent is b _ [] [])
   code_silent (if_block r first second ▹ is) b ts ds ks = silent_but (low (under 1 b ts)) ds _ (refl, code_silent is b _ [] [])
   code_silent (call f ▹ is) b ts ds ks =
-      silent_join (simple_statements (written ds) ++ call_stmts f b ts (type_of c f)) _ (silent_behind ds _ (call_silent f b ts (type_of c f))) (code_silent is b (types_after_call (type_of c f) ts) [] [])
+      silent_join (call_stmts ds f b ts (type_of c f)) _ (call_silent ds f b ts (type_of c f)) (code_silent is b (types_after_call (type_of c f) ts) [] [])
   code_silent (call_indirect t ▹ is) b ts ds ks =
       silent_join (simple_statements (written ds) ++ indirect_stmts cells c.types b ts (slice_get c.types t)) _ (silent_behind ds _ (indirect_silent cells c.types b ts (slice_get c.types t))) (code_silent is b _ [] [])
 
@@ -146,7 +146,7 @@ module _ (bytes cells : ℕ) (c : Context) where
   code_answers (loop r body ▹ is) b ts ds ks e = behind_two (simple_statements (written ds)) _ _ (code_answers is b (listed r ++ ts) [] [] e)
   code_answers (if_block r first second ▹ is) b ts ds ks e = behind_two (written_but (low (under 1 b ts)) ds) _ _ (code_answers is b (listed r ++ drop 1 ts) [] [] e)
   code_answers (call f ▹ is) b ts ds ks e =
-      answers_behind (simple_statements (written ds) ++ call_stmts f b ts (type_of c f)) _ (code_answers is b (types_after_call (type_of c f) ts) [] [] e)
+      answers_behind (call_stmts ds f b ts (type_of c f)) _ (code_answers is b (types_after_call (type_of c f) ts) [] [] e)
   code_answers (call_indirect t ▹ is) b ts ds ks e =
       answers_behind (simple_statements (written ds) ++ indirect_stmts cells c.types b ts (slice_get c.types t)) _ (code_answers is b (types_after_call (slice_get c.types t) (drop 1 ts)) [] [] e)
 

@@ -1,13 +1,13 @@
--- What one operand is to have, where all else is written: its word reads none of the variables of the others.
+-- What some operands are to have, where all else is written: their words read none of the variables of the others.
 use Rattle.std.proofs.Common.{◌≡◌, ℕ, Bool, true, false, not, List, [], ◌∷◌, Option, Some, None, refl, sym, ap, ◌∙◌, subst}
 use Rattle.std.specs.Prelude.{if◌then◌else◌}
 use Rattle.wasm2js_translation.specs.Names.{Name, same_name}
 use Rattle.wasm2js_translation.specs.Words.{Term}
-use Rattle.wasm2js_translation.specs.Delays.{Delayed, is_light, waiting, without, word_or, at_hand}
+use Rattle.wasm2js_translation.specs.Delays.{Delayed, is_light, waiting, those, without, word_or, at_hand}
 use Rattle.wasm2js_laws_places.specs.Straight.{Words, value}
-use Rattle.wasm2js_laws_places.specs.Delaying.{seen, IsUnread, AreWaiting, BesideIsSeen}
-use Rattle.wasm2js_laws_places.proofs.SameNames.{same_is, same_back}
-use Rattle.wasm2js_laws_places.proofs.DelayedLists.{waits_here, waits_further, operand_waits, kept, those_by_name, those_wait, none_without}
+use Rattle.wasm2js_laws_places.specs.Delaying.{seen, IsUnread, AreWaiting, SomeAreSeen}
+use Rattle.wasm2js_laws_places.proofs.SameNames.{same_is, same_itself, same_back}
+use Rattle.wasm2js_laws_places.proofs.DelayedLists.{waits_here, waits_further, operand_waits, kept, those_by_name, those_wait, none_left}
 use Rattle.wasm2js_laws_places.proofs.DelayedTerms.{seen_at_hand, seen_as, unread_seen, light_unread}
 
 -- ---- words of variables that wait beside one another
@@ -43,42 +43,63 @@ words_apart ds n t h e m u f apart = by (is_light t) refl
     by true light = light_unread m t (operand_waits ds m u h f) light
     by false heavy = heavy_apart ds n m t u h e heavy f apart
 
--- ---- without what one is to have
+-- ---- where some are written, by their variables
 
-module _ (n : Name) (ds : List Delayed) (words : Words) (heap : List ℕ) (h : AreWaiting ds) where
-  abbrev beside : Delayed → Bool
-  beside d = not (same_name d.name n)
+module _ (asked : Name → Bool) (ds : List Delayed) (words : Words) (heap : List ℕ) (h : AreWaiting ds) where
+  abbrev by_name : Delayed → Bool
+  by_name d = asked d.name
 
-  still_wait : AreWaiting (without n ds)
-  still_wait = those_wait beside ds h
+  abbrev some : List Delayed
+  some = those by_name ds
 
-  seen_elsewhere : (m : Name) → same_name n m ≡ false → seen (without n ds) words heap m ≡ seen ds words heap m
-  seen_elsewhere m e = seen_as (without n ds) words heap m (waiting ds m) (those_by_name beside ds m h ∙ by (waiting ds m)) ∙ sym (seen_at_hand ds words heap m)
+  still_wait : AreWaiting some
+  still_wait = those_wait by_name ds h
+
+  seen_written : (m : Name) → asked m ≡ true → seen some words heap m ≡ seen ds words heap m
+  seen_written m e = seen_as some words heap m (waiting ds m) (those_by_name by_name ds m h ∙ by (waiting ds m)) ∙ sym (seen_at_hand ds words heap m)
     where
-      by : (o : Option Term) → kept beside m o ≡ o
+      by : (o : Option Term) → kept by_name m o ≡ o
       by None = refl
-      by (Some t) = let k = same_back n m e in rw k refl
+      by (Some t) = rw e refl
 
-  -- what waits beside it waits for another variable
-  waits_beside : (m : Name) (u : Term) → waiting (without n ds) m ≡ Some u → (waiting ds m ≡ Some u) × (same_name m n ≡ false)
-  waits_beside m u e = by (waiting ds m) refl (sym (those_by_name beside ds m h) ∙ e)
+  -- what is written is asked for
+  waits_there : (m : Name) (u : Term) → waiting some m ≡ Some u → (waiting ds m ≡ Some u) × (asked m ≡ true)
+  waits_there m u e = by (waiting ds m) refl (sym (those_by_name by_name ds m h) ∙ e)
     where
-      cases : (v : Term) (b : Bool) → waiting ds m ≡ Some v → same_name m n ≡ b → (if not b then Some v else None) ≡ Some u → (waiting ds m ≡ Some u) × (same_name m n ≡ false)
-      cases v true g k f = absurd (cc f)
-      cases v false g k f = (g ∙ f, k)
+      cases : (v : Term) (b : Bool) → waiting ds m ≡ Some v → asked m ≡ b → (if b then Some v else None) ≡ Some u → (waiting ds m ≡ Some u) × (asked m ≡ true)
+      cases v true g k f = (g ∙ f, k)
+      cases v false g k f = absurd (cc f)
 
-      by : (o : Option Term) → waiting ds m ≡ o → kept beside m o ≡ Some u → (waiting ds m ≡ Some u) × (same_name m n ≡ false)
+      by : (o : Option Term) → waiting ds m ≡ o → kept by_name m o ≡ Some u → (waiting ds m ≡ Some u) × (asked m ≡ true)
       by None g f = absurd (cc f)
-      by (Some v) g f = cases v (same_name m n) g refl f
+      by (Some v) g f = cases v (asked m) g refl f
 
-  seen_where_asked : value (at_hand ds n) (seen (without n ds) words heap) heap ≡ seen ds words heap n
-  seen_where_asked = by (waiting ds n) refl
+  other_name : (n m : Name) → asked n ≡ false → asked m ≡ true → same_name m n ≡ false
+  other_name n m e f = by (same_name m n) refl
     where
-      by : (o : Option Term) → waiting ds n ≡ o → value (word_or o n) (seen (without n ds) words heap) heap ≡ seen ds words heap n
-      by None e = seen_as (without n ds) words heap n None (none_without n ds h) ∙ sym (seen_as ds words heap n None e)
+      by : (b : Bool) → same_name m n ≡ b → same_name m n ≡ false
+      by true g = let same = ap asked (same_is m n g) in absurd (cc (e, f, same))
+      by false g = g
+
+  seen_where_asked : (n : Name) → asked n ≡ false → value (at_hand ds n) (seen some words heap) heap ≡ seen ds words heap n
+  seen_where_asked n apart = by (waiting ds n) refl
+    where
+      by : (o : Option Term) → waiting ds n ≡ o → value (word_or o n) (seen some words heap) heap ≡ seen ds words heap n
+      by None e = seen_as some words heap n None (none_left by_name ds n h e) ∙ sym (seen_as ds words heap n None e)
       by (Some t) e =
-          unread_seen (without n ds) t words heap still_wait (λ m u f. let k = waits_beside m u f in words_apart ds n t h e m u k.0 k.1)
+          unread_seen some t words heap still_wait (λ m u f. let k = waits_there m u f in words_apart ds n t h e m u k.0 (other_name n m apart k.1))
           ∙ sym (seen_as ds words heap n (Some t) e)
 
-pub beside_is_seen : BesideIsSeen
-beside_is_seen n ds words heap h = (still_wait n ds words heap h, seen_elsewhere n ds words heap h, seen_where_asked n ds words heap h)
+pub some_are_seen : SomeAreSeen
+some_are_seen asked ds words heap h = (still_wait asked ds words heap h, seen_written asked ds words heap h, seen_where_asked asked ds words heap h)
+
+-- ---- without what one is to have
+
+pub still_beside : (n : Name) (ds : List Delayed) → AreWaiting ds → AreWaiting (without n ds)
+still_beside n ds h = those_wait (λ d. not (same_name d.name n)) ds h
+
+pub elsewhere : (n : Name) (ds : List Delayed) (words : Words) (heap : List ℕ) → AreWaiting ds → (m : Name) → same_name n m ≡ false → seen (without n ds) words heap m ≡ seen ds words heap m
+elsewhere n ds words heap h m e = seen_written (λ m. not (same_name m n)) ds words heap h m (let k = same_back n m e in rw k refl)
+
+pub seen_beside : (n : Name) (ds : List Delayed) (words : Words) (heap : List ℕ) → AreWaiting ds → value (at_hand ds n) (seen (without n ds) words heap) heap ≡ seen ds words heap n
+seen_beside n ds words heap h = seen_where_asked (λ m. not (same_name m n)) ds words heap h n (let k = same_itself n in rw k refl)

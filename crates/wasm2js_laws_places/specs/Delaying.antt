@@ -1,9 +1,9 @@
 -- What words come to while some of them wait: straight code whose words are written late does what the code does that writes each at once.
-use Rattle.std.specs.Prelude.{◌≡◌, ℕ, true, false, List, [], ◌∷◌, Some, None, if◌then◌else◌}
+use Rattle.std.specs.Prelude.{◌≡◌, ℕ, Bool, true, false, List, [], ◌∷◌, Some, None, if◌then◌else◌}
 use Rattle.wasm_lang.specs.declared.types.ValType.{ValType}
 use Rattle.wasm2js_translation.specs.Names.{Name, same_name}
 use Rattle.wasm2js_translation.specs.Words.{Term, Action}
-use Rattle.wasm2js_translation.specs.Delays.{Delayed, is_operand, is_light, waiting, without, at_hand, written, late, standing}
+use Rattle.wasm2js_translation.specs.Delays.{Delayed, is_operand, is_light, waiting, those, at_hand, written, late, standing}
 use Rattle.wasm2js_laws_places.specs.Straight.{Words, with_word, value, Helping, Outcome, goes, stops, run_simples, simples_units, run_actions, actions_units}
 use Rattle.wasm2js_laws_places.specs.Places.{operands, locals_of, globals_of, Stays}
 
@@ -58,10 +58,12 @@ OthersAreSeen =
     (ts : List ValType) (ds : List Delayed) (words : Words) (heap : List ℕ) → AreWaiting ds
     → (locals_of ts (seen ds words heap) ≡ locals_of ts words) × (globals_of ts (seen ds words heap) ≡ globals_of ts words)
 
--- without what one operand is to have, all else is the same, and the word that stands for the operand comes to what it was to have
-abbrev pub BesideIsSeen : Type 0
-BesideIsSeen =
-    (n : Name) (ds : List Delayed) (words : Words) (heap : List ℕ) → AreWaiting ds
-    → AreWaiting (without n ds)
-    × ((m : Name) → same_name n m ≡ false → seen (without n ds) words heap m ≡ seen ds words heap m)
-    × (value (at_hand ds n) (seen (without n ds) words heap) heap ≡ seen ds words heap n)
+-- where some are written, by their variables, each of these has its word, and the word that stands for another variable comes to what that was
+-- to have
+abbrev pub SomeAreSeen : Type 0
+SomeAreSeen =
+    (asked : Name → Bool) (ds : List Delayed) (words : Words) (heap : List ℕ) → AreWaiting ds
+    → let some = those (λ d. asked d.name) ds in
+    AreWaiting some
+    × ((n : Name) → asked n ≡ true → seen some words heap n ≡ seen ds words heap n)
+    × ((n : Name) → asked n ≡ false → value (at_hand ds n) (seen some words heap) heap ≡ seen ds words heap n)

@@ -1,5 +1,5 @@
 -- All but one operand's word that waits is written before what reads that word where it stands.
-use Rattle.std.proofs.Common.{◌≡◌, ℕ, ◌+◌, not, List, [], ◌∷◌, ◌++◌, length, Some, refl, sym, ap, ◌∙◌, subst, arith}
+use Rattle.std.proofs.Common.{◌≡◌, ℕ, ◌+◌, false, not, List, [], ◌∷◌, ◌++◌, length, Some, refl, sym, ap, ◌∙◌, subst, arith}
 use Rattle.std.proofs.Math.Path.{fun_ext}
 use Rattle.sem_words.specs.declared.word.Word.{Word}
 use Rattle.sem_words.specs.declared.word.Word.TheVariants.{W32}
@@ -14,10 +14,10 @@ use Rattle.asm_lang.specs.Modules.{Stmt, returns}
 use Rattle.asm_lang_exec.specs.Runs.{Place, Run, Part}
 use Rattle.asm_lang_exec.specs.Meaning.{Completion, normal, returned}
 use Rattle.asm_laws_continuation.specs.Following.{unless_left_to, exec_all_to}
-use Rattle.wasm2js_translation.specs.Names.{numbered, operand_low, operand_high, same_name}
+use Rattle.wasm2js_translation.specs.Names.{Name, numbered, operand_low, operand_high, same_name}
 use Rattle.wasm2js_translation.specs.Words.{Term, expr, signed_number, simple_statements, stmts_in}
 use Rattle.wasm2js_translation.specs.Actions.{low}
-use Rattle.wasm2js_translation.specs.Delays.{Delayed, without, at_hand, written}
+use Rattle.wasm2js_translation.specs.Delays.{Delayed, without, at_hand, written, stands, standing}
 use Rattle.wasm2js_translation.specs.Known.{Known, into_block}
 use Rattle.wasm2js_translation.specs.Bodies.{written_but, leave_late}
 use Rattle.wasm2js_laws_terms.specs.Sound.{IsInt, IsSound}
@@ -26,7 +26,8 @@ use Rattle.wasm2js_laws_places.specs.Straight.{Words, value}
 use Rattle.wasm2js_laws_places.specs.Places.{word_at, operands, Stays}
 use Rattle.wasm2js_laws_places.specs.Helped.{IsOn}
 use Rattle.wasm2js_laws_places.specs.Knowing.{AreKnown}
-use Rattle.wasm2js_laws_places.proofs.DelayedBeside.{beside_is_seen}
+use Rattle.wasm2js_laws_places.proofs.DelayedBeside.{some_are_seen, still_beside, elsewhere, seen_beside}
+use Rattle.wasm2js_laws_places.proofs.Delayed.{standing_is_seen}
 use Rattle.wasm2js_laws_places.proofs.KnownSteps.{known_inside}
 use Rattle.wasm2js_laws_preservation.specs.ControlControl.{Function, IsFair, Inside, MayWait, seen_at, state_at, sight, IsFollowed}
 use Rattle.wasm2js_laws_preservation.proofs.ControlSeen.{state_seen}
@@ -43,6 +44,13 @@ pub record IsBeside (f : Function) (most : ℕ) (w : List EventPlain) (ds : List
   pub inside : Inside f most w q
   pub below : Stays depth (seen_at ds p) (word_at q)
   pub known : (ks : List Known) → AreKnown ks (word_at p) → AreKnown (into_block ks) (word_at q)
+
+-- a place where of the words that wait at p those are written that operands of these types are to have, and all others stand where they are read
+pub record IsUnder (f : Function) (most : ℕ) (w : List EventPlain) (ds : List Delayed) (b : ℕ) (us : List ValType) (p q : Place) : Type 0 where
+  pub inside : Inside f most w q
+  pub below : Stays b (seen_at ds p) (word_at q)
+  pub same : operands b us (word_at q) ≡ operands b us (seen_at ds p)
+  pub above : (n : Name) → stands b us n ≡ false → value (at_hand ds n) (word_at q) q.heap ≡ seen_at ds p n
 
 -- at p these words wait
 module _ (f : Function) (fair : IsFair f) (most : ℕ) (ds : List Delayed) (may : MayWait f ds) (b : ℕ) (p : Place) (w : List EventPlain) (i : Inside f most w p) where
@@ -74,6 +82,39 @@ module _ (f : Function) (fair : IsFair f) (most : ℕ) (ds : List Delayed) (may 
       (λ q on. from_there ds may q on around go (operands b ts (seen_at ds p)) (operands b ts (word_at q)) (next normal q)
       (sym (ap (λ (words : Words). operands b ts words) (fun_ext on.has_words))) (h q (inside_there ds may q on)))
 
+  -- ---- those are written that operands of these types are to have
+
+  module _ (us : List ValType) where
+    abbrev beneath : List Delayed
+    beneath = standing b us ds
+
+    beneath_wait : MayWait f beneath
+    beneath_wait = record { waiting = (standing_is_seen b us ds (word_at p) p.heap may.waiting).0; sound = those_sound f.scope (λ d. stands b us d.name) ds may.sound }
+
+    is_under : (q : Place) → IsOn f.setting.bytes (seen_at beneath p) p.heap 0 p q → IsUnder f most w ds b us p q
+    is_under q on =
+        let standing_seen = standing_is_seen b us ds (word_at p) p.heap may.waiting in
+        let there : word_at q ≡ seen_at beneath p = fun_ext on.has_words in
+        record {
+          inside = inside_there beneath beneath_wait q on;
+          below = subst (λ (words : Words). Stays b (seen_at ds p) words) (sym there) standing_seen.2;
+          same = ap (λ (words : Words). operands b us words) there ∙ standing_seen.1;
+          above = λ n apart.
+              ap (λ (words : Words). value (at_hand ds n) words q.heap) there ∙ ap (λ heap. value (at_hand ds n) (seen_at beneath p) heap) on.has_heap
+              ∙ (some_are_seen (stands b us) ds (word_at p) p.heap may.waiting).2 n apart;
+        }
+
+    -- before these statements
+    pub under_before : (ts : List ValType) (around : List Surrounding) (go : State → Outcome) (ss : List Stmt) (next : Completion → Part (Unit {0}))
+        → ((q : Place) → IsUnder f most w ds b us p q → IsFollowed f q (sight f around go (operands b ts (seen_at ds p)) q w) (exec_all_to f.calls f.scope f.bound (stmts_in ss) next q))
+        → IsFollowed f p (sight f around go (operands b ts (seen_at ds p)) p w) (exec_all_to f.calls f.scope f.bound (stmts_in (simple_statements (written beneath) ++ ss)) next p)
+    under_before ts around go ss next h =
+        let after : Completion → Part (Unit {0}) = λ c. unless_left_to c (exec_all_to f.calls f.scope f.bound (stmts_in ss)) next in
+        subst (λ (part : Part (Unit {0})). IsFollowed f p (sight f around go (operands b ts (seen_at ds p)) p w) (part p))
+        (sym (appended f.calls f.scope f.bound (simple_statements (written beneath)) ss next))
+        (seen_then f (sight f around go (operands b ts (seen_at ds p)) p w) p beneath p after beneath_wait i.apart i.world.is_heap
+        (λ q on. from_there beneath beneath_wait q on around go (operands b ts (seen_at ds p)) (operands b ts (seen_at ds p)) (after normal q) refl (h q (is_under q on))))
+
   -- ---- all but the topmost operand's word, under which those of these types stand
 
   module _ (us : List ValType) where
@@ -88,7 +129,7 @@ module _ (f : Function) (fair : IsFair f) (most : ℕ) (ds : List Delayed) (may 
 
     others_wait : MayWait f others
     others_wait = record {
-      waiting = (beside_is_seen (low depth) ds (word_at p) p.heap may.waiting).0;
+      waiting = still_beside (low depth) ds may.waiting;
       sound = those_sound f.scope (λ d. not (same_name d.name (low depth))) ds may.sound;
     }
 
@@ -102,14 +143,14 @@ module _ (f : Function) (fair : IsFair f) (most : ℕ) (ds : List Delayed) (may 
       word_there : value word (word_at q) q.heap ≡ seen_at ds p (low depth)
       word_there =
           ap (λ (words : Words). value word words q.heap) same ∙ ap (λ heap. value word (seen_at others p) heap) on.has_heap
-          ∙ (beside_is_seen (low depth) ds (word_at p) p.heap may.waiting).2
+          ∙ seen_beside (low depth) ds (word_at p) p.heap may.waiting
 
       below_stay : Stays depth (seen_at ds p) (word_at q)
       below_stay =
-          let elsewhere = (beside_is_seen (low depth) ds (word_at p) p.heap may.waiting).1 in
+          let others_same = elsewhere (low depth) ds (word_at p) p.heap may.waiting in
           record {
-            low = λ d h. on.has_words (numbered operand_low d) ∙ elsewhere (numbered operand_low d) (not_below depth d h);
-            high = λ d h. on.has_words (numbered operand_high d) ∙ elsewhere (numbered operand_high d) refl;
+            low = λ d h. on.has_words (numbered operand_low d) ∙ others_same (numbered operand_low d) (not_below depth d h);
+            high = λ d h. on.has_words (numbered operand_high d) ∙ others_same (numbered operand_high d) refl;
           }
 
       known_there : (ks : List Known) → AreKnown ks (word_at p) → AreKnown (into_block ks) (word_at q)

@@ -25,7 +25,7 @@ use Rattle.wasm2js_translation.specs.Actions.{low}
 use Rattle.wasm2js_translation.specs.Delays.{Delayed, at_hand, written}
 use Rattle.wasm2js_translation.specs.Known.{Known, into_block}
 use Rattle.wasm2js_translation.specs.Bodies as bodies
-use Rattle.wasm2js_translation.specs.Bodies.{Aim, past, again, out, labels_round, label_name, ended, comes_to_end, types_after_call, call_stmts, indirect_stmts, stmts_of}
+use Rattle.wasm2js_translation.specs.Bodies.{Aim, past, again, out, labels_round, label_name, ended, comes_to_end, types_after_call, indirect_stmts, stmts_of}
 use Rattle.wasm2js_laws_terms.specs.Sound.{IsSound}
 use Rattle.wasm2js_laws_places.specs.Following.{Rest}
 use Rattle.wasm2js_laws_actions.proofs.Parts.{chosen_followed}
@@ -260,12 +260,7 @@ module _ (f : Function) (fair : IsFair f) where
   pub other_kept : (t : Tree) (code : Trees) → WritesFirst (t ▹ code) → IsKeptBefore IsKept f t → Kept code → Kept (t ▹ code)
   other_kept t code is first rest = after_written (t ▹ code) is (other_bare t code first rest)
 
-  -- a call, whose statements may be several
-  pub call_kept : (g : ℕ) (code : Trees) → IsKeptFirst f (call g) → Kept code → Kept (call g ▹ code)
-  call_kept g code first rest =
-      other_kept (call g) code
-      (λ ls b ts ds ks. append_assoc (simple_statements (written ds)) (call_stmts g b ts (type_of f.context g)) (stmts_of f.setting.bytes f.cells f.context code ls b (types_after_call (type_of f.context g) ts) [] [])) first rest
-
+  -- a call of an entry, whose statements may be several
   pub entry_kept : (t : ℕ) (code : Trees) → IsKeptFirst f (call_indirect t) → Kept code → Kept (call_indirect t ▹ code)
   entry_kept t code first rest =
       other_kept (call_indirect t) code
@@ -283,7 +278,7 @@ module _ (f : Function) (fair : IsFair f) (first_kept : (t : Tree) → OpensNone
   all_kept (br_if k ▹ code) = late_kept f fair (br_if k) code (first_kept (br_if k) tt) (all_kept code)
   all_kept (br_table ks d ▹ code) = other_kept f fair (br_table ks d) code (λ ls b ts ds ks. refl) (first_kept (br_table ks d) tt) (all_kept code)
   all_kept (return ▹ code) = late_kept f fair return code (first_kept return tt) (all_kept code)
-  all_kept (call g ▹ code) = call_kept f fair g code (first_kept (call g) tt) (all_kept code)
+  all_kept (call g ▹ code) = late_kept f fair (call g) code (first_kept (call g) tt) (all_kept code)
   all_kept (call_indirect t ▹ code) = entry_kept f fair t code (first_kept (call_indirect t) tt) (all_kept code)
   all_kept (plain p ▹ code) = late_kept f fair (plain p) code (first_kept (plain p) tt) (all_kept code)
 

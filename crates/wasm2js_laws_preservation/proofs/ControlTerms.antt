@@ -269,6 +269,14 @@ module _ (f : Function) (r : Rest) (here : Place) where
       either : JsValue → Part (Unit {0})
       either v = if truthy_of v then first else second
 
+  -- as an int
+  pub int_then : (t : Term) (p : Place) (next : JsValue → Part (Unit {0})) → IsSound f.scope t → AreApart p
+      → ((v : JsValue) → to_uint32_of v ≡ value t (word_at p) p.heap → IsFollowed f here r (next v p))
+      → IsFollowed f here r (eval_to f.calls f.scope (int_of t) next p)
+  int_then t p next sound apart h =
+      evaluated_then (int_of t) p next (int_same f.scope f.calls no_calls_to t sound)
+      (read_then (IsFollowed f here r) (value t (word_at p) p.heap) p (eval false no_calls f.scope (int_of t) p) next tt (int_read no_calls f.scope t p sound apart) h)
+
   -- as a number
   pub given_then : (t : Term) (p : Place) (next : JsValue → Part (Unit {0})) → IsSound f.scope t → AreApart p
       → ((v : JsValue) → to_uint32_of v ≡ value t (word_at p) p.heap → IsFollowed f here r (next v p))

@@ -86,6 +86,15 @@ module _ (helping : Helping) (bytes offset : ℕ) where
         let small = h.small in
         place_is (low d) offset words heap (omega (arith, within, holds, small))
 
+    -- it is a multiple of four where this is
+    pub test_says : at < bytes → (bit_and (value (place (low d) (offset % 4)) words heap) 3 == 0) ≡ true → at % 4 ≡ 0
+    test_says within is =
+        let holds = h.holds in
+        let small = h.small in
+        let e : value (place (low d) (offset % 4)) words heap ≡ words (low d) + offset % 4 = place_is (low d) (offset % 4) words heap (omega (arith, within, holds, small)) in
+        let four = is_aligned (words (low d) + offset % 4) (subst (λ n. (bit_and n 3 == 0) ≡ true) e is) in
+        omega (arith, four)
+
     four_bytes : at + 4 ≤ bytes → low_word_in heap at ≡ number_of 4 at heap
     four_bytes within =
         let holds = h.holds in
@@ -133,10 +142,10 @@ module _ (helping : Helping) (bytes offset : ℕ) where
   module _ (readers : AreReaders helping) where
     abbrev word_code : ℕ → Action
     word_code d =
-        either (both conjunction (place (low d) offset) (literal 3)) (ask (low d) names.load_32 (place (low d) offset ∷ []) ∷ []) (put (low d) (whole (place (low d) offset)) ∷ [])
+        either (both conjunction (place (low d) (offset % 4)) (literal 3)) (ask (low d) names.load_32 (place (low d) offset ∷ []) ∷ []) (put (low d) (whole (place (low d) offset)) ∷ [])
 
     word_units : (d : ℕ) (words : Words) (heap : List ℕ) → action_units helping (word_code d) words heap ≤ 1
-    word_units d words heap = by (bit_and (value (place (low d) offset) words heap) 3 == 0)
+    word_units d words heap = by (bit_and (value (place (low d) (offset % 4)) words heap) 3 == 0)
       where
         v : ℕ
         v = value (place (low d) offset) words heap
@@ -151,7 +160,7 @@ module _ (helping : Helping) (bytes offset : ℕ) where
 
     word_runs : (signed : Bool) (d : ℕ) (words : Words) (heap : List ℕ) → IsHeap bytes heap → words (low d) + offset + 4 ≤ bytes
         → run_action helping (word_code d) words heap ≡ goes (with_word (low d) (narrow_number signed 32 (number_of 4 (words (low d) + offset) heap)) words) heap
-    word_runs signed d words heap h within = by (bit_and v 3 == 0) refl ∙ ap (λ x. goes (with_word (low d) x words) heap) (narrow_32 d words heap h signed within)
+    word_runs signed d words heap h within = by (bit_and (value (place (low d) (offset % 4)) words heap) 3 == 0) refl ∙ ap (λ x. goes (with_word (low d) x words) heap) (narrow_32 d words heap h signed within)
       where
         v : ℕ
         v = value (place (low d) offset) words heap
@@ -162,7 +171,7 @@ module _ (helping : Helping) (bytes offset : ℕ) where
         e : v ≡ a
         e = first_place d words heap h (omega (arith, within))
 
-        by : (t : Bool) → (bit_and v 3 == 0) ≡ t
+        by : (t : Bool) → (bit_and (value (place (low d) (offset % 4)) words heap) 3 == 0) ≡ t
             → (if t then run_simples helping (put (low d) (whole (place (low d) offset)) ∷ []) words heap
             else run_simples helping (ask (low d) names.load_32 (place (low d) offset ∷ []) ∷ []) words heap)
             ≡ goes (with_word (low d) (number_of 4 a heap) words) heap
@@ -170,7 +179,7 @@ module _ (helping : Helping) (bytes offset : ℕ) where
             let holds = h.holds in
             ap (λ x. goes (with_word (low d) x words) heap)
             (ap (λ a. element_word (heaps.load I32 (index_at 2 a) heap)) e
-            ∙ whole_is a heap (any_heap bytes heap h) (is_aligned a (subst (λ n. (bit_and n 3 == 0) ≡ true) e is)) (omega (arith, within, holds)))
+            ∙ whole_is a heap (any_heap bytes heap h) (test_says d words heap h (omega (arith, within)) is) (omega (arith, within, holds)))
         by false is =
             ap (λ r. then_do (asked (low d) r words heap) (run_simples helping [])) (readers.load_32 (v ∷ []) heap).0
             ∙ ap (λ a. goes (with_word (low d) (low_word_in heap a) words) heap) e
@@ -183,13 +192,13 @@ module _ (helping : Helping) (bytes offset : ℕ) where
 
     abbrev words_code : ℕ → Action
     words_code d =
-        either (both conjunction (place (low d) offset) (literal 3))
+        either (both conjunction (place (low d) (offset % 4)) (literal 3))
         (ask (low d) names.load_64 (place (low d) offset ∷ []) ∷ put (high d) (read (fixed spare_high)) ∷ [])
         (put (high d) (whole (place (low d) (offset + 4))) ∷ put (low d) (whole (place (low d) offset)) ∷ [])
 
     words_units : (d : ℕ) (words : Words) (heap : List ℕ) → actions_units helping (words_code d ∷ []) words heap ≤ 1
     words_units d words heap =
-        let few = by (bit_and v 3 == 0) in
+        let few = by (bit_and (value (place (low d) (offset % 4)) words heap) 3 == 0) in
         let none = nothing_after (run_action helping (words_code d) words heap) (actions_units helping []) (λ words heap. refl) in
         omega (arith, few, none)
       where
@@ -284,17 +293,17 @@ module _ (helping : Helping) (bytes offset : ℕ) where
             ∙ ap (λ x. x + 2 ^ 32 * with_word (low d) lower raised (high d)) (sym low_after)),
       )
 
-      both_load : (t : Bool) → (bit_and v 3 == 0) ≡ t
+      both_load : (t : Bool) → (bit_and (value (place (low d) (offset % 4)) words heap) 3 == 0) ≡ t
           → Loads (if t then run_simples helping (put (high d) (whole (place (low d) (offset + 4))) ∷ put (low d) (whole (place (low d) offset)) ∷ []) words heap
           else run_simples helping (ask (low d) names.load_64 (place (low d) offset ∷ []) ∷ put (high d) (read (fixed spare_high)) ∷ []) words heap)
-      both_load true is = together_loads (is_aligned a (subst (λ n. (bit_and n 3 == 0) ≡ true) v_is is))
+      both_load true is = together_loads (test_says d words heap h (omega (arith, within)) is)
       both_load false is = apart_loads
 
     pub words_load : CodeLoads helping bytes (access_to true 8 false) offset (λ d. words_code d ∷ [])
     words_load = record {
       asks = λ d. (((refl, (tt, tt)), (tt, (tt, tt))), tt);
       units = words_units;
-      runs = λ d words heap h within. both_load d words heap h within (bit_and (value (place (low d) offset) words heap) 3 == 0) refl;
+      runs = λ d words heap h within. both_load d words heap h within (bit_and (value (place (low d) (offset % 4)) words heap) 3 == 0) refl;
     }
 
     -- ---- each form

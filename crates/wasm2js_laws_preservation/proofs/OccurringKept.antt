@@ -4,7 +4,7 @@ use Rattle.wasm_lang.specs.Instructions.{Plain}
 use Rattle.wasm_lang_exec.specs.Code.{unreachable, block, loop, if_block, br, br_if, br_table, return, call, call_indirect, plain, Trees, ε, ◌▹◌}
 use Rattle.wasm2js_laws_preservation.specs.ControlControl.{Function}
 use Rattle.wasm2js_laws_preservation.specs.ControlLaws.{IsKeptFirst}
-use Rattle.wasm2js_laws_preservation.proofs.ControlKept.{Kept, none_kept, block_kept, loop_kept, if_kept, late_kept, other_kept, call_kept, entry_kept}
+use Rattle.wasm2js_laws_preservation.proofs.ControlKept.{Kept, none_kept, block_kept, loop_kept, if_kept, late_kept, other_kept, entry_kept}
 use Rattle.wasm2js_laws_preservation.proofs.BranchesLeaving.{branches_are_kept}
 use Rattle.wasm2js_laws_preservation.proofs.SwitchesTabled.{indexed_branches_are_kept}
 use Rattle.wasm2js_laws_preservation.specs.ComputedLaws.{accesses_memory, IsHelped}
@@ -26,7 +26,7 @@ module _ (f : Function) (helped : IsHelped f) (calls : (g : ℕ) → IsKeptFirst
   all_kept (br_if k ▹ code) h = late_kept f helped.fair (br_if k) code (branches_are_kept f helped.fair helped.fair.provides.fixed.traps (br_if k) tt) (all_kept code h)
   all_kept (br_table ks d ▹ code) h = other_kept f helped.fair (br_table ks d) code (λ ls b ts ds ks. refl) (indexed_branches_are_kept f helped.fair ks d) (all_kept code h)
   all_kept (return ▹ code) h = late_kept f helped.fair return code (branches_are_kept f helped.fair helped.fair.provides.fixed.traps return tt) (all_kept code h)
-  all_kept (call g ▹ code) h = call_kept f helped.fair g code (calls g) (all_kept code h)
+  all_kept (call g ▹ code) h = late_kept f helped.fair (call g) code (calls g) (all_kept code h)
   all_kept (call_indirect t ▹ code) h = entry_kept f helped.fair t code (entries t) (all_kept code h)
   all_kept (plain p ▹ code) h = late_kept f helped.fair (plain p) code (either_kept p (accesses_memory p) refl h.0) (all_kept code h.1)
 

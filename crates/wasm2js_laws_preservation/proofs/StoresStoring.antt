@@ -74,6 +74,15 @@ module _ (helping : Helping) (bytes offset : ℕ) where
         let small = h.small in
         place_is (low d) offset words other (omega (arith, within, holds, small))
 
+    -- it is a multiple of four where this is
+    test_says : at < bytes → (bit_and (value (place (low d) (offset % 4)) words heap) 3 == 0) ≡ true → at % 4 ≡ 0
+    test_says within is =
+        let holds = h.holds in
+        let small = h.small in
+        let e : value (place (low d) (offset % 4)) words heap ≡ words (low d) + offset % 4 = place_is (low d) (offset % 4) words heap (omega (arith, within, holds, small)) in
+        let four = is_aligned (words (low d) + offset % 4) (subst (λ n. (bit_and n 3 == 0) ≡ true) e is) in
+        omega (arith, four)
+
   -- ---- one and two bytes
 
   byte_stores : (wide : Bool) → CodeStores helping bytes (access_to wide 1 false) offset (λ d. simply (write_byte (place (low d) offset) (read (low (d + 1)))) ∷ [])
@@ -115,11 +124,11 @@ module _ (helping : Helping) (bytes offset : ℕ) where
   module _ (writers : AreWriters helping) where
     abbrev word_code : ℕ → Action
     word_code d =
-        either (both conjunction (place (low d) offset) (literal 3)) (tell names.store_32 (place (low d) offset ∷ read (low (d + 1)) ∷ []) ∷ []) (write_whole (place (low d) offset) (read (low (d + 1))) ∷ [])
+        either (both conjunction (place (low d) (offset % 4)) (literal 3)) (tell names.store_32 (place (low d) offset ∷ read (low (d + 1)) ∷ []) ∷ []) (write_whole (place (low d) offset) (read (low (d + 1))) ∷ [])
 
     word_units : (d : ℕ) (words : Words) (heap : List ℕ) → actions_units helping (word_code d ∷ []) words heap ≤ 1
     word_units d words heap =
-        let few = by (bit_and v 3 == 0) in
+        let few = by (bit_and (value (place (low d) (offset % 4)) words heap) 3 == 0) in
         let none = nothing_after (run_action helping (word_code d) words heap) (actions_units helping []) (λ words heap. refl) in
         omega (arith, few, none)
       where
@@ -136,7 +145,7 @@ module _ (helping : Helping) (bytes offset : ℕ) where
 
     word_runs : (d : ℕ) (words : Words) (heap : List ℕ) → IsHeap bytes heap → words (low d) + offset + 4 ≤ bytes
         → run_action helping (word_code d) words heap ≡ goes words (store_bytes (words (low d) + offset) 4 (words (low (d + 1))) heap)
-    word_runs d words heap h within = by (bit_and v 3 == 0) refl
+    word_runs d words heap h within = by (bit_and (value (place (low d) (offset % 4)) words heap) 3 == 0) refl
       where
         v : ℕ
         v = value (place (low d) offset) words heap
@@ -150,7 +159,7 @@ module _ (helping : Helping) (bytes offset : ℕ) where
         e : v ≡ a
         e = first_place d words heap h heap (omega (arith, within))
 
-        by : (t : Bool) → (bit_and v 3 == 0) ≡ t
+        by : (t : Bool) → (bit_and (value (place (low d) (offset % 4)) words heap) 3 == 0) ≡ t
             → (if t then run_simples helping (write_whole (place (low d) offset) (read (low (d + 1))) ∷ []) words heap
             else run_simples helping (tell names.store_32 (place (low d) offset ∷ read (low (d + 1)) ∷ []) ∷ []) words heap)
             ≡ goes words (store_bytes a 4 y heap)
@@ -159,7 +168,7 @@ module _ (helping : Helping) (bytes offset : ℕ) where
             let small = h.small in
             ap (goes words)
             (ap (λ i. heaps.store views.I32 (index_at 2 i) y heap) e
-            ∙ whole_stored a y heap (omega (arith, within, holds, small)) (is_aligned a (subst (λ n. (bit_and n 3 == 0) ≡ true) e is)))
+            ∙ whole_stored a y heap (omega (arith, within, holds, small)) (test_says d words heap h (omega (arith, within)) is))
         by false is =
             let holds = h.holds in
             ap (λ r. then_do (told r words heap) (run_simples helping [])) (writers.store_32 (v ∷ y ∷ []) heap).0
@@ -180,13 +189,13 @@ module _ (helping : Helping) (bytes offset : ℕ) where
 
     abbrev words_code : ℕ → Action
     words_code d =
-        either (both conjunction (place (low d) offset) (literal 3))
+        either (both conjunction (place (low d) (offset % 4)) (literal 3))
         (tell names.store_64 (place (low d) offset ∷ read (low (d + 1)) ∷ read (high (d + 1)) ∷ []) ∷ [])
         (write_whole (place (low d) offset) (read (low (d + 1))) ∷ write_whole (place (low d) (offset + 4)) (read (high (d + 1))) ∷ [])
 
     words_units : (d : ℕ) (words : Words) (heap : List ℕ) → actions_units helping (words_code d ∷ []) words heap ≤ 1
     words_units d words heap =
-        let few = by (bit_and v 3 == 0) in
+        let few = by (bit_and (value (place (low d) (offset % 4)) words heap) 3 == 0) in
         let none = nothing_after (run_action helping (words_code d) words heap) (actions_units helping []) (λ words heap. refl) in
         omega (arith, few, none)
       where
@@ -204,7 +213,7 @@ module _ (helping : Helping) (bytes offset : ℕ) where
 
     words_runs : (d : ℕ) (words : Words) (heap : List ℕ) → AreWords words → IsHeap bytes heap → words (low d) + offset + 8 ≤ bytes
         → run_action helping (words_code d) words heap ≡ goes words (store_bytes (words (low d) + offset) 8 (joined (words (low (d + 1))) (words (high (d + 1)))) heap)
-    words_runs d words heap are h within = by (bit_and v 3 == 0) refl
+    words_runs d words heap are h within = by (bit_and (value (place (low d) (offset % 4)) words heap) 3 == 0) refl
       where
         v : ℕ
         v = value (place (low d) offset) words heap
@@ -227,14 +236,14 @@ module _ (helping : Helping) (bytes offset : ℕ) where
         first : List ℕ
         first = heaps.store views.I32 (index_at 2 v) y heap
 
-        by : (t : Bool) → (bit_and v 3 == 0) ≡ t
+        by : (t : Bool) → (bit_and (value (place (low d) (offset % 4)) words heap) 3 == 0) ≡ t
             → (if t then run_simples helping (write_whole (place (low d) offset) (read (low (d + 1))) ∷ write_whole (place (low d) (offset + 4)) (read (high (d + 1))) ∷ []) words heap
             else run_simples helping (tell names.store_64 (place (low d) offset ∷ read (low (d + 1)) ∷ read (high (d + 1)) ∷ []) ∷ []) words heap)
             ≡ goes words (store_bytes a 8 (joined y z) heap)
         by true is =
             let holds = h.holds in
             let small = h.small in
-            let aligned = is_aligned a (subst (λ n. (bit_and n 3 == 0) ≡ true) e is) in
+            let aligned = test_says d words heap h (omega (arith, within)) is in
             ap (goes words)
             (ap (λ i. heaps.store views.I32 (index_at 2 i) z first) (byte_place d words heap h 4 first (omega (arith, within)))
             ∙ whole_stored (a + 4) z first (omega (arith, within, holds, small)) (omega (arith, aligned))

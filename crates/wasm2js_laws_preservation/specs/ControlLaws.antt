@@ -1,7 +1,7 @@
 -- Blocks, loops and ifs keep what their parts keep.
 use Rattle.std.specs.Prelude.{ℕ, ◌≤◌, List}
 use Rattle.wasm_lang.specs.declared.types.ValType.{ValType}
-use Rattle.wasm_lang_exec.specs.Code.{Tree, block, loop, if_block, br_if, return, plain, Trees, ◌▹◌}
+use Rattle.wasm_lang_exec.specs.Code.{Tree, block, loop, if_block, br_if, return, call, plain, Trees, ◌▹◌}
 use Rattle.wasm_laws_sound.specs.Trees.{IsTyped}
 use Rattle.wasm_laws_drive.specs.Contexts.{Surrounding}
 use Rattle.asm_lang_exec.specs.Runs.{Part}
@@ -29,12 +29,13 @@ IsKeptBefore Kept f t =
     → ((us : List ValType) → IsTyped (under_aims f.context ls) code us after → MayStand f code b us → Exits f most ls b after (comes_to_end code) around before next → Kept f most code ls b us around before next)
     → Kept f most (t ▹ code) ls b ts around before next
 
--- words may wait before a plain one, and after it, and variables be known there; before a branch by a condition and a return too, which read an
--- operand's word where it waits; all are written before each other one, and nothing is known
+-- words may wait before a plain one, and after it, and variables be known there; before a branch by a condition, a return and a call too, which
+-- read operands' words where they wait; all are written before each other one, and nothing is known
 abbrev pub IsKeptFirst : (f : Function) → Tree → Type 0
 IsKeptFirst f (plain p) = IsKeptBefore IsKeptLate f (plain p)
 IsKeptFirst f (br_if k) = IsKeptBefore IsKeptLate f (br_if k)
 IsKeptFirst f return = IsKeptBefore IsKeptLate f return
+IsKeptFirst f (call g) = IsKeptBefore IsKeptLate f (call g)
 IsKeptFirst f t = IsKeptBefore IsKept f t
 
 -- where each instruction that opens no block is kept, all code that may stand there is

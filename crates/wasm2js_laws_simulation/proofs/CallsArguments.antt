@@ -1,5 +1,5 @@
 -- The operands that a call takes, as arguments on both sides.
-use Rattle.std.proofs.Common.{◌≡◌, ℕ, suc, ◌+◌, ◌*◌, ◌^◌, List, [], ◌∷◌, ◌++◌, length, drop, refl, sym, ap, ◌∙◌, arith}
+use Rattle.std.proofs.Common.{◌≡◌, ℕ, suc, ◌+◌, ◌*◌, ◌^◌, ◌≤◌, List, [], ◌∷◌, ◌++◌, length, drop, refl, sym, ap, ◌∙◌, arith}
 use Rattle.std.specs.Prelude.{reverse}
 use Rattle.std.proofs.lemmas.List.{length-append, length-reverse, reverse-append}
 use Rattle.sem_words.specs.declared.word.Word.{Word}
@@ -9,18 +9,20 @@ use Rattle.wasm_lang.specs.declared.types.ValType.{ValType}
 use Rattle.wasm_lang.specs.declared.types.ValType.TheVariants.{I32, I64}
 use Rattle.sem_words.specs.JsValues.{to_uint32_of}
 use Rattle.asm_lang.specs.Modules.{exprs}
-use Rattle.asm_lang_exec.specs.Runs.{Place, Part, read}
+use Rattle.asm_lang_exec.specs.Runs.{Place, Part}
 use Rattle.asm_laws_continuation.specs.Following.{eval_all_to}
-use Rattle.wasm2js_translation.specs.Names.{numbered, operand_low, operand_high, spelled}
+use Rattle.wasm2js_translation.specs.Names.{Name}
+use Rattle.wasm2js_translation.specs.Words.{int_of}
 use Rattle.wasm2js_translation.specs.Pairs.{operand_pair}
 use Rattle.wasm2js_translation.specs.Actions.{under}
-use Rattle.wasm2js_translation.specs.Bodies.{word_in, arguments_from}
+use Rattle.wasm2js_translation.specs.Delays.{Delayed, at_hand}
+use Rattle.wasm2js_translation.specs.Bodies.{words_from, arguments_from}
+use Rattle.wasm2js_laws_terms.specs.Sound.{AllSound}
 use Rattle.wasm2js_laws_places.specs.Following.{Rest}
-use Rattle.wasm2js_laws_places.specs.Straight.{Words}
+use Rattle.wasm2js_laws_places.specs.Straight.{Words, value}
 use Rattle.wasm2js_laws_places.specs.Places.{value_at, word_at, AreApart, operands}
-use Rattle.wasm2js_laws_actions.proofs.Reading.{read_then}
-use Rattle.wasm2js_laws_actions.proofs.Variables.{variable_read}
 use Rattle.wasm2js_laws_preservation.specs.ControlControl.{Function, IsFollowed}
+use Rattle.wasm2js_laws_preservation.proofs.ControlTerms.{int_then}
 use Rattle.wasm2js_laws_simulation.specs.CallsCalled.{Passes}
 
 -- ---- on the side of WebAssembly
@@ -72,19 +74,30 @@ depth_of b ps below = ap (λ (ts : List ValType). b + length ts) (stay_below ps 
 
 -- ---- on the side of asm.js
 
-module _ (f : Function) (r : Rest) (p : Place) (apart : AreApart p) where
-  pub arguments_then : (d : ℕ) (ts : List ValType) (next : List JsValue → Part (Unit {0}))
-      → ((vs : List JsValue) → Passes ts vs (passed_from d ts (word_at p)) → IsFollowed f p r (next vs p))
-      → IsFollowed f p r (eval_all_to f.calls f.scope (arguments_from d ts) next p)
-  arguments_then d [] next h = h [] tt
-  arguments_then d (I32 ∷ ts) next h =
-      read_then (IsFollowed f p r) (word_at p (numbered operand_low d)) p (read (spelled (numbered operand_low d)) p)
-      (λ v. eval_all_to f.calls f.scope (arguments_from (suc d) ts) (λ vs. next (v ∷ vs))) tt (variable_read (numbered operand_low d) p apart)
-      (λ v a. arguments_then (suc d) ts (λ vs. next (v ∷ vs)) (λ vs passes. h (v ∷ vs) (ap W32 (sym a), passes)))
-  arguments_then d (I64 ∷ ts) next h =
-      read_then (IsFollowed f p r) (word_at p (numbered operand_low d)) p (read (spelled (numbered operand_low d)) p)
-      (λ v. eval_all_to f.calls f.scope (exprs (word_in (operand_pair d).high) (arguments_from (suc d) ts)) (λ vs. next (v ∷ vs))) tt (variable_read (numbered operand_low d) p apart)
+-- the words of the operands from number d on, where these wait, come to those
+abbrev pub ComeTo : Place → List Delayed → Words → ℕ → Type 0
+ComeTo p ds words d =
+    (k : ℕ) → d ≤ k
+    → (value (at_hand ds (operand_pair k).low) (word_at p) p.heap ≡ words (operand_pair k).low) × (value (at_hand ds (operand_pair k).high) (word_at p) p.heap ≡ words (operand_pair k).high)
+
+module _ (f : Function) (r : Rest) (p : Place) (apart : AreApart p) (ds : List Delayed) (words : Words) where
+  pub arguments_then : (d : ℕ) (ts : List ValType) (next : List JsValue → Part (Unit {0})) → AllSound f.scope (words_from ds d ts) → ComeTo p ds words d
+      → ((vs : List JsValue) → Passes ts vs (passed_from d ts words) → IsFollowed f p r (next vs p))
+      → IsFollowed f p r (eval_all_to f.calls f.scope (arguments_from ds d ts) next p)
+  arguments_then d [] next sound come h = h [] tt
+  arguments_then d (I32 ∷ ts) next sound come h =
+      int_then f r p (at_hand ds (operand_pair d).low) p (λ v. eval_all_to f.calls f.scope (arguments_from ds (suc d) ts) (λ vs. next (v ∷ vs))) sound.0 apart
       (λ v a.
-      read_then (IsFollowed f p r) (word_at p (numbered operand_high d)) p (read (spelled (numbered operand_high d)) p)
-      (λ u. eval_all_to f.calls f.scope (arguments_from (suc d) ts) (λ vs. next (v ∷ u ∷ vs))) tt (variable_read (numbered operand_high d) p apart)
-      (λ u c. arguments_then (suc d) ts (λ vs. next (v ∷ u ∷ vs)) (λ vs passes. h (v ∷ u ∷ vs) (ap (λ n. W64 (n + 2 ^ 32 * word_at p (numbered operand_high d))) (sym a) ∙ ap (λ n. W64 (to_uint32_of v + 2 ^ 32 * n)) (sym c), passes))))
+      arguments_then (suc d) ts (λ vs. next (v ∷ vs)) sound.1 (λ k le. come k (omega (arith, le)))
+      (λ vs passes. h (v ∷ vs) (ap W32 (sym (a ∙ (come d (omega arith)).0)), passes)))
+  arguments_then d (I64 ∷ ts) next sound come h =
+      let low : Name = (operand_pair d).low in
+      let high : Name = (operand_pair d).high in
+      int_then f r p (at_hand ds low) p (λ v. eval_all_to f.calls f.scope (exprs (int_of (at_hand ds high)) (arguments_from ds (suc d) ts)) (λ vs. next (v ∷ vs))) sound.0 apart
+      (λ v a.
+      int_then f r p (at_hand ds high) p (λ u. eval_all_to f.calls f.scope (arguments_from ds (suc d) ts) (λ vs. next (v ∷ u ∷ vs))) sound.1.0 apart
+      (λ u c.
+      arguments_then (suc d) ts (λ vs. next (v ∷ u ∷ vs)) sound.1.1 (λ k le. come k (omega (arith, le)))
+      (λ vs passes.
+      h (v ∷ u ∷ vs)
+      (ap (λ n. W64 (n + 2 ^ 32 * words high)) (sym (a ∙ (come d (omega arith)).0)) ∙ ap (λ n. W64 (to_uint32_of v + 2 ^ 32 * n)) (sym (c ∙ (come d (omega arith)).1)), passes))))

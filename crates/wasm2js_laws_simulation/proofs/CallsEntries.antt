@@ -46,7 +46,7 @@ use Rattle.wasm2js_lang.specs.Tables.{Cell, empty, other, cells_of, entries_of, 
 use Rattle.wasm2js_lang.specs.Laws.{HasTable}
 use Rattle.wasm2js_lang.proofs.Masked.{called_types_have_tables}
 use Rattle.wasm2js_translation.specs.Actions.{low}
-use Rattle.wasm2js_translation.specs.Bodies.{Aim, word_in, answered, arguments_from, form_number, table_call_of, indirect_stmts, types_after_call, stmts_of}
+use Rattle.wasm2js_translation.specs.Bodies.{Aim, word_in, answered, words_from, arguments_from, form_number, table_call_of, indirect_stmts, types_after_call, stmts_of}
 use Rattle.wasm2js_translation.specs.Modules.{translated}
 use Rattle.wasm2js_translation.specs.Rooms.{here, room_of}
 use Rattle.wasm2js_translation.specs.Tables.{cell_count, stub_number, stub_of, cell_name, table_for}
@@ -54,13 +54,16 @@ use Rattle.wasm2js_laws_acceptance.proofs.ProvidedEntries.{In, in_map}
 use Rattle.wasm2js_laws_acceptance.proofs.ProvidedFound.{table_found}
 use Rattle.wasm2js_laws_acceptance.proofs.ProvidedSizes.{some_cells}
 use Rattle.wasm2js_laws_acceptance.proofs.ProvidedTables.{type_is, least_is, masked_as}
+use Rattle.wasm2js_laws_terms.specs.Sound.{AllSound}
+use Rattle.wasm2js_laws_scopes.specs.Provided.{HasRoom}
 use Rattle.wasm2js_laws_places.specs.Following.{Rest}
 use Rattle.wasm2js_laws_places.specs.Straight.{Words}
 use Rattle.wasm2js_laws_places.specs.Places.{word_at, operands, locals_of, store_of, Stays}
 use Rattle.wasm2js_laws_actions.proofs.Reading.{read_then}
 use Rattle.wasm2js_laws_actions.proofs.Variables.{variable_read}
 use Rattle.wasm2js_laws_preservation.specs.ControlControl.{Function, IsFair, Inside, state_at, code_sight, IsFollowed, statements_to, MayStand, under_aims, IsKept}
-use Rattle.wasm2js_laws_typed.proofs.RoomParts.{right_room}
+use Rattle.wasm2js_laws_typed.proofs.RoomParts.{right_room, room_here}
+use Rattle.wasm2js_laws_typed.proofs.FineCalls.{words_sound}
 use Rattle.wasm2js_laws_preservation.proofs.ControlStepping.{appended, no_step}
 use Rattle.wasm2js_laws_simulation.specs.CallsCalled.{Passes, seen_with, call_then, CallsFollow}
 use Rattle.wasm2js_laws_simulation.specs.CallsLaws.{IsWithin, IndirectCallsAreKept}
@@ -83,7 +86,7 @@ module _ (f : Function) (fair : IsFair f) (profile : IsInProfile f.home) (shaped
     (is_type : slice_get f.context.types n ≡ Some t) (is_called : f.called.types t ≡ true)
     (most : ℕ) (code : Trees) (ls : List Aim) (b : ℕ) (below : List ValType) (around : List Surrounding) (before : Words) (next : Completion → Part (Unit {0}))
     (le : most ≤ f.bound) (rest : IsKept f most code ls b (listed (result_of t) ++ below) around before next)
-    (p : Place) (w : List EventPlain) (i : Inside f most w p) (stays : Stays b before (word_at p)) where
+    (sound : AllSound f.scope (words_from [] (b + length below) t.params)) (p : Place) (w : List EventPlain) (i : Inside f most w p) (stays : Stays b before (word_at p)) where
   abbrev taken : List ValType
   taken = reverse t.params ++ below
 
@@ -110,7 +113,7 @@ module _ (f : Function) (fair : IsFair f) (profile : IsInProfile f.home) (shaped
   name = spelled (numbered names.table (form_number f.context.types t))
 
   abbrev the_call : text.Expr
-  the_call = text.table_call name (binary And (word_in (low index)) (natural (f.cells - 1))) (arguments_from d t.params)
+  the_call = text.table_call name (binary And (word_in (low index)) (natural (f.cells - 1))) (arguments_from [] d t.params)
 
   abbrev after_guard : Completion → Part (Unit {0})
   after_guard c = unless_left_to c (exec_all_to f.calls f.scope f.bound (stmts_in (answered (result_of t) d the_call))) then_rest
@@ -250,7 +253,7 @@ module _ (f : Function) (fair : IsFair f) (profile : IsInProfile f.home) (shaped
   -- ---- after the guard
 
   abbrev then_call : JsValue → Part (Unit {0})
-  then_call y = eval_all_to f.calls f.scope (arguments_from d t.params) (λ vs. and_then (defined (entry_of f.scope.home (named f.scope name) y)) (λ g. f.calls g vs given))
+  then_call y = eval_all_to f.calls f.scope (arguments_from [] d t.params) (λ vs. and_then (defined (entry_of f.scope.home (named f.scope name) y)) (λ g. f.calls g vs given))
 
   within_table : x < cell_count f.home → IsFollowed f p start (after_guard normal p)
   within_table low_index =
@@ -261,7 +264,7 @@ module _ (f : Function) (fair : IsFair f) (profile : IsInProfile f.home) (shaped
       (sym (ap (λ m. signed_value (bit_and m (to_uint32_of (Whole (pos (f.cells - 1)))))) a
       ∙ ap (λ c. signed_value (bit_and x (to_uint32_of (Whole (pos (c - 1)))))) within.cells
       ∙ index_masked f.home profile x low_index))
-      (arguments_then f start p i.apart d t.params (λ vs. and_then (defined (entry_of f.scope.home (named f.scope name) (Whole (pos x)))) (λ g. f.calls g vs given))
+      (arguments_then f start p i.apart [] (word_at p) d t.params (λ vs. and_then (defined (entry_of f.scope.home (named f.scope name) (Whole (pos x)))) (λ g. f.calls g vs given)) sound (λ k le. (refl, refl))
       (λ vs passes. entry_followed low_index vs passes))))
 
   past_table : cell_count f.home ≤ x → IsFollowed f p start (exec_to f.calls f.scope f.bound [] (trap_call 5) after_guard p)
@@ -306,8 +309,13 @@ indirect_calls_are_kept f fair profile shaped within follow n most code ls b ts 
     let t = it.type in
     let is : ts ≡ I32 ∷ (reverse t.params ++ typed.below) = typed.operands ∙ ap (λ xs. xs ++ typed.below) it.takes_are in
     let further = subst (λ xs. IsTyped (under_aims f.context ls) code (xs ++ typed.below) after) it.gives_are typed.goes_on in
-    let on = after_entry_room f n t code b typed.below it.there (subst (λ ts. MayStand f (call_indirect n ▹ code) b ts) is standing) in
+    let stands = subst (λ ts. MayStand f (call_indirect n ▹ code) b ts) is standing in
+    let on = after_entry_room f n t code b typed.below it.there stands in
     let kept = rest (listed (result_of t) ++ typed.below) further on ex in
+    let here_is = room_here f.scope f.context (call_indirect n ▹ code) b (I32 ∷ (reverse t.params ++ typed.below)) stands.room in
+    let room : HasRoom f.scope f.context (here b (reverse t.params ++ typed.below) []) =
+    record { operands = λ d lt. here_is.operands d (omega (arith, lt)); high_words = here_is.high_words; locals = here_is.locals } in
+    let sound = words_sound f.scope f.context b [] tt t.params typed.below [] room in
     subst (λ ts. IsKept f most (call_indirect n ▹ code) ls b ts around before next) (sym is)
     (λ p w i stays.
-    one_entry_kept f fair profile shaped within follow n t it.there (standing.formed.0 t it.there) most code ls b typed.below around before next le kept p w i stays)
+    one_entry_kept f fair profile shaped within follow n t it.there (standing.formed.0 t it.there) most code ls b typed.below around before next le kept sound p w i stays)

@@ -316,26 +316,29 @@ module _ (s : Scope) (c : Context) (is_called : Called) (bytes cells : ℕ) (giv
   called_code : (f : ℕ) (code : Trees) (labels : List (Option ValType)) (ls : List Aim) (b : ℕ) (after : List ValType) (a : Around) (o : Option FunctionType) (form : Shape) (takes gives below : List ValType)
       → Goal code → type_of c f ≡ o → found NoFunction o (call_shape []) ≡ Ok form → Acts form takes gives → IsFormedCode c.types is_called code → AreAims c.returns labels ls b → LeavesResult ls after → a.labels ≡ labels_for ls
       → IsTyped (record c { labels = labels }) code (gives ++ below) after → HasRoom s c (with_room (here b (takes ++ below) []) (room_of c code b (types_after_call o (takes ++ below))))
-      → AllFine s a (30 + tree_levels code) (call_stmts f b (takes ++ below) o ++ stmts_of bytes cells c code ls b (types_after_call o (takes ++ below)) [] [])
+      → (ds : List Delayed) → AreSoundWaiting s ds → AreShallow 8 ds
+      → AllFine s a (30 + tree_levels code) (call_stmts ds f b (takes ++ below) o ++ stmts_of bytes cells c code ls b (types_after_call o (takes ++ below)) [] [])
   called_code f code labels ls b after a None form takes gives below further e is acts formed aims ends around = absurd (cc is)
   called_code f code labels ls b after a (Some t) form takes gives below further e is acts formed aims ends around =
       of_fixed
       (λ takes gives. IsTyped (record c { labels = labels }) code (gives ++ below) after → HasRoom s c (with_room (here b (takes ++ below) []) (room_of c code b (types_after_call (Some t) (takes ++ below))))
-      → AllFine s a (30 + tree_levels code) (call_stmts f b (takes ++ below) (Some t) ++ stmts_of bytes cells c code ls b (types_after_call (Some t) (takes ++ below)) [] []))
+      → (ds : List Delayed) → AreSoundWaiting s ds → AreShallow 8 ds
+      → AllFine s a (30 + tree_levels code) (call_stmts ds f b (takes ++ below) (Some t) ++ stmts_of bytes cells c code ls b (types_after_call (Some t) (takes ++ below)) [] []))
       (reverse t.params) (listed (type_result t)) takes gives form is acts
-      (λ typed room.
+      (λ typed room ds sound shallow.
       let next = call_leaves t below in
       let at = left_room s c (here b (reverse t.params ++ below) []) (room_of c code b (types_after_call (Some t) (reverse t.params ++ below))) room in
       let rest = subst (λ ts. HasRoom s c (room_of c code b ts)) next (right_room s c (here b (reverse t.params ++ below) []) (room_of c code b (types_after_call (Some t) (reverse t.params ++ below))) room) in
-      all_join s a (30 + tree_levels code) (call_stmts f b (reverse t.params ++ below) (Some t)) _
-      (all_higher s a 8 (30 + tree_levels code) _ (omega arith) (calls_are_fine s a c f b t below [] given.fixed (given.functions f t e) at (room_here s c code b (listed (type_result t) ++ below) rest)))
+      all_join s a (30 + tree_levels code) (call_stmts ds f b (reverse t.params ++ below) (Some t)) _
+      (all_higher s a 30 (30 + tree_levels code) _ (omega arith)
+      (calls_are_fine s a c f b t below [] ds sound shallow given.fixed (given.functions f t e) at (room_here s c code b (listed (type_result t) ++ below) rest)))
       (subst (λ ts. AllFine s a (30 + tree_levels code) (stmts_of bytes cells c code ls b ts [] [])) (sym next) (further labels ls b (listed (type_result t) ++ below) after a typed formed aims ends around rest)))
 
-  call_code : (f : ℕ) (code : Trees) → Goal code → Goal (call f ▹ code)
-  call_code f code further labels ls b before after a typed formed aims ends around room =
-      subst (λ ts. AllFine s a (30 + tree_levels code) (stmts_of bytes cells c (call f ▹ code) ls b ts [] [])) (sym typed.operands)
+  call_code : (f : ℕ) (code : Trees) → Goal code → Waiting (call f ▹ code)
+  call_code f code further labels ls b before after a typed formed aims ends around room ds sound shallow ks =
+      subst (λ ts. AllFine s a (30 + tree_levels code) (stmts_of bytes cells c (call f ▹ code) ls b ts ds ks)) (sym typed.operands)
       (called_code f code labels ls b after a (type_of c f) typed.form typed.takes typed.gives typed.below further refl typed.has_form typed.acts formed aims ends around typed.goes_on
-      (subst (λ ts. HasRoom s c (room_of c (call f ▹ code) b ts)) typed.operands room))
+      (subst (λ ts. HasRoom s c (room_of c (call f ▹ code) b ts)) typed.operands room) ds sound shallow)
 
   has_table : (t : Bool) (u : Shape) (form : Shape) → unless t NoTable u ≡ Ok form → ◌≡◌ {A = Result Shape Rule} (Ok u) (Ok form)
   has_table true u form h = h
@@ -357,7 +360,7 @@ module _ (s : Scope) (c : Context) (is_called : Called) (bytes cells : ℕ) (giv
       let at = left_room s c (here b (I32 ∷ (reverse t.params ++ below)) []) (room_of c code b (types_after_call (Some t) (reverse t.params ++ below))) room in
       let rest = subst (λ ts. HasRoom s c (room_of c code b ts)) next (right_room s c (here b (I32 ∷ (reverse t.params ++ below)) []) (room_of c code b (types_after_call (Some t) (reverse t.params ++ below))) room) in
       all_join s a (30 + tree_levels code) (indirect_stmts cells c.types b (I32 ∷ (reverse t.params ++ below)) (Some t)) _
-      (all_higher s a 8 (30 + tree_levels code) (indirect_stmts cells c.types b (I32 ∷ (reverse t.params ++ below)) (Some t)) (omega arith)
+      (all_higher s a 30 (30 + tree_levels code) (indirect_stmts cells c.types b (I32 ∷ (reverse t.params ++ below)) (Some t)) (omega arith)
       (entry_calls_are_fine s a c cells b c.types t below [] given.fixed given.some_cells given.few_cells (given.tables t (called t e)) at (room_here s c code b (listed (type_result t) ++ below) rest)))
       (subst (λ ts. AllFine s a (30 + tree_levels code) (stmts_of bytes cells c code ls b ts [] [])) (sym next) (further labels ls b (listed (type_result t) ++ below) after a typed formed aims ends around rest)))
 
@@ -382,7 +385,7 @@ module _ (s : Scope) (c : Context) (is_called : Called) (bytes cells : ℕ) (giv
   code_fine (loop r body ▹ code) = behind_written (loop r body ▹ code) (λ ls b ts ds ks. refl) (loop_code r body code (none_waiting body (code_fine body)) (none_waiting code (code_fine code)))
   code_fine (if_block r first second ▹ code) =
       if_code r first second code (only_knowing first (code_fine first)) (none_waiting second (code_fine second)) (none_waiting code (code_fine code))
-  code_fine (call f ▹ code) = behind_written (call f ▹ code) (λ ls b ts ds ks. append_assoc (simple_statements (written ds)) (call_stmts f b ts (type_of c f)) _) (call_code f code (none_waiting code (code_fine code)))
+  code_fine (call f ▹ code) = call_code f code (none_waiting code (code_fine code))
   code_fine (call_indirect n ▹ code) =
       behind_written (call_indirect n ▹ code) (λ ls b ts ds ks. append_assoc (simple_statements (written ds)) (indirect_stmts cells c.types b ts (slice_get c.types n)) _) (call_indirect_code n code (none_waiting code (code_fine code)))
 

@@ -39,7 +39,7 @@ actions_all s a (x ∷ xs) h le = (is_higher s a _ _ 30 (depth_low (action_depth
 
 -- ---- what is asked for
 
-at_hand_shallow : (n : ℕ) (ds : List Delayed) (m : Name) → 1 ≤ n → AreShallow n ds → term_depth (at_hand ds m) ≤ n
+pub at_hand_shallow : (n : ℕ) (ds : List Delayed) (m : Name) → 1 ≤ n → AreShallow n ds → term_depth (at_hand ds m) ≤ n
 at_hand_shallow n [] m some h = some
 at_hand_shallow n (d ∷ ds) m some h = by (at_hand_shallow n ds m some h.1) (same_name d.name m)
   where

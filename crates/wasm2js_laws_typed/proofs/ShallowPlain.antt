@@ -1,5 +1,5 @@
 -- The actions of plain instructions aren't deep.
-use Rattle.std.proofs.Common.{◌≡◌, ℕ, ◌+◌, ◌≤◌, max, Bool, true, false, ◌&&◌, List, [], ◌∷◌, ◌++◌, Option, Some, None, refl, arith}
+use Rattle.std.proofs.Common.{◌≡◌, ℕ, ◌+◌, ◌%◌, ◌≤◌, max, Bool, true, false, ◌&&◌, List, [], ◌∷◌, ◌++◌, Option, Some, None, refl, arith}
 use Rattle.std.specs.Prelude.{◌-◌, ◌%◌, ℤ, slice_get, nat_le, nat_lt, ◌==◌, if◌then◌else◌}
 use Rattle.sem_words.specs.declared.word.Bin.{Bin}
 use Rattle.sem_words.specs.declared.word.Bin.TheVariants as bins
@@ -198,9 +198,10 @@ if_shallow false a h = omega arith
 load_word_shallow : (op : MemOp) (offset : ℕ) (p : Pair) → actions_depth (load_word op offset p) ≤ 8
 load_word_shallow op offset p =
     let h = place_shallow p.low offset in
+    let ht = place_shallow p.low (offset % 4) in
     let h1 = place_shallow p.low (offset + 1) in
     let h4 = place_shallow p.low (offset + 4) in
-    chosen (op.size == 1) (op.size == 2) (op.size == 4) _ _ _ _ (omega (arith, h)) (omega (arith, h, h1)) (omega (arith, h)) (omega (arith, h, h4))
+    chosen (op.size == 1) (op.size == 2) (op.size == 4) _ _ _ _ (omega (arith, h)) (omega (arith, h, h1)) (omega (arith, h, ht)) (omega (arith, h, h4, ht))
 
 high_shallow : (signed : Bool) (p : Pair) → actions_depth (simples (put p.high (if signed then sign_of (read p.low) else literal 0) ∷ [])) ≤ 8
 high_shallow true p = omega arith
@@ -213,9 +214,10 @@ load_shallow bytes op offset p =
 store_word_shallow : (op : MemOp) (offset : ℕ) (a : Name) (v : Pair) → actions_depth (store_word op offset a v) ≤ 8
 store_word_shallow op offset a v =
     let h = place_shallow a offset in
+    let ht = place_shallow a (offset % 4) in
     let h1 = place_shallow a (offset + 1) in
     let h4 = place_shallow a (offset + 4) in
-    chosen (op.size == 1) (op.size == 2) (op.size == 4) _ _ _ _ (omega (arith, h)) (omega (arith, h, h1)) (omega (arith, h)) (omega (arith, h, h4))
+    chosen (op.size == 1) (op.size == 2) (op.size == 4) _ _ _ _ (omega (arith, h)) (omega (arith, h, h1)) (omega (arith, h, ht)) (omega (arith, h, h4, ht))
 
 store_shallow : (bytes : ℕ) (op : MemOp) (offset : ℕ) (a : Name) (v : Pair) → actions_depth (store_code bytes op offset a v) ≤ 8
 store_shallow bytes op offset a v = guarded_shallow bytes op.size offset a _ (store_word_shallow op offset a v)

@@ -1,5 +1,5 @@
 -- The code of operators is sound where its variables are ints.
-use Rattle.std.proofs.Common.{◌≡◌, ℕ, ◌+◌, ◌-◌, ◌^◌, ◌<◌, ◌≤◌, Bool, true, false, ◌||◌, List, [], ◌∷◌, ◌++◌, Option, Some, refl, sym, subst, arith}
+use Rattle.std.proofs.Common.{◌≡◌, ℕ, ◌+◌, ◌-◌, ◌%◌, ◌^◌, ◌<◌, ◌≤◌, Bool, true, false, ◌||◌, List, [], ◌∷◌, ◌++◌, Option, Some, refl, sym, subst, arith}
 use Rattle.std.specs.Prelude.{nat_le, ◌==◌, if◌then◌else◌}
 use Rattle.std.proofs.lemmas.Bool.Decides.{nat_tests}
 use Rattle.sem_words.specs.declared.word.Bin.{Bin}
@@ -185,7 +185,7 @@ module _ (s : Scope) where
         (byte_sound false (place a offset) (place_sound a offset f (omega (arith, h))), ((byte_sound signed (place a (offset + 1)) (place_sound a (offset + 1) f h), refl), tt), refl, omega arith)
 
     pub apart_sound : (a : Name) (offset : ℕ) (apart together : List Simple) → IsInt s a → offset < 2 ^ 32 → AreSoundSimple s apart → AreSoundSimple s together → AreSoundActions s (by_place a offset apart together)
-    apart_sound a offset apart together f h p q = (((place_sound a offset f h, refl), p, q), tt)
+    apart_sound a offset apart together f h p q = (((place_sound a (offset % 4) f (omega arith), refl), p, q), tt)
 
   pub last_is : (a b c w : Bool) → (a || (b || (c || w))) ≡ true → a ≡ false → b ≡ false → c ≡ false → w ≡ true
   last_is true b c w h p q r = absurd (cc p)

@@ -13,9 +13,11 @@ use Rattle.wasm2js_laws_terms.specs.Laws.{IsFineExpr, IsFine}
 use Rattle.wasm2js_laws_scopes.specs.Provided.{HasFixed, HasRoom, IsFunction, IsTable, signature_for}
 use Rattle.wasm2js_translation.specs.Words.{part_of}
 use Rattle.wasm2js_translation.specs.Actions.{under, low}
+use Rattle.wasm2js_translation.specs.Delays.{Delayed}
 use Rattle.wasm2js_translation.specs.Bodies.{Aim, past, again, out, labels_round, label_name, signed_word, under_label, endless, chosen, leave_with, jump, call_stmts, form_number, indirect_stmts, by_index}
 use Rattle.wasm2js_translation.specs.Helpers.{block_of}
 use Rattle.wasm2js_translation.specs.Rooms.{here}
+use Rattle.wasm2js_laws_typed.specs.Waiting.{AreSoundWaiting, AreShallow}
 
 -- each of these statements, no higher than so much
 abbrev pub AllFine : Scope → Around → (height : ℕ) → List Stmt → Type 0
@@ -90,12 +92,12 @@ JumpsAreFine =
 
 -- ---- calls
 
--- a call of a function of this type, whose arguments stand on top, the last one topmost
+-- a call of a function of this type, whose arguments stand on top, the last one topmost, while these words wait
 abbrev pub CallsAreFine : Type 0
 CallsAreFine =
-    (s : Scope) (a : Around) (c : Context) (f b : ℕ) (t : FunctionType) (below : List ValType) (xs : List ℕ) → HasFixed s → IsFunction s (numbered function f) (signature_for t)
-    → HasRoom s c (here b (reverse t.params ++ below) xs) → HasRoom s c (here b (listed (type_result t) ++ below) [])
-    → AllFine s a 8 (call_stmts f b (reverse t.params ++ below) (Some t))
+    (s : Scope) (a : Around) (c : Context) (f b : ℕ) (t : FunctionType) (below : List ValType) (xs : List ℕ) (ds : List Delayed) → AreSoundWaiting s ds → AreShallow 8 ds
+    → HasFixed s → IsFunction s (numbered function f) (signature_for t) → HasRoom s c (here b (reverse t.params ++ below) xs) → HasRoom s c (here b (listed (type_result t) ++ below) [])
+    → AllFine s a 30 (call_stmts ds f b (reverse t.params ++ below) (Some t))
 
 -- .. of an entry of a table, whose number stands above them
 abbrev pub EntryCallsAreFine : Type 0
@@ -103,7 +105,7 @@ EntryCallsAreFine =
     (s : Scope) (a : Around) (c : Context) (cells b : ℕ) (types : List FunctionType) (t : FunctionType) (below : List ValType) (xs : List ℕ) → HasFixed s → 0 < cells → cells ≤ 2 ^ 16
     → IsTable s (numbered table (form_number types t)) cells (signature_for t)
     → HasRoom s c (here b (I32 ∷ (reverse t.params ++ below)) xs) → HasRoom s c (here b (listed (type_result t) ++ below) [])
-    → AllFine s a 8 (indirect_stmts cells types b (I32 ∷ (reverse t.params ++ below)) (Some t))
+    → AllFine s a 30 (indirect_stmts cells types b (I32 ∷ (reverse t.params ++ below)) (Some t))
 
 -- ---- branches by an index
 

@@ -1,6 +1,6 @@
 -- The code of the instructions that compute, and read and write locals, globals and the memory. The operand above d others stands in the
 -- variables of number d; what an instruction gives stands where the deepest operand that it takes stood.
-use Rattle.std.specs.Prelude.{ℕ, ◌+◌, ◌-◌, ◌/◌, Bool, true, false, ◌&&◌, nat_le, nat_lt, List, [], ◌∷◌, ◌++◌, length, drop, Option, Some, None, slice_get, ◌==◌, if◌then◌else◌}
+use Rattle.std.specs.Prelude.{ℕ, ◌+◌, ◌-◌, ◌/◌, ◌%◌, Bool, true, false, ◌&&◌, nat_le, nat_lt, List, [], ◌∷◌, ◌++◌, length, drop, Option, Some, None, slice_get, ◌==◌, if◌then◌else◌}
 use Rattle.sem_words.specs.declared.word.Bin.{Bin}
 use Rattle.sem_words.specs.declared.word.Bin.TheVariants as bins
 use Rattle.sem_words.specs.declared.word.Un.{Un}
@@ -95,9 +95,9 @@ abbrev pub guarded : (bytes size offset : ℕ) → Name → List Action → List
 guarded bytes size offset a access =
     if nat_le (size + offset) bytes then simply (guard (read a) (bytes - (size + offset)) 2) ∷ access else simply (stop 2) ∷ []
 
--- words are read and written whole where their place is a multiple of four, and else by a helper
+-- words are read and written whole where their place is a multiple of four, and else by a helper; what the offset has of fours doesn't count
 abbrev pub by_place : Name → (offset : ℕ) → (apart together : List Simple) → List Action
-by_place a offset apart together = either (both conjunction (place a offset) (literal 3)) apart together ∷ []
+by_place a offset apart together = either (both conjunction (place a (offset % 4)) (literal 3)) apart together ∷ []
 
 -- the number of two bytes, of which the upper one has the sign
 abbrev pub half : Bool → Name → (offset : ℕ) → Term

@@ -14,7 +14,7 @@ use Rattle.wasm_lang_exec.specs.Code.{unreachable, block, loop, if_block, br, br
 use Rattle.asm_lang.specs.Modules as text
 use Rattle.asm_lang.specs.Modules.{Expr, var, table_call, binary, Exprs, no_exprs, exprs, Stmt, if_only, if_else, returns, while_loop, breaks, continues, labelled, switches, Clauses, no_clauses, clauses}
 use Rattle.wasm2js_translation.specs.Names.{Name, numbered, function, table, label, fixed, result_high, spelled}
-use Rattle.wasm2js_translation.specs.Words.{read, signed_number, natural, expr, test_of, put_in, guard, simple_statement, simple_statements, statements, trap_call, stmts_in, part_of}
+use Rattle.wasm2js_translation.specs.Words.{Term, read, signed_number, natural, expr, arguments, test_of, put_in, guard, simple_statement, simple_statements, statements, trap_call, stmts_in, part_of}
 use Rattle.wasm2js_translation.specs.Pairs.{operand_pair, moved}
 use Rattle.wasm2js_translation.specs.Actions.{under, low, actions_amid}
 use Rattle.wasm2js_translation.specs.Delays.{Delayed, written, without, at_hand, Late, late, standing}
@@ -115,11 +115,14 @@ by_index to subject ks d = let near = take (2 ^ 32) ks in switches_from to subje
 
 -- ---- calls
 
--- the operands of these types from number d on
-abbrev pub arguments_from : ℕ → List ValType → Exprs
-arguments_from d [] = no_exprs
-arguments_from d (I32 ∷ ts) = exprs (word_in (operand_pair d).low) (arguments_from (suc d) ts)
-arguments_from d (I64 ∷ ts) = exprs (word_in (operand_pair d).low) (exprs (word_in (operand_pair d).high) (arguments_from (suc d) ts))
+-- the words of the operands of these types from number d on, while these wait
+abbrev pub words_from : List Delayed → ℕ → List ValType → List Term
+words_from ds d [] = []
+words_from ds d (I32 ∷ ts) = at_hand ds (operand_pair d).low ∷ words_from ds (suc d) ts
+words_from ds d (I64 ∷ ts) = at_hand ds (operand_pair d).low ∷ at_hand ds (operand_pair d).high ∷ words_from ds (suc d) ts
+
+abbrev pub arguments_from : List Delayed → ℕ → List ValType → Exprs
+arguments_from ds d ts = arguments (words_from ds d ts)
 
 -- the result of a call to the operand of number d; a function leaves the high word of its result in `$h`
 abbrev pub answered : Option ValType → ℕ → Expr → List Stmt
@@ -127,12 +130,13 @@ answered None d e = text.plain e ∷ []
 answered (Some I32) d e = put_in (low d) (signed_number e) ∷ []
 answered (Some I64) d e = put_in (low d) (signed_number e) ∷ put_in (operand_pair d).high (word_in high_result) ∷ []
 
-abbrev pub call_of : (f d : ℕ) → FunctionType → List Stmt
-call_of f d t = answered (result_of t) d (text.call (spelled (numbered function f)) (arguments_from d t.params))
+abbrev pub call_of : List Delayed → (f d : ℕ) → FunctionType → List Stmt
+call_of ds f d t = answered (result_of t) d (text.call (spelled (numbered function f)) (arguments_from ds d t.params))
 
-abbrev pub call_stmts : (f b : ℕ) → List ValType → Option FunctionType → List Stmt
-call_stmts f b ts None = []
-call_stmts f b ts (Some t) = call_of f (under (length t.params) b ts) t
+-- what waits for operands below the arguments is written before, and the arguments' words stand in the call
+abbrev pub call_stmts : List Delayed → (f b : ℕ) → List ValType → Option FunctionType → List Stmt
+call_stmts ds f b ts None = []
+call_stmts ds f b ts (Some t) = simple_statements (written (standing b (drop (length t.params) ts) ds)) ++ call_of ds f (under (length t.params) b ts) t
 
 abbrev pub types_after_call : Option FunctionType → List ValType → List ValType
 types_after_call None ts = ts
@@ -147,7 +151,7 @@ form_number (u ∷ us) t = if same_type u t then 0 else suc (form_number us t)
 abbrev pub table_call_of : (cells n i d : ℕ) → FunctionType → List Stmt
 table_call_of cells n i d t =
     simple_statement (guard (read (low i)) (cells - 1) 5)
-    ∷ answered (result_of t) d (table_call (spelled (numbered table n)) (binary And (word_in (low i)) (natural (cells - 1))) (arguments_from d t.params))
+    ∷ answered (result_of t) d (table_call (spelled (numbered table n)) (binary And (word_in (low i)) (natural (cells - 1))) (arguments_from [] d t.params))
 
 abbrev pub indirect_stmts : (cells : ℕ) → List FunctionType → (b : ℕ) → List ValType → Option FunctionType → List Stmt
 indirect_stmts cells types b ts None = []
@@ -212,8 +216,8 @@ module _ (bytes cells : ℕ) (c : Context) where
   lean_code p b ts ds ks = lean ks (late_code p b ts ds).now
 
   -- under these aims, the innermost first; so many operands lie below the block's, those have these types, and these of their words wait:
-  -- all are written before the next instruction that isn't plain, and at the end, but for a condition and for what a function gives; this is
-  -- known of variables, until such an instruction, and within a block, or the first arm of an if, that is this instruction
+  -- all are written before the next instruction that isn't plain, and at the end, but for a condition, for what a call takes and for what a
+  -- function gives; this is known of variables, until such an instruction, and within a block, or the first arm of an if, that is this instruction
   abbrev pub stmts_of : Trees → List Aim → (b : ℕ) → List ValType → List Delayed → List Known → List Stmt
   stmts_of ε ls b ts ds ks = ended ls b ts ds
   stmts_of (plain p ▹ is) ls b ts ds ks =
@@ -239,7 +243,7 @@ module _ (bytes cells : ℕ) (c : Context) where
       ++ under_label (labels_round ls)
       (chosen (asked base ds) (stmts_of first (past base r ∷ ls) base [] [] (into_block ks)) (stmts_of second (past base r ∷ ls) base [] [] []))
       ∷ stmts_of is ls b (listed r ++ drop 1 ts) [] []
-  stmts_of (call f ▹ is) ls b ts ds ks = simple_statements (written ds) ++ call_stmts f b ts (type_of c f) ++ stmts_of is ls b (types_after_call (type_of c f) ts) [] []
+  stmts_of (call f ▹ is) ls b ts ds ks = call_stmts ds f b ts (type_of c f) ++ stmts_of is ls b (types_after_call (type_of c f) ts) [] []
   stmts_of (call_indirect t ▹ is) ls b ts ds ks =
       simple_statements (written ds)
       ++ indirect_stmts cells c.types b ts (slice_get c.types t) ++ stmts_of is ls b (types_after_call (slice_get c.types t) (drop 1 ts)) [] []

@@ -9,7 +9,7 @@ use Rattle.wasm_lang.specs.declared.types.Limits.{Limits}
 use Rattle.wasm_lang.specs.declared.types.ImportKind.TheVariants as imports
 use Rattle.wasm_lang.specs.declared.types.ExportKind.TheVariants as exports
 use Rattle.wasm_lang.specs.declared.types.MemOp.{MemOp}
-use Rattle.wasm_lang.specs.Instructions.{Instruction, unreachable, block, loop, if_block, else_mark, end_mark, br_if, br_table, return, call_indirect, plain, const32, const64, local_get, local_set, local_tee, drop_operand, eqz32, rel32, bin32, bin64, extend_s, load, store, memory_copy, memory_fill}
+use Rattle.wasm_lang.specs.Instructions.{Instruction, unreachable, block, loop, if_block, else_mark, end_mark, br_if, br_table, return, call, call_indirect, plain, const32, const64, local_get, local_set, local_tee, drop_operand, eqz32, rel32, bin32, bin64, extend_s, load, store, memory_copy, memory_fill}
 use Rattle.wasm_lang.specs.Modules.{FunctionType, Imported, GlobalEntry, Exported, ElementSegment, DataSegment, FunctionBody, WasmModule}
 
 -- ---- parts of modules
@@ -174,4 +174,13 @@ tabled = record nothing_at_all {
       ∷ body [] []
       ∷ body [] (int 5 ∷ get 0 ∷ call_indirect 2 ∷ [])
       ∷ body [] (int 6 ∷ get 0 ∷ call_indirect 1 ∷ []) ∷ [];
+}
+
+-- the first function is called with the argument, a number and a sum, while a number waits below them
+abbrev pub passing : WasmModule
+passing = record nothing_at_all {
+  types = type (I32 ∷ I32 ∷ I32 ∷ []) (I32 ∷ []) ∷ type (I32 ∷ []) (I32 ∷ []) ∷ [];
+  functions = 0 ∷ 1 ∷ [];
+  exports = exported (codes "f") 1 ∷ [];
+  bodies = body [] (get 1 ∷ []) ∷ body [] (int 9 ∷ get 0 ∷ int 5 ∷ two_more ++ call 0 ∷ sum_of_two ∷ []) ∷ [];
 }

@@ -324,7 +324,7 @@ static MODULES: [Row; 15] = [
     (
         "locals",
         b"function m(){'use asm';function f(){var a=0,b=-1.5;var c=-2\nreturn a}return f}",
-        b"function m(){\"use asm\";\nfunction f(){var a=0;var b=-1.5;var c=-2;return a;}\nreturn f;}\n",
+        b"function m(){\"use asm\";\nfunction f(){var a=0,b=-1.5,c=-2;return a;}\nreturn f;}\n",
     ),
     (
         "functions",
